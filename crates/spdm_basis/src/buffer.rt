@@ -1,0 +1,70 @@
+ghost use Rattle.std.specs.Prelude.{◌≡◌, ◌<◌, ◌≤◌, ◌+◌, ◌++◌, [], length, OnOk, OnErr};
+
+use arrayvec::ArrayVec;
+use std::marker::Model;
+use thiserror::Error;
+
+/// Bytes of which there are at most `N`, kept in place and without memory of their own. Contracts see
+/// them as a list.
+#[derive(Clone, Debug, Drop)]
+pub struct Buffer<const N: usize> {
+    items: ArrayVec<u8, N>,
+}
+
+/// An SPDM message: up to 4,096 bytes.
+pub type Frame = Buffer<4096>;
+
+/// A secured record: up to 4,160 bytes.
+pub type RecordFrame = Buffer<4160>;
+
+/// A line of a trace: up to 8,400 bytes.
+pub type Line = Buffer<8400>;
+
+/// The bytes do not fit into what is left of a buffer.
+#[derive(Clone, Copy, Debug, PartialEq, Eq, Error)]
+#[error("the buffer is full")]
+pub struct Full;
+
+impl<const N: usize> Model for Buffer<N> {
+    ghost use Rattle.std.specs.Prelude.{ℕ, List};
+
+    ghost Value = { List ℕ };
+
+    ghost view = { λ b. b.items.items };
+}
+
+impl<const N: usize> Buffer<N> {
+    /// An empty buffer.
+    pub fn new() -> Self
+        ensures { result ≡ [] }
+    {
+        Buffer {
+            items: ArrayVec::new(),
+        }
+    }
+
+    /// The bytes.
+    pub fn as_slice(&self) -> &[u8]
+        ensures value { result.now ≡ self.now }
+        ensures fits { length self.now ≤ N }
+    {
+        self.items.as_slice()
+    }
+
+    /// Takes all bytes out.
+    pub fn clear(&mut self)
+        ensures { self.new ≡ [] }
+    {
+        self.items.clear();
+    }
+
+    /// Adds bytes at the end. `Full` comes exactly where they do not all fit, and changes nothing.
+    pub fn extend(&mut self, more: &[u8]) -> Result<(), Full>
+        ensures ok { OnOk result (self.new ≡ self.old ++ more.now) }
+        ensures fits { OnOk result (length self.old + length more.now ≤ N) }
+        ensures full { OnErr result (N < length self.old + length more.now) }
+        ensures err { OnErr result (self.new ≡ self.old) }
+    {
+        self.items.try_extend_from_slice(more).map_err(|_| Full)
+    }
+}

@@ -1,0 +1,44 @@
+ghost use Rattle.std.specs.Prelude.{◌≡◌, ◌<◌, ◌≤◌, ◌↔◌, IsSome, IfSome};
+
+use std::marker::Model;
+
+/// The number of an end point (DSP0236, "Endpoint ID"): from 8 to 254. The numbers below are null and
+/// reserved, and 255 is for broadcasts.
+#[derive(Clone, Copy, Debug, PartialEq, Eq)]
+pub struct Eid {
+    number: u8,
+}
+
+impl Model for Eid {
+    ghost use Rattle.std.specs.Prelude.{ℕ, ◌≤◌, ◌<◌};
+
+    ghost Value = { ℕ };
+
+    ghost view = { λ e. e.number };
+
+    ghost invariant = { λ e. (8 ≤ e.number) × (e.number < 255) };
+
+    ghost inverse = { λ n. record { number = n } };
+}
+
+impl Eid {
+    /// The end point of this number, and `None` exactly where the number is below 8 or is 255.
+    pub fn new(number: u8) -> Option<Eid>
+        ensures range { IsSome result ↔ ((8 ≤ number) × (number < 255)) }
+        ensures value { IfSome result (λ eid. eid ≡ number) }
+    {
+        if number < 8 || number == 255 {
+            return None;
+        }
+        Some(Eid { number })
+    }
+
+    /// The number.
+    pub fn number(&self) -> u8
+        ensures value { result ≡ self.now }
+        ensures low { 8 ≤ result }
+        ensures high { result < 255 }
+    {
+        self.number
+    }
+}

@@ -1,0 +1,25 @@
+//! What every layer stands on: bytes, end points and keys as types, what the program reads from and
+//! writes to, and the faults that several layers name.
+#![tactic(auto)]
+
+mod buffer;
+mod bytes;
+mod eid;
+mod faults;
+mod memory;
+mod outside;
+mod psk;
+mod session_id;
+mod standard;
+mod transfer;
+
+pub use buffer::{Buffer, Frame, Full, Line, RecordFrame};
+pub use bytes::{Bytes, OutOfMemory};
+pub use eid::Eid;
+pub use faults::PacketFault;
+pub use memory::{MemSink, MemSource, NullSink};
+pub use outside::{Failed, Sink, Source};
+pub use psk::Psk;
+pub use session_id::SessionId;
+pub use standard::{StdinSource, StdoutSink};
+pub use transfer::{InFault, OutFault, read_all, write_all};

@@ -1,0 +1,49 @@
+ghost use Rattle.std.specs.Prelude.{◌≡◌, ◌<◌, ◌≤◌, ℕ, List, Option, length, take, IfOk, OnOk, OnErr};
+ghost use Rattle.spdm_basis.specs.Stream.{Gives, IsAtEnd, HasFault, Takes};
+
+use thiserror::Error;
+
+/// A call of a source or a sink failed.
+#[derive(Clone, Copy, Debug, PartialEq, Eq, Error)]
+#[error("reading or writing failed")]
+pub struct Failed;
+
+/// Where bytes come from.
+pub trait Source {
+    /// What it has left, where it tells that.
+    ghost remaining: { Self → Option (List ℕ) };
+
+    /// How often it has failed. The count never falls, and stands still at the last number of 64 bits.
+    ghost faults: { Self → ℕ };
+
+    /// Reads the next bytes into the front of `into`, and says how many. None is the end of input.
+    /// After `Failed` the source has left what it had left.
+    fn read(&mut self, into: &mut [u8]) -> Result<usize, Failed>
+        requires { 0 < length into.old }
+        ensures count { IfOk result (λ n. n ≤ length into.old) }
+        ensures gives { IfOk result (λ n. Gives (remaining self.old) (take n into.new) (remaining self.new)) }
+        ensures end { IfOk result (λ n. n ≡ 0 → IsAtEnd (remaining self.old)) }
+        ensures later { faults self.old ≤ faults self.new }
+        ensures fault { OnErr result (HasFault (faults self.old) (faults self.new)) }
+        ensures same { OnErr result (remaining self.new ≡ remaining self.old) };
+}
+
+/// Where bytes go.
+pub trait Sink {
+    /// What it holds, where it tells that.
+    ghost contents: { Self → Option (List ℕ) };
+
+    /// How often it has failed. The count never falls, and stands still at the last number of 64 bits.
+    ghost faults: { Self → ℕ };
+
+    /// Writes the first bytes of `from`, at least one, and says how many. After `Failed` the sink
+    /// holds what it held.
+    fn write(&mut self, from: &[u8]) -> Result<usize, Failed>
+        requires { 0 < length from.now }
+        ensures some { IfOk result (λ n. 0 < n) }
+        ensures count { IfOk result (λ n. n ≤ length from.now) }
+        ensures takes { IfOk result (λ n. Takes (contents self.old) (take n from.now) (contents self.new)) }
+        ensures later { faults self.old ≤ faults self.new }
+        ensures fault { OnErr result (HasFault (faults self.old) (faults self.new)) }
+        ensures same { OnErr result (contents self.new ≡ contents self.old) };
+}
