@@ -1,0 +1,32 @@
+ghost use Rattle.std.specs.Prelude.{◌≡◌, ◌<◌, ◌≤◌, ◌==◌, ◌∷◌, [], drop, length, unwrap_or, IfSome, IfNone};
+ghost use Rattle.std.specs.List.{position};
+ghost use Rattle.spdm_cmd.specs.Lines.{lines_of};
+
+/// The first line of a text, without its line feed, and what stands behind it. `None` where the text has
+/// no line.
+pub fn next_line(text: &[u8]) -> Option<(&[u8], &[u8])>
+    ensures line { IfSome result (λ found. lines_of text.now ≡ found.0.now ∷ lines_of found.1.now) }
+    ensures shorter { IfSome result (λ found. length found.1.now < length text.now) }
+    ensures none { IfNone result (text.now ≡ []) }
+{
+    if text.is_empty() {
+        return None;
+    }
+    let end = line_feed(text).unwrap_or(text.len());
+    let (line, rest) = text.split_at(end);
+    Some((line, behind_first(rest)))
+}
+
+// The place of the first line feed.
+fn line_feed(text: &[u8]) -> Option<usize>
+    ensures { result ≡ position (λ b. b == 10) text.now }
+{
+    text.iter().position(|b| *b == b'\n')
+}
+
+// All but the first byte.
+fn behind_first(bytes: &[u8]) -> &[u8]
+    ensures { result.now ≡ drop 1 bytes.now }
+{
+    if bytes.is_empty() { bytes } else { &bytes[1..] }
+}

@@ -1,0 +1,14 @@
+//! The command `spdm`: it runs a requester and a responder over a scripted link, and writes their trace.
+#![tactic(auto)]
+
+mod ends;
+mod lines;
+mod numbers;
+mod parse;
+mod script;
+mod setup;
+mod text;
+
+fn main(rt: HostRuntime) {
+    let _ = parse::parse_script(rt.alloc(), b"");
+}
