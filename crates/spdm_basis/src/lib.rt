@@ -4,6 +4,7 @@
 
 mod buffer;
 mod bytes;
+mod drop_cause;
 mod eid;
 mod faults;
 mod memory;
@@ -15,6 +16,7 @@ mod transfer;
 
 pub use buffer::{Buffer, Frame, Full, Line, RecordFrame};
 pub use bytes::{Bytes, OutOfMemory};
+pub use drop_cause::DropCause;
 pub use eid::Eid;
 pub use faults::PacketFault;
 pub use memory::{MemSink, MemSource, NullSink};

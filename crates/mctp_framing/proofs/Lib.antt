@@ -1,0 +1,3 @@
+pub mod PacketList
+pub mod Spelled
+mod ThreePackets

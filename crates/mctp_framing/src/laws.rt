@@ -1,0 +1,28 @@
+//! Laws of the definitions: each is the contract of a function that does nothing. Call one where a proof
+//! needs it.
+ghost use Rattle.std.specs.Prelude.{◌≡◌, ◌≤◌, ◌<◌, ◌+◌, [], ◌∷◌, ℕ, List, Ok, All, length, map, drop, slice_get, Some};
+ghost use Rattle.std.specs.List.{concat};
+ghost use Rattle.mctp_framing.specs.Packet.{PacketFields, fields_of, parsed, spelled_packet};
+ghost use Rattle.mctp_framing.specs.Cutting.{RouteFields, nth_packet, only_packet, packet_count, packets_of};
+
+/// A packet as it is written is read back as its fields.
+pub fn written_is_read()
+    ensures { (p : PacketFields) → p.sequence < 4 → p.tag < 8 → parsed (spelled_packet p) ≡ Ok p }
+{}
+
+/// The payloads of a body's packets, joined in order, are the body.
+pub fn payloads_are_the_body()
+    ensures { (route : RouteFields) (unit : ℕ) (body : List ℕ) → 0 < unit → concat (map (drop 4) (packets_of route unit body)) ≡ body }
+{}
+
+/// Each packet of a body has at most four bytes more than a unit, and packet `k` is the one that is
+/// defined as such.
+pub fn packets_fit()
+    ensures count { (route : RouteFields) (unit : ℕ) (body : List ℕ) → length (packets_of route unit body) ≡ packet_count unit body }
+    ensures sizes { (route : RouteFields) (unit : ℕ) (body : List ℕ) → All (λ packet. length packet ≤ unit + 4) (packets_of route unit body) }
+{}
+
+/// A body of at most a unit is one packet, with both SOM and EOM.
+pub fn short_body_is_one_packet()
+    ensures { (route : RouteFields) (unit : ℕ) (body : List ℕ) → 0 < length body → length body ≤ unit → packets_of route unit body ≡ spelled_packet (only_packet route body) ∷ [] }
+{}

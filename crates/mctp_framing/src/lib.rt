@@ -1,0 +1,16 @@
+//! MCTP packets (DSP0236, "MCTP over transport bindings"): reading one, cutting a message body into
+//! packets, and gathering packets into bodies again.
+#![tactic(auto)]
+
+mod cutter;
+mod laws;
+mod packet;
+mod route;
+#[cfg(test)]
+mod tests;
+
+pub use cutter::{Cutter, PacketBuf, cut};
+pub use laws::{packets_fit, payloads_are_the_body, short_body_is_one_packet, written_is_read};
+pub use packet::{Packet, PacketView};
+pub use route::Route;
+pub use spdm_basis::{DropCause, PacketFault};
