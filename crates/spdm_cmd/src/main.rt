@@ -1,13 +1,17 @@
 //! The command `spdm`: it runs a requester and a responder over a scripted link, and writes their trace.
 #![tactic(auto)]
 
+mod body;
 mod ends;
 mod lines;
 mod numbers;
+mod outcome;
+mod packets;
 mod parse;
 mod script;
 mod setup;
 mod text;
+mod words;
 
 fn main(rt: HostRuntime) {
     let _ = parse::parse_script(rt.alloc(), b"");
