@@ -13,6 +13,10 @@ IsAtEnd now = (left : List ℕ) → now ≡ Some left → left ≡ []
 abbrev pub Takes : Option (List ℕ) → List ℕ → Option (List ℕ) → Type 0
 Takes old bytes new = (held : List ℕ) → old ≡ Some held → new ≡ Some (held ++ bytes)
 
+-- It took a prefix of these bytes.
+abbrev pub TakesPrefix : Option (List ℕ) → List ℕ → Option (List ℕ) → Type 0
+TakesPrefix old bytes new = (written : List ℕ) × (rest : List ℕ) × (bytes ≡ written ++ rest) × Takes old written new
+
 -- A count of faults shows one in a call: it rose, or it stands at the last number of 64 bits.
 abbrev pub HasFault : ℕ → ℕ → Type 0
 HasFault before after = (before < after) ⊎ (before ≡ 2 ^ 64 - 1)

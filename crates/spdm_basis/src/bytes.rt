@@ -50,6 +50,13 @@ impl Bytes {
         self.items.as_slice()
     }
 
+    /// Takes all bytes out, and keeps the memory.
+    pub fn clear(&mut self)
+        ensures { self.new ≡ [] }
+    {
+        self.items.clear();
+    }
+
     /// Adds bytes at the end. An `Err` leaves what was there.
     pub fn extend(&mut self, more: &[u8]) -> Result<(), OutOfMemory>
         ensures ok { OnOk result (self.new ≡ self.old ++ more.now) }

@@ -1,5 +1,5 @@
 ghost use Rattle.std.specs.Prelude.{◌≡◌, ◌<◌, ◌≤◌, ℕ, List, [], Some, length, take, IfOk, OnOk, OnErr, IsErrOf};
-ghost use Rattle.spdm_basis.specs.Stream.{Gives, HasFault, Takes};
+ghost use Rattle.spdm_basis.specs.Stream.{Gives, HasFault, Takes, TakesPrefix};
 
 use crate::{Bytes, Sink, Source};
 use std::alloc::Global;
@@ -59,7 +59,7 @@ pub fn read_all<S: Source>(alloc: Global, source: &mut S, limit: usize) -> Resul
 /// text was written. It takes no memory.
 pub fn write_all<K: Sink>(sink: &mut K, text: &[u8]) -> Result<(), OutFault>
     ensures whole { OnOk result (Takes (K.contents sink.old) text.now (K.contents sink.new)) }
-    ensures prefix { OnErr result ((n : ℕ) × (n ≤ length text.now) × Takes (K.contents sink.old) (take n text.now) (K.contents sink.new)) }
+    ensures prefix { OnErr result (TakesPrefix (K.contents sink.old) text.now (K.contents sink.new)) }
     ensures fault { OnErr result (HasFault (K.faults sink.old) (K.faults sink.new)) }
     ensures later { K.faults sink.old ≤ K.faults sink.new }
 {

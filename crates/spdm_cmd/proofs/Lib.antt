@@ -1,3 +1,5 @@
 pub mod FirstLine
 pub mod ReadLines
 pub mod HexText
+pub mod FirstTrace
+pub mod SentPackets

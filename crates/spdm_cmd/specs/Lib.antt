@@ -6,3 +6,10 @@ pub mod TraceLines
 pub mod OutcomeTable
 pub mod Words
 pub mod Body
+pub mod History
+pub mod Refusal
+pub mod Responder
+pub mod Requester
+pub mod World
+pub mod Trace
+pub mod StandsFor

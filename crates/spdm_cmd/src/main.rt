@@ -2,16 +2,21 @@
 #![tactic(auto)]
 
 mod body;
+mod codec;
 mod ends;
 mod lines;
+mod link;
 mod numbers;
 mod outcome;
 mod packets;
 mod parse;
+mod requester;
+mod responder;
 mod script;
 mod setup;
 mod text;
 mod words;
+mod world;
 
 fn main(rt: HostRuntime) {
     let _ = parse::parse_script(rt.alloc(), b"");

@@ -1,4 +1,4 @@
-ghost use Rattle.std.specs.Prelude.{◌≡◌, ◌++◌, ◌∷◌, [], length, OnOk, OnErr};
+ghost use Rattle.std.specs.Prelude.{◌≡◌, ◌≤◌, ◌++◌, ◌∷◌, [], length, OnOk, OnErr};
 
 use mctp_framing::PacketBuf;
 use spdm_basis::OutOfMemory;
@@ -42,6 +42,17 @@ impl Packets {
         ensures err { OnErr result (self.new ≡ self.old) }
     {
         self.items.push(packet).map_err(|_| OutOfMemory)
+    }
+
+    /// Adds other packets at the end. After an `Err` a part of them was added.
+    pub fn append(&mut self, others: Packets) -> Result<(), OutOfMemory>
+        ensures ok { OnOk result (self.new ≡ self.old ++ others) }
+        ensures grows { length self.old ≤ length self.new }
+    {
+        for packet in others.items {
+            self.push(packet)?;
+        }
+        Ok(())
     }
 
     /// The packets.

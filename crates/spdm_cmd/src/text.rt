@@ -8,7 +8,7 @@ use spdm_basis::{Bytes, OutOfMemory};
 
 // The decimal digits of a number, at the end of a text.
 #[tactic(auto, using(std::proofs::lemmas::Fmt::decimal_step, std::proofs::lemmas::Fmt::decimal_digit))]
-fn push_decimal(text: &mut Bytes, number: u32) -> Result<(), OutOfMemory>
+fn push_decimal(text: &mut Bytes, number: u64) -> Result<(), OutOfMemory>
     ensures { OnOk result (text.new ≡ text.old ++ decimal number) }
 {
     if number < 10 {
@@ -43,7 +43,7 @@ pub fn push_at(text: &mut Bytes, number: u32) -> Result<(), OutOfMemory>
     ensures { OnOk result (text.new ≡ text.old ++ at_line number) }
 {
     text.extend(b"@")?;
-    push_decimal(text, number)?;
+    push_decimal(text, u64::from(number))?;
     text.extend(b"\n")
 }
 
@@ -57,7 +57,7 @@ pub fn push_ok(text: &mut Bytes) -> Result<(), OutOfMemory>
 
 /// The line of a packet that was sent, with its number.
 #[tactic(auto, unfolding(crate::specs::TraceLines::packet_line))]
-pub fn push_packet(text: &mut Bytes, number: u32, bytes: &[u8]) -> Result<(), OutOfMemory>
+pub fn push_packet(text: &mut Bytes, number: u64, bytes: &[u8]) -> Result<(), OutOfMemory>
     ensures { OnOk result (text.new ≡ text.old ++ packet_line number bytes.now) }
 {
     text.extend(b"packet ")?;

@@ -1,4 +1,4 @@
-use Rattle.std.proofs.Common.{arith, ◌++◌, take, take-add}
+use Rattle.std.proofs.Common.{arith, ◌++◌, ◌∙◌, sym, take, drop, take-add, take-append-drop}
 use Rattle.std.proofs.lemmas.Grind.{common_steps}
 use Rattle.spdm_basis.proofs.transfer.write_all.Goals as goal
 
@@ -8,3 +8,9 @@ loop-done-preserved g c = record {
   later = grind arith;
   within = grind (arith, common_steps);
 }
+
+pub returns-in_default-clause-prefix : goal.returns-in_default-clause-prefix
+returns-in_default-clause-prefix g c =
+    let text = c.args.text.now in
+    let done = c.loop-done.done in
+    (take done text, drop done text, sym (take-append-drop done text), λ held e. c.in_default.ensures.same ∙ c.loop-done.invariant.taken held e)
