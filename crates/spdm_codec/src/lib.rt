@@ -1,0 +1,24 @@
+//! Reading and writing of the messages of `spdm_grammar`, exactly: a reader answers the value that
+//! the whole input spells, or its first fault, and a writer writes the canonical spelling. No call
+//! takes memory.
+#![tactic(auto)]
+
+mod algorithms;
+mod capabilities;
+mod chunk;
+mod cursor;
+mod end_session;
+mod error;
+mod exchange;
+mod finish;
+mod heartbeat;
+mod key_update;
+mod measurements;
+mod put;
+mod request;
+mod response;
+mod version;
+
+pub use put::TooLong;
+pub use request::{read_request, write_request};
+pub use response::{read_response, write_response};

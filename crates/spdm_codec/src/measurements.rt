@@ -1,0 +1,71 @@
+ghost use Rattle.spdm_grammar.specs.Reading.{read};
+ghost use Rattle.spdm_grammar.specs.Requests.{get_measurements_layout};
+ghost use Rattle.spdm_grammar.specs.Responses.{measurements_layout};
+ghost use Rattle.spdm_grammar.specs.Message.{request_message, response_message};
+ghost use Rattle.spdm_codec.specs.Answer.{Gives};
+ghost use Rattle.std.specs.Prelude.{◌≡◌, ◌<◌, ◌≤◌, ◌^◌, ◌∷◌, length, OnOk, OnErr};
+ghost use Rattle.spdm_grammar.specs.Responses.{measured_bytes};
+ghost use Rattle.spdm_grammar.specs.Message.{measured_message};
+
+use crate::cursor::{Cursor, not_allowed};
+use crate::put::{TooLong, put, put_three, put_two};
+use spdm_basis::Frame;
+use spdm_grammar::{Malformed, Measured, Request, Response};
+
+/// GET_MEASUREMENTS behind its code.
+#[tactic(auto, unfolding(spdm_grammar::specs::Requests::get_measurements_layout))]
+pub fn read_get_measurements<'a>(cursor: &mut Cursor<'a>) -> Result<Request<'a>, Malformed>
+    ensures { Gives request_message result (read get_measurements_layout cursor.old) }
+{
+    let at = cursor.at();
+    let attributes = cursor.byte()?;
+    if attributes % 2 != 0 {
+        return Err(not_allowed(at));
+    }
+    let op = cursor.byte()?;
+    cursor.end()?;
+    Ok(Request::GetMeasurements { op })
+}
+
+/// MEASUREMENTS behind its code.
+#[tactic(auto, unfolding(spdm_grammar::specs::Responses::measurements_layout))]
+pub fn read_measurements<'a>(cursor: &mut Cursor<'a>) -> Result<Response<'a>, Malformed>
+    ensures { Gives response_message result (read measurements_layout cursor.old) }
+{
+    let total = cursor.byte()?;
+    cursor.field(1)?;
+    let blocks = cursor.byte()?;
+    let record_len = cursor.three()?;
+    let block_bytes = cursor.field(record_len as usize)?;
+    let nonce = cursor.field(32)?;
+    let at = cursor.at();
+    let opaque_len = cursor.two()?;
+    if opaque_len > 1024 {
+        return Err(not_allowed(at));
+    }
+    let opaque = cursor.field(usize::from(opaque_len))?;
+    cursor.end()?;
+    Ok(Response::Measurements(Measured {
+        total,
+        blocks,
+        block_bytes,
+        nonce,
+        opaque,
+    }))
+}
+
+/// MEASUREMENTS in place of what `out` holds.
+pub fn write_measurements(measured: &Measured<'_>, out: &mut Frame) -> Result<(), TooLong>
+    requires block_bytes { length measured.now.block_bytes.now < 2 ^ 24 }
+    requires opaque { length measured.now.opaque.now ≤ 1024 }
+    ensures ok { OnOk result (out.new ≡ 0x12 ∷ 0x60 ∷ measured_bytes (measured_message measured.now)) }
+    ensures err { OnErr result (4096 < length (0x12 ∷ 0x60 ∷ measured_bytes (measured_message measured.now))) }
+{
+    out.clear();
+    put(out, &[0x12, 0x60, measured.total, 0, measured.blocks])?;
+    put_three(out, measured.block_bytes.len() as u32)?;
+    put(out, measured.block_bytes)?;
+    put(out, measured.nonce)?;
+    put_two(out, measured.opaque.len() as u16)?;
+    put(out, measured.opaque)
+}

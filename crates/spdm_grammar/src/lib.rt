@@ -1,0 +1,23 @@
+//! The messages of SPDM 1.2 sessions under pre-shared keys (DSP0274, section 10): their values, the
+//! bytes that spell them, and where bytes that spell none are at fault.
+#![tactic(auto)]
+
+mod algorithms;
+mod capabilities;
+mod chunk;
+mod error_code;
+mod exchange;
+mod malformed;
+mod measurements;
+mod request;
+mod response;
+
+pub use algorithms::{AlgOffer, AlgReply};
+pub use capabilities::Caps;
+pub use chunk::ChunkView;
+pub use error_code::ErrorCode;
+pub use exchange::{Exchange, ExchangeRsp};
+pub use malformed::{Malformed, Part};
+pub use measurements::Measured;
+pub use request::Request;
+pub use response::Response;

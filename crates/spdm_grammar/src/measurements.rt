@@ -1,0 +1,14 @@
+/// Measurements of a responder, in MEASUREMENTS (DSP0274, "MEASUREMENTS response message format").
+#[derive(Clone, Copy, Debug, PartialEq, Eq)]
+pub struct Measured<'a> {
+    /// How many measurement blocks there are in all, told in answer to operation 0.
+    pub total: u8,
+    /// NumberOfBlocks: how many stand in `block_bytes`.
+    pub blocks: u8,
+    /// MeasurementRecordData: the blocks, one behind the other.
+    pub block_bytes: &'a [u8],
+    /// Nonce: 32 bytes.
+    pub nonce: &'a [u8],
+    /// OpaqueData: at most 1,024 bytes.
+    pub opaque: &'a [u8],
+}
