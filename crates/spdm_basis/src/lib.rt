@@ -2,10 +2,13 @@
 //! writes to, and the faults that several layers name.
 #![tactic(auto)]
 
+mod aead_alg;
 mod buffer;
 mod bytes;
 mod eid;
 mod faults;
+mod hash_alg;
+mod hash_bytes;
 mod memory;
 mod outside;
 mod psk;
@@ -13,10 +16,13 @@ mod session_id;
 mod standard;
 mod transfer;
 
+pub use aead_alg::AeadAlg;
 pub use buffer::{Buffer, Frame, Full, Line, RecordFrame};
 pub use bytes::{Bytes, OutOfMemory};
 pub use eid::Eid;
 pub use faults::PacketFault;
+pub use hash_alg::HashAlg;
+pub use hash_bytes::HashBytes;
 pub use memory::{MemSink, MemSource, NullSink};
 pub use outside::{Failed, Sink, Source};
 pub use psk::Psk;
