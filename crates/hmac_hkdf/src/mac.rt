@@ -77,11 +77,12 @@ impl RunningMac {
     ghost use Rattle.spdm_basis.specs.declared.hash_alg.HashAlg.{HashAlg};
     ghost use Rattle.running_hash.specs.Hash.{hash_of};
     ghost use Rattle.hmac_hkdf.specs.Hmac.{hmac};
-    ghost use Rattle.hmac_hkdf.specs.Keyed.{HoldsMac};
+    ghost use Rattle.hmac_hkdf.specs.Keyed.{HoldsMac, Runs};
 
     // The HMAC of no text under `key`.
     pub fn new(hash: HashAlg, key: &[u8]) -> Self
-        ensures { HoldsMac hash result key.now [] }
+        ensures runs { Runs result hash }
+        ensures given { HoldsMac hash result key.now [] }
     {
         let block = pad_key(hash, key);
         let mut inner = RunningHash::new(hash);
@@ -93,7 +94,8 @@ impl RunningMac {
 
     // Adds a piece to the text.
     pub fn push(&mut self, piece: &[u8])
-        ensures { (hash : HashAlg) (key text : List ℕ) → HoldsMac hash self.old key text
+        ensures runs { (hash : HashAlg) → Runs self.old hash → Runs self.new hash }
+        ensures given { (hash : HashAlg) (key text : List ℕ) → HoldsMac hash self.old key text
             → HoldsMac hash self.new key (text ++ piece.now) }
     {
         self.inner.push(piece);
@@ -102,8 +104,9 @@ impl RunningMac {
     // The HMAC of the text.
     #[tactic(auto, unfolding(crate::specs::Hmac::hmac))]
     pub fn finish(mut self) -> HashBytes
-        ensures value { (hash : HashAlg) (key text : List ℕ) → HoldsMac hash self key text → result ≡ hmac (hash_of hash) key text }
-        ensures size { (hash : HashAlg) (key text : List ℕ) → HoldsMac hash self key text → length result ≡ hash_size hash }
+        ensures value { (hash : HashAlg) (key text : List ℕ) → Runs self hash → HoldsMac hash self key text
+            → result ≡ hmac (hash_of hash) key text }
+        ensures size { (hash : HashAlg) → Runs self hash → length result ≡ hash_size hash }
     {
         let inner_hash = self.inner.finish();
         self.outer.push(inner_hash.as_slice());

@@ -22,13 +22,13 @@ pub enum RunningHash {
 impl RunningHash {
     ghost use Rattle.std.specs.Prelude.{◌≡◌, ◌++◌, [], ℕ, List, length};
     ghost use Rattle.spdm_basis.specs.Sizes.{hash_size};
-    ghost use Rattle.spdm_basis.specs.declared.hash_alg.HashAlg.{HashAlg};
     ghost use Rattle.running_hash.specs.Hash.{hash_of};
-    ghost use Rattle.running_hash.specs.Holds.{Holds};
+    ghost use Rattle.running_hash.specs.Holds.{Holds, function_of};
 
     /// The running hash of no bytes.
     pub fn new(hash: HashAlg) -> Self
-        ensures { Holds hash result [] }
+        ensures function { function_of result ≡ hash }
+        ensures given { Holds result [] }
     {
         match hash {
             HashAlg::Sha256 => RunningHash::Small(Sha256::new()),
@@ -38,7 +38,8 @@ impl RunningHash {
 
     /// Adds bytes at the end of what was given.
     pub fn push(&mut self, bytes: &[u8])
-        ensures { (hash : HashAlg) (given : List ℕ) → Holds hash self.old given → Holds hash self.new (given ++ bytes.now) }
+        ensures function { function_of self.new ≡ function_of self.old }
+        ensures given { (given : List ℕ) → Holds self.old given → Holds self.new (given ++ bytes.now) }
     {
         match self {
             RunningHash::Small(hasher) => hasher.update(bytes),
@@ -48,8 +49,8 @@ impl RunningHash {
 
     /// The hash of all that was given.
     pub fn finish(self) -> HashBytes
-        ensures value { (hash : HashAlg) (given : List ℕ) → Holds hash self given → result ≡ (hash_of hash).digest given }
-        ensures size { (hash : HashAlg) (given : List ℕ) → Holds hash self given → length result ≡ hash_size hash }
+        ensures value { (given : List ℕ) → Holds self given → result ≡ (hash_of (function_of self)).digest given }
+        ensures size { length result ≡ hash_size (function_of self) }
     {
         match self {
             RunningHash::Small(hasher) => HashBytes::from(hasher.finalize()),

@@ -1,6 +1,5 @@
 ghost use Rattle.std.specs.Prelude.{◌≡◌, length};
 ghost use Rattle.spdm_basis.specs.Sizes.{hash_size};
-ghost use Rattle.running_hash.specs.Hash.{hash_of};
 
 use key_schedule::{AppKeys, DirectionKey, HandshakeKeys};
 use spdm_basis::{AeadAlg, HashAlg, HashBytes, Psk};

@@ -11,13 +11,13 @@ pub struct Lane {
 impl Lane {
     ghost use Rattle.std.specs.Prelude.{◌≡◌, ◌++◌, [], ℕ, List, length};
     ghost use Rattle.spdm_basis.specs.Sizes.{hash_size};
-    ghost use Rattle.spdm_basis.specs.declared.hash_alg.HashAlg.{HashAlg};
     ghost use Rattle.running_hash.specs.Hash.{hash_of};
-    ghost use Rattle.transcript.specs.Lane.{StandsFor};
+    ghost use Rattle.transcript.specs.Lane.{StandsFor, lane_hash};
 
     /// A lane of no bytes.
     pub fn new(hash: HashAlg) -> Lane
-        ensures { StandsFor hash result [] }
+        ensures hash { lane_hash result ≡ hash }
+        ensures pushed { StandsFor result [] }
     {
         Lane {
             running: RunningHash::new(hash),
@@ -26,15 +26,16 @@ impl Lane {
 
     /// Adds bytes at the end of what was pushed.
     pub fn push(&mut self, bytes: &[u8])
-        ensures { (hash : HashAlg) (pushed : List ℕ) → StandsFor hash self.old pushed → StandsFor hash self.new (pushed ++ bytes.now) }
+        ensures hash { lane_hash self.new ≡ lane_hash self.old }
+        ensures pushed { (pushed : List ℕ) → StandsFor self.old pushed → StandsFor self.new (pushed ++ bytes.now) }
     {
         self.running.push(bytes);
     }
 
     /// The hash of all that was pushed.
     pub fn finish(self) -> HashBytes
-        ensures value { (hash : HashAlg) (pushed : List ℕ) → StandsFor hash self pushed → result ≡ (hash_of hash).digest pushed }
-        ensures size { (hash : HashAlg) (pushed : List ℕ) → StandsFor hash self pushed → length result ≡ hash_size hash }
+        ensures value { (pushed : List ℕ) → StandsFor self pushed → result ≡ (hash_of (lane_hash self)).digest pushed }
+        ensures size { length result ≡ hash_size (lane_hash self) }
     {
         self.running.finish()
     }
