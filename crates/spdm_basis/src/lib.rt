@@ -2,11 +2,14 @@
 //! writes to, and the faults that several layers name.
 #![tactic(auto)]
 
+mod aead_alg;
 mod buffer;
 mod bytes;
 mod drop_cause;
 mod eid;
 mod faults;
+mod hash_alg;
+mod hash_bytes;
 mod memory;
 mod outside;
 mod psk;
@@ -14,11 +17,14 @@ mod session_id;
 mod standard;
 mod transfer;
 
+pub use aead_alg::AeadAlg;
 pub use buffer::{Buffer, Frame, Full, Line, RecordFrame};
 pub use bytes::{Bytes, OutOfMemory};
 pub use drop_cause::DropCause;
 pub use eid::Eid;
 pub use faults::PacketFault;
+pub use hash_alg::HashAlg;
+pub use hash_bytes::HashBytes;
 pub use memory::{MemSink, MemSource, NullSink};
 pub use outside::{Failed, Sink, Source};
 pub use psk::Psk;

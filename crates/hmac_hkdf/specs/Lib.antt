@@ -1,0 +1,4 @@
+pub mod Hmac
+pub mod Hkdf
+pub mod Draw
+pub mod Keyed

@@ -1,0 +1,4 @@
+pub mod Labels
+pub mod Schedule
+pub mod Keys
+pub mod Purpose

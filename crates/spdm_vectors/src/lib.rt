@@ -1,0 +1,14 @@
+//! Vectors from published standards, and values computed outside this repository, for the crates below.
+//! There is nothing here but tests.
+#![tactic(auto)]
+
+#[cfg(test)]
+mod draw_tests;
+#[cfg(test)]
+mod hkdf_tests;
+#[cfg(test)]
+mod hmac_tests;
+#[cfg(test)]
+mod key_schedule_tests;
+#[cfg(test)]
+mod transcript_tests;
