@@ -3,3 +3,5 @@ pub mod ReadLines
 pub mod HexText
 pub mod FirstTrace
 pub mod SentPackets
+pub mod Pumping
+pub mod Written

@@ -93,13 +93,15 @@ behind first second = record { text = first.text ++ (second first.after).text; a
 abbrev pub rests : LinkState → LinkStep
 rests state = record { text = []; after = state }
 
--- The waiting packet with the least number is given, so many times as one waits, and this often at most.
+-- A turn: where a packet waits it is given, and what follows goes on from there.
+abbrev pub turn : Setup → LinkState → (LinkState → LinkStep) → Option (List ℕ) → LinkStep
+turn setup state next (Some packet) = behind (given setup (record state { sent = without_first_waiting state.sent }) packet) next
+turn setup state next None = rests state
+
+-- The waiting packet with the least number is given, so often at most.
 unfoldable pub pumps : Setup → ℕ → LinkState → LinkStep
 pumps setup zero state = rests state
-pumps setup (suc count) state = elim (first_waiting state.sent) [
-  | Some packet ↦ behind (given setup (record state { sent = without_first_waiting state.sent }) packet) (pumps setup count)
-  | None ↦ rests state
-]
+pumps setup (suc count) state = turn setup state (pumps setup count) (first_waiting state.sent)
 
 -- An event.
 abbrev pub happens : Setup → LinkState → LinkEvent → LinkStep

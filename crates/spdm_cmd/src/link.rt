@@ -54,12 +54,14 @@ impl Link {
         self.packets.as_slice()[self.next].as_slice()
     }
 
-    /// The waiting packet with the least number waits no longer.
+    /// The waiting packet with the least number, if there is one, waits no longer.
     pub fn advance(&mut self)
-        requires { self.old.next < length self.old.packets }
         ensures { (sent : List SentPacket) → IsLink self.old sent → IsLink self.new (without_first_waiting sent) }
     {
-        self.next += 1;
+        let count = self.packets.len();
+        if self.next < count {
+            self.next += 1;
+        }
     }
 
     /// Packets are sent: they wait from now on, and their lines are added at the end of a text.
@@ -68,7 +70,8 @@ impl Link {
         ensures sent { OnOk result ((sent : List SentPacket) → IsLink self.old sent → IsLink self.new (with_sent sent packets)) }
     {
         push_packets(text, self.packets.len(), &packets)?;
-        self.packets.append(packets)
+        self.packets.append(packets)?;
+        Ok(())
     }
 }
 

@@ -2,7 +2,6 @@
 #![tactic(auto)]
 
 mod body;
-mod codec;
 mod ends;
 mod lines;
 mod link;

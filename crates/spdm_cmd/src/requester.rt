@@ -7,13 +7,13 @@ ghost use Rattle.spdm_cmd.specs.Requester.{get_version, requester_connects, requ
 ghost use Rattle.spdm_cmd.specs.StandsFor.{IsRequester};
 
 use crate::body::{Clear, clear_in, send};
-use crate::codec::{read_response, write_request};
 use crate::ends::{Event, Finished, Phase};
 use crate::packets::Packets;
 use crate::responder::HASH_LEN;
 use crate::setup::Setup;
 use mctp_framing::Route;
 use spdm_basis::{Frame, OutOfMemory};
+use spdm_codec::{read_response, write_request};
 use spdm_grammar::{Request, Response};
 use std::marker::Model;
 

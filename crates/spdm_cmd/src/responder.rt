@@ -7,12 +7,12 @@ ghost use Rattle.spdm_cmd.specs.Responder.{version_reply, responder_does, respon
 ghost use Rattle.spdm_cmd.specs.StandsFor.{IsResponder};
 
 use crate::body::{clear_in, send};
-use crate::codec::{read_request, write_response};
 use crate::ends::{Heard, Phase};
 use crate::packets::Packets;
 use crate::setup::Setup;
 use mctp_framing::Route;
 use spdm_basis::{Frame, OutOfMemory};
+use spdm_codec::{read_request, write_response};
 use spdm_grammar::{ErrorCode, Request, Response};
 use std::marker::Model;
 

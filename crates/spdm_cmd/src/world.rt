@@ -1,4 +1,4 @@
-ghost use Rattle.std.specs.Prelude.{◌≡◌, ◌<◌, ◌≤◌, ◌+◌, ◌++◌, [], ℕ, List, Some, length, slice_index, OnOk, OnErr, IsErrOf};
+ghost use Rattle.std.specs.Prelude.{◌≡◌, ◌<◌, ◌≤◌, ◌+◌, ◌++◌, [], ℕ, List, Some, length, slice_index, is_none, not, IsTrue, OnOk, OnErr, IsErrOf};
 ghost use Rattle.spdm_basis.specs.Stream.{HasFault, Takes, TakesPrefix};
 ghost use Rattle.spdm_cmd.specs.StandsFor.{StandsFor};
 ghost use Rattle.spdm_cmd.specs.Trace.{phases_text};
@@ -95,9 +95,9 @@ impl World {
         text.clear();
         self.entry_lines(entry, &mut text)
             .map_err(|_| StepFault::OutOfMemory)?;
-        write_all(sink, text.as_slice()).map_err(|_| StepFault::WriteFault)?;
+        let written = write_all(sink, text.as_slice());
         self.text = text;
-        Ok(())
+        written.map_err(|_| StepFault::WriteFault)
     }
 
     // Takes an event, and adds its lines at the end of a text.
@@ -132,12 +132,20 @@ impl World {
         ensures setup { self.new.setup ≡ self.old.setup }
     {
         for _ in 0..count {
-            if self.link.is_idle() {
+            if self.is_idle() {
                 break;
             }
             self.give_next(text)?;
         }
         Ok(())
+    }
+
+    // Whether no packet waits.
+    fn is_idle(&self) -> bool
+        ensures idle { (state : LinkState) → StandsFor self.now state → result ≡ is_none (first_waiting state.sent) }
+        ensures busy { IsTrue (not result) → self.now.link.next < length self.now.link.packets }
+    {
+        self.link.is_idle()
     }
 
     // Gives the waiting packet with the least number to its end.
