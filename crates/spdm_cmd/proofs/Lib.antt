@@ -5,3 +5,4 @@ pub mod FirstTrace
 pub mod SentPackets
 pub mod Pumping
 pub mod Written
+pub mod EventTexts

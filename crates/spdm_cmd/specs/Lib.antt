@@ -13,3 +13,4 @@ pub mod Requester
 pub mod World
 pub mod Trace
 pub mod StandsFor
+pub mod Answer

@@ -11,6 +11,7 @@ mod packets;
 mod parse;
 mod requester;
 mod responder;
+mod run;
 mod script;
 mod setup;
 mod text;

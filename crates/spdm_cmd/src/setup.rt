@@ -16,12 +16,11 @@ pub struct Setup {
 }
 
 impl Setup {
+    ghost use Rattle.spdm_cmd.specs.Trace.{configured};
+
     /// What the configuration of a script says.
     pub fn configured() -> Setup
-        ensures responder { result.responder ≡ 8 }
-        ensures requester { result.requester ≡ 9 }
-        ensures transfer { result.transfer ≡ 1024 }
-        ensures unit { result.unit ≡ 64 }
+        ensures { result ≡ configured }
     {
         Setup {
             responder: Eid::new(8).unwrap(),
