@@ -1,6 +1,6 @@
 -- A piece copied to the front of a buffer.
-use Rattle.std.proofs.Common.{◌≡◌, ℕ, ◌+◌, ◌≤◌, ◌++◌, List, length, take, drop, arith, sym, ap, ◌∙◌, take-append-drop, Some, refl}
-use Rattle.spdm_basis.specs.Stream.{Gives}
+use Rattle.std.proofs.Common.{◌≡◌, ℕ, ◌+◌, ◌≤◌, ◌++◌, List, length, take, drop, arith, sym, ap, ◌∙◌, take-append-drop, Some, Option, append_assoc, refl}
+use Rattle.spdm_basis.specs.Stream.{Gives, GivesSome}
 use Rattle.std.proofs.Math.Seq.{take-append_seam}
 use Rattle.std.proofs.lemmas.Grind.{common_steps}
 
@@ -20,3 +20,13 @@ pub read_gives : (seen bs piece into : List ℕ) (at n : ℕ) → seen ≡ drop 
 read_gives seen bs piece into at n s e h = λ left t.
     let given = piece_given bs piece into at n e h in
     (drop (at + n) bs, refl, cc)
+
+-- what was given in two steps was given
+pub gives_both : (old mid new : Option (List ℕ)) (bs more : List ℕ) → Gives old bs mid → Gives mid more new → GivesSome old new
+gives_both old mid new bs more first then = (
+  bs ++ more,
+  λ left e.
+      let a = first left e in
+      let b = then a.0 a.1 in
+      (b.0, b.1, a.2 ∙ ap (λ (rest : List ℕ). bs ++ rest) b.2 ∙ sym (append_assoc bs more b.0)),
+)

@@ -5,6 +5,10 @@ use Rattle.std.specs.Prelude.{◌≡◌, ◌-◌, ◌<◌, ◌^◌, ◌⊎◌, �
 abbrev pub Gives : Option (List ℕ) → List ℕ → Option (List ℕ) → Type 0
 Gives old bytes new = (left : List ℕ) → old ≡ Some left → (rest : List ℕ) × (new ≡ Some rest) × (left ≡ bytes ++ rest)
 
+-- It gave some bytes, the first of what it had left.
+abbrev pub GivesSome : Option (List ℕ) → Option (List ℕ) → Type 0
+GivesSome old new = (bytes : List ℕ) × Gives old bytes new
+
 -- A source that tells what it has left has nothing left.
 abbrev pub IsAtEnd : Option (List ℕ) → Type 0
 IsAtEnd now = (left : List ℕ) → now ≡ Some left → left ≡ []

@@ -15,6 +15,8 @@ mod outside;
 mod psk;
 mod session_id;
 mod standard;
+#[cfg(test)]
+mod tests;
 mod transfer;
 
 pub use aead_alg::AeadAlg;

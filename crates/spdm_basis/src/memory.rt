@@ -43,6 +43,7 @@ impl CallLog {
         ensures failing { self.new.failing ≡ self.old.failing }
         ensures later { self.old.faults ≤ self.new.faults }
         ensures fault { OnErr result (HasFault self.old.faults self.new.faults) }
+        ensures counted { OnErr result (self.new.faults ≡ one_more self.old.faults) }
         ensures quiet { OnOk result (self.new.faults ≡ self.old.faults) }
     {
         let call = self.made;
@@ -110,6 +111,7 @@ impl Source for MemSource {
         ensures fails { is_err result ≡ fails_next self.old.calls }
         ensures made { self.new.calls.made ≡ one_more self.old.calls.made }
         ensures failing { self.new.calls.failing ≡ self.old.calls.failing }
+        ensures counted { OnErr result (self.new.calls.faults ≡ one_more self.old.calls.faults) }
         ensures quiet { OnOk result (self.new.calls.faults ≡ self.old.calls.faults) }
     {
         self.calls.next(false)?;
@@ -184,6 +186,7 @@ impl Sink for MemSink {
         ensures fails { is_err result ≡ (fails_next self.old.calls || length self.old.held == self.old.limit) }
         ensures made { self.new.calls.made ≡ one_more self.old.calls.made }
         ensures failing { self.new.calls.failing ≡ self.old.calls.failing }
+        ensures counted { OnErr result (self.new.calls.faults ≡ one_more self.old.calls.faults) }
         ensures quiet { OnOk result (self.new.calls.faults ≡ self.old.calls.faults) }
         ensures limit { self.new.limit ≡ self.old.limit }
     {

@@ -1,5 +1,5 @@
 ghost use Rattle.std.specs.Prelude.{◌≡◌, ◌<◌, ◌≤◌, ℕ, List, [], Some, length, take, IfOk, OnOk, OnErr, IsErrOf};
-ghost use Rattle.spdm_basis.specs.Stream.{Gives, HasFault, Takes, TakesPrefix};
+ghost use Rattle.spdm_basis.specs.Stream.{Gives, GivesSome, HasFault, Takes, TakesPrefix};
 
 use crate::{Bytes, Sink, Source};
 use std::alloc::Global;
@@ -37,6 +37,7 @@ pub fn read_all<S: Source>(alloc: Global, source: &mut S, limit: usize) -> Resul
 
     ensures read_fault { IsErrOf result InFault.ReadFault → HasFault (S.faults source.old) (S.faults source.new) }
     ensures too_long { IsErrOf result InFault.TooLong → (left : List ℕ) → S.remaining source.old ≡ Some left → limit < length left }
+    ensures gone { OnErr result (GivesSome (S.remaining source.old) (S.remaining source.new)) }
     ensures later { S.faults source.old ≤ S.faults source.new }
 {
     let mut bytes = Bytes::new(alloc);

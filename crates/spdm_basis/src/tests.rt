@@ -1,0 +1,64 @@
+use crate::{
+    Bytes, Eid, InFault, MemSink, MemSource, OutFault, Psk, SessionId, read_all, write_all,
+};
+use std::test::Fail;
+
+#[test]
+fn memory_alone_refuses(rt: HostRuntime) -> Result<(), Fail> {
+    let copy = Bytes::copy(rt.alloc(), b"abc")?;
+    assert_eq!(rt; copy.as_slice(), b"abc".as_slice());
+
+    let mut source = MemSource::new(rt.alloc(), b"abc", &[])?;
+    let all = read_all(rt.alloc(), &mut source, 3)?;
+    assert_eq!(rt; all.as_slice(), b"abc".as_slice());
+
+    let mut sink = MemSink::new(rt.alloc(), 3, &[])?;
+    assert!(rt; sink.as_slice().is_empty());
+    write_all(&mut sink, b"abc")?;
+    assert_eq!(rt; sink.as_slice(), b"abc".as_slice());
+    Ok(())
+}
+
+#[test]
+fn read_and_write_faults(rt: HostRuntime) -> Result<(), Fail> {
+    let mut source = MemSource::new(rt.alloc(), b"abcd", &[])?;
+    let answer = read_all(rt.alloc(), &mut source, 3).err();
+    assert_eq!(rt; answer, Some(InFault::TooLong));
+
+    let mut source = MemSource::new(rt.alloc(), b"abcd", &[0])?;
+    let answer = read_all(rt.alloc(), &mut source, 3).err();
+    assert_eq!(rt; answer, Some(InFault::ReadFault));
+    let all = read_all(rt.alloc(), &mut source, 4)?;
+    assert_eq!(rt; all.as_slice(), b"abcd".as_slice());
+
+    let mut sink = MemSink::new(rt.alloc(), 4, &[0])?;
+    assert_eq!(rt; write_all(&mut sink, b"abcd"), Err(OutFault::WriteFault));
+    assert!(rt; sink.as_slice().is_empty());
+
+    let mut sink = MemSink::new(rt.alloc(), 3, &[])?;
+    assert_eq!(rt; write_all(&mut sink, b"abcd"), Err(OutFault::WriteFault));
+    assert_eq!(rt; sink.as_slice(), b"abc".as_slice());
+    Ok(())
+}
+
+#[test]
+fn end_points_and_keys_at_their_borders(rt: HostRuntime) {
+    for (number, is_end_point) in [(0, false), (7, false), (8, true), (254, true), (255, false)] {
+        assert_eq!(rt; Eid::new(number).is_some(), is_end_point, "at {number}");
+    }
+    assert!(rt; Psk::new(&[]).is_none());
+    assert!(rt; Psk::new(&[9]).is_some_and(|psk| psk.as_slice() == [9].as_slice()));
+    assert!(rt; Psk::new(&[9; 64]).is_some_and(|psk| psk.as_slice() == [9; 64].as_slice()));
+    assert!(rt; Psk::new(&[9; 65]).is_none());
+}
+
+#[test]
+fn session_id_is_four_bytes(rt: HostRuntime) {
+    let id = SessionId { req: 1, rsp: 1 };
+    assert_eq!(rt; id.bytes(), [0x01, 0x00, 0x01, 0x00]);
+    let id = SessionId {
+        req: 0x0201,
+        rsp: 0x0403,
+    };
+    assert_eq!(rt; id.bytes(), [0x01, 0x02, 0x03, 0x04]);
+}
