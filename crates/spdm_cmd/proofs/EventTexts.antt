@@ -1,7 +1,7 @@
 -- The lines of events in two parts, and what a sink took of them.
 use Rattle.std.proofs.Common.{◌≡◌, ℕ, ◌+◌, ◌<◌, ◌++◌, ◌∷◌, [], List, length, take, drop, get_or, refl, ap, ◌∙◌, sym, arith, append_assoc, Option, Some}
 use Rattle.std.proofs.lemmas.Grind.{common_steps}
-use Rattle.std.proofs.lemmas.List.{append-nil}
+use Rattle.std.proofs.lemmas.List.{append-nil, get_or_default}
 use Rattle.spdm_basis.specs.Stream.{Takes, TakesPrefix}
 use Rattle.spdm_cmd.specs.declared.script.Entry.{Entry}
 use Rattle.spdm_cmd.specs.declared.setup.Setup.{Setup}
@@ -24,6 +24,10 @@ text_before setup entries i = phases_text first_state ++ events_text setup first
 
 abbrev pub state_before : Setup → List Entry → ℕ → LinkState
 state_before setup entries i = state_after setup first_state (take i entries)
+
+-- inside a list the default of a read plays no part
+pub get_or_any : (entries : List Entry) (i : ℕ) (d e : Entry) → i < length entries → get_or entries i d ≡ get_or entries i e
+get_or_any entries i d e h = get_or_default entries i d e h
 
 one_more : (entries : List Entry) (i : ℕ) (e : Entry) → i < length entries → e ≡ get_or entries i e → take (i + 1) entries ≡ take i entries ++ (e ∷ [])
 one_more entries i e h is = let more : take (i + 1) entries ≡ take i entries ++ (get_or entries i e ∷ []) = grind (arith, common_steps) in
@@ -75,3 +79,7 @@ takes_then_prefix old mid new a b c first second =
 -- a prefix of a text is one of a longer text
 pub prefix_of_more : (old new : Option (List ℕ)) (b c : List ℕ) → TakesPrefix old b new → TakesPrefix old (b ++ c) new
 prefix_of_more old new b c p = (p.0, p.1 ++ c, ap (λ t. t ++ c) p.2 ∙ append_assoc p.0 p.1 c, p.3)
+
+-- a whole text is a prefix of itself
+pub prefix_of_whole : (old new : Option (List ℕ)) (text : List ℕ) → Takes old text new → TakesPrefix old text new
+prefix_of_whole old new text whole = (text, [], sym (append-nil text), whole)

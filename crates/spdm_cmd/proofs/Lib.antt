@@ -6,3 +6,4 @@ pub mod SentPackets
 pub mod Pumping
 pub mod Written
 pub mod EventTexts
+pub mod TopCall
