@@ -1,3 +1,5 @@
 pub mod PacketList
 pub mod Spelled
 mod ThreePackets
+mod GroupStep
+mod StandsFor

@@ -2,13 +2,17 @@
 //! packets, and gathering packets into bodies again.
 #![tactic(auto)]
 
+mod assembler;
+mod body_buffer;
 mod cutter;
 mod laws;
 mod packet;
 mod route;
 #[cfg(test)]
 mod tests;
+mod unfinished;
 
+pub use assembler::{Assembler, Fed};
 pub use cutter::{Cutter, PacketBuf, cut};
 pub use laws::{packets_fit, payloads_are_the_body, short_body_is_one_packet, written_is_read};
 pub use packet::{Packet, PacketView};
