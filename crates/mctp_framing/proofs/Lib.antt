@@ -1,5 +1,7 @@
-pub mod PacketList
+pub mod Packets
 pub mod Spelled
 mod ThreePackets
 mod GroupStep
 mod StandsFor
+mod SpanList
+mod Room

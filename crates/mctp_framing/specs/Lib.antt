@@ -4,3 +4,4 @@ pub mod Gathering
 pub mod Held
 pub mod Assembling
 pub mod Answers
+pub mod Spans
