@@ -5,3 +5,4 @@ mod GroupStep
 mod StandsFor
 mod SpanList
 mod Room
+mod NewStart
