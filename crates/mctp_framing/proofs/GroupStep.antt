@@ -1,13 +1,11 @@
 -- One packet more: what it does to the group, and that an assembler still stands for the packets given.
-use Rattle.std.proofs.Common.{◌≡◌, ◌∙◌, ◌==◌, ◌+◌, ◌%◌, ◌&&◌, ℕ, Bool, true, false, not, cond, List, [], ◌∷◌, ◌++◌, length, refl, sym, ap, subst, arith}
-use Rattle.std.proofs.lemmas.Grind.{common_steps}
-use Rattle.std.specs.Prelude.{filter, Option, Some, None, is_none, if◌then◌else◌}
+use Rattle.std.proofs.Common.{◌≡◌, ◌∙◌, ◌==◌, ◌&&◌, ℕ, Bool, true, false, cond, List, [], ◌∷◌, ◌++◌, refl, sym, ap, subst}
+use Rattle.std.specs.Prelude.{filter, Option, Some, None, if◌then◌else◌}
 use Rattle.std.specs.Bool.{beq}
 use Rattle.std.proofs.lemmas.Bool.{eqb-true}
 use mathlib.Core.Bool.{true≢false}
 use Rattle.mctp_framing.specs.Packet.{PacketFields}
-use Rattle.mctp_framing.specs.Gathering.{Receiver, is_ours, has_same_tag, last_start, after_start, group_from, group_of, is_unfinished, broken_rule, unit_of, joined, belongs_to, answer_of, gathered}
-use Rattle.mctp_framing.specs.Assembling.{Assembly, StandsForGroup, StandsFor, answer_to, after_packet}
+use Rattle.mctp_framing.specs.Gathering.{has_same_tag, last_start, after_start, group_from, group_of}
 
 -- the group with one later packet more
 abbrev pub with_packet : PacketFields → List PacketFields → List PacketFields

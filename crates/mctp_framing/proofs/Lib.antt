@@ -6,3 +6,4 @@ mod StandsFor
 mod SpanList
 mod Room
 mod NewStart
+mod CutAndGathered

@@ -1,5 +1,5 @@
 -- What came before a first packet counts no more.
-use Rattle.std.proofs.Common.{◌≡◌, ◌∙◌, ℕ, Bool, true, false, not, cond, List, [], ◌∷◌, ◌++◌, refl, sym, ap, subst}
+use Rattle.std.proofs.Common.{◌≡◌, ◌∙◌, Bool, true, false, not, cond, List, [], ◌∷◌, ◌++◌, refl, sym, ap, subst}
 use Rattle.std.specs.Prelude.{filter, Option, Some, None, if◌then◌else◌}
 use Rattle.mctp_framing.specs.Packet.{PacketFields}
 use Rattle.mctp_framing.specs.Gathering.{Receiver, Gathered, is_ours, last_start, after_start, group_from, group_of, belongs_to, answer_of, gathered}

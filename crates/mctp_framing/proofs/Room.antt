@@ -1,7 +1,7 @@
 -- The packets of a body of at most 4,161 bytes fit into 72 packets and 8,192 bytes.
-use Rattle.std.proofs.Common.{◌≡◌, ◌∙◌, ◌+◌, ◌*◌, ◌<◌, ◌≤◌, ◌++◌, ℕ, zero, suc, List, [], ◌∷◌, length, All, refl, sym, ap, subst, arith, length-append}
+use Rattle.std.proofs.Common.{◌≡◌, ◌∙◌, ◌+◌, ◌*◌, ◌<◌, ◌≤◌, ◌++◌, ℕ, zero, suc, List, ◌∷◌, length, sym, ap, subst, arith, length-append}
 use Rattle.std.proofs.lemmas.Nat.{mul-le}
-use Rattle.std.proofs.lemmas.Grind.{common_steps, div_ceil_times}
+use Rattle.std.proofs.lemmas.Grind.{div_ceil_times}
 use Rattle.std.proofs.lemmas.List.Sums.{sum_by-append, sum_by-cons, sum_by-le}
 use Rattle.mctp_framing.specs.Cutting.{RouteFields, packet_count, packets_of}
 use Rattle.mctp_framing.specs.Spans.{total_len}

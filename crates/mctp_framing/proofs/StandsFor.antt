@@ -1,11 +1,11 @@
 -- An assembler answers each packet as gathering does, and still stands for the packets that it was given.
-use Rattle.std.proofs.Common.{◌≡◌, ◌∙◌, ◌==◌, ◌+◌, ◌%◌, ◌&&◌, ℕ, Bool, true, false, not, cond, List, [], ◌∷◌, ◌++◌, length, refl, sym, ap, subst}
+use Rattle.std.proofs.Common.{◌≡◌, ◌∙◌, ◌&&◌, ℕ, Bool, true, false, not, cond, List, [], ◌∷◌, ◌++◌, length, refl, sym, ap, subst}
 use Rattle.std.specs.Prelude.{filter, Option, Some, None, is_none, if◌then◌else◌}
 use Rattle.spdm_basis.specs.declared.DropCause.{DropCause}
 use Rattle.spdm_basis.specs.declared.DropCause.TheVariants.{NoStart, NotOurs}
 use Rattle.mctp_framing.specs.declared.unfinished.Unfinished.{Unfinished}
 use Rattle.mctp_framing.specs.Packet.{PacketFields}
-use Rattle.mctp_framing.specs.Gathering.{Receiver, Gathered, is_ours, has_same_tag, group_of, is_unfinished, broken_rule, unit_of, joined, belongs_to, answer_from, answer_of, gathered}
+use Rattle.mctp_framing.specs.Gathering.{Receiver, Gathered, is_ours, has_same_tag, group_of, is_unfinished, broken_rule, unit_of, joined, belongs_to, answer_of, gathered}
 use Rattle.mctp_framing.specs.Gathering.Gathered.{Dropped}
 use Rattle.mctp_framing.specs.Assembling.{Assembly, StandsForGroup, StandsFor, goes_on, next_rule, unfinished_after, grown_unless, after_first, after_next, after_later, after_packet, answer_later, answer_to}
 use Rattle.mctp_framing.proofs.GroupStep.{with_packet, group_of-later, group_of-first}

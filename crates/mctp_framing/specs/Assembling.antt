@@ -1,14 +1,12 @@
 -- What an assembler keeps, what one packet does to it, and the packets that it stands for. This project's
 -- own. The rules themselves are those of gathering.
-use Rattle.std.specs.Prelude.{◌≡◌, ◌==◌, ◌+◌, ◌%◌, ◌&&◌, ℕ, Bool, true, false, not, nat_lt, List, [], ◌∷◌, ◌++◌, length, filter, if◌then◌else◌, Option, Some, None, ⊤}
+use Rattle.std.specs.Prelude.{◌≡◌, ◌==◌, ◌+◌, ◌%◌, ◌&&◌, ℕ, Bool, true, false, not, nat_lt, List, [], ◌∷◌, ◌++◌, length, filter, if◌then◌else◌, Option, Some, None}
 use Rattle.std.specs.Bool.{beq}
-use Rattle.std.specs.Borrow.{Fml, MutBor}
 use Rattle.spdm_basis.specs.declared.DropCause.{DropCause}
 use Rattle.spdm_basis.specs.declared.DropCause.TheVariants.{NotOurs, NoStart, WrongSequence, TooLong, WrongSize}
 use Rattle.mctp_framing.specs.Packet.{PacketFields}
-use Rattle.mctp_framing.specs.Cutting.{RouteFields, route_of}
-use Rattle.mctp_framing.specs.Gathering.{Receiver, Gathered, is_ours, has_wrong_size, unit_of, joined, first_cause, broken_rule, is_unfinished, group_of, answer_from, route_of_packet}
-use Rattle.mctp_framing.specs.Gathering.Gathered.{Whole, More, Dropped}
+use Rattle.mctp_framing.specs.Gathering.{Receiver, Gathered, is_ours, has_wrong_size, unit_of, joined, first_cause, broken_rule, is_unfinished, group_of, answer_from}
+use Rattle.mctp_framing.specs.Gathering.Gathered.{Dropped}
 use Rattle.mctp_framing.specs.declared.unfinished.Unfinished.{Unfinished}
 
 -- Who gathers, what the next packet of the unfinished body must have, and the bytes so far.

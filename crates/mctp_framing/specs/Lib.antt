@@ -5,3 +5,4 @@ pub mod Held
 pub mod Assembling
 pub mod Answers
 pub mod Spans
+pub mod CutAndGather

@@ -1,5 +1,5 @@
 -- Packets one behind the other in one list of bytes. This project's own.
-use Rattle.std.specs.Prelude.{◌≤◌, ◌+◌, ℕ, List, map, length, slice_range, sum_by, ⊤}
+use Rattle.std.specs.Prelude.{◌≤◌, ◌+◌, ℕ, List, map, length, slice_range, sum_by}
 use Rattle.std.specs.List.{AllByRecursion}
 use Rattle.mctp_framing.specs.declared.packet_list.Span.{Span}
 

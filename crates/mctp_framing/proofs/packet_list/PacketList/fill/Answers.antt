@@ -1,5 +1,5 @@
-use Rattle.std.proofs.Common.{◌≡◌, ◌∙◌, ◌<◌, ◌≤◌, ◌+◌, ◌++◌, ◌∷◌, ℕ, List, length, ap, sym, subst}
-use Rattle.mctp_framing.specs.Cutting.{packets_of, route_of}
+use Rattle.std.proofs.Common.{◌∙◌, ◌<◌, ◌≤◌, ◌+◌, ◌++◌, ◌∷◌, ℕ, List, length, ap, sym, subst}
+use Rattle.mctp_framing.specs.Cutting.{route_of}
 use Rattle.mctp_framing.specs.Spans.{total_len}
 use Rattle.mctp_framing.proofs.Room.{room}
 use Rattle.mctp_framing.proofs.packet_list.PacketList.fill.Goals as goal
