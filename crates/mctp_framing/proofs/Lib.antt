@@ -1,3 +1,9 @@
-pub mod PacketList
+pub mod Packets
 pub mod Spelled
 mod ThreePackets
+mod GroupStep
+mod StandsFor
+mod SpanList
+mod Room
+mod NewStart
+mod CutAndGathered

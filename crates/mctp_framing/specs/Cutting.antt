@@ -1,5 +1,5 @@
 -- A message body as packets (DSP0236, "Message assembly", "Packet sequence number").
-use Rattle.std.specs.Prelude.{◌==◌, ◌+◌, ◌*◌, ◌%◌, ℕ, Bool, true, List, map, length, slice_range}
+use Rattle.std.specs.Prelude.{zero, suc, [], ◌∷◌, ◌==◌, ◌+◌, ◌*◌, ◌%◌, ℕ, Bool, true, List, map, length, slice_range}
 use Rattle.std.specs.Int.{div_ceil}
 use Rattle.std.specs.List.{range_with_len}
 use Rattle.mctp_framing.specs.Packet.{PacketFields, spelled_packet}
@@ -52,3 +52,8 @@ only_packet route body =
       tag = route.tag;
       payload = body;
     }
+
+-- The packets of numbers below k, the newest first.
+abbrev pub packets_before : RouteFields → (unit : ℕ) → (body : List ℕ) → ℕ → List PacketFields
+packets_before route unit body zero = []
+packets_before route unit body (suc k) = nth_packet route unit body k ∷ packets_before route unit body k

@@ -39,12 +39,14 @@ abbrev pub after_start : List PacketFields → List PacketFields
 after_start [] = []
 after_start (p ∷ earlier) = if p.start then [] else p ∷ after_start earlier
 
+-- A first packet and those of the later packets that have its tag and tag owner bit.
+abbrev pub group_from : Option PacketFields → (later : List PacketFields) → List PacketFields
+group_from None later = []
+group_from (Some first) later = filter (λ p. has_same_tag p first) later ++ first ∷ []
+
 -- The group: the last packet with SOM, and the later packets that have its tag and tag owner bit.
 abbrev pub group_of : List PacketFields → List PacketFields
-group_of packets = elim (last_start packets) [
-  | Some first ↦ filter (has_same_tag first) (after_start packets) ++ first ∷ []
-  | None ↦ []
-]
+group_of packets = group_from (last_start packets) (after_start packets)
 
 -- The payloads of a group, joined in the order in which they came.
 abbrev pub joined : List PacketFields → List ℕ
@@ -97,14 +99,15 @@ is_unfinished limit (p ∷ q ∷ earlier) =
 abbrev pub route_of_packet : PacketFields → RouteFields
 route_of_packet p = record { to = p.to; from = p.from; owner = p.owner; tag = p.tag }
 
--- What the newest packet of a group leads to, where no earlier member has EOM or breaks a rule: it is
--- dropped for the rule that it breaks; else with EOM the group's payloads are a body, and without it more
--- is awaited.
+-- What a packet leads to, by the rule that it breaks and the payloads up to it: it is dropped for the
+-- rule; else with EOM the payloads are a body, and without it more is awaited.
+abbrev pub answer_from : Option DropCause → PacketFields → (body : List ℕ) → Gathered
+answer_from (Some cause) p body = Dropped cause
+answer_from None p body = if p.end then Whole (route_of_packet p) body else More
+
+-- What the newest packet of a group leads to, where no earlier member has EOM or breaks a rule.
 abbrev pub answer_of : (limit : ℕ) → PacketFields → (earlier : List PacketFields) → Gathered
-answer_of limit p earlier = elim (broken_rule limit (p ∷ earlier)) [
-  | Some cause ↦ Dropped cause
-  | None ↦ if p.end then Whole (route_of_packet p) (joined (p ∷ earlier)) else More
-]
+answer_of limit p earlier = answer_from (broken_rule limit (p ∷ earlier)) p (joined (p ∷ earlier))
 
 -- The packet belongs to an unfinished group.
 abbrev pub belongs_to : (limit : ℕ) → PacketFields → (group : List PacketFields) → Bool

@@ -2,15 +2,24 @@
 //! packets, and gathering packets into bodies again.
 #![tactic(auto)]
 
+mod assembler;
+mod body_buffer;
 mod cutter;
 mod laws;
 mod packet;
+mod packet_list;
 mod route;
 #[cfg(test)]
 mod tests;
+mod unfinished;
 
+pub use assembler::{Assembler, Fed};
 pub use cutter::{Cutter, PacketBuf, cut};
-pub use laws::{packets_fit, payloads_are_the_body, short_body_is_one_packet, written_is_read};
+pub use laws::{
+    cut_is_gathered, first_packet_begins_anew, packets_fit, payloads_are_the_body,
+    short_body_is_one_packet, written_is_read,
+};
 pub use packet::{Packet, PacketView};
+pub use packet_list::PacketList;
 pub use route::Route;
 pub use spdm_basis::{DropCause, PacketFault};

@@ -1,5 +1,5 @@
 use Rattle.mctp_framing.specs.Cutting.{route_of}
-use Rattle.mctp_framing.proofs.PacketList.{packets_of-short}
+use Rattle.mctp_framing.proofs.Packets.{packets_of-short}
 use Rattle.mctp_framing.proofs.cutter.cut.Goals as goal
 
 pub returns-clause-only : goal.returns-clause-only

@@ -1,4 +1,4 @@
-use Rattle.mctp_framing.proofs.PacketList as list
+use Rattle.mctp_framing.proofs.Packets as list
 use Rattle.mctp_framing.proofs.laws.packets_fit.Goals as goal
 
 pub returns-clause-count : goal.returns-clause-count

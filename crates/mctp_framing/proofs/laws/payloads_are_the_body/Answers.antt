@@ -1,4 +1,4 @@
-use Rattle.mctp_framing.proofs.PacketList.{packets_join}
+use Rattle.mctp_framing.proofs.Packets.{packets_join}
 use Rattle.mctp_framing.proofs.laws.payloads_are_the_body.Goals as goal
 
 pub returns : goal.returns

@@ -1,4 +1,4 @@
-use Rattle.mctp_framing.proofs.PacketList.{packets_of-short}
+use Rattle.mctp_framing.proofs.Packets.{packets_of-short}
 use Rattle.mctp_framing.proofs.laws.short_body_is_one_packet.Goals as goal
 
 pub returns : goal.returns

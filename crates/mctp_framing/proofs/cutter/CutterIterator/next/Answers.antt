@@ -1,6 +1,6 @@
 use Rattle.std.proofs.Common.{◌≡◌, ◌<◌, ◌+◌, ◌∷◌, ℕ, List, drop, length, ap, sym, ◌∙◌, arith}
 use Rattle.mctp_framing.specs.Cutting.{packet_count, packets_of, route_of}
-use Rattle.mctp_framing.proofs.PacketList.{packets_from, no_packets_from}
+use Rattle.mctp_framing.proofs.Packets.{packets_from, no_packets_from}
 use Rattle.mctp_framing.proofs.cutter.CutterIterator.next.Goals as goal
 
 pub returns-then-self-clause-steps : goal.returns-then-self-clause-steps

@@ -50,7 +50,7 @@ pub packets_of-short : (route : RouteFields) (unit : ℕ) (body : List ℕ) → 
 packets_of-short route unit body filled fits = rw (one_packet unit body filled fits, whole_range unit body fits) refl
 
 -- the slice behind the first m units is the next part of the list
-next_unit : (unit m : ℕ) (body : List ℕ) → take (m * unit) body ++ slice_range body (m * unit) (m * unit + unit) ≡ take ((m + 1) * unit) body
+pub next_unit : (unit m : ℕ) (body : List ℕ) → take (m * unit) body ++ slice_range body (m * unit) (m * unit + unit) ≡ take ((m + 1) * unit) body
 next_unit unit m body = grind (arith, common_steps, take-add)
 
 join_more : (f : ℕ → List ℕ) (m : ℕ) → concat (map f (range_with_len 0 (m + 1))) ≡ concat (map f (range_with_len 0 m)) ++ f m

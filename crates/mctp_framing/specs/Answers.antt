@@ -1,0 +1,22 @@
+-- The answers of the assembler's calls, as those of gathering.
+use Rattle.std.specs.Prelude.{ℕ, List}
+use Rattle.mctp_framing.specs.Packet.{PacketFields}
+use Rattle.mctp_framing.specs.Cutting.{route_of}
+use Rattle.mctp_framing.specs.Gathering.{Gathered, route_of_packet}
+use Rattle.mctp_framing.specs.Gathering.Gathered.{Whole, More, Dropped}
+use Rattle.mctp_framing.specs.declared.assembler.Fed.{Fed}
+use Rattle.mctp_framing.specs.declared.assembler.Fed.TheVariants as fed
+use Rattle.mctp_framing.specs.declared.assembler.Step.{Step}
+use Rattle.mctp_framing.specs.declared.assembler.Step.TheVariants as step
+
+-- What a caller is told, with the body that the assembler has then.
+abbrev pub fed_answer : Fed → (body : List ℕ) → Gathered
+fed_answer (fed.Whole route) body = Whole (route_of route) body
+fed_answer fed.More body = More
+fed_answer (fed.Dropped cause) body = Dropped cause
+
+-- A step, with the packet that it took and the body that the assembler has after it.
+abbrev pub step_answer : Step → PacketFields → (body : List ℕ) → Gathered
+step_answer step.Whole p body = Whole (route_of_packet p) body
+step_answer step.More p body = More
+step_answer (step.Dropped cause) p body = Dropped cause

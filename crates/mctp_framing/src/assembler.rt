@@ -1,0 +1,180 @@
+ghost use Rattle.std.specs.Prelude.{◌≡◌, ◌<◌, ◌≤◌, ◌+◌, [], ◌∷◌, ◌++◌, None, List, length, IfOk};
+ghost use Rattle.mctp_framing.specs.Cutting.{route_of};
+ghost use Rattle.mctp_framing.specs.Packet.{PacketFields, view_of};
+ghost use Rattle.mctp_framing.specs.Gathering.{answer_from, broken_rule, gathered};
+ghost use Rattle.mctp_framing.specs.Assembling.{Assembly, StandsFor, after_first, after_later, after_packet, answer_later, answer_to, grown};
+ghost use Rattle.mctp_framing.specs.Answers.{fed_answer, step_answer};
+
+use crate::body_buffer::BodyBuffer;
+use crate::unfinished::{Unfinished, broken_first_rule};
+use crate::{PacketView, Route};
+use spdm_basis::{DropCause, Eid, OutOfMemory};
+use std::alloc::Global;
+use std::marker::Model;
+
+/// Gathers packets from one peer into message bodies (DSP0236, "Message assembly"). It keeps at most one
+/// unfinished body. Contracts see what it keeps as an `Assembly`.
+#[derive(Drop)]
+pub struct Assembler {
+    own: Eid,
+    peer: Eid,
+    unfinished: Option<Unfinished>,
+    body: BodyBuffer,
+}
+
+impl Model for Assembler {
+    ghost use Rattle.mctp_framing.specs.Assembling.{Assembly};
+
+    ghost Value = { Assembly };
+
+    ghost view = { λ a. record {
+      receiver = record { own = a.own; peer = a.peer; limit = a.body.limit };
+      unfinished = a.unfinished;
+      body = a.body.bytes;
+    } };
+}
+
+/// What a packet led to.
+#[derive(Clone, Copy, Debug, PartialEq, Eq)]
+pub enum Fed {
+    /// It completed the body of this route, which `Assembler::body` lends until another packet is taken.
+    Whole(Route),
+    /// The body is not whole yet.
+    More,
+    /// The packet was dropped.
+    Dropped(DropCause),
+}
+
+// What a packet led to; a whole body lies in the assembler.
+#[derive(Clone, Copy, Debug)]
+pub(crate) enum Step {
+    Whole,
+    More,
+    Dropped(DropCause),
+}
+
+impl Assembler {
+    /// An assembler that was given no packet. It takes the memory for a body of `limit` bytes, and no
+    /// more later.
+    pub fn new(alloc: Global, own: Eid, peer: Eid, limit: usize) -> Result<Assembler, OutOfMemory>
+        ensures receiver { IfOk result (λ a. a.receiver ≡ record { own = own; peer = peer; limit = limit }) }
+        ensures stands { IfOk result (λ a. StandsFor a []) }
+    {
+        Ok(Assembler {
+            own,
+            peer,
+            unfinished: None,
+            body: BodyBuffer::new(alloc, limit)?,
+        })
+    }
+
+    /// Takes a packet, as `Packet::parse` gives it. It takes no memory.
+    ///
+    /// The tests stand in this order. `NotOurs`: the destination is not the own end point, or the source
+    /// is not the peer; nothing changes. A packet with SOM drops what was unfinished; then `WrongSize`
+    /// where its payload is empty, `IntegritySet` where bit 7 of its first byte is set, `TooLong` where it
+    /// is longer than the limit. A packet without SOM: `NoStart` where nothing is unfinished, or another
+    /// tag or tag owner bit is; nothing changes. Then `WrongSequence` where it is not the next one,
+    /// `WrongSize` where its payload is empty, longer than the first, or shorter without EOM, and
+    /// `TooLong`; after these nothing is unfinished. Else the packet is added: with EOM the body is
+    /// `Whole`, and without it `More` is awaited.
+    pub fn take(&mut self, packet: PacketView<'_>) -> Fed
+        requires sequence { packet.sequence < 4 }
+        requires tag { packet.tag < 8 }
+        ensures receiver { self.new.receiver ≡ self.old.receiver }
+        ensures fed { (given : List PacketFields) → StandsFor self.old given → fed_answer result self.new.body ≡ gathered self.old.receiver given (view_of packet.entry) }
+        ensures stands { (given : List PacketFields) → StandsFor self.old given → StandsFor self.new (view_of packet.entry ∷ given) }
+    {
+        match self.step(packet) {
+            Step::Whole => Fed::Whole(self.route(packet)),
+            Step::More => Fed::More,
+            Step::Dropped(cause) => Fed::Dropped(cause),
+        }
+    }
+
+    /// The bytes of the body that is being gathered, and the whole body after `Fed::Whole`.
+    pub fn body(&self) -> &[u8]
+        ensures value { result.now ≡ self.now.body }
+        ensures fits { length result.now ≤ self.now.receiver.limit }
+    {
+        self.body.as_slice()
+    }
+
+    // The route of a packet for the own end point and from the peer.
+    fn route(&self, packet: PacketView<'_>) -> Route
+        requires { packet.tag < 8 }
+        ensures { route_of result ≡ record { to = self.now.receiver.own; from = self.now.receiver.peer; owner = packet.entry.owner; tag = packet.entry.tag } }
+    {
+        Route {
+            to: self.own,
+            from: self.peer,
+            owner: packet.owner,
+            tag: packet.tag,
+        }
+    }
+
+    // Takes a packet.
+    fn step(&mut self, packet: PacketView<'_>) -> Step
+        requires { packet.sequence < 4 }
+        ensures answer { step_answer result (view_of packet.entry) self.new.body ≡ answer_to self.old (view_of packet.entry) }
+        ensures after { self.new ≡ after_packet self.old (view_of packet.entry) }
+    {
+        if packet.to != self.own.number() || packet.from != self.peer.number() {
+            return Step::Dropped(DropCause::NotOurs);
+        }
+        if packet.start {
+            return self.begin(packet);
+        }
+        self.go_on(packet)
+    }
+
+    // Takes a first packet. What was unfinished is dropped.
+    fn begin(&mut self, packet: PacketView<'_>) -> Step
+        requires { packet.sequence < 4 }
+        ensures answer { step_answer result (view_of packet.entry) self.new.body ≡ answer_from (broken_rule self.old.receiver.limit (view_of packet.entry ∷ [])) (view_of packet.entry) ([] ++ packet.entry.payload.now) }
+        ensures after { self.new ≡ after_first self.old (view_of packet.entry) }
+    {
+        self.unfinished = None;
+        self.body.clear();
+        if let Some(cause) = broken_first_rule(packet, self.body.limit()) {
+            return Step::Dropped(cause);
+        }
+        self.grow(packet, packet.payload.len())
+    }
+
+    // Takes a packet without SOM.
+    fn go_on(&mut self, packet: PacketView<'_>) -> Step
+        requires { packet.sequence < 4 }
+        ensures answer { step_answer result (view_of packet.entry) self.new.body ≡ answer_later self.old.unfinished self.old (view_of packet.entry) }
+        ensures after { self.new ≡ after_later self.old.unfinished self.old (view_of packet.entry) }
+    {
+        let Some(unfinished) = self.unfinished else {
+            return Step::Dropped(DropCause::NoStart);
+        };
+        if !unfinished.goes_on_with(packet) {
+            return Step::Dropped(DropCause::NoStart);
+        }
+        self.unfinished = None;
+        let held = self.body.as_slice().len();
+        if let Some(cause) = unfinished.broken_rule(packet, held, self.body.limit()) {
+            return Step::Dropped(cause);
+        }
+        self.grow(packet, unfinished.unit)
+    }
+
+    // Adds a packet that breaks no rule.
+    fn grow(&mut self, packet: PacketView<'_>, unit: usize) -> Step
+        requires sequence { packet.sequence < 4 }
+        requires fits { length self.old.body + length packet.payload.now ≤ self.old.receiver.limit }
+        ensures answer { step_answer result (view_of packet.entry) self.new.body ≡ answer_from None (view_of packet.entry) (self.old.body ++ packet.entry.payload.now) }
+        ensures after { self.new ≡ grown self.old (view_of packet.entry) unit }
+    {
+        self.body.append(packet.payload);
+        if packet.end {
+            self.unfinished = None;
+            return Step::Whole;
+        }
+        self.unfinished = Some(Unfinished::after(packet, unit));
+        Step::More
+    }
+}
