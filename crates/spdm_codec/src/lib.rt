@@ -22,3 +22,6 @@ mod version;
 pub use put::TooLong;
 pub use request::{read_request, write_request};
 pub use response::{read_response, write_response};
+
+#[cfg(test)]
+mod tests;

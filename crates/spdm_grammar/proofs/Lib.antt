@@ -1,2 +1,5 @@
 pub mod Steps
-pub mod Laws
+pub mod Spellings
+pub mod Spelled
+pub mod CanonicalRequests
+pub mod CanonicalResponses

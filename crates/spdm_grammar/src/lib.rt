@@ -7,6 +7,7 @@ mod capabilities;
 mod chunk;
 mod error_code;
 mod exchange;
+mod laws;
 mod malformed;
 mod measurements;
 mod request;
@@ -17,6 +18,10 @@ pub use capabilities::Caps;
 pub use chunk::ChunkView;
 pub use error_code::ErrorCode;
 pub use exchange::{Exchange, ExchangeRsp};
+pub use laws::{
+    canonical_request_is_read, canonical_response_is_read, one_request, one_response,
+    request_in_is_spelled, response_in_is_spelled,
+};
 pub use malformed::{Malformed, Part};
 pub use measurements::Measured;
 pub use request::Request;

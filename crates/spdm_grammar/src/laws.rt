@@ -1,0 +1,46 @@
+//! What holds of the grammar, each law as the contract of a function that does nothing.
+
+ghost use Rattle.std.specs.Prelude.{◌≡◌, ◌↔◌, ℕ, List, Bool, Some};
+ghost use Rattle.spdm_grammar.specs.Message.{RequestMessage, ResponseMessage};
+ghost use Rattle.spdm_grammar.specs.Requests.{IsRequestSpelling, IsSoundRequest, canonical_request, request_in};
+ghost use Rattle.spdm_grammar.specs.Responses.{IsResponseSpelling, IsSoundResponse, canonical_response, response_in};
+
+/// The function on bytes answers a request exactly where they spell it.
+pub fn request_in_is_spelled()
+    ensures { (hash_len : ℕ) (message : RequestMessage) (bytes : List ℕ) →
+        (request_in hash_len bytes ≡ Some message) ↔ IsRequestSpelling hash_len message bytes }
+{}
+
+/// The function on bytes answers a response exactly where they spell it.
+pub fn response_in_is_spelled()
+    ensures { (hash_len : ℕ) (summary : Bool) (message : ResponseMessage) (bytes : List ℕ) →
+        (response_in hash_len summary bytes ≡ Some message) ↔ IsResponseSpelling hash_len summary message bytes }
+{}
+
+/// Bytes spell one request at most.
+pub fn one_request()
+    ensures { (hash_len : ℕ) (m n : RequestMessage) (bytes : List ℕ) →
+        IsRequestSpelling hash_len m bytes → IsRequestSpelling hash_len n bytes → m ≡ n }
+{}
+
+/// Bytes spell one response at most.
+pub fn one_response()
+    ensures { (hash_len : ℕ) (summary : Bool) (m n : ResponseMessage) (bytes : List ℕ) →
+        IsResponseSpelling hash_len summary m bytes → IsResponseSpelling hash_len summary n bytes → m ≡ n }
+{}
+
+/// The canonical spelling of a sound request spells it, and so is read as that request.
+pub fn canonical_request_is_read()
+    ensures spelled { (hash_len : ℕ) (message : RequestMessage) → IsSoundRequest hash_len message →
+        IsRequestSpelling hash_len message (canonical_request message) }
+    ensures read { (hash_len : ℕ) (message : RequestMessage) → IsSoundRequest hash_len message →
+        request_in hash_len (canonical_request message) ≡ Some message }
+{}
+
+/// The canonical spelling of a sound response spells it, and so is read as that response.
+pub fn canonical_response_is_read()
+    ensures spelled { (hash_len : ℕ) (summary : Bool) (message : ResponseMessage) → IsSoundResponse hash_len summary message →
+        IsResponseSpelling hash_len summary message (canonical_response message) }
+    ensures read { (hash_len : ℕ) (summary : Bool) (message : ResponseMessage) → IsSoundResponse hash_len summary message →
+        response_in hash_len summary (canonical_response message) ≡ Some message }
+{}
