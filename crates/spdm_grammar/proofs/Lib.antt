@@ -1,5 +1,7 @@
 pub mod Steps
 pub mod Spellings
 pub mod Spelled
+pub mod Longer
+pub mod Ends
 pub mod CanonicalRequests
 pub mod CanonicalResponses

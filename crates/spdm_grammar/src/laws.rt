@@ -1,9 +1,12 @@
 //! What holds of the grammar, each law as the contract of a function that does nothing.
 
-ghost use Rattle.std.specs.Prelude.{◌≡◌, ◌↔◌, ℕ, List, Bool, Some};
+ghost use Rattle.std.specs.Prelude.{◌≡◌, ◌≢◌, ◌↔◌, ◌++◌, [], ℕ, List, Bool, Some};
 ghost use Rattle.spdm_grammar.specs.Message.{RequestMessage, ResponseMessage};
-ghost use Rattle.spdm_grammar.specs.Requests.{IsRequestSpelling, IsSoundRequest, canonical_request, request_in};
-ghost use Rattle.spdm_grammar.specs.Responses.{IsResponseSpelling, IsSoundResponse, canonical_response, response_in};
+ghost use Rattle.spdm_grammar.specs.Requests.{IsRequestSpelling, IsSoundRequest, canonical_request, request_in, request_fault};
+ghost use Rattle.spdm_grammar.specs.Responses.{IsResponseSpelling, IsSoundResponse, canonical_response, response_in, response_fault};
+ghost use Rattle.spdm_grammar.specs.Ends.{EndsByItself};
+ghost use Rattle.spdm_grammar.specs.declared.malformed.Malformed.{Malformed};
+ghost use Rattle.spdm_grammar.specs.declared.malformed.Part.TheVariants.{End};
 
 /// The function on bytes answers a request exactly where they spell it.
 pub fn request_in_is_spelled()
@@ -44,3 +47,31 @@ pub fn canonical_response_is_read()
     ensures read { (hash_len : ℕ) (summary : Bool) (message : ResponseMessage) → IsSoundResponse hash_len summary message →
         response_in hash_len summary (canonical_response message) ≡ Some message }
 {}
+
+/// No spelling of a request is a proper prefix of another.
+pub fn no_request_prefix()
+    ensures { (hash_len : ℕ) (m n : RequestMessage) (bytes more : List ℕ) →
+        IsRequestSpelling hash_len m bytes → IsRequestSpelling hash_len n (bytes ++ more) → more ≡ [] }
+{
+}
+
+/// No spelling of a response other than CHUNK_SEND_ACK and ERROR is a proper prefix of another.
+pub fn no_response_prefix()
+    ensures { (hash_len : ℕ) (summary : Bool) (m n : ResponseMessage) (bytes more : List ℕ) → EndsByItself m →
+        IsResponseSpelling hash_len summary m bytes → IsResponseSpelling hash_len summary n (bytes ++ more) → more ≡ [] }
+{
+}
+
+/// A fault of a request other than `End` stays when more bytes come.
+pub fn request_fault_stays()
+    ensures { (hash_len : ℕ) (bytes more : List ℕ) (fault : Malformed) →
+        request_fault hash_len bytes ≡ Some fault → fault.what ≢ End → request_fault hash_len (bytes ++ more) ≡ Some fault }
+{
+}
+
+/// A fault of a response other than `End` stays when more bytes come.
+pub fn response_fault_stays()
+    ensures { (hash_len : ℕ) (summary : Bool) (bytes more : List ℕ) (fault : Malformed) →
+        response_fault hash_len summary bytes ≡ Some fault → fault.what ≢ End → response_fault hash_len summary (bytes ++ more) ≡ Some fault }
+{
+}

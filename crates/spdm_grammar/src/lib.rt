@@ -19,8 +19,9 @@ pub use chunk::ChunkView;
 pub use error_code::ErrorCode;
 pub use exchange::{Exchange, ExchangeRsp};
 pub use laws::{
-    canonical_request_is_read, canonical_response_is_read, one_request, one_response,
-    request_in_is_spelled, response_in_is_spelled,
+    canonical_request_is_read, canonical_response_is_read, no_request_prefix, no_response_prefix,
+    one_request, one_response, request_fault_stays, request_in_is_spelled, response_fault_stays,
+    response_in_is_spelled,
 };
 pub use malformed::{Malformed, Part};
 pub use measurements::Measured;
