@@ -1,11 +1,11 @@
 -- The canonical spelling of a sound response is a spelling of it.
-use Rattle.std.proofs.Common.{◌≡◌, ℕ, ◌+◌, ◌*◌, ◌/◌, Bool, cond, eqb, List, [], ◌∷◌, ◌++◌, length, refl, sym, ap, subst, append_assoc, arith, inl, inr}
+use Rattle.std.proofs.Common.{◌≡◌, ◌<◌, ◌^◌, ℕ, ◌+◌, ◌*◌, ◌/◌, Bool, cond, eqb, List, [], ◌∷◌, ◌++◌, length, refl, sym, ap, subst, append_assoc, arith, inl, inr}
 use Rattle.std.proofs.lemmas.Bool.{le-leb, eqb-true}
 use Rattle.std.proofs.lemmas.List.{append-nil}
 use Rattle.byteorder.specs.Endian.{little_bytes}
 use Rattle.spdm_grammar.specs.Message.{ResponseMessage, ReplyMessage, ExchangeRspMessage, MeasuredMessage}
 use Rattle.spdm_grammar.specs.Message.ResponseMessage.{Version, Capabilities, Algorithms, Measurements, PskExchangeRsp, PskFinishRsp, HeartbeatAck, KeyUpdateAck, EndSessionAck, ChunkSendAck, ChunkResponse, Error}
-use Rattle.spdm_grammar.specs.Responses.{response_layout, response_body, version_layout, capabilities_layout, algorithms_layout, measurements_layout, psk_exchange_rsp_layout, psk_finish_rsp_layout, heartbeat_ack_layout, key_update_ack_layout, end_session_ack_layout, chunk_send_ack_layout, chunk_response_layout, error_layout, IsExtended, IsSoundResponse, canonical_response}
+use Rattle.spdm_grammar.specs.Responses.{response_layout, response_body, version_layout, capabilities_layout, algorithms_layout, measurements_layout, psk_exchange_rsp_layout, psk_finish_rsp_layout, heartbeat_ack_layout, key_update_ack_layout, end_session_ack_layout, chunk_send_ack_layout, chunk_response_layout, error_layout, IsExtended, FitsReply, FitsResponse, IsSoundResponse, canonical_response}
 use Rattle.spdm_grammar.proofs.Spelled.{Spelled, whole, one, two, three, four, bytes, tables, either, mark_back, both}
 use Rattle.spdm_grammar.proofs.CanonicalRequests.{caps_spelled, chunk_spelled}
 
@@ -15,15 +15,15 @@ version_spelled hash_len has_summary entries s =
     let long : length entries ≡ 2 * (length entries / 2) = omega (arith, s.0) in
     one 0x10 refl (one 0x04 refl (bytes (0 ∷ 0 ∷ 0 ∷ []) _ refl refl (one (length entries / 2) refl (bytes entries [] (sym (append-nil entries)) long (whole _ _ refl)))))
 
-reply_spelled : (hash_len : ℕ) (has_summary : Bool) (reply : ReplyMessage) → IsSoundResponse hash_len has_summary (Algorithms reply) → Spelled (response_layout hash_len has_summary) 0 (Algorithms reply) (canonical_response (Algorithms reply))
+reply_spelled : (hash_len : ℕ) (has_summary : Bool) (reply : ReplyMessage) → FitsReply reply → IsSoundResponse hash_len has_summary (Algorithms reply) → Spelled (response_layout hash_len has_summary) 0 (Algorithms reply) (canonical_response (Algorithms reply))
 unfolding response_body algorithms_layout
-reply_spelled hash_len has_summary reply s =
+reply_spelled hash_len has_summary reply f s =
     let asyms : length reply.ext_asym ≡ 4 * (length reply.ext_asym / 4) = omega (arith, s.ext_asym) in
     let hashes : length reply.ext_hash ≡ 4 * (length reply.ext_hash / 4) = omega (arith, s.ext_hash) in
     let size : 36 + length reply.ext_asym + length reply.ext_hash + length reply.tables ≡ 36 + 4 * (length reply.ext_asym / 4) + 4 * (length reply.ext_hash / 4) + length reply.tables = omega (arith, asyms, hashes) in
     one 0x12 refl (one 0x63 refl (one reply.count refl (bytes (0 ∷ []) _ refl refl
     (two (36 + length reply.ext_asym + length reply.ext_hash + length reply.tables) s.told refl
-    (one reply.measurement refl (one reply.other refl (four reply.measurement_hash s.measurement_hash refl (four reply.asym s.asym refl (four reply.hash s.hash refl
+    (one reply.measurement refl (one reply.other refl (four reply.measurement_hash f.measurement_hash refl (four reply.asym f.asym refl (four reply.hash f.hash refl
     (bytes (0 ∷ 0 ∷ 0 ∷ 0 ∷ 0 ∷ 0 ∷ 0 ∷ 0 ∷ 0 ∷ 0 ∷ 0 ∷ 0 ∷ []) _ refl refl
     (one (length reply.ext_asym / 4) refl (one (length reply.ext_hash / 4) refl (bytes (0 ∷ 0 ∷ []) _ refl refl
     (bytes reply.ext_asym (reply.ext_hash ++ reply.tables) (append_assoc reply.ext_asym reply.ext_hash reply.tables) asyms
@@ -43,12 +43,12 @@ measured_spelled hash_len has_summary measured s =
     (two (length measured.opaque) (omega (arith, s.opaque)) (le-leb _ _ s.opaque)
     (bytes measured.opaque [] (sym (append-nil measured.opaque)) refl (whole _ _ refl))))))))))
 
-exchange_rsp_spelled : (hash_len : ℕ) (has_summary : Bool) (exchange : ExchangeRspMessage) → IsSoundResponse hash_len has_summary (PskExchangeRsp exchange) → Spelled (response_layout hash_len has_summary) 0 (PskExchangeRsp exchange) (canonical_response (PskExchangeRsp exchange))
+exchange_rsp_spelled : (hash_len : ℕ) (has_summary : Bool) (exchange : ExchangeRspMessage) → exchange.rsp_id < 2 ^ 16 → IsSoundResponse hash_len has_summary (PskExchangeRsp exchange) → Spelled (response_layout hash_len has_summary) 0 (PskExchangeRsp exchange) (canonical_response (PskExchangeRsp exchange))
 unfolding response_body psk_exchange_rsp_layout
-exchange_rsp_spelled hash_len has_summary exchange s =
+exchange_rsp_spelled hash_len has_summary exchange fits s =
     let first : exchange.summary ++ exchange.context ++ exchange.opaque ++ exchange.verify ≡ exchange.summary ++ (exchange.context ++ (exchange.opaque ++ exchange.verify)) = simp append_assoc in
     one 0x12 refl (one 0x66 refl (one exchange.heartbeat refl (bytes (0 ∷ []) _ refl refl
-    (two exchange.rsp_id s.rsp_id refl (bytes (0 ∷ 0 ∷ []) _ refl refl
+    (two exchange.rsp_id fits refl (bytes (0 ∷ 0 ∷ []) _ refl refl
     (two (length exchange.context) s.context (le-leb _ _ s.context_long) (two (length exchange.opaque) (omega (arith, s.opaque)) (le-leb _ _ s.opaque)
     (bytes exchange.summary (exchange.context ++ (exchange.opaque ++ exchange.verify)) first s.summary
     (bytes exchange.context (exchange.opaque ++ exchange.verify) refl refl
@@ -69,25 +69,25 @@ error_spelled : (hash_len : ℕ) (has_summary : Bool) (version code detail : ℕ
 unfolding response_body
 error_spelled hash_len has_summary version code detail extended s =
     let P : ℕ → Type 0 = λ k. Spelled (response_layout hash_len has_summary) 0 (Error k code detail extended) (canonical_response (Error k code detail extended)) in
-    let old : P 0x10 = one 0x10 refl (one 0x7f refl (extended_spelled 0x10 code detail extended s.3)) in
-    let new : P 0x12 = one 0x12 refl (one 0x7f refl (extended_spelled 0x12 code detail extended s.3)) in
+    let old : P 0x10 = one 0x10 refl (one 0x7f refl (extended_spelled 0x10 code detail extended s.1)) in
+    let new : P 0x12 = one 0x12 refl (one 0x7f refl (extended_spelled 0x12 code detail extended s.1)) in
     elim s.0 [ inl is ↦ subst P (sym is) old | inr is ↦ subst P (sym is) new ]
 
 -- the response's canonical spelling spells it
-pub response_spelled : (hash_len : ℕ) (has_summary : Bool) (m : ResponseMessage) → IsSoundResponse hash_len has_summary m → Spelled (response_layout hash_len has_summary) 0 m (canonical_response m)
+pub response_spelled : (hash_len : ℕ) (has_summary : Bool) (m : ResponseMessage) → FitsResponse m → IsSoundResponse hash_len has_summary m → Spelled (response_layout hash_len has_summary) 0 m (canonical_response m)
 unfolding response_body capabilities_layout psk_finish_rsp_layout heartbeat_ack_layout key_update_ack_layout end_session_ack_layout chunk_send_ack_layout chunk_response_layout
-response_spelled hash_len has_summary (Version entries) s = version_spelled hash_len has_summary entries s
-response_spelled hash_len has_summary (Capabilities caps) s = one 0x12 refl (one 0x61 refl (caps_spelled Capabilities caps s))
-response_spelled hash_len has_summary (Algorithms reply) s = reply_spelled hash_len has_summary reply s
-response_spelled hash_len has_summary (Measurements measured) s = measured_spelled hash_len has_summary measured s
-response_spelled hash_len has_summary (PskExchangeRsp exchange) s = exchange_rsp_spelled hash_len has_summary exchange s
-response_spelled hash_len has_summary PskFinishRsp s = one 0x12 refl (one 0x67 refl (bytes (0 ∷ 0 ∷ []) [] refl refl (whole _ _ refl)))
-response_spelled hash_len has_summary HeartbeatAck s = one 0x12 refl (one 0x68 refl (bytes (0 ∷ 0 ∷ []) [] refl refl (whole _ _ refl)))
-response_spelled hash_len has_summary (KeyUpdateAck op tag) s =
+response_spelled hash_len has_summary (Version entries) f s = version_spelled hash_len has_summary entries s
+response_spelled hash_len has_summary (Capabilities caps) f s = one 0x12 refl (one 0x61 refl (caps_spelled Capabilities caps f))
+response_spelled hash_len has_summary (Algorithms reply) f s = reply_spelled hash_len has_summary reply f s
+response_spelled hash_len has_summary (Measurements measured) f s = measured_spelled hash_len has_summary measured s
+response_spelled hash_len has_summary (PskExchangeRsp exchange) f s = exchange_rsp_spelled hash_len has_summary exchange f.1 s
+response_spelled hash_len has_summary PskFinishRsp f s = one 0x12 refl (one 0x67 refl (bytes (0 ∷ 0 ∷ []) [] refl refl (whole _ _ refl)))
+response_spelled hash_len has_summary HeartbeatAck f s = one 0x12 refl (one 0x68 refl (bytes (0 ∷ 0 ∷ []) [] refl refl (whole _ _ refl)))
+response_spelled hash_len has_summary (KeyUpdateAck op tag) f s =
     one 0x12 refl (one 0x69 refl (one op (both (le-leb _ _ s.0) (le-leb _ _ s.1)) (one tag refl (whole _ _ refl))))
-response_spelled hash_len has_summary EndSessionAck s = one 0x12 refl (one 0x6c refl (bytes (0 ∷ 0 ∷ []) [] refl refl (whole _ _ refl)))
-response_spelled hash_len has_summary (ChunkSendAck early handle number answer) s =
-    one 0x12 refl (one 0x05 refl (one (cond early 1 0) refl (one handle refl (two number s.1 refl
+response_spelled hash_len has_summary EndSessionAck f s = one 0x12 refl (one 0x6c refl (bytes (0 ∷ 0 ∷ []) [] refl refl (whole _ _ refl)))
+response_spelled hash_len has_summary (ChunkSendAck early handle number answer) f s =
+    one 0x12 refl (one 0x05 refl (one (cond early 1 0) refl (one handle refl (two number f.1 refl
     (record { is = ap (λ (b : Bool). ChunkSendAck b handle number answer) (mark_back early) })))))
-response_spelled hash_len has_summary (ChunkResponse chunk) s = one 0x12 refl (one 0x06 refl (chunk_spelled ChunkResponse chunk s))
-response_spelled hash_len has_summary (Error version code detail extended) s = error_spelled hash_len has_summary version code detail extended s
+response_spelled hash_len has_summary (ChunkResponse chunk) f s = one 0x12 refl (one 0x06 refl (chunk_spelled ChunkResponse chunk f s))
+response_spelled hash_len has_summary (Error version code detail extended) f s = error_spelled hash_len has_summary version code detail extended s

@@ -1,15 +1,15 @@
 -- No spelling is a proper prefix of another, but where a message takes all the rest.
-use Rattle.std.proofs.Common.{◌≡◌, ◌≢◌, ℕ, zero, suc, ◌+◌, ◌<◌, ◌≤◌, ◌⊎◌, Bool, true, false, cond, eqb, ltb, List, [], ◌∷◌, ◌++◌, length, Option, Some, None, Result, Ok, Err, refl, sym, ap, subst, ◌∙◌, append_assoc, arith, inl, inr}
-use Rattle.std.proofs.lemmas.Bool.{ltb-true, ltb-false, lt-ltb, le-ltb, eqb-true, eqb-false, ne_eqb}
-use Rattle.std.proofs.lemmas.List.{length-append, nil_from_length}
+use Rattle.std.proofs.Common.{◌≡◌, ℕ, suc, ◌+◌, ◌⊎◌, Bool, true, false, cond, eqb, List, [], ◌∷◌, ◌++◌, length, Option, Result, Ok, Err, refl, sym, ap, subst, ◌∙◌, arith, inl, inr}
+use Rattle.std.proofs.lemmas.Bool.{eqb-true, ne_eqb}
+use Rattle.std.proofs.lemmas.List.{length-append}
 use Rattle.spdm_grammar.specs.declared.malformed.Malformed.{Malformed}
-use Rattle.spdm_grammar.specs.declared.malformed.Part.TheVariants.{End, Field, Length, Rest}
+use Rattle.spdm_grammar.specs.declared.malformed.Part.TheVariants.{Field, Length, Rest}
 use Rattle.spdm_grammar.specs.Ends.{EndsByItself}
 use Rattle.spdm_grammar.specs.Layout.{Layout, IsSpelling}
 use Rattle.spdm_grammar.specs.Layout.Layout.{Whole, Sized, Number, Optional, Bytes, Tables, UpTo, Remaining}
 use Rattle.spdm_grammar.specs.Message.{RequestMessage, ResponseMessage}
 use Rattle.spdm_grammar.specs.Message.ResponseMessage.{Error}
-use Rattle.spdm_grammar.specs.Reading.{Place, read, and_then, front, field_at, number_at, optional_at, tables_at, ended, all_up_to}
+use Rattle.spdm_grammar.specs.Reading.{Place, read, front, field_at, number_at, optional_at, tables_at, ended, all_up_to}
 use Rattle.spdm_grammar.specs.Requests.{request_layout, request_body, get_version_layout, get_capabilities_layout, negotiate_algorithms_layout, get_measurements_layout, psk_exchange_layout, psk_finish_layout, heartbeat_layout, key_update_layout, end_session_layout, chunk_send_layout, chunk_get_layout, IsRequestSpelling}
 use Rattle.spdm_grammar.specs.Responses.{response_layout, response_body, version_layout, capabilities_layout, algorithms_layout, measurements_layout, psk_exchange_rsp_layout, psk_finish_rsp_layout, heartbeat_ack_layout, key_update_ack_layout, end_session_ack_layout, chunk_send_ack_layout, chunk_response_layout, error_layout, IsResponseSpelling}
 use Rattle.spdm_grammar.proofs.Steps.{then_ok, passed, ok_is, Takes, Between, field_takes, number_takes, optional_none, optional_some, tables_take}

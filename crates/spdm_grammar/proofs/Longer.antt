@@ -1,15 +1,15 @@
 -- Reading an input that goes on: what was read is read again, and a fault other than End stays.
-use Rattle.std.proofs.Common.{◌≡◌, ◌≢◌, ℕ, zero, suc, ◌+◌, ◌-◌, ◌*◌, ◌/◌, ◌%◌, ◌<◌, ◌≤◌, ◌⊎◌, Bool, true, false, cond, eqb, ltb, List, [], ◌∷◌, ◌++◌, length, Option, Some, None, Result, Ok, Err, refl, sym, ap, subst, ◌∙◌, append_assoc, arith, inl, inr}
-use Rattle.std.proofs.lemmas.Bool.{ltb-true, ltb-false, lt-ltb, le-ltb, eqb-true, eqb-false, ne_eqb}
+use Rattle.std.proofs.Common.{◌≡◌, ◌≢◌, ℕ, zero, suc, ◌+◌, ◌*◌, ◌/◌, ◌%◌, Bool, true, false, eqb, ltb, List, ◌++◌, length, Option, Some, Result, Ok, Err, refl, sym, ap, ◌∙◌, append_assoc, arith, inl, inr}
+use Rattle.std.proofs.lemmas.Bool.{ltb-true, lt-ltb, eqb-false, ne_eqb}
 use Rattle.std.proofs.lemmas.List.{length-append}
 use Rattle.std.specs.Result.{result_err}
 use Rattle.byteorder.specs.Endian.{little_number}
 use Rattle.spdm_grammar.specs.declared.malformed.Malformed.{Malformed}
 use Rattle.spdm_grammar.specs.declared.malformed.Part.TheVariants.{End, Field, Length, Rest}
-use Rattle.spdm_grammar.specs.Layout.{Layout, AreTables}
+use Rattle.spdm_grammar.specs.Layout.{Layout}
 use Rattle.spdm_grammar.specs.Layout.Layout.{Whole, Sized, Number, Optional, Bytes, Tables, UpTo, Remaining}
-use Rattle.spdm_grammar.specs.Reading.{front, Place, read, and_then, field_at, number_at, optional_at, behind_table, behind_tables, tables_at, ended, all_up_to}
-use Rattle.spdm_grammar.proofs.Steps.{then_ok, then_err, passed, passed_err, avoided, avoided_err, ok_is, Takes, Between, field_takes, field_again, number_takes, number_again, optional_none, optional_some, optional_none_again, optional_some_again, table_takes, table_again, tables_behind, tables_behind_again, tables_take, tables_again}
+use Rattle.spdm_grammar.specs.Reading.{front, Place, read, field_at, number_at, optional_at, behind_table, behind_tables, tables_at, ended, all_up_to}
+use Rattle.spdm_grammar.proofs.Steps.{then_err, passed_err, avoided_err, field_takes, field_again, number_takes, number_again, optional_none, optional_some, optional_none_again, optional_some_again, table_takes, table_again, tables_take, tables_again}
 
 -- the place in an input that has more behind it
 abbrev pub longer : Place → List ℕ → Place
@@ -130,8 +130,8 @@ ended_stays : {A : Type 0} (value : A) (p : Place) (more : List ℕ) (e : Malfor
 ended_stays value p more e h =
     elim (passed_err (eqb (length p.rest) 0) (Ok value) (record { at = p.at; what = Rest }) e h) [
       | inl t ↦
-        let some : eqb (length (p.rest ++ more)) 0 ≡ false = ne_eqb _ _ (λ z. eqb-false _ _ t.0 (omega (arith, length-append p.rest more))) in
-        rw some (ap Err t.1)
+          let some : eqb (length (p.rest ++ more)) 0 ≡ false = ne_eqb _ _ (λ z. eqb-false _ _ t.0 (omega (arith, length-append p.rest more))) in
+          rw some (ap Err t.1)
       | inr t ↦ absurd (let k = t.1 in cc)
     ]
 
@@ -170,8 +170,8 @@ fault_stays (UpTo most value) p more e h other =
     elim (then_err (all_up_to most p) _ e h) [
       | inl t ↦ elim (avoided_err (ltb most (length p.rest)) (Ok p.rest) (record { at = p.at + most; what = Rest }) e t) [
         | inl u ↦
-          let over : ltb most (length (p.rest ++ more)) ≡ true = lt-ltb _ _ (omega (arith, ltb-true _ _ u.0, length-append p.rest more)) in
-          rw over (ap Err u.1)
+            let over : ltb most (length (p.rest ++ more)) ≡ true = lt-ltb _ _ (omega (arith, ltb-true _ _ u.0, length-append p.rest more)) in
+            rw over (ap Err u.1)
         | inr u ↦ absurd (let k = u.1 in cc)
       ]
       | inr t ↦ absurd (let k = t.2 in cc)

@@ -1,5 +1,4 @@
 -- Messages that end by themselves: no longer bytes begin with their spelling and spell a message too.
-use Rattle.std.specs.Prelude.{◌≡◌, ◌<◌, ℕ, List, slice_index}
 use Rattle.spdm_grammar.specs.Message.{ResponseMessage}
 use Rattle.spdm_grammar.specs.Message.ResponseMessage.{ChunkSendAck, Error}
 

@@ -6,3 +6,4 @@ pub mod Fields
 pub mod Requests
 pub mod Responses
 pub mod Ends
+pub mod Tables

@@ -2,8 +2,8 @@
 
 ghost use Rattle.std.specs.Prelude.{◌≡◌, ◌≢◌, ◌↔◌, ◌++◌, [], ℕ, List, Bool, Some};
 ghost use Rattle.spdm_grammar.specs.Message.{RequestMessage, ResponseMessage};
-ghost use Rattle.spdm_grammar.specs.Requests.{IsRequestSpelling, IsSoundRequest, canonical_request, request_in, request_fault};
-ghost use Rattle.spdm_grammar.specs.Responses.{IsResponseSpelling, IsSoundResponse, canonical_response, response_in, response_fault};
+ghost use Rattle.spdm_grammar.specs.Requests.{IsRequestSpelling, FitsRequest, IsSoundRequest, canonical_request, request_in, request_fault};
+ghost use Rattle.spdm_grammar.specs.Responses.{IsResponseSpelling, FitsResponse, IsSoundResponse, canonical_response, response_in, response_fault};
 ghost use Rattle.spdm_grammar.specs.Ends.{EndsByItself};
 ghost use Rattle.spdm_grammar.specs.declared.malformed.Malformed.{Malformed};
 ghost use Rattle.spdm_grammar.specs.declared.malformed.Part.TheVariants.{End};
@@ -34,17 +34,17 @@ pub fn one_response()
 
 /// The canonical spelling of a sound request spells it, and so is read as that request.
 pub fn canonical_request_is_read()
-    ensures spelled { (hash_len : ℕ) (message : RequestMessage) → IsSoundRequest hash_len message →
+    ensures spelled { (hash_len : ℕ) (message : RequestMessage) → FitsRequest message → IsSoundRequest hash_len message →
         IsRequestSpelling hash_len message (canonical_request message) }
-    ensures read { (hash_len : ℕ) (message : RequestMessage) → IsSoundRequest hash_len message →
+    ensures read { (hash_len : ℕ) (message : RequestMessage) → FitsRequest message → IsSoundRequest hash_len message →
         request_in hash_len (canonical_request message) ≡ Some message }
 {}
 
 /// The canonical spelling of a sound response spells it, and so is read as that response.
 pub fn canonical_response_is_read()
-    ensures spelled { (hash_len : ℕ) (summary : Bool) (message : ResponseMessage) → IsSoundResponse hash_len summary message →
+    ensures spelled { (hash_len : ℕ) (summary : Bool) (message : ResponseMessage) → FitsResponse message → IsSoundResponse hash_len summary message →
         IsResponseSpelling hash_len summary message (canonical_response message) }
-    ensures read { (hash_len : ℕ) (summary : Bool) (message : ResponseMessage) → IsSoundResponse hash_len summary message →
+    ensures read { (hash_len : ℕ) (summary : Bool) (message : ResponseMessage) → FitsResponse message → IsSoundResponse hash_len summary message →
         response_in hash_len summary (canonical_response message) ≡ Some message }
 {}
 
@@ -52,26 +52,22 @@ pub fn canonical_response_is_read()
 pub fn no_request_prefix()
     ensures { (hash_len : ℕ) (m n : RequestMessage) (bytes more : List ℕ) →
         IsRequestSpelling hash_len m bytes → IsRequestSpelling hash_len n (bytes ++ more) → more ≡ [] }
-{
-}
+{}
 
 /// No spelling of a response other than CHUNK_SEND_ACK and ERROR is a proper prefix of another.
 pub fn no_response_prefix()
     ensures { (hash_len : ℕ) (summary : Bool) (m n : ResponseMessage) (bytes more : List ℕ) → EndsByItself m →
         IsResponseSpelling hash_len summary m bytes → IsResponseSpelling hash_len summary n (bytes ++ more) → more ≡ [] }
-{
-}
+{}
 
 /// A fault of a request other than `End` stays when more bytes come.
 pub fn request_fault_stays()
     ensures { (hash_len : ℕ) (bytes more : List ℕ) (fault : Malformed) →
         request_fault hash_len bytes ≡ Some fault → fault.what ≢ End → request_fault hash_len (bytes ++ more) ≡ Some fault }
-{
-}
+{}
 
 /// A fault of a response other than `End` stays when more bytes come.
 pub fn response_fault_stays()
     ensures { (hash_len : ℕ) (summary : Bool) (bytes more : List ℕ) (fault : Malformed) →
         response_fault hash_len summary bytes ≡ Some fault → fault.what ≢ End → response_fault hash_len summary (bytes ++ more) ≡ Some fault }
-{
-}
+{}

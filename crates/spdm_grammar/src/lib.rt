@@ -12,6 +12,7 @@ mod malformed;
 mod measurements;
 mod request;
 mod response;
+mod tables;
 
 pub use algorithms::{AlgOffer, AlgReply};
 pub use capabilities::Caps;
