@@ -10,6 +10,7 @@ mod cursor;
 mod end_session;
 mod error;
 mod exchange;
+mod exchange_rsp;
 mod expect;
 mod feed;
 mod finish;
