@@ -4,5 +4,8 @@ pub mod Spelled
 pub mod Longer
 pub mod Ends
 pub mod TableSteps
+pub mod Sound
+pub mod SoundRequests
+pub mod SoundResponses
 pub mod CanonicalRequests
 pub mod CanonicalResponses

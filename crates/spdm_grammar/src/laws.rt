@@ -1,6 +1,6 @@
 //! What holds of the grammar, each law as the contract of a function that does nothing.
 
-ghost use Rattle.std.specs.Prelude.{◌≡◌, ◌≢◌, ◌↔◌, ◌++◌, [], ℕ, List, Bool, Some};
+ghost use Rattle.std.specs.Prelude.{◌≡◌, ◌≢◌, ◌<◌, ◌↔◌, ◌++◌, [], ℕ, List, Bool, Some, slice_index};
 ghost use Rattle.spdm_grammar.specs.Message.{RequestMessage, ResponseMessage};
 ghost use Rattle.spdm_grammar.specs.Requests.{IsRequestSpelling, FitsRequest, IsSoundRequest, canonical_request, request_in, request_fault};
 ghost use Rattle.spdm_grammar.specs.Responses.{IsResponseSpelling, FitsResponse, IsSoundResponse, canonical_response, response_in, response_fault};
@@ -70,4 +70,16 @@ pub fn request_fault_stays()
 pub fn response_fault_stays()
     ensures { (hash_len : ℕ) (summary : Bool) (bytes more : List ℕ) (fault : Malformed) →
         response_fault hash_len summary bytes ≡ Some fault → fault.what ≢ End → response_fault hash_len summary (bytes ++ more) ≡ Some fault }
+{}
+
+/// What bytes spell is a request whose numbers fit their fields and that is sound.
+pub fn spelled_request_is_sound()
+    ensures { (hash_len : ℕ) (message : RequestMessage) (bytes : List ℕ) → ((i : ℕ) → slice_index bytes i < 256) →
+        IsRequestSpelling hash_len message bytes → FitsRequest message × IsSoundRequest hash_len message }
+{}
+
+/// What bytes spell is a response whose numbers fit their fields and that is sound.
+pub fn spelled_response_is_sound()
+    ensures { (hash_len : ℕ) (summary : Bool) (message : ResponseMessage) (bytes : List ℕ) → ((i : ℕ) → slice_index bytes i < 256) →
+        IsResponseSpelling hash_len summary message bytes → FitsResponse message × IsSoundResponse hash_len summary message }
 {}
