@@ -6,7 +6,7 @@ use Rattle.std.specs.Result.{result_ok, result_err}
 use Rattle.spdm_grammar.specs.declared.malformed.Malformed.{Malformed}
 use Rattle.spdm_grammar.specs.Layout.{Layout, IsSpelling}
 use Rattle.spdm_grammar.specs.Reading.{read, front}
-use Rattle.spdm_grammar.proofs.Laws.{read_spelling, spelling_read}
+use Rattle.spdm_grammar.proofs.Spellings.{read_spelling, spelling_read}
 use Rattle.spdm_codec.specs.Answer.{Gives}
 
 pub value_given : {X Y : Type 0} (view : X → Y) (r : Result X Malformed) (reading : Result Y Malformed) → Gives view r reading → option_map view (result_ok r) ≡ result_ok reading

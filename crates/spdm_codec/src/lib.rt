@@ -10,6 +10,9 @@ mod cursor;
 mod end_session;
 mod error;
 mod exchange;
+mod exchange_rsp;
+mod expect;
+mod feed;
 mod finish;
 mod heartbeat;
 mod key_update;
@@ -19,6 +22,11 @@ mod request;
 mod response;
 mod version;
 
+pub use expect::Expect;
+pub use feed::{Feed, FeedFault, feed_fault_stays};
 pub use put::TooLong;
 pub use request::{read_request, write_request};
 pub use response::{read_response, write_response};
+
+#[cfg(test)]
+mod tests;

@@ -12,7 +12,7 @@ use crate::chunk::{read_chunk, read_chunk_send_ack, write_chunk};
 use crate::cursor::{Cursor, not_allowed};
 use crate::end_session::read_end_session_ack;
 use crate::error::read_error;
-use crate::exchange::{read_psk_exchange_rsp, write_psk_exchange_rsp};
+use crate::exchange_rsp::{read_psk_exchange_rsp, write_psk_exchange_rsp};
 use crate::finish::read_psk_finish_rsp;
 use crate::heartbeat::read_heartbeat_ack;
 use crate::key_update::read_key_update_ack;

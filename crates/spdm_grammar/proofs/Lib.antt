@@ -1,2 +1,11 @@
 pub mod Steps
-pub mod Laws
+pub mod Spellings
+pub mod Spelled
+pub mod Longer
+pub mod Ends
+pub mod TableSteps
+pub mod Sound
+pub mod SoundRequests
+pub mod SoundResponses
+pub mod CanonicalRequests
+pub mod CanonicalResponses

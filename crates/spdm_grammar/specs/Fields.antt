@@ -41,8 +41,8 @@ caps_layout value =
     Number 4 any (λ max.
     Whole (value (record { ct = ct; flags = flags; transfer = transfer; max = max }))))))))
 
--- Capabilities that have a spelling.
-pub record IsSoundCaps (caps : Caps) : Type 0 where
+-- Capabilities whose numbers fit their fields.
+pub record FitsCaps (caps : Caps) : Type 0 where
   pub ct : caps.ct < 256
   pub flags : caps.flags < 2 ^ 32
   pub transfer : caps.transfer < 2 ^ 32
@@ -64,12 +64,15 @@ chunk_layout value =
     Bytes size (λ chunk.
     Whole (value (record { last = attributes % 2 == 1; handle = handle; number = number; large = large; chunk = chunk })))))))))
 
--- A chunk that has a spelling: the one of number 0, and no other, tells the size of the whole.
-pub record IsSoundChunk (chunk : ChunkMessage) : Type 0 where
+-- A chunk whose numbers fit their fields.
+pub record FitsChunk (chunk : ChunkMessage) : Type 0 where
   pub handle : chunk.handle < 256
   pub number : chunk.number < 2 ^ 16
-  pub first : is_some chunk.large ≡ (chunk.number == 0)
   pub large : IfSome chunk.large (λ n. n < 2 ^ 32)
+
+-- A chunk that has a spelling: the one of number 0, and no other, tells the size of the whole.
+pub record IsSoundChunk (chunk : ChunkMessage) : Type 0 where
+  pub first : is_some chunk.large ≡ (chunk.number == 0)
   pub size : length chunk.chunk < 2 ^ 32
 
 -- The size of the whole, where it is told.

@@ -5,3 +5,5 @@ pub mod Reading
 pub mod Fields
 pub mod Requests
 pub mod Responses
+pub mod Ends
+pub mod Tables

@@ -6,7 +6,7 @@ use Rattle.spdm_grammar.specs.declared.malformed.Malformed.{Malformed}
 use Rattle.spdm_grammar.specs.Layout.{Layout, IsSpelling, reserved, AreTables}
 use Rattle.spdm_grammar.specs.Layout.Layout.{Whole, Sized, Number, Bytes, Tables}
 use Rattle.spdm_grammar.specs.Reading.{read, front}
-use Rattle.spdm_grammar.specs.Fields.{any, is_even, is_key_operation, is_summary, is_opaque_length, IsSoundCaps, IsSoundChunk, caps_bytes, chunk_bytes, zeros, caps_layout, chunk_layout}
+use Rattle.spdm_grammar.specs.Fields.{any, is_even, is_key_operation, is_summary, is_opaque_length, FitsCaps, FitsChunk, IsSoundChunk, caps_bytes, chunk_bytes, zeros, caps_layout, chunk_layout}
 use Rattle.spdm_grammar.specs.Message.{RequestMessage, OfferMessage, ExchangeMessage}
 use Rattle.spdm_grammar.specs.Message.RequestMessage.{GetVersion, GetCapabilities, NegotiateAlgorithms, GetMeasurements, PskExchange, PskFinish, Heartbeat, KeyUpdate, EndSession, ChunkSend, ChunkGet}
 
@@ -129,42 +129,58 @@ request_fault hash_len bytes = result_err (request_reading hash_len bytes)
 
 -- ---- Writing
 
--- An offer that has a spelling: external entries of four bytes each, up to 255 of either kind, as many structures as told, and a length that Length can tell.
-pub record IsSoundOffer (offer : OfferMessage) : Type 0 where
+-- An offer whose numbers fit their fields.
+pub record FitsOffer (offer : OfferMessage) : Type 0 where
   pub measurement : offer.measurement < 256
   pub other : offer.other < 256
   pub asym : offer.asym < 2 ^ 32
   pub hash : offer.hash < 2 ^ 32
+  pub count : offer.count < 256
+
+-- The requests whose numbers fit their fields, as they do in each value of the type `Request`.
+abbrev pub FitsRequest : RequestMessage → Type 0
+FitsRequest GetVersion = Unit {0}
+FitsRequest (GetCapabilities caps) = FitsCaps caps
+FitsRequest (NegotiateAlgorithms offer) = FitsOffer offer
+FitsRequest (GetMeasurements op) = op < 256
+FitsRequest (PskExchange exchange) = (exchange.summary < 256) × (exchange.req_id < 2 ^ 16)
+FitsRequest (PskFinish verify) = Unit {0}
+FitsRequest Heartbeat = Unit {0}
+FitsRequest (KeyUpdate op tag) = (op < 256) × (tag < 256)
+FitsRequest EndSession = Unit {0}
+FitsRequest (ChunkSend chunk) = FitsChunk chunk
+FitsRequest (ChunkGet handle number) = (handle < 256) × (number < 2 ^ 16)
+
+-- An offer that has a spelling: external entries of four bytes each, up to 255 of either kind, as many structures as told, and a length that Length can tell.
+pub record IsSoundOffer (offer : OfferMessage) : Type 0 where
   pub ext_asym : length offer.ext_asym % 4 ≡ 0
   pub ext_asym_few : length offer.ext_asym ≤ 1020
   pub ext_hash : length offer.ext_hash % 4 ≡ 0
   pub ext_hash_few : length offer.ext_hash ≤ 1020
-  pub count : offer.count < 256
   pub tables : AreTables offer.count offer.tables
   pub told : 32 + length offer.ext_asym + length offer.ext_hash + length offer.tables < 2 ^ 16
 
 -- An exchange that has a spelling: a known kind of summary, a context of at least so many bytes as a hash has, and lengths that their fields can tell.
 pub record IsSoundExchange (hash_len : ℕ) (exchange : ExchangeMessage) : Type 0 where
   pub summary : is_summary exchange.summary ≡ true
-  pub req_id : exchange.req_id < 2 ^ 16
   pub hint : length exchange.hint < 2 ^ 16
   pub context_long : hash_len ≤ length exchange.context
   pub context : length exchange.context < 2 ^ 16
   pub opaque : length exchange.opaque ≤ 1024
 
--- The requests that have a spelling.
+-- The requests that have a spelling, of those whose numbers fit.
 abbrev pub IsSoundRequest : ℕ → RequestMessage → Type 0
 IsSoundRequest hash_len GetVersion = Unit {0}
-IsSoundRequest hash_len (GetCapabilities caps) = IsSoundCaps caps
+IsSoundRequest hash_len (GetCapabilities caps) = Unit {0}
 IsSoundRequest hash_len (NegotiateAlgorithms offer) = IsSoundOffer offer
-IsSoundRequest hash_len (GetMeasurements op) = op < 256
+IsSoundRequest hash_len (GetMeasurements op) = Unit {0}
 IsSoundRequest hash_len (PskExchange exchange) = IsSoundExchange hash_len exchange
 IsSoundRequest hash_len (PskFinish verify) = length verify ≡ hash_len
 IsSoundRequest hash_len Heartbeat = Unit {0}
-IsSoundRequest hash_len (KeyUpdate op tag) = (1 ≤ op) × (op ≤ 3) × (tag < 256)
+IsSoundRequest hash_len (KeyUpdate op tag) = (1 ≤ op) × (op ≤ 3)
 IsSoundRequest hash_len EndSession = Unit {0}
 IsSoundRequest hash_len (ChunkSend chunk) = IsSoundChunk chunk
-IsSoundRequest hash_len (ChunkGet handle number) = (handle < 256) × (number < 2 ^ 16)
+IsSoundRequest hash_len (ChunkGet handle number) = Unit {0}
 
 -- An offer behind its code.
 abbrev pub offer_bytes : OfferMessage → List ℕ

@@ -6,7 +6,7 @@ use Rattle.spdm_grammar.specs.declared.malformed.Malformed.{Malformed}
 use Rattle.spdm_grammar.specs.Layout.{Layout, IsSpelling, reserved, AreTables}
 use Rattle.spdm_grammar.specs.Layout.Layout.{Whole, Sized, Number, Bytes, Tables, UpTo, Remaining}
 use Rattle.spdm_grammar.specs.Reading.{read, front}
-use Rattle.spdm_grammar.specs.Fields.{any, is_key_operation, is_opaque_length, IsSoundCaps, IsSoundChunk, caps_bytes, chunk_bytes, zeros, caps_layout, chunk_layout}
+use Rattle.spdm_grammar.specs.Fields.{any, is_key_operation, is_opaque_length, FitsCaps, FitsChunk, IsSoundChunk, caps_bytes, chunk_bytes, zeros, caps_layout, chunk_layout}
 use Rattle.spdm_grammar.specs.Message.{ResponseMessage, ReplyMessage, ExchangeRspMessage, MeasuredMessage}
 use Rattle.spdm_grammar.specs.Message.ResponseMessage.{Version, Capabilities, Algorithms, Measurements, PskExchangeRsp, PskFinishRsp, HeartbeatAck, KeyUpdateAck, EndSessionAck, ChunkSendAck, ChunkResponse, Error}
 
@@ -158,33 +158,47 @@ response_fault hash_len has_summary bytes = result_err (response_reading hash_le
 
 -- ---- Writing
 
--- A choice that has a spelling: external entries of four bytes each, up to 255 of either kind, as many structures as told, and a length that Length can tell.
-pub record IsSoundReply (reply : ReplyMessage) : Type 0 where
+-- A choice whose numbers fit their fields.
+pub record FitsReply (reply : ReplyMessage) : Type 0 where
   pub measurement : reply.measurement < 256
   pub other : reply.other < 256
   pub measurement_hash : reply.measurement_hash < 2 ^ 32
   pub asym : reply.asym < 2 ^ 32
   pub hash : reply.hash < 2 ^ 32
+  pub count : reply.count < 256
+
+-- The responses whose numbers fit their fields, as they do in each value of the type `Response`.
+abbrev pub FitsResponse : ResponseMessage → Type 0
+FitsResponse (Version entries) = Unit {0}
+FitsResponse (Capabilities caps) = FitsCaps caps
+FitsResponse (Algorithms reply) = FitsReply reply
+FitsResponse (Measurements measured) = (measured.total < 256) × (measured.blocks < 256)
+FitsResponse (PskExchangeRsp exchange) = (exchange.heartbeat < 256) × (exchange.rsp_id < 2 ^ 16)
+FitsResponse PskFinishRsp = Unit {0}
+FitsResponse HeartbeatAck = Unit {0}
+FitsResponse (KeyUpdateAck op tag) = (op < 256) × (tag < 256)
+FitsResponse EndSessionAck = Unit {0}
+FitsResponse (ChunkSendAck early handle number answer) = (handle < 256) × (number < 2 ^ 16)
+FitsResponse (ChunkResponse chunk) = FitsChunk chunk
+FitsResponse (Error version code detail extended) = (code < 256) × (detail < 256)
+
+-- A choice that has a spelling: external entries of four bytes each, up to 255 of either kind, as many structures as told, and a length that Length can tell.
+pub record IsSoundReply (reply : ReplyMessage) : Type 0 where
   pub ext_asym : length reply.ext_asym % 4 ≡ 0
   pub ext_asym_few : length reply.ext_asym ≤ 1020
   pub ext_hash : length reply.ext_hash % 4 ≡ 0
   pub ext_hash_few : length reply.ext_hash ≤ 1020
-  pub count : reply.count < 256
   pub tables : AreTables reply.count reply.tables
   pub told : 36 + length reply.ext_asym + length reply.ext_hash + length reply.tables < 2 ^ 16
 
 -- Measurements that have a spelling.
 pub record IsSoundMeasured (measured : MeasuredMessage) : Type 0 where
-  pub total : measured.total < 256
-  pub blocks : measured.blocks < 256
   pub block_bytes : length measured.block_bytes < 2 ^ 24
   pub nonce : length measured.nonce ≡ 32
   pub opaque : length measured.opaque ≤ 1024
 
 -- An answer to an exchange that has a spelling.
 pub record IsSoundExchangeRsp (hash_len : ℕ) (has_summary : Bool) (exchange : ExchangeRspMessage) : Type 0 where
-  pub heartbeat : exchange.heartbeat < 256
-  pub rsp_id : exchange.rsp_id < 2 ^ 16
   pub summary : length exchange.summary ≡ summary_len hash_len has_summary
   pub context_long : hash_len ≤ length exchange.context
   pub context : length exchange.context < 2 ^ 16
@@ -196,21 +210,21 @@ abbrev pub IsExtended : ℕ → List ℕ → Type 0
 IsExtended code extended =
     (code ≡ 0x0d → length extended ≡ 4) × (code ≡ 0x0f → length extended ≡ 1) × (length extended ≤ 32)
 
--- The responses that have a spelling.
+-- The responses that have a spelling, of those whose numbers fit.
 abbrev pub IsSoundResponse : ℕ → Bool → ResponseMessage → Type 0
 IsSoundResponse hash_len has_summary (Version entries) = (length entries % 2 ≡ 0) × (length entries ≤ 510)
-IsSoundResponse hash_len has_summary (Capabilities caps) = IsSoundCaps caps
+IsSoundResponse hash_len has_summary (Capabilities caps) = Unit {0}
 IsSoundResponse hash_len has_summary (Algorithms reply) = IsSoundReply reply
 IsSoundResponse hash_len has_summary (Measurements measured) = IsSoundMeasured measured
 IsSoundResponse hash_len has_summary (PskExchangeRsp exchange) = IsSoundExchangeRsp hash_len has_summary exchange
 IsSoundResponse hash_len has_summary PskFinishRsp = Unit {0}
 IsSoundResponse hash_len has_summary HeartbeatAck = Unit {0}
-IsSoundResponse hash_len has_summary (KeyUpdateAck op tag) = (1 ≤ op) × (op ≤ 3) × (tag < 256)
+IsSoundResponse hash_len has_summary (KeyUpdateAck op tag) = (1 ≤ op) × (op ≤ 3)
 IsSoundResponse hash_len has_summary EndSessionAck = Unit {0}
-IsSoundResponse hash_len has_summary (ChunkSendAck early handle number answer) = (handle < 256) × (number < 2 ^ 16)
+IsSoundResponse hash_len has_summary (ChunkSendAck early handle number answer) = Unit {0}
 IsSoundResponse hash_len has_summary (ChunkResponse chunk) = IsSoundChunk chunk
 IsSoundResponse hash_len has_summary (Error version code detail extended) =
-    ((version ≡ 0x10) ⊎ (version ≡ 0x12)) × (code < 256) × (detail < 256) × IsExtended code extended
+    ((version ≡ 0x10) ⊎ (version ≡ 0x12)) × IsExtended code extended
 
 -- A choice behind its code.
 abbrev pub reply_bytes : ReplyMessage → List ℕ

@@ -1,3 +1,5 @@
+use crate::tables::are_tables;
+
 /// What a requester offers in NEGOTIATE_ALGORITHMS (DSP0274, "NEGOTIATE_ALGORITHMS request message
 /// format").
 #[derive(Clone, Copy, Debug, PartialEq, Eq)]
@@ -41,4 +43,44 @@ pub struct AlgReply<'a> {
     pub count: u8,
     /// The algorithm structures, one behind the other, as they stand in the message.
     pub tables: &'a [u8],
+}
+
+impl AlgOffer<'_> {
+    ghost use Rattle.std.specs.Prelude.{◌↔◌, IsTrue};
+    ghost use Rattle.spdm_grammar.specs.Message.{offer_message};
+    ghost use Rattle.spdm_grammar.specs.Requests.{IsSoundOffer};
+
+    /// Whether the offer has a spelling: whole external entries, up to 255 of either kind, `count`
+    /// structures, and a length that two bytes can tell.
+    pub fn is_sound(&self) -> bool
+        ensures { IsTrue result ↔ IsSoundOffer (offer_message self.now) }
+    {
+        self.ext_asym.len() % 4 == 0
+            && self.ext_asym.len() <= 1020
+            && self.ext_hash.len() % 4 == 0
+            && self.ext_hash.len() <= 1020
+            && self.tables.len() < 0x10000
+            && 32 + self.ext_asym.len() + self.ext_hash.len() + self.tables.len() < 0x10000
+            && are_tables(self.count, self.tables)
+    }
+}
+
+impl AlgReply<'_> {
+    ghost use Rattle.std.specs.Prelude.{◌↔◌, IsTrue};
+    ghost use Rattle.spdm_grammar.specs.Message.{reply_message};
+    ghost use Rattle.spdm_grammar.specs.Responses.{IsSoundReply};
+
+    /// Whether the choice has a spelling: whole external entries, up to 255 of either kind, `count`
+    /// structures, and a length that two bytes can tell.
+    pub fn is_sound(&self) -> bool
+        ensures { IsTrue result ↔ IsSoundReply (reply_message self.now) }
+    {
+        self.ext_asym.len() % 4 == 0
+            && self.ext_asym.len() <= 1020
+            && self.ext_hash.len() % 4 == 0
+            && self.ext_hash.len() <= 1020
+            && self.tables.len() < 0x10000
+            && 36 + self.ext_asym.len() + self.ext_hash.len() + self.tables.len() < 0x10000
+            && are_tables(self.count, self.tables)
+    }
 }

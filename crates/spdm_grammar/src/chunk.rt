@@ -13,3 +13,17 @@ pub struct ChunkView<'a> {
     /// The bytes of the piece.
     pub chunk: &'a [u8],
 }
+
+impl ChunkView<'_> {
+    ghost use Rattle.std.specs.Prelude.{◌↔◌, IsTrue};
+    ghost use Rattle.spdm_grammar.specs.Message.{chunk_message};
+    ghost use Rattle.spdm_grammar.specs.Fields.{IsSoundChunk};
+
+    /// Whether the piece has a spelling: the one of number 0, and no other, tells the size of the
+    /// whole.
+    pub fn is_sound(&self) -> bool
+        ensures { IsTrue result ↔ IsSoundChunk (chunk_message self.now) }
+    {
+        self.large.is_some() == (self.number == 0) && self.chunk.len() < 0x1_0000_0000
+    }
+}

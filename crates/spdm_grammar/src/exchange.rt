@@ -29,3 +29,39 @@ pub struct ExchangeRsp<'a> {
     /// ResponderVerifyData: as many bytes as the hash has.
     pub verify: &'a [u8],
 }
+
+impl Exchange<'_> {
+    ghost use Rattle.std.specs.Prelude.{◌↔◌, IsTrue};
+    ghost use Rattle.spdm_grammar.specs.Message.{exchange_message};
+    ghost use Rattle.spdm_grammar.specs.Requests.{IsSoundExchange};
+
+    /// Whether the exchange has a spelling, where a hash has `hash_len` bytes.
+    pub fn is_sound(&self, hash_len: usize) -> bool
+        ensures { IsTrue result ↔ IsSoundExchange hash_len (exchange_message self.now) }
+    {
+        matches!(self.summary, 0 | 1 | 255)
+            && self.hint.len() < 0x10000
+            && self.context.len() >= hash_len
+            && self.context.len() < 0x10000
+            && self.opaque.len() <= 1024
+    }
+}
+
+impl ExchangeRsp<'_> {
+    ghost use Rattle.std.specs.Prelude.{◌↔◌, IsTrue};
+    ghost use Rattle.spdm_grammar.specs.Message.{exchange_rsp_message};
+    ghost use Rattle.spdm_grammar.specs.Responses.{IsSoundExchangeRsp};
+
+    /// Whether the answer has a spelling, where a hash has `hash_len` bytes and `summary` says
+    /// whether a measurement summary hash was asked for.
+    pub fn is_sound(&self, hash_len: usize, summary: bool) -> bool
+        ensures { IsTrue result ↔ IsSoundExchangeRsp hash_len summary (exchange_rsp_message self.now) }
+    {
+        let summary_len = if summary { hash_len } else { 0 };
+        self.summary.len() == summary_len
+            && self.context.len() >= hash_len
+            && self.context.len() < 0x10000
+            && self.opaque.len() <= 1024
+            && self.verify.len() == hash_len
+    }
+}

@@ -7,16 +7,24 @@ mod capabilities;
 mod chunk;
 mod error_code;
 mod exchange;
+mod laws;
 mod malformed;
 mod measurements;
+pub mod names;
 mod request;
 mod response;
+mod tables;
 
 pub use algorithms::{AlgOffer, AlgReply};
 pub use capabilities::Caps;
 pub use chunk::ChunkView;
 pub use error_code::ErrorCode;
 pub use exchange::{Exchange, ExchangeRsp};
+pub use laws::{
+    canonical_request_is_read, canonical_response_is_read, no_request_prefix, no_response_prefix,
+    one_request, one_response, request_fault_stays, request_in_is_spelled, response_fault_stays,
+    response_in_is_spelled, spelled_request_is_sound, spelled_response_is_sound,
+};
 pub use malformed::{Malformed, Part};
 pub use measurements::Measured;
 pub use request::Request;

@@ -12,3 +12,16 @@ pub struct Measured<'a> {
     /// OpaqueData: at most 1,024 bytes.
     pub opaque: &'a [u8],
 }
+
+impl Measured<'_> {
+    ghost use Rattle.std.specs.Prelude.{◌↔◌, IsTrue};
+    ghost use Rattle.spdm_grammar.specs.Message.{measured_message};
+    ghost use Rattle.spdm_grammar.specs.Responses.{IsSoundMeasured};
+
+    /// Whether the measurements have a spelling.
+    pub fn is_sound(&self) -> bool
+        ensures { IsTrue result ↔ IsSoundMeasured (measured_message self.now) }
+    {
+        self.block_bytes.len() < 0x0100_0000 && self.nonce.len() == 32 && self.opaque.len() <= 1024
+    }
+}

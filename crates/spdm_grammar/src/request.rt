@@ -19,3 +19,28 @@ pub enum Request<'a> {
     ChunkSend(ChunkView<'a>),
     ChunkGet { handle: u8, number: u16 },
 }
+
+impl Request<'_> {
+    ghost use Rattle.std.specs.Prelude.{◌↔◌, IsTrue};
+    ghost use Rattle.spdm_grammar.specs.Message.{request_message};
+    ghost use Rattle.spdm_grammar.specs.Requests.{IsSoundRequest};
+
+    /// Whether the request has a spelling, where a hash has `hash_len` bytes.
+    pub fn is_sound(&self, hash_len: usize) -> bool
+        ensures { IsTrue result ↔ IsSoundRequest hash_len (request_message self.now) }
+    {
+        match *self {
+            Request::GetVersion
+            | Request::GetCapabilities(_)
+            | Request::GetMeasurements { .. }
+            | Request::Heartbeat
+            | Request::EndSession
+            | Request::ChunkGet { .. } => true,
+            Request::NegotiateAlgorithms(offer) => offer.is_sound(),
+            Request::PskExchange(exchange) => exchange.is_sound(hash_len),
+            Request::PskFinish { verify } => verify.len() == hash_len,
+            Request::KeyUpdate { op, .. } => op >= 1 && op <= 3,
+            Request::ChunkSend(chunk) => chunk.is_sound(),
+        }
+    }
+}

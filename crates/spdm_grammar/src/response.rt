@@ -1,3 +1,6 @@
+ghost use Rattle.std.specs.Prelude.{◌↔◌, IsTrue};
+ghost use Rattle.spdm_grammar.specs.Responses.{IsExtended};
+
 use crate::{AlgReply, Caps, ChunkView, ExchangeRsp, Measured};
 
 /// A response (DSP0274, "SPDM response codes"), with its variable parts lent from the bytes that it
@@ -38,4 +41,47 @@ pub enum Response<'a> {
         detail: u8,
         extended: &'a [u8],
     },
+}
+
+impl Response<'_> {
+    ghost use Rattle.std.specs.Prelude.{◌↔◌, IsTrue};
+    ghost use Rattle.spdm_grammar.specs.Message.{response_message};
+    ghost use Rattle.spdm_grammar.specs.Responses.{IsSoundResponse};
+
+    /// Whether the response has a spelling, where a hash has `hash_len` bytes and `summary` says
+    /// whether a measurement summary hash was asked for.
+    pub fn is_sound(&self, hash_len: usize, summary: bool) -> bool
+        ensures { IsTrue result ↔ IsSoundResponse hash_len summary (response_message self.now) }
+    {
+        match *self {
+            Response::Capabilities(_)
+            | Response::PskFinishRsp
+            | Response::HeartbeatAck
+            | Response::EndSessionAck
+            | Response::ChunkSendAck { .. } => true,
+            Response::Version { entries } => entries.len() % 2 == 0 && entries.len() <= 510,
+            Response::Algorithms(reply) => reply.is_sound(),
+            Response::Measurements(measured) => measured.is_sound(),
+            Response::PskExchangeRsp(exchange) => exchange.is_sound(hash_len, summary),
+            Response::KeyUpdateAck { op, .. } => op >= 1 && op <= 3,
+            Response::ChunkResponse(chunk) => chunk.is_sound(),
+            Response::Error {
+                version,
+                code,
+                extended,
+                ..
+            } => (version == 0x10 || version == 0x12) && is_extended(code, extended),
+        }
+    }
+}
+
+// Whether extended error data have the length that the code wants.
+fn is_extended(code: u8, extended: &[u8]) -> bool
+    ensures { IsTrue result ↔ IsExtended code extended.now }
+{
+    match code {
+        0x0d => extended.len() == 4,
+        0x0f => extended.len() == 1,
+        _ => extended.len() <= 32,
+    }
 }

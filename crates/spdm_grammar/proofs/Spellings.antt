@@ -1,12 +1,15 @@
 -- Reading answers a value exactly where it is spelled.
-use Rattle.std.proofs.Common.{◌≡◌, ℕ, ◌+◌, true, false, eqb, ltb, List, [], length, Option, Some, None, Ok, sym, ap, subst, ◌∙◌}
+use Rattle.std.proofs.Common.{◌≡◌, ℕ, ◌+◌, true, false, eqb, ltb, List, [], length, Option, Some, None, Result, Ok, Err, sym, ap, subst, ◌∙◌}
 use Rattle.std.proofs.lemmas.Bool.{ltb-false, le-ltb, eqb-true, eq-eqb}
 use Rattle.std.proofs.lemmas.List.{nil_from_length}
+use Rattle.std.specs.Prelude.{◌↔◌}
+use Rattle.std.specs.Result.{result_ok}
 use Rattle.byteorder.specs.Endian.{little_number}
+use Rattle.spdm_grammar.specs.declared.malformed.Malformed.{Malformed}
 use Rattle.spdm_grammar.specs.declared.malformed.Part.TheVariants.{Field, Length, Rest}
 use Rattle.spdm_grammar.specs.Layout.{Layout, IsSpelling}
 use Rattle.spdm_grammar.specs.Layout.Layout.{Whole, Sized, Number, Optional, Bytes, Tables, UpTo, Remaining}
-use Rattle.spdm_grammar.specs.Reading.{Place, read, field_at, number_at, optional_at, tables_at, ended, all_up_to}
+use Rattle.spdm_grammar.specs.Reading.{front, Place, read, field_at, number_at, optional_at, tables_at, ended, all_up_to}
 use Rattle.spdm_grammar.proofs.Steps.{then_ok, passed, avoided, ok_is, field_takes, field_again, number_takes, number_again, optional_none, optional_some, optional_none_again, optional_some_again, tables_take, tables_again}
 
 ended_is : {A : Type 0} (value v : A) (p : Place) → ended value p ≡ Ok v → (v ≡ value) × (p.rest ≡ [])
@@ -75,3 +78,14 @@ spelling_read (UpTo most value) at v bytes s =
     let t : ltb most (length bytes) ≡ false = le-ltb _ _ s.1 in
     rw t (ap Ok (sym s.0))
 spelling_read (Remaining value) at v bytes s = ap Ok (sym s)
+
+some_ok : {A : Type 0} (r : Result A Malformed) (v : A) → result_ok r ≡ Some v → r ≡ Ok v
+some_ok (Ok x) v e = cc
+some_ok (Err d) v e = absurd cc
+
+pub read_iff : {A : Type 0} (l : Layout A) (v : A) (bytes : List ℕ) → (result_ok (read l (front bytes)) ≡ Some v) ↔ IsSpelling l 0 v bytes
+read_iff l v bytes =
+    (λ e. read_spelling l (front bytes) v (some_ok (read l (front bytes)) v e), λ s. ap result_ok (spelling_read l 0 v bytes s))
+
+pub one_value : {A : Type 0} (l : Layout A) (v w : A) (bytes : List ℕ) → IsSpelling l 0 v bytes → IsSpelling l 0 w bytes → v ≡ w
+one_value l v w bytes s t = ok_is v w (sym (spelling_read l 0 v bytes s) ∙ spelling_read l 0 w bytes t)
