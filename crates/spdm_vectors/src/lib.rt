@@ -5,6 +5,8 @@
 #[cfg(test)]
 mod draw_tests;
 #[cfg(test)]
+mod gcm_tests;
+#[cfg(test)]
 mod hkdf_tests;
 #[cfg(test)]
 mod hmac_tests;

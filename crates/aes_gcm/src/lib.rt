@@ -1,0 +1,12 @@
+//! Authenticated encryption by AES in Galois/Counter Mode (SP 800-38D) with keys of 16 and 32 bytes, as
+//! DSP0277 uses it. Texts are encrypted and decrypted in place, and no call takes memory. Nothing here is
+//! claimed to take the same time for all keys and texts.
+#![tactic(auto)]
+
+mod bad_tag;
+mod cipher;
+mod counter;
+mod gcm_key;
+
+pub use bad_tag::BadTag;
+pub use cipher::{Aes128Gcm, Aes256Gcm};

@@ -1,0 +1,3 @@
+pub mod Products
+pub mod Nibbles
+pub mod Sums

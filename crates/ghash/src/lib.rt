@@ -1,0 +1,12 @@
+//! GHASH, the hash of Galois/Counter Mode (SP 800-38D, section 6.4), by tables of four bits at a time. No
+//! call takes memory.
+#![tactic(auto)]
+
+mod block;
+mod field;
+mod hash_key;
+mod table;
+
+pub use block::{block_bytes, block_number};
+pub use field::multiply;
+pub use hash_key::HashKey;

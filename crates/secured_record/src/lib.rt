@@ -1,0 +1,13 @@
+//! Secured records (DSP0277): sealing an inner message under the key of a direction, and opening what was
+//! sealed. No call takes memory.
+#![tactic(auto)]
+
+mod aead;
+mod format;
+mod opening;
+mod record_fault;
+mod sealing;
+
+pub use opening::open;
+pub use record_fault::RecordFault;
+pub use sealing::{TooLong, seal};
