@@ -3,7 +3,9 @@
 #![tactic(auto)]
 
 mod algorithms;
+mod block_spec;
 mod capabilities;
+mod choice;
 mod chunk;
 mod error_code;
 mod exchange;
@@ -11,12 +13,15 @@ mod laws;
 mod malformed;
 mod measurements;
 pub mod names;
+mod part_faults;
 mod request;
 mod response;
 mod tables;
 
 pub use algorithms::{AlgOffer, AlgReply};
+pub use block_spec::BlockSpec;
 pub use capabilities::Caps;
+pub use choice::{Choice, FlagSet, Pick, Suites};
 pub use chunk::ChunkView;
 pub use error_code::ErrorCode;
 pub use exchange::{Exchange, ExchangeRsp};
@@ -27,5 +32,7 @@ pub use laws::{
 };
 pub use malformed::{Malformed, Part};
 pub use measurements::Measured;
+pub use part_faults::{CapsFault, ChunkFault};
 pub use request::Request;
 pub use response::Response;
+pub use spdm_basis::{AeadAlg, HashAlg};
