@@ -5,8 +5,6 @@
 #[cfg(test)]
 mod draw_tests;
 #[cfg(test)]
-mod gcm_tests;
-#[cfg(test)]
 mod hkdf_tests;
 #[cfg(test)]
 mod hmac_tests;
