@@ -82,6 +82,7 @@ pub fn write_negotiate_algorithms(offer: &AlgOffer<'_>, out: &mut Frame) -> Resu
     requires ext_hash { length offer.now.ext_hash.now ≤ 1020 }
     requires told { 32 + length offer.now.ext_asym.now + length offer.now.ext_hash.now + length offer.now.tables.now < 2 ^ 16 }
     ensures ok { OnOk result (out.new ≡ 0x12 ∷ 0xe3 ∷ offer_bytes (offer_message offer.now)) }
+    ensures fits { OnOk result (length out.new ≤ 4096) }
     ensures err { OnErr result (4096 < length (0x12 ∷ 0xe3 ∷ offer_bytes (offer_message offer.now))) }
 {
     out.clear();
@@ -114,6 +115,7 @@ pub fn write_algorithms(reply: &AlgReply<'_>, out: &mut Frame) -> Result<(), Too
     requires ext_hash { length reply.now.ext_hash.now ≤ 1020 }
     requires told { 36 + length reply.now.ext_asym.now + length reply.now.ext_hash.now + length reply.now.tables.now < 2 ^ 16 }
     ensures ok { OnOk result (out.new ≡ 0x12 ∷ 0x63 ∷ reply_bytes (reply_message reply.now)) }
+    ensures fits { OnOk result (length out.new ≤ 4096) }
     ensures err { OnErr result (4096 < length (0x12 ∷ 0x63 ∷ reply_bytes (reply_message reply.now))) }
 {
     out.clear();

@@ -4,7 +4,7 @@ ghost use Rattle.spdm_grammar.specs.Responses.{capabilities_layout};
 ghost use Rattle.spdm_grammar.specs.Message.RequestMessage.{GetCapabilities};
 ghost use Rattle.spdm_grammar.specs.Message.ResponseMessage.{Capabilities};
 ghost use Rattle.spdm_codec.specs.Answer.{Gives};
-ghost use Rattle.std.specs.Prelude.{◌≡◌, ◌<◌, ◌∷◌, length, OnOk, OnErr};
+ghost use Rattle.std.specs.Prelude.{◌≡◌, ◌<◌, ◌∷◌, length, OnOk, OnErr, ◌≤◌};
 ghost use Rattle.spdm_grammar.specs.Fields.{caps_bytes};
 
 use crate::cursor::Cursor;
@@ -36,6 +36,7 @@ pub fn read_caps(cursor: &mut Cursor<'_>) -> Result<Caps, Malformed>
 /// GET_CAPABILITIES or CAPABILITIES, by its code, in place of what `out` holds.
 pub fn write_caps(code: u8, caps: &Caps, out: &mut Frame) -> Result<(), TooLong>
     ensures ok { OnOk result (out.new ≡ 0x12 ∷ code ∷ caps_bytes caps.now) }
+    ensures fits { OnOk result (length out.new ≤ 4096) }
     ensures err { OnErr result (4096 < length (0x12 ∷ code ∷ caps_bytes caps.now)) }
 {
     out.clear();

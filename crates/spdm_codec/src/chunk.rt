@@ -5,7 +5,7 @@ ghost use Rattle.spdm_grammar.specs.Message.{chunk_message, request_message, res
 ghost use Rattle.spdm_grammar.specs.Message.RequestMessage.{ChunkSend};
 ghost use Rattle.spdm_grammar.specs.Message.ResponseMessage.{ChunkResponse};
 ghost use Rattle.spdm_codec.specs.Answer.{Gives};
-ghost use Rattle.std.specs.Prelude.{◌≡◌, ◌<◌, ◌^◌, ◌∷◌, length, OnOk, OnErr};
+ghost use Rattle.std.specs.Prelude.{◌≡◌, ◌<◌, ◌^◌, ◌∷◌, length, OnOk, OnErr, ◌≤◌};
 ghost use Rattle.spdm_grammar.specs.Fields.{chunk_bytes};
 
 use crate::cursor::Cursor;
@@ -68,6 +68,7 @@ pub fn read_chunk_send_ack<'a>(cursor: &mut Cursor<'a>) -> Result<Response<'a>, 
 pub fn write_chunk(code: u8, chunk: &ChunkView<'_>, out: &mut Frame) -> Result<(), TooLong>
     requires { length chunk.now.chunk.now < 2 ^ 32 }
     ensures ok { OnOk result (out.new ≡ 0x12 ∷ code ∷ chunk_bytes (chunk_message chunk.now)) }
+    ensures fits { OnOk result (length out.new ≤ 4096) }
     ensures err { OnErr result (4096 < length (0x12 ∷ code ∷ chunk_bytes (chunk_message chunk.now))) }
 {
     out.clear();

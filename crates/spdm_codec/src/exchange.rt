@@ -54,6 +54,7 @@ pub fn write_psk_exchange(exchange: &Exchange<'_>, out: &mut Frame) -> Result<()
     requires context { length exchange.now.context.now < 2 ^ 16 }
     requires opaque { length exchange.now.opaque.now ≤ 1024 }
     ensures ok { OnOk result (out.new ≡ 0x12 ∷ 0xe6 ∷ exchange_bytes (exchange_message exchange.now)) }
+    ensures fits { OnOk result (length out.new ≤ 4096) }
     ensures err { OnErr result (4096 < length (0x12 ∷ 0xe6 ∷ exchange_bytes (exchange_message exchange.now))) }
 {
     out.clear();

@@ -59,6 +59,7 @@ pub fn write_psk_exchange_rsp(exchange: &ExchangeRsp<'_>, out: &mut Frame) -> Re
     requires context { length exchange.now.context.now < 2 ^ 16 }
     requires opaque { length exchange.now.opaque.now ≤ 1024 }
     ensures ok { OnOk result (out.new ≡ 0x12 ∷ 0x66 ∷ exchange_rsp_bytes (exchange_rsp_message exchange.now)) }
+    ensures fits { OnOk result (length out.new ≤ 4096) }
     ensures err { OnErr result (4096 < length (0x12 ∷ 0x66 ∷ exchange_rsp_bytes (exchange_rsp_message exchange.now))) }
 {
     out.clear();

@@ -59,6 +59,7 @@ pub fn write_measurements(measured: &Measured<'_>, out: &mut Frame) -> Result<()
     requires block_bytes { length measured.now.block_bytes.now < 2 ^ 24 }
     requires opaque { length measured.now.opaque.now ≤ 1024 }
     ensures ok { OnOk result (out.new ≡ 0x12 ∷ 0x60 ∷ measured_bytes (measured_message measured.now)) }
+    ensures fits { OnOk result (length out.new ≤ 4096) }
     ensures err { OnErr result (4096 < length (0x12 ∷ 0x60 ∷ measured_bytes (measured_message measured.now))) }
 {
     out.clear();

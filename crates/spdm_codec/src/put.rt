@@ -1,4 +1,4 @@
-ghost use Rattle.std.specs.Prelude.{◌≡◌, ◌<◌, ◌^◌, ◌+◌, ◌++◌, length, OnOk, OnErr};
+ghost use Rattle.std.specs.Prelude.{◌≡◌, ◌<◌, ◌^◌, ◌+◌, ◌++◌, length, OnOk, OnErr, ◌≤◌};
 ghost use Rattle.byteorder.specs.Endian.{little_bytes};
 ghost use Rattle.spdm_grammar.specs.Fields.{large_bytes};
 
@@ -14,6 +14,7 @@ pub struct TooLong;
 /// Adds bytes.
 pub fn put(out: &mut Frame, bytes: &[u8]) -> Result<(), TooLong>
     ensures ok { OnOk result (out.new ≡ out.old ++ bytes.now) }
+    ensures fits { OnOk result (length out.new ≤ 4096) }
     ensures err { OnErr result (4096 < length out.old + length bytes.now) }
 {
     out.extend(bytes).map_err(|_| TooLong)
@@ -22,6 +23,7 @@ pub fn put(out: &mut Frame, bytes: &[u8]) -> Result<(), TooLong>
 /// Adds a number of two bytes.
 pub fn put_two(out: &mut Frame, number: u16) -> Result<(), TooLong>
     ensures ok { OnOk result (out.new ≡ out.old ++ little_bytes 2 number) }
+    ensures fits { OnOk result (length out.new ≤ 4096) }
     ensures err { OnErr result (4096 < length out.old + 2) }
 {
     let mut bytes = [0u8; 2];
@@ -33,6 +35,7 @@ pub fn put_two(out: &mut Frame, number: u16) -> Result<(), TooLong>
 pub fn put_three(out: &mut Frame, number: u32) -> Result<(), TooLong>
     requires { number < 2 ^ 24 }
     ensures ok { OnOk result (out.new ≡ out.old ++ little_bytes 3 number) }
+    ensures fits { OnOk result (length out.new ≤ 4096) }
     ensures err { OnErr result (4096 < length out.old + 3) }
 {
     let mut bytes = [0u8; 3];
@@ -43,6 +46,7 @@ pub fn put_three(out: &mut Frame, number: u32) -> Result<(), TooLong>
 /// Adds a number of four bytes.
 pub fn put_four(out: &mut Frame, number: u32) -> Result<(), TooLong>
     ensures ok { OnOk result (out.new ≡ out.old ++ little_bytes 4 number) }
+    ensures fits { OnOk result (length out.new ≤ 4096) }
     ensures err { OnErr result (4096 < length out.old + 4) }
 {
     let mut bytes = [0u8; 4];

@@ -1,4 +1,4 @@
-ghost use Rattle.std.specs.Prelude.{◌≡◌, ◌<◌, length, ℕ, List, IfOk, IsOkAnd, OnOk, OnErr};
+ghost use Rattle.std.specs.Prelude.{◌≡◌, ◌<◌, length, ℕ, List, IfOk, IsOkAnd, OnOk, OnErr, ◌≤◌};
 ghost use Rattle.std.specs.Option.{option_map};
 ghost use Rattle.std.specs.Result.{result_ok, result_err};
 ghost use Rattle.spdm_grammar.specs.Reading.{read};
@@ -96,6 +96,7 @@ pub fn read_request(bytes: &[u8], hash_len: usize) -> Result<Request<'_>, Malfor
 pub fn write_request(message: &Request<'_>, hash_len: usize, out: &mut Frame) -> Result<(), TooLong>
     requires { IsSoundRequest hash_len (request_message message.now) }
     ensures ok { OnOk result (out.new ≡ canonical_request (request_message message.now)) }
+    ensures fits { OnOk result (length out.new ≤ 4096) }
     ensures err { OnErr result (4096 < length (canonical_request (request_message message.now))) }
 {
     out.clear();

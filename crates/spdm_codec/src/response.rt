@@ -1,4 +1,4 @@
-ghost use Rattle.std.specs.Prelude.{◌≡◌, ◌<◌, length, IfOk, IsOkAnd, OnOk, OnErr};
+ghost use Rattle.std.specs.Prelude.{◌≡◌, ◌<◌, length, IfOk, IsOkAnd, OnOk, OnErr, ◌≤◌};
 ghost use Rattle.std.specs.Option.{option_map};
 ghost use Rattle.std.specs.Result.{result_ok, result_err};
 ghost use Rattle.spdm_grammar.specs.Reading.{read};
@@ -123,6 +123,7 @@ pub fn write_response(
 ) -> Result<(), TooLong>
     requires { IsSoundResponse hash_len summary (response_message message.now) }
     ensures ok { OnOk result (out.new ≡ canonical_response (response_message message.now)) }
+    ensures fits { OnOk result (length out.new ≤ 4096) }
     ensures err { OnErr result (4096 < length (canonical_response (response_message message.now))) }
 {
     out.clear();
