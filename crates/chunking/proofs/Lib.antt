@@ -1,0 +1,2 @@
+pub mod ChunkList
+pub mod KeptChunks

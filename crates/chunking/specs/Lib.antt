@@ -1,0 +1,4 @@
+pub mod Cutting
+pub mod Collecting
+pub mod Keeping
+pub mod Answers
