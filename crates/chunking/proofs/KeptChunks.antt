@@ -1,11 +1,55 @@
--- A collector still stands for the chunks that it accepted after it was given one more.
-use Rattle.std.proofs.Common.{◌≡◌, ◌∙◌, ℕ, Bool, true, false, List, [], ◌∷◌, ◌++◌, refl, sym, ap, subst, nat_eq}
+-- A collector answers each chunk as collecting does, and still stands for the chunks that it accepted.
+use Rattle.std.proofs.Common.{◌≡◌, ◌∙◌, ℕ, Bool, true, false, List, [], ◌∷◌, ◌++◌, refl, sym, subst, nat_eq, length}
 use Rattle.std.specs.Prelude.{Option, Some, None, if◌then◌else◌}
 use Rattle.spdm_grammar.specs.Message.{ChunkMessage}
 use Rattle.spdm_grammar.specs.declared.ChunkFault.{ChunkFault}
 use Rattle.chunking.specs.declared.unfinished.Unfinished.{Unfinished}
-use Rattle.chunking.specs.Collecting.{under_way, joined, told_by, told_size, first_rule, later_rule, accepted_unless, accepted_with}
-use Rattle.chunking.specs.Keeping.{Kept, StandsFor, StandsForMessage, unfinished_after, grown, grown_unless, next_rule, after_first, after_later, after_chunk}
+use Rattle.chunking.specs.Collecting.{under_way, joined, told_by, told_size, first_rule, later_rule, answer_from, collected, accepted_unless, accepted_with}
+use Rattle.chunking.specs.Collecting.Collection.{Whole, More, Refused}
+use Rattle.spdm_grammar.specs.declared.ChunkFault.TheVariants.{WrongNumber}
+use Rattle.chunking.specs.Keeping.{Kept, StandsFor, StandsForMessage, unfinished_after, answer_later, answer_to, grown_unless, next_rule, after_first, after_later, after_chunk}
+
+module _ (k : Kept) (c : ChunkMessage) where
+  later_answers : (u : Option Unfinished) (bytes : List ℕ) (before : List ChunkMessage) → StandsForMessage u bytes before →
+      answer_later u (record { max = k.max; unfinished = u; bytes = bytes }) c ≡ answer_from (later_rule before c) c (joined before ++ c.chunk)
+  later_answers None bytes before h =
+      let P : List ChunkMessage → Type 0 = λ b. Refused WrongNumber ≡ answer_from (later_rule b c) c (joined b ++ c.chunk) in
+      subst P (sym h) refl
+  later_answers (Some u) bytes [] h = absurd h
+  later_answers (Some u) bytes (d ∷ earlier) h = rw (h.0, h.1) refl
+
+  either_answers : (zero : Bool) (before : List ChunkMessage) → StandsForMessage k.unfinished k.bytes before →
+      (if zero then answer_from (first_rule k.max c) c c.chunk else answer_later k.unfinished k c)
+      ≡ answer_from (if zero then first_rule k.max c else later_rule before c) c (if zero then c.chunk else joined before ++ c.chunk)
+  either_answers true before h = refl
+  either_answers false before h = later_answers k.unfinished k.bytes before h
+
+  pub answers : (accepted : List ChunkMessage) → StandsFor k accepted → answer_to k c ≡ collected k.max accepted c
+  answers accepted h = either_answers (nat_eq c.number 0) (under_way accepted) h
+
+not_refused : (last : Bool) (message : List ℕ) (fault : ChunkFault) → (if last then Whole message else More) ≡ Refused fault → ⊥
+not_refused true message fault e = cc
+not_refused false message fault e = cc
+
+unless_refused : (rule : Option ChunkFault) (k started : Kept) (c : ChunkMessage) (told : ℕ) (message : List ℕ) (fault : ChunkFault) →
+    answer_from rule c message ≡ Refused fault → grown_unless rule k started c told ≡ k
+unless_refused (Some rule) k started c told message fault e = refl
+unless_refused None k started c told message fault e = absurd (not_refused c.last message fault e)
+
+later_unless_refused : (u : Option Unfinished) (k : Kept) (c : ChunkMessage) (fault : ChunkFault) → answer_later u k c ≡ Refused fault → after_later u k c ≡ k
+later_unless_refused None k c fault e = refl
+later_unless_refused (Some u) k c fault e = unless_refused (next_rule u (length k.bytes) c) k k c u.told (k.bytes ++ c.chunk) fault e
+
+either_unless_refused : (zero : Bool) (k : Kept) (c : ChunkMessage) (fault : ChunkFault) →
+    (if zero then answer_from (first_rule k.max c) c c.chunk else answer_later k.unfinished k c) ≡ Refused fault →
+    (if zero then after_first k c else after_later k.unfinished k c) ≡ k
+either_unless_refused true k c fault e =
+    unless_refused (first_rule k.max c) k (record { max = k.max; unfinished = None; bytes = [] }) c (told_by c) c.chunk fault e
+either_unless_refused false k c fault e = later_unless_refused k.unfinished k c fault e
+
+-- a refused chunk changes nothing
+pub refused_keeps : (k : Kept) (c : ChunkMessage) (fault : ChunkFault) → answer_to k c ≡ Refused fault → after_chunk k c ≡ k
+refused_keeps k c fault e = either_unless_refused (nat_eq c.number 0) k c fault e
 
 grown_max : (rule : Option ChunkFault) (old started : Kept) (c : ChunkMessage) (told : ℕ) → started.max ≡ old.max → (grown_unless rule old started c told).max ≡ old.max
 grown_max None old started c told e = e

@@ -1,6 +1,6 @@
 -- A large message as chunks (DSP0274, "CHUNK_SEND request message format" and "CHUNK_RESPONSE response
 -- message format").
-use Rattle.std.specs.Prelude.{◌==◌, ◌+◌, ◌-◌, ◌*◌, zero, suc, ℕ, List, [], ◌∷◌, map, length, slice_range, if◌then◌else◌, Option, Some, None}
+use Rattle.std.specs.Prelude.{◌==◌, ◌<◌, ◌≤◌, ◌+◌, ◌-◌, ◌*◌, zero, suc, ℕ, List, [], ◌∷◌, map, length, slice_range, if◌then◌else◌, Some, None}
 use Rattle.std.specs.Int.{div_ceil}
 use Rattle.std.specs.List.{range_with_len}
 use Rattle.spdm_grammar.specs.Message.{ChunkMessage}
@@ -43,3 +43,11 @@ chunks_of transfer handle message = map (nth_chunk transfer handle message) (ran
 abbrev pub chunks_before : (transfer handle : ℕ) → (message : List ℕ) → ℕ → List ChunkMessage
 chunks_before transfer handle message zero = []
 chunks_before transfer handle message (suc k) = nth_chunk transfer handle message k ∷ chunks_before transfer handle message k
+
+-- What has to hold of a message for its chunks to be collected again: it goes by chunks at this transfer
+-- size, and is at most as long as the collector and this project allow.
+pub record IsCollectable (max transfer : ℕ) (message : List ℕ) : Type 0 where
+  pub low : 42 ≤ transfer
+  pub large : transfer < length message + 16
+  pub fits : length message ≤ max
+  pub short : length message ≤ 4096

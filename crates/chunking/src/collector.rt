@@ -1,6 +1,8 @@
 ghost use Rattle.std.specs.Prelude.{◌≡◌, ◌≤◌, ◌+◌, ◌++◌, [], List, None, length, IfSome};
 ghost use Rattle.spdm_grammar.specs.Message.{ChunkMessage, chunk_message};
-ghost use Rattle.chunking.specs.Answers.{collected_answer};
+ghost use Rattle.chunking.specs.Answers.{collection_of, step_answer};
+ghost use Rattle.std.specs.Borrow.{sem};
+ghost use Rattle.chunking.specs.Lending.{RestsWith};
 ghost use Rattle.chunking.specs.Collecting.{accepted_with, answer_from, collected, first_rule, told_by};
 ghost use Rattle.chunking.specs.Keeping.{Kept, StandsFor, after_chunk, after_first, after_later, answer_later, answer_to, grown};
 
@@ -31,12 +33,20 @@ impl Model for Collector {
 
 /// What a chunk led to.
 #[derive(Clone, Copy, Debug, PartialEq, Eq)]
-pub enum Collected {
-    /// It completed a message, which `Collector::message` lends until another chunk is taken.
-    Whole,
+pub enum Collected<'a> {
+    /// It completed this message, which lies in the collector.
+    Whole(&'a [u8]),
     /// The message is not whole yet.
     More,
     /// The chunk was refused, and nothing changed.
+    Refused(ChunkFault),
+}
+
+// What a chunk led to; a whole message lies in the collector.
+#[derive(Clone, Copy, Debug)]
+pub(crate) enum Step {
+    Whole,
+    More,
     Refused(ChunkFault),
 }
 
@@ -61,20 +71,16 @@ impl Collector {
     /// Then `WrongSize`: the chunk is empty, or the sum of the bytes passes the told size, or a chunk
     /// without the last mark has fewer than 26 bytes. `EarlyLast`: the last mark with a sum below the told
     /// size. `MissingLast`: the told size is reached without the mark.
-    pub fn take(&mut self, chunk: ChunkView<'_>) -> Collected
-        ensures max { self.new.max ≡ self.old.max }
-        ensures answer { (accepted : List ChunkMessage) → StandsFor self.old accepted → collected_answer result self.new.bytes ≡ collected self.old.max accepted (chunk_message chunk.entry) }
-        ensures stands { (accepted : List ChunkMessage) → StandsFor self.old accepted → StandsFor self.new (accepted_with self.old.max accepted (chunk_message chunk.entry)) }
+    pub fn take(&mut self, chunk: ChunkView<'_>) -> Collected<'_>
+        ensures answer { (accepted : List ChunkMessage) → StandsFor self.old accepted → collection_of result ≡ collected self.old.max accepted (chunk_message chunk.entry) }
+        // What it is once the message is given back.
+        ensures* rests { sem 𝓛 (RestsWith self.entry (chunk_message chunk.entry) (collection_of result)) }
     {
-        self.step(chunk)
-    }
-
-    /// The bytes of the message that is being collected, and the whole message after `Collected::Whole`.
-    pub fn message(&self) -> &[u8]
-        ensures value { result.now ≡ self.now.bytes }
-        ensures fits { length result.now ≤ 4096 }
-    {
-        self.bytes.as_slice()
+        match self.step(chunk) {
+            Step::Whole => Collected::Whole(self.bytes.as_slice()),
+            Step::More => Collected::More,
+            Step::Refused(fault) => Collected::Refused(fault),
+        }
     }
 
     /// Drops what is unfinished.
@@ -100,8 +106,8 @@ impl Collector {
     }
 
     // Takes a chunk.
-    fn step(&mut self, chunk: ChunkView<'_>) -> Collected
-        ensures answer { collected_answer result self.new.bytes ≡ answer_to self.old (chunk_message chunk.entry) }
+    fn step(&mut self, chunk: ChunkView<'_>) -> Step
+        ensures answer { step_answer result self.new.bytes ≡ answer_to self.old (chunk_message chunk.entry) }
         ensures after { self.new ≡ after_chunk self.old (chunk_message chunk.entry) }
     {
         if chunk.number == 0 {
@@ -111,12 +117,12 @@ impl Collector {
     }
 
     // Takes a chunk of number 0.
-    fn begin(&mut self, chunk: ChunkView<'_>) -> Collected
-        ensures answer { collected_answer result self.new.bytes ≡ answer_from (first_rule self.old.max (chunk_message chunk.entry)) (chunk_message chunk.entry) chunk.entry.chunk.now }
+    fn begin(&mut self, chunk: ChunkView<'_>) -> Step
+        ensures answer { step_answer result self.new.bytes ≡ answer_from (first_rule self.old.max (chunk_message chunk.entry)) (chunk_message chunk.entry) chunk.entry.chunk.now }
         ensures after { self.new ≡ after_first self.old (chunk_message chunk.entry) }
     {
         if let Some(fault) = broken_first_rule(chunk, self.max) {
-            return Collected::Refused(fault);
+            return Step::Refused(fault);
         }
         self.unfinished = None;
         self.bytes.clear();
@@ -124,37 +130,37 @@ impl Collector {
     }
 
     // Takes a chunk of another number.
-    fn go_on(&mut self, chunk: ChunkView<'_>) -> Collected
-        ensures answer { collected_answer result self.new.bytes ≡ answer_later self.old.unfinished self.old (chunk_message chunk.entry) }
+    fn go_on(&mut self, chunk: ChunkView<'_>) -> Step
+        ensures answer { step_answer result self.new.bytes ≡ answer_later self.old.unfinished self.old (chunk_message chunk.entry) }
         ensures after { self.new ≡ after_later self.old.unfinished self.old (chunk_message chunk.entry) }
     {
         let Some(unfinished) = self.unfinished else {
-            return Collected::Refused(ChunkFault::WrongNumber);
+            return Step::Refused(ChunkFault::WrongNumber);
         };
         let held = self.bytes.as_slice().len();
         if let Some(fault) = unfinished.broken_rule(chunk, held) {
-            return Collected::Refused(fault);
+            return Step::Refused(fault);
         }
         self.grow(chunk, unfinished.told)
     }
 
     // Adds a chunk that breaks no rule.
-    fn grow(&mut self, chunk: ChunkView<'_>, told: u32) -> Collected
+    fn grow(&mut self, chunk: ChunkView<'_>, told: u32) -> Step
         requires most { told ≤ 4096 }
         requires fits { length self.old.bytes + length chunk.chunk.now ≤ told }
-        ensures answer { collected_answer result self.new.bytes ≡ answer_from None (chunk_message chunk.entry) (self.old.bytes ++ chunk.entry.chunk.now) }
+        ensures answer { step_answer result self.new.bytes ≡ answer_from None (chunk_message chunk.entry) (self.old.bytes ++ chunk.entry.chunk.now) }
         ensures after { self.new ≡ grown self.old (chunk_message chunk.entry) told }
     {
         let _ = self.bytes.extend(chunk.chunk);
         if chunk.last {
             self.unfinished = None;
-            return Collected::Whole;
+            return Step::Whole;
         }
         self.unfinished = Some(Unfinished {
             handle: chunk.handle,
             number: chunk.number,
             told,
         });
-        Collected::More
+        Step::More
     }
 }

@@ -3,9 +3,15 @@
 #![tactic(auto)]
 
 mod collector;
+mod laws;
 mod splitter;
+#[cfg(test)]
+mod tests;
 mod unfinished;
 
 pub use collector::{Collected, Collector};
+pub use laws::{
+    chunk_sizes, chunks_are_the_message, cut_is_collected, few_chunks, first_chunk_begins_anew,
+};
 pub use spdm_grammar::ChunkFault;
 pub use splitter::{SplitFault, Splitter};

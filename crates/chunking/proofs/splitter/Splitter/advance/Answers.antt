@@ -1,4 +1,4 @@
-use Rattle.std.proofs.Common.{◌≡◌, ◌∙◌, ◌<◌, ◌≤◌, arith, sym}
+use Rattle.std.proofs.Common.{◌<◌, ◌≤◌, arith}
 use Rattle.chunking.specs.Cutting.{chunk_count}
 use Rattle.chunking.proofs.ChunkList.{rest_left, still_none}
 use Rattle.chunking.proofs.splitter.Splitter.advance.Goals as goal

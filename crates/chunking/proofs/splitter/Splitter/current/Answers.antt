@@ -1,4 +1,4 @@
-use Rattle.std.proofs.Common.{◌≡◌, ◌∙◌, ◌<◌, ◌≤◌, ℕ, List, arith, sym, ap}
+use Rattle.std.proofs.Common.{◌∙◌, ◌<◌, ◌≤◌, ℕ, List, arith, ap}
 use Rattle.std.specs.Prelude.{Some}
 use Rattle.spdm_grammar.specs.Message.{ChunkMessage}
 use Rattle.chunking.specs.Cutting.{chunk_count, nth_chunk}
