@@ -1,0 +1,6 @@
+pub mod ChunkList
+pub mod KeptChunks
+pub mod ChunkSteps
+pub mod CutAndCollected
+pub mod FewChunks
+pub mod WorkedChunks

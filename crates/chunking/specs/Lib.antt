@@ -1,0 +1,5 @@
+pub mod Cutting
+pub mod Collecting
+pub mod Keeping
+pub mod Answers
+pub mod Lending

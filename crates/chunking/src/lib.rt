@@ -1,0 +1,17 @@
+//! Large messages as chunks (DSP0274, "CHUNK_SEND" and "CHUNK_GET"): cutting a message into chunks, and
+//! collecting chunks into messages again. No call takes memory.
+#![tactic(auto)]
+
+mod collector;
+mod laws;
+mod splitter;
+#[cfg(test)]
+mod tests;
+mod unfinished;
+
+pub use collector::{Collected, Collector};
+pub use laws::{
+    chunk_sizes, chunks_are_the_message, cut_is_collected, few_chunks, first_chunk_begins_anew,
+};
+pub use spdm_grammar::ChunkFault;
+pub use splitter::{SplitFault, Splitter};

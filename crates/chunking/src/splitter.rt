@@ -1,0 +1,127 @@
+ghost use Rattle.std.specs.Prelude.{◌≡◌, ◌↔◌, ◌<◌, ◌≤◌, ◌+◌, length, drop, Err, IfOk};
+ghost use Rattle.std.specs.List.{slice_get};
+ghost use Rattle.chunking.specs.Answers.{chunk_given};
+ghost use Rattle.chunking.specs.Cutting.{chunk_count, chunks_of, nth_chunk};
+ghost use Rattle.spdm_grammar.specs.Message.{chunk_message};
+
+use spdm_basis::Frame;
+use spdm_grammar::ChunkView;
+use std::marker::Model;
+use thiserror::Error;
+
+/// Why a message is not cut into chunks, in the order of the tests.
+#[derive(Clone, Copy, Debug, PartialEq, Eq, Error)]
+pub enum SplitFault {
+    /// The transfer size is below 42.
+    #[error("a transfer size below 42")]
+    TransferTooSmall,
+    /// One chunk would hold the message.
+    #[error("a message that fits into one chunk")]
+    Fits,
+}
+
+/// The least DataTransferSize (DSP0274, "CAPABILITIES").
+const MIN_TRANSFER: u32 = 42;
+
+// What stands before the bytes of a chunk: the header of four bytes, ChunkSeqNo, two reserved bytes and
+// ChunkSize; and in the first one LargeMessageSize.
+const HEADER_LEN: usize = 12;
+
+const LARGE_SIZE_LEN: usize = 4;
+
+/// A large message, cut into chunks for a transfer size (DSP0274, "CHUNK_SEND request message format").
+/// Contracts see it as the list of the chunks that are left.
+#[derive(Drop)]
+pub struct Splitter {
+    message: Frame,
+    transfer: u32,
+    handle: u8,
+    // How many chunks the message has, and how many were taken.
+    count: usize,
+    taken: usize,
+}
+
+impl Model for Splitter {
+    ghost use Rattle.std.specs.Prelude.{◌≡◌, ◌≤◌, ◌<◌, ◌+◌, List, drop, length};
+    ghost use Rattle.spdm_grammar.specs.Message.{ChunkMessage};
+    ghost use Rattle.chunking.specs.Cutting.{chunk_count, chunks_of};
+
+    ghost Value = { List ChunkMessage };
+
+    ghost view = { λ s. drop s.taken (chunks_of s.transfer s.handle s.message) };
+
+    ghost invariant = { λ s. (42 ≤ s.transfer) × (length s.message ≤ 4096) × (s.transfer < length s.message + 16) × (s.count ≡ chunk_count s.transfer s.message) × (s.taken ≤ s.count) };
+}
+
+impl Splitter {
+    /// Cuts a message, which it copies: a first chunk of `transfer` less 16 bytes, next ones of `transfer`
+    /// less 12, and the rest. `TransferTooSmall` comes exactly where `transfer` is below 42, and then
+    /// `Fits` exactly where the message is not longer than `transfer` less 16.
+    pub fn new(message: &[u8], transfer: u32, handle: u8) -> Result<Splitter, SplitFault>
+        requires { length message.now ≤ 4096 }
+        ensures chunks { IfOk result (λ splitter. splitter ≡ chunks_of transfer handle message.now) }
+        ensures small { (result ≡ Err SplitFault.TransferTooSmall) ↔ (transfer < 42) }
+        ensures fits { (result ≡ Err SplitFault.Fits) ↔ ((42 ≤ transfer) × (length message.now + 16 ≤ transfer)) }
+    {
+        if transfer < MIN_TRANSFER {
+            return Err(SplitFault::TransferTooSmall);
+        }
+        let unit = transfer as usize - HEADER_LEN;
+        if message.len() + LARGE_SIZE_LEN <= unit {
+            return Err(SplitFault::Fits);
+        }
+        let mut copy = Frame::new();
+        let _ = copy.extend(message);
+        Ok(Splitter {
+            message: copy,
+            transfer,
+            handle,
+            count: (message.len() + LARGE_SIZE_LEN).div_ceil(unit),
+            taken: 0,
+        })
+    }
+
+    /// The next chunk, and `None` exactly where all were taken.
+    pub fn current(&self) -> Option<ChunkView<'_>>
+        ensures { chunk_given result ≡ slice_get self.now 0 }
+    {
+        if self.taken == self.count {
+            return None;
+        }
+        let message = self.message.as_slice();
+        Some(chunk_at(message, self.transfer, self.handle, self.taken, self.count))
+    }
+
+    /// Goes on to the next chunk. Where all were taken, it does nothing.
+    pub fn advance(&mut self)
+        ensures { self.new ≡ drop 1 self.old }
+    {
+        if self.taken < self.count {
+            self.taken += 1;
+        }
+    }
+}
+
+// The chunk of this number, of the number of chunks that the message has.
+fn chunk_at(message: &[u8], transfer: u32, handle: u8, number: usize, count: usize) -> ChunkView<'_>
+    requires low { 42 ≤ transfer }
+    requires high { length message.now ≤ 4096 }
+    requires counted { count ≡ chunk_count transfer message.now }
+    requires within { number < count }
+    ensures { chunk_message result ≡ nth_chunk transfer handle message.now number }
+{
+    let unit = transfer as usize - HEADER_LEN;
+    let from = (number * unit).saturating_sub(LARGE_SIZE_LEN);
+    let to = message.len().min(number * unit + unit - LARGE_SIZE_LEN);
+    ChunkView {
+        last: number + 1 == count,
+        handle,
+        number: number as u16,
+        large: if number == 0 {
+            Some(message.len() as u32)
+        } else {
+            None
+        },
+        chunk: &message[from..to],
+    }
+}
