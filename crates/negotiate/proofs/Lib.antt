@@ -1,0 +1,4 @@
+pub mod KindLists
+pub mod FewKinds
+pub mod Answered
+pub mod Choices

@@ -1,0 +1,6 @@
+pub mod Versions
+pub mod Capabilities
+pub mod Tables
+pub mod Choosing
+pub mod Offer
+pub mod Reply
