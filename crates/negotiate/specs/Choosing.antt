@@ -23,7 +23,7 @@ has_large Small = false
 has_large Large = true
 has_large Both = true
 
--- A context, an answer with a hash in it, of 48 bytes needs messages of 52 bytes: SHA-384 is used only with a responder whose DataTransferSize has room for it.
+-- PSK_FINISH with verify data of 48 bytes has 52, and nothing is cut into chunks inside a session: SHA-384 is used only with a responder whose DataTransferSize has room for it.
 abbrev pub has_room_for_sha_384 : ℕ → Bool
 has_room_for_sha_384 transfer = nat_le 52 transfer
 
