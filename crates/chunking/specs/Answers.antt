@@ -1,5 +1,5 @@
 -- The answers of the calls, as those of the definitions.
-use Rattle.std.specs.Prelude.{ℕ, List, Option, Some, None}
+use Rattle.std.specs.Prelude.{ℕ, List, [], Option, Some, None}
 use Rattle.spdm_grammar.specs.Message.{ChunkMessage, chunk_message}
 use Rattle.spdm_grammar.specs.declared.ChunkView.{ChunkView}
 use Rattle.chunking.specs.Collecting.{Collection}
@@ -14,6 +14,12 @@ abbrev pub collection_of : Collected → Collection
 collection_of (taken.Whole message) = Whole message.now
 collection_of taken.More = More
 collection_of (taken.Refused fault) = Refused fault
+
+-- The message that was completed; none is empty.
+abbrev pub whole_of : Collected → List ℕ
+whole_of (taken.Whole message) = message.now
+whole_of taken.More = []
+whole_of (taken.Refused fault) = []
 
 -- A step, with the bytes that the collector has after it.
 abbrev pub step_answer : Step → (bytes : List ℕ) → Collection

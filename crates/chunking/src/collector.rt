@@ -1,6 +1,6 @@
 ghost use Rattle.std.specs.Prelude.{◌≡◌, ◌≤◌, ◌+◌, ◌++◌, [], List, None, length, IfSome};
 ghost use Rattle.spdm_grammar.specs.Message.{ChunkMessage, chunk_message};
-ghost use Rattle.chunking.specs.Answers.{collection_of, step_answer};
+ghost use Rattle.chunking.specs.Answers.{collection_of, step_answer, whole_of};
 ghost use Rattle.std.specs.Borrow.{sem};
 ghost use Rattle.chunking.specs.Lending.{RestsWith};
 ghost use Rattle.chunking.specs.Collecting.{accepted_with, answer_from, collected, first_rule, told_by};
@@ -73,6 +73,7 @@ impl Collector {
     /// size. `MissingLast`: the told size is reached without the mark.
     pub fn take(&mut self, chunk: ChunkView<'_>) -> Collected<'_>
         ensures answer { (accepted : List ChunkMessage) → StandsFor self.old accepted → collection_of result ≡ collected self.old.max accepted (chunk_message chunk.entry) }
+        ensures fits { length (whole_of result) ≤ 4096 }
         // What it is once the message is given back.
         ensures* rests { sem 𝓛 (RestsWith self.entry (chunk_message chunk.entry) (collection_of result)) }
     {

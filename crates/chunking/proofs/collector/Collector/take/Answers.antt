@@ -1,4 +1,4 @@
-use Rattle.std.proofs.Common.{◌≡◌, ◌∙◌, refl, ap, sym, subst}
+use Rattle.std.proofs.Common.{◌≡◌, ◌∙◌, ◌≤◌, List, length, refl, ap, sym, subst, arith}
 use Rattle.spdm_grammar.specs.Message.{ChunkMessage, chunk_message}
 use Rattle.chunking.specs.Collecting.{Collection, accepted_with}
 use Rattle.chunking.specs.Collecting.Collection.{Whole}
@@ -23,19 +23,19 @@ returns-in-Whole c =
     let m = chunk_message c.args.chunk in
     let told = ap Whole (c.as_slice.ensures.value ∙ ap (λ (k : Kept). k.bytes) c.self.view_is) ∙ c.in-Whole.ensures.answer in (
       (refl, λ _. tt, takes c.args.self.now _ m _ (c.self.view_is ∙ c.step.ensures.after) told),
-      record { answer = λ accepted before. told ∙ law.answers c.args.self.now m accepted before; rests = tt },
+      record { answer = λ accepted before. told ∙ law.answers c.args.self.now m accepted before; fits = omega (arith, c.as_slice.ensures.fits, ap length c.as_slice.ensures.value); rests = tt },
     )
 
 pub returns-in-More : goal.returns-in-More
 returns-in-More c =
     let m = chunk_message c.args.chunk in (
       (refl, λ _. tt, takes c.args.self.now _ m _ (c.self.view_is ∙ c.step.ensures.after) c.in-More.ensures.answer),
-      record { answer = λ accepted before. c.in-More.ensures.answer ∙ law.answers c.args.self.now m accepted before; rests = tt },
+      record { answer = λ accepted before. c.in-More.ensures.answer ∙ law.answers c.args.self.now m accepted before; fits = omega arith; rests = tt },
     )
 
 pub returns-in-Refused : goal.returns-in-Refused
 returns-in-Refused c =
     let m = chunk_message c.args.chunk in (
       (refl, λ _. tt, takes c.args.self.now _ m _ (c.self.view_is ∙ c.step.ensures.after) c.in-Refused.ensures.answer),
-      record { answer = λ accepted before. c.in-Refused.ensures.answer ∙ law.answers c.args.self.now m accepted before; rests = tt },
+      record { answer = λ accepted before. c.in-Refused.ensures.answer ∙ law.answers c.args.self.now m accepted before; fits = omega arith; rests = tt },
     )
