@@ -4,7 +4,7 @@ use spdm_grammar::{AeadAlg, AlgOffer, AlgReply, Caps, CapsFault, Choice, HashAlg
 // A requester and a responder that go together: DataTransferSize 42, MaxSPDMmsgSize 4,096.
 const REQUESTER: Caps = Caps {
     ct: 0,
-    flags: 0x26_44c0,
+    flags: 0x02_44c0,
     transfer: 42,
     max: 4096,
 };
@@ -40,7 +40,7 @@ fn capabilities_in_common(rt: HostRuntime) {
     let expected = Common {
         measure: true,
         heartbeat: false,
-        key_update: false,
+        key_update: true,
         chunk: true,
         to_requester: sizes,
         to_responder: sizes,
