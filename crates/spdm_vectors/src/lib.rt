@@ -11,4 +11,6 @@ mod hmac_tests;
 #[cfg(test)]
 mod key_schedule_tests;
 #[cfg(test)]
+mod message_tests;
+#[cfg(test)]
 mod transcript_tests;
