@@ -5,6 +5,8 @@
 #[cfg(test)]
 mod draw_tests;
 #[cfg(test)]
+mod gcm_tests;
+#[cfg(test)]
 mod hkdf_tests;
 #[cfg(test)]
 mod hmac_tests;
@@ -12,5 +14,7 @@ mod hmac_tests;
 mod key_schedule_tests;
 #[cfg(test)]
 mod message_tests;
+#[cfg(test)]
+mod record_tests;
 #[cfg(test)]
 mod transcript_tests;
