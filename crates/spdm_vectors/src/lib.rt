@@ -5,10 +5,16 @@
 #[cfg(test)]
 mod draw_tests;
 #[cfg(test)]
+mod gcm_tests;
+#[cfg(test)]
 mod hkdf_tests;
 #[cfg(test)]
 mod hmac_tests;
 #[cfg(test)]
 mod key_schedule_tests;
+#[cfg(test)]
+mod message_tests;
+#[cfg(test)]
+mod record_tests;
 #[cfg(test)]
 mod transcript_tests;
