@@ -3,6 +3,8 @@
 #![tactic(auto)]
 
 #[cfg(test)]
+mod aes_tests;
+#[cfg(test)]
 mod draw_tests;
 #[cfg(test)]
 mod gcm_tests;
