@@ -10,3 +10,6 @@ mod summary;
 
 pub use fault::{InventoryFault, MeasureFault};
 pub use inventory::Inventory;
+
+#[cfg(test)]
+mod tests;
