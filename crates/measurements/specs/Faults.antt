@@ -6,9 +6,9 @@ use Rattle.measurements.specs.declared.fault.InventoryFault.{InventoryFault}
 use Rattle.measurements.specs.declared.fault.InventoryFault.TheVariants.{IndexOutOfRange, IndexTaken, TooLong, OutOfMemory}
 use Rattle.measurements.specs.Blocks.{record_len}
 
--- An index is 0 or 255, which name no block.
+-- An index is 0 or above 254: 255, which names all blocks.
 abbrev pub has_bad_index : List BlockSpec → Bool
-has_bad_index blocks = list_any (λ block. block.index == 0 || block.index == 255) blocks
+has_bad_index blocks = list_any (λ block. block.index == 0 || nat_lt 254 block.index) blocks
 
 -- Some block has this index.
 abbrev pub has_index : ℕ → List BlockSpec → Bool

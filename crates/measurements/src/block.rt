@@ -27,7 +27,8 @@ pub fn block_head(block: &BlockSpec) -> [u8; 7]
 /// Adds a block.
 pub fn push_block(block: &BlockSpec, out: &mut Frame)
     requires { length out.old + (7 + length block.now.value) ≤ 4054 }
-    ensures { out.new ≡ out.old ++ block_bytes block.now }
+    ensures bytes { out.new ≡ out.old ++ block_bytes block.now }
+    ensures fits { length out.new ≤ 4054 }
 {
     let _ = out.extend(&block_head(block));
     let _ = out.extend(block.value.as_slice());
@@ -36,7 +37,8 @@ pub fn push_block(block: &BlockSpec, out: &mut Frame)
 /// Adds blocks, one behind the other.
 pub fn push_blocks(blocks: &[BlockSpec], out: &mut Frame)
     requires { length out.old + record_len blocks.now ≤ 4054 }
-    ensures { out.new ≡ out.old ++ record_of blocks.now }
+    ensures bytes { out.new ≡ out.old ++ record_of blocks.now }
+    ensures fits { length out.new ≤ 4054 }
 {
     for block in blocks {
         push_block(block, out);

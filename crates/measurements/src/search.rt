@@ -24,7 +24,7 @@ pub fn has_bad_index(blocks: &[BlockSpec]) -> bool
 {
     blocks
         .iter()
-        .any(|block| block.index == 0 || block.index == 255)
+        .any(|block| block.index == 0 || block.index > 254)
 }
 
 // Whether a block has this index.
