@@ -1,0 +1,15 @@
+//! The measurements of a responder: its blocks by rising index, the record that answers
+//! GET_MEASUREMENTS, and the summary hash (DSP0274, "MEASUREMENTS response message format").
+#![tactic(auto)]
+
+mod block;
+mod fault;
+mod inventory;
+mod search;
+mod summary;
+
+pub use fault::{InventoryFault, MeasureFault};
+pub use inventory::Inventory;
+
+#[cfg(test)]
+mod tests;
