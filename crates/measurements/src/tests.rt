@@ -36,3 +36,22 @@ fn index_0_and_index_taken(rt: HostRuntime) -> Result<(), Fail> {
     assert_eq!(rt; fault, Some(InventoryFault::IndexTaken));
     Ok(())
 }
+
+// SHA-256 of the blocks 1 and 7, by another program.
+const SUMMARY: [u8; 32] = [
+    0x80, 0xd8, 0xf2, 0xd3, 0x6b, 0x99, 0x51, 0xd9, 0x88, 0xe4, 0xbc, 0xfb, 0x3a, 0xd3, 0x19, 0x4d,
+    0xc6, 0x6d, 0xc1, 0x8e, 0x23, 0x7c, 0x0c, 0x39, 0xb4, 0xcf, 0x34, 0xf5, 0x8e, 0x86, 0xeb, 0xe7,
+];
+
+#[test]
+fn summary_by_rising_index(rt: HostRuntime) -> Result<(), Fail> {
+    let blocks = [block(rt.alloc(), 7)?, block(rt.alloc(), 1)?];
+    let inventory = Inventory::new(rt.alloc(), &blocks)?;
+    assert!(rt; inventory.total() == 2);
+    assert!(rt; inventory.summary(1) == Some(SUMMARY));
+    assert!(rt; inventory.summary(255) == Some(SUMMARY));
+    assert!(rt; inventory.summary(0) == None);
+    let none = Inventory::new(rt.alloc(), &[])?;
+    assert!(rt; none.summary(255) == Some([0; 32]));
+    Ok(())
+}
