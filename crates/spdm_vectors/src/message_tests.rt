@@ -158,6 +158,23 @@ fn responses_are_written_as_they_were_read(rt: HostRuntime) -> Result<(), Fail> 
     Ok(())
 }
 
+// Each beginning of at least the first bytes is a message too, and is written as it was read.
+#[test]
+fn open_responses_are_written_as_they_were_read(rt: HostRuntime) -> Result<(), Fail> {
+    for (text, least) in &OPEN_RESPONSES {
+        let bytes = hex::decode(rt.alloc(), text)?;
+        assert!(rt; *least <= bytes.len());
+        for n in *least..=bytes.len() {
+            let message = read_response(&bytes[..n], 32, false)?;
+            assert!(rt; message.is_sound(32, false));
+            let mut out = Frame::new();
+            write_response(&message, 32, false, &mut out)?;
+            assert!(rt; out.as_slice() == &bytes[..n]);
+        }
+    }
+    Ok(())
+}
+
 // Feeds the bytes one by one, and then one more.
 fn fault_behind(expect: Expect, bytes: &[u8]) -> Result<(), FeedFault> {
     let mut feed = Feed::new(expect);
@@ -201,6 +218,21 @@ fn messages_in_two_pieces(rt: HostRuntime) -> Result<(), Fail> {
             feed.push(&bytes[n..])?;
             assert!(rt; feed.finish_response().is_ok());
         }
+    }
+    Ok(())
+}
+
+#[test]
+fn open_responses_in_two_pieces(rt: HostRuntime) -> Result<(), Fail> {
+    for (text, _) in &OPEN_RESPONSES {
+        let bytes = hex::decode(rt.alloc(), text)?;
+        for n in 0..bytes.len() {
+            let mut feed = Feed::new(RESPONSE);
+            feed.push(&bytes[..n])?;
+            feed.push(&bytes[n..])?;
+            assert!(rt; feed.finish_response().is_ok());
+        }
+        assert!(rt; fault_behind(RESPONSE, &bytes) == Ok(()));
     }
     Ok(())
 }
