@@ -7,13 +7,17 @@ mod block_spec;
 mod capabilities;
 mod choice;
 mod chunk;
+mod command_fault;
 mod error_code;
+mod event;
 mod exchange;
+mod heard;
 mod laws;
 mod malformed;
 mod measurements;
 pub mod names;
 mod part_faults;
+mod phase;
 mod request;
 mod response;
 mod tables;
@@ -23,8 +27,11 @@ pub use block_spec::BlockSpec;
 pub use capabilities::Caps;
 pub use choice::{Choice, FlagSet, Pick, Suites};
 pub use chunk::ChunkView;
+pub use command_fault::CommandFault;
 pub use error_code::ErrorCode;
+pub use event::{BadReply, Event, Finished, ReqIgnored, Stop};
 pub use exchange::{Exchange, ExchangeRsp};
+pub use heard::{Heard, ReplyFault, RspIgnored};
 pub use laws::{
     canonical_request_is_read, canonical_response_is_read, no_request_prefix, no_response_prefix,
     one_request, one_response, request_fault_stays, request_in_is_spelled, response_fault_stays,
@@ -33,6 +40,7 @@ pub use laws::{
 pub use malformed::{Malformed, Part};
 pub use measurements::Measured;
 pub use part_faults::{CapsFault, ChunkFault};
+pub use phase::{Phase, Stage};
 pub use request::Request;
 pub use response::Response;
 pub use spdm_basis::{AeadAlg, HashAlg};

@@ -1,0 +1,16 @@
+pub mod Setup
+pub mod Terms
+pub mod Keys
+pub mod Turn
+pub mod LargeMessages
+pub mod History
+pub mod Session
+pub mod Records
+pub mod Place
+pub mod Answer
+pub mod Refusal
+pub mod Handling
+pub mod Responder
+pub mod Does
+pub mod May
+pub mod Heard

@@ -1,0 +1,50 @@
+-- What any responder of this profile may do: the same outcome, at any values that are left free.
+use Rattle.std.specs.Prelude.{◌≡◌, ◌≢◌, ◌≤◌, ◌<◌, ◌==◌, ℕ, List, [], ◌∷◌, length, drop, slice_index, if◌then◌else◌, true, false}
+use Rattle.spdm_machine.specs.Answer.{Free, answer_bytes}
+use Rattle.spdm_machine.specs.History.{History}
+use Rattle.spdm_machine.specs.History.Entry.{Dropped}
+use Rattle.spdm_machine.specs.Keys.{Draw}
+use Rattle.spdm_machine.specs.Place.{Place, place_terms, is_held, held_of, clear_place, session_place}
+use Rattle.spdm_machine.specs.Responder.{Outcome, on_clear, on_record}
+use Rattle.spdm_machine.specs.Session.{session_of, id_in_record, is_live, is_timed}
+use Rattle.spdm_machine.specs.Setup.{RspSetup}
+use Rattle.spdm_machine.specs.Terms.{hash_len}
+
+-- The values that a responder may choose at a place: an id from 1 to 4 that no session past its handshake
+-- has, where one is left (beside four of them no exchange is answered, whatever id its answer would have);
+-- a context of at least the length of the hash; a nonce of 32 bytes; opaque data of at most 1,024; a handle
+-- of one byte; application data of at most 1,024 bytes; and padding of at most 16.
+pub record IsAllowed (h : History) (p : Place) (f : Free) : Type 0 where
+  pub least : 1 ≤ f.id
+  pub most : f.id ≤ 4
+  pub unused : held_of h ≢ 4 → is_held h f.id ≡ false
+  pub context : hash_len (place_terms p) ≤ length f.context
+  pub exchange_opaque : length f.exchange_opaque ≤ 1024
+  pub nonce : length f.nonce ≡ 32
+  pub measured_opaque : length f.measured_opaque ≤ 1024
+  pub handle : f.handle < 256
+  pub reply : length f.reply ≤ 1024
+  pub pad : length f.pad ≤ 16
+
+-- Sessions that may have been dropped unseen just before a message: each is timed.
+abbrev pub MayDrop : History → List ℕ → Type 0
+MayDrop h [] = Unit {0}
+MayDrop h (id ∷ ids) = (is_live (session_of id h) ≡ true) × (is_timed (session_of id h) ≡ true) × MayDrop (Dropped id ∷ h) ids
+
+abbrev pub with_dropped : History → List ℕ → History
+with_dropped h [] = h
+with_dropped h (id ∷ ids) = with_dropped (Dropped id ∷ h) ids
+
+-- The outcome of a clear message, and of a record, under some allowed values.
+abbrev pub ClearMay : RspSetup → History → ℕ → List ℕ → Draw → Outcome → Type 0
+ClearMay r h tag m d outcome = (f : Free) × IsAllowed h (clear_place h) f × (on_clear r h tag m f d ≡ outcome)
+
+abbrev pub RecordMay : RspSetup → History → ℕ → List ℕ → Draw → Outcome → Type 0
+RecordMay r h tag sealed d outcome = (f : Free) × IsAllowed h (session_place (session_of (id_in_record sealed) h)) f × (on_record r h tag sealed f d ≡ outcome)
+
+-- A body of type 5 or 6 may lead to an outcome, after some sessions were dropped.
+abbrev pub ResponderMay : RspSetup → History → (dropped : List ℕ) → ℕ → List ℕ → Draw → Outcome → Type 0
+ResponderMay r h dropped tag body d outcome =
+    MayDrop h dropped
+    × (if slice_index body 0 == 5 then ClearMay r (with_dropped h dropped) tag (drop 1 body) d outcome
+    else RecordMay r (with_dropped h dropped) tag (drop 1 body) d outcome)
