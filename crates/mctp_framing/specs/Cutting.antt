@@ -14,7 +14,7 @@ pub record RouteFields : Type 0 where
 
 -- A route as its fields.
 abbrev pub route_of : Route → RouteFields
-route_of route = record { to = route.to; from = route.from; owner = route.owner; tag = route.tag }
+route_of route = record { to = route.to.number; from = route.from.number; owner = route.owner; tag = route.tag }
 
 -- A body of n bytes at a unit u has n / u packets, rounded up.
 abbrev pub packet_count : (unit : ℕ) → (body : List ℕ) → ℕ

@@ -28,7 +28,7 @@ impl Model for Assembler {
     ghost Value = { Assembly };
 
     ghost view = { λ a. record {
-      receiver = record { own = a.own; peer = a.peer; limit = a.body.limit };
+      receiver = record { own = a.own.number; peer = a.peer.number; limit = a.body.limit };
       unfinished = a.unfinished;
       body = a.body.bytes;
     } };
@@ -57,7 +57,7 @@ impl Assembler {
     /// An assembler that was given no packet. It takes the memory for a body of `limit` bytes, and no
     /// more later.
     pub fn new(alloc: Global, own: Eid, peer: Eid, limit: usize) -> Result<Assembler, OutOfMemory>
-        ensures receiver { IfOk result (λ a. a.receiver ≡ record { own = own; peer = peer; limit = limit }) }
+        ensures receiver { IfOk result (λ a. a.receiver ≡ record { own = own.number; peer = peer.number; limit = limit }) }
         ensures stands { IfOk result (λ a. StandsFor a []) }
     {
         Ok(Assembler {

@@ -6,7 +6,7 @@ use Rattle.spdm_basis.specs.SessionIdBytes.{session_id_bytes}
 use Rattle.secured_record.specs.Format.{record_of}
 use Rattle.secured_record.specs.Contents.{IsRecordOf}
 use Rattle.secured_record.specs.Faults.{fault_of, inner_of, opened_text}
-use Rattle.secured_record.specs.declared.record_fault.RecordFault.{RecordFault}
+use Rattle.spdm_basis.specs.declared.record_fault.RecordFault.{RecordFault}
 use Rattle.secured_record.proofs.Records.{record_opens, opened_is_record}
 
 pub ok_is_record : {U : Type 0} (r : Result U RecordFault) (key iv id ids : List ℕ) (number : ℕ) (s out : List ℕ) → id ≡ ids

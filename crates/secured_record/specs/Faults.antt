@@ -3,8 +3,8 @@ use Rattle.std.specs.Prelude.{ℕ, ◌-◌, Bool, true, false, ◌==◌, ◌&&�
 use Rattle.byteorder.specs.Endian.{little_bytes, little_number}
 use Rattle.aes_gcm.specs.Gcm.{crypt, tag_of}
 use Rattle.secured_record.specs.Format.{nonce}
-use Rattle.secured_record.specs.declared.record_fault.RecordFault.{RecordFault}
-use Rattle.secured_record.specs.declared.record_fault.RecordFault.TheVariants.{Short, WrongId, WrongNumber, WrongLength, BadTag, BadInnerLength}
+use Rattle.spdm_basis.specs.declared.record_fault.RecordFault.{RecordFault}
+use Rattle.spdm_basis.specs.declared.record_fault.RecordFault.TheVariants.{Short, WrongId, WrongNumber, WrongLength, BadTag, BadInnerLength}
 
 -- Two lists of bytes are the same.
 abbrev pub same_bytes : List ℕ → List ℕ → Bool

@@ -5,9 +5,8 @@
 mod aead;
 mod format;
 mod opening;
-mod record_fault;
 mod sealing;
 
 pub use opening::open;
-pub use record_fault::RecordFault;
 pub use sealing::{TooLong, seal};
+pub use spdm_basis::RecordFault;

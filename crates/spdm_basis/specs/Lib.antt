@@ -2,3 +2,4 @@ pub mod Stream
 pub mod Memory
 pub mod SessionIdBytes
 pub mod Sizes
+pub mod Lending

@@ -1,4 +1,6 @@
+ghost use Rattle.std.specs.Borrow.{sem};
 ghost use Rattle.std.specs.Prelude.{◌≡◌, ◌<◌, ◌≤◌, ◌+◌, ◌++◌, [], length, OnOk, OnErr};
+ghost use Rattle.spdm_basis.specs.Lending.{LendsAll};
 
 use arrayvec::ArrayVec;
 use std::marker::Model;
@@ -49,6 +51,15 @@ impl<const N: usize> Buffer<N> {
         ensures fits { length self.now ≤ N }
     {
         self.items.as_slice()
+    }
+
+    /// The bytes, for writing. What is left there is what the buffer holds then.
+    pub fn as_mut_slice(&mut self) -> &mut [u8]
+        ensures* writes_back { sem 𝓛 (LendsAll N.row self.entry result) }
+        ensures value { result.now ≡ self.old }
+        ensures fits { length result.now ≤ N }
+    {
+        self.items.as_mut_slice()
     }
 
     /// Takes all bytes out.

@@ -1,31 +1,19 @@
 ghost use Rattle.std.specs.Prelude.{◌≡◌, ◌<◌, ◌≤◌, ◌↔◌, IsSome, IfSome};
 
-use std::marker::Model;
-
 /// The number of an end point (DSP0236, "Endpoint ID"): from 8 to 254. The numbers below are null and
 /// reserved, and 255 is for broadcasts.
 #[derive(Clone, Copy, Debug, PartialEq, Eq)]
 pub struct Eid {
     number: u8,
-}
-
-impl Model for Eid {
-    ghost use Rattle.std.specs.Prelude.{ℕ, ◌≤◌, ◌<◌};
-
-    ghost Value = { ℕ };
-
-    ghost view = { λ e. e.number };
-
-    ghost invariant = { λ e. (8 ≤ e.number) × (e.number < 255) };
-
-    ghost inverse = { λ n. record { number = n } };
+    pub ghost low: { 8 ≤ number },
+    pub ghost high: { number < 255 },
 }
 
 impl Eid {
     /// The end point of this number, and `None` exactly where the number is below 8 or is 255.
     pub fn new(number: u8) -> Option<Eid>
         ensures range { IsSome result ↔ ((8 ≤ number) × (number < 255)) }
-        ensures value { IfSome result (λ eid. eid ≡ number) }
+        ensures value { IfSome result (λ eid. eid.number ≡ number) }
     {
         if number < 8 || number == 255 {
             return None;
@@ -35,7 +23,7 @@ impl Eid {
 
     /// The number.
     pub fn number(&self) -> u8
-        ensures value { result ≡ self.now }
+        ensures value { result ≡ self.now.number }
         ensures low { 8 ≤ result }
         ensures high { result < 255 }
     {

@@ -13,6 +13,7 @@ mod hash_bytes;
 mod memory;
 mod outside;
 mod psk;
+mod record_fault;
 mod session_id;
 mod standard;
 #[cfg(test)]
@@ -30,6 +31,7 @@ pub use hash_bytes::HashBytes;
 pub use memory::{MemSink, MemSource, NullSink};
 pub use outside::{Failed, Sink, Source};
 pub use psk::Psk;
+pub use record_fault::RecordFault;
 pub use session_id::SessionId;
 pub use standard::{StdinSource, StdoutSink};
 pub use transfer::{InFault, OutFault, read_all, write_all};

@@ -1,5 +1,5 @@
 use crate::{
-    Bytes, Eid, InFault, MemSink, MemSource, OutFault, Psk, SessionId, read_all, write_all,
+    Bytes, Eid, Frame, InFault, MemSink, MemSource, OutFault, Psk, SessionId, read_all, write_all,
 };
 use std::test::Fail;
 
@@ -61,4 +61,13 @@ fn session_id_is_four_bytes(rt: HostRuntime) {
         rsp: 0x0403,
     };
     assert_eq!(rt; id.bytes(), [0x01, 0x02, 0x03, 0x04]);
+}
+
+#[test]
+fn lent_bytes_are_written_in_place(rt: HostRuntime) -> Result<(), Fail> {
+    let mut frame = Frame::new();
+    frame.extend(b"abc")?;
+    frame.as_mut_slice().reverse();
+    assert_eq!(rt; frame.as_slice(), b"cba".as_slice());
+    Ok(())
 }

@@ -21,7 +21,7 @@ get_version = canonical_request GetVersion
 
 -- A request goes out under a tag that the requester owns.
 abbrev pub request_packets : Setup → ℕ → List ℕ → List (List ℕ)
-request_packets setup tag message = packets_of (record { to = setup.responder; from = setup.requester; owner = true; tag = tag }) setup.unit (body_of message)
+request_packets setup tag message = packets_of (record { to = setup.responder.number; from = setup.requester.number; owner = true; tag = tag }) setup.unit (body_of message)
 
 -- What a command leads to: the packets that are sent, and the history after it.
 pub record CommandStep : Type 0 where
@@ -64,4 +64,4 @@ requester_takes history (Some clear) =
 
 -- A packet that is no whole clear message from the responder, whose tag is not the responder's own, is ignored.
 abbrev pub requester_hears : Setup → List RequesterEntry → List ℕ → RequesterStep
-requester_hears setup history packet = requester_takes history (clear_in setup.requester setup.responder false packet)
+requester_hears setup history packet = requester_takes history (clear_in setup.requester.number setup.responder.number false packet)

@@ -48,7 +48,7 @@ pub record ResponderStep : Type 0 where
 
 -- A reply goes back under the tag of its request, from an end that does not own the tag.
 abbrev pub reply_packets : Setup → ℕ → List ℕ → List (List ℕ)
-reply_packets setup tag reply = packets_of (record { to = setup.requester; from = setup.responder; owner = false; tag = tag }) setup.unit (body_of reply)
+reply_packets setup tag reply = packets_of (record { to = setup.requester.number; from = setup.responder.number; owner = false; tag = tag }) setup.unit (body_of reply)
 
 abbrev pub responder_takes : Setup → List ResponderEntry → Option ClearMessage → ResponderStep
 responder_takes setup history None = record { heard = Ignored; sent = []; history = history }
@@ -62,4 +62,4 @@ responder_takes setup history (Some clear) =
 
 -- A packet that is no whole clear message from the requester, whose tag is the requester's own, is ignored.
 abbrev pub responder_hears : Setup → List ResponderEntry → List ℕ → ResponderStep
-responder_hears setup history packet = responder_takes setup history (clear_in setup.responder setup.requester true packet)
+responder_hears setup history packet = responder_takes setup history (clear_in setup.responder.number setup.requester.number true packet)

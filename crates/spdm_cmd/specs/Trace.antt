@@ -1,5 +1,6 @@
 -- The trace of a script: the phases of the ends at first, and then the lines of each event. This project's own.
 use Rattle.std.specs.Prelude.{ℕ, List, [], ◌∷◌, ◌++◌}
+use Rattle.std.proofs.Common.{lit≤, lit<}
 use Rattle.spdm_cmd.specs.declared.script.Entry.{Entry}
 use Rattle.spdm_cmd.specs.declared.setup.Setup.{Setup}
 use Rattle.spdm_cmd.specs.History.{requester_phase, responder_phase}
@@ -9,7 +10,12 @@ use Rattle.spdm_cmd.specs.World.{LinkState, first_state, entry_step}
 
 -- The ends and the link that the configuration of a script says.
 abbrev pub configured : Setup
-configured = record { responder = 8; requester = 9; transfer = 1024; unit = 64 }
+configured = record {
+  responder = record { number = 8; low = lit≤ tt; high = lit< tt };
+  requester = record { number = 9; low = lit≤ tt; high = lit< tt };
+  transfer = 1024;
+  unit = 64;
+}
 
 -- The phases of both ends.
 abbrev pub phases_text : LinkState → List ℕ

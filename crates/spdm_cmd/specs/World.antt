@@ -71,8 +71,8 @@ to_nobody state = record { text = nobody_line; after = state }
 -- Byte 1 of a packet, its destination, names the end that it is given to.
 abbrev pub given : Setup → LinkState → List ℕ → LinkStep
 given setup state packet =
-    if slice_index packet 1 == setup.responder then to_responder setup state packet
-    else (if slice_index packet 1 == setup.requester then to_requester setup state packet
+    if slice_index packet 1 == setup.responder.number then to_responder setup state packet
+    else (if slice_index packet 1 == setup.requester.number then to_requester setup state packet
     else to_nobody state)
 
 -- The waiting packet with the least number,

@@ -20,7 +20,7 @@ pub struct Clear<'a> {
 /// The clear message that a packet brings to an end: the packet is whole, and goes from `peer` to `own`
 /// with this tag owner bit.
 pub fn clear_in(packet: &[u8], own: Eid, peer: Eid, owner: bool) -> Option<Clear<'_>>
-    ensures clear { option_map clear_of result ≡ clear_in own peer owner packet.now }
+    ensures clear { option_map clear_of result ≡ clear_in own.number peer.number owner packet.now }
     ensures tag { IfSome result (λ clear. clear.tag < 8) }
 {
     let view = Packet::parse(packet).ok()?;

@@ -21,7 +21,8 @@ pub enum RecordFault {
     /// The length of the inner message passes the bytes behind it.
     #[error("an inner message longer than its record")]
     BadInnerLength,
-    /// The key has sealed as many records as it may. `open` never gives this one.
+    /// The key has sealed as many records as it may. Opening a record under a key and a number never
+    /// gives this one.
     #[error("a spent key")]
     KeySpent,
 }
