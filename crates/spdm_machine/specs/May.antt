@@ -35,16 +35,22 @@ abbrev pub with_dropped : History → List ℕ → History
 with_dropped h [] = h
 with_dropped h (id ∷ ids) = with_dropped (Dropped id ∷ h) ids
 
--- The outcome of a clear message, and of a record, under some allowed values.
-abbrev pub ClearMay : RspSetup → History → ℕ → List ℕ → Draw → Outcome → Type 0
-ClearMay r h tag m d outcome = (f : Free) × IsAllowed h (clear_place h) f × (on_clear r h tag m f d ≡ outcome)
+-- A body of type 5 or 6 comes to the clear part, or to the session that its record names.
+abbrev pub place_for : History → List ℕ → Place
+place_for h body =
+    if slice_index body 0 == 5 then clear_place h
+    else session_place (session_of (id_in_record (drop 1 body)) h)
 
-abbrev pub RecordMay : RspSetup → History → ℕ → List ℕ → Draw → Outcome → Type 0
-RecordMay r h tag sealed d outcome = (f : Free) × IsAllowed h (session_place (session_of (id_in_record sealed) h)) f × (on_record r h tag sealed f d ≡ outcome)
+-- What it leads to under some values.
+abbrev pub on_body : RspSetup → History → ℕ → List ℕ → Free → Draw → Outcome
+on_body r h tag body f d =
+    if slice_index body 0 == 5 then on_clear r h tag (drop 1 body) f d
+    else on_record r h tag (drop 1 body) f d
 
--- A body of type 5 or 6 may lead to an outcome, after some sessions were dropped.
+-- It may lead to an outcome, under some allowed values.
+abbrev pub BodyMay : RspSetup → History → ℕ → List ℕ → Draw → Outcome → Type 0
+BodyMay r h tag body d outcome = (f : Free) × IsAllowed h (place_for h body) f × (on_body r h tag body f d ≡ outcome)
+
+-- The same, after sessions were dropped unseen.
 abbrev pub ResponderMay : RspSetup → History → (dropped : List ℕ) → ℕ → List ℕ → Draw → Outcome → Type 0
-ResponderMay r h dropped tag body d outcome =
-    MayDrop h dropped
-    × (if slice_index body 0 == 5 then ClearMay r (with_dropped h dropped) tag (drop 1 body) d outcome
-    else RecordMay r (with_dropped h dropped) tag (drop 1 body) d outcome)
+ResponderMay r h dropped tag body d outcome = MayDrop h dropped × BodyMay r (with_dropped h dropped) tag body d outcome

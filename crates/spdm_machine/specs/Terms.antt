@@ -1,6 +1,6 @@
 -- What a negotiation settled, read off its messages alone, so that two ends that have the same messages have
 -- the same terms.
-use Rattle.std.specs.Prelude.{ℕ, List, false, Option, Some, None, unwrap_or}
+use Rattle.std.specs.Prelude.{ℕ, List, [], false, Option, Some, None, unwrap_or}
 use Rattle.std.specs.Result.{result_ok}
 use Rattle.negotiate.specs.Capabilities.{common_of}
 use Rattle.negotiate.specs.Choosing.{agreed}
