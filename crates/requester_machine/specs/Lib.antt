@@ -13,3 +13,4 @@ pub mod Hearing
 pub mod Does
 pub mod May
 pub mod Shown
+pub mod RequesterLog
