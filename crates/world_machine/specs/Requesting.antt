@@ -8,7 +8,7 @@ use Rattle.requester_machine.specs.Asking.{Outcome}
 use Rattle.requester_machine.specs.Does.{requester_asks, requester_hears}
 use Rattle.requester_machine.specs.History.{History, draws_of}
 use Rattle.requester_machine.specs.Message.{Command, Sent, body_of}
-use Rattle.requester_machine.specs.RequesterLog.{command_acts, body_acts}
+use Rattle.requester_machine.specs.RequesterLog.{acts_of}
 use Rattle.requester_machine.specs.Shown.{after, sent_by, event_of, fault_of, data_of, record_of}
 use Rattle.spdm_basis.specs.declared.PacketFault.{PacketFault}
 use Rattle.spdm_grammar.specs.declared.command_fault.CommandFault.{CommandFault}
@@ -66,7 +66,7 @@ abbrev pub commanded_by : Requesting → Outcome → CommandStep
 commanded_by a outcome = record {
   fault = fault_of outcome;
   sent = packets_of_sent a.setup (sent_by outcome);
-  acts = command_acts a.setup a.history outcome;
+  acts = acts_of a.setup a.history [] outcome;
   after = record a { commands = a.commands + 1; history = after a.history outcome };
 }
 
@@ -102,7 +102,7 @@ heard_by a packet body outcome = record {
   sent = packets_of_sent a.setup (sent_by outcome);
   taken = data_of outcome;
   measured = record_of outcome;
-  acts = body_acts a.setup a.history body outcome;
+  acts = acts_of a.setup a.history body outcome;
   after = record a { given = packet ∷ a.given; history = after a.history outcome };
 }
 

@@ -15,8 +15,6 @@ use Rattle.spdm_machine.specs.TagLog.{Act, Log}
 use Rattle.world_machine.specs.Happenings.{Happening, Entry}
 use Rattle.world_machine.specs.Happenings.Happening.{Told, Reply, Deliver, Lose, Inject, Pump, Tick, Show}
 use Rattle.world_machine.specs.Lines.{Line, Whose}
-use Rattle.world_machine.specs.Lines.Line as line
-use Rattle.world_machine.specs.Lines.Whose as whose
 use Rattle.world_machine.specs.Requesting.{Requesting, CommandStep, PacketStep, numbered, requester_told, requester_given}
 use Rattle.world_machine.specs.Responding.{Responding, Connection, RspStep, new_responding, connection_of, responder_hears, reply_fault_of, queues, ticks}
 use Rattle.world_machine.specs.Setup.{WorldSetup}
@@ -64,7 +62,7 @@ with_sent sent packets = sent ++ map waiting packets
 -- Their lines, behind so many that were sent before.
 abbrev pub packet_lines : ℕ → List (List ℕ) → List Line
 packet_lines count [] = []
-packet_lines count (bytes ∷ others) = line.Packet (count + 1) bytes ∷ packet_lines (count + 1) others
+packet_lines count (bytes ∷ others) = Line.Packet (count + 1) bytes ∷ packet_lines (count + 1) others
 
 -- ---- Requesters.
 
@@ -83,7 +81,7 @@ with_requester new requesters = map (replaced new) requesters
 -- A requester was told a command.
 abbrev pub told_by : World → Requesting → CommandStep → WorldStep
 told_by world a step = record {
-  lines = line.Command a.number step.fault ∷ packet_lines (length world.sent) step.sent;
+  lines = Line.Command a.number step.fault ∷ packet_lines (length world.sent) step.sent;
   after = record { requesters = with_requester step.after world.requesters; responder = world.responder; sent = with_sent world.sent step.sent; log = step.acts ++ world.log };
 }
 
@@ -105,16 +103,16 @@ id_in_event _ = no_id
 -- Lines of application data and of a measurement record that were just taken.
 abbrev pub data_lines : Whose → SessionId → Option (List ℕ) → List Line
 data_lines who id None = []
-data_lines who id (Some bytes) = line.Data who id bytes ∷ []
+data_lines who id (Some bytes) = Line.Data who id bytes ∷ []
 
 abbrev pub record_lines : ℕ → Option (List ℕ) → List Line
 record_lines n None = []
-record_lines n (Some bytes) = line.Record n bytes ∷ []
+record_lines n (Some bytes) = Line.Record n bytes ∷ []
 
 abbrev pub given_to_requester : World → Requesting → PacketStep → WorldStep
 given_to_requester world a step = record {
-  lines = line.ToRequester a.number step.event
-      ∷ data_lines (whose.Requester a.number) (id_in_event step.event) step.taken
+  lines = Line.ToRequester a.number step.event
+      ∷ data_lines (Whose.Requester a.number) (id_in_event step.event) step.taken
       ++ record_lines a.number step.measured
       ++ packet_lines (length world.sent) step.sent;
   after = record { requesters = with_requester step.after world.requesters; responder = world.responder; sent = with_sent world.sent step.sent; log = step.acts ++ world.log };
@@ -135,12 +133,12 @@ number_at eid world = number_in (find (is_at eid) world.requesters)
 
 abbrev pub taken_lines : ℕ → Option (SessionId × List ℕ) → List Line
 taken_lines n None = []
-taken_lines n (Some taken) = line.Data (whose.Responder n) taken.0 taken.1 ∷ []
+taken_lines n (Some taken) = Line.Data (Whose.Responder n) taken.0 taken.1 ∷ []
 
 -- Byte 2 of the packet names the requester.
 abbrev pub given_to_responder : World → List ℕ → RspStep → WorldStep
 given_to_responder world packet step = record {
-  lines = line.ToResponder step.heard
+  lines = Line.ToResponder step.heard
       ∷ taken_lines (number_at (slice_index packet 2) world) step.taken
       ++ packet_lines (length world.sent) step.sent;
   after = record { requesters = world.requesters; responder = step.after; sent = with_sent world.sent step.sent; log = step.acts ++ world.log };
@@ -150,7 +148,7 @@ given_to_responder world packet step = record {
 -- nobody.
 
 abbrev pub given_to : WorldSetup → World → List ℕ → Option Requesting → WorldStep
-given_to w world packet None = record { lines = line.ToNobody ∷ []; after = world }
+given_to w world packet None = record { lines = Line.ToNobody ∷ []; after = world }
 given_to w world packet (Some a) = given_to_requester world a (requester_given w a packet)
 
 abbrev pub given : WorldSetup → World → List ℕ → WorldStep
@@ -186,11 +184,11 @@ without_waiting number world = record world { sent = stopped_of number world.sen
 
 -- A packet is given by its number, also one that no longer waits; or it waits no longer.
 abbrev pub delivers : WorldSetup → World → ℕ → Option (List ℕ) → WorldStep
-delivers w world number None = record { lines = line.NoPacket number ∷ []; after = world }
+delivers w world number None = record { lines = Line.NoPacket number ∷ []; after = world }
 delivers w world number (Some packet) = given w (without_waiting number world) packet
 
 abbrev pub loses : World → ℕ → Option (List ℕ) → WorldStep
-loses world number None = record { lines = line.NoPacket number ∷ []; after = world }
+loses world number None = record { lines = Line.NoPacket number ∷ []; after = world }
 loses world number (Some packet) = rests (without_waiting number world)
 
 -- The least number of a waiting packet.
@@ -216,7 +214,7 @@ pumps w (suc count) world = turn w world (pumps w count) (first_waiting world.se
 
 abbrev pub replied_by : World → ℕ → List ℕ → Option Connection → WorldStep
 replied_by world eid bytes connection = record {
-  lines = line.Reply (reply_fault_of connection bytes) ∷ [];
+  lines = Line.Reply (reply_fault_of connection bytes) ∷ [];
   after = record world { responder = queues (reply_fault_of connection bytes) world.responder eid bytes };
 }
 
@@ -228,16 +226,16 @@ replied world bytes (Some a) = replied_by world a.setup.eid bytes (connection_of
 
 abbrev pub session_lines : Whose → List View → List Line
 session_lines who [] = []
-session_lines who (view ∷ others) = line.Session who view ∷ session_lines who others
+session_lines who (view ∷ others) = Line.Session who view ∷ session_lines who others
 
 abbrev pub connection_lines : ℕ → Option Connection → List Line
 connection_lines n None = []
-connection_lines n (Some c) = line.State (whose.Responder n) (phase_of (clear_turns c.history)) ∷ session_lines (whose.Responder n) (views_of c.history)
+connection_lines n (Some c) = Line.State (Whose.Responder n) (phase_of (clear_turns c.history)) ∷ session_lines (Whose.Responder n) (views_of c.history)
 
 abbrev pub end_lines : Responding → Requesting → List Line
 end_lines r a =
-    line.State (whose.Requester a.number) (requester_history.phase_of a.history)
-    ∷ session_lines (whose.Requester a.number) (requester_shown.views_of a.history)
+    Line.State (Whose.Requester a.number) (requester_history.phase_of a.history)
+    ∷ session_lines (Whose.Requester a.number) (requester_shown.views_of a.history)
     ++ connection_lines a.number (connection_of a.setup.eid r.connections)
 
 abbrev pub all_end_lines : Responding → List Requesting → List Line
@@ -261,4 +259,4 @@ happens w world Show = record { lines = shown_lines world; after = world }
 
 -- An event with its line in front.
 abbrev pub entry_step : WorldSetup → World → Entry → WorldStep
-entry_step w world entry = record { lines = line.At entry.line ∷ (happens w world entry.happening).lines; after = (happens w world entry.happening).after }
+entry_step w world entry = record { lines = Line.At entry.line ∷ (happens w world entry.happening).lines; after = (happens w world entry.happening).after }
