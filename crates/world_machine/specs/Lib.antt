@@ -7,3 +7,4 @@ pub mod Happenings
 pub mod World
 pub mod Trace
 pub mod Chance
+pub mod Agreement
