@@ -8,3 +8,4 @@ pub mod World
 pub mod Trace
 pub mod Chance
 pub mod Agreement
+pub mod Laws
