@@ -5,9 +5,9 @@ use Rattle.std.proofs.lemmas.Bool.{eqb-true}
 use Rattle.spdm_basis.specs.declared.DropCause.TheVariants.{NotOurs}
 use Rattle.mctp_framing.specs.Packet.{PacketFields}
 use Rattle.mctp_framing.specs.Cutting.{RouteFields}
-use Rattle.mctp_framing.specs.Gathering.{Receiver, Gathered, is_ours, route_of_packet}
+use Rattle.mctp_framing.specs.Gathering.{Gathered, is_ours, route_of_packet}
 use Rattle.mctp_framing.specs.Gathering.Gathered.{Whole, Dropped}
-use Rattle.mctp_framing.specs.Assembling.{Assembly, answer_to, after_first}
+use Rattle.mctp_framing.specs.Assembling.{Assembly, answer_to}
 use Rattle.mctp_framing.proofs.GroupStep.{both_true}
 
 -- what is not dropped as another end point's is for the own one and from the peer
