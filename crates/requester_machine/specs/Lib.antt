@@ -14,3 +14,4 @@ pub mod Does
 pub mod May
 pub mod Shown
 pub mod RequesterLog
+pub mod Laws
