@@ -21,6 +21,7 @@ use Rattle.requester_machine.specs.History.Effect.{Grants}
 use Rattle.requester_machine.specs.Message.Aim.{InSession}
 use Rattle.requester_machine.specs.Message.Ask.{AskUpdate}
 use Rattle.requester_machine.specs.Message.Command.{Open, Retry}
+use Rattle.requester_machine.specs.Order.{IsInOrder}
 use Rattle.requester_machine.specs.Records.{answer_fault, request_purpose}
 use Rattle.requester_machine.specs.Session.{Steps, Step, session_of, is_live, request_next, request_epoch}
 use Rattle.requester_machine.specs.Session.Step.{Started, Accepted, Asked, Took}
@@ -79,6 +80,12 @@ NewSessionIsFresh = (worn : Bool) (q : ReqSetup) (h : History) (summary : ℕ) (
     → requester_asks worn q h (Open summary) d ≡ Adds entry
     → (1 ≤ free_id h) × (free_id h ≤ 4) × (is_live (session_of (free_id h) h) ≡ false)
     × (session_of (free_id h) (entry ∷ h) ≡ Started (negotiation_of h) (canonical_request (exchange_for q (command_chosen q h d) summary)) ∷ [])
+
+-- ---- Order.
+
+-- The sessions of a made history have their steps in order, and wait for what is outstanding.
+abbrev pub SessionsAreInOrder : Type 0
+SessionsAreInOrder = (q : ReqSetup) (h : History) (id : ℕ) → IsMade q h → IsInOrder (outstanding h) id (session_of id h)
 
 -- ---- Numbers.
 

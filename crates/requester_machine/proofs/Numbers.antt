@@ -1,0 +1,118 @@
+-- The number of the next record counts those sealed under its purpose.
+use Rattle.std.proofs.Common.{refl, ◌∙◌, ◌≡◌, ◌<◌, ◌≤◌, ◌+◌, ℕ, List, [], ◌∷◌, true, false, Bool, Option, Some, None, ap, sym, arith}
+use Rattle.std.specs.Prelude.{◌==◌, ◌&&◌, if◌then◌else◌, bytes_eq}
+use Rattle.std.proofs.lemmas.Bool.{false≢true}
+use Rattle.std.proofs.lemmas.Bool.Decides.{nat_tests}
+use Rattle.key_schedule.specs.Purpose.{Purpose, Kind, handshake_record, application_record}
+use Rattle.key_schedule.specs.Purpose.Kind.{Verify, HandshakeRecord, ApplicationRecord}
+use Rattle.key_schedule.specs.declared.direction.Direction.TheVariants.{Request}
+use Rattle.spdm_grammar.specs.declared.phase.Stage.{Stage}
+use Rattle.spdm_grammar.specs.declared.phase.Stage.TheVariants as stage
+use Rattle.spdm_machine.specs.Records.{purpose_in}
+use Rattle.spdm_machine.specs.Session.{is_past_handshake}
+use Rattle.requester_machine.specs.History.{Effect}
+use Rattle.requester_machine.specs.History.Effect.{NoEffect, Answers, Refuses, Stops, Grants, Loses}
+use Rattle.requester_machine.specs.Laws.{sealed_under, is_same_purpose, is_same_kind, UpdateBeginsAnew}
+use Rattle.requester_machine.specs.Message.{Ask}
+use Rattle.requester_machine.specs.Message.Ask.{AskFinish, AskData, AskBeat, AskUpdate, AskVerify, AskMeasure, AskChunk, AskEnd}
+use Rattle.requester_machine.specs.Order.{IsOrdered, is_opening, is_answer, waiting_ask, stage_for, may_bring}
+use Rattle.requester_machine.specs.Records.{request_purpose}
+use Rattle.requester_machine.specs.Session.{Steps, Step, stage_of, t1_of, t2_of, request_epoch, request_next, finishes, updates, verifies}
+use Rattle.requester_machine.specs.Session.Step.{Started, Accepted, Asked, Took}
+
+pub update : UpdateBeginsAnew
+update psk s sealed inner answer all = (refl, refl)
+
+-- ---- Purposes.
+
+bytes_eq-refl : (bytes : List ℕ) → bytes_eq bytes bytes ≡ true
+bytes_eq-refl [] = refl
+bytes_eq-refl (x ∷ bytes) = grind (arith, nat_tests, bytes_eq-refl bytes)
+
+is_same_kind-refl : (kind : Kind) → is_same_kind kind kind ≡ true
+is_same_kind-refl Verify = refl
+is_same_kind-refl HandshakeRecord = refl
+is_same_kind-refl ApplicationRecord = refl
+
+is_same_number-refl : (n : ℕ) → (n == n) ≡ true
+is_same_number-refl n = grind (arith, nat_tests)
+
+is_same_purpose-refl : (p : Purpose) → is_same_purpose p p ≡ true
+is_same_purpose-refl p = rw (bytes_eq-refl p.transcript, is_same_kind-refl p.kind, is_same_number-refl p.epoch) refl
+
+and_false : (a b : Bool) → (a && b && false) ≡ false
+and_false true true = refl
+and_false true false = refl
+and_false false b = refl
+
+and_middle : (a b : Bool) → (a && false && b) ≡ false
+and_middle true b = refl
+and_middle false b = refl
+
+-- Purposes of the handshake differ from those after it, and those of an earlier epoch from those of a later one.
+kinds_differ : (psk t : List ℕ) (e : ℕ) (s : Steps) → stage_of s ≡ stage.Handshake → is_same_purpose (application_record psk t Request e) (request_purpose psk s) ≡ false
+kinds_differ psk t e s here =
+    ap (λ st. is_same_purpose (application_record psk t Request e) (purpose_in st psk (t1_of s) (t2_of s) Request (request_epoch s))) here
+    ∙ and_middle (bytes_eq t (t1_of s)) (e == 0)
+
+epoch_in : (st : Stage) (psk t1 t2 : List ℕ) (e : ℕ) → (purpose_in st psk t1 t2 Request e).epoch ≤ e
+epoch_in stage.Handshake psk t1 t2 e = omega arith
+epoch_in stage.Open psk t1 t2 e = omega arith
+epoch_in stage.Verifying psk t1 t2 e = omega arith
+
+not_same : (a b : ℕ) → b < a → (a == b) ≡ false
+not_same a b less = grind (arith, nat_tests)
+
+below : (a b c : ℕ) → a ≤ b → b < c → a < c
+below a b c x y = omega arith
+
+epochs_differ : (psk : List ℕ) (p : Purpose) (s : Steps) → request_epoch s < p.epoch → is_same_purpose p (request_purpose psk s) ≡ false
+epochs_differ psk p s later =
+    rw (not_same p.epoch (request_purpose psk s).epoch (below _ (request_epoch s) _ (epoch_in (stage_of s) psk (t1_of s) (t2_of s) (request_epoch s)) later))
+    (and_false (bytes_eq p.transcript (request_purpose psk s).transcript) (is_same_kind p.kind (request_purpose psk s).kind))
+
+-- ---- What was never sealed.
+
+was_handshake : (a b : Bool) (st : Stage) → (if a then stage.Open else (if b then stage.Verifying else st)) ≡ stage.Handshake → st ≡ stage.Handshake
+was_handshake true b st is = absurd (false≢true (sym (ap is_past_handshake is)))
+was_handshake false true st is = absurd (false≢true (sym (ap is_past_handshake is)))
+was_handshake false false st is = is
+
+unsealed : (b : Bool) (n : ℕ) → b ≡ false → n ≡ 0 → (if b then n + 1 else n) ≡ 0
+unsealed b n is none = rw is none
+
+-- In the handshake nothing was sealed under a purpose of records after it.
+none_after : (psk t : List ℕ) (e : ℕ) (s : Steps) → stage_of s ≡ stage.Handshake → sealed_under psk (application_record psk t Request e) s ≡ 0
+none_after psk t e [] here = refl
+none_after psk t e (Started n x ∷ older) here = none_after psk t e older here
+none_after psk t e (Accepted a ∷ older) here = none_after psk t e older here
+none_after psk t e (Asked ask inner sealed ∷ older) here = unsealed _ _ (kinds_differ psk t e older here) (none_after psk t e older here)
+none_after psk t e (Took sealed inner effect ∷ older) here = none_after psk t e older (was_handshake _ (updates effect) (stage_of older) here)
+
+epoch_before : (b : Bool) (n m : ℕ) → (if b then n + 1 else n) < m → n < m
+epoch_before true n m less = omega arith
+epoch_before false n m less = less
+
+-- Nothing was sealed under a purpose of a later epoch.
+none_later : (psk : List ℕ) (p : Purpose) (s : Steps) → request_epoch s < p.epoch → sealed_under psk p s ≡ 0
+none_later psk p [] later = refl
+none_later psk p (Started n x ∷ older) later = none_later psk p older later
+none_later psk p (Accepted a ∷ older) later = none_later psk p older later
+none_later psk p (Asked ask inner sealed ∷ older) later = unsealed _ _ (epochs_differ psk p older later) (none_later psk p older later)
+none_later psk p (Took sealed inner effect ∷ older) later = none_later psk p older (epoch_before (updates effect) (request_epoch older) p.epoch later)
+
+-- ---- Which steps keep the purpose.
+
+purpose_at : (psk : List ℕ) (st : Stage) (t1 t2 other : List ℕ) (e : ℕ) → st ≡ stage.Handshake → purpose_in st psk t1 t2 Request e ≡ purpose_in st psk t1 other Request e
+purpose_at psk st t1 t2 other e here = ap (λ x. purpose_in x psk t1 t2 Request e) here ∙ sym (ap (λ x. purpose_in x psk t1 other Request e) here)
+
+-- A record sealed does, PSK_FINISH too, which is sealed in the handshake.
+asked-purpose : (psk : List ℕ) (ask : Ask) (inner sealed : List ℕ) (s : Steps) → stage_of s ≡ stage_for ask → request_purpose psk (Asked ask inner sealed ∷ s) ≡ request_purpose psk s
+asked-purpose psk AskFinish inner sealed s here = purpose_at psk (stage_of s) (t1_of s) (t2_of (Asked AskFinish inner sealed ∷ s)) (t2_of s) (request_epoch s) here
+asked-purpose psk AskData inner sealed s here = refl
+asked-purpose psk AskBeat inner sealed s here = refl
+asked-purpose psk (AskUpdate all) inner sealed s here = refl
+asked-purpose psk AskVerify inner sealed s here = refl
+asked-purpose psk (AskMeasure op) inner sealed s here = refl
+asked-purpose psk (AskChunk op handle number before) inner sealed s here = refl
+asked-purpose psk AskEnd inner sealed s here = refl
