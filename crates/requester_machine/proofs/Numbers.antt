@@ -116,3 +116,75 @@ asked-purpose psk AskVerify inner sealed s here = refl
 asked-purpose psk (AskMeasure op) inner sealed s here = refl
 asked-purpose psk (AskChunk op handle number before) inner sealed s here = refl
 asked-purpose psk AskEnd inner sealed s here = refl
+
+-- ---- The count.
+
+-- Where PSK_EXCHANGE alone was sent, no record was sealed.
+none_opening : (psk : List ℕ) (p : Purpose) (s : Steps) → is_opening s ≡ true → (request_next s ≡ 0) × (sealed_under psk p s ≡ 0)
+none_opening psk p [] is = absurd (false≢true is)
+none_opening psk p (Started n x ∷ []) is = (refl, refl)
+none_opening psk p (Started n x ∷ (step ∷ older)) is = absurd (false≢true is)
+none_opening psk p (Accepted a ∷ older) is = absurd (false≢true is)
+none_opening psk p (Asked ask inner sealed ∷ older) is = absurd (false≢true is)
+none_opening psk p (Took sealed inner effect ∷ older) is = absurd (false≢true is)
+
+one_more : (psk : List ℕ) (p : Purpose) (s : Steps) (n : ℕ) → p ≡ request_purpose psk s → n ≡ sealed_under psk (request_purpose psk s) s
+    → n + 1 ≡ (if is_same_purpose p (request_purpose psk s) then sealed_under psk p s + 1 else sealed_under psk p s)
+one_more psk p s n same is = ap (λ x. x + 1) is ∙ sym (ap (λ x. if is_same_purpose x (request_purpose psk s) then sealed_under psk x s + 1 else sealed_under psk x s) same ∙ rw (is_same_purpose-refl (request_purpose psk s)) refl)
+
+-- VerifyNewKey is answered in Verifying, and PSK_FINISH in the handshake.
+answered_in : (effect : Effect) (ask : Ask) (st : Stage) → may_bring effect ask ≡ true → st ≡ stage_for ask
+    → (finishes effect ≡ true → st ≡ stage.Handshake) × (verifies effect ≡ true → st ≡ stage.Verifying)
+answered_in (Grants AskFinish answer) AskFinish st may is = (λ _. is, λ no. absurd (false≢true no))
+answered_in (Grants AskVerify answer) AskVerify st may is = (λ no. absurd (false≢true no), λ _. is)
+answered_in (Grants AskData answer) ask st may is = (λ no. absurd (false≢true no), λ no. absurd (false≢true no))
+answered_in (Grants AskBeat answer) ask st may is = (λ no. absurd (false≢true no), λ no. absurd (false≢true no))
+answered_in (Grants (AskUpdate all) answer) ask st may is = (λ no. absurd (false≢true no), λ no. absurd (false≢true no))
+answered_in (Grants (AskMeasure op) answer) ask st may is = (λ no. absurd (false≢true no), λ no. absurd (false≢true no))
+answered_in (Grants (AskChunk op handle number before) answer) ask st may is = (λ no. absurd (false≢true no), λ no. absurd (false≢true no))
+answered_in (Grants AskEnd answer) ask st may is = (λ no. absurd (false≢true no), λ no. absurd (false≢true no))
+answered_in NoEffect ask st may is = (λ no. absurd (false≢true no), λ no. absurd (false≢true no))
+answered_in (Answers asked answer) ask st may is = (λ no. absurd (false≢true no), λ no. absurd (false≢true no))
+answered_in (Refuses asked) ask st may is = (λ no. absurd (false≢true no), λ no. absurd (false≢true no))
+answered_in Stops ask st may is = (λ no. absurd (false≢true no), λ no. absurd (false≢true no))
+answered_in Loses ask st may is = (λ no. absurd (false≢true no), λ no. absurd (false≢true no))
+answered_in (Grants AskFinish answer) _ st may is = absurd (false≢true may)
+answered_in (Grants AskVerify answer) _ st may is = absurd (false≢true may)
+
+taken_in : (effect : Effect) (s : Steps) → is_answer effect (waiting_ask s) ≡ true → IsOrdered s
+    → (finishes effect ≡ true → stage_of s ≡ stage.Handshake) × (verifies effect ≡ true → stage_of s ≡ stage.Verifying)
+taken_in effect [] is ordered = absurd (false≢true is)
+taken_in effect (Started n x ∷ older) is ordered = absurd (false≢true is)
+taken_in effect (Accepted a ∷ older) is ordered = absurd (false≢true is)
+taken_in effect (Asked ask inner sealed ∷ older) is ordered = answered_in effect ask (stage_of older) is ordered.0
+taken_in effect (Took sealed inner other ∷ older) is ordered = absurd (false≢true is)
+
+next_epoch : (n : ℕ) → n < n + 1
+next_epoch n = omega arith
+
+-- The count behind a record taken: none after PSK_FINISH_RSP and after an update, and the same else.
+taken-count : (psk : List ℕ) (effect : Effect) (sealed inner : List ℕ) (s : Steps)
+    → (finishes effect ≡ true → stage_of s ≡ stage.Handshake) × (verifies effect ≡ true → stage_of s ≡ stage.Verifying)
+    → request_next s ≡ sealed_under psk (request_purpose psk s) s
+    → request_next (Took sealed inner effect ∷ s) ≡ sealed_under psk (request_purpose psk (Took sealed inner effect ∷ s)) s
+taken-count psk (Grants AskFinish answer) sealed inner s fits is = sym (none_after psk (t2_of (Took sealed inner (Grants AskFinish answer) ∷ s)) (request_epoch s) s (fits.0 refl))
+taken-count psk (Grants (AskUpdate all) answer) sealed inner s fits is = sym (none_later psk (request_purpose psk (Took sealed inner (Grants (AskUpdate all) answer) ∷ s)) s (next_epoch (request_epoch s)))
+taken-count psk (Grants AskVerify answer) sealed inner s fits is = is ∙ ap (λ st. sealed_under psk (purpose_in st psk (t1_of s) (t2_of s) Request (request_epoch s)) s) (fits.1 refl)
+taken-count psk (Grants AskData answer) sealed inner s fits is = is
+taken-count psk (Grants AskBeat answer) sealed inner s fits is = is
+taken-count psk (Grants (AskMeasure op) answer) sealed inner s fits is = is
+taken-count psk (Grants (AskChunk op handle number before) answer) sealed inner s fits is = is
+taken-count psk (Grants AskEnd answer) sealed inner s fits is = is
+taken-count psk NoEffect sealed inner s fits is = is
+taken-count psk (Answers asked answer) sealed inner s fits is = is
+taken-count psk (Refuses asked) sealed inner s fits is = is
+taken-count psk Stops sealed inner s fits is = is
+taken-count psk Loses sealed inner s fits is = is
+
+pub counted : (psk : List ℕ) (s : Steps) → IsOrdered s → request_next s ≡ sealed_under psk (request_purpose psk s) s
+counted psk [] ordered = refl
+counted psk (Started n x ∷ []) ordered = refl
+counted psk (Started n x ∷ (step ∷ older)) ordered = absurd (false≢true (sym ordered))
+counted psk (Accepted a ∷ older) ordered = (none_opening psk (request_purpose psk (Accepted a ∷ older)) older ordered).0 ∙ sym (none_opening psk (request_purpose psk (Accepted a ∷ older)) older ordered).1
+counted psk (Asked ask inner sealed ∷ older) ordered = one_more psk (request_purpose psk (Asked ask inner sealed ∷ older)) older (request_next older) (asked-purpose psk ask inner sealed older ordered.0) (counted psk older ordered.3)
+counted psk (Took sealed inner effect ∷ older) ordered = taken-count psk effect sealed inner older (taken_in effect older ordered.0 ordered.1) (counted psk older ordered.1)
