@@ -15,7 +15,7 @@ use Rattle.requester_machine.specs.Asking.Outcome.{Adds}
 use Rattle.requester_machine.specs.Commands.{Free, command_fault, live_count, exchange_for}
 use Rattle.requester_machine.specs.Does.{IsMade, chosen, free_id, command_chosen, requester_asks}
 use Rattle.requester_machine.specs.History.{History, Entry, Effect, negotiation_of, connection_terms}
-use Rattle.requester_machine.specs.History.Effect.{NoEffect, Answers, Refuses, Stops, Grants, Loses}
+use Rattle.requester_machine.specs.History.Effect.{Nothing, Answers, Refuses, Stops, Grants, Loses}
 use Rattle.requester_machine.specs.History.Entry.{Told, TookClear, TookRecord}
 use Rattle.requester_machine.specs.Laws.{LiveIdsAreFew, NewSessionIsFresh}
 use Rattle.requester_machine.specs.Message.{Command, Ask, Aim, Content, Sent, asked_in}

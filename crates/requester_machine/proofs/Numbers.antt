@@ -11,7 +11,7 @@ use Rattle.spdm_grammar.specs.declared.phase.Stage.TheVariants as stage
 use Rattle.spdm_machine.specs.Records.{purpose_in}
 use Rattle.spdm_machine.specs.Session.{is_past_handshake}
 use Rattle.requester_machine.specs.History.{Effect}
-use Rattle.requester_machine.specs.History.Effect.{NoEffect, Answers, Refuses, Stops, Grants, Loses}
+use Rattle.requester_machine.specs.History.Effect.{Nothing, Answers, Refuses, Stops, Grants, Loses}
 use Rattle.requester_machine.specs.Laws.{sealed_under, is_same_purpose, is_same_kind, UpdateBeginsAnew}
 use Rattle.requester_machine.specs.Message.{Ask}
 use Rattle.requester_machine.specs.Message.Ask.{AskFinish, AskData, AskBeat, AskUpdate, AskVerify, AskMeasure, AskChunk, AskEnd}
@@ -143,7 +143,7 @@ answered_in (Grants (AskUpdate all) answer) ask st may is = (λ no. absurd (fals
 answered_in (Grants (AskMeasure op) answer) ask st may is = (λ no. absurd (false≢true no), λ no. absurd (false≢true no))
 answered_in (Grants (AskChunk op handle number before) answer) ask st may is = (λ no. absurd (false≢true no), λ no. absurd (false≢true no))
 answered_in (Grants AskEnd answer) ask st may is = (λ no. absurd (false≢true no), λ no. absurd (false≢true no))
-answered_in NoEffect ask st may is = (λ no. absurd (false≢true no), λ no. absurd (false≢true no))
+answered_in Nothing ask st may is = (λ no. absurd (false≢true no), λ no. absurd (false≢true no))
 answered_in (Answers asked answer) ask st may is = (λ no. absurd (false≢true no), λ no. absurd (false≢true no))
 answered_in (Refuses asked) ask st may is = (λ no. absurd (false≢true no), λ no. absurd (false≢true no))
 answered_in Stops ask st may is = (λ no. absurd (false≢true no), λ no. absurd (false≢true no))
@@ -175,7 +175,7 @@ taken-count psk (Grants AskBeat answer) sealed inner s fits is = is
 taken-count psk (Grants (AskMeasure op) answer) sealed inner s fits is = is
 taken-count psk (Grants (AskChunk op handle number before) answer) sealed inner s fits is = is
 taken-count psk (Grants AskEnd answer) sealed inner s fits is = is
-taken-count psk NoEffect sealed inner s fits is = is
+taken-count psk Nothing sealed inner s fits is = is
 taken-count psk (Answers asked answer) sealed inner s fits is = is
 taken-count psk (Refuses asked) sealed inner s fits is = is
 taken-count psk Stops sealed inner s fits is = is

@@ -24,7 +24,7 @@ use Rattle.spdm_machine.specs.Keys.{verify_data}
 use Rattle.spdm_machine.specs.Setup.{ReqSetup, requester_caps}
 use Rattle.requester_machine.specs.Commands.{Free}
 use Rattle.requester_machine.specs.History.{History, Effect, Led, connection_terms}
-use Rattle.requester_machine.specs.History.Effect.{NoEffect, Answers, Refuses, Stops}
+use Rattle.requester_machine.specs.History.Effect.{Nothing, Answers, Refuses, Stops}
 use Rattle.requester_machine.specs.Message.{Sent}
 use Rattle.requester_machine.specs.Sending.{plain_sent, request_sent, get_sent, finish_sent, is_too_long}
 use Rattle.requester_machine.specs.Session.{Steps, session_of, when_live, session_terms, t1_of}
@@ -62,7 +62,7 @@ may_be_large _ = false
 abbrev pub error_led : History → RequestMessage → (code : ℕ) → (extended : List ℕ) → Led
 error_led h asked code extended =
     if code == 0x0f && may_be_large asked && (connection_terms h).common.chunk
-    then goes_on NoEffect (get_sent h asked (slice_index extended 0) 0 [])
+    then goes_on Nothing (get_sent h asked (slice_index extended 0) 0 [])
     else is_refused code (Refuses asked)
 
 -- ---- The negotiation.

@@ -19,7 +19,7 @@ use Rattle.requester_machine.specs.Answers.{answer_led, goes_on, is_refused}
 use Rattle.requester_machine.specs.Bodies.{first_cause, error_in}
 use Rattle.requester_machine.specs.Commands.{Free}
 use Rattle.requester_machine.specs.History.{History, Led, connection_terms}
-use Rattle.requester_machine.specs.History.Effect.{NoEffect, Refuses}
+use Rattle.requester_machine.specs.History.Effect.{Nothing, Refuses}
 use Rattle.requester_machine.specs.Message.{Aim, Sent}
 use Rattle.requester_machine.specs.Message.Aim.{Plain, ByChunks, ForChunk, InSession}
 use Rattle.requester_machine.specs.Sending.{piece_of, piece_sent, get_sent}
@@ -111,7 +111,7 @@ read_led q h f place asked answer (Ok value) = answer_led q h f place asked answ
 abbrev pub carried_led : ReqSetup → History → Free → RequestMessage → Carried → Result Led ReqIgnored
 carried_led q h f asked (Ignored cause) = Err cause
 carried_led q h f asked (Refused code) = Ok (is_refused code (Refuses asked))
-carried_led q h f asked (Further next) = Ok (goes_on NoEffect next)
+carried_led q h f asked (Further next) = Ok (goes_on Nothing next)
 carried_led q h f asked (Whole answer place) = read_led q h f place asked answer (reading_of h asked answer)
 
 -- What a clear message leads to that came to a clear request, or why it is ignored.

@@ -5,7 +5,7 @@ use Rattle.spdm_grammar.specs.Message.RequestMessage.{PskExchange}
 use Rattle.spdm_grammar.specs.declared.phase.Stage.{Stage}
 use Rattle.spdm_grammar.specs.declared.phase.Stage.TheVariants as stage
 use Rattle.requester_machine.specs.History.{History, Effect, outstanding}
-use Rattle.requester_machine.specs.History.Effect.{NoEffect, Answers, Refuses, Stops, Grants, Loses}
+use Rattle.requester_machine.specs.History.Effect.{Nothing, Answers, Refuses, Stops, Grants, Loses}
 use Rattle.requester_machine.specs.InnerMessages.{outlives_error}
 use Rattle.requester_machine.specs.Message.{Ask, Aim, Sent}
 use Rattle.requester_machine.specs.Message.Aim.{Plain, ByChunks, ForChunk, InSession}
@@ -38,7 +38,7 @@ is_same false b = not b
 -- What a record may bring about that answers what was asked: the answer, whole; or nothing, where an ERROR
 -- leaves the session open.
 abbrev pub may_bring : Effect → Ask → Bool
-may_bring NoEffect ask = outlives_error ask
+may_bring Nothing ask = outlives_error ask
 may_bring (Grants AskFinish answer) AskFinish = true
 may_bring (Grants AskData answer) AskData = true
 may_bring (Grants AskBeat answer) AskBeat = true

@@ -14,7 +14,7 @@ use Rattle.spdm_machine.specs.Terms.{Terms, no_negotiation, terms_of}
 use Rattle.transcript.specs.Transcripts as transcript
 use Rattle.transcript.specs.Transcripts.{Negotiation, vca_of}
 use Rattle.requester_machine.specs.History.{History, Effect, Led, negotiation_of}
-use Rattle.requester_machine.specs.History.Effect.{NoEffect, Answers, Refuses, Stops, Grants, Loses}
+use Rattle.requester_machine.specs.History.Effect.{Nothing, Answers, Refuses, Stops, Grants, Loses}
 use Rattle.requester_machine.specs.History.Entry.{Told, TookClear, TookRecord}
 use Rattle.requester_machine.specs.Message.{Command, Ask, Aim, Content, Sent, asked_in}
 use Rattle.requester_machine.specs.Message.Aim.{Plain, ByChunks, ForChunk, InSession}

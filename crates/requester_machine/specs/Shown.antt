@@ -72,7 +72,7 @@ bytes_in (Grants AskData answer) = Some answer
 bytes_in _ = None
 
 abbrev pub effect_in : Entry → Effect
-effect_in (Told command sent d) = Effect.NoEffect
+effect_in (Told command sent d) = Effect.Nothing
 effect_in (TookClear tag m led d) = led.effect
 effect_in (TookRecord tag id sealed inner led d) = led.effect
 
