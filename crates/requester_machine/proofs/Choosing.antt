@@ -65,6 +65,7 @@ allowed q h d pad set_up bytes few = record {
   where
     equal : length (context_of (connection_terms h).choice.hash d) ≡ hash_size (connection_terms h).choice.hash
     equal = context-length (connection_terms h).choice.hash d bytes
+
     long : hash_size (connection_terms h).choice.hash ≤ length (context_of (connection_terms h).choice.hash d)
     long = omega (arith, equal)
 

@@ -61,7 +61,7 @@ fresh worn q h summary d entry is = (
   (free_id-in_range h).1,
   free_id-free h (had_room worn q h summary d entry is),
   ap (λ e. session_of (free_id h) (e ∷ h)) (sym (opened-is worn q h summary d entry is))
-  ∙ begins q h summary d _ (request_sent-asks (connection_terms h).common h (exchange_for q (command_chosen q h d) summary)),
+      ∙ begins q h summary d _ (request_sent-asks (connection_terms h).common h (exchange_for q (command_chosen q h d) summary)),
 )
 
 -- ---- A session was live before, unless it was begun.

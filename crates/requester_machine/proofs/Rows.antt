@@ -28,9 +28,16 @@ use Rattle.requester_machine.specs.Shown.{after, sent_by, event_of}
 
 abbrev q : ReqSetup
 q = record {
-  eid = 9; responder = 8; transfer = 1024; max = 4096; unit = 64; pad = 0;
+  eid = 9;
+  responder = 8;
+  transfer = 1024;
+  max = 4096;
+  unit = 64;
+  pad = 0;
   flags = record { measure = false; heartbeat = true; key_update = true; chunk = true };
-  hint = 0x71 ∷ []; psk = 1 ∷ 2 ∷ []; opaque = [];
+  hint = 0x71 ∷ [];
+  psk = 1 ∷ 2 ∷ [];
+  opaque = [];
   suites = record { hash = Small; aead = Small };
 }
 
