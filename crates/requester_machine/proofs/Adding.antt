@@ -1,5 +1,5 @@
 -- What adds nothing to a history.
-use Rattle.std.proofs.Common.{refl, ◌∙◌, ◌≡◌, ℕ, List, true, false, Bool, Option, Some, None, ap}
+use Rattle.std.proofs.Common.{refl, ◌∙◌, ◌≡◌, ℕ, List, Bool, Option, Some, None, ap}
 use Rattle.std.specs.Prelude.{drop}
 use Rattle.spdm_basis.specs.declared.record_fault.RecordFault.{RecordFault}
 use Rattle.spdm_grammar.specs.declared.command_fault.CommandFault.{CommandFault}
@@ -7,7 +7,7 @@ use Rattle.spdm_grammar.specs.declared.event.ReqIgnored.{ReqIgnored}
 use Rattle.spdm_machine.specs.Keys.{Draw}
 use Rattle.spdm_machine.specs.Setup.{ReqSetup}
 use Rattle.requester_machine.specs.Asking.{asks, asks_by, resent}
-use Rattle.requester_machine.specs.Bodies.{body_fault, is_clear}
+use Rattle.requester_machine.specs.Bodies.{body_fault}
 use Rattle.requester_machine.specs.Commands.{Free, command_fault}
 use Rattle.requester_machine.specs.Hearing.{hears, hears_by, hears_to, in_session, on_record, record_outcome, came_to}
 use Rattle.requester_machine.specs.History.{History, outstanding}

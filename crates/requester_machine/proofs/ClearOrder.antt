@@ -1,5 +1,5 @@
 -- What a clear message leads to keeps the sessions in order.
-use Rattle.std.proofs.Common.{refl, ◌≡◌, ◌+◌, ℕ, List, [], ◌∷◌, true, false, Bool, Option, Some, None}
+use Rattle.std.proofs.Common.{◌+◌, ℕ, List, [], ◌∷◌, true, false, Bool, Option, Some, None}
 use Rattle.std.specs.Prelude.{⊤, ◌==◌, ◌&&◌, nat_lt, length, if◌then◌else◌, Result, Ok, Err, bytes_eq, unwrap_or, slice_index}
 use Rattle.chunking.specs.Collecting.{joined_with}
 use Rattle.negotiate.specs.Capabilities.{common_of}
@@ -18,16 +18,15 @@ use Rattle.spdm_grammar.specs.declared.event.Stop.TheVariants as stop
 use Rattle.spdm_grammar.specs.declared.malformed.Malformed.{Malformed}
 use Rattle.spdm_grammar.specs.declared.part_faults.CapsFault.{CapsFault}
 use Rattle.spdm_grammar.specs.declared.part_faults.ChunkFault.{ChunkFault}
-use Rattle.spdm_machine.specs.Setup.{ReqSetup, requester_caps}
-use Rattle.requester_machine.specs.Answers.{goes_on, is_refused, stopped, error_led, version_led, offer_led, caps_led, algorithms_led, measured_led, exchange_led, answer_led, answer_verify, with_answer, may_be_large}
+use Rattle.spdm_machine.specs.Setup.{ReqSetup}
+use Rattle.requester_machine.specs.Answers.{goes_on, is_refused, stopped, error_led, version_led, offer_led, caps_led, algorithms_led, exchange_led, answer_led, answer_verify, with_answer, may_be_large}
 use Rattle.requester_machine.specs.Bodies.{error_in, first_cause}
 use Rattle.requester_machine.specs.ClearAnswers.{Carried, ack_tests, acknowledged, ack_carries, collected, get_fault, chunk_carries, carried_by, carried_led, read_led, reading_of, clear_led}
 use Rattle.requester_machine.specs.ClearAnswers.Carried.{Ignored, Refused, Further, Whole}
 use Rattle.requester_machine.specs.Commands.{Free}
 use Rattle.requester_machine.specs.History.{History, Effect, Led, connection_terms, next_handle}
-use Rattle.requester_machine.specs.History.Effect.{Nothing, Answers, Refuses, Stops}
-use Rattle.requester_machine.specs.Message.{Aim}
-use Rattle.requester_machine.specs.Message.Aim.{Plain, ByChunks, ForChunk, InSession}
+use Rattle.requester_machine.specs.History.Effect.{Nothing, Answers, Refuses}
+use Rattle.requester_machine.specs.Message.Aim.{Plain, ByChunks, ForChunk}
 use Rattle.requester_machine.specs.Order.{waits_for, waits_asked}
 use Rattle.requester_machine.specs.Order.Waits.{Rests}
 use Rattle.requester_machine.specs.Sending.{plain_sent, request_sent, piece_sent, piece_of, get_sent, is_too_long}

@@ -1,9 +1,8 @@
 -- The ids of sessions.
-use Rattle.std.proofs.Common.{refl, ◌∙◌, ◌≡◌, ◌≢◌, ◌≤◌, ℕ, List, [], ◌∷◌, true, false, Bool, Option, Some, None, ap, sym, subst, eq-eqb, true≢false}
-use Rattle.std.specs.Prelude.{◌==◌, ◌&&◌, if◌then◌else◌}
+use Rattle.std.proofs.Common.{refl, ◌∙◌, ◌≡◌, ◌≢◌, ◌≤◌, ℕ, List, [], ◌∷◌, true, false, Bool, Option, Some, None, ap, sym, subst, eq-eqb}
+use Rattle.std.specs.Prelude.{◌==◌, if◌then◌else◌}
 use Rattle.std.proofs.lemmas.Bool.{false≢true}
 use Rattle.std.proofs.lemmas.Bool.Decides.{nat_tests}
-use Rattle.std.proofs.lemmas.Grind.{common_steps}
 use Rattle.std.proofs.Common.{arith}
 use Rattle.spdm_grammar.specs.Message.{RequestMessage}
 use Rattle.spdm_grammar.specs.Message.RequestMessage.{PskExchange}
@@ -12,10 +11,10 @@ use Rattle.spdm_machine.specs.Keys.{Draw}
 use Rattle.spdm_machine.specs.Setup.{ReqSetup}
 use Rattle.transcript.specs.Transcripts.{Negotiation}
 use Rattle.requester_machine.specs.Asking.Outcome.{Adds}
-use Rattle.requester_machine.specs.Commands.{Free, command_fault, live_count, exchange_for}
-use Rattle.requester_machine.specs.Does.{IsMade, chosen, free_id, command_chosen, requester_asks}
+use Rattle.requester_machine.specs.Commands.{Free, live_count, exchange_for}
+use Rattle.requester_machine.specs.Does.{chosen, free_id, command_chosen, requester_asks}
 use Rattle.requester_machine.specs.History.{History, Entry, Effect, negotiation_of, connection_terms}
-use Rattle.requester_machine.specs.History.Effect.{Nothing, Answers, Refuses, Stops, Grants, Loses}
+use Rattle.requester_machine.specs.History.Effect.{Answers, Refuses}
 use Rattle.requester_machine.specs.History.Entry.{Told, TookClear, TookRecord}
 use Rattle.requester_machine.specs.Laws.{LiveIdsAreFew, NewSessionIsFresh}
 use Rattle.requester_machine.specs.Message.{Command, Ask, Aim, Content, Sent, asked_in}

@@ -1,25 +1,23 @@
 -- The sessions of a made history are in order, and so their numbers are counts.
-use Rattle.std.proofs.Common.{refl, ◌∙◌, ◌≡◌, ℕ, List, [], ◌∷◌, true, false, Bool, Option, Some, None, ap, sym, subst}
+use Rattle.std.proofs.Common.{refl, ◌≡◌, ℕ, List, [], ◌∷◌, true, false, Bool, Option, Some, None, sym, subst}
 use Rattle.std.specs.Prelude.{⊤, ◌==◌, ◌&&◌, nat_lt, length, if◌then◌else◌, Result, Ok, Err, is_some, drop}
 use Rattle.std.proofs.lemmas.Bool.{false≢true}
-use Rattle.std.proofs.lemmas.Option.{none-some}
 use Rattle.negotiate.specs.declared.shared.Common.{Common}
 use Rattle.spdm_basis.specs.declared.record_fault.RecordFault.{RecordFault}
 use Rattle.spdm_grammar.specs.Message.{RequestMessage}
 use Rattle.spdm_grammar.specs.Message.RequestMessage.{GetMeasurements}
 use Rattle.spdm_grammar.specs.Requests.{canonical_request}
 use Rattle.spdm_grammar.specs.declared.event.ReqIgnored.{ReqIgnored}
-use Rattle.spdm_grammar.specs.declared.phase.Stage.TheVariants as stage
 use Rattle.spdm_machine.specs.Keys.{Draw}
 use Rattle.spdm_machine.specs.Responder.{clear_body, record_body}
 use Rattle.spdm_machine.specs.Setup.{ReqSetup}
-use Rattle.requester_machine.specs.Asking.{Outcome, asks, done, resent}
+use Rattle.requester_machine.specs.Asking.{Outcome, done, resent}
 use Rattle.requester_machine.specs.Asking.Outcome.{Fails, Ignores, Warns, Resends, Adds}
 use Rattle.requester_machine.specs.Bodies.{body_fault, is_clear}
 use Rattle.requester_machine.specs.ClearAnswers.{clear_led}
 use Rattle.requester_machine.specs.Commands.{Free, command_fault, exchange_for, needs_connection}
 use Rattle.requester_machine.specs.Does.{IsMade, command_chosen, body_chosen, requester_asks, requester_hears}
-use Rattle.requester_machine.specs.Hearing.{hears, hears_by, hears_to, in_session, on_record, record_outcome, came_to, clear_outcome}
+use Rattle.requester_machine.specs.Hearing.{hears, hears_by, hears_to, on_record, record_outcome, came_to, clear_outcome}
 use Rattle.requester_machine.specs.History.{History, Entry, Led, outstanding, sent_in, negotiation_of, next_handle, connection_terms}
 use Rattle.requester_machine.specs.History.Entry.{Told, TookClear, TookRecord}
 use Rattle.requester_machine.specs.InnerMessages.{Came}
@@ -27,13 +25,13 @@ use Rattle.requester_machine.specs.Laws.{SessionsAreInOrder, NumbersAreCounts}
 use Rattle.requester_machine.specs.Message.{Command, Ask, Aim, Sent, asked_in}
 use Rattle.requester_machine.specs.Message.Aim.{Plain, ByChunks, ForChunk, InSession}
 use Rattle.requester_machine.specs.Message.Command.{Connect, Open, Send, Beat, Update, Measure, End, Retry}
-use Rattle.requester_machine.specs.Order.{Waits, IsOrdered, IsInOrder, waits_for, waits_aim}
+use Rattle.requester_machine.specs.Order.{waits_for, waits_aim}
 use Rattle.requester_machine.specs.Order.Waits.{Rests, ForExchange, ForRecord}
 use Rattle.requester_machine.specs.Records.{answer_fault}
 use Rattle.requester_machine.specs.Sending.{request_sent, piece_sent, plain_sent}
-use Rattle.requester_machine.specs.Session.{Steps, session_of, begun, with_aim}
+use Rattle.requester_machine.specs.Session.{session_of, begun, with_aim}
 use Rattle.requester_machine.proofs.ClearOrder.{GoodResult, plain-good, by_chunks-good, for_chunk-good}
-use Rattle.requester_machine.proofs.Entries.{entry_in, same_entry, asked, test_is_false}
+use Rattle.requester_machine.proofs.Entries.{asked, test_is_false}
 use Rattle.requester_machine.proofs.Numbers.{counted}
 use Rattle.requester_machine.proofs.RecordOrder.{record-good}
 use Rattle.requester_machine.proofs.Steps.{Good, asked_good, either_good}

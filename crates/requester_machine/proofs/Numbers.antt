@@ -1,9 +1,9 @@
 -- The number of the next record counts those sealed under its purpose.
-use Rattle.std.proofs.Common.{refl, ◌∙◌, ◌≡◌, ◌<◌, ◌≤◌, ◌+◌, ℕ, List, [], ◌∷◌, true, false, Bool, Option, Some, None, ap, sym, arith}
+use Rattle.std.proofs.Common.{refl, ◌∙◌, ◌≡◌, ◌<◌, ◌≤◌, ◌+◌, ℕ, List, [], ◌∷◌, true, false, Bool, ap, sym, arith}
 use Rattle.std.specs.Prelude.{◌==◌, ◌&&◌, if◌then◌else◌, bytes_eq}
 use Rattle.std.proofs.lemmas.Bool.{false≢true}
 use Rattle.std.proofs.lemmas.Bool.Decides.{nat_tests}
-use Rattle.key_schedule.specs.Purpose.{Purpose, Kind, handshake_record, application_record}
+use Rattle.key_schedule.specs.Purpose.{Purpose, Kind, application_record}
 use Rattle.key_schedule.specs.Purpose.Kind.{Verify, HandshakeRecord, ApplicationRecord}
 use Rattle.key_schedule.specs.declared.direction.Direction.TheVariants.{Request}
 use Rattle.spdm_grammar.specs.declared.phase.Stage.{Stage}
@@ -17,7 +17,7 @@ use Rattle.requester_machine.specs.Message.{Ask}
 use Rattle.requester_machine.specs.Message.Ask.{AskFinish, AskData, AskBeat, AskUpdate, AskVerify, AskMeasure, AskChunk, AskEnd}
 use Rattle.requester_machine.specs.Order.{IsOrdered, is_opening, is_answer, waiting_ask, stage_for, may_bring}
 use Rattle.requester_machine.specs.Records.{request_purpose}
-use Rattle.requester_machine.specs.Session.{Steps, Step, stage_of, t1_of, t2_of, request_epoch, request_next, finishes, updates, verifies}
+use Rattle.requester_machine.specs.Session.{Steps, stage_of, t1_of, t2_of, request_epoch, request_next, finishes, updates, verifies}
 use Rattle.requester_machine.specs.Session.Step.{Started, Accepted, Asked, Took}
 
 pub update : UpdateBeginsAnew

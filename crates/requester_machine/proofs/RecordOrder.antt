@@ -3,25 +3,24 @@ use Rattle.std.proofs.Common.{refl, ◌≡◌, ◌+◌, ℕ, List, [], ◌∷◌
 use Rattle.std.specs.Prelude.{⊤, ◌==◌, ◌&&◌, not, if◌then◌else◌, Result, Ok, Err, slice_index}
 use Rattle.std.proofs.lemmas.Bool.{false≢true}
 use Rattle.chunking.specs.Collecting.{joined_with}
-use Rattle.spdm_grammar.specs.Message.{ResponseMessage, ChunkMessage, MeasuredMessage}
+use Rattle.spdm_grammar.specs.Message.{ResponseMessage, ChunkMessage}
 use Rattle.spdm_grammar.specs.Message.ResponseMessage.{Measurements, PskFinishRsp, HeartbeatAck, KeyUpdateAck, EndSessionAck, ChunkResponse, Error}
 use Rattle.spdm_grammar.specs.declared.event.BadReply.{BadReply}
-use Rattle.spdm_grammar.specs.declared.event.BadReply.TheVariants as bad
 use Rattle.spdm_grammar.specs.declared.malformed.Malformed.{Malformed}
 use Rattle.spdm_grammar.specs.declared.part_faults.ChunkFault.{ChunkFault}
 use Rattle.spdm_grammar.specs.declared.phase.Stage.TheVariants as stage
 use Rattle.spdm_machine.specs.Setup.{ReqSetup}
-use Rattle.requester_machine.specs.Answers.{goes_on, is_refused, measured_led}
+use Rattle.requester_machine.specs.Answers.{is_refused}
 use Rattle.requester_machine.specs.ClearAnswers.{get_fault}
 use Rattle.requester_machine.specs.Commands.{Free, has_reached}
-use Rattle.requester_machine.specs.History.{History, Effect, Led}
+use Rattle.requester_machine.specs.History.{History, Led}
 use Rattle.requester_machine.specs.History.Effect.{Nothing, Grants, Loses}
-use Rattle.requester_machine.specs.InnerMessages.{Came, message_in, inner_fault, reading_of, error_led, first_get, follows, op_in, outlives_error, echoes, update_led, verified_led, whole_led, chunk_led, message_led, read_led, data_led, inner_led_by, inner_led, or_lost, with_record}
+use Rattle.requester_machine.specs.InnerMessages.{Came, message_in, inner_fault, reading_of, error_led, first_get, follows, op_in, outlives_error, echoes, update_led, verified_led, whole_led, chunk_led, message_led, read_led, data_led, inner_led_by, inner_led, or_lost}
 use Rattle.requester_machine.specs.Message.{Ask}
 use Rattle.requester_machine.specs.Message.Ask.{AskFinish, AskData, AskBeat, AskUpdate, AskVerify, AskMeasure, AskChunk, AskEnd}
-use Rattle.requester_machine.specs.Order.{Waits, waits_for, stage_for, may_bring, is_same}
+use Rattle.requester_machine.specs.Order.{waits_for, stage_for, is_same}
 use Rattle.requester_machine.specs.Order.Waits.{Rests, ForRecord}
-use Rattle.requester_machine.specs.Sending.{verify_sent, chunk_sent, operation_of}
+use Rattle.requester_machine.specs.Sending.{operation_of}
 use Rattle.requester_machine.specs.Session.{Steps, with_sent, after_record}
 use Rattle.requester_machine.proofs.Steps.{Good, end_good, done_good, next_good}
 

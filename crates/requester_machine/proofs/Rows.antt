@@ -1,14 +1,13 @@
 -- The definitions computed on small histories.
-use Rattle.std.proofs.Common.{refl, ◌≡◌, ℕ, List, [], ◌∷◌, ◌++◌, true, false, Bool, Option, Some, None}
-use Rattle.std.specs.Prelude.{replicate, take, drop, option_map, is_some}
+use Rattle.std.proofs.Common.{refl, ◌≡◌, ℕ, List, [], ◌∷◌, ◌++◌, true, false, Option, Some, None}
+use Rattle.std.specs.Prelude.{replicate, option_map}
 use Rattle.spdm_grammar.specs.Reading.{field_at, number_at, optional_at, tables_at, behind_tables, behind_table}
 use Rattle.spdm_grammar.specs.Requests.{request_body, get_capabilities_layout, negotiate_algorithms_layout}
 use Rattle.spdm_grammar.specs.Responses.{response_body, version_layout, capabilities_layout, algorithms_layout, chunk_send_ack_layout, chunk_response_layout, error_layout}
 use Rattle.spdm_grammar.specs.declared.choice.Pick.TheVariants.{Small}
-use Rattle.spdm_grammar.specs.declared.event.Event.{Event}
 use Rattle.spdm_grammar.specs.declared.event.Event.TheVariants as event
 use Rattle.spdm_grammar.specs.declared.event.Finished.TheVariants as finished
-use Rattle.spdm_grammar.specs.declared.phase.Phase.TheVariants.{Versioned, Capable, Negotiated}
+use Rattle.spdm_grammar.specs.declared.phase.Phase.TheVariants.{Negotiated}
 use Rattle.spdm_machine.specs.Keys.{Draw}
 use Rattle.spdm_machine.specs.Responder.{clear_body}
 use Rattle.spdm_machine.specs.Setup.{ReqSetup}
@@ -21,7 +20,7 @@ use Rattle.requester_machine.specs.Commands.{command_fault}
 use Rattle.requester_machine.specs.Does.{chosen, requester_asks, requester_hears}
 use Rattle.requester_machine.specs.Hearing.{hears}
 use Rattle.requester_machine.specs.History.{History, outstanding, phase_of, negotiation_of}
-use Rattle.requester_machine.specs.Message.{Command, Sent, body_of}
+use Rattle.requester_machine.specs.Message.{Sent, body_of}
 use Rattle.requester_machine.specs.Message.Command.{Connect}
 use Rattle.requester_machine.specs.Session.{session_of}
 use Rattle.requester_machine.specs.Shown.{after, sent_by, event_of}

@@ -1,16 +1,15 @@
 -- What the whole answer to a clear request leads to at a requester (DSP0274, section 10: the responses).
-use Rattle.std.specs.Prelude.{◌+◌, ◌==◌, ◌&&◌, ℕ, List, [], ◌∷◌, slice_index, if◌then◌else◌, Bool, true, false, Option, Some, None, Result, Ok, Err, bytes_eq, not}
+use Rattle.std.specs.Prelude.{◌+◌, ◌==◌, ◌&&◌, ℕ, List, [], slice_index, if◌then◌else◌, Bool, true, false, Option, Some, None, Result, Ok, Err, bytes_eq}
 use Rattle.negotiate.specs.Capabilities.{common_of}
 use Rattle.negotiate.specs.Choosing.{agreed}
 use Rattle.negotiate.specs.Offer.{offer_of}
 use Rattle.negotiate.specs.Versions.{version_entries, first_of_1_2}
 use Rattle.negotiate.specs.declared.shared.Common.{Common}
 use Rattle.key_schedule.specs.declared.direction.Direction.TheVariants as direction
-use Rattle.spdm_grammar.specs.Message.{RequestMessage, ResponseMessage, OfferMessage, ReplyMessage, ExchangeMessage, ExchangeRspMessage, MeasuredMessage}
+use Rattle.spdm_grammar.specs.Message.{RequestMessage, ResponseMessage, OfferMessage, ExchangeMessage, ExchangeRspMessage, MeasuredMessage}
 use Rattle.spdm_grammar.specs.Message.RequestMessage.{GetVersion, GetCapabilities, NegotiateAlgorithms, GetMeasurements, PskExchange}
 use Rattle.spdm_grammar.specs.Message.ResponseMessage.{Version, Capabilities, Algorithms, Measurements, PskExchangeRsp, Error}
 use Rattle.spdm_grammar.specs.Requests.{canonical_request}
-use Rattle.spdm_grammar.specs.declared.capabilities.Caps.{Caps}
 use Rattle.spdm_grammar.specs.declared.choice.Choice.{Choice}
 use Rattle.spdm_grammar.specs.declared.event.Event.TheVariants as event
 use Rattle.spdm_grammar.specs.declared.event.Finished.{Finished}

@@ -1,7 +1,7 @@
 -- What a clear message leads to that came to a clear request: it is the answer itself, or carries it by
 -- chunks (DSP0274, "CHUNK_SEND_ACK", "CHUNK_RESPONSE"; which one is ignored, and at which place it is
 -- malformed, is this project's own).
-use Rattle.std.specs.Prelude.{◌+◌, ◌==◌, ◌&&◌, not, ℕ, List, [], ◌∷◌, length, if◌then◌else◌, Bool, true, false, Option, Some, None, is_none, unwrap_or, Result, Ok, Err}
+use Rattle.std.specs.Prelude.{◌+◌, ◌==◌, ◌&&◌, not, ℕ, List, [], ◌∷◌, length, if◌then◌else◌, Bool, false, Option, Some, None, is_none, unwrap_or, Result, Ok, Err}
 use Rattle.chunking.specs.Collecting.{broken_rule, joined_with}
 use Rattle.negotiate.specs.declared.shared.Common.{Common}
 use Rattle.spdm_grammar.specs.Message.{RequestMessage, ResponseMessage, ChunkMessage}

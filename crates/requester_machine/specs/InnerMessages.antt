@@ -2,7 +2,7 @@
 -- This project's own but for the answers themselves (DSP0274, section 10).
 use Rattle.std.specs.Prelude.{◌+◌, ◌==◌, ◌&&◌, ◌||◌, not, nat_lt, ℕ, List, [], ◌∷◌, length, slice_index, drop, if◌then◌else◌, Bool, true, false, Option, Some, None, Result, Ok, Err}
 use Rattle.chunking.specs.Collecting.{joined_with}
-use Rattle.spdm_grammar.specs.Message.{ResponseMessage, ChunkMessage, MeasuredMessage}
+use Rattle.spdm_grammar.specs.Message.{ResponseMessage, ChunkMessage}
 use Rattle.spdm_grammar.specs.Message.ResponseMessage.{Measurements, PskFinishRsp, HeartbeatAck, KeyUpdateAck, EndSessionAck, ChunkResponse, Error}
 use Rattle.spdm_grammar.specs.Responses.{response_reading}
 use Rattle.spdm_grammar.specs.declared.event.BadReply.{BadReply}
@@ -18,7 +18,7 @@ use Rattle.requester_machine.specs.ClearAnswers.{get_fault}
 use Rattle.requester_machine.specs.Commands.{Free, has_reached}
 use Rattle.requester_machine.specs.History.{History, Effect, Led}
 use Rattle.requester_machine.specs.History.Effect.{Nothing, Grants, Loses}
-use Rattle.requester_machine.specs.Message.{Ask, Sent}
+use Rattle.requester_machine.specs.Message.{Ask}
 use Rattle.requester_machine.specs.Message.Ask.{AskFinish, AskData, AskBeat, AskUpdate, AskVerify, AskMeasure, AskChunk, AskEnd}
 use Rattle.requester_machine.specs.Sending.{verify_sent, chunk_sent, operation_of, update_tag}
 use Rattle.requester_machine.specs.Session.{Steps, when_live, session_id, session_terms}

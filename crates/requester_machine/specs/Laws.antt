@@ -1,5 +1,5 @@
 -- What is said of what a requester does and of its histories.
-use Rattle.std.specs.Prelude.{⊤, ◌≡◌, ◌≢◌, ◌≤◌, ◌+◌, ◌==◌, ◌&&◌, ℕ, List, [], ◌∷◌, drop, length, if◌then◌else◌, Bool, true, false, Option, Some, None, bytes_eq}
+use Rattle.std.specs.Prelude.{◌≡◌, ◌≤◌, ◌+◌, ◌==◌, ◌&&◌, ℕ, List, [], ◌∷◌, drop, length, if◌then◌else◌, Bool, true, false, Some, bytes_eq}
 use Rattle.key_schedule.specs.Purpose.{Purpose, Kind}
 use Rattle.key_schedule.specs.Purpose.Kind.{Verify, HandshakeRecord, ApplicationRecord}
 use Rattle.spdm_basis.specs.declared.record_fault.RecordFault.{RecordFault}
@@ -8,7 +8,7 @@ use Rattle.spdm_grammar.specs.declared.command_fault.CommandFault.{CommandFault}
 use Rattle.spdm_grammar.specs.declared.event.ReqIgnored.{ReqIgnored}
 use Rattle.spdm_machine.specs.Keys.{Draw}
 use Rattle.spdm_machine.specs.Setup.{ReqSetup}
-use Rattle.requester_machine.specs.Asking.{Outcome, asks}
+use Rattle.requester_machine.specs.Asking.{asks}
 use Rattle.requester_machine.specs.Asking.Outcome.{Ignores, Adds}
 use Rattle.requester_machine.specs.Bodies.{is_clear}
 use Rattle.requester_machine.specs.Commands.{Free, command_fault, exchange_for}
@@ -23,8 +23,8 @@ use Rattle.requester_machine.specs.Message.Ask.{AskUpdate}
 use Rattle.requester_machine.specs.Message.Command.{Open, Retry}
 use Rattle.requester_machine.specs.Order.{IsInOrder}
 use Rattle.requester_machine.specs.Records.{answer_fault, request_purpose}
-use Rattle.requester_machine.specs.Session.{Steps, Step, session_of, is_live, request_next, request_epoch}
-use Rattle.requester_machine.specs.Session.Step.{Started, Accepted, Asked, Took}
+use Rattle.requester_machine.specs.Session.{Steps, session_of, is_live, request_next, request_epoch}
+use Rattle.requester_machine.specs.Session.Step.{Started, Asked, Took}
 use Rattle.requester_machine.specs.Shown.{after}
 
 -- ---- What the requester does, it may.

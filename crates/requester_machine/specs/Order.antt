@@ -1,16 +1,16 @@
 -- In which order the steps of a session come, and how they go with the outstanding request.
-use Rattle.std.specs.Prelude.{⊤, ◌≡◌, ◌==◌, ◌&&◌, ◌||◌, not, ℕ, List, [], ◌∷◌, if◌then◌else◌, Bool, true, false, Option, Some, None}
+use Rattle.std.specs.Prelude.{⊤, ◌≡◌, ◌==◌, not, ℕ, [], ◌∷◌, if◌then◌else◌, Bool, true, false, Option, Some, None}
 use Rattle.spdm_grammar.specs.Message.{RequestMessage}
 use Rattle.spdm_grammar.specs.Message.RequestMessage.{PskExchange}
 use Rattle.spdm_grammar.specs.declared.phase.Stage.{Stage}
 use Rattle.spdm_grammar.specs.declared.phase.Stage.TheVariants as stage
-use Rattle.requester_machine.specs.History.{History, Effect, outstanding}
-use Rattle.requester_machine.specs.History.Effect.{Nothing, Answers, Refuses, Stops, Grants, Loses}
+use Rattle.requester_machine.specs.History.{Effect}
+use Rattle.requester_machine.specs.History.Effect.{Nothing, Grants}
 use Rattle.requester_machine.specs.InnerMessages.{outlives_error}
 use Rattle.requester_machine.specs.Message.{Ask, Aim, Sent}
 use Rattle.requester_machine.specs.Message.Aim.{Plain, ByChunks, ForChunk, InSession}
-use Rattle.requester_machine.specs.Message.Ask.{AskFinish, AskData, AskBeat, AskUpdate, AskVerify, AskMeasure, AskChunk, AskEnd}
-use Rattle.requester_machine.specs.Session.{Steps, Step, session_of, is_live, is_accepted, stage_of}
+use Rattle.requester_machine.specs.Message.Ask.{AskFinish, AskData, AskBeat, AskUpdate, AskVerify, AskMeasure, AskChunk}
+use Rattle.requester_machine.specs.Session.{Steps, is_live, is_accepted, stage_of}
 use Rattle.requester_machine.specs.Session.Step.{Started, Accepted, Asked, Took}
 
 -- PSK_EXCHANGE was sent, and nothing came yet.
