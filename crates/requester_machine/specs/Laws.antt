@@ -1,5 +1,5 @@
 -- What is said of what a requester does and of its histories.
-use Rattle.std.specs.Prelude.{◌≡◌, ◌≤◌, ◌+◌, ◌==◌, ◌&&◌, ℕ, List, [], ◌∷◌, drop, length, if◌then◌else◌, Bool, true, false, Some, bytes_eq}
+use Rattle.std.specs.Prelude.{⊤, ◌≡◌, ◌≤◌, ◌+◌, ◌==◌, ◌&&◌, ℕ, List, [], ◌∷◌, drop, length, if◌then◌else◌, Bool, true, false, Some, bytes_eq}
 use Rattle.key_schedule.specs.Purpose.{Purpose, Kind}
 use Rattle.key_schedule.specs.Purpose.Kind.{Verify, HandshakeRecord, ApplicationRecord}
 use Rattle.spdm_basis.specs.declared.record_fault.RecordFault.{RecordFault}
@@ -8,6 +8,8 @@ use Rattle.spdm_grammar.specs.declared.command_fault.CommandFault.{CommandFault}
 use Rattle.spdm_grammar.specs.declared.event.ReqIgnored.{ReqIgnored}
 use Rattle.spdm_machine.specs.Keys.{Draw}
 use Rattle.spdm_machine.specs.Setup.{ReqSetup}
+use Rattle.spdm_machine.specs.TagLog.{Act}
+use Rattle.spdm_machine.specs.TagLog.Act.{Made, Checked}
 use Rattle.requester_machine.specs.Asking.{asks}
 use Rattle.requester_machine.specs.Asking.Outcome.{Ignores, Adds}
 use Rattle.requester_machine.specs.Bodies.{is_clear}
@@ -23,6 +25,7 @@ use Rattle.requester_machine.specs.Message.Ask.{AskUpdate}
 use Rattle.requester_machine.specs.Message.Command.{Open, Retry}
 use Rattle.requester_machine.specs.Order.{IsInOrder}
 use Rattle.requester_machine.specs.Records.{answer_fault, request_purpose}
+use Rattle.requester_machine.specs.RequesterLog.{acts_of}
 use Rattle.requester_machine.specs.Session.{Steps, session_of, is_live, request_next, request_epoch}
 use Rattle.requester_machine.specs.Session.Step.{Started, Asked, Took}
 use Rattle.requester_machine.specs.Shown.{after}
@@ -116,3 +119,20 @@ abbrev pub UpdateBeginsAnew : Type 0
 UpdateBeginsAnew = (psk : List ℕ) (s : Steps) (sealed inner answer : List ℕ) (all : Bool)
     → (request_next (Took sealed inner (Grants (AskUpdate all) answer) ∷ s) ≡ 0)
     × ((request_purpose psk (Took sealed inner (Grants (AskUpdate all) answer) ∷ s)).epoch ≡ request_epoch s + 1)
+
+-- ---- Tags.
+
+-- A tag that was compared is the one that was computed.
+abbrev pub IsRight : Act → Type 0
+IsRight (Made purpose input value) = ⊤
+IsRight (Checked purpose input value received) = value ≡ received
+
+abbrev pub AreRight : List Act → Type 0
+AreRight [] = ⊤
+AreRight (act ∷ acts) = IsRight act × AreRight acts
+
+-- Where a body adds an entry, each tag that it was compared for is right, whatever is free.
+abbrev pub TakenTagsAreRight : Type 0
+TakenTagsAreRight = (q : ReqSetup) (h : History) (owner : Bool) (tag : ℕ) (body : List ℕ) (f : Free) (d : Draw) (entry : Entry)
+    → hears q h owner tag body f d ≡ Adds entry
+    → AreRight (acts_of q h body (Adds entry))

@@ -3,7 +3,7 @@
 //! are in `specs/`, and each function below has a law about them as its contract.
 #![tactic(auto)]
 
-ghost use Rattle.requester_machine.specs.Laws.{CommandIsAllowed, BodyIsAllowed, RetryAddsNothing, FaultAddsNothing, IgnoredAddsNothing, ClearAddsNothingInSession, UnopenedAddsNothing, LiveIdsAreFew, NewSessionIsFresh, SessionsAreInOrder, NumbersAreCounts, UpdateBeginsAnew};
+ghost use Rattle.requester_machine.specs.Laws.{CommandIsAllowed, BodyIsAllowed, RetryAddsNothing, FaultAddsNothing, IgnoredAddsNothing, ClearAddsNothingInSession, UnopenedAddsNothing, LiveIdsAreFew, NewSessionIsFresh, SessionsAreInOrder, NumbersAreCounts, UpdateBeginsAnew, TakenTagsAreRight};
 
 /// What the requester does with a command, it may, where its setup is within its limits.
 pub fn command_is_allowed()
@@ -66,4 +66,9 @@ pub fn numbers_are_counts()
 /// An update of the request key begins at number 0 of the next epoch.
 pub fn update_begins_anew()
     ensures { UpdateBeginsAnew }
+{}
+
+/// Where a body adds an entry to the history, each tag that it was compared for is the computed one.
+pub fn taken_tags_are_right()
+    ensures { TakenTagsAreRight }
 {}
