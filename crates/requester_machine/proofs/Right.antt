@@ -1,8 +1,7 @@
 -- What is taken had the tags that were computed.
-use Rattle.std.proofs.Common.{refl, ◌∙◌, ◌≡◌, ℕ, List, [], ◌∷◌, ◌++◌, true, false, Bool, Option, Some, None, ap, sym, subst}
-use Rattle.std.specs.Prelude.{⊤, not, if◌then◌else◌, Result, Ok, Err, bytes_eq, is_none, drop}
+use Rattle.std.proofs.Common.{refl, ◌≡◌, ℕ, List, [], ◌∷◌, ◌++◌, true, false, Bool, Option, Some, None, sym, subst}
+use Rattle.std.specs.Prelude.{⊤, not, if◌then◌else◌, Result, Ok, Err, is_none, drop}
 use Rattle.std.specs.Result.{result_ok}
-use Rattle.std.proofs.lemmas.Bool.{false≢true}
 use Rattle.std.proofs.lemmas.Option.{none-some}
 use Rattle.std.proofs.lemmas.Slice.Eq.{bytes_eq-Decides}
 use Rattle.key_schedule.specs.Purpose.{Purpose, key_of, iv_of}
@@ -10,7 +9,7 @@ use Rattle.secured_record.proofs.Same.{true-same}
 use Rattle.secured_record.specs.Faults.{fault_of, fault_behind, header_fault, is_authentic, tag_part}
 use Rattle.spdm_basis.specs.declared.record_fault.RecordFault.{RecordFault}
 use Rattle.spdm_basis.specs.declared.record_fault.RecordFault.TheVariants.{BadTag}
-use Rattle.spdm_grammar.specs.Message.{RequestMessage, ResponseMessage, ExchangeMessage, ExchangeRspMessage}
+use Rattle.spdm_grammar.specs.Message.{RequestMessage, ResponseMessage}
 use Rattle.spdm_grammar.specs.Message.RequestMessage.{PskExchange}
 use Rattle.spdm_grammar.specs.Message.ResponseMessage.{PskExchangeRsp}
 use Rattle.spdm_grammar.specs.declared.choice.Choice.{Choice}
@@ -19,20 +18,19 @@ use Rattle.spdm_grammar.specs.declared.event.ReqIgnored.TheVariants as ignored
 use Rattle.spdm_grammar.specs.declared.malformed.Malformed.{Malformed}
 use Rattle.spdm_machine.specs.Keys.{Draw, record_fault}
 use Rattle.spdm_machine.specs.Setup.{ReqSetup}
-use Rattle.spdm_machine.specs.TagLog.{Act, checked_record, record_tag, record_input}
-use Rattle.spdm_machine.specs.TagLog.Act.{Made, Checked}
-use Rattle.requester_machine.specs.Answers.{answer_led, answer_verify, exchange_led, with_answer}
+use Rattle.spdm_machine.specs.TagLog.{Act, record_tag, record_input}
+use Rattle.spdm_machine.specs.TagLog.Act.{Checked}
+use Rattle.requester_machine.specs.Answers.{answer_verify, with_answer}
 use Rattle.requester_machine.specs.Asking.{Outcome}
 use Rattle.requester_machine.specs.Asking.Outcome.{Fails, Ignores, Warns, Resends, Adds}
 use Rattle.requester_machine.specs.Bodies.{body_fault, is_clear}
 use Rattle.requester_machine.specs.ClearAnswers.{Carried, carried_by, carried_led, read_led, reading_of, clear_led}
 use Rattle.requester_machine.specs.ClearAnswers.Carried.{Ignored, Refused, Further, Whole}
 use Rattle.requester_machine.specs.Commands.{Free}
-use Rattle.requester_machine.specs.Hearing.{hears, hears_by, hears_to, in_session, on_record, record_outcome, came_to, clear_outcome}
-use Rattle.requester_machine.specs.History.{History, Entry, Effect, Led, outstanding}
-use Rattle.requester_machine.specs.History.Effect.{Nothing, Answers, Refuses, Stops, Grants, Loses}
-use Rattle.requester_machine.specs.History.Entry.{TookClear}
-use Rattle.requester_machine.specs.InnerMessages.{Came, inner_led, or_lost, with_record}
+use Rattle.requester_machine.specs.Hearing.{hears, hears_by, hears_to, on_record, record_outcome, came_to, clear_outcome}
+use Rattle.requester_machine.specs.History.{History, Effect, Led, outstanding}
+use Rattle.requester_machine.specs.History.Effect.{Answers}
+use Rattle.requester_machine.specs.InnerMessages.{inner_led, or_lost, with_record}
 use Rattle.requester_machine.specs.Laws.{AreRight, TakenTagsAreRight}
 use Rattle.requester_machine.specs.Message.{Ask, Aim, Content, Sent, asked_in}
 use Rattle.requester_machine.specs.Message.Aim.{Plain, ByChunks, ForChunk, InSession}
