@@ -1,12 +1,11 @@
 -- Products by four coefficients at a time, the last first.
-use Rattle.std.proofs.Common.{◌≡◌, ℕ, zero, suc, ◌+◌, ◌-◌, ◌*◌, ◌/◌, ◌%◌, ◌^◌, ◌<◌, List, ◌∷◌, get_or, arith, ap, refl, sym, ◌∙◌, zero-add}
+use Rattle.std.proofs.Common.{◌≡◌, ℕ, zero, suc, ◌+◌, ◌-◌, ◌*◌, ◌/◌, ◌%◌, ◌^◌, ◌<◌, List, get_or, arith, ap, refl, sym, ◌∙◌, zero-add}
 use Rattle.std.specs.Prelude.{map}
 use Rattle.std.specs.List.{range_with_len}
 use Rattle.std.proofs.Math.Nat.{mul-mod_left, div-add-mod'}
 use Rattle.std.proofs.lemmas.Nat.{shl-shr, shr-shr}
 use Rattle.std.proofs.lemmas.List.{get_or-map}
 use Rattle.std.proofs.lemmas.List.FromFn.{get_or-map-range_with_len}
-use Rattle.std.specs.Int.{bytes_low_first}
 use lib.Bits.{bit_xor, xor_assoc, xor_comm, xor_zero_r, xor_zero_l, xor_shifted}
 use Rattle.ghash.specs.Field.{coefficient, times_x, x_128, row, rows, product}
 use Rattle.ghash.specs.Nibbles.{times_x4, nibble_times}
@@ -173,12 +172,11 @@ byte_added a b k m s byte e lt is f =
     ∙ nibble_added a b k (m + 4) (bit_xor (times_x4 s) lower) (omega arith) lt one
     ∙ ap (sum_from a b k) h
 
--- the bytes of a block, the lowest first
-pub byte_of : (a j : ℕ) → j < 16 → get_or (bytes_low_first 0 16 a) j 0 ≡ a / 2 ^ (8 * j) % 256
-byte_of a j lt =
-    let e : a ≡ a / 2 ^ 0 = omega arith in
-    ap (λ t. get_or (t % 256 ∷ bytes_low_first 1 15 a) j 0) e
-    ∙ get_or-map-range_with_len (λ i. a / 2 ^ (8 * i) % 256) 0 16 j j 0 lt (omega arith)
+-- what is left of a number behind one more byte
+pub byte_passed : (a rest j : ℕ) → rest ≡ a / 2 ^ (8 * j) → rest / 256 ≡ a / 2 ^ (8 * (j + 1))
+byte_passed a rest j e =
+    let f : 8 * j + 8 ≡ 8 * (j + 1) = omega arith in
+    ap (λ t. t / 256) e ∙ shr-shr a (8 * j) 8 ∙ ap (λ t. a / 2 ^ t) f
 
 pub sum_from-product : (a b k m s : ℕ) → k + m ≡ 128 → m ≡ 128 → s ≡ sum_from a b k m → s ≡ product a b
 unfolding product

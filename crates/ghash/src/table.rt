@@ -93,9 +93,11 @@ pub fn multiply_by_tables(a: u128, table: &[u128; 16], moved: &[u128; 16], b: u1
     ensures { result ≡ product a b }
 {
     let mut sum = 0u128;
-    let bytes = a.to_le_bytes();
-    for byte in &bytes {
-        sum = times_x8(sum) ^ table[(*byte / 16) as usize] ^ moved[(*byte % 16) as usize];
+    let mut rest = a;
+    for _j in 0..16u32 {
+        let byte = (rest % 256) as usize;
+        sum = times_x8(sum) ^ table[byte / 16] ^ moved[byte % 16];
+        rest >>= 8;
     }
     sum
 }
