@@ -1,4 +1,4 @@
-use Rattle.std.proofs.Common.{◌∙◌, ◌+◌, ◌*◌, ◌^◌, ap, take, drop, ℕ, List}
+use Rattle.std.proofs.Common.{◌∙◌, ◌+◌, ◌*◌, ◌^◌, ap, take, ℕ}
 use Rattle.byteorder.specs.Endian.{big_number}
 use Rattle.aes.specs.Words.{block_bytes}
 use Rattle.aes_gcm.proofs.Blocks.{counter_bytes}

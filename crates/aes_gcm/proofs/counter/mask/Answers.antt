@@ -1,4 +1,4 @@
-use Rattle.std.proofs.Common.{◌∙◌, ◌++◌, ap, sym, get_or, drop, ℕ, List, arith}
+use Rattle.std.proofs.Common.{◌∙◌, ◌++◌, ap, get_or, ℕ, List, arith}
 use Rattle.std.proofs.lemmas.List.{drop_all}
 use Rattle.aes.specs.Words.{block_bytes}
 use Rattle.aes_gcm.proofs.counter.mask.Goals as goal

@@ -1,4 +1,4 @@
-use Rattle.std.proofs.Common.{◌≡◌, ◌<◌, ◌-◌, ◌*◌, ◌+◌, ◌/◌, ◌%◌, ◌^◌, ◌∙◌, get_or, ap, sym, arith}
+use Rattle.std.proofs.Common.{◌≡◌, ◌-◌, ◌*◌, ◌+◌, ◌/◌, ◌%◌, ◌^◌, ◌∙◌, get_or, ap, sym, arith}
 use Rattle.std.specs.Prelude.{bit_xor}
 use Rattle.ghash.specs.Nibbles.{times_x4, nibble_times}
 use Rattle.ghash.proofs.Nibbles.{sum_from, sum_from-zero, byte_passed, byte_added, sum_from-product}
@@ -19,10 +19,10 @@ loop-j-preserved c =
     let m : 8 * j + 8 ≡ 8 * (j + 1) = omega arith in
     record {
       sum = ap (λ t. bit_xor (bit_xor t (get_or c.args.table.now (byte / 16) 0)) (get_or c.args.moved.now (byte % 16) 0)) c.times_x8.ensures
-      ∙ ap (λ t. bit_xor (bit_xor (times_x4 (times_x4 s)) t) (get_or c.args.moved.now (byte % 16) 0)) (c.requires.table (byte / 16) (omega arith))
-      ∙ ap (λ t. bit_xor (bit_xor (times_x4 (times_x4 s)) (nibble_times b (byte / 16))) t) (c.requires.moved (byte % 16) (omega arith))
-      ∙ byte_added a b (128 - 8 * (j + 1)) (8 * j) s byte (omega arith) c.ranges.b.fits is (c.loop-j.invariant.sum ∙ ap (λ t. sum_from a b t (8 * j)) (sym k))
-      ∙ ap (sum_from a b (128 - 8 * (j + 1))) m;
+          ∙ ap (λ t. bit_xor (bit_xor (times_x4 (times_x4 s)) t) (get_or c.args.moved.now (byte % 16) 0)) (c.requires.table (byte / 16) (omega arith))
+          ∙ ap (λ t. bit_xor (bit_xor (times_x4 (times_x4 s)) (nibble_times b (byte / 16))) t) (c.requires.moved (byte % 16) (omega arith))
+          ∙ byte_added a b (128 - 8 * (j + 1)) (8 * j) s byte (omega arith) c.ranges.b.fits is (c.loop-j.invariant.sum ∙ ap (λ t. sum_from a b t (8 * j)) (sym k))
+          ∙ ap (sum_from a b (128 - 8 * (j + 1))) m;
       rest = byte_passed a c.loop-j.rest j c.loop-j.invariant.rest;
     }
 

@@ -1,4 +1,4 @@
-use Rattle.std.proofs.Common.{◌∙◌, ap, List, ℕ}
+use Rattle.std.proofs.Common.{◌∙◌, ap}
 use Rattle.aes.specs.Cipher.{cipher}
 use Rattle.aes_gcm.proofs.Blocks.{number_of_bytes, zero_bytes}
 use Rattle.aes_gcm.proofs.gcm_key.GcmKey.new.Goals as goal
