@@ -13,4 +13,5 @@ mod state;
 mod tables;
 
 pub use cipher::Aes;
+pub use expansion::expand_key;
 pub use plain::encrypt_step_by_step;

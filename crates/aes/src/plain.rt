@@ -1,7 +1,7 @@
 ghost use Rattle.std.specs.Prelude.{◌≡◌, ◌⊎◌, length};
 ghost use Rattle.aes.specs.Cipher.{cipher};
 
-use crate::expansion::expand;
+use crate::expansion::expand_key;
 use crate::state::{add_round_key, mix_columns, shift_rows, substitute_all};
 
 /// The block that `block` is enciphered to under a key of 16 or 32 bytes, step by step as in FIPS 197,
@@ -11,7 +11,7 @@ pub fn encrypt_step_by_step(key: &[u8], block: &[u8; 16]) -> [u8; 16]
     requires { (length key.now ≡ 16) ⊎ (length key.now ≡ 32) }
     ensures { result ≡ cipher key.now block.now }
 {
-    let expanded = expand(key);
+    let expanded = expand_key(key);
     let keys = expanded.as_slice();
     let rounds = key.len() / 4 + 6;
     let last = rounds - 1;

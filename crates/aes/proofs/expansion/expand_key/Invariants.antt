@@ -1,6 +1,6 @@
 use Rattle.std.proofs.Common.{◌≡◌, ◌+◌, ◌*◌, ◌≤◌, length}
 use Rattle.aes.specs.Cipher.{expanded}
-use Rattle.aes.proofs.expansion.expand.Given as goal
+use Rattle.aes.proofs.expansion.expand_key.Given as goal
 
 abbrev pub invariant-loop-n : goal.invariant-loop-n
 invariant-loop-n l = record {

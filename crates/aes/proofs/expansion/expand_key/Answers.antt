@@ -1,7 +1,7 @@
 use Rattle.std.proofs.Common.{◌≡◌, ◌+◌, ◌-◌, ◌*◌, ◌/◌, ◌∙◌, length, ap, arith, length-append, List, ℕ}
 use Rattle.aes.specs.Cipher.{expanded, next_word, round_keys}
 use Rattle.aes.proofs.Words.{expanded-more}
-use Rattle.aes.proofs.expansion.expand.Goals as goal
+use Rattle.aes.proofs.expansion.expand_key.Goals as goal
 
 pub loop-n-preserved : goal.loop-n-preserved
 loop-n-preserved c =
