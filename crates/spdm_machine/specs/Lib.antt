@@ -14,3 +14,5 @@ pub mod Responder
 pub mod Does
 pub mod May
 pub mod Heard
+pub mod SameSession
+pub mod Laws

@@ -2,3 +2,12 @@
 //! this project's code is proved against, and what its users have to believe. Nothing here runs. The
 //! definitions are in `specs/`, and each function below has a law about them as its contract.
 #![tactic(auto)]
+
+mod laws;
+
+pub use laws::{
+    chosen_is_allowed, does_what_it_may, four_are_held_at_most, free_id_is_free,
+    record_keeps_others, refused_clear_keeps_sessions, refused_in_chunks_keeps_sessions,
+    refused_record_keeps_sessions, repeat_adds_nothing, repeated_record_adds_nothing,
+    taken_is_repeated, taken_record_is_repeated, unopened_adds_nothing,
+};

@@ -1,0 +1,74 @@
+//! What holds of the responder's definitions at every history, each law as the contract of a function
+//! that does nothing.
+
+ghost use Rattle.spdm_machine.specs.Laws.{ChosenIsAllowed, DoesWhatItMay, FourAreHeldAtMost, FreeIdIsFree, RecordKeepsOthers, RefusedClearKeepsSessions, RefusedInChunksKeepsSessions, RefusedRecordKeepsSessions, RepeatAddsNothing, RepeatedRecordAddsNothing, TakenIsRepeated, TakenRecordIsRepeated, UnopenedAddsNothing};
+
+/// The values that this project's responder chooses at a place of a history that it made are ones that
+/// every responder of this profile may choose.
+pub fn chosen_is_allowed()
+    ensures { ChosenIsAllowed }
+{}
+
+/// What the responder does with a body, clear or a record, in a history that it made, it may do.
+pub fn does_what_it_may()
+    ensures { DoesWhatItMay }
+{}
+
+/// A clear request that is refused changes no session, under whatever values and draw.
+pub fn refused_clear_keeps_sessions()
+    ensures { RefusedClearKeepsSessions }
+{}
+
+/// A clear chunk whose carried request is refused changes no session.
+pub fn refused_in_chunks_keeps_sessions()
+    ensures { RefusedInChunksKeepsSessions }
+{}
+
+/// A refused request in a record changes no session but for the counts of records, the kept reply and
+/// the clock of its carrier.
+pub fn refused_record_keeps_sessions()
+    ensures { RefusedRecordKeepsSessions }
+{}
+
+/// A record changes nothing of a session with another id.
+pub fn record_keeps_others()
+    ensures { RecordKeepsOthers }
+{}
+
+/// A repeated clear request adds nothing to the history.
+pub fn repeat_adds_nothing()
+    ensures { RepeatAddsNothing }
+{}
+
+/// A repeated record, of a live session or of the one ended session that is kept, adds nothing to the
+/// history.
+pub fn repeated_record_adds_nothing()
+    ensures { RepeatedRecordAddsNothing }
+{}
+
+/// A record for no live session, or one that its session does not open, adds nothing to the history.
+pub fn unopened_adds_nothing()
+    ensures { UnopenedAddsNothing }
+{}
+
+/// A clear message that was taken and comes again at once under its tag gets the same body.
+pub fn taken_is_repeated()
+    ensures { TakenIsRepeated }
+{}
+
+/// A record that was taken and comes again at once gets the same body, under any tag and after
+/// END_SESSION too.
+pub fn taken_record_is_repeated()
+    ensures { TakenRecordIsRepeated }
+{}
+
+/// The id that the responder chooses for a new session is from 1 to 4 and that of no session past its
+/// handshake, unless there are four of them.
+pub fn free_id_is_free()
+    ensures { FreeIdIsFree }
+{}
+
+/// At most four sessions with an id from 1 to 4 are live past their handshake.
+pub fn four_are_held_at_most()
+    ensures { FourAreHeldAtMost }
+{}
