@@ -4,3 +4,4 @@ pub mod Refused
 pub mod Repeats
 pub mod Ids
 pub mod Does
+pub mod Handshakes
