@@ -16,3 +16,5 @@ pub mod May
 pub mod Heard
 pub mod SameSession
 pub mod Laws
+pub mod TagLog
+pub mod ResponderLog

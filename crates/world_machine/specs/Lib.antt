@@ -1,0 +1,4 @@
+pub mod Setup
+pub mod Packets
+pub mod Responding
+pub mod Lines

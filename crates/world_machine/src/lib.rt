@@ -1,0 +1,4 @@
+//! A responder, its requesters and the packets between them as definitions: what one event of a script
+//! does, what may go wrong by chance, and what has to hold. Nothing here runs. The definitions are in
+//! `specs/`, and each function below has a law about them as its contract.
+#![tactic(auto)]
