@@ -5,3 +5,8 @@ pub mod Repeats
 pub mod Ids
 pub mod Does
 pub mod Handshakes
+pub mod Codes
+pub mod Made
+pub mod Tests
+pub mod Fresh
+pub mod Live

@@ -3,7 +3,7 @@
 use Rattle.std.specs.Prelude.{◌≡◌, ◌≢◌, ◌≤◌, ◌⊎◌, ℕ, List, [], ◌∷◌, length, true, false, Some, None}
 use Rattle.chunking.specs.Collecting.{under_way, joined_with}
 use Rattle.spdm_basis.specs.declared.record_fault.RecordFault.{RecordFault}
-use Rattle.spdm_grammar.specs.Message.{ChunkMessage, ExchangeMessage}
+use Rattle.spdm_grammar.specs.Message.{ChunkMessage, ExchangeMessage, RequestMessage}
 use Rattle.spdm_grammar.specs.Message.RequestMessage.{PskExchange, ChunkSend}
 use Rattle.spdm_grammar.specs.declared.error_code.ErrorCode.{ErrorCode}
 use Rattle.spdm_machine.specs.Answer.{Free, answer_bytes, request_at}
@@ -16,14 +16,14 @@ use Rattle.spdm_machine.specs.LargeMessages.{chunks_of}
 use Rattle.spdm_machine.specs.May.{IsAllowed, ResponderMay}
 use Rattle.spdm_machine.specs.Place.{Place, clear_place, inside, held_of, free_id, is_held}
 use Rattle.spdm_machine.specs.Records.{opening_fault}
-use Rattle.spdm_machine.specs.Refusal.{refusal}
+use Rattle.spdm_machine.specs.Refusal.{refusal, code_of}
 use Rattle.spdm_machine.specs.Responder.{after, on_clear, on_record, is_repeat, repeats, sent_by}
 use Rattle.spdm_machine.specs.Responder.Outcome.{Same, Adds}
 use Rattle.spdm_machine.specs.SameSession.{IsSameSession}
 use Rattle.spdm_machine.specs.Session.{session_of, is_live, is_past_handshake, stage_of, id_in_record, id_in_exchange, last_of}
 use Rattle.spdm_machine.specs.Session.Event.{Began}
 use Rattle.spdm_machine.specs.Setup.{RspSetup}
-use Rattle.spdm_machine.specs.Turn.{Turn, takes, request_in, answer_in}
+use Rattle.spdm_machine.specs.Turn.{Turn, code_for, takes, request_in, answer_in}
 
 -- ---- What it does, it may.
 
@@ -93,6 +93,12 @@ abbrev pub TakenRecordIsRepeated : Type 0
 TakenRecordIsRepeated = (r : RspSetup) (h : History) (tag other : ℕ) (m : List ℕ) (f again : Free) (d next : Draw) (t : Turn) (reply : List ℕ)
     → on_record r h tag m f d ≡ Adds (Sealed tag m t reply d)
     → on_record r (Sealed tag m t reply d ∷ h) other m again next ≡ Same (sent_by (Sealed tag m t reply d))
+
+-- ---- Requests.
+
+-- The request that a message is at a place has the code that stands in the message.
+abbrev pub RequestHasItsCode : Type 0
+RequestHasItsCode = (p : Place) (m : List ℕ) (asked : RequestMessage) → request_at p m ≡ Some asked → code_for asked ≡ code_of m
 
 -- ---- Sessions and their ids.
 

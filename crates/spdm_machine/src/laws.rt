@@ -1,7 +1,7 @@
 //! What holds of the responder's definitions at every history, each law as the contract of a function
 //! that does nothing.
 
-ghost use Rattle.spdm_machine.specs.Laws.{ChosenIsAllowed, DoesWhatItMay, FourAreHeldAtMost, FreeIdIsFree, RecordKeepsOthers, RefusedClearKeepsSessions, RefusedInChunksKeepsSessions, RefusedRecordKeepsSessions, RepeatAddsNothing, RepeatedRecordAddsNothing, TakenIsRepeated, TakenRecordIsRepeated, UnopenedAddsNothing};
+ghost use Rattle.spdm_machine.specs.Laws.{ChosenIsAllowed, DoesWhatItMay, FourAreHeldAtMost, FreeIdIsFree, LiveIdIsFromOneToFour, NewSessionIsFresh, OneIsInHandshake, RecordKeepsOthers, RefusedClearKeepsSessions, RefusedInChunksKeepsSessions, RefusedRecordKeepsSessions, RepeatAddsNothing, RepeatedRecordAddsNothing, RequestHasItsCode, TakenExchangeIsFresh, TakenIsRepeated, TakenRecordIsRepeated, UnopenedAddsNothing};
 
 /// The values that this project's responder chooses at a place of a history that it made are ones that
 /// every responder of this profile may choose.
@@ -71,4 +71,31 @@ pub fn free_id_is_free()
 /// At most four sessions with an id from 1 to 4 are live past their handshake.
 pub fn four_are_held_at_most()
     ensures { FourAreHeldAtMost }
+{}
+
+/// A live session of a history that the responder made has an id from 1 to 4.
+pub fn live_id_is_from_one_to_four()
+    ensures { LiveIdIsFromOneToFour }
+{}
+
+/// Of two live sessions of a connection one at most is in its handshake.
+pub fn one_is_in_handshake()
+    ensures { OneIsInHandshake }
+{}
+
+/// A PSK_EXCHANGE that is not refused begins a session under the id of its answer, from 1 to 4, which
+/// no session past its handshake had, with the negotiation as it stands.
+pub fn new_session_is_fresh()
+    ensures { NewSessionIsFresh }
+{}
+
+/// Each clear message that takes a PSK_EXCHANGE, also as the last chunk of a large one, begins a
+/// session under an id that no session past its handshake had.
+pub fn taken_exchange_is_fresh()
+    ensures { TakenExchangeIsFresh }
+{}
+
+/// The request that a message spells has the code that stands in its second byte.
+pub fn request_has_its_code()
+    ensures { RequestHasItsCode }
 {}
