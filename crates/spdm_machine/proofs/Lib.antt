@@ -10,3 +10,5 @@ pub mod Made
 pub mod Tests
 pub mod Fresh
 pub mod Live
+pub mod Counts
+pub mod Staged

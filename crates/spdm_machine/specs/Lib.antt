@@ -18,3 +18,4 @@ pub mod SameSession
 pub mod Laws
 pub mod TagLog
 pub mod ResponderLog
+pub mod Counts
