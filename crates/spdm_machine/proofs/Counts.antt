@@ -1,5 +1,5 @@
 -- The next number of a direction is the count of the records under its purpose.
-use Rattle.std.proofs.Common.{refl, ◌∙◌, ◌≡◌, ◌≢◌, ◌≤◌, ◌<◌, ℕ, ◌+◌, List, [], ◌∷◌, true, false, Bool, Option, ap, sym, subst, arith, eq-eqb}
+use Rattle.std.proofs.Common.{refl, ◌∙◌, ◌≡◌, ◌≤◌, ◌<◌, ℕ, ◌+◌, List, [], ◌∷◌, true, false, Bool, Option, ap, sym, subst, arith, eq-eqb}
 use Rattle.std.proofs.lemmas.Bool.{false≢true}
 use Rattle.std.proofs.lemmas.Bool.Decides.{nat_tests}
 use Rattle.std.specs.Prelude.{if◌then◌else◌, ◌==◌, ◌&&◌, ◌||◌}
@@ -17,7 +17,7 @@ use Rattle.spdm_machine.specs.Counts.{same_purpose, same_kind, same_direction, t
 use Rattle.spdm_machine.specs.Records.{purpose_in, request_purpose, response_purpose, reply_purpose}
 use Rattle.spdm_machine.specs.Session.{Events, stage_of, is_past_handshake, request_epoch, response_epoch, request_next, response_next, t1_of, t2_of}
 use Rattle.spdm_machine.specs.Session.Event.{Began, Heard, Waited}
-use Rattle.spdm_machine.specs.Turn.{Turn, Effect, code_in, takes, updates}
+use Rattle.spdm_machine.specs.Turn.{Effect, code_in, takes, updates}
 use Rattle.spdm_machine.specs.Turn.Effect.{NoEffect, Took, TookData}
 
 -- ---- Purposes.
@@ -59,7 +59,7 @@ epoch_in Handshake psk t1 t2 d epoch = omega arith
 epoch_in Open psk t1 t2 d epoch = omega arith
 epoch_in Verifying psk t1 t2 d epoch = omega arith
 
-past_purpose : (stage : Stage) (psk t1 t2 : List ℕ) (d : Direction) (epoch : ℕ) → is_past_handshake stage ≡ true → purpose_in stage psk t1 t2 d epoch ≡ application_record psk t2 d epoch
+pub past_purpose : (stage : Stage) (psk t1 t2 : List ℕ) (d : Direction) (epoch : ℕ) → is_past_handshake stage ≡ true → purpose_in stage psk t1 t2 d epoch ≡ application_record psk t2 d epoch
 past_purpose Handshake psk t1 t2 d epoch past = absurd (false≢true past)
 past_purpose Open psk t1 t2 d epoch past = refl
 past_purpose Verifying psk t1 t2 d epoch past = refl
@@ -161,7 +161,7 @@ requests_counted psk (Waited seconds ∷ s) staged = requests_counted psk s stag
 -- ---- Responses.
 
 -- The purpose of a reply, by whether it answers UpdateAllKeys.
-abbrev reply_by : Bool → ℕ → Purpose → Purpose
+abbrev pub reply_by : Bool → ℕ → Purpose → Purpose
 reply_by all epoch p = if all then record p { epoch = epoch + 1 } else p
 
 reply_kind : (all : Bool) (epoch : ℕ) (p : Purpose) → (reply_by all epoch p).kind ≡ p.kind
@@ -188,7 +188,7 @@ reply_before true e k p within h = h
 reply_before false e k p within h = omega arith
 
 -- No reply is one of a later epoch.
-none_sealed_later : (psk : List ℕ) (p : Purpose) (s : Events) → response_epoch s < p.epoch → sealed_under psk p s ≡ 0
+pub none_sealed_later : (psk : List ℕ) (p : Purpose) (s : Events) → response_epoch s < p.epoch → sealed_under psk p s ≡ 0
 none_sealed_later psk p [] later = refl
 none_sealed_later psk p (Began n x a ∷ s) later = none_sealed_later psk p s later
 none_sealed_later psk p (Waited seconds ∷ s) later = none_sealed_later psk p s later

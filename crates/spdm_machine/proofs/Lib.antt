@@ -12,3 +12,4 @@ pub mod Fresh
 pub mod Live
 pub mod Counts
 pub mod Staged
+pub mod Updates

@@ -16,8 +16,8 @@ use Rattle.spdm_machine.proofs.Refused.{turn_in}
 use Rattle.spdm_machine.proofs.Tests.{form_shown}
 use Rattle.spdm_machine.specs.Answer.{Free, answer_bytes, request_at}
 use Rattle.spdm_machine.specs.Counts.{IsStaged}
-use Rattle.spdm_machine.specs.Does.{IsMade, record_does, record_chosen}
-use Rattle.spdm_machine.specs.Handling.{turn_of, turn_by, effect_of, chunk_in, chunk_turn}
+use Rattle.spdm_machine.specs.Does.{IsMade, record_chosen}
+use Rattle.spdm_machine.specs.Handling.{turn_of, turn_by, effect_of, chunk_in}
 use Rattle.spdm_machine.specs.History.{History, ended_of, phase_of, clear_turns, negotiation_of}
 use Rattle.spdm_machine.specs.History.Entry.{Clear, Sealed, Queued, Ticked, Dropped}
 use Rattle.spdm_machine.specs.Keys.{Draw}
@@ -25,7 +25,7 @@ use Rattle.spdm_machine.specs.Place.{Place, session_place}
 use Rattle.spdm_machine.specs.Records.{opening_fault, opened}
 use Rattle.spdm_machine.specs.Refusal.{refusal, stage_allows, has_pending, code_of}
 use Rattle.spdm_machine.specs.Responder.{Outcome, on_record, to_session, in_session, in_session_by, session_turn, session_turn_by, inner_refusal, data_turn, repeats, kept_record, record_body, decrypt_error}
-use Rattle.spdm_machine.specs.Responder.Outcome.{Same, Unopened, Adds}
+use Rattle.spdm_machine.specs.Responder.Outcome.{Same, Unopened}
 use Rattle.spdm_machine.specs.Session.{Events, session_of, stage_of, is_past_handshake, last_of, id_in_record, id_in_exchange, is_timed, period_of, idle_of, after_record, after_tick, after_clear}
 use Rattle.spdm_machine.specs.Session.Event.{Began, Heard, Waited}
 use Rattle.spdm_machine.specs.Setup.{RspSetup}

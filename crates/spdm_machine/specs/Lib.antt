@@ -19,3 +19,4 @@ pub mod Laws
 pub mod TagLog
 pub mod ResponderLog
 pub mod Counts
+pub mod NumberLaws

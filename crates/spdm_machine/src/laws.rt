@@ -2,6 +2,7 @@
 //! that does nothing.
 
 ghost use Rattle.spdm_machine.specs.Laws.{ChosenIsAllowed, DoesWhatItMay, FourAreHeldAtMost, FreeIdIsFree, LiveIdIsFromOneToFour, NewSessionIsFresh, OneIsInHandshake, RecordKeepsOthers, RefusedClearKeepsSessions, RefusedInChunksKeepsSessions, RefusedRecordKeepsSessions, RepeatAddsNothing, RepeatedRecordAddsNothing, RequestHasItsCode, TakenExchangeIsFresh, TakenIsRepeated, TakenRecordIsRepeated, UnopenedAddsNothing};
+ghost use Rattle.spdm_machine.specs.NumberLaws.{FinishBeginsAtZero, MadeIsStaged, NextNumbersAreCounts, ReplyNumberIsCount, UpdateAllIsAnsweredAtZero, UpdateBeginsAtZero};
 
 /// The values that this project's responder chooses at a place of a history that it made are ones that
 /// every responder of this profile may choose.
@@ -98,4 +99,36 @@ pub fn taken_exchange_is_fresh()
 /// The request that a message spells has the code that stands in its second byte.
 pub fn request_has_its_code()
     ensures { RequestHasItsCode }
+{}
+
+/// In a session of a history that the responder made PSK_FINISH was taken in the handshake alone, and
+/// KEY_UPDATE after it alone.
+pub fn made_is_staged()
+    ensures { MadeIsStaged }
+{}
+
+/// The next number of each direction of a session is the count of the records under its present purpose.
+pub fn next_numbers_are_counts()
+    ensures { NextNumbersAreCounts }
+{}
+
+/// The number of an answer is the count of the records that were sealed under its purpose before it, so
+/// that no number comes twice under one purpose.
+pub fn reply_number_is_count()
+    ensures { ReplyNumberIsCount }
+{}
+
+/// After PSK_FINISH the numbers of both directions begin at 0.
+pub fn finish_begins_at_zero()
+    ensures { FinishBeginsAtZero }
+{}
+
+/// After UpdateKey and UpdateAllKeys the numbers of the requests begin at 0.
+pub fn update_begins_at_zero()
+    ensures { UpdateBeginsAtZero }
+{}
+
+/// UpdateAllKeys is answered by record 0 of the new response key, and 1 is the next number of a response.
+pub fn update_all_is_answered_at_zero()
+    ensures { UpdateAllIsAnsweredAtZero }
 {}
