@@ -1,0 +1,4 @@
+mod Logs
+mod Connections
+mod Alike
+mod Rows

@@ -1,4 +1,11 @@
 pub mod Setup
 pub mod Packets
 pub mod Responding
+pub mod Requesting
 pub mod Lines
+pub mod Happenings
+pub mod World
+pub mod Trace
+pub mod Chance
+pub mod Agreement
+pub mod Laws

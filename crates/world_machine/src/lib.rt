@@ -2,3 +2,7 @@
 //! does, what may go wrong by chance, and what has to hold. Nothing here runs. The definitions are in
 //! `specs/`, and each function below has a law about them as its contract.
 #![tactic(auto)]
+
+mod laws;
+
+pub use laws::{chance_stays, others_stand, own_decide};

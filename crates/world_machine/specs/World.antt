@@ -1,0 +1,262 @@
+-- A responder, its requesters and the packets between them; and what one event of a script does: the lines that
+-- it writes, and the world after it. This project's own.
+use Rattle.std.specs.Prelude.{◌+◌, ◌==◌, ◌&&◌, nat_lt, nat_le, ℕ, zero, suc, List, [], ◌∷◌, ◌++◌, length, map, find, slice_index, if◌then◌else◌, Bool, true, false, Option, Some, None}
+use Rattle.requester_machine.specs.Message.{Command}
+use Rattle.requester_machine.specs.Shown as requester_shown
+use Rattle.requester_machine.specs.History as requester_history
+use Rattle.spdm_basis.specs.declared.session_id.SessionId.{SessionId}
+use Rattle.spdm_grammar.specs.declared.event.Event.{Event}
+use Rattle.spdm_grammar.specs.declared.event.Event.TheVariants as event
+use Rattle.spdm_grammar.specs.declared.event.Finished.{Finished}
+use Rattle.spdm_grammar.specs.declared.event.Finished.TheVariants as finished
+use Rattle.spdm_machine.specs.Heard.{View, views_of, no_id}
+use Rattle.spdm_machine.specs.History.{clear_turns, phase_of}
+use Rattle.spdm_machine.specs.TagLog.{Act, Log}
+use Rattle.world_machine.specs.Happenings.{Happening, Entry}
+use Rattle.world_machine.specs.Happenings.Happening.{Told, Reply, Deliver, Lose, Inject, Pump, Tick, Show}
+use Rattle.world_machine.specs.Lines.{Line, Whose}
+use Rattle.world_machine.specs.Requesting.{Requesting, CommandStep, PacketStep, numbered, requester_told, requester_given}
+use Rattle.world_machine.specs.Responding.{Responding, Connection, RspStep, new_responding, connection_of, responder_hears, reply_fault_of, queues, ticks}
+use Rattle.world_machine.specs.Setup.{WorldSetup}
+
+-- A packet that was sent, and whether it waits to be given to its end. Its number is its place among all packets
+-- sent, counted from 1.
+pub record SentPacket : Type 0 where
+  pub bytes : List ℕ
+  pub waits : Bool
+
+-- The requesters in order, the responder, the packets sent, in order, and the tags that all ends computed and
+-- compared, the newest first.
+pub record World : Type 0 where
+  pub requesters : List Requesting
+  pub responder : Responding
+  pub sent : List SentPacket
+  pub log : Log
+
+-- Nothing has happened yet.
+abbrev pub new_world : WorldSetup → World
+new_world w = record { requesters = numbered 0 w.requesters; responder = new_responding w; sent = []; log = [] }
+
+-- The lines that something writes, and the world after it.
+pub record WorldStep : Type 0 where
+  pub lines : List Line
+  pub after : World
+
+-- Nothing happens.
+abbrev pub rests : World → WorldStep
+rests world = record { lines = []; after = world }
+
+-- One step behind another.
+abbrev pub behind : WorldStep → (World → WorldStep) → WorldStep
+behind first second = record { lines = first.lines ++ (second first.after).lines; after = (second first.after).after }
+
+-- ---- Packets sent.
+
+-- They wait.
+abbrev pub waiting : List ℕ → SentPacket
+waiting bytes = record { bytes = bytes; waits = true }
+
+abbrev pub with_sent : List SentPacket → List (List ℕ) → List SentPacket
+with_sent sent packets = sent ++ map waiting packets
+
+-- Their lines, behind so many that were sent before.
+abbrev pub packet_lines : ℕ → List (List ℕ) → List Line
+packet_lines count [] = []
+packet_lines count (bytes ∷ others) = Line.Packet (count + 1) bytes ∷ packet_lines (count + 1) others
+
+-- ---- Requesters.
+
+abbrev pub is_number : ℕ → Requesting → Bool
+is_number n a = a.number == n
+
+abbrev pub requester_of : ℕ → World → Option Requesting
+requester_of n world = find (is_number n) world.requesters
+
+abbrev pub replaced : Requesting → Requesting → Requesting
+replaced new old = if old.number == new.number then new else old
+
+abbrev pub with_requester : Requesting → List Requesting → List Requesting
+with_requester new requesters = map (replaced new) requesters
+
+-- A requester was told a command.
+abbrev pub told_by : World → Requesting → CommandStep → WorldStep
+told_by world a step = record {
+  lines = Line.Command a.number step.fault ∷ packet_lines (length world.sent) step.sent;
+  after = record { requesters = with_requester step.after world.requesters; responder = world.responder; sent = with_sent world.sent step.sent; log = step.acts ++ world.log };
+}
+
+abbrev pub told : WorldSetup → World → Command → Option Requesting → WorldStep
+told w world command None = rests world
+told w world command (Some a) = told_by world a (requester_told w a command)
+
+-- ---- A packet is given to a requester.
+
+-- The session of an event.
+abbrev pub id_in_finished : Finished → SessionId
+id_in_finished (finished.Answered id) = id
+id_in_finished _ = no_id
+
+abbrev pub id_in_event : Event → SessionId
+id_in_event (event.Done what) = id_in_finished what
+id_in_event _ = no_id
+
+-- Lines of application data and of a measurement record that were just taken.
+abbrev pub data_lines : Whose → SessionId → Option (List ℕ) → List Line
+data_lines who id None = []
+data_lines who id (Some bytes) = Line.Data who id bytes ∷ []
+
+abbrev pub record_lines : ℕ → Option (List ℕ) → List Line
+record_lines n None = []
+record_lines n (Some bytes) = Line.Record n bytes ∷ []
+
+abbrev pub given_to_requester : World → Requesting → PacketStep → WorldStep
+given_to_requester world a step = record {
+  lines = Line.ToRequester a.number step.event
+      ∷ data_lines (Whose.Requester a.number) (id_in_event step.event) step.taken
+      ++ record_lines a.number step.measured
+      ++ packet_lines (length world.sent) step.sent;
+  after = record { requesters = with_requester step.after world.requesters; responder = world.responder; sent = with_sent world.sent step.sent; log = step.acts ++ world.log };
+}
+
+-- ---- A packet is given to the responder.
+
+-- The requester with an end point.
+abbrev pub is_at : ℕ → Requesting → Bool
+is_at eid a = a.setup.eid == eid
+
+abbrev pub number_in : Option Requesting → ℕ
+number_in None = 0
+number_in (Some a) = a.number
+
+abbrev pub number_at : ℕ → World → ℕ
+number_at eid world = number_in (find (is_at eid) world.requesters)
+
+abbrev pub taken_lines : ℕ → Option (SessionId × List ℕ) → List Line
+taken_lines n None = []
+taken_lines n (Some taken) = Line.Data (Whose.Responder n) taken.0 taken.1 ∷ []
+
+-- Byte 2 of the packet names the requester.
+abbrev pub given_to_responder : World → List ℕ → RspStep → WorldStep
+given_to_responder world packet step = record {
+  lines = Line.ToResponder step.heard
+      ∷ taken_lines (number_at (slice_index packet 2) world) step.taken
+      ++ packet_lines (length world.sent) step.sent;
+  after = record { requesters = world.requesters; responder = step.after; sent = with_sent world.sent step.sent; log = step.acts ++ world.log };
+}
+
+-- ---- A packet is given to the end that its byte 1 names; one of fewer than two bytes, and one for no end, to
+-- nobody.
+
+abbrev pub given_to : WorldSetup → World → List ℕ → Option Requesting → WorldStep
+given_to w world packet None = record { lines = Line.ToNobody ∷ []; after = world }
+given_to w world packet (Some a) = given_to_requester world a (requester_given w a packet)
+
+abbrev pub given : WorldSetup → World → List ℕ → WorldStep
+given w world packet =
+    if nat_lt (length packet) 2 then given_to w world packet None
+    else (if slice_index packet 1 == w.responder.eid then given_to_responder world packet (responder_hears w world.responder packet)
+    else given_to w world packet (find (is_at (slice_index packet 1)) world.requesters))
+
+-- ---- Packets by number.
+
+abbrev pub packet_at : ℕ → List SentPacket → Option (List ℕ)
+packet_at place [] = None
+packet_at zero (packet ∷ others) = Some packet.bytes
+packet_at (suc place) (packet ∷ others) = packet_at place others
+
+-- Packet number 0 was never sent.
+abbrev pub packet_of : ℕ → List SentPacket → Option (List ℕ)
+packet_of zero sent = None
+packet_of (suc place) sent = packet_at place sent
+
+-- It waits no longer.
+abbrev pub stopped_at : ℕ → List SentPacket → List SentPacket
+stopped_at place [] = []
+stopped_at zero (packet ∷ others) = record packet { waits = false } ∷ others
+stopped_at (suc place) (packet ∷ others) = packet ∷ stopped_at place others
+
+abbrev pub stopped_of : ℕ → List SentPacket → List SentPacket
+stopped_of zero sent = sent
+stopped_of (suc place) sent = stopped_at place sent
+
+abbrev pub without_waiting : ℕ → World → World
+without_waiting number world = record world { sent = stopped_of number world.sent }
+
+-- A packet is given by its number, also one that no longer waits; or it waits no longer.
+abbrev pub delivers : WorldSetup → World → ℕ → Option (List ℕ) → WorldStep
+delivers w world number None = record { lines = Line.NoPacket number ∷ []; after = world }
+delivers w world number (Some packet) = given w (without_waiting number world) packet
+
+abbrev pub loses : World → ℕ → Option (List ℕ) → WorldStep
+loses world number None = record { lines = Line.NoPacket number ∷ []; after = world }
+loses world number (Some packet) = rests (without_waiting number world)
+
+-- The least number of a waiting packet.
+abbrev pub next_number : Option ℕ → Option ℕ
+next_number None = None
+next_number (Some number) = Some (number + 1)
+
+abbrev pub first_waiting : List SentPacket → Option ℕ
+first_waiting [] = None
+first_waiting (packet ∷ others) = if packet.waits then Some 1 else next_number (first_waiting others)
+
+-- A turn: where a packet waits it is given, and what follows goes on from there.
+abbrev pub turn : WorldSetup → World → (World → WorldStep) → Option ℕ → WorldStep
+turn w world next None = rests world
+turn w world next (Some number) = behind (delivers w world number (packet_of number world.sent)) next
+
+-- The waiting packet of least number is given, so often at most.
+unfoldable pub pumps : WorldSetup → ℕ → World → WorldStep
+pumps w zero world = rests world
+pumps w (suc count) world = turn w world (pumps w count) (first_waiting world.sent)
+
+-- ---- Queued data.
+
+abbrev pub replied_by : World → ℕ → List ℕ → Option Connection → WorldStep
+replied_by world eid bytes connection = record {
+  lines = Line.Reply (reply_fault_of connection bytes) ∷ [];
+  after = record world { responder = queues (reply_fault_of connection bytes) world.responder eid bytes };
+}
+
+abbrev pub replied : World → List ℕ → Option Requesting → WorldStep
+replied world bytes None = rests world
+replied world bytes (Some a) = replied_by world a.setup.eid bytes (connection_of a.setup.eid world.responder.connections)
+
+-- ---- The ends as they are shown: by requester, its phase and sessions, and those of the responder towards it.
+
+abbrev pub session_lines : Whose → List View → List Line
+session_lines who [] = []
+session_lines who (view ∷ others) = Line.Session who view ∷ session_lines who others
+
+abbrev pub connection_lines : ℕ → Option Connection → List Line
+connection_lines n None = []
+connection_lines n (Some c) = Line.State (Whose.Responder n) (phase_of (clear_turns c.history)) ∷ session_lines (Whose.Responder n) (views_of c.history)
+
+abbrev pub end_lines : Responding → Requesting → List Line
+end_lines r a =
+    Line.State (Whose.Requester a.number) (requester_history.phase_of a.history)
+    ∷ session_lines (Whose.Requester a.number) (requester_shown.views_of a.history)
+    ++ connection_lines a.number (connection_of a.setup.eid r.connections)
+
+abbrev pub all_end_lines : Responding → List Requesting → List Line
+all_end_lines r [] = []
+all_end_lines r (a ∷ others) = end_lines r a ++ all_end_lines r others
+
+abbrev pub shown_lines : World → List Line
+shown_lines world = all_end_lines world.responder world.requesters
+
+-- ---- One event.
+
+unfoldable pub happens : WorldSetup → World → Happening → WorldStep
+happens w world (Told n command) = told w world command (requester_of n world)
+happens w world (Reply n bytes) = replied world bytes (requester_of n world)
+happens w world (Deliver number) = delivers w world number (packet_of number world.sent)
+happens w world (Lose number) = loses world number (packet_of number world.sent)
+happens w world (Inject bytes) = given w world bytes
+happens w world (Pump count) = pumps w count world
+happens w world (Tick seconds) = rests (record world { responder = ticks world.responder seconds })
+happens w world Show = record { lines = shown_lines world; after = world }
+
+-- An event with its line in front.
+abbrev pub entry_step : WorldSetup → World → Entry → WorldStep
+entry_step w world entry = record { lines = Line.At entry.line ∷ (happens w world entry.happening).lines; after = (happens w world entry.happening).after }
