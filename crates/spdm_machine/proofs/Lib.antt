@@ -13,3 +13,4 @@ pub mod Live
 pub mod Counts
 pub mod Staged
 pub mod Updates
+pub mod Rows
