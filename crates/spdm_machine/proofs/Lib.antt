@@ -14,3 +14,8 @@ pub mod Counts
 pub mod Staged
 pub mod Updates
 pub mod Rows
+pub mod Phased
+pub mod Under
+pub mod Opened
+pub mod Held
+pub mod Connection

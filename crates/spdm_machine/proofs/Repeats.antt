@@ -38,13 +38,13 @@ taken r h tag f other d next t adds is = rw (kept_of-taken tag t d h is) (rw (ag
 
 -- ---- The same for a record.
 
-abbrev entry_in : Outcome → Option Entry
+abbrev pub entry_in : Outcome → Option Entry
 entry_in (Same body) = None
 entry_in (Unopened body) = None
 entry_in (Adds e) = Some e
 
 -- An outcome that adds is not that of the first branch, which adds nothing.
-not_first : (b : Bool) (o u : Outcome) (e : Entry) → entry_in o ≡ None → (if b then o else u) ≡ Adds e → (b ≡ false) × (u ≡ Adds e)
+pub not_first : (b : Bool) (o u : Outcome) (e : Entry) → entry_in o ≡ None → (if b then o else u) ≡ Adds e → (b ≡ false) × (u ≡ Adds e)
 not_first true o u e none is = absurd (none-some e (sym none ∙ ap entry_in is))
 not_first false o u e none is = (refl, is)
 

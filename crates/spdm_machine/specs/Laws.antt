@@ -1,26 +1,28 @@
 -- What holds of every responder and every history: the laws of the definitions. Each is the contract of a
 -- function of this crate, which has its proof.
-use Rattle.std.specs.Prelude.{◌≡◌, ◌≢◌, ◌≤◌, ◌⊎◌, ℕ, List, [], ◌∷◌, length, true, false, Some, None}
+use Rattle.std.specs.Prelude.{◌≡◌, ◌≢◌, ◌≤◌, ◌⊎◌, ℕ, List, [], ◌∷◌, length, true, false, Some, None, nat_eq}
+use Rattle.std.specs.List.{AllByRecursion, IsDistinct}
 use Rattle.chunking.specs.Collecting.{under_way, joined_with}
 use Rattle.spdm_basis.specs.declared.record_fault.RecordFault.{RecordFault}
 use Rattle.spdm_grammar.specs.Message.{ChunkMessage, ExchangeMessage, RequestMessage}
 use Rattle.spdm_grammar.specs.Message.RequestMessage.{PskExchange, ChunkSend}
 use Rattle.spdm_grammar.specs.declared.error_code.ErrorCode.{ErrorCode}
+use Rattle.spdm_grammar.specs.declared.phase.Phase.TheVariants.{Negotiated}
 use Rattle.spdm_machine.specs.Answer.{Free, answer_bytes, request_at}
 use Rattle.spdm_machine.specs.Does.{IsMade, chosen, responder_does}
 use Rattle.spdm_machine.specs.Handling.{turn_of}
-use Rattle.spdm_machine.specs.History.{History, kept_of, ended_of, clear_turns, negotiation_of}
+use Rattle.spdm_machine.specs.History.{History, kept_of, ended_of, clear_turns, negotiation_of, phase_of}
 use Rattle.spdm_machine.specs.History.Entry.{Clear, Sealed}
 use Rattle.spdm_machine.specs.Keys.{Draw}
 use Rattle.spdm_machine.specs.LargeMessages.{chunks_of}
 use Rattle.spdm_machine.specs.May.{IsAllowed, ResponderMay}
 use Rattle.spdm_machine.specs.Place.{Place, clear_place, inside, held_of, free_id, is_held}
-use Rattle.spdm_machine.specs.Records.{opening_fault}
+use Rattle.spdm_machine.specs.Records.{opening_fault, opened, reply_record}
 use Rattle.spdm_machine.specs.Refusal.{refusal, code_of}
-use Rattle.spdm_machine.specs.Responder.{after, on_clear, on_record, is_repeat, repeats, sent_by}
+use Rattle.spdm_machine.specs.Responder.{after, on_clear, on_record, is_repeat, repeats, sent_by, session_turn, inner_reply}
 use Rattle.spdm_machine.specs.Responder.Outcome.{Same, Adds}
-use Rattle.spdm_machine.specs.SameSession.{IsSameSession}
-use Rattle.spdm_machine.specs.Session.{session_of, is_live, is_past_handshake, stage_of, id_in_record, id_in_exchange, last_of}
+use Rattle.spdm_machine.specs.SameSession.{IsSameSession, IsSameConnection}
+use Rattle.spdm_machine.specs.Session.{session_of, session_negotiation, is_live, is_past_handshake, stage_of, id_in_record, id_in_exchange, last_of}
 use Rattle.spdm_machine.specs.Session.Event.{Began}
 use Rattle.spdm_machine.specs.Setup.{RspSetup}
 use Rattle.spdm_machine.specs.Turn.{Turn, code_for, takes, request_in, answer_in}
@@ -42,6 +44,10 @@ abbrev pub RefusedClearKeepsSessions : Type 0
 RefusedClearKeepsSessions = (r : RspSetup) (h : History) (tag : ℕ) (m : List ℕ) (f : Free) (d : Draw) (e : ErrorCode)
     → refusal r (clear_place h) m f ≡ Some e
     → (id : ℕ) → session_of id (after h (on_clear r h tag m f d)) ≡ session_of id h
+
+abbrev pub RefusedClearKeepsConnection : Type 0
+RefusedClearKeepsConnection = (r : RspSetup) (h : History) (tag : ℕ) (m : List ℕ) (f : Free) (d : Draw) (e : ErrorCode)
+    → refusal r (clear_place h) m f ≡ Some e → IsSameConnection h (after h (on_clear r h tag m f d))
 
 -- The large request that this chunk completes at a place.
 abbrev pub completed_at : Place → ChunkMessage → List ℕ
@@ -94,6 +100,18 @@ TakenRecordIsRepeated = (r : RspSetup) (h : History) (tag other : ℕ) (m : List
     → on_record r h tag m f d ≡ Adds (Sealed tag m t reply d)
     → on_record r (Sealed tag m t reply d ∷ h) other m again next ≡ Same (sent_by (Sealed tag m t reply d))
 
+-- What a record shows that was taken: it is no repeat, its session is live and opens it, its turn is that of
+-- its inner message, and it is answered by the record of the answer.
+abbrev pub TakenRecordIsOpened : Type 0
+TakenRecordIsOpened = (r : RspSetup) (h : History) (tag : ℕ) (m : List ℕ) (f : Free) (d : Draw) (t : Turn) (reply : List ℕ)
+    → on_record r h tag m f d ≡ Adds (Sealed tag m t reply d)
+    → (repeats (ended_of h) m ≡ false)
+    × (is_live (session_of (id_in_record m) h) ≡ true)
+    × (repeats (last_of (session_of (id_in_record m) h)) m ≡ false)
+    × (opening_fault r.psk (session_of (id_in_record m) h) m ≡ None)
+    × (session_turn r (session_of (id_in_record m) h) (opened r.psk (session_of (id_in_record m) h) m) f ≡ t)
+    × (reply_record r.psk (session_of (id_in_record m) h) t (inner_reply t) f.pad ≡ reply)
+
 -- ---- Requests.
 
 -- The request that a message is at a place has the code that stands in the message.
@@ -110,6 +128,16 @@ LiveIdIsFromOneToFour = (r : RspSetup) (h : History) (id : ℕ) → IsMade r h �
 
 abbrev pub FourAreHeldAtMost : Type 0
 FourAreHeldAtMost = (h : History) → held_of h ≤ 4
+
+-- However many different ids are those of sessions past their handshake, they are four at most.
+abbrev pub HeldAreFew : Type 0
+HeldAreFew = (r : RspSetup) (h : History) (ids : List ℕ) → IsMade r h → IsDistinct nat_eq ids → AllByRecursion (λ id. is_held h id ≡ true) ids
+    → length ids ≤ 4
+
+-- A session is live in phase Negotiated alone, and its negotiation is the one of the connection.
+abbrev pub LiveIsUnderNegotiation : Type 0
+LiveIsUnderNegotiation = (r : RspSetup) (h : History) (id : ℕ) → IsMade r h → is_live (session_of id h) ≡ true
+    → (phase_of (clear_turns h) ≡ Negotiated) × (session_negotiation (session_of id h) ≡ negotiation_of (clear_turns h))
 
 -- Of two sessions one at most is in its handshake.
 abbrev pub OneIsInHandshake : Type 0

@@ -1,6 +1,6 @@
 -- What holds of the numbers of records: the laws of the counts, each the contract of a function of this
 -- crate.
-use Rattle.std.specs.Prelude.{◌≡◌, ◌||◌, ℕ, List, ◌∷◌, true}
+use Rattle.std.specs.Prelude.{◌≡◌, ◌≤◌, ◌||◌, ℕ, List, ◌∷◌, true}
 use Rattle.spdm_machine.specs.Counts.{IsStaged, taken_under, sealed_under}
 use Rattle.spdm_machine.specs.Does.{IsMade}
 use Rattle.spdm_machine.specs.History.{History}
@@ -39,3 +39,7 @@ UpdateBeginsAtZero = (s : Events) (m : List ℕ) (t : Turn) (reply : List ℕ) �
 abbrev pub UpdateAllIsAnsweredAtZero : Type 0
 UpdateAllIsAnsweredAtZero = (psk : List ℕ) (s : Events) (m : List ℕ) (t : Turn) (reply : List ℕ) → updates 2 t ≡ true → is_past_handshake (stage_of s) ≡ true
     → (reply_number s t ≡ 0) × (reply_purpose psk s t ≡ response_purpose psk (Heard m t reply ∷ s)) × (response_next (Heard m t reply ∷ s) ≡ 1)
+
+-- No key of a session of a made history seals more than 65,536 records, or takes more.
+abbrev pub NumbersAreFew : Type 0
+NumbersAreFew = (r : RspSetup) (h : History) (id : ℕ) → IsMade r h → (request_next (session_of id h) ≤ 65536) × (response_next (session_of id h) ≤ 65536)

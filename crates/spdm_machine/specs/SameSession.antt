@@ -1,6 +1,7 @@
--- When a session is what it was.
+-- When a session, and a connection, is what it was.
 use Rattle.std.specs.Prelude.{◌≡◌, ℕ, List}
-use Rattle.spdm_machine.specs.LargeMessages.{pending_of, handle_of, given_of}
+use Rattle.spdm_machine.specs.History.{History, clear_turns, phase_of, negotiation_of, kept_of, ended_of, queue_of, draws_of, all_taken}
+use Rattle.spdm_machine.specs.LargeMessages.{pending_of, handle_of, given_of, larges_of, chunks_of}
 use Rattle.spdm_machine.specs.Records.{request_purpose, response_purpose}
 use Rattle.spdm_machine.specs.Session.{Events, is_live, stage_of, id_bytes, t1_of, t2_of, session_negotiation, session_terms, request_epoch, response_epoch, taken_of, turns_of}
 
@@ -23,3 +24,18 @@ pub record IsSameSession (old new : Events) : Type 0 where
   pub pending : (transfer : ℕ) → pending_of transfer (turns_of new) ≡ pending_of transfer (turns_of old)
   pub handle : handle_of (turns_of new) ≡ handle_of (turns_of old)
   pub given : given_of (turns_of new) ≡ given_of (turns_of old)
+
+-- What is counted for the whole connection and for its clear part is as it was.
+pub record IsSameConnection (old new : History) : Type 0 where
+  pub phase : phase_of (clear_turns new) ≡ phase_of (clear_turns old)
+  pub negotiation : negotiation_of (clear_turns new) ≡ negotiation_of (clear_turns old)
+  pub kept : kept_of new ≡ kept_of old
+  pub ended : ended_of new ≡ ended_of old
+  pub queue : queue_of new ≡ queue_of old
+  pub draws : draws_of new ≡ draws_of old
+  pub taken : all_taken new ≡ all_taken old
+  pub pending : (transfer : ℕ) → pending_of transfer (clear_turns new) ≡ pending_of transfer (clear_turns old)
+  pub handle : handle_of (clear_turns new) ≡ handle_of (clear_turns old)
+  pub given : given_of (clear_turns new) ≡ given_of (clear_turns old)
+  pub larges : larges_of (clear_turns new) ≡ larges_of (clear_turns old)
+  pub chunks : chunks_of (clear_turns new) ≡ chunks_of (clear_turns old)

@@ -1,8 +1,8 @@
 //! What holds of the responder's definitions at every history, each law as the contract of a function
 //! that does nothing.
 
-ghost use Rattle.spdm_machine.specs.Laws.{ChosenIsAllowed, DoesWhatItMay, FourAreHeldAtMost, FreeIdIsFree, LiveIdIsFromOneToFour, NewSessionIsFresh, OneIsInHandshake, RecordKeepsOthers, RefusedClearKeepsSessions, RefusedInChunksKeepsSessions, RefusedRecordKeepsSessions, RepeatAddsNothing, RepeatedRecordAddsNothing, RequestHasItsCode, TakenExchangeIsFresh, TakenIsRepeated, TakenRecordIsRepeated, UnopenedAddsNothing};
-ghost use Rattle.spdm_machine.specs.NumberLaws.{FinishBeginsAtZero, MadeIsStaged, NextNumbersAreCounts, ReplyNumberIsCount, UpdateAllIsAnsweredAtZero, UpdateBeginsAtZero};
+ghost use Rattle.spdm_machine.specs.Laws.{ChosenIsAllowed, DoesWhatItMay, FourAreHeldAtMost, FreeIdIsFree, HeldAreFew, LiveIsUnderNegotiation, LiveIdIsFromOneToFour, NewSessionIsFresh, OneIsInHandshake, RecordKeepsOthers, RefusedClearKeepsConnection, RefusedClearKeepsSessions, RefusedInChunksKeepsSessions, RefusedRecordKeepsSessions, RepeatAddsNothing, RepeatedRecordAddsNothing, RequestHasItsCode, TakenExchangeIsFresh, TakenIsRepeated, TakenRecordIsOpened, TakenRecordIsRepeated, UnopenedAddsNothing};
+ghost use Rattle.spdm_machine.specs.NumberLaws.{FinishBeginsAtZero, MadeIsStaged, NextNumbersAreCounts, NumbersAreFew, ReplyNumberIsCount, UpdateAllIsAnsweredAtZero, UpdateBeginsAtZero};
 
 /// The values that this project's responder chooses at a place of a history that it made are ones that
 /// every responder of this profile may choose.
@@ -131,4 +131,32 @@ pub fn update_begins_at_zero()
 /// UpdateAllKeys is answered by record 0 of the new response key, and 1 is the next number of a response.
 pub fn update_all_is_answered_at_zero()
     ensures { UpdateAllIsAnsweredAtZero }
+{}
+
+/// A clear request that is refused changes nothing that is counted for the connection: phase,
+/// negotiation, kept replies, queue, draws, and the large messages under way.
+pub fn refused_clear_keeps_connection()
+    ensures { RefusedClearKeepsConnection }
+{}
+
+/// Sessions of a history that the responder made that are live past their handshake are four at most.
+pub fn held_are_few()
+    ensures { HeldAreFew }
+{}
+
+/// A session of a history that the responder made is live in phase Negotiated alone, and its
+/// negotiation is that of the connection.
+pub fn live_is_under_negotiation()
+    ensures { LiveIsUnderNegotiation }
+{}
+
+/// A record that was taken is no repeat, its session is live and opens it, its turn is that of its
+/// inner message, and the record sent is the one of the turn's answer.
+pub fn taken_record_is_opened()
+    ensures { TakenRecordIsOpened }
+{}
+
+/// No number of a session of a history that the responder made passes 65,536.
+pub fn numbers_are_few()
+    ensures { NumbersAreFew }
 {}
