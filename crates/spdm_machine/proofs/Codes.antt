@@ -152,14 +152,14 @@ when-code code false x fault h = tt
 one_byte : (x : ℕ) (rest : List ℕ) → little_number 1 (take 1 (x ∷ rest)) ≡ x
 one_byte x rest = omega arith
 
-abbrev is_version : ℕ → Bool
+abbrev pub is_version : ℕ → Bool
 is_version version = version == 0x10 || version == 0x12
 
 not_short : (x : ℕ) (rest : List ℕ) → nat_lt (length (x ∷ rest)) 1 ≡ false
 not_short x rest = grind (arith, nat_tests)
 
 -- A byte is read where one is left.
-number_at-cons : (x : ℕ) (rest : List ℕ) (at : ℕ) → number_at 1 (record { rest = x ∷ rest; at = at }) ≡ Ok (little_number 1 (take 1 (x ∷ rest)), record { rest = rest; at = at + 1 })
+pub number_at-cons : (x : ℕ) (rest : List ℕ) (at : ℕ) → number_at 1 (record { rest = x ∷ rest; at = at }) ≡ Ok (little_number 1 (take 1 (x ∷ rest)), record { rest = rest; at = at + 1 })
 unfolding number_at field_at
 number_at-cons x rest at = rw (not_short x rest) refl
 
@@ -193,3 +193,7 @@ known-code code (Some other) asked h is = ap code_for (sym (same_Some other aske
 -- The request that a message is at a place has the code that stands in the message.
 pub asked-code : (p : Place) (m : List ℕ) (asked : RequestMessage) → request_at p m ≡ Some asked → code_for asked ≡ code_of m
 asked-code p m asked is = known-code (code_of m) (request_at p m) asked (request-code (hash_len (place_terms p)) m) is
+
+-- The same at any length of the hash.
+pub sized-code : (size : ℕ) (m : List ℕ) (asked : RequestMessage) → request_in size m ≡ Some asked → code_for asked ≡ code_of m
+sized-code size m asked is = known-code (code_of m) (request_in size m) asked (request-code size m) is

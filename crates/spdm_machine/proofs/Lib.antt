@@ -19,3 +19,5 @@ pub mod Under
 pub mod Opened
 pub mod Held
 pub mod Connection
+pub mod Settled
+pub mod Sizes

@@ -20,3 +20,4 @@ pub mod TagLog
 pub mod ResponderLog
 pub mod Counts
 pub mod NumberLaws
+pub mod SettledLaws

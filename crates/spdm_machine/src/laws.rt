@@ -3,6 +3,7 @@
 
 ghost use Rattle.spdm_machine.specs.Laws.{ChosenIsAllowed, DoesWhatItMay, FourAreHeldAtMost, FreeIdIsFree, HeldAreFew, LiveIsUnderNegotiation, LiveIdIsFromOneToFour, NewSessionIsFresh, OneIsInHandshake, RecordKeepsOthers, RefusedClearKeepsConnection, RefusedClearKeepsSessions, RefusedInChunksKeepsSessions, RefusedRecordKeepsSessions, RepeatAddsNothing, RepeatedRecordAddsNothing, RequestHasItsCode, TakenExchangeIsFresh, TakenIsRepeated, TakenRecordIsOpened, TakenRecordIsRepeated, UnopenedAddsNothing};
 ghost use Rattle.spdm_machine.specs.NumberLaws.{FinishBeginsAtZero, MadeIsStaged, NextNumbersAreCounts, NumbersAreFew, ReplyNumberIsCount, UpdateAllIsAnsweredAtZero, UpdateBeginsAtZero};
+ghost use Rattle.spdm_machine.specs.SettledLaws.{AlgorithmsSettleChoice, CapabilitiesSettleCommon, SizesAreKnown};
 
 /// The values that this project's responder chooses at a place of a history that it made are ones that
 /// every responder of this profile may choose.
@@ -159,4 +160,20 @@ pub fn taken_record_is_opened()
 /// No number of a session of a history that the responder made passes 65,536.
 pub fn numbers_are_few()
     ensures { NumbersAreFew }
+{}
+
+/// GET_CAPABILITIES and its answer settle what both ends can do together.
+pub fn capabilities_settle_common()
+    ensures { CapabilitiesSettleCommon }
+{}
+
+/// NEGOTIATE_ALGORITHMS and its answer settle the choice that the responder made of the offer.
+pub fn algorithms_settle_choice()
+    ensures { AlgorithmsSettleChoice }
+{}
+
+/// In a history that the responder made, from phase Capable on, the requester takes messages of at least
+/// 42 bytes, and its max size is at least its transfer size.
+pub fn sizes_are_known()
+    ensures { SizesAreKnown }
 {}
