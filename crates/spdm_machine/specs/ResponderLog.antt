@@ -65,7 +65,7 @@ unopened_acts r (e ∷ s) sealed = record_check r (e ∷ s) sealed
 abbrev pub opened_acts : RspSetup → Events → List ℕ → Turn → List ℕ → List Act
 opened_acts r s sealed t reply = reply_made r s t reply ∷ inner_acts r s (opened r.psk s sealed) ++ record_check r s sealed
 
--- ---- By outcome: a repeat computes none. A record that opens not had its tag compared at most.
+-- ---- By outcome: a repeat computes none, and of a record that does not open at most the tag was compared.
 abbrev pub acts_of : RspSetup → History → List ℕ → Outcome → List Act
 acts_of r h body (Same reply) = []
 acts_of r h body (Unopened reply) = unopened_acts r (session_of (id_in_record (drop 1 body)) h) (drop 1 body)
