@@ -45,7 +45,9 @@ const EXPANDED_KEYS: [(usize, &str); 2] = [
 #[test]
 fn expanded_keys_of_fips_197(rt: HostRuntime) -> Result<(), Fail> {
     for (digits, want) in &EXPANDED_KEYS {
-        let key = hex::decode(rt.alloc(), &want.as_bytes()[..*digits])?;
+        let bytes = want.as_bytes();
+        assert!(rt; *digits <= bytes.len());
+        let key = hex::decode(rt.alloc(), &bytes[..*digits])?;
         assert!(rt; key.len() == 16 || key.len() == 32);
         let text = hex::encode(rt.alloc(), expand_key(&key).as_slice())?;
         assert_eq!(rt; text.as_str(), *want);
