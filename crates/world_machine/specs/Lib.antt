@@ -9,3 +9,9 @@ pub mod Trace
 pub mod Chance
 pub mod Agreement
 pub mod Laws
+pub mod Rounds
+pub mod LargeRequests
+pub mod CapturedRequests
+pub mod LargeAnswers
+pub mod CapturedAnswers
+pub mod Capture
