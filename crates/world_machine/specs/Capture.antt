@@ -1,6 +1,6 @@
 -- When a capture conforms: its packets are what a responder and its requesters, as they are set up, may have sent
 -- to one another. This project's own.
-use Rattle.std.specs.Prelude.{◌≡◌, ◌<◌, ◌+◌, ◌-◌, ◌==◌, ◌||◌, ◌⊎◌, ℕ, List, [], ◌∷◌, map, reverse, take, length, Bool, true, false, Option, Some, None, Result, Ok, Err, MatchBool, bytes_eq}
+use Rattle.std.specs.Prelude.{◌≡◌, ◌<◌, ◌+◌, ◌-◌, ◌==◌, ◌||◌, ◌⊎◌, ℕ, List, [], ◌∷◌, ◌++◌, map, reverse, take, length, Bool, true, false, Option, Some, None, Result, Ok, Err, MatchBool, bytes_eq}
 use Rattle.mctp_framing.specs.Cutting.{RouteFields}
 use Rattle.mctp_framing.specs.Gathering.{Gathered}
 use Rattle.mctp_framing.specs.Gathering.Gathered.{Whole, More, Dropped}
@@ -112,3 +112,7 @@ pub record IsFirstDifference (w : WorldSetup) (packets : List (List ℕ)) (numbe
   pub most : number < length packets + 1
   pub before : Conforms w (take (number - 1) packets)
   pub at : Conforms w (take number packets) → ⊥
+
+-- The beginning of a conforming capture conforms.
+abbrev pub BeginningConforms : Type 0
+BeginningConforms = (w : WorldSetup) (earlier later : List (List ℕ)) → Conforms w (earlier ++ later) → Conforms w earlier
