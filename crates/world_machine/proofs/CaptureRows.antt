@@ -25,6 +25,8 @@ use Rattle.spdm_machine.specs.Responder.{on_clear, on_record}
 use Rattle.spdm_machine.specs.Session as responder_session
 use Rattle.spdm_machine.specs.Terms.{terms_of}
 use Rattle.world_machine.specs.Capture.{Conforms, IsFirstDifference, Leads, Steps}
+use Rattle.world_machine.specs.CapturedAnswers.{Answers, Hears, MayLeadTo}
+use Rattle.world_machine.specs.CapturedRequests.{Sends}
 use Rattle.world_machine.specs.Rounds.{Dialogue, new_dialogue}
 use Rattle.world_machine.specs.Packets.{gathered_from}
 use Rattle.world_machine.specs.Setup.{WorldSetup}
@@ -66,7 +68,7 @@ empty_conforms : Conforms setup []
 empty_conforms = (_, refl)
 
 first_capture_conforms : Conforms setup first_packets
-unfolding gathered_from asks hears command_fault body_fault carried_by clear_led requester_session.session_of on_clear on_record refused_form refused_contents refusal turn_of answer_bytes responder_session.session_of terms_of field_at number_at optional_at tables_at behind_tables behind_table request_body response_body get_version_layout get_capabilities_layout negotiate_algorithms_layout psk_finish_layout chunk_send_layout chunk_get_layout version_layout capabilities_layout algorithms_layout chunk_send_ack_layout chunk_response_layout error_layout
+unfolding Steps Sends Answers Hears MayLeadTo gathered_from asks hears command_fault body_fault carried_by clear_led requester_session.session_of on_clear on_record refused_form refused_contents refusal turn_of answer_bytes responder_session.session_of terms_of field_at number_at optional_at tables_at behind_tables behind_table request_body response_body get_version_layout get_capabilities_layout negotiate_algorithms_layout psk_finish_layout chunk_send_layout chunk_get_layout version_layout capabilities_layout algorithms_layout chunk_send_ack_layout chunk_response_layout error_layout
 first_capture_conforms =
     (_, (_, (_, refl, (_,
     (refl, refl, inr (refl, refl, (_, _, inl (inl (_, (asked, record { least = lit≤ tt; most = lit≤ tt; unused = λ _. refl; context = lit≤ tt; opaque = lit≤ tt; exchange = lit≤ tt; pad = lit≤ tt }, refl), refl, refl, refl), refl), refl))), refl)),
@@ -78,7 +80,7 @@ abbrev version_packet : List ℕ
 version_packet = 0x01 ∷ 0x09 ∷ 0x08 ∷ 0xc0 ∷ 0x05 ∷ 0x10 ∷ 0x04 ∷ 0x00 ∷ 0x00 ∷ 0x00 ∷ 0x01 ∷ 0x00 ∷ 0x12 ∷ []
 
 none_answers : (next : List Dialogue) → Steps setup [] (map new_dialogue setup.requesters) version_packet next → ⊥
-unfolding gathered_from
+unfolding Steps gathered_from
 none_answers next steps = none-some steps.1.2.0 steps.1.2.1
 
 version_alone_differs : IsFirstDifference setup (version_packet ∷ []) 1
@@ -117,7 +119,7 @@ packets_2 =
     ∷ []
 
 after_2 : (ds : List Dialogue) × Leads small packets_2 ds
-unfolding gathered_from asks hears command_fault body_fault carried_by clear_led requester_session.session_of on_clear on_record refused_form refused_contents refusal turn_of answer_bytes responder_session.session_of terms_of field_at number_at optional_at tables_at behind_tables behind_table request_body response_body get_version_layout get_capabilities_layout negotiate_algorithms_layout psk_finish_layout chunk_send_layout chunk_get_layout version_layout capabilities_layout algorithms_layout chunk_send_ack_layout chunk_response_layout error_layout
+unfolding Steps Sends Answers Hears MayLeadTo gathered_from asks hears command_fault body_fault carried_by clear_led requester_session.session_of on_clear on_record refused_form refused_contents refusal turn_of answer_bytes responder_session.session_of terms_of field_at number_at optional_at tables_at behind_tables behind_table request_body response_body get_version_layout get_capabilities_layout negotiate_algorithms_layout psk_finish_layout chunk_send_layout chunk_get_layout version_layout capabilities_layout algorithms_layout chunk_send_ack_layout chunk_response_layout error_layout
 after_2 = (_, (_, (_, refl, (_,
     (refl, refl, inr (refl, refl, (_, _, inl (inl (_, (asked, record { least = lit≤ tt; most = lit≤ tt; unused = λ _. refl; context = lit≤ tt; opaque = lit≤ tt; exchange = lit≤ tt; pad = lit≤ tt }, refl), refl, refl, refl), refl), refl))), refl)), (_,
     (refl, refl, (_, refl, refl, lit< tt, (_, _, inl (([], _, (tt, (answered 0, record { least = lit≤ tt; most = lit≤ tt; unused = λ _. refl; context = lit≤ tt; exchange_opaque = lit≤ tt; nonce = refl; measured_opaque = lit≤ tt; handle = lit< tt; reply = lit≤ tt; pad = lit≤ tt }, lit≤ tt, refl)), tt, refl, refl, refl), refl), (_, (_, (asked, record { least = lit≤ tt; most = lit≤ tt; unused = λ _. refl; context = lit≤ tt; opaque = lit≤ tt; exchange = lit≤ tt; pad = lit≤ tt }, refl), refl), refl)))), refl)))
@@ -130,7 +132,7 @@ packets_4 =
     ∷ packets_2
 
 after_4 : (ds : List Dialogue) × Leads small packets_4 ds
-unfolding gathered_from asks hears command_fault body_fault carried_by clear_led requester_session.session_of on_clear on_record refused_form refused_contents refusal turn_of answer_bytes responder_session.session_of terms_of field_at number_at optional_at tables_at behind_tables behind_table request_body response_body get_version_layout get_capabilities_layout negotiate_algorithms_layout psk_finish_layout chunk_send_layout chunk_get_layout version_layout capabilities_layout algorithms_layout chunk_send_ack_layout chunk_response_layout error_layout after_2
+unfolding Steps Sends Answers Hears MayLeadTo gathered_from asks hears command_fault body_fault carried_by clear_led requester_session.session_of on_clear on_record refused_form refused_contents refusal turn_of answer_bytes responder_session.session_of terms_of field_at number_at optional_at tables_at behind_tables behind_table request_body response_body get_version_layout get_capabilities_layout negotiate_algorithms_layout psk_finish_layout chunk_send_layout chunk_get_layout version_layout capabilities_layout algorithms_layout chunk_send_ack_layout chunk_response_layout error_layout after_2
 after_4 = (_, (_, (after_2.0, after_2.1, (_,
     (refl, refl, inr (refl, refl, (_, _, inr (inl (_, (refl, refl), refl, refl, tt, refl, refl)), refl))), refl)), (_,
     (refl, refl, (_, refl, refl, lit< tt, (_, _, inl (([], _, (tt, (answered 0, record { least = lit≤ tt; most = lit≤ tt; unused = λ _. refl; context = lit≤ tt; exchange_opaque = lit≤ tt; nonce = refl; measured_opaque = lit≤ tt; handle = lit< tt; reply = lit≤ tt; pad = lit≤ tt }, lit≤ tt, refl)), tt, refl, refl, refl), refl), (_, (_, (asked, record { least = lit≤ tt; most = lit≤ tt; unused = λ _. refl; context = lit≤ tt; opaque = lit≤ tt; exchange = lit≤ tt; pad = lit≤ tt }, refl), refl), refl)))), refl)))
@@ -143,7 +145,7 @@ packets_6 =
     ∷ packets_4
 
 after_6 : (ds : List Dialogue) × Leads small packets_6 ds
-unfolding gathered_from asks hears command_fault body_fault carried_by clear_led requester_session.session_of on_clear on_record refused_form refused_contents refusal turn_of answer_bytes responder_session.session_of terms_of field_at number_at optional_at tables_at behind_tables behind_table request_body response_body get_version_layout get_capabilities_layout negotiate_algorithms_layout psk_finish_layout chunk_send_layout chunk_get_layout version_layout capabilities_layout algorithms_layout chunk_send_ack_layout chunk_response_layout error_layout after_4
+unfolding Steps Sends Answers Hears MayLeadTo gathered_from asks hears command_fault body_fault carried_by clear_led requester_session.session_of on_clear on_record refused_form refused_contents refusal turn_of answer_bytes responder_session.session_of terms_of field_at number_at optional_at tables_at behind_tables behind_table request_body response_body get_version_layout get_capabilities_layout negotiate_algorithms_layout psk_finish_layout chunk_send_layout chunk_get_layout version_layout capabilities_layout algorithms_layout chunk_send_ack_layout chunk_response_layout error_layout after_4
 after_6 = (_, (_, (after_4.0, after_4.1, (_,
     (refl, refl, inr (refl, refl, (_, _, inr (inr (offer, inr (_, _, (refl, refl), refl, refl, (refl, refl, lit≤ tt), refl, refl), refl)), refl))), refl)), (_,
     (refl, refl, (_, refl, refl, lit< tt, (_, _, inl (([], _, (tt, (answered 0, record { least = lit≤ tt; most = lit≤ tt; unused = λ _. refl; context = lit≤ tt; exchange_opaque = lit≤ tt; nonce = refl; measured_opaque = lit≤ tt; handle = lit< tt; reply = lit≤ tt; pad = lit≤ tt }, lit≤ tt, refl)), tt, refl, refl, refl), refl), (_, refl, refl)))), refl)))
@@ -156,7 +158,7 @@ packets_8 =
     ∷ packets_6
 
 after_8 : (ds : List Dialogue) × Leads small packets_8 ds
-unfolding gathered_from asks hears command_fault body_fault carried_by clear_led requester_session.session_of on_clear on_record refused_form refused_contents refusal turn_of answer_bytes responder_session.session_of terms_of field_at number_at optional_at tables_at behind_tables behind_table request_body response_body get_version_layout get_capabilities_layout negotiate_algorithms_layout psk_finish_layout chunk_send_layout chunk_get_layout version_layout capabilities_layout algorithms_layout chunk_send_ack_layout chunk_response_layout error_layout after_6
+unfolding Steps Sends Answers Hears MayLeadTo gathered_from asks hears command_fault body_fault carried_by clear_led requester_session.session_of on_clear on_record refused_form refused_contents refusal turn_of answer_bytes responder_session.session_of terms_of field_at number_at optional_at tables_at behind_tables behind_table request_body response_body get_version_layout get_capabilities_layout negotiate_algorithms_layout psk_finish_layout chunk_send_layout chunk_get_layout version_layout capabilities_layout algorithms_layout chunk_send_ack_layout chunk_response_layout error_layout after_6
 after_8 = (_, (_, (after_6.0, after_6.1, (_,
     (refl, refl, inr (refl, refl, (_, _, inr (inl (_, (refl, refl), refl, refl, (refl, tt), refl, refl)), refl))), refl)), (_,
     (refl, refl, (_, refl, refl, lit< tt, (_, _, inr (inl (algorithms, ([], _, (tt, (answered 0, record { least = lit≤ tt; most = lit≤ tt; unused = λ _. refl; context = lit≤ tt; exchange_opaque = lit≤ tt; nonce = refl; measured_opaque = lit≤ tt; handle = lit< tt; reply = lit≤ tt; pad = lit≤ tt }, lit≤ tt, refl)), refl, (refl, refl, lit≤ tt), refl, refl), refl)), (_, (_, (asked, record { least = lit≤ tt; most = lit≤ tt; unused = λ _. refl; context = lit≤ tt; opaque = lit≤ tt; exchange = lit≤ tt; pad = lit≤ tt }, refl), refl), refl)))), refl)))
@@ -169,7 +171,7 @@ packets_10 =
     ∷ packets_8
 
 after_10 : (ds : List Dialogue) × Leads small packets_10 ds
-unfolding gathered_from asks hears command_fault body_fault carried_by clear_led requester_session.session_of on_clear on_record refused_form refused_contents refusal turn_of answer_bytes responder_session.session_of terms_of field_at number_at optional_at tables_at behind_tables behind_table request_body response_body get_version_layout get_capabilities_layout negotiate_algorithms_layout psk_finish_layout chunk_send_layout chunk_get_layout version_layout capabilities_layout algorithms_layout chunk_send_ack_layout chunk_response_layout error_layout after_8
+unfolding Steps Sends Answers Hears MayLeadTo gathered_from asks hears command_fault body_fault carried_by clear_led requester_session.session_of on_clear on_record refused_form refused_contents refusal turn_of answer_bytes responder_session.session_of terms_of field_at number_at optional_at tables_at behind_tables behind_table request_body response_body get_version_layout get_capabilities_layout negotiate_algorithms_layout psk_finish_layout chunk_send_layout chunk_get_layout version_layout capabilities_layout algorithms_layout chunk_send_ack_layout chunk_response_layout error_layout after_8
 after_10 = (_, (_, (after_8.0, after_8.1, (_,
     (refl, refl, inr (refl, refl, (_, _, inr (inl (_, (refl, refl), refl, refl, tt, refl, refl)), refl))), refl)), (_,
     (refl, refl, (_, refl, refl, lit< tt, (_, _, inl (([], _, (tt, (answered 0, record { least = lit≤ tt; most = lit≤ tt; unused = λ _. refl; context = lit≤ tt; exchange_opaque = lit≤ tt; nonce = refl; measured_opaque = lit≤ tt; handle = lit< tt; reply = lit≤ tt; pad = lit≤ tt }, lit≤ tt, refl)), tt, refl, refl, refl), refl), (_, (_, (asked, record { least = lit≤ tt; most = lit≤ tt; unused = λ _. refl; context = lit≤ tt; opaque = lit≤ tt; exchange = lit≤ tt; pad = lit≤ tt }, refl), refl), refl)))), refl)))
@@ -182,7 +184,7 @@ packets_12 =
     ∷ packets_10
 
 after_12 : (ds : List Dialogue) × Leads small packets_12 ds
-unfolding gathered_from asks hears command_fault body_fault carried_by clear_led requester_session.session_of on_clear on_record refused_form refused_contents refusal turn_of answer_bytes responder_session.session_of terms_of field_at number_at optional_at tables_at behind_tables behind_table request_body response_body get_version_layout get_capabilities_layout negotiate_algorithms_layout psk_finish_layout chunk_send_layout chunk_get_layout version_layout capabilities_layout algorithms_layout chunk_send_ack_layout chunk_response_layout error_layout after_10
+unfolding Steps Sends Answers Hears MayLeadTo gathered_from asks hears command_fault body_fault carried_by clear_led requester_session.session_of on_clear on_record refused_form refused_contents refusal turn_of answer_bytes responder_session.session_of terms_of field_at number_at optional_at tables_at behind_tables behind_table request_body response_body get_version_layout get_capabilities_layout negotiate_algorithms_layout psk_finish_layout chunk_send_layout chunk_get_layout version_layout capabilities_layout algorithms_layout chunk_send_ack_layout chunk_response_layout error_layout after_10
 after_12 = (_, (_, (after_10.0, after_10.1, (_,
     (refl, refl, inr (refl, refl, (_, _, inr (inl (_, (refl, refl), refl, refl, tt, refl, refl)), refl))), refl)), (_,
     (refl, refl, (_, refl, refl, lit< tt, (_, _, inr (inr (([], _, (answered 0, record { least = lit≤ tt; most = lit≤ tt; unused = λ _. refl; context = lit≤ tt; exchange_opaque = lit≤ tt; nonce = refl; measured_opaque = lit≤ tt; handle = lit< tt; reply = lit≤ tt; pad = lit≤ tt }, lit≤ tt, refl), refl, ((tt, (answered 0, record { least = lit≤ tt; most = lit≤ tt; unused = λ _. refl; context = lit≤ tt; exchange_opaque = lit≤ tt; nonce = refl; measured_opaque = lit≤ tt; handle = lit< tt; reply = lit≤ tt; pad = lit≤ tt }, lit≤ tt, refl)), tt), refl, refl), refl)), (_, (_, (asked, record { least = lit≤ tt; most = lit≤ tt; unused = λ _. refl; context = lit≤ tt; opaque = lit≤ tt; exchange = lit≤ tt; pad = lit≤ tt }, refl), refl), refl)))), refl)))

@@ -26,9 +26,9 @@ Copies d tag body next =
     (round : Round) × (d.round ≡ Some round) × (round.tag ≡ tag) × (round.body ≡ body)
     × (next ≡ record d { round = Some (record round { waiting = round.waiting + 1 }) })
 
--- A new round begins after an answer, or at any place by GET_VERSION. What the requests without an answer were
--- answered is not seen. Where their round has an answer, it was the same again; where it has none, GET_VERSION
--- follows. So they add nothing to the histories.
+-- A new round begins after an answer, or at any place by GET_VERSION. Of the last round's requests some may have no
+-- answer. Where one has, they are copies of it, and were answered with the same again; where none has, any answer
+-- may have been given, and GET_VERSION follows. No later answer can tell, so they add nothing to the histories.
 abbrev pub may_begin : Option Round → List ℕ → Bool
 may_begin None body = true
 may_begin (Some round) body = round.answered || bytes_eq body (clear_body (canonical_request GetVersion))
@@ -91,7 +91,7 @@ StepsBy w older before after (Ok packet) =
         (ComesFrom w older packet before after (dialogue_at packet.from before))
         (MatchBool (packet.from == w.responder.eid) (GoesTo w older packet before after (dialogue_at packet.to before)) ⊥)
 
-abbrev pub Steps : WorldSetup → List (List ℕ) → List Dialogue → List ℕ → List Dialogue → Type 0
+unfoldable pub Steps : WorldSetup → List (List ℕ) → List Dialogue → List ℕ → List Dialogue → Type 0
 Steps w older before packet after = StepsBy w older before after (parsed packet)
 
 -- ---- A capture.

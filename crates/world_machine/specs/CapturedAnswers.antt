@@ -20,7 +20,7 @@ use Rattle.spdm_machine.specs.Responder.Outcome.{Same, Unopened, Adds}
 use Rattle.spdm_machine.specs.Session.{Events, session_of, id_in_record, id_in_exchange, last_of}
 use Rattle.spdm_machine.specs.Setup.{RspSetup, ReqSetup}
 use Rattle.spdm_machine.specs.Turn.{takes, answer_in}
-use Rattle.world_machine.specs.LargeAnswers.{GoesByChunks, is_large, entry_with, dropped_before_large, place_of, judging, gives_last}
+use Rattle.world_machine.specs.LargeAnswers.{IsLargeAnswer, is_large, entry_with, dropped_before_large, place_of, judging, gives_last}
 use Rattle.world_machine.specs.LargeRequests.{with_ack}
 use Rattle.world_machine.specs.Rounds.{Dialogue, Round, no_draw}
 
@@ -47,7 +47,7 @@ answer_to r h body f =
 
 -- A request, with its tag, may lead to an outcome, under some allowed values whose answer is no longer than that,
 -- also where it was too long to be given.
-abbrev pub MayLeadTo : RspSetup → History → ℕ → List ℕ → Outcome → Type 0
+unfoldable pub MayLeadTo : RspSetup → History → ℕ → List ℕ → Outcome → Type 0
 MayLeadTo r h tag body outcome =
     (f : Free) × IsAllowed h (place_for h body) f
     × (length (answer_to r h body f) ≤ 4096)
@@ -102,7 +102,7 @@ AnswersLarge r d round answer next whole =
     (dropped : List ℕ) × (entry : Entry)
     × MayLeadAfter r (judging d.fetching d.responder) dropped round.tag round.body (Adds entry)
     × (is_large entry ≡ true)
-    × GoesByChunks (place_of (judging d.fetching d.responder) entry) whole
+    × IsLargeAnswer (place_of (judging d.fetching d.responder) entry) whole
     × (sent_by entry ≡ answer)
     × (next ≡ entry_with [] entry ∷ d.responder)
 
@@ -137,7 +137,7 @@ Completes r d round answer next =
 
 -- What an answer leads to: the responder's history after it, and the bytes that stand for the large answer under
 -- way.
-abbrev pub Answers : RspSetup → Dialogue → Round → List ℕ → History → Option (List ℕ) → Type 0
+unfoldable pub Answers : RspSetup → Dialogue → Round → List ℕ → History → Option (List ℕ) → Type 0
 Answers r d round answer next fetching =
     (AnswersPlainly r d round answer next × (fetching ≡ d.fetching))
     ⊎ (((whole : List ℕ) × AnswersLarge r d round answer next whole × (fetching ≡ Some whole))
@@ -152,5 +152,5 @@ HearsWhile None d tag answer next =
     (outcome : asking.Outcome) × MayHear d.setup d.requester false tag answer no_draw outcome × (next ≡ shown.after d.requester outcome)
 HearsWhile (Some whole) d tag answer next = next ≡ with_ack whole tag (drop 1 answer) d.requester
 
-abbrev pub Hears : Dialogue → ℕ → List ℕ → requester_history.History → Type 0
+unfoldable pub Hears : Dialogue → ℕ → List ℕ → requester_history.History → Type 0
 Hears d tag answer next = HearsWhile d.sending d tag answer next

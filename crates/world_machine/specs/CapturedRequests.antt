@@ -9,7 +9,7 @@ use Rattle.requester_machine.specs.Message.{Command, Sent, body_of, asked_in}
 use Rattle.requester_machine.specs.Message.Command.{Connect}
 use Rattle.spdm_grammar.specs.Message.{RequestMessage}
 use Rattle.spdm_machine.specs.Setup.{ReqSetup}
-use Rattle.world_machine.specs.LargeRequests.{GoesByChunks, IsJudged, common_of, first_piece, still_sending}
+use Rattle.world_machine.specs.LargeRequests.{IsLargeRequest, IsJudged, common_of, first_piece, still_sending}
 use Rattle.world_machine.specs.Rounds.{Dialogue, Round, no_draw}
 
 -- ---- The message that is owed.
@@ -71,7 +71,7 @@ abbrev pub BeginsLarge : Dialogue → List ℕ → History → List ℕ → Type
 BeginsLarge d body after whole =
     (command : Command) × (some : Sent) × MayAsk false d.setup d.requester command no_draw (Adds (Told command some no_draw))
     × (begins_large some.aim ≡ true)
-    × GoesByChunks (common_of d.requester) whole
+    × IsLargeRequest (common_of d.requester) whole
     × ((asked : RequestMessage) × (body_of (first_piece d.requester asked whole).content ≡ body)
       × (after ≡ Told command (first_piece d.requester asked whole) no_draw ∷ d.requester))
 
@@ -81,7 +81,7 @@ BeginsOwed d body after whole =
     (sent : Sent) × (asked : RequestMessage) × IsOwed d sent
     × (begins_large sent.aim ≡ true)
     × (asked_in sent.aim ≡ Some asked)
-    × GoesByChunks (common_of d.requester) whole
+    × IsLargeRequest (common_of d.requester) whole
     × (body_of (first_piece (without_owed d) asked whole).content ≡ body)
     × (after ≡ with_next (Some (first_piece (without_owed d) asked whole)) d.requester)
 
@@ -90,7 +90,7 @@ BeginsByChunks d body after sending =
     (whole : List ℕ) × (BeginsLarge d body after whole ⊎ BeginsOwed d body after whole) × (sending ≡ Some whole)
 
 -- What a body that begins a round leads to: the requester's history after it, and the large request under way.
-abbrev pub Sends : Dialogue → List ℕ → History → Option (List ℕ) → Type 0
+unfoldable pub Sends : Dialogue → List ℕ → History → Option (List ℕ) → Type 0
 Sends d body after sending =
     ((Connects d body after ⊎ Commands d body after) × (sending ≡ None))
     ⊎ (GoesOn d body after sending ⊎ BeginsByChunks d body after sending)

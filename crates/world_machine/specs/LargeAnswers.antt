@@ -59,8 +59,8 @@ place_of h _ = clear_place h
 
 -- A length that goes by chunks: with what stands round the answer over the requester's transfer size, and at most
 -- its max size and 4,096.
-abbrev pub GoesByChunks : Place → List ℕ → Type 0
-GoesByChunks p whole = (goes_large p whole ≡ true) × (is_answer_too_long p whole ≡ false) × (length whole ≤ 4096)
+abbrev pub IsLargeAnswer : Place → List ℕ → Type 0
+IsLargeAnswer p whole = (goes_large p whole ≡ true) × (is_answer_too_long p whole ≡ false) × (length whole ≤ 4096)
 
 -- ---- While it is fetched.
 

@@ -25,8 +25,8 @@ abbrev pub common_of : History → Common
 common_of h = (connection_terms h).common
 
 -- A length that goes by chunks: over the responder's transfer size, and at most its max size and 4,096.
-abbrev pub GoesByChunks : Common → List ℕ → Type 0
-GoesByChunks common whole =
+abbrev pub IsLargeRequest : Common → List ℕ → Type 0
+IsLargeRequest common whole =
     (nat_lt common.to_responder.transfer (length whole) ≡ true) × (is_too_long common whole ≡ false) × (length whole ≤ 4096)
 
 -- CHUNK_SEND with the chunk of this number of the bytes that stand for a request.
