@@ -1,5 +1,5 @@
 -- Captures that conform, computed from the definitions. In none of them is a tag computed.
-use Rattle.std.proofs.Common.{refl, ◌≡◌, ◌≤◌, ℕ, List, [], ◌∷◌, ◌++◌, true, false, Some, None, inl, inr, lit≤, lit<, length, reverse, map, subst}
+use Rattle.std.proofs.Common.{refl, ℕ, List, [], ◌∷◌, true, false, inl, inr, lit≤, lit<, reverse, map, subst}
 use Rattle.std.specs.Prelude.{replicate, codes}
 use Rattle.std.proofs.lemmas.Option.{none-some}
 use Rattle.requester_machine.specs.Asking.{asks}
@@ -8,9 +8,6 @@ use Rattle.requester_machine.specs.ClearAnswers.{carried_by, clear_led}
 use Rattle.requester_machine.specs.Commands as commands
 use Rattle.requester_machine.specs.Commands.{command_fault}
 use Rattle.requester_machine.specs.Hearing.{hears}
-use Rattle.requester_machine.specs.History as requester_history
-use Rattle.requester_machine.specs.May as requester_may
-use Rattle.requester_machine.specs.Message.Command.{Connect}
 use Rattle.requester_machine.specs.Session as requester_session
 use Rattle.spdm_grammar.specs.Reading.{field_at, number_at, optional_at, tables_at, behind_tables, behind_table}
 use Rattle.spdm_grammar.specs.Requests.{request_body, get_version_layout, get_capabilities_layout, negotiate_algorithms_layout, psk_finish_layout, chunk_send_layout, chunk_get_layout}
@@ -19,7 +16,6 @@ use Rattle.spdm_grammar.specs.declared.choice.Pick.TheVariants.{Small}
 use Rattle.spdm_machine.specs.Answer as answer
 use Rattle.spdm_machine.specs.Answer.{answer_bytes}
 use Rattle.spdm_machine.specs.Handling.{turn_of}
-use Rattle.spdm_machine.specs.May as responder_may
 use Rattle.spdm_machine.specs.Refusal.{refused_form, refused_contents, refusal}
 use Rattle.spdm_machine.specs.Responder.{on_clear, on_record}
 use Rattle.spdm_machine.specs.Session as responder_session
@@ -37,15 +33,27 @@ setup = record {
   seed = replicate 32 0;
   first = 0;
   responder = record {
-    eid = 8; transfer = 1024; max = 4096; unit = 64; beat = 30;
+    eid = 8;
+    transfer = 1024;
+    max = 4096;
+    unit = 64;
+    beat = 30;
     flags = record { measure = true; heartbeat = true; key_update = true; chunk = true };
-    opaque = []; blocks = [];
+    opaque = [];
+    blocks = [];
     suites = record { hash = Small; aead = Small };
   };
   requesters = record {
-    eid = 9; responder = 8; transfer = 1024; max = 4096; unit = 64; pad = 0;
+    eid = 9;
+    responder = 8;
+    transfer = 1024;
+    max = 4096;
+    unit = 64;
+    pad = 0;
     flags = record { measure = false; heartbeat = true; key_update = true; chunk = true };
-    hint = 0x71 ∷ []; psk = codes "1234567890123456"; opaque = [];
+    hint = 0x71 ∷ [];
+    psk = codes "1234567890123456";
+    opaque = [];
     suites = record { hash = Small; aead = Small };
   } ∷ [];
 }
@@ -69,11 +77,26 @@ empty_conforms = (_, refl)
 
 first_capture_conforms : Conforms setup first_packets
 unfolding Steps Sends Answers Hears MayLeadTo gathered_from asks hears command_fault body_fault carried_by clear_led requester_session.session_of on_clear on_record refused_form refused_contents refusal turn_of answer_bytes responder_session.session_of terms_of field_at number_at optional_at tables_at behind_tables behind_table request_body response_body get_version_layout get_capabilities_layout negotiate_algorithms_layout psk_finish_layout chunk_send_layout chunk_get_layout version_layout capabilities_layout algorithms_layout chunk_send_ack_layout chunk_response_layout error_layout
-first_capture_conforms =
-    (_, (_, (_, refl, (_,
-    (refl, refl, inr (refl, refl, (_, _, inl (inl (_, (asked, record { least = lit≤ tt; most = lit≤ tt; unused = λ _. refl; context = lit≤ tt; opaque = lit≤ tt; exchange = lit≤ tt; pad = lit≤ tt }, refl), refl, refl, refl), refl), refl))), refl)),
-    (_,
-    (refl, refl, (_, refl, refl, lit< tt, (_, _, inl (([], _, (tt, (answered 0, record { least = lit≤ tt; most = lit≤ tt; unused = λ _. refl; context = lit≤ tt; exchange_opaque = lit≤ tt; nonce = refl; measured_opaque = lit≤ tt; handle = lit< tt; reply = lit≤ tt; pad = lit≤ tt }, lit≤ tt, refl)), tt, refl, refl, refl), refl), (_, (_, (asked, record { least = lit≤ tt; most = lit≤ tt; unused = λ _. refl; context = lit≤ tt; opaque = lit≤ tt; exchange = lit≤ tt; pad = lit≤ tt }, refl), refl), refl)))), refl)))
+first_capture_conforms = (
+  _,
+  (
+    _,
+    (
+      _,
+      refl,
+      (
+        _,
+        (refl, refl, inr (refl, refl, (_, _, inl (inl (_, (asked, record { least = lit≤ tt; most = lit≤ tt; unused = λ _. refl; context = lit≤ tt; opaque = lit≤ tt; exchange = lit≤ tt; pad = lit≤ tt }, refl), refl, refl, refl), refl), refl))),
+        refl,
+      ),
+    ),
+    (
+      _,
+      (refl, refl, (_, refl, refl, lit< tt, (_, _, inl (([], _, (tt, (answered 0, record { least = lit≤ tt; most = lit≤ tt; unused = λ _. refl; context = lit≤ tt; exchange_opaque = lit≤ tt; nonce = refl; measured_opaque = lit≤ tt; handle = lit< tt; reply = lit≤ tt; pad = lit≤ tt }, lit≤ tt, refl)), tt, refl, refl, refl), refl), (_, (_, (asked, record { least = lit≤ tt; most = lit≤ tt; unused = λ _. refl; context = lit≤ tt; opaque = lit≤ tt; exchange = lit≤ tt; pad = lit≤ tt }, refl), refl), refl)))),
+      refl,
+    ),
+  ),
+)
 
 -- VERSION alone: no round has begun that it could belong to.
 abbrev version_packet : List ℕ
@@ -97,9 +120,16 @@ abbrev small : WorldSetup
 small = record setup {
   responder = record setup.responder { transfer = 42 };
   requesters = record {
-    eid = 9; responder = 8; transfer = 42; max = 4096; unit = 64; pad = 0;
+    eid = 9;
+    responder = 8;
+    transfer = 42;
+    max = 4096;
+    unit = 64;
+    pad = 0;
     flags = record { measure = false; heartbeat = true; key_update = true; chunk = true };
-    hint = 0x71 ∷ []; psk = codes "1234567890123456"; opaque = [];
+    hint = 0x71 ∷ [];
+    psk = codes "1234567890123456";
+    opaque = [];
     suites = record { hash = Small; aead = Small };
   } ∷ [];
 }
@@ -120,9 +150,26 @@ packets_2 =
 
 after_2 : (ds : List Dialogue) × Leads small packets_2 ds
 unfolding Steps Sends Answers Hears MayLeadTo gathered_from asks hears command_fault body_fault carried_by clear_led requester_session.session_of on_clear on_record refused_form refused_contents refusal turn_of answer_bytes responder_session.session_of terms_of field_at number_at optional_at tables_at behind_tables behind_table request_body response_body get_version_layout get_capabilities_layout negotiate_algorithms_layout psk_finish_layout chunk_send_layout chunk_get_layout version_layout capabilities_layout algorithms_layout chunk_send_ack_layout chunk_response_layout error_layout
-after_2 = (_, (_, (_, refl, (_,
-    (refl, refl, inr (refl, refl, (_, _, inl (inl (_, (asked, record { least = lit≤ tt; most = lit≤ tt; unused = λ _. refl; context = lit≤ tt; opaque = lit≤ tt; exchange = lit≤ tt; pad = lit≤ tt }, refl), refl, refl, refl), refl), refl))), refl)), (_,
-    (refl, refl, (_, refl, refl, lit< tt, (_, _, inl (([], _, (tt, (answered 0, record { least = lit≤ tt; most = lit≤ tt; unused = λ _. refl; context = lit≤ tt; exchange_opaque = lit≤ tt; nonce = refl; measured_opaque = lit≤ tt; handle = lit< tt; reply = lit≤ tt; pad = lit≤ tt }, lit≤ tt, refl)), tt, refl, refl, refl), refl), (_, (_, (asked, record { least = lit≤ tt; most = lit≤ tt; unused = λ _. refl; context = lit≤ tt; opaque = lit≤ tt; exchange = lit≤ tt; pad = lit≤ tt }, refl), refl), refl)))), refl)))
+after_2 = (
+  _,
+  (
+    _,
+    (
+      _,
+      refl,
+      (
+        _,
+        (refl, refl, inr (refl, refl, (_, _, inl (inl (_, (asked, record { least = lit≤ tt; most = lit≤ tt; unused = λ _. refl; context = lit≤ tt; opaque = lit≤ tt; exchange = lit≤ tt; pad = lit≤ tt }, refl), refl, refl, refl), refl), refl))),
+        refl,
+      ),
+    ),
+    (
+      _,
+      (refl, refl, (_, refl, refl, lit< tt, (_, _, inl (([], _, (tt, (answered 0, record { least = lit≤ tt; most = lit≤ tt; unused = λ _. refl; context = lit≤ tt; exchange_opaque = lit≤ tt; nonce = refl; measured_opaque = lit≤ tt; handle = lit< tt; reply = lit≤ tt; pad = lit≤ tt }, lit≤ tt, refl)), tt, refl, refl, refl), refl), (_, (_, (asked, record { least = lit≤ tt; most = lit≤ tt; unused = λ _. refl; context = lit≤ tt; opaque = lit≤ tt; exchange = lit≤ tt; pad = lit≤ tt }, refl), refl), refl)))),
+      refl,
+    ),
+  ),
+)
 
 -- GET_CAPABILITIES and CAPABILITIES.
 abbrev packets_4 : List (List ℕ)
@@ -133,9 +180,26 @@ packets_4 =
 
 after_4 : (ds : List Dialogue) × Leads small packets_4 ds
 unfolding Steps Sends Answers Hears MayLeadTo gathered_from asks hears command_fault body_fault carried_by clear_led requester_session.session_of on_clear on_record refused_form refused_contents refusal turn_of answer_bytes responder_session.session_of terms_of field_at number_at optional_at tables_at behind_tables behind_table request_body response_body get_version_layout get_capabilities_layout negotiate_algorithms_layout psk_finish_layout chunk_send_layout chunk_get_layout version_layout capabilities_layout algorithms_layout chunk_send_ack_layout chunk_response_layout error_layout after_2
-after_4 = (_, (_, (after_2.0, after_2.1, (_,
-    (refl, refl, inr (refl, refl, (_, _, inr (inl (_, (refl, refl), refl, refl, tt, refl, refl)), refl))), refl)), (_,
-    (refl, refl, (_, refl, refl, lit< tt, (_, _, inl (([], _, (tt, (answered 0, record { least = lit≤ tt; most = lit≤ tt; unused = λ _. refl; context = lit≤ tt; exchange_opaque = lit≤ tt; nonce = refl; measured_opaque = lit≤ tt; handle = lit< tt; reply = lit≤ tt; pad = lit≤ tt }, lit≤ tt, refl)), tt, refl, refl, refl), refl), (_, (_, (asked, record { least = lit≤ tt; most = lit≤ tt; unused = λ _. refl; context = lit≤ tt; opaque = lit≤ tt; exchange = lit≤ tt; pad = lit≤ tt }, refl), refl), refl)))), refl)))
+after_4 = (
+  _,
+  (
+    _,
+    (
+      after_2.0,
+      after_2.1,
+      (
+        _,
+        (refl, refl, inr (refl, refl, (_, _, inr (inl (_, (refl, refl), refl, refl, tt, refl, refl)), refl))),
+        refl,
+      ),
+    ),
+    (
+      _,
+      (refl, refl, (_, refl, refl, lit< tt, (_, _, inl (([], _, (tt, (answered 0, record { least = lit≤ tt; most = lit≤ tt; unused = λ _. refl; context = lit≤ tt; exchange_opaque = lit≤ tt; nonce = refl; measured_opaque = lit≤ tt; handle = lit< tt; reply = lit≤ tt; pad = lit≤ tt }, lit≤ tt, refl)), tt, refl, refl, refl), refl), (_, (_, (asked, record { least = lit≤ tt; most = lit≤ tt; unused = λ _. refl; context = lit≤ tt; opaque = lit≤ tt; exchange = lit≤ tt; pad = lit≤ tt }, refl), refl), refl)))),
+      refl,
+    ),
+  ),
+)
 
 -- The first chunk of the offer, and its acknowledgement.
 abbrev packets_6 : List (List ℕ)
@@ -146,9 +210,26 @@ packets_6 =
 
 after_6 : (ds : List Dialogue) × Leads small packets_6 ds
 unfolding Steps Sends Answers Hears MayLeadTo gathered_from asks hears command_fault body_fault carried_by clear_led requester_session.session_of on_clear on_record refused_form refused_contents refusal turn_of answer_bytes responder_session.session_of terms_of field_at number_at optional_at tables_at behind_tables behind_table request_body response_body get_version_layout get_capabilities_layout negotiate_algorithms_layout psk_finish_layout chunk_send_layout chunk_get_layout version_layout capabilities_layout algorithms_layout chunk_send_ack_layout chunk_response_layout error_layout after_4
-after_6 = (_, (_, (after_4.0, after_4.1, (_,
-    (refl, refl, inr (refl, refl, (_, _, inr (inr (offer, inr (_, _, (refl, refl), refl, refl, (refl, refl, lit≤ tt), refl, refl), refl)), refl))), refl)), (_,
-    (refl, refl, (_, refl, refl, lit< tt, (_, _, inl (([], _, (tt, (answered 0, record { least = lit≤ tt; most = lit≤ tt; unused = λ _. refl; context = lit≤ tt; exchange_opaque = lit≤ tt; nonce = refl; measured_opaque = lit≤ tt; handle = lit< tt; reply = lit≤ tt; pad = lit≤ tt }, lit≤ tt, refl)), tt, refl, refl, refl), refl), (_, refl, refl)))), refl)))
+after_6 = (
+  _,
+  (
+    _,
+    (
+      after_4.0,
+      after_4.1,
+      (
+        _,
+        (refl, refl, inr (refl, refl, (_, _, inr (inr (offer, inr (_, _, (refl, refl), refl, refl, (refl, refl, lit≤ tt), refl, refl), refl)), refl))),
+        refl,
+      ),
+    ),
+    (
+      _,
+      (refl, refl, (_, refl, refl, lit< tt, (_, _, inl (([], _, (tt, (answered 0, record { least = lit≤ tt; most = lit≤ tt; unused = λ _. refl; context = lit≤ tt; exchange_opaque = lit≤ tt; nonce = refl; measured_opaque = lit≤ tt; handle = lit< tt; reply = lit≤ tt; pad = lit≤ tt }, lit≤ tt, refl)), tt, refl, refl, refl), refl), (_, refl, refl)))),
+      refl,
+    ),
+  ),
+)
 
 -- The last chunk, and LargeResponse in its acknowledgement.
 abbrev packets_8 : List (List ℕ)
@@ -159,9 +240,26 @@ packets_8 =
 
 after_8 : (ds : List Dialogue) × Leads small packets_8 ds
 unfolding Steps Sends Answers Hears MayLeadTo gathered_from asks hears command_fault body_fault carried_by clear_led requester_session.session_of on_clear on_record refused_form refused_contents refusal turn_of answer_bytes responder_session.session_of terms_of field_at number_at optional_at tables_at behind_tables behind_table request_body response_body get_version_layout get_capabilities_layout negotiate_algorithms_layout psk_finish_layout chunk_send_layout chunk_get_layout version_layout capabilities_layout algorithms_layout chunk_send_ack_layout chunk_response_layout error_layout after_6
-after_8 = (_, (_, (after_6.0, after_6.1, (_,
-    (refl, refl, inr (refl, refl, (_, _, inr (inl (_, (refl, refl), refl, refl, (refl, tt), refl, refl)), refl))), refl)), (_,
-    (refl, refl, (_, refl, refl, lit< tt, (_, _, inr (inl (algorithms, ([], _, (tt, (answered 0, record { least = lit≤ tt; most = lit≤ tt; unused = λ _. refl; context = lit≤ tt; exchange_opaque = lit≤ tt; nonce = refl; measured_opaque = lit≤ tt; handle = lit< tt; reply = lit≤ tt; pad = lit≤ tt }, lit≤ tt, refl)), refl, (refl, refl, lit≤ tt), refl, refl), refl)), (_, (_, (asked, record { least = lit≤ tt; most = lit≤ tt; unused = λ _. refl; context = lit≤ tt; opaque = lit≤ tt; exchange = lit≤ tt; pad = lit≤ tt }, refl), refl), refl)))), refl)))
+after_8 = (
+  _,
+  (
+    _,
+    (
+      after_6.0,
+      after_6.1,
+      (
+        _,
+        (refl, refl, inr (refl, refl, (_, _, inr (inl (_, (refl, refl), refl, refl, (refl, tt), refl, refl)), refl))),
+        refl,
+      ),
+    ),
+    (
+      _,
+      (refl, refl, (_, refl, refl, lit< tt, (_, _, inr (inl (algorithms, ([], _, (tt, (answered 0, record { least = lit≤ tt; most = lit≤ tt; unused = λ _. refl; context = lit≤ tt; exchange_opaque = lit≤ tt; nonce = refl; measured_opaque = lit≤ tt; handle = lit< tt; reply = lit≤ tt; pad = lit≤ tt }, lit≤ tt, refl)), refl, (refl, refl, lit≤ tt), refl, refl), refl)), (_, (_, (asked, record { least = lit≤ tt; most = lit≤ tt; unused = λ _. refl; context = lit≤ tt; opaque = lit≤ tt; exchange = lit≤ tt; pad = lit≤ tt }, refl), refl), refl)))),
+      refl,
+    ),
+  ),
+)
 
 -- The first chunk of ALGORITHMS.
 abbrev packets_10 : List (List ℕ)
@@ -172,9 +270,26 @@ packets_10 =
 
 after_10 : (ds : List Dialogue) × Leads small packets_10 ds
 unfolding Steps Sends Answers Hears MayLeadTo gathered_from asks hears command_fault body_fault carried_by clear_led requester_session.session_of on_clear on_record refused_form refused_contents refusal turn_of answer_bytes responder_session.session_of terms_of field_at number_at optional_at tables_at behind_tables behind_table request_body response_body get_version_layout get_capabilities_layout negotiate_algorithms_layout psk_finish_layout chunk_send_layout chunk_get_layout version_layout capabilities_layout algorithms_layout chunk_send_ack_layout chunk_response_layout error_layout after_8
-after_10 = (_, (_, (after_8.0, after_8.1, (_,
-    (refl, refl, inr (refl, refl, (_, _, inr (inl (_, (refl, refl), refl, refl, tt, refl, refl)), refl))), refl)), (_,
-    (refl, refl, (_, refl, refl, lit< tt, (_, _, inl (([], _, (tt, (answered 0, record { least = lit≤ tt; most = lit≤ tt; unused = λ _. refl; context = lit≤ tt; exchange_opaque = lit≤ tt; nonce = refl; measured_opaque = lit≤ tt; handle = lit< tt; reply = lit≤ tt; pad = lit≤ tt }, lit≤ tt, refl)), tt, refl, refl, refl), refl), (_, (_, (asked, record { least = lit≤ tt; most = lit≤ tt; unused = λ _. refl; context = lit≤ tt; opaque = lit≤ tt; exchange = lit≤ tt; pad = lit≤ tt }, refl), refl), refl)))), refl)))
+after_10 = (
+  _,
+  (
+    _,
+    (
+      after_8.0,
+      after_8.1,
+      (
+        _,
+        (refl, refl, inr (refl, refl, (_, _, inr (inl (_, (refl, refl), refl, refl, tt, refl, refl)), refl))),
+        refl,
+      ),
+    ),
+    (
+      _,
+      (refl, refl, (_, refl, refl, lit< tt, (_, _, inl (([], _, (tt, (answered 0, record { least = lit≤ tt; most = lit≤ tt; unused = λ _. refl; context = lit≤ tt; exchange_opaque = lit≤ tt; nonce = refl; measured_opaque = lit≤ tt; handle = lit< tt; reply = lit≤ tt; pad = lit≤ tt }, lit≤ tt, refl)), tt, refl, refl, refl), refl), (_, (_, (asked, record { least = lit≤ tt; most = lit≤ tt; unused = λ _. refl; context = lit≤ tt; opaque = lit≤ tt; exchange = lit≤ tt; pad = lit≤ tt }, refl), refl), refl)))),
+      refl,
+    ),
+  ),
+)
 
 -- The last chunk.
 abbrev packets_12 : List (List ℕ)
@@ -185,9 +300,168 @@ packets_12 =
 
 after_12 : (ds : List Dialogue) × Leads small packets_12 ds
 unfolding Steps Sends Answers Hears MayLeadTo gathered_from asks hears command_fault body_fault carried_by clear_led requester_session.session_of on_clear on_record refused_form refused_contents refusal turn_of answer_bytes responder_session.session_of terms_of field_at number_at optional_at tables_at behind_tables behind_table request_body response_body get_version_layout get_capabilities_layout negotiate_algorithms_layout psk_finish_layout chunk_send_layout chunk_get_layout version_layout capabilities_layout algorithms_layout chunk_send_ack_layout chunk_response_layout error_layout after_10
-after_12 = (_, (_, (after_10.0, after_10.1, (_,
-    (refl, refl, inr (refl, refl, (_, _, inr (inl (_, (refl, refl), refl, refl, tt, refl, refl)), refl))), refl)), (_,
-    (refl, refl, (_, refl, refl, lit< tt, (_, _, inr (inr (([], _, (answered 0, record { least = lit≤ tt; most = lit≤ tt; unused = λ _. refl; context = lit≤ tt; exchange_opaque = lit≤ tt; nonce = refl; measured_opaque = lit≤ tt; handle = lit< tt; reply = lit≤ tt; pad = lit≤ tt }, lit≤ tt, refl), refl, ((tt, (answered 0, record { least = lit≤ tt; most = lit≤ tt; unused = λ _. refl; context = lit≤ tt; exchange_opaque = lit≤ tt; nonce = refl; measured_opaque = lit≤ tt; handle = lit< tt; reply = lit≤ tt; pad = lit≤ tt }, lit≤ tt, refl)), tt), refl, refl), refl)), (_, (_, (asked, record { least = lit≤ tt; most = lit≤ tt; unused = λ _. refl; context = lit≤ tt; opaque = lit≤ tt; exchange = lit≤ tt; pad = lit≤ tt }, refl), refl), refl)))), refl)))
+after_12 = (
+  _,
+  (
+    _,
+    (
+      after_10.0,
+      after_10.1,
+      (
+        _,
+        (refl, refl, inr (refl, refl, (_, _, inr (inl (_, (refl, refl), refl, refl, tt, refl, refl)), refl))),
+        refl,
+      ),
+    ),
+    (
+      _,
+      (refl, refl, (_, refl, refl, lit< tt, (_, _, inr (inr (([], _, (answered 0, record { least = lit≤ tt; most = lit≤ tt; unused = λ _. refl; context = lit≤ tt; exchange_opaque = lit≤ tt; nonce = refl; measured_opaque = lit≤ tt; handle = lit< tt; reply = lit≤ tt; pad = lit≤ tt }, lit≤ tt, refl), refl, ((tt, (answered 0, record { least = lit≤ tt; most = lit≤ tt; unused = λ _. refl; context = lit≤ tt; exchange_opaque = lit≤ tt; nonce = refl; measured_opaque = lit≤ tt; handle = lit< tt; reply = lit≤ tt; pad = lit≤ tt }, lit≤ tt, refl)), tt), refl, refl), refl)), (_, (_, (asked, record { least = lit≤ tt; most = lit≤ tt; unused = λ _. refl; context = lit≤ tt; opaque = lit≤ tt; exchange = lit≤ tt; pad = lit≤ tt }, refl), refl), refl)))),
+      refl,
+    ),
+  ),
+)
 
 chunks_conform : Conforms small (reverse packets_12)
 chunks_conform = after_12
+
+-- A copy of GET_VERSION gets the same again. GET_VERSION in place of GET_CAPABILITIES, which is owed, has the tag
+-- that this would have had.
+abbrev packets_copied : List (List ℕ)
+packets_copied =
+    (0x01 ∷ 0x09 ∷ 0x08 ∷ 0xc1 ∷ 0x05 ∷ 0x10 ∷ 0x04 ∷ 0x00 ∷ 0x00 ∷ 0x00 ∷ 0x01 ∷ 0x00 ∷ 0x12 ∷ [])
+    ∷ (0x01 ∷ 0x08 ∷ 0x09 ∷ 0xc9 ∷ 0x05 ∷ 0x10 ∷ 0x84 ∷ 0x00 ∷ 0x00 ∷ [])
+    ∷ (0x01 ∷ 0x09 ∷ 0x08 ∷ 0xc0 ∷ 0x05 ∷ 0x10 ∷ 0x04 ∷ 0x00 ∷ 0x00 ∷ 0x00 ∷ 0x01 ∷ 0x00 ∷ 0x12 ∷ [])
+    ∷ (0x01 ∷ 0x09 ∷ 0x08 ∷ 0xc0 ∷ 0x05 ∷ 0x10 ∷ 0x04 ∷ 0x00 ∷ 0x00 ∷ 0x00 ∷ 0x01 ∷ 0x00 ∷ 0x12 ∷ [])
+    ∷ (0x01 ∷ 0x08 ∷ 0x09 ∷ 0xc8 ∷ 0x05 ∷ 0x10 ∷ 0x84 ∷ 0x00 ∷ 0x00 ∷ [])
+    ∷ (0x01 ∷ 0x08 ∷ 0x09 ∷ 0xc8 ∷ 0x05 ∷ 0x10 ∷ 0x84 ∷ 0x00 ∷ 0x00 ∷ [])
+    ∷ []
+
+after_copied : (ds : List Dialogue) × Leads setup packets_copied ds
+unfolding Steps Sends Answers Hears MayLeadTo gathered_from asks hears command_fault body_fault carried_by clear_led requester_session.session_of on_clear on_record refused_form refused_contents refusal turn_of answer_bytes responder_session.session_of terms_of field_at number_at optional_at tables_at behind_tables behind_table request_body response_body get_version_layout get_capabilities_layout negotiate_algorithms_layout psk_finish_layout chunk_send_layout chunk_get_layout version_layout capabilities_layout algorithms_layout chunk_send_ack_layout chunk_response_layout error_layout
+after_copied = (
+  _,
+  (
+    _,
+    (
+      _,
+      (
+        _,
+        (
+          _,
+          (
+            _,
+            (
+              _,
+              refl,
+              (
+                _,
+                (refl, refl, inr (refl, refl, (_, _, inl (inl (_, (asked, record { least = lit≤ tt; most = lit≤ tt; unused = λ _. refl; context = lit≤ tt; opaque = lit≤ tt; exchange = lit≤ tt; pad = lit≤ tt }, refl), refl, refl, refl), refl), refl))),
+                refl,
+              ),
+            ),
+            (
+              _,
+              (refl, refl, inl (_, refl, refl, refl, refl)),
+              refl,
+            ),
+          ),
+          (
+            _,
+            (refl, refl, (_, refl, refl, lit< tt, (_, _, inl (([], _, (tt, (answered 0, record { least = lit≤ tt; most = lit≤ tt; unused = λ _. refl; context = lit≤ tt; exchange_opaque = lit≤ tt; nonce = refl; measured_opaque = lit≤ tt; handle = lit< tt; reply = lit≤ tt; pad = lit≤ tt }, lit≤ tt, refl)), tt, refl, refl, refl), refl), (_, (_, (asked, record { least = lit≤ tt; most = lit≤ tt; unused = λ _. refl; context = lit≤ tt; opaque = lit≤ tt; exchange = lit≤ tt; pad = lit≤ tt }, refl), refl), refl)))),
+            refl,
+          ),
+        ),
+        (
+          _,
+          (refl, refl, (_, refl, refl, lit< tt, (_, _, inl (([], _, (tt, (answered 0, record { least = lit≤ tt; most = lit≤ tt; unused = λ _. refl; context = lit≤ tt; exchange_opaque = lit≤ tt; nonce = refl; measured_opaque = lit≤ tt; handle = lit< tt; reply = lit≤ tt; pad = lit≤ tt }, lit≤ tt, refl)), tt, refl, refl, refl), refl), (_, (_, (asked, record { least = lit≤ tt; most = lit≤ tt; unused = λ _. refl; context = lit≤ tt; opaque = lit≤ tt; exchange = lit≤ tt; pad = lit≤ tt }, refl), refl), refl)))),
+          refl,
+        ),
+      ),
+      (
+        _,
+        (refl, refl, inr (refl, refl, (_, _, inl (inl (_, (asked, record { least = lit≤ tt; most = lit≤ tt; unused = λ _. refl; context = lit≤ tt; opaque = lit≤ tt; exchange = lit≤ tt; pad = lit≤ tt }, refl), refl, refl, refl), refl), refl))),
+        refl,
+      ),
+    ),
+    (
+      _,
+      (refl, refl, (_, refl, refl, lit< tt, (_, _, inl (([], _, (tt, (answered 0, record { least = lit≤ tt; most = lit≤ tt; unused = λ _. refl; context = lit≤ tt; exchange_opaque = lit≤ tt; nonce = refl; measured_opaque = lit≤ tt; handle = lit< tt; reply = lit≤ tt; pad = lit≤ tt }, lit≤ tt, refl)), tt, refl, refl, refl), refl), (_, (_, (asked, record { least = lit≤ tt; most = lit≤ tt; unused = λ _. refl; context = lit≤ tt; opaque = lit≤ tt; exchange = lit≤ tt; pad = lit≤ tt }, refl), refl), refl)))),
+      refl,
+    ),
+  ),
+)
+
+copies_conform : Conforms setup (reverse packets_copied)
+copies_conform = after_copied
+
+-- GET_VERSION cuts off the offer behind its first chunk, and a new negotiation begins.
+abbrev packets_anew : List (List ℕ)
+packets_anew =
+    (0x01 ∷ 0x09 ∷ 0x08 ∷ 0xc4 ∷ 0x05 ∷ 0x12 ∷ 0x61 ∷ 0x00 ∷ 0x00 ∷ 0x00 ∷ 0x00 ∷ 0x00 ∷ 0x00 ∷ 0xc8 ∷ 0x68 ∷ 0x02 ∷ 0x00 ∷ 0x2a ∷ 0x00 ∷ 0x00 ∷ 0x00 ∷ 0x00 ∷ 0x10 ∷ 0x00 ∷ 0x00 ∷ [])
+    ∷ (0x01 ∷ 0x08 ∷ 0x09 ∷ 0xcc ∷ 0x05 ∷ 0x12 ∷ 0xe1 ∷ 0x00 ∷ 0x00 ∷ 0x00 ∷ 0x00 ∷ 0x00 ∷ 0x00 ∷ 0xc0 ∷ 0x64 ∷ 0x02 ∷ 0x00 ∷ 0x2a ∷ 0x00 ∷ 0x00 ∷ 0x00 ∷ 0x00 ∷ 0x10 ∷ 0x00 ∷ 0x00 ∷ [])
+    ∷ (0x01 ∷ 0x09 ∷ 0x08 ∷ 0xc3 ∷ 0x05 ∷ 0x10 ∷ 0x04 ∷ 0x00 ∷ 0x00 ∷ 0x00 ∷ 0x01 ∷ 0x00 ∷ 0x12 ∷ [])
+    ∷ (0x01 ∷ 0x08 ∷ 0x09 ∷ 0xcb ∷ 0x05 ∷ 0x10 ∷ 0x84 ∷ 0x00 ∷ 0x00 ∷ [])
+    ∷ packets_6
+
+after_anew : (ds : List Dialogue) × Leads small packets_anew ds
+unfolding Steps Sends Answers Hears MayLeadTo gathered_from asks hears command_fault body_fault carried_by clear_led requester_session.session_of on_clear on_record refused_form refused_contents refusal turn_of answer_bytes responder_session.session_of terms_of field_at number_at optional_at tables_at behind_tables behind_table request_body response_body get_version_layout get_capabilities_layout negotiate_algorithms_layout psk_finish_layout chunk_send_layout chunk_get_layout version_layout capabilities_layout algorithms_layout chunk_send_ack_layout chunk_response_layout error_layout after_6
+after_anew = (
+  _,
+  (
+    _,
+    (
+      _,
+      (
+        _,
+        (
+          after_6.0,
+          after_6.1,
+          (
+            _,
+            (refl, refl, inr (refl, refl, (_, _, inl (inl (_, (asked, record { least = lit≤ tt; most = lit≤ tt; unused = λ _. refl; context = lit≤ tt; opaque = lit≤ tt; exchange = lit≤ tt; pad = lit≤ tt }, refl), refl, refl, refl), refl), refl))),
+            refl,
+          ),
+        ),
+        (
+          _,
+          (refl, refl, (_, refl, refl, lit< tt, (_, _, inl (([], _, (tt, (answered 0, record { least = lit≤ tt; most = lit≤ tt; unused = λ _. refl; context = lit≤ tt; exchange_opaque = lit≤ tt; nonce = refl; measured_opaque = lit≤ tt; handle = lit< tt; reply = lit≤ tt; pad = lit≤ tt }, lit≤ tt, refl)), tt, refl, refl, refl), refl), (_, (_, (asked, record { least = lit≤ tt; most = lit≤ tt; unused = λ _. refl; context = lit≤ tt; opaque = lit≤ tt; exchange = lit≤ tt; pad = lit≤ tt }, refl), refl), refl)))),
+          refl,
+        ),
+      ),
+      (
+        _,
+        (refl, refl, inr (refl, refl, (_, _, inr (inl (_, (refl, refl), refl, refl, tt, refl, refl)), refl))),
+        refl,
+      ),
+    ),
+    (
+      _,
+      (refl, refl, (_, refl, refl, lit< tt, (_, _, inl (([], _, (tt, (answered 0, record { least = lit≤ tt; most = lit≤ tt; unused = λ _. refl; context = lit≤ tt; exchange_opaque = lit≤ tt; nonce = refl; measured_opaque = lit≤ tt; handle = lit< tt; reply = lit≤ tt; pad = lit≤ tt }, lit≤ tt, refl)), tt, refl, refl, refl), refl), (_, (_, (asked, record { least = lit≤ tt; most = lit≤ tt; unused = λ _. refl; context = lit≤ tt; opaque = lit≤ tt; exchange = lit≤ tt; pad = lit≤ tt }, refl), refl), refl)))),
+      refl,
+    ),
+  ),
+)
+
+-- The next offer has the next handle.
+abbrev packets_cut : List (List ℕ)
+packets_cut =
+    (0x01 ∷ 0x08 ∷ 0x09 ∷ 0xcd ∷ 0x05 ∷ 0x12 ∷ 0x85 ∷ 0x00 ∷ 0x01 ∷ 0x00 ∷ 0x00 ∷ 0x00 ∷ 0x00 ∷ 0x1a ∷ 0x00 ∷ 0x00 ∷ 0x00 ∷ 0x30 ∷ 0x00 ∷ 0x00 ∷ 0x00 ∷ 0x12 ∷ 0xe3 ∷ 0x04 ∷ 0x00 ∷ 0x30 ∷ 0x00 ∷ 0x01 ∷ 0x02 ∷ 0x00 ∷ 0x00 ∷ 0x00 ∷ 0x00 ∷ 0x01 ∷ 0x00 ∷ 0x00 ∷ 0x00 ∷ 0x00 ∷ 0x00 ∷ 0x00 ∷ 0x00 ∷ 0x00 ∷ 0x00 ∷ 0x00 ∷ 0x00 ∷ 0x00 ∷ 0x00 ∷ [])
+    ∷ packets_anew
+
+after_cut : (ds : List Dialogue) × Leads small packets_cut ds
+unfolding Steps Sends Answers Hears MayLeadTo gathered_from asks hears command_fault body_fault carried_by clear_led requester_session.session_of on_clear on_record refused_form refused_contents refusal turn_of answer_bytes responder_session.session_of terms_of field_at number_at optional_at tables_at behind_tables behind_table request_body response_body get_version_layout get_capabilities_layout negotiate_algorithms_layout psk_finish_layout chunk_send_layout chunk_get_layout version_layout capabilities_layout algorithms_layout chunk_send_ack_layout chunk_response_layout error_layout after_anew
+after_cut = (
+  _,
+  (
+    after_anew.0,
+    after_anew.1,
+    (
+      _,
+      (refl, refl, inr (refl, refl, (_, _, inr (inr (offer, inr (_, _, (refl, refl), refl, refl, (refl, refl, lit≤ tt), refl, refl), refl)), refl))),
+      refl,
+    ),
+  ),
+)
+
+cut_off_conforms : Conforms small (reverse packets_cut)
+cut_off_conforms = after_cut

@@ -1,7 +1,7 @@
 -- The beginning of a conforming capture.
 use Rattle.std.proofs.Common.{ℕ, List, [], ◌∷◌, ◌++◌, reverse, subst}
 use Rattle.std.proofs.lemmas.List.{reverse-append}
-use Rattle.world_machine.specs.Capture.{Conforms, Leads, BeginningConforms}
+use Rattle.world_machine.specs.Capture.{Leads, BeginningConforms}
 use Rattle.world_machine.specs.Rounds.{Dialogue}
 use Rattle.world_machine.specs.Setup.{WorldSetup}
 

@@ -1,7 +1,6 @@
 -- When a capture conforms: its packets are what a responder and its requesters, as they are set up, may have sent
 -- to one another. This project's own.
 use Rattle.std.specs.Prelude.{◌≡◌, ◌<◌, ◌+◌, ◌-◌, ◌==◌, ◌||◌, ◌⊎◌, ℕ, List, [], ◌∷◌, ◌++◌, map, reverse, take, length, Bool, true, false, Option, Some, None, Result, Ok, Err, MatchBool, bytes_eq}
-use Rattle.mctp_framing.specs.Cutting.{RouteFields}
 use Rattle.mctp_framing.specs.Gathering.{Gathered}
 use Rattle.mctp_framing.specs.Gathering.Gathered.{Whole, More, Dropped}
 use Rattle.mctp_framing.specs.Packet.{PacketFields, parsed}
@@ -38,7 +37,7 @@ abbrev pub Begins : Dialogue → ℕ → List ℕ → Dialogue → Type 0
 Begins d tag body next =
     (may_begin d.round body ≡ true) × (tag ≡ following_tag d.round)
     × ((h : requester_history.History) × (sending : Option (List ℕ)) × Sends d body h sending
-      × (next ≡ record d { requester = h; sending = sending; round = Some (new_round tag body) }))
+    × (next ≡ record d { requester = h; sending = sending; round = Some (new_round tag body) }))
 
 -- ---- An answer.
 
@@ -48,11 +47,13 @@ abbrev pub Replies : WorldSetup → Dialogue → ℕ → List ℕ → Dialogue �
 Replies w d tag answer next =
     (round : Round) × (d.round ≡ Some round) × (round.tag ≡ tag) × (0 < round.waiting)
     × ((h : History) × (fetching : Option (List ℕ)) × Answers (towards w.responder d.setup) d round answer h fetching
-      × ((g : requester_history.History) × Hears d tag answer g
-        × (next ≡ record d {
-            requester = g; responder = h; fetching = while_fetched g fetching;
-            round = Some (record round { waiting = round.waiting - 1; answered = true });
-          })))
+    × ((g : requester_history.History) × Hears d tag answer g
+    × (next ≡ record d {
+      requester = g;
+      responder = h;
+      fetching = while_fetched g fetching;
+      round = Some (record round { waiting = round.waiting - 1; answered = true });
+    })))
 
 -- ---- Packets.
 
@@ -88,8 +89,8 @@ abbrev pub StepsBy : WorldSetup → List (List ℕ) → List Dialogue → List D
 StepsBy w older before after (Err fault) = ⊥
 StepsBy w older before after (Ok packet) =
     MatchBool (packet.to == w.responder.eid)
-        (ComesFrom w older packet before after (dialogue_at packet.from before))
-        (MatchBool (packet.from == w.responder.eid) (GoesTo w older packet before after (dialogue_at packet.to before)) ⊥)
+    (ComesFrom w older packet before after (dialogue_at packet.from before))
+    (MatchBool (packet.from == w.responder.eid) (GoesTo w older packet before after (dialogue_at packet.to before)) ⊥)
 
 unfoldable pub Steps : WorldSetup → List (List ℕ) → List Dialogue → List ℕ → List Dialogue → Type 0
 Steps w older before packet after = StepsBy w older before after (parsed packet)

@@ -18,7 +18,7 @@ use Rattle.spdm_machine.specs.Records.{opening_fault, opened}
 use Rattle.spdm_machine.specs.Responder.{Outcome, after, body_of, sent_by, repeats, clear_body, record_body}
 use Rattle.spdm_machine.specs.Responder.Outcome.{Same, Unopened, Adds}
 use Rattle.spdm_machine.specs.Session.{Events, session_of, id_in_record, id_in_exchange, last_of}
-use Rattle.spdm_machine.specs.Setup.{RspSetup, ReqSetup}
+use Rattle.spdm_machine.specs.Setup.{RspSetup}
 use Rattle.spdm_machine.specs.Turn.{takes, answer_in}
 use Rattle.world_machine.specs.LargeAnswers.{IsLargeAnswer, is_large, entry_with, dropped_before_large, place_of, judging, gives_last}
 use Rattle.world_machine.specs.LargeRequests.{with_ack}
@@ -122,8 +122,8 @@ abbrev pub MayHaveLed : RspSetup → (dropped : List ℕ) → History → Type 0
 MayHaveLed r dropped [] = ⊥
 MayHaveLed r dropped (entry ∷ older) =
     MatchBool (is_large entry)
-        (MayLeadAfter r older dropped (tag_in entry) (request_in entry) (Adds entry) × AreShown r older (request_in entry) (Adds entry) dropped)
-        (MayHaveLed r dropped older)
+    (MayLeadAfter r older dropped (tag_in entry) (request_in entry) (Adds entry) × AreShown r older (request_in entry) (Adds entry) dropped)
+    (MayHaveLed r dropped older)
 
 -- The last chunk of a large answer, which is judged with it.
 abbrev pub Completes : RspSetup → Dialogue → Round → List ℕ → History → Type 0

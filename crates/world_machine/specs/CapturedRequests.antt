@@ -73,7 +73,7 @@ BeginsLarge d body after whole =
     × (begins_large some.aim ≡ true)
     × IsLargeRequest (common_of d.requester) whole
     × ((asked : RequestMessage) × (body_of (first_piece d.requester asked whole).content ≡ body)
-      × (after ≡ Told command (first_piece d.requester asked whole) no_draw ∷ d.requester))
+    × (after ≡ Told command (first_piece d.requester asked whole) no_draw ∷ d.requester))
 
 -- The first chunk of a large request that is owed. The bytes that stand for it are not judged yet.
 abbrev pub BeginsOwed : Dialogue → List ℕ → History → List ℕ → Type 0

@@ -8,12 +8,12 @@ use Rattle.negotiate.specs.declared.shared.Common.{Common}
 use Rattle.requester_machine.specs.Answers.{goes_on}
 use Rattle.requester_machine.specs.Asking.Outcome.{Adds}
 use Rattle.requester_machine.specs.Bodies.{has_tag}
-use Rattle.requester_machine.specs.History.{History, Effect, outstanding, connection_terms, begins_large, is_first_chunk, next_handle}
+use Rattle.requester_machine.specs.History.{History, outstanding, connection_terms, begins_large, is_first_chunk, next_handle}
 use Rattle.requester_machine.specs.History.Effect.{NoEffect}
 use Rattle.requester_machine.specs.History.Entry.{Told, TookClear, TookRecord}
 use Rattle.requester_machine.specs.May.{MayAsk}
 use Rattle.requester_machine.specs.Message.{Aim, Sent}
-use Rattle.requester_machine.specs.Message.Aim.{Plain, ByChunks, ForChunk, InSession}
+use Rattle.requester_machine.specs.Message.Aim.{ByChunks}
 use Rattle.requester_machine.specs.Sending.{clear_sent, is_too_long}
 use Rattle.spdm_grammar.specs.Message.{RequestMessage}
 use Rattle.spdm_grammar.specs.Message.RequestMessage.{ChunkSend}

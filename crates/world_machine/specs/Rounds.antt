@@ -1,5 +1,5 @@
 -- What a capture shows of a requester and its responder: rounds, one after another. This project's own.
-use Rattle.std.specs.Prelude.{◌+◌, ◌%◌, ◌==◌, ℕ, List, [], ◌∷◌, map, find, if◌then◌else◌, Bool, false, Option, Some, None}
+use Rattle.std.specs.Prelude.{◌+◌, ◌%◌, ◌==◌, ℕ, List, [], map, find, if◌then◌else◌, Bool, false, Option, Some, None}
 use Rattle.requester_machine.specs.History as requester_history
 use Rattle.spdm_machine.specs.History.{History}
 use Rattle.spdm_machine.specs.Keys.{Draw}
