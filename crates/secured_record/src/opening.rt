@@ -1,4 +1,4 @@
-ghost use Rattle.std.specs.Prelude.{◌≡◌, ◌≤◌, ℕ, List, None, Some, IsOk, OnOk, OnErr, IfOk, MatchResult, is_ok, length, take};
+ghost use Rattle.std.specs.Prelude.{◌≡◌, ◌≢◌, ◌≤◌, ℕ, List, None, Some, IsOk, OnOk, OnErr, IfOk, IfErr, MatchResult, is_ok, length, take};
 ghost use Rattle.byteorder.specs.Endian.{little_bytes, little_number};
 ghost use Rattle.spdm_basis.specs.Sizes.{key_size};
 ghost use Rattle.spdm_basis.specs.SessionIdBytes.{session_id_bytes};
@@ -142,6 +142,7 @@ fn open_by(
         (λ e. fault_of key.now iv.now (session_id_bytes id.req id.rsp) number sealed.now ≡ Some e) }
     ensures inner { OnOk result (out.new ≡ inner_of key.now iv.now number sealed.now) }
     ensures unchanged { OnErr result (out.new ≡ out.old) }
+    ensures not_spent { IfErr result (λ e. e ≢ RecordFault.KeySpent) }
     ensures record { OnOk result (IsRecordOf key.now iv.now (session_id_bytes id.req id.rsp) number sealed.now out.new) }
     ensures opens { (inner pad : List ℕ) → sealed.now ≡ record_of key.now iv.now (session_id_bytes id.req id.rsp) number inner pad
         → length sealed.now ≤ 4160 → IsOk result × (out.new ≡ inner) }
@@ -164,6 +165,7 @@ pub fn open(
         (λ e. fault_of (key_of key.now) (iv_of key.now) (session_id_bytes id.req id.rsp) number sealed.now ≡ Some e) }
     ensures inner { OnOk result (out.new ≡ inner_of (key_of key.now) (iv_of key.now) number sealed.now) }
     ensures unchanged { OnErr result (out.new ≡ out.old) }
+    ensures not_spent { IfErr result (λ e. e ≢ RecordFault.KeySpent) }
 
     // What opens is a record of its inner message, and each record of at most 4,160 bytes opens.
     ensures record { OnOk result (IsRecordOf (key_of key.now) (iv_of key.now) (session_id_bytes id.req id.rsp) number sealed.now out.new) }
