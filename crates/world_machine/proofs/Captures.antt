@@ -1,8 +1,9 @@
 -- The beginning of a conforming capture.
-use Rattle.std.proofs.Common.{ℕ, List, [], ◌∷◌, ◌++◌, reverse, subst}
+use Rattle.std.proofs.Common.{ℕ, List, [], ◌∷◌, ◌++◌, refl, map, reverse, subst}
 use Rattle.std.proofs.lemmas.List.{reverse-append}
 use Rattle.world_machine.specs.Capture.{Leads, BeginningConforms}
 use Rattle.world_machine.specs.Rounds.{Dialogue}
+use Rattle.world_machine.specs.SessionTable.{Row, ConformingHasTable, LeadsShowing, rows_after, seen}
 use Rattle.world_machine.specs.Setup.{WorldSetup}
 
 -- What packets lead to, the older ones of them led to something.
@@ -14,3 +15,21 @@ pub beginning : BeginningConforms
 beginning w earlier later conforms =
     let P : List (List ℕ) → Type 0 = λ packets. Leads w packets conforms.0 in
     leads_before w (reverse later) (reverse earlier) conforms.0 (subst P (reverse-append earlier later) conforms.1)
+
+-- What packets lead to shows some rows.
+shows_rows : (w : WorldSetup) (packets : List (List ℕ)) (ds : List Dialogue) → Leads w packets ds → (rows : List Row) × LeadsShowing w packets ds rows
+shows_rows w [] ds leads = ([], (leads, refl))
+shows_rows w (packet ∷ older) ds leads =
+    let earlier = shows_rows w older leads.0 leads.1 in
+    (rows_after leads.0 ds earlier.0, (leads.0, earlier.0, earlier.1, leads.2, refl))
+
+leads_too : (w : WorldSetup) (packets : List (List ℕ)) (ds : List Dialogue) (rows : List Row) → LeadsShowing w packets ds rows → Leads w packets ds
+leads_too w [] ds rows shown = shown.0
+leads_too w (packet ∷ older) ds rows shown = (shown.0, leads_too w older shown.0 shown.1 shown.2, shown.3)
+
+pub has_table : ConformingHasTable
+has_table w packets = (
+  λ conforms. let shown = shows_rows w (reverse packets) conforms.0 conforms.1 in
+      (map (seen w) (reverse shown.0), (conforms.0, shown.0, shown.1, refl)),
+  λ table has. (has.0, leads_too w (reverse packets) has.0 has.1 has.2),
+)

@@ -15,3 +15,4 @@ pub mod CapturedRequests
 pub mod LargeAnswers
 pub mod CapturedAnswers
 pub mod Capture
+pub mod SessionTable
