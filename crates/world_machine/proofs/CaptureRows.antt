@@ -465,3 +465,41 @@ after_cut = (
 
 cut_off_conforms : Conforms small (reverse packets_cut)
 cut_off_conforms = after_cut
+
+-- Bytes that no offer has, and no ALGORITHMS either.
+abbrev other : List ℕ
+other = replicate 60 0x55
+
+-- The first chunk of such an offer conforms: only the last one is judged by its bytes.
+abbrev packets_other_offer : List (List ℕ)
+packets_other_offer =
+    (0x01 ∷ 0x08 ∷ 0x09 ∷ 0xca ∷ 0x05 ∷ 0x12 ∷ 0x85 ∷ 0x00 ∷ 0x00 ∷ 0x00 ∷ 0x00 ∷ 0x00 ∷ 0x00 ∷ 0x1a ∷ 0x00 ∷ 0x00 ∷ 0x00 ∷ 0x3c ∷ 0x00 ∷ 0x00 ∷ 0x00 ∷ 0x55 ∷ 0x55 ∷ 0x55 ∷ 0x55 ∷ 0x55 ∷ 0x55 ∷ 0x55 ∷ 0x55 ∷ 0x55 ∷ 0x55 ∷ 0x55 ∷ 0x55 ∷ 0x55 ∷ 0x55 ∷ 0x55 ∷ 0x55 ∷ 0x55 ∷ 0x55 ∷ 0x55 ∷ 0x55 ∷ 0x55 ∷ 0x55 ∷ 0x55 ∷ 0x55 ∷ 0x55 ∷ 0x55 ∷ [])
+    ∷ packets_4
+
+after_other_offer : (ds : List Dialogue) × Leads small packets_other_offer ds
+unfolding Steps Sends Answers Hears MayLeadTo gathered_from asks hears command_fault body_fault carried_by clear_led requester_session.session_of on_clear on_record refused_form refused_contents refusal turn_of answer_bytes responder_session.session_of terms_of field_at number_at optional_at tables_at behind_tables behind_table request_body response_body get_version_layout get_capabilities_layout negotiate_algorithms_layout psk_finish_layout chunk_send_layout chunk_get_layout version_layout capabilities_layout algorithms_layout chunk_send_ack_layout chunk_response_layout error_layout after_4
+after_other_offer = (_, (after_4.0, after_4.1, (_,
+    (refl, refl, inr (refl, refl, (_, _, inr (inr (other, inr (_, _, (refl, refl), refl, refl, (refl, refl, lit≤ tt), refl, refl), refl)), refl))), refl)))
+
+other_offer_conforms : Conforms small (reverse packets_other_offer)
+other_offer_conforms = after_other_offer
+
+-- So does the first chunk of such an answer.
+abbrev packets_other_answer : List (List ℕ)
+packets_other_answer =
+    (0x01 ∷ 0x09 ∷ 0x08 ∷ 0xc4 ∷ 0x05 ∷ 0x12 ∷ 0x06 ∷ 0x00 ∷ 0x00 ∷ 0x00 ∷ 0x00 ∷ 0x00 ∷ 0x00 ∷ 0x1a ∷ 0x00 ∷ 0x00 ∷ 0x00 ∷ 0x3c ∷ 0x00 ∷ 0x00 ∷ 0x00 ∷ 0x55 ∷ 0x55 ∷ 0x55 ∷ 0x55 ∷ 0x55 ∷ 0x55 ∷ 0x55 ∷ 0x55 ∷ 0x55 ∷ 0x55 ∷ 0x55 ∷ 0x55 ∷ 0x55 ∷ 0x55 ∷ 0x55 ∷ 0x55 ∷ 0x55 ∷ 0x55 ∷ 0x55 ∷ 0x55 ∷ 0x55 ∷ 0x55 ∷ 0x55 ∷ 0x55 ∷ 0x55 ∷ 0x55 ∷ [])
+    ∷ (0x01 ∷ 0x08 ∷ 0x09 ∷ 0xcc ∷ 0x05 ∷ 0x12 ∷ 0x86 ∷ 0x00 ∷ 0x00 ∷ 0x00 ∷ 0x00 ∷ [])
+    ∷ (0x01 ∷ 0x09 ∷ 0x08 ∷ 0xc3 ∷ 0x05 ∷ 0x12 ∷ 0x05 ∷ 0x00 ∷ 0x00 ∷ 0x01 ∷ 0x00 ∷ 0x12 ∷ 0x7f ∷ 0x0f ∷ 0x00 ∷ 0x00 ∷ [])
+    ∷ (0x01 ∷ 0x08 ∷ 0x09 ∷ 0xcb ∷ 0x05 ∷ 0x12 ∷ 0x85 ∷ 0x01 ∷ 0x00 ∷ 0x01 ∷ 0x00 ∷ 0x00 ∷ 0x00 ∷ 0x16 ∷ 0x00 ∷ 0x00 ∷ 0x00 ∷ 0x00 ∷ 0x00 ∷ 0x00 ∷ 0x00 ∷ 0x00 ∷ 0x00 ∷ 0x02 ∷ 0x20 ∷ 0x00 ∷ 0x00 ∷ 0x03 ∷ 0x20 ∷ 0x01 ∷ 0x00 ∷ 0x04 ∷ 0x20 ∷ 0x00 ∷ 0x00 ∷ 0x05 ∷ 0x20 ∷ 0x01 ∷ 0x00 ∷ [])
+    ∷ packets_6
+
+after_other_answer : (ds : List Dialogue) × Leads small packets_other_answer ds
+unfolding Steps Sends Answers Hears MayLeadTo gathered_from asks hears command_fault body_fault carried_by clear_led requester_session.session_of on_clear on_record refused_form refused_contents refusal turn_of answer_bytes responder_session.session_of terms_of field_at number_at optional_at tables_at behind_tables behind_table request_body response_body get_version_layout get_capabilities_layout negotiate_algorithms_layout psk_finish_layout chunk_send_layout chunk_get_layout version_layout capabilities_layout algorithms_layout chunk_send_ack_layout chunk_response_layout error_layout after_6
+after_other_answer = (_, (_, (_, (_, (after_6.0, after_6.1, (_,
+    (refl, refl, inr (refl, refl, (_, _, inr (inl (_, (refl, refl), refl, refl, (refl, tt), refl, refl)), refl))), refl)), (_,
+    (refl, refl, (_, refl, refl, lit< tt, (_, _, inr (inl (other, ([], _, (tt, (answered 0, record { least = lit≤ tt; most = lit≤ tt; unused = λ _. refl; context = lit≤ tt; exchange_opaque = lit≤ tt; nonce = refl; measured_opaque = lit≤ tt; handle = lit< tt; reply = lit≤ tt; pad = lit≤ tt }, lit≤ tt, refl)), refl, (refl, refl, lit≤ tt), refl, refl), refl)), (_, (_, (asked, record { least = lit≤ tt; most = lit≤ tt; unused = λ _. refl; context = lit≤ tt; opaque = lit≤ tt; exchange = lit≤ tt; pad = lit≤ tt }, refl), refl), refl)))), refl)), (_,
+    (refl, refl, inr (refl, refl, (_, _, inr (inl (_, (refl, refl), refl, refl, tt, refl, refl)), refl))), refl)), (_,
+    (refl, refl, (_, refl, refl, lit< tt, (_, _, inl (([], _, (tt, (answered 0, record { least = lit≤ tt; most = lit≤ tt; unused = λ _. refl; context = lit≤ tt; exchange_opaque = lit≤ tt; nonce = refl; measured_opaque = lit≤ tt; handle = lit< tt; reply = lit≤ tt; pad = lit≤ tt }, lit≤ tt, refl)), tt, refl, refl, refl), refl), (_, (_, (asked, record { least = lit≤ tt; most = lit≤ tt; unused = λ _. refl; context = lit≤ tt; opaque = lit≤ tt; exchange = lit≤ tt; pad = lit≤ tt }, refl), refl), refl)))), refl)))
+
+other_answer_conforms : Conforms small (reverse packets_other_answer)
+other_answer_conforms = after_other_answer

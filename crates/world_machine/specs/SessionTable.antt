@@ -1,5 +1,5 @@
 -- The sessions that a conforming capture shows. This project's own.
-use Rattle.std.specs.Prelude.{◌≡◌, ◌+◌, ◌==◌, ◌&&◌, ◌||◌, not, nat_lt, ℕ, zero, suc, List, [], ◌∷◌, map, reverse, length, if◌then◌else◌, Bool, true, false, Option, Some, None, bytes_eq}
+use Rattle.std.specs.Prelude.{◌≡◌, ◌+◌, ◌==◌, ◌&&◌, ◌||◌, not, nat_lt, ℕ, List, [], ◌∷◌, map, reverse, length, if◌then◌else◌, Bool, true, false, Option, Some, None, bytes_eq}
 use Rattle.requester_machine.specs.History as requester_history
 use Rattle.requester_machine.specs.History.Effect.{Answers}
 use Rattle.requester_machine.specs.History.Entry.{TookClear}
