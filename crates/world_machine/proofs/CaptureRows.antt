@@ -1,6 +1,8 @@
 -- Captures that conform, computed from the definitions. In none of them is a tag computed.
 use Rattle.std.proofs.Common.{refl, ℕ, List, [], ◌∷◌, true, false, inl, inr, lit≤, lit<, reverse, map, subst}
 use Rattle.std.specs.Prelude.{replicate, codes}
+use Rattle.std.proofs.Common.{sym}
+use Rattle.std.proofs.lemmas.Bool.{false≢true}
 use Rattle.std.proofs.lemmas.Option.{none-some}
 use Rattle.requester_machine.specs.Asking.{asks}
 use Rattle.requester_machine.specs.Bodies.{body_fault}
@@ -24,7 +26,10 @@ use Rattle.world_machine.specs.Capture.{Conforms, IsFirstDifference, Leads, Step
 use Rattle.world_machine.specs.CapturedAnswers.{Answers, Hears, MayLeadTo}
 use Rattle.world_machine.specs.CapturedRequests.{Sends}
 use Rattle.world_machine.specs.Rounds.{Dialogue, new_dialogue}
+use Rattle.world_machine.specs.Difference.{IsApartBy, IsDifference, IsOtherwiseWrong, IsVerifyApart}
+use Rattle.world_machine.specs.Difference.Why.{WrongTurn}
 use Rattle.world_machine.specs.Packets.{gathered_from}
+use Rattle.mctp_framing.specs.Packet.{parsed}
 use Rattle.world_machine.specs.Setup.{WorldSetup}
 
 -- A seed of zeros; `responder 8 1024 4096 64 30 mhkc`; `requester 9 1024 4096 64 0 hkc 71 31..36 -`.
@@ -106,13 +111,28 @@ none_answers : (next : List Dialogue) → Steps setup [] (map new_dialogue setup
 unfolding Steps gathered_from
 none_answers next steps = none-some steps.1.2.0 steps.1.2.1
 
-version_alone_differs : IsFirstDifference setup (version_packet ∷ []) 1
-version_alone_differs = record {
+version_is_first : IsFirstDifference setup (version_packet ∷ []) 1
+version_is_first = record {
   least = lit< tt;
   most = lit< tt;
   before = (_, refl);
   at = λ conforms. let P : List Dialogue → Type 0 = λ before. Steps setup [] before version_packet conforms.0 in
       none_answers conforms.0 (subst P conforms.1.1 conforms.1.2);
+}
+
+none_is_apart : IsApartBy setup [] (map new_dialogue setup.requesters) (parsed version_packet) → ⊥
+unfolding gathered_from
+none_is_apart apart = absurd (false≢true (sym apart.0))
+
+version_alone_differs : IsDifference setup (version_packet ∷ []) 1 WrongTurn
+unfolding IsVerifyApart IsOtherwiseWrong gathered_from
+version_alone_differs = record {
+  first = version_is_first;
+  reason = (
+    λ apart. let P : List Dialogue → Type 0 = λ before. IsApartBy setup [] before (parsed version_packet) in
+      none_is_apart (subst P apart.1 apart.2),
+    (_, refl, refl),
+  );
 }
 
 -- Transfer size 42 at both ends.

@@ -16,3 +16,5 @@ pub mod LargeAnswers
 pub mod CapturedAnswers
 pub mod Capture
 pub mod SessionTable
+pub mod Opening
+pub mod Difference
