@@ -4,7 +4,7 @@ ghost use Rattle.aes_gcm.specs.Gcm.{crypt, tag_of, lengths_block};
 use crate::BadTag;
 use crate::counter::{crypt_in_place, stream_block};
 use aes::Aes;
-use ghash::{HashKey, block_bytes, block_number};
+use ghash::{HashKey, block_bytes};
 use std::marker::Model;
 
 // The lengths of the associated data and of the text in bits, in one block.
@@ -41,8 +41,7 @@ impl GcmKey {
         ensures { result ≡ key.now }
     {
         let aes = Aes::new(key);
-        let zeros = aes.encrypt(&[0u8; 16]);
-        let hash = HashKey::new(block_number(&zeros));
+        let hash = HashKey::new(aes.encrypt_number(0));
         GcmKey { aes, hash }
     }
 
@@ -56,7 +55,7 @@ impl GcmKey {
         let hash = self.hash.absorb(0, aad);
         let hash = self.hash.absorb(hash, text);
         let hash = self.hash.absorb_block(hash, lengths);
-        let mask = block_number(&stream_block(&self.aes, iv, 1));
+        let mask = stream_block(&self.aes, iv, 1);
         block_bytes(hash ^ mask)
     }
 

@@ -14,3 +14,5 @@ pub mod Does
 pub mod May
 pub mod Shown
 pub mod RequesterLog
+pub mod Order
+pub mod Laws

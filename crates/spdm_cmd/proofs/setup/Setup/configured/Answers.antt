@@ -1,6 +1,6 @@
 use Rattle.std.proofs.Common.{◌≡◌, ◌∙◌, ap, rules}
 use Rattle.spdm_basis.specs.declared.eid.Eid.{Eid}
-use Rattle.spdm_basis.proofs.EndPoints.{same_number}
+use Rattle.spdm_cmd.proofs.EndPoints.{same_number}
 use Rattle.spdm_cmd.specs.declared.setup.Setup.{Setup}
 use Rattle.spdm_cmd.specs.Trace.{configured}
 use Rattle.spdm_cmd.proofs.setup.Setup.configured.Goals as goal
