@@ -9,7 +9,7 @@ use Rattle.requester_machine.specs.Answers.{goes_on}
 use Rattle.requester_machine.specs.Asking.Outcome.{Adds}
 use Rattle.requester_machine.specs.Bodies.{has_tag}
 use Rattle.requester_machine.specs.History.{History, outstanding, connection_terms, begins_large, is_first_chunk, next_handle}
-use Rattle.requester_machine.specs.History.Effect.{NoEffect}
+use Rattle.requester_machine.specs.History.Effect.{Nothing}
 use Rattle.requester_machine.specs.History.Entry.{Told, TookClear, TookRecord}
 use Rattle.requester_machine.specs.May.{MayAsk}
 use Rattle.requester_machine.specs.Message.{Aim, Sent}
@@ -44,7 +44,7 @@ first_piece h asked whole = piece_with h asked whole (next_handle h) 0
 -- chunk.
 abbrev pub with_next_piece : List ℕ → ℕ → List ℕ → History → Aim → History
 with_next_piece whole tag m h (ByChunks asked handle number) =
-    TookClear tag m (goes_on NoEffect (piece_with h asked whole handle (number + 1))) no_draw ∷ h
+    TookClear tag m (goes_on Nothing (piece_with h asked whole handle (number + 1))) no_draw ∷ h
 with_next_piece whole tag m h _ = h
 
 abbrev pub with_ack_to : List ℕ → ℕ → List ℕ → History → Option Sent → History
