@@ -130,7 +130,7 @@ version_alone_differs = record {
   first = version_is_first;
   reason = (
     λ apart. let P : List Dialogue → Type 0 = λ before. IsApartBy setup [] before (parsed version_packet) in
-      none_is_apart (subst P apart.1 apart.2),
+        none_is_apart (subst P apart.1 apart.2),
     (_, refl, refl),
   );
 }
@@ -498,8 +498,18 @@ packets_other_offer =
 
 after_other_offer : (ds : List Dialogue) × Leads small packets_other_offer ds
 unfolding Steps Sends Answers Hears MayLeadTo gathered_from asks hears command_fault body_fault carried_by clear_led requester_session.session_of on_clear on_record refused_form refused_contents refusal turn_of answer_bytes responder_session.session_of terms_of field_at number_at optional_at tables_at behind_tables behind_table request_body response_body get_version_layout get_capabilities_layout negotiate_algorithms_layout psk_finish_layout chunk_send_layout chunk_get_layout version_layout capabilities_layout algorithms_layout chunk_send_ack_layout chunk_response_layout error_layout after_4
-after_other_offer = (_, (after_4.0, after_4.1, (_,
-    (refl, refl, inr (refl, refl, (_, _, inr (inr (other, inr (_, _, (refl, refl), refl, refl, (refl, refl, lit≤ tt), refl, refl), refl)), refl))), refl)))
+after_other_offer = (
+  _,
+  (
+    after_4.0,
+    after_4.1,
+    (
+      _,
+      (refl, refl, inr (refl, refl, (_, _, inr (inr (other, inr (_, _, (refl, refl), refl, refl, (refl, refl, lit≤ tt), refl, refl), refl)), refl))),
+      refl,
+    ),
+  ),
+)
 
 other_offer_conforms : Conforms small (reverse packets_other_offer)
 other_offer_conforms = after_other_offer
@@ -515,11 +525,42 @@ packets_other_answer =
 
 after_other_answer : (ds : List Dialogue) × Leads small packets_other_answer ds
 unfolding Steps Sends Answers Hears MayLeadTo gathered_from asks hears command_fault body_fault carried_by clear_led requester_session.session_of on_clear on_record refused_form refused_contents refusal turn_of answer_bytes responder_session.session_of terms_of field_at number_at optional_at tables_at behind_tables behind_table request_body response_body get_version_layout get_capabilities_layout negotiate_algorithms_layout psk_finish_layout chunk_send_layout chunk_get_layout version_layout capabilities_layout algorithms_layout chunk_send_ack_layout chunk_response_layout error_layout after_6
-after_other_answer = (_, (_, (_, (_, (after_6.0, after_6.1, (_,
-    (refl, refl, inr (refl, refl, (_, _, inr (inl (_, (refl, refl), refl, refl, (refl, tt), refl, refl)), refl))), refl)), (_,
-    (refl, refl, (_, refl, refl, lit< tt, (_, _, inr (inl (other, ([], _, (tt, (answered 0, record { least = lit≤ tt; most = lit≤ tt; unused = λ _. refl; context = lit≤ tt; exchange_opaque = lit≤ tt; nonce = refl; measured_opaque = lit≤ tt; handle = lit< tt; reply = lit≤ tt; pad = lit≤ tt }, lit≤ tt, refl)), refl, (refl, refl, lit≤ tt), refl, refl), refl)), (_, (_, (asked, record { least = lit≤ tt; most = lit≤ tt; unused = λ _. refl; context = lit≤ tt; opaque = lit≤ tt; exchange = lit≤ tt; pad = lit≤ tt }, refl), refl), refl)))), refl)), (_,
-    (refl, refl, inr (refl, refl, (_, _, inr (inl (_, (refl, refl), refl, refl, tt, refl, refl)), refl))), refl)), (_,
-    (refl, refl, (_, refl, refl, lit< tt, (_, _, inl (([], _, (tt, (answered 0, record { least = lit≤ tt; most = lit≤ tt; unused = λ _. refl; context = lit≤ tt; exchange_opaque = lit≤ tt; nonce = refl; measured_opaque = lit≤ tt; handle = lit< tt; reply = lit≤ tt; pad = lit≤ tt }, lit≤ tt, refl)), tt, refl, refl, refl), refl), (_, (_, (asked, record { least = lit≤ tt; most = lit≤ tt; unused = λ _. refl; context = lit≤ tt; opaque = lit≤ tt; exchange = lit≤ tt; pad = lit≤ tt }, refl), refl), refl)))), refl)))
+after_other_answer = (
+  _,
+  (
+    _,
+    (
+      _,
+      (
+        _,
+        (
+          after_6.0,
+          after_6.1,
+          (
+            _,
+            (refl, refl, inr (refl, refl, (_, _, inr (inl (_, (refl, refl), refl, refl, (refl, tt), refl, refl)), refl))),
+            refl,
+          ),
+        ),
+        (
+          _,
+          (refl, refl, (_, refl, refl, lit< tt, (_, _, inr (inl (other, ([], _, (tt, (answered 0, record { least = lit≤ tt; most = lit≤ tt; unused = λ _. refl; context = lit≤ tt; exchange_opaque = lit≤ tt; nonce = refl; measured_opaque = lit≤ tt; handle = lit< tt; reply = lit≤ tt; pad = lit≤ tt }, lit≤ tt, refl)), refl, (refl, refl, lit≤ tt), refl, refl), refl)), (_, (_, (asked, record { least = lit≤ tt; most = lit≤ tt; unused = λ _. refl; context = lit≤ tt; opaque = lit≤ tt; exchange = lit≤ tt; pad = lit≤ tt }, refl), refl), refl)))),
+          refl,
+        ),
+      ),
+      (
+        _,
+        (refl, refl, inr (refl, refl, (_, _, inr (inl (_, (refl, refl), refl, refl, tt, refl, refl)), refl))),
+        refl,
+      ),
+    ),
+    (
+      _,
+      (refl, refl, (_, refl, refl, lit< tt, (_, _, inl (([], _, (tt, (answered 0, record { least = lit≤ tt; most = lit≤ tt; unused = λ _. refl; context = lit≤ tt; exchange_opaque = lit≤ tt; nonce = refl; measured_opaque = lit≤ tt; handle = lit< tt; reply = lit≤ tt; pad = lit≤ tt }, lit≤ tt, refl)), tt, refl, refl, refl), refl), (_, (_, (asked, record { least = lit≤ tt; most = lit≤ tt; unused = λ _. refl; context = lit≤ tt; opaque = lit≤ tt; exchange = lit≤ tt; pad = lit≤ tt }, refl), refl), refl)))),
+      refl,
+    ),
+  ),
+)
 
 other_answer_conforms : Conforms small (reverse packets_other_answer)
 other_answer_conforms = after_other_answer

@@ -1,11 +1,10 @@
 -- Why a packet is the first of a capture that does not conform. This project's own.
-use Rattle.std.specs.Prelude.{◌≡◌, ◌+◌, ◌-◌, ◌==◌, ◌&&◌, ◌||◌, ◌⊎◌, not, nat_lt, nat_le, ℕ, List, [], ◌∷◌, length, take, drop, reverse, slice_index, slice_index_or, if◌then◌else◌, Bool, true, false, Option, Some, None, Result, Ok, Err, MatchBool, bytes_eq}
-use Rattle.mctp_framing.specs.Cutting.{RouteFields}
+use Rattle.std.specs.Prelude.{◌≡◌, ◌+◌, ◌-◌, ◌==◌, ◌&&◌, ◌||◌, ◌⊎◌, not, nat_lt, nat_le, ℕ, List, [], length, take, drop, reverse, slice_index, slice_index_or, if◌then◌else◌, Bool, true, false, Option, Some, None, Result, Ok, Err, MatchBool, bytes_eq}
 use Rattle.mctp_framing.specs.Gathering.{Gathered}
 use Rattle.mctp_framing.specs.Gathering.Gathered.{Whole, More, Dropped}
 use Rattle.mctp_framing.specs.Packet.{PacketFields, parsed}
 use Rattle.requester_machine.specs.History.{outstanding}
-use Rattle.requester_machine.specs.Message.{Ask, Aim, Content, Sent}
+use Rattle.requester_machine.specs.Message.{Aim, Content, Sent}
 use Rattle.requester_machine.specs.Message.Aim.{InSession}
 use Rattle.requester_machine.specs.Message.Ask.{AskFinish}
 use Rattle.requester_machine.specs.Message.Content.{Sealed}
@@ -16,7 +15,7 @@ use Rattle.spdm_grammar.specs.Message.RequestMessage.{GetVersion}
 use Rattle.spdm_machine.specs.History.{History, Entry, clear_turns, negotiation_of}
 use Rattle.spdm_machine.specs.Responder.Outcome.{Adds}
 use Rattle.spdm_machine.specs.Responder.{sent_by}
-use Rattle.spdm_machine.specs.Setup.{RspSetup, ReqSetup}
+use Rattle.spdm_machine.specs.Setup.{RspSetup}
 use Rattle.spdm_machine.specs.Terms.{request_value, terms_of, hash_len}
 use Rattle.world_machine.specs.Capture.{IsFirstDifference, Leads}
 use Rattle.world_machine.specs.CapturedAnswers.{Answers, MayLeadTo, MayHaveLed}
@@ -154,8 +153,8 @@ abbrev pub IsApartBy : WorldSetup → List (List ℕ) → List Dialogue → Resu
 IsApartBy w older ds (Err fault) = ⊥
 IsApartBy w older ds (Ok packet) =
     MatchBool (packet.to == w.responder.eid)
-        (ComesApartFrom w older packet (dialogue_at packet.from ds))
-        (MatchBool (packet.from == w.responder.eid) (GoesApartTo w older packet (dialogue_at packet.to ds)) ⊥)
+    (ComesApartFrom w older packet (dialogue_at packet.from ds))
+    (MatchBool (packet.from == w.responder.eid) (GoesApartTo w older packet (dialogue_at packet.to ds)) ⊥)
 
 -- After some walk over the packets before it, the newest first.
 unfoldable pub IsVerifyApart : WorldSetup → List (List ℕ) → List ℕ → Type 0

@@ -1,6 +1,6 @@
 -- Whether a record of a capture that does not conform opens at least, as what it might have been. This project's
 -- own.
-use Rattle.std.specs.Prelude.{◌+◌, ◌==◌, ◌&&◌, ◌||◌, not, ℕ, List, [], ◌∷◌, take, drop, if◌then◌else◌, Bool, false, Option, Some, None, is_none, bytes_eq}
+use Rattle.std.specs.Prelude.{◌&&◌, ◌||◌, not, ℕ, List, [], ◌∷◌, take, if◌then◌else◌, Bool, false, is_none, bytes_eq}
 use Rattle.requester_machine.specs.History as requester_history
 use Rattle.requester_machine.specs.Records as requester_records
 use Rattle.requester_machine.specs.Session as requester_session
