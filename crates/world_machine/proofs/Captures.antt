@@ -1,7 +1,9 @@
 -- The beginning of a conforming capture.
-use Rattle.std.proofs.Common.{ℕ, List, [], ◌∷◌, ◌++◌, refl, map, reverse, subst}
+use Rattle.std.proofs.Common.{◌≡◌, ◌+◌, ◌-◌, ◌<◌, ◌≤◌, ◌⊎◌, ℕ, List, [], ◌∷◌, ◌++◌, refl, map, reverse, take, drop, subst, inl, inr, arith}
+use Rattle.std.proofs.Math.Seq.{take-add}
+use Rattle.std.proofs.lemmas.Bool.{cases_order}
 use Rattle.std.proofs.lemmas.List.{reverse-append}
-use Rattle.world_machine.specs.Capture.{Leads, BeginningConforms}
+use Rattle.world_machine.specs.Capture.{Conforms, Leads, BeginningConforms, IsFirstDifference, OneIsFirst}
 use Rattle.world_machine.specs.Rounds.{Dialogue}
 use Rattle.world_machine.specs.SessionTable.{Row, ConformingHasTable, LeadsShowing, rows_after, seen}
 use Rattle.world_machine.specs.Setup.{WorldSetup}
@@ -33,3 +35,24 @@ has_table w packets = (
       (map (seen w) (reverse shown.0), (conforms.0, shown.0, shown.1, refl)),
   λ table has. (has.0, leads_too w (reverse packets) has.0 has.1 has.2),
 )
+
+-- A capture that conforms up to a number conforms up to a lesser one.
+conforms_up_to : (w : WorldSetup) (packets : List (List ℕ)) (less more : ℕ) → less ≤ more → Conforms w (take more packets) → Conforms w (take less packets)
+conforms_up_to w packets less more order conforms =
+    let P : ℕ → Type 0 = λ n. Conforms w (take n packets) in
+    let whole : P (less + (more - less)) = subst P (omega arith) conforms in
+    beginning w (take less packets) (take (more - less) (drop less packets)) (subst (Conforms w) (take-add less (more - less) packets) whole)
+
+-- No first difference stands before another.
+none_before : (w : WorldSetup) (packets : List (List ℕ)) (less more : ℕ) → less < more → IsFirstDifference w packets less → IsFirstDifference w packets more → ⊥
+none_before w packets less more order first second =
+    first.at (conforms_up_to w packets less (more - 1) (omega arith) second.before)
+
+pub one_is_first : OneIsFirst
+one_is_first w packets one other first second = elim (cases_order one other) [
+    inl same ↦ same
+  | inr apart ↦ elim apart [
+      inl below ↦ absurd (none_before w packets one other below first second)
+    | inr above ↦ absurd (none_before w packets other one above second first)
+    ]
+  ]

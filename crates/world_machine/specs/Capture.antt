@@ -117,3 +117,8 @@ pub record IsFirstDifference (w : WorldSetup) (packets : List (List ℕ)) (numbe
 -- The beginning of a conforming capture conforms.
 abbrev pub BeginningConforms : Type 0
 BeginningConforms = (w : WorldSetup) (earlier later : List (List ℕ)) → Conforms w (earlier ++ later) → Conforms w earlier
+
+-- No capture has two first differences.
+abbrev pub OneIsFirst : Type 0
+OneIsFirst = (w : WorldSetup) (packets : List (List ℕ)) (one other : ℕ)
+    → IsFirstDifference w packets one → IsFirstDifference w packets other → one ≡ other
