@@ -22,7 +22,7 @@ use Rattle.spdm_machine.specs.Refusal.{refused_form, refused_contents, refusal}
 use Rattle.spdm_machine.specs.Responder.{on_clear, on_record}
 use Rattle.spdm_machine.specs.Session as responder_session
 use Rattle.spdm_machine.specs.Terms.{terms_of}
-use Rattle.world_machine.specs.Capture.{Conforms, IsFirstDifference, Leads, Steps}
+use Rattle.world_machine.specs.Capture.{Conforms, IsFirstDifference, Leads, Follows}
 use Rattle.world_machine.specs.CapturedAnswers.{Answers, Hears, MayLeadTo}
 use Rattle.world_machine.specs.CapturedRequests.{Sends}
 use Rattle.world_machine.specs.Rounds.{Dialogue, new_dialogue}
@@ -81,7 +81,7 @@ empty_conforms : Conforms setup []
 empty_conforms = (_, refl)
 
 first_capture_conforms : Conforms setup first_packets
-unfolding Steps Sends Answers Hears MayLeadTo gathered_from asks hears command_fault body_fault carried_by clear_led requester_session.session_of on_clear on_record refused_form refused_contents refusal turn_of answer_bytes responder_session.session_of terms_of field_at number_at optional_at tables_at behind_tables behind_table request_body response_body get_version_layout get_capabilities_layout negotiate_algorithms_layout psk_finish_layout chunk_send_layout chunk_get_layout version_layout capabilities_layout algorithms_layout chunk_send_ack_layout chunk_response_layout error_layout
+unfolding Follows Sends Answers Hears MayLeadTo gathered_from asks hears command_fault body_fault carried_by clear_led requester_session.session_of on_clear on_record refused_form refused_contents refusal turn_of answer_bytes responder_session.session_of terms_of field_at number_at optional_at tables_at behind_tables behind_table request_body response_body get_version_layout get_capabilities_layout negotiate_algorithms_layout psk_finish_layout chunk_send_layout chunk_get_layout version_layout capabilities_layout algorithms_layout chunk_send_ack_layout chunk_response_layout error_layout
 first_capture_conforms = (
   _,
   (
@@ -107,8 +107,8 @@ first_capture_conforms = (
 abbrev version_packet : List ℕ
 version_packet = 0x01 ∷ 0x09 ∷ 0x08 ∷ 0xc0 ∷ 0x05 ∷ 0x10 ∷ 0x04 ∷ 0x00 ∷ 0x00 ∷ 0x00 ∷ 0x01 ∷ 0x00 ∷ 0x12 ∷ []
 
-none_answers : (next : List Dialogue) → Steps setup [] (map new_dialogue setup.requesters) version_packet next → ⊥
-unfolding Steps gathered_from
+none_answers : (next : List Dialogue) → Follows setup [] (map new_dialogue setup.requesters) version_packet next → ⊥
+unfolding Follows gathered_from
 none_answers next steps = none-some steps.1.2.0 steps.1.2.1
 
 version_is_first : IsFirstDifference setup (version_packet ∷ []) 1
@@ -116,7 +116,7 @@ version_is_first = record {
   least = lit< tt;
   most = lit< tt;
   before = (_, refl);
-  at = λ conforms. let P : List Dialogue → Type 0 = λ before. Steps setup [] before version_packet conforms.0 in
+  at = λ conforms. let P : List Dialogue → Type 0 = λ before. Follows setup [] before version_packet conforms.0 in
       none_answers conforms.0 (subst P conforms.1.1 conforms.1.2);
 }
 
@@ -169,7 +169,7 @@ packets_2 =
     ∷ []
 
 after_2 : (ds : List Dialogue) × Leads small packets_2 ds
-unfolding Steps Sends Answers Hears MayLeadTo gathered_from asks hears command_fault body_fault carried_by clear_led requester_session.session_of on_clear on_record refused_form refused_contents refusal turn_of answer_bytes responder_session.session_of terms_of field_at number_at optional_at tables_at behind_tables behind_table request_body response_body get_version_layout get_capabilities_layout negotiate_algorithms_layout psk_finish_layout chunk_send_layout chunk_get_layout version_layout capabilities_layout algorithms_layout chunk_send_ack_layout chunk_response_layout error_layout
+unfolding Follows Sends Answers Hears MayLeadTo gathered_from asks hears command_fault body_fault carried_by clear_led requester_session.session_of on_clear on_record refused_form refused_contents refusal turn_of answer_bytes responder_session.session_of terms_of field_at number_at optional_at tables_at behind_tables behind_table request_body response_body get_version_layout get_capabilities_layout negotiate_algorithms_layout psk_finish_layout chunk_send_layout chunk_get_layout version_layout capabilities_layout algorithms_layout chunk_send_ack_layout chunk_response_layout error_layout
 after_2 = (
   _,
   (
@@ -199,7 +199,7 @@ packets_4 =
     ∷ packets_2
 
 after_4 : (ds : List Dialogue) × Leads small packets_4 ds
-unfolding Steps Sends Answers Hears MayLeadTo gathered_from asks hears command_fault body_fault carried_by clear_led requester_session.session_of on_clear on_record refused_form refused_contents refusal turn_of answer_bytes responder_session.session_of terms_of field_at number_at optional_at tables_at behind_tables behind_table request_body response_body get_version_layout get_capabilities_layout negotiate_algorithms_layout psk_finish_layout chunk_send_layout chunk_get_layout version_layout capabilities_layout algorithms_layout chunk_send_ack_layout chunk_response_layout error_layout after_2
+unfolding Follows Sends Answers Hears MayLeadTo gathered_from asks hears command_fault body_fault carried_by clear_led requester_session.session_of on_clear on_record refused_form refused_contents refusal turn_of answer_bytes responder_session.session_of terms_of field_at number_at optional_at tables_at behind_tables behind_table request_body response_body get_version_layout get_capabilities_layout negotiate_algorithms_layout psk_finish_layout chunk_send_layout chunk_get_layout version_layout capabilities_layout algorithms_layout chunk_send_ack_layout chunk_response_layout error_layout after_2
 after_4 = (
   _,
   (
@@ -229,7 +229,7 @@ packets_6 =
     ∷ packets_4
 
 after_6 : (ds : List Dialogue) × Leads small packets_6 ds
-unfolding Steps Sends Answers Hears MayLeadTo gathered_from asks hears command_fault body_fault carried_by clear_led requester_session.session_of on_clear on_record refused_form refused_contents refusal turn_of answer_bytes responder_session.session_of terms_of field_at number_at optional_at tables_at behind_tables behind_table request_body response_body get_version_layout get_capabilities_layout negotiate_algorithms_layout psk_finish_layout chunk_send_layout chunk_get_layout version_layout capabilities_layout algorithms_layout chunk_send_ack_layout chunk_response_layout error_layout after_4
+unfolding Follows Sends Answers Hears MayLeadTo gathered_from asks hears command_fault body_fault carried_by clear_led requester_session.session_of on_clear on_record refused_form refused_contents refusal turn_of answer_bytes responder_session.session_of terms_of field_at number_at optional_at tables_at behind_tables behind_table request_body response_body get_version_layout get_capabilities_layout negotiate_algorithms_layout psk_finish_layout chunk_send_layout chunk_get_layout version_layout capabilities_layout algorithms_layout chunk_send_ack_layout chunk_response_layout error_layout after_4
 after_6 = (
   _,
   (
@@ -259,7 +259,7 @@ packets_8 =
     ∷ packets_6
 
 after_8 : (ds : List Dialogue) × Leads small packets_8 ds
-unfolding Steps Sends Answers Hears MayLeadTo gathered_from asks hears command_fault body_fault carried_by clear_led requester_session.session_of on_clear on_record refused_form refused_contents refusal turn_of answer_bytes responder_session.session_of terms_of field_at number_at optional_at tables_at behind_tables behind_table request_body response_body get_version_layout get_capabilities_layout negotiate_algorithms_layout psk_finish_layout chunk_send_layout chunk_get_layout version_layout capabilities_layout algorithms_layout chunk_send_ack_layout chunk_response_layout error_layout after_6
+unfolding Follows Sends Answers Hears MayLeadTo gathered_from asks hears command_fault body_fault carried_by clear_led requester_session.session_of on_clear on_record refused_form refused_contents refusal turn_of answer_bytes responder_session.session_of terms_of field_at number_at optional_at tables_at behind_tables behind_table request_body response_body get_version_layout get_capabilities_layout negotiate_algorithms_layout psk_finish_layout chunk_send_layout chunk_get_layout version_layout capabilities_layout algorithms_layout chunk_send_ack_layout chunk_response_layout error_layout after_6
 after_8 = (
   _,
   (
@@ -289,7 +289,7 @@ packets_10 =
     ∷ packets_8
 
 after_10 : (ds : List Dialogue) × Leads small packets_10 ds
-unfolding Steps Sends Answers Hears MayLeadTo gathered_from asks hears command_fault body_fault carried_by clear_led requester_session.session_of on_clear on_record refused_form refused_contents refusal turn_of answer_bytes responder_session.session_of terms_of field_at number_at optional_at tables_at behind_tables behind_table request_body response_body get_version_layout get_capabilities_layout negotiate_algorithms_layout psk_finish_layout chunk_send_layout chunk_get_layout version_layout capabilities_layout algorithms_layout chunk_send_ack_layout chunk_response_layout error_layout after_8
+unfolding Follows Sends Answers Hears MayLeadTo gathered_from asks hears command_fault body_fault carried_by clear_led requester_session.session_of on_clear on_record refused_form refused_contents refusal turn_of answer_bytes responder_session.session_of terms_of field_at number_at optional_at tables_at behind_tables behind_table request_body response_body get_version_layout get_capabilities_layout negotiate_algorithms_layout psk_finish_layout chunk_send_layout chunk_get_layout version_layout capabilities_layout algorithms_layout chunk_send_ack_layout chunk_response_layout error_layout after_8
 after_10 = (
   _,
   (
@@ -319,7 +319,7 @@ packets_12 =
     ∷ packets_10
 
 after_12 : (ds : List Dialogue) × Leads small packets_12 ds
-unfolding Steps Sends Answers Hears MayLeadTo gathered_from asks hears command_fault body_fault carried_by clear_led requester_session.session_of on_clear on_record refused_form refused_contents refusal turn_of answer_bytes responder_session.session_of terms_of field_at number_at optional_at tables_at behind_tables behind_table request_body response_body get_version_layout get_capabilities_layout negotiate_algorithms_layout psk_finish_layout chunk_send_layout chunk_get_layout version_layout capabilities_layout algorithms_layout chunk_send_ack_layout chunk_response_layout error_layout after_10
+unfolding Follows Sends Answers Hears MayLeadTo gathered_from asks hears command_fault body_fault carried_by clear_led requester_session.session_of on_clear on_record refused_form refused_contents refusal turn_of answer_bytes responder_session.session_of terms_of field_at number_at optional_at tables_at behind_tables behind_table request_body response_body get_version_layout get_capabilities_layout negotiate_algorithms_layout psk_finish_layout chunk_send_layout chunk_get_layout version_layout capabilities_layout algorithms_layout chunk_send_ack_layout chunk_response_layout error_layout after_10
 after_12 = (
   _,
   (
@@ -357,7 +357,7 @@ packets_copied =
     ∷ []
 
 after_copied : (ds : List Dialogue) × Leads setup packets_copied ds
-unfolding Steps Sends Answers Hears MayLeadTo gathered_from asks hears command_fault body_fault carried_by clear_led requester_session.session_of on_clear on_record refused_form refused_contents refusal turn_of answer_bytes responder_session.session_of terms_of field_at number_at optional_at tables_at behind_tables behind_table request_body response_body get_version_layout get_capabilities_layout negotiate_algorithms_layout psk_finish_layout chunk_send_layout chunk_get_layout version_layout capabilities_layout algorithms_layout chunk_send_ack_layout chunk_response_layout error_layout
+unfolding Follows Sends Answers Hears MayLeadTo gathered_from asks hears command_fault body_fault carried_by clear_led requester_session.session_of on_clear on_record refused_form refused_contents refusal turn_of answer_bytes responder_session.session_of terms_of field_at number_at optional_at tables_at behind_tables behind_table request_body response_body get_version_layout get_capabilities_layout negotiate_algorithms_layout psk_finish_layout chunk_send_layout chunk_get_layout version_layout capabilities_layout algorithms_layout chunk_send_ack_layout chunk_response_layout error_layout
 after_copied = (
   _,
   (
@@ -424,7 +424,7 @@ packets_anew =
     ∷ packets_6
 
 after_anew : (ds : List Dialogue) × Leads small packets_anew ds
-unfolding Steps Sends Answers Hears MayLeadTo gathered_from asks hears command_fault body_fault carried_by clear_led requester_session.session_of on_clear on_record refused_form refused_contents refusal turn_of answer_bytes responder_session.session_of terms_of field_at number_at optional_at tables_at behind_tables behind_table request_body response_body get_version_layout get_capabilities_layout negotiate_algorithms_layout psk_finish_layout chunk_send_layout chunk_get_layout version_layout capabilities_layout algorithms_layout chunk_send_ack_layout chunk_response_layout error_layout after_6
+unfolding Follows Sends Answers Hears MayLeadTo gathered_from asks hears command_fault body_fault carried_by clear_led requester_session.session_of on_clear on_record refused_form refused_contents refusal turn_of answer_bytes responder_session.session_of terms_of field_at number_at optional_at tables_at behind_tables behind_table request_body response_body get_version_layout get_capabilities_layout negotiate_algorithms_layout psk_finish_layout chunk_send_layout chunk_get_layout version_layout capabilities_layout algorithms_layout chunk_send_ack_layout chunk_response_layout error_layout after_6
 after_anew = (
   _,
   (
@@ -469,7 +469,7 @@ packets_cut =
     ∷ packets_anew
 
 after_cut : (ds : List Dialogue) × Leads small packets_cut ds
-unfolding Steps Sends Answers Hears MayLeadTo gathered_from asks hears command_fault body_fault carried_by clear_led requester_session.session_of on_clear on_record refused_form refused_contents refusal turn_of answer_bytes responder_session.session_of terms_of field_at number_at optional_at tables_at behind_tables behind_table request_body response_body get_version_layout get_capabilities_layout negotiate_algorithms_layout psk_finish_layout chunk_send_layout chunk_get_layout version_layout capabilities_layout algorithms_layout chunk_send_ack_layout chunk_response_layout error_layout after_anew
+unfolding Follows Sends Answers Hears MayLeadTo gathered_from asks hears command_fault body_fault carried_by clear_led requester_session.session_of on_clear on_record refused_form refused_contents refusal turn_of answer_bytes responder_session.session_of terms_of field_at number_at optional_at tables_at behind_tables behind_table request_body response_body get_version_layout get_capabilities_layout negotiate_algorithms_layout psk_finish_layout chunk_send_layout chunk_get_layout version_layout capabilities_layout algorithms_layout chunk_send_ack_layout chunk_response_layout error_layout after_anew
 after_cut = (
   _,
   (
@@ -497,7 +497,7 @@ packets_other_offer =
     ∷ packets_4
 
 after_other_offer : (ds : List Dialogue) × Leads small packets_other_offer ds
-unfolding Steps Sends Answers Hears MayLeadTo gathered_from asks hears command_fault body_fault carried_by clear_led requester_session.session_of on_clear on_record refused_form refused_contents refusal turn_of answer_bytes responder_session.session_of terms_of field_at number_at optional_at tables_at behind_tables behind_table request_body response_body get_version_layout get_capabilities_layout negotiate_algorithms_layout psk_finish_layout chunk_send_layout chunk_get_layout version_layout capabilities_layout algorithms_layout chunk_send_ack_layout chunk_response_layout error_layout after_4
+unfolding Follows Sends Answers Hears MayLeadTo gathered_from asks hears command_fault body_fault carried_by clear_led requester_session.session_of on_clear on_record refused_form refused_contents refusal turn_of answer_bytes responder_session.session_of terms_of field_at number_at optional_at tables_at behind_tables behind_table request_body response_body get_version_layout get_capabilities_layout negotiate_algorithms_layout psk_finish_layout chunk_send_layout chunk_get_layout version_layout capabilities_layout algorithms_layout chunk_send_ack_layout chunk_response_layout error_layout after_4
 after_other_offer = (
   _,
   (
@@ -524,7 +524,7 @@ packets_other_answer =
     ∷ packets_6
 
 after_other_answer : (ds : List Dialogue) × Leads small packets_other_answer ds
-unfolding Steps Sends Answers Hears MayLeadTo gathered_from asks hears command_fault body_fault carried_by clear_led requester_session.session_of on_clear on_record refused_form refused_contents refusal turn_of answer_bytes responder_session.session_of terms_of field_at number_at optional_at tables_at behind_tables behind_table request_body response_body get_version_layout get_capabilities_layout negotiate_algorithms_layout psk_finish_layout chunk_send_layout chunk_get_layout version_layout capabilities_layout algorithms_layout chunk_send_ack_layout chunk_response_layout error_layout after_6
+unfolding Follows Sends Answers Hears MayLeadTo gathered_from asks hears command_fault body_fault carried_by clear_led requester_session.session_of on_clear on_record refused_form refused_contents refusal turn_of answer_bytes responder_session.session_of terms_of field_at number_at optional_at tables_at behind_tables behind_table request_body response_body get_version_layout get_capabilities_layout negotiate_algorithms_layout psk_finish_layout chunk_send_layout chunk_get_layout version_layout capabilities_layout algorithms_layout chunk_send_ack_layout chunk_response_layout error_layout after_6
 after_other_answer = (
   _,
   (

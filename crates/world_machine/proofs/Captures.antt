@@ -50,9 +50,9 @@ none_before w packets less more order first second =
 
 pub one_is_first : OneIsFirst
 one_is_first w packets one other first second = elim (cases_order one other) [
-    inl same ↦ same
+  | inl same ↦ same
   | inr apart ↦ elim apart [
-      inl below ↦ absurd (none_before w packets one other below first second)
+    | inl below ↦ absurd (none_before w packets one other below first second)
     | inr above ↦ absurd (none_before w packets other one above second first)
-    ]
   ]
+]

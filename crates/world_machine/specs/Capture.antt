@@ -84,23 +84,23 @@ GoesTo w older packet before after None = ⊥
 GoesTo w older packet before after (Some d) =
     (next : Dialogue) × RepliesBy w d (gathered_from d.setup.eid w.responder.eid older packet) next × (after ≡ with_dialogue next before)
 
--- A packet parses, and goes between the responder and a requester.
-abbrev pub StepsBy : WorldSetup → List (List ℕ) → List Dialogue → List Dialogue → Result PacketFields PacketFault → Type 0
-StepsBy w older before after (Err fault) = ⊥
-StepsBy w older before after (Ok packet) =
+-- A packet parses, and goes between the responder and a requester. So it may follow those before it.
+abbrev pub FollowsBy : WorldSetup → List (List ℕ) → List Dialogue → List Dialogue → Result PacketFields PacketFault → Type 0
+FollowsBy w older before after (Err fault) = ⊥
+FollowsBy w older before after (Ok packet) =
     MatchBool (packet.to == w.responder.eid)
     (ComesFrom w older packet before after (dialogue_at packet.from before))
     (MatchBool (packet.from == w.responder.eid) (GoesTo w older packet before after (dialogue_at packet.to before)) ⊥)
 
-unfoldable pub Steps : WorldSetup → List (List ℕ) → List Dialogue → List ℕ → List Dialogue → Type 0
-Steps w older before packet after = StepsBy w older before after (parsed packet)
+unfoldable pub Follows : WorldSetup → List (List ℕ) → List Dialogue → List ℕ → List Dialogue → Type 0
+Follows w older before packet after = FollowsBy w older before after (parsed packet)
 
 -- ---- A capture.
 
 -- Packets, the newest first, may lead to what the dialogues then are.
 abbrev pub Leads : WorldSetup → List (List ℕ) → List Dialogue → Type 0
 Leads w [] ds = ds ≡ map new_dialogue w.requesters
-Leads w (packet ∷ older) ds = (before : List Dialogue) × Leads w older before × Steps w older before packet ds
+Leads w (packet ∷ older) ds = (before : List Dialogue) × Leads w older before × Follows w older before packet ds
 
 -- Packets, in order, conform where they may lead to something.
 abbrev pub Conforms : WorldSetup → List (List ℕ) → Type 0

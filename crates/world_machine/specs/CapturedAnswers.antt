@@ -26,8 +26,8 @@ use Rattle.world_machine.specs.Rounds.{Dialogue, Round, no_draw}
 
 -- ---- No SPDM message has more than 4,096 bytes.
 
--- The whole answer, under some values, to a message at a place: a chunk is answered by what the request leads to
--- that it completes.
+-- The whole answer, under some values, to a message at a place: a chunk is answered by what the request leads to,
+-- once it is complete.
 abbrev pub answer_at : RspSetup → Place → List ℕ → Free → Option ChunkMessage → List ℕ
 answer_at r p m f None = answer_bytes r p m f
 answer_at r p m f (Some c) = answer_bytes r (inside p) (joined_with (under_way (chunks_of p.turns)) c) f

@@ -14,7 +14,7 @@ use Rattle.spdm_machine.specs.History.Entry.{Clear, Sealed}
 use Rattle.spdm_machine.specs.Session.{Events, session_of, is_live, exchange_answer, id_in_exchange, id_in_record}
 use Rattle.spdm_machine.specs.Setup.{ReqSetup}
 use Rattle.spdm_machine.specs.Turn.{Turn, takes, answer_in}
-use Rattle.world_machine.specs.Capture.{Conforms, Steps}
+use Rattle.world_machine.specs.Capture.{Conforms, Follows}
 use Rattle.world_machine.specs.Rounds.{Dialogue, Round, new_dialogue}
 use Rattle.world_machine.specs.Setup.{WorldSetup}
 
@@ -167,7 +167,7 @@ abbrev pub LeadsShowing : WorldSetup → List (List ℕ) → List Dialogue → L
 LeadsShowing w [] ds rows = (ds ≡ map new_dialogue w.requesters) × (rows ≡ [])
 LeadsShowing w (packet ∷ older) ds rows =
     (before : List Dialogue) × (earlier : List Row) × LeadsShowing w older before earlier
-    × Steps w older before packet ds
+    × Follows w older before packet ds
     × (rows ≡ rows_after before ds earlier)
 
 -- An entry of the table: the number of the requester, counted from 1; the session's id; its stage, or none where it
