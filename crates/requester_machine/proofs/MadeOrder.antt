@@ -33,6 +33,8 @@ use Rattle.requester_machine.specs.Session.{session_of, begun, with_aim}
 use Rattle.requester_machine.proofs.ClearOrder.{GoodResult, plain-good, by_chunks-good, for_chunk-good}
 use Rattle.requester_machine.proofs.Entries.{asked, test_is_false}
 use Rattle.requester_machine.proofs.Numbers.{counted}
+use Rattle.requester_machine.proofs.Responses as response
+use Rattle.requester_machine.specs.ResponseLaws.{ResponsesAreCounts}
 use Rattle.requester_machine.proofs.RecordOrder.{record-good}
 use Rattle.requester_machine.proofs.Steps.{Good, asked_good, either_good}
 
@@ -164,3 +166,6 @@ in_order q h id made = record { ordered = (made-good q h id made).0; fits = (mad
 
 pub numbers : NumbersAreCounts
 numbers q h id made = counted q.psk (session_of id h) (made-good q h id made).0
+
+pub response_numbers : ResponsesAreCounts
+response_numbers q h id made = response.counted q.psk (session_of id h) (made-good q h id made).0

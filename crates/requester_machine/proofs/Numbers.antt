@@ -37,15 +37,15 @@ is_same_kind-refl ApplicationRecord = refl
 is_same_number-refl : (n : ℕ) → (n == n) ≡ true
 is_same_number-refl n = grind (arith, nat_tests)
 
-is_same_purpose-refl : (p : Purpose) → is_same_purpose p p ≡ true
+pub is_same_purpose-refl : (p : Purpose) → is_same_purpose p p ≡ true
 is_same_purpose-refl p = rw (bytes_eq-refl p.transcript, is_same_kind-refl p.kind, is_same_number-refl p.epoch) refl
 
-and_false : (a b : Bool) → (a && b && false) ≡ false
+pub and_false : (a b : Bool) → (a && b && false) ≡ false
 and_false true true = refl
 and_false true false = refl
 and_false false b = refl
 
-and_middle : (a b : Bool) → (a && false && b) ≡ false
+pub and_middle : (a b : Bool) → (a && false && b) ≡ false
 and_middle true b = refl
 and_middle false b = refl
 
@@ -60,10 +60,10 @@ epoch_in stage.Handshake psk t1 t2 e = omega arith
 epoch_in stage.Open psk t1 t2 e = omega arith
 epoch_in stage.Verifying psk t1 t2 e = omega arith
 
-not_same : (a b : ℕ) → b < a → (a == b) ≡ false
+pub not_same : (a b : ℕ) → b < a → (a == b) ≡ false
 not_same a b less = grind (arith, nat_tests)
 
-below : (a b c : ℕ) → a ≤ b → b < c → a < c
+pub below : (a b c : ℕ) → a ≤ b → b < c → a < c
 below a b c x y = omega arith
 
 epochs_differ : (psk : List ℕ) (p : Purpose) (s : Steps) → request_epoch s < p.epoch → is_same_purpose p (request_purpose psk s) ≡ false
@@ -78,7 +78,7 @@ was_handshake true b st is = absurd (false≢true (sym (ap is_past_handshake is)
 was_handshake false true st is = absurd (false≢true (sym (ap is_past_handshake is)))
 was_handshake false false st is = is
 
-unsealed : (b : Bool) (n : ℕ) → b ≡ false → n ≡ 0 → (if b then n + 1 else n) ≡ 0
+pub unsealed : (b : Bool) (n : ℕ) → b ≡ false → n ≡ 0 → (if b then n + 1 else n) ≡ 0
 unsealed b n is none = rw is none
 
 -- In the handshake nothing was sealed under a purpose of records after it.
@@ -151,7 +151,7 @@ answered_in Loses ask st may is = (λ no. absurd (false≢true no), λ no. absur
 answered_in (Grants AskFinish answer) _ st may is = absurd (false≢true may)
 answered_in (Grants AskVerify answer) _ st may is = absurd (false≢true may)
 
-taken_in : (effect : Effect) (s : Steps) → is_answer effect (waiting_ask s) ≡ true → IsOrdered s
+pub taken_in : (effect : Effect) (s : Steps) → is_answer effect (waiting_ask s) ≡ true → IsOrdered s
     → (finishes effect ≡ true → stage_of s ≡ stage.Handshake) × (verifies effect ≡ true → stage_of s ≡ stage.Verifying)
 taken_in effect [] is ordered = absurd (false≢true is)
 taken_in effect (Started n x ∷ older) is ordered = absurd (false≢true is)
@@ -159,7 +159,7 @@ taken_in effect (Accepted a ∷ older) is ordered = absurd (false≢true is)
 taken_in effect (Asked ask inner sealed ∷ older) is ordered = answered_in effect ask (stage_of older) is ordered.0
 taken_in effect (Took sealed inner other ∷ older) is ordered = absurd (false≢true is)
 
-next_epoch : (n : ℕ) → n < n + 1
+pub next_epoch : (n : ℕ) → n < n + 1
 next_epoch n = omega arith
 
 -- The count behind a record taken: none after PSK_FINISH_RSP and after an update, and the same else.

@@ -16,3 +16,4 @@ pub mod Shown
 pub mod RequesterLog
 pub mod Order
 pub mod Laws
+pub mod ResponseLaws

@@ -4,6 +4,7 @@
 #![tactic(auto)]
 
 ghost use Rattle.requester_machine.specs.Laws.{CommandIsAllowed, BodyIsAllowed, RetryAddsNothing, FaultAddsNothing, IgnoredAddsNothing, ClearAddsNothingInSession, UnopenedAddsNothing, LiveIdsAreFew, NewSessionIsFresh, SessionsAreInOrder, NumbersAreCounts, UpdateBeginsAnew, TakenTagsAreRight};
+ghost use Rattle.requester_machine.specs.ResponseLaws.{ResponsesAreCounts, UpdateAllBeginsAnew};
 
 /// What the requester does with a command, it may, where its setup is within its limits.
 pub fn command_is_allowed()
@@ -61,6 +62,17 @@ pub fn sessions_are_in_order()
 /// under its purpose.
 pub fn numbers_are_counts()
     ensures { NumbersAreCounts }
+{}
+
+/// In a history that the requester made, the number of a session's next response is the count of those
+/// taken under its purpose.
+pub fn responses_are_counts()
+    ensures { ResponsesAreCounts }
+{}
+
+/// The answer to UpdateAllKeys is number 0 of the next epoch of responses.
+pub fn update_all_begins_anew()
+    ensures { UpdateAllBeginsAnew }
 {}
 
 /// An update of the request key begins at number 0 of the next epoch.
