@@ -10,13 +10,13 @@ use Rattle.byteorder.specs.Endian.{little_bytes}
 use Rattle.secured_record.specs.Format.{header, nonce, plain_text, sealed_text}
 
 -- As many bytes as there were replace them.
-refill-all : (n : ℕ) (xs ws : List ℕ) → n ≡ length ws → refill n xs ws ≡ ws
+pub refill-all : (n : ℕ) (xs ws : List ℕ) → n ≡ length ws → refill n xs ws ≡ ws
 refill-all n xs ws e = ap (λ k. take k (ws ++ drop (length ws) xs)) e ∙ take-append_seam ws (drop (length ws) xs)
 
-take_header : (k : ℕ) (h t : List ℕ) → length h ≡ k → take k (h ++ t) ≡ h
+pub take_header : (k : ℕ) (h t : List ℕ) → length h ≡ k → take k (h ++ t) ≡ h
 take_header k h t e = ap (λ n. take n (h ++ t)) (sym e) ∙ take-append_seam h t
 
-drop_header : (k : ℕ) (h t : List ℕ) → length h ≡ k → drop k (h ++ t) ≡ t
+pub drop_header : (k : ℕ) (h t : List ℕ) → length h ≡ k → drop k (h ++ t) ≡ t
 drop_header k h t e = ap (λ n. drop n (h ++ t)) (sym e) ∙ drop-append_seam h t
 
 length-header : (id : List ℕ) (number count : ℕ) → length id ≡ 4 → length (header id number count) ≡ 8

@@ -2,9 +2,10 @@ ghost use Rattle.std.specs.Prelude.{◌≡◌, ◌≤◌, ◌+◌, ◌++◌, ◌
 ghost use Rattle.spdm_basis.specs.Sizes.{key_size};
 ghost use Rattle.spdm_basis.specs.SessionIdBytes.{session_id_bytes};
 ghost use Rattle.aes_gcm.specs.Gcm.{crypt, tag_of};
+ghost use Rattle.secured_record.specs.Ciphers.{cipher_key};
 ghost use Rattle.secured_record.specs.Format.{plain_text, record_of, sealed_text, key_of, iv_of};
 
-use crate::aead::seal_in_place;
+use crate::aead::RecordCipher;
 use crate::format::{header, nonce, two_bytes};
 use key_schedule::DirectionKey;
 use spdm_basis::{AeadAlg, RecordFrame, SessionId};
@@ -32,21 +33,19 @@ fn write_plain(out: &mut RecordFrame, header: &[u8; 8], inner: &[u8], pad: &[u8]
 }
 
 // Encrypts in place what stands behind a header, and gives the tag of both.
-fn seal_behind_header(aead: AeadAlg, key: &[u8], iv: &[u8; 12], bytes: &mut [u8]) -> [u8; 16]
-    requires key { length key.now ≡ key_size aead }
+fn seal_behind_header(cipher: &RecordCipher, iv: &[u8; 12], bytes: &mut [u8]) -> [u8; 16]
     requires header { 8 ≤ length bytes.old }
     requires most { length bytes.old ≤ 4160 }
-    ensures text { bytes.new ≡ take 8 bytes.old ++ crypt key.now iv.now (drop 8 bytes.old) }
-    ensures tag { result ≡ tag_of key.now iv.now (take 8 bytes.old) (crypt key.now iv.now (drop 8 bytes.old)) }
+    ensures text { bytes.new ≡ take 8 bytes.old ++ crypt (cipher_key cipher.now) iv.now (drop 8 bytes.old) }
+    ensures tag { result ≡ tag_of (cipher_key cipher.now) iv.now (take 8 bytes.old) (crypt (cipher_key cipher.now) iv.now (drop 8 bytes.old)) }
 {
     let (header, text) = bytes.split_at_mut(8);
-    seal_in_place(aead, key, iv, header, text)
+    cipher.seal(iv, header, text)
 }
 
-// Writes the record of an inner message and padding under the AEAD of a key.
+// Writes the record of an inner message and padding under a cipher.
 fn seal_by(
-    aead: AeadAlg,
-    key: &[u8],
+    cipher: &RecordCipher,
     iv: &[u8; 12],
     id: &[u8; 4],
     number: u16,
@@ -54,14 +53,13 @@ fn seal_by(
     pad: &[u8],
     out: &mut RecordFrame,
 )
-    requires key { length key.now ≡ key_size aead }
-    requires content { length inner.now + length pad.now ≤ 4134 }
-    ensures { out.new ≡ sealed_text key.now iv.now id.now number (plain_text inner.now pad.now) }
+    requires { length inner.now + length pad.now ≤ 4134 }
+    ensures { out.new ≡ sealed_text (cipher_key cipher.now) iv.now id.now number (plain_text inner.now pad.now) }
 {
     let header = header(id, number, (inner.len() + pad.len() + 18) as u16);
     let nonce = nonce(iv, number);
     write_plain(out, &header, inner, pad);
-    let tag = seal_behind_header(aead, key, &nonce, out.as_mut_slice());
+    let tag = seal_behind_header(cipher, &nonce, out.as_mut_slice());
     let _ = out.extend(&tag);
 }
 
@@ -84,15 +82,7 @@ pub fn seal(
     if inner.len() > CONTENT_LIMIT || pad.len() > CONTENT_LIMIT - inner.len() {
         return Err(TooLong);
     }
-    seal_by(
-        key.aead(),
-        key.key(),
-        key.iv(),
-        &id.bytes(),
-        number,
-        inner,
-        pad,
-        out,
-    );
+    let cipher = RecordCipher::new(key.aead(), key.key());
+    seal_by(&cipher, key.iv(), &id.bytes(), number, inner, pad, out);
     Ok(())
 }
