@@ -12,7 +12,8 @@ use Rattle.aes.specs.Words.{bytes_of}
 use Rattle.aes.proofs.ColumnSums.{big_bytes-column}
 use Rattle.aes.proofs.StateBytes.{number-bytes, block_bytes-big_number}
 use Rattle.ghash.specs.Hash.{block_number}
-use Rattle.aes_gcm.specs.Gcm.{stream_block, crypted}
+use Rattle.aes_gcm.specs.Gcm.{stream_block}
+use Rattle.aes_gcm.specs.Behind.{crypted_behind}
 
 -- a block is the number of its bytes
 pub number_of_bytes : (x : ℕ) (bytes : List ℕ) → x < 2 ^ 128 → block_bytes x ≡ bytes → x ≡ block_number bytes
@@ -70,11 +71,11 @@ counter_bytes iv counter long h lt =
     ∙ ap (λ (t : List ℕ). t ++ big_bytes 4 counter) (sym e)
 
 -- a byte of a text behind its whole blocks
-pub crypted_at : (key iv text stream : List ℕ) (n i x : ℕ) → stream ≡ stream_block key iv (n + 2) → x ≡ get_or text i 0 → i / 16 ≡ n →
-    bit_xor x (get_or stream (i - 16 * n) 0) ≡ crypted key iv text i
-crypted_at key iv text stream n i x e f g =
+pub crypted_at : (key iv text stream : List ℕ) (first n i x : ℕ) → stream ≡ stream_block key iv (first + n + 2) → x ≡ get_or text i 0 → i / 16 ≡ n →
+    bit_xor x (get_or stream (i - 16 * n) 0) ≡ crypted_behind first key iv text i
+crypted_at key iv text stream first n i x e f g =
     let place : i - 16 * n ≡ i % 16 = omega arith in
     ap (λ (t : ℕ). bit_xor t (get_or stream (i - 16 * n) 0)) f
     ∙ ap (λ (t : List ℕ). bit_xor (get_or text i 0) (get_or t (i - 16 * n) 0)) e
-    ∙ ap (λ (t : ℕ). bit_xor (get_or text i 0) (get_or (stream_block key iv (n + 2)) t 0)) place
-    ∙ ap (λ (t : ℕ). bit_xor (get_or text i 0) (get_or (stream_block key iv (t + 2)) (i % 16) 0)) (sym g)
+    ∙ ap (λ (t : ℕ). bit_xor (get_or text i 0) (get_or (stream_block key iv (first + n + 2)) t 0)) place
+    ∙ ap (λ (t : ℕ). bit_xor (get_or text i 0) (get_or (stream_block key iv (first + t + 2)) (i % 16) 0)) (sym g)

@@ -1,7 +1,8 @@
 ghost use Rattle.std.specs.Prelude.{◌≡◌, ◌<◌, ◌≤◌, ◌+◌, ◌*◌, ◌/◌, ◌%◌, ◌^◌, ◌++◌, ℕ, length, slice_index, bit_xor};
 ghost use Rattle.byteorder.specs.Endian.{big_bytes};
 ghost use Rattle.aes.specs.Words.{block_bytes};
-ghost use Rattle.aes_gcm.specs.Gcm.{stream_block, crypted, crypt};
+ghost use Rattle.aes_gcm.specs.Gcm.{stream_block, crypt};
+ghost use Rattle.aes_gcm.specs.Behind.{crypted_behind, crypt_behind};
 
 use aes::Aes;
 use byteorder::{BigEndian, ByteOrder};
@@ -40,28 +41,43 @@ fn mask(bytes: &mut [u8], stream: u128)
     BigEndian::write_u128(bytes, sum);
 }
 
-// Encrypts or decrypts block `n` of a text in place.
-fn crypt_block(aes: &Aes, iv: &[u8; 12], text: &mut [u8], n: usize)
+// Encrypts or decrypts in place block `n` of a text that stands behind `first` blocks.
+fn crypt_block(aes: &Aes, iv: &[u8; 12], first: usize, text: &mut [u8], n: usize)
     requires whole { 16 * n + 16 ≤ length text.old }
-    requires small { length text.old ≤ 65535 }
-    ensures block { (k : ℕ) → 16 * n ≤ k → k < 16 * n + 16 → slice_index text.new k ≡ crypted aes.now iv.now text.old k }
+    requires small { 16 * first + length text.old ≤ 65535 }
+    ensures block { (k : ℕ) → 16 * n ≤ k → k < 16 * n + 16 → slice_index text.new k ≡ crypted_behind first aes.now iv.now text.old k }
     ensures before { (k : ℕ) → k < 16 * n → slice_index text.new k ≡ slice_index text.old k }
     ensures behind { (k : ℕ) → 16 * n + 16 ≤ k → slice_index text.new k ≡ slice_index text.old k }
 {
-    let stream = stream_block(aes, iv, n as u32 + 2);
+    let stream = stream_block(aes, iv, (first + n) as u32 + 2);
     mask(&mut text[16 * n..16 * n + 16], stream);
 }
 
-// Encrypts or decrypts in place what a text has behind its `n` whole blocks.
-fn crypt_rest(aes: &Aes, iv: &[u8; 12], text: &mut [u8], n: usize)
+// Encrypts or decrypts in place what a text that stands behind `first` blocks has behind its `n` whole
+// blocks.
+fn crypt_rest(aes: &Aes, iv: &[u8; 12], first: usize, text: &mut [u8], n: usize)
     requires rest { length text.old / 16 ≡ n }
-    requires small { length text.old ≤ 65535 }
-    ensures rest { (k : ℕ) → 16 * n ≤ k → k < length text.old → slice_index text.new k ≡ crypted aes.now iv.now text.old k }
+    requires small { 16 * first + length text.old ≤ 65535 }
+    ensures rest { (k : ℕ) → 16 * n ≤ k → k < length text.old → slice_index text.new k ≡ crypted_behind first aes.now iv.now text.old k }
     ensures before { (k : ℕ) → k < 16 * n → slice_index text.new k ≡ slice_index text.old k }
 {
-    let stream = stream_block(aes, iv, n as u32 + 2).to_be_bytes();
+    let stream = stream_block(aes, iv, (first + n) as u32 + 2).to_be_bytes();
     for i in 16 * n..text.len() {
         text[i] ^= stream[i - 16 * n];
+    }
+}
+
+/// Encrypts or decrypts in place a text that stands behind `first` blocks.
+pub fn crypt_behind(aes: &Aes, iv: &[u8; 12], first: usize, text: &mut [u8])
+    requires { 16 * first + length text.old ≤ 65535 }
+    ensures { text.new ≡ crypt_behind first aes.now iv.now text.old }
+{
+    let whole = text.len() / 16;
+    for n in 0..whole {
+        crypt_block(aes, iv, first, text, n);
+    }
+    if text.len() % 16 > 0 {
+        crypt_rest(aes, iv, first, text, whole);
     }
 }
 
@@ -70,11 +86,5 @@ pub fn crypt_in_place(aes: &Aes, iv: &[u8; 12], text: &mut [u8])
     requires { length text.old ≤ 65535 }
     ensures { text.new ≡ crypt aes.now iv.now text.old }
 {
-    let whole = text.len() / 16;
-    for n in 0..whole {
-        crypt_block(aes, iv, text, n);
-    }
-    if text.len() % 16 > 0 {
-        crypt_rest(aes, iv, text, whole);
-    }
+    crypt_behind(aes, iv, 0, text);
 }

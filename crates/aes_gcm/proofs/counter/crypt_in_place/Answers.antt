@@ -1,24 +1,6 @@
-use Rattle.std.proofs.Common.{◌+◌, ◌*◌, ◌/◌, ◌%◌, ◌∙◌, ℕ, length, get_or, ap, arith, inl, inr}
-use Rattle.std.specs.Prelude.{bit_xor}
-use Rattle.std.proofs.lemmas.Bool.{cases_lt}
-use Rattle.std.proofs.lemmas.List.FromFn.{fill_by_all}
-use Rattle.aes_gcm.specs.Gcm.{stream_block, crypted}
+use Rattle.std.proofs.Common.{◌∙◌}
+use Rattle.aes_gcm.proofs.Pieces.{crypt_behind-none}
 use Rattle.aes_gcm.proofs.counter.crypt_in_place.Goals as goal
 
-pub returns-then-text-gt0 : goal.returns-then-text-gt0
-returns-then-text-gt0 c =
-    let key = c.args.aes.now in
-    let iv = c.args.iv.now in
-    let text = c.args.text.now in
-    fill_by_all (crypted key iv text) c.crypt_rest.new.text (length text) 0 (omega (arith, c.crypt_rest.auto.text))
-    (λ k lt. elim (cases_lt k (16 * (length text / 16))) [
-      | inl less ↦ c.crypt_rest.ensures.before k less ∙ c.loop-n.invariant.done k (omega arith)
-      | inr more ↦ c.crypt_rest.ensures.rest k more (omega arith)
-          ∙ ap (λ (t : ℕ). bit_xor t (get_or (stream_block key iv (k / 16 + 2)) (k % 16) 0)) (c.loop-n.invariant.rest k (omega arith))
-    ])
-
-pub returns-else-text-gt0 : goal.returns-else-text-gt0
-returns-else-text-gt0 c =
-    let text = c.args.text.now in
-    fill_by_all (crypted c.args.aes.now c.args.iv.now text) c.loop-n.text (length text) 0 c.loop-n.invariant.long
-    (λ k lt. c.loop-n.invariant.done k (omega arith))
+pub returns : goal.returns
+returns c = c.crypt_behind.ensures ∙ crypt_behind-none c.args.aes.now c.args.iv.now c.args.text.now
