@@ -1,0 +1,3 @@
+pub mod Earlier
+pub mod Invariant
+pub mod Steps

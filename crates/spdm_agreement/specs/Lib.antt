@@ -1,0 +1,4 @@
+pub mod Reading
+pub mod Marks
+pub mod Moves
+pub mod Claims
