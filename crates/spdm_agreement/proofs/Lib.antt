@@ -1,3 +1,4 @@
 pub mod Earlier
 pub mod Invariant
 pub mod Steps
+pub mod Keeps
