@@ -2,3 +2,4 @@ pub mod Earlier
 pub mod Invariant
 pub mod Steps
 pub mod Keeps
+pub mod Runs
