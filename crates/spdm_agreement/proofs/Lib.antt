@@ -3,3 +3,4 @@ pub mod Invariant
 pub mod Steps
 pub mod Keeps
 pub mod Runs
+pub mod Foreign

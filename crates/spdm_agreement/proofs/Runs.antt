@@ -5,11 +5,11 @@ use Rattle.key_schedule.specs.Purpose.Kind.{Verify, HandshakeRecord, Application
 use Rattle.key_schedule.specs.declared.direction.Direction.{Direction}
 use Rattle.key_schedule.specs.declared.direction.Direction.TheVariants.{Request, Response}
 use Rattle.spdm_machine.specs.TagLog.{Log}
-use Rattle.spdm_machine.specs.TagLog.Act.{Made, Checked}
+use Rattle.spdm_machine.specs.TagLog.Act.{Made}
 use Rattle.world_machine.specs.Chance.{NoChance}
 use Rattle.spdm_agreement.specs.Claims.{IsReached}
-use Rattle.spdm_agreement.specs.Marks.{Asked, Served, Text, Exchange, IsAccepted, IsOpened, HasBegun, HasFinished, HasOpened, HasReplied, finishing, asked_open, handshake, served_open, requests, outstanding, heard, taken, firsts, request_number, reply_number, request_purpose, reply_purpose, request_input, reply_input}
-use Rattle.spdm_agreement.specs.Moves.{State, Move, IsPassed, IsAwaited, IsFinish, request_shake, response_shake, after, IsLegal, IsRun, nothing_yet}
+use Rattle.spdm_agreement.specs.Marks.{Asked, Served, Text, Exchange, IsAccepted, IsOpened, HasFinished, HasOpened, HasReplied, finishing, asked_open, handshake, served_open, requests, outstanding, heard, taken, firsts, request_number, reply_number, request_purpose, reply_purpose, request_input, reply_input}
+use Rattle.spdm_agreement.specs.Moves.{State, Move, IsPassed, IsFinish, request_shake, response_shake, after, IsLegal, IsRun, nothing_yet}
 use Rattle.spdm_agreement.specs.Moves.Move.{Start, Begin, Accept, Finish, Refuse, Open, Say, Take, Hear, Leave, Drop, Check, Foreign}
 use Rattle.spdm_agreement.specs.Reading.{Reading, covered}
 use Rattle.spdm_agreement.proofs.Earlier.{IsEarlier, earlier_self, earlier_tail, same_place, same_length, same_count, longer}
@@ -43,15 +43,15 @@ finish_good r s t u number b at reply v l k n =
     let is = shaken r s k n t number b l.0 in
     let then = l.1 is.1 in
     subst (λ (m : ℕ). Invariant r s.asked (Served.Finished t u ∷ s.served) (Made (response_shake r t) (covered r (response_shake r t) m reply) v ∷ s.log)) (sym then.0.1)
-        (subst (λ (x : Text). Invariant r s.asked (Served.Finished t u ∷ s.served) (Made (response_shake r t) (covered r (response_shake r t) 0 x) v ∷ s.log)) (sym then.1)
-        (finish_keeps r _ _ _ k t u then.0.0 is.0 then.2 v))
+    (subst (λ (x : Text). Invariant r s.asked (Served.Finished t u ∷ s.served) (Made (response_shake r t) (covered r (response_shake r t) 0 x) v ∷ s.log)) (sym then.1)
+    (finish_keeps r _ _ _ k t u then.0.0 is.0 then.2 v))
 
 refuse_good : (r : Reading) (s : State) (t : List ℕ) (number : ℕ) (b : Text) (at : ℕ) (reply : Text) (v : List ℕ) → IsLegal r (Refuse t number b at reply v) s → Invariant r s.asked s.served s.log → NoChance s.log → Invariant r s.asked (after r (Refuse t number b at reply v) s).served (after r (Refuse t number b at reply v) s).log
 refuse_good r s t number b at reply v l k n =
     let is = shaken r s k n t number b l.0 in
     let then = l.1 is.1 in
     subst (λ (m : ℕ). Invariant r s.asked (Served.Refused t reply ∷ s.served) (Made (response_shake r t) (covered r (response_shake r t) m reply) v ∷ s.log)) (sym then.0.1)
-        (refuse_keeps r _ _ _ k t reply then.0.0 then.1 v)
+    (refuse_keeps r _ _ _ k t reply then.0.0 then.1 v)
 
 open_good : (r : Reading) (s : State) (t u : List ℕ) (b : Text) → IsLegal r (Open t u b) s → Invariant r s.asked s.served s.log → NoChance s.log → Invariant r (Asked.Opened t u ∷ s.asked) s.served s.log
 open_good r s t u b l k n =
@@ -70,10 +70,14 @@ move_good r (Finish t u number b at reply v) s l good = record { holds = λ n. f
 move_good r (Refuse t number b at reply v) s l good = record { holds = λ n. refuse_good r s t number b at reply v l (good.holds n.1) n.1 }
 move_good r (Open t u b) s l good = record { holds = λ n. open_good r s t u b l (good.holds n) n }
 move_good r (Say u b v) s l good = record { holds = λ n. say_keeps r _ _ _ (good.holds n.1) l.0.1 u b ((good.holds n.1).asks.opens l.0.0 (l.0.1, u) l.0.2).0 l.1 v }
-move_good r (Take u b reply v) s l good = record { holds = λ n. take_keeps r _ _ _ (good.holds n.1) l.0.1 u b reply ((good.holds n.1).serves.opens l.0.0 (l.0.1, u) l.0.2).0
-    (passed r s (good.holds n.1) n.1 (request_purpose r u (taken u s.served)) (request_input r u (taken u s.served) b) refl l.1) v }
-move_good r (Hear u b reply) s l good = record { holds = λ n. hear_keeps r _ _ _ (good.holds n) u b reply l.0
-    (passed r s (good.holds n) n (reply_purpose r u ((b, r.granted) ∷ heard u s.asked)) (reply_input r u ((b, r.granted) ∷ heard u s.asked) reply) refl l.1) }
+move_good r (Take u b reply v) s l good = record {
+  holds = λ n. take_keeps r _ _ _ (good.holds n.1) l.0.1 u b reply ((good.holds n.1).serves.opens l.0.0 (l.0.1, u) l.0.2).0
+      (passed r s (good.holds n.1) n.1 (request_purpose r u (taken u s.served)) (request_input r u (taken u s.served) b) refl l.1) v;
+}
+move_good r (Hear u b reply) s l good = record {
+  holds = λ n. hear_keeps r _ _ _ (good.holds n) u b reply l.0
+      (passed r s (good.holds n) n (reply_purpose r u ((b, r.granted) ∷ heard u s.asked)) (reply_input r u ((b, r.granted) ∷ heard u s.asked) reply) refl l.1);
+}
 move_good r (Leave of) s l good = record { holds = λ n. leave_keeps r _ _ _ (good.holds n) of }
 move_good r (Drop of) s l good = record { holds = λ n. drop_keeps r _ _ _ (good.holds n) of }
 move_good r (Check p i v w) s l good = record { holds = λ n. check_keeps r _ _ _ p i v w (good.holds n.2) }
@@ -209,15 +213,15 @@ pub unsaid : (r : Reading) (asked : List Asked) (served : List Served) (log : Lo
 unsaid r asked served log k t w =
     let l = k.asks.finishes t w in
     k.asks.quiet (r.second t) (λ s o.
-        (let a = k.asks.opened s (r.second t) o in
-        let same : t ≡ s = r.second_tells t s (k.asks.well t l.0) (k.asks.well s a.0) a.1 in
-        l.2 (r.second t) (subst (λ (z : List ℕ). IsOpened asked z (r.second t)) (sym same) o)))
+    (let a = k.asks.opened s (r.second t) o in
+    let same : t ≡ s = r.second_tells t s (k.asks.well t l.0) (k.asks.well s a.0) a.1 in
+    l.2 (r.second t) (subst (λ (z : List ℕ). IsOpened asked z (r.second t)) (sym same) o)))
 
 pub untaken : (r : Reading) (asked : List Asked) (served : List Served) (log : Log) → Invariant r asked served log → (t : List ℕ) → handshake served ≡ Some t → taken (r.second t) served ≡ []
 untaken r asked served log k t w =
     let l = k.serves.shakes t w in
     k.serves.quiet (r.second t) (λ s o.
-        (let a = k.serves.opened s (r.second t) o in
-        let answer = (k.serves.seconds s a.0).1 in
-        let same : t ≡ s = r.second_tells t s (k.serves.well t l.0) (k.serves.well s (k.serves.replied s (r.finish_answer s) answer)) a.1 in
-        l.2 (r.finish_answer s) (subst (λ (z : List ℕ). HasReplied r served z (r.finish_answer s)) (sym same) answer)))
+    (let a = k.serves.opened s (r.second t) o in
+    let answer = (k.serves.seconds s a.0).1 in
+    let same : t ≡ s = r.second_tells t s (k.serves.well t l.0) (k.serves.well s (k.serves.replied s (r.finish_answer s) answer)) a.1 in
+    l.2 (r.finish_answer s) (subst (λ (z : List ℕ). HasReplied r served z (r.finish_answer s)) (sym same) answer)))

@@ -1,11 +1,11 @@
 -- What a mark does to what is counted out of the marks of one end.
 use Rattle.std.proofs.Common.{◌≡◌, ◌⊎◌, ℕ, ◌<◌, ◌≤◌, List, [], ◌∷◌, Option, Some, None, Bool, true, false, refl, sym, ap, ◌∙◌, subst, inl, inr, arith, cond, ◌==◌, eq-eqb, eqb-true, true≢false, bytes_eq}
 use Rattle.std.proofs.lemmas.Slice.Eq.{bytes_eq-Decides}
-use Rattle.spdm_agreement.specs.Marks.{Asked, Served, Text, Exchange, IsAccepted, IsOpened, HasBegun, HasFinished, HasOpened, HasReplied, next_asked, waiting, finishing, asked_open, next_served, handshake, served_open, requests, outstanding, heard, taken, firsts}
+use Rattle.spdm_agreement.specs.Marks.{Asked, Served, Text, Exchange, IsAccepted, IsOpened, HasBegun, HasOpened, HasReplied, next_asked, waiting, finishing, asked_open, next_served, handshake, served_open, requests, outstanding, heard, taken, firsts}
 use Rattle.spdm_agreement.specs.Marks.Asked.{Started, Accepted, Opened, Sealed, Heard, Left}
 use Rattle.spdm_agreement.specs.Marks.Served.{Began, Finished, Refused, Took, Dropped}
 use Rattle.spdm_agreement.specs.Reading.{Reading}
-use Rattle.spdm_agreement.proofs.Invariant.{AskedWell, ServedWell, Talks, IsQuiet}
+use Rattle.spdm_agreement.proofs.Invariant.{AskedWell, ServedWell, Talks}
 
 pub differ : (a b : ℕ) → (a == b) ≡ false → a ≡ b → ⊥
 differ a b f e = true≢false (sym (eq-eqb a b e) ∙ f)

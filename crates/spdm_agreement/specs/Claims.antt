@@ -1,5 +1,5 @@
 -- What holds wherever the moves of a pre-shared key lead without chance.
-use Rattle.std.specs.Prelude.{◌≡◌, ℕ, List, [], ◌∷◌, ◌++◌, true, Option, Some, None}
+use Rattle.std.specs.Prelude.{◌≡◌, ℕ, List, [], ◌∷◌, ◌++◌, true, Some, None}
 use Rattle.key_schedule.specs.Purpose.{Purpose, is_record}
 use Rattle.world_machine.specs.Agreement.{IsPrefixOf, IsMade}
 use Rattle.world_machine.specs.Chance.{NoChance}

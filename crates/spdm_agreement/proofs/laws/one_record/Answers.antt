@@ -1,4 +1,3 @@
-use Rattle.spdm_agreement.proofs.Keeps.{passed_made}
 use Rattle.spdm_agreement.proofs.Runs.{holds, one_sealed}
 use Rattle.spdm_agreement.proofs.laws.one_record.Goals as goal
 
