@@ -5,7 +5,7 @@ use Rattle.key_schedule.specs.declared.direction.Direction.TheVariants.{Request,
 use Rattle.spdm_machine.specs.TagLog.{Log}
 use Rattle.spdm_agreement.specs.Marks.{Asked, Served, heard, taken, request_purpose, reply_purpose, request_input, reply_input}
 use Rattle.spdm_agreement.specs.Moves.{State, Move, request_shake, response_shake, after, IsRun}
-use Rattle.spdm_agreement.specs.Moves.Move.{Start, Begin, Accept, Finish, Refuse, Open, Say, Take, Hear, Leave, Drop, Check, Foreign}
+use Rattle.spdm_agreement.specs.Moves.Move.{Start, Begin, Accept, Finish, Refuse, Open, Say, Take, Hear, Check, Foreign}
 use Rattle.spdm_agreement.specs.Reading.{Reading, covered}
 
 -- The move is one of the ends of this key.
@@ -35,8 +35,6 @@ one r other a v n (Open t u b) s o = ([], refl)
 one r other a v n (Say u b x) s o = (Foreign (request_purpose r u (heard u s.asked)) (request_input r u (heard u s.asked) b) x ∷ [], (n, refl))
 one r other a v n (Take u b reply x) s o = (Foreign (reply_purpose r u ((b, reply) ∷ taken u s.served)) (reply_input r u ((b, reply) ∷ taken u s.served) reply) x ∷ [], (n, refl))
 one r other a v n (Hear u b reply) s o = ([], refl)
-one r other a v n (Leave of) s o = ([], refl)
-one r other a v n (Drop of) s o = ([], refl)
 one r other a v n (Check p i x y) s o = (Check p i x y ∷ [], (tt, refl))
 one r other a v n (Foreign p i x) s o = absurd o
 

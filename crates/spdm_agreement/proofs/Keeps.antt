@@ -10,13 +10,13 @@ use Rattle.spdm_machine.specs.TagLog.Act.{Made, Checked}
 use Rattle.world_machine.specs.Agreement.{IsMade}
 use Rattle.world_machine.specs.Chance.{NoChance, AreAlike, IsValueMade}
 use Rattle.spdm_agreement.specs.Marks.{Asked, Served, Text, Exchange, IsAccepted, IsOpened, HasBegun, HasFinished, HasOpened, HasReplied, next_asked, waiting, finishing, asked_open, next_served, handshake, outstanding, heard, taken, epoch_of, request_number, reply_number, request_purpose, reply_purpose, request_input, reply_input}
-use Rattle.spdm_agreement.specs.Marks.Asked.{Started, Accepted, Opened, Sealed, Heard, Left}
-use Rattle.spdm_agreement.specs.Marks.Served.{Began, Finished, Refused, Took, Dropped}
+use Rattle.spdm_agreement.specs.Marks.Asked.{Started, Accepted, Opened, Sealed, Heard}
+use Rattle.spdm_agreement.specs.Marks.Served.{Began, Finished, Refused, Took}
 use Rattle.spdm_agreement.specs.Moves.{IsPassed, request_shake, response_shake}
 use Rattle.spdm_agreement.specs.Reading.{Reading, covered}
 use Rattle.spdm_agreement.proofs.Earlier.{IsEarlier, earlier_if, same_place, same_count, longer, not_same_place}
 use Rattle.spdm_agreement.proofs.Invariant.{Linked, IsRequest, IsReply, IsBackedAs, IsBacked, Invariant, IsAhead, WasSaid}
-use Rattle.spdm_agreement.proofs.Steps.{some_same, none_some, at_key, own_key, asks_accept, asks_start, asks_open, asks_leave, asks_say, asks_hear, serves_begin, serves_finish, serves_refuse, serves_drop, serves_take}
+use Rattle.spdm_agreement.proofs.Steps.{some_same, none_some, at_key, own_key, asks_accept, asks_start, asks_open, asks_say, asks_hear, serves_begin, serves_finish, serves_refuse, serves_take}
 
 -- ---- Without chance, what passed was made for just this.
 
@@ -92,25 +92,9 @@ module _ (r : Reading) (asked : List Asked) (served : List Served) (log : Log) (
     backed = λ p i m own. backed_grows r asked served (Started id draw ∷ asked) served (record { accepted = λ t a. a; begun = λ t a. a; replied = λ t b a. a; said = λ u b l a. a; took = λ u l a. a }) p i (k.backed p i m own);
   }
 
-  leave_opened : (b : Bool) (id : ℕ) (x : List ℕ × List ℕ) → cond b None (asked_open r id asked) ≡ Some x → HasFinished served x.0
-  leave_opened true id x e = absurd (none_some _ e)
-  leave_opened false id x e = k.links.opened id x e
-
-  pub leave_keeps : (of : ℕ) → Invariant r (Left of ∷ asked) served log
-  leave_keeps of = record {
-    asks = asks_leave r asked of k.asks;
-    serves = k.serves;
-    links = (let l = k.links in record { accepted = l.accepted; finished = l.finished; opened = λ id x e. leave_opened _ id x e; order = l.order; ahead = l.ahead });
-    backed = λ p i m own. backed_grows r asked served (Left of ∷ asked) served (record { accepted = λ t a. a; begun = λ t a. a; replied = λ t b a. a; said = λ u b l a. a; took = λ u l a. a }) p i (k.backed p i m own);
-  }
-
-  pub drop_keeps : (of : ℕ) → Invariant r asked (Dropped of ∷ served) log
-  drop_keeps of = record {
-    asks = k.asks;
-    serves = serves_drop r served of k.serves;
-    links = (let l = k.links in record { accepted = l.accepted; finished = l.finished; opened = l.opened; order = l.order; ahead = l.ahead });
-    backed = λ p i m own. backed_grows r asked served asked (Dropped of ∷ served) (record { accepted = λ t a. a; begun = λ t a. a; replied = λ t b a. a; said = λ u b l a. a; took = λ u l a. a }) p i (k.backed p i m own);
-  }
+  accept_opened : (b : Bool) (id : ℕ) (x : List ℕ × List ℕ) → cond b None (asked_open r id asked) ≡ Some x → HasFinished served x.0
+  accept_opened true id x e = absurd (none_some _ e)
+  accept_opened false id x e = k.links.opened id x e
 
   pub begin_keeps : (t : List ℕ) → r.is_first t ≡ true → next_served r served ≤ r.responder_draw t → (v : List ℕ) → Invariant r asked (Began t ∷ served) (Made (verify r.psk t Response) t v ∷ log)
   begin_keeps t well d v = record {
@@ -128,7 +112,7 @@ module _ (r : Reading) (asked : List Asked) (served : List Served) (log : Log) (
     links = record {
       accepted = λ s a. elim a [ inl e ↦ subst (λ (y : List ℕ). HasBegun served y) (sym e) b | inr y ↦ l.accepted s y ];
       finished = λ s f. inr (l.finished s f);
-      opened = λ id y e. leave_opened _ id y e;
+      opened = λ id y e. accept_opened _ id y e;
       order = λ s z a f lt. elim a [
         | inl e ↦ absurd (let before = (k.asks.waits x w).1 z (l.finished z f) in let is = ap r.requester_draw e in omega arith)
         | inr y ↦ l.order s z y f lt

@@ -10,12 +10,12 @@ use Rattle.world_machine.specs.Chance.{NoChance}
 use Rattle.spdm_agreement.specs.Claims.{IsReached}
 use Rattle.spdm_agreement.specs.Marks.{Asked, Served, Text, Exchange, IsAccepted, IsOpened, HasFinished, HasOpened, HasReplied, finishing, asked_open, handshake, served_open, requests, outstanding, heard, taken, firsts, request_number, reply_number, request_purpose, reply_purpose, request_input, reply_input}
 use Rattle.spdm_agreement.specs.Moves.{State, Move, IsPassed, IsFinish, request_shake, response_shake, after, IsLegal, IsRun, nothing_yet}
-use Rattle.spdm_agreement.specs.Moves.Move.{Start, Begin, Accept, Finish, Refuse, Open, Say, Take, Hear, Leave, Drop, Check, Foreign}
+use Rattle.spdm_agreement.specs.Moves.Move.{Start, Begin, Accept, Finish, Refuse, Open, Say, Take, Hear, Check, Foreign}
 use Rattle.spdm_agreement.specs.Reading.{Reading, covered}
 use Rattle.spdm_agreement.proofs.Earlier.{IsEarlier, earlier_self, earlier_tail, same_place, same_length, same_count, longer}
 use Rattle.spdm_agreement.proofs.Invariant.{IsBacked, IsBackedAs, Invariant, Talks, IsAhead, WasSaid}
 use Rattle.spdm_agreement.proofs.Steps.{none_some, some_same}
-use Rattle.spdm_agreement.proofs.Keeps.{passed_made, same_number, same_text, check_keeps, start_keeps, leave_keeps, drop_keeps, begin_keeps, accept_keeps, finish_keeps, refuse_keeps, open_keeps, say_keeps, take_keeps, hear_keeps}
+use Rattle.spdm_agreement.proofs.Keeps.{passed_made, same_number, same_text, check_keeps, start_keeps, begin_keeps, accept_keeps, finish_keeps, refuse_keeps, open_keeps, say_keeps, take_keeps, hear_keeps}
 
 -- A record, so that antt finds the state that a lemma speaks of.
 pub record IsGood (r : Reading) (s : State) : Type 0 where
@@ -78,8 +78,6 @@ move_good r (Hear u b reply) s l good = record {
   holds = λ n. hear_keeps r _ _ _ (good.holds n) u b reply l.0
       (passed r s (good.holds n) n (reply_purpose r u ((b, r.granted) ∷ heard u s.asked)) (reply_input r u ((b, r.granted) ∷ heard u s.asked) reply) refl l.1);
 }
-move_good r (Leave of) s l good = record { holds = λ n. leave_keeps r _ _ _ (good.holds n) of }
-move_good r (Drop of) s l good = record { holds = λ n. drop_keeps r _ _ _ (good.holds n) of }
 move_good r (Check p i v w) s l good = record { holds = λ n. check_keeps r _ _ _ p i v w (good.holds n.2) }
 move_good r (Foreign p i v) s l good = record { holds = λ n. foreign r s p i v l (good.holds n.1) }
 

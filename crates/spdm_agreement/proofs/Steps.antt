@@ -2,8 +2,8 @@
 use Rattle.std.proofs.Common.{◌≡◌, ◌⊎◌, ℕ, ◌<◌, ◌≤◌, List, [], ◌∷◌, Option, Some, None, Bool, true, false, refl, sym, ap, ◌∙◌, subst, inl, inr, arith, cond, ◌==◌, eq-eqb, eqb-true, true≢false, bytes_eq}
 use Rattle.std.proofs.lemmas.Slice.Eq.{bytes_eq-Decides}
 use Rattle.spdm_agreement.specs.Marks.{Asked, Served, Text, Exchange, IsAccepted, IsOpened, HasBegun, HasOpened, HasReplied, next_asked, waiting, finishing, asked_open, next_served, handshake, served_open, requests, outstanding, heard, taken, firsts}
-use Rattle.spdm_agreement.specs.Marks.Asked.{Started, Accepted, Opened, Sealed, Heard, Left}
-use Rattle.spdm_agreement.specs.Marks.Served.{Began, Finished, Refused, Took, Dropped}
+use Rattle.spdm_agreement.specs.Marks.Asked.{Started, Accepted, Opened, Sealed, Heard}
+use Rattle.spdm_agreement.specs.Marks.Served.{Began, Finished, Refused, Took}
 use Rattle.spdm_agreement.specs.Reading.{Reading}
 use Rattle.spdm_agreement.proofs.Invariant.{AskedWell, ServedWell, Talks}
 
@@ -97,24 +97,6 @@ asks_open r h t u f right i = record {
     | inr y ↦ i.opened s v y
   ];
   quiet = λ v n. i.quiet v (λ s o. n s (inr o));
-  talks = i.talks;
-}
-
-leave_opens : (r : Reading) (b : Bool) (h : List Asked) (id : ℕ) (x : List ℕ × List ℕ) → AskedWell r h → cond b None (asked_open r id h) ≡ Some x → OpenAt r (IsAccepted h) (IsOpened h) id x
-leave_opens r true h id x i e = absurd (none_some _ e)
-leave_opens r false h id x i e = i.opens id x e
-
-pub asks_leave : (r : Reading) (h : List Asked) (of : ℕ) → AskedWell r h → AskedWell r (Left of ∷ h)
-asks_leave r h of i = record {
-  below = i.below;
-  waits = i.waits;
-  once = i.once;
-  apart = i.apart;
-  well = i.well;
-  finishes = λ y e. absurd (none_some _ e);
-  opens = λ id x e. leave_opens r _ h id x i e;
-  opened = i.opened;
-  quiet = i.quiet;
   talks = i.talks;
 }
 
@@ -236,25 +218,6 @@ serves_refuse r h t reply f closed i = record {
   replied = λ s b o. elim o [ inl e ↦ subst (λ (z : List ℕ). HasBegun h z) (sym e.0) (i.shakes t f).0 | inr y ↦ i.replied s b y ];
   answers = λ s b o opens. elim o [ inl e ↦ absurd (true≢false (sym opens ∙ ap r.opens e.1 ∙ closed)) | inr y ↦ i.answers s b y opens ];
   only = reply_only r h t reply i f;
-  quiet = i.quiet;
-}
-
-drop_opens : (r : Reading) (b : Bool) (h : List Served) (id : ℕ) (x : List ℕ × List ℕ) → ServedWell r h → cond b None (served_open r id h) ≡ Some x → ServedAt r (HasBegun h) (HasOpened h) id x
-drop_opens r true h id x i e = absurd (none_some _ e)
-drop_opens r false h id x i e = i.opens id x e
-
-pub serves_drop : (r : Reading) (h : List Served) (of : ℕ) → ServedWell r h → ServedWell r (Dropped of ∷ h)
-serves_drop r h of i = record {
-  below = i.below;
-  once = i.once;
-  well = i.well;
-  shakes = i.shakes;
-  opens = λ id x e. drop_opens r _ h id x i e;
-  opened = i.opened;
-  seconds = i.seconds;
-  replied = i.replied;
-  answers = i.answers;
-  only = i.only;
   quiet = i.quiet;
 }
 

@@ -17,14 +17,13 @@ Exchange = List ℕ × List ℕ
 
 -- What a requester did: it asked for a session under an id, with a context that holds the number of a draw; took
 -- PSK_EXCHANGE_RSP, with which T1 is whole; took PSK_FINISH_RSP, with which T2 is whole; sealed a request; took
--- the reply to a request; left the session of an id.
+-- the reply to a request.
 pub data Asked : Type 0 where
   Started : (id : ℕ) → (draw : ℕ) → Asked
   Accepted : (first : List ℕ) → Asked
   Opened : (first : List ℕ) → (second : List ℕ) → Asked
   Sealed : (second : List ℕ) → (request : Text) → Asked
   Heard : (second : List ℕ) → (request : Text) → (reply : Text) → Asked
-  Left : (id : ℕ) → Asked
 
 -- One more than the number of the last draw that went into a context. Draws between may have served for other
 -- things.
@@ -46,15 +45,14 @@ finishing [] = None
 finishing (Started id draw ∷ older) = None
 finishing (Accepted t ∷ older) = Some t
 finishing (Opened t u ∷ older) = None
-finishing (Left id ∷ older) = None
 finishing (_ ∷ older) = finishing older
 
--- The open session of a ReqSessionID: its T1 and T2.
+-- The session of a ReqSessionID that opened last, unless another one was accepted under it since: its T1 and T2. A
+-- session that is gone has no mark of that: what holds of the last session of an id holds of one that is held.
 abbrev pub asked_open : Reading → ℕ → List Asked → Option (List ℕ × List ℕ)
 asked_open r id [] = None
 asked_open r id (Accepted t ∷ older) = if r.requester_id t == id then None else asked_open r id older
 asked_open r id (Opened t u ∷ older) = if r.requester_id t == id then Some (t, u) else asked_open r id older
-asked_open r id (Left of ∷ older) = if of == id then None else asked_open r id older
 asked_open r id (_ ∷ older) = asked_open r id older
 
 -- PSK_EXCHANGE_RSP was taken for this T1.
@@ -97,14 +95,12 @@ heard u (_ ∷ older) = heard u older
 -- ---- The responder.
 
 -- What a responder did: it answered PSK_EXCHANGE, with which T1 is whole; took PSK_FINISH, with which T2 is whole;
--- refused what came in its place, with this reply; took a request and sealed its reply; dropped the session of an
--- id.
+-- refused what came in its place, with this reply; took a request and sealed its reply.
 pub data Served : Type 0 where
   Began : (first : List ℕ) → Served
   Finished : (first : List ℕ) → (second : List ℕ) → Served
   Refused : (first : List ℕ) → (reply : Text) → Served
   Took : (second : List ℕ) → (request : Text) → (reply : Text) → Served
-  Dropped : (id : ℕ) → Served
 
 -- One more than the number of the last draw that went into a context.
 abbrev pub next_served : Reading → List Served → ℕ
@@ -120,12 +116,11 @@ handshake (Finished t u ∷ older) = None
 handshake (Refused t reply ∷ older) = None
 handshake (_ ∷ older) = handshake older
 
--- The open session of a RspSessionID: its T1 and T2.
+-- The session of a RspSessionID that finished last, unless another one began under it since: its T1 and T2.
 abbrev pub served_open : Reading → ℕ → List Served → Option (List ℕ × List ℕ)
 served_open r id [] = None
 served_open r id (Began t ∷ older) = if r.responder_id t == id then None else served_open r id older
 served_open r id (Finished t u ∷ older) = if r.responder_id t == id then Some (t, u) else served_open r id older
-served_open r id (Dropped of ∷ older) = if of == id then None else served_open r id older
 served_open r id (_ ∷ older) = served_open r id older
 
 -- PSK_EXCHANGE was answered for this T1.

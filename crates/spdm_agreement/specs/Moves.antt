@@ -6,8 +6,8 @@ use Rattle.key_schedule.specs.declared.direction.Direction.TheVariants.{Request,
 use Rattle.spdm_machine.specs.TagLog.{Log}
 use Rattle.spdm_machine.specs.TagLog.Act.{Made, Checked}
 use Rattle.spdm_agreement.specs.Marks.{Asked, Served, next_asked, waiting, finishing, asked_open, outstanding, heard, next_served, handshake, served_open, taken, request_purpose, reply_purpose, request_input, reply_input}
-use Rattle.spdm_agreement.specs.Marks.Asked.{Started, Accepted, Opened, Sealed, Heard, Left}
-use Rattle.spdm_agreement.specs.Marks.Served.{Began, Finished, Refused, Took, Dropped}
+use Rattle.spdm_agreement.specs.Marks.Asked.{Started, Accepted, Opened, Sealed, Heard}
+use Rattle.spdm_agreement.specs.Marks.Served.{Began, Finished, Refused, Took}
 use Rattle.spdm_agreement.specs.Reading.{Reading, covered}
 
 -- The marks of both ends, and the tags that all ends computed and compared.
@@ -35,9 +35,6 @@ pub data Move : Type 0 where
   Say : (second : List ℕ) → (text : List ℕ) → (value : List ℕ) → Move
   Take : (second : List ℕ) → (text : List ℕ) → (reply : List ℕ) → (value : List ℕ) → Move
   Hear : (second : List ℕ) → (text : List ℕ) → (reply : List ℕ) → Move
-  -- The session of an id is gone, at the requester or at the responder.
-  Leave : (id : ℕ) → Move
-  Drop : (id : ℕ) → Move
   -- A tag is compared, by any end.
   Check : (purpose : Purpose) → (input : List ℕ) → (value : List ℕ) → (received : List ℕ) → Move
   -- Ends of another key make a tag.
@@ -88,8 +85,6 @@ after r (Take u b reply value) s = record {
   log = Made (reply_purpose r u ((b, reply) ∷ taken u s.served)) (reply_input r u ((b, reply) ∷ taken u s.served) reply) value ∷ s.log;
 }
 after r (Hear u b reply) s = record s { asked = Heard u b reply ∷ s.asked }
-after r (Leave id) s = record s { asked = Left id ∷ s.asked }
-after r (Drop id) s = record s { served = Dropped id ∷ s.served }
 after r (Check p i value received) s = record s { log = Checked p i value received ∷ s.log }
 after r (Foreign p i value) s = record s { log = Made p i value ∷ s.log }
 
@@ -124,8 +119,6 @@ IsLegal r (Take u b reply value) s =
 IsLegal r (Hear u b reply) s =
     (outstanding u s.asked ≡ Some b)
     × IsPassed (reply_purpose r u ((b, r.granted) ∷ heard u s.asked)) (reply_input r u ((b, r.granted) ∷ heard u s.asked) reply) s.log
-IsLegal r (Leave id) s = Unit {0}
-IsLegal r (Drop id) s = Unit {0}
 IsLegal r (Check p i value received) s = Unit {0}
 IsLegal r (Foreign p i value) s = p.psk ≢ r.psk
 
