@@ -1,10 +1,8 @@
 -- What the ends of one pre-shared key do, the ends of another see as tags of that key alone.
 use Rattle.std.proofs.Common.{◌≢◌, List, [], ◌∷◌, refl, sym, subst}
-use Rattle.key_schedule.specs.Purpose.{verify}
-use Rattle.key_schedule.specs.declared.direction.Direction.TheVariants.{Request, Response}
 use Rattle.spdm_machine.specs.TagLog.{Log}
 use Rattle.spdm_agreement.specs.Marks.{Asked, Served, heard, taken, request_purpose, reply_purpose, request_input, reply_input}
-use Rattle.spdm_agreement.specs.Moves.{State, Move, request_shake, response_shake, after, IsRun}
+use Rattle.spdm_agreement.specs.Moves.{State, Move, request_shake, response_shake, request_verify, response_verify, after, IsRun}
 use Rattle.spdm_agreement.specs.Moves.Move.{Start, Begin, Accept, Finish, Refuse, Open, Say, Take, Hear, Check, Foreign}
 use Rattle.spdm_agreement.specs.Reading.{Reading, covered}
 
@@ -27,14 +25,14 @@ LogLeads r a v before later = Leads r (record { asked = a; served = v; log = bef
 
 one : (r other : Reading) (a : List Asked) (v : List Served) → r.psk ≢ other.psk → (m : Move) (s : State) → IsOwn m → LogLeads other a v s.log (after r m s).log
 one r other a v n (Start id draw) s o = ([], refl)
-one r other a v n (Begin t x) s o = (Foreign (verify r.psk t Response) t x ∷ [], (n, refl))
-one r other a v n (Accept t input x y) s o = (Foreign (verify r.psk t Request) input x ∷ Foreign (request_shake r t) (covered r (request_shake r t) 0 (r.finish t)) y ∷ [], (n, (n, refl)))
-one r other a v n (Finish t u number b at reply x) s o = (Foreign (response_shake r t) (covered r (response_shake r t) at reply) x ∷ [], (n, refl))
-one r other a v n (Refuse t number b at reply x) s o = (Foreign (response_shake r t) (covered r (response_shake r t) at reply) x ∷ [], (n, refl))
+one r other a v n (Begin t x) s o = (Foreign (response_verify r t) (r.transcript t) x ∷ [], (n, refl))
+one r other a v n (Accept t input x y) s o = (Foreign (request_verify r t) input x ∷ Foreign (request_shake r t) (covered r t (request_shake r t) 0 (r.finish t)) y ∷ [], (n, (n, refl)))
+one r other a v n (Finish t u number b at reply x) s o = (Foreign (response_shake r t) (covered r t (response_shake r t) at reply) x ∷ [], (n, refl))
+one r other a v n (Refuse t number b at reply x) s o = (Foreign (response_shake r t) (covered r t (response_shake r t) at reply) x ∷ [], (n, refl))
 one r other a v n (Open t u b) s o = ([], refl)
-one r other a v n (Say u b x) s o = (Foreign (request_purpose r u (heard u s.asked)) (request_input r u (heard u s.asked) b) x ∷ [], (n, refl))
-one r other a v n (Take u b reply x) s o = (Foreign (reply_purpose r u ((b, reply) ∷ taken u s.served)) (reply_input r u ((b, reply) ∷ taken u s.served) reply) x ∷ [], (n, refl))
-one r other a v n (Hear u b reply) s o = ([], refl)
+one r other a v n (Say t u b x) s o = (Foreign (request_purpose r u (heard u s.asked)) (request_input r t u (heard u s.asked) b) x ∷ [], (n, refl))
+one r other a v n (Take t u b reply x) s o = (Foreign (reply_purpose r u ((b, reply) ∷ taken u s.served)) (reply_input r t u ((b, reply) ∷ taken u s.served) reply) x ∷ [], (n, refl))
+one r other a v n (Hear t u b reply) s o = ([], refl)
 one r other a v n (Check p i x y) s o = (Check p i x y ∷ [], (tt, refl))
 one r other a v n (Foreign p i x) s o = absurd o
 
