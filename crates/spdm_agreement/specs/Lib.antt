@@ -2,3 +2,4 @@ pub mod Reading
 pub mod Marks
 pub mod Moves
 pub mod Claims
+pub mod Story
