@@ -4,3 +4,4 @@ pub mod Steps
 pub mod Keeps
 pub mod Runs
 pub mod Foreign
+pub mod Sessions
