@@ -5,3 +5,4 @@ pub mod Keeps
 pub mod Runs
 pub mod Foreign
 pub mod Sessions
+pub mod Texts

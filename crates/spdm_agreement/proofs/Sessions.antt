@@ -1,13 +1,12 @@
 -- The sessions of a pre-shared key as they are: what belongs to their beginning, and that T1, T2 and records tell it.
-use Rattle.std.proofs.Common.{◌≡◌, ◌⊎◌, ℕ, ◌+◌, ◌-◌, ◌<◌, List, [], ◌∷◌, ◌++◌, length, take, drop, Bool, true, false, cond, not, ◌&&◌, ◌||◌, ◌==◌, Option, Some, None, is_some, refl, sym, ap, ap₂, ◌∙◌, subst, inl, inr, arith, length-append, append_assoc, append-nil, bytes_eq, if◌then◌else◌}
+use Rattle.std.proofs.Common.{◌≡◌, ◌⊎◌, ℕ, ◌+◌, List, [], ◌∷◌, ◌++◌, length, drop, Bool, true, false, ◌&&◌, ◌||◌, ◌==◌, Option, Some, None, is_some, refl, sym, ap, ap₂, ◌∙◌, subst, inl, inr, arith, length-append, append_assoc, append-nil, bytes_eq, if◌then◌else◌}
 use Rattle.std.specs.Prelude.{slice_index}
-use Rattle.std.proofs.lemmas.List.{append_cancel_left, append_cancel_right}
 use Rattle.std.proofs.lemmas.Slice.Eq.{bytes_eq-Decides}
 use Rattle.aes_gcm.specs.Gcm.{crypt}
 use Rattle.aes_gcm.proofs.Twice.{crypt-crypt}
 use Rattle.byteorder.specs.Endian.{little_number}
-use Rattle.hmac_hkdf.specs.Hmac.{hmac, masked, padded_key}
-use Rattle.key_schedule.specs.Purpose.{Purpose, key_of, iv_of, verify}
+use Rattle.hmac_hkdf.specs.Hmac.{hmac}
+use Rattle.key_schedule.specs.Purpose.{Purpose, key_of, iv_of}
 use Rattle.key_schedule.specs.declared.direction.Direction.{Direction}
 use Rattle.key_schedule.specs.declared.direction.Direction.TheVariants.{Request, Response}
 use Rattle.running_hash.specs.Hash.{Hash, hash_of}
@@ -214,8 +213,8 @@ transcript_tells psk s t p q e =
     let qt = sound psk t q in
     let parts = began psk s t (without_verify (first_hash s) s.answer) (without_verify (first_hash t) t.answer) ps qt e in
     let verify : answer_verify psk s ≡ answer_verify psk t =
-        ap (λ (n : Negotiation). verify_data (terms_of n).choice psk (transcript_of s) Response (transcript_of s)) parts.0
-        ∙ ap (λ (x : List ℕ). verify_data (terms_of t.negotiation).choice psk x Response x) e in
+    ap (λ (n : Negotiation). verify_data (terms_of n).choice psk (transcript_of s) Response (transcript_of s)) parts.0
+    ∙ ap (λ (x : List ℕ). verify_data (terms_of t.negotiation).choice psk x Response x) e in
     same_first s t parts.0 parts.1 (ps.answer ∙ ap₂ (λ (a b : List ℕ). a ++ b) parts.2 verify ∙ sym qt.answer)
 
 -- PSK_FINISH with the right verify data, and PSK_FINISH_RSP.
@@ -262,12 +261,12 @@ second_tells psk s t p q e =
     let ps = sound psk s p in
     let qt = sound psk t q in
     let parts = began psk s t (s.answer ++ (finish_message psk s ++ finish_reply)) (t.answer ++ (finish_message psk t ++ finish_reply)) ps qt
-        (sym (behind (vca_of s.negotiation) s.exchange s.answer (finish_message psk s) finish_reply) ∙ e ∙ behind (vca_of t.negotiation) t.exchange t.answer (finish_message psk t) finish_reply) in
+    (sym (behind (vca_of s.negotiation) s.exchange s.answer (finish_message psk s) finish_reply) ∙ e ∙ behind (vca_of t.negotiation) t.exchange t.answer (finish_message psk t) finish_reply) in
     let one = length_verify (first_terms s).choice psk (transcript_of s) Request (vca_of s.negotiation ++ s.exchange ++ s.answer ++ canonical_request (PskFinish [])) in
     let two = length_verify (first_terms t).choice psk (transcript_of t) Request (vca_of t.negotiation ++ t.exchange ++ t.answer ++ canonical_request (PskFinish [])) in
     let sizes : hash_size (first_terms s).choice.hash ≡ hash_size (first_terms t).choice.hash = ap (λ (n : Negotiation). hash_size (terms_of n).choice.hash) parts.0 in
     let lengths : length (finish_message psk s ++ finish_reply) ≡ length (finish_message psk t ++ finish_reply) =
-        omega (arith, length-append (finish_verify psk s) finish_reply, length-append (finish_verify psk t) finish_reply) in
+    omega (arith, length-append (finish_verify psk s) finish_reply, length-append (finish_verify psk t) finish_reply) in
     same_first s t parts.0 parts.1 (front_told s.answer t.answer (finish_message psk s ++ finish_reply) (finish_message psk t ++ finish_reply) lengths parts.2)
 
 -- ---- Records.
@@ -288,3 +287,63 @@ sealed_tells t p number b c e =
     let iv = nonce (iv_of (first_terms t).choice.hash p) number in
     let text : crypt key iv b ≡ crypt key iv c = ap (λ (l : List ℕ). drop 8 l) e in
     sym (crypt-crypt key iv b) ∙ ap (crypt key iv) text ∙ crypt-crypt key iv c
+
+-- ---- All together.
+
+-- A context holds the number of its draw as its last eight bytes but those of padding.
+abbrev pub draw_place : HashAlg → ℕ
+draw_place Sha256 = 24
+draw_place Sha384 = 32
+
+abbrev pub context_number : HashAlg → List ℕ → ℕ
+context_number hash context = little_number 8 (drop (draw_place hash) context)
+
+abbrev pub exchange_in : First → Option RequestMessage
+exchange_in t = request_in (hash_len (first_terms t)) t.exchange
+
+abbrev pub context_in : Option RequestMessage → List ℕ
+context_in (Some (PskExchange exchange)) = exchange.context
+context_in _ = []
+
+-- The length of the measurement summary in PSK_EXCHANGE_RSP, which stands in front of the context.
+abbrev pub summary_size : ℕ → Option RequestMessage → ℕ
+summary_size size (Some (PskExchange exchange)) = if exchange.summary == 0 then 0 else size
+summary_size size _ = 0
+
+abbrev pub answer_context : First → List ℕ
+answer_context t = drop (12 + summary_size (hash_len (first_terms t)) (exchange_in t)) t.answer
+
+-- Of the text of a record: the type of the inner message, and the code and Param1 of the SPDM message in it.
+abbrev pub is_message : ℕ → List ℕ → Bool
+is_message code text = slice_index text 2 == 5 && slice_index text 4 == code
+
+abbrev pub is_update_of : Bool → List ℕ × List ℕ → Bool
+is_update_of is_operation x = is_message 0xe9 x.0 && is_operation && is_message 0x69 x.1
+
+abbrev pub operation_in : List ℕ → ℕ
+operation_in text = slice_index text 5
+
+abbrev pub message_text : List ℕ → List ℕ
+message_text message = plain_text (5 ∷ message) []
+
+abbrev pub reading_of : List ℕ → Reading
+reading_of psk = record {
+  psk = psk;
+  is_sound = is_sound_first psk;
+  transcript = transcript_of;
+  transcript_tells = transcript_tells psk;
+  second = second_of psk;
+  second_tells = second_tells psk;
+  requester_id = λ t. id_in_exchange t.exchange;
+  responder_id = λ t. id_in_exchange t.answer;
+  requester_draw = λ t. context_number (first_terms t).choice.hash (context_in (exchange_in t));
+  responder_draw = λ t. context_number (first_terms t).choice.hash (answer_context t);
+  finish = λ t. message_text (finish_message psk t);
+  finish_answer = λ t. message_text finish_reply;
+  opens = is_message 0x67;
+  is_update = λ x. is_update_of (operation_in x.0 == 1 || operation_in x.0 == 2) x;
+  is_update_all = λ x. is_update_of (operation_in x.0 == 2) x;
+  granted = message_text (canonical_response (KeyUpdateAck 1 0));
+  sealed = sealed_of;
+  sealed_tells = sealed_tells;
+}

@@ -1,5 +1,5 @@
 -- The marks of the two ends, counted out of their histories, and the sessions that they name.
-use Rattle.std.specs.Prelude.{◌++◌, ℕ, List, [], ◌∷◌, if◌then◌else◌, Bool, Option, Some, None}
+use Rattle.std.specs.Prelude.{◌++◌, ℕ, List, [], ◌∷◌, if◌then◌else◌, Option, Some, None}
 use Rattle.key_schedule.specs.Purpose.{Purpose, key_of, iv_of}
 use Rattle.requester_machine.specs.Answers.{with_answer}
 use Rattle.requester_machine.specs.History as asked
