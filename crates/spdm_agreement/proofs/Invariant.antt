@@ -47,7 +47,7 @@ pub record ServedWell (r : Reading) (h : List Served) : Type 0 where
   pub once : (s t : First) → HasBegun h s → HasBegun h t → r.responder_draw s ≡ r.responder_draw t → s ≡ t
   pub well : (t : First) → HasBegun h t → r.is_sound t ≡ true
   pub shakes : (t : First) → handshake h ≡ Some t → HasBegun h t × ((s : First) → HasBegun h s → r.responder_draw s ≤ r.responder_draw t) × ((b : Text) → HasReplied r h t b → ⊥)
-  pub opens : (id : ℕ) (x : First × List ℕ) → served_open r id h ≡ Some x → HasOpened h x.0 x.1 × ((s : First) → HasBegun h s → r.responder_id s ≡ id → r.responder_draw s ≤ r.responder_draw x.0)
+  pub opens : (id : ℕ) (x : First × List ℕ) → served_open r id h ≡ Some x → HasOpened h x.0 x.1 × (r.responder_id x.0 ≡ id) × ((s : First) → HasBegun h s → r.responder_id s ≡ id → r.responder_draw s ≤ r.responder_draw x.0)
   pub opened : (t : First) (u : List ℕ) → HasOpened h t u → HasFinished h t × (u ≡ r.second t)
   pub seconds : (t : First) → HasFinished h t → HasOpened h t (r.second t) × HasReplied r h t (r.finish_answer t)
   pub replied : (t : First) (b : Text) → HasReplied r h t b → HasBegun h t

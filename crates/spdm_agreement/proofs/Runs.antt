@@ -143,7 +143,7 @@ agrees r asked served log k req rsp t t' u u' a is_rsp b is_req =
     let their = k.serves.opened t' u' two.0 in
     let accepted = l.finished t' their.0 in
     let at_most = one.2 t' accepted is_req in
-    let at_least = two.1 t (l.accepted t own.0) is_rsp in
+    let at_least = two.2 t (l.accepted t own.0) is_rsp in
     let not_less : r.requester_draw t' < r.requester_draw t → ⊥ = λ lt. (let o = l.order t' t accepted (l.opened req (t, u) a) lt in omega arith) in
     let same : t' ≡ t = k.asks.once t' t accepted own.0 (omega (arith, not_less)) in
     (sym same, own.1 ∙ ap r.second (sym same) ∙ sym their.1)

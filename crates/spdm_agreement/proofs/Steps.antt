@@ -143,14 +143,14 @@ asks_hear r h u b reply o i = record {
 -- ---- The responder.
 
 abbrev ServedAt : Reading → (First → Type 0) → (First → List ℕ → Type 0) → ℕ → First × List ℕ → Type 0
-ServedAt r Begins Opens id x = Opens x.0 x.1 × ((s : First) → Begins s → r.responder_id s ≡ id → r.responder_draw s ≤ r.responder_draw x.0)
+ServedAt r Begins Opens id x = Opens x.0 x.1 × (r.responder_id x.0 ≡ id) × ((s : First) → Begins s → r.responder_id s ≡ id → r.responder_draw s ≤ r.responder_draw x.0)
 
 begin_opens : (r : Reading) (b : Bool) (h : List Served) (t : First) (id : ℕ) (x : First × List ℕ) → ServedWell r h → (r.responder_id t == id) ≡ b → cond b None (served_open r id h) ≡ Some x
     → ServedAt r (λ s. (s ≡ t) ⊎ HasBegun h s) (HasOpened h) id x
 begin_opens r true h t id x i e is = absurd (none_some _ is)
 begin_opens r false h t id x i e is =
     let l = i.opens id x is in
-    (l.0, λ s a o. elim a [ inl e' ↦ absurd (differ _ _ e (ap r.responder_id (sym e') ∙ o)) | inr b ↦ l.1 s b o ])
+    (l.0, l.1, λ s a o. elim a [ inl e' ↦ absurd (differ _ _ e (ap r.responder_id (sym e') ∙ o)) | inr b ↦ l.2 s b o ])
 
 pub serves_begin : (r : Reading) (h : List Served) (t : First) → r.is_sound t ≡ true → next_served r h ≤ r.responder_draw t → ServedWell r h → ServedWell r (Began t ∷ h)
 serves_begin r h t well d i =
@@ -173,11 +173,11 @@ serves_begin r h t well d i =
       quiet = i.quiet;
     }
 
-finish_opens : (r : Reading) (b : Bool) (h : List Served) (t : First) (u : List ℕ) (id : ℕ) (x : First × List ℕ) → ServedWell r h → handshake h ≡ Some t → cond b (Some (t, u)) (served_open r id h) ≡ Some x
+finish_opens : (r : Reading) (b : Bool) (h : List Served) (t : First) (u : List ℕ) (id : ℕ) (x : First × List ℕ) → ServedWell r h → handshake h ≡ Some t → (r.responder_id t == id) ≡ b → cond b (Some (t, u)) (served_open r id h) ≡ Some x
     → ServedAt r (HasBegun h) (λ s v. ((s ≡ t) × (v ≡ u)) ⊎ HasOpened h s v) id x
-finish_opens r true h t u id x i f is =
-    subst (λ (z : First × List ℕ). ServedAt r (HasBegun h) (λ s v. ((s ≡ t) × (v ≡ u)) ⊎ HasOpened h s v) id z) (some_same _ _ is) (inl (refl, refl), λ s a o. (i.shakes t f).1 s a)
-finish_opens r false h t u id x i f is = (let l = i.opens id x is in (inr l.0, l.1))
+finish_opens r true h t u id x i f e is =
+    subst (λ (z : First × List ℕ). ServedAt r (HasBegun h) (λ s v. ((s ≡ t) × (v ≡ u)) ⊎ HasOpened h s v) id z) (some_same _ _ is) (inl (refl, refl), eqb-true _ _ e, λ s a o. (i.shakes t f).1 s a)
+finish_opens r false h t u id x i f e is = (let l = i.opens id x is in (inr l.0, l.1, l.2))
 
 -- One more reply of a handshake is the only one of its T1.
 reply_only : (r : Reading) (h : List Served) (t : First) (a : List ℕ) → ServedWell r h → handshake h ≡ Some t → (s : First) (b c : Text) → ((s ≡ t) × (b ≡ a)) ⊎ HasReplied r h s b → ((s ≡ t) × (c ≡ a)) ⊎ HasReplied r h s c → b ≡ c
@@ -194,7 +194,7 @@ serves_finish r h t u f right i = record {
   once = i.once;
   well = i.well;
   shakes = λ s e. absurd (none_some _ e);
-  opens = λ id x e. finish_opens r _ h t u id x i f e;
+  opens = λ id x e. finish_opens r _ h t u id x i f refl e;
   opened = λ s v o. elim o [ inl e ↦ (inl e.0, e.1 ∙ right ∙ ap r.second (sym e.0)) | inr y ↦ (let l = i.opened s v y in (inr l.0, l.1)) ];
   seconds = λ s a. elim a [
     | inl e ↦ (inl (e, ap r.second e ∙ sym right), inl (e, ap r.finish_answer e))

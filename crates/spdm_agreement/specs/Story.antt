@@ -133,6 +133,11 @@ served_turn stage.Handshake r s sealed t reply =
 served_turn stage.Open r s sealed t reply = Took (responder.t2_of s) (taken_text r.psk s sealed) (reply_text t) ∷ []
 served_turn stage.Verifying r s sealed t reply = Took (responder.t2_of s) (taken_text r.psk s sealed) (reply_text t) ∷ []
 
+-- A record for no live session leaves none.
+abbrev pub record_marks : RspSetup → responder.Events → List ℕ → Turn → List ℕ → List Served
+record_marks r [] sealed t reply = []
+record_marks r (e ∷ s) sealed t reply = served_turn (responder.stage_of (e ∷ s)) r (e ∷ s) sealed t reply
+
 -- PSK_EXCHANGE is answered.
 abbrev pub began_marks : served.History → Turn → List Served
 began_marks h t = if takes 0xe6 t then Began (served_first (began_by h t)) ∷ [] else []
@@ -140,6 +145,5 @@ began_marks h t = if takes 0xe6 t then Began (served_first (began_by h t)) ∷ [
 abbrev pub served_marks : RspSetup → served.History → List Served
 served_marks r [] = []
 served_marks r (Entry.Clear tag t d ∷ older) = began_marks older t ++ served_marks r older
-served_marks r (Entry.Sealed tag sealed t reply d ∷ older) =
-    served_turn (responder.stage_of (responder.session_of (responder.id_in_record sealed) older)) r (responder.session_of (responder.id_in_record sealed) older) sealed t reply ++ served_marks r older
+served_marks r (Entry.Sealed tag sealed t reply d ∷ older) = record_marks r (responder.session_of (responder.id_in_record sealed) older) sealed t reply ++ served_marks r older
 served_marks r (_ ∷ older) = served_marks r older
