@@ -6,3 +6,4 @@ pub mod Runs
 pub mod Foreign
 pub mod Sessions
 pub mod Texts
+pub mod Pairs
