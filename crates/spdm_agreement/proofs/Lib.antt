@@ -7,3 +7,4 @@ pub mod Foreign
 pub mod Sessions
 pub mod Texts
 pub mod Pairs
+pub mod Serving
