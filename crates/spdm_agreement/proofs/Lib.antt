@@ -8,3 +8,4 @@ pub mod Sessions
 pub mod Texts
 pub mod Pairs
 pub mod Serving
+pub mod Codes
