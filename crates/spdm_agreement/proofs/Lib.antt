@@ -9,3 +9,4 @@ pub mod Texts
 pub mod Pairs
 pub mod Serving
 pub mod Codes
+pub mod Steady

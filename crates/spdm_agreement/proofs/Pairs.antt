@@ -1,5 +1,5 @@
 -- What the marks of the two ends of a pair say of their sessions.
-use Rattle.std.proofs.Common.{◌≡◌, ℕ, ◌/◌, ◌%◌, List, [], ◌∷◌, ◌++◌, Bool, true, false, Some, ◌==◌, refl, sym, ap, ap₂, ◌∙◌, subst, inl, inr, arith, eqb-true, eq-eqb, cond, ◌⊎◌}
+use Rattle.std.proofs.Common.{◌≡◌, ℕ, ◌/◌, ◌%◌, List, [], ◌∷◌, ◌++◌, Bool, true, false, Some, ◌==◌, refl, sym, ap, ◌∙◌, subst, inl, inr, arith, eqb-true, eq-eqb, cond, ◌⊎◌}
 use Rattle.key_schedule.specs.Purpose.{Purpose, is_record}
 use Rattle.requester_machine.specs.Session as requester
 use Rattle.spdm_basis.specs.SessionIdBytes.{session_id_bytes}
@@ -130,12 +130,11 @@ matched a c log stands req live =
     let s = requester.session_of req a.history in
     let r = reading_of a.setup.psk in
     let k = holds r (state_of a c log) stands.reached in
-    let mine = stands.asked req live in
-    (
+    let mine = stands.asked req live in (
       opened_there c.setup c.history (asked_first s) (requester.t2_of s) (opened_matches r _ _ _ k req (asked_first s) (requester.t2_of s) mine),
       λ other its same. (let o = requester.session_of other a.history in
-      one_id r _ _ _ k other req (asked_first o) (asked_first s) (requester.t2_of s)
-      (subst (λ (u : List ℕ). asked_open r other (asked_marks a.setup a.history) ≡ Some (asked_first o, u)) same (stands.asked other its)) mine),
+          one_id r _ _ _ k other req (asked_first o) (asked_first s) (requester.t2_of s)
+          (subst (λ (u : List ℕ). asked_open r other (asked_marks a.setup a.history) ≡ Some (asked_first o, u)) same (stands.asked other its)) mine),
     )
 
 -- ---- Numbers.

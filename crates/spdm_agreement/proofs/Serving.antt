@@ -1,18 +1,17 @@
 -- The sessions that a responder holds open are those that its marks tell.
-use Rattle.std.proofs.Common.{◌≡◌, ℕ, List, [], ◌∷◌, ◌++◌, Bool, true, false, Option, Some, None, ◌==◌, ◌&&◌, refl, sym, ap, ◌∙◌, subst, eqb-true, eq-eqb, cond, true≢false}
+use Rattle.std.proofs.Common.{◌≡◌, ℕ, List, [], ◌∷◌, ◌++◌, Bool, true, false, Some, None, ◌==◌, ◌&&◌, refl, sym, ap, ◌∙◌, subst, eqb-true, eq-eqb, cond, true≢false}
 use Rattle.spdm_grammar.specs.declared.phase.Stage.{Stage}
 use Rattle.spdm_grammar.specs.declared.phase.Stage.TheVariants as stage
 use Rattle.spdm_machine.specs.History.{History, clear_turns, negotiation_of}
 use Rattle.spdm_machine.specs.History.Entry.{Clear, Sealed, Queued, Ticked, Dropped}
-use Rattle.spdm_machine.specs.Place.{is_held}
 use Rattle.spdm_machine.specs.ResponderLog.{began_by}
-use Rattle.spdm_machine.specs.Session.{Event, Events, session_of, is_live, stage_of, is_past_handshake, after_record, after_exchange, after_clear, after_tick, id_in_record, id_in_exchange, exchange_of, exchange_answer, finish_of, finish_answer, session_vca, t2_of}
+use Rattle.spdm_machine.specs.Session.{Event, Events, session_of, is_live, stage_of, is_past_handshake, after_record, after_exchange, after_tick, id_in_record, id_in_exchange, exchange_of, exchange_answer, finish_of, finish_answer, session_vca, t2_of}
 use Rattle.spdm_machine.specs.Session.Event.{Began, Heard, Waited}
 use Rattle.spdm_machine.specs.Setup.{RspSetup}
 use Rattle.spdm_machine.specs.Turn.{Turn, takes, answer_in, request_in}
 use Rattle.spdm_agreement.specs.Marks.{Served, served_open}
 use Rattle.spdm_agreement.specs.Marks.Served.{Finished, Refused, Took}
-use Rattle.spdm_agreement.specs.Reading.{First, Reading}
+use Rattle.spdm_agreement.specs.Reading.{First}
 use Rattle.spdm_agreement.specs.Story.{served_marks, served_first, served_turn, record_marks, reply_text, taken_text}
 use Rattle.spdm_agreement.proofs.Sessions.{reading_of}
 use Rattle.transcript.specs.Transcripts as transcript
@@ -132,7 +131,7 @@ heard : (psk : List ℕ) (r : RspSetup) (id : ℕ) (s : Events) (sealed : List �
 heard psk r id [] sealed t reply m steady i = ended_by psk id [] m (takes 0xec t) (gone psk id m)
 heard psk r id (e ∷ s) sealed t reply m steady i =
     ended_by psk id (Heard sealed t reply ∷ e ∷ s) (record_marks r (e ∷ s) sealed t reply ++ m) (takes 0xec t)
-        (heard_stage psk r id (stage_of (e ∷ s)) e s sealed t reply m refl steady i)
+    (heard_stage psk r id (stage_of (e ∷ s)) e s sealed t reply m refl steady i)
 
 -- ---- All sessions.
 
@@ -140,7 +139,7 @@ sealed_by : (psk : List ℕ) (r : RspSetup) (id of : ℕ) (own s : Events) (seal
     → ServedAt psk of own m → ServedAt psk id s m → ServedAt psk id (cond b (after_record s sealed t reply) s) (record_marks r own sealed t reply ++ m)
 sealed_by psk r id of own s sealed t reply m true is same steady o i =
     subst (λ (x : Events). ServedAt psk id (after_record x sealed t reply) (record_marks r own sealed t reply ++ m)) (same (eqb-true of id is))
-        (heard psk r id own sealed t reply m steady (subst (λ (x : Events). ServedAt psk id x m) (sym (same (eqb-true of id is))) i))
+    (heard psk r id own sealed t reply m steady (subst (λ (x : Events). ServedAt psk id x m) (sym (same (eqb-true of id is))) i))
 sealed_by psk r id of own s sealed t reply m false is same steady o i = past psk id s m _ (elsewhere psk r id of own sealed t reply m is o.own) i
 
 pub served_stands : (psk : List ℕ) (r : RspSetup) (h : History) → IsSteady h → (id : ℕ) → ServedAt psk id (session_of id h) (served_marks r h)
@@ -149,7 +148,7 @@ served_stands psk r [] steady id = gone psk id []
 served_stands psk r (Clear tag t d ∷ older) steady id = cleared_by psk id (session_of id older) older t (served_marks r older) (takes 0x84 t) (takes 0xe6 t) (served_stands psk r older steady id)
 served_stands psk r (Sealed tag sealed t reply d ∷ older) steady id =
     sealed_by psk r id (id_in_record sealed) (session_of (id_in_record sealed) older) (session_of id older) sealed t reply (served_marks r older) (id_in_record sealed == id) refl
-        (λ e. ap (λ (n : ℕ). session_of n older) e) steady.0 (served_stands psk r older steady.1 (id_in_record sealed)) (served_stands psk r older steady.1 id)
+    (λ e. ap (λ (n : ℕ). session_of n older) e) steady.0 (served_stands psk r older steady.1 (id_in_record sealed)) (served_stands psk r older steady.1 id)
 served_stands psk r (Queued bytes ∷ older) steady id = served_stands psk r older steady id
 served_stands psk r (Ticked seconds ∷ older) steady id = ticked psk id (session_of id older) seconds (served_marks r older) (served_stands psk r older steady id)
 served_stands psk r (Dropped which ∷ older) steady id = dropped psk id (session_of id older) (served_marks r older) (which == id) (served_stands psk r older steady id)
