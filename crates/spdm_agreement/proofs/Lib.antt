@@ -10,3 +10,4 @@ pub mod Pairs
 pub mod Serving
 pub mod Codes
 pub mod Steady
+pub mod Example
