@@ -11,3 +11,4 @@ pub mod Serving
 pub mod Codes
 pub mod Steady
 pub mod Example
+pub mod Asking
