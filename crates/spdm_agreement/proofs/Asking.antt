@@ -1,16 +1,14 @@
 -- The sessions that a requester holds open are those that its marks tell.
-use Rattle.std.proofs.Common.{◌≡◌, ◌⊎◌, ℕ, List, [], ◌∷◌, ◌++◌, Bool, true, false, Option, Some, None, ◌==◌, ◌&&◌, ◌||◌, refl, sym, ap, ◌∙◌, subst, inl, inr, eqb-true, eq-eqb, cond, true≢false}
+use Rattle.std.proofs.Common.{◌≡◌, ℕ, List, [], ◌∷◌, ◌++◌, Bool, true, false, Option, Some, None, ◌==◌, ◌&&◌, refl, sym, ap, ◌∙◌, subst, eqb-true, eq-eqb, cond, true≢false}
 use Rattle.spdm_grammar.specs.Message.{RequestMessage}
 use Rattle.spdm_grammar.specs.Message.RequestMessage.{PskExchange}
 use Rattle.spdm_grammar.specs.Requests.{canonical_request}
 use Rattle.spdm_grammar.specs.declared.phase.Stage.{Stage}
 use Rattle.spdm_grammar.specs.declared.phase.Stage.TheVariants as stage
-use Rattle.spdm_machine.specs.Place.{is_held}
 use Rattle.spdm_machine.specs.Session.{is_past_handshake, id_in_exchange}
 use Rattle.spdm_machine.specs.Setup.{ReqSetup}
-use Rattle.requester_machine.specs.Answers.{with_answer}
 use Rattle.requester_machine.specs.History.{History, Effect, Led, outstanding, negotiation_of}
-use Rattle.requester_machine.specs.History.Effect.{NoEffect, Answers, Refuses, Stops, Grants, Loses}
+use Rattle.requester_machine.specs.History.Effect.{Answers, Refuses}
 use Rattle.requester_machine.specs.History.Entry.{Told, TookClear, TookRecord}
 use Rattle.requester_machine.specs.Message.{Ask, Aim, Command, Content, Sent, asked_in}
 use Rattle.requester_machine.specs.Message.Aim.{Plain, ByChunks, ForChunk, InSession}
@@ -19,7 +17,7 @@ use Rattle.requester_machine.specs.Message.Content.{Clear, Sealed}
 use Rattle.requester_machine.specs.RequesterLog.{steps_at}
 use Rattle.spdm_machine.specs.Keys.{Draw}
 use Rattle.requester_machine.specs.Message.Command.{Connect, Open}
-use Rattle.requester_machine.specs.Session.{Step, Steps, session_of, is_live, stage_of, exchange_of, exchange_answer, finish_of, finish_answer, session_vca, t2_of, finishes, updates, verifies, ends, answer_in, when_live, with_sent, with_aim, with_content, begun, after_command, after_clear, after_record}
+use Rattle.requester_machine.specs.Session.{Step, Steps, session_of, is_live, stage_of, exchange_of, exchange_answer, finish_of, finish_answer, session_vca, t2_of, finishes, ends, answer_in, when_live, with_sent, with_aim, with_content, begun, after_command, after_clear, after_record}
 use Rattle.requester_machine.specs.Session.Step.{Started, Accepted, Asked, Took}
 use Rattle.transcript.specs.Transcripts as transcript
 use Rattle.transcript.specs.Transcripts.{Negotiation}
@@ -208,4 +206,99 @@ accepts_by psk req id own s answer next m true is same l closed g o i =
 accepts_by psk req id own s answer next m false is same l closed g o i =
     let other : id_in_exchange (exchange_of (when_live own (Accepted answer))) ≡ req = accepted_id req own answer l o.own in
     subst (λ (x : Steps). AskedAt psk id x (marks.Asked.Accepted (asked_first (when_live own (Accepted answer))) ∷ m)) (sym (elsewhere_sent req id next s g is))
-        (past psk id s m _ (ap (λ (b : Bool). cond b None (asked_open (reading_of psk) id m)) (ap (λ (n : ℕ). n == id) other ∙ is)) i)
+    (past psk id s m _ (ap (λ (b : Bool). cond b None (asked_open (reading_of psk) id m)) (ap (λ (n : ℕ). n == id) other ∙ is)) i)
+
+refused_if : (psk : List ℕ) (id : ℕ) (s : Steps) (m : List marks.Asked) (b : Bool) → AskedAt psk id s m → AskedAt psk id (cond b [] s) m
+refused_if psk id s m true i = gone psk id m
+refused_if psk id s m false i = i
+
+-- The older history has the sessions, of which that of the id is s.
+cleared : (psk : List ℕ) (id : ℕ) (h : History) (effect : Effect) (next : Option Sent) (m : List marks.Asked) → ClearSteady h effect next → ((of : ℕ) → AskedAt psk of (session_of of h) m)
+    → AskedAt psk id (with_sent id next (after_clear id effect (session_of id h))) (clear_marks h effect ++ m)
+cleared psk id h (Answers (PskExchange exchange) answer) next m steady all =
+    accepts_by psk exchange.req_id id (session_of exchange.req_id h) (session_of id h) answer next m (exchange.req_id == id) refl (λ e. ap (λ (n : ℕ). session_of n h) e) steady.0 steady.1 steady.2 (all exchange.req_id) (all id)
+cleared psk id h (Answers _ answer) next m steady all = sent psk id next (session_of id h) m steady (all id)
+cleared psk id h (Refuses (PskExchange exchange)) next m steady all = sent psk id next _ m steady (refused_if psk id (session_of id h) m (exchange.req_id == id) (all id))
+cleared psk id h (Refuses _) next m steady all = sent psk id next (session_of id h) m steady (all id)
+cleared psk id h _ next m steady all = sent psk id next (session_of id h) m steady (all id)
+
+-- ---- In a session.
+
+-- A record in the handshake ends it only where it is PSK_FINISH_RSP, and behind it there is none.
+abbrev pub EndsByAnswer : Stage → Steps → (sealed inner : List ℕ) → Effect → Type 0
+EndsByAnswer stage.Handshake s sealed inner effect = is_past_handshake (stage_of (Took sealed inner effect ∷ s)) ≡ true → finishes effect ≡ true
+EndsByAnswer stage.Open s sealed inner effect = finishes effect ≡ false
+EndsByAnswer stage.Verifying s sealed inner effect = finishes effect ≡ false
+
+abbrev pub RecordSteady : Steps → (sealed inner : List ℕ) → Effect → Option Sent → Type 0
+RecordSteady s sealed inner effect next = (is_live s ≡ true) × EndsByAnswer (stage_of s) s sealed inner effect × NoFinish next
+
+opened_by : (psk : List ℕ) (id : ℕ) (x : Step) (s : Steps) (sealed inner : List ℕ) (effect : Effect) (m : List marks.Asked) (b : Bool) → id_in_exchange (exchange_of (x ∷ s)) ≡ id → (is_past_handshake (stage_of (Took sealed inner effect ∷ x ∷ s)) ≡ true → b ≡ true)
+    → AskedAt psk id (Took sealed inner effect ∷ x ∷ s) (cond b (marks.Asked.Opened (asked_first (x ∷ s)) (t2_of (Took sealed inner effect ∷ x ∷ s)) ∷ []) [] ++ m)
+opened_by psk id x s sealed inner effect m true own only = record {
+  own = λ l. own;
+  told = λ l. ap (λ (b : Bool). cond b (Some (asked_first (x ∷ s), t2_of (Took sealed inner effect ∷ x ∷ s))) (asked_open (reading_of psk) id m)) (eq-eqb _ _ own);
+}
+opened_by psk id x s sealed inner effect m false own only = record { own = λ l. own; told = λ l. absurd (true≢false (sym (only l))) }
+
+same_second : (s : Steps) (sealed inner : List ℕ) (effect : Effect) → finishes effect ≡ false → t2_of s ≡ t2_of (Took sealed inner effect ∷ s)
+same_second s sealed inner effect other =
+    sym (ap (λ (b : Bool). transcript.t2_of (session_vca s) (exchange_of s) (exchange_answer s) (finish_of s) (cond b (answer_in effect) (finish_answer s))) other)
+
+replied_by : (psk : List ℕ) (id : ℕ) (x : Step) (s : Steps) (sealed inner : List ℕ) (effect : Effect) (m m' : List marks.Asked) → is_past_handshake (stage_of (x ∷ s)) ≡ true → finishes effect ≡ false
+    → asked_open (reading_of psk) id m' ≡ asked_open (reading_of psk) id m → AskedAt psk id (x ∷ s) m → AskedAt psk id (Took sealed inner effect ∷ x ∷ s) m'
+replied_by psk id x s sealed inner effect m m' past_it other same i = record {
+  own = λ l. i.own refl;
+  told = λ l. same ∙ i.told past_it ∙ ap (λ (u : List ℕ). Some (asked_first (x ∷ s), u)) (same_second (x ∷ s) sealed inner effect other);
+}
+
+took_stage : (psk : List ℕ) (q : ReqSetup) (id : ℕ) (g : Stage) (x : Step) (s : Steps) (waiting : Option Sent) (sealed inner : List ℕ) (led : Led) (m : List marks.Asked) → stage_of (x ∷ s) ≡ g → EndsByAnswer g (x ∷ s) sealed inner led.effect
+    → AskedAt psk id (x ∷ s) m → AskedAt psk id (Took sealed inner led.effect ∷ x ∷ s) (taken_marks g q (x ∷ s) waiting sealed inner led ++ m)
+took_stage psk q id stage.Handshake x s waiting sealed inner led m is steady i = opened_by psk id x s sealed inner led.effect m (finishes led.effect) (i.own refl) steady
+took_stage psk q id stage.Open x s waiting sealed inner led m is steady i =
+    replied_by psk id x s sealed inner led.effect m _ (ap is_past_handshake is) steady (next_past psk id (Took sealed inner led.effect ∷ x ∷ s) led.next (marks.Asked.Heard (t2_of (x ∷ s)) (request_text waiting) (answer_text q.psk (x ∷ s) (ask_in waiting) sealed)) m refl) i
+took_stage psk q id stage.Verifying x s waiting sealed inner led m is steady i =
+    replied_by psk id x s sealed inner led.effect m _ (ap is_past_handshake is) steady (next_past psk id (Took sealed inner led.effect ∷ x ∷ s) led.next (marks.Asked.Heard (t2_of (x ∷ s)) (request_text waiting) (answer_text q.psk (x ∷ s) (ask_in waiting) sealed)) m refl) i
+
+took : (psk : List ℕ) (q : ReqSetup) (id : ℕ) (s : Steps) (waiting : Option Sent) (sealed inner : List ℕ) (led : Led) (m : List marks.Asked) → RecordSteady s sealed inner led.effect led.next
+    → AskedAt psk id s m → AskedAt psk id (with_sent id led.next (after_record sealed inner led.effect s)) (taken_marks (stage_of s) q s waiting sealed inner led ++ m)
+took psk q id [] waiting sealed inner led m steady i = absurd (true≢false (sym steady.0))
+took psk q id (x ∷ s) waiting sealed inner led m steady i =
+    sent psk id led.next _ _ steady.2
+    (refused_if psk id (Took sealed inner led.effect ∷ x ∷ s) _ (ends led.effect) (took_stage psk q id (stage_of (x ∷ s)) x s waiting sealed inner led m refl steady.1 i))
+
+-- Marks of the session of another id.
+opened_past : (psk : List ℕ) (id : ℕ) (x : First) (u : List ℕ) (m : List marks.Asked) (b : Bool) → (id_in_exchange x.exchange == id) ≡ false → asked_open (reading_of psk) id (cond b (marks.Asked.Opened x u ∷ []) [] ++ m) ≡ asked_open (reading_of psk) id m
+opened_past psk id x u m true other = ap (λ (b : Bool). cond b (Some (x, u)) (asked_open (reading_of psk) id m)) other
+opened_past psk id x u m false other = refl
+
+taken_past : (psk : List ℕ) (q : ReqSetup) (id : ℕ) (g : Stage) (s : Steps) (waiting : Option Sent) (sealed inner : List ℕ) (led : Led) (m : List marks.Asked) → (id_in_exchange (exchange_of s) == id) ≡ false
+    → asked_open (reading_of psk) id (taken_marks g q s waiting sealed inner led ++ m) ≡ asked_open (reading_of psk) id m
+taken_past psk q id stage.Handshake s waiting sealed inner led m other = opened_past psk id (asked_first s) (t2_of (Took sealed inner led.effect ∷ s)) m (finishes led.effect) other
+taken_past psk q id stage.Open s waiting sealed inner led m other = next_past psk id (Took sealed inner led.effect ∷ s) led.next (marks.Asked.Heard (t2_of s) (request_text waiting) (answer_text q.psk s (ask_in waiting) sealed)) m refl
+taken_past psk q id stage.Verifying s waiting sealed inner led m other = next_past psk id (Took sealed inner led.effect ∷ s) led.next (marks.Asked.Heard (t2_of s) (request_text waiting) (answer_text q.psk s (ask_in waiting) sealed)) m refl
+
+recorded : (psk : List ℕ) (q : ReqSetup) (of id : ℕ) (own s : Steps) (waiting : Option Sent) (sealed inner : List ℕ) (led : Led) (m : List marks.Asked) (b : Bool) → (of == id) ≡ b → (of ≡ id → own ≡ s) → RecordSteady own sealed inner led.effect led.next
+    → AskedAt psk of own m → AskedAt psk id s m → AskedAt psk id (cond b (with_sent id led.next (after_record sealed inner led.effect s)) s) (taken_marks (stage_of own) q own waiting sealed inner led ++ m)
+recorded psk q of id own s waiting sealed inner led m true is same steady o i =
+    let e : own ≡ s = same (eqb-true of id is) in
+    subst (λ (x : Steps). AskedAt psk id (with_sent id led.next (after_record sealed inner led.effect x)) (taken_marks (stage_of own) q own waiting sealed inner led ++ m)) e
+    (took psk q id own waiting sealed inner led m steady (subst (λ (x : Steps). AskedAt psk id x m) (sym e) i))
+recorded psk q of id own s waiting sealed inner led m false is same steady o i =
+    past psk id s m _ (taken_past psk q id (stage_of own) own waiting sealed inner led m (ap (λ (n : ℕ). n == id) (o.own steady.0) ∙ is)) i
+
+-- ---- All sessions.
+
+abbrev pub IsSteady : History → Type 0
+IsSteady [] = Unit {0}
+IsSteady (Told command x d ∷ older) = CommandSteady command x × IsSteady older
+IsSteady (TookClear tag m led d ∷ older) = ClearSteady older led.effect led.next × IsSteady older
+IsSteady (TookRecord tag of sealed inner led d ∷ older) = RecordSteady (session_of of older) sealed inner led.effect led.next × IsSteady older
+
+pub asked_stands : (psk : List ℕ) (q : ReqSetup) (h : History) → IsSteady h → (id : ℕ) → AskedAt psk id (session_of id h) (asked_marks q h)
+unfolding session_of
+asked_stands psk q [] steady id = gone psk id []
+asked_stands psk q (Told command x d ∷ older) steady id = commanded psk id (negotiation_of older) older command x d (session_of id older) (asked_marks q older) steady.0 (asked_stands psk q older steady.1 id)
+asked_stands psk q (TookClear tag m led d ∷ older) steady id = cleared psk id older led.effect led.next (asked_marks q older) steady.0 (λ of. asked_stands psk q older steady.1 of)
+asked_stands psk q (TookRecord tag of sealed inner led d ∷ older) steady id =
+    recorded psk q of id (session_of of older) (session_of id older) (outstanding older) sealed inner led (asked_marks q older) (of == id) refl (λ e. ap (λ (n : ℕ). session_of n older) e) steady.0 (asked_stands psk q older steady.1 of) (asked_stands psk q older steady.1 id)
