@@ -1,0 +1,14 @@
+pub mod Earlier
+pub mod Invariant
+pub mod Steps
+pub mod Keeps
+pub mod Runs
+pub mod Foreign
+pub mod Sessions
+pub mod Texts
+pub mod Pairs
+pub mod Serving
+pub mod Codes
+pub mod Steady
+pub mod Example
+pub mod Asking

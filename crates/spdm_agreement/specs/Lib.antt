@@ -1,0 +1,5 @@
+pub mod Reading
+pub mod Marks
+pub mod Moves
+pub mod Claims
+pub mod Story
