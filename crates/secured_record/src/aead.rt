@@ -14,7 +14,7 @@ pub enum RecordCipher {
 }
 
 impl RecordCipher {
-    ghost use Rattle.std.specs.Prelude.{◌≡◌, ◌≤◌, ◌+◌, ◌*◌, ◌↔◌, IsOk, is_ok, length};
+    ghost use Rattle.std.specs.Prelude.{◌≡◌, ◌≤◌, ◌+◌, ◌*◌, ◌↔◌, IsOk, IfErr, is_ok, length};
     ghost use Rattle.spdm_basis.specs.Sizes.{key_size};
     ghost use Rattle.aes_gcm.specs.Gcm.{crypt, tag_of};
     ghost use Rattle.aes_gcm.specs.Behind.{crypt_behind};
@@ -63,7 +63,8 @@ impl RecordCipher {
     ) -> Result<(), BadTag>
         requires aad { length aad.now ≤ 65535 }
         requires text { length text.now ≤ 65535 }
-        ensures { IsOk result ↔ (tag.now ≡ tag_of (cipher_key self.now) iv.now aad.now text.now) }
+        ensures opens { IsOk result ↔ (tag.now ≡ tag_of (cipher_key self.now) iv.now aad.now text.now) }
+        ensures computed { IfErr result (λ e. e.computed ≡ tag_of (cipher_key self.now) iv.now aad.now text.now) }
     {
         match self {
             RecordCipher::Short(cipher) => cipher.verify(iv, aad, text, tag),
@@ -81,7 +82,8 @@ impl RecordCipher {
     ) -> Result<(), BadTag>
         requires aad { length aad.now ≤ 65535 }
         requires text { length text.now ≤ 65535 }
-        ensures { is_ok result ≡ same_bytes tag.now (tag_of (cipher_key self.now) iv.now aad.now text.now) }
+        ensures opens { is_ok result ≡ same_bytes tag.now (tag_of (cipher_key self.now) iv.now aad.now text.now) }
+        ensures computed { IfErr result (λ e. e.computed ≡ tag_of (cipher_key self.now) iv.now aad.now text.now) }
     {
         self.verify_tag(iv, aad, text, tag)
     }

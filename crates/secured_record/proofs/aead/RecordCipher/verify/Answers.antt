@@ -4,5 +4,7 @@ use Rattle.secured_record.proofs.Same.{decided}
 use Rattle.secured_record.proofs.aead.RecordCipher.verify.Goals as goal
 
 pub returns : goal.returns
-returns c =
-    decided c.verify_tag.result c.args.tag.now (tag_of (cipher_key c.args.self.now) c.args.iv.now c.args.aad.now c.args.text.now) c.verify_tag.ensures
+returns c = record {
+  opens = decided c.verify_tag.result c.args.tag.now (tag_of (cipher_key c.args.self.now) c.args.iv.now c.args.aad.now c.args.text.now) c.verify_tag.ensures.opens;
+  computed = c.verify_tag.ensures.computed;
+}
