@@ -95,6 +95,7 @@ algorithms_led effect (Some choice) = is_done finished.Connected effect
 abbrev pub measured_number : (op : ℕ) → MeasuredMessage → ℕ
 measured_number op measured = if op == 0 then measured.total else measured.blocks
 
+-- MEASUREMENTS: the command is done, and the number of measurements is told.
 abbrev pub measured_led : (op : ℕ) → MeasuredMessage → Effect → Led
 measured_led op measured effect = is_done (finished.Measured (measured_number op measured)) effect
 

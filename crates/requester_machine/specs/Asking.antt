@@ -1,4 +1,4 @@
--- What a requester does with a command.
+-- What a requester does with a command. This project's own.
 use Rattle.std.specs.Prelude.{ℕ, List, Bool, Option, Some, None}
 use Rattle.spdm_grammar.specs.Message.RequestMessage.{GetVersion, GetMeasurements, Heartbeat, EndSession}
 use Rattle.spdm_grammar.specs.declared.command_fault.CommandFault.{CommandFault}
@@ -45,6 +45,7 @@ done q h (Measure (Some id) op) f d = Adds (Told (Measure (Some id) op) (asked_s
 done q h (End id) f d = Adds (Told (End id) (asked_sent q h f id AskEnd (inner_request EndSession)) d)
 done q h Retry f d = resent (outstanding h)
 
+-- A command with a fault fails; one without a fault is done.
 abbrev pub asks_by : ReqSetup → History → Command → Free → Draw → Option CommandFault → Outcome
 asks_by q h command f d (Some fault) = Fails fault
 asks_by q h command f d None = done q h command f d

@@ -23,6 +23,7 @@ error_in message = error_code (response_value message)
 abbrev pub is_clear : List ℕ → Bool
 is_clear body = slice_index body 0 == 5
 
+-- The type of the body is that of a record.
 abbrev pub is_record : List ℕ → Bool
 is_record body = slice_index body 0 == 6
 
@@ -38,10 +39,12 @@ is_out_of_place (ByChunks asked handle number) body = is_record body
 is_out_of_place (ForChunk asked handle number before) body = is_record body
 is_out_of_place (InSession id ask) body = is_clear body && is_none (error_in (drop 1 body))
 
+-- A body is out of place for the outstanding message; none is where nothing is outstanding.
 abbrev pub is_misplaced : Option Sent → List ℕ → Bool
 is_misplaced None body = false
 is_misplaced (Some sent) body = is_out_of_place sent.aim body
 
+-- The cause of the first test that holds.
 abbrev pub first_cause : List (Bool × ReqIgnored) → Option ReqIgnored
 first_cause [] = None
 first_cause (t ∷ ts) = if t.0 then Some t.1 else first_cause ts
@@ -58,5 +61,6 @@ tests_of_body q waiting owner tag body =
     ∷ (is_clear body && nat_lt q.transfer (length (drop 1 body)), ignored.TooLong)
     ∷ []
 
+-- The cause for which a body is ignored before its message is read, or none.
 unfoldable pub body_fault : ReqSetup → Option Sent → (owner : Bool) → ℕ → List ℕ → Option ReqIgnored
 body_fault q waiting owner tag body = first_cause (tests_of_body q waiting owner tag body)

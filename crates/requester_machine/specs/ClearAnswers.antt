@@ -64,6 +64,8 @@ acknowledged h common asked piece early response None =
     else (if piece.last then Whole response 6
     else Further (piece_sent common h asked piece.handle (piece.number + 1)))
 
+-- A message that answers a chunk: one that does not read is malformed at its first fault; an ERROR refuses
+-- the request; CHUNK_SEND_ACK is tested; any other is malformed at its code, byte 1.
 abbrev pub ack_carries : History → Common → RequestMessage → ChunkMessage → Result ResponseMessage Malformed → Carried
 ack_carries h common asked piece (Err fault) = Ignored (ignored.Malformed fault.at)
 ack_carries h common asked piece (Ok (Error version code detail extended)) = Refused code
@@ -88,6 +90,8 @@ collected h asked before c None =
     if c.last then Whole (joined_with before c) 0
     else Further (get_sent h asked c.handle (c.number + 1) (c ∷ before))
 
+-- A message that answers CHUNK_GET: one that does not read is malformed at its first fault; an ERROR refuses
+-- the request; the chunk of CHUNK_RESPONSE is collected; any other is malformed at its code, byte 1.
 abbrev pub chunk_carries : ReqSetup → History → RequestMessage → (handle number : ℕ) → List ChunkMessage → Result ResponseMessage Malformed → Carried
 chunk_carries q h asked handle number before (Err fault) = Ignored (ignored.Malformed fault.at)
 chunk_carries q h asked handle number before (Ok (Error version code detail extended)) = Refused code
@@ -104,10 +108,14 @@ carried_by q h m (ByChunks asked handle number) =
 carried_by q h m (ForChunk asked handle number before) = chunk_carries q h asked handle number before (reading_of h asked m)
 carried_by q h m (InSession id ask) = Ignored ignored.WrongPlace
 
+-- A whole answer that does not read is malformed at its first fault, to which the place is added where the
+-- answer begins.
 abbrev pub read_led : ReqSetup → History → Free → (place : ℕ) → RequestMessage → List ℕ → Result ResponseMessage Malformed → Result Led ReqIgnored
 read_led q h f place asked answer (Err fault) = Err (ignored.Malformed (place + fault.at))
 read_led q h f place asked answer (Ok value) = answer_led q h f place asked answer value
 
+-- What a message leads to by what it is: it is ignored; the request is refused; the next message is sent; or
+-- the whole answer is read.
 abbrev pub carried_led : ReqSetup → History → Free → RequestMessage → Carried → Result Led ReqIgnored
 carried_led q h f asked (Ignored cause) = Err cause
 carried_led q h f asked (Refused code) = Ok (is_refused code (Refuses asked))

@@ -28,6 +28,7 @@ pub record Free : Type 0 where
 
 -- ---- What a command is.
 
+-- The command is Retry.
 abbrev pub is_retry : Command → Bool
 is_retry Retry = true
 is_retry _ = false
@@ -51,6 +52,7 @@ session_in Retry = None
 
 -- ---- What is tested.
 
+-- The phase is Negotiated: there is a connection.
 abbrev pub is_negotiated : Phase → Bool
 is_negotiated Fresh = false
 is_negotiated Versioned = false
@@ -103,6 +105,7 @@ is_spent s (Update id all) = not all && (has_reached 65535 s || nat_le 65534 (re
 is_spent s (Measure id op) = has_reached 65300 s
 is_spent s _ = false
 
+-- A key of the named session has sealed too many records for the command; where none is named, none has.
 abbrev pub is_spent_at : History → Option ℕ → Command → Bool
 is_spent_at h None command = false
 is_spent_at h (Some id) command = is_spent (session_of id h) command
@@ -119,6 +122,7 @@ is_long q h f _ = false
 
 -- ---- The tests.
 
+-- The fault of the first test that holds.
 abbrev pub first_of_tests : List (Bool × CommandFault) → Option CommandFault
 first_of_tests [] = None
 first_of_tests (t ∷ ts) = if t.0 then Some t.1 else first_of_tests ts

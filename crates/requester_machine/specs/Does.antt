@@ -1,4 +1,5 @@
--- What this project's requester does: the one outcome at the values that it chooses.
+-- What this project's requester does: the one outcome at the values that it chooses. The choices are this
+-- project's own.
 use Rattle.std.specs.Prelude.{⊤, ◌≡◌, not, ℕ, List, [], ◌∷◌, take, if◌then◌else◌, Bool, false}
 use Rattle.spdm_machine.specs.Keys.{Draw, context_of}
 use Rattle.spdm_machine.specs.Responder.{clear_body, record_body}
@@ -29,6 +30,7 @@ chosen q h d pad = record { id = free_id h; context = context_of (connection_ter
 abbrev pub command_chosen : ReqSetup → History → Draw → Free
 command_chosen q h d = chosen q h d (take q.pad d.bytes)
 
+-- What is sent upon a whole body has no padding.
 abbrev pub body_chosen : ReqSetup → History → Draw → Free
 body_chosen q h d = chosen q h d []
 

@@ -1,4 +1,4 @@
--- What a requester does with a whole message body.
+-- What a requester does with a whole message body. This project's own.
 use Rattle.std.specs.Prelude.{ℕ, List, drop, if◌then◌else◌, Bool, Option, Some, None, unwrap_or, Result, Ok, Err}
 use Rattle.spdm_basis.specs.declared.record_fault.RecordFault.{RecordFault}
 use Rattle.spdm_grammar.specs.declared.event.ReqIgnored.{ReqIgnored}
@@ -20,6 +20,7 @@ use Rattle.requester_machine.specs.Session.{session_of}
 
 -- ---- In the clear.
 
+-- A clear message is ignored where there is a cause; else it is an entry.
 abbrev pub clear_outcome : ℕ → List ℕ → Draw → Result Led ReqIgnored → Outcome
 clear_outcome tag m d (Err cause) = Ignores cause
 clear_outcome tag m d (Ok led) = Adds (TookClear tag m led d)
@@ -30,9 +31,11 @@ clear_outcome tag m d (Ok led) = Adds (TookClear tag m led d)
 abbrev pub came_to : ReqSetup → History → ℕ → Ask → List ℕ → Came
 came_to q h id ask sealed = record { id = id; steps = session_of id h; sealed = sealed; inner = answer_inner q.psk (session_of id h) ask sealed }
 
+-- A record that opened is an entry, with what its inner message leads to or with the loss of its session.
 abbrev pub took : ReqSetup → History → Free → ℕ → Ask → Came → Draw → Outcome
 took q h f tag ask came d = Adds (TookRecord tag came.id came.sealed came.inner (or_lost came (inner_led q h f came ask)) d)
 
+-- A record with a fault is ignored; one that opens is taken.
 abbrev pub record_outcome : ReqSetup → History → Free → ℕ → Ask → Came → Draw → Option RecordFault → Outcome
 record_outcome q h f tag ask came d (Some fault) = Ignores (ignored.Record fault)
 record_outcome q h f tag ask came d None = took q h f tag ask came d
@@ -49,12 +52,14 @@ in_session q h f tag id ask body d =
     if is_clear body then Warns (unwrap_or (error_in (drop 1 body)) 0)
     else on_record q h f tag id ask (drop 1 body) d
 
+-- A body by what the outstanding message asks for: it answers a request in the clear, or goes to the session.
 abbrev pub hears_to : ReqSetup → History → Free → ℕ → List ℕ → Draw → Aim → Outcome
 hears_to q h f tag body d (Plain asked) = clear_outcome tag (drop 1 body) d (clear_led q h f (Plain asked) asked (drop 1 body))
 hears_to q h f tag body d (ByChunks asked handle number) = clear_outcome tag (drop 1 body) d (clear_led q h f (ByChunks asked handle number) asked (drop 1 body))
 hears_to q h f tag body d (ForChunk asked handle number before) = clear_outcome tag (drop 1 body) d (clear_led q h f (ForChunk asked handle number before) asked (drop 1 body))
 hears_to q h f tag body d (InSession id ask) = in_session q h f tag id ask body d
 
+-- A body is ignored where there is a cause, or where nothing is outstanding; else it is heard.
 abbrev pub hears_by : ReqSetup → History → Free → ℕ → List ℕ → Draw → Option Sent → Option ReqIgnored → Outcome
 hears_by q h f tag body d waiting (Some cause) = Ignores cause
 hears_by q h f tag body d None None = Ignores ignored.NothingOutstanding

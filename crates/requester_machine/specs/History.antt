@@ -75,6 +75,7 @@ begins_large (ByChunks asked handle number) = number == 0
 begins_large (ForChunk asked handle number before) = false
 begins_large (InSession id ask) = false
 
+-- A message was sent, and it begins a large request.
 abbrev pub is_first_chunk : Option Sent → Bool
 is_first_chunk None = false
 is_first_chunk (Some sent) = begins_large sent.aim
@@ -90,6 +91,7 @@ next_handle h = larges_of h % 256
 
 -- ---- The negotiation.
 
+-- The command is Connect.
 abbrev pub is_connect : Command → Bool
 is_connect Connect = true
 is_connect _ = false
@@ -114,6 +116,7 @@ phase_after Stops phase = Fresh
 phase_after (Grants ask answer) phase = phase
 phase_after Loses phase = phase
 
+-- The phase of the connection: Connect begins anew, each clear message taken counts, and no record does.
 abbrev pub phase_of : History → Phase
 phase_of [] = Fresh
 phase_of (Told command sent d ∷ older) = if is_connect command then Fresh else phase_of older
@@ -127,6 +130,7 @@ negotiation_after (Answers (GetCapabilities caps) answer) n = record n { get_cap
 negotiation_after (Answers (NegotiateAlgorithms offer) answer) n = record n { negotiate_algorithms = canonical_request (NegotiateAlgorithms offer); algorithms = answer }
 negotiation_after _ n = n
 
+-- The negotiation as it stands: Connect begins anew, each clear message taken counts, and no record does.
 abbrev pub negotiation_of : History → Negotiation
 negotiation_of [] = no_negotiation
 negotiation_of (Told command sent d ∷ older) = if is_connect command then no_negotiation else negotiation_of older
@@ -151,6 +155,7 @@ asks_session (Measure (Some id) op) = true
 asks_session (End id) = true
 asks_session Retry = false
 
+-- The command is Open.
 abbrev pub is_open : Command → Bool
 is_open (Open summary) = true
 is_open _ = false

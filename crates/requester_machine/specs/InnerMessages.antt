@@ -42,6 +42,7 @@ message_in came = drop 1 came.inner
 
 -- ---- Faults of the inner message.
 
+-- The fault of the first test that holds.
 abbrev pub first_of_tests : List (Bool × BadReply) → Option BadReply
 first_of_tests [] = None
 first_of_tests (t ∷ ts) = if t.0 then Some t.1 else first_of_tests ts
@@ -81,12 +82,13 @@ abbrev pub follows : Came → Ask → (code : ℕ) → Bool
 follows came (AskMeasure op) code = code == 0x0f && (session_terms came.steps).common.chunk
 follows came _ code = false
 
+-- The operation of the GET_MEASUREMENTS that is asked, also by chunks; 0 for all else.
 abbrev pub op_in : Ask → ℕ
 op_in (AskMeasure op) = op
 op_in (AskChunk op handle number before) = op
 op_in _ = 0
 
--- Any other ERROR refuses what was asked, or loses the session.
+-- An ERROR that is not followed so refuses what was asked, or loses the session.
 abbrev pub error_led : ReqSetup → History → Free → Came → Ask → (code : ℕ) → (extended : List ℕ) → Result Led BadReply
 error_led q h f came ask code extended =
     if follows came ask code then Ok (first_get q h f came (op_in ask) extended)
@@ -105,6 +107,7 @@ update_led q h f came all echo =
     if echo then Ok (goes_on (Grants (AskUpdate all) (message_in came)) (verify_sent q h came.id (with_record came (Grants (AskUpdate all) (message_in came))) f.pad))
     else Err bad.WrongKind
 
+-- With the answer to VerifyNewKey the command is done; one that does not tell what was sent is of the wrong kind.
 abbrev pub verified_led : Came → (echo : Bool) → Result Led BadReply
 verified_led came echo =
     if echo then Ok (is_done (finished.Updated (session_id came.steps)) (Grants AskVerify (message_in came)))
@@ -121,6 +124,8 @@ whole_led q h f came op whole (Ok (Error version code detail extended)) =
 whole_led q h f came op whole (Ok (Measurements measured)) = Ok (measured_led op measured (Grants (AskMeasure op) whole))
 whole_led q h f came op whole (Ok _) = Err bad.WrongKind
 
+-- The last chunk completes the large answer, and any other calls for the next one. One that breaks a rule is
+-- no answer.
 abbrev pub chunk_led : ReqSetup → History → Free → Came → (op : ℕ) → List ChunkMessage → ChunkMessage → Option ChunkFault → Result Led BadReply
 chunk_led q h f came op before c (Some fault) = Err (bad.Chunk fault)
 chunk_led q h f came op before c None =
@@ -141,6 +146,7 @@ message_led q h f came AskEnd EndSessionAck = Ok (is_done (finished.Ended (sessi
 message_led q h f came (AskChunk op handle number before) (ChunkResponse c) = chunk_led q h f came op before c (get_fault q.max handle number before c)
 message_led q h f came ask value = Err bad.WrongKind
 
+-- An SPDM message that does not read is malformed at its first fault; one that reads is judged by what it is.
 abbrev pub read_led : ReqSetup → History → Free → Came → Ask → Result ResponseMessage Malformed → Result Led BadReply
 read_led q h f came ask (Err fault) = Err (bad.Malformed fault.at)
 read_led q h f came ask (Ok value) = message_led q h f came ask value
@@ -150,6 +156,8 @@ abbrev pub data_led : Came → Ask → Result Led BadReply
 data_led came AskData = Ok (is_done (finished.Answered (session_id came.steps)) (Grants AskData (message_in came)))
 data_led came _ = Err bad.WrongKind
 
+-- An inner message with a fault is no answer; else type 5 is read as an SPDM message, and type 1 is
+-- application data.
 abbrev pub inner_led_by : ReqSetup → History → Free → Came → Ask → Option BadReply → Result Led BadReply
 inner_led_by q h f came ask (Some fault) = Err fault
 inner_led_by q h f came ask None =

@@ -1,4 +1,4 @@
--- What is said of what a requester does and of its histories.
+-- What is said of what a requester does and of its histories. This project's own.
 use Rattle.std.specs.Prelude.{⊤, ◌≡◌, ◌≤◌, ◌+◌, ◌==◌, ◌&&◌, ℕ, List, [], ◌∷◌, drop, length, if◌then◌else◌, Bool, true, false, Some, bytes_eq}
 use Rattle.key_schedule.specs.Purpose.{Purpose, Kind}
 use Rattle.key_schedule.specs.Purpose.Kind.{Verify, HandshakeRecord, ApplicationRecord}
@@ -32,11 +32,13 @@ use Rattle.requester_machine.specs.Shown.{after}
 
 -- ---- What the requester does, it may.
 
+-- What a requester within its limits does with a command is what any requester may do with it.
 abbrev pub CommandIsAllowed : Type 0
 CommandIsAllowed = (worn : Bool) (q : ReqSetup) (h : History) (command : Command) (d : Draw)
     → IsSetUp q → length d.bytes ≡ 32
     → MayAsk worn q h command d (requester_asks worn q h command d)
 
+-- What it does with a whole body is what any requester may do with it.
 abbrev pub BodyIsAllowed : Type 0
 BodyIsAllowed = (q : ReqSetup) (h : History) (owner : Bool) (tag : ℕ) (body : List ℕ) (d : Draw)
     → IsSetUp q → length d.bytes ≡ 32
@@ -44,14 +46,17 @@ BodyIsAllowed = (q : ReqSetup) (h : History) (owner : Bool) (tag : ℕ) (body : 
 
 -- ---- What adds nothing to the history, whatever is free.
 
+-- Retry adds nothing.
 abbrev pub RetryAddsNothing : Type 0
 RetryAddsNothing = (worn : Bool) (q : ReqSetup) (h : History) (f : Free) (d : Draw) → after h (asks worn q h Retry f d) ≡ h
 
+-- A command with a fault adds nothing.
 abbrev pub FaultAddsNothing : Type 0
 FaultAddsNothing = (worn : Bool) (q : ReqSetup) (h : History) (command : Command) (f : Free) (d : Draw) (fault : CommandFault)
     → command_fault worn q h command f ≡ Some fault
     → after h (asks worn q h command f d) ≡ h
 
+-- A body that is ignored adds nothing.
 abbrev pub IgnoredAddsNothing : Type 0
 IgnoredAddsNothing = (q : ReqSetup) (h : History) (owner : Bool) (tag : ℕ) (body : List ℕ) (f : Free) (d : Draw) (cause : ReqIgnored)
     → hears q h owner tag body f d ≡ Ignores cause
@@ -92,6 +97,7 @@ SessionsAreInOrder = (q : ReqSetup) (h : History) (id : ℕ) → IsMade q h → 
 
 -- ---- Numbers.
 
+-- Two kinds are one: verify data, records of the handshake, or records after it.
 abbrev pub is_same_kind : Kind → Kind → Bool
 is_same_kind Verify Verify = true
 is_same_kind HandshakeRecord HandshakeRecord = true
@@ -127,6 +133,7 @@ abbrev pub IsRight : Act → Type 0
 IsRight (Made purpose input value) = ⊤
 IsRight (Checked purpose input value received) = value ≡ received
 
+-- All tags that were compared are right.
 abbrev pub AreRight : List Act → Type 0
 AreRight [] = ⊤
 AreRight (act ∷ acts) = IsRight act × AreRight acts

@@ -28,9 +28,10 @@ pub record IsAllowed (q : ReqSetup) (h : History) (f : Free) : Type 0 where
   pub exchange : 12 + length q.hint + length f.context + length f.opaque ≤ 4096
   pub pad : length f.pad ≤ 16
 
--- The outcome of a command, and of a whole body, under some allowed values. The command is free.
+-- The outcome of a command, under some allowed values. The command is free.
 abbrev pub MayAsk : (worn : Bool) → ReqSetup → History → Command → Draw → Outcome → Type 0
 MayAsk worn q h command d outcome = (f : Free) × IsAllowed q h f × (asks worn q h command f d ≡ outcome)
 
+-- The outcome of a whole body, under some allowed values.
 abbrev pub MayHear : ReqSetup → History → (owner : Bool) → ℕ → List ℕ → Draw → Outcome → Type 0
 MayHear q h owner tag body d outcome = (f : Free) × IsAllowed q h f × (hears q h owner tag body f d ≡ outcome)

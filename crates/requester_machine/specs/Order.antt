@@ -1,4 +1,4 @@
--- In which order the steps of a session come, and how they go with the outstanding request.
+-- In which order the steps of a session come, and how they go with the outstanding request. This project's own.
 use Rattle.std.specs.Prelude.{⊤, ◌≡◌, ◌==◌, not, ℕ, [], ◌∷◌, if◌then◌else◌, Bool, true, false, Option, Some, None}
 use Rattle.spdm_grammar.specs.Message.{RequestMessage}
 use Rattle.spdm_grammar.specs.Message.RequestMessage.{PskExchange}
@@ -31,6 +31,7 @@ stage_for AskFinish = stage.Handshake
 stage_for AskVerify = stage.Verifying
 stage_for _ = stage.Open
 
+-- Both hold, or neither does.
 abbrev pub is_same : Bool → Bool → Bool
 is_same true b = b
 is_same false b = not b
@@ -48,6 +49,7 @@ may_bring (Grants (AskMeasure op) answer) (AskMeasure asked) = op == asked
 may_bring (Grants (AskMeasure op) answer) (AskChunk asked handle number before) = op == asked
 may_bring _ _ = false
 
+-- A record may bring this about in answer to what is asked; where nothing is asked, no record may come.
 abbrev pub is_answer : Effect → Option Ask → Bool
 is_answer effect None = false
 is_answer effect (Some ask) = may_bring effect ask
@@ -68,18 +70,21 @@ pub data Waits : Type 0 where
   ForExchange : Waits
   ForRecord : (ask : Ask) → Waits
 
--- What the session with this ReqSessionID waits for by a request in the clear, by an aim, and by the outstanding
--- message.
+-- What the session with this ReqSessionID waits for by a request in the clear: by its own PSK_EXCHANGE for
+-- the answer to that, by any other for nothing.
 abbrev pub waits_asked : ℕ → RequestMessage → Waits
 waits_asked id (PskExchange exchange) = if exchange.req_id == id then ForExchange else Rests
 waits_asked id _ = Rests
 
+-- What it waits for by what a message asks for: in the clear as said, and in a record of its own the answer
+-- to that.
 abbrev pub waits_aim : ℕ → Aim → Waits
 waits_aim id (Plain asked) = waits_asked id asked
 waits_aim id (ByChunks asked handle number) = waits_asked id asked
 waits_aim id (ForChunk asked handle number before) = waits_asked id asked
 waits_aim id (InSession of ask) = if of == id then ForRecord ask else Rests
 
+-- What it waits for by the outstanding message; where there is none, nothing.
 abbrev pub waits_for : ℕ → Option Sent → Waits
 waits_for id None = Rests
 waits_for id (Some sent) = waits_aim id sent.aim
@@ -90,6 +95,7 @@ WaitsAs Rests s = (stage_of s ≡ stage.Open) × (is_accepted s ≡ true) × (wa
 WaitsAs ForExchange s = is_opening s ≡ true
 WaitsAs (ForRecord ask) s = waiting_ask s ≡ Some ask
 
+-- A session, where there is one, waits so.
 abbrev pub FitsWaits : Waits → Steps → Type 0
 FitsWaits waits [] = ⊤
 FitsWaits waits (step ∷ older) = WaitsAs waits (step ∷ older)

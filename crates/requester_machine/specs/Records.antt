@@ -10,9 +10,11 @@ use Rattle.requester_machine.specs.Message.{Ask}
 use Rattle.requester_machine.specs.Message.Ask.{AskUpdate}
 use Rattle.requester_machine.specs.Session.{Steps, stage_of, t1_of, t2_of, request_epoch, response_epoch, request_next, response_next, id_bytes, session_terms}
 
+-- The purpose under which the next record is sealed: that of requests in the present stage and epoch.
 abbrev pub request_purpose : List ℕ → Steps → Purpose
 request_purpose psk s = purpose_in (stage_of s) psk (t1_of s) (t2_of s) Request (request_epoch s)
 
+-- The present purpose of answers: that of responses in the present stage and epoch.
 abbrev pub response_purpose : List ℕ → Steps → Purpose
 response_purpose psk s = purpose_in (stage_of s) psk (t1_of s) (t2_of s) Response (response_epoch s)
 
@@ -20,6 +22,7 @@ response_purpose psk s = purpose_in (stage_of s) psk (t1_of s) (t2_of s) Respons
 unfoldable pub sealed_next : List ℕ → Steps → List ℕ → List ℕ → List ℕ
 sealed_next psk s inner pad = sealed_of (session_terms s).choice (request_purpose psk s) (request_next s) (id_bytes s) inner pad
 
+-- It asks for the update of all keys.
 abbrev pub asks_all : Ask → Bool
 asks_all (AskUpdate all) = all
 asks_all _ = false
@@ -32,6 +35,7 @@ answer_purpose psk s ask =
     if asks_all ask then record (response_purpose psk s) { epoch = response_epoch s + 1 }
     else response_purpose psk s
 
+-- The number of the answer: 0 for UpdateAllKeys, and for all else the next one of responses.
 abbrev pub answer_number : Steps → Ask → ℕ
 answer_number s ask = if asks_all ask then 0 else response_next s
 

@@ -1,4 +1,4 @@
--- The tags that a requester computes and compares, message by message.
+-- The tags that a requester computes and compares, message by message. This project's own.
 use Rattle.std.specs.Prelude.{ℕ, List, [], ◌∷◌, ◌++◌, drop, Option, Some, None, Result, Ok}
 use Rattle.key_schedule.specs.Purpose.{verify}
 use Rattle.key_schedule.specs.declared.direction.Direction.TheVariants as direction
@@ -34,6 +34,7 @@ abbrev pub record_made : List ℕ → Steps → Content → List Act
 record_made psk s (Clear message) = []
 record_made psk s (Sealed sealed inner pad) = made_record (session_terms s).choice (request_purpose psk s) (request_next s) sealed ∷ []
 
+-- What is made with the message that is sent, if one is.
 abbrev pub sent_made : List ℕ → Steps → Option Sent → List Act
 sent_made psk s None = []
 sent_made psk s (Some sent) = record_made psk s sent.content
@@ -59,14 +60,17 @@ answer_made psk h _ next = []
 abbrev pub answer_check : List ℕ → Steps → ExchangeRspMessage → Act
 answer_check psk s rsp = Checked (verify psk (t1_of s) direction.Response) (t1_of s) (answer_verify psk s) rsp.verify
 
+-- An answer that reads has verify data to compare where it is the PSK_EXCHANGE_RSP to a PSK_EXCHANGE.
 abbrev pub read_check : ReqSetup → History → RequestMessage → List ℕ → Result ResponseMessage Malformed → List Act
 read_check q h (PskExchange exchange) answer (Ok (PskExchangeRsp rsp)) = answer_check q.psk (with_answer h exchange answer) rsp ∷ []
 read_check q h _ answer _ = []
 
+-- Verify data are compared in a whole answer alone.
 abbrev pub carried_check : ReqSetup → History → RequestMessage → Carried → List Act
 carried_check q h asked (Whole answer place) = read_check q h asked answer (reading_of h asked answer)
 carried_check q h asked _ = []
 
+-- By the request in the clear that was asked; what is asked of a session has no verify data in its answer.
 abbrev pub aim_check : ReqSetup → History → List ℕ → Aim → Option RequestMessage → List Act
 aim_check q h m aim None = []
 aim_check q h m aim (Some asked) = carried_check q h asked (carried_by q h m aim)
@@ -80,16 +84,19 @@ clear_check q h m (Some sent) = aim_check q h m sent.aim (asked_in sent.aim)
 abbrev pub record_check : ReqSetup → Steps → Ask → List ℕ → List Act
 record_check q s ask sealed = checked_record (session_terms s).choice (answer_purpose q.psk s ask) (answer_number s ask) (id_bytes s) sealed
 
+-- The tag of a record is compared where a session was asked something.
 abbrev pub check_at : ReqSetup → History → List ℕ → Aim → List Act
 check_at q h sealed (InSession id ask) = record_check q (session_of id h) ask sealed
 check_at q h sealed _ = []
 
+-- The tag of a record is compared by the outstanding message, if there is one.
 abbrev pub sealed_check : ReqSetup → History → List ℕ → Option Sent → List Act
 sealed_check q h sealed None = []
 sealed_check q h sealed (Some sent) = check_at q h sealed sent.aim
 
 -- ---- By outcome. Of what is ignored, only wrong verify data and a record had a tag compared.
 
+-- What was compared of an ignored body: wrong verify data, the tag of a record with a fault, or nothing.
 abbrev pub ignored_acts : ReqSetup → History → List ℕ → ReqIgnored → List Act
 ignored_acts q h body ignored.BadVerify = clear_check q h (drop 1 body) (outstanding h)
 ignored_acts q h body (ignored.Record fault) = sealed_check q h (drop 1 body) (outstanding h)

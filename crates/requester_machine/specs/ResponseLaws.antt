@@ -1,4 +1,5 @@
--- What is said of the numbers of responses at a requester.
+-- What is said of the numbers of responses at a requester. The numbers are those of DSP0277, "Sequence
+-- number"; the laws are this project's own.
 use Rattle.std.specs.Prelude.{◌≡◌, ◌+◌, ℕ, List, [], ◌∷◌, if◌then◌else◌, true}
 use Rattle.key_schedule.specs.Purpose.{Purpose}
 use Rattle.spdm_machine.specs.Setup.{ReqSetup}

@@ -18,6 +18,7 @@ use Rattle.requester_machine.specs.Session.{Steps, session_terms, session_vca, e
 
 -- ---- In the clear.
 
+-- A request in the clear, under the next tag, with what it is sent for.
 abbrev pub clear_sent : History → RequestMessage → Aim → Sent
 clear_sent h request aim = record { tag = next_tag h; content = Clear (canonical_request request); aim = aim }
 
@@ -58,6 +59,7 @@ request_sent common h asked =
 abbrev pub inner_request : RequestMessage → List ℕ
 inner_request request = 5 ∷ canonical_request request
 
+-- The inner message of application data.
 abbrev pub inner_data : List ℕ → List ℕ
 inner_data bytes = 1 ∷ bytes
 
@@ -74,6 +76,7 @@ operation_of all = if all then 2 else 1
 abbrev pub update_tag : Steps → ℕ
 update_tag s = request_epoch s % 256
 
+-- KEY_UPDATE with this operation.
 abbrev pub key_update : Steps → (op : ℕ) → RequestMessage
 key_update s op = KeyUpdate op (update_tag s)
 
@@ -82,6 +85,7 @@ key_update s op = KeyUpdate op (update_tag s)
 abbrev pub finish_input : Steps → List ℕ
 finish_input s = session_vca s ++ exchange_of s ++ exchange_answer s ++ canonical_request (PskFinish [])
 
+-- The verify data of PSK_FINISH.
 abbrev pub finish_verify : List ℕ → Steps → List ℕ
 finish_verify psk s = verify_data (session_terms s).choice psk (t1_of s) direction.Request (finish_input s)
 

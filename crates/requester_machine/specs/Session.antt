@@ -35,17 +35,20 @@ pub data Step : Type 0 where
 abbrev pub Steps : Type 0
 Steps = List Step
 
+-- The session is live: it has a step.
 abbrev pub is_live : Steps → Bool
 is_live [] = false
 is_live (_ ∷ _) = true
 
 -- ---- What began it.
 
+-- The negotiation that its PSK_EXCHANGE was made under, and an empty one where there is none.
 abbrev pub session_negotiation : Steps → Negotiation
 session_negotiation [] = no_negotiation
 session_negotiation (Started negotiation exchange ∷ older) = negotiation
 session_negotiation (_ ∷ older) = session_negotiation older
 
+-- Its PSK_EXCHANGE.
 abbrev pub exchange_of : Steps → List ℕ
 exchange_of [] = []
 exchange_of (Started negotiation exchange ∷ older) = exchange
@@ -67,6 +70,7 @@ is_accepted (_ ∷ older) = is_accepted older
 abbrev pub session_terms : Steps → Terms
 session_terms s = terms_of (session_negotiation s)
 
+-- The hash of a session is the chosen one.
 abbrev pub session_hash : Steps → Hash
 session_hash s = hash_of (session_terms s).choice.hash
 
@@ -74,6 +78,7 @@ session_hash s = hash_of (session_terms s).choice.hash
 abbrev pub session_id : Steps → SessionId
 session_id s = record { req = id_in_exchange (exchange_of s); rsp = id_in_exchange (exchange_answer s) }
 
+-- The session id as its four bytes.
 abbrev pub id_bytes : Steps → List ℕ
 id_bytes s = session_id_bytes (id_in_exchange (exchange_of s)) (id_in_exchange (exchange_answer s))
 
@@ -135,12 +140,13 @@ taken_of (_ ∷ older) = taken_of older
 
 -- ---- Epochs and numbers (DSP0274, "KEY_UPDATE"; DSP0277, "Sequence number").
 
--- The updates of the request key, and of the response key, whose acknowledgement was taken.
+-- The updates of the request key whose acknowledgement was taken: UpdateKey and UpdateAllKeys.
 abbrev pub request_epoch : Steps → ℕ
 request_epoch [] = 0
 request_epoch (Took sealed inner effect ∷ older) = if updates effect then request_epoch older + 1 else request_epoch older
 request_epoch (_ ∷ older) = request_epoch older
 
+-- The updates of the response key whose acknowledgement was taken: UpdateAllKeys.
 abbrev pub response_epoch : Steps → ℕ
 response_epoch [] = 0
 response_epoch (Took sealed inner effect ∷ older) = if updates_all effect then response_epoch older + 1 else response_epoch older
@@ -166,9 +172,11 @@ response_next (_ ∷ older) = response_next older
 
 -- ---- Transcripts (DSP0274, "Transcript hash").
 
+-- VCA: the six messages of its negotiation.
 abbrev pub session_vca : Steps → List ℕ
 session_vca s = vca_of (session_negotiation s)
 
+-- T1: VCA, PSK_EXCHANGE, and PSK_EXCHANGE_RSP without its verify data.
 abbrev pub t1_of : Steps → List ℕ
 t1_of s = transcript.t1_of (session_hash s) (session_vca s) (exchange_of s) (exchange_answer s)
 
@@ -188,11 +196,13 @@ finish_answer (_ ∷ older) = finish_answer older
 abbrev pub tv_of : Steps → List ℕ → List ℕ
 tv_of s finish = transcript.tv_of (session_hash s) (session_vca s) (exchange_of s) (exchange_answer s) finish
 
+-- T2: VCA, PSK_EXCHANGE, PSK_EXCHANGE_RSP, PSK_FINISH and PSK_FINISH_RSP, all whole.
 abbrev pub t2_of : Steps → List ℕ
 t2_of s = transcript.t2_of (session_vca s) (exchange_of s) (exchange_answer s) (finish_of s) (finish_answer s)
 
 -- ---- The session of an id.
 
+-- A live session with one more step; where there is no session, a step begins none.
 abbrev pub when_live : Steps → Step → Steps
 when_live [] step = []
 when_live (s ∷ ss) step = step ∷ s ∷ ss
@@ -202,10 +212,12 @@ abbrev pub with_content : Ask → Content → Steps → Steps
 with_content ask (Clear message) s = s
 with_content ask (Sealed sealed inner pad) s = when_live s (Asked ask inner sealed)
 
+-- A message counts for the session with this ReqSessionID where it asks something of it.
 abbrev pub with_aim : ℕ → Aim → Content → Steps → Steps
 with_aim id (InSession of ask) content s = if of == id then with_content ask content s else s
 with_aim id _ content s = s
 
+-- The session after a message was sent, if one was.
 abbrev pub with_sent : ℕ → Option Sent → Steps → Steps
 with_sent id None s = s
 with_sent id (Some sent) s = with_aim id sent.aim sent.content s

@@ -1,5 +1,5 @@
 -- What comes of an outcome: the history behind it, the message that is sent, what is told; and what is shown of
--- a requester.
+-- a requester. This project's own.
 use Rattle.std.specs.Prelude.{ℕ, List, [], ◌∷◌, ◌++◌, if◌then◌else◌, Option, Some, None}
 use Rattle.spdm_grammar.specs.Message.{ResponseMessage}
 use Rattle.spdm_grammar.specs.Message.RequestMessage.{GetMeasurements}
@@ -20,6 +20,7 @@ use Rattle.requester_machine.specs.Session.{Steps, session_of, is_accepted, sess
 
 -- ---- Of an outcome.
 
+-- The history after an outcome: an entry that is added stands in front, and nothing else changes it.
 abbrev pub after : History → Outcome → History
 after h (Fails fault) = h
 after h (Ignores cause) = h
@@ -46,6 +47,7 @@ event_in (Told command sent d) = None
 event_in (TookClear tag m led d) = Some led.event
 event_in (TookRecord tag id sealed inner led d) = Some led.event
 
+-- What is told of a body by its outcome: it is ignored, warned of, or taken. Nothing is told of a command.
 abbrev pub event_of : Outcome → Option Event
 event_of (Fails fault) = None
 event_of (Ignores cause) = Some (event.Ignored cause)
@@ -60,6 +62,7 @@ abbrev pub blocks_of : Option ResponseMessage → Option (List ℕ)
 blocks_of (Some (Measurements measured)) = Some measured.block_bytes
 blocks_of _ = None
 
+-- The measurement record that answered GET_MEASUREMENTS, in the clear or in a session.
 abbrev pub blocks_in : Effect → Option (List ℕ)
 blocks_in (Answers (GetMeasurements op) answer) = blocks_of (response_value answer)
 blocks_in (Grants (AskMeasure op) answer) = blocks_of (response_value answer)
@@ -70,24 +73,28 @@ abbrev pub bytes_in : Effect → Option (List ℕ)
 bytes_in (Grants AskData answer) = Some answer
 bytes_in _ = None
 
+-- What an entry brought about; a command by itself brings nothing about.
 abbrev pub effect_in : Entry → Effect
 effect_in (Told command sent d) = Effect.Nothing
 effect_in (TookClear tag m led d) = led.effect
 effect_in (TookRecord tag id sealed inner led d) = led.effect
 
+-- The first of two that is there.
 abbrev pub or_else : Option (List ℕ) → Option (List ℕ) → Option (List ℕ)
 or_else (Some bytes) other = Some bytes
 or_else None other = other
 
+-- The bytes that are there, else the other ones.
 abbrev pub or_bytes : Option (List ℕ) → List ℕ → List ℕ
 or_bytes (Some bytes) other = bytes
 or_bytes None other = other
 
--- The measurement record, and the application data, that just came.
+-- The measurement record that just came.
 abbrev pub record_of : Outcome → Option (List ℕ)
 record_of (Adds entry) = blocks_in (effect_in entry)
 record_of _ = None
 
+-- The application data that just came.
 abbrev pub data_of : Outcome → Option (List ℕ)
 data_of (Adds entry) = bytes_in (effect_in entry)
 data_of _ = None
@@ -99,6 +106,7 @@ last_data (entry ∷ older) = or_bytes (or_else (bytes_in (effect_in entry)) (bl
 
 -- ---- Sessions as they are shown.
 
+-- A session as it is shown, read off its own history.
 unfoldable pub view_of : Steps → View
 view_of s = record {
   id = session_id s;

@@ -105,5 +105,6 @@ abbrev pub answer_to : RspSetup → Place → List ℕ → Free → Option Reque
 answer_to r p m f None = []
 answer_to r p m f (Some request) = canonical_response (answer_of r p m f request)
 
+-- The bytes of the answer to a message as the request that it is at a place; none where it is no request.
 unfoldable pub answer_bytes : RspSetup → Place → List ℕ → Free → List ℕ
 answer_bytes r p m f = answer_to r p m f (request_at p m)

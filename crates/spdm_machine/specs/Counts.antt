@@ -11,12 +11,14 @@ use Rattle.spdm_machine.specs.Session.{Events, stage_of, is_past_handshake}
 use Rattle.spdm_machine.specs.Session.Event.{Began, Heard, Waited}
 use Rattle.spdm_machine.specs.Turn.{takes}
 
+-- Two kinds are one: verify data, records of the handshake, or records after it.
 abbrev pub same_kind : Kind → Kind → Bool
 same_kind Verify Verify = true
 same_kind HandshakeRecord HandshakeRecord = true
 same_kind ApplicationRecord ApplicationRecord = true
 same_kind _ _ = false
 
+-- Two directions are one: requests, or responses.
 abbrev pub same_direction : Direction → Direction → Bool
 same_direction Request Request = true
 same_direction Response Response = true

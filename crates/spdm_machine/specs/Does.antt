@@ -1,4 +1,5 @@
--- What this project's responder does: the one outcome at the values that it chooses.
+-- What this project's responder does: the one outcome at the values that it chooses. The choices are this
+-- project's own.
 use Rattle.std.specs.Prelude.{⊤, ◌≡◌, ◌<◌, ◌≤◌, ◌==◌, ℕ, List, [], ◌∷◌, drop, length, slice_index, if◌then◌else◌}
 use Rattle.spdm_machine.specs.Answer.{Free}
 use Rattle.spdm_machine.specs.History.{History, queue_of}
@@ -11,6 +12,7 @@ use Rattle.spdm_machine.specs.Responder.Outcome.{Adds}
 use Rattle.spdm_machine.specs.Session.{session_of, id_in_record}
 use Rattle.spdm_machine.specs.Setup.{RspSetup}
 
+-- The application data that waits first, and an empty one where none waits.
 abbrev pub first_queued : List (List ℕ) → List ℕ
 first_queued [] = []
 first_queued (bytes ∷ others) = bytes
@@ -30,9 +32,11 @@ chosen r h p d = record {
   pad = [];
 }
 
+-- The values chosen for a clear message, by the clear part of the connection.
 abbrev pub clear_chosen : RspSetup → History → Draw → Free
 clear_chosen r h d = chosen r h (clear_place h) d
 
+-- The values chosen for a record, by the session that it names.
 abbrev pub record_chosen : RspSetup → History → List ℕ → Draw → Free
 record_chosen r h sealed d = chosen r h (session_place (session_of (id_in_record sealed) h)) d
 

@@ -38,6 +38,7 @@ abbrev pub extended_of : ErrorCode → List ℕ → List ℕ
 extended_of ResponseTooLarge answer = little_bytes 4 (length answer)
 extended_of _ answer = []
 
+-- The ERROR of this code in answer to a message, in the version of the phase and with its error data.
 abbrev pub error_bytes : RspSetup → Place → List ℕ → Free → ErrorCode → List ℕ
 error_bytes r p m f e =
     canonical_response (Error (version_in p.phase) (error_number e) (detail_of e (code_of m)) (extended_of e (answer_bytes r p m f)))
@@ -54,9 +55,11 @@ abbrev pub goes_large : Place → List ℕ → Bool
 goes_large p answer =
     sizes_are_known p.phase && nat_lt (place_terms p).common.to_requester.transfer (bytes_round p.at + length answer)
 
+-- The free handle for an answer that goes by LargeResponse; none for any other.
 abbrev pub handle_for : Place → Free → List ℕ → Option ℕ
 handle_for p f answer = if goes_large p answer then Some f.handle else None
 
+-- What is sent for an answer: LargeResponse with its handle where it goes so, else the answer itself.
 abbrev pub sent_for : Place → Free → List ℕ → List ℕ
 sent_for p f answer = if goes_large p answer then large_response f.handle else answer
 
@@ -64,17 +67,20 @@ sent_for p f answer = if goes_large p answer then large_response f.handle else a
 abbrev pub refused_turn : RspSetup → Place → List ℕ → Free → ErrorCode → Turn
 refused_turn r p m f e = record { message = m; refused = Some e; chunk = None; effect = NoEffect; reply = error_bytes r p m f e }
 
+-- A request takes effect with its bytes, its whole answer and its handle; what is no request has no effect.
 abbrev pub effect_of : Option RequestMessage → List ℕ → List ℕ → Option ℕ → Effect
 effect_of None request answer large = NoEffect
 effect_of (Some asked) request answer large = Took asked request answer large
 
--- What a request leads to that is not refused: its effect, and the answer or LargeResponse.
+-- The effect of a request that is not refused.
 abbrev pub request_effect : RspSetup → Place → List ℕ → Free → Effect
 request_effect r p m f = effect_of (request_at p m) m (answer_bytes r p m f) (handle_for p f (answer_bytes r p m f))
 
+-- What is sent for it: its answer, or LargeResponse.
 abbrev pub request_reply : RspSetup → Place → List ℕ → Free → List ℕ
 request_reply r p m f = sent_for p f (answer_bytes r p m f)
 
+-- A request that is neither refused nor a chunk: it takes effect and is answered.
 abbrev pub plain_turn : RspSetup → Place → List ℕ → Free → Turn
 plain_turn r p m f = record { message = m; refused = None; chunk = None; effect = request_effect r p m f; reply = request_reply r p m f }
 
@@ -94,19 +100,22 @@ abbrev pub carried_turn : RspSetup → Place → List ℕ → Free → ChunkMess
 carried_turn r p m f c whole (Some e) = taken_chunk m c NoEffect (error_bytes r p whole f e)
 carried_turn r p m f c whole None = taken_chunk m c (request_effect r p whole f) (request_reply r p whole f)
 
+-- The last chunk, by whether the large request that it completes is refused.
 abbrev pub last_chunk_turn : RspSetup → Place → List ℕ → Free → ChunkMessage → List ℕ → Turn
 last_chunk_turn r p m f c whole = carried_turn r p m f c whole (refusal r p whole f)
 
--- Any other chunk is answered by an acknowledgement without response.
+-- The last chunk completes the chunks before it. Any other is answered by an acknowledgement without response.
 abbrev pub chunk_turn : RspSetup → Place → List ℕ → Free → ChunkMessage → Turn
 chunk_turn r p m f c =
     if c.last then last_chunk_turn r (inside p) m f c (joined_with (under_way (chunks_of p.turns)) c)
     else taken_chunk m c NoEffect []
 
+-- The chunk that CHUNK_SEND carries; any other message carries none.
 abbrev pub chunk_in : Option RequestMessage → Option ChunkMessage
 chunk_in (Some (ChunkSend c)) = Some c
 chunk_in _ = None
 
+-- By the code of a refusal and by the chunk: a refused request; one that is no chunk; a chunk that is taken.
 abbrev pub turn_by : RspSetup → Place → List ℕ → Free → Option ErrorCode → Option ChunkMessage → Turn
 turn_by r p m f (Some e) c = refused_turn r p m f e
 turn_by r p m f None None = plain_turn r p m f

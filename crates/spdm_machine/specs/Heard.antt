@@ -1,4 +1,4 @@
--- What is told of a packet that a responder was given, and what is seen of its sessions.
+-- What is told of a packet that a responder was given, and what is seen of its sessions. This project's own.
 use Rattle.std.specs.Prelude.{ℕ, List, [], ◌∷◌, ◌++◌, if◌then◌else◌, Option, Some, None}
 use Rattle.spdm_basis.specs.declared.session_id.SessionId.{SessionId}
 use Rattle.spdm_grammar.specs.ErrorNumber.{error_number}
@@ -28,14 +28,18 @@ abbrev pub heard_in : Turn → SessionId → Option ErrorCode → Heard
 heard_in t id (Some e) = heard.Refused (error_number e)
 heard_in t id None = if is_data t.effect then heard.Taken id else heard.Answered (code_of t.message)
 
+-- What stands for the id of a session where there is none.
 abbrev pub no_id : SessionId
 no_id = record { req = 0; rsp = 0 }
 
+-- An entry is told by its turn: in the clear with no session, in a record with the session that it names. One
+-- that is no message, which no body adds, is told as a repeat.
 abbrev pub heard_by : Entry → Heard
 heard_by (Clear tag t d) = heard_in t no_id t.refused
 heard_by (Sealed tag sealed t reply d) = heard_in t (record_id sealed) t.refused
 heard_by _ = heard.Same
 
+-- An outcome is told as a repeat, as a record that no session opens, or by the entry that it adds.
 abbrev pub heard_of : Outcome → Heard
 heard_of (Same body) = heard.Same
 heard_of (Unopened body) = heard.Unopened
@@ -56,14 +60,17 @@ pub record View : Type 0 where
   pub hash : List ℕ
   pub choice : Choice
 
+-- The id of a session: ReqSessionID of its PSK_EXCHANGE, and RspSessionID of the answer.
 abbrev pub session_id : Events → SessionId
 session_id s = record { req = id_in_exchange (exchange_of s); rsp = id_in_exchange (exchange_answer s) }
 
+-- The transcript that is shown in a stage: T1 in the handshake, and T2 after it.
 abbrev pub transcript_in : Stage → (t1 t2 : List ℕ) → List ℕ
 transcript_in Handshake t1 t2 = t1
 transcript_in Open t1 t2 = t2
 transcript_in Verifying t1 t2 = t2
 
+-- A session as it is shown, read off its own history.
 unfoldable pub view_of : Events → View
 view_of s = record {
   id = session_id s;
@@ -77,6 +84,7 @@ view_of s = record {
   choice = (session_terms s).choice;
 }
 
+-- A live session is shown; where there is none, nothing is.
 abbrev pub view_if_live : Events → List View
 view_if_live [] = []
 view_if_live (e ∷ s) = view_of (e ∷ s) ∷ []

@@ -24,6 +24,7 @@ History = List Entry
 
 -- ---- The clear part of the connection.
 
+-- The turns of the clear messages, the newest first.
 abbrev pub clear_turns : History → List Turn
 clear_turns [] = []
 clear_turns (Clear tag t d ∷ older) = t ∷ clear_turns older

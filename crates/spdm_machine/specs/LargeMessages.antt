@@ -22,6 +22,8 @@ abbrev pub still_pending : ℕ → ℕ → Option (List ℕ) → Option (List �
 still_pending transfer given None = None
 still_pending transfer given (Some answer) = if nat_lt given (chunk_count transfer answer) then Some answer else None
 
+-- The pending large answer: the last one, while fewer chunks of it were given than this transfer size cuts it
+-- into.
 abbrev pub pending_of : ℕ → List Turn → Option (List ℕ)
 pending_of transfer turns = still_pending transfer (given_of turns) (large_of turns)
 

@@ -1,5 +1,5 @@
 -- What holds of every responder and every history: the laws of the definitions. Each is the contract of a
--- function of this crate, which has its proof.
+-- function of this crate, which has its proof. This project's own.
 use Rattle.std.specs.Prelude.{◌≡◌, ◌≢◌, ◌≤◌, ◌⊎◌, ℕ, List, [], ◌∷◌, length, true, false, Some, None, nat_eq}
 use Rattle.std.specs.List.{AllByRecursion, IsDistinct}
 use Rattle.chunking.specs.Collecting.{under_way, joined_with}
@@ -34,17 +34,20 @@ abbrev pub ChosenIsAllowed : Type 0
 ChosenIsAllowed = (r : RspSetup) (h : History) (p : Place) (d : Draw) → IsMade r h → length d.bytes ≡ 32 → length r.opaque ≤ 1024
     → IsAllowed h p (chosen r h p d)
 
+-- What the responder does with a body is what any responder may do with it, without a session dropped unseen.
 abbrev pub DoesWhatItMay : Type 0
 DoesWhatItMay = (r : RspSetup) (h : History) (tag : ℕ) (body : List ℕ) (d : Draw) → IsMade r h → length d.bytes ≡ 32 → length r.opaque ≤ 1024
     → ResponderMay r h [] tag body d (responder_does r h tag body d)
 
 -- ---- A refused request changes no session.
 
+-- A clear request that is refused leaves each session exactly as it was.
 abbrev pub RefusedClearKeepsSessions : Type 0
 RefusedClearKeepsSessions = (r : RspSetup) (h : History) (tag : ℕ) (m : List ℕ) (f : Free) (d : Draw) (e : ErrorCode)
     → refusal r (clear_place h) m f ≡ Some e
     → (id : ℕ) → session_of id (after h (on_clear r h tag m f d)) ≡ session_of id h
 
+-- A clear request that is refused leaves what is counted for the connection as it was.
 abbrev pub RefusedClearKeepsConnection : Type 0
 RefusedClearKeepsConnection = (r : RspSetup) (h : History) (tag : ℕ) (m : List ℕ) (f : Free) (d : Draw) (e : ErrorCode)
     → refusal r (clear_place h) m f ≡ Some e → IsSameConnection h (after h (on_clear r h tag m f d))
@@ -60,6 +63,7 @@ RefusedInChunksKeepsSessions = (r : RspSetup) (h : History) (tag : ℕ) (m : Lis
     → refusal r (inside (clear_place h)) (completed_at (clear_place h) c) f ≡ Some e
     → (id : ℕ) → session_of id (after h (on_clear r h tag m f d)) ≡ session_of id h
 
+-- A record whose inner message is refused leaves each session the same; the record itself is counted.
 abbrev pub RefusedRecordKeepsSessions : Type 0
 RefusedRecordKeepsSessions = (r : RspSetup) (h : History) (tag : ℕ) (m : List ℕ) (f : Free) (d : Draw) (t : Turn) (reply : List ℕ) (e : ErrorCode)
     → on_record r h tag m f d ≡ Adds (Sealed tag m t reply d) → t.refused ≡ Some e
@@ -72,6 +76,7 @@ RecordKeepsOthers = (h : History) (tag : ℕ) (m : List ℕ) (t : Turn) (reply :
 
 -- ---- Repeats, and records that do not open.
 
+-- A clear message that repeats the last one that was not refused adds nothing to the history.
 abbrev pub RepeatAddsNothing : Type 0
 RepeatAddsNothing = (r : RspSetup) (h : History) (tag : ℕ) (m : List ℕ) (f : Free) (d : Draw)
     → is_repeat (kept_of h) tag m ≡ true → after h (on_clear r h tag m f d) ≡ h
@@ -120,12 +125,16 @@ RequestHasItsCode = (p : Place) (m : List ℕ) (asked : RequestMessage) → requ
 
 -- ---- Sessions and their ids.
 
+-- Where fewer than four sessions are past their handshake, the id that is given is from 1 to 4 and is none of
+-- theirs.
 abbrev pub FreeIdIsFree : Type 0
 FreeIdIsFree = (h : History) → held_of h ≢ 4 → (1 ≤ free_id h) × (free_id h ≤ 4) × (is_held h (free_id h) ≡ false)
 
+-- In a made history, the id of each live session is from 1 to 4.
 abbrev pub LiveIdIsFromOneToFour : Type 0
 LiveIdIsFromOneToFour = (r : RspSetup) (h : History) (id : ℕ) → IsMade r h → is_live (session_of id h) ≡ true → (1 ≤ id) × (id ≤ 4)
 
+-- The count of the sessions past their handshake is at most four.
 abbrev pub FourAreHeldAtMost : Type 0
 FourAreHeldAtMost = (h : History) → held_of h ≤ 4
 

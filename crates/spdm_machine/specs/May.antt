@@ -1,4 +1,5 @@
--- What any responder of this profile may do: the same outcome, at any values that are left free.
+-- What any responder of this profile may do: the same outcome, at any values that are left free. The limits
+-- of this profile are this project's own.
 use Rattle.std.specs.Prelude.{◌≡◌, ◌≢◌, ◌≤◌, ◌<◌, ◌==◌, ℕ, List, [], ◌∷◌, length, drop, slice_index, if◌then◌else◌, true, false}
 use Rattle.spdm_machine.specs.Answer.{Free}
 use Rattle.spdm_machine.specs.History.{History}
@@ -31,6 +32,7 @@ abbrev pub MayDrop : History → List ℕ → Type 0
 MayDrop h [] = Unit {0}
 MayDrop h (id ∷ ids) = (is_live (session_of id h) ≡ true) × (is_timed (session_of id h) ≡ true) × MayDrop (Dropped id ∷ h) ids
 
+-- The history after the sessions of these ids were dropped unseen, one after another.
 abbrev pub with_dropped : History → List ℕ → History
 with_dropped h [] = h
 with_dropped h (id ∷ ids) = with_dropped (Dropped id ∷ h) ids

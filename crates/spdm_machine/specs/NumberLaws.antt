@@ -1,5 +1,5 @@
 -- What holds of the numbers of records: the laws of the counts, each the contract of a function of this
--- crate.
+-- crate. The numbers are those of DSP0277, "Sequence number"; the laws are this project's own.
 use Rattle.std.specs.Prelude.{◌≡◌, ◌≤◌, ◌||◌, ℕ, List, ◌∷◌, true}
 use Rattle.spdm_machine.specs.Counts.{IsStaged, taken_under, sealed_under}
 use Rattle.spdm_machine.specs.Does.{IsMade}

@@ -1,4 +1,4 @@
--- A place of a responder, and what a test may look at there.
+-- A place of a responder, and what a test may look at there. This project's own.
 use Rattle.std.specs.Prelude.{◌+◌, ◌&&◌, not, ℕ, List, [], if◌then◌else◌, Bool}
 use Rattle.spdm_grammar.specs.declared.phase.Phase.{Phase}
 use Rattle.spdm_grammar.specs.declared.phase.Phase.TheVariants.{Negotiated}
@@ -33,10 +33,11 @@ place_terms p = terms_of p.negotiation
 abbrev pub is_held : History → ℕ → Bool
 is_held h id = is_live (session_of id h) && is_past_handshake (stage_of (session_of id h))
 
+-- 1 where a test holds, and 0 where it does not.
 abbrev pub one_if : Bool → ℕ
 one_if b = if b then 1 else 0
 
--- How many are.
+-- How many sessions are live past their handshake.
 abbrev pub held_of : History → ℕ
 held_of h = one_if (is_held h 1) + one_if (is_held h 2) + one_if (is_held h 3) + one_if (is_held h 4)
 
@@ -49,6 +50,7 @@ free_id h =
     else (if not (is_held h 3) then 3
     else 4))
 
+-- The clear part of a connection, as a place in no session.
 abbrev pub clear_place : History → Place
 clear_place h = record {
   at = InClear;
@@ -59,6 +61,7 @@ clear_place h = record {
   past_handshake = held_of h;
 }
 
+-- The inside of a large request that came by chunks: all else is as at the place of its chunks.
 abbrev pub inside : Place → Place
 inside p = record p { at = InChunks }
 

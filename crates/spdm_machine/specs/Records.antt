@@ -1,5 +1,5 @@
 -- The records of a session at the responder: under which purpose and number the next ones are taken and
--- sealed.
+-- sealed. DSP0277, "Sequence number" and "Secured Message format"; DSP0274, "KEY_UPDATE".
 use Rattle.std.specs.Prelude.{ℕ, List, Option, Some, if◌then◌else◌, ◌+◌}
 use Rattle.key_schedule.specs.Purpose.{Purpose, handshake_record, application_record}
 use Rattle.key_schedule.specs.declared.direction.Direction.{Direction}
@@ -18,9 +18,11 @@ purpose_in Handshake psk t1 t2 direction epoch = handshake_record psk t1 directi
 purpose_in Open psk t1 t2 direction epoch = application_record psk t2 direction epoch
 purpose_in Verifying psk t1 t2 direction epoch = application_record psk t2 direction epoch
 
+-- The purpose under which the next record is taken: that of requests in the present stage and epoch.
 abbrev pub request_purpose : List ℕ → Events → Purpose
 request_purpose psk s = purpose_in (stage_of s) psk (t1_of s) (t2_of s) Request (request_epoch s)
 
+-- The present purpose of answers: that of responses in the present stage and epoch.
 abbrev pub response_purpose : List ℕ → Events → Purpose
 response_purpose psk s = purpose_in (stage_of s) psk (t1_of s) (t2_of s) Response (response_epoch s)
 
@@ -35,13 +37,14 @@ opening_fault psk s sealed =
 unfoldable pub opened : List ℕ → Events → List ℕ → List ℕ
 opened psk s sealed = inner_message (session_terms s).choice (request_purpose psk s) (request_next s) sealed
 
--- The purpose and the number of the answer to a turn: UpdateAllKeys is answered by record 0 of the new
--- response key, and all else under the standing one.
+-- The purpose of the answer to a turn: UpdateAllKeys is answered under the new response key, and all else
+-- under the standing one.
 abbrev pub reply_purpose : List ℕ → Events → Turn → Purpose
 reply_purpose psk s t =
     if updates 2 t then record (response_purpose psk s) { epoch = response_epoch s + 1 }
     else response_purpose psk s
 
+-- The number of the answer to a turn: 0 for UpdateAllKeys, and for all else the next one of responses.
 abbrev pub reply_number : Events → Turn → ℕ
 reply_number s t = if updates 2 t then 0 else response_next s
 

@@ -35,6 +35,7 @@ first_of_tests (t ∷ ts) = if t.0 then Some t.1 else first_of_tests ts
 abbrev pub code_of : List ℕ → ℕ
 code_of m = slice_index m 1
 
+-- The code stands in the list.
 abbrev pub is_one_of : List ℕ → ℕ → Bool
 is_one_of [] c = false
 is_one_of (x ∷ xs) c = c == x || is_one_of xs c
@@ -73,14 +74,18 @@ phase_allows Versioned pending c = is_one_of (0x84 ∷ 0xe1 ∷ []) c || (c == 0
 phase_allows Capable pending c = is_one_of (0x84 ∷ 0xe3 ∷ 0x85 ∷ []) c || (c == 0x86 && pending)
 phase_allows Negotiated pending c = is_one_of (0x84 ∷ 0xe0 ∷ 0xe6 ∷ 0x85 ∷ []) c || (c == 0x86 && pending)
 
+-- The handshake allows PSK_FINISH alone, and Verifying KEY_UPDATE alone. Open allows GET_MEASUREMENTS,
+-- HEARTBEAT, KEY_UPDATE and END_SESSION, and CHUNK_GET with a pending large answer.
 abbrev pub stage_allows : Stage → Bool → ℕ → Bool
 stage_allows Handshake pending c = c == 0xe7
 stage_allows Open pending c = is_one_of (0xe0 ∷ 0xe8 ∷ 0xe9 ∷ 0xec ∷ []) c || (c == 0x86 && pending)
 stage_allows Verifying pending c = c == 0xe9
 
+-- A large answer of the place is pending: a chunk of it is still to be given.
 abbrev pub has_pending : Place → Bool
 has_pending p = is_some (pending_of (place_terms p).common.to_requester.transfer p.turns)
 
+-- The phase allows a request in the clear and by chunks, and the stage allows one in a session.
 abbrev pub is_allowed : Where → Place → ℕ → Bool
 is_allowed InClear p c = phase_allows p.phase (has_pending p) c
 is_allowed InChunks p c = phase_allows p.phase (has_pending p) c
@@ -128,6 +133,7 @@ fits_stage Handshake op = true
 fits_stage Open op = not (op == 3)
 fits_stage Verifying op = op == 3
 
+-- The operation of a KEY_UPDATE does not fit the stage of its session.
 abbrev pub is_update_misplaced : Place → Option RequestMessage → Bool
 is_update_misplaced p (Some (KeyUpdate op tag)) = not (fits_stage (stage_of p.events) op)
 is_update_misplaced p _ = false
@@ -138,6 +144,7 @@ abbrev pub chunk_fault : RspSetup → Place → Option RequestMessage → Option
 chunk_fault r p (Some (ChunkSend chunk)) = broken_rule r.max (under_way (chunks_of p.turns)) chunk
 chunk_fault r p _ = None
 
+-- The rule that the chunk breaks is the one of the greatest length.
 abbrev pub is_too_large : Option ChunkFault → Bool
 is_too_large (Some fault.TooLarge) = true
 is_too_large _ = false
@@ -213,9 +220,11 @@ tests_of_contents r p m f =
     ∷ (code_of m == 0xe6 && p.past_handshake == 4, SessionLimitExceeded)
     ∷ []
 
+-- The code for which the form of a request is refused, or none: the first of its tests that holds decides.
 unfoldable pub refused_form : RspSetup → Place → List ℕ → Option ErrorCode
 refused_form r p m = first_of_tests (tests_of_form r p m)
 
+-- The code for which its contents or its answer are refused, or none: again the first test that holds decides.
 unfoldable pub refused_contents : RspSetup → Place → List ℕ → Free → Option ErrorCode
 refused_contents r p m f = first_of_tests (tests_of_contents r p m f)
 

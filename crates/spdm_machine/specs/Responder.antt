@@ -33,6 +33,7 @@ pub data Outcome : Type 0 where
 abbrev pub clear_body : List ℕ → List ℕ
 clear_body message = 5 ∷ message
 
+-- The body of a record.
 abbrev pub record_body : List ℕ → List ℕ
 record_body sealed = 6 ∷ sealed
 
@@ -43,6 +44,7 @@ abbrev pub is_repeat : Option Kept → ℕ → List ℕ → Bool
 is_repeat None tag m = false
 is_repeat (Some kept) tag m = kept.tag == tag && bytes_eq kept.message m
 
+-- The reply of the kept request; no bytes where none is kept.
 abbrev pub kept_reply : Option Kept → List ℕ
 kept_reply None = []
 kept_reply (Some kept) = kept.reply
@@ -55,6 +57,7 @@ on_clear r h tag m f d =
 
 -- ---- In a session.
 
+-- The stage is Open, the one in which application data may come.
 abbrev pub is_open : Stage → Bool
 is_open Handshake = false
 is_open Open = true
@@ -75,6 +78,8 @@ inner_refusal stage inner = first_of_tests (
 abbrev pub data_turn : Free → List ℕ → Turn
 data_turn f bytes = record { message = bytes; refused = None; chunk = None; effect = TookData bytes f.reply; reply = f.reply }
 
+-- An inner message that has a code already is refused with it; else type 5 is handled as an SPDM message, and
+-- type 1 as application data.
 abbrev pub session_turn_by : RspSetup → Events → List ℕ → Free → Option ErrorCode → Turn
 session_turn_by r s inner f (Some e) = refused_turn r (session_place s) (drop 1 inner) f e
 session_turn_by r s inner f None = if slice_index inner 0 == 5 then turn_of r (session_place s) (drop 1 inner) f else data_turn f (drop 1 inner)
@@ -94,6 +99,7 @@ abbrev pub repeats : Option KeptRecord → List ℕ → Bool
 repeats None sealed = false
 repeats (Some kept) sealed = bytes_eq kept.sealed sealed
 
+-- The reply of the kept record; no bytes where none is kept.
 abbrev pub kept_record : Option KeptRecord → List ℕ
 kept_record None = []
 kept_record (Some kept) = kept.reply
@@ -106,6 +112,7 @@ decrypt_error phase = clear_body (canonical_response (Error (version_in phase) (
 abbrev pub sealed_entry : RspSetup → Events → Free → ℕ → List ℕ → Draw → Turn → Entry
 sealed_entry r s f tag sealed d t = Sealed tag sealed t (reply_record r.psk s t (inner_reply t) f.pad) d
 
+-- A record with a fault is not opened, and gets DecryptError in the clear; one that opens is an entry.
 abbrev pub in_session_by : RspSetup → Phase → Events → Free → ℕ → List ℕ → Draw → Option RecordFault → Outcome
 in_session_by r phase s f tag sealed d (Some fault) = Unopened (decrypt_error phase)
 in_session_by r phase s f tag sealed d None = Adds (sealed_entry r s f tag sealed d (session_turn r s (opened r.psk s sealed) f))
@@ -129,6 +136,7 @@ on_record r h tag sealed f d =
 
 -- ---- What comes of it.
 
+-- The history after an outcome: an entry that is added stands in front, and nothing else changes it.
 abbrev pub after : History → Outcome → History
 after h (Same body) = h
 after h (Unopened body) = h

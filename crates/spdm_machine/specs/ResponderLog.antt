@@ -1,4 +1,4 @@
--- The tags that a responder computes and compares, message by message.
+-- The tags that a responder computes and compares, message by message. This project's own.
 use Rattle.std.specs.Prelude.{ℕ, ◌==◌, ◌&&◌, List, [], ◌∷◌, ◌++◌, drop, slice_index, if◌then◌else◌, Option, Some, is_none}
 use Rattle.key_schedule.specs.Purpose.{verify}
 use Rattle.key_schedule.specs.declared.direction.Direction.TheVariants as direction
@@ -22,13 +22,16 @@ use Rattle.spdm_machine.specs.Turn.{Turn, takes, request_in, answer_in}
 
 -- ---- In the clear: verify data are made with each PSK_EXCHANGE_RSP that takes effect.
 
+-- The session that a turn begins which takes PSK_EXCHANGE, under the negotiation as it stands.
 abbrev pub began_by : History → Turn → Events
 began_by h t = Began (negotiation_of (clear_turns h)) (request_in t.effect) (answer_in t.effect) ∷ []
 
+-- The responder's verify data of a session are made, over T1.
 abbrev pub response_made : RspSetup → Events → Act
 response_made r s =
     Made (verify r.psk (t1_of s) direction.Response) (t1_of s) (verify_data (session_terms s).choice r.psk (t1_of s) direction.Response (t1_of s))
 
+-- A clear message makes verify data where PSK_EXCHANGE took effect; else it makes and compares nothing.
 abbrev pub clear_acts : RspSetup → History → Turn → List Act
 clear_acts r h t = if takes 0xe6 t then response_made r (began_by h t) ∷ [] else []
 
@@ -40,9 +43,11 @@ finish_check r s m (Some (PskFinish received)) =
     Checked (verify r.psk (t1_of s) direction.Request) (tv_of s m) (verify_data (session_terms s).choice r.psk (t1_of s) direction.Request (tv_of s m)) received ∷ []
 finish_check r s m _ = []
 
+-- An SPDM message in a session brings a comparison only where its form has no fault.
 abbrev pub finish_acts : RspSetup → Events → List ℕ → List Act
 finish_acts r s m = if is_none (refused_form r (session_place s) m) then finish_check r s m (request_at (session_place s) m) else []
 
+-- An inner message brings a comparison only where it is an SPDM message that is read as a request.
 abbrev pub inner_acts : RspSetup → Events → List ℕ → List Act
 inner_acts r s inner =
     if is_none (inner_refusal (stage_of s) inner) && slice_index inner 0 == 5 then finish_acts r s (drop 1 inner)
@@ -58,10 +63,12 @@ record_check r s sealed =
     if is_spent s then []
     else checked_record (session_terms s).choice (request_purpose r.psk s) (request_next s) (id_bytes s) sealed
 
+-- A record that did not open: its tag was compared at most where its session is live.
 abbrev pub unopened_acts : RspSetup → Events → List ℕ → List Act
 unopened_acts r [] sealed = []
 unopened_acts r (e ∷ s) sealed = record_check r (e ∷ s) sealed
 
+-- A record that opened: its tag was compared, then the verify data in it, and then its answer was sealed.
 abbrev pub opened_acts : RspSetup → Events → List ℕ → Turn → List ℕ → List Act
 opened_acts r s sealed t reply = reply_made r s t reply ∷ inner_acts r s (opened r.psk s sealed) ++ record_check r s sealed
 

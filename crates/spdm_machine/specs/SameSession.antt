@@ -1,4 +1,4 @@
--- When a session, and a connection, is what it was.
+-- When a session, and a connection, is what it was. This project's own.
 use Rattle.std.specs.Prelude.{◌≡◌, ℕ, List}
 use Rattle.spdm_machine.specs.History.{History, clear_turns, phase_of, negotiation_of, kept_of, ended_of, queue_of, draws_of, all_taken}
 use Rattle.spdm_machine.specs.LargeMessages.{pending_of, handle_of, given_of, larges_of, chunks_of}

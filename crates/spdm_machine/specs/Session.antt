@@ -25,22 +25,26 @@ pub data Event : Type 0 where
 abbrev pub Events : Type 0
 Events = List Event
 
+-- The session is live: it has an event.
 abbrev pub is_live : Events → Bool
 is_live [] = false
 is_live (_ ∷ _) = true
 
 -- ---- What began it.
 
+-- The negotiation that its PSK_EXCHANGE was made under, and an empty one where there is none.
 abbrev pub session_negotiation : Events → Negotiation
 session_negotiation [] = no_negotiation
 session_negotiation (Began negotiation exchange answer ∷ older) = negotiation
 session_negotiation (_ ∷ older) = session_negotiation older
 
+-- Its PSK_EXCHANGE.
 abbrev pub exchange_of : Events → List ℕ
 exchange_of [] = []
 exchange_of (Began negotiation exchange answer ∷ older) = exchange
 exchange_of (_ ∷ older) = exchange_of older
 
+-- The PSK_EXCHANGE_RSP that answered it.
 abbrev pub exchange_answer : Events → List ℕ
 exchange_answer [] = []
 exchange_answer (Began negotiation exchange answer ∷ older) = answer
@@ -50,6 +54,7 @@ exchange_answer (_ ∷ older) = exchange_answer older
 abbrev pub session_terms : Events → Terms
 session_terms s = terms_of (session_negotiation s)
 
+-- The hash of a session is the chosen one.
 abbrev pub session_hash : Events → Hash
 session_hash s = hash_of (session_terms s).choice.hash
 
@@ -78,6 +83,7 @@ stage_of (Heard m t reply ∷ older) =
     else stage_of older))
 stage_of (_ ∷ older) = stage_of older
 
+-- The stage is past the handshake: Open or Verifying.
 abbrev pub is_past_handshake : Stage → Bool
 is_past_handshake Handshake = false
 is_past_handshake Open = true
@@ -135,18 +141,21 @@ is_spent s = request_next s == 65536 || response_next s == 65536
 
 -- ---- Transcripts (DSP0274, "Transcript hash").
 
+-- VCA: the six messages of its negotiation.
 abbrev pub session_vca : Events → List ℕ
 session_vca s = vca_of (session_negotiation s)
 
+-- T1: VCA, PSK_EXCHANGE, and PSK_EXCHANGE_RSP without its verify data.
 abbrev pub t1_of : Events → List ℕ
 t1_of s = transcript.t1_of (session_hash s) (session_vca s) (exchange_of s) (exchange_answer s)
 
--- PSK_FINISH, and its answer, once it was taken.
+-- PSK_FINISH, once it was taken.
 abbrev pub finish_of : Events → List ℕ
 finish_of [] = []
 finish_of (Heard m t reply ∷ older) = if takes 0xe7 t then request_in t.effect else finish_of older
 finish_of (_ ∷ older) = finish_of older
 
+-- PSK_FINISH_RSP, once PSK_FINISH was taken.
 abbrev pub finish_answer : Events → List ℕ
 finish_answer [] = []
 finish_answer (Heard m t reply ∷ older) = if takes 0xe7 t then answer_in t.effect else finish_answer older
@@ -156,11 +165,13 @@ finish_answer (_ ∷ older) = finish_answer older
 abbrev pub tv_of : Events → List ℕ → List ℕ
 tv_of s finish = transcript.tv_of (session_hash s) (session_vca s) (exchange_of s) (exchange_answer s) finish
 
+-- T2: VCA, PSK_EXCHANGE, PSK_EXCHANGE_RSP, PSK_FINISH and PSK_FINISH_RSP, all whole.
 abbrev pub t2_of : Events → List ℕ
 t2_of s = transcript.t2_of (session_vca s) (exchange_of s) (exchange_answer s) (finish_of s) (finish_answer s)
 
 -- ---- Time (DSP0274, "HEARTBEAT"). Only a session past its handshake, with a period, is timed.
 
+-- The session is past its handshake, and its period is not 0.
 abbrev pub is_timed : Events → Bool
 is_timed s = is_past_handshake (stage_of s) && not (period_of s == 0)
 
@@ -183,6 +194,7 @@ after_tick s seconds =
 abbrev pub id_in_record : List ℕ → ℕ
 id_in_record sealed = little_number 2 (drop 2 sealed)
 
+-- A live session with one more event; where there is no session, an event begins none.
 abbrev pub when_live : Events → Event → Events
 when_live [] e = []
 when_live (s ∷ ss) e = e ∷ s ∷ ss

@@ -1,5 +1,5 @@
 -- What the messages of a negotiation settle: the laws of terms, each the contract of a function of this
--- crate.
+-- crate. This project's own.
 use Rattle.std.specs.Prelude.{◌≡◌, ◌≤◌, ℕ, List, true, Some}
 use Rattle.std.specs.Result.{result_ok}
 use Rattle.negotiate.specs.Capabilities.{common_of}

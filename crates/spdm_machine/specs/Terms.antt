@@ -1,5 +1,6 @@
 -- What a negotiation settled, read off its messages alone, so that two ends that have the same messages have
--- the same terms.
+-- the same terms. DSP0274, section 10: the messages of the negotiation; what stands where nothing was settled
+-- is this project's own.
 use Rattle.std.specs.Prelude.{ℕ, List, [], false, Option, Some, None, unwrap_or}
 use Rattle.std.specs.Result.{result_ok}
 use Rattle.negotiate.specs.Capabilities.{common_of}
@@ -37,33 +38,38 @@ no_common = record {
   to_responder = record { transfer = 0; max = 0 };
 }
 
+-- The choice that stands where none was settled.
 abbrev pub no_choice : Choice
 no_choice = record { hash = Sha256; aead = Aes128Gcm; measure = false }
 
+-- The terms that stand where nothing was settled.
 abbrev pub no_terms : Terms
 no_terms = record { choice = no_choice; common = no_common }
 
--- The value of a message of the negotiation, of whose fields none depends on the hash.
+-- The value of a request of the negotiation, of whose fields none depends on the hash.
 abbrev pub request_value : List ℕ → Option RequestMessage
 request_value bytes = request_in 32 bytes
 
+-- The value of a response that depends on no hash and has no measurement summary.
 abbrev pub response_value : List ℕ → Option ResponseMessage
 response_value bytes = response_in 32 false bytes
 
--- The capabilities that GET_CAPABILITIES and CAPABILITIES tell.
+-- The capabilities that GET_CAPABILITIES tells; any other message tells none.
 abbrev pub asked_caps : Option RequestMessage → Option Caps
 asked_caps (Some (GetCapabilities caps)) = Some caps
 asked_caps _ = None
 
+-- The capabilities that CAPABILITIES tells; any other message tells none.
 abbrev pub told_caps : Option ResponseMessage → Option Caps
 told_caps (Some (Capabilities caps)) = Some caps
 told_caps _ = None
 
--- The offer of NEGOTIATE_ALGORITHMS and the reply of ALGORITHMS.
+-- The offer that NEGOTIATE_ALGORITHMS carries; any other message carries none.
 abbrev pub offer_in : Option RequestMessage → Option OfferMessage
 offer_in (Some (NegotiateAlgorithms offer)) = Some offer
 offer_in _ = None
 
+-- The reply that ALGORITHMS carries; any other message carries none.
 abbrev pub reply_in : Option ResponseMessage → Option ReplyMessage
 reply_in (Some (Algorithms reply)) = Some reply
 reply_in _ = None

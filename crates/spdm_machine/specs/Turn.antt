@@ -42,12 +42,13 @@ code_in NoEffect = 0
 code_in (Took asked request answer large) = code_for asked
 code_in (TookData bytes answer) = 0
 
--- Its bytes, and those of its whole answer.
+-- The bytes of the request, or the application data; none where nothing took effect.
 abbrev pub request_in : Effect → List ℕ
 request_in NoEffect = []
 request_in (Took asked request answer large) = request
 request_in (TookData bytes answer) = bytes
 
+-- The bytes of its whole answer, or the application data sent in answer; none where nothing took effect.
 abbrev pub answer_in : Effect → List ℕ
 answer_in NoEffect = []
 answer_in (Took asked request answer large) = answer
@@ -59,17 +60,19 @@ asked_in NoEffect = None
 asked_in (Took asked request answer large) = Some asked
 asked_in (TookData bytes answer) = None
 
--- The handle of the LargeResponse by which the answer went, and the answer that went so.
+-- The handle of the LargeResponse by which the answer went; none where it did not go so.
 abbrev pub handle_in : Effect → Option ℕ
 handle_in NoEffect = None
 handle_in (Took asked request answer large) = large
 handle_in (TookData bytes answer) = None
 
+-- The answer that went by LargeResponse; none where it did not go so.
 abbrev pub large_in : Effect → Option (List ℕ)
 large_in NoEffect = None
 large_in (Took asked request answer large) = option_map (λ handle. answer) large
 large_in (TookData bytes answer) = None
 
+-- It is application data that took effect.
 abbrev pub is_data : Effect → Bool
 is_data NoEffect = false
 is_data (Took asked request answer large) = false

@@ -60,48 +60,55 @@ IsPrefixOf xs ys = (rest : List (List ℕ)) × (xs ++ rest ≡ ys)
 abbrev pub bytes_under : (t2 transcript bytes : List ℕ) → List (List ℕ)
 bytes_under t2 transcript bytes = if bytes_eq transcript t2 then bytes ∷ [] else []
 
--- The application data that a requester sealed under T2, in order. A message that is sent again is none more.
+-- The application data that a command seals under T2: that of Send, where its session has this T2.
 abbrev pub sent_under : (t2 : List ℕ) → asked.History → Command → List (List ℕ)
 sent_under t2 older (Send id bytes) = bytes_under t2 (requester.t2_of (requester.session_of id older)) bytes
 sent_under t2 older _ = []
 
+-- The application data that a requester sealed under T2, in order. A message that is sent again is none more.
 abbrev pub requests_sealed : (t2 : List ℕ) → asked.History → List (List ℕ)
 requests_sealed t2 [] = []
 requests_sealed t2 (Told command sent d ∷ older) = requests_sealed t2 older ++ sent_under t2 older command
 requests_sealed t2 (_ ∷ older) = requests_sealed t2 older
 
--- The application data that it took under T2, in order.
+-- The bytes of an answer, where it is application data and its session has this T2.
 abbrev pub answered_under : (t2 : List ℕ) → requester.Steps → Bool → List ℕ → List (List ℕ)
 answered_under t2 s false answer = []
 answered_under t2 s true answer = bytes_under t2 (requester.t2_of s) answer
 
+-- The application data that a requester took under T2, in order.
 abbrev pub responses_taken : (t2 : List ℕ) → asked.History → List (List ℕ)
 responses_taken t2 [] = []
 responses_taken t2 (TookRecord tag id sealed inner led d ∷ older) =
     responses_taken t2 older ++ answered_under t2 (requester.session_of id older) (requester.is_data led.effect) (requester.answer_in led.effect)
 responses_taken t2 (_ ∷ older) = responses_taken t2 older
 
--- The application data that a responder took under T2, and what it sealed in answer, in order.
+-- The application data that took effect at a responder.
 abbrev pub data_taken : Effect → Option (List ℕ)
 data_taken (TookData bytes answer) = Some bytes
 data_taken _ = None
 
+-- The application data that was sealed in answer to it.
 abbrev pub data_answered : Effect → Option (List ℕ)
 data_answered (TookData bytes answer) = Some answer
 data_answered _ = None
 
+-- Bytes that are there, where a transcript is this T2.
 abbrev pub some_under : (t2 transcript : List ℕ) → Option (List ℕ) → List (List ℕ)
 some_under t2 transcript None = []
 some_under t2 transcript (Some bytes) = bytes_under t2 transcript bytes
 
+-- T2 of the session that a record names, as it stood before the record.
 abbrev pub transcript_for : List ℕ → History → List ℕ
 transcript_for sealed older = responder.t2_of (responder.session_of (id_in_record sealed) older)
 
+-- The application data that a responder took under T2, in order.
 abbrev pub requests_taken : (t2 : List ℕ) → History → List (List ℕ)
 requests_taken t2 [] = []
 requests_taken t2 (Sealed tag sealed t reply d ∷ older) = requests_taken t2 older ++ some_under t2 (transcript_for sealed older) (data_taken t.effect)
 requests_taken t2 (_ ∷ older) = requests_taken t2 older
 
+-- The application data that a responder sealed under T2, in order.
 abbrev pub responses_sealed : (t2 : List ℕ) → History → List (List ℕ)
 responses_sealed t2 [] = []
 responses_sealed t2 (Sealed tag sealed t reply d ∷ older) = responses_sealed t2 older ++ some_under t2 (transcript_for sealed older) (data_answered t.effect)

@@ -73,12 +73,13 @@ RepliesBy w d (Whole route body) next = IsBody body × (route.owner ≡ false) �
 RepliesBy w d More next = next ≡ d
 RepliesBy w d (Dropped cause) next = ⊥
 
--- It comes from a requester that is set up, after the packets before it, the newest first; or it goes to one.
+-- It comes from a requester that is set up, after the packets before it, the newest first.
 abbrev pub ComesFrom : WorldSetup → List (List ℕ) → PacketFields → List Dialogue → List Dialogue → Option Dialogue → Type 0
 ComesFrom w older packet before after None = ⊥
 ComesFrom w older packet before after (Some d) =
     (next : Dialogue) × AsksBy d (gathered_from w.responder.eid d.setup.eid older packet) next × (after ≡ with_dialogue next before)
 
+-- It goes to a requester that is set up, after the packets before it, the newest first.
 abbrev pub GoesTo : WorldSetup → List (List ℕ) → PacketFields → List Dialogue → List Dialogue → Option Dialogue → Type 0
 GoesTo w older packet before after None = ⊥
 GoesTo w older packet before after (Some d) =
@@ -92,6 +93,7 @@ FollowsBy w older before after (Ok packet) =
     (ComesFrom w older packet before after (dialogue_at packet.from before))
     (MatchBool (packet.from == w.responder.eid) (GoesTo w older packet before after (dialogue_at packet.to before)) ⊥)
 
+-- A packet may follow those before it, the newest first, and lead from dialogues to what they are after it.
 unfoldable pub Follows : WorldSetup → List (List ℕ) → List Dialogue → List ℕ → List Dialogue → Type 0
 Follows w older before packet after = FollowsBy w older before after (parsed packet)
 

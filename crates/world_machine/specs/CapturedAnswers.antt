@@ -32,12 +32,15 @@ abbrev pub answer_at : RspSetup → Place → List ℕ → Free → Option Chunk
 answer_at r p m f None = answer_bytes r p m f
 answer_at r p m f (Some c) = answer_bytes r (inside p) (joined_with (under_way (chunks_of p.turns)) c) f
 
+-- The whole answer to a clear message, which may be a chunk.
 abbrev pub clear_answer : RspSetup → Place → List ℕ → Free → List ℕ
 clear_answer r p m f = answer_at r p m f (chunk_in (request_at p m))
 
+-- The whole answer to a record, by its inner message.
 abbrev pub record_answer : RspSetup → Events → List ℕ → Free → List ℕ
 record_answer r s sealed f = answer_bytes r (session_place s) (drop 1 (opened r.psk s sealed)) f
 
+-- The whole answer to a body of type 5, or else of type 6.
 abbrev pub answer_to : RspSetup → History → List ℕ → Free → List ℕ
 answer_to r h body f =
     if slice_index body 0 == 5 then clear_answer r (clear_place h) (drop 1 body) f
@@ -80,6 +83,7 @@ AreShown r h body outcome (id ∷ other ∷ others) = ⊥
 
 -- ---- The responder's side of an answer.
 
+-- The outcome brings no LargeResponse and no last chunk of a large answer.
 abbrev pub is_plain : History → Outcome → Bool
 is_plain h (Same reply) = true
 is_plain h (Unopened reply) = true
@@ -106,12 +110,13 @@ AnswersLarge r d round answer next whole =
     × (sent_by entry ≡ answer)
     × (next ≡ entry_with [] entry ∷ d.responder)
 
--- The tag and the body of a request.
+-- The tag of the request of an entry; 0 where it is no message.
 abbrev pub tag_in : Entry → ℕ
 tag_in (Clear tag t d) = tag
 tag_in (Sealed tag sealed t reply d) = tag
 tag_in _ = 0
 
+-- The body of the request of an entry; no bytes where it is no message.
 abbrev pub request_in : Entry → List ℕ
 request_in (Clear tag t d) = clear_body t.message
 request_in (Sealed tag sealed t reply d) = record_body sealed
@@ -152,5 +157,6 @@ HearsWhile None d tag answer next =
     (outcome : asking.Outcome) × MayHear d.setup d.requester false tag answer no_draw outcome × (next ≡ shown.after d.requester outcome)
 HearsWhile (Some whole) d tag answer next = next ≡ with_ack whole tag (drop 1 answer) d.requester
 
+-- What an answer leads to: the requester's history after it.
 unfoldable pub Hears : Dialogue → ℕ → List ℕ → requester_history.History → Type 0
 Hears d tag answer next = HearsWhile d.sending d tag answer next

@@ -20,9 +20,11 @@ abbrev pub is_later : Option Round → Option Sent → Bool
 is_later (Some round) (Some sent) = not (sent.tag == round.tag)
 is_later _ _ = false
 
+-- The requester owes a message: what is outstanding has another tag than the last round.
 abbrev pub owes : Dialogue → Bool
 owes d = is_later d.round (outstanding d.requester)
 
+-- This message is the one that is owed.
 abbrev pub IsOwed : Dialogue → Sent → Type 0
 IsOwed d sent = (outstanding d.requester ≡ Some sent) × (owes d ≡ true)
 
@@ -85,6 +87,8 @@ BeginsOwed d body after whole =
     × (body_of (first_piece (without_owed d) asked whole).content ≡ body)
     × (after ≡ with_next (Some (first_piece (without_owed d) asked whole)) d.requester)
 
+-- The first chunk of a large request, by a command or owed; the bytes that stand for it are under way from
+-- then on.
 abbrev pub BeginsByChunks : Dialogue → List ℕ → History → Option (List ℕ) → Type 0
 BeginsByChunks d body after sending =
     (whole : List ℕ) × (BeginsLarge d body after whole ⊎ BeginsOwed d body after whole) × (sending ≡ Some whole)

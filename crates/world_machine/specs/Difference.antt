@@ -42,10 +42,12 @@ pub data Why : Type 0 where
 
 -- ---- Turns.
 
+-- The tag and the bytes are those of the last round's request.
 abbrev pub is_copy : Option Round → ℕ → List ℕ → Bool
 is_copy None tag body = false
 is_copy (Some round) tag body = round.tag == tag && bytes_eq round.body body
 
+-- The request is GET_VERSION.
 abbrev pub is_get_version : Option RequestMessage → Bool
 is_get_version (Some GetVersion) = true
 is_get_version _ = false
@@ -61,12 +63,13 @@ abbrev pub asks_out_of_turn : Dialogue → Bool → ℕ → List ℕ → Bool
 asks_out_of_turn d owner tag body =
     not owner || (not (is_copy d.round tag body) && (not (tag == following_tag d.round) || not (may_come d.round body)))
 
--- An answer is out of turn with the tag owner bit, with another tag than the last round's, and where no request of
--- it waits.
+-- The last round has this tag, and a request of it waits for an answer.
 abbrev pub is_waiting : Option Round → ℕ → Bool
 is_waiting None tag = false
 is_waiting (Some round) tag = round.tag == tag && nat_lt 0 round.waiting
 
+-- An answer is out of turn with the tag owner bit, with another tag than the last round's, and where no
+-- request of it waits.
 abbrev pub replies_out_of_turn : Dialogue → Bool → ℕ → Bool
 replies_out_of_turn d owner tag = owner || not (is_waiting d.round tag)
 
@@ -90,6 +93,8 @@ finish_in (Some sent) = finish_by sent.aim sent.content
 abbrev pub is_padded : List ℕ → List ℕ → Bool
 is_padded sealed inner = nat_le (length sealed) (26 + length inner + 16)
 
+-- A record names a session and opens there, its padding is no longer than it may be, and its inner message is
+-- apart from the PSK_FINISH that is owed.
 abbrev pub is_finish_apart : Dialogue → (sealed : List ℕ) → Option (ℕ × List ℕ) → Bool
 is_finish_apart d sealed None = false
 is_finish_apart d sealed (Some finish) =
@@ -98,10 +103,11 @@ is_finish_apart d sealed (Some finish) =
     && is_padded sealed (inner_asking d.setup s sealed)
     && is_apart (hash_len (requester_session.session_terms s)) finish.1 (inner_asking d.setup s sealed)
 
--- A record as PSK_FINISH.
+-- A record is apart from the PSK_FINISH that is owed.
 abbrev pub asks_apart : Dialogue → List ℕ → Bool
 asks_apart d body = body_type body == 6 && owes d && is_finish_apart d (drop 1 body) (finish_in (outstanding d.requester))
 
+-- How many bytes verify data have: the length of the hash that was chosen.
 abbrev pub verify_size : Dialogue → ℕ
 verify_size d = hash_len (terms_of (negotiation_of (clear_turns d.responder)))
 
@@ -109,6 +115,7 @@ verify_size d = hash_len (terms_of (negotiation_of (clear_turns d.responder)))
 abbrev pub carries_exchange : List ℕ → Bool
 carries_exchange body = body_type body == 5 && (slice_index body 2 == 0x66 || (slice_index body 2 == 0x05 && slice_index body 8 == 0x66))
 
+-- An answer may be given that carries PSK_EXCHANGE_RSP, and from which this one is apart.
 abbrev pub RepliesApart : RspSetup → Dialogue → Round → List ℕ → Type 0
 RepliesApart r d round answer =
     (other : List ℕ) × (h : History) × (fetching : Option (List ℕ)) × Answers r d round other h fetching
@@ -128,27 +135,32 @@ CompletesApart r d round answer =
     × (slice_index other 1 ≡ 0x66)
     × (is_apart (verify_size d) other whole ≡ true)
 
+-- An answer is apart in one of these two ways; where there is no round, in none.
 abbrev pub AreRepliesApart : RspSetup → Dialogue → Option Round → List ℕ → Type 0
 AreRepliesApart r d None answer = ⊥
 AreRepliesApart r d (Some round) answer = RepliesApart r d round answer ⊎ CompletesApart r d round answer
 
--- The packet completes a body, in turn, whose verify data alone are wrong.
+-- The packet completes a request, in turn, whose verify data alone are wrong.
 abbrev pub ComesApart : Dialogue → Gathered → Type 0
 ComesApart d (Whole route body) = (asks_out_of_turn d route.owner route.tag body ≡ false) × (asks_apart d body ≡ true)
 ComesApart d _ = ⊥
 
+-- The packet completes an answer, in turn, whose verify data alone are wrong.
 abbrev pub GoesApart : RspSetup → Dialogue → Gathered → Type 0
 GoesApart r d (Whole route body) = (replies_out_of_turn d route.owner route.tag ≡ false) × AreRepliesApart r d d.round body
 GoesApart r d _ = ⊥
 
+-- It comes from a requester that is set up and completes such a request.
 abbrev pub ComesApartFrom : WorldSetup → List (List ℕ) → PacketFields → Option Dialogue → Type 0
 ComesApartFrom w older packet None = ⊥
 ComesApartFrom w older packet (Some d) = ComesApart d (gathered_from w.responder.eid d.setup.eid older packet)
 
+-- It goes to a requester that is set up and completes such an answer.
 abbrev pub GoesApartTo : WorldSetup → List (List ℕ) → PacketFields → Option Dialogue → Type 0
 GoesApartTo w older packet None = ⊥
 GoesApartTo w older packet (Some d) = GoesApart (towards w.responder d.setup) d (gathered_from d.setup.eid w.responder.eid older packet)
 
+-- It parses, and is such a packet to the responder from a requester, or from the responder to one.
 abbrev pub IsApartBy : WorldSetup → List (List ℕ) → List Dialogue → Result PacketFields PacketFault → Type 0
 IsApartBy w older ds (Err fault) = ⊥
 IsApartBy w older ds (Ok packet) =
@@ -176,6 +188,7 @@ reply_why r d answer (Some round) =
     if body_type answer == 5 || opens_answering r d.responder (body_type round.body == 5) (drop 1 round.body) (drop 1 answer) then BadReply
     else BadRecord
 
+-- The type of the body is neither 5 nor 6.
 abbrev pub is_other_type : List ℕ → Bool
 is_other_type body = not (body_type body == 5 || body_type body == 6)
 
@@ -188,6 +201,7 @@ comes_why d (Whole route body) =
 comes_why d More = None
 comes_why d (Dropped cause) = Some BadPacket
 
+-- The same of a packet for a requester, with an answer.
 abbrev pub goes_why : RspSetup → Dialogue → Gathered → Option Why
 goes_why r d (Whole route body) =
     Some (if is_other_type body then BadPacket
@@ -196,14 +210,17 @@ goes_why r d (Whole route body) =
 goes_why r d More = None
 goes_why r d (Dropped cause) = Some BadPacket
 
+-- The end that it comes from is unknown; else the reason is that of what it completes.
 abbrev pub from_why : WorldSetup → List (List ℕ) → PacketFields → Option Dialogue → Option Why
 from_why w older packet None = Some UnknownEnd
 from_why w older packet (Some d) = comes_why d (gathered_from w.responder.eid d.setup.eid older packet)
 
+-- The end that it goes to is unknown; else the reason is that of what it completes.
 abbrev pub to_why : WorldSetup → List (List ℕ) → PacketFields → Option Dialogue → Option Why
 to_why w older packet None = Some UnknownEnd
 to_why w older packet (Some d) = goes_why (towards w.responder d.setup) d (gathered_from d.setup.eid w.responder.eid older packet)
 
+-- It is no packet; it goes to the responder or comes from it, and is judged so; or its ends are unknown.
 abbrev pub why_by : WorldSetup → List (List ℕ) → List Dialogue → Result PacketFields PacketFault → Option Why
 why_by w older ds (Err fault) = Some BadPacket
 why_by w older ds (Ok packet) =
@@ -211,6 +228,7 @@ why_by w older ds (Ok packet) =
     else (if packet.from == w.responder.eid then to_why w older packet (dialogue_at packet.to ds)
     else Some UnknownEnd)
 
+-- No walk over the packets before it leaves its verify data alone wrong, and after some walk this is the reason.
 unfoldable pub IsOtherwiseWrong : WorldSetup → List (List ℕ) → List ℕ → Why → Type 0
 IsOtherwiseWrong w older packet why =
     (IsVerifyApart w older packet → ⊥) × ((ds : List Dialogue) × Leads w older ds × (why_by w older ds (parsed packet) ≡ Some why))

@@ -19,20 +19,23 @@ use Rattle.spdm_machine.specs.Turn.Effect.{NoEffect, Took, TookData}
 
 -- ---- Entries whose answer went by LargeResponse.
 
+-- The answer of the entry went by LargeResponse.
 abbrev pub is_large : Entry → Bool
 is_large (Clear tag t d) = is_some (handle_in t.effect)
 is_large (Sealed tag sealed t reply d) = is_some (handle_in t.effect)
 is_large _ = false
 
--- The same with these bytes as the whole answer.
+-- What took effect, with these bytes as the whole answer to a request; all else stays as it is.
 abbrev pub effect_with : List ℕ → Effect → Effect
 effect_with answer NoEffect = NoEffect
 effect_with answer (Took asked request old large) = Took asked request answer large
 effect_with answer (TookData bytes old) = TookData bytes old
 
+-- A turn with these bytes as the whole answer to its request.
 abbrev pub turn_with : List ℕ → Turn → Turn
 turn_with answer t = record t { effect = effect_with answer t.effect }
 
+-- An entry with these bytes as the whole answer to its request; one that is no message stays as it is.
 abbrev pub entry_with : List ℕ → Entry → Entry
 entry_with answer (Clear tag t d) = Clear tag (turn_with answer t) d
 entry_with answer (Sealed tag sealed t reply d) = Sealed tag sealed (turn_with answer t) reply d
@@ -64,17 +67,19 @@ IsLargeAnswer p whole = (goes_large p whole ≡ true) × (is_answer_too_long p w
 
 -- ---- While it is fetched.
 
--- The requester has CHUNK_GET outstanding, or owes it.
+-- A chunk of a large answer is asked of a session.
 abbrev pub asks_chunk : Ask → Bool
 asks_chunk (AskChunk op handle number before) = true
 asks_chunk _ = false
 
+-- The message is CHUNK_GET, in the clear or in a session.
 abbrev pub is_for_chunk : Aim → Bool
 is_for_chunk (Plain asked) = false
 is_for_chunk (ByChunks asked handle number) = false
 is_for_chunk (ForChunk asked handle number before) = true
 is_for_chunk (InSession id ask) = asks_chunk ask
 
+-- The requester has CHUNK_GET outstanding, or owes it.
 abbrev pub is_fetching : Option Sent → Bool
 is_fetching None = false
 is_fetching (Some sent) = is_for_chunk sent.aim
@@ -90,6 +95,7 @@ judging (Some whole) h = with_large whole h
 
 -- ---- The last chunk.
 
+-- CHUNK_GET took effect with the entry.
 abbrev pub takes_get : Entry → Bool
 takes_get (Clear tag t d) = takes 0x86 t
 takes_get (Sealed tag sealed t reply d) = takes 0x86 t

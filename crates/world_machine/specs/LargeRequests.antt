@@ -21,6 +21,7 @@ use Rattle.spdm_grammar.specs.Requests.{canonical_request}
 use Rattle.spdm_machine.specs.Setup.{ReqSetup}
 use Rattle.world_machine.specs.Rounds.{no_draw}
 
+-- What both ends can do, as the requester has negotiated it.
 abbrev pub common_of : History → Common
 common_of h = (connection_terms h).common
 
@@ -47,6 +48,7 @@ with_next_piece whole tag m h (ByChunks asked handle number) =
     TookClear tag m (goes_on Nothing (piece_with h asked whole handle (number + 1))) no_draw ∷ h
 with_next_piece whole tag m h _ = h
 
+-- An acknowledgement calls for the next chunk where a message is outstanding.
 abbrev pub with_ack_to : List ℕ → ℕ → List ℕ → History → Option Sent → History
 with_ack_to whole tag m h None = h
 with_ack_to whole tag m h (Some sent) = with_next_piece whole tag m h sent.aim
@@ -57,6 +59,7 @@ with_ack whole tag m h = if has_tag (outstanding h) tag then with_ack_to whole t
 
 -- ---- The last chunk.
 
+-- The message is CHUNK_SEND with the last chunk of the bytes that stand for the request.
 abbrev pub is_last_piece : History → List ℕ → Aim → Bool
 is_last_piece h whole (ByChunks asked handle number) = number + 1 == chunk_count (common_of h).to_responder.transfer whole
 is_last_piece h whole _ = false
@@ -79,11 +82,12 @@ MayHaveBegun q (TookRecord tag id sealed inner led d ∷ older) = MayHaveBegun q
 abbrev pub IsJudgedAtLast : ReqSetup → History → List ℕ → Aim → Type 0
 IsJudgedAtLast q h whole aim = OnTrue (is_last_piece h whole aim) (AreAsked whole aim × MayHaveBegun q h)
 
+-- A large request under way is judged so; where there is none, nothing is to be judged.
 abbrev pub IsJudged : ReqSetup → History → Option (List ℕ) → Aim → Type 0
 IsJudged q h None aim = ⊤
 IsJudged q h (Some whole) aim = IsJudgedAtLast q h whole aim
 
--- And no longer under way.
+-- With its last chunk a large request is no longer under way.
 abbrev pub still_sending : History → Option (List ℕ) → Aim → Option (List ℕ)
 still_sending h None aim = None
 still_sending h (Some whole) aim = if is_last_piece h whole aim then None else Some whole

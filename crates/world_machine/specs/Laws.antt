@@ -1,4 +1,5 @@
 -- What is said of every world: chance stays, and the connections of a responder do not touch one another.
+-- This project's own.
 use Rattle.std.specs.Prelude.{◌≡◌, ◌≢◌, ℕ, List, filter, slice_index}
 use Rattle.mctp_framing.specs.Gathering.{Receiver, is_ours}
 use Rattle.world_machine.specs.Chance.{HasChance}

@@ -1,4 +1,4 @@
--- The lines of a trace, as words and numbers. How a line is written is the printer's subject.
+-- The lines of a trace, as words and numbers. How a line is written is the printer's subject. This project's own.
 use Rattle.std.specs.Prelude.{ℕ, List, Option}
 use Rattle.spdm_basis.specs.declared.session_id.SessionId.{SessionId}
 use Rattle.spdm_grammar.specs.declared.command_fault.CommandFault.{CommandFault}
@@ -13,6 +13,7 @@ pub data Whose : Type 0 where
   Requester : (n : ℕ) → Whose
   Responder : (n : ℕ) → Whose
 
+-- The lines of a trace, each kind with what it tells.
 pub data Line : Type 0 where
   -- The phase of an end, and a session of it.
   State : (whose : Whose) → (phase : Phase) → Line

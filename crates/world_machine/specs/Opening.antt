@@ -21,6 +21,7 @@ use Rattle.spdm_machine.specs.Turn.{Turn, takes}
 abbrev pub names : List ℕ → requester_session.Steps → Bool
 names sealed s = requester_session.is_accepted s && bytes_eq (requester_session.id_bytes s) (take 4 sealed)
 
+-- The session of a requester that a record names so, the one of least ReqSessionID; none where it names none.
 abbrev pub session_named : requester_history.History → List ℕ → requester_session.Steps
 session_named h sealed =
     if names sealed (requester_session.session_of 1 h) then requester_session.session_of 1 h
@@ -29,12 +30,13 @@ session_named h sealed =
     else (if names sealed (requester_session.session_of 4 h) then requester_session.session_of 4 h
     else [])))
 
--- It opens under the next request key and number, and this is its inner message then.
+-- A record opens under the next request key and number.
 unfoldable pub opens_asking : ReqSetup → requester_session.Steps → List ℕ → Bool
 opens_asking q s sealed =
     requester_session.is_accepted s
     && is_none (record_fault (requester_session.session_terms s).choice (requester_records.request_purpose q.psk s) (requester_session.request_next s) (requester_session.id_bytes s) sealed)
 
+-- The inner message that it has then.
 unfoldable pub inner_asking : ReqSetup → requester_session.Steps → List ℕ → List ℕ
 inner_asking q s sealed =
     inner_message (requester_session.session_terms s).choice (requester_records.request_purpose q.psk s) (requester_session.request_next s) sealed
@@ -67,6 +69,7 @@ opens_ended r (_ ∷ older) sealed = opens_ended r older sealed
 abbrev pub any_free : Free
 any_free = record { id = 1; context = []; exchange_opaque = []; nonce = []; measured_opaque = []; handle = 0; reply = []; pad = [] }
 
+-- The turn of a record that is a request in a session.
 abbrev pub turn_in : RspSetup → Events → List ℕ → Turn
 turn_in r s request = session_turn r s (opened r.psk s request) any_free
 

@@ -5,11 +5,12 @@ use Rattle.mctp_framing.specs.Cutting.{packets_of}
 use Rattle.mctp_framing.specs.Gathering.{Gathered, gathered}
 use Rattle.mctp_framing.specs.Packet.{PacketFields, parsed}
 
--- The fields of the packets among these bytes, in the same order.
+-- The fields of a packet in front of the others; bytes that are no packet add none.
 abbrev pub fields_with : {E : Type 0} → Result PacketFields E → List PacketFields → List PacketFields
 fields_with (Ok packet) others = packet ∷ others
 fields_with (Err fault) others = others
 
+-- The fields of the packets among these bytes, in the same order.
 abbrev pub fields_in : List (List ℕ) → List PacketFields
 fields_in [] = []
 fields_in (bytes ∷ others) = fields_with (parsed bytes) (fields_in others)

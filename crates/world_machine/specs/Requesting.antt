@@ -1,4 +1,4 @@
--- A requester with all that it was given: what a command and a packet lead to.
+-- A requester with all that it was given: what a command and a packet lead to. This project's own.
 use Rattle.std.specs.Prelude.{◌+◌, nat_le, ℕ, List, [], ◌∷◌, length, if◌then◌else◌, Bool, true, false, Option, Some, None, unwrap_or, Result, Ok, Err}
 use Rattle.mctp_framing.specs.Gathering.{Gathered}
 use Rattle.mctp_framing.specs.Gathering.Gathered.{Whole, More, Dropped}
@@ -29,6 +29,7 @@ pub record Requesting : Type 0 where
   pub commands : ℕ
   pub history : History
 
+-- A requester that was told and given nothing yet.
 abbrev pub new_requesting : ℕ → ReqSetup → Requesting
 new_requesting n q = record { number = n; setup = q; given = []; commands = 0; history = [] }
 
@@ -69,6 +70,7 @@ commanded_by a outcome = record {
   after = record a { commands = a.commands + 1; history = after a.history outcome };
 }
 
+-- A worn requester tells the fault of a command, and nothing changes.
 abbrev pub worn_command : Requesting → Outcome → CommandStep
 worn_command a outcome = record { fault = fault_of outcome; sent = []; acts = []; after = a }
 
@@ -105,6 +107,7 @@ heard_by a packet body outcome = record {
   after = record a { given = packet ∷ a.given; history = after a.history outcome };
 }
 
+-- A packet that completes a body is heard; one that awaits more, or is dropped, changes nothing else.
 abbrev pub hears_gathered : WorldSetup → Requesting → List ℕ → Gathered → PacketStep
 hears_gathered w a packet (Whole route body) = heard_by a packet body (requester_hears a.setup a.history route.owner route.tag body (next_draw w a))
 hears_gathered w a packet More = ignores a packet event.More
@@ -115,6 +118,7 @@ abbrev pub hears_packet : WorldSetup → Requesting → List ℕ → Result Pack
 hears_packet w a packet (Err fault) = ignores a packet (event.Ignored (ignored.Packet fault))
 hears_packet w a packet (Ok fields) = hears_gathered w a packet (gathered_from a.setup.eid a.setup.responder a.given fields)
 
+-- A worn requester ignores a packet, and nothing changes.
 abbrev pub worn_step : Requesting → PacketStep
 worn_step a = record { event = event.Ignored ignored.Worn; sent = []; taken = None; measured = None; acts = []; after = a }
 

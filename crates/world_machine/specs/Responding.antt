@@ -1,4 +1,4 @@
--- The responder with all its connections: what a packet leads to.
+-- The responder with all its connections: what a packet leads to. This project's own.
 use Rattle.std.specs.Prelude.{◌+◌, ◌==◌, ◌||◌, not, nat_le, nat_lt, ℕ, List, [], ◌∷◌, map, find, length, if◌then◌else◌, Bool, false, Option, Some, None, Result, Ok, Err}
 use Rattle.mctp_framing.specs.Gathering.{Gathered}
 use Rattle.mctp_framing.specs.Gathering.Gathered.{Whole, More, Dropped}
@@ -38,14 +38,17 @@ pub record Responding : Type 0 where
   pub given : List (List ℕ)
   pub connections : List Connection
 
+-- A connection with a requester from which nothing was taken yet.
 abbrev pub new_connection : WorldSetup → ReqSetup → Connection
 new_connection w q = record { setup = towards w.responder q; history = [] }
 
+-- The responder that was given nothing yet, with a connection for each requester.
 abbrev pub new_responding : WorldSetup → Responding
 new_responding w = record { given = []; connections = map (new_connection w) w.requesters }
 
 -- ---- Which connection. The end points of the requesters differ.
 
+-- The connection with this end point, if there is one.
 abbrev pub connection_of : ℕ → List Connection → Option Connection
 connection_of eid connections = find (λ c. c.setup.peer == eid) connections
 
@@ -63,6 +66,7 @@ with_history eid change connections = map (changed_if eid change) connections
 
 -- ---- Draws go round all connections.
 
+-- How many draws all connections took.
 abbrev pub all_draws : List Connection → ℕ
 all_draws [] = 0
 all_draws (c ∷ others) = draws_of c.history + all_draws others
@@ -92,6 +96,7 @@ data_in sealed NoEffect = None
 data_in sealed (Took asked request answer large) = None
 data_in sealed (TookData bytes answer) = Some (record_id sealed, bytes)
 
+-- The application data that a record just brought, with its session; none by any other outcome.
 abbrev pub data_of : Outcome → Option (SessionId × List ℕ)
 data_of (Adds (Sealed tag sealed t reply d)) = data_in sealed t.effect
 data_of _ = None
@@ -113,11 +118,13 @@ hears_whole w r c packet route body =
     else (if not (body_type body == 5 || body_type body == 6) then ignores r packet (heard.Ignored ignored.OtherType)
     else answers r c packet route body (responder_does c.setup c.history route.tag body (next_draw w r)))
 
+-- A packet that completes a body is heard; one that awaits more, or is dropped, changes nothing else.
 abbrev pub hears_gathered : WorldSetup → Responding → Connection → List ℕ → Gathered → RspStep
 hears_gathered w r c packet (Whole route body) = hears_whole w r c packet route body
 hears_gathered w r c packet More = ignores r packet heard.More
 hears_gathered w r c packet (Dropped cause) = ignores r packet (heard.Ignored (ignored.Dropped cause))
 
+-- A packet from an end point without a connection is ignored.
 abbrev pub hears_from : WorldSetup → Responding → List ℕ → PacketFields → Option Connection → RspStep
 hears_from w r packet fields None = ignores r packet (heard.Ignored ignored.UnknownPeer)
 hears_from w r packet fields (Some c) = hears_gathered w r c packet (gathered_from c.setup.eid c.setup.peer r.given fields)
@@ -133,6 +140,7 @@ hears_packet w r packet (Ok fields) =
 abbrev pub is_worn : Responding → Bool
 is_worn r = nat_le wear_limit (length r.given)
 
+-- A worn responder ignores a packet, and nothing changes.
 abbrev pub worn_step : Responding → RspStep
 worn_step r = record { heard = heard.Ignored ignored.Worn; sent = []; taken = None; acts = []; after = r }
 
@@ -151,6 +159,7 @@ reply_fault_of (Some c) bytes =
     else (if nat_le 16 (length (queue_of c.history)) then Some reply_fault.Full
     else None)
 
+-- Application data is queued for an end point, unless it has a fault.
 abbrev pub queues : Option ReplyFault → Responding → ℕ → List ℕ → Responding
 queues (Some fault) r eid bytes = r
 queues None r eid bytes = record r { connections = with_history eid (λ h. Queued bytes ∷ h) r.connections }

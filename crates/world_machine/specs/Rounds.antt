@@ -46,14 +46,18 @@ following_tag (Some round) = (round.tag + 1) % 8
 
 -- ---- Which dialogue. The end points of the requesters differ.
 
+-- The dialogue is that of the requester with this end point.
 abbrev pub is_at : ℕ → Dialogue → Bool
 is_at eid d = d.setup.eid == eid
 
+-- The dialogue of the requester with this end point, if there is one.
 abbrev pub dialogue_at : ℕ → List Dialogue → Option Dialogue
 dialogue_at eid ds = find (is_at eid) ds
 
+-- The new dialogue in place of the old one, where they have one end point.
 abbrev pub replaced : Dialogue → Dialogue → Dialogue
 replaced new old = if old.setup.eid == new.setup.eid then new else old
 
+-- The dialogues with the new one in place of the one with its end point.
 abbrev pub with_dialogue : Dialogue → List Dialogue → List Dialogue
 with_dialogue new ds = map (replaced new) ds

@@ -29,14 +29,16 @@ pub record Row : Type 0 where
   pub sent : List (List ℕ)
   pub answered : List (List ℕ)
 
+-- The RspSessionID of a row's session.
 abbrev pub responder_id : Row → ℕ
 responder_id row = id_in_exchange (exchange_answer row.events)
 
--- A record that is not among them yet.
+-- The record is among these.
 abbrev pub is_among : List ℕ → List (List ℕ) → Bool
 is_among sealed [] = false
 is_among sealed (other ∷ others) = bytes_eq sealed other || is_among sealed others
 
+-- The records with this one, which is added where it is not among them yet.
 abbrev pub with_record : List ℕ → List (List ℕ) → List (List ℕ)
 with_record sealed others = if is_among sealed others then others else sealed ∷ others
 
@@ -46,6 +48,7 @@ with_record sealed others = if is_among sealed others then others else sealed �
 abbrev pub begins : Turn → Bool
 begins t = takes 0xe6 t && not (length (answer_in t.effect) == 0)
 
+-- How many sessions were begun.
 abbrev pub begun_count : History → ℕ
 begun_count [] = 0
 begun_count (Clear tag t d ∷ older) = if begins t then begun_count older + 1 else begun_count older
@@ -57,6 +60,7 @@ last_begun [] = 0
 last_begun (Clear tag t d ∷ older) = if begins t then id_in_exchange (answer_in t.effect) else last_begun older
 last_begun (_ ∷ older) = last_begun older
 
+-- A session was begun between two moments of a dialogue.
 abbrev pub has_begun : Dialogue → Dialogue → Bool
 has_begun before after = nat_lt (begun_count before.responder) (begun_count after.responder)
 
@@ -64,11 +68,12 @@ has_begun before after = nat_lt (begun_count before.responder) (begun_count afte
 abbrev pub has_begun_as : Dialogue → Dialogue → ℕ → Bool
 has_begun_as before after id = has_begun before after && last_begun after.responder == id
 
--- The record that the responder took last, with this id, and the record that answered it.
+-- The record that answered the newest entry, where that is a record with this id.
 abbrev pub last_reply : ℕ → History → Option (List ℕ)
 last_reply id (Sealed tag sealed t reply d ∷ older) = if id_in_record sealed == id then Some reply else None
 last_reply id _ = None
 
+-- The record that answered one with this id between two moments, if one did.
 abbrev pub reply_between : Dialogue → Dialogue → ℕ → Option (List ℕ)
 reply_between before after id = if nat_lt (length before.responder) (length after.responder) then last_reply id after.responder else None
 
@@ -81,10 +86,11 @@ accepted_in (TookClear tag m led d ∷ older) = accepted_by led.effect
     accepted_by _ = None
 accepted_in _ = None
 
+-- The ReqSessionID of the exchange whose answer the requester took between two moments, if it took one.
 abbrev pub accepted_between : Dialogue → Dialogue → Option ℕ
 accepted_between before after = if nat_lt (length before.requester) (length after.requester) then accepted_in after.requester else None
 
--- A round began, and its request is a record of the session of this ReqSessionID.
+-- The message is a record of the session of this ReqSessionID.
 abbrev pub is_of : ℕ → Option Sent → Bool
 is_of id (Some sent) = is_aimed id sent.aim
   where
@@ -93,10 +99,13 @@ is_of id (Some sent) = is_aimed id sent.aim
     is_aimed id _ = false
 is_of id None = false
 
+-- The round is a new one: there was none before, or it had another tag.
 abbrev pub is_new : Option Round → Round → Bool
 is_new None round = true
 is_new (Some before) round = not (before.tag == round.tag)
 
+-- The body of the request by which a round began between two moments, where it is a record of the session of
+-- this ReqSessionID.
 abbrev pub request_by : Dialogue → Dialogue → ℕ → Option Round → Option (List ℕ)
 request_by before after id None = None
 request_by before after id (Some round) =
@@ -104,14 +113,17 @@ request_by before after id (Some round) =
 
 -- ---- What that makes of a row.
 
+-- Both ids are there, and they are equal.
 abbrev pub is_named : Option ℕ → Option ℕ → Bool
 is_named (Some id) (Some other) = id == other
 is_named _ _ = false
 
+-- The records with another one, if there is one.
 abbrev pub with_option : Option (List ℕ) → List (List ℕ) → List (List ℕ)
 with_option None others = others
 with_option (Some sealed) others = with_record sealed others
 
+-- That request for the ReqSessionID of a row, if the row still has one.
 abbrev pub request_between : Dialogue → Dialogue → Option ℕ → Option (List ℕ)
 request_between before after None = None
 request_between before after (Some id) = request_by before after id after.round
@@ -122,11 +134,14 @@ with_events before after row =
     if not (is_live (session_of (responder_id row) after.responder)) || has_begun_as before after (responder_id row) then record row { live = false }
     else record row { events = session_of (responder_id row) after.responder }
 
+-- At the responder: a live row goes on and gets the record that answered it; any other stays as it is.
 abbrev pub with_responder : Dialogue → Dialogue → Row → Row
 with_responder before after row =
     if row.live then record (with_events before after row) { answered = with_option (reply_between before after (responder_id row)) row.answered }
     else row
 
+-- At the requester: a row loses its ReqSessionID to a session accepted later under it, and gets the record of
+-- its own that began a round.
 abbrev pub with_requester : Dialogue → Dialogue → Row → Row
 with_requester before after row =
     record row {
@@ -134,6 +149,7 @@ with_requester before after row =
       sent = with_option (request_between before after row.asks_as) row.sent;
     }
 
+-- A row of this requester changes at both ends; a row of another stays as it is.
 abbrev pub row_after : Dialogue → Dialogue → Row → Row
 row_after before after row =
     if row.eid == after.setup.eid then with_requester before after (with_responder before after row) else row
@@ -149,6 +165,7 @@ new_row before after = record {
   answered = [];
 }
 
+-- The rows after two moments, with a new one in front where a session was begun.
 abbrev pub rows_between : Dialogue → Dialogue → List Row → List Row
 rows_between before after rows =
     if has_begun before after then new_row before after ∷ map (row_after before after) rows
@@ -181,10 +198,12 @@ pub record Seen : Type 0 where
   pub sent : ℕ
   pub answered : ℕ
 
+-- The number of the requester with an end point, where the first of these has number n; 0 where none has it.
 abbrev pub number_from : ℕ → ℕ → List ReqSetup → ℕ
 number_from n eid [] = 0
 number_from n eid (q ∷ others) = if q.eid == eid then n else number_from (n + 1) eid others
 
+-- A row as an entry of the table.
 abbrev pub seen : WorldSetup → Row → Seen
 seen w row = record {
   requester = number_from 1 row.eid w.requesters;

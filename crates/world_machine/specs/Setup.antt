@@ -44,10 +44,11 @@ towards r q = record {
   psk = q.psk;
 }
 
--- The seeds of the ends: HMAC over SHA-256 of the common seed and the byte 72, or for requester n the bytes
--- 71 and n (hexadecimal). This project's own.
+-- The seed of the responder: HMAC over SHA-256 of the common seed and the byte 72, and for requester n of the
+-- bytes 71 and n (hexadecimal). This project's own.
 abbrev pub responder_seed : List ℕ → List ℕ
 responder_seed seed = hmac (hash_of Sha256) seed (0x72 ∷ [])
 
+-- The seed of requester n.
 abbrev pub requester_seed : List ℕ → ℕ → List ℕ
 requester_seed seed n = hmac (hash_of Sha256) seed (0x71 ∷ n ∷ [])

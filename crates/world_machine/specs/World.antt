@@ -56,6 +56,7 @@ behind first second = record { lines = first.lines ++ (second first.after).lines
 abbrev pub waiting : List ℕ → SentPacket
 waiting bytes = record { bytes = bytes; waits = true }
 
+-- The packets sent, with new ones behind them that wait.
 abbrev pub with_sent : List SentPacket → List (List ℕ) → List SentPacket
 with_sent sent packets = sent ++ map waiting packets
 
@@ -66,15 +67,19 @@ packet_lines count (bytes ∷ others) = Line.Packet (count + 1) bytes ∷ packet
 
 -- ---- Requesters.
 
+-- The requester has this number.
 abbrev pub is_number : ℕ → Requesting → Bool
 is_number n a = a.number == n
 
+-- The requester of this number, if there is one.
 abbrev pub requester_of : ℕ → World → Option Requesting
 requester_of n world = find (is_number n) world.requesters
 
+-- The new requester in place of the old one, where they have one number.
 abbrev pub replaced : Requesting → Requesting → Requesting
 replaced new old = if old.number == new.number then new else old
 
+-- The requesters with the new one in place of the one with its number.
 abbrev pub with_requester : Requesting → List Requesting → List Requesting
 with_requester new requesters = map (replaced new) requesters
 
@@ -85,30 +90,35 @@ told_by world a step = record {
   after = record { requesters = with_requester step.after world.requesters; responder = world.responder; sent = with_sent world.sent step.sent; log = step.acts ++ world.log };
 }
 
+-- A command for a requester that is not set up does nothing.
 abbrev pub told : WorldSetup → World → Command → Option Requesting → WorldStep
 told w world command None = rests world
 told w world command (Some a) = told_by world a (requester_told w a command)
 
 -- ---- A packet is given to a requester.
 
--- The session of an event.
+-- The session whose application data was answered; none for any other command that is done.
 abbrev pub id_in_finished : Finished → SessionId
 id_in_finished (finished.Answered id) = id
 id_in_finished _ = no_id
 
+-- The session of an event: that of a command that is done, else none.
 abbrev pub id_in_event : Event → SessionId
 id_in_event (event.Done what) = id_in_finished what
 id_in_event _ = no_id
 
--- Lines of application data and of a measurement record that were just taken.
+-- The line of application data that was just taken, if any was.
 abbrev pub data_lines : Whose → SessionId → Option (List ℕ) → List Line
 data_lines who id None = []
 data_lines who id (Some bytes) = Line.Data who id bytes ∷ []
 
+-- The line of a measurement record that requester n just took, if it took one.
 abbrev pub record_lines : ℕ → Option (List ℕ) → List Line
 record_lines n None = []
 record_lines n (Some bytes) = Line.Record n bytes ∷ []
 
+-- What comes of it: lines of what is told, of data, of measurements and of the packets sent; and the
+-- requester as it is after it.
 abbrev pub given_to_requester : World → Requesting → PacketStep → WorldStep
 given_to_requester world a step = record {
   lines = Line.ToRequester a.number step.event
@@ -124,13 +134,16 @@ given_to_requester world a step = record {
 abbrev pub is_at : ℕ → Requesting → Bool
 is_at eid a = a.setup.eid == eid
 
+-- The number of a requester, and 0 where there is none.
 abbrev pub number_in : Option Requesting → ℕ
 number_in None = 0
 number_in (Some a) = a.number
 
+-- The number of the requester with this end point, and 0 where there is none.
 abbrev pub number_at : ℕ → World → ℕ
 number_at eid world = number_in (find (is_at eid) world.requesters)
 
+-- The line of application data that the responder just took from requester n, if it took any.
 abbrev pub taken_lines : ℕ → Option (SessionId × List ℕ) → List Line
 taken_lines n None = []
 taken_lines n (Some taken) = Line.Data (Whose.Responder n) taken.0 taken.1 ∷ []
@@ -147,10 +160,12 @@ given_to_responder world packet step = record {
 -- ---- A packet is given to the end that its byte 1 names; one of fewer than two bytes, and one for no end, to
 -- nobody.
 
+-- A packet is given to a requester, or to nobody where there is none.
 abbrev pub given_to : WorldSetup → World → List ℕ → Option Requesting → WorldStep
 given_to w world packet None = record { lines = Line.ToNobody ∷ []; after = world }
 given_to w world packet (Some a) = given_to_requester world a (requester_given w a packet)
 
+-- A packet is given by its byte 1: to the responder, to a requester, or to nobody.
 abbrev pub given : WorldSetup → World → List ℕ → WorldStep
 given w world packet =
     if nat_lt (length packet) 2 then given_to w world packet None
@@ -159,6 +174,7 @@ given w world packet =
 
 -- ---- Packets by number.
 
+-- The packet at a place, counted from 0, if one was sent there.
 abbrev pub packet_at : ℕ → List SentPacket → Option (List ℕ)
 packet_at place [] = None
 packet_at zero (packet ∷ others) = Some packet.bytes
@@ -169,33 +185,37 @@ abbrev pub packet_of : ℕ → List SentPacket → Option (List ℕ)
 packet_of zero sent = None
 packet_of (suc place) sent = packet_at place sent
 
--- It waits no longer.
+-- The packet at a place waits no longer.
 abbrev pub stopped_at : ℕ → List SentPacket → List SentPacket
 stopped_at place [] = []
 stopped_at zero (packet ∷ others) = record packet { waits = false } ∷ others
 stopped_at (suc place) (packet ∷ others) = packet ∷ stopped_at place others
 
+-- The packet of a number waits no longer. There is none of number 0.
 abbrev pub stopped_of : ℕ → List SentPacket → List SentPacket
 stopped_of zero sent = sent
 stopped_of (suc place) sent = stopped_at place sent
 
+-- The world in which the packet of this number waits no longer.
 abbrev pub without_waiting : ℕ → World → World
 without_waiting number world = record world { sent = stopped_of number world.sent }
 
--- A packet is given by its number, also one that no longer waits; or it waits no longer.
+-- A packet is given by its number, also one that no longer waits. From then on it waits no longer.
 abbrev pub delivers : WorldSetup → World → ℕ → Option (List ℕ) → WorldStep
 delivers w world number None = record { lines = Line.NoPacket number ∷ []; after = world }
 delivers w world number (Some packet) = given w (without_waiting number world) packet
 
+-- A packet is lost by its number: it waits no longer. A line is written only where there is none of the number.
 abbrev pub loses : World → ℕ → Option (List ℕ) → WorldStep
 loses world number None = record { lines = Line.NoPacket number ∷ []; after = world }
 loses world number (Some packet) = rests (without_waiting number world)
 
--- The least number of a waiting packet.
+-- The number after this one, if there is one.
 abbrev pub next_number : Option ℕ → Option ℕ
 next_number None = None
 next_number (Some number) = Some (number + 1)
 
+-- The least number of a waiting packet, if one waits.
 abbrev pub first_waiting : List SentPacket → Option ℕ
 first_waiting [] = None
 first_waiting (packet ∷ others) = if packet.waits then Some 1 else next_number (first_waiting others)
@@ -212,41 +232,49 @@ pumps w (suc count) world = turn w world (pumps w count) (first_waiting world.se
 
 -- ---- Queued data.
 
+-- Application data is queued for an end point, or its fault stands in the line.
 abbrev pub replied_by : World → ℕ → List ℕ → Option Connection → WorldStep
 replied_by world eid bytes connection = record {
   lines = Line.Reply (reply_fault_of connection bytes) ∷ [];
   after = record world { responder = queues (reply_fault_of connection bytes) world.responder eid bytes };
 }
 
+-- Application data is queued for a requester; for one that is not set up nothing happens.
 abbrev pub replied : World → List ℕ → Option Requesting → WorldStep
 replied world bytes None = rests world
 replied world bytes (Some a) = replied_by world a.setup.eid bytes (connection_of a.setup.eid world.responder.connections)
 
 -- ---- The ends as they are shown: by requester, its phase and sessions, and those of the responder towards it.
 
+-- A line for each session.
 abbrev pub session_lines : Whose → List View → List Line
 session_lines who [] = []
 session_lines who (view ∷ others) = Line.Session who view ∷ session_lines who others
 
+-- The responder towards requester n: its phase, and then its sessions.
 abbrev pub connection_lines : ℕ → Option Connection → List Line
 connection_lines n None = []
 connection_lines n (Some c) = Line.State (Whose.Responder n) (phase_of (clear_turns c.history)) ∷ session_lines (Whose.Responder n) (views_of c.history)
 
+-- A requester's phase and sessions, and then those of the responder towards it.
 abbrev pub end_lines : Responding → Requesting → List Line
 end_lines r a =
     Line.State (Whose.Requester a.number) (requester_history.phase_of a.history)
     ∷ session_lines (Whose.Requester a.number) (requester_shown.views_of a.history)
     ++ connection_lines a.number (connection_of a.setup.eid r.connections)
 
+-- The lines of all requesters, in order.
 abbrev pub all_end_lines : Responding → List Requesting → List Line
 all_end_lines r [] = []
 all_end_lines r (a ∷ others) = end_lines r a ++ all_end_lines r others
 
+-- The lines by which a world is shown: those of all its ends.
 abbrev pub shown_lines : World → List Line
 shown_lines world = all_end_lines world.responder world.requesters
 
 -- ---- One event.
 
+-- What each event of a script writes, and the world that it leaves.
 unfoldable pub happens : WorldSetup → World → Happening → WorldStep
 happens w world (Told n command) = told w world command (requester_of n world)
 happens w world (Reply n bytes) = replied world bytes (requester_of n world)
