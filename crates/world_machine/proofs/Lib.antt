@@ -1,4 +1,4 @@
-mod Logs
-mod Connections
+pub mod Logs
+pub mod Connections
 mod Alike
 mod Rows
