@@ -13,3 +13,7 @@ pub mod Steady
 pub mod Example
 pub mod Asking
 pub mod Owed
+pub mod Members
+pub mod Fits
+pub mod RequesterChanges
+pub mod ResponderChanges
