@@ -68,11 +68,11 @@ origin eid change cs x m = (let o = in_map (changed_if eid change) cs x m in ori
 
 draws_kept : (eid : ℕ) (change : History → History) (cs : List Connection) → ((d : Connection) → IsIn cs d → d.setup.peer ≡ eid → ⊥) → all_draws (with_history eid change cs) ≡ all_draws cs
 draws_kept eid change [] none = refl
-draws_kept eid change (c ∷ others) none = go (c.setup.peer == eid) refl
+draws_kept eid change (c ∷ others) none = go (c.setup.peer == eid) refl (draws_kept eid change others (λ d m. none d (inr m)))
   where
-    go : (b : Bool) → (c.setup.peer == eid) ≡ b → all_draws (with_history eid change (c ∷ others)) ≡ all_draws (c ∷ others)
-    go true e = absurd (none c (inl refl) (eqb-true _ _ e))
-    go false e = ap (λ (b : Bool). draws_of (cond b (changed change c) c).history + all_draws (with_history eid change others)) e ∙ ap (λ (n : ℕ). draws_of c.history + n) (draws_kept eid change others (λ d m. none d (inr m)))
+    go : (b : Bool) → (c.setup.peer == eid) ≡ b → all_draws (with_history eid change others) ≡ all_draws others → all_draws (with_history eid change (c ∷ others)) ≡ all_draws (c ∷ others)
+    go true e next = absurd (none c (inl refl) (eqb-true _ _ e))
+    go false e next = ap (λ (b : Bool). draws_of (cond b (changed change c) c).history + all_draws (with_history eid change others)) e ∙ ap (λ (n : ℕ). draws_of c.history + n) next
 
 -- What the draws of all connections come to where one has another history.
 pub draws_changed : (change : History → History) (cs : List Connection) (c : Connection) → PeersDiffer cs → IsIn cs c
@@ -94,3 +94,67 @@ draws_changed change (d ∷ others) c apart m = elim m [
         let here : all_draws (with_history c.setup.peer change (d ∷ others)) ≡ draws_of d.history + all_draws (with_history c.setup.peer change others) =
             ap (λ (b : Bool). draws_of (cond b (changed change d) d).history + all_draws (with_history c.setup.peer change others)) e in
         omega (arith, here, there)
+
+-- ---- One connection goes on.
+
+module _ (KeptAsked : ReqSetup → asked.History → Type 0) (KeptServed : RspSetup → served.History → Type 0) (w : WorldSetup) (world : World) (k : Fits KeptAsked KeptServed w world)
+    (c : Connection) (is : IsIn world.responder.connections c) (given : List (List ℕ)) (change : History → History) (acts : List Act) (n : NoChance (acts ++ world.log)) where
+  abbrev cs : List Connection
+  cs = world.responder.connections
+
+  abbrev next : List Connection
+  next = with_history c.setup.peer change cs
+
+  abbrev later : List SentPacket → World
+  later sent = record { requesters = world.requesters; responder = record { given = given; connections = next }; sent = sent; log = acts ++ world.log }
+
+  -- The run of this connection and its requester.
+  abbrev Runs : Type 0
+  Runs = (a : Requesting) → IsPair world.requesters cs a c → OwnLeads (reading_of c.setup.psk) (state_of a c world.log) (state_of a (changed change c) (acts ++ world.log))
+
+  own_reached : (a : Requesting) → IsPair world.requesters cs a c → IsReached (reading_of c.setup.psk) (state_of a c world.log)
+  own_reached a pair = subst (λ (psk : List ℕ). IsReached (reading_of psk) (state_of a c world.log)) (sym (same_key world.requesters cs k.apart a c pair)) (k.pairs a c pair)
+
+  pub now_reached : Runs → (a : Requesting) → IsPair world.requesters cs a c → IsReached (reading_of c.setup.psk) (state_of a (changed change c) (acts ++ world.log))
+  now_reached runs a pair = own_reach (reading_of c.setup.psk) (state_of a c world.log) (state_of a (changed change c) (acts ++ world.log)) (own_reached a pair) (runs a pair) n
+
+  all_serve : all_draws cs ≤ all_draws next → ServesWell KeptAsked KeptServed w (all_draws next) (changed change c) → (x : Connection) → IsIn next x → ServesWell KeptAsked KeptServed w (all_draws next) x
+  all_serve more well x m =
+    let o = origin c.setup.peer change cs x m in
+    elim o.same [
+      | inl s ↦ subst (ServesWell KeptAsked KeptServed w (all_draws next)) (sym (s.1 ∙ ap (changed change) (same_connection cs k.apart.peers o.old c o.is is s.0))) well
+      | inr s ↦ (let old = k.serves o.old o.is in
+          let fresh = old.fresh in
+          subst (ServesWell KeptAsked KeptServed w (all_draws next)) (sym s.1) (record { setup = old.setup; made = old.made; kept = old.kept; fresh = omega arith }))
+    ]
+
+  other_pair : Runs → (a : Requesting) (o : Connection) → IsPair world.requesters cs a o → o.setup.peer ≢ c.setup.peer → IsReached (reading_of a.setup.psk) (state_of a o (acts ++ world.log))
+  other_pair runs a o pair differ =
+    let b = k.apart.paired c is in
+    let own : IsPair world.requesters cs b.0 c = record { requester = b.1; connection = is; peer = b.2 } in
+    others_reach (reading_of c.setup.psk) (reading_of a.setup.psk) (state_of b.0 c world.log) (state_of b.0 (changed change c) (acts ++ world.log)) (state_of a o world.log).asked (state_of a o world.log).served
+      (λ e. differ (pair.peer ∙ sym (b.2 ∙ ap (λ (y : Requesting). y.setup.eid) (k.apart.numbers b.0 a b.1 pair.requester (k.apart.keys b.0 a b.1 pair.requester (sym b.3 ∙ e))))))
+      (runs b.0 own)
+      (k.pairs a o pair) n
+
+  all_reached : Runs → (a : Requesting) (x : Connection) → IsPair world.requesters next a x → IsReached (reading_of a.setup.psk) (state_of a x (acts ++ world.log))
+  all_reached runs a x pair =
+    let o = origin c.setup.peer change cs x pair.connection in
+    elim o.same [
+      | inl s ↦ (let own = same_connection cs k.apart.peers o.old c o.is is s.0 in
+          let new : x ≡ changed change c = s.1 ∙ ap (changed change) own in
+          let its : IsPair world.requesters cs a c = record { requester = pair.requester; connection = is; peer = sym (ap (λ (y : Connection). y.setup.peer) new) ∙ pair.peer } in
+          subst (λ (y : Connection). IsReached (reading_of a.setup.psk) (state_of a y (acts ++ world.log))) (sym new)
+            (subst (λ (psk : List ℕ). IsReached (reading_of psk) (state_of a (changed change c) (acts ++ world.log))) (same_key world.requesters cs k.apart a c its) (now_reached runs a its)))
+      | inr s ↦ subst (λ (y : Connection). IsReached (reading_of a.setup.psk) (state_of a y (acts ++ world.log))) (sym s.1)
+          (other_pair runs a o.old (record { requester = pair.requester; connection = o.is; peer = sym (ap (λ (y : Connection). y.setup.peer) s.1) ∙ pair.peer }) s.0)
+    ]
+
+  pub responder_goes : (sent : List SentPacket) → all_draws cs ≤ all_draws next → all_draws next ≤ length given → ServesWell KeptAsked KeptServed w (all_draws next) (changed change c) → Runs → Fits KeptAsked KeptServed w (later sent)
+  responder_goes sent more wear well runs = record {
+    apart = still_apart world.requesters cs (changed_if c.setup.peer change) (changed_keeps c.setup.peer change) k.apart;
+    asks = k.asks;
+    serves = all_serve more well;
+    wear = wear;
+    pairs = all_reached runs;
+  }
