@@ -17,3 +17,4 @@ pub mod Members
 pub mod Fits
 pub mod RequesterChanges
 pub mod ResponderChanges
+pub mod Starts
