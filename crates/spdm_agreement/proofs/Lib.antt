@@ -18,3 +18,4 @@ pub mod Fits
 pub mod RequesterChanges
 pub mod ResponderChanges
 pub mod Starts
+pub mod ServedMade
