@@ -19,3 +19,4 @@ pub mod RequesterChanges
 pub mod ResponderChanges
 pub mod Starts
 pub mod ServedMade
+pub mod AskedMade
