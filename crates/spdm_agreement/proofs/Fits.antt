@@ -60,14 +60,14 @@ same_connection (x ∷ others) apart c d m n e = elim m [
 
 -- The laws below stand over whatever is kept of histories.
 module _ (KeptAsked : ReqSetup → asked.History → Type 0) (KeptServed : RspSetup → served.History → Type 0) (w : WorldSetup) where
-  pub record AsksWell (a : Requesting) : Type 0 where
+  pub record IsAsking (a : Requesting) : Type 0 where
     pub setup : IsRequester a.setup
     pub made : asking.IsMade a.setup a.history
     pub kept : KeptAsked a.setup a.history
     pub fresh : next_asked (asked_marks a.setup a.history) ≤ w.first + asked.draws_of a.setup a.history
     pub wear : asked.draws_of a.setup a.history ≤ a.commands
 
-  pub record ServesWell (draws : ℕ) (c : Connection) : Type 0 where
+  pub record IsServing (draws : ℕ) (c : Connection) : Type 0 where
     pub setup : IsResponder c.setup
     pub made : serving.IsMade c.setup c.history
     pub kept : KeptServed c.setup c.history
@@ -75,8 +75,8 @@ module _ (KeptAsked : ReqSetup → asked.History → Type 0) (KeptServed : RspSe
 
   pub record Fits (world : World) : Type 0 where
     pub apart : Apart world.requesters world.responder.connections
-    pub asks : (a : Requesting) → IsIn world.requesters a → AsksWell a
-    pub serves : (c : Connection) → IsIn world.responder.connections c → ServesWell (all_draws world.responder.connections) c
+    pub asks : (a : Requesting) → IsIn world.requesters a → IsAsking a
+    pub serves : (c : Connection) → IsIn world.responder.connections c → IsServing (all_draws world.responder.connections) c
     pub wear : all_draws world.responder.connections ≤ length world.responder.given
     pub pairs : (a : Requesting) (c : Connection) → IsPair world.requesters world.responder.connections a c → IsReached (reading_of a.setup.psk) (state_of a c world.log)
 

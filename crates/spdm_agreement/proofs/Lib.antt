@@ -20,3 +20,4 @@ pub mod ResponderChanges
 pub mod Starts
 pub mod ServedMade
 pub mod AskedMade
+pub mod Happens

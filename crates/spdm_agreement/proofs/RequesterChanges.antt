@@ -11,7 +11,7 @@ use Rattle.world_machine.specs.Responding.{Connection}
 use Rattle.world_machine.specs.Setup.{WorldSetup}
 use Rattle.world_machine.specs.World.{World, SentPacket, replaced, with_requester}
 use Rattle.spdm_agreement.specs.Claims.{IsReached}
-use Rattle.spdm_agreement.proofs.Fits.{Apart, IsPair, AsksWell, Fits, same_requester, same_connection, same_key, own_reach, others_reach}
+use Rattle.spdm_agreement.proofs.Fits.{Apart, IsPair, IsAsking, Fits, same_requester, same_connection, same_key, own_reach, others_reach}
 use Rattle.spdm_agreement.proofs.Members.{IsIn, in_map, map_in}
 use Rattle.spdm_agreement.proofs.Owed.{OwnLeads}
 use Rattle.spdm_agreement.proofs.Pairs.{state_of}
@@ -112,12 +112,12 @@ module _ (KeptAsked : ReqSetup → asked.History → Type 0) (KeptServed : RspSe
   pub now_reached : Runs → (c : Connection) → IsPair world.requesters world.responder.connections a c → IsReached (reading_of a.setup.psk) (state_of next c (acts ++ world.log))
   now_reached runs c pair = own_reach (reading_of a.setup.psk) (state_of a c world.log) (state_of next c (acts ++ world.log)) (k.pairs a c pair) (runs c pair) n
 
-  all_ask : AsksWell KeptAsked KeptServed w next → (x : Requesting) → IsIn (with_requester next world.requesters) x → AsksWell KeptAsked KeptServed w x
+  all_ask : IsAsking KeptAsked KeptServed w next → (x : Requesting) → IsIn (with_requester next world.requesters) x → IsAsking KeptAsked KeptServed w x
   all_ask well x m =
     let p = stays world.requesters world.responder.connections k.apart a is given commands history x m in
     elim p.same [
-      | inl s ↦ subst (AsksWell KeptAsked KeptServed w) (sym s.1) well
-      | inr s ↦ subst (AsksWell KeptAsked KeptServed w) (sym s.1) (k.asks p.old p.in_old)
+      | inl s ↦ subst (IsAsking KeptAsked KeptServed w) (sym s.1) well
+      | inr s ↦ subst (IsAsking KeptAsked KeptServed w) (sym s.1) (k.asks p.old p.in_old)
     ]
 
   other_pair : Runs → (o : Requesting) (c : Connection) → IsPair world.requesters world.responder.connections o c → o.number ≢ a.number → IsReached (reading_of o.setup.psk) (state_of o c (acts ++ world.log))
@@ -139,7 +139,7 @@ module _ (KeptAsked : ReqSetup → asked.History → Type 0) (KeptServed : RspSe
           (other_pair runs p.old c (record { requester = p.in_old; connection = pair.connection; peer = peer }) s.0)
     ]
 
-  pub requester_goes : (sent : List SentPacket) → AsksWell KeptAsked KeptServed w next → Runs → Fits KeptAsked KeptServed w (later sent)
+  pub requester_goes : (sent : List SentPacket) → IsAsking KeptAsked KeptServed w next → Runs → Fits KeptAsked KeptServed w (later sent)
   requester_goes sent well runs = record {
     apart = still_apart world.requesters world.responder.connections k.apart a is given commands history;
     asks = all_ask well;

@@ -11,7 +11,7 @@ use Rattle.world_machine.specs.Responding.{Connection, Responding, changed, chan
 use Rattle.world_machine.specs.Setup.{WorldSetup}
 use Rattle.world_machine.specs.World.{World, SentPacket}
 use Rattle.spdm_agreement.specs.Claims.{IsReached}
-use Rattle.spdm_agreement.proofs.Fits.{Apart, PeersDiffer, IsPair, ServesWell, Fits, same_requester, same_connection, same_key, own_reach, others_reach}
+use Rattle.spdm_agreement.proofs.Fits.{Apart, PeersDiffer, IsPair, IsServing, Fits, same_requester, same_connection, same_key, own_reach, others_reach}
 use Rattle.spdm_agreement.proofs.Members.{IsIn, in_map, map_in}
 use Rattle.spdm_agreement.proofs.Owed.{OwnLeads}
 use Rattle.spdm_agreement.proofs.Pairs.{state_of}
@@ -118,14 +118,14 @@ module _ (KeptAsked : ReqSetup → asked.History → Type 0) (KeptServed : RspSe
   pub now_reached : Runs → (a : Requesting) → IsPair world.requesters cs a c → IsReached (reading_of c.setup.psk) (state_of a (changed change c) (acts ++ world.log))
   now_reached runs a pair = own_reach (reading_of c.setup.psk) (state_of a c world.log) (state_of a (changed change c) (acts ++ world.log)) (own_reached a pair) (runs a pair) n
 
-  all_serve : all_draws cs ≤ all_draws next → ServesWell KeptAsked KeptServed w (all_draws next) (changed change c) → (x : Connection) → IsIn next x → ServesWell KeptAsked KeptServed w (all_draws next) x
+  all_serve : all_draws cs ≤ all_draws next → IsServing KeptAsked KeptServed w (all_draws next) (changed change c) → (x : Connection) → IsIn next x → IsServing KeptAsked KeptServed w (all_draws next) x
   all_serve more well x m =
     let o = origin c.setup.peer change cs x m in
     elim o.same [
-      | inl s ↦ subst (ServesWell KeptAsked KeptServed w (all_draws next)) (sym (s.1 ∙ ap (changed change) (same_connection cs k.apart.peers o.old c o.is is s.0))) well
+      | inl s ↦ subst (IsServing KeptAsked KeptServed w (all_draws next)) (sym (s.1 ∙ ap (changed change) (same_connection cs k.apart.peers o.old c o.is is s.0))) well
       | inr s ↦ (let old = k.serves o.old o.is in
           let fresh = old.fresh in
-          subst (ServesWell KeptAsked KeptServed w (all_draws next)) (sym s.1) (record { setup = old.setup; made = old.made; kept = old.kept; fresh = omega arith }))
+          subst (IsServing KeptAsked KeptServed w (all_draws next)) (sym s.1) (record { setup = old.setup; made = old.made; kept = old.kept; fresh = omega arith }))
     ]
 
   other_pair : Runs → (a : Requesting) (o : Connection) → IsPair world.requesters cs a o → o.setup.peer ≢ c.setup.peer → IsReached (reading_of a.setup.psk) (state_of a o (acts ++ world.log))
@@ -150,7 +150,7 @@ module _ (KeptAsked : ReqSetup → asked.History → Type 0) (KeptServed : RspSe
           (other_pair runs a o.old (record { requester = pair.requester; connection = o.is; peer = sym (ap (λ (y : Connection). y.setup.peer) s.1) ∙ pair.peer }) s.0)
     ]
 
-  pub responder_goes : (sent : List SentPacket) → all_draws cs ≤ all_draws next → all_draws next ≤ length given → ServesWell KeptAsked KeptServed w (all_draws next) (changed change c) → Runs → Fits KeptAsked KeptServed w (later sent)
+  pub responder_goes : (sent : List SentPacket) → all_draws cs ≤ all_draws next → all_draws next ≤ length given → IsServing KeptAsked KeptServed w (all_draws next) (changed change c) → Runs → Fits KeptAsked KeptServed w (later sent)
   responder_goes sent more wear well runs = record {
     apart = still_apart world.requesters cs (changed_if c.setup.peer change) (changed_keeps c.setup.peer change) k.apart;
     asks = k.asks;

@@ -9,7 +9,7 @@ use Rattle.world_machine.specs.Setup.{WorldSetup, towards}
 use Rattle.world_machine.specs.World.{World, new_world}
 use Rattle.spdm_agreement.specs.Claims.{IsReached}
 use Rattle.spdm_agreement.specs.Configured.{IsConfigured, IsRequester, IsResponder, AreApart}
-use Rattle.spdm_agreement.proofs.Fits.{Apart, PeersDiffer, AsksWell, ServesWell, Fits}
+use Rattle.spdm_agreement.proofs.Fits.{Apart, PeersDiffer, IsAsking, IsServing, Fits}
 use Rattle.spdm_agreement.proofs.Members.{IsIn, all_in, in_map, map_in}
 use Rattle.spdm_agreement.proofs.Owed.{AskedStarts, ServedStarts}
 use Rattle.spdm_agreement.proofs.Pairs.{state_of}
@@ -107,10 +107,10 @@ no_draws w [] = refl
 no_draws w (q ∷ others) = (let none = no_draws w others in omega arith)
 
 module _ (KeptAsked : ReqSetup → asked.History → Type 0) (KeptServed : RspSetup → served.History → Type 0) (asked_starts : AskedStarts KeptAsked) (served_starts : ServedStarts KeptServed) (w : WorldSetup) (c : IsConfigured w) where
-  new_asks : (a : Requesting) → IsIn (numbered 0 w.requesters) a → AsksWell KeptAsked KeptServed w a
+  new_asks : (a : Requesting) → IsIn (numbered 0 w.requesters) a → IsAsking KeptAsked KeptServed w a
   new_asks a m =
     let t = is_new 0 w.requesters a m in
-    subst (AsksWell KeptAsked KeptServed w) (sym t.is) (record {
+    subst (IsAsking KeptAsked KeptServed w) (sym t.is) (record {
       setup = all_in IsRequester w.requesters c.requesters t.setup t.in_setup;
       made = tt;
       kept = asked_starts t.setup;
@@ -118,10 +118,10 @@ module _ (KeptAsked : ReqSetup → asked.History → Type 0) (KeptServed : RspSe
       wear = omega arith;
     })
 
-  new_serves : (draws : ℕ) (x : Connection) → IsIn (map (new_connection w) w.requesters) x → ServesWell KeptAsked KeptServed w draws x
+  new_serves : (draws : ℕ) (x : Connection) → IsIn (map (new_connection w) w.requesters) x → IsServing KeptAsked KeptServed w draws x
   new_serves draws x m =
     let o = in_map (new_connection w) w.requesters x m in
-    subst (ServesWell KeptAsked KeptServed w draws) (sym o.2) (record {
+    subst (IsServing KeptAsked KeptServed w draws) (sym o.2) (record {
       setup = all_in (λ (q : ReqSetup). IsResponder (towards w.responder q)) w.requesters c.responders o.0 o.1;
       made = tt;
       kept = served_starts (towards w.responder o.0);
