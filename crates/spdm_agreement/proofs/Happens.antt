@@ -56,11 +56,11 @@ draw_length : (seed : List ℕ) (number : ℕ) → length (draw seed number) ≡
 unfolding hmac
 draw_length seed number = length-sha256 _
 
-good_draw : (seed : List ℕ) (number : ℕ) → number < 2 ^ 64 → IsDraw (draw_of seed number)
+pub good_draw : (seed : List ℕ) (number : ℕ) → number < 2 ^ 64 → IsDraw (draw_of seed number)
 good_draw seed number less = record { number = less; bytes = draw_length seed number }
 
 -- A number below the limit of wear behind the first one.
-below : (first wear n m : ℕ) → first + wear ≤ 2 ^ 64 → n ≤ m → nat_le wear m ≡ false → first + n < 2 ^ 64
+pub below : (first wear n m : ℕ) → first + wear ≤ 2 ^ 64 → n ≤ m → nat_le wear m ≡ false → first + n < 2 ^ 64
 below first wear n m all few fresh = (let less : m < wear = leb-false wear m fresh in omega arith)
 
 module _ (KeptAsked : ReqSetup → asked.History → Type 0) (KeptServed : RspSetup → served.History → Type 0) (w : WorldSetup) (c : IsConfigured w) (world : World) (k : Fits KeptAsked KeptServed w world) (asks_well : AsksWell KeptAsked) (hears_well : HearsWell KeptAsked) where

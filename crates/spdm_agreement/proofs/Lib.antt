@@ -21,3 +21,4 @@ pub mod Starts
 pub mod ServedMade
 pub mod AskedMade
 pub mod Happens
+pub mod Answers
