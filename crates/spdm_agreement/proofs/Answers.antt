@@ -56,7 +56,7 @@ module _ (KeptAsked : ReqSetup → asked.History → Type 0) (KeptServed : RspSe
   rests : (given : List (List ℕ)) → length world.responder.given ≤ length given → Goes [] (record { given = given; connections = connections })
   rests given more sent n =
     let wear = k.wear in
-    record { apart = k.apart; asks = k.asks; serves = k.serves; wear = omega arith; pairs = k.pairs }
+    record { apart = k.apart; asks = k.asks; serves = k.serves; wear = omega arith; owned = k.owned; pairs = k.pairs }
 
   ready : (x : Connection) (a : Requesting) → IsPair world.requesters connections a x → responding.is_worn world.responder ≡ false
       → ServedReady KeptServed x.setup x.history (state_of a x world.log).asked world.log (responding.next_draw w world.responder)
@@ -161,7 +161,7 @@ module _ (KeptAsked : ReqSetup → asked.History → Type 0) (KeptServed : RspSe
       (λ a pair. ([], tt, refl))
 
   stays : (sent : List SentPacket) → Fits KeptAsked KeptServed w (record world { sent = sent })
-  stays sent = record { apart = k.apart; asks = k.asks; serves = k.serves; wear = k.wear; pairs = k.pairs }
+  stays sent = record { apart = k.apart; asks = k.asks; serves = k.serves; wear = k.wear; owned = k.owned; pairs = k.pairs }
 
   -- The tests of queued data.
   roomy : (x : Connection) (bytes : List ℕ) (a b : Bool) → nat_lt 1024 (length bytes) ≡ a → nat_le 16 (length (queue_of x.history)) ≡ b
@@ -226,5 +226,6 @@ module _ (KeptAsked : ReqSetup → asked.History → Type 0) (KeptServed : RspSe
     asks = k.asks;
     serves = serves_later;
     wear = (let wear = k.wear in let count = ticked_draws seconds cs in omega arith);
+    owned = k.owned;
     pairs = pairs_later;
   }

@@ -1,11 +1,13 @@
 -- What every world keeps, in which nothing agrees by chance.
 use Rattle.std.proofs.Common.{◌≡◌, ◌≢◌, ◌⊎◌, ℕ, ◌<◌, ◌≤◌, ◌+◌, List, [], ◌∷◌, ◌++◌, length, refl, sym, ap, ◌∙◌, subst, inl, inr, arith}
+use Rattle.key_schedule.specs.Purpose.{Purpose}
 use Rattle.requester_machine.specs.Does as asking
 use Rattle.requester_machine.specs.History as asked
 use Rattle.spdm_machine.specs.Does as serving
 use Rattle.spdm_machine.specs.History as served
 use Rattle.spdm_machine.specs.Setup.{RspSetup, ReqSetup}
 use Rattle.spdm_machine.specs.TagLog.{Log}
+use Rattle.world_machine.specs.Agreement.{IsMade}
 use Rattle.world_machine.specs.Chance.{NoChance}
 use Rattle.world_machine.specs.Requesting.{Requesting}
 use Rattle.world_machine.specs.Responding.{Connection, all_draws}
@@ -78,6 +80,7 @@ module _ (KeptAsked : ReqSetup → asked.History → Type 0) (KeptServed : RspSe
     pub asks : (a : Requesting) → IsIn world.requesters a → IsAsking a
     pub serves : (c : Connection) → IsIn world.responder.connections c → IsServing (all_draws world.responder.connections) c
     pub wear : all_draws world.responder.connections ≤ length world.responder.given
+    pub owned : (p : Purpose) (i : List ℕ) → IsMade p i world.log → (a : Requesting) × IsIn world.requesters a × (p.psk ≡ a.setup.psk)
     pub pairs : (a : Requesting) (c : Connection) → IsPair world.requesters world.responder.connections a c → IsReached (reading_of a.setup.psk) (state_of a c world.log)
 
 -- ---- Steps that lead on.

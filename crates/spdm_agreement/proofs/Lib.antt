@@ -22,3 +22,4 @@ pub mod ServedMade
 pub mod AskedMade
 pub mod Happens
 pub mod Answers
+pub mod Owners

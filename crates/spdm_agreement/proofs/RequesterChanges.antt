@@ -1,10 +1,12 @@
 -- A requester of a world goes on: what its run keeps of the whole world.
 use Rattle.std.proofs.Common.{◌≡◌, ◌≢◌, ◌⊎◌, ℕ, ◌≤◌, ◌==◌, List, [], ◌∷◌, ◌++◌, Bool, true, false, cond, map, refl, sym, ap, ◌∙◌, subst, inl, inr, arith, eqb-true, eq-eqb, true≢false}
+use Rattle.key_schedule.specs.Purpose.{Purpose}
 use Rattle.requester_machine.specs.History as asked
 use Rattle.spdm_machine.specs.History as served
 use Rattle.spdm_machine.specs.Setup.{RspSetup, ReqSetup}
 use Rattle.spdm_machine.specs.TagLog.{Act, Log}
 use Rattle.world_machine.proofs.Logs.{no_chance_before}
+use Rattle.world_machine.specs.Agreement.{IsMade}
 use Rattle.world_machine.specs.Chance.{NoChance}
 use Rattle.world_machine.specs.Requesting.{Requesting}
 use Rattle.world_machine.specs.Responding.{Connection}
@@ -14,6 +16,7 @@ use Rattle.spdm_agreement.specs.Claims.{IsReached}
 use Rattle.spdm_agreement.proofs.Fits.{Apart, IsPair, IsAsking, Fits, same_requester, same_connection, same_key, own_reach, others_reach}
 use Rattle.spdm_agreement.proofs.Members.{IsIn, in_map, map_in}
 use Rattle.spdm_agreement.proofs.Owed.{OwnLeads}
+use Rattle.spdm_agreement.proofs.Owners.{own_made}
 use Rattle.spdm_agreement.proofs.Pairs.{state_of}
 use Rattle.spdm_agreement.proofs.Sessions.{reading_of}
 
@@ -139,11 +142,21 @@ module _ (KeptAsked : ReqSetup → asked.History → Type 0) (KeptServed : RspSe
           (other_pair runs p.old c (record { requester = p.in_old; connection = pair.connection; peer = peer }) s.0)
     ]
 
+  all_owned : Runs → (p : Purpose) (i : List ℕ) → IsMade p i (acts ++ world.log) → (x : Requesting) × IsIn (with_requester next world.requesters) x × (p.psk ≡ x.setup.psk)
+  all_owned runs p i made =
+    let own = k.apart.served a is in
+    let pair : IsPair world.requesters world.responder.connections a own.0 = record { requester = is; connection = own.1; peer = own.2 } in
+    elim (own_made (reading_of a.setup.psk) (state_of a own.0 world.log) (state_of next own.0 (acts ++ world.log)) p i (runs own.0 pair) made) [
+      | inl e ↦ (let x = placed_by world.requesters world.responder.connections k.apart a is given commands history a is in (x.0, x.1, e ∙ sym (ap (λ (s : ReqSetup). s.psk) x.2)))
+      | inr l ↦ (let o = k.owned p i l in let x = placed_by world.requesters world.responder.connections k.apart a is given commands history o.0 o.1 in (x.0, x.1, o.2 ∙ sym (ap (λ (s : ReqSetup). s.psk) x.2)))
+    ]
+
   pub requester_goes : (sent : List SentPacket) → IsAsking KeptAsked KeptServed w next → Runs → Fits KeptAsked KeptServed w (later sent)
   requester_goes sent well runs = record {
     apart = still_apart world.requesters world.responder.connections k.apart a is given commands history;
     asks = all_ask well;
     serves = k.serves;
     wear = k.wear;
+    owned = all_owned runs;
     pairs = all_reached runs;
   }

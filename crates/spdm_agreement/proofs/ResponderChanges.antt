@@ -1,10 +1,12 @@
 -- A responder of a world goes on with one requester: what its run keeps of the whole world.
 use Rattle.std.proofs.Common.{◌≡◌, ◌≢◌, ◌⊎◌, ℕ, ◌≤◌, ◌+◌, ◌==◌, List, [], ◌∷◌, ◌++◌, length, Bool, true, false, cond, map, refl, sym, ap, ◌∙◌, subst, inl, inr, arith, eqb-true, eq-eqb, true≢false}
+use Rattle.key_schedule.specs.Purpose.{Purpose}
 use Rattle.requester_machine.specs.History as asked
 use Rattle.spdm_machine.specs.History as served
 use Rattle.spdm_machine.specs.History.{History, draws_of}
 use Rattle.spdm_machine.specs.Setup.{RspSetup, ReqSetup}
 use Rattle.spdm_machine.specs.TagLog.{Act, Log}
+use Rattle.world_machine.specs.Agreement.{IsMade}
 use Rattle.world_machine.specs.Chance.{NoChance}
 use Rattle.world_machine.specs.Requesting.{Requesting}
 use Rattle.world_machine.specs.Responding.{Connection, Responding, changed, changed_if, with_history, all_draws}
@@ -14,6 +16,7 @@ use Rattle.spdm_agreement.specs.Claims.{IsReached}
 use Rattle.spdm_agreement.proofs.Fits.{Apart, PeersDiffer, IsPair, IsServing, Fits, same_requester, same_connection, same_key, own_reach, others_reach}
 use Rattle.spdm_agreement.proofs.Members.{IsIn, in_map, map_in}
 use Rattle.spdm_agreement.proofs.Owed.{OwnLeads}
+use Rattle.spdm_agreement.proofs.Owners.{own_made}
 use Rattle.spdm_agreement.proofs.Pairs.{state_of}
 use Rattle.spdm_agreement.proofs.Sessions.{reading_of}
 
@@ -150,11 +153,21 @@ module _ (KeptAsked : ReqSetup → asked.History → Type 0) (KeptServed : RspSe
           (other_pair runs a o.old (record { requester = pair.requester; connection = o.is; peer = sym (ap (λ (y : Connection). y.setup.peer) s.1) ∙ pair.peer }) s.0)
     ]
 
+  all_owned : Runs → (p : Purpose) (i : List ℕ) → IsMade p i (acts ++ world.log) → (a : Requesting) × IsIn world.requesters a × (p.psk ≡ a.setup.psk)
+  all_owned runs p i made =
+    let b = k.apart.paired c is in
+    let own : IsPair world.requesters cs b.0 c = record { requester = b.1; connection = is; peer = b.2 } in
+    elim (own_made (reading_of c.setup.psk) (state_of b.0 c world.log) (state_of b.0 (changed change c) (acts ++ world.log)) p i (runs b.0 own) made) [
+      | inl e ↦ (b.0, b.1, e ∙ b.3)
+      | inr l ↦ k.owned p i l
+    ]
+
   pub responder_goes : (sent : List SentPacket) → all_draws cs ≤ all_draws next → all_draws next ≤ length given → IsServing KeptAsked KeptServed w (all_draws next) (changed change c) → Runs → Fits KeptAsked KeptServed w (later sent)
   responder_goes sent more wear well runs = record {
     apart = still_apart world.requesters cs (changed_if c.setup.peer change) (changed_keeps c.setup.peer change) k.apart;
     asks = k.asks;
     serves = all_serve more well;
     wear = wear;
+    owned = all_owned runs;
     pairs = all_reached runs;
   }

@@ -142,5 +142,6 @@ module _ (KeptAsked : ReqSetup → asked.History → Type 0) (KeptServed : RspSe
     asks = new_asks;
     serves = new_serves (all_draws (map (new_connection w) w.requesters));
     wear = (let none = no_draws w w.requesters in omega arith);
+    owned = λ p i made. absurd made;
     pairs = λ a x pair. new_pair a x pair.requester pair.connection;
   }
