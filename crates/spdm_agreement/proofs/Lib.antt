@@ -23,3 +23,4 @@ pub mod AskedMade
 pub mod Happens
 pub mod Answers
 pub mod Owners
+pub mod Worlds
