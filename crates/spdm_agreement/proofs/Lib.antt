@@ -24,3 +24,4 @@ pub mod Happens
 pub mod Answers
 pub mod Owners
 pub mod Worlds
+pub mod Data
