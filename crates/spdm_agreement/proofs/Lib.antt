@@ -25,3 +25,4 @@ pub mod Answers
 pub mod Owners
 pub mod Worlds
 pub mod Data
+pub mod DataTexts
