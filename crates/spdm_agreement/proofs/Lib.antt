@@ -26,3 +26,4 @@ pub mod Owners
 pub mod Worlds
 pub mod Data
 pub mod DataTexts
+pub mod DataServed
