@@ -2,3 +2,5 @@ mod Logs
 mod Connections
 mod Alike
 mod Rows
+mod Captures
+mod CaptureRows
