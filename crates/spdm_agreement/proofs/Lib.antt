@@ -13,3 +13,5 @@ pub mod Steady
 pub mod Example
 pub mod Asking
 pub mod AskingClear
+pub mod AnswerCodes
+pub mod AskingRecord
