@@ -15,3 +15,4 @@ pub mod Asking
 pub mod AskingClear
 pub mod AnswerCodes
 pub mod AskingRecord
+pub mod AskingEntries
