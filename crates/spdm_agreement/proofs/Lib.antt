@@ -16,3 +16,4 @@ pub mod AskingClear
 pub mod AnswerCodes
 pub mod AskingRecord
 pub mod AskingEntries
+pub mod AskingMade
