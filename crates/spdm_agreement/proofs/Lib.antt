@@ -12,8 +12,10 @@ pub mod Codes
 pub mod Steady
 pub mod Example
 pub mod Asking
+pub mod Owed
 pub mod AskingClear
 pub mod AnswerCodes
 pub mod AskingRecord
 pub mod AskingEntries
 pub mod AskingMade
+pub mod AskingHeld
