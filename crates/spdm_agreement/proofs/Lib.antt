@@ -19,3 +19,5 @@ pub mod AskingRecord
 pub mod AskingEntries
 pub mod AskingMade
 pub mod AskingHeld
+pub mod AskingTalks
+pub mod AskingChecks
