@@ -21,3 +21,5 @@ pub mod AskingMade
 pub mod AskingHeld
 pub mod AskingTalks
 pub mod AskingChecks
+pub mod VerifyStands
+pub mod AskingAccepts
