@@ -27,3 +27,13 @@ pub mod Worlds
 pub mod Data
 pub mod DataTexts
 pub mod DataServed
+pub mod AskingClear
+pub mod AnswerCodes
+pub mod AskingRecord
+pub mod AskingEntries
+pub mod AskingMade
+pub mod AskingHeld
+pub mod AskingTalks
+pub mod AskingChecks
+pub mod VerifyStands
+pub mod AskingAccepts
