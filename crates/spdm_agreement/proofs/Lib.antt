@@ -37,3 +37,4 @@ pub mod AskingTalks
 pub mod AskingChecks
 pub mod VerifyStands
 pub mod AskingAccepts
+pub mod DataSealed
