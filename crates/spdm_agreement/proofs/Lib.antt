@@ -38,3 +38,4 @@ pub mod AskingChecks
 pub mod VerifyStands
 pub mod AskingAccepts
 pub mod DataSealed
+pub mod DataHeard
