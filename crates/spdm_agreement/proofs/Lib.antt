@@ -39,3 +39,4 @@ pub mod VerifyStands
 pub mod AskingAccepts
 pub mod DataSealed
 pub mod DataHeard
+pub mod DataTaken
