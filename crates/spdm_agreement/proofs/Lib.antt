@@ -40,3 +40,4 @@ pub mod AskingAccepts
 pub mod DataSealed
 pub mod DataHeard
 pub mod DataTaken
+pub mod WorldsDeliver

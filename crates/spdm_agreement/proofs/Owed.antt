@@ -23,6 +23,7 @@ use Rattle.spdm_agreement.specs.Moves.{Move, State, IsRun}
 use Rattle.spdm_agreement.specs.Reading.{Reading}
 use Rattle.spdm_agreement.specs.Story.{asked_marks, served_marks}
 use Rattle.spdm_agreement.proofs.Asking as requester_sessions
+use Rattle.spdm_agreement.proofs.Data.{AsksOpenly, ServesDuly}
 use Rattle.spdm_agreement.proofs.Foreign.{AreOwn}
 use Rattle.spdm_agreement.proofs.Sessions.{reading_of}
 
@@ -105,3 +106,13 @@ abbrev pub Waits : (Kept : RspSetup → served.History → Type 0) → Type 0
 Waits Kept =
     (r : RspSetup) (h : served.History) → serving.IsMade r h → Kept r h
     → ((bytes : List ℕ) → Kept r (Queued bytes ∷ h)) × ((seconds : ℕ) → Kept r (Ticked seconds ∷ h))
+
+-- ---- Application data.
+
+-- A requester asks with application data under a verified key alone, and a responder answers such a request with
+-- application data.
+abbrev pub KeepsOpenly : (Kept : ReqSetup → asked.History → Type 0) → Type 0
+KeepsOpenly Kept = (q : ReqSetup) (h : asked.History) → Kept q h → AsksOpenly (asked_marks q h)
+
+abbrev pub KeepsDuly : (Kept : RspSetup → served.History → Type 0) → Type 0
+KeepsDuly Kept = (r : RspSetup) (h : served.History) → Kept r h → ServesDuly (served_marks r h)
