@@ -1,5 +1,5 @@
 -- What a responder is given, what is queued for it, and time, keep what holds of a world where nothing agrees by chance.
-use Rattle.std.proofs.Common.{◌≡◌, ℕ, ◌<◌, ◌≤◌, ◌+◌, ◌^◌, ◌==◌, List, [], ◌∷◌, ◌++◌, length, Bool, true, false, cond, not, ◌||◌, nat_le, nat_lt, Option, Some, None, Result, Ok, Err, map, find, slice_index, refl, sym, ap, ◌∙◌, subst, inl, inr, arith, eqb-true}
+use Rattle.std.proofs.Common.{◌≡◌, ℕ, ◌<◌, ◌≤◌, ◌+◌, ◌==◌, List, [], ◌∷◌, ◌++◌, length, Bool, true, false, cond, not, ◌||◌, nat_le, nat_lt, Option, Some, None, Result, Ok, Err, map, refl, sym, ap, ◌∙◌, subst, arith, eqb-true}
 use Rattle.std.proofs.lemmas.Bool.{leb-false}
 use Rattle.mctp_framing.specs.Cutting.{RouteFields}
 use Rattle.mctp_framing.specs.Gathering.{Gathered}
@@ -18,12 +18,10 @@ use Rattle.spdm_machine.specs.Does as serving_made
 use Rattle.spdm_machine.specs.History as served
 use Rattle.spdm_machine.specs.History.{History, queue_of, draws_of}
 use Rattle.spdm_machine.specs.History.Entry.{Queued, Ticked}
-use Rattle.spdm_machine.specs.Keys.{Draw}
 use Rattle.spdm_machine.specs.Responder.{Outcome, after}
 use Rattle.spdm_machine.specs.ResponderLog.{acts_of}
 use Rattle.spdm_machine.specs.Setup.{RspSetup, ReqSetup}
-use Rattle.spdm_machine.specs.TagLog.{Act, Log}
-use Rattle.world_machine.proofs.Connections.{found}
+use Rattle.spdm_machine.specs.TagLog.{Act}
 use Rattle.world_machine.specs.Chance.{NoChance}
 use Rattle.world_machine.specs.Packets.{gathered_from, body_type, wear_limit}
 use Rattle.world_machine.specs.Requesting.{Requesting}
@@ -33,7 +31,7 @@ use Rattle.world_machine.specs.Setup.{WorldSetup, responder_seed}
 use Rattle.world_machine.specs.World.{World, SentPacket}
 use Rattle.spdm_agreement.specs.Claims.{IsReached}
 use Rattle.spdm_agreement.specs.Configured.{IsConfigured}
-use Rattle.spdm_agreement.proofs.Fits.{Apart, IsPair, IsServing, Fits, same_key}
+use Rattle.spdm_agreement.proofs.Fits.{IsPair, IsServing, Fits, same_key}
 use Rattle.spdm_agreement.proofs.Happens.{good_draw, below}
 use Rattle.spdm_agreement.proofs.Members.{IsIn, found_in, in_map}
 use Rattle.spdm_agreement.proofs.Owed.{ServedReady, ServedStep, DoesWell, Waits}
@@ -55,23 +53,23 @@ module _ (KeptAsked : ReqSetup → asked.History → Type 0) (KeptServed : RspSe
   -- Nothing but the count of packets changes.
   rests : (given : List (List ℕ)) → length world.responder.given ≤ length given → Goes [] (record { given = given; connections = connections })
   rests given more sent n =
-    let wear = k.wear in
-    record { apart = k.apart; asks = k.asks; serves = k.serves; wear = omega arith; owned = k.owned; pairs = k.pairs }
+      let wear = k.wear in
+      record { apart = k.apart; asks = k.asks; serves = k.serves; wear = omega arith; owned = k.owned; pairs = k.pairs }
 
   ready : (x : Connection) (a : Requesting) → IsPair world.requesters connections a x → responding.is_worn world.responder ≡ false
       → ServedReady KeptServed x.setup x.history (state_of a x world.log).asked world.log (responding.next_draw w world.responder)
   unfolding responding.next_draw
   ready x a pair fresh =
-    let old = k.serves x pair.connection in
-    record {
-      setup = old.setup;
-      made = old.made;
-      kept = old.kept;
-      reached = subst (λ (psk : List ℕ). IsReached (reading_of psk) (state_of a x world.log)) (sym (same_key world.requesters connections k.apart a x pair)) (k.pairs a x pair);
-      fresh = old.fresh;
-      draw = good_draw (responder_seed w.seed) (w.first + all_draws connections)
-        (below w.first wear_limit (all_draws connections) (length world.responder.given) c.draws k.wear fresh);
-    }
+      let old = k.serves x pair.connection in
+      record {
+        setup = old.setup;
+        made = old.made;
+        kept = old.kept;
+        reached = subst (λ (psk : List ℕ). IsReached (reading_of psk) (state_of a x world.log)) (sym (same_key world.requesters connections k.apart a x pair)) (k.pairs a x pair);
+        fresh = old.fresh;
+        draw = good_draw (responder_seed w.seed) (w.first + all_draws connections)
+            (below w.first wear_limit (all_draws connections) (length world.responder.given) c.draws k.wear fresh);
+      }
 
   draw_number : (responding.next_draw w world.responder).number ≡ w.first + all_draws connections
   unfolding responding.next_draw
@@ -83,16 +81,16 @@ module _ (KeptAsked : ReqSetup → asked.History → Type 0) (KeptServed : RspSe
       → ((a : Requesting) → IsPair world.requesters connections a x → ServedStep KeptServed x.setup x.history (state_of a x world.log).asked world.log body (responding.next_draw w world.responder) o)
       → Goes (acts_of x.setup x.history body o) (record { given = packet ∷ world.responder.given; connections = with_history x.setup.peer (λ h. after h o) connections })
   goes_by x is packet body o made more most steps sent n =
-    let old = k.serves x is in
-    let a = k.apart.paired x is in
-    let pair : IsPair world.requesters connections a.0 x = record { requester = a.1; connection = is; peer = a.2 } in
-    let step = steps a.0 pair in
-    let runs = λ (b : Requesting) (its : IsPair world.requesters connections b x). (steps b its).leads in
-    let draws = step.draws in
-    let number = draw_number in
-    let count = draws_changed (λ h. after h o) connections x k.apart.peers is in
-    let wear = k.wear in
-    responder_goes KeptAsked KeptServed w world k x is (packet ∷ world.responder.given) (λ h. after h o) (acts_of x.setup x.history body o) n sent
+      let old = k.serves x is in
+      let a = k.apart.paired x is in
+      let pair : IsPair world.requesters connections a.0 x = record { requester = a.1; connection = is; peer = a.2 } in
+      let step = steps a.0 pair in
+      let runs = λ (b : Requesting) (its : IsPair world.requesters connections b x). (steps b its).leads in
+      let draws = step.draws in
+      let number = draw_number in
+      let count = draws_changed (λ h. after h o) connections x k.apart.peers is in
+      let wear = k.wear in
+      responder_goes KeptAsked KeptServed w world k x is (packet ∷ world.responder.given) (λ h. after h o) (acts_of x.setup x.history body o) n sent
       (omega arith)
       (omega arith)
       (record {
@@ -116,14 +114,14 @@ module _ (KeptAsked : ReqSetup → asked.History → Type 0) (KeptServed : RspSe
   answers_goes : (x : Connection) → IsIn connections x → (packet : List ℕ) (route : RouteFields) (body : List ℕ) → responding.is_worn world.responder ≡ false
       → GoesOn (answers world.responder x packet route body (responder_does x.setup x.history route.tag body (responding.next_draw w world.responder)))
   answers_goes x is packet route body fresh =
-    let made = does_made x.setup x.history route.tag body (responding.next_draw w world.responder) (k.serves x is).made in
-    goes_by x is packet body (responder_does x.setup x.history route.tag body (responding.next_draw w world.responder)) made.made made.more made.most
+      let made = does_made x.setup x.history route.tag body (responding.next_draw w world.responder) (k.serves x is).made in
+      goes_by x is packet body (responder_does x.setup x.history route.tag body (responding.next_draw w world.responder)) made.made made.more made.most
       (λ a pair. does_well x.setup x.history (state_of a x world.log).asked world.log route.tag body (responding.next_draw w world.responder) (ready x a pair fresh))
 
   gathered_goes : (x : Connection) → IsIn connections x → (packet : List ℕ) (g : Gathered) → responding.is_worn world.responder ≡ false → GoesOn (responding.hears_gathered w world.responder x packet g)
   gathered_goes x is packet (Whole route body) fresh =
-    either (not route.owner) (ignores world.responder packet (heard.Ignored ignored.NotRequest)) _ (ignores_goes packet (heard.Ignored ignored.NotRequest))
-    (either (not (body_type body == 5 || body_type body == 6)) (ignores world.responder packet (heard.Ignored ignored.OtherType)) _ (ignores_goes packet (heard.Ignored ignored.OtherType)) (answers_goes x is packet route body fresh))
+      either (not route.owner) (ignores world.responder packet (heard.Ignored ignored.NotRequest)) _ (ignores_goes packet (heard.Ignored ignored.NotRequest))
+      (either (not (body_type body == 5 || body_type body == 6)) (ignores world.responder packet (heard.Ignored ignored.OtherType)) _ (ignores_goes packet (heard.Ignored ignored.OtherType)) (answers_goes x is packet route body fresh))
   gathered_goes x is packet More fresh = ignores_goes packet heard.More
   gathered_goes x is packet (Dropped cause) fresh = ignores_goes packet (heard.Ignored (ignored.Dropped cause))
 
@@ -150,11 +148,11 @@ module _ (KeptAsked : ReqSetup → asked.History → Type 0) (KeptServed : RspSe
       → (n : NoChance world.log) → (sent : List SentPacket)
       → Fits KeptAsked KeptServed w (record { requesters = world.requesters; responder = record { given = world.responder.given; connections = with_history x.setup.peer (λ h. Queued bytes ∷ h) connections }; sent = sent; log = world.log })
   queued_at x is bytes short room n sent =
-    let old = k.serves x is in
-    let count = draws_changed (λ h. Queued bytes ∷ h) connections x k.apart.peers is in
-    let wear = k.wear in
-    let fresh = old.fresh in
-    responder_goes KeptAsked KeptServed w world k x is world.responder.given (λ h. Queued bytes ∷ h) [] n sent
+      let old = k.serves x is in
+      let count = draws_changed (λ h. Queued bytes ∷ h) connections x k.apart.peers is in
+      let wear = k.wear in
+      let fresh = old.fresh in
+      responder_goes KeptAsked KeptServed w world k x is world.responder.given (λ h. Queued bytes ∷ h) [] n sent
       (omega arith)
       (omega arith)
       (record { setup = old.setup; made = (short, room, old.made); kept = (waits x.setup x.history old.made old.kept).0 bytes; fresh = omega arith })
@@ -169,23 +167,23 @@ module _ (KeptAsked : ReqSetup → asked.History → Type 0) (KeptServed : RspSe
   roomy x bytes true b p q e = absurd (cc)
   roomy x bytes false true p q e = absurd (cc)
   roomy x bytes false false p q e =
-    let short : length bytes < 1025 = leb-false 1025 (length bytes) p in
-    (omega arith, leb-false 16 (length (queue_of x.history)) q)
+      let short : length bytes < 1025 = leb-false 1025 (length bytes) p in
+      (omega arith, leb-false 16 (length (queue_of x.history)) q)
 
   queues_by : (eid : ℕ) (bytes : List ℕ) (x : Connection) → IsIn connections x → x.setup.peer ≡ eid → (fault : Option ReplyFault) → reply_fault_of (Some x) bytes ≡ fault
       → NoChance world.log → Fits KeptAsked KeptServed w (record world { responder = queues fault world.responder eid bytes })
   queues_by eid bytes x is peer (Some fault) e n = stays world.sent
   queues_by eid bytes x is peer None e n =
-    let room = roomy x bytes (nat_lt 1024 (length bytes)) (nat_le 16 (length (queue_of x.history))) refl refl e in
-    subst (λ (p : ℕ). Fits KeptAsked KeptServed w (record world { responder = record world.responder { connections = with_history p (λ h. Queued bytes ∷ h) connections } })) peer
+      let room = roomy x bytes (nat_lt 1024 (length bytes)) (nat_le 16 (length (queue_of x.history))) refl refl e in
+      subst (λ (p : ℕ). Fits KeptAsked KeptServed w (record world { responder = record world.responder { connections = with_history p (λ h. Queued bytes ∷ h) connections } })) peer
       (queued_at x is bytes room.0 room.1 n world.sent)
 
   pub queues_goes : (eid : ℕ) (bytes : List ℕ) (o : Option Connection) → connection_of eid connections ≡ o → NoChance world.log
       → Fits KeptAsked KeptServed w (record world { responder = queues (reply_fault_of o bytes) world.responder eid bytes })
   queues_goes eid bytes None is n = stays world.sent
   queues_goes eid bytes (Some x) is n =
-    let there = found_in (λ (y : Connection). y.setup.peer == eid) connections x is in
-    queues_by eid bytes x there.0 (eqb-true _ _ there.1) (reply_fault_of (Some x) bytes) refl n
+      let there = found_in (λ (y : Connection). y.setup.peer == eid) connections x is in
+      queues_by eid bytes x there.0 (eqb-true _ _ there.1) (reply_fault_of (Some x) bytes) refl n
 
   pub sent_stays : (sent : List SentPacket) → Fits KeptAsked KeptServed w (record world { sent = sent })
   sent_stays sent = stays sent
@@ -204,9 +202,9 @@ module _ (KeptAsked : ReqSetup → asked.History → Type 0) (KeptServed : RspSe
 
   serves_later : (x : Connection) → IsIn (map later cs) x → IsServing KeptAsked KeptServed w (all_draws (map later cs)) x
   serves_later x m =
-    let o = in_map later cs x m in
-    let old = k.serves o.0 o.1 in
-    subst (IsServing KeptAsked KeptServed w (all_draws (map later cs))) (sym o.2)
+      let o = in_map later cs x m in
+      let old = k.serves o.0 o.1 in
+      subst (IsServing KeptAsked KeptServed w (all_draws (map later cs))) (sym o.2)
       (record {
         setup = old.setup;
         made = old.made;
@@ -216,8 +214,8 @@ module _ (KeptAsked : ReqSetup → asked.History → Type 0) (KeptServed : RspSe
 
   pairs_later : (a : Requesting) (x : Connection) → IsPair world.requesters (map later cs) a x → IsReached (reading_of a.setup.psk) (state_of a x world.log)
   pairs_later a x pair =
-    let o = in_map later cs x pair.connection in
-    subst (λ (y : Connection). IsReached (reading_of a.setup.psk) (state_of a y world.log)) (sym o.2)
+      let o = in_map later cs x pair.connection in
+      subst (λ (y : Connection). IsReached (reading_of a.setup.psk) (state_of a y world.log)) (sym o.2)
       (k.pairs a o.0 (record { requester = pair.requester; connection = o.1; peer = sym (ap (λ (y : Connection). y.setup.peer) o.2) ∙ pair.peer }))
 
   pub ticks_goes : Fits KeptAsked KeptServed w (record world { responder = ticks world.responder seconds })

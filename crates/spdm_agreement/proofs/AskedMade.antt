@@ -1,22 +1,21 @@
 -- Whatever a requester does adds to a history that it made, and takes one draw at most.
-use Rattle.std.proofs.Common.{◌≡◌, ℕ, ◌≤◌, ◌+◌, List, [], ◌∷◌, drop, length, Bool, true, false, cond, not, ◌&&◌, ◌||◌, Option, Some, None, is_none, Result, Ok, Err, ◌==◌, refl, sym, ap, ◌∙◌, subst, arith, eqb-true}
+use Rattle.std.proofs.Common.{◌≡◌, ℕ, ◌≤◌, ◌+◌, List, [], ◌∷◌, drop, length, Bool, true, false, cond, not, ◌&&◌, ◌||◌, Option, Some, None, Result, Ok, Err, ◌==◌, refl, sym, ap, ◌∙◌, subst, arith, eqb-true}
 use Rattle.std.specs.Prelude.{slice_index, nat_lt, unwrap_or}
 use Rattle.spdm_basis.specs.declared.record_fault.RecordFault.{RecordFault}
-use Rattle.spdm_grammar.specs.Message.{RequestMessage}
 use Rattle.spdm_grammar.specs.declared.command_fault.CommandFault.{CommandFault}
 use Rattle.spdm_grammar.specs.declared.event.ReqIgnored.{ReqIgnored}
 use Rattle.spdm_grammar.specs.declared.event.ReqIgnored.TheVariants as ignored
 use Rattle.spdm_machine.specs.Keys.{Draw}
 use Rattle.spdm_machine.specs.Setup.{ReqSetup}
 use Rattle.requester_machine.specs.Asking.{Outcome, asks, asks_by, done, resent}
-use Rattle.requester_machine.specs.Asking.Outcome.{Fails, Ignores, Warns, Resends, Adds}
-use Rattle.requester_machine.specs.Bodies.{body_fault, first_cause, is_clear, is_record, has_tag, is_misplaced, is_out_of_place, error_in}
+use Rattle.requester_machine.specs.Asking.Outcome.{Ignores, Warns, Adds}
+use Rattle.requester_machine.specs.Bodies.{body_fault, first_cause, is_clear, is_record, is_out_of_place, error_in}
 use Rattle.requester_machine.specs.ClearAnswers.{clear_led}
 use Rattle.requester_machine.specs.Commands.{Free, command_fault}
 use Rattle.requester_machine.specs.Does.{IsMade, requester_asks, requester_hears, command_chosen, body_chosen}
-use Rattle.requester_machine.specs.Hearing.{hears, hears_by, hears_to, clear_outcome, in_session, on_record, record_outcome, came_to}
+use Rattle.requester_machine.specs.Hearing.{hears, hears_by, hears_to, clear_outcome, on_record, record_outcome, came_to}
 use Rattle.requester_machine.specs.History.{History, Led, draws_of, takes_draw, outstanding}
-use Rattle.requester_machine.specs.History.Entry.{Told, TookClear, TookRecord}
+use Rattle.requester_machine.specs.History.Entry.{Told, TookClear}
 use Rattle.requester_machine.specs.Message.{Command, Ask, Aim, Sent}
 use Rattle.requester_machine.specs.Message.Aim.{Plain, ByChunks, ForChunk, InSession}
 use Rattle.requester_machine.specs.Message.Command.{Connect, Open, Send, Beat, Update, Measure, End, Retry}

@@ -1,5 +1,5 @@
 -- Application data among the texts of requests and replies.
-use Rattle.std.proofs.Common.{◌≡◌, ◌⊎◌, ℕ, ◌==◌, ◌&&◌, ◌||◌, not, List, [], ◌∷◌, ◌++◌, length, take, drop, nat_lt, slice_index, Bool, true, false, cond, if◌then◌else◌, Option, Some, None, refl, sym, ap, ◌∙◌, subst, inl, inr, ap₂}
+use Rattle.std.proofs.Common.{◌≡◌, ℕ, ◌==◌, ◌&&◌, ◌||◌, not, List, [], ◌∷◌, ◌++◌, length, take, drop, nat_lt, slice_index, Bool, true, false, cond, if◌then◌else◌, Option, Some, refl, sym, subst, inl, inr, ap₂}
 use Rattle.byteorder.specs.Endian.{little_number}
 use Rattle.world_machine.specs.Agreement.{IsPrefixOf}
 use Rattle.spdm_agreement.specs.Claims.{in_order}
@@ -98,6 +98,6 @@ data_prefix r asked served log k openly duly u =
     let ahead = k.links.ahead u in
     let all = all_answered (taken u served) (taken_openly (outstanding u asked) (heard u asked) (taken u served) ahead (openly.asks u) (openly.waits u)) (duly.duly u) in (
       subst (λ (l : List (List ℕ)). IsPrefixOf l (in_order asked_data (requests u asked))) (as_taken (taken u served) all)
-        (in_order_prefix asked_data (firsts (taken u served)) (requests u asked) (taken_was_said (outstanding u asked) (requests u asked) (heard u asked) (taken u served) (k.asks.talks u) ahead)),
+          (in_order_prefix asked_data (firsts (taken u served)) (requests u asked) (taken_was_said (outstanding u asked) (requests u asked) (heard u asked) (taken u served) (k.asks.talks u) ahead)),
       in_order_prefix answered_data (heard u asked) (taken u served) (heard_was_taken (outstanding u asked) (heard u asked) (taken u served) ahead),
     )

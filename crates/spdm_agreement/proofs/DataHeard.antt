@@ -1,46 +1,22 @@
 -- The application data that a requester took are those in the texts of its marks.
-use Rattle.std.proofs.Common.{◌≡◌, ◌⊎◌, ℕ, zero, suc, ◌<◌, ◌≤◌, ◌==◌, ◌&&◌, ◌||◌, not, List, [], ◌∷◌, ◌++◌, length, drop, nat_lt, slice_index, Bool, true, false, cond, Option, Some, None, Result, Ok, Err, refl, sym, ap, ap₂, ◌∙◌, subst, inl, inr, arith, bytes_eq, append-nil, true≢false, eqb-true}
+use Rattle.std.proofs.Common.{◌≡◌, ℕ, ◌<◌, ◌≤◌, ◌==◌, ◌&&◌, ◌||◌, not, List, [], ◌∷◌, length, drop, nat_lt, slice_index, Bool, true, false, cond, Option, Some, None, Result, Ok, Err, refl, sym, ap, ◌∙◌, inl, inr, arith, true≢false, eqb-true}
 use Rattle.std.proofs.lemmas.Bool.{leb-false, lt-leb, leb-true, le-leb}
-use Rattle.requester_machine.proofs.Entries.{asked, test_is_false}
-use Rattle.requester_machine.specs.Asking.{Outcome, done, resent}
-use Rattle.requester_machine.specs.Asking.Outcome.{Fails, Ignores, Warns, Resends, Adds}
-use Rattle.requester_machine.specs.Bodies.{body_fault, is_clear}
-use Rattle.requester_machine.specs.ClearAnswers.{clear_led}
-use Rattle.requester_machine.specs.Commands.{Free, command_fault}
-use Rattle.requester_machine.specs.Does.{IsMade, requester_asks, command_chosen, body_chosen}
-use Rattle.requester_machine.specs.Hearing.{came_to, hears, hears_by, hears_to, clear_outcome, on_record, record_outcome}
-use Rattle.requester_machine.specs.History.{History, Effect, Led, outstanding, connection_terms, next_handle}
+use Rattle.requester_machine.specs.Commands.{Free}
+use Rattle.requester_machine.specs.History.{History, Effect, Led}
 use Rattle.requester_machine.specs.History.Effect.{Nothing, Answers, Refuses, Stops, Grants, Loses}
-use Rattle.requester_machine.specs.History.Entry.{Told, TookClear, TookRecord}
 use Rattle.requester_machine.specs.InnerMessages.{Came, inner_led, inner_led_by, inner_fault, read_led, message_led, data_led, or_lost, first_of_tests, reading_of, message_in}
-use Rattle.requester_machine.specs.Message.{Command, Ask, Aim, Content, Sent}
-use Rattle.requester_machine.specs.Message.Aim.{Plain, ByChunks, ForChunk, InSession}
+use Rattle.requester_machine.specs.Message.{Ask}
 use Rattle.requester_machine.specs.Message.Ask.{AskFinish, AskData, AskBeat, AskUpdate, AskVerify, AskMeasure, AskChunk, AskEnd}
-use Rattle.requester_machine.specs.Message.Command.{Connect, Open, Send, Beat, Update, Measure, End, Retry}
-use Rattle.requester_machine.specs.Message.Content.{Clear, Sealed}
 use Rattle.requester_machine.specs.Order.{may_bring}
-use Rattle.requester_machine.specs.Records.{answer_fault}
-use Rattle.requester_machine.specs.Sending.{request_sent, piece_sent, plain_sent}
-use Rattle.requester_machine.specs.Session.{Steps, session_of, ends, is_data, answer_in}
-use Rattle.spdm_basis.specs.declared.record_fault.RecordFault.{RecordFault}
-use Rattle.spdm_grammar.specs.Message.{RequestMessage, ResponseMessage}
-use Rattle.spdm_grammar.specs.Message.RequestMessage.{GetMeasurements}
+use Rattle.requester_machine.specs.Session.{ends, is_data, answer_in}
+use Rattle.spdm_grammar.specs.Message.{ResponseMessage}
 use Rattle.spdm_grammar.specs.Message.ResponseMessage.{Error}
-use Rattle.spdm_grammar.specs.Requests.{canonical_request}
 use Rattle.spdm_grammar.specs.declared.event.BadReply.{BadReply}
 use Rattle.spdm_grammar.specs.declared.event.BadReply.TheVariants as bad
-use Rattle.spdm_grammar.specs.declared.event.ReqIgnored.{ReqIgnored}
 use Rattle.spdm_grammar.specs.declared.malformed.Malformed.{Malformed}
-use Rattle.spdm_machine.specs.Keys.{Draw}
-use Rattle.spdm_machine.specs.Responder.{clear_body, record_body}
 use Rattle.spdm_machine.specs.Setup.{ReqSetup}
-use Rattle.spdm_agreement.specs.Marks.{Text}
-use Rattle.spdm_agreement.specs.Story.{sent_text}
-use Rattle.spdm_agreement.proofs.AskingClear.{IsClear, IsClearAim, NextClear, either}
-use Rattle.spdm_agreement.proofs.AskingEntries.{IsTookClear, IsTookRecord, clear_entry, record_entry}
-use Rattle.spdm_agreement.proofs.AskingRecord.{NextRecord, RecordLed, record_shape}
-use Rattle.spdm_agreement.proofs.Data.{is_data_text, is_data_inner, data_in}
-use Rattle.spdm_agreement.proofs.DataTexts.{data_text, message_no_data}
+use Rattle.spdm_agreement.proofs.AskingRecord.{RecordLed, record_shape}
+use Rattle.spdm_agreement.proofs.Data.{is_data_inner}
 
 -- It asks with application data.
 abbrev pub asks_data : Ask → Bool
@@ -146,8 +122,8 @@ typed_led q h f came true is none = brings_none AskData came.inner _ (read_quiet
 typed_led q h f came false is none =
     let one = slice_index came.inner 0 == 1 in
     let loud : (one && not (nat_lt 1024 (length (drop 1 came.inner)))) ≡ true =
-      none_loud one (nat_lt q.transfer (length (drop 1 came.inner))) (nat_lt 1024 (length (drop 1 came.inner)))
-        (ap (λ (b : Bool). first_of_tests ((b && nat_lt q.transfer (length (drop 1 came.inner)), bad.TooLong) ∷ (one && nat_lt 1024 (length (drop 1 came.inner)), bad.TooLong) ∷ (not (b || one), bad.Malformed 0) ∷ [])) (sym is) ∙ none) in
+    none_loud one (nat_lt q.transfer (length (drop 1 came.inner))) (nat_lt 1024 (length (drop 1 came.inner)))
+    (ap (λ (b : Bool). first_of_tests ((b && nat_lt q.transfer (length (drop 1 came.inner)), bad.TooLong) ∷ (one && nat_lt 1024 (length (drop 1 came.inner)), bad.TooLong) ∷ (not (b || one), bad.Malformed 0) ∷ [])) (sym is) ∙ none) in
     record { told = sym (as_data one refl loud); answer = λ e. refl }
   where
     as_data : (one : Bool) → (slice_index came.inner 0 == 1) ≡ one → (one && not (nat_lt 1024 (length (drop 1 came.inner)))) ≡ true → is_data_inner came.inner ≡ true

@@ -1,25 +1,23 @@
 -- The application data that a requester sealed are those in the texts of its marks.
-use Rattle.std.proofs.Common.{◌≡◌, ◌⊎◌, ℕ, ◌<◌, ◌≤◌, ◌==◌, ◌&&◌, not, List, [], ◌∷◌, ◌++◌, length, nat_lt, slice_index, Bool, true, false, cond, Option, Some, None, refl, sym, ap, ◌∙◌, subst, inl, inr, arith, bytes_eq, append-nil}
+use Rattle.std.proofs.Common.{◌≡◌, ℕ, ◌<◌, ◌≤◌, List, [], ◌∷◌, ◌++◌, length, nat_lt, Bool, true, false, cond, Option, Some, None, refl, sym, ap, ◌∙◌, subst, inl, inr, arith, append-nil}
 use Rattle.std.proofs.lemmas.Bool.{leb-false}
 use Rattle.requester_machine.proofs.Entries.{asked, test_is_false}
 use Rattle.requester_machine.specs.Asking.{Outcome, done, resent}
-use Rattle.requester_machine.specs.Asking.Outcome.{Fails, Ignores, Warns, Resends, Adds}
+use Rattle.requester_machine.specs.Asking.Outcome.{Adds}
 use Rattle.requester_machine.specs.Commands.{Free, command_fault}
 use Rattle.requester_machine.specs.Does.{IsMade, requester_asks, command_chosen, body_chosen}
 use Rattle.requester_machine.specs.History.{History, Effect, Led, outstanding, connection_terms, next_handle}
 use Rattle.requester_machine.specs.History.Effect.{Answers}
 use Rattle.requester_machine.specs.History.Entry.{Told, TookClear, TookRecord}
 use Rattle.requester_machine.specs.Hearing.{came_to}
-use Rattle.requester_machine.specs.InnerMessages.{Came, with_record}
+use Rattle.requester_machine.specs.InnerMessages.{Came}
 use Rattle.requester_machine.specs.Message.{Command, Ask, Content, Sent}
 use Rattle.requester_machine.specs.Message.Command.{Connect, Open, Send, Beat, Update, Measure, End, Retry}
 use Rattle.requester_machine.specs.Message.Content.{Clear, Sealed}
 use Rattle.requester_machine.specs.RequesterLog.{steps_at}
-use Rattle.requester_machine.specs.Sending.{inner_data, inner_request, request_sent, piece_sent, plain_sent, key_update, operation_of, record_sent}
+use Rattle.requester_machine.specs.Sending.{request_sent, piece_sent, plain_sent, key_update, operation_of}
 use Rattle.requester_machine.specs.Session.{Steps, session_of, stage_of, t2_of, finishes}
-use Rattle.requester_machine.specs.Session as requester
 use Rattle.requester_machine.specs.Session.Step.{Took}
-use Rattle.spdm_grammar.specs.Message.{RequestMessage}
 use Rattle.spdm_grammar.specs.Message.RequestMessage.{GetMeasurements, PskExchange, Heartbeat, EndSession}
 use Rattle.spdm_grammar.specs.Requests.{canonical_request}
 use Rattle.spdm_grammar.specs.declared.phase.Stage.{Stage}
@@ -27,7 +25,7 @@ use Rattle.spdm_grammar.specs.declared.phase.Stage.TheVariants as stage
 use Rattle.spdm_machine.specs.Keys.{Draw}
 use Rattle.spdm_machine.specs.Responder.{record_body}
 use Rattle.spdm_machine.specs.Setup.{ReqSetup}
-use Rattle.world_machine.specs.Agreement.{sent_under, requests_sealed, some_under}
+use Rattle.world_machine.specs.Agreement.{sent_under, requests_sealed}
 use Rattle.secured_record.specs.Format.{plain_text}
 use Rattle.spdm_agreement.specs.Claims.{in_order}
 use Rattle.spdm_agreement.specs.Marks as marks
@@ -37,8 +35,8 @@ use Rattle.spdm_agreement.specs.Story.{asked_marks, command_marks, clear_marks, 
 use Rattle.spdm_agreement.proofs.AskingClear.{IsClear}
 use Rattle.spdm_agreement.proofs.AskingEntries.{IsTookRecord, record_entry}
 use Rattle.spdm_agreement.proofs.AskingRecord.{NextRecord}
-use Rattle.spdm_agreement.proofs.Data.{asked_data, is_data_text, data_in}
-use Rattle.spdm_agreement.proofs.DataTexts.{data_text, message_no_data, as_list, one_more, no_more}
+use Rattle.spdm_agreement.proofs.Data.{asked_data, data_in}
+use Rattle.spdm_agreement.proofs.DataTexts.{data_text, message_no_data, one_more}
 
 -- ---- What one request adds.
 
@@ -104,14 +102,14 @@ next_adds : (q : ReqSetup) (h : History) (f : Free) (came : Came) (effect : Effe
 next_adds q h f came effect ask None s t2 u b reply old k = refl
 next_adds q h f came effect ask (Some x) s t2 u b reply old k =
     subst (λ (y : Sent). in_order asked_data (requests t2 ((content_marks s y.content ++ marks.Asked.Heard u b reply ∷ []) ++ old)) ≡ in_order asked_data (requests t2 old)) (sym k.is)
-      (elim k.kind [
-        | inl v ↦ go k.inner _ v.1
-        | inr c ↦ go k.inner _ c.5
-      ])
+    (elim k.kind [
+      | inl v ↦ go k.inner _ v.1
+      | inr c ↦ go k.inner _ c.5
+    ])
   where
     go : (inner message : List ℕ) → inner ≡ 5 ∷ message → in_order asked_data (requests t2 (marks.Asked.Sealed (t2_of s) (plain_text inner f.pad) ∷ marks.Asked.Heard u b reply ∷ old)) ≡ in_order asked_data (requests t2 old)
     go inner message e =
-      subst (λ (l : List ℕ). in_order asked_data (requests t2 (marks.Asked.Sealed (t2_of s) (plain_text l f.pad) ∷ marks.Asked.Heard u b reply ∷ old)) ≡ in_order asked_data (requests t2 old)) (sym e)
+        subst (λ (l : List ℕ). in_order asked_data (requests t2 (marks.Asked.Sealed (t2_of s) (plain_text l f.pad) ∷ marks.Asked.Heard u b reply ∷ old)) ≡ in_order asked_data (requests t2 old)) (sym e)
         (request_adds s message f.pad t2 (marks.Asked.Heard u b reply ∷ old) ∙ append-nil (in_order asked_data (requests t2 old)))
 
 -- A record in the handshake leaves no request.
@@ -145,4 +143,4 @@ requests_are q (TookClear tag m led d ∷ older) made t2 = requests_are q older 
 requests_are q (TookRecord tag of sealed inner led d ∷ older) made t2 =
     requests_are q older made.1 t2
     ∙ sym (staged_same (stage_of (session_of of older)) q older (body_chosen q older d) (record_body sealed) of sealed inner led (session_of of older) t2 (asked_marks q older)
-      (record_entry q older false tag tag (record_body sealed) of sealed inner (body_chosen q older d) led d d made.0))
+    (record_entry q older false tag tag (record_body sealed) of sealed inner (body_chosen q older d) led d d made.0))

@@ -1,32 +1,31 @@
 -- The application data that a responder took and sealed are those in the texts of its marks.
-use Rattle.std.proofs.Common.{◌≡◌, ◌⊎◌, ℕ, ◌<◌, ◌≤◌, ◌==◌, ◌&&◌, ◌||◌, not, List, [], ◌∷◌, ◌++◌, length, take, drop, nat_lt, slice_index, Bool, true, false, cond, Option, Some, None, refl, sym, ap, ap₂, ◌∙◌, subst, inl, inr, arith, bytes_eq, eqb-true, ne_eqb, true≢false}
+use Rattle.std.proofs.Common.{◌≡◌, ◌⊎◌, ℕ, ◌≤◌, ◌==◌, ◌&&◌, ◌||◌, not, List, [], ◌∷◌, ◌++◌, length, drop, nat_lt, slice_index, Bool, true, false, cond, Option, Some, None, refl, sym, ap, ap₂, ◌∙◌, subst, inl, inr, arith, eqb-true, ne_eqb, true≢false}
 use Rattle.spdm_grammar.specs.Message.{RequestMessage, ChunkMessage}
 use Rattle.spdm_grammar.specs.declared.error_code.ErrorCode.{ErrorCode}
 use Rattle.spdm_grammar.specs.declared.error_code.ErrorCode.TheVariants.{InvalidRequest, UnexpectedRequest, RequestTooLarge}
 use Rattle.spdm_grammar.specs.declared.phase.Stage.{Stage}
 use Rattle.spdm_grammar.specs.declared.phase.Stage.TheVariants as stage
 use Rattle.spdm_machine.specs.Answer.{Free, request_at, answer_bytes}
-use Rattle.spdm_machine.specs.Does.{IsMade, chosen, record_chosen, record_does, first_queued}
-use Rattle.spdm_machine.specs.Handling.{turn_of, turn_by, chunk_in, chunk_turn, carried_turn, taken_chunk, last_chunk_turn, effect_of, handle_for, request_effect, refused_turn}
+use Rattle.spdm_machine.specs.Does.{IsMade, chosen, record_chosen, first_queued}
+use Rattle.spdm_machine.specs.Handling.{turn_of, turn_by, chunk_in, carried_turn, taken_chunk, last_chunk_turn, effect_of, handle_for}
 use Rattle.spdm_machine.specs.History.{History, queue_of}
 use Rattle.spdm_machine.specs.History.Entry.{Clear, Sealed, Queued, Ticked, Dropped}
 use Rattle.spdm_machine.specs.Keys.{Draw}
 use Rattle.spdm_machine.specs.Place.{Place, inside, session_place}
 use Rattle.spdm_machine.specs.Records.{opened, request_purpose}
 use Rattle.spdm_machine.specs.Refusal.{first_of_tests, refusal}
-use Rattle.spdm_machine.specs.Responder.{Outcome, session_turn, session_turn_by, data_turn, inner_refusal, inner_reply, is_open}
-use Rattle.spdm_machine.specs.Responder.Outcome.{Adds}
+use Rattle.spdm_machine.specs.Responder.{session_turn, session_turn_by, data_turn, inner_refusal, is_open}
 use Rattle.spdm_machine.specs.Session.{Events, Event, session_of, stage_of, id_in_record, t2_of, session_terms, request_next}
 use Rattle.spdm_machine.specs.Setup.{RspSetup}
 use Rattle.spdm_machine.specs.Turn.{Turn, Effect, takes, is_data}
-use Rattle.spdm_machine.specs.Turn.Effect.{NoEffect, Took, TookData}
+use Rattle.spdm_machine.specs.Turn.Effect.{NoEffect, TookData}
 use Rattle.world_machine.specs.Agreement.{data_taken, data_answered, some_under, requests_taken, responses_sealed}
 use Rattle.spdm_agreement.specs.Claims.{in_order}
 use Rattle.spdm_agreement.specs.Marks.{Served, Text, Exchange, taken}
 use Rattle.spdm_agreement.specs.Marks as marks
 use Rattle.secured_record.specs.Format.{plain_text}
 use Rattle.spdm_agreement.specs.Reading.{First}
-use Rattle.spdm_agreement.specs.Story.{served_marks, served_turn, record_marks, began_marks, taken_text, reply_text, served_first}
+use Rattle.spdm_agreement.specs.Story.{served_marks, served_turn, record_marks, taken_text, reply_text, served_first}
 use Rattle.spdm_agreement.proofs.Data.{inner_in, is_data_inner, is_data_text, data_in, taken_data, answered_data}
 use Rattle.spdm_agreement.proofs.DataTexts.{data_text, message_no_data, as_list, one_more, no_more}
 use Rattle.spdm_agreement.proofs.Steady.{record_entry}
@@ -103,7 +102,7 @@ by_type r s inner f true is sound = inr (message_none r (session_place s) (drop 
     spdm inner is = ap (λ (n : ℕ). (n == 1) && not (nat_lt 1025 (length inner))) (eqb-true (slice_index inner 0) 5 is)
 by_type r s inner f false is sound =
     let t = sound_data (length inner == 0) (slice_index inner 0 == 1) (is_open (stage_of s)) (nat_lt 1025 (length inner))
-      (ap (λ (b : Bool). first_fault (length inner == 0) b (slice_index inner 0 == 1) (is_open (stage_of s)) (nat_lt 1025 (length inner))) (sym is) ∙ sound) in
+    (ap (λ (b : Bool). first_fault (length inner == 0) b (slice_index inner 0 == 1) (is_open (stage_of s)) (nat_lt 1025 (length inner))) (sym is) ∙ sound) in
     inl (refl, t.0, t.1)
 
 by_fault : (r : RspSetup) (s : Events) (inner : List ℕ) (f : Free) (o : Option ErrorCode) → inner_refusal (stage_of s) inner ≡ o → DataTurn (stage_of s) inner f (session_turn_by r s inner f o)
@@ -180,8 +179,8 @@ turn_told : (r : RspSetup) (s : Events) (f : Free) (sealed : List ℕ) (t : Turn
 turn_told r s f sealed t short x = elim x [
   | inl d ↦ (let reply = data_text f.reply [] short in
       subst (λ (t : Turn). Told (taken_text r.psk s sealed) (reply_text t) t.effect) (sym d.0)
-        (told_data (taken_text r.psk s sealed) (reply_text (data_turn f (drop 1 (opened r.psk s sealed)))) (drop 1 (opened r.psk s sealed)) f.reply
-          (ap is_data_inner (sym (opened_in r.psk s sealed)) ∙ d.1) (ap (λ (l : List ℕ). drop 1 l) (sym (opened_in r.psk s sealed))) reply.0 reply.1))
+      (told_data (taken_text r.psk s sealed) (reply_text (data_turn f (drop 1 (opened r.psk s sealed)))) (drop 1 (opened r.psk s sealed)) f.reply
+      (ap is_data_inner (sym (opened_in r.psk s sealed)) ∙ d.1) (ap (λ (l : List ℕ). drop 1 l) (sym (opened_in r.psk s sealed))) reply.0 reply.1))
   | inr n ↦ told_none (taken_text r.psk s sealed) (reply_text t) t.effect n.0 (reply_none t n.0.none)
 ]
 
@@ -219,9 +218,9 @@ module _ (choose : Exchange → List (List ℕ)) (data_of : Effect → Option (L
   one_record : (r : RspSetup) (older : History) (tag : ℕ) (sealed : List ℕ) (t : Turn) (reply : List ℕ) (d : Draw) (t2 : List ℕ) → IsMade r (Sealed tag sealed t reply d ∷ older)
       → in_order choose (taken t2 (served_marks r (Sealed tag sealed t reply d ∷ older))) ≡ in_order choose (taken t2 (served_marks r older)) ++ some_under t2 (t2_of (session_of (id_in_record sealed) older)) (data_of t.effect)
   one_record r older tag sealed t reply d t2 made =
-    let s = session_of (id_in_record sealed) older in
-    let f = record_chosen r older sealed d in
-    recorded r s f sealed t reply t2 (served_marks r older) (chosen_short r older sealed d made.1)
+      let s = session_of (id_in_record sealed) older in
+      let f = record_chosen r older sealed d in
+      recorded r s f sealed t reply t2 (served_marks r older) (chosen_short r older sealed d made.1)
       (subst (DataTurn (stage_of s) (opened r.psk s sealed) f) (sym (record_entry r older f tag tag sealed sealed t reply d d made.0)) (data_turn_is r s (opened r.psk s sealed) f))
 
 pub requests_are : (r : RspSetup) (h : History) → IsMade r h → (t2 : List ℕ) → requests_taken t2 h ≡ in_order taken_data (taken t2 (served_marks r h))

@@ -1,15 +1,15 @@
 -- The application data that a requester took are those in the texts of its marks.
-use Rattle.std.proofs.Common.{◌≡◌, ◌⊎◌, ℕ, zero, suc, ◌<◌, ◌≤◌, ◌==◌, ◌&&◌, List, [], ◌∷◌, ◌++◌, length, drop, nat_lt, Bool, true, false, cond, Option, Some, None, Result, Ok, Err, refl, sym, ap, ap₂, ◌∙◌, subst, inl, inr, arith, bytes_eq, append-nil, true≢false}
+use Rattle.std.proofs.Common.{◌≡◌, ℕ, ◌<◌, ◌&&◌, List, [], ◌∷◌, ◌++◌, length, drop, Bool, true, false, cond, Option, Some, None, Result, Ok, Err, refl, sym, ap, ap₂, ◌∙◌, subst, inl, inr, arith, bytes_eq, append-nil}
 use Rattle.std.proofs.lemmas.Bool.{leb-false}
 use Rattle.std.specs.Prelude.{unwrap_or}
 use Rattle.requester_machine.proofs.Entries.{asked, test_is_false}
 use Rattle.requester_machine.proofs.MadeOrder.{in_order as ordered}
 use Rattle.requester_machine.specs.Asking.{Outcome, done, resent}
-use Rattle.requester_machine.specs.Asking.Outcome.{Fails, Ignores, Warns, Resends, Adds}
+use Rattle.requester_machine.specs.Asking.Outcome.{Warns, Adds}
 use Rattle.requester_machine.specs.Bodies.{body_fault, is_clear, error_in}
 use Rattle.requester_machine.specs.ClearAnswers.{clear_led}
 use Rattle.requester_machine.specs.Commands.{Free, command_fault, exchange_for}
-use Rattle.requester_machine.specs.Does.{IsMade, requester_asks, requester_hears, command_chosen, body_chosen}
+use Rattle.requester_machine.specs.Does.{IsMade, requester_asks, command_chosen, body_chosen}
 use Rattle.requester_machine.specs.Hearing.{came_to, hears, hears_by, hears_to, clear_outcome, on_record, record_outcome}
 use Rattle.requester_machine.specs.History.{History, Effect, Led, outstanding, connection_terms, next_handle}
 use Rattle.requester_machine.specs.History.Entry.{Told, TookClear, TookRecord}
@@ -20,8 +20,8 @@ use Rattle.requester_machine.specs.Message.Ask.{AskFinish, AskData, AskBeat, Ask
 use Rattle.requester_machine.specs.Message.Command.{Connect, Open, Send, Beat, Update, Measure, End, Retry}
 use Rattle.requester_machine.specs.Message.Content.{Clear, Sealed}
 use Rattle.requester_machine.specs.Order.{stage_for}
-use Rattle.requester_machine.specs.Records.{answer_fault, answer_inner}
-use Rattle.requester_machine.specs.Sending.{request_sent, piece_sent, plain_sent, key_update, operation_of, finish_verify}
+use Rattle.requester_machine.specs.Records.{answer_fault}
+use Rattle.requester_machine.specs.Sending.{piece_sent, plain_sent, key_update, operation_of, finish_verify}
 use Rattle.requester_machine.specs.RequesterLog.{steps_at}
 use Rattle.requester_machine.specs.Session.{Steps, session_of, stage_of, t2_of, finishes, is_data, answer_in}
 use Rattle.requester_machine.specs.Session.Step.{Took}
@@ -42,8 +42,8 @@ use Rattle.spdm_agreement.specs.Claims.{in_order}
 use Rattle.spdm_agreement.specs.Marks as marks
 use Rattle.spdm_agreement.specs.Marks.{Text, heard}
 use Rattle.spdm_agreement.specs.Reading.{First}
-use Rattle.spdm_agreement.specs.Story.{asked_marks, command_marks, clear_marks, taken_marks, next_marks, content_marks, asked_first, sent_text, request_text, answer_text, ask_in, ask_of}
-use Rattle.spdm_agreement.proofs.AskingClear.{IsClear, IsClearAim, NextClear, either}
+use Rattle.spdm_agreement.specs.Story.{asked_marks, command_marks, taken_marks, next_marks, content_marks, asked_first, sent_text, request_text, answer_text, ask_in, ask_of}
+use Rattle.spdm_agreement.proofs.AskingClear.{IsClearAim, NextClear, either}
 use Rattle.spdm_agreement.proofs.AskingEntries.{IsTookClear, IsTookRecord, clear_entry, record_entry}
 use Rattle.spdm_agreement.proofs.AskingMade.{waited_for, asked_stage}
 use Rattle.spdm_agreement.proofs.AskingRecord.{NextRecord}
@@ -51,7 +51,7 @@ use Rattle.spdm_agreement.proofs.AskingTalks.{inner_as}
 use Rattle.spdm_agreement.proofs.Data.{is_data_text, is_data_inner, data_in, answered_data, inner_in}
 use Rattle.spdm_agreement.proofs.DataHeard.{asks_data, BringsData, brings}
 use Rattle.spdm_agreement.proofs.DataSealed.{clear_same}
-use Rattle.spdm_agreement.proofs.DataTexts.{data_text, message_no_data, as_list, one_more, no_more}
+use Rattle.spdm_agreement.proofs.DataTexts.{data_text, message_no_data, as_list, one_more}
 
 -- ---- The text of a request tells whether application data were asked.
 
@@ -117,10 +117,10 @@ next_record_tells : (q : ReqSetup) (h : History) (f : Free) (came : Came) (effec
 next_record_tells q h f came effect ask None k = tt
 next_record_tells q h f came effect ask (Some x) k =
     subst (λ (y : Sent). SentTells (Some y)) (sym k.is)
-      (elim k.kind [
-        | inl v ↦ ap (λ (l : List ℕ). is_data_text (plain_text l f.pad)) v.1 ∙ message_no_data (canonical_request (key_update (with_record came effect) 3)) f.pad ∙ sym (ap asks_data v.0)
-        | inr c ↦ ap (λ (l : List ℕ). is_data_text (plain_text l f.pad)) c.5 ∙ message_no_data (canonical_request (ChunkGet c.1 c.2)) f.pad ∙ sym (ap asks_data c.4)
-      ])
+    (elim k.kind [
+      | inl v ↦ ap (λ (l : List ℕ). is_data_text (plain_text l f.pad)) v.1 ∙ message_no_data (canonical_request (key_update (with_record came effect) 3)) f.pad ∙ sym (ap asks_data v.0)
+      | inr c ↦ ap (λ (l : List ℕ). is_data_text (plain_text l f.pad)) c.5 ∙ message_no_data (canonical_request (ChunkGet c.1 c.2)) f.pad ∙ sym (ap asks_data c.4)
+    ])
 
 took_record_tells : (q : ReqSetup) (h : History) (f : Free) (body : List ℕ) (of : ℕ) (sealed inner : List ℕ) (led : Led) → IsTookRecord q h f body of sealed inner led → SentTells led.next
 took_record_tells q h f body of sealed inner led k = elim k.led_to [
@@ -223,14 +223,14 @@ no_shake_data AskEnd e = refl
 -- The exchange of a record under its T2.
 took_adds : (q : ReqSetup) (h : History) (f : Free) (of : ℕ) (sealed inner : List ℕ) (led : Led) (o : Option Sent) (s' : Steps) (t2 : List ℕ) (old : List marks.Asked) → SentTells (outstanding h) → (k : IsLedBy q h f of sealed led)
     → in_order answered_data (heard t2 ((next_marks s' o ++ marks.Asked.Heard (t2_of (session_of of h)) (request_text (outstanding h)) (answer_text q.psk (session_of of h) (ask_in (outstanding h)) sealed) ∷ []) ++ old))
-      ≡ in_order answered_data (heard t2 old) ++ answered_under t2 (session_of of h) (is_data led.effect) (answer_in led.effect)
+    ≡ in_order answered_data (heard t2 old) ++ answered_under t2 (session_of of h) (is_data led.effect) (answer_in led.effect)
 took_adds q h f of sealed inner led o s' t2 old tells k =
     let s = session_of of h in
     let came = came_to q h of k.ask sealed in
     let ask : ask_in (outstanding h) ≡ k.ask = ap ask_in k.waits ∙ ap ask_of k.aims in
     let text = answer_text q.psk s (ask_in (outstanding h)) sealed in
     let its : is_data_text (request_text (outstanding h)) ≡ asks_data k.ask =
-      ap (λ (w : Option Sent). is_data_text (request_text w)) k.waits ∙ subst (λ (a : Aim). TextTells a (sent_text k.sent.content)) k.aims (subst SentTells k.waits tells) in
+    ap (λ (w : Option Sent). is_data_text (request_text w)) k.waits ∙ subst (λ (a : Aim). TextTells a (sent_text k.sent.content)) k.aims (subst SentTells k.waits tells) in
     let inside : inner_in text ≡ came.inner = ap (λ (a : Ask). inner_in (answer_text q.psk s a sealed)) ask ∙ sym (inner_as q.psk s k.ask sealed) in
     let brought : BringsData k.ask came.inner led.effect = subst (λ (l : Led). BringsData k.ask came.inner l.effect) (sym k.is) (brings q h f came k.ask) in
     ap (in_order answered_data) (next_heard t2 (t2_of s) (request_text (outstanding h)) text s' o old)
@@ -274,5 +274,5 @@ responses_are q (TookRecord tag of sealed inner led d ∷ older) made t2 =
     let f = body_chosen q older d in
     ap (λ (l : List (List ℕ)). l ++ answered_under t2 s (is_data led.effect) (answer_in led.effect)) (responses_are q older made.1 t2)
     ∙ sym (staged_adds (stage_of s) q older f (record_body sealed) of sealed inner led t2 (asked_marks q older) made.1 refl
-      (record_entry q older false tag tag (record_body sealed) of sealed inner f led d d made.0)
-      (led_by q older false tag tag (record_body sealed) of sealed inner f led d d made.0))
+    (record_entry q older false tag tag (record_body sealed) of sealed inner f led d d made.0)
+    (led_by q older false tag tag (record_body sealed) of sealed inner f led d d made.0))

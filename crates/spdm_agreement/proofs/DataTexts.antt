@@ -1,12 +1,11 @@
 -- The inner message stands in the text that is made of it.
-use Rattle.std.proofs.Common.{◌≡◌, ℕ, zero, suc, ◌<◌, ◌≤◌, ◌==◌, ◌&&◌, not, ◌+◌, ◌/◌, ◌%◌, List, [], ◌∷◌, ◌++◌, length, take, drop, nat_lt, slice_index, Bool, true, false, cond, Option, Some, None, refl, sym, ap, ◌∙◌, subst, arith, append-nil, bytes_eq}
+use Rattle.std.proofs.Common.{◌≡◌, ℕ, zero, suc, ◌<◌, ◌≤◌, not, List, [], ◌∷◌, ◌++◌, length, take, drop, Bool, true, false, cond, Option, Some, None, refl, sym, ap, ◌∙◌, arith, append-nil, bytes_eq}
 use Rattle.std.proofs.Math.Seq.{take-append_seam}
-use Rattle.std.proofs.lemmas.Bool.{leb-false, lt-leb}
+use Rattle.std.proofs.lemmas.Bool.{lt-leb}
 use Rattle.byteorder.specs.Endian.{little_number, little_bytes}
 use Rattle.secured_record.specs.Format.{plain_text}
-use Rattle.world_machine.specs.Agreement.{bytes_under, some_under}
+use Rattle.world_machine.specs.Agreement.{some_under}
 use Rattle.spdm_agreement.specs.Claims.{in_order}
-use Rattle.spdm_agreement.specs.Marks.{Text}
 use Rattle.spdm_agreement.proofs.Data.{inner_in, is_data_inner, is_data_text, data_in}
 
 front_length : (n : ℕ) (rest : List ℕ) → n < 65536 → little_number 2 (little_bytes 2 n ++ rest) ≡ n

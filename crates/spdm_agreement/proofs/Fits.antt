@@ -1,12 +1,11 @@
 -- What every world keeps, in which nothing agrees by chance.
-use Rattle.std.proofs.Common.{◌≡◌, ◌≢◌, ◌⊎◌, ℕ, ◌<◌, ◌≤◌, ◌+◌, List, [], ◌∷◌, ◌++◌, length, refl, sym, ap, ◌∙◌, subst, inl, inr, arith}
+use Rattle.std.proofs.Common.{◌≡◌, ◌≢◌, ℕ, ◌≤◌, ◌+◌, List, [], ◌∷◌, length, sym, ap, ◌∙◌, inl, inr}
 use Rattle.key_schedule.specs.Purpose.{Purpose}
 use Rattle.requester_machine.specs.Does as asking
 use Rattle.requester_machine.specs.History as asked
 use Rattle.spdm_machine.specs.Does as serving
 use Rattle.spdm_machine.specs.History as served
 use Rattle.spdm_machine.specs.Setup.{RspSetup, ReqSetup}
-use Rattle.spdm_machine.specs.TagLog.{Log}
 use Rattle.world_machine.specs.Agreement.{IsMade}
 use Rattle.world_machine.specs.Chance.{NoChance}
 use Rattle.world_machine.specs.Requesting.{Requesting}
@@ -19,7 +18,7 @@ use Rattle.spdm_agreement.specs.Marks.{Asked, Served, next_asked, next_served}
 use Rattle.spdm_agreement.specs.Moves.{State}
 use Rattle.spdm_agreement.specs.Reading.{Reading}
 use Rattle.spdm_agreement.specs.Story.{asked_marks, served_marks}
-use Rattle.spdm_agreement.proofs.Foreign.{Leads, LogLeads, join, theirs}
+use Rattle.spdm_agreement.proofs.Foreign.{Leads, join, theirs}
 use Rattle.spdm_agreement.proofs.Members.{IsIn}
 use Rattle.spdm_agreement.proofs.Owed.{OwnLeads}
 use Rattle.spdm_agreement.proofs.Pairs.{state_of}

@@ -1,5 +1,5 @@
 -- What stands in a list, told by recursion.
-use Rattle.std.proofs.Common.{◌≡◌, ◌⊎◌, ℕ, List, [], ◌∷◌, Option, Some, None, Bool, true, false, cond, map, find, refl, sym, ap, ◌∙◌, subst, inl, inr, All, Contains}
+use Rattle.std.proofs.Common.{◌≡◌, ◌⊎◌, List, [], ◌∷◌, Some, None, Bool, true, false, cond, map, find, refl, sym, ap, subst, inl, inr, All, Contains}
 use Rattle.std.proofs.lemmas.List.Elements.{All-contains, All-from_recursion, recursion_from_All}
 use Rattle.std.specs.List.{AllByRecursion}
 

@@ -1,5 +1,5 @@
 -- The tags that the ends of one key make are of purposes of that key.
-use Rattle.std.proofs.Common.{◌≡◌, ◌⊎◌, ℕ, List, [], ◌∷◌, refl, sym, ap, ◌∙◌, subst, inl, inr}
+use Rattle.std.proofs.Common.{◌≡◌, ◌⊎◌, ℕ, List, [], ◌∷◌, sym, ap, subst, inl, inr}
 use Rattle.key_schedule.specs.Purpose.{Purpose}
 use Rattle.world_machine.specs.Agreement.{IsMade}
 use Rattle.spdm_agreement.specs.Moves.{State, Move, after, IsRun}

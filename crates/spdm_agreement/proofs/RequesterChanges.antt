@@ -1,11 +1,10 @@
 -- A requester of a world goes on: what its run keeps of the whole world.
-use Rattle.std.proofs.Common.{◌≡◌, ◌≢◌, ◌⊎◌, ℕ, ◌≤◌, ◌==◌, List, [], ◌∷◌, ◌++◌, Bool, true, false, cond, map, refl, sym, ap, ◌∙◌, subst, inl, inr, arith, eqb-true, eq-eqb, true≢false}
+use Rattle.std.proofs.Common.{◌≡◌, ◌≢◌, ◌⊎◌, ℕ, ◌==◌, List, ◌++◌, Bool, true, false, cond, refl, sym, ap, ◌∙◌, subst, inl, inr, eqb-true, eq-eqb, true≢false}
 use Rattle.key_schedule.specs.Purpose.{Purpose}
 use Rattle.requester_machine.specs.History as asked
 use Rattle.spdm_machine.specs.History as served
 use Rattle.spdm_machine.specs.Setup.{RspSetup, ReqSetup}
-use Rattle.spdm_machine.specs.TagLog.{Act, Log}
-use Rattle.world_machine.proofs.Logs.{no_chance_before}
+use Rattle.spdm_machine.specs.TagLog.{Act}
 use Rattle.world_machine.specs.Agreement.{IsMade}
 use Rattle.world_machine.specs.Chance.{NoChance}
 use Rattle.world_machine.specs.Requesting.{Requesting}
@@ -13,7 +12,7 @@ use Rattle.world_machine.specs.Responding.{Connection}
 use Rattle.world_machine.specs.Setup.{WorldSetup}
 use Rattle.world_machine.specs.World.{World, SentPacket, replaced, with_requester}
 use Rattle.spdm_agreement.specs.Claims.{IsReached}
-use Rattle.spdm_agreement.proofs.Fits.{Apart, IsPair, IsAsking, Fits, same_requester, same_connection, same_key, own_reach, others_reach}
+use Rattle.spdm_agreement.proofs.Fits.{Apart, IsPair, IsAsking, Fits, own_reach, others_reach}
 use Rattle.spdm_agreement.proofs.Members.{IsIn, in_map, map_in}
 use Rattle.spdm_agreement.proofs.Owed.{OwnLeads}
 use Rattle.spdm_agreement.proofs.Owners.{own_made}
@@ -51,21 +50,23 @@ module _ (rs : List Requesting) (cs : List Connection) (apart : Apart rs cs) (a 
 
   stays : (x : Requesting) → IsIn (with_requester new rs) x → Stays x
   stays x m =
-    let o = origin rs new x m in
-    elim o.same [
-      | inl s ↦ (let own = apart.numbers o.old a o.is is s.0 in record {
-          old = o.old; in_old = o.is;
+      let o = origin rs new x m in
+      elim o.same [
+        | inl s ↦ (let own = apart.numbers o.old a o.is is s.0 in record {
+          old = o.old;
+          in_old = o.is;
           number = ap (λ (y : Requesting). y.number) s.1 ∙ sym s.0;
           setup = ap (λ (y : Requesting). y.setup) s.1 ∙ sym (ap (λ (y : Requesting). y.setup) own);
           same = inl (own, s.1);
         })
-      | inr s ↦ record {
-          old = o.old; in_old = o.is;
+        | inr s ↦ record {
+          old = o.old;
+          in_old = o.is;
           number = ap (λ (y : Requesting). y.number) s.1;
           setup = ap (λ (y : Requesting). y.setup) s.1;
           same = inr (s.0, s.1);
         }
-    ]
+      ]
 
   alike : (x y : Requesting) (p : Stays x) (q : Stays y) → p.old ≡ q.old → x ≡ y
   alike x y p q e = elim p.same [
@@ -76,9 +77,9 @@ module _ (rs : List Requesting) (cs : List Connection) (apart : Apart rs cs) (a 
   -- Each old requester has its place in the new list.
   placed_by : (o : Requesting) → IsIn rs o → (x : Requesting) × IsIn (with_requester new rs) x × (x.setup ≡ o.setup) × (x.number ≡ o.number)
   placed_by o m =
-    let placed = map_in (replaced new) rs o m in
-    let s = stays (replaced new o) placed in
-    go (o.number == a.number) refl
+      let placed = map_in (replaced new) rs o m in
+      let s = stays (replaced new o) placed in
+      go (o.number == a.number) refl
     where
       go : (b : Bool) → (o.number == a.number) ≡ b → (x : Requesting) × IsIn (with_requester new rs) x × (x.setup ≡ o.setup) × (x.number ≡ o.number)
       go b e = (replaced new o, map_in (replaced new) rs o m, at b e, counted b e)
@@ -86,6 +87,7 @@ module _ (rs : List Requesting) (cs : List Connection) (apart : Apart rs cs) (a 
           at : (b : Bool) → (o.number == a.number) ≡ b → (replaced new o).setup ≡ o.setup
           at true e = ap (λ (c : Bool). (cond c new o).setup) e ∙ sym (ap (λ (y : Requesting). y.setup) (apart.numbers o a m is (eqb-true _ _ e)))
           at false e = ap (λ (c : Bool). (cond c new o).setup) e
+
           counted : (b : Bool) → (o.number == a.number) ≡ b → (replaced new o).number ≡ o.number
           counted true e = ap (λ (c : Bool). (cond c new o).number) e ∙ sym (eqb-true _ _ e)
           counted false e = ap (λ (c : Bool). (cond c new o).number) e
@@ -117,39 +119,39 @@ module _ (KeptAsked : ReqSetup → asked.History → Type 0) (KeptServed : RspSe
 
   all_ask : IsAsking KeptAsked KeptServed w next → (x : Requesting) → IsIn (with_requester next world.requesters) x → IsAsking KeptAsked KeptServed w x
   all_ask well x m =
-    let p = stays world.requesters world.responder.connections k.apart a is given commands history x m in
-    elim p.same [
-      | inl s ↦ subst (IsAsking KeptAsked KeptServed w) (sym s.1) well
-      | inr s ↦ subst (IsAsking KeptAsked KeptServed w) (sym s.1) (k.asks p.old p.in_old)
-    ]
+      let p = stays world.requesters world.responder.connections k.apart a is given commands history x m in
+      elim p.same [
+        | inl s ↦ subst (IsAsking KeptAsked KeptServed w) (sym s.1) well
+        | inr s ↦ subst (IsAsking KeptAsked KeptServed w) (sym s.1) (k.asks p.old p.in_old)
+      ]
 
   other_pair : Runs → (o : Requesting) (c : Connection) → IsPair world.requesters world.responder.connections o c → o.number ≢ a.number → IsReached (reading_of o.setup.psk) (state_of o c (acts ++ world.log))
   other_pair runs o c pair differ =
-    let own = k.apart.served a is in
-    others_reach (reading_of a.setup.psk) (reading_of o.setup.psk) (state_of a own.0 world.log) (state_of next own.0 (acts ++ world.log)) (state_of o c world.log).asked (state_of o c world.log).served
+      let own = k.apart.served a is in
+      others_reach (reading_of a.setup.psk) (reading_of o.setup.psk) (state_of a own.0 world.log) (state_of next own.0 (acts ++ world.log)) (state_of o c world.log).asked (state_of o c world.log).served
       (λ e. differ (sym (k.apart.keys a o is pair.requester e)))
       (runs own.0 (record { requester = is; connection = own.1; peer = own.2 }))
       (k.pairs o c pair) n
 
   all_reached : Runs → (x : Requesting) (c : Connection) → IsPair (with_requester next world.requesters) world.responder.connections x c → IsReached (reading_of x.setup.psk) (state_of x c (acts ++ world.log))
   all_reached runs x c pair =
-    let p = stays world.requesters world.responder.connections k.apart a is given commands history x pair.requester in
-    let peer : c.setup.peer ≡ p.old.setup.eid = pair.peer ∙ ap (λ (s : ReqSetup). s.eid) p.setup in
-    elim p.same [
-      | inl s ↦ subst (λ (y : Requesting). IsReached (reading_of y.setup.psk) (state_of y c (acts ++ world.log))) (sym s.1)
-          (now_reached runs c (record { requester = is; connection = pair.connection; peer = peer ∙ ap (λ (y : Requesting). y.setup.eid) s.0 }))
-      | inr s ↦ subst (λ (y : Requesting). IsReached (reading_of y.setup.psk) (state_of y c (acts ++ world.log))) (sym s.1)
-          (other_pair runs p.old c (record { requester = p.in_old; connection = pair.connection; peer = peer }) s.0)
-    ]
+      let p = stays world.requesters world.responder.connections k.apart a is given commands history x pair.requester in
+      let peer : c.setup.peer ≡ p.old.setup.eid = pair.peer ∙ ap (λ (s : ReqSetup). s.eid) p.setup in
+      elim p.same [
+        | inl s ↦ subst (λ (y : Requesting). IsReached (reading_of y.setup.psk) (state_of y c (acts ++ world.log))) (sym s.1)
+            (now_reached runs c (record { requester = is; connection = pair.connection; peer = peer ∙ ap (λ (y : Requesting). y.setup.eid) s.0 }))
+        | inr s ↦ subst (λ (y : Requesting). IsReached (reading_of y.setup.psk) (state_of y c (acts ++ world.log))) (sym s.1)
+            (other_pair runs p.old c (record { requester = p.in_old; connection = pair.connection; peer = peer }) s.0)
+      ]
 
   all_owned : Runs → (p : Purpose) (i : List ℕ) → IsMade p i (acts ++ world.log) → (x : Requesting) × IsIn (with_requester next world.requesters) x × (p.psk ≡ x.setup.psk)
   all_owned runs p i made =
-    let own = k.apart.served a is in
-    let pair : IsPair world.requesters world.responder.connections a own.0 = record { requester = is; connection = own.1; peer = own.2 } in
-    elim (own_made (reading_of a.setup.psk) (state_of a own.0 world.log) (state_of next own.0 (acts ++ world.log)) p i (runs own.0 pair) made) [
-      | inl e ↦ (let x = placed_by world.requesters world.responder.connections k.apart a is given commands history a is in (x.0, x.1, e ∙ sym (ap (λ (s : ReqSetup). s.psk) x.2)))
-      | inr l ↦ (let o = k.owned p i l in let x = placed_by world.requesters world.responder.connections k.apart a is given commands history o.0 o.1 in (x.0, x.1, o.2 ∙ sym (ap (λ (s : ReqSetup). s.psk) x.2)))
-    ]
+      let own = k.apart.served a is in
+      let pair : IsPair world.requesters world.responder.connections a own.0 = record { requester = is; connection = own.1; peer = own.2 } in
+      elim (own_made (reading_of a.setup.psk) (state_of a own.0 world.log) (state_of next own.0 (acts ++ world.log)) p i (runs own.0 pair) made) [
+        | inl e ↦ (let x = placed_by world.requesters world.responder.connections k.apart a is given commands history a is in (x.0, x.1, e ∙ sym (ap (λ (s : ReqSetup). s.psk) x.2)))
+        | inr l ↦ (let o = k.owned p i l in let x = placed_by world.requesters world.responder.connections k.apart a is given commands history o.0 o.1 in (x.0, x.1, o.2 ∙ sym (ap (λ (s : ReqSetup). s.psk) x.2)))
+      ]
 
   pub requester_goes : (sent : List SentPacket) → IsAsking KeptAsked KeptServed w next → Runs → Fits KeptAsked KeptServed w (later sent)
   requester_goes sent well runs = record {

@@ -5,15 +5,15 @@ use Rattle.requester_machine.specs.History as asked
 use Rattle.spdm_machine.specs.History as served
 use Rattle.spdm_machine.specs.History.{History, draws_of}
 use Rattle.spdm_machine.specs.Setup.{RspSetup, ReqSetup}
-use Rattle.spdm_machine.specs.TagLog.{Act, Log}
+use Rattle.spdm_machine.specs.TagLog.{Act}
 use Rattle.world_machine.specs.Agreement.{IsMade}
 use Rattle.world_machine.specs.Chance.{NoChance}
 use Rattle.world_machine.specs.Requesting.{Requesting}
-use Rattle.world_machine.specs.Responding.{Connection, Responding, changed, changed_if, with_history, all_draws}
+use Rattle.world_machine.specs.Responding.{Connection, changed, changed_if, with_history, all_draws}
 use Rattle.world_machine.specs.Setup.{WorldSetup}
 use Rattle.world_machine.specs.World.{World, SentPacket}
 use Rattle.spdm_agreement.specs.Claims.{IsReached}
-use Rattle.spdm_agreement.proofs.Fits.{Apart, PeersDiffer, IsPair, IsServing, Fits, same_requester, same_connection, same_key, own_reach, others_reach}
+use Rattle.spdm_agreement.proofs.Fits.{Apart, PeersDiffer, IsPair, IsServing, Fits, same_connection, same_key, own_reach, others_reach}
 use Rattle.spdm_agreement.proofs.Members.{IsIn, in_map, map_in}
 use Rattle.spdm_agreement.proofs.Owed.{OwnLeads}
 use Rattle.spdm_agreement.proofs.Owners.{own_made}
@@ -83,8 +83,8 @@ pub draws_changed : (change : History → History) (cs : List Connection) (c : C
 draws_changed change [] c apart m = absurd m
 draws_changed change (d ∷ others) c apart m = elim m [
   | inl e ↦ (let here : all_draws (with_history d.setup.peer change (d ∷ others)) ≡ draws_of (change d.history) + all_draws others =
-        ap (λ (b : Bool). draws_of (cond b (changed change d) d).history + all_draws (with_history d.setup.peer change others)) (eq-eqb d.setup.peer d.setup.peer refl)
-        ∙ ap (λ (n : ℕ). draws_of (change d.history) + n) (draws_kept d.setup.peer change others apart.0) in
+      ap (λ (b : Bool). draws_of (cond b (changed change d) d).history + all_draws (with_history d.setup.peer change others)) (eq-eqb d.setup.peer d.setup.peer refl)
+      ∙ ap (λ (n : ℕ). draws_of (change d.history) + n) (draws_kept d.setup.peer change others apart.0) in
       subst (λ (x : Connection). all_draws (with_history x.setup.peer change (d ∷ others)) + draws_of x.history ≡ all_draws (d ∷ others) + draws_of (change x.history)) (sym e) (omega (arith, here)))
   | inr l ↦ (let there = draws_changed change others c apart.1 l in
       go (d.setup.peer == c.setup.peer) refl l there)
@@ -95,7 +95,7 @@ draws_changed change (d ∷ others) c apart m = elim m [
     go true e l there = absurd (apart.0 c l (sym (eqb-true _ _ e)))
     go false e l there =
         let here : all_draws (with_history c.setup.peer change (d ∷ others)) ≡ draws_of d.history + all_draws (with_history c.setup.peer change others) =
-            ap (λ (b : Bool). draws_of (cond b (changed change d) d).history + all_draws (with_history c.setup.peer change others)) e in
+        ap (λ (b : Bool). draws_of (cond b (changed change d) d).history + all_draws (with_history c.setup.peer change others)) e in
         omega (arith, here, there)
 
 -- ---- One connection goes on.
@@ -123,44 +123,44 @@ module _ (KeptAsked : ReqSetup → asked.History → Type 0) (KeptServed : RspSe
 
   all_serve : all_draws cs ≤ all_draws next → IsServing KeptAsked KeptServed w (all_draws next) (changed change c) → (x : Connection) → IsIn next x → IsServing KeptAsked KeptServed w (all_draws next) x
   all_serve more well x m =
-    let o = origin c.setup.peer change cs x m in
-    elim o.same [
-      | inl s ↦ subst (IsServing KeptAsked KeptServed w (all_draws next)) (sym (s.1 ∙ ap (changed change) (same_connection cs k.apart.peers o.old c o.is is s.0))) well
-      | inr s ↦ (let old = k.serves o.old o.is in
-          let fresh = old.fresh in
-          subst (IsServing KeptAsked KeptServed w (all_draws next)) (sym s.1) (record { setup = old.setup; made = old.made; kept = old.kept; fresh = omega arith }))
-    ]
+      let o = origin c.setup.peer change cs x m in
+      elim o.same [
+        | inl s ↦ subst (IsServing KeptAsked KeptServed w (all_draws next)) (sym (s.1 ∙ ap (changed change) (same_connection cs k.apart.peers o.old c o.is is s.0))) well
+        | inr s ↦ (let old = k.serves o.old o.is in
+            let fresh = old.fresh in
+            subst (IsServing KeptAsked KeptServed w (all_draws next)) (sym s.1) (record { setup = old.setup; made = old.made; kept = old.kept; fresh = omega arith }))
+      ]
 
   other_pair : Runs → (a : Requesting) (o : Connection) → IsPair world.requesters cs a o → o.setup.peer ≢ c.setup.peer → IsReached (reading_of a.setup.psk) (state_of a o (acts ++ world.log))
   other_pair runs a o pair differ =
-    let b = k.apart.paired c is in
-    let own : IsPair world.requesters cs b.0 c = record { requester = b.1; connection = is; peer = b.2 } in
-    others_reach (reading_of c.setup.psk) (reading_of a.setup.psk) (state_of b.0 c world.log) (state_of b.0 (changed change c) (acts ++ world.log)) (state_of a o world.log).asked (state_of a o world.log).served
+      let b = k.apart.paired c is in
+      let own : IsPair world.requesters cs b.0 c = record { requester = b.1; connection = is; peer = b.2 } in
+      others_reach (reading_of c.setup.psk) (reading_of a.setup.psk) (state_of b.0 c world.log) (state_of b.0 (changed change c) (acts ++ world.log)) (state_of a o world.log).asked (state_of a o world.log).served
       (λ e. differ (pair.peer ∙ sym (b.2 ∙ ap (λ (y : Requesting). y.setup.eid) (k.apart.numbers b.0 a b.1 pair.requester (k.apart.keys b.0 a b.1 pair.requester (sym b.3 ∙ e))))))
       (runs b.0 own)
       (k.pairs a o pair) n
 
   all_reached : Runs → (a : Requesting) (x : Connection) → IsPair world.requesters next a x → IsReached (reading_of a.setup.psk) (state_of a x (acts ++ world.log))
   all_reached runs a x pair =
-    let o = origin c.setup.peer change cs x pair.connection in
-    elim o.same [
-      | inl s ↦ (let own = same_connection cs k.apart.peers o.old c o.is is s.0 in
-          let new : x ≡ changed change c = s.1 ∙ ap (changed change) own in
-          let its : IsPair world.requesters cs a c = record { requester = pair.requester; connection = is; peer = sym (ap (λ (y : Connection). y.setup.peer) new) ∙ pair.peer } in
-          subst (λ (y : Connection). IsReached (reading_of a.setup.psk) (state_of a y (acts ++ world.log))) (sym new)
+      let o = origin c.setup.peer change cs x pair.connection in
+      elim o.same [
+        | inl s ↦ (let own = same_connection cs k.apart.peers o.old c o.is is s.0 in
+            let new : x ≡ changed change c = s.1 ∙ ap (changed change) own in
+            let its : IsPair world.requesters cs a c = record { requester = pair.requester; connection = is; peer = sym (ap (λ (y : Connection). y.setup.peer) new) ∙ pair.peer } in
+            subst (λ (y : Connection). IsReached (reading_of a.setup.psk) (state_of a y (acts ++ world.log))) (sym new)
             (subst (λ (psk : List ℕ). IsReached (reading_of psk) (state_of a (changed change c) (acts ++ world.log))) (same_key world.requesters cs k.apart a c its) (now_reached runs a its)))
-      | inr s ↦ subst (λ (y : Connection). IsReached (reading_of a.setup.psk) (state_of a y (acts ++ world.log))) (sym s.1)
-          (other_pair runs a o.old (record { requester = pair.requester; connection = o.is; peer = sym (ap (λ (y : Connection). y.setup.peer) s.1) ∙ pair.peer }) s.0)
-    ]
+        | inr s ↦ subst (λ (y : Connection). IsReached (reading_of a.setup.psk) (state_of a y (acts ++ world.log))) (sym s.1)
+            (other_pair runs a o.old (record { requester = pair.requester; connection = o.is; peer = sym (ap (λ (y : Connection). y.setup.peer) s.1) ∙ pair.peer }) s.0)
+      ]
 
   all_owned : Runs → (p : Purpose) (i : List ℕ) → IsMade p i (acts ++ world.log) → (a : Requesting) × IsIn world.requesters a × (p.psk ≡ a.setup.psk)
   all_owned runs p i made =
-    let b = k.apart.paired c is in
-    let own : IsPair world.requesters cs b.0 c = record { requester = b.1; connection = is; peer = b.2 } in
-    elim (own_made (reading_of c.setup.psk) (state_of b.0 c world.log) (state_of b.0 (changed change c) (acts ++ world.log)) p i (runs b.0 own) made) [
-      | inl e ↦ (b.0, b.1, e ∙ b.3)
-      | inr l ↦ k.owned p i l
-    ]
+      let b = k.apart.paired c is in
+      let own : IsPair world.requesters cs b.0 c = record { requester = b.1; connection = is; peer = b.2 } in
+      elim (own_made (reading_of c.setup.psk) (state_of b.0 c world.log) (state_of b.0 (changed change c) (acts ++ world.log)) p i (runs b.0 own) made) [
+        | inl e ↦ (b.0, b.1, e ∙ b.3)
+        | inr l ↦ k.owned p i l
+      ]
 
   pub responder_goes : (sent : List SentPacket) → all_draws cs ≤ all_draws next → all_draws next ≤ length given → IsServing KeptAsked KeptServed w (all_draws next) (changed change c) → Runs → Fits KeptAsked KeptServed w (later sent)
   responder_goes sent more wear well runs = record {

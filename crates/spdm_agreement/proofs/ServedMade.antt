@@ -1,5 +1,5 @@
 -- Whatever a responder does adds to a history that it made, and takes one draw at most.
-use Rattle.std.proofs.Common.{◌≡◌, ◌⊎◌, ℕ, ◌≤◌, ◌+◌, List, [], ◌∷◌, drop, Bool, true, false, cond, Option, Some, None, ◌==◌, refl, sym, ap, ◌∙◌, subst, arith}
+use Rattle.std.proofs.Common.{◌≡◌, ℕ, ◌≤◌, ◌+◌, List, [], ◌∷◌, drop, Bool, true, false, cond, Option, Some, None, ◌==◌, refl, ap, ◌∙◌, arith}
 use Rattle.std.specs.Prelude.{slice_index}
 use Rattle.spdm_basis.specs.declared.record_fault.RecordFault.{RecordFault}
 use Rattle.spdm_grammar.specs.Message.{ChunkMessage}
@@ -14,8 +14,8 @@ use Rattle.spdm_machine.specs.Keys.{Draw}
 use Rattle.spdm_machine.specs.Place.{Place, clear_place, inside}
 use Rattle.spdm_machine.specs.Records.{opening_fault, opened}
 use Rattle.spdm_machine.specs.Refusal.{refusal}
-use Rattle.spdm_machine.specs.Responder.{Outcome, after, on_clear, on_record, to_session, in_session, in_session_by, is_repeat, kept_reply, kept_record, repeats, clear_body, record_body, sealed_entry, session_turn, decrypt_error}
-use Rattle.spdm_machine.specs.Responder.Outcome.{Same, Unopened, Adds}
+use Rattle.spdm_machine.specs.Responder.{Outcome, after, on_clear, on_record, to_session, in_session, in_session_by, is_repeat, kept_reply, kept_record, repeats, clear_body, record_body, session_turn}
+use Rattle.spdm_machine.specs.Responder.Outcome.{Same, Adds}
 use Rattle.spdm_machine.specs.Session.{Events, session_of, id_in_record, last_of}
 use Rattle.spdm_machine.specs.Setup.{RspSetup}
 use Rattle.spdm_machine.specs.Turn.{Turn, takes_draw}
@@ -91,13 +91,13 @@ to_session_made : (r : RspSetup) (h : History) (tag : ℕ) (sealed : List ℕ) (
 to_session_made r h tag sealed d phase [] f e made = record { made = made; more = omega arith; most = omega arith }
 to_session_made r h tag sealed d phase (x ∷ s) f e made =
     repeat_or r h tag sealed d (repeats (last_of (x ∷ s)) sealed) (record_body (kept_record (last_of (x ∷ s)))) (in_session r phase (x ∷ s) f tag sealed d) e made
-      (λ is. in_session_made r h tag sealed d phase (x ∷ s) f is made)
+    (λ is. in_session_made r h tag sealed d phase (x ∷ s) f is made)
 
 record_made_by : (r : RspSetup) (h : History) (tag : ℕ) (sealed : List ℕ) (d : Draw) (f : Free) → record_does r h tag sealed d ≡ on_record r h tag sealed f d → IsMade r h → Made r h (on_record r h tag sealed f d)
 unfolding on_record
 record_made_by r h tag sealed d f e made =
     repeat_or r h tag sealed d (repeats (ended_of h) sealed) (record_body (kept_record (ended_of h))) (to_session r (phase_of (clear_turns h)) (session_of (id_in_record sealed) h) f tag sealed d) e made
-      (λ is. to_session_made r h tag sealed d (phase_of (clear_turns h)) (session_of (id_in_record sealed) h) f is made)
+    (λ is. to_session_made r h tag sealed d (phase_of (clear_turns h)) (session_of (id_in_record sealed) h) f is made)
 
 record_made : (r : RspSetup) (h : History) (tag : ℕ) (sealed : List ℕ) (d : Draw) → IsMade r h → Made r h (record_does r h tag sealed d)
 record_made r h tag sealed d made = record_made_by r h tag sealed d (record_chosen r h sealed d) refl made

@@ -1,12 +1,12 @@
 -- The world in which nothing has happened yet.
-use Rattle.std.proofs.Common.{◌≡◌, ◌≢◌, ◌⊎◌, ℕ, ◌<◌, ◌≤◌, ◌+◌, List, [], ◌∷◌, length, map, refl, sym, ap, ◌∙◌, subst, inl, inr, arith, All}
+use Rattle.std.proofs.Common.{◌≡◌, ◌≢◌, ℕ, ◌<◌, ◌+◌, List, [], ◌∷◌, map, refl, sym, ap, ◌∙◌, subst, inl, inr, arith}
 use Rattle.requester_machine.specs.History as asked
 use Rattle.spdm_machine.specs.History as served
 use Rattle.spdm_machine.specs.Setup.{RspSetup, ReqSetup}
 use Rattle.world_machine.specs.Requesting.{Requesting, new_requesting, numbered}
 use Rattle.world_machine.specs.Responding.{Connection, new_connection, all_draws}
 use Rattle.world_machine.specs.Setup.{WorldSetup, towards}
-use Rattle.world_machine.specs.World.{World, new_world}
+use Rattle.world_machine.specs.World.{new_world}
 use Rattle.spdm_agreement.specs.Claims.{IsReached}
 use Rattle.spdm_agreement.specs.Configured.{IsConfigured, IsRequester, IsResponder, AreApart}
 use Rattle.spdm_agreement.proofs.Fits.{Apart, PeersDiffer, IsAsking, IsServing, Fits}
@@ -109,32 +109,32 @@ no_draws w (q ∷ others) = (let none = no_draws w others in omega arith)
 module _ (KeptAsked : ReqSetup → asked.History → Type 0) (KeptServed : RspSetup → served.History → Type 0) (asked_starts : AskedStarts KeptAsked) (served_starts : ServedStarts KeptServed) (w : WorldSetup) (c : IsConfigured w) where
   new_asks : (a : Requesting) → IsIn (numbered 0 w.requesters) a → IsAsking KeptAsked KeptServed w a
   new_asks a m =
-    let t = is_new 0 w.requesters a m in
-    subst (IsAsking KeptAsked KeptServed w) (sym t.is) (record {
-      setup = all_in IsRequester w.requesters c.requesters t.setup t.in_setup;
-      made = tt;
-      kept = asked_starts t.setup;
-      fresh = omega arith;
-      wear = omega arith;
-    })
+      let t = is_new 0 w.requesters a m in
+      subst (IsAsking KeptAsked KeptServed w) (sym t.is) (record {
+        setup = all_in IsRequester w.requesters c.requesters t.setup t.in_setup;
+        made = tt;
+        kept = asked_starts t.setup;
+        fresh = omega arith;
+        wear = omega arith;
+      })
 
   new_serves : (draws : ℕ) (x : Connection) → IsIn (map (new_connection w) w.requesters) x → IsServing KeptAsked KeptServed w draws x
   new_serves draws x m =
-    let o = in_map (new_connection w) w.requesters x m in
-    subst (IsServing KeptAsked KeptServed w draws) (sym o.2) (record {
-      setup = all_in (λ (q : ReqSetup). IsResponder (towards w.responder q)) w.requesters c.responders o.0 o.1;
-      made = tt;
-      kept = served_starts (towards w.responder o.0);
-      fresh = omega arith;
-    })
+      let o = in_map (new_connection w) w.requesters x m in
+      subst (IsServing KeptAsked KeptServed w draws) (sym o.2) (record {
+        setup = all_in (λ (q : ReqSetup). IsResponder (towards w.responder q)) w.requesters c.responders o.0 o.1;
+        made = tt;
+        kept = served_starts (towards w.responder o.0);
+        fresh = omega arith;
+      })
 
   new_pair : (a : Requesting) (x : Connection) → IsIn (numbered 0 w.requesters) a → IsIn (map (new_connection w) w.requesters) x → IsReached (reading_of a.setup.psk) (state_of a x [])
   new_pair a x m k =
-    let t = is_new 0 w.requesters a m in
-    let o = in_map (new_connection w) w.requesters x k in
-    subst (λ (b : Requesting). IsReached (reading_of b.setup.psk) (state_of b x [])) (sym t.is)
+      let t = is_new 0 w.requesters a m in
+      let o = in_map (new_connection w) w.requesters x k in
+      subst (λ (b : Requesting). IsReached (reading_of b.setup.psk) (state_of b x [])) (sym t.is)
       (subst (λ (y : Connection). IsReached (reading_of t.setup.psk) (state_of (new_requesting t.number t.setup) y [])) (sym o.2)
-        (record { moves = []; run = refl; no_chance = tt }))
+      (record { moves = []; run = refl; no_chance = tt }))
 
   pub starts : Fits KeptAsked KeptServed w (new_world w)
   starts = record {

@@ -1,16 +1,11 @@
 -- All events of a world, and what follows of it for the two ends of each pair.
-use Rattle.std.proofs.Common.{◌≡◌, ◌⊎◌, ℕ, zero, suc, ◌==◌, ◌+◌, List, [], ◌∷◌, ◌++◌, length, Bool, true, false, cond, nat_lt, Option, Some, None, find, slice_index, refl, sym, ap, ◌∙◌, subst, inl, inr}
-use Rattle.key_schedule.specs.Purpose.{Purpose, is_record}
+use Rattle.std.proofs.Common.{◌≡◌, ℕ, zero, suc, ◌==◌, List, [], ◌∷◌, length, Bool, true, false, cond, nat_lt, Option, Some, None, find, slice_index, refl}
 use Rattle.requester_machine.specs.History as asked
 use Rattle.requester_machine.specs.Message.{Command}
-use Rattle.requester_machine.specs.Session as requester
 use Rattle.spdm_machine.specs.History as served
-use Rattle.spdm_machine.specs.Place.{is_held}
-use Rattle.spdm_machine.specs.Session as responder
 use Rattle.spdm_machine.specs.Setup.{RspSetup, ReqSetup}
 use Rattle.world_machine.proofs.Logs.{no_chance_before}
-use Rattle.world_machine.specs.Agreement as world_agreement
-use Rattle.world_machine.specs.Agreement.{Agreement, Matched, SealedOnce, ArePair, IsMade}
+use Rattle.world_machine.specs.Agreement.{Agreement, Matched, SealedOnce, ArePair}
 use Rattle.world_machine.specs.Chance.{NoChance}
 use Rattle.world_machine.specs.Happenings.{Happening, Entry}
 use Rattle.world_machine.specs.Happenings.Happening.{Told, Reply, Deliver, Lose, Inject, Pump, Tick, Show}
@@ -18,28 +13,23 @@ use Rattle.world_machine.specs.Requesting.{Requesting, requester_told, requester
 use Rattle.world_machine.specs.Responding.{Connection, responder_hears, connection_of}
 use Rattle.world_machine.specs.Setup.{WorldSetup}
 use Rattle.world_machine.specs.Trace.{world_from, world_after}
-use Rattle.world_machine.specs.World.{World, WorldStep, SentPacket, new_world, told, given, given_to, given_to_responder, delivers, loses, without_waiting, stopped_of, with_sent, packet_of, turn, pumps, first_waiting, replied, requester_of, is_number, is_at, happens, entry_step}
-use Rattle.spdm_agreement.specs.Claims.{IsReached}
+use Rattle.world_machine.specs.World.{World, WorldStep, new_world, told, given, given_to, given_to_responder, delivers, loses, without_waiting, stopped_of, with_sent, packet_of, turn, pumps, first_waiting, replied, requester_of, is_number, is_at, happens, entry_step}
 use Rattle.spdm_agreement.specs.Configured.{IsConfigured}
-use Rattle.spdm_agreement.specs.Marks.{served_open}
-use Rattle.spdm_agreement.specs.Story.{served_marks, served_first}
 use Rattle.spdm_agreement.specs.Worlds.{WorldsAgree, WorldsMatch, WorldsSealOnce}
 use Rattle.spdm_agreement.proofs.Answers as answers
 use Rattle.spdm_agreement.proofs.Asking.{asked_stands}
-use Rattle.spdm_agreement.proofs.Fits.{Apart, IsPair, Fits, same_key}
+use Rattle.spdm_agreement.proofs.Fits.{IsPair, Fits}
 use Rattle.spdm_agreement.proofs.Happens as asks
-use Rattle.spdm_agreement.proofs.Members.{IsIn, in_contained, found_in}
+use Rattle.spdm_agreement.proofs.Members.{in_contained, found_in}
 use Rattle.spdm_agreement.proofs.Owed.{AsksWell, HearsWell, AskedStarts, AskedSteady, DoesWell, ServedStarts, Waits}
-use Rattle.spdm_agreement.proofs.Pairs.{Stands, state_of, one, matched, once}
+use Rattle.spdm_agreement.proofs.Pairs.{Stands, one, matched, once}
 use Rattle.spdm_agreement.proofs.Serving.{served_stands}
-use Rattle.spdm_agreement.proofs.Sessions.{reading_of}
 use Rattle.spdm_agreement.proofs.Starts.{starts}
 use Rattle.spdm_agreement.proofs.Steady.{made_steady}
 
 module _ (KeptAsked : ReqSetup → asked.History → Type 0) (KeptServed : RspSetup → served.History → Type 0)
     (asked_starts : AskedStarts KeptAsked) (asks_well : AsksWell KeptAsked) (hears_well : HearsWell KeptAsked) (asked_steady : AskedSteady)
     (served_starts : ServedStarts KeptServed) (does_well : DoesWell KeptServed) (waits : Waits KeptServed) where
-
   module _ (w : WorldSetup) (c : IsConfigured w) where
     -- A record, so that antt finds the world that a lemma speaks of.
     pub record IsGood (world : World) : Type 0 where
@@ -51,20 +41,20 @@ module _ (KeptAsked : ReqSetup → asked.History → Type 0) (KeptServed : RspSe
     told_good world command good None n is = good
     told_good world command good (Some a) n is = record {
       fits = λ chance. asks.told_goes KeptAsked KeptServed w c world (good.fits (no_chance_before (requester_told w a command).acts world.log chance)) asks_well hears_well
-        a (found_in (is_number n) world.requesters a is).0 command (with_sent world.sent (requester_told w a command).sent) chance;
+          a (found_in (is_number n) world.requesters a is).0 command (with_sent world.sent (requester_told w a command).sent) chance;
     }
 
     to_requester : (world : World) (packet : List ℕ) → IsGood world → (o : Option Requesting) (eid : ℕ) → find (is_at eid) world.requesters ≡ o → IsGood (given_to w world packet o).after
     to_requester world packet good None eid is = good
     to_requester world packet good (Some a) eid is = record {
       fits = λ chance. asks.given_goes KeptAsked KeptServed w c world (good.fits (no_chance_before (requester_given w a packet).acts world.log chance)) asks_well hears_well
-        a (found_in (is_at eid) world.requesters a is).0 packet (with_sent world.sent (requester_given w a packet).sent) chance;
+          a (found_in (is_at eid) world.requesters a is).0 packet (with_sent world.sent (requester_given w a packet).sent) chance;
     }
 
     to_responder : (world : World) (packet : List ℕ) → IsGood world → IsGood (given_to_responder world packet (responder_hears w world.responder packet)).after
     to_responder world packet good = record {
       fits = λ chance. answers.given_goes KeptAsked KeptServed w c world (good.fits (no_chance_before (responder_hears w world.responder packet).acts world.log chance)) does_well waits
-        packet (with_sent world.sent (responder_hears w world.responder packet).sent) chance;
+          packet (with_sent world.sent (responder_hears w world.responder packet).sent) chance;
     }
 
     either : (b : Bool) (x y : WorldStep) → IsGood x.after → IsGood y.after → IsGood (cond b x y).after
@@ -73,9 +63,9 @@ module _ (KeptAsked : ReqSetup → asked.History → Type 0) (KeptServed : RspSe
 
     given_good : (world : World) (packet : List ℕ) → IsGood world → IsGood (given w world packet).after
     given_good world packet good =
-      either (nat_lt (length packet) 2) (given_to w world packet None) _ good
-      (either (slice_index packet 1 == w.responder.eid) (given_to_responder world packet (responder_hears w world.responder packet)) _ (to_responder world packet good)
-      (to_requester world packet good (find (is_at (slice_index packet 1)) world.requesters) (slice_index packet 1) refl))
+        either (nat_lt (length packet) 2) (given_to w world packet None) _ good
+        (either (slice_index packet 1 == w.responder.eid) (given_to_responder world packet (responder_hears w world.responder packet)) _ (to_responder world packet good)
+        (to_requester world packet good (find (is_at (slice_index packet 1)) world.requesters) (slice_index packet 1) refl))
 
     stopped : (world : World) (number : ℕ) → IsGood world → IsGood (without_waiting number world)
     stopped world number good = record { fits = λ chance. answers.sent_stays KeptAsked KeptServed w c world (good.fits chance) does_well waits (stopped_of number world.sent) }
@@ -145,9 +135,9 @@ module _ (KeptAsked : ReqSetup → asked.History → Type 0) (KeptServed : RspSe
 
     seal_once : (world : World) → Fits KeptAsked KeptServed w world → SealedOnce world.log
     seal_once world k p number y z is m n =
-      let a = k.owned p (number ∷ y) m in
-      let x = k.apart.served a.0 a.1 in
-      once a.0 x.0 world.log (stands world k a.0 x.0 (record { requester = a.1; connection = x.1; peer = x.2 })) p number y z is a.2 m n
+        let a = k.owned p (number ∷ y) m in
+        let x = k.apart.served a.0 a.1 in
+        once a.0 x.0 world.log (stands world k a.0 x.0 (record { requester = a.1; connection = x.1; peer = x.2 })) p number y z is a.2 m n
 
   pub worlds_agree : WorldsAgree
   worlds_agree w c entries chance = agree w c (world_after w entries) ((after_good w c entries).fits chance)

@@ -1,11 +1,11 @@
 -- How a responder and its requesters may be set up: the limits that both ends refuse to go past, and what keeps the
 -- pairs of a world apart. A script that is read keeps all of this.
-use Rattle.std.specs.Prelude.{◌≡◌, ◌≢◌, ◌≤◌, ◌<◌, ◌+◌, ◌^◌, ℕ, List, [], ◌∷◌, length, Bool, true, false, None, Contains, All}
+use Rattle.std.specs.Prelude.{◌≡◌, ◌≢◌, ◌≤◌, ◌<◌, ◌+◌, ◌^◌, ℕ, List, [], ◌∷◌, length, false, None, All}
 use Rattle.measurements.specs.Faults.{inventory_fault}
 use Rattle.spdm_grammar.specs.declared.choice.FlagSet.{FlagSet}
 use Rattle.spdm_machine.specs.Setup.{RspSetup, ReqSetup}
 use Rattle.world_machine.specs.Packets.{wear_limit}
-use Rattle.world_machine.specs.Setup.{RspPart, WorldSetup, towards}
+use Rattle.world_machine.specs.Setup.{WorldSetup, towards}
 
 -- An EID is neither one of the special ones, 0 to 7, nor the broadcast EID, 255 (DSP0236, "MCTP endpoint ID").
 pub record IsEid (eid : ℕ) : Type 0 where
