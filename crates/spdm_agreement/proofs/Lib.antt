@@ -23,3 +23,5 @@ pub mod AskingTalks
 pub mod AskingChecks
 pub mod VerifyStands
 pub mod AskingAccepts
+pub mod AskingKept
+pub mod AskingCommands
