@@ -25,3 +25,4 @@ pub mod VerifyStands
 pub mod AskingAccepts
 pub mod AskingKept
 pub mod AskingCommands
+pub mod AskingAnswers
