@@ -26,3 +26,4 @@ pub mod AskingAccepts
 pub mod AskingKept
 pub mod AskingCommands
 pub mod AskingAnswers
+pub mod AskingReplies
