@@ -109,7 +109,7 @@ same_asked AskFinish inner sealed s n = absurd (cc)
 same_asked _ inner sealed s n = refl
 
 -- The session itself.
-own_asked : (psk : List ℕ) (ask : Ask) (inner sealed b : List ℕ) (s : Steps) (m : List marks.Asked) → is_finish ask ≡ false → is_live s ≡ true → HeldWell psk s m None
+pub own_asked : (psk : List ℕ) (ask : Ask) (inner sealed b : List ℕ) (s : Steps) (m : List marks.Asked) → is_finish ask ≡ false → is_live s ≡ true → HeldWell psk s m None
     → HeldWell psk (when_live s (Asked ask inner sealed)) (marks.Asked.Sealed (t2_of s) b ∷ m) (Some b)
 own_asked psk ask inner sealed b [] m n l k = absurd (true≢false (sym l))
 own_asked psk ask inner sealed b (y ∷ s) m n l k =

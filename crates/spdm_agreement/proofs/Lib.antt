@@ -27,3 +27,4 @@ pub mod AskingKept
 pub mod AskingCommands
 pub mod AskingAnswers
 pub mod AskingReplies
+pub mod AskingRecords
