@@ -20,6 +20,7 @@ use Rattle.requester_machine.specs.Session.{Steps, session_of, is_live}
 use Rattle.requester_machine.proofs.Entries.{asked, test_is_false, request_sent-asks}
 use Rattle.secured_record.specs.Format.{plain_text}
 use Rattle.spdm_basis.specs.declared.record_fault.RecordFault.{RecordFault}
+use Rattle.spdm_grammar.specs.Fields.{is_summary}
 use Rattle.spdm_grammar.specs.Message.{RequestMessage, ChunkMessage}
 use Rattle.spdm_grammar.specs.Message.RequestMessage.{GetVersion, GetMeasurements, Heartbeat, EndSession, ChunkGet}
 use Rattle.spdm_grammar.specs.Requests.{canonical_request}
@@ -83,6 +84,7 @@ pub record IsBegun (q : ReqSetup) (h : History) (f : Free) (summary : ℕ) (x : 
   pub asks : asked_in x.aim ≡ Some (exchange_for q f summary)
   pub free : is_some (outstanding h) ≡ false
   pub negotiated : is_negotiated (phase_of h) ≡ true
+  pub kind : is_summary summary ≡ true
 
 pub record IsClearAsk (x : Sent) : Type 0 where
   pub content : IsClear x.content
@@ -92,7 +94,7 @@ pub record IsClearAsk (x : Sent) : Type 0 where
 abbrev pub CommandShape : ReqSetup → History → Free → Command → Sent → Type 0
 CommandShape q h f Connect x = IsClearAsk x
 CommandShape q h f (Open summary) x = IsBegun q h f summary x
-CommandShape q h f (Measure None op) x = IsClearAsk x
+CommandShape q h f (Measure None op) x = IsClearAsk x × (is_some (outstanding h) ≡ false)
 CommandShape q h f Retry x = ⊥
 CommandShape q h f command x = IsAsked q h f x
 
@@ -119,10 +121,10 @@ somewhere worn q h c f id none named = not_false _ (sym (ap (is_nowhere h) named
 connected : (worn : Bool) (q : ReqSetup) (h : History) (c : Command) (f : Free) → command_fault worn q h c f ≡ None → needs_connection c ≡ true → is_negotiated (phase_of h) ≡ true
 connected worn q h c f none needs = not_false _ (and_true (needs_connection c) (not (is_negotiated (phase_of h))) (test_is_false worn q h c f none 2) needs)
 
-begun : (q : ReqSetup) (h : History) (f : Free) (summary : ℕ) → is_some (outstanding h) ≡ false → is_negotiated (phase_of h) ≡ true → IsBegun q h f summary (request_sent (connection_terms h).common h (exchange_for q f summary))
-begun q h f summary quiet ready =
+begun : (q : ReqSetup) (h : History) (f : Free) (summary : ℕ) → is_some (outstanding h) ≡ false → is_negotiated (phase_of h) ≡ true → is_summary summary ≡ true → IsBegun q h f summary (request_sent (connection_terms h).common h (exchange_for q f summary))
+begun q h f summary quiet ready kind =
     either (IsBegun q h f summary) (nat_lt (connection_terms h).common.to_responder.transfer (length (canonical_request (exchange_for q f summary)))) (piece_sent (connection_terms h).common h (exchange_for q f summary) (next_handle h) 0) (plain_sent h (exchange_for q f summary))
-    (record { content = tt; aim = tt; asks = refl; free = quiet; negotiated = ready }) (record { content = tt; aim = tt; asks = refl; free = quiet; negotiated = ready })
+    (record { content = tt; aim = tt; asks = refl; free = quiet; negotiated = ready; kind = kind }) (record { content = tt; aim = tt; asks = refl; free = quiet; negotiated = ready; kind = kind })
 
 measured : (h : History) (op : ℕ) → IsClearAsk (request_sent (connection_terms h).common h (GetMeasurements op))
 measured h op =
@@ -135,11 +137,11 @@ resent_shape q h f (Some x) = tt
 
 done_shape : (worn : Bool) (q : ReqSetup) (h : History) (c : Command) (f : Free) (d : Draw) → command_fault worn q h c f ≡ None → CommandOutcome q h f (done q h c f d)
 done_shape worn q h Connect f d none = record { content = tt; aim = tt; other = tt }
-done_shape worn q h (Open summary) f d none = begun q h f summary (free worn q h (Open summary) f none refl) (connected worn q h (Open summary) f none refl)
+done_shape worn q h (Open summary) f d none = begun q h f summary (free worn q h (Open summary) f none refl) (connected worn q h (Open summary) f none refl) (not_false (is_summary summary) (test_is_false worn q h (Open summary) f none 6))
 done_shape worn q h (Send id bytes) f d none = record { id = id; ask = AskData; inner = inner_data bytes; is = refl; live = somewhere worn q h (Send id bytes) f id none refl; stage = refl; tells = data_tells bytes f.pad; free = free worn q h (Send id bytes) f none refl }
 done_shape worn q h (Beat id) f d none = record { id = id; ask = AskBeat; inner = inner_request Heartbeat; is = refl; live = somewhere worn q h (Beat id) f id none refl; stage = refl; tells = beat_tells f.pad; free = free worn q h (Beat id) f none refl }
 done_shape worn q h (Update id all) f d none = record { id = id; ask = AskUpdate all; inner = inner_request (key_update (session_of id h) (operation_of all)); is = refl; live = somewhere worn q h (Update id all) f id none refl; stage = refl; tells = update_tells (session_of id h) all f.pad; free = free worn q h (Update id all) f none refl }
-done_shape worn q h (Measure None op) f d none = measured h op
+done_shape worn q h (Measure None op) f d none = (measured h op, free worn q h (Measure None op) f none refl)
 done_shape worn q h (Measure (Some id) op) f d none = record { id = id; ask = AskMeasure op; inner = inner_request (GetMeasurements op); is = refl; live = somewhere worn q h (Measure (Some id) op) f id none refl; stage = refl; tells = measure_tells op f.pad; free = free worn q h (Measure (Some id) op) f none refl }
 done_shape worn q h (End id) f d none = record { id = id; ask = AskEnd; inner = inner_request EndSession; is = refl; live = somewhere worn q h (End id) f id none refl; stage = refl; tells = end_tells f.pad; free = free worn q h (End id) f none refl }
 done_shape worn q h Retry f d none = resent_shape q h f (outstanding h)
@@ -216,3 +218,35 @@ clear_entry q h owner tag tag' body m f led d d' is = subst (HeardShape q h f bo
 
 pub record_entry : (q : ReqSetup) (h : History) (owner : Bool) (tag tag' : ℕ) (body : List ℕ) (id : ℕ) (sealed inner : List ℕ) (f : Free) (led : Led) (d d' : Draw) → hears q h owner tag body f d ≡ Adds (TookRecord tag' id sealed inner led d') → IsTookRecord q h f body id sealed inner led
 record_entry q h owner tag tag' body id sealed inner f led d d' is = subst (HeardShape q h f body) is (hears_shape q h owner tag body f d)
+
+-- A command that was done stands with the draw that stood next.
+abbrev HasDraw : Draw → Outcome → Type 0
+HasDraw d (Adds (Told command x d')) = d ≡ d'
+HasDraw d _ = Unit {0}
+
+resent_draw : (d : Draw) (o : Option Sent) → HasDraw d (resent o)
+resent_draw d None = tt
+resent_draw d (Some x) = tt
+
+done_draw : (q : ReqSetup) (h : History) (c : Command) (f : Free) (d : Draw) → HasDraw d (done q h c f d)
+done_draw q h Connect f d = refl
+done_draw q h (Open summary) f d = refl
+done_draw q h (Send id bytes) f d = refl
+done_draw q h (Beat id) f d = refl
+done_draw q h (Update id all) f d = refl
+done_draw q h (Measure None op) f d = refl
+done_draw q h (Measure (Some id) op) f d = refl
+done_draw q h (End id) f d = refl
+done_draw q h Retry f d = resent_draw d (outstanding h)
+
+pub told_draw : (worn : Bool) (q : ReqSetup) (h : History) (c command : Command) (f : Free) (d d' : Draw) (x : Sent) → asks worn q h c f d ≡ Adds (Told command x d') → d ≡ d'
+told_draw worn q h c command f d d' x is = subst (HasDraw d) (asked worn q h c f d (Told command x d') is).1 (done_draw q h c f d)
+
+pub no_clear_told : (worn : Bool) (q : ReqSetup) (h : History) (c : Command) (f : Free) (d d' : Draw) (tag : ℕ) (m : List ℕ) (led : Led) → asks worn q h c f d ≡ Adds (TookClear tag m led d') → ⊥
+no_clear_told worn q h c f d d' tag m led is = (let a = asked worn q h c f d (TookClear tag m led d') is in subst (λ (o : Outcome). CommandOutcome q h f o) a.1 (done_shape worn q h c f d a.0))
+
+pub no_record_told : (worn : Bool) (q : ReqSetup) (h : History) (c : Command) (f : Free) (d d' : Draw) (tag id : ℕ) (sealed inner : List ℕ) (led : Led) → asks worn q h c f d ≡ Adds (TookRecord tag id sealed inner led d') → ⊥
+no_record_told worn q h c f d d' tag id sealed inner led is = (let a = asked worn q h c f d (TookRecord tag id sealed inner led d') is in subst (λ (o : Outcome). CommandOutcome q h f o) a.1 (done_shape worn q h c f d a.0))
+
+pub no_command_heard : (q : ReqSetup) (h : History) (owner : Bool) (tag : ℕ) (body : List ℕ) (f : Free) (c : Command) (x : Sent) (d d' : Draw) → hears q h owner tag body f d ≡ Adds (Told c x d') → ⊥
+no_command_heard q h owner tag body f c x d d' is = subst (HeardShape q h f body) is (hears_shape q h owner tag body f d)

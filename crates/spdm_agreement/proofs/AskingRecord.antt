@@ -39,6 +39,7 @@ pub record IsNext (q : ReqSetup) (h : History) (f : Free) (came : Came) (effect 
   pub inner : List ℕ
   pub is : next ≡ record_sent q h came.id (with_record came effect) asks inner f.pad
   pub fits : stage_behind effect (stage_for ask) ≡ stage_for asks
+  pub other : finishes effect ≡ false
   pub kind : ((asks ≡ AskVerify) × (inner ≡ inner_request (key_update (with_record came effect) 3)))
       ⊎ ((op handle number : ℕ) × (before : List ChunkMessage) × (asks ≡ AskChunk op handle number before) × (inner ≡ inner_request (ChunkGet handle number)))
 
@@ -93,6 +94,7 @@ gets q h f came ask op extended outlives = inl (record {
     inner = inner_request (ChunkGet (slice_index extended 0) 0);
     is = refl;
     fits = outlives_open ask outlives;
+    other = refl;
     kind = inr (op, slice_index extended 0, 0, [], refl, refl);
   };
 })
@@ -125,6 +127,7 @@ updated q h f came all true five code = inl (record {
     inner = inner_request (key_update (with_record came (Grants (AskUpdate all) (message_in came))) 3);
     is = refl;
     fits = refl;
+    other = refl;
     kind = inl (refl, refl);
   };
 })
@@ -160,6 +163,7 @@ chunk q h f came op handle number before c None =
         inner = inner_request (ChunkGet c.handle (c.number + 1));
         is = refl;
         fits = refl;
+        other = refl;
         kind = inr (op, c.handle, c.number + 1, c ∷ before, refl, refl);
       };
     }))

@@ -41,3 +41,8 @@ pub mod DataSealed
 pub mod DataHeard
 pub mod DataTaken
 pub mod WorldsDeliver
+pub mod AskingKept
+pub mod AskingCommands
+pub mod AskingAnswers
+pub mod AskingReplies
+pub mod AskingRecords
