@@ -46,3 +46,4 @@ pub mod AskingCommands
 pub mod AskingAnswers
 pub mod AskingReplies
 pub mod AskingRecords
+pub mod AskingOpenly
