@@ -154,7 +154,7 @@ exchanged_leads q h exchange answer rsp served log k reads right =
     let draws : r.requester_draw (asked_first own) ≡ k.draw.number = draw_told q.psk (asked_first own) exchange k.draw k.read k.context k.number k.bytes in
     accepts q.psk s (exchange.req_id, k.draw.number) (asked_marks q h) served log rsp (ap stage_of e) (ap request_next e) (ap (λ (x : Steps). r.is_sound (asked_first x)) e ∙ sound) k.waits (ap (λ (x : Steps). r.requester_draw (asked_first x)) e ∙ draws) right
 
-exchange_checked : (q : ReqSetup) (h : History) (m : List ℕ) (x : Sent) (exchange : ExchangeMessage) (answer : List ℕ) (place : ℕ) (rsp : ExchangeRspMessage) → outstanding h ≡ Some x → asked_in x.aim ≡ Some (PskExchange exchange)
+pub exchange_checked : (q : ReqSetup) (h : History) (m : List ℕ) (x : Sent) (exchange : ExchangeMessage) (answer : List ℕ) (place : ℕ) (rsp : ExchangeRspMessage) → outstanding h ≡ Some x → asked_in x.aim ≡ Some (PskExchange exchange)
     → carried_by q h m x.aim ≡ Whole answer place → reading_of h (PskExchange exchange) answer ≡ Ok (PskExchangeRsp rsp)
     → clear_check q h m (outstanding h) ≡ answer_check q.psk (with_answer h exchange answer) rsp ∷ []
 exchange_checked q h m x exchange answer place rsp waits asks carries reads =

@@ -60,8 +60,8 @@ asks_past AskFinish e = absurd (cc)
 asks_past AskVerify e = refl
 asks_past _ e = refl
 
-next_no_finish : (q : ReqSetup) (h : History) (f : Free) (came : Came) (effect : Effect) (ask : Ask) (x : Sent) (n : IsNext q h f came effect ask x) → is_finish n.asks ≡ false
-next_no_finish q h f came effect ask x n = elim n.kind [ inl v ↦ ap is_finish v.0 | inr c ↦ ap is_finish c.4 ]
+pub next_is_no_finish : (q : ReqSetup) (h : History) (f : Free) (came : Came) (effect : Effect) (ask : Ask) (x : Sent) (n : IsNext q h f came effect ask x) → is_finish n.asks ≡ false
+next_is_no_finish q h f came effect ask x n = elim n.kind [ inl v ↦ ap is_finish v.0 | inr c ↦ ap is_finish c.4 ]
 
 pub next_tells : (q : ReqSetup) (h : History) (f : Free) (came : Came) (effect : Effect) (ask : Ask) (x : Sent) (n : IsNext q h f came effect ask x) → RequestTells n.asks (plain_text n.inner f.pad)
 next_tells q h f came effect ask x n = elim n.kind [
@@ -82,7 +82,7 @@ next_leads q h f id of y ys m served log ask b sealed effect (Some x) g is k t b
     let s = y ∷ ys in
     let later = Took sealed (answer_inner q.psk s ask sealed) effect ∷ s in
     let m' = marks.Asked.Heard (t2_of s) b (answer_text q.psk s ask sealed) ∷ m in
-    let past : is_past_handshake (stage_of later) ≡ true = ap is_past_handshake (ap (stage_behind effect) g ∙ n.fits) ∙ asks_past n.asks (next_no_finish q h f (came_at q id s ask sealed) effect ask x n) in
+    let past : is_past_handshake (stage_of later) ≡ true = ap is_past_handshake (ap (stage_behind effect) g ∙ n.fits) ∙ asks_past n.asks (next_is_no_finish q h f (came_at q id s ask sealed) effect ask x n) in
     subst (λ (z : Sent). OwnLeads (reading_of q.psk) (at m' served log) (at (content_marks later z.content ++ m') served (sent_made q.psk later (Some z) ++ log))) (sym n.is)
     (says q.psk later of m' served log n.inner f.pad past (is ∙ ap (λ (u : List ℕ). Some (asked_first s, u)) (same_second s sealed (answer_inner q.psk s ask sealed) effect other)) (replied_held q s m ask b sealed effect k t brings other tells))
 
@@ -111,7 +111,7 @@ replies q h f id y ys m served log ask b sealed led n g is k t opened shape =
 
 -- ---- PSK_FINISH_RSP.
 
-finish_effect : (effect : Effect) → finishes effect ≡ true → (a : List ℕ) × (effect ≡ Grants AskFinish a)
+pub finish_effect : (effect : Effect) → finishes effect ≡ true → (a : List ℕ) × (effect ≡ Grants AskFinish a)
 finish_effect (Grants AskFinish a) e = (a, refl)
 finish_effect (Grants _ a) e = absurd (cc)
 finish_effect _ e = absurd (cc)

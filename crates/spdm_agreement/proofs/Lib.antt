@@ -28,3 +28,5 @@ pub mod AskingCommands
 pub mod AskingAnswers
 pub mod AskingReplies
 pub mod AskingRecords
+pub mod AskingRecordsKept
+pub mod AskingSteps
