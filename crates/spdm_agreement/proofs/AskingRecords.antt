@@ -122,7 +122,7 @@ RecordLeads q h served log id s o ask sealed inner led =
     OwnLeads (reading_of q.psk) (at (asked_marks q h) served log)
     (at (taken_marks (stage_of s) q s o sealed inner led ++ asked_marks q h) served ((sent_made q.psk (when_live s (Took sealed inner led.effect)) led.next ++ record_check q s ask sealed) ++ log))
 
-finish_is : (ask : Ask) → is_finish ask ≡ true → ask ≡ AskFinish
+pub finish_is : (ask : Ask) → is_finish ask ≡ true → ask ≡ AskFinish
 finish_is AskFinish e = refl
 finish_is _ e = absurd (cc)
 

@@ -30,3 +30,4 @@ pub mod AskingReplies
 pub mod AskingRecords
 pub mod AskingRecordsKept
 pub mod AskingSteps
+pub mod AskingBodies
