@@ -1,20 +1,18 @@
 -- What a requester's history keeps, it keeps whatever body comes.
-use Rattle.std.proofs.Common.{◌≡◌, ◌⊎◌, ◌≤◌, ◌+◌, ℕ, List, [], ◌∷◌, ◌++◌, Bool, true, false, cond, Option, Some, None, ◌==◌, ◌&&◌, refl, sym, ap, ◌∙◌, inl, inr, subst, eqb-true, true≢false, append_assoc, bytes_eq, arith}
+use Rattle.std.proofs.Common.{◌≡◌, ℕ, List, [], ◌∷◌, ◌++◌, Bool, true, false, cond, Option, Some, None, ◌==◌, refl, sym, ap, ◌∙◌, inl, inr, subst, eqb-true, true≢false, append_assoc, bytes_eq, arith}
 use Rattle.requester_machine.specs.Asking.{Outcome}
 use Rattle.requester_machine.specs.Asking.Outcome.{Fails, Ignores, Warns, Resends, Adds}
 use Rattle.requester_machine.specs.Commands.{Free}
 use Rattle.requester_machine.specs.Does.{IsMade, body_chosen, requester_hears}
-use Rattle.requester_machine.specs.History.{History, Effect, Led, outstanding, draws_of}
+use Rattle.requester_machine.specs.History.{History, Effect, Led, outstanding}
 use Rattle.requester_machine.specs.History.Entry.{Told, TookClear, TookRecord}
 use Rattle.requester_machine.specs.Message.{Ask, Content, Sent}
 use Rattle.requester_machine.specs.Message.Content.{Clear, Sealed}
 use Rattle.requester_machine.specs.Message.Ask.{AskFinish}
 use Rattle.requester_machine.specs.Order.{stage_for}
 use Rattle.requester_machine.specs.Records.{answer_inner}
-use Rattle.requester_machine.specs.RequesterLog.{acts_of}
-use Rattle.requester_machine.specs.Session.{Step, Steps, session_of, is_live, stage_of, t2_of, finishes}
+use Rattle.requester_machine.specs.Session.{Steps, session_of, is_live, stage_of, t2_of, finishes}
 use Rattle.requester_machine.specs.Session.Step.{Took}
-use Rattle.requester_machine.specs.Shown.{after}
 use Rattle.requester_machine.proofs.MadeOrder.{in_order}
 use Rattle.secured_record.specs.Format.{plain_text}
 use Rattle.spdm_grammar.specs.declared.phase.Stage.{Stage}
@@ -101,7 +99,7 @@ finish_all q h f of id s x sealed led served log log' k is shape all before late
     let waits : finishing (asked_marks q h) ≡ Some t = k.waits ∙ ap (λ (z : Steps). Some (asked_first z)) k.session in
     let quiet = unsaid (reading_of q.psk) (asked_marks q h) served log (holds (reading_of q.psk) (at (asked_marks q h) served log) before) t waits in
     let second = λ (c : finishes led.effect ≡ true). ((holds (reading_of q.psk) (at (finish_marks q own sealed led.effect (asked_marks q h)) served log') reached).asks.opened t u
-        (subst (λ (b : Bool). IsOpened (cond b (marks.Asked.Opened t u ∷ []) [] ++ asked_marks q h) t u) (sym c) (inl (refl, refl)))).1 in
+    (subst (λ (b : Bool). IsOpened (cond b (marks.Asked.Opened t u ∷ []) [] ++ asked_marks q h) t u) (sym c) (inl (refl, refl)))).1 in
     subst (λ (z : Steps). TookHeld q h of id z sealed (answer_inner q.psk z AskFinish sealed) led (Some (aimed x of AskFinish))) (sym e)
     (finish_held q h f of id k.negotiation k.exchange k.answer k.sealed (session_of id h) (asked_marks q h) sealed led (of == id) (λ c. sym k.session ∙ ap (λ (n : ℕ). session_of n h) (eqb-true of id c)) shaped all
     (λ c. (ap (λ (v : List ℕ). heard v (asked_marks q h)) (second c) ∙ quiet.1, ap (λ (v : List ℕ). marks.outstanding v (asked_marks q h)) (second c) ∙ quiet.2)))
@@ -142,7 +140,7 @@ took_kept q h f served log log' d tag body of sealed inner led k made kept befor
     let w = waited_for q h f body of sealed inner led k made in
     let g = (asked_stage k.ask s (in_order q h of made).ordered w.1).0 in
     let reached = subst (λ (o : Option Sent). IsReached (reading_of q.psk) (at (taken_marks (stage_of s) q s o sealed (answer_inner q.psk s k.ask sealed) led ++ asked_marks q h) served log')) waits
-        (subst (λ (i : List ℕ). IsReached (reading_of q.psk) (at (taken_marks (stage_of s) q s (outstanding h) sealed i led ++ asked_marks q h) served log')) k.holds later) in
+    (subst (λ (i : List ℕ). IsReached (reading_of q.psk) (at (taken_marks (stage_of s) q s (outstanding h) sealed i led ++ asked_marks q h) served log')) k.holds later) in
     record {
       held = λ id. subst (λ (i : List ℕ). TookHeld q h of id s sealed i led (outstanding h)) (sym k.holds)
           (subst (λ (o : Option Sent). TookHeld q h of id s sealed (answer_inner q.psk s k.ask sealed) led o) (sym waits)

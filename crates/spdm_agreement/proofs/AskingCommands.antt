@@ -1,22 +1,21 @@
 -- What a requester does with a command is a run of moves, and keeps what its history keeps.
-use Rattle.std.proofs.Common.{◌≡◌, ◌≤◌, ◌<◌, ◌^◌, ◌+◌, ◌⊎◌, ℕ, List, [], ◌∷◌, ◌++◌, length, take, Bool, true, false, cond, Option, Some, None, is_some, ◌==◌, ◌&&◌, ◌||◌, refl, sym, ap, ◌∙◌, subst, eqb-true, eq-eqb, true≢false, arith, bytes_eq}
-use Rattle.requester_machine.specs.Asking.{Outcome, asks}
+use Rattle.std.proofs.Common.{◌≡◌, ◌≤◌, ◌<◌, ◌+◌, ℕ, List, [], ◌∷◌, ◌++◌, length, Bool, true, false, cond, Option, Some, None, is_some, ◌==◌, ◌&&◌, ◌||◌, refl, sym, ap, ◌∙◌, subst, eqb-true, eq-eqb, true≢false, arith, bytes_eq}
+use Rattle.requester_machine.specs.Asking.{Outcome}
 use Rattle.requester_machine.specs.Asking.Outcome.{Fails, Ignores, Warns, Resends, Adds}
 use Rattle.requester_machine.specs.Commands.{Free, exchange_for}
 use Rattle.requester_machine.specs.Commands as commands
 use Rattle.requester_machine.specs.Does.{IsMade, command_chosen, requester_asks, chosen}
-use Rattle.requester_machine.specs.History.{History, Entry, outstanding, negotiation_of, connection_terms, draws_of, takes_draw, is_connect, phase_of}
+use Rattle.requester_machine.specs.History.{History, outstanding, negotiation_of, connection_terms, draws_of, takes_draw, phase_of}
 use Rattle.requester_machine.specs.History.Entry.{Told, TookClear, TookRecord}
-use Rattle.requester_machine.specs.Message.{Command, Ask, Aim, Content, Sent, asked_in}
+use Rattle.requester_machine.specs.Message.{Command, Ask, Content, Sent, asked_in}
 use Rattle.requester_machine.specs.Message.Ask.{AskFinish}
 use Rattle.requester_machine.specs.Message.Content.{Clear, Sealed}
 use Rattle.requester_machine.specs.Message.Command.{Connect, Open, Send, Beat, Update, Measure, End, Retry}
-use Rattle.requester_machine.specs.Order.{waits_for, stage_for, FitsWaits, Waits}
+use Rattle.requester_machine.specs.Order.{waits_for, FitsWaits, Waits}
 use Rattle.requester_machine.specs.Order.Waits.{Rests}
 use Rattle.requester_machine.specs.RequesterLog.{acts_of, record_made, steps_at}
-use Rattle.requester_machine.specs.Session.{Step, Steps, session_of, is_live, stage_of, t2_of, when_live, with_aim, begun, after_command}
+use Rattle.requester_machine.specs.Session.{Steps, session_of, is_live, t2_of, when_live, with_aim, begun, after_command}
 use Rattle.requester_machine.specs.Session.Step.{Started, Asked}
-use Rattle.requester_machine.specs.Sending.{record_sent}
 use Rattle.requester_machine.specs.Shown.{after}
 use Rattle.requester_machine.proofs.Choosing.{free_id-in_range}
 use Rattle.requester_machine.proofs.MadeOrder.{in_order}
@@ -30,7 +29,6 @@ use Rattle.spdm_grammar.specs.Message.{RequestMessage, ExchangeMessage}
 use Rattle.spdm_grammar.specs.Message.RequestMessage.{PskExchange}
 use Rattle.spdm_grammar.specs.Requests.{canonical_request, request_in}
 use Rattle.spdm_grammar.specs.declared.event.ReqIgnored.{ReqIgnored}
-use Rattle.spdm_grammar.specs.declared.phase.Stage.TheVariants as stage
 use Rattle.spdm_machine.specs.Keys.{Draw, context_of}
 use Rattle.spdm_machine.specs.Session.{is_past_handshake}
 use Rattle.spdm_machine.specs.Setup.{ReqSetup}
@@ -40,15 +38,14 @@ use Rattle.spdm_agreement.specs.Claims.{IsReached}
 use Rattle.spdm_agreement.specs.Configured.{IsRequester}
 use Rattle.spdm_agreement.specs.Marks as marks
 use Rattle.spdm_agreement.specs.Marks.{Served, Text, next_asked, waiting}
-use Rattle.spdm_agreement.specs.Moves.{Move, State, IsRun}
 use Rattle.spdm_agreement.specs.Moves.Move.{Start}
 use Rattle.spdm_agreement.specs.Story.{asked_marks, command_marks, content_marks, exchange_id}
 use Rattle.spdm_agreement.proofs.AskingAccepts.{exchange_read}
 use Rattle.spdm_agreement.proofs.AskingChecks.{check_leads, ignored_is_check, stays}
-use Rattle.spdm_agreement.proofs.AskingClear.{IsClear, IsClearAim}
+use Rattle.spdm_agreement.proofs.AskingClear.{IsClear}
 use Rattle.spdm_agreement.proofs.AskingEntries.{CommandShape, IsAsked, IsBegun, IsClearAsk, told_shape, told_draw, no_clear_told, no_record_told}
 use Rattle.spdm_agreement.proofs.AskingHeld.{HeldAt, HeldWell, held_asked, held_past, held_past_sealed}
-use Rattle.spdm_agreement.proofs.AskingKept.{AskedKept, IsStarted, WaitingKept, AimKept, ClearKept, waiting_in, waiting_text, is_held, clear_kept, other_kept, record_kept, none_in, held_open, apart}
+use Rattle.spdm_agreement.proofs.AskingKept.{AskedKept, IsStarted, AimKept, ClearKept, waiting_in, waiting_text, is_held, clear_kept, other_kept, record_kept, none_in, held_open, apart}
 use Rattle.spdm_agreement.proofs.AskingMade.{stays_clear, is_finish, open_no_finish}
 use Rattle.spdm_agreement.proofs.AskingTalks.{at, says}
 use Rattle.spdm_agreement.proofs.Owed.{OwnLeads, IsDraw, AskedStep, AskedReady, AsksWell}

@@ -1,13 +1,12 @@
 -- What a requester's history keeps, it keeps with a record that is taken.
-use Rattle.std.proofs.Common.{◌≡◌, ◌⊎◌, ℕ, List, [], ◌∷◌, ◌++◌, Bool, true, false, cond, Option, Some, None, ◌==◌, ◌&&◌, refl, sym, ap, ◌∙◌, inl, inr, subst, true≢false, bytes_eq}
+use Rattle.std.proofs.Common.{◌≡◌, ℕ, List, [], ◌∷◌, ◌++◌, Bool, true, false, cond, Option, Some, None, ◌==◌, refl, sym, ap, ◌∙◌, inl, inr, subst, true≢false, bytes_eq}
 use Rattle.requester_machine.specs.Commands.{Free}
 use Rattle.requester_machine.specs.History.{History, Effect, Led}
-use Rattle.requester_machine.specs.History.Effect.{Grants}
 use Rattle.requester_machine.specs.Message.{Ask, Sent}
 use Rattle.requester_machine.specs.Message.Ask.{AskFinish}
 use Rattle.requester_machine.specs.InnerMessages.{with_record}
 use Rattle.requester_machine.specs.Records.{answer_inner, sealed_next}
-use Rattle.requester_machine.specs.Session.{Step, Steps, t2_of, finishes, ends, when_live, with_sent, with_aim, after_record}
+use Rattle.requester_machine.specs.Session.{Step, Steps, t2_of, finishes, ends, with_sent, with_aim, after_record}
 use Rattle.requester_machine.specs.Session.Step.{Took, Asked}
 use Rattle.secured_record.specs.Format.{plain_text}
 use Rattle.spdm_machine.specs.Setup.{ReqSetup}
@@ -21,7 +20,7 @@ use Rattle.spdm_agreement.proofs.AskingEntries.{RequestTells}
 use Rattle.spdm_agreement.proofs.AskingHeld.{HeldAt, HeldWell, held_opened, held_past, held_past_heard, held_past_sealed}
 use Rattle.spdm_agreement.proofs.AskingKept.{waiting_in, waiting_text, is_held}
 use Rattle.spdm_agreement.proofs.AskingMade.{is_finish, finishes_only}
-use Rattle.spdm_agreement.proofs.AskingRecord.{RecordLed, IsAnswered, IsEnded, IsNext, NextRecord}
+use Rattle.spdm_agreement.proofs.AskingRecord.{RecordLed, NextRecord}
 use Rattle.spdm_agreement.proofs.AskingRecords.{answered_finish}
 use Rattle.spdm_agreement.proofs.AskingReplies.{came_at, replied_held, same_second, shaken, finish_effect, next_is_no_finish}
 
@@ -67,8 +66,8 @@ past_held q h f of id y ys other m ask b sealed led true is same n k t shape all
     let there : after_record sealed inner led.effect other ≡ cond (ends led.effect) [] later = ap (after_record sealed inner led.effect) (sym (same refl)) in
     elim shape [
       | inl a ↦ (let e : after_record sealed inner led.effect other ≡ later = there ∙ ap (λ (c : Bool). cond c [] later) a.stays in
-        subst (λ (x : Steps). HeldWell q.psk (with_sent id led.next x) (next_marks later led.next ++ mark ∷ m) (waiting_text id led.next)) (sym e)
-        (own_next q h f of id s (mark ∷ m) ask sealed inner led.effect led.next is a.next (replied_held q s m ask b sealed led.effect k t a.brings (finishes_only led.effect ask a.brings ∙ n) a.tells)))
+          subst (λ (x : Steps). HeldWell q.psk (with_sent id led.next x) (next_marks later led.next ++ mark ∷ m) (waiting_text id led.next)) (sym e)
+          (own_next q h f of id s (mark ∷ m) ask sealed inner led.effect led.next is a.next (replied_held q s m ask b sealed led.effect k t a.brings (finishes_only led.effect ask a.brings ∙ n) a.tells)))
       | inr e ↦ no_steps q.psk _ _ _ (ap (λ (o : Option Sent). with_sent id o (after_record sealed inner led.effect other)) e.next ∙ there ∙ ap (λ (c : Bool). cond c [] later) e.ends_it) held
     ]
 past_held q h f of id y ys other m ask b sealed led false is same n k t shape all differs held =
@@ -114,11 +113,11 @@ finish_held q h f of id n exchange answer x other m sealed led true same shape a
     let there : after_record sealed inner led.effect other ≡ cond (ends led.effect) [] later = ap (after_record sealed inner led.effect) (sym (same refl)) in
     elim shape [
       | inl a ↦ (let g = answered_finish q h f (came_at q of s AskFinish sealed) led a in
-        let e : after_record sealed inner led.effect other ≡ later = there ∙ ap (λ (c : Bool). cond c [] later) a.stays in
-        subst (λ (o : Option Sent). HeldWell q.psk (with_sent id o (after_record sealed inner led.effect other)) (cond (finishes led.effect) (marks.Asked.Opened (asked_first s) (t2_of later) ∷ []) [] ++ m) (waiting_text id o)) (sym g.1)
-        (subst (λ (z : Steps). HeldWell q.psk z (cond (finishes led.effect) (marks.Asked.Opened (asked_first s) (t2_of later) ∷ []) [] ++ m) None) (sym e)
-        (subst (λ (c : Bool). HeldWell q.psk later (cond c (marks.Asked.Opened (asked_first s) (t2_of later) ∷ []) [] ++ m) None) (sym g.0)
-        (own_opened q n exchange answer x m sealed inner led.effect (asked_first s) (t2_of later) g.0 (quiet g.0).0 (quiet g.0).1))))
+          let e : after_record sealed inner led.effect other ≡ later = there ∙ ap (λ (c : Bool). cond c [] later) a.stays in
+          subst (λ (o : Option Sent). HeldWell q.psk (with_sent id o (after_record sealed inner led.effect other)) (cond (finishes led.effect) (marks.Asked.Opened (asked_first s) (t2_of later) ∷ []) [] ++ m) (waiting_text id o)) (sym g.1)
+          (subst (λ (z : Steps). HeldWell q.psk z (cond (finishes led.effect) (marks.Asked.Opened (asked_first s) (t2_of later) ∷ []) [] ++ m) None) (sym e)
+          (subst (λ (c : Bool). HeldWell q.psk later (cond c (marks.Asked.Opened (asked_first s) (t2_of later) ∷ []) [] ++ m) None) (sym g.0)
+          (own_opened q n exchange answer x m sealed inner led.effect (asked_first s) (t2_of later) g.0 (quiet g.0).0 (quiet g.0).1))))
       | inr e ↦ no_steps q.psk _ _ _ (ap (λ (o : Option Sent). with_sent id o (after_record sealed inner led.effect other)) e.next ∙ there ∙ ap (λ (c : Bool). cond c [] later) e.ends_it) held
     ]
 finish_held q h f of id n exchange answer x other m sealed led false same shape all quiet held =

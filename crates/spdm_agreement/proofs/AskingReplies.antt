@@ -1,40 +1,36 @@
 -- What a requester does with a record is a run of moves.
-use Rattle.std.proofs.Common.{◌≡◌, ◌⊎◌, ℕ, List, [], ◌∷◌, ◌++◌, drop, take, Bool, true, false, cond, Option, Some, None, ◌==◌, ◌&&◌, refl, sym, ap, ◌∙◌, inl, inr, subst, true≢false}
+use Rattle.std.proofs.Common.{◌≡◌, ℕ, List, [], ◌∷◌, ◌++◌, drop, take, Bool, true, false, cond, Option, Some, None, refl, sym, ap, ◌∙◌, inl, inr, subst}
 use Rattle.std.specs.Prelude.{slice_index}
 use Rattle.byteorder.specs.Endian.{little_number}
-use Rattle.requester_machine.specs.History.{History, Effect, Led, outstanding}
-use Rattle.requester_machine.specs.History.Effect.{Nothing, Answers, Refuses, Stops, Grants, Loses}
+use Rattle.requester_machine.specs.History.{History, Effect, Led}
+use Rattle.requester_machine.specs.History.Effect.{Grants}
 use Rattle.requester_machine.specs.InnerMessages.{Came, with_record}
 use Rattle.requester_machine.specs.Commands.{Free}
-use Rattle.requester_machine.specs.Message.{Ask, Aim, Content, Sent}
+use Rattle.requester_machine.specs.Message.{Ask, Sent}
 use Rattle.requester_machine.specs.Message.Ask.{AskFinish, AskVerify, AskChunk}
 use Rattle.requester_machine.specs.Order.{may_bring, stage_for}
 use Rattle.requester_machine.specs.Records.{answer_fault, answer_inner}
 use Rattle.requester_machine.specs.RequesterLog.{sent_made, record_check}
-use Rattle.requester_machine.specs.Session.{Step, Steps, session_vca, exchange_of, exchange_answer, finish_of, finish_answer, stage_of, t2_of, is_live, finishes, updates, verifies, answer_in, response_next, when_live}
+use Rattle.requester_machine.specs.Session.{Step, Steps, session_vca, exchange_of, exchange_answer, finish_of, finish_answer, stage_of, t2_of, finishes, answer_in}
 use Rattle.requester_machine.specs.Session.Step.{Started, Accepted, Asked, Took}
 use Rattle.requester_machine.proofs.Steps.{stage_behind}
 use Rattle.secured_record.specs.Format.{plain_text}
-use Rattle.spdm_grammar.specs.declared.phase.Stage.{Stage}
-use Rattle.spdm_grammar.specs.declared.phase.Stage.TheVariants as stage
 use Rattle.spdm_machine.specs.Session.{is_past_handshake}
 use Rattle.spdm_machine.specs.Setup.{ReqSetup}
-use Rattle.spdm_machine.specs.TagLog.{Act, Log}
+use Rattle.spdm_machine.specs.TagLog.{Log}
 use Rattle.transcript.specs.Transcripts as transcript
 use Rattle.spdm_agreement.specs.Marks as marks
 use Rattle.spdm_agreement.specs.Marks.{Served, Text, asked_open, finishing}
-use Rattle.spdm_agreement.specs.Moves.{State}
-use Rattle.spdm_agreement.specs.Reading.{First}
 use Rattle.spdm_agreement.specs.Story.{asked_first, answer_text, next_marks, content_marks}
 use Rattle.spdm_agreement.proofs.AskingAccepts.{finish_inner, opens}
-use Rattle.spdm_agreement.proofs.AskingChecks.{join, check_leads, record_is_check}
+use Rattle.spdm_agreement.proofs.AskingChecks.{join}
 use Rattle.spdm_agreement.proofs.AskingEntries.{RequestTells, verify_tells, chunk_tells}
 use Rattle.spdm_agreement.proofs.AskingHeld.{HeldAt, HeldWell, held_heard, update_told, text_tells}
 use Rattle.spdm_agreement.proofs.AskingMade.{is_finish, finishes_only}
-use Rattle.spdm_agreement.proofs.AskingRecord.{RecordLed, IsAnswered, IsEnded, IsNext, NextRecord, InnerTells}
+use Rattle.spdm_agreement.proofs.AskingRecord.{RecordLed, IsNext, NextRecord, InnerTells}
 use Rattle.spdm_agreement.proofs.AskingTalks.{at, says, hears, inner_as}
 use Rattle.spdm_agreement.proofs.Owed.{OwnLeads}
-use Rattle.spdm_agreement.proofs.Sessions.{reading_of, is_message, second_of, finish_reply, finish_message}
+use Rattle.spdm_agreement.proofs.Sessions.{reading_of, finish_reply}
 
 -- ---- A reply.
 

@@ -1,25 +1,21 @@
 -- What a requester does with a body that came is a run of moves, and keeps what its history keeps.
-use Rattle.std.proofs.Common.{◌≡◌, ◌⊎◌, ◌≤◌, ◌+◌, ℕ, List, [], ◌∷◌, ◌++◌, Bool, true, false, cond, Option, Some, None, ◌==◌, ◌&&◌, refl, sym, ap, ◌∙◌, inl, inr, subst, eqb-true, true≢false, append_assoc, bytes_eq, arith}
+use Rattle.std.proofs.Common.{◌≡◌, ℕ, List, [], ◌∷◌, ◌++◌, Option, Some, refl, sym, ap, ◌∙◌, inl, inr, subst, arith}
 use Rattle.requester_machine.specs.Answers.{with_answer}
-use Rattle.requester_machine.specs.Asking.{Outcome}
-use Rattle.requester_machine.specs.Asking.Outcome.{Fails, Ignores, Warns, Resends, Adds}
+use Rattle.requester_machine.specs.Asking.Outcome.{Adds}
 use Rattle.requester_machine.specs.Commands.{Free}
-use Rattle.requester_machine.specs.Does.{IsMade, body_chosen, requester_hears, chosen}
-use Rattle.requester_machine.specs.Hearing.{came_to}
-use Rattle.requester_machine.specs.History.{History, Effect, Led, outstanding, draws_of}
+use Rattle.requester_machine.specs.Does.{IsMade, body_chosen, chosen}
+use Rattle.requester_machine.specs.History.{History, Effect, Led, outstanding}
 use Rattle.requester_machine.specs.History.Effect.{Answers}
-use Rattle.requester_machine.specs.History.Entry.{Told, TookClear, TookRecord}
-use Rattle.requester_machine.specs.Message.{Ask, Sent}
+use Rattle.requester_machine.specs.History.Entry.{TookClear}
+use Rattle.requester_machine.specs.Message.{Sent}
 use Rattle.requester_machine.specs.Records.{answer_inner}
 use Rattle.requester_machine.specs.RequesterLog.{answer_made, clear_check, answer_check, sent_made, sealed_check}
 use Rattle.requester_machine.specs.Sending.{finish_sent}
-use Rattle.requester_machine.specs.Session.{Step, Steps, session_of, is_live, stage_of, t2_of, when_live}
+use Rattle.requester_machine.specs.Session.{Steps, session_of, stage_of, when_live}
 use Rattle.requester_machine.specs.Session.Step.{Took}
-use Rattle.requester_machine.specs.Shown.{after}
 use Rattle.requester_machine.proofs.MadeOrder.{in_order}
 use Rattle.spdm_grammar.specs.Message.{RequestMessage}
 use Rattle.spdm_grammar.specs.Message.RequestMessage.{PskExchange}
-use Rattle.spdm_grammar.specs.declared.event.ReqIgnored.{ReqIgnored}
 use Rattle.spdm_machine.specs.Keys.{Draw}
 use Rattle.spdm_machine.specs.Session.{is_past_handshake}
 use Rattle.spdm_machine.specs.Setup.{ReqSetup}
@@ -28,12 +24,10 @@ use Rattle.spdm_agreement.specs.Marks as marks
 use Rattle.spdm_agreement.specs.Marks.{Served, next_asked}
 use Rattle.spdm_agreement.specs.Story.{asked_marks, clear_marks, taken_marks}
 use Rattle.spdm_agreement.proofs.AskingAnswers.{aside_leads, aside_kept, waited, exchanged_leads, exchanged_kept, exchange_checked}
-use Rattle.spdm_agreement.proofs.AskingChecks.{check_leads, ignored_is_check, stays}
-use Rattle.spdm_agreement.proofs.AskingClear.{IsExchanged, IsAside}
-use Rattle.spdm_agreement.proofs.AskingEntries.{IsTookClear, IsTookRecord, clear_entry, record_entry, no_command_heard}
-use Rattle.spdm_agreement.proofs.AskingKept.{AskedKept, IsStarted, ClearKept, held_open}
-use Rattle.spdm_agreement.proofs.AskingMade.{waited_for, asked_stage, is_finish}
-use Rattle.spdm_agreement.proofs.AskingRecords.{aimed, waits_aimed, record_leads, held_at, asks_past}
+use Rattle.spdm_agreement.proofs.AskingEntries.{IsTookClear, IsTookRecord}
+use Rattle.spdm_agreement.proofs.AskingKept.{AskedKept, ClearKept, held_open}
+use Rattle.spdm_agreement.proofs.AskingMade.{waited_for, asked_stage}
+use Rattle.spdm_agreement.proofs.AskingRecords.{waits_aimed, record_leads, held_at, asks_past}
 use Rattle.spdm_agreement.proofs.AskingTalks.{at}
 use Rattle.spdm_agreement.proofs.Owed.{OwnLeads, AskedStep, AskedReady}
 use Rattle.spdm_agreement.proofs.Sessions.{reading_of}
@@ -51,7 +45,6 @@ clear_next h _ m = refl
 
 abbrev ClearLeads : ReqSetup → History → List Served → Log → List ℕ → Effect → Option Sent → List Act → Type 0
 ClearLeads q h served log m effect next checks = OwnLeads (reading_of q.psk) (at (asked_marks q h) served log) (at (clear_marks h effect ++ asked_marks q h) served ((answer_made q.psk h effect next ++ checks) ++ log))
-
 
 pub clear_leads : (q : ReqSetup) (h : History) (d : Draw) (served : List Served) (log : Log) (body m : List ℕ) (led : Led) → IsTookClear q h (body_chosen q h d) body m led → AskedKept q h
     → ClearLeads q h served log m led.effect led.next (clear_check q h m (outstanding h))
