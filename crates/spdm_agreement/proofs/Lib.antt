@@ -31,3 +31,4 @@ pub mod AskingRecords
 pub mod AskingRecordsKept
 pub mod AskingSteps
 pub mod AskingBodies
+pub mod AskingNegotiates
