@@ -1,5 +1,5 @@
 -- The code of PSK_FINISH_RSP and of KEY_UPDATE_ACK is that of their bytes.
-use Rattle.std.proofs.Common.{◌≡◌, ℕ, List, Bool, true, false, cond, ◌==◌, refl, sym, subst}
+use Rattle.std.proofs.Common.{◌≡◌, ℕ, List, Bool, true, false, cond, ◌==◌, sym, subst}
 use Rattle.std.specs.Prelude.{slice_index, Ok}
 use Rattle.byteorder.specs.Endian.{little_number}
 use Rattle.spdm_grammar.specs.Layout.{Layout}

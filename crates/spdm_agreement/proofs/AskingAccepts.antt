@@ -1,26 +1,22 @@
 -- PSK_EXCHANGE_RSP and PSK_FINISH_RSP, as a requester takes them, are moves.
-use Rattle.std.proofs.Common.{◌≡◌, ◌≤◌, ◌<◌, ◌^◌, ◌+◌, ◌-◌, ◌⊎◌, ℕ, List, [], ◌∷◌, ◌++◌, length, drop, take, Bool, true, false, cond, Option, Some, None, is_some, ◌&&◌, refl, sym, ap, ap₂, ◌∙◌, inl, inr, subst, arith, length-append, append_assoc, bytes_eq}
-use Rattle.std.specs.Prelude.{Ok, slice_index, replicate}
+use Rattle.std.proofs.Common.{◌≡◌, ◌<◌, ◌^◌, ◌-◌, ℕ, List, [], ◌∷◌, ◌++◌, length, drop, take, Bool, true, Option, Some, None, is_some, ◌&&◌, refl, sym, ap, ap₂, ◌∙◌, inl, arith, length-append, append_assoc}
+use Rattle.std.specs.Prelude.{replicate}
 use Rattle.std.proofs.Math.Seq.{drop-append_seam, take-append_seam}
 use Rattle.std.proofs.lemmas.List.{length-take-le}
 use Rattle.std.proofs.lemmas.Slice.Eq.{bytes_eq-Decides}
 use Rattle.std.specs.Result.{result_ok}
 use Rattle.byteorder.specs.Endian.{little_bytes, little_number}
 use Rattle.byteorder.specs.Numbers.{little_number-reads_back}
-use Rattle.key_schedule.specs.Purpose.{Purpose, handshake_record}
+use Rattle.key_schedule.specs.Purpose.{handshake_record}
 use Rattle.key_schedule.specs.declared.direction.Direction.TheVariants.{Request, Response}
 use Rattle.requester_machine.specs.Answers as asked
-use Rattle.requester_machine.specs.Message.{Ask}
 use Rattle.requester_machine.specs.Message.Ask.{AskFinish}
 use Rattle.requester_machine.specs.Message.Content.{Sealed}
-use Rattle.requester_machine.specs.Records.{request_purpose, answer_purpose, answer_number, answer_fault, sealed_next}
+use Rattle.requester_machine.specs.Records.{answer_purpose, answer_number, answer_fault, sealed_next}
 use Rattle.requester_machine.specs.RequesterLog.{record_made, finish_made, answer_check, record_check}
 use Rattle.requester_machine.specs.Sending.{inner_request, finish_verify, finish_input}
-use Rattle.requester_machine.specs.Session.{Steps, stage_of, t1_of, t2_of, session_terms, request_next, response_next}
-use Rattle.running_hash.specs.Hash.{hash_of}
+use Rattle.requester_machine.specs.Session.{Steps, stage_of, t1_of, t2_of, request_next, response_next}
 use Rattle.secured_record.specs.Faults.{tag_part}
-use Rattle.secured_record.specs.Format.{plain_text}
-use Rattle.spdm_basis.specs.Sizes.{hash_size}
 use Rattle.spdm_basis.specs.declared.hash_alg.HashAlg.{HashAlg}
 use Rattle.spdm_basis.specs.declared.hash_alg.HashAlg.TheVariants.{Sha256, Sha384}
 use Rattle.spdm_grammar.specs.Message.{RequestMessage, ExchangeMessage, ExchangeRspMessage}
@@ -34,14 +30,14 @@ use Rattle.spdm_machine.specs.Keys.{Draw, context_of}
 use Rattle.spdm_machine.specs.Records.{purpose_in}
 use Rattle.spdm_machine.specs.Setup.{ReqSetup}
 use Rattle.spdm_machine.specs.TagLog.{Act, Log, record_input}
-use Rattle.spdm_machine.specs.TagLog.Act.{Made, Checked}
+use Rattle.spdm_machine.specs.TagLog.Act.{Made}
 use Rattle.spdm_machine.specs.Terms.{hash_len}
 use Rattle.transcript.specs.Transcripts.{without_verify}
 use Rattle.spdm_agreement.specs.Marks as marks
 use Rattle.spdm_agreement.specs.Marks.{Served, Text, waiting, finishing}
-use Rattle.spdm_agreement.specs.Moves.{Move, State, IsRun, IsPassed, request_shake, response_shake, request_verify, response_verify}
+use Rattle.spdm_agreement.specs.Moves.{request_shake, response_shake, response_verify}
 use Rattle.spdm_agreement.specs.Moves.Move.{Accept, Open, Check}
-use Rattle.spdm_agreement.specs.Reading.{First, Reading, covered}
+use Rattle.spdm_agreement.specs.Reading.{First, covered}
 use Rattle.spdm_agreement.specs.Story.{asked_first, answer_text}
 use Rattle.spdm_agreement.proofs.AskingTalks.{at, made_as, tag_made, checked_as, passed_as, tag_of_answer}
 use Rattle.spdm_agreement.proofs.Owed.{OwnLeads}
@@ -114,10 +110,13 @@ accepts psk s x m served log rsp shakes first sound waits draws right =
     let t = asked_first s in (
       Check (response_verify r t) (r.transcript t) (asked.answer_verify psk s) rsp.verify ∷ Accept t (finish_input s) (finish_verify psk s) (tag_made psk s (finish_inner psk s) []) ∷ [],
       (tt, (tt, tt)),
-      (tt, (
-        (sound, (x, waits, draws), inl (refl, refl, sym right)),
-        ap (λ (l : List Act). at (marks.Asked.Accepted t ∷ m) served (l ++ finish_made psk s ∷ answer_check psk s rsp ∷ log)) (sym (finish_as psk s shakes first)),
-      )),
+      (
+        tt,
+        (
+          (sound, (x, waits, draws), inl (refl, refl, sym right)),
+          ap (λ (l : List Act). at (marks.Asked.Accepted t ∷ m) served (l ++ finish_made psk s ∷ answer_check psk s rsp ∷ log)) (sym (finish_as psk s shakes first)),
+        ),
+      ),
     )
 
 -- ---- PSK_FINISH_RSP.
@@ -131,8 +130,11 @@ opens q s u m served log sealed shakes first waits opened is second =
     let t = asked_first s in (
       Check (answer_purpose q.psk s AskFinish) (record_input (answer_number s AskFinish) sealed) (tag_of_answer q.psk s AskFinish sealed) (tag_part sealed) ∷ Open t u (answer_text q.psk s AskFinish sealed) ∷ [],
       (tt, (tt, tt)),
-      (tt, (
-        (waits, is, passed_as q.psk s AskFinish sealed log (response_shake r t) 0 opened (shakes_under (stage_of s) q.psk (t1_of s) (t2_of s) _ shakes).1 first, second),
-        ap (λ (l : List Act). at (marks.Asked.Opened t u ∷ m) served (l ++ log)) (sym (checked_as q s AskFinish sealed opened)),
-      )),
+      (
+        tt,
+        (
+          (waits, is, passed_as q.psk s AskFinish sealed log (response_shake r t) 0 opened (shakes_under (stage_of s) q.psk (t1_of s) (t2_of s) _ shakes).1 first, second),
+          ap (λ (l : List Act). at (marks.Asked.Opened t u ∷ m) served (l ++ log)) (sym (checked_as q s AskFinish sealed opened)),
+        ),
+      ),
     )

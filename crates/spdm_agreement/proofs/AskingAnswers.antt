@@ -1,5 +1,5 @@
 -- What a requester does with a clear message is a run of moves, and keeps what its history keeps.
-use Rattle.std.proofs.Common.{◌≡◌, ◌⊎◌, ◌≤◌, ◌+◌, ℕ, List, [], ◌∷◌, ◌++◌, Bool, true, false, cond, Option, Some, None, ◌==◌, ◌&&◌, refl, sym, ap, ◌∙◌, inl, inr, subst, eqb-true, eq-eqb, true≢false, arith}
+use Rattle.std.proofs.Common.{◌≡◌, ◌⊎◌, ℕ, List, [], ◌∷◌, ◌++◌, Bool, true, false, cond, Option, Some, None, ◌==◌, refl, sym, ap, ◌∙◌, inl, inr, subst, eqb-true, eq-eqb, true≢false}
 use Rattle.std.specs.Prelude.{Ok}
 use Rattle.spdm_grammar.specs.Message.ResponseMessage.{PskExchangeRsp}
 use Rattle.requester_machine.specs.ClearAnswers.Carried.{Whole}
@@ -7,16 +7,15 @@ use Rattle.spdm_agreement.specs.Reading.{First}
 use Rattle.requester_machine.specs.Answers.{goes_on, with_answer}
 use Rattle.requester_machine.specs.Answers as asked
 use Rattle.requester_machine.specs.ClearAnswers.{carried_by, reading_of}
-use Rattle.requester_machine.specs.Does.{IsMade, body_chosen, chosen}
-use Rattle.requester_machine.specs.History.{History, Effect, Led, outstanding, negotiation_of, negotiation_after, connection_terms}
-use Rattle.requester_machine.specs.History.Effect.{Nothing, Answers, Refuses, Stops, Grants, Loses}
+use Rattle.requester_machine.specs.History.{History, Effect, Led, outstanding, negotiation_of, negotiation_after}
+use Rattle.requester_machine.specs.History.Effect.{Answers, Refuses}
 use Rattle.requester_machine.specs.History.Entry.{TookClear}
-use Rattle.requester_machine.specs.Message.{Aim, Content, Sent, asked_in}
+use Rattle.requester_machine.specs.Message.{Sent, asked_in}
 use Rattle.requester_machine.specs.Message.Ask.{AskFinish}
 use Rattle.requester_machine.specs.RequesterLog.{answer_made, clear_check, aim_check, carried_check, read_check, answer_check}
 use Rattle.requester_machine.specs.Sending.{finish_sent}
 use Rattle.requester_machine.specs.Records.{sealed_next}
-use Rattle.requester_machine.specs.Session.{Step, Steps, session_of, is_live, stage_of, t2_of, when_live, with_sent, after_clear, request_next}
+use Rattle.requester_machine.specs.Session.{Step, Steps, session_of, stage_of, t2_of, when_live, with_sent, after_clear, request_next}
 use Rattle.requester_machine.specs.Session.Step.{Started, Accepted, Asked}
 use Rattle.spdm_grammar.specs.Message.{RequestMessage, ExchangeMessage, ExchangeRspMessage}
 use Rattle.spdm_grammar.specs.Message.RequestMessage.{PskExchange}
@@ -31,10 +30,9 @@ use Rattle.spdm_agreement.specs.Marks.{Served, Text}
 use Rattle.spdm_agreement.specs.Story.{asked_marks, asked_first, clear_marks}
 use Rattle.spdm_agreement.proofs.AskingAccepts.{accepts, sound_first, draw_told, finish_inner}
 use Rattle.spdm_agreement.proofs.AskingChecks.{check_leads, clear_is_check}
-use Rattle.spdm_agreement.proofs.AskingClear.{IsClearAim, NoExchange, NextClear, IsPlain, IsExchanged, IsAside}
-use Rattle.spdm_agreement.proofs.AskingEntries.{IsTookClear}
+use Rattle.spdm_agreement.proofs.AskingClear.{NextClear, IsPlain, IsAside}
 use Rattle.spdm_agreement.proofs.AskingHeld.{HeldWell, held_past}
-use Rattle.spdm_agreement.proofs.AskingKept.{AskedKept, IsStarted, IsFinishing, WaitingKept, AimKept, ClearKept, waiting_in, waiting_text, is_held, clear_kept, kept_clear, other_kept, none_in}
+use Rattle.spdm_agreement.proofs.AskingKept.{AskedKept, IsStarted, WaitingKept, ClearKept, waiting_text, is_held, clear_kept, kept_clear, other_kept, none_in}
 use Rattle.spdm_agreement.proofs.AskingMade.{clear_aim, stays_clear}
 use Rattle.spdm_agreement.proofs.AskingTalks.{at}
 use Rattle.spdm_agreement.proofs.Owed.{OwnLeads}
@@ -154,7 +152,7 @@ exchanged_leads q h exchange answer rsp served log k reads right =
     let draws : r.requester_draw (asked_first own) ≡ k.draw.number = draw_told q.psk (asked_first own) exchange k.draw k.read k.context k.number k.bytes in
     accepts q.psk s (exchange.req_id, k.draw.number) (asked_marks q h) served log rsp (ap stage_of e) (ap request_next e) (ap (λ (x : Steps). r.is_sound (asked_first x)) e ∙ sound) k.waits (ap (λ (x : Steps). r.requester_draw (asked_first x)) e ∙ draws) right
 
-exchange_checked : (q : ReqSetup) (h : History) (m : List ℕ) (x : Sent) (exchange : ExchangeMessage) (answer : List ℕ) (place : ℕ) (rsp : ExchangeRspMessage) → outstanding h ≡ Some x → asked_in x.aim ≡ Some (PskExchange exchange)
+pub exchange_checked : (q : ReqSetup) (h : History) (m : List ℕ) (x : Sent) (exchange : ExchangeMessage) (answer : List ℕ) (place : ℕ) (rsp : ExchangeRspMessage) → outstanding h ≡ Some x → asked_in x.aim ≡ Some (PskExchange exchange)
     → carried_by q h m x.aim ≡ Whole answer place → reading_of h (PskExchange exchange) answer ≡ Ok (PskExchangeRsp rsp)
     → clear_check q h m (outstanding h) ≡ answer_check q.psk (with_answer h exchange answer) rsp ∷ []
 exchange_checked q h m x exchange answer place rsp waits asks carries reads =

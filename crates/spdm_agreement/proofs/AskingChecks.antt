@@ -1,12 +1,12 @@
 -- Where a requester only compares a tag, that is a move, and it leaves no mark.
-use Rattle.std.proofs.Common.{◌≡◌, ℕ, List, [], ◌∷◌, ◌++◌, drop, Bool, true, false, cond, Option, Some, None, is_none, refl, sym, subst}
-use Rattle.std.specs.Prelude.{Result, Ok, Err}
+use Rattle.std.proofs.Common.{ℕ, List, [], ◌∷◌, ◌++◌, drop, Bool, true, false, cond, Option, Some, None, refl, sym, subst}
+use Rattle.std.specs.Prelude.{Result, Ok}
 use Rattle.key_schedule.specs.Purpose.{Purpose}
 use Rattle.requester_machine.specs.ClearAnswers.{Carried, carried_by, reading_of}
-use Rattle.requester_machine.specs.ClearAnswers.Carried.{Whole, Ignored, Refused, Further}
+use Rattle.requester_machine.specs.ClearAnswers.Carried.{Whole}
 use Rattle.requester_machine.specs.History.{History, outstanding}
 use Rattle.requester_machine.specs.Message.{Ask, Aim, Sent, asked_in}
-use Rattle.requester_machine.specs.Message.Aim.{Plain, ByChunks, ForChunk, InSession}
+use Rattle.requester_machine.specs.Message.Aim.{InSession}
 use Rattle.requester_machine.specs.RequesterLog.{ignored_acts, clear_check, aim_check, carried_check, read_check, sealed_check, check_at, record_check}
 use Rattle.requester_machine.specs.Session.{Steps, session_of}
 use Rattle.spdm_grammar.specs.Message.{RequestMessage, ResponseMessage}
@@ -23,7 +23,7 @@ use Rattle.spdm_agreement.specs.Moves.{Move, State, IsRun, after}
 use Rattle.spdm_agreement.specs.Moves.Move.{Check}
 use Rattle.spdm_agreement.specs.Reading.{Reading}
 use Rattle.spdm_agreement.proofs.AskingTalks.{at}
-use Rattle.spdm_agreement.proofs.Foreign.{AreOwn, IsOwn}
+use Rattle.spdm_agreement.proofs.Foreign.{AreOwn}
 use Rattle.spdm_agreement.proofs.Owed.{OwnLeads}
 
 -- ---- Runs one after another.

@@ -1,6 +1,6 @@
 -- What a clear message leads to at a requester: the answer to PSK_EXCHANGE, with which PSK_FINISH is sealed; or what
 -- bears on no session.
-use Rattle.std.proofs.Common.{◌≡◌, ◌⊎◌, ℕ, ◌+◌, List, [], ◌∷◌, length, Bool, true, false, cond, Option, Some, None, refl, sym, ap, subst, inl, inr}
+use Rattle.std.proofs.Common.{◌≡◌, ◌⊎◌, ℕ, ◌+◌, List, [], ◌∷◌, length, Bool, true, false, cond, Option, Some, None, refl, subst, inl, inr}
 use Rattle.std.specs.Prelude.{Result, Ok, Err, bytes_eq, unwrap_or, nat_lt, ◌==◌, ◌&&◌, slice_index}
 use Rattle.std.proofs.lemmas.Slice.Eq.{bytes_eq-Decides}
 use Rattle.chunking.specs.Collecting.{joined_with}
@@ -9,7 +9,7 @@ use Rattle.negotiate.specs.Choosing.{agreed}
 use Rattle.negotiate.specs.Offer.{offer_of}
 use Rattle.negotiate.specs.Versions.{version_entries, first_of_1_2}
 use Rattle.negotiate.specs.declared.shared.Common.{Common}
-use Rattle.requester_machine.specs.Answers.{goes_on, is_refused, stopped, is_done, error_led, version_led, offer_led, caps_led, algorithms_led, exchange_led, answer_led, answer_verify, with_answer, may_be_large}
+use Rattle.requester_machine.specs.Answers.{goes_on, is_refused, stopped, error_led, version_led, offer_led, caps_led, algorithms_led, answer_led, answer_verify, with_answer, may_be_large}
 use Rattle.requester_machine.specs.Bodies.{error_in, first_cause}
 use Rattle.requester_machine.specs.ClearAnswers.{Carried, ack_tests, acknowledged, ack_carries, collected, get_fault, chunk_carries, carried_by, carried_led, read_led, reading_of, clear_led}
 use Rattle.requester_machine.specs.ClearAnswers.Carried.{Ignored, Refused, Further, Whole}

@@ -1,22 +1,21 @@
 -- What a requester does with a command is a run of moves, and keeps what its history keeps.
-use Rattle.std.proofs.Common.{◌≡◌, ◌≤◌, ◌<◌, ◌^◌, ◌+◌, ◌⊎◌, ℕ, List, [], ◌∷◌, ◌++◌, length, take, Bool, true, false, cond, Option, Some, None, is_some, ◌==◌, ◌&&◌, ◌||◌, refl, sym, ap, ◌∙◌, subst, eqb-true, eq-eqb, true≢false, arith, bytes_eq}
-use Rattle.requester_machine.specs.Asking.{Outcome, asks}
+use Rattle.std.proofs.Common.{◌≡◌, ◌≤◌, ◌<◌, ◌+◌, ℕ, List, [], ◌∷◌, ◌++◌, length, Bool, true, false, cond, Option, Some, None, is_some, ◌==◌, ◌&&◌, ◌||◌, refl, sym, ap, ◌∙◌, subst, eqb-true, eq-eqb, true≢false, arith, bytes_eq}
+use Rattle.requester_machine.specs.Asking.{Outcome}
 use Rattle.requester_machine.specs.Asking.Outcome.{Fails, Ignores, Warns, Resends, Adds}
 use Rattle.requester_machine.specs.Commands.{Free, exchange_for}
 use Rattle.requester_machine.specs.Commands as commands
 use Rattle.requester_machine.specs.Does.{IsMade, command_chosen, requester_asks, chosen}
-use Rattle.requester_machine.specs.History.{History, Entry, outstanding, negotiation_of, connection_terms, draws_of, takes_draw, is_connect, phase_of}
+use Rattle.requester_machine.specs.History.{History, outstanding, negotiation_of, connection_terms, draws_of, takes_draw, phase_of}
 use Rattle.requester_machine.specs.History.Entry.{Told, TookClear, TookRecord}
-use Rattle.requester_machine.specs.Message.{Command, Ask, Aim, Content, Sent, asked_in}
+use Rattle.requester_machine.specs.Message.{Command, Ask, Content, Sent, asked_in}
 use Rattle.requester_machine.specs.Message.Ask.{AskFinish}
 use Rattle.requester_machine.specs.Message.Content.{Clear, Sealed}
 use Rattle.requester_machine.specs.Message.Command.{Connect, Open, Send, Beat, Update, Measure, End, Retry}
-use Rattle.requester_machine.specs.Order.{waits_for, stage_for, FitsWaits, Waits}
+use Rattle.requester_machine.specs.Order.{waits_for, FitsWaits, Waits}
 use Rattle.requester_machine.specs.Order.Waits.{Rests}
 use Rattle.requester_machine.specs.RequesterLog.{acts_of, record_made, steps_at}
-use Rattle.requester_machine.specs.Session.{Step, Steps, session_of, is_live, stage_of, t2_of, when_live, with_aim, begun, after_command}
+use Rattle.requester_machine.specs.Session.{Steps, session_of, is_live, t2_of, when_live, with_aim, begun, after_command}
 use Rattle.requester_machine.specs.Session.Step.{Started, Asked}
-use Rattle.requester_machine.specs.Sending.{record_sent}
 use Rattle.requester_machine.specs.Shown.{after}
 use Rattle.requester_machine.proofs.Choosing.{free_id-in_range}
 use Rattle.requester_machine.proofs.MadeOrder.{in_order}
@@ -30,7 +29,6 @@ use Rattle.spdm_grammar.specs.Message.{RequestMessage, ExchangeMessage}
 use Rattle.spdm_grammar.specs.Message.RequestMessage.{PskExchange}
 use Rattle.spdm_grammar.specs.Requests.{canonical_request, request_in}
 use Rattle.spdm_grammar.specs.declared.event.ReqIgnored.{ReqIgnored}
-use Rattle.spdm_grammar.specs.declared.phase.Stage.TheVariants as stage
 use Rattle.spdm_machine.specs.Keys.{Draw, context_of}
 use Rattle.spdm_machine.specs.Session.{is_past_handshake}
 use Rattle.spdm_machine.specs.Setup.{ReqSetup}
@@ -40,18 +38,17 @@ use Rattle.spdm_agreement.specs.Claims.{IsReached}
 use Rattle.spdm_agreement.specs.Configured.{IsRequester}
 use Rattle.spdm_agreement.specs.Marks as marks
 use Rattle.spdm_agreement.specs.Marks.{Served, Text, next_asked, waiting}
-use Rattle.spdm_agreement.specs.Moves.{Move, State, IsRun}
 use Rattle.spdm_agreement.specs.Moves.Move.{Start}
 use Rattle.spdm_agreement.specs.Story.{asked_marks, command_marks, content_marks, exchange_id}
 use Rattle.spdm_agreement.proofs.AskingAccepts.{exchange_read}
 use Rattle.spdm_agreement.proofs.AskingChecks.{check_leads, ignored_is_check, stays}
-use Rattle.spdm_agreement.proofs.AskingClear.{IsClear, IsClearAim}
+use Rattle.spdm_agreement.proofs.AskingClear.{IsClear}
 use Rattle.spdm_agreement.proofs.AskingEntries.{CommandShape, IsAsked, IsBegun, IsClearAsk, told_shape, told_draw, no_clear_told, no_record_told}
 use Rattle.spdm_agreement.proofs.AskingHeld.{HeldAt, HeldWell, held_asked, held_past, held_past_sealed}
-use Rattle.spdm_agreement.proofs.AskingKept.{AskedKept, IsStarted, WaitingKept, AimKept, ClearKept, waiting_in, waiting_text, is_held, clear_kept, other_kept, record_kept, none_in, held_open, apart}
+use Rattle.spdm_agreement.proofs.AskingKept.{AskedKept, IsStarted, AimKept, ClearKept, waiting_in, waiting_text, is_held, clear_kept, other_kept, record_kept, none_in, held_open, apart}
 use Rattle.spdm_agreement.proofs.AskingMade.{stays_clear, is_finish, open_no_finish}
 use Rattle.spdm_agreement.proofs.AskingTalks.{at, says}
-use Rattle.spdm_agreement.proofs.Owed.{OwnLeads, IsDraw, AskedStep, AskedReady}
+use Rattle.spdm_agreement.proofs.Owed.{OwnLeads, IsDraw, AskedStep, AskedReady, AsksWell}
 use Rattle.spdm_agreement.proofs.Sessions.{reading_of, is_negotiated}
 use Rattle.transcript.specs.Transcripts as transcript
 
@@ -239,6 +236,17 @@ started q h d summary x b setup draw ready =
 
 -- ---- All commands.
 
+module _ (q : ReqSetup) (h : History) (served : List Served) (log : Log) (d : Draw) (ready : AskedReady AskedKept q h served log d) where
+  pub idle : (body : List ℕ) (o : Outcome) → after h o ≡ h → OwnLeads (reading_of q.psk) (at (asked_marks q h) served log) (at (asked_marks q h) served (acts_of q h body o ++ log)) → AskedStep AskedKept q h served log body d o
+  idle body o same leads = record {
+    leads = subst (λ (x : History). OwnLeads (reading_of q.psk) (at (asked_marks q h) served log) (at (asked_marks q x) served (acts_of q h body o ++ log))) (sym same) leads;
+    keeps = λ reached. subst (AskedKept q) (sym same) ready.kept;
+    draws = subst (λ (x : History). next_asked (asked_marks q x) + draws_of q h ≤ d.number + draws_of q x) (sym same) (let f = ready.fresh in omega arith);
+  }
+
+  pub ignored_step : (body : List ℕ) (cause : ReqIgnored) → AskedStep AskedKept q h served log body d (Ignores cause)
+  ignored_step body cause = idle body (Ignores cause) refl (check_leads (reading_of q.psk) (asked_marks q h) served _ log (ignored_is_check q h body cause))
+
 module _ (negotiates : Negotiates) (q : ReqSetup) (h : History) (served : List Served) (log : Log) (d : Draw) (ready : AskedReady AskedKept q h served log d) where
   told_leads : (c : Command) (x : Sent) → CommandShape q h (command_chosen q h d) c x → OwnLeads (reading_of q.psk) (at (asked_marks q h) served log) (at (command_marks h c x d ++ asked_marks q h) served (record_made q.psk (steps_at h x.aim) x.content ++ log))
   told_leads Connect x k = clear_leads q.psk (steps_at h x.aim) (steps_at h x.aim) (asked_marks q h) served log x.content k.content
@@ -311,21 +319,11 @@ module _ (negotiates : Negotiates) (q : ReqSetup) (h : History) (served : List S
   told_step : (c : Command) (x : Sent) → CommandShape q h (command_chosen q h d) c x → AskedStep AskedKept q h served log [] d (Adds (Told c x d))
   told_step c x k = record { leads = told_leads c x k; keeps = λ reached. told_kept c x k; draws = told_draws c x k }
 
-  pub idle : (body : List ℕ) (o : Outcome) → after h o ≡ h → OwnLeads (reading_of q.psk) (at (asked_marks q h) served log) (at (asked_marks q h) served (acts_of q h body o ++ log)) → AskedStep AskedKept q h served log body d o
-  idle body o same leads = record {
-    leads = subst (λ (x : History). OwnLeads (reading_of q.psk) (at (asked_marks q h) served log) (at (asked_marks q x) served (acts_of q h body o ++ log))) (sym same) leads;
-    keeps = λ reached. subst (AskedKept q) (sym same) ready.kept;
-    draws = subst (λ (x : History). next_asked (asked_marks q x) + draws_of q h ≤ d.number + draws_of q x) (sym same) (let f = ready.fresh in omega arith);
-  }
-
-  pub ignored_step : (body : List ℕ) (cause : ReqIgnored) → AskedStep AskedKept q h served log body d (Ignores cause)
-  ignored_step body cause = idle body (Ignores cause) refl (check_leads (reading_of q.psk) (asked_marks q h) served _ log (ignored_is_check q h body cause))
-
   asks_by : (c : Command) (o : Outcome) → requester_asks false q h c d ≡ o → AskedStep AskedKept q h served log [] d o
-  asks_by c (Fails fault) is = idle [] (Fails fault) refl (stays (reading_of q.psk) _)
-  asks_by c (Ignores cause) is = ignored_step [] cause
-  asks_by c (Warns code) is = idle [] (Warns code) refl (stays (reading_of q.psk) _)
-  asks_by c (Resends sent) is = idle [] (Resends sent) refl (stays (reading_of q.psk) _)
+  asks_by c (Fails fault) is = idle q h served log d ready [] (Fails fault) refl (stays (reading_of q.psk) _)
+  asks_by c (Ignores cause) is = ignored_step q h served log d ready [] cause
+  asks_by c (Warns code) is = idle q h served log d ready [] (Warns code) refl (stays (reading_of q.psk) _)
+  asks_by c (Resends sent) is = idle q h served log d ready [] (Resends sent) refl (stays (reading_of q.psk) _)
   asks_by c (Adds (Told command x d')) is =
       subst (λ (e : Draw). AskedStep AskedKept q h served log [] d (Adds (Told command x e))) (told_draw false q h c command (command_chosen q h d) d d' x is)
       (told_step command x (told_shape false q h c command (command_chosen q h d) d d' x is))
@@ -334,3 +332,7 @@ module _ (negotiates : Negotiates) (q : ReqSetup) (h : History) (served : List S
 
   pub asks_step : (c : Command) → AskedStep AskedKept q h served log [] d (requester_asks false q h c d)
   asks_step c = asks_by c (requester_asks false q h c d) refl
+
+-- Whatever command comes.
+pub asks_well : Negotiates → AsksWell AskedKept
+asks_well negotiates q h served log c d ready = asks_step negotiates q h served log d ready c

@@ -1,28 +1,28 @@
 -- What a requester did with each command, and with each body that came.
-use Rattle.std.proofs.Common.{◌≡◌, ◌⊎◌, ℕ, ◌+◌, List, [], ◌∷◌, length, drop, Bool, true, false, cond, Option, Some, None, is_some, refl, sym, ap, ◌∙◌, inl, inr, subst, true≢false}
-use Rattle.std.specs.Prelude.{Result, Ok, Err, ◌&&◌, not, nat_lt, slice_index, ◌||◌, ◌==◌}
-use Rattle.requester_machine.specs.Asking.{Outcome, asks, done, resent, asked_sent}
-use Rattle.requester_machine.specs.Asking.Outcome.{Fails, Ignores, Warns, Resends, Adds}
+use Rattle.std.proofs.Common.{◌≡◌, ℕ, List, length, drop, Bool, true, false, Option, Some, None, is_some, refl, sym, ap, ◌∙◌, subst, true≢false}
+use Rattle.std.specs.Prelude.{Result, Ok, Err, ◌&&◌, not, nat_lt, ◌||◌, ◌==◌}
+use Rattle.requester_machine.specs.Asking.{Outcome, asks, done, resent}
+use Rattle.requester_machine.specs.Asking.Outcome.{Adds}
 use Rattle.requester_machine.specs.Bodies.{body_fault, is_clear}
 use Rattle.requester_machine.specs.ClearAnswers.{carried_by, clear_led}
 use Rattle.requester_machine.specs.Commands.{Free, command_fault, exchange_for, needs_connection, session_in, is_nowhere, is_negotiated}
-use Rattle.requester_machine.specs.Hearing.{hears, hears_by, hears_to, on_record, record_outcome, came_to, clear_outcome, in_session}
-use Rattle.requester_machine.specs.History.{History, Entry, Led, outstanding, connection_terms, next_handle, phase_of}
+use Rattle.requester_machine.specs.Hearing.{hears, hears_by, hears_to, on_record, record_outcome, came_to, clear_outcome}
+use Rattle.requester_machine.specs.History.{History, Led, outstanding, connection_terms, next_handle, phase_of}
 use Rattle.requester_machine.specs.History.Entry.{Told, TookClear, TookRecord}
 use Rattle.requester_machine.specs.Message.{Command, Ask, Aim, Sent, asked_in}
 use Rattle.requester_machine.specs.Message.Aim.{Plain, ByChunks, ForChunk, InSession}
-use Rattle.requester_machine.specs.Message.Ask.{AskData, AskBeat, AskUpdate, AskMeasure, AskEnd, AskFinish, AskVerify, AskChunk}
+use Rattle.requester_machine.specs.Message.Ask.{AskData, AskBeat, AskUpdate, AskMeasure, AskEnd, AskVerify, AskChunk}
 use Rattle.requester_machine.specs.Message.Command.{Connect, Open, Send, Beat, Update, Measure, End, Retry}
 use Rattle.requester_machine.specs.Order.{stage_for}
 use Rattle.requester_machine.specs.Records.{answer_fault, answer_inner, asks_all}
 use Rattle.requester_machine.specs.Sending.{request_sent, piece_sent, plain_sent, record_sent, inner_request, inner_data, key_update, operation_of}
 use Rattle.requester_machine.specs.Session.{Steps, session_of, is_live}
-use Rattle.requester_machine.proofs.Entries.{asked, test_is_false, request_sent-asks}
+use Rattle.requester_machine.proofs.Entries.{asked, test_is_false}
 use Rattle.secured_record.specs.Format.{plain_text}
 use Rattle.spdm_basis.specs.declared.record_fault.RecordFault.{RecordFault}
 use Rattle.spdm_grammar.specs.Fields.{is_summary}
 use Rattle.spdm_grammar.specs.Message.{RequestMessage, ChunkMessage}
-use Rattle.spdm_grammar.specs.Message.RequestMessage.{GetVersion, GetMeasurements, Heartbeat, EndSession, ChunkGet}
+use Rattle.spdm_grammar.specs.Message.RequestMessage.{GetMeasurements, Heartbeat, EndSession, ChunkGet}
 use Rattle.spdm_grammar.specs.Requests.{canonical_request}
 use Rattle.spdm_grammar.specs.declared.event.ReqIgnored.{ReqIgnored}
 use Rattle.spdm_grammar.specs.declared.phase.Stage.TheVariants as stage

@@ -1,14 +1,13 @@
 -- Epochs, numbers and the waiting request of a session that a requester holds open, counted in its steps and in its marks.
-use Rattle.std.proofs.Common.{◌≡◌, ◌⊎◌, ℕ, ◌+◌, ◌-◌, List, [], ◌∷◌, drop, take, Bool, true, false, cond, Option, Some, None, ◌==◌, ◌&&◌, refl, sym, ap, ◌∙◌, subst, arith, true≢false, bytes_eq, suc, zero}
+use Rattle.std.proofs.Common.{◌≡◌, ℕ, ◌+◌, ◌-◌, List, [], ◌∷◌, drop, take, Bool, true, false, cond, Option, Some, None, ◌==◌, ◌&&◌, refl, sym, ap, ◌∙◌, arith, bytes_eq, suc, zero}
 use Rattle.std.specs.Prelude.{slice_index, ◌||◌}
-use Rattle.byteorder.specs.Endian.{little_number}
 use Rattle.key_schedule.specs.Purpose.{Purpose, application_record}
 use Rattle.key_schedule.specs.declared.direction.Direction.{Direction}
 use Rattle.key_schedule.specs.declared.direction.Direction.TheVariants.{Request, Response}
 use Rattle.requester_machine.specs.History.{Effect}
-use Rattle.requester_machine.specs.History.Effect.{Nothing, Answers, Refuses, Stops, Grants, Loses}
+use Rattle.requester_machine.specs.History.Effect.{Nothing, Grants}
 use Rattle.requester_machine.specs.Message.{Ask}
-use Rattle.requester_machine.specs.Message.Ask.{AskFinish, AskData, AskBeat, AskUpdate, AskVerify, AskMeasure, AskChunk, AskEnd}
+use Rattle.requester_machine.specs.Message.Ask.{AskFinish, AskUpdate}
 use Rattle.requester_machine.specs.Order.{may_bring, is_same}
 use Rattle.requester_machine.specs.Records.{request_purpose, response_purpose, answer_purpose, answer_number, asks_all}
 use Rattle.requester_machine.specs.Session.{Steps, stage_of, t1_of, t2_of, request_epoch, response_epoch, request_next, response_next, finishes, updates, updates_all}
@@ -19,11 +18,10 @@ use Rattle.spdm_machine.specs.Records.{purpose_in}
 use Rattle.spdm_machine.specs.Session.{is_past_handshake}
 use Rattle.spdm_agreement.specs.Marks as marks
 use Rattle.spdm_agreement.specs.Marks.{Text, Exchange, outstanding, heard, epoch_of, count_of, reply_number}
-use Rattle.spdm_agreement.specs.Reading.{First, Reading}
+use Rattle.spdm_agreement.specs.Reading.{First}
 use Rattle.spdm_agreement.proofs.AskingEntries.{RequestTells, asks_update}
-use Rattle.spdm_agreement.proofs.AskingMade.{is_finish}
 use Rattle.spdm_agreement.proofs.AskingRecord.{InnerTells}
-use Rattle.spdm_agreement.proofs.Sessions.{reading_of, is_message, is_update_of, operation_in}
+use Rattle.spdm_agreement.proofs.Sessions.{reading_of, is_message}
 use Rattle.spdm_agreement.proofs.Steps.{own_key}
 
 abbrev pub waits : Option Text → ℕ

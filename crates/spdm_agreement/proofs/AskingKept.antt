@@ -1,6 +1,6 @@
 -- What a requester's history keeps, beside that the requester made it: what is counted in each session that it holds is
 -- counted in its marks, and what waits is what its marks say.
-use Rattle.std.proofs.Common.{◌≡◌, ◌<◌, ◌^◌, ℕ, List, [], ◌∷◌, ◌++◌, length, Bool, true, false, cond, Option, Some, None, ◌==◌, ◌&&◌, refl, sym, ap, ◌∙◌, subst, eqb-true, true≢false, bytes_eq}
+use Rattle.std.proofs.Common.{◌≡◌, ◌<◌, ◌^◌, ℕ, List, [], ◌∷◌, length, Bool, true, false, cond, Option, Some, None, ◌==◌, ◌&&◌, refl, sym, ap, ◌∙◌, bytes_eq}
 use Rattle.std.proofs.lemmas.Slice.Eq.{bytes_eq-Decides}
 use Rattle.requester_machine.specs.Does.{IsMade}
 use Rattle.requester_machine.specs.History.{History, outstanding, negotiation_of, connection_terms}
@@ -20,7 +20,6 @@ use Rattle.spdm_machine.specs.Terms.{hash_len}
 use Rattle.transcript.specs.Transcripts.{Negotiation}
 use Rattle.spdm_agreement.specs.Claims.{IsReached}
 use Rattle.spdm_agreement.specs.Marks.{Served, Text, asked_open, waiting, finishing}
-use Rattle.spdm_agreement.specs.Reading.{First}
 use Rattle.spdm_agreement.specs.Story.{asked_marks, asked_first, sent_text}
 use Rattle.spdm_agreement.proofs.Asking.{asked_stands}
 use Rattle.spdm_agreement.proofs.AskingAccepts.{finish_inner}

@@ -1,20 +1,18 @@
 -- In a history that a requester made, what waits has a live session, and PSK_FINISH takes effect in the handshake alone.
-use Rattle.std.proofs.Common.{◌≡◌, ◌⊎◌, ℕ, List, [], ◌∷◌, Bool, true, false, cond, Option, Some, None, ◌==◌, not, refl, sym, ap, ◌∙◌, inl, inr, subst, true≢false, eqb-true, eq-eqb}
-use Rattle.requester_machine.specs.Answers.{goes_on, with_answer}
-use Rattle.requester_machine.specs.Does.{IsMade, command_chosen, body_chosen, chosen, free_id}
+use Rattle.std.proofs.Common.{◌≡◌, ℕ, List, [], ◌∷◌, Bool, true, false, cond, Option, Some, None, ◌==◌, not, refl, sym, ap, ◌∙◌, inl, inr, subst, true≢false, eqb-true, eq-eqb}
+use Rattle.requester_machine.specs.Does.{IsMade, command_chosen, body_chosen, chosen}
 use Rattle.requester_machine.specs.Commands.{Free, exchange_for}
 use Rattle.requester_machine.specs.History.{History, Effect, Led, outstanding, negotiation_of}
-use Rattle.requester_machine.specs.History.Effect.{Nothing, Answers, Refuses, Stops, Grants, Loses}
+use Rattle.requester_machine.specs.History.Effect.{Nothing, Answers, Grants, Loses}
 use Rattle.requester_machine.specs.History.Entry.{Told, TookClear, TookRecord}
 use Rattle.requester_machine.specs.Hearing.{came_to}
 use Rattle.requester_machine.specs.InnerMessages.{Came}
 use Rattle.requester_machine.specs.Message.{Command, Ask, Aim, Content, Sent, asked_in}
 use Rattle.requester_machine.specs.Message.Aim.{Plain, ByChunks, ForChunk, InSession}
-use Rattle.requester_machine.specs.Message.Ask.{AskFinish, AskData, AskBeat, AskUpdate, AskVerify, AskMeasure, AskChunk, AskEnd}
+use Rattle.requester_machine.specs.Message.Ask.{AskFinish, AskEnd}
 use Rattle.requester_machine.specs.Message.Command.{Connect, Open, Send, Beat, Update, Measure, End, Retry}
-use Rattle.requester_machine.specs.Order.{IsOrdered, IsInOrder, FitsWaits, Waits, waits_for, waits_aim, waits_asked, is_opening, waiting_ask, stage_for, may_bring}
+use Rattle.requester_machine.specs.Order.{IsOrdered, FitsWaits, Waits, waits_for, waits_aim, waits_asked, is_opening, waiting_ask, stage_for, may_bring}
 use Rattle.requester_machine.specs.Order.Waits.{Rests, ForExchange, ForRecord}
-use Rattle.requester_machine.specs.Sending.{record_sent, finish_sent}
 use Rattle.requester_machine.specs.Session.{Step, Steps, session_of, is_live, stage_of, finishes, ends, when_live, with_sent, with_aim, after_command, after_clear, after_record, begun, is_accepted}
 use Rattle.requester_machine.specs.Session.Step.{Started, Accepted, Asked, Took}
 use Rattle.requester_machine.proofs.MadeOrder.{in_order}
@@ -25,13 +23,13 @@ use Rattle.spdm_grammar.specs.declared.phase.Stage.{Stage}
 use Rattle.spdm_grammar.specs.declared.phase.Stage.TheVariants as stage
 use Rattle.spdm_machine.specs.Keys.{Draw}
 use Rattle.spdm_machine.specs.Responder.{clear_body, record_body}
-use Rattle.spdm_machine.specs.Session.{is_past_handshake, id_in_exchange}
+use Rattle.spdm_machine.specs.Session.{is_past_handshake}
 use Rattle.spdm_machine.specs.Setup.{ReqSetup}
 use Rattle.transcript.specs.Transcripts.{Negotiation}
-use Rattle.spdm_agreement.proofs.Asking.{IsSteady, CommandSteady, ClearSteady, RecordSteady, EndsByAnswer, NoFinish, NoFinishAim, NextGoesTo, TellsId}
-use Rattle.spdm_agreement.proofs.AskingClear.{IsClear, IsClearAim, NoExchange, NextClear, IsPlain, IsExchanged, IsAside, ClearLed}
-use Rattle.spdm_agreement.proofs.AskingEntries.{CommandShape, IsAsked, IsBegun, IsClearAsk, IsTookClear, IsTookRecord, told_shape, clear_entry, record_entry}
-use Rattle.spdm_agreement.proofs.AskingRecord.{IsAnswered, IsEnded, IsNext, NextRecord, RecordLed}
+use Rattle.spdm_agreement.proofs.Asking.{IsSteady, CommandSteady, ClearSteady, RecordSteady, EndsByAnswer, NoFinish, NoFinishAim, TellsId}
+use Rattle.spdm_agreement.proofs.AskingClear.{IsClearAim, NoExchange, NextClear, IsPlain}
+use Rattle.spdm_agreement.proofs.AskingEntries.{CommandShape, IsAsked, IsTookClear, IsTookRecord, told_shape, clear_entry, record_entry}
+use Rattle.spdm_agreement.proofs.AskingRecord.{NextRecord}
 
 -- ---- Aims.
 
@@ -301,8 +299,8 @@ live_for q h f body m led k exchange asks made =
 clear_steady : (q : ReqSetup) (h : History) (f : Free) (body m : List ℕ) (led : Led) → IsTookClear q h f body m led → IsMade q h → ClearSteady h led.effect led.next
 clear_steady q h f body m led k made = elim k.led_to [
   | inl x ↦ (let live = live_for q h f body m led k x.exchange x.asks made in
-    subst (λ (y : Led). ClearSteady h y.effect y.next) (sym x.is)
-    (live, ap is_past_handshake (opening_stage (session_of x.exchange.req_id h) (opened_for q h f body m led k x.exchange x.asks made live)), refl))
+      subst (λ (y : Led). ClearSteady h y.effect y.next) (sym x.is)
+      (live, ap is_past_handshake (opening_stage (session_of x.exchange.req_id h) (opened_for q h f body m led k x.exchange x.asks made live)), refl))
   | inr a ↦ aside_steady h led.effect led.next a.effect (next_no_finish k.asked led.effect led.next a.next)
 ]
 

@@ -1,19 +1,19 @@
 -- What a record leads to at a requester, once it opened: the session ends; or the record answers what was asked, and
 -- a further request may go out with it.
-use Rattle.std.proofs.Common.{◌≡◌, ◌⊎◌, ℕ, ◌+◌, List, [], ◌∷◌, drop, Bool, true, false, cond, Option, Some, None, refl, sym, ap, inl, inr, eq-eqb, eqb-true, subst}
+use Rattle.std.proofs.Common.{◌≡◌, ◌⊎◌, ℕ, ◌+◌, List, [], ◌∷◌, drop, Bool, true, false, cond, Option, Some, None, refl, inl, inr, eq-eqb, eqb-true}
 use Rattle.std.specs.Prelude.{Result, Ok, Err, ◌==◌, ◌&&◌, not, slice_index}
 use Rattle.chunking.specs.Collecting.{joined_with}
 use Rattle.requester_machine.specs.Answers.{is_refused}
 use Rattle.requester_machine.specs.ClearAnswers.{get_fault}
 use Rattle.requester_machine.specs.Commands.{Free, has_reached}
 use Rattle.requester_machine.specs.History.{History, Effect, Led}
-use Rattle.requester_machine.specs.History.Effect.{Nothing, Grants, Loses}
+use Rattle.requester_machine.specs.History.Effect.{Nothing, Grants}
 use Rattle.requester_machine.specs.InnerMessages.{Came, with_record, message_in, inner_fault, reading_of, error_led, first_get, follows, op_in, outlives_error, echoes, update_led, verified_led, whole_led, chunk_led, message_led, read_led, data_led, inner_led_by, inner_led, or_lost}
 use Rattle.requester_machine.specs.Message.{Ask, Sent}
 use Rattle.requester_machine.specs.Message.Ask.{AskFinish, AskData, AskBeat, AskUpdate, AskVerify, AskMeasure, AskChunk, AskEnd}
 use Rattle.requester_machine.specs.Order.{may_bring, is_same, stage_for}
 use Rattle.requester_machine.specs.Sending.{record_sent, inner_request, key_update, operation_of}
-use Rattle.requester_machine.specs.Session.{Steps, ends, finishes}
+use Rattle.requester_machine.specs.Session.{ends, finishes}
 use Rattle.requester_machine.proofs.Steps.{stage_behind}
 use Rattle.spdm_grammar.specs.Message.{ResponseMessage, ChunkMessage}
 use Rattle.spdm_grammar.specs.Message.RequestMessage.{ChunkGet}
@@ -23,7 +23,6 @@ use Rattle.spdm_grammar.specs.declared.malformed.Malformed.{Malformed}
 use Rattle.spdm_grammar.specs.declared.part_faults.ChunkFault.{ChunkFault}
 use Rattle.spdm_grammar.specs.declared.phase.Stage.TheVariants as stage
 use Rattle.spdm_machine.specs.Setup.{ReqSetup}
-use Rattle.spdm_machine.specs.Terms.{hash_len}
 use Rattle.spdm_agreement.proofs.AnswerCodes.{answer_code}
 use Rattle.spdm_agreement.proofs.AskingClear.{either}
 

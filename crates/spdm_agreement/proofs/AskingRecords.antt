@@ -1,32 +1,31 @@
 -- A record that a requester took, by what waited for it.
-use Rattle.std.proofs.Common.{◌≡◌, ◌⊎◌, ℕ, List, [], ◌∷◌, ◌++◌, drop, Bool, true, false, cond, Option, Some, None, ◌==◌, ◌&&◌, refl, sym, ap, ◌∙◌, inl, inr, subst, eqb-true, eq-eqb, true≢false, append_assoc, bytes_eq}
+use Rattle.std.proofs.Common.{◌≡◌, ℕ, List, [], ◌∷◌, ◌++◌, Bool, true, false, cond, Option, Some, None, ◌==◌, ◌&&◌, refl, sym, ap, ◌∙◌, inl, inr, subst, eq-eqb, true≢false, append_assoc}
 use Rattle.requester_machine.specs.Commands.{Free}
 use Rattle.requester_machine.specs.History.{History, Effect, Led, outstanding}
-use Rattle.requester_machine.specs.History.Effect.{Grants}
 use Rattle.requester_machine.specs.InnerMessages.{Came}
-use Rattle.requester_machine.specs.Message.{Ask, Aim, Content, Sent}
+use Rattle.requester_machine.specs.Message.{Ask, Aim, Sent}
 use Rattle.requester_machine.specs.Message.Aim.{InSession}
 use Rattle.requester_machine.specs.Message.Ask.{AskFinish, AskVerify}
-use Rattle.requester_machine.specs.Order.{may_bring, stage_for}
+use Rattle.requester_machine.specs.Order.{stage_for}
 use Rattle.requester_machine.specs.Records.{answer_fault, answer_inner}
-use Rattle.requester_machine.specs.RequesterLog.{sent_made, record_check, sealed_check}
-use Rattle.requester_machine.specs.Session.{Step, Steps, session_of, stage_of, t2_of, is_live, finishes, ends, when_live, with_sent, after_record, request_epoch, response_epoch}
-use Rattle.requester_machine.specs.Session.Step.{Took, Asked}
+use Rattle.requester_machine.specs.RequesterLog.{sent_made, record_check}
+use Rattle.requester_machine.specs.Session.{Steps, session_of, stage_of, t2_of, is_live, finishes, ends, when_live}
+use Rattle.requester_machine.specs.Session.Step.{Took}
 use Rattle.spdm_grammar.specs.declared.phase.Stage.{Stage}
 use Rattle.spdm_grammar.specs.declared.phase.Stage.TheVariants as stage
 use Rattle.spdm_machine.specs.Session.{is_past_handshake}
 use Rattle.spdm_machine.specs.Setup.{ReqSetup}
-use Rattle.spdm_machine.specs.TagLog.{Act, Log}
+use Rattle.spdm_machine.specs.TagLog.{Log}
 use Rattle.transcript.specs.Transcripts as transcript
 use Rattle.spdm_agreement.specs.Marks as marks
 use Rattle.spdm_agreement.specs.Marks.{Served, Text, asked_open, finishing}
-use Rattle.spdm_agreement.specs.Story.{asked_marks, asked_first, answer_text, next_marks, taken_marks, sent_text, ask_of, request_text, ask_in}
+use Rattle.spdm_agreement.specs.Story.{asked_marks, asked_first, answer_text, next_marks, taken_marks, sent_text}
 use Rattle.spdm_agreement.proofs.AskingChecks.{check_leads, record_is_check}
-use Rattle.spdm_agreement.proofs.AskingEntries.{RequestTells, IsTookRecord}
+use Rattle.spdm_agreement.proofs.AskingEntries.{RequestTells}
 use Rattle.spdm_agreement.proofs.AskingHeld.{HeldWell}
-use Rattle.spdm_agreement.proofs.AskingKept.{AskedKept, IsFinishing, WaitingKept, AimKept, RecordKept, waiting_text, kept_record, kept_finish}
+use Rattle.spdm_agreement.proofs.AskingKept.{AskedKept, IsFinishing, WaitingKept, RecordKept, waiting_text, kept_record, kept_finish}
 use Rattle.spdm_agreement.proofs.AskingMade.{is_finish, finishes_only}
-use Rattle.spdm_agreement.proofs.AskingRecord.{RecordLed, IsAnswered, IsEnded, NextRecord, InnerTells}
+use Rattle.spdm_agreement.proofs.AskingRecord.{RecordLed, IsAnswered, NextRecord}
 use Rattle.spdm_agreement.proofs.AskingReplies.{came_at, replies, opens_by, shaken}
 use Rattle.spdm_agreement.proofs.AskingTalks.{at}
 use Rattle.spdm_agreement.proofs.Owed.{OwnLeads}
@@ -103,9 +102,9 @@ finish_leads q h f id n exchange answer y m served log x sealed led waits opened
     let later = Took sealed inner led.effect ∷ s in
     elim shape [
       | inl a ↦ (let e = answered_finish q h f (came_at q id s AskFinish sealed) led a in
-        subst (λ (o : Option Sent). OwnLeads r (at m served log) (at (cond (finishes led.effect) (marks.Asked.Opened (asked_first s) (t2_of later) ∷ []) [] ++ m) served ((sent_made q.psk later o ++ record_check q s AskFinish sealed) ++ log))) (sym e.1)
-        (subst (λ (c : Bool). OwnLeads r (at m served log) (at (cond c (marks.Asked.Opened (asked_first s) (t2_of later) ∷ []) [] ++ m) served (record_check q s AskFinish sealed ++ log))) (sym e.0)
-        (opens_by q n exchange answer y m served log sealed led.effect waits opened e.0 a.tells)))
+          subst (λ (o : Option Sent). OwnLeads r (at m served log) (at (cond (finishes led.effect) (marks.Asked.Opened (asked_first s) (t2_of later) ∷ []) [] ++ m) served ((sent_made q.psk later o ++ record_check q s AskFinish sealed) ++ log))) (sym e.1)
+          (subst (λ (c : Bool). OwnLeads r (at m served log) (at (cond c (marks.Asked.Opened (asked_first s) (t2_of later) ∷ []) [] ++ m) served (record_check q s AskFinish sealed ++ log))) (sym e.0)
+          (opens_by q n exchange answer y m served log sealed led.effect waits opened e.0 a.tells)))
       | inr e ↦ subst (λ (o : Option Sent). OwnLeads r (at m served log) (at (cond (finishes led.effect) (marks.Asked.Opened (asked_first s) (t2_of later) ∷ []) [] ++ m) served ((sent_made q.psk later o ++ record_check q s AskFinish sealed) ++ log))) (sym e.next)
           (subst (λ (c : Bool). OwnLeads r (at m served log) (at (cond c (marks.Asked.Opened (asked_first s) (t2_of later) ∷ []) [] ++ m) served (record_check q s AskFinish sealed ++ log))) (sym e.opens)
           (check_leads r m served (record_check q s AskFinish sealed) log (record_is_check q s AskFinish sealed)))
@@ -122,7 +121,7 @@ RecordLeads q h served log id s o ask sealed inner led =
     OwnLeads (reading_of q.psk) (at (asked_marks q h) served log)
     (at (taken_marks (stage_of s) q s o sealed inner led ++ asked_marks q h) served ((sent_made q.psk (when_live s (Took sealed inner led.effect)) led.next ++ record_check q s ask sealed) ++ log))
 
-finish_is : (ask : Ask) → is_finish ask ≡ true → ask ≡ AskFinish
+pub finish_is : (ask : Ask) → is_finish ask ≡ true → ask ≡ AskFinish
 finish_is AskFinish e = refl
 finish_is _ e = absurd (cc)
 

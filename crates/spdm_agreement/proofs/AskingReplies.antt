@@ -1,40 +1,36 @@
 -- What a requester does with a record is a run of moves.
-use Rattle.std.proofs.Common.{◌≡◌, ◌⊎◌, ℕ, List, [], ◌∷◌, ◌++◌, drop, take, Bool, true, false, cond, Option, Some, None, ◌==◌, ◌&&◌, refl, sym, ap, ◌∙◌, inl, inr, subst, true≢false}
+use Rattle.std.proofs.Common.{◌≡◌, ℕ, List, [], ◌∷◌, ◌++◌, drop, take, Bool, true, false, cond, Option, Some, None, refl, sym, ap, ◌∙◌, inl, inr, subst}
 use Rattle.std.specs.Prelude.{slice_index}
 use Rattle.byteorder.specs.Endian.{little_number}
-use Rattle.requester_machine.specs.History.{History, Effect, Led, outstanding}
-use Rattle.requester_machine.specs.History.Effect.{Nothing, Answers, Refuses, Stops, Grants, Loses}
+use Rattle.requester_machine.specs.History.{History, Effect, Led}
+use Rattle.requester_machine.specs.History.Effect.{Grants}
 use Rattle.requester_machine.specs.InnerMessages.{Came, with_record}
 use Rattle.requester_machine.specs.Commands.{Free}
-use Rattle.requester_machine.specs.Message.{Ask, Aim, Content, Sent}
+use Rattle.requester_machine.specs.Message.{Ask, Sent}
 use Rattle.requester_machine.specs.Message.Ask.{AskFinish, AskVerify, AskChunk}
 use Rattle.requester_machine.specs.Order.{may_bring, stage_for}
 use Rattle.requester_machine.specs.Records.{answer_fault, answer_inner}
 use Rattle.requester_machine.specs.RequesterLog.{sent_made, record_check}
-use Rattle.requester_machine.specs.Session.{Step, Steps, session_vca, exchange_of, exchange_answer, finish_of, finish_answer, stage_of, t2_of, is_live, finishes, updates, verifies, answer_in, response_next, when_live}
+use Rattle.requester_machine.specs.Session.{Step, Steps, session_vca, exchange_of, exchange_answer, finish_of, finish_answer, stage_of, t2_of, finishes, answer_in}
 use Rattle.requester_machine.specs.Session.Step.{Started, Accepted, Asked, Took}
 use Rattle.requester_machine.proofs.Steps.{stage_behind}
 use Rattle.secured_record.specs.Format.{plain_text}
-use Rattle.spdm_grammar.specs.declared.phase.Stage.{Stage}
-use Rattle.spdm_grammar.specs.declared.phase.Stage.TheVariants as stage
 use Rattle.spdm_machine.specs.Session.{is_past_handshake}
 use Rattle.spdm_machine.specs.Setup.{ReqSetup}
-use Rattle.spdm_machine.specs.TagLog.{Act, Log}
+use Rattle.spdm_machine.specs.TagLog.{Log}
 use Rattle.transcript.specs.Transcripts as transcript
 use Rattle.spdm_agreement.specs.Marks as marks
 use Rattle.spdm_agreement.specs.Marks.{Served, Text, asked_open, finishing}
-use Rattle.spdm_agreement.specs.Moves.{State}
-use Rattle.spdm_agreement.specs.Reading.{First}
 use Rattle.spdm_agreement.specs.Story.{asked_first, answer_text, next_marks, content_marks}
 use Rattle.spdm_agreement.proofs.AskingAccepts.{finish_inner, opens}
-use Rattle.spdm_agreement.proofs.AskingChecks.{join, check_leads, record_is_check}
+use Rattle.spdm_agreement.proofs.AskingChecks.{join}
 use Rattle.spdm_agreement.proofs.AskingEntries.{RequestTells, verify_tells, chunk_tells}
 use Rattle.spdm_agreement.proofs.AskingHeld.{HeldAt, HeldWell, held_heard, update_told, text_tells}
 use Rattle.spdm_agreement.proofs.AskingMade.{is_finish, finishes_only}
-use Rattle.spdm_agreement.proofs.AskingRecord.{RecordLed, IsAnswered, IsEnded, IsNext, NextRecord, InnerTells}
+use Rattle.spdm_agreement.proofs.AskingRecord.{RecordLed, IsNext, NextRecord, InnerTells}
 use Rattle.spdm_agreement.proofs.AskingTalks.{at, says, hears, inner_as}
 use Rattle.spdm_agreement.proofs.Owed.{OwnLeads}
-use Rattle.spdm_agreement.proofs.Sessions.{reading_of, is_message, second_of, finish_reply, finish_message}
+use Rattle.spdm_agreement.proofs.Sessions.{reading_of, finish_reply}
 
 -- ---- A reply.
 
@@ -60,8 +56,8 @@ asks_past AskFinish e = absurd (cc)
 asks_past AskVerify e = refl
 asks_past _ e = refl
 
-next_no_finish : (q : ReqSetup) (h : History) (f : Free) (came : Came) (effect : Effect) (ask : Ask) (x : Sent) (n : IsNext q h f came effect ask x) → is_finish n.asks ≡ false
-next_no_finish q h f came effect ask x n = elim n.kind [ inl v ↦ ap is_finish v.0 | inr c ↦ ap is_finish c.4 ]
+pub next_is_no_finish : (q : ReqSetup) (h : History) (f : Free) (came : Came) (effect : Effect) (ask : Ask) (x : Sent) (n : IsNext q h f came effect ask x) → is_finish n.asks ≡ false
+next_is_no_finish q h f came effect ask x n = elim n.kind [ inl v ↦ ap is_finish v.0 | inr c ↦ ap is_finish c.4 ]
 
 pub next_tells : (q : ReqSetup) (h : History) (f : Free) (came : Came) (effect : Effect) (ask : Ask) (x : Sent) (n : IsNext q h f came effect ask x) → RequestTells n.asks (plain_text n.inner f.pad)
 next_tells q h f came effect ask x n = elim n.kind [
@@ -82,7 +78,7 @@ next_leads q h f id of y ys m served log ask b sealed effect (Some x) g is k t b
     let s = y ∷ ys in
     let later = Took sealed (answer_inner q.psk s ask sealed) effect ∷ s in
     let m' = marks.Asked.Heard (t2_of s) b (answer_text q.psk s ask sealed) ∷ m in
-    let past : is_past_handshake (stage_of later) ≡ true = ap is_past_handshake (ap (stage_behind effect) g ∙ n.fits) ∙ asks_past n.asks (next_no_finish q h f (came_at q id s ask sealed) effect ask x n) in
+    let past : is_past_handshake (stage_of later) ≡ true = ap is_past_handshake (ap (stage_behind effect) g ∙ n.fits) ∙ asks_past n.asks (next_is_no_finish q h f (came_at q id s ask sealed) effect ask x n) in
     subst (λ (z : Sent). OwnLeads (reading_of q.psk) (at m' served log) (at (content_marks later z.content ++ m') served (sent_made q.psk later (Some z) ++ log))) (sym n.is)
     (says q.psk later of m' served log n.inner f.pad past (is ∙ ap (λ (u : List ℕ). Some (asked_first s, u)) (same_second s sealed (answer_inner q.psk s ask sealed) effect other)) (replied_held q s m ask b sealed effect k t brings other tells))
 
@@ -111,7 +107,7 @@ replies q h f id y ys m served log ask b sealed led n g is k t opened shape =
 
 -- ---- PSK_FINISH_RSP.
 
-finish_effect : (effect : Effect) → finishes effect ≡ true → (a : List ℕ) × (effect ≡ Grants AskFinish a)
+pub finish_effect : (effect : Effect) → finishes effect ≡ true → (a : List ℕ) × (effect ≡ Grants AskFinish a)
 finish_effect (Grants AskFinish a) e = (a, refl)
 finish_effect (Grants _ a) e = absurd (cc)
 finish_effect _ e = absurd (cc)

@@ -1,34 +1,33 @@
 -- A request that a requester seals and a reply that it takes are moves.
-use Rattle.std.proofs.Common.{◌≡◌, ◌⊎◌, ℕ, List, [], ◌∷◌, ◌++◌, drop, take, Bool, true, false, cond, not, Option, Some, None, is_none, ◌&&◌, refl, sym, ap, ap₂, ◌∙◌, inl, inr, subst}
-use Rattle.std.specs.Prelude.{nat_lt, length, ◌-◌}
+use Rattle.std.proofs.Common.{◌≡◌, ℕ, List, [], ◌∷◌, ◌++◌, drop, take, Bool, true, false, cond, not, Option, Some, None, is_none, refl, sym, ap, ◌∙◌, inl}
 use Rattle.byteorder.specs.Endian.{little_number}
 use Rattle.key_schedule.specs.Purpose.{Purpose, key_of, iv_of}
-use Rattle.requester_machine.specs.Message.{Ask, Content}
-use Rattle.requester_machine.specs.Message.Content.{Clear, Sealed}
+use Rattle.requester_machine.specs.Message.{Ask}
+use Rattle.requester_machine.specs.Message.Content.{Sealed}
 use Rattle.requester_machine.specs.Records.{request_purpose, answer_purpose, answer_number, answer_fault, answer_inner, sealed_next}
 use Rattle.requester_machine.specs.RequesterLog.{record_made, record_check}
-use Rattle.requester_machine.specs.Session.{Steps, stage_of, t2_of, session_terms, id_bytes, request_next, is_live}
-use Rattle.secured_record.specs.Faults.{first_of_tests, header_fault, fault_behind, fault_of, is_authentic, tag_part, opened_text, inner_of}
+use Rattle.requester_machine.specs.Session.{Steps, stage_of, t2_of, session_terms, id_bytes, request_next}
+use Rattle.secured_record.specs.Faults.{header_fault, fault_behind, fault_of, is_authentic, tag_part}
 use Rattle.secured_record.specs.Format.{plain_text}
 use Rattle.secured_record.proofs.Same.{true-same}
 use Rattle.spdm_basis.specs.declared.record_fault.RecordFault.{RecordFault}
-use Rattle.spdm_basis.specs.declared.record_fault.RecordFault.TheVariants.{BadTag, BadInnerLength}
+use Rattle.spdm_basis.specs.declared.record_fault.RecordFault.TheVariants.{BadTag}
 use Rattle.spdm_grammar.specs.declared.choice.Choice.{Choice}
-use Rattle.spdm_machine.specs.Keys.{record_fault, inner_message}
+use Rattle.spdm_machine.specs.Keys.{record_fault}
 use Rattle.spdm_machine.specs.Session.{is_past_handshake}
 use Rattle.spdm_machine.specs.Setup.{ReqSetup}
-use Rattle.spdm_machine.specs.TagLog.{Act, Log, record_input, record_tag, made_record, checked_record}
+use Rattle.spdm_machine.specs.TagLog.{Act, Log, record_input, record_tag}
 use Rattle.spdm_machine.specs.TagLog.Act.{Made, Checked}
 use Rattle.spdm_agreement.specs.Marks as marks
 use Rattle.spdm_agreement.specs.Marks.{Served, Text, heard, outstanding, asked_open}
-use Rattle.spdm_agreement.specs.Moves.{Move, State, IsRun, IsPassed}
+use Rattle.spdm_agreement.specs.Moves.{State, IsPassed}
 use Rattle.spdm_agreement.specs.Moves.Move.{Say, Hear, Check}
-use Rattle.spdm_agreement.specs.Reading.{First, Reading, covered}
-use Rattle.spdm_agreement.specs.Story.{asked_first, answer_text, text_of}
+use Rattle.spdm_agreement.specs.Reading.{covered}
+use Rattle.spdm_agreement.specs.Story.{asked_first, answer_text}
 use Rattle.spdm_agreement.proofs.AskingEntries.{RequestTells}
 use Rattle.spdm_agreement.proofs.AskingHeld.{HeldWell, request_under, request_number, answer_under, answer_at}
 use Rattle.spdm_agreement.proofs.Owed.{OwnLeads}
-use Rattle.spdm_agreement.proofs.Sessions.{reading_of, first_terms, first_id, sealed_of}
+use Rattle.spdm_agreement.proofs.Sessions.{reading_of, sealed_of}
 use Rattle.spdm_agreement.proofs.Texts.{made_input, checked_input, inner_text}
 
 abbrev pub at : List marks.Asked → List Served → Log → State
@@ -99,8 +98,8 @@ passed_as psk s ask sealed log p n is under number =
     inl (
       under,
       checked_input (asked_first s) (answer_purpose psk s ask) (answer_number s ask) sealed l.0
-      ∙ ap (λ (x : Purpose). answer_number s ask ∷ sealed_of (asked_first s) x (answer_number s ask) (answer_text psk s ask sealed)) under
-      ∙ ap (λ (k : ℕ). k ∷ sealed_of (asked_first s) p k (answer_text psk s ask sealed)) number,
+          ∙ ap (λ (x : Purpose). answer_number s ask ∷ sealed_of (asked_first s) x (answer_number s ask) (answer_text psk s ask sealed)) under
+          ∙ ap (λ (k : ℕ). k ∷ sealed_of (asked_first s) p k (answer_text psk s ask sealed)) number,
       l.1,
     )
 
@@ -117,8 +116,11 @@ hears q s id m served log ask b sealed past is k tells opened =
     let u = t2_of s in (
       Check (answer_purpose q.psk s ask) (record_input (answer_number s ask) sealed) (tag_of_answer q.psk s ask sealed) (tag_part sealed) ∷ Hear (asked_first s) u b (answer_text q.psk s ask sealed) ∷ [],
       (tt, (tt, tt)),
-      (tt, (
-        ((id, is), k.outstanding, passed_as q.psk s ask sealed log (marks.reply_purpose r u ((b, r.granted) ∷ heard u m)) (marks.reply_number r ((b, r.granted) ∷ heard u m)) opened (answer_under q.psk s m ask b (Some b) past k tells) (answer_at q.psk s m ask b (Some b) k tells)),
-        ap (λ (l : List Act). at (marks.Asked.Heard u b (answer_text q.psk s ask sealed) ∷ m) served (l ++ log)) (sym (checked_as q s ask sealed opened)),
-      )),
+      (
+        tt,
+        (
+          ((id, is), k.outstanding, passed_as q.psk s ask sealed log (marks.reply_purpose r u ((b, r.granted) ∷ heard u m)) (marks.reply_number r ((b, r.granted) ∷ heard u m)) opened (answer_under q.psk s m ask b (Some b) past k tells) (answer_at q.psk s m ask b (Some b) k tells)),
+          ap (λ (l : List Act). at (marks.Asked.Heard u b (answer_text q.psk s ask sealed) ∷ m) served (l ++ log)) (sym (checked_as q s ask sealed opened)),
+        ),
+      ),
     )

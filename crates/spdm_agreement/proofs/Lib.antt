@@ -47,3 +47,7 @@ pub mod AskingAnswers
 pub mod AskingReplies
 pub mod AskingRecords
 pub mod AskingOpenly
+pub mod AskingRecordsKept
+pub mod AskingSteps
+pub mod AskingBodies
+pub mod AskingNegotiates
