@@ -38,32 +38,37 @@ abbrev pub asks_update : Ask → Bool
 asks_update (AskUpdate all) = true
 asks_update _ = false
 
--- The text of a request tells whether it asks for an update.
+abbrev pub asks_verify : Ask → Bool
+asks_verify AskVerify = true
+asks_verify _ = false
+
+-- The text of a request tells whether it asks for an update, or verifies one.
 pub record RequestTells (ask : Ask) (b : List ℕ) : Type 0 where
   pub update : (reply : List ℕ) → is_update_of (operation_in b == 1 || operation_in b == 2) (b, reply) ≡ (asks_update ask && is_message 0x69 reply)
   pub all : (reply : List ℕ) → is_update_of (operation_in b == 2) (b, reply) ≡ (asks_all ask && is_message 0x69 reply)
+  pub verify : (reply : List ℕ) → is_update_of (operation_in b == 3) (b, reply) ≡ (asks_verify ask && is_message 0x69 reply)
 
 pub data_tells : (bytes pad : List ℕ) → RequestTells AskData (plain_text (inner_data bytes) pad)
-data_tells bytes pad = record { update = λ reply. refl; all = λ reply. refl }
+data_tells bytes pad = record { update = λ reply. refl; all = λ reply. refl; verify = λ reply. refl }
 
 pub beat_tells : (pad : List ℕ) → RequestTells AskBeat (plain_text (inner_request Heartbeat) pad)
-beat_tells pad = record { update = λ reply. refl; all = λ reply. refl }
+beat_tells pad = record { update = λ reply. refl; all = λ reply. refl; verify = λ reply. refl }
 
 pub update_tells : (s : Steps) (all : Bool) (pad : List ℕ) → RequestTells (AskUpdate all) (plain_text (inner_request (key_update s (operation_of all))) pad)
-update_tells s true pad = record { update = λ reply. refl; all = λ reply. refl }
-update_tells s false pad = record { update = λ reply. refl; all = λ reply. refl }
+update_tells s true pad = record { update = λ reply. refl; all = λ reply. refl; verify = λ reply. refl }
+update_tells s false pad = record { update = λ reply. refl; all = λ reply. refl; verify = λ reply. refl }
 
 pub verify_tells : (s : Steps) (pad : List ℕ) → RequestTells AskVerify (plain_text (inner_request (key_update s 3)) pad)
-verify_tells s pad = record { update = λ reply. refl; all = λ reply. refl }
+verify_tells s pad = record { update = λ reply. refl; all = λ reply. refl; verify = λ reply. refl }
 
 pub measure_tells : (op : ℕ) (pad : List ℕ) → RequestTells (AskMeasure op) (plain_text (inner_request (GetMeasurements op)) pad)
-measure_tells op pad = record { update = λ reply. refl; all = λ reply. refl }
+measure_tells op pad = record { update = λ reply. refl; all = λ reply. refl; verify = λ reply. refl }
 
 pub chunk_tells : (op handle number : ℕ) (before : List ChunkMessage) (n : ℕ) (pad : List ℕ) → RequestTells (AskChunk op handle n before) (plain_text (inner_request (ChunkGet handle number)) pad)
-chunk_tells op handle number before n pad = record { update = λ reply. refl; all = λ reply. refl }
+chunk_tells op handle number before n pad = record { update = λ reply. refl; all = λ reply. refl; verify = λ reply. refl }
 
 pub end_tells : (pad : List ℕ) → RequestTells AskEnd (plain_text (inner_request EndSession) pad)
-end_tells pad = record { update = λ reply. refl; all = λ reply. refl }
+end_tells pad = record { update = λ reply. refl; all = λ reply. refl; verify = λ reply. refl }
 
 -- ---- Commands.
 

@@ -1,5 +1,5 @@
 -- Epochs, numbers and the waiting request of a session that a requester holds open, counted in its steps and in its marks.
-use Rattle.std.proofs.Common.{◌≡◌, ℕ, ◌+◌, ◌-◌, List, [], ◌∷◌, drop, take, Bool, true, false, cond, Option, Some, None, ◌==◌, ◌&&◌, refl, sym, ap, ◌∙◌, arith, bytes_eq, suc, zero}
+use Rattle.std.proofs.Common.{◌≡◌, ℕ, ◌+◌, ◌-◌, List, [], ◌∷◌, drop, take, Bool, true, false, cond, Option, Some, None, ◌==◌, ◌&&◌, refl, sym, ap, ◌∙◌, arith, bytes_eq, suc, zero, true≢false}
 use Rattle.std.specs.Prelude.{slice_index, ◌||◌}
 use Rattle.key_schedule.specs.Purpose.{Purpose, application_record}
 use Rattle.key_schedule.specs.declared.direction.Direction.{Direction}
@@ -7,10 +7,10 @@ use Rattle.key_schedule.specs.declared.direction.Direction.TheVariants.{Request,
 use Rattle.requester_machine.specs.History.{Effect}
 use Rattle.requester_machine.specs.History.Effect.{Nothing, Grants}
 use Rattle.requester_machine.specs.Message.{Ask}
-use Rattle.requester_machine.specs.Message.Ask.{AskFinish, AskUpdate}
+use Rattle.requester_machine.specs.Message.Ask.{AskFinish, AskUpdate, AskVerify}
 use Rattle.requester_machine.specs.Order.{may_bring, is_same}
 use Rattle.requester_machine.specs.Records.{request_purpose, response_purpose, answer_purpose, answer_number, asks_all}
-use Rattle.requester_machine.specs.Session.{Steps, stage_of, t1_of, t2_of, request_epoch, response_epoch, request_next, response_next, finishes, updates, updates_all}
+use Rattle.requester_machine.specs.Session.{Steps, stage_of, t1_of, t2_of, request_epoch, response_epoch, request_next, response_next, finishes, updates, updates_all, verifies}
 use Rattle.requester_machine.specs.Session.Step.{Asked, Took}
 use Rattle.spdm_grammar.specs.declared.phase.Stage.{Stage}
 use Rattle.spdm_grammar.specs.declared.phase.Stage.TheVariants as stage
@@ -19,8 +19,9 @@ use Rattle.spdm_machine.specs.Session.{is_past_handshake}
 use Rattle.spdm_agreement.specs.Marks as marks
 use Rattle.spdm_agreement.specs.Marks.{Text, Exchange, outstanding, heard, epoch_of, count_of, reply_number}
 use Rattle.spdm_agreement.specs.Reading.{First}
-use Rattle.spdm_agreement.proofs.AskingEntries.{RequestTells, asks_update}
+use Rattle.spdm_agreement.proofs.AskingEntries.{RequestTells, asks_update, asks_verify}
 use Rattle.spdm_agreement.proofs.AskingRecord.{InnerTells}
+use Rattle.spdm_agreement.proofs.Data.{is_verification, is_any_update, verifying}
 use Rattle.spdm_agreement.proofs.Sessions.{reading_of, is_message}
 use Rattle.spdm_agreement.proofs.Steps.{own_key}
 
@@ -28,13 +29,21 @@ abbrev pub waits : Option Text → ℕ
 waits None = 0
 waits (Some b) = 1
 
--- What is counted in the steps of a session is counted in the marks under a T2, and w waits.
+-- The last update is not verified yet.
+abbrev pub is_verifying : Stage → Bool
+is_verifying stage.Handshake = false
+is_verifying stage.Open = false
+is_verifying stage.Verifying = true
+
+-- What is counted in the steps of a session is counted in the marks under a T2, and w waits. Its stage is that of the
+-- exchanges under it.
 pub record HeldAt (psk u : List ℕ) (s : Steps) (m : List marks.Asked) (w : Option Text) : Type 0 where
   pub request_epoch : request_epoch s ≡ epoch_of (reading_of psk).is_update (heard u m)
   pub request_next : request_next s ≡ count_of (reading_of psk).is_update 0 (heard u m) + waits w
   pub response_epoch : response_epoch s ≡ epoch_of (reading_of psk).is_update_all (heard u m)
   pub response_next : response_next s ≡ count_of (reading_of psk).is_update_all 1 (heard u m)
   pub outstanding : outstanding u m ≡ w
+  pub stands : is_verifying (stage_of s) ≡ verifying (heard u m)
 
 abbrev pub HeldWell : List ℕ → Steps → List marks.Asked → Option Text → Type 0
 HeldWell psk s m w = HeldAt psk (t2_of s) s m w
@@ -132,6 +141,25 @@ brings_update (Grants _ a) (AskUpdate asked) e = absurd (cc)
 brings_update (Grants _ a) _ e = (refl, refl)
 brings_update _ ask e = absurd (cc)
 
+brings_verify : (effect : Effect) (ask : Ask) → may_bring effect ask ≡ true → asks_verify ask ≡ verifies effect
+brings_verify Nothing AskVerify e = absurd (cc)
+brings_verify Nothing _ e = refl
+brings_verify (Grants AskVerify a) AskVerify e = refl
+brings_verify (Grants AskVerify a) _ e = absurd (cc)
+brings_verify (Grants _ a) AskVerify e = absurd (cc)
+brings_verify (Grants _ a) _ e = refl
+brings_verify _ ask e = absurd (cc)
+
+inner_verifies : (effect : Effect) (n : ℕ) (text : List ℕ) → InnerTells effect (take n (drop 2 text)) → verifies effect ≡ true → is_message 0x69 text ≡ true
+inner_verifies (Grants AskVerify a) n text tells e = text_tells n text 0x68 tells.0 tells.1 refl
+inner_verifies (Grants _ a) n text tells e = absurd (cc)
+inner_verifies _ n text tells e = absurd (cc)
+
+no_both : (effect : Effect) → verifies effect ≡ true → updates effect ≡ false
+no_both (Grants AskVerify a) e = refl
+no_both (Grants _ a) e = absurd (cc)
+no_both _ e = absurd (cc)
+
 inner_updates : (effect : Effect) (n : ℕ) (text : List ℕ) → InnerTells effect (take n (drop 2 text)) → updates effect ≡ true → is_message 0x69 text ≡ true
 inner_updates (Grants (AskUpdate all) a) n text tells e = text_tells n text 0x68 tells.0 tells.1 refl
 inner_updates (Grants _ a) n text tells e = absurd (cc)
@@ -148,11 +176,12 @@ and_itself false d f = refl
 
 -- An exchange updates keys where the record that was taken says so.
 pub update_told : (psk : List ℕ) (effect : Effect) (ask : Ask) (b text : Text) (n : ℕ) → may_bring effect ask ≡ true → InnerTells effect (take n (drop 2 text)) → RequestTells ask b
-    → ((reading_of psk).is_update (b, text) ≡ updates effect) × ((reading_of psk).is_update_all (b, text) ≡ updates_all effect)
+    → ((reading_of psk).is_update (b, text) ≡ updates effect) × ((reading_of psk).is_update_all (b, text) ≡ updates_all effect) × (is_verification (b, text) ≡ verifies effect)
 update_told psk effect ask b text n brings tells t =
     let same = brings_update effect ask brings in (
       t.update text ∙ ap (λ (c : Bool). c && is_message 0x69 text) same.0 ∙ and_itself (updates effect) (is_message 0x69 text) (inner_updates effect n text tells),
       t.all text ∙ ap (λ (c : Bool). c && is_message 0x69 text) same.1 ∙ and_itself (updates_all effect) (is_message 0x69 text) (λ e. inner_updates effect n text tells (all_updates effect e)),
+      t.verify text ∙ ap (λ (c : Bool). c && is_message 0x69 text) (brings_verify effect ask brings) ∙ and_itself (verifies effect) (is_message 0x69 text) (inner_verifies effect n text tells),
     )
 
 -- ---- Marks.
@@ -173,11 +202,19 @@ responses_by true c d n k f e g = absurd (cc)
 responses_by false true d n k f e g = (rw e refl)
 responses_by false false d n k f e g = (rw e (omega arith))
 
+stages_by : (finish v up c d : Bool) (g : Stage) (k : Bool) → finish ≡ false → (v ≡ true → up ≡ false) → d ≡ up → c ≡ v → is_verifying g ≡ k
+    → is_verifying (cond (finish || v) stage.Open (cond up stage.Verifying g)) ≡ cond d true (cond c false k)
+stages_by true v up c d g k f n e o s = absurd (cc)
+stages_by false true true c d g k f n e o s = absurd (true≢false (n refl))
+stages_by false true false c d g k f n e o s = (rw e (rw o refl))
+stages_by false false true c d g k f n e o s = (rw e refl)
+stages_by false false false c d g k f n e o s = (rw e (rw o s))
+
 -- A reply is taken.
 pub held_heard : (psk u : List ℕ) (s : Steps) (m : List marks.Asked) (b reply sealed inner : List ℕ) (effect : Effect) → HeldAt psk u s m (Some b) → finishes effect ≡ false
-    → (reading_of psk).is_update (b, reply) ≡ updates effect → (reading_of psk).is_update_all (b, reply) ≡ updates_all effect
+    → (reading_of psk).is_update (b, reply) ≡ updates effect → (reading_of psk).is_update_all (b, reply) ≡ updates_all effect → is_verification (b, reply) ≡ verifies effect
     → HeldAt psk u (Took sealed inner effect ∷ s) (marks.Asked.Heard u b reply ∷ m) None
-held_heard psk u s m b reply sealed inner effect k other one all =
+held_heard psk u s m b reply sealed inner effect k other one all third =
     let e = heard_own u b reply m in
     let r = reading_of psk in
     record {
@@ -186,6 +223,7 @@ held_heard psk u s m b reply sealed inner effect k other one all =
       response_epoch = epochs_by (updates_all effect) (r.is_update_all (b, reply)) _ _ all k.response_epoch ∙ ap (epoch_of r.is_update_all) (sym e);
       response_next = responses_by (finishes effect) (updates_all effect) (r.is_update_all (b, reply)) _ _ other all k.response_next ∙ ap (count_of r.is_update_all 1) (sym e);
       outstanding = ap (λ (c : Bool). cond c None (outstanding u m)) (own_key u);
+      stands = stages_by (finishes effect) (verifies effect) (updates effect) (is_verification (b, reply)) (is_any_update (b, reply)) (stage_of s) (verifying (heard u m)) other (no_both effect) one third k.stands ∙ ap verifying (sym e);
     }
 
 -- A request is sealed.
@@ -196,6 +234,7 @@ held_asked psk u s m ask b sealed inner k = record {
   response_epoch = k.response_epoch;
   response_next = k.response_next;
   outstanding = ap (λ (c : Bool). cond c (Some b) (outstanding u m)) (own_key u);
+  stands = k.stands;
 }
 
 -- Other sessions have other T2.
@@ -206,6 +245,7 @@ held_past psk u v s m m' w e o k = record {
   response_epoch = k.response_epoch ∙ ap (epoch_of (reading_of psk).is_update_all) (sym e);
   response_next = k.response_next ∙ ap (count_of (reading_of psk).is_update_all 1) (sym e);
   outstanding = o ∙ k.outstanding;
+  stands = k.stands ∙ ap verifying (sym e);
 }
 
 pub held_past_heard : (psk u v : List ℕ) (s : Steps) (m : List marks.Asked) (b reply : Text) (w : Option Text) → bytes_eq u v ≡ false → HeldAt psk v s m w → HeldAt psk v s (marks.Asked.Heard u b reply ∷ m) w
@@ -233,4 +273,5 @@ held_opened psk u m answer sealed inner s e o f g = record {
   response_epoch = g ∙ ap (epoch_of (reading_of psk).is_update_all) (sym e);
   response_next = ap (count_of (reading_of psk).is_update_all 1) (sym e);
   outstanding = o;
+  stands = ap verifying (sym e);
 }

@@ -31,6 +31,7 @@ use Rattle.spdm_agreement.specs.Reading.{First}
 use Rattle.spdm_agreement.specs.Story.{asked_marks, command_marks, clear_marks, taken_marks, next_marks, content_marks, asked_first, sent_text, request_text, answer_text, ask_in}
 use Rattle.spdm_agreement.proofs.AskingClear.{IsClear}
 use Rattle.spdm_agreement.proofs.AskingEntries.{CommandShape, IsAsked, IsTookRecord, told_shape, record_entry}
+use Rattle.spdm_agreement.proofs.AskingHeld.{is_verifying}
 use Rattle.spdm_agreement.proofs.AskingKept.{AskedKept, is_held, waiting_text}
 use Rattle.spdm_agreement.proofs.AskingMade.{waited_for}
 use Rattle.spdm_agreement.proofs.AskingRecord.{NextRecord}
@@ -78,11 +79,6 @@ open_at : (q : ReqSetup) (h : History) (id : ℕ) → IsMade q h → is_some (ou
 open_at q h id made free live = open_by (session_of id h) (outstanding h) id free live (ordered q h id made).fits
 
 -- The stage of a session that is held open is told by the exchanges under its T2.
-abbrev pub is_verifying : Stage → Bool
-is_verifying stage.Handshake = false
-is_verifying stage.Open = false
-is_verifying stage.Verifying = true
-
 abbrev pub StagesStand : ReqSetup → History → Type 0
 StagesStand q h = (id : ℕ) → is_held (session_of id h) ≡ true → is_verifying (stage_of (session_of id h)) ≡ verifying (heard (t2_of (session_of id h)) (asked_marks q h))
 

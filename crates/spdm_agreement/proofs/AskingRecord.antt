@@ -30,6 +30,7 @@ use Rattle.spdm_agreement.proofs.AskingClear.{either}
 abbrev pub InnerTells : Effect → List ℕ → Type 0
 InnerTells (Grants AskFinish answer) inner = (slice_index inner 0 ≡ 5) × (slice_index (drop 1 inner) 1 ≡ 0x67) × (answer ≡ drop 1 inner)
 InnerTells (Grants (AskUpdate all) answer) inner = (slice_index inner 0 ≡ 5) × (slice_index (drop 1 inner) 1 ≡ 0x69)
+InnerTells (Grants AskVerify answer) inner = (slice_index inner 0 ≡ 5) × (slice_index (drop 1 inner) 1 ≡ 0x69)
 InnerTells _ inner = Unit {0}
 
 -- The request that goes out with an answer: VerifyNewKey behind an update; CHUNK_GET.
@@ -132,9 +133,9 @@ updated q h f came all true five code = inl (record {
 })
 updated q h f came all false five code = tt
 
-verified : (q : ReqSetup) (h : History) (f : Free) (came : Came) (echo : Bool) → RecordResult q h f came AskVerify (verified_led came echo)
-verified q h f came true = inl (record { brings = refl; stays = refl; tells = tt; next = refl })
-verified q h f came false = tt
+verified : (q : ReqSetup) (h : History) (f : Free) (came : Came) (echo : Bool) → slice_index came.inner 0 ≡ 5 → slice_index (message_in came) 1 ≡ 0x69 → RecordResult q h f came AskVerify (verified_led came echo)
+verified q h f came true five code = inl (record { brings = refl; stays = refl; tells = (five, code); next = refl })
+verified q h f came false five code = tt
 
 -- ---- A large answer.
 
@@ -174,7 +175,7 @@ message q h f came ask (Error version code detail extended) five r = error q h f
 message q h f came AskFinish PskFinishRsp five r = inl (record { brings = refl; stays = refl; tells = (five, answer_code _ false (message_in came) PskFinishRsp r, refl); next = refl })
 message q h f came AskBeat HeartbeatAck five r = inl (record { brings = refl; stays = refl; tells = tt; next = refl })
 message q h f came (AskUpdate all) (KeyUpdateAck op tag) five r = updated q h f came all (echoes came (operation_of all) op tag) five (answer_code _ false (message_in came) (KeyUpdateAck op tag) r)
-message q h f came AskVerify (KeyUpdateAck op tag) five r = verified q h f came (echoes came 3 op tag)
+message q h f came AskVerify (KeyUpdateAck op tag) five r = verified q h f came (echoes came 3 op tag) five (answer_code _ false (message_in came) (KeyUpdateAck op tag) r)
 message q h f came (AskMeasure op) (Measurements measured) five r = inl (record { brings = eq-eqb op op refl; stays = refl; tells = tt; next = refl })
 message q h f came AskEnd EndSessionAck five r = inr (record { ends_it = refl; opens = refl; next = refl })
 message q h f came (AskChunk op handle number before) (ChunkResponse c) five r = chunk q h f came op handle number before c (get_fault q.max handle number before c)

@@ -49,7 +49,7 @@ replied_held q s m ask b sealed effect k t brings other tells =
     let inner = answer_inner q.psk s ask sealed in
     let told = update_told q.psk effect ask b text (little_number 2 text) brings (subst (InnerTells effect) (inner_as q.psk s ask sealed) tells) t in
     subst (λ (u : List ℕ). HeldAt q.psk u (Took sealed inner effect ∷ s) (marks.Asked.Heard (t2_of s) b text ∷ m) None) (same_second s sealed inner effect other)
-    (held_heard q.psk (t2_of s) s m b text sealed inner effect k other told.0 told.1)
+    (held_heard q.psk (t2_of s) s m b text sealed inner effect k other told.0 told.1 told.2)
 
 asks_past : (ask : Ask) → is_finish ask ≡ false → is_past_handshake (stage_for ask) ≡ true
 asks_past AskFinish e = absurd (cc)
