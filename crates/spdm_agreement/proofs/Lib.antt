@@ -51,3 +51,4 @@ pub mod AskingRecordsKept
 pub mod AskingSteps
 pub mod AskingBodies
 pub mod AskingNegotiates
+pub mod AskingKeeps
