@@ -12,3 +12,4 @@ pub mod Codes
 pub mod Steady
 pub mod Example
 pub mod Asking
+pub mod ServingTurns

@@ -69,7 +69,7 @@ or_none : (a b : Option ErrorCode) → or_else a b ≡ None → a ≡ None
 or_none None b e = refl
 or_none (Some x) b e = absurd (cc)
 
-form_of : (r : RspSetup) (p : Place) (m : List ℕ) (f : Free) → refusal r p m f ≡ None → refused_form r p m ≡ None
+pub form_of : (r : RspSetup) (p : Place) (m : List ℕ) (f : Free) → refusal r p m f ≡ None → refused_form r p m ≡ None
 unfolding refusal
 form_of r p m f e = or_none (refused_form r p m) (refused_contents r p m f) e
 
