@@ -13,3 +13,5 @@ pub mod Steady
 pub mod Example
 pub mod Asking
 pub mod ServingTurns
+pub mod ServingMoves
+pub mod ServingRecords
