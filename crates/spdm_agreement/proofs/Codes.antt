@@ -113,7 +113,7 @@ body len spoken code known =
 
 -- ---- The whole request.
 
-second_byte : (m f g rest others : List ℕ) → m ≡ f ++ rest → rest ≡ g ++ others → length f ≡ 1 → length g ≡ 1 → slice_index m 1 ≡ little_number 1 g
+pub second_byte : (m f g rest others : List ℕ) → m ≡ f ++ rest → rest ≡ g ++ others → length f ≡ 1 → length g ≡ 1 → slice_index m 1 ≡ little_number 1 g
 second_byte m [] g rest others e e' n k = absurd (omega arith)
 second_byte m (x ∷ y ∷ f) g rest others e e' n k = absurd (omega arith)
 second_byte m (x ∷ []) [] rest others e e' n k = absurd (omega arith)

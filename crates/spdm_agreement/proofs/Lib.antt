@@ -8,10 +8,12 @@ pub mod Sessions
 pub mod Texts
 pub mod Pairs
 pub mod Serving
+pub mod ServingTurns
+pub mod ServingMoves
+pub mod ServingRecords
+pub mod ServingReplies
 pub mod Codes
 pub mod Steady
 pub mod Example
 pub mod Asking
-pub mod ServingTurns
-pub mod ServingMoves
-pub mod ServingRecords
+pub mod Owed

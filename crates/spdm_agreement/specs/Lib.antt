@@ -3,3 +3,4 @@ pub mod Marks
 pub mod Moves
 pub mod Claims
 pub mod Story
+pub mod Configured
