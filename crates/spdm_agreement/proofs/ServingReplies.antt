@@ -80,11 +80,16 @@ data_reply s inner f t x code = ap (λ (t : Turn). is_message code (reply_text t
 abbrev pub updates_in : ℕ → Effect → Bool
 updates_in operation e = updates operation (record { message = []; refused = None; chunk = None; effect = e; reply = [] })
 
+-- The test of the operation of a KEY_UPDATE that took effect.
+abbrev pub updated_by : (ℕ → Bool) → Option RequestMessage → Bool
+updated_by test (Some (KeyUpdate op tag)) = test op
+updated_by test _ = false
+
 acknowledges : (r : RspSetup) (s : Events) (m : List ℕ) (f : Free) (v : RequestMessage)
     → ((op : ℕ) × (tag : ℕ) × (v ≡ KeyUpdate op tag))
-    ⊎ ((is_message 0x69 (message_text (canonical_response (answer_of r (session_place s) m f v))) ≡ false) × ((operation : ℕ) (request answer : List ℕ) (large : Option ℕ) → updates_in operation (Took v request answer large) ≡ false))
+    ⊎ ((is_message 0x69 (message_text (canonical_response (answer_of r (session_place s) m f v))) ≡ false) × ((test : ℕ → Bool) → updated_by test (Some v) ≡ false))
 acknowledges r s m f (KeyUpdate op tag) = inl (op, tag, refl)
-acknowledges r s m f v = inr (refl, λ operation request answer large. refl)
+acknowledges r s m f v = inr (refl, λ test. refl)
 
 -- ---- The text of a request.
 
@@ -145,10 +150,75 @@ all_three true b false e f = absurd (true≢false (sym f))
 both_are : (a b : ℕ) → (a == b) ≡ true → (c d : ℕ) → (c == d) ≡ true → ((a == b) && (c == d)) ≡ true
 both_are a b e c d f = ap₂ (λ (x y : Bool). x && y) e f
 
--- The turn of a text and its reply: the operation is that of the text where both are of KEY_UPDATE, and else none took effect.
-abbrev pub TellsUpdates : List ℕ → Turn → Type 0
-TellsUpdates text t = (b : ℕ → Bool) → (b 0 ≡ false) → is_update_of (b (operation_in text)) (text, reply_text t) ≡ updated b t.effect
-  where
-    updated : (ℕ → Bool) → Effect → Bool
-    updated b (Took (KeyUpdate op tag) request answer large) = b op
-    updated b _ = false
+updated_refused : (r : RspSetup) (s : Events) (inner : List ℕ) (f : Free) (t : Turn) → RefusesTurn r s inner f t → (test : ℕ → Bool) → updated_by test (asked_in t.effect) ≡ false
+updated_refused r s inner f t x test = ap (λ (t : Turn). updated_by test (asked_in t.effect)) x.is
+
+updated_data : (s : Events) (inner : List ℕ) (f : Free) (t : Turn) → TakesData s inner f t → (test : ℕ → Bool) → updated_by test (asked_in t.effect) ≡ false
+updated_data s inner f t x test = ap (λ (t : Turn). updated_by test (asked_in t.effect)) x.is
+
+update_told : (r : RspSetup) (s : Events) (inner : List ℕ) (f : Free) (t : Turn) (n : ℕ) (text : List ℕ) → inner ≡ take n (drop 2 text) → IsRoomy s → (x : TakesRequest r s inner f t) → (op tag : ℕ) → x.value ≡ KeyUpdate op tag
+    → (is_message 0xe9 text ≡ true) × (operation_in text ≡ op) × (is_message 0x69 (reply_text t) ≡ true)
+update_told r s inner f t n text holds room x op tag is =
+    let m = drop 1 inner in
+    let spelled : request_in (hash_len (session_terms s)) m ≡ Some (KeyUpdate op tag) = x.spelled ∙ ap (λ (v : RequestMessage). Some v) is in
+    let kind : slice_index inner 0 ≡ 5 = eqb-true (slice_index inner 0) 5 x.typed in
+    let code : slice_index inner 2 ≡ 0xe9 = sym (index_dropped 1 inner 1) ∙ sym (code_read (hash_len (session_terms s)) m (KeyUpdate op tag) spelled) in
+    let told = operation_read (hash_len (session_terms s)) m op tag spelled in
+    let some = least op told.1 in
+    let third : slice_index inner 3 ≡ suc some.0 = sym (index_dropped 1 inner 2) ∙ told.0 ∙ some.1 in
+    let one : slice_index text 2 ≡ 5 = in_text n text inner 0 4 holds kind in
+    let two : slice_index text 4 ≡ 0xe9 = in_text n text inner 2 0xe8 holds code in
+    let three : slice_index text 5 ≡ suc some.0 = in_text n text inner 3 some.0 holds third in
+    let reply : t.reply ≡ canonical_response (KeyUpdateAck op tag) =
+    replies_whole r s inner f t x room (ap (λ (v : RequestMessage). length (canonical_response (answer_of r (session_place s) m f v))) is)
+    ∙ ap (λ (v : RequestMessage). canonical_response (answer_of r (session_place s) m f v)) is in
+    let quiet : is_data t.effect ≡ false = ap is_data (took r s inner f t x) in (
+      both_are (slice_index text 2) 5 (eq-eqb _ _ one) (slice_index text 4) 0xe9 (eq-eqb _ _ two),
+      three ∙ sym some.1,
+      ap (is_message 0x69) (reply_of t quiet) ∙ ap (λ (l : List ℕ). is_message 0x69 (message_text l)) reply,
+    )
+
+update_by : (r : RspSetup) (s : Events) (inner : List ℕ) (f : Free) (t : Turn) (n : ℕ) (text : List ℕ) → inner ≡ take n (drop 2 text) → IsRoomy s → (x : TakesRequest r s inner f t) → (test : ℕ → Bool)
+    → is_update_of (test (operation_in text)) (text, reply_text t) ≡ updated_by test (asked_in t.effect)
+update_by r s inner f t n text holds room x test = elim (acknowledges r s (drop 1 inner) f x.value) [
+  | inl u ↦ (let told = update_told r s inner f t n text holds room x u.0 u.1 u.2 in
+      all_three (is_message 0xe9 text) (test (operation_in text)) (is_message 0x69 (reply_text t)) told.0 told.2 ∙ ap test told.1
+      ∙ ap (λ (v : RequestMessage). updated_by test (Some v)) (sym u.2) ∙ ap (λ (e : Effect). updated_by test (asked_in e)) (sym (took r s inner f t x)))
+  | inr u ↦ (let quiet : is_data t.effect ≡ false = ap is_data (took r s inner f t x) in
+      let a = canonical_response (answer_of r (session_place s) (drop 1 inner) f x.value) in
+      let code : is_message 0x69 (reply_text t) ≡ false = ap (is_message 0x69) (reply_of t quiet) ∙ ap (λ (l : List ℕ). is_message 0x69 (message_text l)) (replies r s inner f t x)
+      ∙ sent_code (goes_large (session_place s) a) f.handle 0x69 (answer_of r (session_place s) (drop 1 inner) f x.value) refl u.0 in
+      not_third (is_message 0xe9 text) (test (operation_in text)) (is_message 0x69 (reply_text t)) code
+      ∙ sym (ap (λ (e : Effect). updated_by test (asked_in e)) (took r s inner f t x) ∙ u.1 test))
+]
+
+pub tells_updates : (r : RspSetup) (s : Events) (inner : List ℕ) (f : Free) (t : Turn) (n : ℕ) (text : List ℕ) → inner ≡ take n (drop 2 text) → IsRoomy s → TurnIs r s inner f t → (test : ℕ → Bool)
+    → is_update_of (test (operation_in text)) (text, reply_text t) ≡ updated_by test (asked_in t.effect)
+tells_updates r s inner f t n text holds room x test = elim x [
+  | inl a ↦ not_third (is_message 0xe9 text) (test (operation_in text)) (is_message 0x69 (reply_text t)) (refused_reply r s inner f t a 0x69 refl) ∙ sym (updated_refused r s inner f t a test)
+  | inr y ↦ elim y [
+    | inl a ↦ not_third (is_message 0xe9 text) (test (operation_in text)) (is_message 0x69 (reply_text t)) (data_reply s inner f t a 0x69) ∙ sym (updated_data s inner f t a test)
+    | inr a ↦ update_by r s inner f t n text holds room a test
+  ]
+]
+
+-- What is counted for the keys of a session.
+all_of : (e : Effect) → updated_by (λ n. n == 2) (asked_in e) ≡ updates_in 2 e
+all_of NoEffect = refl
+all_of (TookData bytes answer) = refl
+all_of (Took (KeyUpdate op tag) request answer large) = refl
+all_of (Took v request answer large) = refl
+
+any_of : (e : Effect) → updated_by (λ n. n == 1 || n == 2) (asked_in e) ≡ (updates_in 1 e || updates_in 2 e)
+any_of NoEffect = refl
+any_of (TookData bytes answer) = refl
+any_of (Took (KeyUpdate op tag) request answer large) = refl
+any_of (Took v request answer large) = refl
+
+pub tells_all : (r : RspSetup) (s : Events) (inner : List ℕ) (f : Free) (t : Turn) (n : ℕ) (text : List ℕ) → inner ≡ take n (drop 2 text) → IsRoomy s → TurnIs r s inner f t
+    → is_update_of (operation_in text == 2) (text, reply_text t) ≡ updates 2 t
+tells_all r s inner f t n text holds room x = tells_updates r s inner f t n text holds room x (λ n. n == 2) ∙ all_of t.effect
+
+pub tells_any : (r : RspSetup) (s : Events) (inner : List ℕ) (f : Free) (t : Turn) (n : ℕ) (text : List ℕ) → inner ≡ take n (drop 2 text) → IsRoomy s → TurnIs r s inner f t
+    → is_update_of (operation_in text == 1 || operation_in text == 2) (text, reply_text t) ≡ (updates 1 t || updates 2 t)
+tells_any r s inner f t n text holds room x = tells_updates r s inner f t n text holds room x (λ n. n == 1 || n == 2) ∙ any_of t.effect
