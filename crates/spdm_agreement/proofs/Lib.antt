@@ -12,6 +12,7 @@ pub mod ServingTurns
 pub mod ServingMoves
 pub mod ServingRecords
 pub mod ServingReplies
+pub mod ServingShakes
 pub mod Codes
 pub mod Steady
 pub mod Example
