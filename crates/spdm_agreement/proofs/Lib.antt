@@ -13,6 +13,7 @@ pub mod ServingMoves
 pub mod ServingRecords
 pub mod ServingReplies
 pub mod ServingShakes
+pub mod ServingFinish
 pub mod Codes
 pub mod Steady
 pub mod Example

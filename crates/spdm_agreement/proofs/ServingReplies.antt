@@ -34,13 +34,13 @@ whole : (s : Events) (answer : List ℕ) → IsRoomy s → length answer ≡ 4 �
 whole s answer room four = le-ltb (session_terms s).common.to_requester.transfer (0 + length answer) (omega arith)
 
 -- The reply to a request that is taken.
-replies : (r : RspSetup) (s : Events) (inner : List ℕ) (f : Free) (t : Turn) (x : TakesRequest r s inner f t) → t.reply ≡ sent_for (session_place s) f (canonical_response (answer_of r (session_place s) (drop 1 inner) f x.value))
+pub replies : (r : RspSetup) (s : Events) (inner : List ℕ) (f : Free) (t : Turn) (x : TakesRequest r s inner f t) → t.reply ≡ sent_for (session_place s) f (canonical_response (answer_of r (session_place s) (drop 1 inner) f x.value))
 unfolding answer_bytes
 replies r s inner f t x =
     let m = drop 1 inner in
     ap (λ (t : Turn). t.reply) x.is ∙ ap (λ (o : Option RequestMessage). sent_for (session_place s) f (answer_to r (session_place s) m f o)) x.spelled
 
-answers : (r : RspSetup) (s : Events) (inner : List ℕ) (f : Free) (t : Turn) (x : TakesRequest r s inner f t) → answer_in t.effect ≡ canonical_response (answer_of r (session_place s) (drop 1 inner) f x.value)
+pub answers : (r : RspSetup) (s : Events) (inner : List ℕ) (f : Free) (t : Turn) (x : TakesRequest r s inner f t) → answer_in t.effect ≡ canonical_response (answer_of r (session_place s) (drop 1 inner) f x.value)
 unfolding answer_bytes
 answers r s inner f t x =
     let m = drop 1 inner in
@@ -66,7 +66,7 @@ sent_code : (b : Bool) (handle code : ℕ) (v : ResponseMessage) → (0x7f == co
 sent_code true handle code v other e = other
 sent_code false handle code v other e = e
 
-reply_of : (t : Turn) → is_data t.effect ≡ false → reply_text t ≡ message_text t.reply
+pub reply_of : (t : Turn) → is_data t.effect ≡ false → reply_text t ≡ message_text t.reply
 reply_of t none = ap (λ (b : Bool). plain_text (cond b 1 5 ∷ t.reply) []) none
 
 pub refused_reply : (r : RspSetup) (s : Events) (inner : List ℕ) (f : Free) (t : Turn) → RefusesTurn r s inner f t → (code : ℕ) → (0x7f == code) ≡ false → is_message code (reply_text t) ≡ false
