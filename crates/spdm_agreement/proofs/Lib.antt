@@ -14,6 +14,7 @@ pub mod ServingRecords
 pub mod ServingReplies
 pub mod ServingShakes
 pub mod ServingFinish
+pub mod ServingSteps
 pub mod Codes
 pub mod Steady
 pub mod Example
