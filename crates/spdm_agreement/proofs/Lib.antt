@@ -15,6 +15,7 @@ pub mod ServingReplies
 pub mod ServingShakes
 pub mod ServingFinish
 pub mod ServingSteps
+pub mod ServingCounts
 pub mod Codes
 pub mod Steady
 pub mod Example
