@@ -16,6 +16,7 @@ pub mod ServingShakes
 pub mod ServingFinish
 pub mod ServingSteps
 pub mod ServingCounts
+pub mod ServingDoes
 pub mod Codes
 pub mod Steady
 pub mod Example

@@ -37,7 +37,7 @@ pub record Counts (psk : List ℕ) (s : Events) (m : List Served) : Type 0 where
   pub response_epoch : response_epoch s ≡ epoch_of (reading_of psk).is_update_all (taken (t2_of s) m)
   pub response_next : response_next s ≡ count_of (reading_of psk).is_update_all 1 (taken (t2_of s) m)
 
-abbrev state : List Asked → List Served → Log → State
+abbrev pub state : List Asked → List Served → Log → State
 state asked served log = record { asked = asked; served = served; log = log }
 
 both_checks : (a b : List Act) → AreChecks a → AreChecks b → AreChecks (a ++ b)
@@ -46,15 +46,15 @@ both_checks (Act.Checked p i v w ∷ a) b x y = both_checks a b x y
 both_checks (Made p i v ∷ a) b x y = absurd x
 
 -- What was compared before the reply is sealed.
-abbrev compared : RspSetup → Events → List ℕ → List Act
+abbrev pub compared : RspSetup → Events → List ℕ → List Act
 compared r s sealed = inner_acts r s (opened r.psk s sealed) ++ record_check r s sealed
 
-compares : (r : RspSetup) (s : Events) (sealed : List ℕ) (asked : List Asked) (m : List Served) (log : Log) → IsMoved (reading_of r.psk) (state asked m log) (state asked m (compared r s sealed ++ log))
+pub compares : (r : RspSetup) (s : Events) (sealed : List ℕ) (asked : List Asked) (m : List Served) (log : Log) → IsMoved (reading_of r.psk) (state asked m log) (state asked m (compared r s sealed ++ log))
 compares r s sealed asked m log =
     checks (reading_of r.psk) asked m (compared r s sealed) log (both_checks (inner_acts r s (opened r.psk s sealed)) (record_check r s sealed) (inner_checks r s (opened r.psk s sealed)) (check_checks r s sealed))
 
 -- The tag of the record was right.
-passes : (r : RspSetup) (s : Events) (sealed : List ℕ) (log : Log) (p : Purpose) (number : ℕ) → opening_fault r.psk s sealed ≡ None → records.request_purpose r.psk s ≡ p → request_next s ≡ number
+pub passes : (r : RspSetup) (s : Events) (sealed : List ℕ) (log : Log) (p : Purpose) (number : ℕ) → opening_fault r.psk s sealed ≡ None → records.request_purpose r.psk s ≡ p → request_next s ≡ number
     → IsPassed p (covered (reading_of r.psk) (served_first s) p number (taken_text r.psk s sealed)) (compared r s sealed ++ log)
 passes r s sealed log p number opens is_p is_number =
     let text = taken_text r.psk s sealed in
@@ -96,7 +96,7 @@ same_purpose false p epoch e = refl
 shake_reply : (r : RspSetup) (s : Events) (t : Turn) → stage_of s ≡ stage.Handshake → updates 2 t ≡ false → records.reply_purpose r.psk s t ≡ response_shake (reading_of r.psk) (served_first s)
 shake_reply r s t shakes quiet = same_purpose (updates 2 t) (records.response_purpose r.psk s) (response_epoch s + 1) quiet ∙ ap (λ (g : Stage). purpose_in g r.psk (t1_of s) (t2_of s) Response (response_epoch s)) shakes
 
-shake_request : (r : RspSetup) (s : Events) → stage_of s ≡ stage.Handshake → records.request_purpose r.psk s ≡ request_shake (reading_of r.psk) (served_first s)
+pub shake_request : (r : RspSetup) (s : Events) → stage_of s ≡ stage.Handshake → records.request_purpose r.psk s ≡ request_shake (reading_of r.psk) (served_first s)
 shake_request r s shakes = ap (λ (g : Stage). purpose_in g r.psk (t1_of s) (t2_of s) Request (request_epoch s)) shakes
 
 finishes : (r : RspSetup) (s : Events) (f : Free) (sealed : List ℕ) (t : Turn) (reply : List ℕ) (asked : List Asked) (m : List Served) (log : Log) → Opens r s f sealed t reply → stage_of s ≡ stage.Handshake → ShakesAt s m → takes 0xe7 t ≡ true
