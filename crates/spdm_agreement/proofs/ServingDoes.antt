@@ -34,7 +34,7 @@ use Rattle.spdm_agreement.proofs.Invariant.{Invariant}
 use Rattle.spdm_agreement.proofs.Owed.{IsDraw, OwnLeads, serves_state, ServedReady, ServedStep, DoesWell, ServedStarts, Waits}
 use Rattle.spdm_agreement.proofs.Runs.{IsGood, run_good, starts_good, shaken, untaken}
 use Rattle.spdm_agreement.proofs.Serving.{ServedAt, served_stands, EndsByFinish}
-use Rattle.spdm_agreement.proofs.Steady.{made_steady}
+use Rattle.spdm_agreement.proofs.Steady.{made_steady, ends, takes_session}
 use Rattle.spdm_agreement.proofs.Sessions.{reading_of, is_sound_first, second_of}
 use Rattle.spdm_agreement.proofs.ServingMoves.{IsMoved, stays, moves_by, checks}
 use Rattle.spdm_agreement.proofs.ServingRecords.{unopened_checks, opened_inner}
@@ -212,3 +212,109 @@ session_at r h of e s made well is =
       served = subst (λ (x : Events). ServedAt r.psk of x (served_marks r h)) is (served_stands r.psk r h steady of);
       room = subst IsRoomy is (well.room h made of (ap is_live is));
     }
+
+-- The record that answers, and the turn.
+abbrev record_turn : RspSetup → History → Events → List ℕ → Draw → Turn
+record_turn r h s sealed d = session_turn r s (opened r.psk s sealed) (record_chosen r h sealed d)
+
+abbrev record_reply : RspSetup → History → Events → List ℕ → Draw → List ℕ
+record_reply r h s sealed d = reply_record r.psk s (record_turn r h s sealed d) (inner_reply (record_turn r h s sealed d)) (record_chosen r h sealed d).pad
+
+record_opens : (r : RspSetup) (h : History) (e : Event) (s : Events) (sealed : List ℕ) (d : Draw) → IsSession r h (id_in_record sealed) e s → opening_fault r.psk (e ∷ s) sealed ≡ None
+    → Opens r (e ∷ s) (record_chosen r h sealed d) sealed (record_turn r h (e ∷ s) sealed d) (record_reply r h (e ∷ s) sealed d)
+record_opens r h e s sealed d x none =
+    let f = record_chosen r h sealed d in
+    let t = record_turn r h (e ∷ s) sealed d in
+    record {
+      live = refl;
+      opens = none;
+      room = x.room;
+      turn = turn_case r (e ∷ s) (opened r.psk (e ∷ s) sealed) f;
+      answers = ap (λ (pad : List ℕ). reply_record r.psk (e ∷ s) t (inner_reply t) pad) (no_pad r h sealed d);
+    }
+
+record_leads : (r : RspSetup) (h : History) (asked : List Asked) (log : Log) (e : Event) (s : Events) (sealed : List ℕ) (d : Draw) → AreCounted r h → IsSession r h (id_in_record sealed) e s → opening_fault r.psk (e ∷ s) sealed ≡ None
+    → IsMoved (reading_of r.psk) (serves_state r h asked log)
+    (state asked (record_marks r (e ∷ s) sealed (record_turn r h (e ∷ s) sealed d) (record_reply r h (e ∷ s) sealed d) ++ served_marks r h) (opened_acts r (e ∷ s) sealed (record_turn r h (e ∷ s) sealed d) (record_reply r h (e ∷ s) sealed d) ++ log))
+record_leads r h asked log e s sealed d kept x none =
+    let of = id_in_record sealed in
+    record_moves r of (e ∷ s) (record_chosen r h sealed d) sealed (record_turn r h (e ∷ s) sealed d) (record_reply r h (e ∷ s) sealed d) asked (served_marks r h) log (record_opens r h e s sealed d x none) x.at
+    (λ past. (x.served.told past, (subst (λ (y : Events). IsCounted r.psk y (served_marks r h)) x.is (kept of)).counts past))
+
+record_kept : (r : RspSetup) (h : History) (asked : List Asked) (log : Log) (tag : ℕ) (e : Event) (s : Events) (sealed : List ℕ) (d : Draw) → ServedReady AreCounted r h asked log d → IsSession r h (id_in_record sealed) e s → opening_fault r.psk (e ∷ s) sealed ≡ None
+    → NoChance (opened_acts r (e ∷ s) sealed (record_turn r h (e ∷ s) sealed d) (record_reply r h (e ∷ s) sealed d) ++ log)
+    → AreCounted r (Sealed tag sealed (record_turn r h (e ∷ s) sealed d) (record_reply r h (e ∷ s) sealed d) d ∷ h)
+unfolding session_of
+record_kept r h asked log tag e s sealed d ready x none chance = λ id.
+    (let of = id_in_record sealed in
+    let f = record_chosen r h sealed d in
+    let t = record_turn r h (e ∷ s) sealed d in
+    let reply = record_reply r h (e ∷ s) sealed d in
+    let inner = opened r.psk (e ∷ s) sealed in
+    let steady = ends r (e ∷ s) (drop 1 inner) sealed t reply (stage_of (e ∷ s)) refl (takes_session r (e ∷ s) inner f) in
+    let n = chance.1 in
+    let k = compared_keeps r (e ∷ s) sealed asked (served_marks r h) log ready.reached n in
+    subst (λ (y : Events). IsCounted r.psk (cond (of == id) (after_record (session_of id h) sealed t reply) (session_of id h)) (record_marks r y sealed t reply ++ served_marks r h)) (sym x.is)
+    (kept_by r h id of e s f sealed t reply asked log (of == id) refl x.is (record_opens r h e s sealed d x none) steady x.at x.served (served_stands r.psk r h (made_steady r h ready.made) id) k n ready.kept))
+
+adds_record : (r : RspSetup) (h : History) (asked : List Asked) (log : Log) (body : List ℕ) (tag : ℕ) (e : Event) (s : Events) (sealed : List ℕ) (d : Draw) → ServedReady AreCounted r h asked log d → IsSession r h (id_in_record sealed) e s → opening_fault r.psk (e ∷ s) sealed ≡ None
+    → ServedStep AreCounted r h asked log body d (Adds (Sealed tag sealed (record_turn r h (e ∷ s) sealed d) (record_reply r h (e ∷ s) sealed d) d))
+adds_record r h asked log body tag e s sealed d ready x none =
+    let t = record_turn r h (e ∷ s) sealed d in
+    let reply = record_reply r h (e ∷ s) sealed d in
+    let of = id_in_record sealed in
+    record {
+      leads = subst (λ (y : Events). OwnLeads (reading_of r.psk) (serves_state r h asked log) (state asked (record_marks r y sealed t reply ++ served_marks r h) (opened_acts r y sealed t reply ++ log))) (sym x.is)
+          (leads_by (reading_of r.psk) _ _ (record_leads r h asked log e s sealed d ready.kept x none));
+      keeps = λ reached. record_kept r h asked log tag e s sealed d ready x none (subst (λ (y : Events). NoChance (opened_acts r y sealed t reply ++ log)) x.is reached.no_chance);
+      draws = sealed_draws r h asked log (session_of of h) sealed t reply d ready;
+    }
+
+in_session_step : (r : RspSetup) (h : History) (asked : List Asked) (log : Log) (body : List ℕ) (tag : ℕ) (phase : Phase) (e : Event) (s : Events) (sealed : List ℕ) (d : Draw) (o : Option RecordFault) → opening_fault r.psk (e ∷ s) sealed ≡ o
+    → ServedReady AreCounted r h asked log d → IsSession r h (id_in_record sealed) e s → ServedStep AreCounted r h asked log body d (in_session_by r phase (e ∷ s) (record_chosen r h sealed d) tag sealed d o)
+in_session_step r h asked log body tag phase e s sealed d (Some fault) is ready x = unopened r h asked log body d (decrypt_error phase) ready
+in_session_step r h asked log body tag phase e s sealed d None is ready x = adds_record r h asked log body tag e s sealed d ready x is
+
+live_step : (r : RspSetup) (h : History) (asked : List Asked) (log : Log) (body : List ℕ) (tag : ℕ) (phase : Phase) (e : Event) (s : Events) (sealed : List ℕ) (d : Draw) (b : Bool)
+    → ServedReady AreCounted r h asked log d → IsSession r h (id_in_record sealed) e s
+    → ServedStep AreCounted r h asked log body d (cond b (Same (record_body (kept_record (last_of (e ∷ s))))) (in_session r phase (e ∷ s) (record_chosen r h sealed d) tag sealed d))
+unfolding in_session
+live_step r h asked log body tag phase e s sealed d true ready x = same r h asked log body d _ ready
+live_step r h asked log body tag phase e s sealed d false ready x = in_session_step r h asked log body tag phase e s sealed d (opening_fault r.psk (e ∷ s) sealed) refl ready x
+
+session_step : (r : RspSetup) (h : History) (asked : List Asked) (log : Log) (body : List ℕ) (tag : ℕ) (phase : Phase) (s : Events) (sealed : List ℕ) (d : Draw) → session_of (id_in_record sealed) h ≡ s → BeginsWell r
+    → ServedReady AreCounted r h asked log d → ServedStep AreCounted r h asked log body d (to_session r phase s (record_chosen r h sealed d) tag sealed d)
+session_step r h asked log body tag phase [] sealed d is well ready = unopened r h asked log body d (decrypt_error phase) ready
+session_step r h asked log body tag phase (e ∷ s) sealed d is well ready =
+    live_step r h asked log body tag phase e s sealed d (repeats (last_of (e ∷ s)) sealed) ready (session_at r h (id_in_record sealed) e s ready.made well is)
+
+record_by : (r : RspSetup) (h : History) (asked : List Asked) (log : Log) (body : List ℕ) (tag : ℕ) (sealed : List ℕ) (d : Draw) (b : Bool) → BeginsWell r → ServedReady AreCounted r h asked log d
+    → ServedStep AreCounted r h asked log body d (cond b (Same (record_body (kept_record (ended_of h)))) (to_session r (phase_of (clear_turns h)) (session_of (id_in_record sealed) h) (record_chosen r h sealed d) tag sealed d))
+record_by r h asked log body tag sealed d true well ready = same r h asked log body d _ ready
+record_by r h asked log body tag sealed d false well ready = session_step r h asked log body tag (phase_of (clear_turns h)) (session_of (id_in_record sealed) h) sealed d refl well ready
+
+record_step : (r : RspSetup) (h : History) (asked : List Asked) (log : Log) (body : List ℕ) (tag : ℕ) (sealed : List ℕ) (d : Draw) → BeginsWell r → ServedReady AreCounted r h asked log d
+    → ServedStep AreCounted r h asked log body d (record_does r h tag sealed d)
+unfolding on_record
+record_step r h asked log body tag sealed d well ready = record_by r h asked log body tag sealed d (repeats (ended_of h) sealed) well ready
+
+-- ---- All bodies.
+
+does_by : (r : RspSetup) (h : History) (asked : List Asked) (log : Log) (tag : ℕ) (body : List ℕ) (d : Draw) (b : Bool) → BeginsWell r → ServedReady AreCounted r h asked log d
+    → ServedStep AreCounted r h asked log body d (cond b (clear_does r h tag (drop 1 body) d) (record_does r h tag (drop 1 body) d))
+does_by r h asked log tag body d true well ready = clear_step r h asked log body tag (drop 1 body) d well ready
+does_by r h asked log tag body d false well ready = record_step r h asked log body tag (drop 1 body) d well ready
+
+pub does_where : (r : RspSetup) (h : History) (asked : List Asked) (log : Log) (tag : ℕ) (body : List ℕ) (d : Draw) → BeginsWell r → ServedReady AreCounted r h asked log d
+    → ServedStep AreCounted r h asked log body d (responder_does r h tag body d)
+does_where r h asked log tag body d well ready = does_by r h asked log tag body d (slice_index body 0 == 5) well ready
+
+-- ---- The beginning, queued data and time.
+
+pub served_starts : ServedStarts AreCounted
+unfolding session_of
+served_starts r = λ id. record { counts = λ e. absurd (true≢false (sym e)) }
+
+pub waits : Waits AreCounted
+unfolding session_of
+waits r h made kept = (λ bytes id. kept id, λ seconds id. ticked r.psk (session_of id h) seconds (served_marks r h) (kept id))
