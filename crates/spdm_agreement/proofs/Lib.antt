@@ -16,6 +16,7 @@ pub mod ServingShakes
 pub mod ServingFinish
 pub mod ServingSteps
 pub mod ServingCounts
+pub mod ServingPlaces
 pub mod ServingDoes
 pub mod Codes
 pub mod Steady
