@@ -17,6 +17,8 @@ pub mod ServingFinish
 pub mod ServingSteps
 pub mod ServingCounts
 pub mod ServingPlaces
+pub mod ServingKnown
+pub mod ServingBegins
 pub mod ServingDoes
 pub mod Codes
 pub mod Steady
