@@ -1,6 +1,6 @@
 -- A session that a responder begins is sound: its negotiation and PSK_EXCHANGE are what they should be, and the answer ends
 -- in the right verify data and holds the number of its draw.
-use Rattle.std.proofs.Common.{◌≡◌, ◌⊎◌, ℕ, ◌+◌, ◌-◌, ◌≤◌, ◌<◌, ◌^◌, List, [], ◌∷◌, ◌++◌, length, take, drop, Bool, true, false, cond, not, Option, Some, None, is_none, is_some, unwrap_or, ◌==◌, ◌&&◌, ◌||◌, refl, sym, ap, ap₂, ◌∙◌, subst, inl, inr, arith, true≢false, eqb-true, eq-eqb, bytes_eq, length-append, append_assoc, append-nil, drop-drop, replicate}
+use Rattle.std.proofs.Common.{◌≡◌, ℕ, ◌+◌, ◌-◌, ◌≤◌, List, [], ◌∷◌, ◌++◌, length, take, drop, Bool, true, false, cond, Some, None, is_some, unwrap_or, ◌==◌, ◌&&◌, ◌||◌, refl, sym, ap, ap₂, ◌∙◌, subst, inl, inr, arith, true≢false, length-append, append_assoc, append-nil, drop-drop, replicate}
 use Rattle.std.proofs.Math.Seq.{take-append_seam, drop-append_seam}
 use Rattle.std.proofs.lemmas.List.{length-take-le, length-replicate}
 use Rattle.std.specs.Prelude.{if◌then◌else◌}
@@ -9,44 +9,39 @@ use Rattle.std.proofs.lemmas.Slice.Eq.{bytes_eq-Decides}
 use Rattle.byteorder.specs.Endian.{little_bytes, little_number}
 use Rattle.byteorder.specs.Numbers.{little_number-reads_back}
 use Rattle.key_schedule.specs.declared.direction.Direction.TheVariants.{Response}
-use Rattle.measurements.specs.Summaries.{summary_of, hash_of_blocks, summarized}
-use Rattle.running_hash.specs.Hash.{Hash, hash_of}
+use Rattle.measurements.specs.Summaries.{hash_of_blocks, summarized}
+use Rattle.running_hash.specs.Hash.{hash_of}
 use Rattle.spdm_basis.specs.Sizes.{hash_size}
 use Rattle.spdm_basis.specs.declared.hash_alg.HashAlg.{HashAlg}
 use Rattle.spdm_basis.specs.declared.hash_alg.HashAlg.TheVariants.{Sha256, Sha384}
 use Rattle.spdm_grammar.specs.Fields.{is_summary}
 use Rattle.spdm_grammar.specs.Layout.{IsSpelling}
-use Rattle.spdm_grammar.specs.Message.{RequestMessage, ExchangeMessage, ExchangeRspMessage}
+use Rattle.spdm_grammar.specs.Message.{RequestMessage, ExchangeMessage}
 use Rattle.spdm_grammar.specs.Message.RequestMessage.{PskExchange}
-use Rattle.spdm_grammar.specs.Message.ResponseMessage.{PskExchangeRsp}
 use Rattle.spdm_grammar.specs.Requests.{IsRequestSpelling, request_layout, request_in, request_body, psk_exchange_layout}
-use Rattle.spdm_grammar.specs.Responses.{canonical_response, exchange_rsp_bytes}
+use Rattle.spdm_grammar.specs.Responses.{canonical_response}
 use Rattle.spdm_grammar.specs.declared.block_spec.BlockSpec.{BlockSpec}
 use Rattle.spdm_grammar.specs.declared.phase.Phase.{Phase}
 use Rattle.spdm_grammar.specs.declared.phase.Phase.TheVariants.{Fresh, Versioned, Capable, Negotiated}
 use Rattle.spdm_grammar.proofs.Spellings.{read_iff}
-use Rattle.spdm_machine.specs.Answer.{Free, request_at, answer_bytes, answer_of, summary_answer, exchange_rsp, exchange_answer, t1_with}
+use Rattle.spdm_machine.specs.Answer.{Free, request_at, summary_answer, exchange_rsp, exchange_answer, t1_with}
 use Rattle.spdm_machine.specs.Does.{IsMade, chosen, clear_chosen}
-use Rattle.spdm_machine.specs.Handling.{turn_of}
 use Rattle.spdm_machine.specs.History.{History, clear_turns, phase_of, negotiation_of}
 use Rattle.spdm_machine.specs.History.Entry.{Clear, Sealed, Queued, Ticked, Dropped}
 use Rattle.spdm_machine.specs.Keys.{Draw, context_of, verify_data}
-use Rattle.spdm_machine.specs.Place.{Place, clear_place, place_terms}
+use Rattle.spdm_machine.specs.Place.{Place, place_terms}
 use Rattle.spdm_machine.specs.Refusal.{phase_allows, has_pending}
-use Rattle.spdm_machine.specs.ResponderLog.{began_by}
-use Rattle.spdm_machine.specs.Session.{Event, Events, session_of, is_live, stage_of, is_past_handshake, session_negotiation, session_terms, after_record, after_exchange, after_tick, when_live, id_in_exchange, id_in_record}
+use Rattle.spdm_machine.specs.Session.{Event, Events, session_of, is_live, stage_of, is_past_handshake, session_negotiation, after_tick, when_live, id_in_exchange, id_in_record}
 use Rattle.spdm_machine.specs.Session.Event.{Began, Heard, Waited}
 use Rattle.spdm_machine.specs.Setup.{RspSetup, inventory_of}
 use Rattle.spdm_machine.specs.Terms.{terms_of, hash_len}
 use Rattle.spdm_machine.specs.Turn.{Turn, Effect, code_for, code_in, takes, request_in as request_bytes, answer_in}
-use Rattle.spdm_machine.specs.Turn.Effect.{NoEffect, Took}
-use Rattle.transcript.specs.Transcripts.{Negotiation, vca_of, without_verify, t1_of}
+use Rattle.transcript.specs.Transcripts.{Negotiation, vca_of, without_verify}
 use Rattle.spdm_agreement.specs.Configured.{IsResponder}
-use Rattle.spdm_agreement.specs.Reading.{First, Reading}
-use Rattle.spdm_agreement.specs.Story.{served_first}
+use Rattle.spdm_agreement.specs.Reading.{First}
 use Rattle.spdm_agreement.proofs.Codes.{code_read, second_byte}
 use Rattle.spdm_agreement.proofs.Owed.{IsDraw, DoesWell}
-use Rattle.spdm_agreement.proofs.Sessions.{reading_of, is_sound_first, is_negotiated, is_request, is_response, first_terms, first_hash, transcript_of, answer_verify, length_digest, length_verify, draw_place, context_number, exchange_in, summary_size, answer_context}
+use Rattle.spdm_agreement.proofs.Sessions.{reading_of, is_sound_first, is_negotiated, first_hash, transcript_of, answer_verify, length_digest, length_verify, context_number, summary_size, answer_context}
 use Rattle.spdm_agreement.proofs.ServingPlaces.{TakesClear, clear_case}
 use Rattle.spdm_agreement.proofs.ServingKnown.{HasVersion, HasCaps, HasAlgorithms, IsKnown, answered, entry_turn, known, common_in}
 use Rattle.spdm_agreement.proofs.ServingReplies.{IsRoomy}

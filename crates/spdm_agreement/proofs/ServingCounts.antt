@@ -1,20 +1,19 @@
 -- The epochs and numbers of the sessions that a responder holds open are those that its marks count.
-use Rattle.std.proofs.Common.{◌≡◌, ◌⊎◌, ℕ, ◌+◌, List, [], ◌∷◌, ◌++◌, Bool, true, false, cond, Option, Some, None, ◌==◌, ◌&&◌, ◌||◌, refl, sym, ap, ap₂, ◌∙◌, subst, inl, inr, arith, eqb-true, eq-eqb, true≢false, bytes_eq}
+use Rattle.std.proofs.Common.{◌≡◌, ℕ, ◌+◌, List, [], ◌∷◌, ◌++◌, Bool, true, false, cond, Some, ◌==◌, ◌&&◌, ◌||◌, refl, sym, ap, ap₂, ◌∙◌, subst, true≢false, bytes_eq}
 use Rattle.std.proofs.lemmas.Slice.Eq.{bytes_eq-Decides}
-use Rattle.spdm_grammar.specs.Message.{RequestMessage}
 use Rattle.spdm_grammar.specs.Message.RequestMessage.{KeyUpdate}
 use Rattle.spdm_grammar.specs.declared.phase.Stage.{Stage}
 use Rattle.spdm_grammar.specs.declared.phase.Stage.TheVariants as stage
 use Rattle.spdm_machine.specs.Answer.{Free}
 use Rattle.spdm_machine.specs.History.{History, clear_turns, negotiation_of}
 use Rattle.spdm_machine.specs.ResponderLog.{began_by}
-use Rattle.spdm_machine.specs.Session.{Event, Events, stage_of, is_live, is_past_handshake, after_record, after_exchange, after_tick, id_in_exchange, exchange_answer, request_next, response_next, request_epoch, response_epoch, t2_of}
+use Rattle.spdm_machine.specs.Session.{Event, Events, stage_of, is_live, is_past_handshake, after_record, after_exchange, after_tick, id_in_exchange, request_next, response_next, request_epoch, response_epoch, t2_of}
 use Rattle.spdm_machine.specs.Session.Event.{Began, Heard, Waited}
 use Rattle.spdm_machine.specs.Setup.{RspSetup}
 use Rattle.spdm_machine.specs.TagLog.{Log}
 use Rattle.spdm_machine.specs.Turn.{Turn, Effect, code_in, takes, updates, answer_in, request_in}
 use Rattle.spdm_machine.specs.Turn.Effect.{NoEffect, TookData}
-use Rattle.spdm_agreement.specs.Marks.{Asked, Served, Exchange, HasOpened, served_open, taken, epoch_of, count_of}
+use Rattle.spdm_agreement.specs.Marks.{Asked, Served, HasOpened, served_open, taken, epoch_of, count_of}
 use Rattle.spdm_agreement.specs.Marks.Served.{Finished, Refused, Took}
 use Rattle.spdm_agreement.specs.Reading.{First}
 use Rattle.spdm_agreement.specs.Story.{served_first, served_turn, record_marks, reply_text, taken_text}
@@ -36,10 +35,10 @@ gone psk m = record { counts = λ e. absurd (true≢false (sym e)) }
 past_marks : (psk : List ℕ) (s : Events) (m m' : List Served) → ((is_live s && is_past_handshake (stage_of s)) ≡ true → taken (t2_of s) m' ≡ taken (t2_of s) m) → IsCounted psk s m → IsCounted psk s m'
 past_marks psk s m m' same i = record {
   counts = λ e. (let c = i.counts e in record {
-      request_epoch = c.request_epoch ∙ ap (epoch_of (reading_of psk).is_update) (sym (same e));
-      request_next = c.request_next ∙ ap (count_of (reading_of psk).is_update 0) (sym (same e));
-      response_epoch = c.response_epoch ∙ ap (epoch_of (reading_of psk).is_update_all) (sym (same e));
-      response_next = c.response_next ∙ ap (count_of (reading_of psk).is_update_all 1) (sym (same e));
+    request_epoch = c.request_epoch ∙ ap (epoch_of (reading_of psk).is_update) (sym (same e));
+    request_next = c.request_next ∙ ap (count_of (reading_of psk).is_update 0) (sym (same e));
+    response_epoch = c.response_epoch ∙ ap (epoch_of (reading_of psk).is_update_all) (sym (same e));
+    response_next = c.response_next ∙ ap (count_of (reading_of psk).is_update_all 1) (sym (same e));
   });
 }
 
@@ -130,8 +129,7 @@ first_epochs (Waited seconds ∷ s) e = first_epochs s e
 first_epochs (Heard sealed t reply ∷ s) e =
     let l = shakes_still (takes 0xe7 t) (updates 3 t) (takes 0xe9 t) (stage_of s) e in
     let older = first_epochs s l.1 in
-    let none = quiet_code t.effect l.0 in
-    (
+    let none = quiet_code t.effect l.0 in (
       ap₂ (λ (a b : Bool). cond (a || b) (request_epoch s + 1) (request_epoch s)) none.0 none.1 ∙ older.0,
       ap (λ (b : Bool). cond b (response_epoch s + 1) (response_epoch s)) none.1 ∙ older.1,
     )

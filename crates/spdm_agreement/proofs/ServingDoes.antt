@@ -1,5 +1,5 @@
 -- Whatever a responder does with a body is a run of moves, and its sessions stay those that its marks count.
-use Rattle.std.proofs.Common.{◌≡◌, ◌⊎◌, ℕ, ◌+◌, ◌≤◌, List, [], ◌∷◌, ◌++◌, drop, Bool, true, false, cond, Option, Some, None, ◌==◌, ◌||◌, refl, sym, ap, ap₂, ◌∙◌, subst, inl, inr, arith, eqb-true, eq-eqb, true≢false}
+use Rattle.std.proofs.Common.{◌≡◌, ℕ, ◌+◌, ◌≤◌, List, [], ◌∷◌, ◌++◌, drop, Bool, true, false, cond, Option, Some, None, ◌==◌, ◌||◌, refl, sym, ap, ◌∙◌, subst, arith, eqb-true, eq-eqb, true≢false}
 use Rattle.std.specs.Prelude.{slice_index}
 use Rattle.key_schedule.specs.declared.direction.Direction.TheVariants.{Response}
 use Rattle.spdm_basis.specs.declared.record_fault.RecordFault.{RecordFault}
@@ -9,14 +9,14 @@ use Rattle.spdm_grammar.specs.declared.phase.Stage.TheVariants as stage
 use Rattle.spdm_machine.specs.Answer.{Free}
 use Rattle.spdm_machine.specs.Does.{IsMade, chosen, clear_chosen, record_chosen, clear_does, record_does, responder_does}
 use Rattle.spdm_machine.specs.Handling.{turn_of}
-use Rattle.spdm_machine.specs.History.{History, Kept as KeptRequest, kept_of, ended_of, clear_turns, negotiation_of, phase_of, draws_of}
-use Rattle.spdm_machine.specs.History.Entry.{Clear, Sealed, Queued, Ticked}
+use Rattle.spdm_machine.specs.History.{History, kept_of, ended_of, clear_turns, phase_of, draws_of}
+use Rattle.spdm_machine.specs.History.Entry.{Clear, Sealed}
 use Rattle.spdm_machine.specs.Keys.{Draw, verify_data}
-use Rattle.spdm_machine.specs.Place.{Place, clear_place, session_place}
+use Rattle.spdm_machine.specs.Place.{clear_place}
 use Rattle.spdm_machine.specs.Records.{opening_fault, opened, reply_record}
-use Rattle.spdm_machine.specs.Responder.{Outcome, on_clear, on_record, to_session, in_session, in_session_by, session_turn, inner_reply, is_repeat, kept_reply, clear_body, repeats, record_body, kept_record, decrypt_error, after}
+use Rattle.spdm_machine.specs.Responder.{on_clear, on_record, to_session, in_session, in_session_by, session_turn, inner_reply, is_repeat, kept_reply, clear_body, repeats, record_body, kept_record, decrypt_error}
 use Rattle.spdm_machine.specs.Responder.Outcome.{Same, Unopened, Adds}
-use Rattle.spdm_machine.specs.ResponderLog.{began_by, response_made, opened_acts, unopened_acts, acts_of, reply_made}
+use Rattle.spdm_machine.specs.ResponderLog.{began_by, response_made, opened_acts, unopened_acts}
 use Rattle.spdm_machine.specs.Session.{Event, Events, session_of, stage_of, is_live, is_past_handshake, after_record, id_in_record, last_of, session_terms, t1_of, t2_of}
 use Rattle.spdm_machine.specs.Session.Event.{Heard}
 use Rattle.spdm_machine.specs.Setup.{RspSetup}
@@ -24,15 +24,14 @@ use Rattle.spdm_machine.specs.TagLog.{Log}
 use Rattle.spdm_machine.specs.Turn.{Turn, takes, takes_draw}
 use Rattle.world_machine.specs.Chance.{NoChance}
 use Rattle.spdm_agreement.specs.Claims.{IsReached}
-use Rattle.spdm_agreement.specs.Configured.{IsResponder}
 use Rattle.spdm_agreement.specs.Marks.{Asked, Served, next_served, taken}
 use Rattle.spdm_agreement.specs.Marks.Served.{Finished, Refused}
 use Rattle.spdm_agreement.specs.Moves.{State, Move, nothing_yet}
 use Rattle.spdm_agreement.specs.Reading.{Reading}
 use Rattle.spdm_agreement.specs.Story.{served_marks, served_first, served_turn, record_marks, reply_text, taken_text}
 use Rattle.spdm_agreement.proofs.Invariant.{Invariant}
-use Rattle.spdm_agreement.proofs.Owed.{IsDraw, OwnLeads, serves_state, ServedReady, ServedStep, DoesWell, ServedStarts, Waits}
-use Rattle.spdm_agreement.proofs.Runs.{IsGood, run_good, starts_good, shaken, untaken}
+use Rattle.spdm_agreement.proofs.Owed.{IsDraw, OwnLeads, serves_state, ServedReady, ServedStep, ServedStarts, Waits}
+use Rattle.spdm_agreement.proofs.Runs.{run_good, starts_good, shaken, untaken}
 use Rattle.spdm_agreement.proofs.Serving.{ServedAt, served_stands, EndsByFinish}
 use Rattle.spdm_agreement.proofs.Steady.{made_steady, ends, takes_session}
 use Rattle.spdm_agreement.proofs.Sessions.{reading_of, is_sound_first, second_of}

@@ -1,8 +1,7 @@
 -- A record in the handshake: PSK_FINISH is taken, or what came is refused.
-use Rattle.std.proofs.Common.{◌≡◌, ◌⊎◌, ℕ, zero, suc, ◌+◌, ◌≤◌, ◌<◌, ◌^◌, List, [], ◌∷◌, ◌++◌, length, take, drop, Bool, true, false, cond, Option, Some, None, ◌==◌, refl, sym, ap, ap₂, ◌∙◌, subst, inl, inr, arith, eqb-true, eq-eqb, true≢false, length-append}
+use Rattle.std.proofs.Common.{◌≡◌, ℕ, ◌≤◌, ◌<◌, ◌^◌, List, [], ◌∷◌, ◌++◌, length, take, drop, Bool, true, false, cond, None, ◌==◌, refl, sym, ap, ap₂, ◌∙◌, inl, inr, arith, true≢false}
 use Rattle.std.proofs.Math.Seq.{take-append_seam}
-use Rattle.std.specs.Prelude.{slice_index}
-use Rattle.byteorder.specs.Endian.{little_bytes, little_number}
+use Rattle.byteorder.specs.Endian.{little_number}
 use Rattle.byteorder.specs.Numbers.{little_number-reads_back}
 use Rattle.key_schedule.specs.declared.direction.Direction.TheVariants.{Request}
 use Rattle.secured_record.specs.Format.{plain_text}
@@ -19,7 +18,7 @@ use Rattle.spdm_machine.specs.Answer.{Free, answer_of}
 use Rattle.spdm_machine.specs.Place.{session_place}
 use Rattle.spdm_machine.specs.Refusal.{stage_allows, has_pending}
 use Rattle.spdm_machine.specs.Responder.{is_open}
-use Rattle.spdm_machine.specs.Session.{Events, stage_of, is_past_handshake, session_vca, exchange_of, exchange_answer, finish_of, finish_answer, t2_of}
+use Rattle.spdm_machine.specs.Session.{Events, stage_of, session_vca, exchange_of, exchange_answer, finish_of, finish_answer, t2_of}
 use Rattle.spdm_machine.specs.Session.Event.{Heard}
 use Rattle.spdm_machine.specs.Setup.{RspSetup}
 use Rattle.spdm_machine.specs.Turn.{Turn, Effect, code_for, code_in, takes, updates, is_data, answer_in, request_in}
@@ -27,8 +26,8 @@ use Rattle.transcript.specs.Transcripts as transcript
 use Rattle.transcript.specs.Transcripts.{vca_of}
 use Rattle.spdm_agreement.specs.Reading.{First}
 use Rattle.spdm_agreement.specs.Story.{served_first, reply_text}
-use Rattle.spdm_agreement.proofs.Sessions.{first_terms, transcript_of, is_message, message_text, finish_verify, finish_message, finish_reply, second_of, length_verify}
-use Rattle.spdm_agreement.proofs.ServingTurns.{TakesData, TakesRequest, RefusesTurn, TurnIs, took}
+use Rattle.spdm_agreement.proofs.Sessions.{first_terms, transcript_of, is_message, message_text, finish_message, finish_reply, second_of, length_verify}
+use Rattle.spdm_agreement.proofs.ServingTurns.{TakesRequest, TurnIs, took}
 use Rattle.spdm_agreement.proofs.ServingReplies.{IsRoomy, replies_whole, refused_reply, reply_of, answers, updates_in}
 
 not_past : (g : Stage) → g ≡ stage.Handshake → is_open g ≡ true → ⊥

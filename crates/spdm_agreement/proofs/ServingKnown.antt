@@ -1,8 +1,8 @@
 -- What is known of the negotiation in each phase of a responder: its messages are what they should be, and the requester
 -- takes messages of at least 42 bytes.
-use Rattle.std.proofs.Common.{◌≡◌, ◌⊎◌, ℕ, ◌+◌, ◌≤◌, ◌<◌, ◌^◌, List, [], ◌∷◌, ◌++◌, length, Bool, true, false, cond, not, Option, Some, None, Result, Ok, Err, is_none, is_some, unwrap_or, ◌==◌, ◌&&◌, ◌||◌, refl, sym, ap, ap₂, ◌∙◌, subst, inl, inr, arith, true≢false, ltb-false}
+use Rattle.std.proofs.Common.{◌≡◌, ◌⊎◌, ℕ, ◌≤◌, ◌^◌, List, [], ◌∷◌, Bool, true, false, cond, not, Option, Some, None, Ok, Err, is_none, is_some, unwrap_or, ◌==◌, ◌&&◌, ◌||◌, refl, sym, ap, ap₂, ◌∙◌, subst, inl, inr, arith, true≢false, ltb-false}
 use Rattle.std.proofs.lemmas.Nat.{and_le_r}
-use Rattle.std.specs.Prelude.{nat_lt, bit_and, if◌then◌else◌}
+use Rattle.std.specs.Prelude.{nat_lt, if◌then◌else◌}
 use Rattle.std.specs.Result.{result_ok}
 use Rattle.byteorder.specs.Endian.{little_number}
 use Rattle.negotiate.specs.Capabilities.{common_of, shared, psk_is, protects}
@@ -16,7 +16,7 @@ use Rattle.spdm_basis.specs.declared.hash_alg.HashAlg.TheVariants.{Sha256, Sha38
 use Rattle.spdm_grammar.specs.Layout.{Layout, IsSpelling}
 use Rattle.spdm_grammar.specs.Message.{RequestMessage, ResponseMessage, OfferMessage}
 use Rattle.spdm_grammar.specs.Message.RequestMessage.{GetVersion, GetCapabilities, NegotiateAlgorithms}
-use Rattle.spdm_grammar.specs.Message.ResponseMessage.{Version, Capabilities, Algorithms}
+use Rattle.spdm_grammar.specs.Message.ResponseMessage.{Capabilities, Algorithms}
 use Rattle.spdm_grammar.specs.Requests.{IsRequestSpelling, request_layout, request_in, request_body}
 use Rattle.spdm_grammar.specs.Responses.{response_layout, response_in, canonical_response, FitsResponse, FitsReply, IsSoundResponse, IsSoundReply}
 use Rattle.spdm_grammar.specs.Fields.{FitsCaps}
@@ -35,11 +35,11 @@ use Rattle.spdm_machine.specs.History.{History, clear_turns, phase_of, negotiati
 use Rattle.spdm_machine.specs.History.Entry.{Clear, Sealed, Queued, Ticked, Dropped}
 use Rattle.spdm_machine.specs.Keys.{Draw}
 use Rattle.spdm_machine.specs.Place.{Place, clear_place, place_terms}
-use Rattle.spdm_machine.specs.Refusal.{phase_allows, is_one_of, refused_contents, are_caps_refused}
-use Rattle.spdm_machine.specs.Responder.{Outcome, on_clear, is_repeat, kept_reply, clear_body}
+use Rattle.spdm_machine.specs.Refusal.{phase_allows, refused_contents, are_caps_refused}
+use Rattle.spdm_machine.specs.Responder.{on_clear, is_repeat, kept_reply, clear_body}
 use Rattle.spdm_machine.specs.Responder.Outcome.{Same, Adds}
-use Rattle.spdm_machine.specs.Setup.{RspSetup, responder_caps, policy_of, protection_flags, optional_flags}
-use Rattle.spdm_machine.specs.Terms.{Terms, terms_of, hash_len, no_negotiation, no_choice, no_common, request_value, response_value, asked_caps, told_caps, common_from}
+use Rattle.spdm_machine.specs.Setup.{RspSetup, responder_caps, policy_of}
+use Rattle.spdm_machine.specs.Terms.{hash_len, no_negotiation, no_choice, no_common, request_value, response_value, asked_caps, told_caps, common_from}
 use Rattle.spdm_machine.specs.Turn.{Turn, Effect, code_for, code_in, request_in as request_bytes, answer_in}
 use Rattle.spdm_machine.specs.Turn.Effect.{NoEffect, Took}
 use Rattle.transcript.specs.Transcripts.{Negotiation}
@@ -225,7 +225,7 @@ turn_known : (r : RspSetup) (n : Negotiation) (p : Phase) (f : Free) (e : Effect
 turn_known r n p f e setup x known = elim x [
   | inl is ↦ subst (λ (e : Effect). IsKnown (phase_with e p) (negotiation_with e n)) (sym is) known
   | inr a ↦ subst (λ (e : Effect). IsKnown (phase_with e p) (negotiation_with e n)) (sym a.is)
-    (took_known r n p _ f a.value a.place a.request (answer_bytes r a.place a.request f) (handle_for a.place f (answer_bytes r a.place a.request f)) setup a.spelled a.allowed a.contents (answered r a.place a.request f a.value a.spelled) known)
+      (took_known r n p _ f a.value a.place a.request (answer_bytes r a.place a.request f) (handle_for a.place f (answer_bytes r a.place a.request f)) setup a.spelled a.allowed a.contents (answered r a.place a.request f a.value a.spelled) known)
 ]
 
 -- ---- The turn of an entry.

@@ -1,5 +1,5 @@
 -- Moves of the ends of one key that lead from one state to another, and the comparisons among them.
-use Rattle.std.proofs.Common.{◌≡◌, ◌⊎◌, ℕ, List, [], ◌∷◌, ◌++◌, refl, sym, ap, ◌∙◌, subst, inl, inr}
+use Rattle.std.proofs.Common.{◌≡◌, ℕ, List, [], ◌∷◌, ◌++◌, refl, sym, subst, inr}
 use Rattle.key_schedule.specs.Purpose.{Purpose}
 use Rattle.spdm_machine.specs.TagLog.{Act, Log}
 use Rattle.spdm_machine.specs.TagLog.Act.{Made, Checked}

@@ -1,22 +1,19 @@
 -- What a responder does with a clear message: nothing takes effect, or a request does that the message is, or that its
 -- chunks bring.
-use Rattle.std.proofs.Common.{◌≡◌, ◌⊎◌, ℕ, List, [], ◌∷◌, length, Bool, true, false, cond, not, Option, Some, None, is_none, is_some, ◌==◌, ◌&&◌, ◌||◌, refl, sym, ap, ◌∙◌, subst, inl, inr, true≢false}
-use Rattle.std.specs.Prelude.{slice_index, nat_lt}
+use Rattle.std.proofs.Common.{◌≡◌, ◌⊎◌, ℕ, List, [], ◌∷◌, Bool, true, false, cond, not, Option, Some, None, refl, sym, ap, ◌∙◌, inl, inr}
 use Rattle.chunking.specs.Collecting.{under_way, joined_with}
 use Rattle.spdm_grammar.specs.Message.{RequestMessage, ChunkMessage}
-use Rattle.spdm_grammar.specs.Message.RequestMessage.{ChunkSend}
 use Rattle.spdm_grammar.specs.declared.error_code.ErrorCode.{ErrorCode}
 use Rattle.spdm_grammar.specs.declared.phase.Phase.{Phase}
 use Rattle.spdm_machine.specs.Answer.{Free, request_at, answer_bytes}
-use Rattle.spdm_machine.specs.Handling.{turn_of, turn_by, chunk_in, plain_turn, request_effect, effect_of, handle_for, chunk_turn, last_chunk_turn, carried_turn, taken_chunk}
+use Rattle.spdm_machine.specs.Handling.{turn_of, turn_by, chunk_in, request_effect, effect_of, handle_for, last_chunk_turn, carried_turn, taken_chunk}
 use Rattle.spdm_machine.specs.History.{History, clear_turns, phase_of, negotiation_of}
 use Rattle.spdm_machine.specs.LargeMessages.{chunks_of}
-use Rattle.spdm_machine.specs.Place.{Place, Where, clear_place, inside, place_terms}
-use Rattle.spdm_machine.specs.Place.Where.{InClear, InChunks, InSession}
+use Rattle.spdm_machine.specs.Place.{Place, clear_place, inside, place_terms}
 use Rattle.spdm_machine.specs.Refusal.{first_of_tests, tests_of_form, tests_of_contents, refused_form, refused_contents, refusal, or_else, code_of, phase_allows, has_pending, is_allowed, are_caps_refused, is_exchange_refused}
 use Rattle.spdm_machine.specs.Setup.{RspSetup}
 use Rattle.spdm_machine.specs.Terms.{hash_len}
-use Rattle.spdm_machine.specs.Turn.{Turn, Effect, code_for}
+use Rattle.spdm_machine.specs.Turn.{Effect, code_for}
 use Rattle.spdm_machine.specs.Turn.Effect.{NoEffect, Took}
 use Rattle.transcript.specs.Transcripts.{Negotiation}
 use Rattle.spdm_agreement.proofs.Codes.{code_read}
@@ -71,14 +68,14 @@ takes_at r p m f (Some v) is none clear =
     let l = both_of r p m f none in
     let code : code_for v ≡ code_of m = code_read (hash_len (place_terms p)) m v is in
     inr (record {
-        place = p;
-        request = m;
-        value = v;
-        negotiation = refl;
-        spelled = is;
-        allowed = sym (clear (code_for v)) ∙ ap (is_allowed p.at p) code ∙ form_allows r p m l.0;
-        contents = l.1;
-        is = ap (λ (o : Option RequestMessage). effect_of o m (answer_bytes r p m f) (handle_for p f (answer_bytes r p m f))) is;
+      place = p;
+      request = m;
+      value = v;
+      negotiation = refl;
+      spelled = is;
+      allowed = sym (clear (code_for v)) ∙ ap (is_allowed p.at p) code ∙ form_allows r p m l.0;
+      contents = l.1;
+      is = ap (λ (o : Option RequestMessage). effect_of o m (answer_bytes r p m f) (handle_for p f (answer_bytes r p m f))) is;
     })
 
 carried : (r : RspSetup) (h : History) (m : List ℕ) (f : Free) (c : ChunkMessage) (whole : List ℕ) (o : Option ErrorCode) → refusal r (inside (clear_place h)) whole f ≡ o

@@ -1,11 +1,11 @@
 -- The tags of records at a responder: which are compared, and which are made.
-use Rattle.std.proofs.Common.{◌≡◌, ◌⊎◌, ℕ, List, [], ◌∷◌, ◌++◌, length, drop, take, Bool, true, false, cond, not, Option, Some, None, is_none, ◌==◌, ◌&&◌, refl, sym, ap, ap₂, ◌∙◌, subst, inl, inr, true≢false}
-use Rattle.std.specs.Prelude.{slice_index, nat_lt}
+use Rattle.std.proofs.Common.{◌≡◌, ℕ, List, [], ◌∷◌, ◌++◌, drop, take, Bool, true, false, cond, not, Option, Some, None, is_none, ◌==◌, ◌&&◌, refl, sym, ap, inl, true≢false}
+use Rattle.std.specs.Prelude.{slice_index}
 use Rattle.byteorder.specs.Endian.{little_number}
 use Rattle.aes_gcm.specs.Gcm.{tag_of}
 use Rattle.key_schedule.specs.Purpose.{Purpose, key_of, iv_of}
-use Rattle.secured_record.specs.Faults.{first_of_tests, header_fault, fault_behind, fault_of, is_authentic, opened_text, tag_part, text_part}
-use Rattle.secured_record.specs.Format.{nonce, plain_text}
+use Rattle.secured_record.specs.Faults.{first_of_tests, header_fault, fault_behind, fault_of, is_authentic, tag_part, text_part}
+use Rattle.secured_record.specs.Format.{nonce}
 use Rattle.secured_record.proofs.Same.{true-same}
 use Rattle.spdm_basis.specs.declared.record_fault.RecordFault.{RecordFault}
 use Rattle.spdm_basis.specs.declared.record_fault.RecordFault.TheVariants.{BadTag, BadInnerLength}
@@ -18,13 +18,12 @@ use Rattle.spdm_machine.specs.Place.{session_place}
 use Rattle.spdm_machine.specs.Records.{opening_fault, opened, request_purpose, reply_purpose, reply_number, reply_record}
 use Rattle.spdm_machine.specs.Refusal.{refused_form}
 use Rattle.spdm_machine.specs.Responder.{inner_refusal, inner_reply}
-use Rattle.spdm_machine.specs.ResponderLog.{finish_check, finish_acts, inner_acts, record_check, unopened_acts, reply_made}
-use Rattle.spdm_machine.specs.Session.{Events, Event, stage_of, session_terms, request_next, id_bytes, is_spent}
+use Rattle.spdm_machine.specs.ResponderLog.{finish_check, finish_acts, inner_acts, record_check, unopened_acts}
+use Rattle.spdm_machine.specs.Session.{Events, stage_of, session_terms, request_next, id_bytes, is_spent}
 use Rattle.spdm_machine.specs.Setup.{RspSetup}
-use Rattle.spdm_machine.specs.TagLog.{Act, Log, record_input, record_tag, checked_record}
-use Rattle.spdm_machine.specs.TagLog.Act.{Made, Checked}
+use Rattle.spdm_machine.specs.TagLog.{Log, record_input, record_tag, checked_record}
+use Rattle.spdm_machine.specs.TagLog.Act.{Checked}
 use Rattle.spdm_machine.specs.Turn.{Turn}
-use Rattle.spdm_agreement.specs.Marks.{Text}
 use Rattle.spdm_agreement.specs.Moves.{IsPassed}
 use Rattle.spdm_agreement.specs.Story.{served_first, taken_text, reply_text}
 use Rattle.spdm_agreement.proofs.ServingMoves.{AreChecks}

@@ -1,25 +1,23 @@
 -- What the texts of a request and of its reply tell of the turn between them.
-use Rattle.std.proofs.Common.{◌≡◌, ◌⊎◌, ℕ, zero, suc, ◌+◌, ◌≤◌, ◌<◌, ◌^◌, List, [], ◌∷◌, ◌++◌, length, take, drop, Bool, true, false, cond, not, Option, Some, None, ◌==◌, ◌&&◌, ◌||◌, refl, sym, ap, ap₂, ◌∙◌, subst, inl, inr, arith, eqb-true, eq-eqb, true≢false, le-ltb, append-nil, length-append}
-use Rattle.std.specs.Prelude.{slice_index, nat_lt}
-use Rattle.byteorder.specs.Endian.{little_bytes, little_number}
-use Rattle.byteorder.specs.Numbers.{little_number-reads_back}
+use Rattle.std.proofs.Common.{◌≡◌, ◌⊎◌, ℕ, zero, suc, ◌+◌, ◌≤◌, List, [], ◌∷◌, ◌++◌, length, take, drop, Bool, true, false, cond, Option, Some, None, ◌==◌, ◌&&◌, ◌||◌, refl, sym, ap, ap₂, ◌∙◌, subst, inl, inr, arith, eqb-true, eq-eqb, true≢false, le-ltb}
+use Rattle.std.specs.Prelude.{slice_index}
+use Rattle.byteorder.specs.Endian.{little_number}
 use Rattle.secured_record.specs.Format.{plain_text}
 use Rattle.spdm_grammar.specs.Fields.{is_key_operation}
 use Rattle.spdm_grammar.specs.Layout.{IsSpelling}
 use Rattle.spdm_grammar.specs.Message.{RequestMessage, ResponseMessage}
-use Rattle.spdm_grammar.specs.Message.RequestMessage.{PskFinish, KeyUpdate}
-use Rattle.spdm_grammar.specs.Message.ResponseMessage.{Error, PskFinishRsp, KeyUpdateAck}
-use Rattle.spdm_grammar.specs.Requests.{IsRequestSpelling, request_layout, request_in, request_body, key_update_layout, canonical_request}
+use Rattle.spdm_grammar.specs.Message.RequestMessage.{KeyUpdate}
+use Rattle.spdm_grammar.specs.Message.ResponseMessage.{KeyUpdateAck}
+use Rattle.spdm_grammar.specs.Requests.{IsRequestSpelling, request_layout, request_in, request_body, key_update_layout}
 use Rattle.spdm_grammar.specs.Responses.{canonical_response}
 use Rattle.spdm_grammar.proofs.Spellings.{read_iff}
 use Rattle.spdm_machine.specs.Answer.{Free, answer_of, answer_to, answer_bytes}
 use Rattle.spdm_machine.specs.Handling.{goes_large, large_response, sent_for}
-use Rattle.spdm_machine.specs.Place.{session_place, place_terms}
-use Rattle.spdm_machine.specs.Responder.{inner_reply}
+use Rattle.spdm_machine.specs.Place.{session_place}
 use Rattle.spdm_machine.specs.Session.{Events, session_terms}
 use Rattle.spdm_machine.specs.Setup.{RspSetup}
 use Rattle.spdm_machine.specs.Terms.{hash_len}
-use Rattle.spdm_machine.specs.Turn.{Turn, Effect, code_for, is_data, takes, updates, answer_in, request_in as request_bytes, asked_in}
+use Rattle.spdm_machine.specs.Turn.{Turn, Effect, is_data, updates, answer_in, asked_in}
 use Rattle.spdm_machine.specs.Turn.Effect.{NoEffect, Took, TookData}
 use Rattle.spdm_agreement.specs.Story.{reply_text}
 use Rattle.spdm_agreement.proofs.Codes.{code_read, second_byte}

@@ -1,6 +1,5 @@
 -- The session in its handshake is the one that began last, and a responder has no other.
-use Rattle.std.proofs.Common.{◌≡◌, ◌⊎◌, ℕ, ◌+◌, List, [], ◌∷◌, ◌++◌, Bool, true, false, cond, not, Option, Some, None, ◌==◌, ◌&&◌, ◌||◌, refl, sym, ap, ◌∙◌, subst, inl, inr, arith, eqb-true, eq-eqb, true≢false}
-use Rattle.spdm_grammar.specs.Message.{RequestMessage}
+use Rattle.std.proofs.Common.{◌≡◌, ◌⊎◌, ℕ, ◌+◌, List, [], ◌∷◌, ◌++◌, Bool, true, false, cond, Option, Some, None, ◌==◌, ◌||◌, refl, sym, ap, ◌∙◌, subst, inl, inr, arith, eqb-true, eq-eqb, true≢false}
 use Rattle.spdm_grammar.specs.Message.RequestMessage.{KeyUpdate}
 use Rattle.spdm_grammar.specs.declared.phase.Stage.{Stage}
 use Rattle.spdm_grammar.specs.declared.phase.Stage.TheVariants as stage
@@ -15,8 +14,8 @@ use Rattle.spdm_machine.specs.Turn.Effect.{NoEffect, Took, TookData}
 use Rattle.spdm_agreement.specs.Marks.{Served, HasBegun, handshake}
 use Rattle.spdm_agreement.specs.Marks.Served.{Finished, Refused}
 use Rattle.spdm_agreement.specs.Reading.{First}
-use Rattle.spdm_agreement.specs.Story.{served_marks, served_first, served_turn, record_marks, reply_text, taken_text}
-use Rattle.spdm_agreement.proofs.Serving.{IsSteady, ServedAt, served_stands}
+use Rattle.spdm_agreement.specs.Story.{served_marks, served_first, served_turn, record_marks, reply_text}
+use Rattle.spdm_agreement.proofs.Serving.{IsSteady, served_stands}
 use Rattle.spdm_agreement.proofs.ServingReplies.{updates_in}
 
 -- The session that began last.
@@ -90,7 +89,7 @@ past_by : (a b c : Bool) (g : Stage) → (is_past_handshake g ≡ true) ⊎ ((a 
 past_by true b c g x = refl
 past_by false true c g x = refl
 past_by false false true g x = refl
-past_by false false false g x = elim x [ | inl p ↦ p | inr y ↦ elim y [ | inl e ↦ absurd (true≢false (sym e)) | inr e ↦ absurd (true≢false (sym e)) ] ]
+past_by false false false g x = elim x [ inl p ↦ p | inr y ↦ elim y [ inl e ↦ absurd (true≢false (sym e)) | inr e ↦ absurd (true≢false (sym e)) ] ]
 
 pub past_stays : (s : Events) (sealed : List ℕ) (t : Turn) (reply : List ℕ) → is_past_handshake (stage_of s) ≡ true → is_past_handshake (stage_of (Heard sealed t reply ∷ s)) ≡ true
 past_stays s sealed t reply past = past_by (takes 0xe7 t) (updates 3 t) (takes 0xe9 t) (stage_of s) (inl past)

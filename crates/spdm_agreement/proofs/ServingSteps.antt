@@ -1,7 +1,7 @@
 -- A record that opens at a responder is a run of moves: comparisons, and PSK_FINISH taken, its refusal, or a request taken.
-use Rattle.std.proofs.Common.{◌≡◌, ◌⊎◌, ℕ, ◌+◌, ◌-◌, ◌≤◌, List, [], ◌∷◌, ◌++◌, length, take, drop, Bool, true, false, cond, Option, Some, None, ◌==◌, ◌&&◌, ◌||◌, refl, sym, ap, ap₂, ◌∙◌, subst, inl, inr, arith, append_assoc, true≢false}
+use Rattle.std.proofs.Common.{◌≡◌, ℕ, ◌+◌, ◌-◌, List, [], ◌∷◌, ◌++◌, Bool, true, false, cond, Some, None, ◌||◌, refl, sym, ap, ap₂, ◌∙◌, subst, arith, append_assoc, true≢false}
 use Rattle.byteorder.specs.Endian.{little_number}
-use Rattle.key_schedule.specs.Purpose.{Purpose, handshake_record, application_record}
+use Rattle.key_schedule.specs.Purpose.{Purpose, application_record}
 use Rattle.key_schedule.specs.declared.direction.Direction.TheVariants.{Request, Response}
 use Rattle.spdm_grammar.specs.declared.phase.Stage.{Stage}
 use Rattle.spdm_grammar.specs.declared.phase.Stage.TheVariants as stage
@@ -10,7 +10,7 @@ use Rattle.spdm_machine.specs.Records as records
 use Rattle.spdm_machine.specs.Records.{purpose_in, opening_fault, opened, reply_record}
 use Rattle.spdm_machine.specs.Responder.{inner_reply}
 use Rattle.spdm_machine.specs.ResponderLog.{inner_acts, record_check, reply_made, opened_acts}
-use Rattle.spdm_machine.specs.Session.{Event, Events, stage_of, is_live, is_past_handshake, session_terms, request_next, response_next, request_epoch, response_epoch, t1_of, t2_of}
+use Rattle.spdm_machine.specs.Session.{Events, stage_of, is_live, is_past_handshake, session_terms, request_next, response_next, request_epoch, response_epoch, t1_of, t2_of}
 use Rattle.spdm_machine.specs.Session.Event.{Heard}
 use Rattle.spdm_machine.specs.Setup.{RspSetup}
 use Rattle.spdm_machine.specs.TagLog.{Act, Log, record_input, record_tag}
@@ -19,16 +19,16 @@ use Rattle.spdm_machine.specs.Turn.{Turn, takes, updates}
 use Rattle.spdm_agreement.specs.Marks.{Asked, Served, Text, Exchange, HasBegun, handshake, served_open, taken, epoch_of, count_of}
 use Rattle.spdm_agreement.specs.Marks as marks
 use Rattle.spdm_agreement.specs.Marks.Served.{Finished, Refused, Took}
-use Rattle.spdm_agreement.specs.Moves.{State, Move, IsPassed, IsFinish, request_shake, response_shake}
-use Rattle.spdm_agreement.specs.Reading.{First, Reading, covered}
+use Rattle.spdm_agreement.specs.Moves.{State, Move, IsPassed, request_shake, response_shake}
+use Rattle.spdm_agreement.specs.Reading.{covered}
 use Rattle.spdm_agreement.specs.Story.{served_first, served_turn, reply_text, taken_text}
-use Rattle.spdm_agreement.proofs.Sessions.{reading_of, sealed_of, finish_message, finish_reply, second_of, message_text, is_message}
-use Rattle.spdm_agreement.proofs.ServingMoves.{IsMoved, stays, moves_by, chain, AreChecks, checks, passed_before}
+use Rattle.spdm_agreement.proofs.Sessions.{reading_of, sealed_of}
+use Rattle.spdm_agreement.proofs.ServingMoves.{IsMoved, moves_by, chain, AreChecks, checks, passed_before}
 use Rattle.spdm_agreement.proofs.ServingRecords.{check_checks, inner_checks, check_passed, reply_input, opened_inner}
 use Rattle.spdm_agreement.proofs.ServingTurns.{TurnIs}
 use Rattle.spdm_agreement.proofs.ServingReplies.{IsRoomy, tells_all, tells_any}
 use Rattle.spdm_agreement.proofs.ServingShakes.{ShakesAt, newest_begun}
-use Rattle.spdm_agreement.proofs.ServingFinish.{Finishes, refuse_told, finish_told, finish_inner, finish_second}
+use Rattle.spdm_agreement.proofs.ServingFinish.{refuse_told, finish_told, finish_inner, finish_second}
 
 -- The epochs and numbers of a session are those counted in the marks under its T2.
 pub record Counts (psk : List ℕ) (s : Events) (m : List Served) : Type 0 where
@@ -106,14 +106,13 @@ finishes r s f sealed t reply asked m log o shakes at finish =
     let told = finish_told r s (opened r.psk s sealed) f t shakes o.room o.turn finish in
     let past : is_past_handshake (stage_of s) ≡ false = ap is_past_handshake shakes in
     let text = taken_text r.psk s sealed in
-    moves_by (reading_of r.psk) (Move.Finish x (t2_of (Heard sealed t reply ∷ s)) (request_next s) text (records.reply_number s t) (reply_text t) (reply_value r s t reply)) _ _ tt
-    (
+    moves_by (reading_of r.psk) (Move.Finish x (t2_of (Heard sealed t reply ∷ s)) (request_next s) text (records.reply_number s t) (reply_text t) (reply_value r s t reply)) _ _ tt (
       newest_begun m x (at.last o.live past),
       passes r s sealed log (request_shake (reading_of r.psk) x) (request_next s) o.opens (shake_request r s shakes) refl,
       λ is. (let was = at.ready o.live past is.0 in (
-          (was.0, same_number (updates 2 t) (response_next s) told.update ∙ was.1),
-          told.reply,
-          finish_second r.psk s sealed (opened r.psk s sealed) t reply finish told (finish_inner r.psk x text (opened r.psk s sealed) (opened_inner r.psk s sealed) is.1),
+        (was.0, same_number (updates 2 t) (response_next s) told.update ∙ was.1),
+        told.reply,
+        finish_second r.psk s sealed (opened r.psk s sealed) t reply finish told (finish_inner r.psk x text (opened r.psk s sealed) (opened_inner r.psk s sealed) is.1),
       )),
     )
     (ap (λ (a : Act). state asked (Finished x (t2_of (Heard sealed t reply ∷ s)) ∷ m) (a ∷ compared r s sealed ++ log))
@@ -126,8 +125,7 @@ refuses r s f sealed t reply asked m log o shakes at none =
     let told = refuse_told r s (opened r.psk s sealed) f t shakes o.turn none in
     let past : is_past_handshake (stage_of s) ≡ false = ap is_past_handshake shakes in
     let text = taken_text r.psk s sealed in
-    moves_by (reading_of r.psk) (Move.Refuse x (request_next s) text (records.reply_number s t) (reply_text t) (reply_value r s t reply)) _ _ tt
-    (
+    moves_by (reading_of r.psk) (Move.Refuse x (request_next s) text (records.reply_number s t) (reply_text t) (reply_value r s t reply)) _ _ tt (
       newest_begun m x (at.last o.live past),
       passes r s sealed log (request_shake (reading_of r.psk) x) (request_next s) o.opens (shake_request r s shakes) refl,
       λ is. (let was = at.ready o.live past is.0 in ((was.0, same_number (updates 2 t) (response_next s) told.1 ∙ was.1), told.0)),
@@ -197,8 +195,7 @@ takes_record r id s f sealed t reply asked m log o past held counts =
     let u = t2_of s in
     let text = taken_text r.psk s sealed in
     let all = exchange_of r s sealed t ∷ taken u m in
-    moves_by (reading_of r.psk) (Move.Take x u text (reply_text t) (reply_value r s t reply)) _ _ tt
-    (
+    moves_by (reading_of r.psk) (Move.Take x u text (reply_text t) (reply_value r s t reply)) _ _ tt (
       (id, held),
       passes r s sealed log (marks.request_purpose (reading_of r.psk) u (taken u m)) (marks.request_number (reading_of r.psk) (taken u m)) o.opens (open_request r s m past counts) counts.request_next,
     )

@@ -1,12 +1,10 @@
 -- What a responder does with the inner message of a record: it refuses it, takes application data, or takes a request.
-use Rattle.std.proofs.Common.{◌≡◌, ◌⊎◌, ℕ, List, [], ◌∷◌, length, drop, Bool, true, false, cond, not, Option, Some, None, is_none, ◌==◌, ◌&&◌, ◌||◌, refl, sym, ap, ◌∙◌, subst, inl, inr, eqb-true, eq-eqb, true≢false}
+use Rattle.std.proofs.Common.{◌≡◌, ◌⊎◌, ℕ, List, [], ◌∷◌, length, drop, Bool, true, false, cond, not, Option, Some, None, is_none, ◌==◌, ◌&&◌, ◌||◌, refl, sym, ap, ◌∙◌, inl, inr, true≢false}
 use Rattle.std.specs.Prelude.{slice_index, nat_lt}
 use Rattle.spdm_grammar.specs.Message.{RequestMessage}
-use Rattle.spdm_grammar.specs.Message.RequestMessage.{ChunkSend, PskFinish}
+use Rattle.spdm_grammar.specs.Message.RequestMessage.{ChunkSend}
 use Rattle.spdm_grammar.specs.declared.error_code.ErrorCode.{ErrorCode}
 use Rattle.spdm_grammar.specs.declared.error_code.ErrorCode.TheVariants.{InvalidRequest, RequestTooLarge, UnsupportedRequest, SessionRequired, UnexpectedRequest, VersionMismatch}
-use Rattle.spdm_grammar.specs.declared.phase.Stage.{Stage}
-use Rattle.spdm_grammar.specs.declared.phase.Stage.TheVariants as stage
 use Rattle.spdm_machine.specs.Answer.{Free, request_at, answer_bytes}
 use Rattle.spdm_machine.specs.Handling.{turn_of, turn_by, chunk_in, refused_turn, plain_turn, effect_of, handle_for}
 use Rattle.spdm_machine.specs.Place.{session_place, place_terms}
@@ -15,7 +13,7 @@ use Rattle.spdm_machine.specs.Responder.{inner_refusal, data_turn, session_turn,
 use Rattle.spdm_machine.specs.Session.{Events, stage_of}
 use Rattle.spdm_machine.specs.Setup.{RspSetup}
 use Rattle.spdm_machine.specs.Terms.{hash_len}
-use Rattle.spdm_machine.specs.Turn.{Turn, Effect, code_for, takes}
+use Rattle.spdm_machine.specs.Turn.{Turn, code_for}
 use Rattle.spdm_machine.specs.Turn.Effect.{Took}
 use Rattle.spdm_agreement.proofs.Codes.{code_read}
 use Rattle.spdm_agreement.proofs.Steady.{form_of, sound_form}
@@ -62,6 +60,7 @@ nine false false false false false true g h n = cc
 nine false false false false false false true h n = cc
 nine false false false false false false false true n = cc
 nine false false false false false false false false n = cc
+
 spelled_form : (r : RspSetup) (s : Events) (m : List ℕ) → refused_form r (session_place s) m ≡ None → request_at (session_place s) m ≡ None → ⊥
 unfolding refused_form
 spelled_form r s m form is =
