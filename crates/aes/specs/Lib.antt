@@ -1,2 +1,5 @@
 pub mod ByteField
 pub mod Cipher
+pub mod Tables
+pub mod Schedule
+pub mod Words

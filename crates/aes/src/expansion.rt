@@ -70,9 +70,9 @@ fn append(bytes: &mut ArrayVec<u8, 240>, word: &[u8; 4])
     let _ = bytes.try_extend_from_slice(word);
 }
 
-// The round keys of a key, one after the other (FIPS 197, section 5.2).
+/// The round keys of a key of 16 or 32 bytes, one after the other: 176 or 240 bytes (FIPS 197, section 5.2).
 #[tactic(auto, unfolding(crate::specs::Cipher::expanded))]
-pub fn expand(key: &[u8]) -> ArrayVec<u8, 240>
+pub fn expand_key(key: &[u8]) -> ArrayVec<u8, 240>
     requires { (length key.now ≡ 16) ⊎ (length key.now ≡ 32) }
     ensures value { result.items ≡ round_keys key.now }
     ensures size { length result.items ≡ 16 * round_count key.now + 16 }

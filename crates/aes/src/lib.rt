@@ -1,10 +1,17 @@
 //! The block cipher AES (FIPS 197) for keys of 16 and 32 bytes, in the direction that Galois/Counter Mode
-//! takes. No call takes memory.
+//! takes, by tables of rounds. No call takes memory. Nothing here is claimed to take the same time for all
+//! keys and blocks.
 #![tactic(auto)]
 
 mod cipher;
+mod columns;
 mod expansion;
+mod plain;
 mod sbox;
+mod schedule;
 mod state;
+mod tables;
 
 pub use cipher::Aes;
+pub use expansion::expand_key;
+pub use plain::encrypt_step_by_step;

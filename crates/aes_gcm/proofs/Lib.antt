@@ -1,2 +1,4 @@
 pub mod Tags
 pub mod Twice
+pub mod Blocks
+pub mod Pieces

@@ -1,1 +1,2 @@
 pub mod Gcm
+pub mod Behind

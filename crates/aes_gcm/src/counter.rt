@@ -1,42 +1,90 @@
-ghost use Rattle.std.specs.Prelude.{◌≡◌, ◌≢◌, ◌<◌, ◌≤◌, ◌+◌, ◌/◌, ◌%◌, ◌^◌, length};
+ghost use Rattle.std.specs.Prelude.{◌≡◌, ◌<◌, ◌≤◌, ◌+◌, ◌*◌, ◌/◌, ◌%◌, ◌^◌, ◌++◌, ℕ, length, slice_index, bit_xor};
+ghost use Rattle.byteorder.specs.Endian.{big_bytes};
+ghost use Rattle.aes.specs.Words.{block_bytes};
 ghost use Rattle.aes_gcm.specs.Gcm.{stream_block, crypt};
+ghost use Rattle.aes_gcm.specs.Behind.{crypted_behind, crypt_behind};
 
 use aes::Aes;
-use arrayvec::ArrayVec;
 use byteorder::{BigEndian, ByteOrder};
 
-// The block of the key stream with this counter.
-pub fn stream_block(aes: &Aes, iv: &[u8; 12], counter: u32) -> [u8; 16]
-    ensures { result ≡ stream_block aes.now iv.now counter }
+// The block of an IV and a counter.
+fn counter_block(iv: &[u8; 12], counter: u32) -> u128
+    ensures { block_bytes result ≡ iv.now ++ big_bytes 4 counter }
 {
-    let mut number = [0u8; 4];
-    BigEndian::write_u32(&mut number, counter);
-    let mut block = ArrayVec::<u8, 16>::new();
-    let _ = block.try_extend_from_slice(iv);
-    let _ = block.try_extend_from_slice(&number);
-    aes.encrypt(&block.into_inner().unwrap())
+    let (high, low) = iv.split_at(8);
+    BigEndian::read_u64(high) as u128 * (1 << 64)
+        + BigEndian::read_u32(low) as u128 * (1 << 32)
+        + counter as u128
 }
 
-// The block of the key stream for byte `i`: the last one, but for the first byte of a block.
-fn stream_at(aes: &Aes, iv: &[u8; 12], i: usize, last: &[u8; 16]) -> [u8; 16]
-    requires small { i / 16 + 2 < 2 ^ 32 }
-    requires last { i % 16 ≢ 0 → last.now ≡ stream_block aes.now iv.now (i / 16 + 2) }
-    ensures { result ≡ stream_block aes.now iv.now (i / 16 + 2) }
+/// The block of the key stream with this counter.
+pub fn stream_block(aes: &Aes, iv: &[u8; 12], counter: u32) -> u128
+    ensures { block_bytes result ≡ stream_block aes.now iv.now counter }
 {
-    if i % 16 == 0 {
-        return stream_block(aes, iv, (i / 16 + 2) as u32);
+    aes.encrypt_number(counter_block(iv, counter))
+}
+
+// The sum of 16 bytes and a block of the key stream.
+fn masked(bytes: &[u8], stream: u128) -> u128
+    requires { length bytes.now ≡ 16 }
+    ensures { (k : ℕ) → k < 16 → slice_index (block_bytes result) k ≡ bit_xor (slice_index bytes.now k) (slice_index (block_bytes stream) k) }
+{
+    BigEndian::read_u128(bytes) ^ stream
+}
+
+// Encrypts or decrypts 16 bytes in place.
+fn mask(bytes: &mut [u8], stream: u128)
+    requires { length bytes.old ≡ 16 }
+    ensures { (k : ℕ) → k < 16 → slice_index bytes.new k ≡ bit_xor (slice_index bytes.old k) (slice_index (block_bytes stream) k) }
+{
+    let sum = masked(bytes, stream);
+    BigEndian::write_u128(bytes, sum);
+}
+
+// Encrypts or decrypts in place block `n` of a text that stands behind `first` blocks.
+fn crypt_block(aes: &Aes, iv: &[u8; 12], first: usize, text: &mut [u8], n: usize)
+    requires whole { 16 * n + 16 ≤ length text.old }
+    requires small { 16 * first + length text.old ≤ 65535 }
+    ensures block { (k : ℕ) → 16 * n ≤ k → k < 16 * n + 16 → slice_index text.new k ≡ crypted_behind first aes.now iv.now text.old k }
+    ensures before { (k : ℕ) → k < 16 * n → slice_index text.new k ≡ slice_index text.old k }
+    ensures behind { (k : ℕ) → 16 * n + 16 ≤ k → slice_index text.new k ≡ slice_index text.old k }
+{
+    let stream = stream_block(aes, iv, (first + n) as u32 + 2);
+    mask(&mut text[16 * n..16 * n + 16], stream);
+}
+
+// Encrypts or decrypts in place what a text that stands behind `first` blocks has behind its `n` whole
+// blocks.
+fn crypt_rest(aes: &Aes, iv: &[u8; 12], first: usize, text: &mut [u8], n: usize)
+    requires rest { length text.old / 16 ≡ n }
+    requires small { 16 * first + length text.old ≤ 65535 }
+    ensures rest { (k : ℕ) → 16 * n ≤ k → k < length text.old → slice_index text.new k ≡ crypted_behind first aes.now iv.now text.old k }
+    ensures before { (k : ℕ) → k < 16 * n → slice_index text.new k ≡ slice_index text.old k }
+{
+    let stream = stream_block(aes, iv, (first + n) as u32 + 2).to_be_bytes();
+    for i in 16 * n..text.len() {
+        text[i] ^= stream[i - 16 * n];
     }
-    *last
 }
 
-// Encrypts or decrypts a text in place.
+/// Encrypts or decrypts in place a text that stands behind `first` blocks.
+pub fn crypt_behind(aes: &Aes, iv: &[u8; 12], first: usize, text: &mut [u8])
+    requires { 16 * first + length text.old ≤ 65535 }
+    ensures { text.new ≡ crypt_behind first aes.now iv.now text.old }
+{
+    let whole = text.len() / 16;
+    for n in 0..whole {
+        crypt_block(aes, iv, first, text, n);
+    }
+    if text.len() % 16 > 0 {
+        crypt_rest(aes, iv, first, text, whole);
+    }
+}
+
+/// Encrypts or decrypts a text in place.
 pub fn crypt_in_place(aes: &Aes, iv: &[u8; 12], text: &mut [u8])
     requires { length text.old ≤ 65535 }
     ensures { text.new ≡ crypt aes.now iv.now text.old }
 {
-    let mut last = [0u8; 16];
-    for i in 0..text.len() {
-        last = stream_at(aes, iv, i, &last);
-        text[i] ^= last[i % 16];
-    }
+    crypt_behind(aes, iv, 0, text);
 }

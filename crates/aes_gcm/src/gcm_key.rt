@@ -1,10 +1,11 @@
-ghost use Rattle.std.specs.Prelude.{◌≡◌, ◌≤◌, ◌↔◌, ◌⊎◌, IsOk, IfErr, OnOk, OnErr, length};
+ghost use Rattle.std.specs.Prelude.{◌≡◌, ◌≤◌, ◌+◌, ◌*◌, ◌↔◌, ◌⊎◌, IsOk, IfErr, OnOk, OnErr, length};
 ghost use Rattle.aes_gcm.specs.Gcm.{crypt, tag_of, lengths_block};
+ghost use Rattle.aes_gcm.specs.Behind.{crypt_behind};
 
 use crate::BadTag;
-use crate::counter::{crypt_in_place, stream_block};
+use crate::counter::{crypt_behind, crypt_in_place, stream_block};
 use aes::Aes;
-use ghash::{HashKey, block_bytes, block_number};
+use ghash::{HashKey, block_bytes};
 use std::marker::Model;
 
 // The lengths of the associated data and of the text in bits, in one block.
@@ -41,8 +42,7 @@ impl GcmKey {
         ensures { result ≡ key.now }
     {
         let aes = Aes::new(key);
-        let zeros = aes.encrypt(&[0u8; 16]);
-        let hash = HashKey::new(block_number(&zeros));
+        let hash = HashKey::new(aes.encrypt_number(0));
         GcmKey { aes, hash }
     }
 
@@ -56,7 +56,7 @@ impl GcmKey {
         let hash = self.hash.absorb(0, aad);
         let hash = self.hash.absorb(hash, text);
         let hash = self.hash.absorb_block(hash, lengths);
-        let mask = block_number(&stream_block(&self.aes, iv, 1));
+        let mask = stream_block(&self.aes, iv, 1);
         block_bytes(hash ^ mask)
     }
 
@@ -67,8 +67,28 @@ impl GcmKey {
         ensures text { text.new ≡ crypt self.now iv.now text.old }
         ensures tag { result ≡ tag_of self.now iv.now aad.now text.new }
     {
-        crypt_in_place(&self.aes, iv, text);
+        self.crypt(iv, text);
         self.tag(iv, aad, text)
+    }
+
+    // Whether a tag is that of associated data and an encrypted text.
+    pub fn verify(
+        &self,
+        iv: &[u8; 12],
+        aad: &[u8],
+        text: &[u8],
+        tag: &[u8; 16],
+    ) -> Result<(), BadTag>
+        requires aad { length aad.now ≤ 65535 }
+        requires text { length text.now ≤ 65535 }
+        ensures opens { IsOk result ↔ (tag.now ≡ tag_of self.now iv.now aad.now text.now) }
+        ensures computed { IfErr result (λ e. e.computed ≡ tag_of self.now iv.now aad.now text.now) }
+    {
+        let computed = self.tag(iv, aad, text);
+        if computed != *tag {
+            return Err(BadTag { computed });
+        }
+        Ok(())
     }
 
     // Decrypts a text in place where the tag is its own.
@@ -86,11 +106,24 @@ impl GcmKey {
         ensures computed { IfErr result (λ e. e.computed ≡ tag_of self.now iv.now aad.now text.old) }
         ensures unchanged { OnErr result (text.new ≡ text.old) }
     {
-        let computed = self.tag(iv, aad, text);
-        if computed != *tag {
-            return Err(BadTag { computed });
-        }
-        crypt_in_place(&self.aes, iv, text);
+        self.verify(iv, aad, text, tag)?;
+        self.crypt(iv, text);
         Ok(())
+    }
+
+    // Encrypts or decrypts a text in place.
+    pub fn crypt(&self, iv: &[u8; 12], text: &mut [u8])
+        requires { length text.old ≤ 65535 }
+        ensures { text.new ≡ crypt self.now iv.now text.old }
+    {
+        crypt_in_place(&self.aes, iv, text);
+    }
+
+    // Encrypts or decrypts in place a text that stands behind `blocks` blocks.
+    pub fn crypt_behind(&self, iv: &[u8; 12], blocks: usize, text: &mut [u8])
+        requires { 16 * blocks + length text.old ≤ 65535 }
+        ensures { text.new ≡ crypt_behind blocks self.now iv.now text.old }
+    {
+        crypt_behind(&self.aes, iv, blocks, text);
     }
 }

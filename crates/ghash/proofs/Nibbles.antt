@@ -4,6 +4,7 @@ use Rattle.std.specs.Prelude.{map}
 use Rattle.std.specs.List.{range_with_len}
 use Rattle.std.proofs.Math.Nat.{mul-mod_left, div-add-mod'}
 use Rattle.std.proofs.lemmas.Nat.{shl-shr, shr-shr}
+use Rattle.std.proofs.lemmas.List.{get_or-map}
 use Rattle.std.proofs.lemmas.List.FromFn.{get_or-map-range_with_len}
 use lib.Bits.{bit_xor, xor_assoc, xor_comm, xor_zero_r, xor_zero_l, xor_shifted}
 use Rattle.ghash.specs.Field.{coefficient, times_x, x_128, row, rows, product}
@@ -33,21 +34,29 @@ times_x4-even q =
     ∙ ap times_x (times_x-even (q * 2))
     ∙ times_x-even q
 
-times_x4-split : (v : ℕ) → times_x4 v ≡ bit_xor (v / 16) (times_x4 (v % 16))
-times_x4-split v =
-    ap times_x4 (sym (xor_shifted (v / 16) 4 (v % 16) (omega arith) ∙ div-add-mod' v 16))
-    ∙ times_x4-xor (v / 16 * 16) (v % 16)
-    ∙ ap (λ t. bit_xor t (times_x4 (v % 16))) (times_x4-even (v / 16))
+times_x8-even : (q : ℕ) → times_x4 (times_x4 (q * 256)) ≡ q
+times_x8-even q =
+    let e : q * 256 ≡ q * 16 * 16 = omega arith in
+    ap (λ t. times_x4 (times_x4 t)) e ∙ ap times_x4 (times_x4-even (q * 16)) ∙ times_x4-even q
 
-folded_are : FOLDED ≡ map times_x4 (range_with_len 0 16)
+times_x8-split : (v : ℕ) → times_x4 (times_x4 v) ≡ bit_xor (v / 256) (times_x4 (times_x4 (v % 256)))
+times_x8-split v =
+    ap (λ t. times_x4 (times_x4 t)) (sym (xor_shifted (v / 256) 8 (v % 256) (omega arith) ∙ div-add-mod' v 256))
+    ∙ ap times_x4 (times_x4-xor (v / 256 * 256) (v % 256))
+    ∙ times_x4-xor (times_x4 (v / 256 * 256)) (times_x4 (v % 256))
+    ∙ ap (λ t. bit_xor t (times_x4 (times_x4 (v % 256)))) (times_x8-even (v / 256))
+
+folded_are : map (λ x. x * 2 ^ 112) FOLDED ≡ map (λ v. times_x4 (times_x4 v)) (range_with_len 0 256)
 folded_are = refl
 
-pub times_x4-folded : (v : ℕ) → bit_xor (v / 16) (get_or FOLDED (v % 16) 0) ≡ times_x4 v
-times_x4-folded v =
-    ap (bit_xor (v / 16))
-    (ap (λ (t : List ℕ). get_or t (v % 16) 0) folded_are
-    ∙ get_or-map-range_with_len times_x4 0 16 (v % 16) (v % 16) 0 (omega arith) (omega arith))
-    ∙ sym (times_x4-split v)
+pub times_x8-folded : (v : ℕ) → bit_xor (v / 256) (get_or FOLDED (v % 256) 0 * 2 ^ 112) ≡ times_x4 (times_x4 v)
+times_x8-folded v =
+    let low : v % 256 < 256 = omega arith in
+    ap (bit_xor (v / 256))
+    (sym (get_or-map (λ x. x * 2 ^ 112) FOLDED (v % 256) 0 0 low)
+    ∙ ap (λ (t : List ℕ). get_or t (v % 256) 0) folded_are
+    ∙ get_or-map-range_with_len (λ v. times_x4 (times_x4 v)) 0 256 (v % 256) (v % 256) 0 low (omega arith))
+    ∙ sym (times_x8-split v)
 
 -- the sum over n set bits from place k on, each moved k places back
 unfoldable pub sum_from : ℕ → ℕ → ℕ → ℕ → ℕ
@@ -126,7 +135,7 @@ digit_1 a k m e = let f : 127 - (k + 2) ≡ m + 1 = omega arith in ap (λ t. a /
 digit_0 : (a k m : ℕ) → k + m ≡ 124 → coefficient a (k + 3) ≡ a / 2 ^ m % 16 % 2
 digit_0 a k m e = let f : 127 - (k + 3) ≡ m = omega arith in ap (λ t. a / 2 ^ t % 2) f ∙ omega arith
 
-pub nibble_added : (a b k m s : ℕ) → k + m ≡ 124 → b < 2 ^ 128 → s ≡ sum_from a b (k + 4) m →
+nibble_added : (a b k m s : ℕ) → k + m ≡ 124 → b < 2 ^ 128 → s ≡ sum_from a b (k + 4) m →
     bit_xor (times_x4 s) (nibble_times b (a / 2 ^ m % 16)) ≡ sum_from a b k (m + 4)
 nibble_added a b k m s e lt f =
     let g : suc (suc (suc (suc m))) ≡ m + 4 = omega arith in
@@ -134,6 +143,40 @@ nibble_added a b k m s e lt f =
     ∙ xor_comm (times_x4 (sum_from a b (k + 4) m)) (nibble_times b (a / 2 ^ m % 16))
     ∙ sym (four a b k m lt ∙ rw (digit_3 a k m e, digit_2 a k m e, digit_1 a k m e, digit_0 a k m e) refl)
     ∙ ap (sum_from a b k) g
+
+-- the two halves of the byte at bit m
+upper_half : (a m : ℕ) → a / 2 ^ m % 256 / 16 ≡ a / 2 ^ (m + 4) % 16
+upper_half a m =
+    let e : a / 2 ^ m % 256 / 16 ≡ a / 2 ^ m / 16 % 16 = omega arith in e ∙ ap (λ t. t % 16) (shr-shr a m 4)
+
+lower_half : (a m : ℕ) → a / 2 ^ m % 256 % 16 ≡ a / 2 ^ m % 16
+lower_half a m = omega arith
+
+swapped : (a b c : ℕ) → bit_xor (bit_xor a b) c ≡ bit_xor (bit_xor a c) b
+swapped a b c = xor_assoc a b c ∙ ap (bit_xor a) (xor_comm b c) ∙ sym (xor_assoc a c b)
+
+-- eight coefficients more: those of the byte at bit m
+pub byte_added : (a b k m s byte : ℕ) → k + m ≡ 120 → b < 2 ^ 128 → byte ≡ a / 2 ^ m % 256 → s ≡ sum_from a b (k + 8) m →
+    bit_xor (bit_xor (times_x4 (times_x4 s)) (nibble_times b (byte / 16))) (times_x4 (nibble_times b (byte % 16))) ≡ sum_from a b k (m + 8)
+byte_added a b k m s byte e lt is f =
+    let upper = nibble_times b (a / 2 ^ (m + 4) % 16) in
+    let lower = nibble_times b (a / 2 ^ m % 16) in
+    let g : k + 8 ≡ k + 4 + 4 = omega arith in
+    let h : m + 4 + 4 ≡ m + 8 = omega arith in
+    let one : bit_xor (times_x4 s) lower ≡ sum_from a b (k + 4) (m + 4) =
+    nibble_added a b (k + 4) m s (omega arith) lt (f ∙ ap (λ t. sum_from a b t m) g) in
+    ap (λ t. bit_xor (bit_xor (times_x4 (times_x4 s)) (nibble_times b t)) (times_x4 (nibble_times b (byte % 16)))) (ap (λ t. t / 16) is ∙ upper_half a m)
+    ∙ ap (λ t. bit_xor (bit_xor (times_x4 (times_x4 s)) upper) (times_x4 (nibble_times b t))) (ap (λ t. t % 16) is ∙ lower_half a m)
+    ∙ swapped (times_x4 (times_x4 s)) upper (times_x4 lower)
+    ∙ ap (λ t. bit_xor t upper) (sym (times_x4-xor (times_x4 s) lower))
+    ∙ nibble_added a b k (m + 4) (bit_xor (times_x4 s) lower) (omega arith) lt one
+    ∙ ap (sum_from a b k) h
+
+-- what is left of a number behind one more byte
+pub byte_passed : (a rest j : ℕ) → rest ≡ a / 2 ^ (8 * j) → rest / 256 ≡ a / 2 ^ (8 * (j + 1))
+byte_passed a rest j e =
+    let f : 8 * j + 8 ≡ 8 * (j + 1) = omega arith in
+    ap (λ t. t / 256) e ∙ shr-shr a (8 * j) 8 ∙ ap (λ t. a / 2 ^ t) f
 
 pub sum_from-product : (a b k m s : ℕ) → k + m ≡ 128 → m ≡ 128 → s ≡ sum_from a b k m → s ≡ product a b
 unfolding product

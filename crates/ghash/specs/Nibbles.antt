@@ -14,3 +14,7 @@ nibble_times b w =
 -- A table holds the product of b with each four coefficients.
 abbrev pub IsTable : List ℕ → ℕ → Type 0
 IsTable table b = (w : ℕ) → w < 16 → slice_index table w ≡ nibble_times b w
+
+-- A table holds x^4 times the product of b with each four coefficients.
+abbrev pub IsMovedTable : List ℕ → ℕ → Type 0
+IsMovedTable table b = (w : ℕ) → w < 16 → slice_index table w ≡ times_x4 (nibble_times b w)

@@ -12,7 +12,7 @@ abbrev pub with_packet : PacketFields → List PacketFields → List PacketField
 with_packet p [] = []
 with_packet p (q ∷ earlier) = if has_same_tag p q then p ∷ q ∷ earlier else q ∷ earlier
 
-both_true : (a b : Bool) → a && b ≡ true → (a ≡ true) × (b ≡ true)
+pub both_true : (a b : Bool) → a && b ≡ true → (a ≡ true) × (b ≡ true)
 both_true true true e = (refl, refl)
 both_true true false e = absurd (true≢false (sym e))
 both_true false b e = absurd (true≢false (sym e))

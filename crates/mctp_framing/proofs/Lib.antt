@@ -3,6 +3,7 @@ pub mod Spelled
 mod ThreePackets
 mod GroupStep
 mod StandsFor
+mod WholeRoute
 mod SpanList
 mod Room
 mod NewStart

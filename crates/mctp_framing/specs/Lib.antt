@@ -6,3 +6,4 @@ pub mod Assembling
 pub mod Answers
 pub mod Spans
 pub mod CutAndGather
+pub mod Lending

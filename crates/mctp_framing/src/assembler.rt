@@ -3,7 +3,9 @@ ghost use Rattle.mctp_framing.specs.Cutting.{route_of};
 ghost use Rattle.mctp_framing.specs.Packet.{PacketFields, view_of};
 ghost use Rattle.mctp_framing.specs.Gathering.{answer_from, broken_rule, gathered};
 ghost use Rattle.mctp_framing.specs.Assembling.{Assembly, StandsFor, after_first, after_later, after_packet, answer_later, answer_to, grown};
-ghost use Rattle.mctp_framing.specs.Answers.{fed_answer, step_answer};
+ghost use Rattle.mctp_framing.specs.Answers.{fed_answer, step_answer, whole_of};
+ghost use Rattle.std.specs.Borrow.{sem};
+ghost use Rattle.mctp_framing.specs.Lending.{RestsWith};
 
 use crate::body_buffer::BodyBuffer;
 use crate::unfinished::{Unfinished, broken_first_rule};
@@ -36,9 +38,9 @@ impl Model for Assembler {
 
 /// What a packet led to.
 #[derive(Clone, Copy, Debug, PartialEq, Eq)]
-pub enum Fed {
-    /// It completed the body of this route, which `Assembler::body` lends until another packet is taken.
-    Whole(Route),
+pub enum Fed<'a> {
+    /// It completed the body of this route, whose bytes lie in the assembler.
+    Whole(Route, &'a [u8]),
     /// The body is not whole yet.
     More,
     /// The packet was dropped.
@@ -78,26 +80,19 @@ impl Assembler {
     /// `WrongSize` where its payload is empty, longer than the first, or shorter without EOM, and
     /// `TooLong`; after these nothing is unfinished. Else the packet is added: with EOM the body is
     /// `Whole`, and without it `More` is awaited.
-    pub fn take(&mut self, packet: PacketView<'_>) -> Fed
+    pub fn take(&mut self, packet: PacketView<'_>) -> Fed<'_>
         requires sequence { packet.sequence < 4 }
         requires tag { packet.tag < 8 }
-        ensures receiver { self.new.receiver ≡ self.old.receiver }
-        ensures fed { (given : List PacketFields) → StandsFor self.old given → fed_answer result self.new.body ≡ gathered self.old.receiver given (view_of packet.entry) }
-        ensures stands { (given : List PacketFields) → StandsFor self.old given → StandsFor self.new (view_of packet.entry ∷ given) }
+        ensures fed { (given : List PacketFields) → StandsFor self.old given → fed_answer result ≡ gathered self.old.receiver given (view_of packet.entry) }
+        ensures fits { length (whole_of result) ≤ self.old.receiver.limit }
+        // What it is once the body is given back.
+        ensures* rests { sem 𝓛 (RestsWith self.entry (view_of packet.entry)) }
     {
         match self.step(packet) {
-            Step::Whole => Fed::Whole(self.route(packet)),
+            Step::Whole => Fed::Whole(self.route(packet), self.body.as_slice()),
             Step::More => Fed::More,
             Step::Dropped(cause) => Fed::Dropped(cause),
         }
-    }
-
-    /// The bytes of the body that is being gathered, and the whole body after `Fed::Whole`.
-    pub fn body(&self) -> &[u8]
-        ensures value { result.now ≡ self.now.body }
-        ensures fits { length result.now ≤ self.now.receiver.limit }
-    {
-        self.body.as_slice()
     }
 
     // The route of a packet for the own end point and from the peer.

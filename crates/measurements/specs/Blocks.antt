@@ -1,14 +1,11 @@
 -- Measurement blocks and how they are found (DSP0274, "Measurement block format" and "DMTF measurement specification format").
-use Rattle.std.specs.Prelude.{ℕ, zero, suc, ◌+◌, ◌/◌, ◌%◌, ◌==◌, if◌then◌else◌, List, [], ◌∷◌, ◌++◌, length, Option, Some, None}
+use Rattle.std.specs.Prelude.{ℕ, zero, suc, ◌+◌, ◌==◌, if◌then◌else◌, List, [], ◌∷◌, ◌++◌, length, Option, Some, None}
+use Rattle.byteorder.specs.Endian.{little_bytes}
 use Rattle.spdm_grammar.specs.declared.block_spec.BlockSpec.{BlockSpec}
-
--- A number of two bytes, the low byte first.
-abbrev pub two_bytes : ℕ → List ℕ
-two_bytes n = n % 256 ∷ n / 256 % 256 ∷ []
 
 -- The seven bytes in front of a value: the index, the DMTF specification (bit 0), the size of what follows, the type of the value and its size.
 abbrev pub block_head : BlockSpec → List ℕ
-block_head block = (block.index ∷ 1 ∷ []) ++ two_bytes (3 + length block.value) ++ (block.value_type ∷ []) ++ two_bytes (length block.value)
+block_head block = (block.index ∷ 1 ∷ []) ++ little_bytes 2 (3 + length block.value) ++ (block.value_type ∷ []) ++ little_bytes 2 (length block.value)
 
 -- A whole block.
 abbrev pub block_bytes : BlockSpec → List ℕ

@@ -1,6 +1,8 @@
 ghost use Rattle.std.specs.Prelude.{◌≡◌, ◌≤◌, ◌+◌, ◌++◌, length};
+ghost use Rattle.byteorder.specs.Endian.{little_bytes};
 ghost use Rattle.measurements.specs.Blocks.{block_head, block_bytes, record_len, record_of};
 
+use byteorder::{ByteOrder, LittleEndian};
 use spdm_basis::Frame;
 use spdm_grammar::BlockSpec;
 use spdm_grammar::names::MEASUREMENT_DMTF;
@@ -11,17 +13,27 @@ pub fn block_head(block: &BlockSpec) -> [u8; 7]
     requires { length block.now.value ≤ 4047 }
     ensures { result ≡ block_head block.now }
 {
-    let len = block.value.as_slice().len();
-    let size = len + 3;
+    let len = block.value.as_slice().len() as u16;
+    let size = two_bytes(len + 3);
+    let value_size = two_bytes(len);
     [
         block.index,
         MEASUREMENT_DMTF,
-        (size % 256) as u8,
-        (size / 256 % 256) as u8,
+        size[0],
+        size[1],
         block.value_type,
-        (len % 256) as u8,
-        (len / 256 % 256) as u8,
+        value_size[0],
+        value_size[1],
     ]
+}
+
+// A number as two bytes, the lowest first.
+fn two_bytes(number: u16) -> [u8; 2]
+    ensures { result ≡ little_bytes 2 number }
+{
+    let mut bytes = [0u8; 2];
+    LittleEndian::write_u16(&mut bytes, number);
+    bytes
 }
 
 /// Adds a block.

@@ -1,16 +1,15 @@
 -- What the whole answer to a clear request leads to at a requester (DSP0274, section 10: the responses).
-use Rattle.std.specs.Prelude.{◌+◌, ◌==◌, ◌&&◌, ℕ, List, [], ◌∷◌, slice_index, if◌then◌else◌, Bool, true, false, Option, Some, None, Result, Ok, Err, bytes_eq, not}
+use Rattle.std.specs.Prelude.{◌+◌, ◌==◌, ◌&&◌, ℕ, List, [], slice_index, if◌then◌else◌, Bool, true, false, Option, Some, None, Result, Ok, Err, bytes_eq}
 use Rattle.negotiate.specs.Capabilities.{common_of}
 use Rattle.negotiate.specs.Choosing.{agreed}
 use Rattle.negotiate.specs.Offer.{offer_of}
 use Rattle.negotiate.specs.Versions.{version_entries, first_of_1_2}
 use Rattle.negotiate.specs.declared.shared.Common.{Common}
 use Rattle.key_schedule.specs.declared.direction.Direction.TheVariants as direction
-use Rattle.spdm_grammar.specs.Message.{RequestMessage, ResponseMessage, OfferMessage, ReplyMessage, ExchangeMessage, ExchangeRspMessage, MeasuredMessage}
+use Rattle.spdm_grammar.specs.Message.{RequestMessage, ResponseMessage, OfferMessage, ExchangeMessage, ExchangeRspMessage, MeasuredMessage}
 use Rattle.spdm_grammar.specs.Message.RequestMessage.{GetVersion, GetCapabilities, NegotiateAlgorithms, GetMeasurements, PskExchange}
 use Rattle.spdm_grammar.specs.Message.ResponseMessage.{Version, Capabilities, Algorithms, Measurements, PskExchangeRsp, Error}
 use Rattle.spdm_grammar.specs.Requests.{canonical_request}
-use Rattle.spdm_grammar.specs.declared.capabilities.Caps.{Caps}
 use Rattle.spdm_grammar.specs.declared.choice.Choice.{Choice}
 use Rattle.spdm_grammar.specs.declared.event.Event.TheVariants as event
 use Rattle.spdm_grammar.specs.declared.event.Finished.{Finished}
@@ -24,7 +23,7 @@ use Rattle.spdm_machine.specs.Keys.{verify_data}
 use Rattle.spdm_machine.specs.Setup.{ReqSetup, requester_caps}
 use Rattle.requester_machine.specs.Commands.{Free}
 use Rattle.requester_machine.specs.History.{History, Effect, Led, connection_terms}
-use Rattle.requester_machine.specs.History.Effect.{NoEffect, Answers, Refuses, Stops}
+use Rattle.requester_machine.specs.History.Effect.{Nothing, Answers, Refuses, Stops}
 use Rattle.requester_machine.specs.Message.{Sent}
 use Rattle.requester_machine.specs.Sending.{plain_sent, request_sent, get_sent, finish_sent, is_too_long}
 use Rattle.requester_machine.specs.Session.{Steps, session_of, when_live, session_terms, t1_of}
@@ -62,7 +61,7 @@ may_be_large _ = false
 abbrev pub error_led : History → RequestMessage → (code : ℕ) → (extended : List ℕ) → Led
 error_led h asked code extended =
     if code == 0x0f && may_be_large asked && (connection_terms h).common.chunk
-    then goes_on NoEffect (get_sent h asked (slice_index extended 0) 0 [])
+    then goes_on Nothing (get_sent h asked (slice_index extended 0) 0 [])
     else is_refused code (Refuses asked)
 
 -- ---- The negotiation.

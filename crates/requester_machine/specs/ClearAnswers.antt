@@ -1,7 +1,7 @@
 -- What a clear message leads to that came to a clear request: it is the answer itself, or carries it by
 -- chunks (DSP0274, "CHUNK_SEND_ACK", "CHUNK_RESPONSE"; which one is ignored, and at which place it is
 -- malformed, is this project's own).
-use Rattle.std.specs.Prelude.{◌+◌, ◌==◌, ◌&&◌, not, ℕ, List, [], ◌∷◌, length, if◌then◌else◌, Bool, true, false, Option, Some, None, is_none, unwrap_or, Result, Ok, Err}
+use Rattle.std.specs.Prelude.{◌+◌, ◌==◌, ◌&&◌, not, ℕ, List, [], ◌∷◌, length, if◌then◌else◌, Bool, false, Option, Some, None, is_none, unwrap_or, Result, Ok, Err}
 use Rattle.chunking.specs.Collecting.{broken_rule, joined_with}
 use Rattle.negotiate.specs.declared.shared.Common.{Common}
 use Rattle.spdm_grammar.specs.Message.{RequestMessage, ResponseMessage, ChunkMessage}
@@ -19,7 +19,7 @@ use Rattle.requester_machine.specs.Answers.{answer_led, goes_on, is_refused}
 use Rattle.requester_machine.specs.Bodies.{first_cause, error_in}
 use Rattle.requester_machine.specs.Commands.{Free}
 use Rattle.requester_machine.specs.History.{History, Led, connection_terms}
-use Rattle.requester_machine.specs.History.Effect.{NoEffect, Refuses}
+use Rattle.requester_machine.specs.History.Effect.{Nothing, Refuses}
 use Rattle.requester_machine.specs.Message.{Aim, Sent}
 use Rattle.requester_machine.specs.Message.Aim.{Plain, ByChunks, ForChunk, InSession}
 use Rattle.requester_machine.specs.Sending.{piece_of, piece_sent, get_sent}
@@ -111,7 +111,7 @@ read_led q h f place asked answer (Ok value) = answer_led q h f place asked answ
 abbrev pub carried_led : ReqSetup → History → Free → RequestMessage → Carried → Result Led ReqIgnored
 carried_led q h f asked (Ignored cause) = Err cause
 carried_led q h f asked (Refused code) = Ok (is_refused code (Refuses asked))
-carried_led q h f asked (Further next) = Ok (goes_on NoEffect next)
+carried_led q h f asked (Further next) = Ok (goes_on Nothing next)
 carried_led q h f asked (Whole answer place) = read_led q h f place asked answer (reading_of h asked answer)
 
 -- What a clear message leads to that came to a clear request, or why it is ignored.

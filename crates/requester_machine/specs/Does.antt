@@ -1,5 +1,5 @@
 -- What this project's requester does: the one outcome at the values that it chooses.
-use Rattle.std.specs.Prelude.{⊤, ◌≡◌, not, ℕ, List, [], ◌∷◌, take, if◌then◌else◌, Bool, true, false}
+use Rattle.std.specs.Prelude.{⊤, ◌≡◌, not, ℕ, List, [], ◌∷◌, take, if◌then◌else◌, Bool, false}
 use Rattle.spdm_machine.specs.Keys.{Draw, context_of}
 use Rattle.spdm_machine.specs.Responder.{clear_body, record_body}
 use Rattle.spdm_machine.specs.Setup.{ReqSetup}

@@ -1,7 +1,6 @@
 -- What a requester does with a whole message body.
 use Rattle.std.specs.Prelude.{ℕ, List, drop, if◌then◌else◌, Bool, Option, Some, None, unwrap_or, Result, Ok, Err}
 use Rattle.spdm_basis.specs.declared.record_fault.RecordFault.{RecordFault}
-use Rattle.spdm_grammar.specs.Message.{RequestMessage}
 use Rattle.spdm_grammar.specs.declared.event.ReqIgnored.{ReqIgnored}
 use Rattle.spdm_grammar.specs.declared.event.ReqIgnored.TheVariants as ignored
 use Rattle.spdm_machine.specs.Keys.{Draw}

@@ -19,7 +19,7 @@ use Rattle.requester_machine.specs.Message.Command.{Connect, Open, Send, Beat, U
 -- or was refused with an ERROR; the negotiation stops. An ask of a session has its whole answer (application
 -- data without its type); the session is lost.
 pub data Effect : Type 0 where
-  NoEffect : Effect
+  Nothing : Effect
   Answers : (asked : RequestMessage) → (answer : List ℕ) → Effect
   Refuses : (asked : RequestMessage) → Effect
   Stops : Effect
@@ -104,7 +104,7 @@ negotiates _ = false
 -- An exchange of the negotiation counts when its answer was taken; a refused one and a stop begin anew
 -- (DSP0274, "Message exchanges").
 abbrev pub phase_after : Effect → Phase → Phase
-phase_after NoEffect phase = phase
+phase_after Nothing phase = phase
 phase_after (Answers GetVersion answer) phase = Versioned
 phase_after (Answers (GetCapabilities caps) answer) phase = Capable
 phase_after (Answers (NegotiateAlgorithms offer) answer) phase = Negotiated

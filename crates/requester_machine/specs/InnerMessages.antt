@@ -2,7 +2,7 @@
 -- This project's own but for the answers themselves (DSP0274, section 10).
 use Rattle.std.specs.Prelude.{◌+◌, ◌==◌, ◌&&◌, ◌||◌, not, nat_lt, ℕ, List, [], ◌∷◌, length, slice_index, drop, if◌then◌else◌, Bool, true, false, Option, Some, None, Result, Ok, Err}
 use Rattle.chunking.specs.Collecting.{joined_with}
-use Rattle.spdm_grammar.specs.Message.{ResponseMessage, ChunkMessage, MeasuredMessage}
+use Rattle.spdm_grammar.specs.Message.{ResponseMessage, ChunkMessage}
 use Rattle.spdm_grammar.specs.Message.ResponseMessage.{Measurements, PskFinishRsp, HeartbeatAck, KeyUpdateAck, EndSessionAck, ChunkResponse, Error}
 use Rattle.spdm_grammar.specs.Responses.{response_reading}
 use Rattle.spdm_grammar.specs.declared.event.BadReply.{BadReply}
@@ -17,8 +17,8 @@ use Rattle.requester_machine.specs.Answers.{goes_on, is_done, is_refused, measur
 use Rattle.requester_machine.specs.ClearAnswers.{get_fault}
 use Rattle.requester_machine.specs.Commands.{Free, has_reached}
 use Rattle.requester_machine.specs.History.{History, Effect, Led}
-use Rattle.requester_machine.specs.History.Effect.{NoEffect, Grants, Loses}
-use Rattle.requester_machine.specs.Message.{Ask, Sent}
+use Rattle.requester_machine.specs.History.Effect.{Nothing, Grants, Loses}
+use Rattle.requester_machine.specs.Message.{Ask}
 use Rattle.requester_machine.specs.Message.Ask.{AskFinish, AskData, AskBeat, AskUpdate, AskVerify, AskMeasure, AskChunk, AskEnd}
 use Rattle.requester_machine.specs.Sending.{verify_sent, chunk_sent, operation_of, update_tag}
 use Rattle.requester_machine.specs.Session.{Steps, when_live, session_id, session_terms}
@@ -74,7 +74,7 @@ outlives_error AskEnd = false
 
 -- CHUNK_GET for the first chunk of the large answer with the handle that LargeResponse told.
 abbrev pub first_get : ReqSetup → History → Free → Came → (op : ℕ) → (extended : List ℕ) → Led
-first_get q h f came op extended = goes_on NoEffect (chunk_sent q h came.id (with_record came NoEffect) op (slice_index extended 0) 0 [] f.pad)
+first_get q h f came op extended = goes_on Nothing (chunk_sent q h came.id (with_record came Nothing) op (slice_index extended 0) 0 [] f.pad)
 
 -- LargeResponse, 0F, to GET_MEASUREMENTS is followed where chunks are in common.
 abbrev pub follows : Came → Ask → (code : ℕ) → Bool
@@ -90,7 +90,7 @@ op_in _ = 0
 abbrev pub error_led : ReqSetup → History → Free → Came → Ask → (code : ℕ) → (extended : List ℕ) → Result Led BadReply
 error_led q h f came ask code extended =
     if follows came ask code then Ok (first_get q h f came (op_in ask) extended)
-    else (if outlives_error ask then Ok (is_refused code NoEffect)
+    else (if outlives_error ask then Ok (is_refused code Nothing)
     else Err (bad.Refused code))
 
 -- ---- KEY_UPDATE_ACK (DSP0274, "KEY_UPDATE").
@@ -117,7 +117,7 @@ verified_led came echo =
 abbrev pub whole_led : ReqSetup → History → Free → Came → (op : ℕ) → (whole : List ℕ) → Result ResponseMessage Malformed → Result Led BadReply
 whole_led q h f came op whole (Err fault) = Err (bad.Malformed fault.at)
 whole_led q h f came op whole (Ok (Error version code detail extended)) =
-    Ok (if code == 0x0f && not (has_reached 65300 came.steps) then first_get q h f came op extended else is_refused code NoEffect)
+    Ok (if code == 0x0f && not (has_reached 65300 came.steps) then first_get q h f came op extended else is_refused code Nothing)
 whole_led q h f came op whole (Ok (Measurements measured)) = Ok (measured_led op measured (Grants (AskMeasure op) whole))
 whole_led q h f came op whole (Ok _) = Err bad.WrongKind
 
@@ -125,7 +125,7 @@ abbrev pub chunk_led : ReqSetup → History → Free → Came → (op : ℕ) →
 chunk_led q h f came op before c (Some fault) = Err (bad.Chunk fault)
 chunk_led q h f came op before c None =
     if c.last then whole_led q h f came op (joined_with before c) (reading_of came (joined_with before c))
-    else Ok (goes_on NoEffect (chunk_sent q h came.id (with_record came NoEffect) op c.handle (c.number + 1) (c ∷ before) f.pad))
+    else Ok (goes_on Nothing (chunk_sent q h came.id (with_record came Nothing) op c.handle (c.number + 1) (c ∷ before) f.pad))
 
 -- ---- All answers.
 

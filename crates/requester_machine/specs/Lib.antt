@@ -14,3 +14,6 @@ pub mod Does
 pub mod May
 pub mod Shown
 pub mod RequesterLog
+pub mod Order
+pub mod Laws
+pub mod ResponseLaws

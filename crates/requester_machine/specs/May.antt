@@ -10,6 +10,12 @@ use Rattle.requester_machine.specs.History.{History, connection_terms}
 use Rattle.requester_machine.specs.Message.{Command}
 use Rattle.requester_machine.specs.Session.{session_of, is_live}
 
+-- A setup within its limits. This project's own.
+pub record IsSetUp (q : ReqSetup) : Type 0 where
+  pub hint : length q.hint ≤ 64
+  pub opaque : length q.opaque ≤ 1024
+  pub pad : q.pad ≤ 16
+
 -- The values that a requester may choose: an id from 1 to 4 that no live session has, where one is left (beside
 -- four of them no session is begun, whatever id it would have); a context of at least the length of the hash and
 -- opaque data of at most 1,024 bytes, with which PSK_EXCHANGE has at most 4,096; and padding of at most 16 bytes.

@@ -1,6 +1,6 @@
 -- The records of a session at the requester: under which purpose and number the next ones are sealed and
 -- taken.
-use Rattle.std.specs.Prelude.{◌+◌, ℕ, List, Option, Bool, true, false, if◌then◌else◌}
+use Rattle.std.specs.Prelude.{◌+◌, ℕ, List, Option, Bool, false, if◌then◌else◌}
 use Rattle.key_schedule.specs.Purpose.{Purpose}
 use Rattle.key_schedule.specs.declared.direction.Direction.TheVariants.{Request, Response}
 use Rattle.spdm_basis.specs.declared.record_fault.RecordFault.{RecordFault}

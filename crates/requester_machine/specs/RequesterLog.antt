@@ -1,8 +1,8 @@
 -- The tags that a requester computes and compares, message by message.
-use Rattle.std.specs.Prelude.{ℕ, ◌==◌, List, [], ◌∷◌, ◌++◌, drop, if◌then◌else◌, Bool, Option, Some, None, Result, Ok, Err}
+use Rattle.std.specs.Prelude.{ℕ, List, [], ◌∷◌, ◌++◌, drop, Option, Some, None, Result, Ok}
 use Rattle.key_schedule.specs.Purpose.{verify}
 use Rattle.key_schedule.specs.declared.direction.Direction.TheVariants as direction
-use Rattle.spdm_grammar.specs.Message.{RequestMessage, ResponseMessage, ExchangeMessage, ExchangeRspMessage}
+use Rattle.spdm_grammar.specs.Message.{RequestMessage, ResponseMessage, ExchangeRspMessage}
 use Rattle.spdm_grammar.specs.Message.RequestMessage.{PskExchange}
 use Rattle.spdm_grammar.specs.Message.ResponseMessage.{PskExchangeRsp}
 use Rattle.spdm_grammar.specs.declared.event.ReqIgnored.{ReqIgnored}
@@ -21,7 +21,7 @@ use Rattle.requester_machine.specs.History.Effect.{Answers}
 use Rattle.requester_machine.specs.History.Entry.{Told, TookClear, TookRecord}
 use Rattle.requester_machine.specs.InnerMessages.{Came, with_record}
 use Rattle.requester_machine.specs.Message.{Ask, Aim, Content, Sent, asked_in}
-use Rattle.requester_machine.specs.Message.Aim.{Plain, ByChunks, ForChunk, InSession}
+use Rattle.requester_machine.specs.Message.Aim.{InSession}
 use Rattle.requester_machine.specs.Message.Content.{Clear, Sealed}
 use Rattle.requester_machine.specs.Records.{request_purpose, answer_purpose, answer_number}
 use Rattle.requester_machine.specs.Sending.{finish_input, finish_verify}

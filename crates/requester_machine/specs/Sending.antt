@@ -1,15 +1,15 @@
 -- The messages that a requester sends (DSP0274, section 10: the requests). Each has the next message tag.
-use Rattle.std.specs.Prelude.{◌+◌, ◌%◌, ◌++◌, ◌&&◌, ◌||◌, not, nat_lt, ℕ, List, [], ◌∷◌, length, if◌then◌else◌, Bool, true, false, Option, Some, None}
+use Rattle.std.specs.Prelude.{◌%◌, ◌++◌, ◌&&◌, ◌||◌, not, nat_lt, ℕ, List, [], ◌∷◌, length, if◌then◌else◌, Bool}
 use Rattle.chunking.specs.Cutting.{nth_chunk}
 use Rattle.key_schedule.specs.declared.direction.Direction.TheVariants as direction
 use Rattle.negotiate.specs.declared.shared.Common.{Common}
 use Rattle.spdm_grammar.specs.Message.{RequestMessage, ChunkMessage}
-use Rattle.spdm_grammar.specs.Message.RequestMessage.{GetMeasurements, PskExchange, PskFinish, Heartbeat, KeyUpdate, EndSession, ChunkSend, ChunkGet}
+use Rattle.spdm_grammar.specs.Message.RequestMessage.{PskFinish, KeyUpdate, ChunkSend, ChunkGet}
 use Rattle.spdm_grammar.specs.Requests.{canonical_request}
 use Rattle.spdm_machine.specs.Keys.{verify_data}
 use Rattle.spdm_machine.specs.Setup.{ReqSetup}
 use Rattle.requester_machine.specs.History.{History, next_tag, next_handle}
-use Rattle.requester_machine.specs.Message.{Ask, Aim, Content, Sent}
+use Rattle.requester_machine.specs.Message.{Ask, Aim, Sent}
 use Rattle.requester_machine.specs.Message.Aim.{Plain, ByChunks, ForChunk, InSession}
 use Rattle.requester_machine.specs.Message.Ask.{AskFinish, AskVerify, AskChunk}
 use Rattle.requester_machine.specs.Message.Content.{Clear, Sealed}

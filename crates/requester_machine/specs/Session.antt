@@ -13,13 +13,13 @@ use Rattle.spdm_machine.specs.Session.{id_in_exchange}
 use Rattle.spdm_machine.specs.Terms.{Terms, no_negotiation, terms_of}
 use Rattle.transcript.specs.Transcripts as transcript
 use Rattle.transcript.specs.Transcripts.{Negotiation, vca_of}
-use Rattle.requester_machine.specs.History.{History, Effect, Led, negotiation_of}
-use Rattle.requester_machine.specs.History.Effect.{NoEffect, Answers, Refuses, Stops, Grants, Loses}
+use Rattle.requester_machine.specs.History.{History, Effect, negotiation_of}
+use Rattle.requester_machine.specs.History.Effect.{Answers, Refuses, Grants, Loses}
 use Rattle.requester_machine.specs.History.Entry.{Told, TookClear, TookRecord}
 use Rattle.requester_machine.specs.Message.{Command, Ask, Aim, Content, Sent, asked_in}
-use Rattle.requester_machine.specs.Message.Aim.{Plain, ByChunks, ForChunk, InSession}
-use Rattle.requester_machine.specs.Message.Ask.{AskFinish, AskData, AskBeat, AskUpdate, AskVerify, AskMeasure, AskChunk, AskEnd}
-use Rattle.requester_machine.specs.Message.Command.{Connect, Open, Send, Beat, Update, Measure, End, Retry}
+use Rattle.requester_machine.specs.Message.Aim.{InSession}
+use Rattle.requester_machine.specs.Message.Ask.{AskFinish, AskData, AskUpdate, AskVerify, AskEnd}
+use Rattle.requester_machine.specs.Message.Command.{Connect, Open}
 use Rattle.requester_machine.specs.Message.Content.{Clear, Sealed}
 
 -- What a session sees: PSK_EXCHANGE, which began it, with the negotiation that it was made under;

@@ -1,8 +1,7 @@
 -- What comes of an outcome: the history behind it, the message that is sent, what is told; and what is shown of
 -- a requester.
-use Rattle.std.specs.Prelude.{ℕ, List, [], ◌∷◌, ◌++◌, if◌then◌else◌, Bool, Option, Some, None}
-use Rattle.spdm_basis.specs.declared.session_id.SessionId.{SessionId}
-use Rattle.spdm_grammar.specs.Message.{RequestMessage, ResponseMessage}
+use Rattle.std.specs.Prelude.{ℕ, List, [], ◌∷◌, ◌++◌, if◌then◌else◌, Option, Some, None}
+use Rattle.spdm_grammar.specs.Message.{ResponseMessage}
 use Rattle.spdm_grammar.specs.Message.RequestMessage.{GetMeasurements}
 use Rattle.spdm_grammar.specs.Message.ResponseMessage.{Measurements}
 use Rattle.spdm_grammar.specs.declared.command_fault.CommandFault.{CommandFault}
@@ -15,7 +14,7 @@ use Rattle.requester_machine.specs.Asking.Outcome.{Fails, Ignores, Warns, Resend
 use Rattle.requester_machine.specs.History.{History, Entry, Effect, sent_in}
 use Rattle.requester_machine.specs.History.Effect.{Answers, Grants}
 use Rattle.requester_machine.specs.History.Entry.{Told, TookClear, TookRecord}
-use Rattle.requester_machine.specs.Message.{Sent, body_of}
+use Rattle.requester_machine.specs.Message.{Sent}
 use Rattle.requester_machine.specs.Message.Ask.{AskData, AskMeasure}
 use Rattle.requester_machine.specs.Session.{Steps, session_of, is_accepted, session_id, stage_of, request_epoch, response_epoch, request_next, response_next, taken_of, session_hash, session_terms, t1_of, t2_of}
 
@@ -72,7 +71,7 @@ bytes_in (Grants AskData answer) = Some answer
 bytes_in _ = None
 
 abbrev pub effect_in : Entry → Effect
-effect_in (Told command sent d) = Effect.NoEffect
+effect_in (Told command sent d) = Effect.Nothing
 effect_in (TookClear tag m led d) = led.effect
 effect_in (TookRecord tag id sealed inner led d) = led.effect
 

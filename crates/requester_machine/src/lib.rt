@@ -2,3 +2,85 @@
 //! commands it does, what it sends, what it takes and what it tells. Nothing here runs. The definitions
 //! are in `specs/`, and each function below has a law about them as its contract.
 #![tactic(auto)]
+
+ghost use Rattle.requester_machine.specs.Laws.{CommandIsAllowed, BodyIsAllowed, RetryAddsNothing, FaultAddsNothing, IgnoredAddsNothing, ClearAddsNothingInSession, UnopenedAddsNothing, LiveIdsAreFew, NewSessionIsFresh, SessionsAreInOrder, NumbersAreCounts, UpdateBeginsAnew, TakenTagsAreRight};
+ghost use Rattle.requester_machine.specs.ResponseLaws.{ResponsesAreCounts, UpdateAllBeginsAnew};
+
+/// What the requester does with a command, it may, where its setup is within its limits.
+pub fn command_is_allowed()
+    ensures { CommandIsAllowed }
+{}
+
+/// What the requester does with a body that came, it may.
+pub fn body_is_allowed()
+    ensures { BodyIsAllowed }
+{}
+
+/// Retry adds nothing to the history.
+pub fn retry_adds_nothing()
+    ensures { RetryAddsNothing }
+{}
+
+/// A command with a fault adds nothing to the history.
+pub fn fault_adds_nothing()
+    ensures { FaultAddsNothing }
+{}
+
+/// A body that is ignored adds nothing to the history.
+pub fn ignored_adds_nothing()
+    ensures { IgnoredAddsNothing }
+{}
+
+/// While something is asked of a session, no clear message adds anything to the history.
+pub fn clear_adds_nothing_in_session()
+    ensures { ClearAddsNothingInSession }
+{}
+
+/// A record that does not open adds nothing to the history.
+pub fn unopened_adds_nothing()
+    ensures { UnopenedAddsNothing }
+{}
+
+/// The sessions of a history that the requester made have ids from 1 to 4.
+pub fn live_ids_are_few()
+    ensures { LiveIdsAreFew }
+{}
+
+/// A new session has an id from 1 to 4 that no live session had, and begins with its PSK_EXCHANGE under the
+/// negotiation as it stands.
+pub fn new_session_is_fresh()
+    ensures { NewSessionIsFresh }
+{}
+
+/// In a history that the requester made, the steps of each session are in order: records are sealed and
+/// taken in turn. At most the session of the outstanding request waits, and all others are open.
+pub fn sessions_are_in_order()
+    ensures { SessionsAreInOrder }
+{}
+
+/// In a history that the requester made, the number of a session's next record is the count of those sealed
+/// under its purpose.
+pub fn numbers_are_counts()
+    ensures { NumbersAreCounts }
+{}
+
+/// In a history that the requester made, the number of a session's next response is the count of those
+/// taken under its purpose.
+pub fn responses_are_counts()
+    ensures { ResponsesAreCounts }
+{}
+
+/// The answer to UpdateAllKeys is number 0 of the next epoch of responses.
+pub fn update_all_begins_anew()
+    ensures { UpdateAllBeginsAnew }
+{}
+
+/// An update of the request key begins at number 0 of the next epoch.
+pub fn update_begins_anew()
+    ensures { UpdateBeginsAnew }
+{}
+
+/// Where a body adds an entry to the history, each tag that it was compared for is the computed one.
+pub fn taken_tags_are_right()
+    ensures { TakenTagsAreRight }
+{}

@@ -1,3 +1,5 @@
 pub mod Same
+pub mod Written
+pub mod Pieces
 pub mod Records
 pub mod Outcomes

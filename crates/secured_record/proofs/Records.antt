@@ -95,7 +95,7 @@ is_authentic-record key iv req rsp number inner pad =
     same-true (tag_part s) (tag_of key n (take 8 s) (text_part s))
     (tag_part-append c (tag_of key n h c) (length-tag_of key n h c) ∙ sym (ap (tag_of key n h) (text_part-record key iv req rsp number inner pad)))
 
-fault_behind-none : (f : Option RecordFault) (key iv : List ℕ) (number : ℕ) (s : List ℕ) → f ≡ None → is_authentic key iv number s ≡ true
+pub fault_behind-none : (f : Option RecordFault) (key iv : List ℕ) (number : ℕ) (s : List ℕ) → f ≡ None → is_authentic key iv number s ≡ true
     → nat_lt (length (opened_text key iv number s) - 2) (little_number 2 (opened_text key iv number s)) ≡ false → fault_behind f key iv number s ≡ None
 fault_behind-none f key iv number s e a b = rw e (none_of_text _ _ a b)
 

@@ -1,6 +1,6 @@
-ghost use Rattle.std.specs.Prelude.{◌≡◌, ◌≤◌, ◌+◌, length};
+ghost use Rattle.std.specs.Prelude.{◌≡◌};
 ghost use Rattle.byteorder.specs.Endian.{little_bytes};
-ghost use Rattle.secured_record.specs.Format.{header, nonce, plain_text};
+ghost use Rattle.secured_record.specs.Format.{header, nonce};
 
 use arrayvec::ArrayVec;
 use byteorder::{ByteOrder, LittleEndian};
@@ -53,17 +53,4 @@ pub fn nonce(iv: &[u8; 12], number: u16) -> [u8; 12]
     let _ = nonce.try_extend_from_slice(&first);
     let _ = nonce.try_extend_from_slice(iv.split_at(8).1);
     nonce.into_inner().unwrap()
-}
-
-// The plain text of an inner message and padding.
-pub fn plain_text(inner: &[u8], pad: &[u8]) -> ArrayVec<u8, 4160>
-    requires { length inner.now + length pad.now ≤ 4134 }
-    ensures value { result.items ≡ plain_text inner.now pad.now }
-    ensures size { length result.items ≡ length inner.now + length pad.now + 2 }
-{
-    let mut text = ArrayVec::new();
-    let _ = text.try_extend_from_slice(&two_bytes(inner.len() as u16));
-    let _ = text.try_extend_from_slice(inner);
-    let _ = text.try_extend_from_slice(pad);
-    text
 }

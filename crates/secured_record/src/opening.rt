@@ -1,13 +1,16 @@
-ghost use Rattle.std.specs.Prelude.{◌≡◌, ◌≤◌, ℕ, List, None, Some, IsOk, OnOk, OnErr, IfOk, MatchResult, is_ok, length, take};
+ghost use Rattle.std.specs.Prelude.{◌≡◌, ◌≢◌, ◌≤◌, ◌+◌, ◌-◌, ◌++◌, ℕ, List, None, Some, true, false, nat_lt, min, IsOk, OnOk, OnErr, IfErr, MatchResult, is_ok, length, take, drop};
 ghost use Rattle.byteorder.specs.Endian.{little_bytes, little_number};
 ghost use Rattle.spdm_basis.specs.Sizes.{key_size};
+ghost use Rattle.aes_gcm.specs.Gcm.{crypt};
+ghost use Rattle.aes_gcm.specs.Behind.{crypt_behind};
+ghost use Rattle.secured_record.specs.Ciphers.{cipher_key};
 ghost use Rattle.spdm_basis.specs.SessionIdBytes.{session_id_bytes};
 ghost use Rattle.secured_record.specs.Format.{key_of, iv_of, record_of};
 ghost use Rattle.secured_record.specs.Contents.{IsRecordOf};
-ghost use Rattle.secured_record.specs.Faults.{same_bytes, header_fault, is_authentic, opened_text, fault_of, inner_of};
+ghost use Rattle.secured_record.specs.Faults.{same_bytes, header_fault, is_authentic, opened_text, text_part, fault_of, inner_of};
 
 use crate::RecordFault;
-use crate::aead::open_in_place;
+use crate::aead::RecordCipher;
 use crate::format::{nonce, two_bytes};
 use aes_gcm::BadTag;
 use arrayvec::ArrayVec;
@@ -49,40 +52,53 @@ fn header_fault(id: &[u8; 4], number: u16, sealed: &[u8]) -> Option<RecordFault>
     None
 }
 
-// The text of a record, decrypted, where the tag is that of the record.
-#[tactic(auto, unfolding(crate::specs::Faults::is_authentic, crate::specs::Faults::opened_text))]
-fn open_text(
-    aead: AeadAlg,
-    key: &[u8],
+// The encrypted text of a record.
+fn text_part(sealed: &[u8]) -> &[u8]
+    requires least { 26 ≤ length sealed.now }
+    ensures value { result.now ≡ text_part sealed.now }
+    ensures size { length result.now ≡ length sealed.now - 24 }
+{
+    let rest = sealed.split_at(8).1;
+    rest.split_at(rest.len() - 16).0
+}
+
+// Tests the tag of a record.
+#[tactic(auto, unfolding(crate::specs::Faults::is_authentic))]
+fn verify_record(
+    cipher: &RecordCipher,
     iv: &[u8; 12],
     number: u16,
     sealed: &[u8],
-) -> Result<ArrayVec<u8, 4160>, BadTag>
-    requires key { length key.now ≡ key_size aead }
+) -> Result<(), BadTag>
     requires least { 26 ≤ length sealed.now }
     requires most { length sealed.now ≤ 4160 }
-    ensures authentic { is_ok result ≡ is_authentic key.now iv.now number sealed.now }
-    ensures text { IfOk result (λ text. text.items ≡ opened_text key.now iv.now number sealed.now) }
-    ensures least { IfOk result (λ text. 2 ≤ length text.items) }
+    ensures { is_ok result ≡ is_authentic (cipher_key cipher.now) iv.now number sealed.now }
 {
     let (header, rest) = sealed.split_at(8);
-    let (body, tag) = rest.split_at(rest.len() - 16);
+    let tag = rest.split_at(rest.len() - 16).1;
     let mut expected = [0u8; 16];
     expected.copy_from_slice(tag);
-    let mut text = ArrayVec::<u8, 4160>::new();
-    let _ = text.try_extend_from_slice(body);
-    let nonce = nonce(iv, number);
-    open_in_place(aead, key, &nonce, header, text.as_mut_slice(), &expected)?;
-    Ok(text)
+    cipher.verify(&nonce(iv, number), header, text_part(sealed), &expected)
 }
 
-// Replaces what a frame holds.
-fn replace(out: &mut RecordFrame, bytes: &[u8])
-    requires { length bytes.now ≤ 4160 }
-    ensures { out.new ≡ bytes.now }
+// The first 16 bytes, or all where there are fewer.
+#[tactic(auto, using(std::proofs::lemmas::List::take_min))]
+fn first_bytes(text: &[u8]) -> ArrayVec<u8, 16>
+    ensures { result.items ≡ take 16 text.now }
 {
-    out.clear();
-    let _ = out.extend(bytes);
+    let mut bytes = ArrayVec::<u8, 16>::new();
+    let _ = bytes.try_extend_from_slice(text.split_at(16.min(text.len())).0);
+    bytes
+}
+
+// The first 16 bytes of a text, or all where there are fewer, decrypted.
+fn first_block(cipher: &RecordCipher, iv: &[u8; 12], text: &[u8]) -> ArrayVec<u8, 16>
+    ensures value { result.items ≡ take 16 (crypt (cipher_key cipher.now) iv.now text.now) }
+    ensures size { length result.items ≡ min 16 (length text.now) }
+{
+    let mut block = first_bytes(text);
+    cipher.crypt(iv, block.as_mut_slice());
+    block
 }
 
 // The length of the inner message, the first two bytes of a text.
@@ -94,8 +110,105 @@ fn inner_length(text: &[u8]) -> u16
     LittleEndian::read_u16(text)
 }
 
+// Decrypts in place what stands behind the first 14 bytes: the rest of a text behind its first block,
+// which has two bytes more in front.
+fn decrypt_rest(cipher: &RecordCipher, iv: &[u8; 12], bytes: &mut [u8])
+    requires first { 14 ≤ length bytes.old }
+    requires most { length bytes.old ≤ 4160 }
+    ensures { bytes.new ≡ take 14 bytes.old ++ crypt_behind 1 (cipher_key cipher.now) iv.now (drop 14 bytes.old) }
+{
+    let rest = bytes.split_at_mut(14).1;
+    cipher.crypt_behind(iv, 1, rest);
+}
+
+// Writes an inner message that stands in a first block.
+fn write_short(first: &[u8], size: usize, out: &mut RecordFrame)
+    requires within { size + 2 ≤ length first.now }
+    requires most { size ≤ 14 }
+    ensures { out.new ≡ take size (drop 2 first.now) }
+{
+    out.clear();
+    let _ = out.extend(first.split_at(2).1.split_at(size).0);
+}
+
+// Writes what a first block has behind the length of the inner message, and the encrypted rest.
+fn write_encrypted(first: &[u8], rest: &[u8], out: &mut RecordFrame)
+    requires first { length first.now ≡ 16 }
+    requires most { length rest.now ≤ 4120 }
+    ensures value { out.new ≡ drop 2 first.now ++ rest.now }
+    ensures size { length out.new ≡ length rest.now + 14 }
+{
+    out.clear();
+    let _ = out.extend(first.split_at(2).1);
+    let _ = out.extend(rest);
+}
+
+// Writes an inner message that goes on behind a first block, with its encrypted rest.
+fn write_long(
+    cipher: &RecordCipher,
+    iv: &[u8; 12],
+    first: &[u8],
+    rest: &[u8],
+    out: &mut RecordFrame,
+)
+    requires first { length first.now ≡ 16 }
+    requires most { length rest.now ≤ 4120 }
+    ensures { out.new ≡ drop 2 first.now ++ crypt_behind 1 (cipher_key cipher.now) iv.now rest.now }
+{
+    write_encrypted(first, rest, out);
+    decrypt_rest(cipher, iv, out.as_mut_slice());
+}
+
+// Writes the inner message of an encrypted text whose first block was decrypted.
+fn write_inner(
+    cipher: &RecordCipher,
+    iv: &[u8; 12],
+    first: &[u8],
+    text: &[u8],
+    size: usize,
+    out: &mut RecordFrame,
+)
+    requires first { first.now ≡ take 16 (crypt (cipher_key cipher.now) iv.now text.now) }
+    requires long { length first.now ≡ min 16 (length text.now) }
+    requires within { size + 2 ≤ length text.now }
+    requires most { length text.now ≤ 4136 }
+    ensures { out.new ≡ take size (drop 2 (crypt (cipher_key cipher.now) iv.now text.now)) }
+{
+    if size <= 14 {
+        write_short(first, size, out);
+    } else {
+        let rest = text.split_at(16).1.split_at(size - 14).0;
+        write_long(cipher, iv, first, rest, out);
+    }
+}
+
+// Opens a text whose tag was tested.
+fn open_text(
+    cipher: &RecordCipher,
+    iv: &[u8; 12],
+    text: &[u8],
+    out: &mut RecordFrame,
+) -> Result<(), RecordFault>
+    requires least { 2 ≤ length text.now }
+    requires most { length text.now ≤ 4136 }
+    ensures fault { MatchResult result
+        (λ _. nat_lt (length text.now - 2) (little_number 2 (crypt (cipher_key cipher.now) iv.now text.now)) ≡ false)
+        (λ e. (e ≡ RecordFault.BadInnerLength) × (nat_lt (length text.now - 2) (little_number 2 (crypt (cipher_key cipher.now) iv.now text.now)) ≡ true)) }
+    ensures inner { OnOk result (out.new ≡ take (little_number 2 (crypt (cipher_key cipher.now) iv.now text.now)) (drop 2 (crypt (cipher_key cipher.now) iv.now text.now))) }
+    ensures bytes { OnOk result (little_bytes 2 (little_number 2 (crypt (cipher_key cipher.now) iv.now text.now)) ≡ take 2 (crypt (cipher_key cipher.now) iv.now text.now)) }
+    ensures unchanged { OnErr result (out.new ≡ out.old) }
+{
+    let first = first_block(cipher, iv, text);
+    let size = inner_length(first.as_slice()) as usize;
+    if text.len() - 2 < size {
+        return Err(RecordFault::BadInnerLength);
+    }
+    write_inner(cipher, iv, first.as_slice(), text, size, out);
+    Ok(())
+}
+
 // Opens a record under the AEAD of a key.
-#[tactic(auto, unfolding(crate::specs::Faults::fault_of, crate::specs::Faults::inner_of))]
+#[tactic(auto, unfolding(crate::specs::Faults::fault_of, crate::specs::Faults::inner_of, crate::specs::Faults::opened_text))]
 fn open_record(
     aead: AeadAlg,
     key: &[u8],
@@ -114,16 +227,11 @@ fn open_record(
     if let Some(fault) = header_fault(id, number, sealed) {
         return Err(fault);
     }
-    let Ok(text) = open_text(aead, key, iv, number, sealed) else {
+    let cipher = RecordCipher::new(aead, key);
+    if verify_record(&cipher, iv, number, sealed).is_err() {
         return Err(RecordFault::BadTag);
-    };
-    let length = inner_length(text.as_slice()) as usize;
-    let content = text.as_slice().split_at(2).1;
-    if content.len() < length {
-        return Err(RecordFault::BadInnerLength);
     }
-    replace(out, content.split_at(length).0);
-    Ok(())
+    open_text(&cipher, &nonce(iv, number), text_part(sealed), out)
 }
 
 // The same, with what it means for records.
@@ -142,6 +250,7 @@ fn open_by(
         (λ e. fault_of key.now iv.now (session_id_bytes id.req id.rsp) number sealed.now ≡ Some e) }
     ensures inner { OnOk result (out.new ≡ inner_of key.now iv.now number sealed.now) }
     ensures unchanged { OnErr result (out.new ≡ out.old) }
+    ensures not_spent { IfErr result (λ e. e ≢ RecordFault.KeySpent) }
     ensures record { OnOk result (IsRecordOf key.now iv.now (session_id_bytes id.req id.rsp) number sealed.now out.new) }
     ensures opens { (inner pad : List ℕ) → sealed.now ≡ record_of key.now iv.now (session_id_bytes id.req id.rsp) number inner pad
         → length sealed.now ≤ 4160 → IsOk result × (out.new ≡ inner) }
@@ -164,6 +273,7 @@ pub fn open(
         (λ e. fault_of (key_of key.now) (iv_of key.now) (session_id_bytes id.req id.rsp) number sealed.now ≡ Some e) }
     ensures inner { OnOk result (out.new ≡ inner_of (key_of key.now) (iv_of key.now) number sealed.now) }
     ensures unchanged { OnErr result (out.new ≡ out.old) }
+    ensures not_spent { IfErr result (λ e. e ≢ RecordFault.KeySpent) }
 
     // What opens is a record of its inner message, and each record of at most 4,160 bytes opens.
     ensures record { OnOk result (IsRecordOf (key_of key.now) (iv_of key.now) (session_id_bytes id.req id.rsp) number sealed.now out.new) }

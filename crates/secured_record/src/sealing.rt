@@ -1,11 +1,12 @@
-ghost use Rattle.std.specs.Prelude.{◌≡◌, ◌≤◌, ◌+◌, ◌++◌, ◌↔◌, IsOk, OnOk, OnErr, length};
+ghost use Rattle.std.specs.Prelude.{◌≡◌, ◌≤◌, ◌+◌, ◌++◌, ◌↔◌, IsOk, OnOk, OnErr, length, take, drop};
 ghost use Rattle.spdm_basis.specs.Sizes.{key_size};
 ghost use Rattle.spdm_basis.specs.SessionIdBytes.{session_id_bytes};
-ghost use Rattle.secured_record.specs.Format.{record_of, sealed_text, key_of, iv_of};
+ghost use Rattle.aes_gcm.specs.Gcm.{crypt, tag_of};
+ghost use Rattle.secured_record.specs.Ciphers.{cipher_key};
+ghost use Rattle.secured_record.specs.Format.{plain_text, record_of, sealed_text, key_of, iv_of};
 
-use crate::aead::seal_in_place;
-use crate::format::{header, nonce, plain_text};
-use arrayvec::ArrayVec;
+use crate::aead::RecordCipher;
+use crate::format::{header, nonce, two_bytes};
 use key_schedule::DirectionKey;
 use spdm_basis::{AeadAlg, RecordFrame, SessionId};
 use thiserror::Error;
@@ -18,35 +19,48 @@ pub struct TooLong;
 // The most bytes of inner message and padding in a record: 4,160 less header, length and tag.
 const CONTENT_LIMIT: usize = 4134;
 
-// Writes the three parts of a record.
-fn write_parts(out: &mut RecordFrame, header: &[u8; 8], text: &[u8], tag: &[u8; 16])
-    requires { length text.now ≤ 4136 }
-    ensures { out.new ≡ header.now ++ text.now ++ tag.now }
+// Writes a header and the plain text behind it.
+fn write_plain(out: &mut RecordFrame, header: &[u8; 8], inner: &[u8], pad: &[u8])
+    requires { length inner.now + length pad.now ≤ 4134 }
+    ensures value { out.new ≡ header.now ++ plain_text inner.now pad.now }
+    ensures size { length out.new ≡ length inner.now + length pad.now + 10 }
 {
     out.clear();
     let _ = out.extend(header);
-    let _ = out.extend(text);
-    let _ = out.extend(tag);
+    let _ = out.extend(&two_bytes(inner.len() as u16));
+    let _ = out.extend(inner);
+    let _ = out.extend(pad);
 }
 
-// Writes the record of a plain text under the AEAD of a key.
-fn seal_text(
-    aead: AeadAlg,
-    key: &[u8],
+// Encrypts in place what stands behind a header, and gives the tag of both.
+fn seal_behind_header(cipher: &RecordCipher, iv: &[u8; 12], bytes: &mut [u8]) -> [u8; 16]
+    requires header { 8 ≤ length bytes.old }
+    requires most { length bytes.old ≤ 4160 }
+    ensures text { bytes.new ≡ take 8 bytes.old ++ crypt (cipher_key cipher.now) iv.now (drop 8 bytes.old) }
+    ensures tag { result ≡ tag_of (cipher_key cipher.now) iv.now (take 8 bytes.old) (crypt (cipher_key cipher.now) iv.now (drop 8 bytes.old)) }
+{
+    let (header, text) = bytes.split_at_mut(8);
+    cipher.seal(iv, header, text)
+}
+
+// Writes the record of an inner message and padding under a cipher.
+fn seal_by(
+    cipher: &RecordCipher,
     iv: &[u8; 12],
     id: &[u8; 4],
     number: u16,
-    mut text: ArrayVec<u8, 4160>,
+    inner: &[u8],
+    pad: &[u8],
     out: &mut RecordFrame,
 )
-    requires key { length key.now ≡ key_size aead }
-    requires text { length text.items ≤ 4136 }
-    ensures { out.new ≡ sealed_text key.now iv.now id.now number text.items }
+    requires { length inner.now + length pad.now ≤ 4134 }
+    ensures { out.new ≡ sealed_text (cipher_key cipher.now) iv.now id.now number (plain_text inner.now pad.now) }
 {
-    let header = header(id, number, (text.len() + 16) as u16);
+    let header = header(id, number, (inner.len() + pad.len() + 18) as u16);
     let nonce = nonce(iv, number);
-    let tag = seal_in_place(aead, key, &nonce, &header, text.as_mut_slice());
-    write_parts(out, &header, text.as_slice(), &tag);
+    write_plain(out, &header, inner, pad);
+    let tag = seal_behind_header(cipher, &nonce, out.as_mut_slice());
+    let _ = out.extend(&tag);
 }
 
 /// Writes the record of an inner message and padding, under the key of a direction, a session id and a
@@ -68,15 +82,7 @@ pub fn seal(
     if inner.len() > CONTENT_LIMIT || pad.len() > CONTENT_LIMIT - inner.len() {
         return Err(TooLong);
     }
-    let text = plain_text(inner, pad);
-    seal_text(
-        key.aead(),
-        key.key(),
-        key.iv(),
-        &id.bytes(),
-        number,
-        text,
-        out,
-    );
+    let cipher = RecordCipher::new(key.aead(), key.key());
+    seal_by(&cipher, key.iv(), &id.bytes(), number, inner, pad, out);
     Ok(())
 }

@@ -176,7 +176,7 @@ to_session_entry r phase [] f tag tag' sealed m t reply d d' e = absurd (cc)
 to_session_entry r phase (x ∷ s) f tag tag' sealed m t reply d d' e =
     session_entry r phase (x ∷ s) f tag tag' sealed m t reply d d' (repeat_or (repeats (last_of (x ∷ s)) sealed) (record_body (kept_record (last_of (x ∷ s)))) (in_session r phase (x ∷ s) f tag sealed d) tag' m t reply d' e)
 
-record_entry : (r : RspSetup) (h : History) (f : Free) (tag tag' : ℕ) (sealed m : List ℕ) (t : Turn) (reply : List ℕ) (d d' : Draw) → on_record r h tag sealed f d ≡ Adds (Sealed tag' m t reply d')
+pub record_entry : (r : RspSetup) (h : History) (f : Free) (tag tag' : ℕ) (sealed m : List ℕ) (t : Turn) (reply : List ℕ) (d d' : Draw) → on_record r h tag sealed f d ≡ Adds (Sealed tag' m t reply d')
     → t ≡ session_turn r (session_of (id_in_record sealed) h) (opened r.psk (session_of (id_in_record sealed) h) sealed) f
 unfolding on_record
 record_entry r h f tag tag' sealed m t reply d d' e =

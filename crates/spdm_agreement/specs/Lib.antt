@@ -4,3 +4,4 @@ pub mod Moves
 pub mod Claims
 pub mod Story
 pub mod Configured
+pub mod Worlds

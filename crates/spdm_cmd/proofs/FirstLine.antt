@@ -2,7 +2,7 @@
 use Rattle.std.proofs.Common.{◌≡◌, ℕ, ◌+◌, List, [], ◌∷◌, take, drop, refl, ap, ◌∙◌, Bool, true, false, cond, nat_eq, suc, arith, ltb-false}
 use Rattle.std.specs.Prelude.{not, Some, None, unwrap_or, length, ◌≤◌, nat_lt}
 use Rattle.std.proofs.lemmas.List.Sums.{prefix_len-le-length}
-use Rattle.std.specs.List.{position_or_len, prefix_len, position}
+use Rattle.std.specs.List.{position_or_len, position}
 use Rattle.spdm_cmd.specs.Lines.{lines_of, onto_first}
 
 abbrev pub end_of : List ℕ → ℕ

@@ -1,12 +1,11 @@
 -- The definitions, computed on the first example: `q1 connect` and `pump 1`, and `pump 3` in its place.
-use Rattle.std.proofs.Common.{◌≡◌, List, [], ◌∷◌, ◌++◌, refl}
+use Rattle.std.proofs.Common.{◌≡◌, [], ◌∷◌, ◌++◌, refl}
 use Rattle.std.specs.Prelude.{codes}
 use Rattle.std.specs.Fmt.{digits}
 use Rattle.hex.specs.Hex.{encode_with}
 use Rattle.spdm_grammar.specs.Reading.{number_at, field_at}
 use Rattle.spdm_grammar.specs.Requests.{get_version_layout, request_body}
 use Rattle.spdm_grammar.specs.Responses.{version_layout, response_body}
-use Rattle.spdm_cmd.specs.declared.script.Entry.{Entry}
 use Rattle.spdm_cmd.specs.declared.script.LinkEvent.TheVariants.{Connect, Pump}
 use Rattle.spdm_cmd.specs.TraceLines.{at_line, ok_line, packet_line, heard_line, event_line, state_lines, as_line}
 use Rattle.spdm_cmd.specs.Refusal.{refusal}

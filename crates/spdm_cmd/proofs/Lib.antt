@@ -7,3 +7,4 @@ pub mod Pumping
 pub mod Written
 pub mod EventTexts
 pub mod TopCall
+mod EndPoints

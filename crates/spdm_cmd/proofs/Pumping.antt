@@ -1,5 +1,5 @@
 -- Packets that are given one after another.
-use Rattle.std.proofs.Common.{◌≡◌, ℕ, zero, suc, ◌+◌, ◌-◌, ◌<◌, ◌++◌, [], List, refl, ap, ◌∙◌, sym, arith, append_assoc, Option, Some, None, Bool, true, false}
+use Rattle.std.proofs.Common.{◌≡◌, ℕ, zero, suc, ◌+◌, ◌-◌, ◌<◌, ◌++◌, [], List, refl, ap, ◌∙◌, sym, arith, append_assoc, Option, Some, None, true, false}
 use Rattle.std.specs.Prelude.{is_none}
 use Rattle.std.proofs.lemmas.List.{append-nil}
 use Rattle.spdm_cmd.specs.declared.setup.Setup.{Setup}

@@ -1,5 +1,5 @@
 -- Laws of the packets between the ends.
-use Rattle.std.proofs.Common.{◌≡◌, ℕ, zero, suc, ◌+◌, ◌<◌, ◌≤◌, ◌++◌, ◌∷◌, [], List, length, take, get_or, refl, ap, ◌∙◌, sym, arith, append_assoc, Option, Some, None, true, false, nat_eq}
+use Rattle.std.proofs.Common.{◌≡◌, ℕ, zero, suc, ◌+◌, ◌<◌, ◌≤◌, ◌++◌, ◌∷◌, [], List, length, take, get_or, refl, ap, ◌∙◌, sym, arith, append_assoc, Some, None, true, false, nat_eq}
 use Rattle.std.specs.Prelude.{map, is_none, Bool}
 use Rattle.std.proofs.lemmas.Bool.{eqb-true, eqb-false}
 use Rattle.std.proofs.lemmas.Grind.{common_steps}

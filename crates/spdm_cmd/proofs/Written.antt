@@ -1,5 +1,5 @@
 -- What holds where a write failed.
-use Rattle.std.proofs.Common.{◌≡◌, Result, Ok, Err, Bool, true, false}
+use Rattle.std.proofs.Common.{◌≡◌, Result, Ok, Err}
 use Rattle.std.specs.Prelude.{is_ok, OnErr, OnOk}
 
 pub on_err_through : {A E F : Type 0} (r : Result A E) (q : Result A F) (P Q : Type 0) → is_ok q ≡ is_ok r → OnErr r P → (P → Q) → OnErr q Q

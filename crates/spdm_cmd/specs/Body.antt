@@ -1,6 +1,5 @@
 -- Message bodies of SPDM messages (DSP0275): a type byte, and then the message.
-use Rattle.std.specs.Prelude.{◌==◌, ◌&&◌, ℕ, List, [], ◌∷◌, drop, slice_index, if◌then◌else◌, Bool, true, false, Option, Some, None, Result, Ok, Err}
-use Rattle.spdm_basis.specs.declared.faults.PacketFault.{PacketFault}
+use Rattle.std.specs.Prelude.{◌==◌, ◌&&◌, ℕ, List, ◌∷◌, drop, slice_index, if◌then◌else◌, Bool, true, false, Option, Some, None, Ok, Err}
 use Rattle.mctp_framing.specs.Packet.{PacketFields, parsed}
 use Rattle.spdm_cmd.specs.declared.body.Clear.{Clear}
 

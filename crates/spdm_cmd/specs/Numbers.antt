@@ -1,5 +1,5 @@
 -- Numbers in texts: decimal digits without leading zeros. This project's own.
-use Rattle.std.specs.Prelude.{ℕ, List, [], ◌∷◌, ◌+◌, ◌-◌, ◌*◌, ◌==◌, ◌&&◌, nat_le, nat_lt, not, fold, length, slice_index, if◌then◌else◌, Bool, Option, Some, None}
+use Rattle.std.specs.Prelude.{ℕ, List, ◌+◌, ◌-◌, ◌*◌, ◌==◌, ◌&&◌, nat_le, nat_lt, not, fold, length, slice_index, if◌then◌else◌, Bool, Option, Some, None}
 use Rattle.std.specs.List.{list_all}
 
 -- A byte is a decimal digit.

@@ -1,7 +1,7 @@
 -- What the reader of a script keeps of the lines that it took.
-use Rattle.std.specs.Prelude.{ℕ, List, [], ◌∷◌, ◌++◌, ◌≡◌, ◌+◌, length, drop, Bool, true, false, Result, Ok, Err}
+use Rattle.std.specs.Prelude.{ℕ, List, ◌≡◌, ◌+◌, length, drop, Bool, true, false, Result, Ok, Err}
 use Rattle.std.specs.List.{list_any}
-use Rattle.spdm_cmd.specs.Script.{is_connect, entries_from, breaks_rules, first_bad_behind}
+use Rattle.spdm_cmd.specs.Script.{is_connect, entries_from, breaks_rules}
 use Rattle.spdm_cmd.specs.declared.script.Entry.{Entry}
 use Rattle.spdm_cmd.specs.declared.script.ScriptFault.{ScriptFault}
 use Rattle.spdm_cmd.specs.declared.script.ScriptFault.TheVariants.{Line, OutOfMemory}

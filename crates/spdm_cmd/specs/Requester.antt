@@ -1,5 +1,5 @@
 -- What the requester does.
-use Rattle.std.specs.Prelude.{◌==◌, ℕ, List, [], ◌∷◌, if◌then◌else◌, Bool, true, false, Option, Some, None}
+use Rattle.std.specs.Prelude.{◌==◌, ℕ, List, ◌∷◌, if◌then◌else◌, true, false, Option, Some, None}
 use Rattle.mctp_framing.specs.Cutting.{packets_of}
 use Rattle.spdm_grammar.specs.Message.{ResponseMessage}
 use Rattle.spdm_grammar.specs.Message.RequestMessage.{GetVersion}

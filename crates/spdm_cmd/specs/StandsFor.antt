@@ -1,5 +1,5 @@
 -- What the ends and the link of the program stand for: the histories and the packets that the definitions speak of.
-use Rattle.std.specs.Prelude.{◌≡◌, ◌≤◌, ◌+◌, ◌%◌, ℕ, zero, suc, List, [], ◌∷◌, true, false, Option}
+use Rattle.std.specs.Prelude.{◌≡◌, ℕ, zero, suc, List, [], ◌∷◌, true, false, Option}
 use Rattle.spdm_cmd.specs.declared.ends.Phase.{Phase}
 use Rattle.spdm_cmd.specs.declared.setup.Setup.{Setup}
 use Rattle.spdm_cmd.specs.History.{RequesterEntry, ResponderEntry, requester_phase, responder_phase, next_tag, outstanding}

@@ -1,5 +1,5 @@
 -- The words of the command line. This project's own.
-use Rattle.std.specs.Prelude.{List, [], ◌∷◌, Bool, codes, map, ℕ}
+use Rattle.std.specs.Prelude.{List, [], ◌∷◌, Bool, codes, ℕ}
 use Rattle.std.specs.Str.{bytes_eq}
 use Rattle.std.specs.Cmp.Lexicographic.{pointwise}
 

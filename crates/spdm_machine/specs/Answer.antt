@@ -1,5 +1,5 @@
 -- The whole answer of a responder to a request that is not refused (DSP0274, section 10: the responses).
-use Rattle.std.specs.Prelude.{◌==◌, ◌++◌, ℕ, List, [], ◌∷◌, length, if◌then◌else◌, Bool, false, Option, Some, None, unwrap_or}
+use Rattle.std.specs.Prelude.{◌==◌, ◌++◌, ℕ, List, [], ◌∷◌, length, if◌then◌else◌, false, Option, Some, None, unwrap_or}
 use Rattle.chunking.specs.Cutting.{nth_chunk}
 use Rattle.key_schedule.specs.declared.direction.Direction.TheVariants as direction
 use Rattle.measurements.specs.Blocks.{record_of}
@@ -8,7 +8,7 @@ use Rattle.measurements.specs.Summaries.{summary_of}
 use Rattle.negotiate.specs.Choosing.{selected}
 use Rattle.negotiate.specs.Reply.{reply_of}
 use Rattle.running_hash.specs.Hash.{hash_of}
-use Rattle.spdm_grammar.specs.Message.{RequestMessage, ResponseMessage, OfferMessage, ExchangeMessage, ExchangeRspMessage, MeasuredMessage, ChunkMessage}
+use Rattle.spdm_grammar.specs.Message.{RequestMessage, ResponseMessage, OfferMessage, ExchangeMessage}
 use Rattle.spdm_grammar.specs.Message.RequestMessage.{GetVersion, GetCapabilities, NegotiateAlgorithms, GetMeasurements, PskExchange, PskFinish, Heartbeat, KeyUpdate, EndSession, ChunkSend, ChunkGet}
 use Rattle.spdm_grammar.specs.Message.ResponseMessage.{Version, Capabilities, Algorithms, Measurements, PskExchangeRsp, PskFinishRsp, HeartbeatAck, KeyUpdateAck, EndSessionAck, ChunkSendAck, ChunkResponse}
 use Rattle.spdm_grammar.specs.Requests.{request_in}

@@ -1,7 +1,7 @@
 -- What this project's responder does: the one outcome at the values that it chooses.
 use Rattle.std.specs.Prelude.{⊤, ◌≡◌, ◌<◌, ◌≤◌, ◌==◌, ℕ, List, [], ◌∷◌, drop, length, slice_index, if◌then◌else◌}
 use Rattle.spdm_machine.specs.Answer.{Free}
-use Rattle.spdm_machine.specs.History.{History, queue_of, clear_turns}
+use Rattle.spdm_machine.specs.History.{History, queue_of}
 use Rattle.spdm_machine.specs.History.Entry.{Clear, Sealed, Queued, Ticked, Dropped}
 use Rattle.spdm_machine.specs.Keys.{Draw, context_of}
 use Rattle.spdm_machine.specs.LargeMessages.{next_handle}

@@ -1,5 +1,5 @@
 -- What is told of a packet that a responder was given, and what is seen of its sessions.
-use Rattle.std.specs.Prelude.{ℕ, List, [], ◌∷◌, ◌++◌, if◌then◌else◌, Bool, Option, Some, None}
+use Rattle.std.specs.Prelude.{ℕ, List, [], ◌∷◌, ◌++◌, if◌then◌else◌, Option, Some, None}
 use Rattle.spdm_basis.specs.declared.session_id.SessionId.{SessionId}
 use Rattle.spdm_grammar.specs.ErrorNumber.{error_number}
 use Rattle.spdm_grammar.specs.declared.choice.Choice.{Choice}
@@ -9,7 +9,7 @@ use Rattle.spdm_grammar.specs.declared.heard.Heard.TheVariants as heard
 use Rattle.spdm_grammar.specs.declared.phase.Stage.{Stage}
 use Rattle.spdm_grammar.specs.declared.phase.Stage.TheVariants.{Handshake, Open, Verifying}
 use Rattle.byteorder.specs.Endian.{little_number}
-use Rattle.std.specs.Prelude.{take, drop}
+use Rattle.std.specs.Prelude.{drop}
 use Rattle.spdm_machine.specs.History.{History, Entry}
 use Rattle.spdm_machine.specs.History.Entry.{Clear, Sealed}
 use Rattle.spdm_machine.specs.Refusal.{code_of}

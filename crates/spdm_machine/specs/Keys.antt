@@ -1,5 +1,5 @@
 -- Draws, contexts, verify data and records, each by the choice of algorithms that it stands under.
-use Rattle.std.specs.Prelude.{ℕ, List, ◌++◌, take, Option, Some, None, replicate}
+use Rattle.std.specs.Prelude.{ℕ, List, ◌++◌, take, Option, replicate}
 use Rattle.byteorder.specs.Endian.{little_bytes}
 use Rattle.hmac_hkdf.specs.Draw.{draw}
 use Rattle.hmac_hkdf.specs.Hmac.{hmac}

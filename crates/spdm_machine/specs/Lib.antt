@@ -14,5 +14,10 @@ pub mod Responder
 pub mod Does
 pub mod May
 pub mod Heard
+pub mod SameSession
+pub mod Laws
 pub mod TagLog
 pub mod ResponderLog
+pub mod Counts
+pub mod NumberLaws
+pub mod SettledLaws

@@ -1,6 +1,6 @@
 -- What any responder of this profile may do: the same outcome, at any values that are left free.
 use Rattle.std.specs.Prelude.{◌≡◌, ◌≢◌, ◌≤◌, ◌<◌, ◌==◌, ℕ, List, [], ◌∷◌, length, drop, slice_index, if◌then◌else◌, true, false}
-use Rattle.spdm_machine.specs.Answer.{Free, answer_bytes}
+use Rattle.spdm_machine.specs.Answer.{Free}
 use Rattle.spdm_machine.specs.History.{History}
 use Rattle.spdm_machine.specs.History.Entry.{Dropped}
 use Rattle.spdm_machine.specs.Keys.{Draw}

@@ -1,6 +1,6 @@
 -- The records of a session at the responder: under which purpose and number the next ones are taken and
 -- sealed.
-use Rattle.std.specs.Prelude.{ℕ, List, Option, Some, None, if◌then◌else◌, ◌+◌}
+use Rattle.std.specs.Prelude.{ℕ, List, Option, Some, if◌then◌else◌, ◌+◌}
 use Rattle.key_schedule.specs.Purpose.{Purpose, handshake_record, application_record}
 use Rattle.key_schedule.specs.declared.direction.Direction.{Direction}
 use Rattle.key_schedule.specs.declared.direction.Direction.TheVariants.{Request, Response}

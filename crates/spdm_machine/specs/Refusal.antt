@@ -7,7 +7,7 @@ use Rattle.key_schedule.specs.declared.direction.Direction.TheVariants as direct
 use Rattle.measurements.specs.Records.{is_missing}
 use Rattle.negotiate.specs.Capabilities.{common_of}
 use Rattle.negotiate.specs.Choosing.{selected}
-use Rattle.spdm_grammar.specs.Message.{RequestMessage, ChunkMessage}
+use Rattle.spdm_grammar.specs.Message.{RequestMessage}
 use Rattle.spdm_grammar.specs.Message.RequestMessage.{GetCapabilities, NegotiateAlgorithms, GetMeasurements, PskExchange, PskFinish, KeyUpdate, ChunkSend, ChunkGet}
 use Rattle.spdm_grammar.specs.declared.error_code.ErrorCode.{ErrorCode}
 use Rattle.spdm_grammar.specs.declared.error_code.ErrorCode.TheVariants.{InvalidRequest, UnexpectedRequest, DecryptError, UnsupportedRequest, SessionLimitExceeded, SessionRequired, ResponseTooLarge, RequestTooLarge, VersionMismatch}

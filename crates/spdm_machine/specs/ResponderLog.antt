@@ -1,19 +1,19 @@
 -- The tags that a responder computes and compares, message by message.
-use Rattle.std.specs.Prelude.{ℕ, ◌==◌, ◌&&◌, List, [], ◌∷◌, ◌++◌, drop, slice_index, if◌then◌else◌, Bool, Option, Some, None, is_none}
+use Rattle.std.specs.Prelude.{ℕ, ◌==◌, ◌&&◌, List, [], ◌∷◌, ◌++◌, drop, slice_index, if◌then◌else◌, Option, Some, is_none}
 use Rattle.key_schedule.specs.Purpose.{verify}
 use Rattle.key_schedule.specs.declared.direction.Direction.TheVariants as direction
 use Rattle.spdm_grammar.specs.Message.{RequestMessage}
 use Rattle.spdm_grammar.specs.Message.RequestMessage.{PskFinish}
 use Rattle.spdm_machine.specs.Answer.{request_at}
-use Rattle.spdm_machine.specs.History.{History, ended_of, clear_turns, negotiation_of}
+use Rattle.spdm_machine.specs.History.{History, clear_turns, negotiation_of}
 use Rattle.spdm_machine.specs.History.Entry.{Clear, Sealed}
 use Rattle.spdm_machine.specs.Keys.{verify_data}
 use Rattle.spdm_machine.specs.Place.{session_place}
 use Rattle.spdm_machine.specs.Records.{opened, request_purpose, reply_purpose, reply_number}
 use Rattle.spdm_machine.specs.Refusal.{refused_form}
-use Rattle.spdm_machine.specs.Responder.{Outcome, repeats, inner_refusal}
+use Rattle.spdm_machine.specs.Responder.{Outcome, inner_refusal}
 use Rattle.spdm_machine.specs.Responder.Outcome.{Same, Unopened, Adds}
-use Rattle.spdm_machine.specs.Session.{Events, Event, session_of, session_terms, id_in_record, id_bytes, last_of, is_spent, request_next, stage_of, t1_of, tv_of}
+use Rattle.spdm_machine.specs.Session.{Events, session_of, session_terms, id_in_record, id_bytes, is_spent, request_next, stage_of, t1_of, tv_of}
 use Rattle.spdm_machine.specs.Session.Event.{Began}
 use Rattle.spdm_machine.specs.Setup.{RspSetup}
 use Rattle.spdm_machine.specs.TagLog.{Act, made_record, checked_record}
@@ -65,7 +65,7 @@ unopened_acts r (e ∷ s) sealed = record_check r (e ∷ s) sealed
 abbrev pub opened_acts : RspSetup → Events → List ℕ → Turn → List ℕ → List Act
 opened_acts r s sealed t reply = reply_made r s t reply ∷ inner_acts r s (opened r.psk s sealed) ++ record_check r s sealed
 
--- ---- By outcome: a repeat computes none. A record that opens not had its tag compared at most.
+-- ---- By outcome: a repeat computes none, and of a record that does not open at most the tag was compared.
 abbrev pub acts_of : RspSetup → History → List ℕ → Outcome → List Act
 acts_of r h body (Same reply) = []
 acts_of r h body (Unopened reply) = unopened_acts r (session_of (id_in_record (drop 1 body)) h) (drop 1 body)

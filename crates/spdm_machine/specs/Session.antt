@@ -1,6 +1,6 @@
 -- One session at the responder: its own history, picked out of that of the connection, and what is counted
 -- in it.
-use Rattle.std.specs.Prelude.{◌+◌, ◌*◌, ◌==◌, ◌&&◌, ◌||◌, not, nat_le, ℕ, List, [], ◌∷◌, ◌++◌, drop, if◌then◌else◌, Bool, true, false, Option, Some, None, slice_index}
+use Rattle.std.specs.Prelude.{◌+◌, ◌*◌, ◌==◌, ◌&&◌, ◌||◌, not, nat_le, ℕ, List, [], ◌∷◌, drop, if◌then◌else◌, Bool, true, false, Option, Some, None, slice_index}
 use Rattle.byteorder.specs.Endian.{little_number}
 use Rattle.running_hash.specs.Hash.{Hash, hash_of}
 use Rattle.spdm_basis.specs.SessionIdBytes.{session_id_bytes}

@@ -1,6 +1,6 @@
 -- The tags that an end computes, and what it compares them with. This project's own notion: agreement of the
 -- ends rests on these comparisons alone.
-use Rattle.std.specs.Prelude.{ℕ, ◌-◌, ◌&&◌, not, List, [], ◌∷◌, ◌++◌, length, take, if◌then◌else◌, Bool, false, Option, Some, None, is_none}
+use Rattle.std.specs.Prelude.{ℕ, ◌-◌, List, [], ◌∷◌, length, take, if◌then◌else◌, is_none}
 use Rattle.aes_gcm.specs.Gcm.{tag_of}
 use Rattle.key_schedule.specs.Purpose.{Purpose, key_of, iv_of}
 use Rattle.secured_record.specs.Faults.{header_fault, tag_part, text_part}

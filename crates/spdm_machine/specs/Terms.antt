@@ -29,7 +29,10 @@ no_negotiation = record { get_version = []; version = []; get_capabilities = [];
 -- What stands where nothing was settled.
 abbrev pub no_common : Common
 no_common = record {
-  measure = false; heartbeat = false; key_update = false; chunk = false;
+  measure = false;
+  heartbeat = false;
+  key_update = false;
+  chunk = false;
   to_requester = record { transfer = 0; max = 0 };
   to_responder = record { transfer = 0; max = 0 };
 }

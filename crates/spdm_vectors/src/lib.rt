@@ -9,6 +9,8 @@ mod draw_tests;
 #[cfg(test)]
 mod gcm_tests;
 #[cfg(test)]
+mod ghash_tests;
+#[cfg(test)]
 mod hkdf_tests;
 #[cfg(test)]
 mod hmac_tests;

@@ -1,5 +1,5 @@
 -- Two responders that are alike towards an end point do alike with a packet from it.
-use Rattle.std.proofs.Common.{◌≡◌, ℕ, List, [], ◌∷◌, Bool, true, false, Option, Some, None, refl, sym, ap, ◌∙◌, subst, filter, if◌then◌else◌, ◌==◌, ◌&&◌, ◌||◌, not}
+use Rattle.std.proofs.Common.{◌≡◌, ℕ, List, [], ◌∷◌, Bool, true, false, Option, Some, None, refl, sym, ap, ◌∙◌, subst, filter, if◌then◌else◌, ◌==◌, ◌||◌, not}
 use Rattle.mctp_framing.specs.Cutting.{RouteFields}
 use Rattle.mctp_framing.specs.Gathering.{Gathered, Receiver, is_ours, gathered, group_of, answer_of, belongs_to}
 use Rattle.mctp_framing.specs.Gathering.Gathered.{Whole, More, Dropped}
@@ -16,7 +16,7 @@ use Rattle.world_machine.specs.Packets.{fields_in, fields_with, gathered_from, b
 use Rattle.spdm_grammar.specs.declared.heard.Heard.{Heard}
 use Rattle.spdm_grammar.specs.declared.heard.Heard.TheVariants as heard
 use Rattle.spdm_grammar.specs.declared.heard.RspIgnored.TheVariants as ignored
-use Rattle.world_machine.specs.Responding.{Connection, Responding, RspStep, connection_of, changed, changed_if, with_history, ignores, answers, hears_whole, hears_gathered, hears_from, hears_packet, is_worn, worn_step, next_draw, responder_hears}
+use Rattle.world_machine.specs.Responding.{Connection, Responding, RspStep, connection_of, changed, with_history, ignores, answers, hears_whole, hears_gathered, hears_from, hears_packet, is_worn, worn_step, next_draw, responder_hears}
 use Rattle.world_machine.specs.Setup.{WorldSetup}
 
 -- What a packet leads to goes by the packets from the peer alone.
@@ -93,8 +93,8 @@ module _ (w : WorldSetup) (r s : Responding) (packet : List ℕ) (alike : AreAli
     taken = refl;
     after = record {
       connection =
-        changed_at (source_of packet) c.setup.peer (λ h. after h outcome) r.connections c (found (source_of packet) r.connections c is) is
-        ∙ sym (changed_at (source_of packet) c.setup.peer (λ h. after h outcome) s.connections c (found (source_of packet) r.connections c is) (sym alike.connection ∙ is));
+          changed_at (source_of packet) c.setup.peer (λ h. after h outcome) r.connections c (found (source_of packet) r.connections c is) is
+          ∙ sym (changed_at (source_of packet) c.setup.peer (λ h. after h outcome) s.connections c (found (source_of packet) r.connections c is) (sym alike.connection ∙ is));
       packets = λ own. more (receiver_of own (source_of packet)) packet r.given s.given (alike.packets own);
     };
   }
@@ -102,7 +102,7 @@ module _ (w : WorldSetup) (r s : Responding) (packet : List ℕ) (alike : AreAli
   by_draw : (c : Connection) (route : RouteFields) (body : List ℕ) → connection_of (source_of packet) r.connections ≡ Some c
       → LeadAlike (source_of packet) (answers r c packet route body (responder_does c.setup c.history route.tag body (next_draw w r))) (answers s c packet route body (responder_does c.setup c.history route.tag body (next_draw w s)))
   by_draw c route body is =
-    subst (λ (d : Draw). LeadAlike (source_of packet) (answers r c packet route body (responder_does c.setup c.history route.tag body (next_draw w r))) (answers s c packet route body (responder_does c.setup c.history route.tag body d)))
+      subst (λ (d : Draw). LeadAlike (source_of packet) (answers r c packet route body (responder_does c.setup c.history route.tag body (next_draw w r))) (answers s c packet route body (responder_does c.setup c.history route.tag body d)))
       draws (by_answer c route body (responder_does c.setup c.history route.tag body (next_draw w r)) is)
 
   by_whole : (c : Connection) (route : RouteFields) (body : List ℕ) → connection_of (source_of packet) r.connections ≡ Some c → LeadAlike (source_of packet) (hears_whole w r c packet route body) (hears_whole w s c packet route body)
@@ -119,13 +119,13 @@ module _ (w : WorldSetup) (r s : Responding) (packet : List ℕ) (alike : AreAli
   by_connection : (fields : PacketFields) (c : Option Connection) → connection_of (source_of packet) r.connections ≡ c → LeadAlike (source_of packet) (hears_from w r packet fields c) (hears_from w s packet fields c)
   by_connection fields None is = nothing _
   by_connection fields (Some c) is =
-    subst (λ (g : Gathered). LeadAlike (source_of packet) (hears_gathered w r c packet (gathered_from c.setup.eid c.setup.peer r.given fields)) (hears_gathered w s c packet g))
+      subst (λ (g : Gathered). LeadAlike (source_of packet) (hears_gathered w r c packet (gathered_from c.setup.eid c.setup.peer r.given fields)) (hears_gathered w s c packet g))
       (gathers c fields (found (source_of packet) r.connections c is))
       (by_gathered c (gathered_from c.setup.eid c.setup.peer r.given fields) is)
 
   by_source : (fields : PacketFields) → fields.from ≡ source_of packet → LeadAlike (source_of packet) (hears_from w r packet fields (connection_of (source_of packet) r.connections)) (hears_from w s packet fields (connection_of (source_of packet) s.connections))
   by_source fields e =
-    subst (λ (c : Option Connection). LeadAlike (source_of packet) (hears_from w r packet fields (connection_of (source_of packet) r.connections)) (hears_from w s packet fields c))
+      subst (λ (c : Option Connection). LeadAlike (source_of packet) (hears_from w r packet fields (connection_of (source_of packet) r.connections)) (hears_from w s packet fields c))
       alike.connection
       (by_connection fields (connection_of (source_of packet) r.connections) refl)
 
@@ -140,5 +140,5 @@ pub decide : OwnDecide
 unfolding responder_hears
 decide w r s packet alike draws wear =
     subst (λ (b : Bool). LeadAlike (source_of packet) (if is_worn r then worn_step r else hears_packet w r packet (parsed packet)) (if b then worn_step s else hears_packet w s packet (parsed packet)))
-      wear
-      (either (source_of packet) (is_worn r) _ _ _ _ (worn w r s packet alike draws) (by_fault w r s packet alike draws (packet_fault packet)))
+    wear
+    (either (source_of packet) (is_worn r) _ _ _ _ (worn w r s packet alike draws) (by_fault w r s packet alike draws (packet_fault packet)))

@@ -1,15 +1,15 @@
 -- A packet from one end point changes nothing of what a responder is towards another.
-use Rattle.std.proofs.Common.{◌≡◌, ◌≢◌, ℕ, List, [], ◌∷◌, Bool, true, false, Option, Some, None, Result, Ok, Err, refl, sym, ap, ◌∙◌, subst, map, find, filter, if◌then◌else◌, ◌==◌, ◌&&◌, ◌||◌, not, slice_index, true≢false, eqb-true, ne_eqb}
+use Rattle.std.proofs.Common.{◌≡◌, ◌≢◌, ℕ, List, [], ◌∷◌, Bool, true, false, Option, Some, None, refl, sym, ◌∙◌, subst, filter, if◌then◌else◌, ◌==◌, ◌&&◌, not, slice_index, eqb-true, ne_eqb}
 use Rattle.mctp_framing.specs.Cutting.{RouteFields}
 use Rattle.mctp_framing.specs.Gathering.{Gathered, is_ours}
 use Rattle.mctp_framing.specs.Gathering.Gathered.{Whole, More, Dropped}
-use Rattle.mctp_framing.specs.Packet.{PacketFields, parsed, packet_fault, fault_or, fields_of}
+use Rattle.mctp_framing.specs.Packet.{PacketFields, packet_fault, fault_or, fields_of}
 use Rattle.spdm_basis.specs.declared.PacketFault.{PacketFault}
 use Rattle.spdm_machine.specs.History.{History}
 use Rattle.spdm_machine.specs.Responder.{Outcome, after}
 use Rattle.world_machine.specs.Laws.{AreAlike, OthersStand, source_of, receiver_of}
 use Rattle.world_machine.specs.Packets.{fields_in, fields_with, gathered_from}
-use Rattle.world_machine.specs.Responding.{Connection, Responding, RspStep, connection_of, changed, changed_if, with_history, answers, hears_whole, hears_gathered, hears_from, hears_packet, is_worn, responder_hears}
+use Rattle.world_machine.specs.Responding.{Connection, Responding, RspStep, connection_of, changed, with_history, answers, hears_whole, hears_gathered, hears_from, hears_packet, is_worn, responder_hears}
 use Rattle.world_machine.specs.Setup.{WorldSetup}
 
 -- ---- Packets.

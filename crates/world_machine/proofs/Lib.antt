@@ -1,4 +1,6 @@
-mod Logs
-mod Connections
+pub mod Logs
+pub mod Connections
 mod Alike
 mod Rows
+mod Captures
+mod CaptureRows

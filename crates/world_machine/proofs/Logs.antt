@@ -10,7 +10,7 @@ use Rattle.world_machine.specs.Laws.{ChanceStays}
 use Rattle.world_machine.specs.Requesting.{Requesting, requester_told, requester_given}
 use Rattle.world_machine.specs.Responding.{responder_hears}
 use Rattle.world_machine.specs.Setup.{WorldSetup}
-use Rattle.world_machine.specs.World.{World, WorldStep, told, given, given_to, given_to_responder, delivers, loses, without_waiting, packet_of, turn, pumps, first_waiting, replied, requester_of, is_at, happens}
+use Rattle.world_machine.specs.World.{World, WorldStep, told, given, given_to, delivers, loses, without_waiting, packet_of, turn, pumps, first_waiting, replied, requester_of, is_at, happens}
 
 -- A log with more acts in front.
 abbrev pub Extends : Log → Log → Type 0

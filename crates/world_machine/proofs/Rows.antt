@@ -1,5 +1,5 @@
 -- Traces computed from the definitions. In none of them is a tag computed.
-use Rattle.std.proofs.Common.{refl, ◌≡◌, List, [], ◌∷◌, ◌++◌, true, false, None}
+use Rattle.std.proofs.Common.{refl, ◌≡◌, List, [], ◌∷◌, true, false, None}
 use Rattle.std.specs.Prelude.{replicate, codes}
 use Rattle.requester_machine.specs.Asking.{asks}
 use Rattle.requester_machine.specs.Bodies.{body_fault}
@@ -16,7 +16,7 @@ use Rattle.spdm_grammar.specs.declared.choice.Pick.TheVariants.{Small}
 use Rattle.spdm_grammar.specs.declared.event.Event.TheVariants as event
 use Rattle.spdm_grammar.specs.declared.event.Finished.TheVariants as finished
 use Rattle.spdm_grammar.specs.declared.heard.Heard.TheVariants as heard
-use Rattle.spdm_grammar.specs.declared.phase.Phase.TheVariants.{Fresh, Versioned, Capable, Negotiated}
+use Rattle.spdm_grammar.specs.declared.phase.Phase.TheVariants.{Fresh, Negotiated}
 use Rattle.spdm_machine.specs.Answer.{answer_bytes}
 use Rattle.spdm_machine.specs.Does as responder_does
 use Rattle.spdm_machine.specs.Handling.{turn_of}
@@ -41,15 +41,27 @@ setup = record {
   seed = replicate 32 0;
   first = 0;
   responder = record {
-    eid = 8; transfer = 1024; max = 4096; unit = 64; beat = 30;
+    eid = 8;
+    transfer = 1024;
+    max = 4096;
+    unit = 64;
+    beat = 30;
     flags = record { measure = true; heartbeat = true; key_update = true; chunk = true };
-    opaque = []; blocks = [];
+    opaque = [];
+    blocks = [];
     suites = record { hash = Small; aead = Small };
   };
   requesters = record {
-    eid = 9; responder = 8; transfer = 1024; max = 4096; unit = 64; pad = 0;
+    eid = 9;
+    responder = 8;
+    transfer = 1024;
+    max = 4096;
+    unit = 64;
+    pad = 0;
     flags = record { measure = false; heartbeat = true; key_update = true; chunk = true };
-    hint = 0x71 ∷ []; psk = codes "1234567890123456"; opaque = [];
+    hint = 0x71 ∷ [];
+    psk = codes "1234567890123456";
+    opaque = [];
     suites = record { hash = Small; aead = Small };
   } ∷ [];
 }
@@ -60,15 +72,27 @@ small = record {
   seed = replicate 32 0;
   first = 0;
   responder = record {
-    eid = 8; transfer = 42; max = 4096; unit = 64; beat = 30;
+    eid = 8;
+    transfer = 42;
+    max = 4096;
+    unit = 64;
+    beat = 30;
     flags = record { measure = true; heartbeat = true; key_update = true; chunk = true };
-    opaque = []; blocks = [];
+    opaque = [];
+    blocks = [];
     suites = record { hash = Small; aead = Small };
   };
   requesters = record {
-    eid = 9; responder = 8; transfer = 42; max = 4096; unit = 64; pad = 0;
+    eid = 9;
+    responder = 8;
+    transfer = 42;
+    max = 4096;
+    unit = 64;
+    pad = 0;
     flags = record { measure = false; heartbeat = true; key_update = true; chunk = true };
-    hint = 0x71 ∷ []; psk = codes "1234567890123456"; opaque = [];
+    hint = 0x71 ∷ [];
+    psk = codes "1234567890123456";
+    opaque = [];
     suites = record { hash = Small; aead = Small };
   } ∷ [];
 }
@@ -300,4 +324,3 @@ negotiation_by_chunks : trace_lines small negotiation_by_chunks_events
     ∷ []
 unfolding happens pumps responder_hears requester_told requester_given gathered_from asks hears command_fault body_fault carried_by clear_led requester_does.chosen requester_session.session_of on_clear on_record refused_form refused_contents refusal turn_of answer_bytes responder_does.chosen responder_session.session_of terms_of field_at number_at optional_at tables_at behind_tables behind_table request_body response_body get_version_layout get_capabilities_layout negotiate_algorithms_layout psk_finish_layout chunk_send_layout chunk_get_layout version_layout capabilities_layout algorithms_layout chunk_send_ack_layout chunk_response_layout error_layout
 negotiation_by_chunks = refl
-

@@ -1,22 +1,22 @@
 -- What has to hold between the ends of a world in which nothing agrees by chance: one transcript, data that was
 -- sent, sessions that match, and each number used once. This project's own notions; agreement itself is proved
 -- elsewhere.
-use Rattle.std.specs.Prelude.{◌≡◌, ◌==◌, ◌&&◌, ◌⊎◌, ℕ, List, [], ◌∷◌, ◌++◌, drop, if◌then◌else◌, Bool, true, false, Option, Some, None, Contains, bytes_eq}
+use Rattle.std.specs.Prelude.{◌≡◌, ◌&&◌, ◌⊎◌, ℕ, List, [], ◌∷◌, ◌++◌, if◌then◌else◌, Bool, true, false, Option, Some, None, Contains, bytes_eq}
 use Rattle.key_schedule.specs.Purpose.{Purpose, is_record}
 use Rattle.requester_machine.specs.History as asked
 use Rattle.requester_machine.specs.History.Entry.{Told, TookClear, TookRecord}
 use Rattle.requester_machine.specs.Message.{Command}
-use Rattle.requester_machine.specs.Message.Command.{Connect, Open, Send, Beat, Update, Measure, End, Retry}
+use Rattle.requester_machine.specs.Message.Command.{Send}
 use Rattle.requester_machine.specs.Session as requester
 use Rattle.spdm_machine.specs.History.{History}
-use Rattle.spdm_machine.specs.History.Entry.{Clear, Sealed, Queued, Ticked, Dropped}
+use Rattle.spdm_machine.specs.History.Entry.{Sealed}
 use Rattle.spdm_machine.specs.Place.{is_held}
 use Rattle.spdm_machine.specs.Session as responder
 use Rattle.spdm_machine.specs.Session.{id_in_record, is_past_handshake}
 use Rattle.spdm_machine.specs.TagLog.{Log}
 use Rattle.spdm_machine.specs.TagLog.Act.{Made, Checked}
-use Rattle.spdm_machine.specs.Turn.{Effect, Turn, takes}
-use Rattle.spdm_machine.specs.Turn.Effect.{NoEffect, Took, TookData}
+use Rattle.spdm_machine.specs.Turn.{Effect, takes}
+use Rattle.spdm_machine.specs.Turn.Effect.{TookData}
 use Rattle.world_machine.specs.Requesting.{Requesting}
 use Rattle.world_machine.specs.Responding.{Connection}
 use Rattle.world_machine.specs.World.{World}

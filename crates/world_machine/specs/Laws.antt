@@ -1,7 +1,6 @@
 -- What is said of every world: chance stays, and the connections of a responder do not touch one another.
 use Rattle.std.specs.Prelude.{◌≡◌, ◌≢◌, ℕ, List, filter, slice_index}
 use Rattle.mctp_framing.specs.Gathering.{Receiver, is_ours}
-use Rattle.spdm_machine.specs.TagLog.{Log}
 use Rattle.world_machine.specs.Chance.{HasChance}
 use Rattle.world_machine.specs.Happenings.{Happening}
 use Rattle.world_machine.specs.Packets.{body_limit, fields_in}

@@ -1,8 +1,8 @@
 -- Packets given to an end, and the bodies that they complete. An end hears a body as a whole, by all packets
 -- that it was ever given.
-use Rattle.std.specs.Prelude.{◌≡◌, ◌+◌, ◌^◌, ◌==◌, ℕ, List, [], ◌∷◌, map, slice_index, if◌then◌else◌, Bool, Option, Some, None, Result, Ok, Err}
-use Rattle.mctp_framing.specs.Cutting.{RouteFields, packets_of}
-use Rattle.mctp_framing.specs.Gathering.{Receiver, Gathered, gathered}
+use Rattle.std.specs.Prelude.{◌^◌, ℕ, List, [], ◌∷◌, slice_index, Bool, Result, Ok, Err}
+use Rattle.mctp_framing.specs.Cutting.{packets_of}
+use Rattle.mctp_framing.specs.Gathering.{Gathered, gathered}
 use Rattle.mctp_framing.specs.Packet.{PacketFields, parsed}
 
 -- The fields of the packets among these bytes, in the same order.

@@ -11,15 +11,14 @@ use Rattle.spdm_grammar.specs.declared.heard.Heard.{Heard}
 use Rattle.spdm_grammar.specs.declared.heard.Heard.TheVariants as heard
 use Rattle.spdm_grammar.specs.declared.heard.ReplyFault.{ReplyFault}
 use Rattle.spdm_grammar.specs.declared.heard.ReplyFault.TheVariants as reply_fault
-use Rattle.spdm_grammar.specs.declared.heard.RspIgnored.{RspIgnored}
 use Rattle.spdm_grammar.specs.declared.heard.RspIgnored.TheVariants as ignored
 use Rattle.spdm_machine.specs.Does.{responder_does}
 use Rattle.spdm_machine.specs.Heard.{heard_of, record_id}
-use Rattle.spdm_machine.specs.History.{History, Entry, draws_of, queue_of}
-use Rattle.spdm_machine.specs.History.Entry.{Clear, Sealed, Queued, Ticked, Dropped}
+use Rattle.spdm_machine.specs.History.{History, draws_of, queue_of}
+use Rattle.spdm_machine.specs.History.Entry.{Sealed, Queued, Ticked, Dropped}
 use Rattle.spdm_machine.specs.Keys.{Draw, draw_of}
 use Rattle.spdm_machine.specs.Responder.{Outcome, after, body_of}
-use Rattle.spdm_machine.specs.Responder.Outcome.{Same, Unopened, Adds}
+use Rattle.spdm_machine.specs.Responder.Outcome.{Adds}
 use Rattle.spdm_machine.specs.ResponderLog.{acts_of}
 use Rattle.spdm_machine.specs.Setup.{RspSetup, ReqSetup}
 use Rattle.spdm_machine.specs.TagLog.{Act}

@@ -1,5 +1,5 @@
 -- A responder with its requesters, as a script sets them up.
-use Rattle.std.specs.Prelude.{◌+◌, ℕ, List, [], ◌∷◌, map, Option, Some, None}
+use Rattle.std.specs.Prelude.{ℕ, List, [], ◌∷◌}
 use Rattle.hmac_hkdf.specs.Hmac.{hmac}
 use Rattle.running_hash.specs.Hash.{hash_of}
 use Rattle.spdm_basis.specs.declared.hash_alg.HashAlg.TheVariants.{Sha256}

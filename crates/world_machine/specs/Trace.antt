@@ -1,5 +1,5 @@
 -- Runs of a script: the worlds that its events lead to, and its trace. This project's own.
-use Rattle.std.specs.Prelude.{◌+◌, nat_lt, ℕ, List, [], ◌∷◌, ◌++◌, length, Bool}
+use Rattle.std.specs.Prelude.{nat_lt, ℕ, List, [], ◌∷◌, ◌++◌, length, Bool}
 use Rattle.world_machine.specs.Happenings.{Entry}
 use Rattle.world_machine.specs.Lines.{Line}
 use Rattle.world_machine.specs.Setup.{WorldSetup}

@@ -1,6 +1,6 @@
 -- A responder, its requesters and the packets between them; and what one event of a script does: the lines that
 -- it writes, and the world after it. This project's own.
-use Rattle.std.specs.Prelude.{◌+◌, ◌==◌, ◌&&◌, nat_lt, nat_le, ℕ, zero, suc, List, [], ◌∷◌, ◌++◌, length, map, find, slice_index, if◌then◌else◌, Bool, true, false, Option, Some, None}
+use Rattle.std.specs.Prelude.{◌+◌, ◌==◌, nat_lt, ℕ, zero, suc, List, [], ◌∷◌, ◌++◌, length, map, find, slice_index, if◌then◌else◌, Bool, true, false, Option, Some, None}
 use Rattle.requester_machine.specs.Message.{Command}
 use Rattle.requester_machine.specs.Shown as requester_shown
 use Rattle.requester_machine.specs.History as requester_history
@@ -11,7 +11,7 @@ use Rattle.spdm_grammar.specs.declared.event.Finished.{Finished}
 use Rattle.spdm_grammar.specs.declared.event.Finished.TheVariants as finished
 use Rattle.spdm_machine.specs.Heard.{View, views_of, no_id}
 use Rattle.spdm_machine.specs.History.{clear_turns, phase_of}
-use Rattle.spdm_machine.specs.TagLog.{Act, Log}
+use Rattle.spdm_machine.specs.TagLog.{Log}
 use Rattle.world_machine.specs.Happenings.{Happening, Entry}
 use Rattle.world_machine.specs.Happenings.Happening.{Told, Reply, Deliver, Lose, Inject, Pump, Tick, Show}
 use Rattle.world_machine.specs.Lines.{Line, Whose}

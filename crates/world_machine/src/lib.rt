@@ -3,6 +3,8 @@
 //! `specs/`, and each function below has a law about them as its contract.
 #![tactic(auto)]
 
+mod capture_laws;
 mod laws;
 
+pub use capture_laws::{beginning_conforms, conforming_has_table, one_is_first};
 pub use laws::{chance_stays, others_stand, own_decide};

@@ -1,8 +1,7 @@
-use Rattle.std.proofs.Common.{◌≡◌, [], ap, ◌∙◌, sym, take, drop, length, ◌∷◌, arith}
+use Rattle.std.proofs.Common.{◌≡◌, [], ap, ◌∙◌, drop, length, arith}
 use Rattle.std.proofs.lemmas.Grind.{common_steps}
 use Rattle.std.specs.Prelude.{unwrap_or}
 use Rattle.spdm_cmd.proofs.FirstLine.{first_line}
-use Rattle.spdm_cmd.specs.Lines.{lines_of}
 use Rattle.spdm_cmd.proofs.lines.next_line.Goals as goal
 
 pub returns-clause-line : goal.returns-clause-line

@@ -1,4 +1,4 @@
-use Rattle.std.proofs.Common.{◌≡◌, ◌+◌, ◌++◌, ap, ◌∙◌, sym, arith, take, append_assoc, rules}
+use Rattle.std.proofs.Common.{◌≡◌, ◌+◌, ◌++◌, ap, ◌∙◌, sym, arith, take, append_assoc}
 use Rattle.std.proofs.lemmas.Grind.{common_steps}
 use Rattle.spdm_cmd.specs.TraceLines.{packet_line}
 use Rattle.spdm_cmd.specs.World.{packet_lines}

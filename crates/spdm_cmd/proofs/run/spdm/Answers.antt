@@ -1,6 +1,6 @@
-use Rattle.std.proofs.Common.{◌≡◌, ◌∙◌, ◌++◌, ap, subst, sym, Some, List, ℕ}
+use Rattle.std.proofs.Common.{◌∙◌, ◌++◌, ap, subst, Some, List, ℕ}
 use Rattle.spdm_basis.specs.Stream.{TakesPrefix}
-use Rattle.spdm_cmd.specs.Trace.{trace, trace_of, configured}
+use Rattle.spdm_cmd.specs.Trace.{trace_of, configured}
 use Rattle.spdm_cmd.proofs.TopCall.{read_is, trace_of_entries}
 use Rattle.spdm_cmd.proofs.EventTexts.{prefix_of_whole}
 use Rattle.spdm_cmd.proofs.run.spdm.Goals as goal

@@ -1,5 +1,4 @@
-use Rattle.std.proofs.Common.{◌≡◌, append_assoc, arith}
-use Rattle.std.proofs.lemmas.Grind.{common_steps}
+use Rattle.std.proofs.Common.{append_assoc}
 use Rattle.spdm_cmd.specs.TraceLines.{event_line}
 use Rattle.spdm_cmd.proofs.text.push_event.Goals as goal
 

@@ -1,5 +1,4 @@
-use Rattle.std.proofs.Common.{◌≡◌, ◌+◌, ◌<◌, ◌≤◌, ◌∙◌, ap, sym, length, arith}
-use Rattle.std.proofs.lemmas.Grind.{common_steps}
+use Rattle.std.proofs.Common.{◌≡◌, ◌<◌, ◌∙◌, ap, sym, length, arith}
 use Rattle.spdm_cmd.specs.StandsFor.{LinkSeen, waiting_from}
 use Rattle.spdm_cmd.specs.World.{without_first_waiting}
 use Rattle.spdm_cmd.proofs.SentPackets.{without_first_waiting_from, without_first_waiting_end}

@@ -1,7 +1,6 @@
-use Rattle.std.proofs.Common.{◌≡◌, ◌<◌, ◌∙◌, ap, sym, length, get_or, arith, Some}
+use Rattle.std.proofs.Common.{◌≡◌, ◌<◌, ◌∙◌, ap, sym, length, get_or, arith}
 use Rattle.std.proofs.lemmas.Grind.{common_steps}
 use Rattle.spdm_cmd.specs.StandsFor.{LinkSeen, waiting_from}
-use Rattle.spdm_cmd.specs.World.{first_waiting}
 use Rattle.spdm_cmd.proofs.SentPackets.{first_waiting_from}
 use Rattle.spdm_cmd.proofs.link.Link.front.Goals as goal
 

@@ -1,7 +1,5 @@
-use Rattle.std.proofs.Common.{◌≡◌, ◌∙◌, ap, nat_eq, sym, length, arith}
-use Rattle.std.specs.Prelude.{is_none}
+use Rattle.std.proofs.Common.{◌≡◌, ◌∙◌, ap, sym, arith}
 use Rattle.spdm_cmd.specs.StandsFor.{LinkSeen, waiting_from}
-use Rattle.spdm_cmd.specs.World.{first_waiting}
 use Rattle.spdm_cmd.proofs.SentPackets.{idle_from}
 use Rattle.spdm_cmd.proofs.link.Link.is_idle.Goals as goal
 

@@ -1,4 +1,4 @@
-use Rattle.std.proofs.Common.{◌≡◌, ◌++◌, ◌≤◌, ◌∙◌, ap, sym, length, arith}
+use Rattle.std.proofs.Common.{◌≡◌, ◌++◌, ◌∙◌, ap, sym, length, arith}
 use Rattle.spdm_cmd.specs.StandsFor.{LinkSeen, waiting_from}
 use Rattle.spdm_cmd.specs.World.{packet_lines, with_sent}
 use Rattle.spdm_cmd.proofs.SentPackets.{length-waiting_from, with_sent_from}

@@ -1,9 +1,5 @@
-use Rattle.std.proofs.Common.{◌≡◌, ◌+◌, ◌≤◌, ◌++◌, ◌∷◌, [], List, Some, rules, arith, ap, ◌∙◌, sym}
-use Rattle.std.specs.Prelude.{◌||◌}
-use Rattle.std.proofs.lemmas.Grind.{common_steps}
+use Rattle.std.proofs.Common.{◌≡◌, ◌+◌, ◌≤◌, ◌++◌, ◌∷◌, [], Some, rules, arith}
 use Rattle.spdm_cmd.specs.Script.{event_in, is_connect}
-use Rattle.spdm_cmd.specs.Reading.{StandsForLines}
-use Rattle.spdm_cmd.specs.declared.script.Entry.{Entry}
 use Rattle.spdm_cmd.proofs.ReadLines.{stands_for_event}
 use Rattle.spdm_cmd.proofs.parse.Reader.take.Goals as goal
 

@@ -1,8 +1,8 @@
-use Rattle.std.proofs.Common.{◌≡◌, ◌-◌, ◌++◌, ◌∙◌, ap, subst, sym, refl, arith, ℕ, List, false, true}
+use Rattle.std.proofs.Common.{◌≡◌, ◌-◌, ◌++◌, ◌∙◌, ap, subst, sym, refl, arith, false, true}
 use Rattle.std.specs.Prelude.{is_none}
 use Rattle.spdm_cmd.specs.declared.setup.Setup.{Setup}
 use Rattle.spdm_cmd.specs.StandsFor.{StandsFor}
-use Rattle.spdm_cmd.specs.World.{LinkState, given, first_waiting, without_first_waiting}
+use Rattle.spdm_cmd.specs.World.{given, first_waiting, without_first_waiting}
 use Rattle.spdm_cmd.proofs.Pumping.{midway_first, midway_next, midway_last, midway_idle}
 use Rattle.spdm_cmd.proofs.world.World.pump.Goals as goal
 

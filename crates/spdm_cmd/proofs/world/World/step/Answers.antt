@@ -1,4 +1,4 @@
-use Rattle.std.proofs.Common.{◌≡◌, ◌∙◌, ◌++◌, ap, subst, sym, List, ℕ}
+use Rattle.std.proofs.Common.{◌≡◌, ◌∙◌, ◌++◌, ap, subst, List, ℕ}
 use Rattle.spdm_basis.specs.Stream.{TakesPrefix}
 use Rattle.spdm_cmd.specs.StandsFor.{StandsFor, WorldSeen}
 use Rattle.spdm_cmd.specs.World.{LinkState, entry_step}

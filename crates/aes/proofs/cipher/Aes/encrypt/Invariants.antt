@@ -1,6 +1,0 @@
-use Rattle.std.proofs.Common.{◌≡◌}
-use Rattle.aes.specs.Cipher.{rounds}
-use Rattle.aes.proofs.cipher.Aes.encrypt.Given as goal
-
-abbrev pub invariant-loop-n : goal.invariant-loop-n
-invariant-loop-n l = l.state ≡ rounds l.keys l.block l.n

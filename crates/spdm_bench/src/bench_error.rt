@@ -1,0 +1,23 @@
+use std::alloc::AllocError;
+use std::io;
+use thiserror::Error;
+
+/// Why the program printed no tag.
+#[derive(Debug, Drop, Error)]
+pub enum BenchError {
+    /// The words ask for no work.
+    #[error("usage: spdm_bench gcm|hmac SIZE COUNT")]
+    Usage,
+    /// Memory ran out.
+    #[error("out of memory")]
+    OutOfMemory,
+    /// The words could not be had, or the tag could not be written.
+    #[error("{0}")]
+    Io(#[from] io::Error),
+}
+
+impl From<AllocError> for BenchError {
+    fn from(_error: AllocError) -> BenchError {
+        BenchError::OutOfMemory
+    }
+}

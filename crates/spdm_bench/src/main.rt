@@ -1,0 +1,34 @@
+//! The program `spdm_bench`: it seals or authenticates many messages, so that the time that this takes can
+//! be measured from outside. It tells no time itself.
+#![tactic(auto)]
+
+mod answer;
+mod bench_error;
+mod repeat;
+mod work;
+
+use answer::{last_code, last_tag};
+use bench_error::BenchError;
+use std::env;
+use std::rt::Env;
+use work::{Kind, Work};
+
+/// Does the work that the words behind the program's name ask for, and prints the last tag or code in
+/// hexadecimal.
+fn main(rt: HostRuntime) -> Result<(), BenchError> {
+    let work = asked(&rt)?;
+    let last = match work.kind {
+        Kind::Gcm => last_tag(rt.alloc(), work.size, work.count)?,
+        Kind::Hmac => last_code(rt.alloc(), work.size, work.count)?,
+    };
+    println!(rt; "{last}")?;
+    Ok(())
+}
+
+fn asked(rt: &(impl Env + AllocGlobal)) -> Result<Work, BenchError> {
+    let mut words = Vec::new(rt.alloc());
+    for word in env::args(rt)?.skip(1) {
+        words.push(word).map_err(|_| BenchError::OutOfMemory)?;
+    }
+    Work::of(words.as_slice()).ok_or(BenchError::Usage)
+}

@@ -1,0 +1,207 @@
+-- The sessions that a conforming capture shows. This project's own.
+use Rattle.std.specs.Prelude.{◌≡◌, ◌+◌, ◌==◌, ◌&&◌, ◌||◌, not, nat_lt, ℕ, List, [], ◌∷◌, map, reverse, length, if◌then◌else◌, Bool, true, false, Option, Some, None, bytes_eq}
+use Rattle.requester_machine.specs.History as requester_history
+use Rattle.requester_machine.specs.History.Effect.{Answers}
+use Rattle.requester_machine.specs.History.Entry.{TookClear}
+use Rattle.requester_machine.specs.Message.{Aim, Sent}
+use Rattle.requester_machine.specs.Message.Aim.{InSession}
+use Rattle.spdm_basis.specs.declared.session_id.SessionId.{SessionId}
+use Rattle.spdm_grammar.specs.Message.RequestMessage.{PskExchange}
+use Rattle.spdm_grammar.specs.declared.phase.Stage.{Stage}
+use Rattle.spdm_machine.specs.Heard.{view_of}
+use Rattle.spdm_machine.specs.History.{History}
+use Rattle.spdm_machine.specs.History.Entry.{Clear, Sealed}
+use Rattle.spdm_machine.specs.Session.{Events, session_of, is_live, exchange_answer, id_in_exchange, id_in_record}
+use Rattle.spdm_machine.specs.Setup.{ReqSetup}
+use Rattle.spdm_machine.specs.Turn.{Turn, takes, answer_in}
+use Rattle.world_machine.specs.Capture.{Conforms, Follows}
+use Rattle.world_machine.specs.Rounds.{Dialogue, Round, new_dialogue}
+use Rattle.world_machine.specs.Setup.{WorldSetup}
+
+-- A session that a PSK_EXCHANGE_RSP began: the end point of its requester; its own history at the responder, as it
+-- last was, and whether it is live there; its ReqSessionID, where the requester took that answer, and until a later
+-- session has the id; the different records of it in requests, and those in answers.
+pub record Row : Type 0 where
+  pub eid : ℕ
+  pub events : Events
+  pub live : Bool
+  pub asks_as : Option ℕ
+  pub sent : List (List ℕ)
+  pub answered : List (List ℕ)
+
+abbrev pub responder_id : Row → ℕ
+responder_id row = id_in_exchange (exchange_answer row.events)
+
+-- A record that is not among them yet.
+abbrev pub is_among : List ℕ → List (List ℕ) → Bool
+is_among sealed [] = false
+is_among sealed (other ∷ others) = bytes_eq sealed other || is_among sealed others
+
+abbrev pub with_record : List ℕ → List (List ℕ) → List (List ℕ)
+with_record sealed others = if is_among sealed others then others else sealed ∷ others
+
+-- ---- What happened between two moments of a dialogue, one packet apart.
+
+-- PSK_EXCHANGE took effect, and its answer is whole.
+abbrev pub begins : Turn → Bool
+begins t = takes 0xe6 t && not (length (answer_in t.effect) == 0)
+
+abbrev pub begun_count : History → ℕ
+begun_count [] = 0
+begun_count (Clear tag t d ∷ older) = if begins t then begun_count older + 1 else begun_count older
+begun_count (_ ∷ older) = begun_count older
+
+-- The RspSessionID of the session that was begun last.
+abbrev pub last_begun : History → ℕ
+last_begun [] = 0
+last_begun (Clear tag t d ∷ older) = if begins t then id_in_exchange (answer_in t.effect) else last_begun older
+last_begun (_ ∷ older) = last_begun older
+
+abbrev pub has_begun : Dialogue → Dialogue → Bool
+has_begun before after = nat_lt (begun_count before.responder) (begun_count after.responder)
+
+-- The session of this id was begun.
+abbrev pub has_begun_as : Dialogue → Dialogue → ℕ → Bool
+has_begun_as before after id = has_begun before after && last_begun after.responder == id
+
+-- The record that the responder took last, with this id, and the record that answered it.
+abbrev pub last_reply : ℕ → History → Option (List ℕ)
+last_reply id (Sealed tag sealed t reply d ∷ older) = if id_in_record sealed == id then Some reply else None
+last_reply id _ = None
+
+abbrev pub reply_between : Dialogue → Dialogue → ℕ → Option (List ℕ)
+reply_between before after id = if nat_lt (length before.responder) (length after.responder) then last_reply id after.responder else None
+
+-- The ReqSessionID of the exchange whose answer the requester took last.
+abbrev pub accepted_in : requester_history.History → Option ℕ
+accepted_in (TookClear tag m led d ∷ older) = accepted_by led.effect
+  where
+    accepted_by : requester_history.Effect → Option ℕ
+    accepted_by (Answers (PskExchange exchange) answer) = Some exchange.req_id
+    accepted_by _ = None
+accepted_in _ = None
+
+abbrev pub accepted_between : Dialogue → Dialogue → Option ℕ
+accepted_between before after = if nat_lt (length before.requester) (length after.requester) then accepted_in after.requester else None
+
+-- A round began, and its request is a record of the session of this ReqSessionID.
+abbrev pub is_of : ℕ → Option Sent → Bool
+is_of id (Some sent) = is_aimed id sent.aim
+  where
+    is_aimed : ℕ → Aim → Bool
+    is_aimed id (InSession of ask) = of == id
+    is_aimed id _ = false
+is_of id None = false
+
+abbrev pub is_new : Option Round → Round → Bool
+is_new None round = true
+is_new (Some before) round = not (before.tag == round.tag)
+
+abbrev pub request_by : Dialogue → Dialogue → ℕ → Option Round → Option (List ℕ)
+request_by before after id None = None
+request_by before after id (Some round) =
+    if is_new before.round round && is_of id (requester_history.outstanding after.requester) then Some round.body else None
+
+-- ---- What that makes of a row.
+
+abbrev pub is_named : Option ℕ → Option ℕ → Bool
+is_named (Some id) (Some other) = id == other
+is_named _ _ = false
+
+abbrev pub with_option : Option (List ℕ) → List (List ℕ) → List (List ℕ)
+with_option None others = others
+with_option (Some sealed) others = with_record sealed others
+
+abbrev pub request_between : Dialogue → Dialogue → Option ℕ → Option (List ℕ)
+request_between before after None = None
+request_between before after (Some id) = request_by before after id after.round
+
+-- A live session goes on, or is live no longer, also where another one has its id now.
+abbrev pub with_events : Dialogue → Dialogue → Row → Row
+with_events before after row =
+    if not (is_live (session_of (responder_id row) after.responder)) || has_begun_as before after (responder_id row) then record row { live = false }
+    else record row { events = session_of (responder_id row) after.responder }
+
+abbrev pub with_responder : Dialogue → Dialogue → Row → Row
+with_responder before after row =
+    if row.live then record (with_events before after row) { answered = with_option (reply_between before after (responder_id row)) row.answered }
+    else row
+
+abbrev pub with_requester : Dialogue → Dialogue → Row → Row
+with_requester before after row =
+    record row {
+      asks_as = if is_named row.asks_as (accepted_between before after) then None else row.asks_as;
+      sent = with_option (request_between before after row.asks_as) row.sent;
+    }
+
+abbrev pub row_after : Dialogue → Dialogue → Row → Row
+row_after before after row =
+    if row.eid == after.setup.eid then with_requester before after (with_responder before after row) else row
+
+-- A new row, behind all others: the newest stands first.
+abbrev pub new_row : Dialogue → Dialogue → Row
+new_row before after = record {
+  eid = after.setup.eid;
+  events = session_of (last_begun after.responder) after.responder;
+  live = true;
+  asks_as = accepted_between before after;
+  sent = [];
+  answered = [];
+}
+
+abbrev pub rows_between : Dialogue → Dialogue → List Row → List Row
+rows_between before after rows =
+    if has_begun before after then new_row before after ∷ map (row_after before after) rows
+    else map (row_after before after) rows
+
+-- The same for all dialogues, of which a packet changes one.
+abbrev pub rows_after : List Dialogue → List Dialogue → List Row → List Row
+rows_after [] ds rows = rows
+rows_after (b ∷ bs) [] rows = rows
+rows_after (b ∷ bs) (d ∷ ds) rows = rows_after bs ds (rows_between b d rows)
+
+-- ---- The table.
+
+-- Packets, the newest first, may lead to what the dialogues then are, and show these rows.
+abbrev pub LeadsShowing : WorldSetup → List (List ℕ) → List Dialogue → List Row → Type 0
+LeadsShowing w [] ds rows = (ds ≡ map new_dialogue w.requesters) × (rows ≡ [])
+LeadsShowing w (packet ∷ older) ds rows =
+    (before : List Dialogue) × (earlier : List Row) × LeadsShowing w older before earlier
+    × Follows w older before packet ds
+    × (rows ≡ rows_after before ds earlier)
+
+-- An entry of the table: the number of the requester, counted from 1; the session's id; its stage, or none where it
+-- is live no longer; the hash of its transcript; how many different records of it stand in requests, and how many
+-- in answers.
+pub record Seen : Type 0 where
+  pub requester : ℕ
+  pub id : SessionId
+  pub stage : Option Stage
+  pub hash : List ℕ
+  pub sent : ℕ
+  pub answered : ℕ
+
+abbrev pub number_from : ℕ → ℕ → List ReqSetup → ℕ
+number_from n eid [] = 0
+number_from n eid (q ∷ others) = if q.eid == eid then n else number_from (n + 1) eid others
+
+abbrev pub seen : WorldSetup → Row → Seen
+seen w row = record {
+  requester = number_from 1 row.eid w.requesters;
+  id = (view_of row.events).id;
+  stage = if row.live then Some (view_of row.events).stage else None;
+  hash = (view_of row.events).hash;
+  sent = length row.sent;
+  answered = length row.answered;
+}
+
+-- Packets, in order, conform and have this table: its entries stand in the order in which PSK_EXCHANGE_RSP came.
+abbrev pub HasTable : WorldSetup → List (List ℕ) → List Seen → Type 0
+HasTable w packets table =
+    (ds : List Dialogue) × (rows : List Row) × LeadsShowing w (reverse packets) ds rows × (table ≡ map (seen w) (reverse rows))
+
+-- What conforms has a table, and what has one conforms.
+abbrev pub ConformingHasTable : Type 0
+ConformingHasTable = (w : WorldSetup) (packets : List (List ℕ))
+    → (Conforms w packets → (table : List Seen) × HasTable w packets table)
+    × ((table : List Seen) → HasTable w packets table → Conforms w packets)

@@ -1,0 +1,19 @@
+//! What holds of captures, each law as the contract of a function that does nothing.
+
+ghost use Rattle.world_machine.specs.Capture.{BeginningConforms, OneIsFirst};
+ghost use Rattle.world_machine.specs.SessionTable.{ConformingHasTable};
+
+/// The beginning of a conforming capture conforms, so there is a first packet that does not.
+pub fn beginning_conforms()
+    ensures { BeginningConforms }
+{}
+
+/// A capture conforms where it has a table of its sessions, and nowhere else.
+pub fn conforming_has_table()
+    ensures { ConformingHasTable }
+{}
+
+/// No capture has two packets of which each is the first that does not conform.
+pub fn one_is_first()
+    ensures { OneIsFirst }
+{}
