@@ -20,6 +20,7 @@ pub mod ServingPlaces
 pub mod ServingKnown
 pub mod ServingBegins
 pub mod ServingDoes
+pub mod ServingData
 pub mod Codes
 pub mod Steady
 pub mod Example

@@ -1,5 +1,5 @@
 -- The epochs and numbers of the sessions that a responder holds open are those that its marks count.
-use Rattle.std.proofs.Common.{◌≡◌, ℕ, ◌+◌, List, [], ◌∷◌, ◌++◌, Bool, true, false, cond, Some, ◌==◌, ◌&&◌, ◌||◌, refl, sym, ap, ap₂, ◌∙◌, subst, true≢false, bytes_eq}
+use Rattle.std.proofs.Common.{arith, ◌≡◌, ℕ, ◌+◌, List, [], ◌∷◌, ◌++◌, Bool, true, false, cond, Some, ◌==◌, ◌&&◌, ◌||◌, refl, sym, ap, ap₂, ◌∙◌, subst, true≢false, bytes_eq, eqb-true, eq-eqb}
 use Rattle.std.proofs.lemmas.Slice.Eq.{bytes_eq-Decides}
 use Rattle.spdm_grammar.specs.Message.RequestMessage.{KeyUpdate}
 use Rattle.spdm_grammar.specs.declared.phase.Stage.{Stage}
@@ -11,18 +11,23 @@ use Rattle.spdm_machine.specs.Session.{Event, Events, stage_of, is_live, is_past
 use Rattle.spdm_machine.specs.Session.Event.{Began, Heard, Waited}
 use Rattle.spdm_machine.specs.Setup.{RspSetup}
 use Rattle.spdm_machine.specs.TagLog.{Log}
-use Rattle.spdm_machine.specs.Turn.{Turn, Effect, code_in, takes, updates, answer_in, request_in}
+use Rattle.spdm_machine.specs.Turn.{Turn, Effect, code_in, takes, updates, answer_in, request_in, asked_in}
 use Rattle.spdm_machine.specs.Turn.Effect.{NoEffect, TookData}
-use Rattle.spdm_agreement.specs.Marks.{Asked, Served, HasOpened, served_open, taken, epoch_of, count_of}
+use Rattle.spdm_agreement.specs.Marks.{Asked, Served, HasOpened, served_open, taken, epoch_of, count_of, Exchange}
 use Rattle.spdm_agreement.specs.Marks.Served.{Finished, Refused, Took}
 use Rattle.spdm_agreement.specs.Reading.{First}
 use Rattle.spdm_agreement.specs.Story.{served_first, served_turn, record_marks, reply_text, taken_text}
 use Rattle.spdm_agreement.proofs.Invariant.{Invariant}
 use Rattle.spdm_agreement.proofs.Runs.{same_finished}
 use Rattle.spdm_agreement.proofs.Serving.{ServedAt, EndsByFinish, same_second}
-use Rattle.spdm_agreement.proofs.Sessions.{reading_of}
-use Rattle.spdm_agreement.proofs.ServingReplies.{updates_in}
-use Rattle.spdm_agreement.proofs.ServingSteps.{Counts, Opens, exchange_of, updates_all, updates_any}
+use Rattle.spdm_agreement.proofs.Sessions.{reading_of, both}
+use Rattle.spdm_agreement.proofs.ServingReplies.{updates_in, operation_known}
+use Rattle.spdm_agreement.proofs.Data.{verifying}
+use Rattle.std.proofs.lemmas.Bool.{leb-true}
+use Rattle.std.specs.Prelude.{nat_le}
+use Rattle.spdm_grammar.specs.Fields.{is_key_operation}
+use Rattle.spdm_machine.specs.Records.{opened}
+use Rattle.spdm_agreement.proofs.ServingSteps.{Counts, Opens, is_verifying, exchange_of, updates_all, updates_any, updates_third}
 
 -- What is held open is counted.
 pub record IsCounted (psk : List ℕ) (s : Events) (m : List Served) : Type 0 where
@@ -39,6 +44,7 @@ past_marks psk s m m' same i = record {
     request_next = c.request_next ∙ ap (count_of (reading_of psk).is_update 0) (sym (same e));
     response_epoch = c.response_epoch ∙ ap (epoch_of (reading_of psk).is_update_all) (sym (same e));
     response_next = c.response_next ∙ ap (count_of (reading_of psk).is_update_all 1) (sym (same e));
+        stands = c.stands ∙ ap verifying (sym (same e));
   });
 }
 
@@ -47,7 +53,7 @@ past_marks psk s m m' same i = record {
 ticked_by : (psk : List ℕ) (e : Event) (s : Events) (seconds : ℕ) (m : List Served) (a b : Bool) → IsCounted psk (e ∷ s) m → IsCounted psk (cond a (e ∷ s) (cond b [] (Waited seconds ∷ e ∷ s))) m
 ticked_by psk e s seconds m true b i = i
 ticked_by psk e s seconds m false true i = gone psk m
-ticked_by psk e s seconds m false false i = record { counts = λ l. (let c = i.counts l in record { request_epoch = c.request_epoch; request_next = c.request_next; response_epoch = c.response_epoch; response_next = c.response_next }) }
+ticked_by psk e s seconds m false false i = record { counts = λ l. (let c = i.counts l in record { request_epoch = c.request_epoch; request_next = c.request_next; response_epoch = c.response_epoch; response_next = c.response_next; stands = c.stands }) }
 
 pub ticked : (psk : List ℕ) (s : Events) (seconds : ℕ) (m : List Served) → IsCounted psk s m → IsCounted psk (after_tick s seconds) m
 ticked psk [] seconds m i = gone psk m
@@ -86,6 +92,41 @@ then_none false n k e = refl
 with_taken : (u : List ℕ) (b c : List ℕ) (m : List Served) → taken u (Took u b c ∷ m) ≡ (b, c) ∷ taken u m
 with_taken u b c m = ap (λ (x : Bool). cond x ((b, c) ∷ taken u m) (taken u m)) ((bytes_eq-Decides u u).1 refl)
 
+-- The stage goes by the updates that are granted.
+by_operation : (op : ℕ) (old a b c : Bool) → (op == 1) ≡ a → (op == 2) ≡ b → (op == 3) ≡ c → is_key_operation op ≡ true → cond (op == 3) false true ≡ cond (op == 1 || op == 2) true (cond (op == 3) false old)
+by_operation op old true b c x y z e = subst (λ (n : ℕ). cond (n == 3) false true ≡ cond (n == 1 || n == 2) true (cond (n == 3) false old)) (sym (eqb-true op 1 x)) refl
+by_operation op old false true c x y z e = subst (λ (n : ℕ). cond (n == 3) false true ≡ cond (n == 1 || n == 2) true (cond (n == 3) false old)) (sym (eqb-true op 2 y)) refl
+by_operation op old false false true x y z e = subst (λ (n : ℕ). cond (n == 3) false true ≡ cond (n == 1 || n == 2) true (cond (n == 3) false old)) (sym (eqb-true op 3 z)) refl
+by_operation op old false false false x y z e =
+    let l = both (nat_le 1 op) (nat_le op 3) e in
+    let least = leb-true 1 op l.0 in
+    let most = leb-true op 3 l.1 in
+    let no_one : op ≡ 1 → ⊥ = λ is. true≢false (sym (eq-eqb op 1 is) ∙ x) in
+    let no_two : op ≡ 2 → ⊥ = λ is. true≢false (sym (eq-eqb op 2 is) ∙ y) in
+    let no_three : op ≡ 3 → ⊥ = λ is. true≢false (sym (eq-eqb op 3 is) ∙ z) in
+    absurd (omega (arith, no_one, no_two, no_three))
+
+verifies_in : (e : Effect) (old : Bool) → ((op tag : ℕ) → asked_in e ≡ Some (KeyUpdate op tag) → is_key_operation op ≡ true)
+    → cond (updates_in 3 e) false (cond (code_in e == 0xe9) true old) ≡ cond (updates_in 1 e || updates_in 2 e) true (cond (updates_in 3 e) false old)
+verifies_in NoEffect old k = refl
+verifies_in (TookData bytes answer) old k = refl
+verifies_in (Effect.Took (KeyUpdate op tag) request answer large) old k = by_operation op old (op == 1) (op == 2) (op == 3) refl refl refl (k op tag refl)
+verifies_in (Effect.Took v request answer large) old k = refl
+
+stage_by : (a b c : Bool) (g : Stage) → a ≡ false → is_verifying (cond a stage.Open (cond b stage.Open (cond c stage.Verifying g))) ≡ cond b false (cond c true (is_verifying g))
+stage_by true b c g e = absurd (true≢false e)
+stage_by false true c g e = refl
+stage_by false false true g e = refl
+stage_by false false false g e = refl
+
+verifies : (r : RspSetup) (s : Events) (f : Free) (sealed : List ℕ) (t : Turn) (reply : List ℕ) → Opens r s f sealed t reply → takes 0xe7 t ≡ false → (older : List Exchange) → is_verifying (stage_of s) ≡ verifying older
+    → is_verifying (stage_of (Heard sealed t reply ∷ s)) ≡ verifying (exchange_of r s sealed t ∷ older)
+verifies r s f sealed t reply o other older is =
+    stage_by (takes 0xe7 t) (updates 3 t) (takes 0xe9 t) (stage_of s) other
+    ∙ verifies_in t.effect (is_verifying (stage_of s)) (operation_known r s (opened r.psk s sealed) f t o.turn)
+    ∙ ap (λ (old : Bool). cond (updates 1 t || updates 2 t) true (cond (updates 3 t) false old)) is
+    ∙ ap₂ (λ (a b : Bool). cond a true (cond b false (verifying older))) (sym (updates_any r s f sealed t reply o)) (sym (updates_third r s f sealed t reply o))
+
 pub took_counts : (r : RspSetup) (s : Events) (f : Free) (sealed : List ℕ) (t : Turn) (reply : List ℕ) (m : List Served) → Opens r s f sealed t reply → takes 0xe7 t ≡ false → Counts r.psk s m
     → Counts r.psk (Heard sealed t reply ∷ s) (Took (t2_of s) (taken_text r.psk s sealed) (reply_text t) ∷ m)
 took_counts r s f sealed t reply m o other c =
@@ -101,6 +142,7 @@ took_counts r s f sealed t reply m o other c =
       request_next = after_none (takes 0xe7 t) (updates 1 t) (updates 2 t) 0 (request_next s + 1) other ∙ ap₂ (λ (b : Bool) (n : ℕ). cond b 0 (n + 1)) any c.request_next ∙ ap (count_of (reading_of r.psk).is_update 0) now;
       response_epoch = ap₂ (λ (b : Bool) (n : ℕ). cond b (n + 1) n) all c.response_epoch ∙ ap (epoch_of (reading_of r.psk).is_update_all) now;
       response_next = then_none (takes 0xe7 t) 0 (cond (updates 2 t) 1 (response_next s + 1)) other ∙ ap₂ (λ (b : Bool) (n : ℕ). cond b 1 (n + 1)) all c.response_next ∙ ap (count_of (reading_of r.psk).is_update_all 1) now;
+      stands = verifies r s f sealed t reply o other (taken u m) c.stands ∙ ap verifying now;
     }
 
 -- A session in its handshake has changed no key.
@@ -144,6 +186,7 @@ finish_counts psk s sealed t reply m shakes finish none =
       request_next = ap (λ (b : Bool). cond (b || updates 1 t || updates 2 t) 0 (request_next s + 1)) finish ∙ ap (count_of (reading_of psk).is_update 0) (sym none);
       response_epoch = ap (λ (b : Bool). cond b (response_epoch s + 1) (response_epoch s)) quiet.1 ∙ older.1 ∙ ap (epoch_of (reading_of psk).is_update_all) (sym none);
       response_next = ap (λ (b : Bool). cond b 0 (cond (updates 2 t) 1 (response_next s + 1))) finish ∙ ap (count_of (reading_of psk).is_update_all 1) (sym none);
+      stands = ap (λ (b : Bool). is_verifying (cond b stage.Open (cond (updates 3 t) stage.Open (cond (takes 0xe9 t) stage.Verifying (stage_of s))))) finish ∙ ap verifying (sym none);
     }
 
 finishes_by : (psk : List ℕ) (e : Event) (s : Events) (sealed : List ℕ) (t : Turn) (reply : List ℕ) (m : List Served) (b : Bool) → takes 0xe7 t ≡ b → is_past_handshake (stage_of (e ∷ s)) ≡ false

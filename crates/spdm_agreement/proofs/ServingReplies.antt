@@ -220,3 +220,23 @@ tells_all r s inner f t n text holds room x = tells_updates r s inner f t n text
 pub tells_any : (r : RspSetup) (s : Events) (inner : List ℕ) (f : Free) (t : Turn) (n : ℕ) (text : List ℕ) → inner ≡ take n (drop 2 text) → IsRoomy s → TurnIs r s inner f t
     → is_update_of (operation_in text == 1 || operation_in text == 2) (text, reply_text t) ≡ (updates 1 t || updates 2 t)
 tells_any r s inner f t n text holds room x = tells_updates r s inner f t n text holds room x (λ n. n == 1 || n == 2) ∙ any_of t.effect
+
+third_of : (e : Effect) → updated_by (λ n. n == 3) (asked_in e) ≡ updates_in 3 e
+third_of NoEffect = refl
+third_of (TookData bytes answer) = refl
+third_of (Took (KeyUpdate op tag) request answer large) = refl
+third_of (Took v request answer large) = refl
+
+pub tells_third : (r : RspSetup) (s : Events) (inner : List ℕ) (f : Free) (t : Turn) (n : ℕ) (text : List ℕ) → inner ≡ take n (drop 2 text) → IsRoomy s → TurnIs r s inner f t
+    → is_update_of (operation_in text == 3) (text, reply_text t) ≡ updates 3 t
+tells_third r s inner f t n text holds room x = tells_updates r s inner f t n text holds room x (λ n. n == 3) ∙ third_of t.effect
+
+-- A KEY_UPDATE that took effect has one of the three operations.
+pub operation_known : (r : RspSetup) (s : Events) (inner : List ℕ) (f : Free) (t : Turn) → TurnIs r s inner f t → (op tag : ℕ) → asked_in t.effect ≡ Some (KeyUpdate op tag) → is_key_operation op ≡ true
+operation_known r s inner f t x op tag is = elim x [
+  | inl a ↦ absurd (let none : None ≡ Some (KeyUpdate op tag) = sym (ap (λ (t : Turn). asked_in t.effect) a.is) ∙ is in cc)
+  | inr y ↦ elim y [
+    | inl a ↦ absurd (let none : None ≡ Some (KeyUpdate op tag) = sym (ap (λ (t : Turn). asked_in t.effect) a.is) ∙ is in cc)
+    | inr a ↦ (operation_read (hash_len (session_terms s)) (drop 1 inner) op tag (a.spelled ∙ sym (ap asked_in (took r s inner f t a)) ∙ is)).1
+  ]
+]

@@ -22,20 +22,28 @@ use Rattle.spdm_agreement.specs.Marks.Served.{Finished, Refused, Took}
 use Rattle.spdm_agreement.specs.Moves.{State, Move, IsPassed, request_shake, response_shake}
 use Rattle.spdm_agreement.specs.Reading.{covered}
 use Rattle.spdm_agreement.specs.Story.{served_first, served_turn, reply_text, taken_text}
+use Rattle.spdm_agreement.proofs.Data.{verifying, is_verification}
 use Rattle.spdm_agreement.proofs.Sessions.{reading_of, sealed_of}
 use Rattle.spdm_agreement.proofs.ServingMoves.{IsMoved, moves_by, chain, AreChecks, checks, passed_before}
 use Rattle.spdm_agreement.proofs.ServingRecords.{check_checks, inner_checks, check_passed, reply_input, opened_inner}
 use Rattle.spdm_agreement.proofs.ServingTurns.{TurnIs}
-use Rattle.spdm_agreement.proofs.ServingReplies.{IsRoomy, tells_all, tells_any}
+use Rattle.spdm_agreement.proofs.ServingReplies.{IsRoomy, tells_all, tells_any, tells_third}
 use Rattle.spdm_agreement.proofs.ServingShakes.{ShakesAt, newest_begun}
 use Rattle.spdm_agreement.proofs.ServingFinish.{refuse_told, finish_told, finish_inner, finish_second}
 
--- The epochs and numbers of a session are those counted in the marks under its T2.
+-- A new key of the requester was not verified yet.
+abbrev pub is_verifying : Stage → Bool
+is_verifying stage.Handshake = false
+is_verifying stage.Open = false
+is_verifying stage.Verifying = true
+
+-- The epochs, the numbers and the stage of a session are those counted in the marks under its T2.
 pub record Counts (psk : List ℕ) (s : Events) (m : List Served) : Type 0 where
   pub request_epoch : request_epoch s ≡ epoch_of (reading_of psk).is_update (taken (t2_of s) m)
   pub request_next : request_next s ≡ count_of (reading_of psk).is_update 0 (taken (t2_of s) m)
   pub response_epoch : response_epoch s ≡ epoch_of (reading_of psk).is_update_all (taken (t2_of s) m)
   pub response_next : response_next s ≡ count_of (reading_of psk).is_update_all 1 (taken (t2_of s) m)
+  pub stands : is_verifying (stage_of s) ≡ verifying (taken (t2_of s) m)
 
 abbrev pub state : List Asked → List Served → Log → State
 state asked served log = record { asked = asked; served = served; log = log }
@@ -174,6 +182,9 @@ updates_all r s f sealed t reply o = tells_all r s (opened r.psk s sealed) f t (
 
 pub updates_any : (r : RspSetup) (s : Events) (f : Free) (sealed : List ℕ) (t : Turn) (reply : List ℕ) → Opens r s f sealed t reply → (reading_of r.psk).is_update (exchange_of r s sealed t) ≡ (updates 1 t || updates 2 t)
 updates_any r s f sealed t reply o = tells_any r s (opened r.psk s sealed) f t (little_number 2 (taken_text r.psk s sealed)) (taken_text r.psk s sealed) (opened_inner r.psk s sealed) o.room o.turn
+
+pub updates_third : (r : RspSetup) (s : Events) (f : Free) (sealed : List ℕ) (t : Turn) (reply : List ℕ) → Opens r s f sealed t reply → is_verification (exchange_of r s sealed t) ≡ updates 3 t
+updates_third r s f sealed t reply o = tells_third r s (opened r.psk s sealed) f t (little_number 2 (taken_text r.psk s sealed)) (taken_text r.psk s sealed) (opened_inner r.psk s sealed) o.room o.turn
 
 reply_key : (r : RspSetup) (s : Events) (f : Free) (sealed : List ℕ) (t : Turn) (reply : List ℕ) (m : List Served) → Opens r s f sealed t reply → is_past_handshake (stage_of s) ≡ true → Counts r.psk s m
     → records.reply_purpose r.psk s t ≡ marks.reply_purpose (reading_of r.psk) (t2_of s) (exchange_of r s sealed t ∷ taken (t2_of s) m)
