@@ -44,7 +44,7 @@ past_marks psk s m m' same i = record {
     request_next = c.request_next ∙ ap (count_of (reading_of psk).is_update 0) (sym (same e));
     response_epoch = c.response_epoch ∙ ap (epoch_of (reading_of psk).is_update_all) (sym (same e));
     response_next = c.response_next ∙ ap (count_of (reading_of psk).is_update_all 1) (sym (same e));
-        stands = c.stands ∙ ap verifying (sym (same e));
+    stands = c.stands ∙ ap verifying (sym (same e));
   });
 }
 
