@@ -50,3 +50,5 @@ pub mod AskingTalks
 pub mod AskingChecks
 pub mod VerifyStands
 pub mod AskingAccepts
+pub mod DataSealed
+pub mod DataHeard
