@@ -140,7 +140,7 @@ first_short : (xs : List (List ℕ)) → AllShort xs → length (first_queued xs
 first_short [] all = omega arith
 first_short (x ∷ others) all = all.0
 
-chosen_short : (r : RspSetup) (h : History) (sealed : List ℕ) (d : Draw) → IsMade r h → length (record_chosen r h sealed d).reply ≤ 1024
+pub chosen_short : (r : RspSetup) (h : History) (sealed : List ℕ) (d : Draw) → IsMade r h → length (record_chosen r h sealed d).reply ≤ 1024
 unfolding chosen
 chosen_short r h sealed d made = first_short (queue_of h) (queue_short r h made)
 
@@ -151,7 +151,7 @@ pub record Told (text reply : Text) (e : Effect) : Type 0 where
   pub taken : taken_data (text, reply) ≡ as_list (data_taken e)
   pub answered : answered_data (text, reply) ≡ as_list (data_answered e)
 
-opened_in : (psk : List ℕ) (s : Events) (sealed : List ℕ) → opened psk s sealed ≡ inner_in (taken_text psk s sealed)
+pub opened_in : (psk : List ℕ) (s : Events) (sealed : List ℕ) → opened psk s sealed ≡ inner_in (taken_text psk s sealed)
 unfolding opened
 opened_in psk s sealed = inner_text (session_terms s).choice (request_purpose psk s) (request_next s) sealed
 
