@@ -11,7 +11,7 @@ use Rattle.spdm_machine.specs.Turn.{code_for}
 
 -- ---- What holds of each value of a layout holds of a value that bytes spell.
 
-abbrev Gives : {A : Type 0} → (A → Type 0) → Layout A → Type 0
+abbrev pub Gives : {A : Type 0} → (A → Type 0) → Layout A → Type 0
 Gives P (Whole value) = P value
 Gives P (Sized told told_at value) = P value
 Gives P (Number width is_allowed next) = (n : ℕ) → Gives P (next n)
@@ -21,7 +21,7 @@ Gives P (Tables count next) = (field : List ℕ) → Gives P (next field)
 Gives P (UpTo most value) = (field : List ℕ) → P (value field)
 Gives P (Remaining value) = (field : List ℕ) → P (value field)
 
-given : {A : Type 0} (P : A → Type 0) (l : Layout A) (at : ℕ) (v : A) (bytes : List ℕ) → Gives P l → IsSpelling l at v bytes → P v
+pub given : {A : Type 0} (P : A → Type 0) (l : Layout A) (at : ℕ) (v : A) (bytes : List ℕ) → Gives P l → IsSpelling l at v bytes → P v
 given P (Whole value) at v bytes all s = subst P (sym s.0) all
 given P (Sized told told_at value) at v bytes all s = subst P (sym s.0) all
 given P (Number width is_allowed next) at v bytes all s = given P (next (little_number width s.0)) (at + width) v s.1 (all (little_number width s.0)) s.5
@@ -35,7 +35,7 @@ given P (Remaining value) at v bytes all s = subst P (sym s) (all bytes)
 pub record HasGiven {A : Type 0} (P : A → Type 0) (l : Layout A) : Type 0 where
   pub are : Gives P l
 
-tested : {A : Type 0} {P : A → Type 0} (b : Bool) (l m : Layout A) → (b ≡ true → HasGiven P l) → (b ≡ false → HasGiven P m) → HasGiven P (cond b l m)
+pub tested : {A : Type 0} {P : A → Type 0} (b : Bool) (l m : Layout A) → (b ≡ true → HasGiven P l) → (b ≡ false → HasGiven P m) → HasGiven P (cond b l m)
 tested true l m x y = x refl
 tested false l m x y = y refl
 
@@ -44,7 +44,7 @@ tested false l m x y = y refl
 abbrev HasCode : ℕ → RequestMessage → Type 0
 HasCode code v = code_for v ≡ code
 
-is_code : (code n : ℕ) → (code == n) ≡ true → n ≡ code
+pub is_code : (code n : ℕ) → (code == n) ≡ true → n ≡ code
 is_code code n e = sym (eqb-true code n e)
 
 version : (code : ℕ) → (code == 0x84) ≡ true → HasGiven (HasCode code) get_version_layout
@@ -113,7 +113,7 @@ body len spoken code known =
 
 -- ---- The whole request.
 
-second_byte : (m f g rest others : List ℕ) → m ≡ f ++ rest → rest ≡ g ++ others → length f ≡ 1 → length g ≡ 1 → slice_index m 1 ≡ little_number 1 g
+pub second_byte : (m f g rest others : List ℕ) → m ≡ f ++ rest → rest ≡ g ++ others → length f ≡ 1 → length g ≡ 1 → slice_index m 1 ≡ little_number 1 g
 second_byte m [] g rest others e e' n k = absurd (omega arith)
 second_byte m (x ∷ y ∷ f) g rest others e e' n k = absurd (omega arith)
 second_byte m (x ∷ []) [] rest others e e' n k = absurd (omega arith)

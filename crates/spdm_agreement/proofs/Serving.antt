@@ -84,7 +84,7 @@ elsewhere_stage psk r id stage.Handshake s sealed t reply m other = elsewhere_tu
 elsewhere_stage psk r id stage.Open s sealed t reply m other = refl
 elsewhere_stage psk r id stage.Verifying s sealed t reply m other = refl
 
-not_same : (a b : ℕ) → (a ≡ b → ⊥) → (a == b) ≡ false
+pub not_same : (a b : ℕ) → (a ≡ b → ⊥) → (a == b) ≡ false
 not_same a b n = go (a == b) refl
   where
     go : (c : Bool) → (a == b) ≡ c → (a == b) ≡ false
@@ -105,7 +105,7 @@ finished_by psk id e s sealed t reply m true own ends = record {
 }
 finished_by psk id e s sealed t reply m false own ends = record { own = λ l. own; told = λ l. absurd (true≢false (sym (ends l))) }
 
-same_second : (s : Events) (sealed : List ℕ) (t : Turn) (reply : List ℕ) → takes 0xe7 t ≡ false → t2_of s ≡ t2_of (Heard sealed t reply ∷ s)
+pub same_second : (s : Events) (sealed : List ℕ) (t : Turn) (reply : List ℕ) → takes 0xe7 t ≡ false → t2_of s ≡ t2_of (Heard sealed t reply ∷ s)
 same_second s sealed t reply other =
     sym (ap (λ (b : Bool). transcript.t2_of (session_vca s) (exchange_of s) (exchange_answer s) (cond b (request_in t.effect) (finish_of s)) (cond b (answer_in t.effect) (finish_answer s))) other)
 

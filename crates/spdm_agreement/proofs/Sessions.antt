@@ -142,7 +142,7 @@ same_negotiation n m a b c d e f =
     ∙ ap (λ (l : List ℕ). negotiation m.get_version m.version m.get_capabilities m.capabilities l n.algorithms) e
     ∙ ap (λ (l : List ℕ). negotiation m.get_version m.version m.get_capabilities m.capabilities m.negotiate_algorithms l) f
 
-both : (a b : Bool) → (a && b) ≡ true → (a ≡ true) × (b ≡ true)
+pub both : (a b : Bool) → (a && b) ≡ true → (a ≡ true) × (b ≡ true)
 both true b e = (refl, e)
 both false b e = absurd (cc)
 
@@ -230,7 +230,7 @@ finish_reply = canonical_response PskFinishRsp
 abbrev pub second_of : List ℕ → First → List ℕ
 second_of psk t = t2_of (vca_of t.negotiation) t.exchange t.answer (finish_message psk t) finish_reply
 
-length_digest : (hash : HashAlg) (m : List ℕ) → length ((hash_of hash).digest m) ≡ hash_size hash
+pub length_digest : (hash : HashAlg) (m : List ℕ) → length ((hash_of hash).digest m) ≡ hash_size hash
 length_digest Sha256 m = length-sha256 m
 length_digest Sha384 m = length-sha384 m
 

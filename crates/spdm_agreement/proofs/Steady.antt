@@ -69,7 +69,7 @@ or_none : (a b : Option ErrorCode) → or_else a b ≡ None → a ≡ None
 or_none None b e = refl
 or_none (Some x) b e = absurd (cc)
 
-form_of : (r : RspSetup) (p : Place) (m : List ℕ) (f : Free) → refusal r p m f ≡ None → refused_form r p m ≡ None
+pub form_of : (r : RspSetup) (p : Place) (m : List ℕ) (f : Free) → refusal r p m f ≡ None → refused_form r p m ≡ None
 unfolding refusal
 form_of r p m f e = or_none (refused_form r p m) (refused_contents r p m f) e
 
@@ -96,7 +96,7 @@ takes_session_by : (r : RspSetup) (s : Events) (inner : List ℕ) (f : Free) (o 
 takes_session_by r s inner f (Some e) = inl (refl, refl)
 takes_session_by r s inner f None = takes_inner r s inner f (slice_index inner 0 == 5)
 
-takes_session : (r : RspSetup) (s : Events) (inner : List ℕ) (f : Free) → Takes r s (drop 1 inner) (session_turn r s inner f).effect
+pub takes_session : (r : RspSetup) (s : Events) (inner : List ℕ) (f : Free) → Takes r s (drop 1 inner) (session_turn r s inner f).effect
 unfolding session_turn
 takes_session r s inner f = takes_session_by r s inner f (inner_refusal (stage_of s) inner)
 
@@ -131,7 +131,7 @@ not_verifying pending c e = other_code c 0xe7 (λ is. true≢false (sym (subst (
 no_chunk : (c : ℕ) → (c == 0x85) ≡ false → c ≡ 0x85 → ⊥
 no_chunk c e is = true≢false (sym (eq-eqb c 0x85 is) ∙ e)
 
-ends : (r : RspSetup) (s : Events) (m sealed : List ℕ) (t : Turn) (reply : List ℕ) (g : Stage) → stage_of s ≡ g → Takes r s m t.effect → EndsByFinish g s sealed t reply
+pub ends : (r : RspSetup) (s : Events) (m sealed : List ℕ) (t : Turn) (reply : List ℕ) (g : Stage) → stage_of s ≡ g → Takes r s m t.effect → EndsByFinish g s sealed t reply
 ends r s m sealed t reply stage.Handshake is x = λ past. elim x [
   | inl quiet ↦ absurd (true≢false (sym past ∙ ap is_past_handshake (no_update t.effect 0 sealed t reply s refl quiet.0 quiet.1 ∙ is)))
   | inr y ↦ (let a = allowed r s m y.0 y.1 y.2 in elim y.3 [
@@ -176,7 +176,7 @@ to_session_entry r phase [] f tag tag' sealed m t reply d d' e = absurd (cc)
 to_session_entry r phase (x ∷ s) f tag tag' sealed m t reply d d' e =
     session_entry r phase (x ∷ s) f tag tag' sealed m t reply d d' (repeat_or (repeats (last_of (x ∷ s)) sealed) (record_body (kept_record (last_of (x ∷ s)))) (in_session r phase (x ∷ s) f tag sealed d) tag' m t reply d' e)
 
-record_entry : (r : RspSetup) (h : History) (f : Free) (tag tag' : ℕ) (sealed m : List ℕ) (t : Turn) (reply : List ℕ) (d d' : Draw) → on_record r h tag sealed f d ≡ Adds (Sealed tag' m t reply d')
+pub record_entry : (r : RspSetup) (h : History) (f : Free) (tag tag' : ℕ) (sealed m : List ℕ) (t : Turn) (reply : List ℕ) (d d' : Draw) → on_record r h tag sealed f d ≡ Adds (Sealed tag' m t reply d')
     → t ≡ session_turn r (session_of (id_in_record sealed) h) (opened r.psk (session_of (id_in_record sealed) h) sealed) f
 unfolding on_record
 record_entry r h f tag tag' sealed m t reply d d' e =

@@ -1,5 +1,5 @@
-mod Logs
-mod Connections
+pub mod Logs
+pub mod Connections
 mod Alike
 mod Rows
 mod Captures
