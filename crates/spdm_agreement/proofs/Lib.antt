@@ -65,3 +65,4 @@ pub mod AskingSteps
 pub mod AskingBodies
 pub mod AskingNegotiates
 pub mod AskingKeeps
+pub mod Assembled
