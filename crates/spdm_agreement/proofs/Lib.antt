@@ -32,3 +32,4 @@ pub mod AskingRecordsKept
 pub mod AskingSteps
 pub mod AskingBodies
 pub mod AskingNegotiates
+pub mod AskingNegotiated
