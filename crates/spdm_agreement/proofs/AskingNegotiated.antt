@@ -69,7 +69,7 @@ pub record OwnReads (q : ReqSetup) : Type 0 where
   pub offer : (transfer : ℕ) (offer : OfferMessage) → offer_of q.suites transfer ≡ Some offer → is_request 32 (canonical_request (NegotiateAlgorithms offer)) ≡ true
 
 module _ (q : ReqSetup) (own : OwnReads q) (p : Phase) (n : Negotiation) (sound : PhaseSound p n) where
-  refused_phase : (b : Bool) → PhaseSound (cond b Fresh p) n
+  pub refused_phase : (b : Bool) → PhaseSound (cond b Fresh p) n
   refused_phase true = tt
   refused_phase false = sound
 
@@ -99,7 +99,7 @@ module _ (q : ReqSetup) (own : OwnReads q) (p : Phase) (n : Negotiation) (sound 
   algorithms_sound offer answer None k r = (tt, tt)
   algorithms_sound offer answer (Some choice) k r = ((k.0, k.1, (k.2, r)), tt)
 
-  abbrev ResultSound : Result Led ReqIgnored → Type 0
+  abbrev pub ResultSound : Result Led ReqIgnored → Type 0
   ResultSound (Ok led) = LedSound p n led
   ResultSound (Err cause) = Unit {0}
 

@@ -33,3 +33,4 @@ pub mod AskingSteps
 pub mod AskingBodies
 pub mod AskingNegotiates
 pub mod AskingNegotiated
+pub mod AskingHistory
