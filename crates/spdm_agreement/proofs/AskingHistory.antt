@@ -80,7 +80,7 @@ module _ (q : ReqSetup) (own : OwnReads q) (h : History) (f : Free) (sound : Pha
   carried_fine asked (Further next) s k = (sound, subst (AskSound (negotiation_of h)) (sym s) k)
   carried_fine asked (Whole answer place) s k = read_fine place asked answer (reading_of h asked answer) refl k
 
-  abbrev FineOutcome : Outcome → Type 0
+  abbrev pub FineOutcome : Outcome → Type 0
   FineOutcome (Adds (TookClear tag m led d)) = LedSound (phase_of h) (negotiation_of h) led
   FineOutcome _ = Unit {0}
 

@@ -34,3 +34,4 @@ pub mod AskingBodies
 pub mod AskingNegotiates
 pub mod AskingNegotiated
 pub mod AskingHistory
+pub mod AskingReady
