@@ -35,3 +35,4 @@ pub mod AskingNegotiates
 pub mod AskingNegotiated
 pub mod AskingHistory
 pub mod AskingReady
+pub mod AskingOwn
