@@ -1,22 +1,18 @@
 -- In a history that a requester made, the messages of a complete negotiation are what they should be.
-use Rattle.std.proofs.Common.{◌≡◌, ◌⊎◌, ◌≤◌, ◌<◌, ◌^◌, ◌+◌, ℕ, List, [], ◌∷◌, ◌++◌, length, drop, Bool, true, false, cond, Option, Some, None, is_some, ◌==◌, ◌&&◌, refl, sym, ap, ◌∙◌, inl, inr, subst, true≢false, arith}
+use Rattle.std.proofs.Common.{◌≡◌, ◌+◌, ℕ, List, ◌∷◌, drop, Bool, cond, Option, Some, None, refl, sym, subst}
 use Rattle.std.specs.Prelude.{Ok, Err, Result, unwrap_or}
 use Rattle.chunking.specs.Collecting.{joined_with}
 use Rattle.negotiate.specs.declared.shared.Common.{Common}
-use Rattle.requester_machine.specs.Answers.{goes_on, is_refused}
 use Rattle.requester_machine.specs.Asking.{Outcome}
-use Rattle.requester_machine.specs.Asking.Outcome.{Fails, Ignores, Warns, Resends, Adds}
+use Rattle.requester_machine.specs.Asking.Outcome.{Adds}
 use Rattle.requester_machine.specs.Bodies.{body_fault, is_clear, error_in, first_cause}
 use Rattle.requester_machine.specs.ClearAnswers.{Carried, ack_tests, acknowledged, ack_carries, collected, get_fault, chunk_carries, carried_by, carried_led, read_led, reading_of, clear_led}
 use Rattle.requester_machine.specs.ClearAnswers.Carried.{Ignored, Refused, Further, Whole}
 use Rattle.requester_machine.specs.Commands.{Free}
-use Rattle.requester_machine.specs.Commands as commands
-use Rattle.requester_machine.specs.Does.{IsMade, command_chosen, body_chosen}
 use Rattle.requester_machine.specs.Hearing.{hears, hears_by, hears_to, on_record, record_outcome, came_to, clear_outcome}
-use Rattle.requester_machine.specs.History.{History, Effect, Led, outstanding, connection_terms, phase_of, negotiation_of, negotiates}
-use Rattle.requester_machine.specs.History.Effect.{Nothing, Refuses}
-use Rattle.requester_machine.specs.History.Entry.{Told, TookClear, TookRecord}
-use Rattle.requester_machine.specs.Message.{Ask, Command, Aim, Sent, asked_in}
+use Rattle.requester_machine.specs.History.{History, Led, outstanding, connection_terms, phase_of, negotiation_of, negotiates}
+use Rattle.requester_machine.specs.History.Entry.{TookClear}
+use Rattle.requester_machine.specs.Message.{Ask, Aim, Sent, asked_in}
 use Rattle.requester_machine.specs.Message.Aim.{Plain, ByChunks, ForChunk, InSession}
 use Rattle.requester_machine.specs.Sending.{piece_sent, piece_of, get_sent}
 use Rattle.spdm_basis.specs.declared.record_fault.RecordFault.{RecordFault}
@@ -25,11 +21,8 @@ use Rattle.spdm_grammar.specs.Message.ResponseMessage.{Error, ChunkSendAck, Chun
 use Rattle.spdm_grammar.specs.declared.event.ReqIgnored.{ReqIgnored}
 use Rattle.spdm_grammar.specs.declared.malformed.Malformed.{Malformed}
 use Rattle.spdm_grammar.specs.declared.part_faults.ChunkFault.{ChunkFault}
-use Rattle.spdm_grammar.specs.declared.phase.Phase.{Phase}
-use Rattle.spdm_grammar.specs.declared.phase.Phase.TheVariants.{Fresh, Versioned, Capable, Negotiated}
 use Rattle.spdm_machine.specs.Keys.{Draw}
 use Rattle.spdm_machine.specs.Setup.{ReqSetup}
-use Rattle.transcript.specs.Transcripts.{Negotiation}
 use Rattle.spdm_agreement.proofs.AskingClear.{either}
 use Rattle.spdm_agreement.proofs.AskingNegotiated.{PhaseSound, AskSound, LedSound, OwnReads, asked_of, answer_sound, ResultSound, refused_phase}
 

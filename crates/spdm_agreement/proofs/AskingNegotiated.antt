@@ -1,22 +1,19 @@
 -- What a requester's history keeps of its negotiation: the messages that count are what they should be.
-use Rattle.std.proofs.Common.{◌≡◌, ◌⊎◌, ◌≤◌, ◌<◌, ◌^◌, ◌+◌, ℕ, List, [], ◌∷◌, ◌++◌, length, Bool, true, false, cond, Option, Some, None, is_some, ◌==◌, ◌&&◌, refl, sym, ap, ◌∙◌, inl, inr, subst, true≢false, arith}
-use Rattle.std.specs.Prelude.{Ok, Err, Result, nat_lt, slice_index, bytes_eq, unwrap_or}
-use Rattle.chunking.specs.Collecting.{joined_with}
+use Rattle.std.proofs.Common.{◌≡◌, ℕ, List, [], length, Bool, true, false, cond, Option, Some, None, is_some, ◌==◌, ◌&&◌, refl, ap}
+use Rattle.std.specs.Prelude.{Ok, Err, Result, nat_lt, slice_index, bytes_eq}
 use Rattle.negotiate.specs.Capabilities.{common_of}
 use Rattle.negotiate.specs.Choosing.{agreed}
-use Rattle.negotiate.specs.Offer.{offer_of, hash_offer}
+use Rattle.negotiate.specs.Offer.{offer_of}
 use Rattle.negotiate.specs.Versions.{version_entries, first_of_1_2}
 use Rattle.negotiate.specs.declared.shared.Common.{Common}
-use Rattle.requester_machine.specs.Answers.{goes_on, is_refused, stopped, is_done, error_led, version_led, offer_led, caps_led, algorithms_led, exchange_led, answer_led, answer_verify, with_answer, may_be_large}
-use Rattle.requester_machine.specs.ClearAnswers.{reading_of, has_summary}
+use Rattle.requester_machine.specs.Answers.{goes_on, is_refused, stopped, error_led, version_led, offer_led, caps_led, algorithms_led, answer_led, answer_verify, with_answer, may_be_large}
+use Rattle.requester_machine.specs.ClearAnswers.{reading_of}
 use Rattle.requester_machine.specs.Commands.{Free}
-use Rattle.requester_machine.specs.Commands as commands
-use Rattle.requester_machine.specs.History.{History, Effect, Led, connection_terms, next_handle, phase_after, negotiation_after, negotiates}
+use Rattle.requester_machine.specs.History.{History, Led, connection_terms, next_handle, phase_after, negotiation_after, negotiates}
 use Rattle.requester_machine.specs.History.Effect.{Nothing, Answers, Refuses}
 use Rattle.requester_machine.specs.Message.{Sent, asked_in}
 use Rattle.requester_machine.specs.Sending.{plain_sent, request_sent, piece_sent, get_sent, is_too_long, finish_sent}
-use Rattle.spdm_grammar.specs.Fields.{FitsCaps}
-use Rattle.spdm_grammar.specs.Message.{RequestMessage, ResponseMessage, OfferMessage, ExchangeMessage, ExchangeRspMessage}
+use Rattle.spdm_grammar.specs.Message.{RequestMessage, ResponseMessage, OfferMessage}
 use Rattle.spdm_grammar.specs.Message.RequestMessage.{GetVersion, GetCapabilities, NegotiateAlgorithms, GetMeasurements, PskExchange}
 use Rattle.spdm_grammar.specs.Message.ResponseMessage.{Version, Capabilities, Algorithms, Measurements, PskExchangeRsp, Error}
 use Rattle.spdm_grammar.specs.Requests.{canonical_request}
@@ -29,7 +26,6 @@ use Rattle.spdm_grammar.specs.declared.part_faults.CapsFault.{CapsFault}
 use Rattle.spdm_grammar.specs.declared.phase.Phase.{Phase}
 use Rattle.spdm_grammar.specs.declared.phase.Phase.TheVariants.{Fresh, Versioned, Capable, Negotiated}
 use Rattle.spdm_machine.specs.Setup.{ReqSetup, requester_caps}
-use Rattle.spdm_machine.specs.Terms.{hash_len}
 use Rattle.transcript.specs.Transcripts.{Negotiation}
 use Rattle.spdm_agreement.proofs.AskingAccepts.{exchange_read}
 use Rattle.spdm_agreement.proofs.AskingClear.{either}

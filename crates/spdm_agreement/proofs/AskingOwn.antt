@@ -1,7 +1,7 @@
 -- The own requests of a negotiation are read as they were written.
-use Rattle.std.proofs.Common.{◌≡◌, ◌≤◌, ◌<◌, ◌^◌, ◌+◌, ℕ, List, [], ◌∷◌, length, Bool, true, false, cond, Option, Some, None, is_some, ◌==◌, refl, sym, ap, ◌∙◌, subst, arith}
+use Rattle.std.proofs.Common.{◌≡◌, ◌≤◌, ◌<◌, ◌^◌, ◌+◌, ℕ, [], ◌∷◌, Bool, true, false, cond, Some, None, is_some, ◌==◌, refl, ap, subst, arith}
 use Rattle.negotiate.specs.Choosing.{has_small, has_large, has_room_for_sha_384}
-use Rattle.negotiate.specs.Offer.{offer_of, hash_offer, offer_tables}
+use Rattle.negotiate.specs.Offer.{hash_offer, offer_tables}
 use Rattle.std.specs.Prelude.{◌&&◌}
 use Rattle.spdm_grammar.specs.Fields.{FitsCaps}
 use Rattle.spdm_grammar.specs.Layout.{AreTables, IsTable}
@@ -12,7 +12,6 @@ use Rattle.spdm_grammar.specs.declared.choice.FlagSet.{FlagSet}
 use Rattle.spdm_machine.specs.Setup.{ReqSetup, requester_caps, optional_flags}
 use Rattle.spdm_agreement.specs.Configured.{IsRequester}
 use Rattle.spdm_agreement.proofs.AskingAccepts.{exchange_read}
-use Rattle.spdm_agreement.proofs.AskingCommands.{Negotiates}
 use Rattle.spdm_agreement.proofs.AskingKept.{AskedKept}
 use Rattle.spdm_agreement.proofs.AskingNegotiated.{OwnReads}
 use Rattle.spdm_agreement.proofs.AskingReady.{asks_well_by}

@@ -1,7 +1,5 @@
 -- A requester's steps, whatever command comes.
-use Rattle.std.proofs.Common.{inl, inr, ◌≡◌, ◌≤◌, ◌<◌, ◌^◌, ◌+◌, ℕ, List, [], ◌∷◌, Bool, true, false, cond, Option, Some, None, is_some, refl, sym, ap, ◌∙◌, subst, arith}
-use Rattle.negotiate.specs.Offer.{offer_of}
-use Rattle.requester_machine.specs.Asking.Outcome.{Adds}
+use Rattle.std.proofs.Common.{inl, inr, ◌≡◌, ℕ, List, [], ◌∷◌, true, false, Option, Some, None, refl, sym, subst}
 use Rattle.requester_machine.specs.Commands as commands
 use Rattle.requester_machine.specs.Commands.{Free}
 use Rattle.requester_machine.specs.Does.{IsMade, command_chosen, body_chosen}
@@ -11,24 +9,23 @@ use Rattle.requester_machine.specs.Hearing.{came_to}
 use Rattle.requester_machine.specs.InnerMessages.{Came}
 use Rattle.requester_machine.specs.Message.{Ask, Command, Sent, asked_in}
 use Rattle.requester_machine.specs.Message.Command.{Connect, Open, Send, Beat, Update, Measure, End, Retry}
-use Rattle.spdm_grammar.specs.Message.{RequestMessage, OfferMessage}
+use Rattle.spdm_grammar.specs.Message.{RequestMessage}
 use Rattle.spdm_grammar.specs.Message.RequestMessage.{GetCapabilities, NegotiateAlgorithms}
-use Rattle.spdm_grammar.specs.Requests.{canonical_request}
 use Rattle.spdm_grammar.specs.declared.phase.Phase.{Phase}
 use Rattle.spdm_grammar.specs.declared.phase.Phase.TheVariants.{Fresh, Versioned, Capable, Negotiated}
 use Rattle.spdm_machine.specs.Keys.{Draw}
 use Rattle.spdm_machine.specs.Responder.{clear_body, record_body}
-use Rattle.spdm_machine.specs.Setup.{ReqSetup, requester_caps}
+use Rattle.spdm_machine.specs.Setup.{ReqSetup}
 use Rattle.transcript.specs.Transcripts.{Negotiation}
 use Rattle.spdm_agreement.specs.Configured.{IsRequester}
 use Rattle.spdm_agreement.proofs.AskingCommands.{Negotiates, asks_well}
 use Rattle.spdm_agreement.proofs.AskingEntries.{CommandShape, IsAsked, NoNegotiation, IsTookRecord, told_shape, record_entry}
 use Rattle.spdm_agreement.proofs.AskingHistory.{heard_sound, FineOutcome}
 use Rattle.spdm_agreement.proofs.AskingKept.{AskedKept}
-use Rattle.spdm_agreement.proofs.AskingNegotiated.{PhaseSound, AskSound, LedSound, OwnReads, asked_of, One, Two, Three}
+use Rattle.spdm_agreement.proofs.AskingNegotiated.{PhaseSound, AskSound, OwnReads, asked_of}
 use Rattle.spdm_agreement.proofs.AskingRecord.{NextRecord}
 use Rattle.spdm_agreement.proofs.Owed.{AsksWell}
-use Rattle.spdm_agreement.proofs.Sessions.{is_negotiated, is_request, is_response}
+use Rattle.spdm_agreement.proofs.Sessions.{is_negotiated}
 
 plain_ask : (n : Negotiation) (o : Option RequestMessage) → NoNegotiation o → AskSound n o
 plain_ask n None k = tt
