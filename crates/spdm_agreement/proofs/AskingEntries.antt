@@ -22,7 +22,7 @@ use Rattle.secured_record.specs.Format.{plain_text}
 use Rattle.spdm_basis.specs.declared.record_fault.RecordFault.{RecordFault}
 use Rattle.spdm_grammar.specs.Fields.{is_summary}
 use Rattle.spdm_grammar.specs.Message.{RequestMessage, ChunkMessage}
-use Rattle.spdm_grammar.specs.Message.RequestMessage.{GetMeasurements, Heartbeat, EndSession, ChunkGet}
+use Rattle.spdm_grammar.specs.Message.RequestMessage.{GetCapabilities, NegotiateAlgorithms, GetMeasurements, Heartbeat, EndSession, ChunkGet}
 use Rattle.spdm_grammar.specs.Requests.{canonical_request}
 use Rattle.spdm_grammar.specs.declared.event.ReqIgnored.{ReqIgnored}
 use Rattle.spdm_grammar.specs.declared.phase.Stage.TheVariants as stage
@@ -91,10 +91,17 @@ pub record IsBegun (q : ReqSetup) (h : History) (f : Free) (summary : ℕ) (x : 
   pub negotiated : is_negotiated (phase_of h) ≡ true
   pub kind : is_summary summary ≡ true
 
+-- It is no request of the negotiation that follows GET_VERSION.
+abbrev pub NoNegotiation : Option RequestMessage → Type 0
+NoNegotiation (Some (GetCapabilities caps)) = ⊥
+NoNegotiation (Some (NegotiateAlgorithms offer)) = ⊥
+NoNegotiation _ = Unit {0}
+
 pub record IsClearAsk (x : Sent) : Type 0 where
   pub content : IsClear x.content
   pub aim : IsClearAim x.aim
   pub other : NoExchange (asked_in x.aim)
+  pub plain : NoNegotiation (asked_in x.aim)
 
 abbrev pub CommandShape : ReqSetup → History → Free → Command → Sent → Type 0
 CommandShape q h f Connect x = IsClearAsk x
@@ -134,14 +141,14 @@ begun q h f summary quiet ready kind =
 measured : (h : History) (op : ℕ) → IsClearAsk (request_sent (connection_terms h).common h (GetMeasurements op))
 measured h op =
     either IsClearAsk (nat_lt (connection_terms h).common.to_responder.transfer (length (canonical_request (GetMeasurements op)))) (piece_sent (connection_terms h).common h (GetMeasurements op) (next_handle h) 0) (plain_sent h (GetMeasurements op))
-    (record { content = tt; aim = tt; other = tt }) (record { content = tt; aim = tt; other = tt })
+    (record { content = tt; aim = tt; other = tt; plain = tt }) (record { content = tt; aim = tt; other = tt; plain = tt })
 
 resent_shape : (q : ReqSetup) (h : History) (f : Free) (o : Option Sent) → CommandOutcome q h f (resent o)
 resent_shape q h f None = tt
 resent_shape q h f (Some x) = tt
 
 done_shape : (worn : Bool) (q : ReqSetup) (h : History) (c : Command) (f : Free) (d : Draw) → command_fault worn q h c f ≡ None → CommandOutcome q h f (done q h c f d)
-done_shape worn q h Connect f d none = record { content = tt; aim = tt; other = tt }
+done_shape worn q h Connect f d none = record { content = tt; aim = tt; other = tt; plain = tt }
 done_shape worn q h (Open summary) f d none = begun q h f summary (free worn q h (Open summary) f none refl) (connected worn q h (Open summary) f none refl) (not_false (is_summary summary) (test_is_false worn q h (Open summary) f none 6))
 done_shape worn q h (Send id bytes) f d none = record { id = id; ask = AskData; inner = inner_data bytes; is = refl; live = somewhere worn q h (Send id bytes) f id none refl; stage = refl; tells = data_tells bytes f.pad; free = free worn q h (Send id bytes) f none refl }
 done_shape worn q h (Beat id) f d none = record { id = id; ask = AskBeat; inner = inner_request Heartbeat; is = refl; live = somewhere worn q h (Beat id) f id none refl; stage = refl; tells = beat_tells f.pad; free = free worn q h (Beat id) f none refl }

@@ -10,9 +10,8 @@ use Rattle.spdm_machine.specs.Setup.{ReqSetup}
 use Rattle.spdm_agreement.specs.Story.{asked_marks}
 use Rattle.spdm_agreement.proofs.AskedMade.{asks_made, hears_made}
 use Rattle.spdm_agreement.proofs.AskingBodies as bodies
-use Rattle.spdm_agreement.proofs.AskingCommands as commands
-use Rattle.spdm_agreement.proofs.AskingCommands.{Negotiates}
 use Rattle.spdm_agreement.proofs.AskingKept.{AskedKept}
+use Rattle.spdm_agreement.proofs.AskingOwn.{asks_well_always}
 use Rattle.spdm_agreement.proofs.AskingOpenly.{entry_openly, starts_openly}
 use Rattle.spdm_agreement.proofs.Data.{AsksOpenly}
 use Rattle.spdm_agreement.proofs.Owed.{AsksWell, HearsWell, AskedStarts, KeepsOpenly}
@@ -28,9 +27,9 @@ after_openly q h (Warns code) made k = k.openly
 after_openly q h (Resends sent) made k = k.openly
 after_openly q h (Adds e) made k = entry_openly q h e made k.kept (λ id held. (k.kept.held id held).stands) k.openly
 
-pub asks_well : Negotiates → AsksWell IsKept
-asks_well n q h served log command d ready =
-    let step = commands.asks_well n q h served log command d (record { setup = ready.setup; made = ready.made; kept = ready.kept.kept; reached = ready.reached; fresh = ready.fresh; draw = ready.draw }) in
+pub asks_well : AsksWell IsKept
+asks_well q h served log command d ready =
+    let step = asks_well_always q h served log command d (record { setup = ready.setup; made = ready.made; kept = ready.kept.kept; reached = ready.reached; fresh = ready.fresh; draw = ready.draw }) in
     record {
       leads = step.leads;
       keeps = λ reached. record { kept = step.keeps reached; openly = after_openly q h (requester_asks false q h command d) (asks_made q h command d ready.made).made ready.kept };

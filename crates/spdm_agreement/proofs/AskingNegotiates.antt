@@ -1,15 +1,15 @@
 -- Once a negotiation is complete, its messages are what they should be.
-use Rattle.std.proofs.Common.{◌≡◌, ◌⊎◌, ◌≤◌, ◌<◌, ◌^◌, ◌+◌, ℕ, List, [], ◌∷◌, ◌++◌, length, Bool, true, false, cond, Option, Some, None, is_some, ◌==◌, ◌&&◌, refl, sym, ap, ◌∙◌, inl, inr, subst, eqb-true, true≢false, arith}
-use Rattle.std.specs.Prelude.{Ok, Err, Result, nat_lt, slice_index}
+use Rattle.std.proofs.Common.{◌≡◌, ℕ, List, Bool, true, false, cond, Some, ◌==◌, refl, sym, ap, ◌∙◌, subst, eqb-true}
+use Rattle.std.specs.Prelude.{Ok}
 use Rattle.std.specs.Result.{result_ok}
 use Rattle.byteorder.specs.Endian.{little_number}
 use Rattle.spdm_grammar.specs.Layout.{Layout, IsSpelling}
-use Rattle.spdm_grammar.specs.Message.{RequestMessage, ResponseMessage, ExchangeRspMessage}
+use Rattle.spdm_grammar.specs.Message.{ResponseMessage}
 use Rattle.spdm_grammar.specs.Message.ResponseMessage.{PskExchangeRsp}
 use Rattle.spdm_grammar.specs.Reading.{front}
 use Rattle.spdm_grammar.specs.Responses.{IsResponseSpelling, response_reading, response_layout, response_body, response_in, psk_exchange_rsp_layout, version_layout, error_layout, capabilities_layout, algorithms_layout, measurements_layout, psk_finish_rsp_layout, heartbeat_ack_layout, key_update_ack_layout, end_session_ack_layout, chunk_send_ack_layout, chunk_response_layout}
 use Rattle.spdm_grammar.proofs.Spellings.{read_spelling, spelling_read}
-use Rattle.spdm_agreement.proofs.Codes.{Gives, given, HasGiven}
+use Rattle.spdm_agreement.proofs.Codes.{given, HasGiven}
 use Rattle.spdm_agreement.proofs.Sessions.{is_response, ends_by_itself}
 
 -- ---- A response other than PSK_EXCHANGE_RSP is spelled alike for every hash.

@@ -1,23 +1,21 @@
 -- Agreement over every schedule: the steps of the two ends, put together.
 use Rattle.spdm_agreement.specs.Worlds.{WorldsAgree, WorldsDeliver, WorldsMatch, WorldsSealOnce}
 use Rattle.spdm_agreement.proofs.AskingBodies as bodies
-use Rattle.spdm_agreement.proofs.AskingCommands.{Negotiates}
 use Rattle.spdm_agreement.proofs.AskingKeeps as asks
 use Rattle.spdm_agreement.proofs.ServingData as serves
 use Rattle.spdm_agreement.proofs.Worlds as worlds
 use Rattle.spdm_agreement.proofs.WorldsDeliver as deliveries
 
-module _ (negotiates : Negotiates) where
-  pub agree : WorldsAgree
-  agree = worlds.worlds_agree asks.IsKept serves.IsKept asks.starts (asks.asks_well negotiates) asks.hears_well bodies.steady serves.served_starts serves.does_well serves.waits
+pub agree : WorldsAgree
+agree = worlds.worlds_agree asks.IsKept serves.IsKept asks.starts asks.asks_well asks.hears_well bodies.steady serves.served_starts serves.does_well serves.waits
 
-  pub matches : WorldsMatch
-  matches = worlds.worlds_match asks.IsKept serves.IsKept asks.starts (asks.asks_well negotiates) asks.hears_well bodies.steady serves.served_starts serves.does_well serves.waits
+pub matches : WorldsMatch
+matches = worlds.worlds_match asks.IsKept serves.IsKept asks.starts asks.asks_well asks.hears_well bodies.steady serves.served_starts serves.does_well serves.waits
 
-  pub seal_once : WorldsSealOnce
-  seal_once = worlds.worlds_seal_once asks.IsKept serves.IsKept asks.starts (asks.asks_well negotiates) asks.hears_well bodies.steady serves.served_starts serves.does_well serves.waits
+pub seal_once : WorldsSealOnce
+seal_once = worlds.worlds_seal_once asks.IsKept serves.IsKept asks.starts asks.asks_well asks.hears_well bodies.steady serves.served_starts serves.does_well serves.waits
 
-  pub deliver : WorldsDeliver
-  deliver =
-    deliveries.worlds_deliver asks.IsKept serves.IsKept asks.starts (asks.asks_well negotiates) asks.hears_well bodies.steady asks.keeps_openly
-      serves.served_starts serves.does_well serves.waits serves.serves_duly
+pub deliver : WorldsDeliver
+deliver =
+  deliveries.worlds_deliver asks.IsKept serves.IsKept asks.starts asks.asks_well asks.hears_well bodies.steady asks.keeps_openly
+    serves.served_starts serves.does_well serves.waits serves.serves_duly

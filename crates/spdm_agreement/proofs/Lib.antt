@@ -66,3 +66,7 @@ pub mod AskingBodies
 pub mod AskingNegotiates
 pub mod AskingKeeps
 pub mod Assembled
+pub mod AskingNegotiated
+pub mod AskingHistory
+pub mod AskingReady
+pub mod AskingOwn

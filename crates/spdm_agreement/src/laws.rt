@@ -2,6 +2,7 @@
 //! of a function that does nothing.
 
 ghost use Rattle.spdm_agreement.specs.Claims.{OneTranscript, Delivered, MatchedSessions, OneRecord, FreshSessions};
+ghost use Rattle.spdm_agreement.specs.Worlds.{WorldsAgree, WorldsDeliver, WorldsMatch, WorldsSealOnce};
 
 /// Where both ends hold open a session of one pair of ids, its transcripts are equal.
 pub fn one_transcript()
@@ -27,4 +28,27 @@ pub fn one_record()
 /// Nothing was said, heard or taken under a T2 before its session opens.
 pub fn fresh_sessions()
     ensures { FreshSessions }
+{}
+
+/// In every world that a set-up and events lead to, where both ends of a pair hold open a session
+/// of one id, the two have equal T2, equal choices and equal common capabilities.
+pub fn agreement()
+    ensures { WorldsAgree }
+{}
+
+/// In every such world the application data that an end took under a T2 is the beginning of what
+/// the other end sealed under it, in both directions.
+pub fn data_prefix()
+    ensures { WorldsDeliver }
+{}
+
+/// In every such world a session that a requester holds open was opened at the responder with the
+/// same T2, and different ones have different T2.
+pub fn matched()
+    ensures { WorldsMatch }
+{}
+
+/// In every such world no two different records are sealed under one purpose and number.
+pub fn sealed_once()
+    ensures { WorldsSealOnce }
 {}

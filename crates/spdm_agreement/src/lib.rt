@@ -8,4 +8,7 @@
 
 mod laws;
 
-pub use laws::{delivered, fresh_sessions, matched_sessions, one_record, one_transcript};
+pub use laws::{
+    agreement, data_prefix, delivered, fresh_sessions, matched, matched_sessions, one_record,
+    one_transcript, sealed_once,
+};

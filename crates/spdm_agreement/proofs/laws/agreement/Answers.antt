@@ -1,0 +1,5 @@
+use Rattle.spdm_agreement.proofs.Assembled.{agree}
+use Rattle.spdm_agreement.proofs.laws.agreement.Goals as goal
+
+pub returns : goal.returns
+returns c = agree

@@ -1,0 +1,5 @@
+use Rattle.spdm_agreement.proofs.Assembled.{deliver}
+use Rattle.spdm_agreement.proofs.laws.data_prefix.Goals as goal
+
+pub returns : goal.returns
+returns c = deliver

@@ -1,0 +1,5 @@
+use Rattle.spdm_agreement.proofs.Assembled.{matches}
+use Rattle.spdm_agreement.proofs.laws.matched.Goals as goal
+
+pub returns : goal.returns
+returns c = matches
