@@ -1,5 +1,5 @@
 -- A requester asks with application data under a verified key alone.
-use Rattle.std.proofs.Common.{◌≡◌, ℕ, List, [], ◌∷◌, ◌++◌, Bool, true, false, cond, Option, Some, None, is_some, ◌==◌, ◌&&◌, refl, sym, ap, ◌∙◌, subst, inl, inr, bytes_eq, true≢false}
+use Rattle.std.proofs.Common.{◌≡◌, ℕ, List, [], ◌∷◌, ◌++◌, Bool, true, false, cond, Option, Some, None, is_some, refl, sym, ap, ◌∙◌, subst, inl, inr, true≢false}
 use Rattle.requester_machine.proofs.MadeOrder.{in_order as ordered}
 use Rattle.requester_machine.specs.Commands.{Free}
 use Rattle.requester_machine.specs.Does.{IsMade, command_chosen, body_chosen}
@@ -28,11 +28,11 @@ use Rattle.spdm_machine.specs.Setup.{ReqSetup}
 use Rattle.spdm_agreement.specs.Marks as marks
 use Rattle.spdm_agreement.specs.Marks.{Text, Exchange, heard}
 use Rattle.spdm_agreement.specs.Reading.{First}
-use Rattle.spdm_agreement.specs.Story.{asked_marks, command_marks, clear_marks, taken_marks, next_marks, content_marks, asked_first, sent_text, request_text, answer_text, ask_in}
+use Rattle.spdm_agreement.specs.Story.{asked_marks, command_marks, clear_marks, taken_marks, next_marks, content_marks, asked_first, request_text, answer_text, ask_in}
 use Rattle.spdm_agreement.proofs.AskingClear.{IsClear}
 use Rattle.spdm_agreement.proofs.AskingEntries.{CommandShape, IsAsked, IsTookRecord, told_shape, record_entry}
 use Rattle.spdm_agreement.proofs.AskingHeld.{is_verifying}
-use Rattle.spdm_agreement.proofs.AskingKept.{AskedKept, is_held, waiting_text}
+use Rattle.spdm_agreement.proofs.AskingKept.{AskedKept, is_held}
 use Rattle.spdm_agreement.proofs.AskingMade.{waited_for}
 use Rattle.spdm_agreement.proofs.AskingRecord.{NextRecord}
 use Rattle.spdm_agreement.proofs.AskingRecords.{waits_aimed, own_waits, held_at}
@@ -46,14 +46,14 @@ sealed_openly : (u b : List ℕ) (m : List marks.Asked) → (is_data_text b ≡ 
 sealed_openly u b m new k = record {
   asks = k.asks;
   waits = λ v. at_key (λ v c. (x : Text) → cond c (Some b) (marks.outstanding v m) ≡ Some x → is_data_text x ≡ true → verifying (heard v m) ≡ false) u
-    (λ x e is. new (ap is_data_text (some_same b x e) ∙ is)) (λ v. k.waits v) v;
+      (λ x e is. new (ap is_data_text (some_same b x e) ∙ is)) (λ v. k.waits v) v;
 }
 
 heard_openly : (u b reply : List ℕ) (m : List marks.Asked) → marks.outstanding u m ≡ Some b → AsksOpenly m → AsksOpenly (marks.Asked.Heard u b reply ∷ m)
 heard_openly u b reply m waits k = record {
   asks = at_key (λ v c. AskedOpenly (cond c ((b, reply) ∷ heard v m) (heard v m))) u (λ is. k.waits u b waits is, k.asks u) (λ v. k.asks v);
   waits = at_key (λ v c. (x : Text) → cond c None (marks.outstanding v m) ≡ Some x → is_data_text x ≡ true → verifying (cond c ((b, reply) ∷ heard v m) (heard v m)) ≡ false) u
-    (λ x e is. absurd (none_some x e)) (λ v. k.waits v);
+      (λ x e is. absurd (none_some x e)) (λ v. k.waits v);
 }
 
 clear_openly : (s : Steps) (c : Content) (m : List marks.Asked) → IsClear c → AsksOpenly m → AsksOpenly (content_marks s c ++ m)
@@ -107,7 +107,7 @@ next_openly : (q : ReqSetup) (h : History) (f : Free) (came : Came) (effect : Ef
 next_openly q h f came effect ask None s u b reply m n k = k
 next_openly q h f came effect ask (Some x) s u b reply m n k =
     subst (λ (y : Sent). AsksOpenly ((content_marks s y.content ++ marks.Asked.Heard u b reply ∷ []) ++ m)) (sym n.is)
-      (sealed_openly (t2_of s) (plain_text n.inner f.pad) (marks.Asked.Heard u b reply ∷ m) (λ is. absurd (true≢false (sym is ∙ none))) k)
+    (sealed_openly (t2_of s) (plain_text n.inner f.pad) (marks.Asked.Heard u b reply ∷ m) (λ is. absurd (true≢false (sym is ∙ none))) k)
   where
     none : is_data_text (plain_text n.inner f.pad) ≡ false
     none = elim n.kind [
@@ -125,7 +125,7 @@ past_openly q h f of sealed inner led made kept past k all =
     let s = session_of of h in
     let w = waited_for q h f (record_body sealed) of sealed inner led k made in
     let waits : marks.outstanding (t2_of s) (asked_marks q h) ≡ Some (request_text (outstanding h)) =
-      (kept.held of (held_at s w.0 past)).outstanding ∙ own_waits h k.sent of k.ask (waits_aimed h k.sent of k.ask k.waits k.aims) ∙ sym (ap (λ (o : Option Sent). Some (request_text o)) k.waits) in
+    (kept.held of (held_at s w.0 past)).outstanding ∙ own_waits h k.sent of k.ask (waits_aimed h k.sent of k.ask k.waits k.aims) ∙ sym (ap (λ (o : Option Sent). Some (request_text o)) k.waits) in
     let mark = heard_openly (t2_of s) (request_text (outstanding h)) (answer_text q.psk s (ask_in (outstanding h)) sealed) (asked_marks q h) waits all in
     elim k.led_to [
       | inl a ↦ next_openly q h f (came_to q h of k.ask sealed) led.effect k.ask led.next (Took sealed inner led.effect ∷ s) _ _ _ (asked_marks q h) a.next mark
@@ -144,7 +144,7 @@ entry_openly q h (Told c x d) made kept stand all = command_openly q h (command_
 entry_openly q h (TookClear tag m led d) made kept stand all = answer_openly h led.effect (asked_marks q h) all
 entry_openly q h (TookRecord tag of sealed inner led d) made kept stand all =
     staged_openly (stage_of (session_of of h)) q h (body_chosen q h d) of sealed inner led made.1 kept refl
-      (record_entry q h false tag tag (record_body sealed) of sealed inner (body_chosen q h d) led d d made.0) all
+    (record_entry q h false tag tag (record_body sealed) of sealed inner (body_chosen q h d) led d d made.0) all
 
 pub starts_openly : AsksOpenly []
 starts_openly = record { asks = λ u. tt; waits = λ u b e. absurd (none_some b e) }

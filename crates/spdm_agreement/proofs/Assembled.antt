@@ -17,5 +17,5 @@ seal_once = worlds.worlds_seal_once asks.IsKept serves.IsKept asks.starts asks.a
 
 pub deliver : WorldsDeliver
 deliver =
-  deliveries.worlds_deliver asks.IsKept serves.IsKept asks.starts asks.asks_well asks.hears_well bodies.steady asks.keeps_openly
+    deliveries.worlds_deliver asks.IsKept serves.IsKept asks.starts asks.asks_well asks.hears_well bodies.steady asks.keeps_openly
     serves.served_starts serves.does_well serves.waits serves.serves_duly

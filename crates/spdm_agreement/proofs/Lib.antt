@@ -70,3 +70,4 @@ pub mod AskingNegotiated
 pub mod AskingHistory
 pub mod AskingReady
 pub mod AskingOwn
+pub mod Configuration

@@ -1,5 +1,5 @@
-//! What holds wherever the moves of a pre-shared key lead without chance, each law as the contract
-//! of a function that does nothing.
+//! What holds of every world without chance, and wherever the moves of a pre-shared key lead without
+//! it, each law as the contract of a function that does nothing.
 
 ghost use Rattle.spdm_agreement.specs.Claims.{OneTranscript, Delivered, MatchedSessions, OneRecord, FreshSessions};
 ghost use Rattle.spdm_agreement.specs.Worlds.{WorldsAgree, WorldsDeliver, WorldsMatch, WorldsSealOnce};

@@ -1,0 +1,84 @@
+-- A set-up that keeps all limits: the laws of worlds speak of worlds that exist.
+use Rattle.std.proofs.Common.{◌≡◌, ◌≢◌, ◌<◌, [], ◌∷◌, ℕ, false, true, refl, arith, replicate}
+use Rattle.std.proofs.lemmas.List.Elements.{All-from_recursion}
+use Rattle.spdm_grammar.specs.declared.choice.Pick.TheVariants.{Small}
+use Rattle.spdm_machine.specs.Setup.{ReqSetup}
+use Rattle.world_machine.specs.Setup.{RspPart, WorldSetup, towards}
+use Rattle.spdm_agreement.specs.Configured.{IsConfigured, IsRequester, IsResponder}
+
+abbrev requester : ReqSetup
+requester = record {
+  eid = 9;
+  responder = 8;
+  transfer = 1024;
+  max = 4096;
+  unit = 64;
+  pad = 0;
+  flags = record { measure = false; heartbeat = true; key_update = true; chunk = true };
+  hint = 1 ∷ [];
+  psk = 7 ∷ [];
+  opaque = [];
+  suites = record { hash = Small; aead = Small };
+}
+
+abbrev part : RspPart
+part = record {
+  eid = 8;
+  transfer = 1024;
+  max = 4096;
+  unit = 64;
+  beat = 5;
+  flags = record { measure = false; heartbeat = true; key_update = true; chunk = true };
+  opaque = [];
+  blocks = [];
+  suites = record { hash = Small; aead = Small };
+}
+
+abbrev pub setup : WorldSetup
+setup = record { seed = replicate 32 0; first = 0; responder = part; requesters = requester ∷ [] }
+
+pub configured : IsConfigured setup
+configured = record {
+  count = omega arith;
+  requesters = All-from_recursion IsRequester (requester ∷ []) (
+    record {
+      eid = record { least = omega arith; most = omega arith };
+      responder = record { least = omega arith; most = omega arith };
+      other = λ e. omega arith;
+      sizes = record { least = omega arith; ordered = omega arith; most = omega arith; whole = λ e. absurd (cc); payload = omega arith; payload_most = omega arith };
+      key = record {
+        hint_most = omega arith;
+        hint_bytes = All-from_recursion (λ (byte : ℕ). byte < 256) (1 ∷ []) ((omega arith), tt);
+        psk_least = omega arith;
+        psk_most = omega arith;
+        psk_bytes = All-from_recursion (λ (byte : ℕ). byte < 256) (7 ∷ []) ((omega arith), tt);
+      };
+      opaque = omega arith;
+      opaque_bytes = All-from_recursion (λ (byte : ℕ). byte < 256) [] tt;
+      pad = omega arith;
+    },
+    tt,
+  );
+  responders = All-from_recursion (λ (q : ReqSetup). IsResponder (towards part q)) (requester ∷ []) (
+    record {
+      eid = record { least = omega arith; most = omega arith };
+      peer = record { least = omega arith; most = omega arith };
+      sizes = record { least = omega arith; ordered = omega arith; most = omega arith; whole = λ e. absurd (cc); payload = omega arith; payload_most = omega arith };
+      beat = omega arith;
+      key = record {
+        hint_most = omega arith;
+        hint_bytes = All-from_recursion (λ (byte : ℕ). byte < 256) (1 ∷ []) ((omega arith), tt);
+        psk_least = omega arith;
+        psk_most = omega arith;
+        psk_bytes = All-from_recursion (λ (byte : ℕ). byte < 256) (7 ∷ []) ((omega arith), tt);
+      };
+      opaque = omega arith;
+      opaque_bytes = All-from_recursion (λ (byte : ℕ). byte < 256) [] tt;
+      blocks = refl;
+    },
+    tt,
+  );
+  peers = All-from_recursion (λ (q : ReqSetup). q.responder ≡ part.eid) (requester ∷ []) (refl, tt);
+  apart = (All-from_recursion (λ (other : ReqSetup). (requester.eid ≢ other.eid) × (requester.psk ≢ other.psk)) [] tt, tt);
+  draws = omega arith;
+}
