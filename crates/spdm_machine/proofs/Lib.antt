@@ -21,3 +21,4 @@ pub mod Held
 pub mod Connection
 pub mod Settled
 pub mod Sizes
+pub mod Verified

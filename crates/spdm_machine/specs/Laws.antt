@@ -1,11 +1,12 @@
 -- What holds of every responder and every history: the laws of the definitions. Each is the contract of a
 -- function of this crate, which has its proof. This project's own.
-use Rattle.std.specs.Prelude.{◌≡◌, ◌≢◌, ◌≤◌, ◌⊎◌, ℕ, List, [], ◌∷◌, length, true, false, Some, None, nat_eq}
+use Rattle.std.specs.Prelude.{◌≡◌, ◌≢◌, ◌≤◌, ◌⊎◌, ℕ, List, [], ◌∷◌, length, true, false, Option, Some, None, nat_eq}
 use Rattle.std.specs.List.{AllByRecursion, IsDistinct}
 use Rattle.chunking.specs.Collecting.{under_way, joined_with}
+use Rattle.key_schedule.specs.declared.direction.Direction.TheVariants as direction
 use Rattle.spdm_basis.specs.declared.record_fault.RecordFault.{RecordFault}
 use Rattle.spdm_grammar.specs.Message.{ChunkMessage, ExchangeMessage, RequestMessage}
-use Rattle.spdm_grammar.specs.Message.RequestMessage.{PskExchange, ChunkSend}
+use Rattle.spdm_grammar.specs.Message.RequestMessage.{PskExchange, PskFinish, ChunkSend}
 use Rattle.spdm_grammar.specs.declared.error_code.ErrorCode.{ErrorCode}
 use Rattle.spdm_grammar.specs.declared.phase.Phase.TheVariants.{Negotiated}
 use Rattle.spdm_machine.specs.Answer.{Free, answer_bytes, request_at}
@@ -13,7 +14,7 @@ use Rattle.spdm_machine.specs.Does.{IsMade, chosen, responder_does}
 use Rattle.spdm_machine.specs.Handling.{turn_of}
 use Rattle.spdm_machine.specs.History.{History, kept_of, ended_of, clear_turns, negotiation_of, phase_of}
 use Rattle.spdm_machine.specs.History.Entry.{Clear, Sealed}
-use Rattle.spdm_machine.specs.Keys.{Draw}
+use Rattle.spdm_machine.specs.Keys.{Draw, verify_data}
 use Rattle.spdm_machine.specs.LargeMessages.{chunks_of}
 use Rattle.spdm_machine.specs.May.{IsAllowed, ResponderMay}
 use Rattle.spdm_machine.specs.Place.{Place, clear_place, inside, held_of, free_id, is_held}
@@ -22,10 +23,11 @@ use Rattle.spdm_machine.specs.Refusal.{refusal, code_of}
 use Rattle.spdm_machine.specs.Responder.{after, on_clear, on_record, is_repeat, repeats, sent_by, session_turn, inner_reply}
 use Rattle.spdm_machine.specs.Responder.Outcome.{Same, Adds}
 use Rattle.spdm_machine.specs.SameSession.{IsSameSession, IsSameConnection}
-use Rattle.spdm_machine.specs.Session.{session_of, session_negotiation, is_live, is_past_handshake, stage_of, id_in_record, id_in_exchange, last_of}
+use Rattle.spdm_machine.specs.Session.{Events, session_of, session_negotiation, session_terms, t1_of, tv_of, is_live, is_past_handshake, stage_of, id_in_record, id_in_exchange, last_of}
 use Rattle.spdm_machine.specs.Session.Event.{Began}
 use Rattle.spdm_machine.specs.Setup.{RspSetup}
 use Rattle.spdm_machine.specs.Turn.{Turn, code_for, takes, request_in, answer_in}
+use Rattle.spdm_machine.specs.Turn.Effect.{Took}
 
 -- ---- What it does, it may.
 
@@ -116,6 +118,17 @@ TakenRecordIsOpened = (r : RspSetup) (h : History) (tag : ℕ) (m : List ℕ) (f
     × (opening_fault r.psk (session_of (id_in_record m) h) m ≡ None)
     × (session_turn r (session_of (id_in_record m) h) (opened r.psk (session_of (id_in_record m) h) m) f ≡ t)
     × (reply_record r.psk (session_of (id_in_record m) h) t (inner_reply t) f.pad ≡ reply)
+
+-- The requester's verify data over Tv of a session with this PSK_FINISH.
+abbrev pub finish_verify : (psk : List ℕ) → Events → (finish : List ℕ) → List ℕ
+finish_verify psk s finish = verify_data (session_terms s).choice psk (t1_of s) direction.Request (tv_of s finish)
+
+-- A PSK_FINISH that takes effect has the requester's verify data, over Tv of the session that its record names.
+abbrev pub FinishIsVerified : Type 0
+FinishIsVerified = (r : RspSetup) (h : History) (tag : ℕ) (m : List ℕ) (f : Free) (d : Draw) (t : Turn) (reply verify request answer : List ℕ) (large : Option ℕ)
+    → on_record r h tag m f d ≡ Adds (Sealed tag m t reply d)
+    → t.effect ≡ Took (PskFinish verify) request answer large
+    → verify ≡ finish_verify r.psk (session_of (id_in_record m) h) request
 
 -- ---- Requests.
 

@@ -1,7 +1,7 @@
 //! What holds of the responder's definitions at every history, each law as the contract of a function
 //! that does nothing.
 
-ghost use Rattle.spdm_machine.specs.Laws.{ChosenIsAllowed, DoesWhatItMay, FourAreHeldAtMost, FreeIdIsFree, HeldAreFew, LiveIsUnderNegotiation, LiveIdIsFromOneToFour, NewSessionIsFresh, OneIsInHandshake, RecordKeepsOthers, RefusedClearKeepsConnection, RefusedClearKeepsSessions, RefusedInChunksKeepsSessions, RefusedRecordKeepsSessions, RepeatAddsNothing, RepeatedRecordAddsNothing, RequestHasItsCode, TakenExchangeIsFresh, TakenIsRepeated, TakenRecordIsOpened, TakenRecordIsRepeated, UnopenedAddsNothing};
+ghost use Rattle.spdm_machine.specs.Laws.{ChosenIsAllowed, DoesWhatItMay, FinishIsVerified, FourAreHeldAtMost, FreeIdIsFree, HeldAreFew, LiveIsUnderNegotiation, LiveIdIsFromOneToFour, NewSessionIsFresh, OneIsInHandshake, RecordKeepsOthers, RefusedClearKeepsConnection, RefusedClearKeepsSessions, RefusedInChunksKeepsSessions, RefusedRecordKeepsSessions, RepeatAddsNothing, RepeatedRecordAddsNothing, RequestHasItsCode, TakenExchangeIsFresh, TakenIsRepeated, TakenRecordIsOpened, TakenRecordIsRepeated, UnopenedAddsNothing};
 ghost use Rattle.spdm_machine.specs.NumberLaws.{FinishBeginsAtZero, MadeIsStaged, NextNumbersAreCounts, NumbersAreFew, ReplyNumberIsCount, UpdateAllIsAnsweredAtZero, UpdateBeginsAtZero};
 ghost use Rattle.spdm_machine.specs.SettledLaws.{AlgorithmsSettleChoice, CapabilitiesSettleCommon, SizesAreKnown};
 
@@ -62,6 +62,12 @@ pub fn taken_is_repeated()
 /// END_SESSION too.
 pub fn taken_record_is_repeated()
     ensures { TakenRecordIsRepeated }
+{}
+
+/// A PSK_FINISH that takes effect has the requester's verify data over Tv of the session that its
+/// record names.
+pub fn finish_is_verified()
+    ensures { FinishIsVerified }
 {}
 
 /// The id that the responder chooses for a new session is from 1 to 4 and that of no session past its
