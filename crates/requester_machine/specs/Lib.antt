@@ -1,3 +1,4 @@
+pub mod Setup
 pub mod Message
 pub mod History
 pub mod Session

@@ -13,14 +13,15 @@ use Rattle.spdm_grammar.specs.declared.heard.Heard.TheVariants as heard
 use Rattle.spdm_grammar.specs.declared.heard.ReplyFault.{ReplyFault}
 use Rattle.spdm_grammar.specs.declared.heard.ReplyFault.TheVariants as reply_fault
 use Rattle.spdm_grammar.specs.declared.heard.RspIgnored.TheVariants as ignored
-use Rattle.spdm_machine.specs.Does.{responder_does}
-use Rattle.spdm_machine.specs.Does as serving_made
-use Rattle.spdm_machine.specs.History as served
-use Rattle.spdm_machine.specs.History.{History, queue_of, draws_of}
-use Rattle.spdm_machine.specs.History.Entry.{Queued, Ticked}
-use Rattle.spdm_machine.specs.Responder.{Outcome, after}
-use Rattle.spdm_machine.specs.ResponderLog.{acts_of}
-use Rattle.spdm_machine.specs.Setup.{RspSetup, ReqSetup}
+use Rattle.responder_machine.specs.Does.{responder_does}
+use Rattle.responder_machine.specs.Does as serving_made
+use Rattle.responder_machine.specs.History as served
+use Rattle.responder_machine.specs.History.{History, queue_of, draws_of}
+use Rattle.responder_machine.specs.History.Entry.{Queued, Ticked}
+use Rattle.responder_machine.specs.Responder.{Outcome, after}
+use Rattle.responder_machine.specs.ResponderLog.{acts_of}
+use Rattle.responder_machine.specs.Setup.{RspSetup}
+use Rattle.requester_machine.specs.Setup.{ReqSetup}
 use Rattle.spdm_machine.specs.TagLog.{Act}
 use Rattle.world_machine.specs.Chance.{NoChance}
 use Rattle.world_machine.specs.Packets.{gathered_from, body_type, wear_limit}

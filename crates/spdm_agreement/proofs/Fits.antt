@@ -3,9 +3,10 @@ use Rattle.std.proofs.Common.{◌≡◌, ◌≢◌, ℕ, ◌≤◌, ◌+◌, Lis
 use Rattle.key_schedule.specs.Purpose.{Purpose}
 use Rattle.requester_machine.specs.Does as asking
 use Rattle.requester_machine.specs.History as asked
-use Rattle.spdm_machine.specs.Does as serving
-use Rattle.spdm_machine.specs.History as served
-use Rattle.spdm_machine.specs.Setup.{RspSetup, ReqSetup}
+use Rattle.responder_machine.specs.Does as serving
+use Rattle.responder_machine.specs.History as served
+use Rattle.responder_machine.specs.Setup.{RspSetup}
+use Rattle.requester_machine.specs.Setup.{ReqSetup}
 use Rattle.world_machine.specs.Agreement.{IsMade}
 use Rattle.world_machine.specs.Chance.{NoChance}
 use Rattle.world_machine.specs.Requesting.{Requesting}

@@ -15,11 +15,12 @@ use Rattle.requester_machine.specs.RequesterLog as asked_log
 use Rattle.requester_machine.specs.Shown as asked_shown
 use Rattle.sha2.proofs.Facts256.{length-sha256}
 use Rattle.spdm_basis.specs.declared.PacketFault.{PacketFault}
-use Rattle.spdm_machine.specs.History as served
-use Rattle.spdm_machine.specs.History.{History, queue_of}
-use Rattle.spdm_machine.specs.History.Entry.{Queued, Ticked}
+use Rattle.responder_machine.specs.History as served
+use Rattle.responder_machine.specs.History.{History, queue_of}
+use Rattle.responder_machine.specs.History.Entry.{Queued, Ticked}
 use Rattle.spdm_machine.specs.Keys.{draw_of}
-use Rattle.spdm_machine.specs.Setup.{RspSetup, ReqSetup}
+use Rattle.responder_machine.specs.Setup.{RspSetup}
+use Rattle.requester_machine.specs.Setup.{ReqSetup}
 use Rattle.spdm_machine.specs.TagLog.{Act}
 use Rattle.world_machine.specs.Chance.{NoChance}
 use Rattle.world_machine.specs.Packets.{gathered_from, wear_limit}

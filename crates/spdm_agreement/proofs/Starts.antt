@@ -1,8 +1,9 @@
 -- The world in which nothing has happened yet.
 use Rattle.std.proofs.Common.{◌≡◌, ◌≢◌, ℕ, ◌<◌, ◌+◌, List, [], ◌∷◌, map, refl, sym, ap, ◌∙◌, subst, inl, inr, arith}
 use Rattle.requester_machine.specs.History as asked
-use Rattle.spdm_machine.specs.History as served
-use Rattle.spdm_machine.specs.Setup.{RspSetup, ReqSetup}
+use Rattle.responder_machine.specs.History as served
+use Rattle.responder_machine.specs.Setup.{RspSetup}
+use Rattle.requester_machine.specs.Setup.{ReqSetup}
 use Rattle.world_machine.specs.Requesting.{Requesting, new_requesting, numbered}
 use Rattle.world_machine.specs.Responding.{Connection, new_connection, all_draws}
 use Rattle.world_machine.specs.Setup.{WorldSetup, towards}

@@ -2,8 +2,9 @@
 use Rattle.std.proofs.Common.{◌≡◌, ℕ, zero, suc, ◌==◌, List, [], ◌∷◌, length, Bool, true, false, cond, nat_lt, Option, Some, None, find, slice_index, refl}
 use Rattle.requester_machine.specs.History as asked
 use Rattle.requester_machine.specs.Message.{Command}
-use Rattle.spdm_machine.specs.History as served
-use Rattle.spdm_machine.specs.Setup.{RspSetup, ReqSetup}
+use Rattle.responder_machine.specs.History as served
+use Rattle.responder_machine.specs.Setup.{RspSetup}
+use Rattle.requester_machine.specs.Setup.{ReqSetup}
 use Rattle.world_machine.proofs.Logs.{no_chance_before}
 use Rattle.world_machine.specs.Agreement.{Agreement, Matched, SealedOnce, ArePair}
 use Rattle.world_machine.specs.Chance.{NoChance}

@@ -1,8 +1,9 @@
 -- What the ends of each pair took of application data is the beginning of what was sealed, in every world.
 use Rattle.std.proofs.Common.{◌≡◌, List, ℕ, sym, subst}
 use Rattle.requester_machine.specs.History as asked
-use Rattle.spdm_machine.specs.History as served
-use Rattle.spdm_machine.specs.Setup.{RspSetup, ReqSetup}
+use Rattle.responder_machine.specs.History as served
+use Rattle.responder_machine.specs.Setup.{RspSetup}
+use Rattle.requester_machine.specs.Setup.{ReqSetup}
 use Rattle.world_machine.specs.Agreement.{DataPrefix, IsPrefixOf}
 use Rattle.world_machine.specs.Setup.{WorldSetup}
 use Rattle.world_machine.specs.Trace.{world_after}

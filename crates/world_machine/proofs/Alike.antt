@@ -6,10 +6,10 @@ use Rattle.mctp_framing.specs.Gathering.Gathered.{Whole, More, Dropped}
 use Rattle.mctp_framing.specs.Packet.{PacketFields, packet_fault, fault_or, fields_of, parsed}
 use Rattle.spdm_basis.specs.declared.DropCause.TheVariants.{NotOurs, NoStart}
 use Rattle.spdm_basis.specs.declared.PacketFault.{PacketFault}
-use Rattle.spdm_machine.specs.Does.{responder_does}
-use Rattle.spdm_machine.specs.History.{History}
+use Rattle.responder_machine.specs.Does.{responder_does}
+use Rattle.responder_machine.specs.History.{History}
 use Rattle.spdm_machine.specs.Keys.{Draw}
-use Rattle.spdm_machine.specs.Responder.{Outcome, after}
+use Rattle.responder_machine.specs.Responder.{Outcome, after}
 use Rattle.world_machine.proofs.Connections.{found}
 use Rattle.world_machine.specs.Laws.{AreAlike, LeadAlike, OwnDecide, source_of, receiver_of}
 use Rattle.world_machine.specs.Packets.{fields_in, fields_with, gathered_from, body_type}

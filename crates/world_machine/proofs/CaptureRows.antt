@@ -15,12 +15,12 @@ use Rattle.spdm_grammar.specs.Reading.{field_at, number_at, optional_at, tables_
 use Rattle.spdm_grammar.specs.Requests.{request_body, get_version_layout, get_capabilities_layout, negotiate_algorithms_layout, psk_finish_layout, chunk_send_layout, chunk_get_layout}
 use Rattle.spdm_grammar.specs.Responses.{response_body, version_layout, capabilities_layout, algorithms_layout, chunk_send_ack_layout, chunk_response_layout, error_layout}
 use Rattle.spdm_grammar.specs.declared.choice.Pick.TheVariants.{Small}
-use Rattle.spdm_machine.specs.Answer as answer
-use Rattle.spdm_machine.specs.Answer.{answer_bytes}
-use Rattle.spdm_machine.specs.Handling.{turn_of}
-use Rattle.spdm_machine.specs.Refusal.{refused_form, refused_contents, refusal}
-use Rattle.spdm_machine.specs.Responder.{on_clear, on_record}
-use Rattle.spdm_machine.specs.Session as responder_session
+use Rattle.responder_machine.specs.Answer as answer
+use Rattle.responder_machine.specs.Answer.{answer_bytes}
+use Rattle.responder_machine.specs.Handling.{turn_of}
+use Rattle.responder_machine.specs.Refusal.{refused_form, refused_contents, refusal}
+use Rattle.responder_machine.specs.Responder.{on_clear, on_record}
+use Rattle.responder_machine.specs.Session as responder_session
 use Rattle.spdm_machine.specs.Terms.{terms_of}
 use Rattle.world_machine.specs.Capture.{Conforms, IsFirstDifference, Leads, Follows}
 use Rattle.world_machine.specs.CapturedAnswers.{Answers, Hears, MayLeadTo}

@@ -5,8 +5,8 @@ use Rattle.mctp_framing.specs.Gathering.{Gathered, is_ours}
 use Rattle.mctp_framing.specs.Gathering.Gathered.{Whole, More, Dropped}
 use Rattle.mctp_framing.specs.Packet.{PacketFields, packet_fault, fault_or, fields_of}
 use Rattle.spdm_basis.specs.declared.PacketFault.{PacketFault}
-use Rattle.spdm_machine.specs.History.{History}
-use Rattle.spdm_machine.specs.Responder.{Outcome, after}
+use Rattle.responder_machine.specs.History.{History}
+use Rattle.responder_machine.specs.Responder.{Outcome, after}
 use Rattle.world_machine.specs.Laws.{AreAlike, OthersStand, source_of, receiver_of}
 use Rattle.world_machine.specs.Packets.{fields_in, fields_with, gathered_from}
 use Rattle.world_machine.specs.Responding.{Connection, Responding, RspStep, connection_of, changed, with_history, answers, hears_whole, hears_gathered, hears_from, hears_packet, is_worn, responder_hears}

@@ -17,17 +17,17 @@ use Rattle.spdm_grammar.specs.declared.event.Event.TheVariants as event
 use Rattle.spdm_grammar.specs.declared.event.Finished.TheVariants as finished
 use Rattle.spdm_grammar.specs.declared.heard.Heard.TheVariants as heard
 use Rattle.spdm_grammar.specs.declared.phase.Phase.TheVariants.{Fresh, Negotiated}
-use Rattle.spdm_machine.specs.Answer.{answer_bytes}
-use Rattle.spdm_machine.specs.Does as responder_does
-use Rattle.spdm_machine.specs.Handling.{turn_of}
-use Rattle.spdm_machine.specs.Refusal.{refused_form, refused_contents, refusal}
-use Rattle.spdm_machine.specs.Responder.{on_clear, on_record}
-use Rattle.spdm_machine.specs.Session as responder_session
+use Rattle.responder_machine.specs.Answer.{answer_bytes}
+use Rattle.responder_machine.specs.Does as responder_does
+use Rattle.responder_machine.specs.Handling.{turn_of}
+use Rattle.responder_machine.specs.Refusal.{refused_form, refused_contents, refusal}
+use Rattle.responder_machine.specs.Responder.{on_clear, on_record}
+use Rattle.responder_machine.specs.Session as responder_session
 use Rattle.spdm_machine.specs.Terms.{terms_of}
 use Rattle.world_machine.specs.Happenings.{Entry}
 use Rattle.world_machine.specs.Happenings.Happening.{Told, Deliver, Inject, Pump, Show}
-use Rattle.world_machine.specs.Lines.Line.{State, At, Command, Packet, NoPacket, ToResponder, ToRequester}
-use Rattle.world_machine.specs.Lines.Whose.{Requester, Responder}
+use Rattle.spdm_grammar.specs.Lines.Line.{State, At, Command, Packet, NoPacket, ToResponder, ToRequester}
+use Rattle.spdm_grammar.specs.Lines.Whose.{Requester, Responder}
 use Rattle.world_machine.specs.Packets.{gathered_from}
 use Rattle.world_machine.specs.Requesting.{requester_told, requester_given}
 use Rattle.world_machine.specs.Responding.{responder_hears}

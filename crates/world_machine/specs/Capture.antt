@@ -8,8 +8,8 @@ use Rattle.requester_machine.specs.History as requester_history
 use Rattle.spdm_basis.specs.declared.PacketFault.{PacketFault}
 use Rattle.spdm_grammar.specs.Message.RequestMessage.{GetVersion}
 use Rattle.spdm_grammar.specs.Requests.{canonical_request}
-use Rattle.spdm_machine.specs.History.{History}
-use Rattle.spdm_machine.specs.Responder.{clear_body}
+use Rattle.responder_machine.specs.History.{History}
+use Rattle.spdm_machine.specs.Bodies.{clear_body}
 use Rattle.world_machine.specs.CapturedAnswers.{Answers, Hears}
 use Rattle.world_machine.specs.CapturedRequests.{Sends}
 use Rattle.world_machine.specs.LargeAnswers.{while_fetched}

@@ -12,10 +12,10 @@ use Rattle.requester_machine.specs.Session as requester_session
 use Rattle.spdm_basis.specs.declared.PacketFault.{PacketFault}
 use Rattle.spdm_grammar.specs.Message.{RequestMessage}
 use Rattle.spdm_grammar.specs.Message.RequestMessage.{GetVersion}
-use Rattle.spdm_machine.specs.History.{History, Entry, clear_turns, negotiation_of}
-use Rattle.spdm_machine.specs.Responder.Outcome.{Adds}
-use Rattle.spdm_machine.specs.Responder.{sent_by}
-use Rattle.spdm_machine.specs.Setup.{RspSetup}
+use Rattle.responder_machine.specs.History.{History, Entry, clear_turns, negotiation_of}
+use Rattle.responder_machine.specs.Responder.Outcome.{Adds}
+use Rattle.responder_machine.specs.Responder.{sent_by}
+use Rattle.responder_machine.specs.Setup.{RspSetup}
 use Rattle.spdm_machine.specs.Terms.{request_value, terms_of, hash_len}
 use Rattle.world_machine.specs.Capture.{IsFirstDifference, Leads}
 use Rattle.world_machine.specs.CapturedAnswers.{Answers, MayLeadTo, MayHaveLed}

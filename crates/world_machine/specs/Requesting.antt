@@ -15,7 +15,7 @@ use Rattle.spdm_grammar.specs.declared.event.Event.{Event}
 use Rattle.spdm_grammar.specs.declared.event.Event.TheVariants as event
 use Rattle.spdm_grammar.specs.declared.event.ReqIgnored.TheVariants as ignored
 use Rattle.spdm_machine.specs.Keys.{Draw, draw_of}
-use Rattle.spdm_machine.specs.Setup.{ReqSetup}
+use Rattle.requester_machine.specs.Setup.{ReqSetup}
 use Rattle.spdm_machine.specs.TagLog.{Act}
 use Rattle.world_machine.specs.Packets.{gathered_from, packets_to, wear_limit}
 use Rattle.world_machine.specs.Setup.{WorldSetup, requester_seed}

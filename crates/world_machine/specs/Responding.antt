@@ -12,18 +12,19 @@ use Rattle.spdm_grammar.specs.declared.heard.Heard.TheVariants as heard
 use Rattle.spdm_grammar.specs.declared.heard.ReplyFault.{ReplyFault}
 use Rattle.spdm_grammar.specs.declared.heard.ReplyFault.TheVariants as reply_fault
 use Rattle.spdm_grammar.specs.declared.heard.RspIgnored.TheVariants as ignored
-use Rattle.spdm_machine.specs.Does.{responder_does}
-use Rattle.spdm_machine.specs.Heard.{heard_of, record_id}
-use Rattle.spdm_machine.specs.History.{History, draws_of, queue_of}
-use Rattle.spdm_machine.specs.History.Entry.{Sealed, Queued, Ticked, Dropped}
+use Rattle.responder_machine.specs.Does.{responder_does}
+use Rattle.responder_machine.specs.Heard.{heard_of, record_id}
+use Rattle.responder_machine.specs.History.{History, draws_of, queue_of}
+use Rattle.responder_machine.specs.History.Entry.{Sealed, Queued, Ticked, Dropped}
 use Rattle.spdm_machine.specs.Keys.{Draw, draw_of}
-use Rattle.spdm_machine.specs.Responder.{Outcome, after, body_of}
-use Rattle.spdm_machine.specs.Responder.Outcome.{Adds}
-use Rattle.spdm_machine.specs.ResponderLog.{acts_of}
-use Rattle.spdm_machine.specs.Setup.{RspSetup, ReqSetup}
+use Rattle.responder_machine.specs.Responder.{Outcome, after, body_of}
+use Rattle.responder_machine.specs.Responder.Outcome.{Adds}
+use Rattle.responder_machine.specs.ResponderLog.{acts_of}
+use Rattle.responder_machine.specs.Setup.{RspSetup}
+use Rattle.requester_machine.specs.Setup.{ReqSetup}
 use Rattle.spdm_machine.specs.TagLog.{Act}
-use Rattle.spdm_machine.specs.Turn.Effect.{NoEffect, Took, TookData}
-use Rattle.spdm_machine.specs.Turn.{Effect}
+use Rattle.responder_machine.specs.Turn.Effect.{NoEffect, Took, TookData}
+use Rattle.responder_machine.specs.Turn.{Effect}
 use Rattle.world_machine.specs.Packets.{gathered_from, packets_to, body_type, wear_limit}
 use Rattle.world_machine.specs.Setup.{WorldSetup, towards, responder_seed}
 

@@ -8,12 +8,13 @@ use Rattle.requester_machine.specs.Message.Aim.{InSession}
 use Rattle.spdm_basis.specs.declared.session_id.SessionId.{SessionId}
 use Rattle.spdm_grammar.specs.Message.RequestMessage.{PskExchange}
 use Rattle.spdm_grammar.specs.declared.phase.Stage.{Stage}
-use Rattle.spdm_machine.specs.Heard.{view_of}
-use Rattle.spdm_machine.specs.History.{History}
-use Rattle.spdm_machine.specs.History.Entry.{Clear, Sealed}
-use Rattle.spdm_machine.specs.Session.{Events, session_of, is_live, exchange_answer, id_in_exchange, id_in_record}
-use Rattle.spdm_machine.specs.Setup.{ReqSetup}
-use Rattle.spdm_machine.specs.Turn.{Turn, takes, answer_in}
+use Rattle.responder_machine.specs.Heard.{view_of}
+use Rattle.responder_machine.specs.History.{History}
+use Rattle.responder_machine.specs.History.Entry.{Clear, Sealed}
+use Rattle.responder_machine.specs.Session.{Events, session_of, is_live, exchange_answer, id_in_record}
+use Rattle.spdm_machine.specs.Sessions.{id_in_exchange}
+use Rattle.requester_machine.specs.Setup.{ReqSetup}
+use Rattle.responder_machine.specs.Turn.{Turn, takes, answer_in}
 use Rattle.world_machine.specs.Capture.{Conforms, Follows}
 use Rattle.world_machine.specs.Rounds.{Dialogue, Round, new_dialogue}
 use Rattle.world_machine.specs.Setup.{WorldSetup}

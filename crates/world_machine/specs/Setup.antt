@@ -6,7 +6,8 @@ use Rattle.spdm_basis.specs.declared.hash_alg.HashAlg.TheVariants.{Sha256}
 use Rattle.spdm_grammar.specs.declared.block_spec.BlockSpec.{BlockSpec}
 use Rattle.spdm_grammar.specs.declared.choice.FlagSet.{FlagSet}
 use Rattle.spdm_grammar.specs.declared.choice.Suites.{Suites}
-use Rattle.spdm_machine.specs.Setup.{RspSetup, ReqSetup}
+use Rattle.responder_machine.specs.Setup.{RspSetup}
+use Rattle.requester_machine.specs.Setup.{ReqSetup}
 
 -- What is set up of a responder for all requesters.
 pub record RspPart : Type 0 where

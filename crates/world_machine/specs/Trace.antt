@@ -1,7 +1,7 @@
 -- Runs of a script: the worlds that its events lead to, and its trace. This project's own.
 use Rattle.std.specs.Prelude.{nat_lt, ℕ, List, [], ◌∷◌, ◌++◌, length, Bool}
 use Rattle.world_machine.specs.Happenings.{Entry}
-use Rattle.world_machine.specs.Lines.{Line}
+use Rattle.spdm_grammar.specs.Lines.{Line}
 use Rattle.world_machine.specs.Setup.{WorldSetup}
 use Rattle.world_machine.specs.World.{World, new_world, entry_step, shown_lines}
 

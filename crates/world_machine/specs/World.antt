@@ -9,12 +9,13 @@ use Rattle.spdm_grammar.specs.declared.event.Event.{Event}
 use Rattle.spdm_grammar.specs.declared.event.Event.TheVariants as event
 use Rattle.spdm_grammar.specs.declared.event.Finished.{Finished}
 use Rattle.spdm_grammar.specs.declared.event.Finished.TheVariants as finished
-use Rattle.spdm_machine.specs.Heard.{View, views_of, no_id}
-use Rattle.spdm_machine.specs.History.{clear_turns, phase_of}
+use Rattle.spdm_grammar.specs.View.{View}
+use Rattle.responder_machine.specs.Heard.{views_of, no_id}
+use Rattle.responder_machine.specs.History.{clear_turns, phase_of}
 use Rattle.spdm_machine.specs.TagLog.{Log}
 use Rattle.world_machine.specs.Happenings.{Happening, Entry}
 use Rattle.world_machine.specs.Happenings.Happening.{Told, Reply, Deliver, Lose, Inject, Pump, Tick, Show}
-use Rattle.world_machine.specs.Lines.{Line, Whose}
+use Rattle.spdm_grammar.specs.Lines.{Line, Whose}
 use Rattle.world_machine.specs.Requesting.{Requesting, CommandStep, PacketStep, numbered, requester_told, requester_given}
 use Rattle.world_machine.specs.Responding.{Responding, Connection, RspStep, new_responding, connection_of, responder_hears, reply_fault_of, queues, ticks}
 use Rattle.world_machine.specs.Setup.{WorldSetup}
