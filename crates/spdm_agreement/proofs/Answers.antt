@@ -24,10 +24,10 @@ use Rattle.responder_machine.specs.Setup.{RspSetup}
 use Rattle.requester_machine.specs.Setup.{ReqSetup}
 use Rattle.spdm_machine.specs.TagLog.{Act}
 use Rattle.world_machine.specs.Chance.{NoChance}
-use Rattle.world_machine.specs.Packets.{gathered_from, body_type, wear_limit}
-use Rattle.world_machine.specs.Requesting.{Requesting}
-use Rattle.world_machine.specs.Responding as responding
-use Rattle.world_machine.specs.Responding.{Connection, Responding, RspStep, connection_of, changed, with_history, all_draws, responder_hears, ignores, answers, reply_fault_of, queues, ticks}
+use Rattle.spdm_machine.specs.Packets.{gathered_from, body_type, wear_limit}
+use Rattle.requester_machine.specs.Requesting.{Requesting}
+use Rattle.responder_machine.specs.Responding as responding
+use Rattle.responder_machine.specs.Responding.{Connection, Responding, RspStep, connection_of, changed, with_history, all_draws, responder_hears, ignores, answers, reply_fault_of, queues, ticks}
 use Rattle.world_machine.specs.Setup.{WorldSetup, responder_seed}
 use Rattle.world_machine.specs.World.{World, SentPacket}
 use Rattle.spdm_agreement.specs.Claims.{IsReached}

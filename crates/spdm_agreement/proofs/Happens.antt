@@ -23,10 +23,10 @@ use Rattle.responder_machine.specs.Setup.{RspSetup}
 use Rattle.requester_machine.specs.Setup.{ReqSetup}
 use Rattle.spdm_machine.specs.TagLog.{Act}
 use Rattle.world_machine.specs.Chance.{NoChance}
-use Rattle.world_machine.specs.Packets.{gathered_from, wear_limit}
-use Rattle.world_machine.specs.Requesting as requesting
-use Rattle.world_machine.specs.Requesting.{Requesting, CommandStep, PacketStep, requester_told, requester_given}
-use Rattle.world_machine.specs.Responding.{Connection}
+use Rattle.spdm_machine.specs.Packets.{gathered_from, wear_limit}
+use Rattle.requester_machine.specs.Requesting as requesting
+use Rattle.requester_machine.specs.Requesting.{Requesting, CommandStep, PacketStep, requester_told, requester_given}
+use Rattle.responder_machine.specs.Responding.{Connection}
 use Rattle.world_machine.specs.Setup.{WorldSetup, requester_seed}
 use Rattle.world_machine.specs.World.{World, SentPacket, with_requester}
 use Rattle.spdm_agreement.specs.Configured.{IsConfigured}

@@ -8,8 +8,8 @@ use Rattle.requester_machine.specs.Setup.{ReqSetup}
 use Rattle.spdm_machine.specs.TagLog.{Act}
 use Rattle.world_machine.specs.Agreement.{IsMade}
 use Rattle.world_machine.specs.Chance.{NoChance}
-use Rattle.world_machine.specs.Requesting.{Requesting}
-use Rattle.world_machine.specs.Responding.{Connection}
+use Rattle.requester_machine.specs.Requesting.{Requesting}
+use Rattle.responder_machine.specs.Responding.{Connection}
 use Rattle.world_machine.specs.Setup.{WorldSetup}
 use Rattle.world_machine.specs.World.{World, SentPacket, replaced, with_requester}
 use Rattle.spdm_agreement.specs.Claims.{IsReached}

@@ -4,8 +4,8 @@ use Rattle.requester_machine.specs.History as asked
 use Rattle.responder_machine.specs.History as served
 use Rattle.responder_machine.specs.Setup.{RspSetup}
 use Rattle.requester_machine.specs.Setup.{ReqSetup}
-use Rattle.world_machine.specs.Requesting.{Requesting, new_requesting, numbered}
-use Rattle.world_machine.specs.Responding.{Connection, new_connection, all_draws}
+use Rattle.requester_machine.specs.Requesting.{Requesting, new_requesting, numbered}
+use Rattle.responder_machine.specs.Responding.{Connection, new_connection, all_draws}
 use Rattle.world_machine.specs.Setup.{WorldSetup, towards}
 use Rattle.world_machine.specs.World.{new_world}
 use Rattle.spdm_agreement.specs.Claims.{IsReached}

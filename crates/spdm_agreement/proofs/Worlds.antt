@@ -10,8 +10,8 @@ use Rattle.world_machine.specs.Agreement.{Agreement, Matched, SealedOnce, ArePai
 use Rattle.world_machine.specs.Chance.{NoChance}
 use Rattle.world_machine.specs.Happenings.{Happening, Entry}
 use Rattle.world_machine.specs.Happenings.Happening.{Told, Reply, Deliver, Lose, Inject, Pump, Tick, Show}
-use Rattle.world_machine.specs.Requesting.{Requesting, requester_told, requester_given}
-use Rattle.world_machine.specs.Responding.{Connection, responder_hears, connection_of}
+use Rattle.requester_machine.specs.Requesting.{Requesting, requester_told, requester_given}
+use Rattle.responder_machine.specs.Responding.{Connection, responder_hears, connection_of}
 use Rattle.world_machine.specs.Setup.{WorldSetup}
 use Rattle.world_machine.specs.Trace.{world_from, world_after}
 use Rattle.world_machine.specs.World.{World, WorldStep, new_world, told, given, given_to, given_to_responder, delivers, loses, without_waiting, stopped_of, with_sent, packet_of, turn, pumps, first_waiting, replied, requester_of, is_number, is_at, happens, entry_step}

@@ -5,7 +5,7 @@ use Rattle.measurements.specs.Faults.{inventory_fault}
 use Rattle.spdm_grammar.specs.declared.choice.FlagSet.{FlagSet}
 use Rattle.responder_machine.specs.Setup.{RspSetup}
 use Rattle.requester_machine.specs.Setup.{ReqSetup}
-use Rattle.world_machine.specs.Packets.{wear_limit}
+use Rattle.spdm_machine.specs.Packets.{wear_limit}
 use Rattle.world_machine.specs.Setup.{WorldSetup, towards}
 
 -- An EID is neither one of the special ones, 0 to 7, nor the broadcast EID, 255 (DSP0236, "MCTP endpoint ID").
