@@ -24,3 +24,4 @@ pub mod Sizes
 pub mod Verified
 pub mod Others
 pub mod Alike
+pub mod Independent

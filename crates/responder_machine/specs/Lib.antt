@@ -20,3 +20,4 @@ pub mod NumberLaws
 pub mod SettledLaws
 pub mod Responding
 pub mod EndLaws
+pub mod Independence

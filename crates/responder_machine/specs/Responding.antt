@@ -114,30 +114,30 @@ answers r c packet route body outcome = record {
   after = record r { given = packet ∷ r.given; connections = with_history c.setup.peer (λ h. after h outcome) r.connections };
 }
 
--- A body that is whole: it has to be a request, of a known type.
-abbrev pub hears_whole : Responding → Connection → List ℕ → RouteFields → List ℕ → RspStep
-hears_whole r c packet route body =
+-- A body that is whole, while this draw stands next: it has to be a request, of a known type.
+abbrev pub hears_whole : Responding → Draw → Connection → List ℕ → RouteFields → List ℕ → RspStep
+hears_whole r d c packet route body =
     if not route.owner then ignores r packet (heard.Ignored ignored.NotRequest)
     else (if not (body_type body == 5 || body_type body == 6) then ignores r packet (heard.Ignored ignored.OtherType)
-    else answers r c packet route body (responder_does c.setup c.history route.tag body (next_draw r)))
+    else answers r c packet route body (responder_does c.setup c.history route.tag body d))
 
 -- A packet that completes a body is heard; one that awaits more, or is dropped, changes nothing else.
-abbrev pub hears_gathered : Responding → Connection → List ℕ → Gathered → RspStep
-hears_gathered r c packet (Whole route body) = hears_whole r c packet route body
-hears_gathered r c packet More = ignores r packet heard.More
-hears_gathered r c packet (Dropped cause) = ignores r packet (heard.Ignored (ignored.Dropped cause))
+abbrev pub hears_gathered : Responding → Draw → Connection → List ℕ → Gathered → RspStep
+hears_gathered r d c packet (Whole route body) = hears_whole r d c packet route body
+hears_gathered r d c packet More = ignores r packet heard.More
+hears_gathered r d c packet (Dropped cause) = ignores r packet (heard.Ignored (ignored.Dropped cause))
 
 -- A packet from an end point without a connection is ignored.
-abbrev pub hears_from : Responding → List ℕ → PacketFields → Option Connection → RspStep
-hears_from r packet fields None = ignores r packet (heard.Ignored ignored.UnknownPeer)
-hears_from r packet fields (Some c) = hears_gathered r c packet (gathered_from c.setup.eid c.setup.peer r.given fields)
+abbrev pub hears_from : Responding → Draw → List ℕ → PacketFields → Option Connection → RspStep
+hears_from r d packet fields None = ignores r packet (heard.Ignored ignored.UnknownPeer)
+hears_from r d packet fields (Some c) = hears_gathered r d c packet (gathered_from c.setup.eid c.setup.peer r.given fields)
 
 -- A packet has to be for the responder, and from a requester.
-abbrev pub hears_packet : Responding → List ℕ → Result PacketFields PacketFault → RspStep
-hears_packet r packet (Err fault) = ignores r packet (heard.Ignored (ignored.Packet fault))
-hears_packet r packet (Ok fields) =
+abbrev pub hears_packet : Responding → Draw → List ℕ → Result PacketFields PacketFault → RspStep
+hears_packet r d packet (Err fault) = ignores r packet (heard.Ignored (ignored.Packet fault))
+hears_packet r d packet (Ok fields) =
     if not (fields.to == r.part.eid) then ignores r packet (heard.Ignored (ignored.Dropped NotOurs))
-    else hears_from r packet fields (connection_of fields.from r.connections)
+    else hears_from r d packet fields (connection_of fields.from r.connections)
 
 -- A worn responder takes no packet.
 abbrev pub is_worn : Responding → Bool
@@ -149,7 +149,7 @@ worn_step r = record { heard = heard.Ignored ignored.Worn; sent = []; taken = No
 
 -- A packet is given to the responder.
 unfoldable pub responder_hears : Responding → List ℕ → RspStep
-responder_hears r packet = if is_worn r then worn_step r else hears_packet r packet (parsed packet)
+responder_hears r packet = if is_worn r then worn_step r else hears_packet r (next_draw r) packet (parsed packet)
 
 -- ---- Queued data and time.
 

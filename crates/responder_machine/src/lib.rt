@@ -6,7 +6,9 @@
 mod end_laws;
 mod laws;
 
-pub use end_laws::{others_stand, own_decide};
+pub use end_laws::{
+    connections_are_independent, given_stands_alike, others_stand, own_decide,
+};
 pub use laws::{
     algorithms_settle_choice, capabilities_settle_common, chosen_is_allowed, does_what_it_may,
     finish_begins_at_zero, finish_is_verified, four_are_held_at_most, free_id_is_free,

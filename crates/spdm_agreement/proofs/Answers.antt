@@ -117,22 +117,22 @@ module _ (KeptAsked : ReqSetup → asked.History → Type 0) (KeptServed : RspSe
       goes_by x is packet body (responder_does x.setup x.history route.tag body (responding.next_draw world.responder)) made.made made.more made.most
       (λ a pair. does_well x.setup x.history (state_of a x world.log).asked world.log route.tag body (responding.next_draw world.responder) (ready x a pair fresh))
 
-  gathered_goes : (x : Connection) → IsIn connections x → (packet : List ℕ) (g : Gathered) → responding.is_worn world.responder ≡ false → GoesOn (responding.hears_gathered world.responder x packet g)
+  gathered_goes : (x : Connection) → IsIn connections x → (packet : List ℕ) (g : Gathered) → responding.is_worn world.responder ≡ false → GoesOn (responding.hears_gathered world.responder (responding.next_draw world.responder) x packet g)
   gathered_goes x is packet (Whole route body) fresh =
       either (not route.owner) (ignores world.responder packet (heard.Ignored ignored.NotRequest)) _ (ignores_goes packet (heard.Ignored ignored.NotRequest))
       (either (not (body_type body == 5 || body_type body == 6)) (ignores world.responder packet (heard.Ignored ignored.OtherType)) _ (ignores_goes packet (heard.Ignored ignored.OtherType)) (answers_goes x is packet route body fresh))
   gathered_goes x is packet More fresh = ignores_goes packet heard.More
   gathered_goes x is packet (Dropped cause) fresh = ignores_goes packet (heard.Ignored (ignored.Dropped cause))
 
-  from_goes : (packet : List ℕ) (fields : PacketFields) (o : Option Connection) → connection_of fields.from connections ≡ o → responding.is_worn world.responder ≡ false → GoesOn (responding.hears_from world.responder packet fields o)
+  from_goes : (packet : List ℕ) (fields : PacketFields) (o : Option Connection) → connection_of fields.from connections ≡ o → responding.is_worn world.responder ≡ false → GoesOn (responding.hears_from world.responder (responding.next_draw world.responder) packet fields o)
   from_goes packet fields None is fresh = ignores_goes packet (heard.Ignored ignored.UnknownPeer)
   from_goes packet fields (Some x) is fresh = gathered_goes x (found_in (λ (y : Connection). y.setup.peer == fields.from) connections x is).0 packet (gathered_from x.setup.eid x.setup.peer world.responder.given fields) fresh
 
-  parsed_goes : (packet : List ℕ) (p : Result PacketFields PacketFault) → responding.is_worn world.responder ≡ false → GoesOn (responding.hears_packet world.responder packet p)
+  parsed_goes : (packet : List ℕ) (p : Result PacketFields PacketFault) → responding.is_worn world.responder ≡ false → GoesOn (responding.hears_packet world.responder (responding.next_draw world.responder) packet p)
   parsed_goes packet (Err fault) fresh = ignores_goes packet (heard.Ignored (ignored.Packet fault))
   parsed_goes packet (Ok fields) fresh = either (not (fields.to == world.responder.part.eid)) (ignores world.responder packet (heard.Ignored (ignored.Dropped NotOurs))) _ (ignores_goes packet (heard.Ignored (ignored.Dropped NotOurs))) (from_goes packet fields (connection_of fields.from connections) refl fresh)
 
-  given_by : (packet : List ℕ) (worn : Bool) → responding.is_worn world.responder ≡ worn → GoesOn (cond worn (responding.worn_step world.responder) (responding.hears_packet world.responder packet (parsed packet)))
+  given_by : (packet : List ℕ) (worn : Bool) → responding.is_worn world.responder ≡ worn → GoesOn (cond worn (responding.worn_step world.responder) (responding.hears_packet world.responder (responding.next_draw world.responder) packet (parsed packet)))
   given_by packet true e = rests world.responder.given (omega arith)
   given_by packet false e = parsed_goes packet (parsed packet) e
 
