@@ -65,7 +65,7 @@ own_of e eid (g ∷ older) = concerns eid g (run_of e older) ++ own_of e eid old
 
 -- Its one connection is that of the whole responder, if there is one.
 abbrev pub alone_at_first : RspEnd → (eid : ℕ) → Responding
-alone_at_first e eid = record { part = e.part; seed = []; first = 0; given = []; connections = option_to_list (connection_of eid (new_responding e).connections) }
+alone_at_first e eid = record { part = e.part; seed = []; first = 0; given = []; taken = []; connections = option_to_list (connection_of eid (new_responding e).connections) }
 
 abbrev pub after_own : (eid : ℕ) → Own → Responding → Responding
 after_own eid (Came packet d) r = (hears_packet r d packet (parsed packet)).after

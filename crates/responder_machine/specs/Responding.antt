@@ -33,12 +33,13 @@ pub record Connection : Type 0 where
   pub history : History
 
 -- A responder: how it is set up, the seed of its draws and the number of the first one, all packets that it was
--- given, the newest first, and its connections in the order of the requesters.
+-- given and all application data that it took, the newest first, and its connections in the order of the requesters.
 pub record Responding : Type 0 where
   pub part : RspPart
   pub seed : List ℕ
   pub first : ℕ
   pub given : List (List ℕ)
+  pub taken : List (List ℕ)
   pub connections : List Connection
 
 -- A connection with a requester from which nothing was taken yet.
@@ -47,7 +48,7 @@ new_connection part q = record { setup = towards part q; history = [] }
 
 -- The responder that was given nothing yet, with a connection for each requester that it knows.
 abbrev pub new_responding : RspEnd → Responding
-new_responding e = record { part = e.part; seed = e.seed; first = e.first; given = []; connections = map (new_connection e.part) e.known }
+new_responding e = record { part = e.part; seed = e.seed; first = e.first; given = []; taken = []; connections = map (new_connection e.part) e.known }
 
 -- ---- Which connection. The end points of the requesters differ.
 
@@ -104,6 +105,19 @@ abbrev pub data_of : Outcome → Option (SessionId × List ℕ)
 data_of (Adds (Sealed tag sealed t reply d)) = data_in sealed t.effect
 data_of _ = None
 
+-- Application data that were just taken, in front of the others.
+abbrev pub with_taken : Option (SessionId × List ℕ) → List (List ℕ) → List (List ℕ)
+with_taken None others = others
+with_taken (Some new) others = new.1 ∷ others
+
+-- The data of the last application message that was taken, over all connections; no bytes before the first.
+abbrev pub last_data : Responding → List ℕ
+last_data r = first_or_none r.taken
+  where
+    first_or_none : List (List ℕ) → List ℕ
+    first_or_none [] = []
+    first_or_none (bytes ∷ others) = bytes
+
 -- A whole request of type 5 or 6 has this outcome, and its answer goes back by the route reversed.
 abbrev pub answers : Responding → Connection → List ℕ → RouteFields → List ℕ → Outcome → RspStep
 answers r c packet route body outcome = record {
@@ -111,7 +125,7 @@ answers r c packet route body outcome = record {
   sent = packets_to c.setup.peer c.setup.eid false route.tag c.setup.unit (body_of outcome);
   taken = data_of outcome;
   acts = acts_of c.setup c.history body outcome;
-  after = record r { given = packet ∷ r.given; connections = with_history c.setup.peer (λ h. after h outcome) r.connections };
+  after = record r { given = packet ∷ r.given; taken = with_taken (data_of outcome) r.taken; connections = with_history c.setup.peer (λ h. after h outcome) r.connections };
 }
 
 -- A body that is whole, while this draw stands next: it has to be a request, of a known type.

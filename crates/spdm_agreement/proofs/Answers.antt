@@ -27,7 +27,7 @@ use Rattle.world_machine.specs.Chance.{NoChance}
 use Rattle.spdm_machine.specs.Packets.{gathered_from, body_type, wear_limit}
 use Rattle.requester_machine.specs.Requesting.{Requesting}
 use Rattle.responder_machine.specs.Responding as responding
-use Rattle.responder_machine.specs.Responding.{Connection, Responding, RspStep, connection_of, changed, with_history, all_draws, responder_hears, ignores, answers, reply_fault_of, queues, ticks}
+use Rattle.responder_machine.specs.Responding.{Connection, Responding, RspStep, connection_of, changed, with_history, all_draws, responder_hears, ignores, answers, with_taken, reply_fault_of, queues, ticks}
 use Rattle.world_machine.specs.World.{World, SentPacket}
 use Rattle.spdm_agreement.specs.Claims.{IsReached}
 use Rattle.spdm_agreement.proofs.Fits.{IsPair, IsServing, Fits, same_key}
@@ -78,7 +78,7 @@ module _ (KeptAsked : ReqSetup → asked.History → Type 0) (KeptServed : RspSe
   goes_by : (x : Connection) → IsIn connections x → (packet body : List ℕ) (o : Outcome) → serving_made.IsMade x.setup (after x.history o)
       → draws_of x.history ≤ draws_of (after x.history o) → draws_of (after x.history o) ≤ draws_of x.history + 1
       → ((a : Requesting) → IsPair world.requesters connections a x → ServedStep KeptServed x.setup x.history (state_of a x world.log).asked world.log body (responding.next_draw world.responder) o)
-      → Goes (acts_of x.setup x.history body o) (record world.responder { given = packet ∷ world.responder.given; connections = with_history x.setup.peer (λ h. after h o) connections })
+      → Goes (acts_of x.setup x.history body o) (record world.responder { given = packet ∷ world.responder.given; taken = with_taken (responding.data_of o) world.responder.taken; connections = with_history x.setup.peer (λ h. after h o) connections })
   goes_by x is packet body o made more most steps sent n =
       let old = k.serves x is in
       let a = k.apart.paired x is in
@@ -89,13 +89,13 @@ module _ (KeptAsked : ReqSetup → asked.History → Type 0) (KeptServed : RspSe
       let number = draw_number in
       let count = draws_changed (λ h. after h o) connections x k.apart.peers is in
       let wear = k.wear in
-      responder_goes KeptAsked KeptServed world k x is (packet ∷ world.responder.given) (λ h. after h o) (acts_of x.setup x.history body o) n sent
+      responder_goes KeptAsked KeptServed world k x is (packet ∷ world.responder.given) (with_taken (responding.data_of o) world.responder.taken) (λ h. after h o) (acts_of x.setup x.history body o) n sent
       (omega arith)
       (omega arith)
       (record {
         setup = old.setup;
         made = made;
-        kept = step.keeps (changes.now_reached KeptAsked KeptServed world k x is (packet ∷ world.responder.given) (λ h. after h o) (acts_of x.setup x.history body o) n runs a.0 pair);
+        kept = step.keeps (changes.now_reached KeptAsked KeptServed world k x is (packet ∷ world.responder.given) (with_taken (responding.data_of o) world.responder.taken) (λ h. after h o) (acts_of x.setup x.history body o) n runs a.0 pair);
         fresh = omega arith;
       })
       runs
@@ -151,7 +151,7 @@ module _ (KeptAsked : ReqSetup → asked.History → Type 0) (KeptServed : RspSe
       let count = draws_changed (λ h. Queued bytes ∷ h) connections x k.apart.peers is in
       let wear = k.wear in
       let fresh = old.fresh in
-      responder_goes KeptAsked KeptServed world k x is world.responder.given (λ h. Queued bytes ∷ h) [] n sent
+      responder_goes KeptAsked KeptServed world k x is world.responder.given world.responder.taken (λ h. Queued bytes ∷ h) [] n sent
       (omega arith)
       (omega arith)
       (record { setup = old.setup; made = (short, room, old.made); kept = (waits x.setup x.history old.made old.kept).0 bytes; fresh = omega arith })

@@ -100,7 +100,7 @@ draws_changed change (d ∷ others) c apart m = elim m [
 -- ---- One connection goes on.
 
 module _ (KeptAsked : ReqSetup → asked.History → Type 0) (KeptServed : RspSetup → served.History → Type 0) (world : World) (k : Fits KeptAsked KeptServed world)
-    (c : Connection) (is : IsIn world.responder.connections c) (given : List (List ℕ)) (change : History → History) (acts : List Act) (n : NoChance (acts ++ world.log)) where
+    (c : Connection) (is : IsIn world.responder.connections c) (given taken : List (List ℕ)) (change : History → History) (acts : List Act) (n : NoChance (acts ++ world.log)) where
   abbrev cs : List Connection
   cs = world.responder.connections
 
@@ -108,7 +108,7 @@ module _ (KeptAsked : ReqSetup → asked.History → Type 0) (KeptServed : RspSe
   next = with_history c.setup.peer change cs
 
   abbrev later : List SentPacket → World
-  later sent = record { requesters = world.requesters; responder = record world.responder { given = given; connections = next }; sent = sent; log = acts ++ world.log }
+  later sent = record { requesters = world.requesters; responder = record world.responder { given = given; taken = taken; connections = next }; sent = sent; log = acts ++ world.log }
 
   -- The run of this connection and its requester.
   abbrev Runs : Type 0
