@@ -3,6 +3,10 @@
 //! are in `specs/`, and each function below has a law about them as its contract.
 #![tactic(auto)]
 
+mod bound_laws;
+
+pub use bound_laws::{counts_are_bounded, sessions_are_bounded};
+
 ghost use Rattle.requester_machine.specs.Laws.{CommandIsAllowed, BodyIsAllowed, RetryAddsNothing, FaultAddsNothing, IgnoredAddsNothing, ClearAddsNothingInSession, UnopenedAddsNothing, LiveIdsAreFew, NewSessionIsFresh, SessionsAreInOrder, NumbersAreCounts, UpdateBeginsAnew, TakenTagsAreRight};
 ghost use Rattle.requester_machine.specs.ResponseLaws.{ResponsesAreCounts, UpdateAllBeginsAnew};
 
