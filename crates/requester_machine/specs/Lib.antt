@@ -19,3 +19,4 @@ pub mod Order
 pub mod Laws
 pub mod ResponseLaws
 pub mod Bounds
+pub mod AcceptedLaws

@@ -3,8 +3,10 @@
 //! are in `specs/`, and each function below has a law about them as its contract.
 #![tactic(auto)]
 
+mod accepted_laws;
 mod bound_laws;
 
+pub use accepted_laws::{accepted_is_verified, taken_record_is_opened};
 pub use bound_laws::{counts_are_bounded, sessions_are_bounded};
 
 ghost use Rattle.requester_machine.specs.Laws.{CommandIsAllowed, BodyIsAllowed, RetryAddsNothing, FaultAddsNothing, IgnoredAddsNothing, ClearAddsNothingInSession, UnopenedAddsNothing, LiveIdsAreFew, NewSessionIsFresh, SessionsAreInOrder, NumbersAreCounts, UpdateBeginsAnew, TakenTagsAreRight};
