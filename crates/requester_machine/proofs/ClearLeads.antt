@@ -54,7 +54,8 @@ pub data ClearLeads (q : ReqSetup) (h : History) (f : Free) (aim : Aim) (m : Lis
   ByStop : (why : Stop) → negotiates asked ≡ true → led ≡ stopped why → ClearLeads q h f aim m asked led
   ByVersion : (answer : List ℕ) → asked ≡ GetVersion → led ≡ goes_on (Answers GetVersion answer) (plain_sent h (GetCapabilities (requester_caps q))) → ClearLeads q h f aim m asked led
   ByCaps : (caps theirs : Caps) (answer : List ℕ) (common : Common) (offer : OfferMessage) → asked ≡ GetCapabilities caps → IsRead q h aim m (GetCapabilities caps) answer (Capabilities theirs)
-      → common_of caps theirs ≡ Ok common → led ≡ goes_on (Answers (GetCapabilities caps) answer) (request_sent common h (NegotiateAlgorithms offer)) → ClearLeads q h f aim m asked led
+      → common_of caps theirs ≡ Ok common → offer_of q.suites common.to_responder.transfer ≡ Some offer → is_too_long common (canonical_request (NegotiateAlgorithms offer)) ≡ false
+      → led ≡ goes_on (Answers (GetCapabilities caps) answer) (request_sent common h (NegotiateAlgorithms offer)) → ClearLeads q h f aim m asked led
   ByChoice : (offer : OfferMessage) (answer : List ℕ) → asked ≡ NegotiateAlgorithms offer → led ≡ is_done finished.Connected (Answers (NegotiateAlgorithms offer) answer) → ClearLeads q h f aim m asked led
   ByMeasured : (op : ℕ) (answer : List ℕ) (finish : Finished) → asked ≡ GetMeasurements op → led ≡ is_done finish (Answers (GetMeasurements op) answer) → ClearLeads q h f aim m asked led
   ByExchange : (exchange : ExchangeMessage) (answer : List ℕ) (rsp : ExchangeRspMessage) → asked ≡ PskExchange exchange → IsRead q h aim m (PskExchange exchange) answer (PskExchangeRsp rsp)
@@ -97,17 +98,17 @@ module _ (q : ReqSetup) (h : History) (f : Free) (aim : Aim) (m : List ℕ) wher
   version_leads answer None = ByStop stop.NoVersion refl refl
   version_leads answer (Some entry) = ByVersion answer refl refl
 
-  offer_leads : (caps theirs : Caps) (answer : List ℕ) (common : Common) (offer : Option OfferMessage) → IsRead q h aim m (GetCapabilities caps) answer (Capabilities theirs) → common_of caps theirs ≡ Ok common
+  offer_leads : (caps theirs : Caps) (answer : List ℕ) (common : Common) (offer : Option OfferMessage) → IsRead q h aim m (GetCapabilities caps) answer (Capabilities theirs) → common_of caps theirs ≡ Ok common → offer_of q.suites common.to_responder.transfer ≡ offer
       → Leads (GetCapabilities caps) (offer_led h (Answers (GetCapabilities caps) answer) common offer)
-  offer_leads caps theirs answer common None read is = ByStop stop.NoChoice refl refl
-  offer_leads caps theirs answer common (Some offer) read is =
-      either (Leads (GetCapabilities caps)) (is_too_long common (canonical_request (NegotiateAlgorithms offer))) (stopped stop.TooLong) (goes_on (Answers (GetCapabilities caps) answer) (request_sent common h (NegotiateAlgorithms offer)))
-      (ByStop stop.TooLong refl refl) (ByCaps caps theirs answer common offer refl read is refl)
+  offer_leads caps theirs answer common None read is offered = ByStop stop.NoChoice refl refl
+  offer_leads caps theirs answer common (Some offer) read is offered =
+      tested (Leads (GetCapabilities caps)) (is_too_long common (canonical_request (NegotiateAlgorithms offer))) (stopped stop.TooLong) (goes_on (Answers (GetCapabilities caps) answer) (request_sent common h (NegotiateAlgorithms offer)))
+      (λ long. ByStop stop.TooLong refl refl) (λ short. ByCaps caps theirs answer common offer refl read is offered short refl)
 
   caps_leads : (caps theirs : Caps) (answer : List ℕ) (common : Result Common CapsFault) → IsRead q h aim m (GetCapabilities caps) answer (Capabilities theirs) → common_of caps theirs ≡ common
       → Leads (GetCapabilities caps) (caps_led q h (Answers (GetCapabilities caps) answer) common)
   caps_leads caps theirs answer (Err fault) read is = ByStop (stop.Caps fault) refl refl
-  caps_leads caps theirs answer (Ok common) read is = offer_leads caps theirs answer common (offer_of q.suites common.to_responder.transfer) read is
+  caps_leads caps theirs answer (Ok common) read is = offer_leads caps theirs answer common (offer_of q.suites common.to_responder.transfer) read is refl
 
   algorithms_leads : (offer : OfferMessage) (answer : List ℕ) (choice : Option Choice) → Leads (NegotiateAlgorithms offer) (algorithms_led (Answers (NegotiateAlgorithms offer) answer) choice)
   algorithms_leads offer answer None = ByStop stop.NoChoice refl refl

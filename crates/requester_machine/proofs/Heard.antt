@@ -147,7 +147,7 @@ verified q h f body sent asked led exchange answer waits asks (BySend handle num
 verified q h f body sent asked led exchange answer waits asks (ByGet handle number before c aims none more is) brings = absurd (cc (ap (λ (l : Led). l.effect) is))
 verified q h f body sent asked led exchange answer waits asks (ByStop why was is) brings = absurd (cc (ap (λ (l : Led). l.effect) is))
 verified q h f body sent asked led exchange answer waits asks (ByVersion its was is) brings = absurd (cc (ap (λ (l : Led). l.effect) is))
-verified q h f body sent asked led exchange answer waits asks (ByCaps caps theirs its common offer was read common_is is) brings = absurd (cc (ap (λ (l : Led). l.effect) is))
+verified q h f body sent asked led exchange answer waits asks (ByCaps caps theirs its common offer was read common_is offered short is) brings = absurd (cc (ap (λ (l : Led). l.effect) is))
 verified q h f body sent asked led exchange answer waits asks (ByChoice offer its was is) brings = absurd (cc (ap (λ (l : Led). l.effect) is))
 verified q h f body sent asked led exchange answer waits asks (ByMeasured op its finish was is) brings = absurd (cc (ap (λ (l : Led). l.effect) is))
 verified q h f body sent asked led exchange answer waits asks (ByExchange its_exchange its rsp was read right is) brings =

@@ -20,3 +20,4 @@ pub mod Laws
 pub mod ResponseLaws
 pub mod Bounds
 pub mod AcceptedLaws
+pub mod UnderWay
