@@ -21,3 +21,4 @@ pub mod ResponseLaws
 pub mod Bounds
 pub mod AcceptedLaws
 pub mod UnderWay
+pub mod SpentLaws
