@@ -1,5 +1,5 @@
 -- What a clear message leads to that came to a clear request, kind by kind.
-use Rattle.std.proofs.Common.{refl, ◌≡◌, ◌+◌, ℕ, List, [], ◌∷◌, true, false, Bool, Option, Some, None, subst}
+use Rattle.std.proofs.Common.{refl, ◌≡◌, ◌+◌, ℕ, List, [], ◌∷◌, true, false, Bool, Option, Some, None, subst, ap, sym, ◌∙◌}
 use Rattle.std.specs.Prelude.{⊤, ◌==◌, ◌&&◌, if◌then◌else◌, Result, Ok, Err, bytes_eq, unwrap_or, slice_index}
 use Rattle.std.proofs.lemmas.Slice.Eq.{bytes_eq-Decides}
 use Rattle.chunking.specs.Collecting.{joined_with}
@@ -201,3 +201,32 @@ pub clear_leads : (q : ReqSetup) (h : History) (f : Free) (aim : Aim) (m : List 
 unfolding clear_led
 clear_leads q h f aim m asked led asks is =
     in_result q h f aim m asked (carried_led q h f asked (carried_by q h m aim)) led is (carried_leads q h f aim m asked (carried_by q h m aim) refl (further_by q h f aim m asked asks))
+
+-- ---- The answer to PSK_EXCHANGE.
+
+pub record IsExchanged (q : ReqSetup) (h : History) (f : Free) (aim : Aim) (m : List ℕ) (asked : RequestMessage) (led : Led) (exchange : ExchangeMessage) (answer : List ℕ) : Type 0 where
+  pub asks : asked ≡ PskExchange exchange
+  pub rsp : ExchangeRspMessage
+  pub read : IsRead q h aim m (PskExchange exchange) answer (PskExchangeRsp rsp)
+  pub right : rsp.verify ≡ answer_verify q.psk (with_answer h exchange answer)
+  pub is : led ≡ goes_on (Answers (PskExchange exchange) answer) (finish_sent q h exchange.req_id (with_answer h exchange answer) f.pad)
+
+-- What a clear message leads to answers PSK_EXCHANGE only so.
+pub exchanged : (q : ReqSetup) (h : History) (f : Free) (aim : Aim) (m : List ℕ) (asked : RequestMessage) (led : Led) (exchange : ExchangeMessage) (answer : List ℕ)
+    → ClearLeads q h f aim m asked led → led.effect ≡ Answers (PskExchange exchange) answer → IsExchanged q h f aim m asked led exchange answer
+exchanged q h f aim m asked led exchange answer (ByRefusal code is) brings = absurd (cc (ap (λ (l : Led). l.effect) is))
+exchanged q h f aim m asked led exchange answer (ByLarge handle may is) brings = absurd (cc (ap (λ (l : Led). l.effect) is))
+exchanged q h f aim m asked led exchange answer (BySend handle number aims more is) brings = absurd (cc (ap (λ (l : Led). l.effect) is))
+exchanged q h f aim m asked led exchange answer (ByGet handle number before c aims none more is) brings = absurd (cc (ap (λ (l : Led). l.effect) is))
+exchanged q h f aim m asked led exchange answer (ByStop why was is) brings = absurd (cc (ap (λ (l : Led). l.effect) is))
+exchanged q h f aim m asked led exchange answer (ByVersion its was is) brings = absurd (cc (ap (λ (l : Led). l.effect) is))
+exchanged q h f aim m asked led exchange answer (ByCaps caps theirs its common offer was read common_is offered short is) brings = absurd (cc (ap (λ (l : Led). l.effect) is))
+exchanged q h f aim m asked led exchange answer (ByChoice offer its was is) brings = absurd (cc (ap (λ (l : Led). l.effect) is))
+exchanged q h f aim m asked led exchange answer (ByMeasured op its finish was is) brings = absurd (cc (ap (λ (l : Led). l.effect) is))
+exchanged q h f aim m asked led exchange answer (ByExchange own its rsp was read right is) brings =
+    let same : Answers (PskExchange own) its ≡ Answers (PskExchange exchange) answer = sym (ap (λ (l : Led). l.effect) is) ∙ brings in
+    let own_is : own ≡ exchange = cc same in
+    let its_is : its ≡ answer = cc same in
+    subst (λ (x : ExchangeMessage). IsExchanged q h f aim m asked led x answer) own_is
+    (subst (λ (x : List ℕ). IsExchanged q h f aim m asked led own x) its_is
+    (record { asks = was; rsp = rsp; read = read; right = right; is = is }))

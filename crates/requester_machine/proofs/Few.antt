@@ -111,7 +111,7 @@ done_few false sealed inner effect ask s stays more few = few
 
 pub next_few : (b : Bool) (sealed inner : List ℕ) (effect : Effect) (ask next : Ask) (inner' sealed' : List ℕ) (s : Steps) → ends effect ≡ false
     → (b ≡ true → FewFor ask (request_next s) (response_next s) → IsTaken sealed inner effect ask s × (request_next (Took sealed inner effect ∷ s) ≤ 65535)
-      × FewFor next (request_next (Took sealed inner effect ∷ s) + 1) (response_next (Took sealed inner effect ∷ s)))
+    × FewFor next (request_next (Took sealed inner effect ∷ s) + 1) (response_next (Took sealed inner effect ∷ s)))
     → Few (if b then ForRecord ask else Rests) s
     → Few (if b then ForRecord next else Rests) (if b then (if b then when_live (after_record sealed inner effect s) (Asked next inner' sealed') else after_record sealed inner effect s) else s)
 next_few true sealed inner effect ask next inner' sealed' s stays more few =
@@ -173,9 +173,10 @@ present_number s ask present p = rw present p
 pub answered_few : (sealed inner : List ℕ) (effect : Effect) (ask : Ask) (s : Steps) → may_bring effect ask ≡ true → updates effect ≡ false → waiting_ask s ≡ Some ask → FewFor ask (request_next s) (response_next s)
     → IsTaken sealed inner effect ask s × FewBy Rests (Took sealed inner effect ∷ s)
 answered_few sealed inner effect ask s may other waits few =
-    let room = has_room effect ask (request_next s) (response_next s) may other few in
-    (record { waits = waits; number = present_number s ask room.present room.taken },
-      rests_by (finishes effect) (updates effect) (updates_all effect) (request_next s) (response_next s) room.sealed room.taken other (no_update_all effect other))
+    let room = has_room effect ask (request_next s) (response_next s) may other few in (
+      record { waits = waits; number = present_number s ask room.present room.taken },
+      rests_by (finishes effect) (updates effect) (updates_all effect) (request_next s) (response_next s) room.sealed room.taken other (no_update_all effect other),
+    )
 
 -- With the answer to an update VerifyNewKey is sent.
 update_number : (s : Steps) (all : Bool) → FewFor (AskUpdate all) (request_next s) (response_next s) → answer_number s (AskUpdate all) ≤ 65534

@@ -222,7 +222,7 @@ module _ (q : ReqSetup) (h : History) (f : Free) (of id : ℕ) (ask : Ask) (seal
       subst FewRecord (sym is)
       (next_few (of == id) sealed (answer_inner q.psk (session_of of h) ask sealed) Nothing (AskChunk op handle number before) (AskChunk op c.handle (c.number + 1) (c ∷ before)) _ _ (session_of id h) refl
       (λ same g. chunk_few sealed (answer_inner q.psk (session_of of h) ask sealed) op handle number op c.handle (c.number + 1) before (c ∷ before) (session_of id h) (here (AskChunk op handle number before) asks same)
-        (omega (arith, n, n')) v.few g)
+      (omega (arith, n, n')) v.few g)
       (subst (λ (a : Ask). Few (if of == id then ForRecord a else Rests) (session_of id h)) asks few))
 
 pub record_few : (q : ReqSetup) (h : History) (f : Free) (of id : ℕ) (ask : Ask) (sealed : List ℕ) (led : Led) → waiting_ask (session_of of h) ≡ Some ask → AreBehind q ask → RecordLeads q h f (came_to q h of ask sealed) ask led

@@ -1,5 +1,5 @@
 -- What a body was that added an entry, and what an entry of a made history was led to by.
-use Rattle.std.proofs.Common.{refl, ◌≡◌, ◌∙◌, ◌⊎◌, ℕ, List, [], ◌∷◌, true, false, Bool, Option, Some, None, ap, sym, subst, inl, inr, eqb-true, zero, suc}
+use Rattle.std.proofs.Common.{refl, ◌≡◌, ◌∙◌, ◌⊎◌, ℕ, List, [], ◌∷◌, true, false, Bool, Option, Some, None, ap, sym, inl, inr, eqb-true, zero, suc}
 use Rattle.std.specs.Prelude.{◌||◌, not, drop, if◌then◌else◌, Result, Ok, Err, unwrap_or}
 use Rattle.std.proofs.lemmas.Bool.{false≢true}
 use Rattle.std.proofs.lemmas.Option.{none-some}
@@ -25,8 +25,7 @@ use Rattle.requester_machine.specs.Order.{may_bring}
 use Rattle.requester_machine.specs.Records.{answer_fault}
 use Rattle.requester_machine.specs.Session.{session_of, ends}
 use Rattle.requester_machine.specs.Shown.{effect_in}
-use Rattle.requester_machine.proofs.ClearLeads.{ClearLeads, clear_leads}
-use Rattle.requester_machine.proofs.ClearLeads.ClearLeads.{ByRefusal, ByLarge, BySend, ByGet, ByStop, ByVersion, ByCaps, ByChoice, ByMeasured, ByExchange}
+use Rattle.requester_machine.proofs.ClearLeads.{IsExchanged, clear_leads, exchanged}
 use Rattle.requester_machine.proofs.RecordLeads.{RecordLeads, record_leads}
 use Rattle.requester_machine.proofs.RecordLeads.RecordLeads.{ByEnd, ByAnswer, ByUpdate, ByFirst, ByChunk}
 
@@ -138,25 +137,10 @@ heard q h owner tag body f d entry is = heard_by q h owner tag body f d entry (o
 
 -- ---- The answer to PSK_EXCHANGE.
 
--- What a clear message leads to answers PSK_EXCHANGE only with the right verify data.
 verified : (q : ReqSetup) (h : History) (f : Free) (body : List ℕ) (sent : Sent) (asked : RequestMessage) (led : Led) (exchange : ExchangeMessage) (answer : List ℕ)
-    → outstanding h ≡ Some sent → asked_in sent.aim ≡ Some asked → ClearLeads q h f sent.aim (drop 1 body) asked led → led.effect ≡ Answers (PskExchange exchange) answer → IsVerified q h body exchange answer
-verified q h f body sent asked led exchange answer waits asks (ByRefusal code is) brings = absurd (cc (ap (λ (l : Led). l.effect) is))
-verified q h f body sent asked led exchange answer waits asks (ByLarge handle may is) brings = absurd (cc (ap (λ (l : Led). l.effect) is))
-verified q h f body sent asked led exchange answer waits asks (BySend handle number aims more is) brings = absurd (cc (ap (λ (l : Led). l.effect) is))
-verified q h f body sent asked led exchange answer waits asks (ByGet handle number before c aims none more is) brings = absurd (cc (ap (λ (l : Led). l.effect) is))
-verified q h f body sent asked led exchange answer waits asks (ByStop why was is) brings = absurd (cc (ap (λ (l : Led). l.effect) is))
-verified q h f body sent asked led exchange answer waits asks (ByVersion its was is) brings = absurd (cc (ap (λ (l : Led). l.effect) is))
-verified q h f body sent asked led exchange answer waits asks (ByCaps caps theirs its common offer was read common_is offered short is) brings = absurd (cc (ap (λ (l : Led). l.effect) is))
-verified q h f body sent asked led exchange answer waits asks (ByChoice offer its was is) brings = absurd (cc (ap (λ (l : Led). l.effect) is))
-verified q h f body sent asked led exchange answer waits asks (ByMeasured op its finish was is) brings = absurd (cc (ap (λ (l : Led). l.effect) is))
-verified q h f body sent asked led exchange answer waits asks (ByExchange its_exchange its rsp was read right is) brings =
-    let same : Answers (PskExchange its_exchange) its ≡ Answers (PskExchange exchange) answer = sym (ap (λ (l : Led). l.effect) is) ∙ brings in
-    let exchange_is : its_exchange ≡ exchange = cc same in
-    let answer_is : its ≡ answer = cc same in
-    subst (λ (x : ExchangeMessage). IsVerified q h body x answer) exchange_is
-    (subst (λ (x : List ℕ). IsVerified q h body its_exchange x) answer_is
-    (record { sent = sent; waits = waits; asks = asks ∙ ap Some was; place = read.place; whole = read.whole; rsp = rsp; reads = read.reads; right = right }))
+    → outstanding h ≡ Some sent → asked_in sent.aim ≡ Some asked → IsExchanged q h f sent.aim (drop 1 body) asked led exchange answer → IsVerified q h body exchange answer
+verified q h f body sent asked led exchange answer waits asks x =
+    record { sent = sent; waits = waits; asks = asks ∙ ap Some x.asks; place = x.read.place; whole = x.read.whole; rsp = x.rsp; reads = x.read.reads; right = x.right }
 
 -- No record answers PSK_EXCHANGE.
 no_exchange : (effect : Effect) (ask : Ask) (exchange : ExchangeMessage) (answer : List ℕ) → may_bring effect ask ≡ true → effect ≡ Answers (PskExchange exchange) answer → ⊥
@@ -176,7 +160,8 @@ record_effect q h f id ask sealed led exchange answer (ByChunk op handle number 
 exchange_heard : (q : ReqSetup) (h : History) (tag : ℕ) (body : List ℕ) (f : Free) (d : Draw) (entry : Entry) (exchange : ExchangeMessage) (answer : List ℕ)
     → Heard q h tag body f d entry → effect_in entry ≡ Answers (PskExchange exchange) answer → IsVerified q h body exchange answer
 exchange_heard q h tag body f d entry exchange answer (inl t) brings =
-    verified q h f body t.sent t.asked t.led exchange answer t.waits t.asks (clear_leads q h f t.sent.aim (drop 1 body) t.asked t.led t.asks t.leads) (ap effect_in (sym t.is) ∙ brings)
+    verified q h f body t.sent t.asked t.led exchange answer t.waits t.asks
+    (exchanged q h f t.sent.aim (drop 1 body) t.asked t.led exchange answer (clear_leads q h f t.sent.aim (drop 1 body) t.asked t.led t.asks t.leads) (ap effect_in (sym t.is) ∙ brings))
 exchange_heard q h tag body f d entry exchange answer (inr o) brings =
     absurd (record_effect q h f o.1.id o.1.ask (drop 1 body) (or_lost (came_to q h o.1.id o.1.ask (drop 1 body)) (inner_led q h f (came_to q h o.1.id o.1.ask (drop 1 body)) o.1.ask)) exchange answer
     (record_leads q h f (came_to q h o.1.id o.1.ask (drop 1 body)) o.1.ask) (ap effect_in (sym o.1.is) ∙ brings))

@@ -87,6 +87,9 @@ pub request_waits : (q : ReqSetup) (h : History) (common : Common) (asked : Requ
     → IsOutstanding q (later (request_sent common h asked)) (request_sent common h asked).content (request_sent common h asked).aim
 request_waits q h common asked later here terms least short =
     tested (λ (x : Sent). IsOutstanding q (later x) x.content x.aim) (nat_lt common.to_responder.transfer (length (canonical_request asked))) (piece_sent common h asked (next_handle h) 0) (plain_sent h asked)
-    (λ large. (here (piece_sent common h asked (next_handle h) 0) refl, λ s.
-      subst (λ (c : Common). IsPiece c asked (next_handle h) 0 (piece_sent common h asked (next_handle h) 0).content) (sym (terms (piece_sent common h asked (next_handle h) 0) s)) (first_piece common asked (next_handle h) (least s) (short s) large)))
+    (λ large. (
+      here (piece_sent common h asked (next_handle h) 0) refl,
+      λ s.
+          subst (λ (c : Common). IsPiece c asked (next_handle h) 0 (piece_sent common h asked (next_handle h) 0).content) (sym (terms (piece_sent common h asked (next_handle h) 0) s)) (first_piece common asked (next_handle h) (least s) (short s) large),
+    ))
     (λ small. (here (plain_sent h asked) refl, refl))

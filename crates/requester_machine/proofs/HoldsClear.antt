@@ -40,7 +40,6 @@ use Rattle.requester_machine.proofs.Keeps.{Keeps, behind_clear}
 use Rattle.requester_machine.proofs.Pieces.{next_piece}
 
 module _ (q : ReqSetup) (h : History) (tag : ℕ) (m : List ℕ) (d : Draw) where
-
   keeps : (led : Led) (id : ℕ) → Keeps (session_of id h) (session_of id (TookClear tag m led d ∷ h))
   unfolding session_of
   keeps led id = behind_clear id led.effect led.next (session_of id h)
@@ -178,16 +177,19 @@ module _ (q : ReqSetup) (h : History) (tag : ℕ) (m : List ℕ) (d : Draw) wher
   exchange_holds f exchange answer a k = record {
     live = λ id. live_stays h (TookClear tag m led d ∷ h) id (keeps led id) refl refl (k.live id);
     known = k.known;
-    waits = (record {
-      older = with_answer h exchange answer;
-      inner = inner;
-      sealed = sealed_next q.psk (with_answer h exchange answer) inner f.pad;
-      pad = f.pad;
-      live = accepted_live (session_of exchange.req_id h) answer (ap is_live a.1);
-      steps = finish_steps (session_of exchange.req_id h) answer (Asked AskFinish inner (sealed_next q.psk (with_answer h exchange answer) inner f.pad)) (exchange.req_id == exchange.req_id) (eq-eqb exchange.req_id exchange.req_id refl) (ap is_live a.1);
-      content_is = refl;
-      sealed_is = refl;
-    }, tt);
+    waits = (
+      record {
+        older = with_answer h exchange answer;
+        inner = inner;
+        sealed = sealed_next q.psk (with_answer h exchange answer) inner f.pad;
+        pad = f.pad;
+        live = accepted_live (session_of exchange.req_id h) answer (ap is_live a.1);
+        steps = finish_steps (session_of exchange.req_id h) answer (Asked AskFinish inner (sealed_next q.psk (with_answer h exchange answer) inner f.pad)) (exchange.req_id == exchange.req_id) (eq-eqb exchange.req_id exchange.req_id refl) (ap is_live a.1);
+        content_is = refl;
+        sealed_is = refl;
+      },
+      tt,
+    );
   }
     where
       inner : List ℕ

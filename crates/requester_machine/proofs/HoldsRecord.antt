@@ -38,7 +38,6 @@ next_steps s took step false false stays is live = absurd (false≢true is)
 next_steps s took step false true stays is live = live_behind (when_live s took) step (took_live s took live)
 
 module _ (q : ReqSetup) (h : History) (f : Free) (tag id : ℕ) (ask : Ask) (sealed : List ℕ) (d : Draw) where
-
   abbrev Later : Led → Type 0
   Later led = Holds q (TookRecord tag id sealed (answer_inner q.psk (session_of id h) ask sealed) led d ∷ h)
 
@@ -62,16 +61,19 @@ module _ (q : ReqSetup) (h : History) (f : Free) (tag id : ℕ) (ask : Ask) (sea
       → Later (goes_on effect (record_sent q h id (with_record (came_to q h id ask sealed) effect) next text f.pad))
   unfolding session_of
   goes effect next text stays live behind k =
-      with_waits (goes_on effect (record_sent q h id (with_record (came_to q h id ask sealed) effect) next text f.pad)) k (record {
-        older = with_record (came_to q h id ask sealed) effect;
-        inner = text;
-        sealed = sealed_next q.psk (with_record (came_to q h id ask sealed) effect) text f.pad;
-        pad = f.pad;
-        live = took_live (session_of id h) (Took sealed (answer_inner q.psk (session_of id h) ask sealed) effect) live;
-        steps = next_steps (session_of id h) (Took sealed (answer_inner q.psk (session_of id h) ask sealed) effect) (Asked next text (sealed_next q.psk (with_record (came_to q h id ask sealed) effect) text f.pad)) (ends effect) (id == id) stays (eq-eqb id id refl) live;
-        content_is = refl;
-        sealed_is = refl;
-      }, behind)
+      with_waits (goes_on effect (record_sent q h id (with_record (came_to q h id ask sealed) effect) next text f.pad)) k (
+        record {
+          older = with_record (came_to q h id ask sealed) effect;
+          inner = text;
+          sealed = sealed_next q.psk (with_record (came_to q h id ask sealed) effect) text f.pad;
+          pad = f.pad;
+          live = took_live (session_of id h) (Took sealed (answer_inner q.psk (session_of id h) ask sealed) effect) live;
+          steps = next_steps (session_of id h) (Took sealed (answer_inner q.psk (session_of id h) ask sealed) effect) (Asked next text (sealed_next q.psk (with_record (came_to q h id ask sealed) effect) text f.pad)) (ends effect) (id == id) stays (eq-eqb id id refl) live;
+          content_is = refl;
+          sealed_is = refl;
+        },
+        behind,
+      )
 
   as_led : (x led : Led) → led ≡ x → Later x → Later led
   as_led x led is k = subst Later (sym is) k
