@@ -1,14 +1,18 @@
 -- The common capabilities, read off the messages that told them.
 use Rattle.std.proofs.Common.{refl, ◌≡◌, ◌∙◌, ◌≤◌, ◌<◌, ◌+◌, ◌^◌, ℕ, List, true, false, Bool, Option, Some, None, ap, sym, subst, length, arith, eqb-true, nat_lt}
-use Rattle.std.specs.Prelude.{◌==◌, ◌||◌, ◌&&◌, not, if◌then◌else◌, Result, Ok, Err, unwrap_or}
+use Rattle.std.specs.Prelude.{min, ◌==◌, ◌||◌, ◌&&◌, not, if◌then◌else◌, Result, Ok, Err, unwrap_or}
 use Rattle.std.specs.Result.{result_ok}
 use Rattle.std.proofs.lemmas.Bool.Decides.{nat_tests}
+use Rattle.std.proofs.lemmas.Grind.{common_steps}
 use Rattle.byteorder.specs.Endian.{little_number}
 use Rattle.negotiate.specs.Capabilities.{common_of, shared, psk_is, protects}
 use Rattle.negotiate.specs.declared.shared.Common.{Common}
 use Rattle.spdm_grammar.specs.declared.capabilities.Caps.{Caps}
 use Rattle.spdm_grammar.specs.declared.part_faults.CapsFault.{CapsFault}
 use Rattle.spdm_grammar.specs.declared.part_faults.CapsFault.TheVariants.{SizeTooSmall, SizesCrossed, NoPsk, NoProtection}
+use Rattle.spdm_grammar.specs.declared.names.TheConstants.{MIN_DATA_TRANSFER_SIZE, MAX_MESSAGE_SIZE}
+use Rattle.spdm_grammar.specs.declared.names.capability.TheConstants.{PSK_CAP, PSK_CAP_WITH_CONTEXT, HBEAT_CAP, KEY_UPD_CAP, CHUNK_CAP}
+use Rattle.spdm_grammar.specs.declared.names.response_code.TheConstants.{MEASUREMENTS, CAPABILITIES, ALGORITHMS, PSK_EXCHANGE_RSP, PSK_FINISH_RSP, HEARTBEAT_ACK, KEY_UPDATE_ACK, END_SESSION_ACK, ERROR, VERSION, CHUNK_SEND_ACK}
 use Rattle.spdm_grammar.specs.Fields.{FitsCaps}
 use Rattle.spdm_grammar.specs.Layout.{Layout, IsSpelling}
 use Rattle.spdm_grammar.specs.Layout.Layout.{Whole, Sized, Number, Optional, Bytes, Tables, UpTo, Remaining}
@@ -61,50 +65,50 @@ exchange_gives : (len : ℕ) (summary : Bool) → HasGiven IsExchangeRsp (psk_ex
 unfolding psk_exchange_rsp_layout
 exchange_gives len summary = record { are = λ _ _ _ _ _ _ _ _ _ _. tt }
 
-exchange_body : (len : ℕ) (summary : Bool) (said : ℕ) → response_body len summary said 0x66 ≡ psk_exchange_rsp_layout len summary
+exchange_body : (len : ℕ) (summary : Bool) (said : ℕ) → response_body len summary said PSK_EXCHANGE_RSP ≡ psk_exchange_rsp_layout len summary
 unfolding response_body
 exchange_body len summary said = refl
 
 -- All other bodies depend on no hash.
-alike : (len : ℕ) (summary : Bool) (said code : ℕ) → (code == 0x66) ≡ false → response_body len summary said code ≡ response_body 32 false said code
+alike : (len : ℕ) (summary : Bool) (said code : ℕ) → (code == PSK_EXCHANGE_RSP) ≡ false → response_body len summary said code ≡ response_body 32 false said code
 unfolding response_body
 alike len summary said code e = at (psk_exchange_rsp_layout len summary) ∙ sym (at (psk_exchange_rsp_layout 32 false))
   where
     body : Layout ResponseMessage → Bool → Layout ResponseMessage
     body exchange b =
-        if code == 0x04 then version_layout
-        else (if code == 0x7f then error_layout said
-        else (if code == 0x61 then capabilities_layout
-        else (if code == 0x63 then algorithms_layout
-        else (if code == 0x60 then measurements_layout
+        if code == VERSION then version_layout
+        else (if code == ERROR then error_layout said
+        else (if code == CAPABILITIES then capabilities_layout
+        else (if code == ALGORITHMS then algorithms_layout
+        else (if code == MEASUREMENTS then measurements_layout
         else (if b then exchange
-        else (if code == 0x67 then psk_finish_rsp_layout
-        else (if code == 0x68 then heartbeat_ack_layout
-        else (if code == 0x69 then key_update_ack_layout
-        else (if code == 0x6c then end_session_ack_layout
-        else (if code == 0x05 then chunk_send_ack_layout
+        else (if code == PSK_FINISH_RSP then psk_finish_rsp_layout
+        else (if code == HEARTBEAT_ACK then heartbeat_ack_layout
+        else (if code == KEY_UPDATE_ACK then key_update_ack_layout
+        else (if code == END_SESSION_ACK then end_session_ack_layout
+        else (if code == CHUNK_SEND_ACK then chunk_send_ack_layout
         else chunk_response_layout))))))))))
 
-    at : (exchange : Layout ResponseMessage) → body exchange (code == 0x66) ≡ body exchange false
+    at : (exchange : Layout ResponseMessage) → body exchange (code == PSK_EXCHANGE_RSP) ≡ body exchange false
     at exchange = ap (body exchange) e
 
-body_alike : (len : ℕ) (summary : Bool) (said code : ℕ) (theirs : Caps) (bytes : List ℕ) (b : Bool) → (code == 0x66) ≡ b → IsSpelling (response_body len summary said code) 2 (Capabilities theirs) bytes
+body_alike : (len : ℕ) (summary : Bool) (said code : ℕ) (theirs : Caps) (bytes : List ℕ) (b : Bool) → (code == PSK_EXCHANGE_RSP) ≡ b → IsSpelling (response_body len summary said code) 2 (Capabilities theirs) bytes
     → IsSpelling (response_body 32 false said code) 2 (Capabilities theirs) bytes
 body_alike len summary said code theirs bytes true e s =
     absurd (given IsExchangeRsp (psk_exchange_rsp_layout len summary) 2 (Capabilities theirs) bytes (exchange_gives len summary).are
-    (subst (λ (l : Layout ResponseMessage). IsSpelling l 2 (Capabilities theirs) bytes) (ap (response_body len summary said) (eqb-true code 0x66 e) ∙ exchange_body len summary said) s))
+    (subst (λ (l : Layout ResponseMessage). IsSpelling l 2 (Capabilities theirs) bytes) (ap (response_body len summary said) (eqb-true code PSK_EXCHANGE_RSP e) ∙ exchange_body len summary said) s))
 body_alike len summary said code theirs bytes false e s = subst (λ (l : Layout ResponseMessage). IsSpelling l 2 (Capabilities theirs) bytes) (alike len summary said code e) s
 
 any_hash : (len : ℕ) (m : List ℕ) (theirs : Caps) → response_reading len false m ≡ Ok (Capabilities theirs) → response_value m ≡ Some (Capabilities theirs)
 any_hash len m theirs e =
     let s : IsResponseSpelling len false (Capabilities theirs) m = read_spelling (response_layout len false) (front m) (Capabilities theirs) e in
     let t = s.5 in
-    let again : IsResponseSpelling 32 false (Capabilities theirs) m = (s.0, s.1, s.2, s.3, s.4, (t.0, t.1, t.2, t.3, t.4, body_alike len false (little_number 1 s.0) (little_number 1 t.0) theirs t.1 (little_number 1 t.0 == 0x66) refl t.5)) in
+    let again : IsResponseSpelling 32 false (Capabilities theirs) m = (s.0, s.1, s.2, s.3, s.4, (t.0, t.1, t.2, t.3, t.4, body_alike len false (little_number 1 s.0) (little_number 1 t.0) theirs t.1 (little_number 1 t.0 == PSK_EXCHANGE_RSP) refl t.5)) in
     ap result_ok (spelling_read (response_layout 32 false) 0 (Capabilities theirs) m again)
 
 -- ---- The own capabilities.
 
-flags_fit : (a b c : Bool) → protection_flags + 2 ^ 10 + ((if a then 2 ^ 13 else 0) + (if b then 2 ^ 14 else 0) + (if c then 2 ^ 17 else 0)) < 2 ^ 32
+flags_fit : (a b c : Bool) → protection_flags + PSK_CAP + ((if a then HBEAT_CAP else 0) + (if b then KEY_UPD_CAP else 0) + (if c then CHUNK_CAP else 0)) < 2 ^ 32
 flags_fit true true true = omega arith
 flags_fit true true false = omega arith
 flags_fit true false true = omega arith
@@ -158,20 +162,34 @@ neither false b is = (refl, is)
 at_least : (n m : ℕ) → nat_lt n m ≡ false → m ≤ n
 at_least n m is = grind (arith, nat_tests)
 
+-- A size is the told one or 4,096, whichever is less.
+within : (n : ℕ) → n ≤ MAX_MESSAGE_SIZE → min n MAX_MESSAGE_SIZE ≡ n
+within n small = grind (arith, common_steps)
+
+least_told : (n : ℕ) → MIN_DATA_TRANSFER_SIZE ≤ n → MIN_DATA_TRANSFER_SIZE ≤ min n MAX_MESSAGE_SIZE
+least_told n least = grind (arith, common_steps)
+
+both_told : (n m : ℕ) → n ≤ m → min n MAX_MESSAGE_SIZE ≤ min m MAX_MESSAGE_SIZE
+both_told n m ordered = grind (arith, common_steps)
+
+most_told : (n : ℕ) → min n MAX_MESSAGE_SIZE ≤ MAX_MESSAGE_SIZE
+most_told n = grind (arith, common_steps)
+
 -- What follows of the sizes.
-pub common_is : (q : ReqSetup) (theirs : Caps) (common : Common) → common_of (requester_caps q) theirs ≡ Ok common → IsCommon q common
-common_is q theirs common is =
-    let p = passed (nat_lt q.transfer 42 || nat_lt theirs.transfer 42) (nat_lt q.max q.transfer || nat_lt theirs.max theirs.transfer)
-    (not (psk_is 1 (requester_caps q).flags && psk_is 2 theirs.flags)) (not (protects (requester_caps q).flags && protects theirs.flags)) (shared (requester_caps q) theirs) common is in
-    let small = neither (nat_lt q.transfer 42) (nat_lt theirs.transfer 42) p.0 in
+pub common_is : (q : ReqSetup) (theirs : Caps) (common : Common) → HasSizes q → common_of (requester_caps q) theirs ≡ Ok common → IsCommon q common
+common_is q theirs common s is =
+    let p = passed (nat_lt q.transfer MIN_DATA_TRANSFER_SIZE || nat_lt theirs.transfer MIN_DATA_TRANSFER_SIZE) (nat_lt q.max q.transfer || nat_lt theirs.max theirs.transfer)
+    (not (psk_is PSK_CAP (requester_caps q).flags && psk_is PSK_CAP_WITH_CONTEXT theirs.flags)) (not (protects (requester_caps q).flags && protects theirs.flags)) (shared (requester_caps q) theirs) common is in
+    let small = neither (nat_lt q.transfer MIN_DATA_TRANSFER_SIZE) (nat_lt theirs.transfer MIN_DATA_TRANSFER_SIZE) p.0 in
     let crossed = neither (nat_lt q.max q.transfer) (nat_lt theirs.max theirs.transfer) p.1 in
     record {
       theirs = theirs;
       shared = is;
-      transfer = sym (ap (λ (c : Common). c.to_requester.transfer) p.2);
-      max = sym (ap (λ (c : Common). c.to_requester.max) p.2);
-      least = at_least q.transfer 42 small.0;
+      transfer = sym (ap (λ (c : Common). c.to_requester.transfer) p.2) ∙ within q.transfer s.transfer;
+      max = sym (ap (λ (c : Common). c.to_requester.max) p.2) ∙ within q.max s.max;
+      least = at_least q.transfer MIN_DATA_TRANSFER_SIZE small.0;
       ordered = at_least q.max q.transfer crossed.0;
-      their_least = subst (λ (c : Common). 42 ≤ c.to_responder.transfer) p.2 (at_least theirs.transfer 42 small.1);
-      their_ordered = subst (λ (c : Common). c.to_responder.transfer ≤ c.to_responder.max) p.2 (at_least theirs.max theirs.transfer crossed.1);
+      their_least = subst (λ (c : Common). MIN_DATA_TRANSFER_SIZE ≤ c.to_responder.transfer) p.2 (least_told theirs.transfer (at_least theirs.transfer MIN_DATA_TRANSFER_SIZE small.1));
+      their_ordered = subst (λ (c : Common). c.to_responder.transfer ≤ c.to_responder.max) p.2 (both_told theirs.transfer theirs.max (at_least theirs.max theirs.transfer crossed.1));
+      their_most = subst (λ (c : Common). c.to_responder.max ≤ MAX_MESSAGE_SIZE) p.2 (most_told theirs.max);
     }

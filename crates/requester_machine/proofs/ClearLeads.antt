@@ -23,6 +23,7 @@ use Rattle.spdm_grammar.specs.declared.event.Stop.TheVariants as stop
 use Rattle.spdm_grammar.specs.declared.malformed.Malformed.{Malformed}
 use Rattle.spdm_grammar.specs.declared.part_faults.CapsFault.{CapsFault}
 use Rattle.spdm_grammar.specs.declared.part_faults.ChunkFault.{ChunkFault}
+use Rattle.spdm_grammar.specs.declared.names.error_number.TheConstants.{LARGE_RESPONSE}
 use Rattle.requester_machine.specs.Setup.{ReqSetup, requester_caps}
 use Rattle.requester_machine.specs.Answers.{goes_on, is_done, is_refused, stopped, error_led, version_led, offer_led, caps_led, algorithms_led, measured_number, exchange_led, answer_led, answer_verify, with_answer, may_be_large}
 use Rattle.requester_machine.specs.Bodies.{error_in, first_cause}
@@ -91,8 +92,8 @@ module _ (q : ReqSetup) (h : History) (f : Free) (aim : Aim) (m : List ℕ) wher
 
   error_leads : (asked : RequestMessage) (code : ℕ) (extended : List ℕ) → Leads asked (error_led h asked code extended)
   error_leads asked code extended =
-      tested (Leads asked) (code == 0x0f && may_be_large asked && (connection_terms h).common.chunk) (goes_on Nothing (get_sent h asked (slice_index extended 0) 0 [])) (is_refused code (Refuses asked))
-      (λ is. ByLarge (slice_index extended 0) (and_second (code == 0x0f) (may_be_large asked) (and_first (code == 0x0f && may_be_large asked) (connection_terms h).common.chunk is)) refl) (λ is. ByRefusal code refl)
+      tested (Leads asked) (code == LARGE_RESPONSE && may_be_large asked && (connection_terms h).common.chunk) (goes_on Nothing (get_sent h asked (slice_index extended 0) 0 [])) (is_refused code (Refuses asked))
+      (λ is. ByLarge (slice_index extended 0) (and_second (code == LARGE_RESPONSE) (may_be_large asked) (and_first (code == LARGE_RESPONSE && may_be_large asked) (connection_terms h).common.chunk is)) refl) (λ is. ByRefusal code refl)
 
   version_leads : (answer : List ℕ) (entry : Option ℕ) → Leads GetVersion (version_led q h answer entry)
   version_leads answer None = ByStop stop.NoVersion refl refl

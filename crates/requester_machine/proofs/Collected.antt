@@ -6,6 +6,7 @@ use Rattle.chunking.specs.Collecting.{under_way, joined, told_by, told_size, siz
 use Rattle.spdm_grammar.specs.Message.{ChunkMessage}
 use Rattle.spdm_grammar.specs.declared.ChunkFault.{ChunkFault}
 use Rattle.spdm_grammar.specs.declared.ChunkFault.TheVariants.{WrongHandle, WrongNumber, TooLarge}
+use Rattle.spdm_grammar.specs.declared.names.TheConstants.{MAX_MESSAGE_SIZE}
 use Rattle.requester_machine.specs.ClearAnswers.{get_fault}
 use Rattle.requester_machine.specs.UnderWay.{AreNumbered, AreUnfinished, AreUnderWay}
 
@@ -32,13 +33,13 @@ not_too_large : (test : Bool) (rule : Option ChunkFault) → (if test then Some 
 not_too_large true rule e = absurd (cc)
 not_too_large false rule e = (refl, e)
 
-most : (max told : ℕ) → nat_lt (min max 4096) told ≡ false → told ≤ 4096
+most : (max told : ℕ) → nat_lt (min max MAX_MESSAGE_SIZE) told ≡ false → told ≤ MAX_MESSAGE_SIZE
 most max told small = grind (arith, common_steps)
 
 -- Of number 0.
-first_adds : (max : ℕ) (c : ChunkMessage) → c.last ≡ false → first_rule max c ≡ None → (told_by c ≤ 4096) × Adds (told_by c) 0 c
+first_adds : (max : ℕ) (c : ChunkMessage) → c.last ≡ false → first_rule max c ≡ None → (told_by c ≤ MAX_MESSAGE_SIZE) × Adds (told_by c) 0 c
 first_adds max c more e =
-    let parts = not_too_large (nat_lt (min max 4096) (told_by c)) (size_rule (told_by c) 0 c) e in
+    let parts = not_too_large (nat_lt (min max MAX_MESSAGE_SIZE) (told_by c)) (size_rule (told_by c) 0 c) e in
     (most max (told_by c) parts.0, adds (told_by c) 0 c more parts.1)
 
 -- Of another number.
@@ -60,7 +61,7 @@ number_of_later n m false is same = refl
 -- What is told and held with it.
 record Grown (before : List ChunkMessage) : Type 0 where
   unfinished : AreUnfinished before
-  told : told_size before ≤ 4096
+  told : told_size before ≤ MAX_MESSAGE_SIZE
   held : 26 * length before ≤ length (joined before)
 
 grown : (max : ℕ) (before : List ChunkMessage) (c : ChunkMessage) (b : Bool) → (c.number == 0) ≡ b → c.number ≡ length before → c.last ≡ false → Grown before

@@ -1,6 +1,6 @@
 -- What a made history holds: under which negotiation its sessions are, and what is outstanding. What each kind of entry
 -- does to it.
-use Rattle.std.proofs.Common.{refl, ◌≡◌, ◌∙◌, ◌≤◌, ℕ, true, false, Option, Some, None, sym, subst}
+use Rattle.std.proofs.Common.{refl, ◌≡◌, ◌∙◌, ◌≤◌, ◌<◌, ◌%◌, ℕ, true, false, Option, Some, None, sym, subst, arith}
 use Rattle.std.specs.Prelude.{⊤, nat_lt, length}
 use Rattle.std.proofs.lemmas.Bool.{false≢true}
 use Rattle.negotiate.specs.declared.shared.Common.{Common}
@@ -9,8 +9,9 @@ use Rattle.spdm_grammar.specs.Message.RequestMessage.{GetVersion, GetCapabilitie
 use Rattle.spdm_grammar.specs.Requests.{canonical_request}
 use Rattle.spdm_grammar.specs.declared.phase.Phase.{Phase}
 use Rattle.spdm_grammar.specs.declared.phase.Phase.TheVariants.{Fresh, Versioned, Capable, Negotiated}
+use Rattle.spdm_grammar.specs.declared.names.TheConstants.{MIN_DATA_TRANSFER_SIZE}
 use Rattle.requester_machine.specs.Setup.{ReqSetup}
-use Rattle.requester_machine.specs.History.{History, outstanding, phase_of, negotiation_of, negotiates, connection_terms, next_handle}
+use Rattle.requester_machine.specs.History.{History, outstanding, phase_of, negotiation_of, negotiates, connection_terms, next_handle, larges_of}
 use Rattle.requester_machine.specs.Message.{Aim, Content, Sent, asked_in}
 use Rattle.requester_machine.specs.Message.Aim.{Plain, ByChunks, ForChunk, InSession}
 use Rattle.requester_machine.specs.Sending.{piece_sent, plain_sent, request_sent, is_too_long}
@@ -79,17 +80,20 @@ awaited_stays q h later (GetMeasurements op) same phase sessions a = phase ∙ a
 awaited_stays q h later (PskExchange exchange) same phase sessions a = (phase ∙ a.0, sessions exchange.req_id ∙ rw same a.1)
 awaited_stays q h later _ same phase sessions a = absurd a
 
+one_byte : (n : ℕ) → n % 256 < 256
+one_byte n = omega arith
+
 -- A request that was sent, whole or by chunks. The history behind it is told by the message.
 pub request_waits : (q : ReqSetup) (h : History) (common : Common) (asked : RequestMessage) (later : Sent → History)
     → ((x : Sent) → asked_in x.aim ≡ Some asked → IsAwaited q (later x) asked)
     → ((x : Sent) → HasSizes q → (connection_terms (later x)).common ≡ common)
-    → (HasSizes q → 42 ≤ common.to_responder.transfer) → (HasSizes q → is_too_long common (canonical_request asked) ≡ false)
+    → (HasSizes q → MIN_DATA_TRANSFER_SIZE ≤ common.to_responder.transfer) → (HasSizes q → is_too_long common (canonical_request asked) ≡ false)
     → IsOutstanding q (later (request_sent common h asked)) (request_sent common h asked).content (request_sent common h asked).aim
 request_waits q h common asked later here terms least short =
     tested (λ (x : Sent). IsOutstanding q (later x) x.content x.aim) (nat_lt common.to_responder.transfer (length (canonical_request asked))) (piece_sent common h asked (next_handle h) 0) (plain_sent h asked)
     (λ large. (
       here (piece_sent common h asked (next_handle h) 0) refl,
       λ s.
-          subst (λ (c : Common). IsPiece c asked (next_handle h) 0 (piece_sent common h asked (next_handle h) 0).content) (sym (terms (piece_sent common h asked (next_handle h) 0) s)) (first_piece common asked (next_handle h) (least s) (short s) large),
+          subst (λ (c : Common). IsPiece c asked (next_handle h) 0 (piece_sent common h asked (next_handle h) 0).content) (sym (terms (piece_sent common h asked (next_handle h) 0) s)) (first_piece common asked (next_handle h) (one_byte (larges_of h)) (least s) (short s) large),
     ))
     (λ small. (here (plain_sent h asked) refl, refl))

@@ -130,17 +130,17 @@ module _ (q : ReqSetup) (h : History) (tag : ℕ) (m : List ℕ) (d : Draw) wher
   caps_holds caps theirs answer common offer a reads shared offered short k = record {
     live = λ id. none_live h (TookClear tag m (goes_on (Answers (GetCapabilities caps) answer) (request_sent common h (NegotiateAlgorithms offer))) d ∷ h) id (keeps (goes_on (Answers (GetCapabilities caps) answer) (request_sent common h (NegotiateAlgorithms offer))) id)
         (negotiating q h (GetCapabilities caps) refl a) (k.live id);
-    known = λ s capable. subst (IsCommon q) (sym (terms (request_sent common h (NegotiateAlgorithms offer)) s)) is_common;
+    known = λ s capable. subst (IsCommon q) (sym (terms (request_sent common h (NegotiateAlgorithms offer)) s)) (is_common s);
     waits = request_waits q h common (NegotiateAlgorithms offer) (λ x. TookClear tag m (goes_on (Answers (GetCapabilities caps) answer) x) d ∷ h)
         (λ x asks. (refl, λ s. subst (λ (c : Common). offer_of q.suites c.to_responder.transfer ≡ Some offer) (sym (terms x s)) offered))
-        terms (λ s. is_common.their_least) (λ s. short);
+        terms (λ s. (is_common s).their_least) (λ s. short);
   }
     where
       own : common_of (requester_caps q) theirs ≡ Ok common
       own = ap (λ (c : Caps). common_of c theirs) (sym a.1) ∙ shared
 
-      is_common : IsCommon q common
-      is_common = common_is q theirs common own
+      is_common : HasSizes q → IsCommon q common
+      is_common s = common_is q theirs common s own
 
       terms : (x : Sent) → HasSizes q → (connection_terms (TookClear tag m (goes_on (Answers (GetCapabilities caps) answer) x) d ∷ h)).common ≡ common
       terms x s = common_read q (negotiation_of (TookClear tag m (goes_on (Answers (GetCapabilities caps) answer) x) d ∷ h)) (hash_len (connection_terms h)) theirs common s (ap (λ (c : Caps). canonical_request (GetCapabilities c)) a.1) reads own

@@ -12,6 +12,7 @@ use Rattle.spdm_grammar.specs.declared.phase.Phase.TheVariants.{Fresh, Versioned
 use Rattle.spdm_machine.specs.Keys.{Draw}
 use Rattle.spdm_machine.specs.Terms.{terms_of}
 use Rattle.transcript.specs.Transcripts.{Negotiation}
+use Rattle.spdm_grammar.specs.declared.names.TheConstants.{MIN_DATA_TRANSFER_SIZE}
 use Rattle.requester_machine.specs.Setup.{ReqSetup}
 use Rattle.requester_machine.specs.Asking.{done, resent}
 use Rattle.requester_machine.specs.Asking.Outcome.{Adds}
@@ -88,7 +89,7 @@ module _ (q : ReqSetup) (h : History) (f : Free) (summary : ℕ) (d : Draw) wher
 
 -- ---- Measurements in the clear.
 
-above : (n m k : ℕ) → 42 ≤ n → n ≤ m → k ≤ 41 → (nat_lt m k ≡ false) × (nat_lt n k ≡ false)
+above : (n m k : ℕ) → MIN_DATA_TRANSFER_SIZE ≤ n → n ≤ m → k ≤ 41 → (nat_lt m k ≡ false) × (nat_lt n k ≡ false)
 above n m k least ordered small = (grind (arith, nat_tests), grind (arith, nat_tests))
 
 neither : (a b c : Bool) → a ≡ false → b ≡ false → (a || (not c && b)) ≡ false

@@ -8,6 +8,7 @@ use Rattle.negotiate.specs.declared.shared.Common.{Common}
 use Rattle.spdm_grammar.specs.Message.{RequestMessage}
 use Rattle.spdm_grammar.specs.Message.RequestMessage.{ChunkSend}
 use Rattle.spdm_grammar.specs.Requests.{canonical_request}
+use Rattle.spdm_grammar.specs.declared.names.TheConstants.{MIN_DATA_TRANSFER_SIZE}
 use Rattle.requester_machine.specs.Message.{Content}
 use Rattle.requester_machine.specs.Message.Content.{Clear}
 use Rattle.requester_machine.specs.Sending.{piece_of, is_too_long}
@@ -32,13 +33,14 @@ above a b is = grind (arith, nat_tests)
 at_most : (a b : ℕ) → nat_lt a b ≡ false → b ≤ a
 at_most a b is = grind (arith, nat_tests)
 
-pub first_piece : (common : Common) (asked : RequestMessage) (handle : ℕ) → 42 ≤ common.to_responder.transfer → is_too_long common (canonical_request asked) ≡ false
+pub first_piece : (common : Common) (asked : RequestMessage) (handle : ℕ) → handle < 256 → MIN_DATA_TRANSFER_SIZE ≤ common.to_responder.transfer → is_too_long common (canonical_request asked) ≡ false
     → nat_lt common.to_responder.transfer (length (canonical_request asked)) ≡ true → IsPiece common asked handle 0 (Clear (canonical_request (ChunkSend (piece_of common asked handle 0))))
-first_piece common asked handle least short large =
+first_piece common asked handle small least short large =
     let sizes = within_sizes (nat_lt common.to_responder.max (length (canonical_request asked))) common.chunk (nat_lt common.to_responder.transfer (length (canonical_request asked))) short large in
     record {
       is = refl;
       chunks = sizes.1;
+      one_byte = small;
       large = above common.to_responder.transfer (length (canonical_request asked)) large;
       short = at_most common.to_responder.max (length (canonical_request asked)) sizes.0;
       within = has_chunk (length (canonical_request asked)) (common.to_responder.transfer - 12) (omega arith);
@@ -53,6 +55,7 @@ next_piece common asked handle number content more p =
     record {
       is = refl;
       chunks = p.chunks;
+      one_byte = p.one_byte;
       large = p.large;
       short = p.short;
       within = not_last (number + 1) (chunk_count common.to_responder.transfer (canonical_request asked)) more (let w = p.within in omega (arith, w));

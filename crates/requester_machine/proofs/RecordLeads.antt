@@ -7,6 +7,7 @@ use Rattle.spdm_grammar.specs.Message.ResponseMessage.{Measurements, PskFinishRs
 use Rattle.spdm_grammar.specs.declared.event.BadReply.{BadReply}
 use Rattle.spdm_grammar.specs.declared.malformed.Malformed.{Malformed}
 use Rattle.spdm_grammar.specs.declared.part_faults.ChunkFault.{ChunkFault}
+use Rattle.spdm_grammar.specs.declared.names.error_number.TheConstants.{LARGE_RESPONSE}
 use Rattle.requester_machine.specs.Setup.{ReqSetup}
 use Rattle.requester_machine.specs.Answers.{goes_on, is_refused}
 use Rattle.requester_machine.specs.ClearAnswers.{get_fault}
@@ -85,8 +86,8 @@ module _ (q : ReqSetup) (h : History) (f : Free) (came : Came) where
   whole_leads : (op handle number : ℕ) (before : List ChunkMessage) (whole : List ℕ) (reading : Result ResponseMessage Malformed) → LeadsIn (AskChunk op handle number before) (whole_led q h f came op whole reading)
   whole_leads op handle number before whole (Err fault) = tt
   whole_leads op handle number before whole (Ok (Error version code detail extended)) =
-      tested (Leads (AskChunk op handle number before)) (code == 0x0f && not (has_reached 65300 came.steps)) (first_get q h f came op extended) (is_refused code Nothing)
-      (λ is. ByFirst op (slice_index extended 0) (ToWhole handle number before refl (below_limit (code == 0x0f) (has_reached 65300 came.steps) is)) refl)
+      tested (Leads (AskChunk op handle number before)) (code == LARGE_RESPONSE && not (has_reached 65300 came.steps)) (first_get q h f came op extended) (is_refused code Nothing)
+      (λ is. ByFirst op (slice_index extended 0) (ToWhole handle number before refl (below_limit (code == LARGE_RESPONSE) (has_reached 65300 came.steps) is)) refl)
       (λ is. refused_leads (AskChunk op handle number before) code refl)
   whole_leads op handle number before whole (Ok (Measurements measured)) = ByAnswer refl refl (eq-eqb op op refl) refl
   whole_leads op handle number before whole (Ok _) = tt

@@ -18,6 +18,7 @@ pub mod RequesterLog
 pub mod Order
 pub mod Laws
 pub mod ResponseLaws
+pub mod Requesting
 pub mod Bounds
 pub mod AcceptedLaws
 pub mod UnderWay

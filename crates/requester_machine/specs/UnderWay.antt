@@ -10,6 +10,7 @@ use Rattle.spdm_grammar.specs.Message.{RequestMessage, ChunkMessage}
 use Rattle.spdm_grammar.specs.Message.RequestMessage.{GetVersion, GetCapabilities, NegotiateAlgorithms, GetMeasurements, PskExchange, ChunkSend, ChunkGet}
 use Rattle.spdm_grammar.specs.Requests.{canonical_request}
 use Rattle.spdm_grammar.specs.declared.capabilities.Caps.{Caps}
+use Rattle.spdm_grammar.specs.declared.names.TheConstants.{MIN_DATA_TRANSFER_SIZE, MAX_MESSAGE_SIZE}
 use Rattle.spdm_grammar.specs.declared.phase.Phase.{Phase}
 use Rattle.spdm_grammar.specs.declared.phase.Phase.TheVariants.{Fresh, Versioned, Capable, Negotiated}
 use Rattle.requester_machine.specs.Setup.{ReqSetup, requester_caps}
@@ -27,10 +28,10 @@ use Rattle.requester_machine.specs.Session.Step.{Started, Asked}
 
 -- ---- The sizes.
 
--- The sizes that the requester tells are at most 4,096, as its set-up allows.
+-- The sizes that the requester tells are at most 4,096, the greatest length of a message.
 pub record HasSizes (q : ReqSetup) : Type 0 where
-  pub transfer : q.transfer ≤ 4096
-  pub max : q.max ≤ 4096
+  pub transfer : q.transfer ≤ MAX_MESSAGE_SIZE
+  pub max : q.max ≤ MAX_MESSAGE_SIZE
 
 -- CAPABILITIES was taken: the phase is Capable or Negotiated.
 abbrev pub is_capable : Phase → Bool
@@ -40,16 +41,18 @@ is_capable Capable = true
 is_capable Negotiated = true
 
 -- What both ends can do is what the told capabilities of the responder and the own ones have in common. Messages to the
--- requester have its own sizes; those of the responder are at least 42 bytes in one piece, and no fewer in chunks.
+-- requester have its own sizes. Messages to the responder have at least 42 bytes in one piece, no fewer in chunks, and
+-- at most 4,096.
 pub record IsCommon (q : ReqSetup) (common : Common) : Type 0 where
   pub theirs : Caps
   pub shared : common_of (requester_caps q) theirs ≡ Ok common
   pub transfer : common.to_requester.transfer ≡ q.transfer
   pub max : common.to_requester.max ≡ q.max
-  pub least : 42 ≤ q.transfer
+  pub least : MIN_DATA_TRANSFER_SIZE ≤ q.transfer
   pub ordered : q.transfer ≤ q.max
-  pub their_least : 42 ≤ common.to_responder.transfer
+  pub their_least : MIN_DATA_TRANSFER_SIZE ≤ common.to_responder.transfer
   pub their_ordered : common.to_responder.transfer ≤ common.to_responder.max
+  pub their_most : common.to_responder.max ≤ MAX_MESSAGE_SIZE
 
 -- In a made history it is so from CAPABILITIES on,
 abbrev pub SizesAreSetUp : Type 0
@@ -87,7 +90,7 @@ pub record AreUnderWay (max handle number : ℕ) (before : List ChunkMessage) : 
   pub numbered : AreNumbered handle before
   pub counted : length before ≡ number
   pub unfinished : AreUnfinished before
-  pub told : told_size before ≤ 4096
+  pub told : told_size before ≤ MAX_MESSAGE_SIZE
   pub held : 26 * number ≤ length (joined before)
   pub few : number ≤ 157
 
@@ -103,11 +106,12 @@ IsAwaited q h (GetMeasurements op) = phase_of h ≡ Negotiated
 IsAwaited q h (PskExchange exchange) = (phase_of h ≡ Negotiated) × (session_of exchange.req_id h ≡ Started (negotiation_of h) (canonical_request (PskExchange exchange)) ∷ [])
 IsAwaited q h _ = ⊥
 
--- A message is CHUNK_SEND of the chunk of this number of a request, which has one of this number. It goes by chunks since
--- it is over the responder's transfer size, and within its max size.
+-- A message is CHUNK_SEND of the chunk of this number of a request, which has one of this number, under a handle of one
+-- byte. The request goes by chunks since it is over the responder's transfer size, and it is within its max size.
 pub record IsPiece (common : Common) (asked : RequestMessage) (handle number : ℕ) (content : Content) : Type 0 where
   pub is : content ≡ Clear (canonical_request (ChunkSend (piece_of common asked handle number)))
   pub chunks : common.chunk ≡ true
+  pub one_byte : handle < 256
   pub large : common.to_responder.transfer < length (canonical_request asked)
   pub short : length (canonical_request asked) ≤ common.to_responder.max
   pub within : number < chunk_count common.to_responder.transfer (canonical_request asked)

@@ -22,3 +22,5 @@ pub mod Connection
 pub mod Settled
 pub mod Sizes
 pub mod Verified
+pub mod Others
+pub mod Alike

@@ -3,7 +3,8 @@ use Rattle.std.proofs.Common.{refl, ◌∙◌, ◌≡◌, ◌≤◌, ℕ, List, 
 use Rattle.std.proofs.lemmas.Bool.{false≢true}
 use Rattle.std.proofs.lemmas.Bool.Decides.{nat_tests}
 use Rattle.std.proofs.lemmas.Option.{none-some, same_Some}
-use Rattle.std.specs.Prelude.{if◌then◌else◌, ◌||◌, ◌&&◌, not, nat_lt, is_none}
+use Rattle.std.proofs.Math.Nat.{le-min, min-le_left, min-le_right}
+use Rattle.std.specs.Prelude.{min, if◌then◌else◌, ◌||◌, ◌&&◌, not, nat_lt, is_none}
 use Rattle.std.specs.Result.{result_ok}
 use Rattle.negotiate.specs.Capabilities.{common_of, shared, psk_is, protects}
 use Rattle.negotiate.specs.declared.shared.Common.{Common}
@@ -13,6 +14,8 @@ use Rattle.spdm_grammar.specs.Message.RequestMessage.{GetVersion, GetCapabilitie
 use Rattle.spdm_grammar.specs.declared.capabilities.Caps.{Caps}
 use Rattle.spdm_grammar.specs.declared.error_code.ErrorCode.{ErrorCode}
 use Rattle.spdm_grammar.specs.declared.part_faults.CapsFault.TheVariants.{SizeTooSmall, SizesCrossed, NoPsk, NoProtection}
+use Rattle.spdm_grammar.specs.declared.names.TheConstants.{MIN_DATA_TRANSFER_SIZE, MAX_MESSAGE_SIZE}
+use Rattle.spdm_grammar.specs.declared.names.capability.TheConstants.{PSK_CAP, PSK_CAP_WITH_CONTEXT}
 use Rattle.spdm_grammar.specs.declared.phase.Phase.{Phase}
 use Rattle.spdm_grammar.specs.declared.phase.Phase.TheVariants.{Capable}
 use Rattle.responder_machine.proofs.Made.{made_clear}
@@ -36,7 +39,7 @@ use Rattle.responder_machine.specs.Turn.Effect.{NoEffect, Took, TookData}
 use Rattle.transcript.specs.Transcripts.{Negotiation}
 
 abbrev IsSized : Common → Type 0
-IsSized common = (42 ≤ common.to_requester.transfer) × (common.to_requester.transfer ≤ common.to_requester.max)
+IsSized common = (MIN_DATA_TRANSFER_SIZE ≤ common.to_requester.transfer) × (common.to_requester.transfer ≤ common.to_requester.max)
 
 -- Capabilities that go together have passed the tests of sizes.
 both_passed : (a b c d : Bool) (s common : Common)
@@ -51,10 +54,15 @@ both_passed false false false false s common h = (refl, refl, same_Some s common
 not_less : (a b : ℕ) (rest : Bool) → (nat_lt a b || rest) ≡ false → b ≤ a
 not_less a b rest h = grind (arith, nat_tests)
 
+min_rises : (a b most : ℕ) → a ≤ b → min a most ≤ min b most
+min_rises a b most h = (let less = min-le_left a most in le-min (omega arith) (min-le_right a most))
+
 common_sized : (caps told : Caps) (common : Common) → result_ok (common_of caps told) ≡ Some common → IsSized common
 common_sized caps told common is =
-    let passed = both_passed (nat_lt caps.transfer 42 || nat_lt told.transfer 42) (nat_lt caps.max caps.transfer || nat_lt told.max told.transfer) (not (psk_is 1 caps.flags && psk_is 2 told.flags)) (not (protects caps.flags && protects told.flags)) (shared caps told) common is in
-    subst IsSized passed.2 (not_less caps.transfer 42 (nat_lt told.transfer 42) passed.0, not_less caps.max caps.transfer (nat_lt told.max told.transfer) passed.1)
+    let passed = both_passed (nat_lt caps.transfer MIN_DATA_TRANSFER_SIZE || nat_lt told.transfer MIN_DATA_TRANSFER_SIZE) (nat_lt caps.max caps.transfer || nat_lt told.max told.transfer) (not (psk_is PSK_CAP caps.flags && psk_is PSK_CAP_WITH_CONTEXT told.flags)) (not (protects caps.flags && protects told.flags)) (shared caps told) common is in
+    let least = not_less caps.transfer MIN_DATA_TRANSFER_SIZE (nat_lt told.transfer MIN_DATA_TRANSFER_SIZE) passed.0 in
+    let ordered = not_less caps.max caps.transfer (nat_lt told.max told.transfer) passed.1 in
+    subst IsSized passed.2 (le-min least (omega arith), min_rises caps.transfer caps.max MAX_MESSAGE_SIZE ordered)
 
 -- The negotiation that a request of capabilities leads to has sizes.
 abbrev IsSizedRequest : RequestMessage → List ℕ → List ℕ → Type 0

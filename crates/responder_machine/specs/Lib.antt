@@ -18,3 +18,5 @@ pub mod ResponderLog
 pub mod Counts
 pub mod NumberLaws
 pub mod SettledLaws
+pub mod Responding
+pub mod EndLaws

@@ -3,8 +3,10 @@
 //! in `specs/`, and each function below has a law about them as its contract.
 #![tactic(auto)]
 
+mod end_laws;
 mod laws;
 
+pub use end_laws::{others_stand, own_decide};
 pub use laws::{
     algorithms_settle_choice, capabilities_settle_common, chosen_is_allowed, does_what_it_may,
     finish_begins_at_zero, finish_is_verified, four_are_held_at_most, free_id_is_free,
