@@ -74,7 +74,7 @@ later_differs : (p other : Purpose) → other.epoch < p.epoch → is_same_purpos
 later_differs p other less = rw (not_same p.epoch other.epoch less) (and_false (bytes_eq p.transcript other.transcript) (is_same_kind p.kind other.kind))
 
 -- Nothing was taken under a purpose of a later epoch.
-none_later : (psk : List ℕ) (p : Purpose) (s : Steps) → response_epoch s < p.epoch → taken_under psk p s ≡ 0
+pub none_later : (psk : List ℕ) (p : Purpose) (s : Steps) → response_epoch s < p.epoch → taken_under psk p s ≡ 0
 none_later psk p [] later = refl
 none_later psk p (Started n x ∷ older) later = none_later psk p older later
 none_later psk p (Accepted a ∷ older) later = none_later psk p older later

@@ -19,3 +19,7 @@ pub mod Order
 pub mod Laws
 pub mod ResponseLaws
 pub mod Requesting
+pub mod Bounds
+pub mod AcceptedLaws
+pub mod UnderWay
+pub mod SpentLaws

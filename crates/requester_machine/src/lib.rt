@@ -3,8 +3,22 @@
 //! are in `specs/`, and each function below has a law about them as its contract.
 #![tactic(auto)]
 
+mod accepted_laws;
+mod bound_laws;
+mod number_laws;
+mod under_way_laws;
+
 ghost use Rattle.requester_machine.specs.Laws.{CommandIsAllowed, BodyIsAllowed, RetryAddsNothing, FaultAddsNothing, IgnoredAddsNothing, ClearAddsNothingInSession, UnopenedAddsNothing, LiveIdsAreFew, NewSessionIsFresh, SessionsAreInOrder, NumbersAreCounts, UpdateBeginsAnew, TakenTagsAreRight};
 ghost use Rattle.requester_machine.specs.ResponseLaws.{ResponsesAreCounts, UpdateAllBeginsAnew};
+
+pub use accepted_laws::{
+    accepted_is_verified, accepted_session_is_verified, taken_record_is_opened,
+};
+pub use bound_laws::{counts_are_bounded, sessions_are_bounded};
+pub use number_laws::{keys_are_few, numbers_are_few, taken_number_is_few};
+pub use under_way_laws::{
+    chunks_are_under_way, live_is_under_negotiation, session_sizes_are_set_up, sizes_are_set_up,
+};
 
 /// What the requester does with a command, it may, where its setup is within its limits.
 pub fn command_is_allowed()

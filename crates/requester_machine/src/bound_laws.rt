@@ -1,0 +1,15 @@
+//! What bounds the counts of a history, each law as the contract of a function that does nothing.
+
+ghost use Rattle.requester_machine.specs.Bounds.{CountsAreBounded, SessionsAreBounded};
+
+/// In every history, the draws taken, the messages sent and the large requests begun are at most as many as
+/// its entries.
+pub fn counts_are_bounded()
+    ensures { CountsAreBounded }
+{}
+
+/// In every history, the epochs of a session and the application messages that it took are at most as many
+/// as the entries, and its steps at most twice as many.
+pub fn sessions_are_bounded()
+    ensures { SessionsAreBounded }
+{}
