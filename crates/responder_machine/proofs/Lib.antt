@@ -22,3 +22,4 @@ pub mod Connection
 pub mod Settled
 pub mod Sizes
 pub mod Verified
+pub mod KeptRest

@@ -18,3 +18,4 @@ pub mod ResponderLog
 pub mod Counts
 pub mod NumberLaws
 pub mod SettledLaws
+pub mod RefusalLaws

@@ -4,6 +4,7 @@
 #![tactic(auto)]
 
 mod laws;
+mod refusals;
 
 pub use laws::{
     algorithms_settle_choice, capabilities_settle_common, chosen_is_allowed, does_what_it_may,
@@ -16,3 +17,4 @@ pub use laws::{
     taken_exchange_is_fresh, taken_is_repeated, taken_record_is_opened, taken_record_is_repeated,
     unopened_adds_nothing, update_all_is_answered_at_zero, update_begins_at_zero,
 };
+pub use refusals::{refused_in_chunks_keeps_connection, refused_record_keeps_connection};
