@@ -23,3 +23,4 @@ pub mod Settled
 pub mod Sizes
 pub mod Verified
 pub mod KeptRest
+pub mod Within

@@ -19,3 +19,4 @@ pub mod Counts
 pub mod NumberLaws
 pub mod SettledLaws
 pub mod RefusalLaws
+pub mod BoundLaws

@@ -3,9 +3,11 @@
 //! in `specs/`, and each function below has a law about them as its contract.
 #![tactic(auto)]
 
+mod bounds;
 mod laws;
 mod refusals;
 
+pub use bounds::{counts_are_bounded, queue_is_bounded};
 pub use laws::{
     algorithms_settle_choice, capabilities_settle_common, chosen_is_allowed, does_what_it_may,
     finish_begins_at_zero, finish_is_verified, four_are_held_at_most, free_id_is_free,
