@@ -20,6 +20,7 @@ pub mod Opened
 pub mod Held
 pub mod Connection
 pub mod Settled
+pub mod CommonCaps
 pub mod Sizes
 pub mod Verified
 pub mod KeptRest

@@ -20,3 +20,4 @@ pub mod NumberLaws
 pub mod SettledLaws
 pub mod RefusalLaws
 pub mod BoundLaws
+pub mod SizeLaws

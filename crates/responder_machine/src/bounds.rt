@@ -2,6 +2,7 @@
 //! of a function that does nothing.
 
 ghost use Rattle.responder_machine.specs.BoundLaws.{ConnectionIsBounded, QueueIsBounded, SessionIsBounded};
+ghost use Rattle.responder_machine.specs.SizeLaws.{CommonIsNegotiated, SessionSizesAreSetUp, SizesAreSetUp};
 
 /// Draws, application messages taken and large answers are at most as many as the messages that came: of
 /// the connection, and of each session, whose records and updates of keys are so too.
@@ -13,4 +14,18 @@ pub fn counts_are_bounded()
 /// In a history that the responder made at most 16 application messages wait, each of at most 1,024 bytes.
 pub fn queue_is_bounded()
     ensures { QueueIsBounded }
+{}
+
+/// In a history that the responder made, from phase Capable on, what both ends can do is what some
+/// capabilities of a requester and the responder's own can do together.
+pub fn common_is_negotiated()
+    ensures { CommonIsNegotiated }
+{}
+
+/// In a history of a responder whose sizes are within their limits, from phase Capable on and in each
+/// live session, messages to the responder have its configured sizes, and those to the requester have
+/// sizes of at least 42 bytes of which the max size is at least the transfer size.
+pub fn sizes_are_set_up()
+    ensures connection { SizesAreSetUp }
+    ensures session { SessionSizesAreSetUp }
 {}
