@@ -25,3 +25,8 @@ pub mod Sizes
 pub mod Verified
 pub mod KeptRest
 pub mod Within
+mod VerifyLength
+mod Pinned
+mod PinnedClear
+mod PinnedInChunks
+mod PinnedInSession
