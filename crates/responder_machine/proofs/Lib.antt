@@ -30,3 +30,5 @@ mod Pinned
 mod PinnedClear
 mod PinnedInChunks
 mod PinnedInSession
+mod PinnedFlags
+mod PinnedContents
