@@ -32,3 +32,7 @@ mod PinnedInChunks
 mod PinnedInSession
 mod PinnedFlags
 mod PinnedContents
+mod PinnedChunks
+mod PinnedSizes
+mod PinnedOrder
+mod PinnedReplies

@@ -1,13 +1,12 @@
 -- What is refused of the contents of a request, one rule after another.
-use Rattle.std.proofs.Common.{refl, ◌≡◌, ◌+◌, ◌^◌, ℕ, List, [], ◌∷◌, ◌++◌, take, replicate, Some, None, length-append}
-use Rattle.sha2.proofs.Facts256.{length-sha256}
+use Rattle.std.proofs.Common.{refl, ◌≡◌, ◌+◌, ◌^◌, ℕ, List, [], ◌∷◌, ◌++◌, take, replicate, Some, None}
 use Rattle.spdm_grammar.specs.Message.{OfferMessage, ExchangeMessage}
 use Rattle.spdm_grammar.specs.Message.RequestMessage.{GetCapabilities, NegotiateAlgorithms, PskExchange}
 use Rattle.spdm_grammar.specs.Requests.{canonical_request}
 use Rattle.spdm_grammar.specs.declared.capabilities.Caps.{Caps}
 use Rattle.spdm_grammar.specs.declared.error_code.ErrorCode.TheVariants.{InvalidRequest, UnexpectedRequest, SessionLimitExceeded}
 use Rattle.spdm_grammar.specs.declared.phase.Phase.TheVariants.{Negotiated}
-use Rattle.responder_machine.proofs.Pinned.{computed, setup, free, IsTable, versioned, capable, negotiated, clear_with, negotiation_with, all_caps, offer, exchange, caps_with, large, opened, verifying, with_large, get_capabilities, negotiate_algorithms, get_measurements, psk_exchange, key_update, chunk_get}
+use Rattle.responder_machine.proofs.Pinned.{computed, setup, free, IsTable, versioned, capable, negotiated, clear_with, negotiation_with, all_caps, offer, exchange, caps_with, opened, verifying, get_capabilities, negotiate_algorithms, get_measurements, psk_exchange, key_update}
 use Rattle.responder_machine.proofs.VerifyLength.{length-verify_data}
 use Rattle.responder_machine.specs.Place.{Place, session_place}
 use Rattle.responder_machine.specs.Refusal.{refusal}

@@ -1,10 +1,10 @@
 -- What was not negotiated is not supported, and each wrong SPDMVersion is a mismatch.
-use Rattle.std.proofs.Common.{refl, ◌≡◌, ◌+◌, ℕ, List, [], ◌∷◌, drop, Some, None}
-use Rattle.spdm_grammar.specs.declared.error_code.ErrorCode.TheVariants.{UnexpectedRequest, UnsupportedRequest, VersionMismatch}
+use Rattle.std.proofs.Common.{refl, ◌+◌, ℕ, List, [], ◌∷◌, drop, Some, None}
+use Rattle.spdm_grammar.specs.declared.error_code.ErrorCode.TheVariants.{UnsupportedRequest, VersionMismatch}
 use Rattle.spdm_grammar.specs.declared.phase.Phase.TheVariants.{Negotiated}
 use Rattle.transcript.specs.Transcripts.{Negotiation}
-use Rattle.responder_machine.proofs.Pinned.{computed, setup, IsTable, fresh, versioned, capable, negotiated, clear_with, negotiation_with, caps_with, all_caps, offer, heartbeats, key_updates, chunks, large, opened, opened_with, verifying_with, with_large, begun, get_version, get_capabilities, negotiate_algorithms, get_measurements, psk_exchange, psk_finish, heartbeat, key_update, end_session, chunk_send, chunk_get}
-use Rattle.responder_machine.specs.Place.{Place, inside, session_place}
+use Rattle.responder_machine.proofs.Pinned.{computed, setup, IsTable, fresh, versioned, capable, clear_with, negotiation_with, caps_with, all_caps, offer, heartbeats, key_updates, chunks, large, opened, opened_with, verifying_with, with_large, begun, get_version, get_capabilities, negotiate_algorithms, get_measurements, psk_exchange, psk_finish, heartbeat, key_update, end_session, chunk_send, chunk_get}
+use Rattle.responder_machine.specs.Place.{inside, session_place}
 
 -- ---- Flags. The requester lacks one of them, or did not offer measurements.
 
