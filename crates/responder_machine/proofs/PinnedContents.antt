@@ -1,5 +1,6 @@
 -- What is refused of the contents of a request, one rule after another.
-use Rattle.std.proofs.Common.{refl, ◌≡◌, ◌+◌, ◌^◌, ℕ, List, [], ◌∷◌, ◌++◌, take, replicate, Some, None}
+use Rattle.std.proofs.Common.{refl, ◌≡◌, ◌+◌, ◌^◌, ℕ, List, [], ◌∷◌, ◌++◌, take, replicate, Some, None, length-append}
+use Rattle.sha2.proofs.Facts256.{length-sha256}
 use Rattle.spdm_grammar.specs.Message.{OfferMessage, ExchangeMessage}
 use Rattle.spdm_grammar.specs.Message.RequestMessage.{GetCapabilities, NegotiateAlgorithms, PskExchange}
 use Rattle.spdm_grammar.specs.Requests.{canonical_request}
@@ -141,3 +142,8 @@ updates_in_verifying : IsTable setup (session_place verifying) (
     ∷ [])
 unfolding computed
 updates_in_verifying = refl
+
+-- A summary of all measurements, with measurements.
+summary_with_measurements : refusal setup negotiated (exchanging (record exchange { summary = 255 })) free ≡ None
+unfolding computed
+summary_with_measurements = simp (length-append, length-sha256, length-verify_data) refl
