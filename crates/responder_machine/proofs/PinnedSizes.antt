@@ -21,6 +21,8 @@ too_short_in_clear : IsTable setup fresh (
     ∷ (take 1 get_version, Some InvalidRequest)
     ∷ (take 2 get_version, Some InvalidRequest)
     ∷ (take 3 get_version, Some InvalidRequest)
+    ∷ (take 3 get_capabilities, Some InvalidRequest)
+    ∷ (take 3 heartbeat, Some InvalidRequest)
     ∷ (get_version, None)
     ∷ [])
 unfolding computed
