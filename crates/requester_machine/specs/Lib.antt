@@ -18,3 +18,4 @@ pub mod RequesterLog
 pub mod Order
 pub mod Laws
 pub mod ResponseLaws
+pub mod Requesting

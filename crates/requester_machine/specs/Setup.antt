@@ -21,6 +21,12 @@ pub record ReqSetup : Type 0 where
   pub opaque : List ℕ
   pub suites : Suites
 
+-- A requester as an end of its own: how it is set up, the seed of its draws, and the number of its first draw.
+pub record ReqEnd : Type 0 where
+  pub setup : ReqSetup
+  pub seed : List ℕ
+  pub first : ℕ
+
 -- The capabilities of a requester: PSK_CAP, bits 11:10, is 01.
 abbrev pub requester_caps : ReqSetup → Caps
 requester_caps q = record { ct = 0; flags = protection_flags + 2 ^ 10 + optional_flags q.flags; transfer = q.transfer; max = q.max }

@@ -23,6 +23,8 @@ pub mod Settled
 pub mod CommonCaps
 pub mod Sizes
 pub mod Verified
+pub mod Others
+pub mod Alike
 pub mod KeptRest
 pub mod Within
 mod VerifyLength

@@ -18,6 +18,8 @@ pub mod ResponderLog
 pub mod Counts
 pub mod NumberLaws
 pub mod SettledLaws
+pub mod Responding
+pub mod EndLaws
 pub mod RefusalLaws
 pub mod BoundLaws
 pub mod SizeLaws

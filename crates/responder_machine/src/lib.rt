@@ -4,10 +4,12 @@
 #![tactic(auto)]
 
 mod bounds;
+mod end_laws;
 mod laws;
 mod refusals;
 
 pub use bounds::{common_is_negotiated, counts_are_bounded, queue_is_bounded, sizes_are_set_up};
+pub use end_laws::{others_stand, own_decide};
 pub use laws::{
     algorithms_settle_choice, capabilities_settle_common, chosen_is_allowed, does_what_it_may,
     finish_begins_at_zero, finish_is_verified, four_are_held_at_most, free_id_is_free,

@@ -28,8 +28,8 @@ use Rattle.spdm_agreement.proofs.Runs.{holds, agrees, opened_matches, one_id, on
 use Rattle.spdm_agreement.proofs.Sessions.{reading_of}
 use Rattle.world_machine.specs.Agreement as world
 use Rattle.world_machine.specs.Agreement.{AreOne, HasOpened, IsMade}
-use Rattle.world_machine.specs.Requesting.{Requesting}
-use Rattle.world_machine.specs.Responding.{Connection}
+use Rattle.requester_machine.specs.Requesting.{Requesting}
+use Rattle.responder_machine.specs.Responding.{Connection}
 
 -- The state of the machine of moves that a requester and its connection stand for.
 abbrev pub state_of : Requesting → Connection → Log → State

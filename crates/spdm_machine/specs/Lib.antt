@@ -4,3 +4,4 @@ pub mod Keys
 pub mod Sessions
 pub mod Bodies
 pub mod TagLog
+pub mod Packets

@@ -28,15 +28,13 @@ use Rattle.world_machine.specs.CapturedRequests.{Sends}
 use Rattle.world_machine.specs.Rounds.{Dialogue, new_dialogue}
 use Rattle.world_machine.specs.Difference.{IsApartBy, IsDifference, IsOtherwiseWrong, IsVerifyApart}
 use Rattle.world_machine.specs.Difference.Why.{WrongTurn}
-use Rattle.world_machine.specs.Packets.{gathered_from}
+use Rattle.spdm_machine.specs.Packets.{gathered_from}
 use Rattle.mctp_framing.specs.Packet.{parsed}
-use Rattle.world_machine.specs.Setup.{WorldSetup}
+use Rattle.world_machine.specs.Setup.{Configuration}
 
--- A seed of zeros; `responder 8 1024 4096 64 30 mhkc`; `requester 9 1024 4096 64 0 hkc 71 31..36 -`.
-abbrev setup : WorldSetup
+-- `responder 8 1024 4096 64 30 mhkc`; `requester 9 1024 4096 64 0 hkc 71 31..36 -`.
+abbrev setup : Configuration
 setup = record {
-  seed = replicate 32 0;
-  first = 0;
   responder = record {
     eid = 8;
     transfer = 1024;
@@ -136,7 +134,7 @@ version_alone_differs = record {
 }
 
 -- Transfer size 42 at both ends.
-abbrev small : WorldSetup
+abbrev small : Configuration
 small = record setup {
   responder = record setup.responder { transfer = 42 };
   requesters = record {

@@ -18,8 +18,8 @@ use Rattle.spdm_machine.specs.TagLog.{Log}
 use Rattle.spdm_machine.specs.TagLog.Act.{Made, Checked}
 use Rattle.responder_machine.specs.Turn.{Effect, takes}
 use Rattle.responder_machine.specs.Turn.Effect.{TookData}
-use Rattle.world_machine.specs.Requesting.{Requesting}
-use Rattle.world_machine.specs.Responding.{Connection}
+use Rattle.requester_machine.specs.Requesting.{Requesting}
+use Rattle.responder_machine.specs.Responding.{Connection}
 use Rattle.world_machine.specs.World.{World}
 
 -- ---- The two ends of a pair.

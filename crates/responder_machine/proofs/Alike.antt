@@ -5,20 +5,20 @@ use Rattle.mctp_framing.specs.Cutting.{RouteFields}
 use Rattle.mctp_framing.specs.Gathering.{Gathered, Receiver, is_ours}
 use Rattle.mctp_framing.specs.Gathering.Gathered.{Whole, More, Dropped}
 use Rattle.mctp_framing.specs.Packet.{PacketFields, packet_fault, fault_or, fields_of, parsed}
-use Rattle.spdm_basis.specs.declared.DropCause.TheVariants.{NotOurs, NoStart}
+use Rattle.spdm_basis.specs.declared.DropCause.TheVariants.{NotOurs}
 use Rattle.spdm_basis.specs.declared.PacketFault.{PacketFault}
 use Rattle.responder_machine.specs.Does.{responder_does}
 use Rattle.responder_machine.specs.History.{History}
 use Rattle.spdm_machine.specs.Keys.{Draw}
 use Rattle.responder_machine.specs.Responder.{Outcome, after}
-use Rattle.world_machine.proofs.Connections.{found}
-use Rattle.world_machine.specs.Laws.{AreAlike, LeadAlike, OwnDecide, source_of, receiver_of}
-use Rattle.world_machine.specs.Packets.{fields_in, fields_with, gathered_from, body_type}
+use Rattle.responder_machine.proofs.Others.{found}
+use Rattle.responder_machine.specs.EndLaws.{AreAlike, LeadAlike, OwnDecide, source_of, receiver_of}
+use Rattle.spdm_machine.specs.Packets.{fields_in, fields_with, gathered_from, body_type}
 use Rattle.spdm_grammar.specs.declared.heard.Heard.{Heard}
 use Rattle.spdm_grammar.specs.declared.heard.Heard.TheVariants as heard
 use Rattle.spdm_grammar.specs.declared.heard.RspIgnored.TheVariants as ignored
-use Rattle.world_machine.specs.Responding.{Connection, Responding, RspStep, connection_of, changed, with_history, ignores, answers, hears_whole, hears_gathered, hears_from, hears_packet, is_worn, worn_step, next_draw, responder_hears}
-use Rattle.world_machine.specs.Setup.{WorldSetup}
+use Rattle.responder_machine.specs.Setup.{RspPart}
+use Rattle.responder_machine.specs.Responding.{Connection, Responding, RspStep, connection_of, changed, with_history, ignores, answers, hears_whole, hears_gathered, hears_from, hears_packet, is_worn, worn_step, next_draw, responder_hears}
 
 -- What a packet leads to goes by the packets from the peer alone.
 pub gathered_alike : (own eid : ℕ) (given others : List (List ℕ)) (p : PacketFields)
@@ -65,14 +65,14 @@ either eid false x y u v a b = b
 
 -- ---- A packet.
 
-module _ (w : WorldSetup) (r s : Responding) (packet : List ℕ) (alike : AreAlike (source_of packet) r s) (draws : next_draw w r ≡ next_draw w s) where
+module _ (r s : Responding) (packet : List ℕ) (alike : AreAlike (source_of packet) r s) (draws : next_draw r ≡ next_draw s) where
   -- Nothing is sent.
   nothing : (told : Heard) → LeadAlike (source_of packet) (ignores r packet told) (ignores s packet told)
   nothing told = record {
     heard = refl;
     sent = refl;
     taken = refl;
-    after = record { connection = alike.connection; packets = λ own. more (receiver_of own (source_of packet)) packet r.given s.given (alike.packets own) };
+    after = record { part = alike.part; connection = alike.connection; packets = λ own. more (receiver_of own (source_of packet)) packet r.given s.given (alike.packets own) };
   }
 
   by_answer : (c : Connection) (route : RouteFields) (body : List ℕ) (outcome : Outcome) → connection_of (source_of packet) r.connections ≡ Some c
@@ -82,6 +82,7 @@ module _ (w : WorldSetup) (r s : Responding) (packet : List ℕ) (alike : AreAli
     sent = refl;
     taken = refl;
     after = record {
+      part = alike.part;
       connection =
           changed_at (source_of packet) c.setup.peer (λ h. after h outcome) r.connections c (found (source_of packet) r.connections c is) is
           ∙ sym (changed_at (source_of packet) c.setup.peer (λ h. after h outcome) s.connections c (found (source_of packet) r.connections c is) (sym alike.connection ∙ is));
@@ -90,15 +91,15 @@ module _ (w : WorldSetup) (r s : Responding) (packet : List ℕ) (alike : AreAli
   }
 
   by_draw : (c : Connection) (route : RouteFields) (body : List ℕ) → connection_of (source_of packet) r.connections ≡ Some c
-      → LeadAlike (source_of packet) (answers r c packet route body (responder_does c.setup c.history route.tag body (next_draw w r))) (answers s c packet route body (responder_does c.setup c.history route.tag body (next_draw w s)))
+      → LeadAlike (source_of packet) (answers r c packet route body (responder_does c.setup c.history route.tag body (next_draw r))) (answers s c packet route body (responder_does c.setup c.history route.tag body (next_draw s)))
   by_draw c route body is =
-      subst (λ (d : Draw). LeadAlike (source_of packet) (answers r c packet route body (responder_does c.setup c.history route.tag body (next_draw w r))) (answers s c packet route body (responder_does c.setup c.history route.tag body d)))
-      draws (by_answer c route body (responder_does c.setup c.history route.tag body (next_draw w r)) is)
+      subst (λ (d : Draw). LeadAlike (source_of packet) (answers r c packet route body (responder_does c.setup c.history route.tag body (next_draw r))) (answers s c packet route body (responder_does c.setup c.history route.tag body d)))
+      draws (by_answer c route body (responder_does c.setup c.history route.tag body (next_draw r)) is)
 
-  by_whole : (c : Connection) (route : RouteFields) (body : List ℕ) → connection_of (source_of packet) r.connections ≡ Some c → LeadAlike (source_of packet) (hears_whole w r c packet route body) (hears_whole w s c packet route body)
+  by_whole : (c : Connection) (route : RouteFields) (body : List ℕ) → connection_of (source_of packet) r.connections ≡ Some c → LeadAlike (source_of packet) (hears_whole r c packet route body) (hears_whole s c packet route body)
   by_whole c route body is = either (source_of packet) (not route.owner) _ _ _ _ (nothing (heard.Ignored ignored.NotRequest)) (either (source_of packet) (not (body_type body == 5 || body_type body == 6)) _ _ _ _ (nothing (heard.Ignored ignored.OtherType)) (by_draw c route body is))
 
-  by_gathered : (c : Connection) (g : Gathered) → connection_of (source_of packet) r.connections ≡ Some c → LeadAlike (source_of packet) (hears_gathered w r c packet g) (hears_gathered w s c packet g)
+  by_gathered : (c : Connection) (g : Gathered) → connection_of (source_of packet) r.connections ≡ Some c → LeadAlike (source_of packet) (hears_gathered r c packet g) (hears_gathered s c packet g)
   by_gathered c (Whole route body) is = by_whole c route body is
   by_gathered c More is = nothing _
   by_gathered c (Dropped cause) is = nothing _
@@ -106,29 +107,33 @@ module _ (w : WorldSetup) (r s : Responding) (packet : List ℕ) (alike : AreAli
   gathers : (c : Connection) (fields : PacketFields) → c.setup.peer ≡ source_of packet → gathered_from c.setup.eid c.setup.peer r.given fields ≡ gathered_from c.setup.eid c.setup.peer s.given fields
   gathers c fields e = subst (λ (peer : ℕ). gathered_from c.setup.eid peer r.given fields ≡ gathered_from c.setup.eid peer s.given fields) (sym e) (gathered_alike c.setup.eid (source_of packet) r.given s.given fields (alike.packets c.setup.eid))
 
-  by_connection : (fields : PacketFields) (c : Option Connection) → connection_of (source_of packet) r.connections ≡ c → LeadAlike (source_of packet) (hears_from w r packet fields c) (hears_from w s packet fields c)
+  by_connection : (fields : PacketFields) (c : Option Connection) → connection_of (source_of packet) r.connections ≡ c → LeadAlike (source_of packet) (hears_from r packet fields c) (hears_from s packet fields c)
   by_connection fields None is = nothing _
   by_connection fields (Some c) is =
-      subst (λ (g : Gathered). LeadAlike (source_of packet) (hears_gathered w r c packet (gathered_from c.setup.eid c.setup.peer r.given fields)) (hears_gathered w s c packet g))
+      subst (λ (g : Gathered). LeadAlike (source_of packet) (hears_gathered r c packet (gathered_from c.setup.eid c.setup.peer r.given fields)) (hears_gathered s c packet g))
       (gathers c fields (found (source_of packet) r.connections c is))
       (by_gathered c (gathered_from c.setup.eid c.setup.peer r.given fields) is)
 
-  by_source : (fields : PacketFields) → fields.from ≡ source_of packet → LeadAlike (source_of packet) (hears_from w r packet fields (connection_of (source_of packet) r.connections)) (hears_from w s packet fields (connection_of (source_of packet) s.connections))
+  by_source : (fields : PacketFields) → fields.from ≡ source_of packet → LeadAlike (source_of packet) (hears_from r packet fields (connection_of (source_of packet) r.connections)) (hears_from s packet fields (connection_of (source_of packet) s.connections))
   by_source fields e =
-      subst (λ (c : Option Connection). LeadAlike (source_of packet) (hears_from w r packet fields (connection_of (source_of packet) r.connections)) (hears_from w s packet fields c))
+      subst (λ (c : Option Connection). LeadAlike (source_of packet) (hears_from r packet fields (connection_of (source_of packet) r.connections)) (hears_from s packet fields c))
       alike.connection
       (by_connection fields (connection_of (source_of packet) r.connections) refl)
 
-  by_fault : (fault : Option PacketFault) → LeadAlike (source_of packet) (hears_packet w r packet (fault_or fault (fields_of packet))) (hears_packet w s packet (fault_or fault (fields_of packet)))
+  by_fault : (fault : Option PacketFault) → LeadAlike (source_of packet) (hears_packet r packet (fault_or fault (fields_of packet))) (hears_packet s packet (fault_or fault (fields_of packet)))
   by_fault (Some fault) = nothing _
-  by_fault None = either (source_of packet) (not ((fields_of packet).to == w.responder.eid)) _ _ _ _ (nothing (heard.Ignored (ignored.Dropped NotOurs))) (by_source (fields_of packet) refl)
+  by_fault None =
+      subst (λ (part : RspPart). LeadAlike (source_of packet) (hears_packet r packet (fault_or None (fields_of packet)))
+      (if not ((fields_of packet).to == part.eid) then ignores s packet (heard.Ignored (ignored.Dropped NotOurs)) else hears_from s packet (fields_of packet) (connection_of (fields_of packet).from s.connections)))
+      alike.part
+      (either (source_of packet) (not ((fields_of packet).to == r.part.eid)) _ _ _ _ (nothing (heard.Ignored (ignored.Dropped NotOurs))) (by_source (fields_of packet) refl))
 
   worn : LeadAlike (source_of packet) (worn_step r) (worn_step s)
   worn = record { heard = refl; sent = refl; taken = refl; after = alike }
 
 pub decide : OwnDecide
 unfolding responder_hears
-decide w r s packet alike draws wear =
-    subst (λ (b : Bool). LeadAlike (source_of packet) (if is_worn r then worn_step r else hears_packet w r packet (parsed packet)) (if b then worn_step s else hears_packet w s packet (parsed packet)))
+decide r s packet alike draws wear =
+    subst (λ (b : Bool). LeadAlike (source_of packet) (if is_worn r then worn_step r else hears_packet r packet (parsed packet)) (if b then worn_step s else hears_packet s packet (parsed packet)))
     wear
-    (either (source_of packet) (is_worn r) _ _ _ _ (worn w r s packet alike draws) (by_fault w r s packet alike draws (packet_fault packet)))
+    (either (source_of packet) (is_worn r) _ _ _ _ (worn r s packet alike draws) (by_fault r s packet alike draws (packet_fault packet)))

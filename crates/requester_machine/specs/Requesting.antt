@@ -1,4 +1,4 @@
--- A requester with all that it was given: what a command and a packet lead to. This project's own.
+-- The requester as a whole end, with all that it was given: what a command and a packet lead to. This project's own.
 use Rattle.std.specs.Prelude.{◌+◌, nat_le, ℕ, List, [], ◌∷◌, length, if◌then◌else◌, Bool, true, false, Option, Some, None, unwrap_or, Result, Ok, Err}
 use Rattle.mctp_framing.specs.Gathering.{Gathered}
 use Rattle.mctp_framing.specs.Gathering.Gathered.{Whole, More, Dropped}
@@ -15,32 +15,28 @@ use Rattle.spdm_grammar.specs.declared.event.Event.{Event}
 use Rattle.spdm_grammar.specs.declared.event.Event.TheVariants as event
 use Rattle.spdm_grammar.specs.declared.event.ReqIgnored.TheVariants as ignored
 use Rattle.spdm_machine.specs.Keys.{Draw, draw_of}
-use Rattle.requester_machine.specs.Setup.{ReqSetup}
+use Rattle.requester_machine.specs.Setup.{ReqSetup, ReqEnd}
 use Rattle.spdm_machine.specs.TagLog.{Act}
-use Rattle.world_machine.specs.Packets.{gathered_from, packets_to, wear_limit}
-use Rattle.world_machine.specs.Setup.{WorldSetup, requester_seed}
+use Rattle.spdm_machine.specs.Packets.{gathered_from, packets_to, wear_limit}
 
--- A requester: its number, counted from 1, how it is set up, all packets that it was given, the newest first,
--- how many commands it was told, those with a fault among them, and what it was told and took.
+-- A requester: how it is set up, the seed of its draws and the number of the first one, all packets that it was
+-- given, the newest first, how many commands it was told, those with a fault among them, and what it was told and
+-- took.
 pub record Requesting : Type 0 where
-  pub number : ℕ
   pub setup : ReqSetup
+  pub seed : List ℕ
+  pub first : ℕ
   pub given : List (List ℕ)
   pub commands : ℕ
   pub history : History
 
 -- A requester that was told and given nothing yet.
-abbrev pub new_requesting : ℕ → ReqSetup → Requesting
-new_requesting n q = record { number = n; setup = q; given = []; commands = 0; history = [] }
-
--- The requesters of a set-up, numbered from one more than this number on.
-abbrev pub numbered : ℕ → List ReqSetup → List Requesting
-numbered n [] = []
-numbered n (q ∷ others) = new_requesting (n + 1) q ∷ numbered (n + 1) others
+abbrev pub new_requesting : ReqEnd → Requesting
+new_requesting e = record { setup = e.setup; seed = e.seed; first = e.first; given = []; commands = 0; history = [] }
 
 -- The draw that stands next.
-unfoldable pub next_draw : WorldSetup → Requesting → Draw
-next_draw w a = draw_of (requester_seed w.seed a.number) (w.first + draws_of a.setup a.history)
+unfoldable pub next_draw : Requesting → Draw
+next_draw a = draw_of a.seed (a.first + draws_of a.setup a.history)
 
 -- A worn requester takes no packet and no command.
 abbrev pub is_worn : Requesting → Bool
@@ -75,10 +71,10 @@ abbrev pub worn_command : Requesting → Outcome → CommandStep
 worn_command a outcome = record { fault = fault_of outcome; sent = []; acts = []; after = a }
 
 -- A requester is told a command.
-unfoldable pub requester_told : WorldSetup → Requesting → Command → CommandStep
-requester_told w a command =
-    if is_worn a then worn_command a (requester_asks true a.setup a.history command (next_draw w a))
-    else commanded_by a (requester_asks false a.setup a.history command (next_draw w a))
+unfoldable pub requester_told : Requesting → Command → CommandStep
+requester_told a command =
+    if is_worn a then worn_command a (requester_asks true a.setup a.history command (next_draw a))
+    else commanded_by a (requester_asks false a.setup a.history command (next_draw a))
 
 -- ---- A packet.
 
@@ -108,20 +104,20 @@ heard_by a packet body outcome = record {
 }
 
 -- A packet that completes a body is heard; one that awaits more, or is dropped, changes nothing else.
-abbrev pub hears_gathered : WorldSetup → Requesting → List ℕ → Gathered → PacketStep
-hears_gathered w a packet (Whole route body) = heard_by a packet body (requester_hears a.setup a.history route.owner route.tag body (next_draw w a))
-hears_gathered w a packet More = ignores a packet event.More
-hears_gathered w a packet (Dropped cause) = ignores a packet (event.Ignored (ignored.Dropped cause))
+abbrev pub hears_gathered : Requesting → List ℕ → Gathered → PacketStep
+hears_gathered a packet (Whole route body) = heard_by a packet body (requester_hears a.setup a.history route.owner route.tag body (next_draw a))
+hears_gathered a packet More = ignores a packet event.More
+hears_gathered a packet (Dropped cause) = ignores a packet (event.Ignored (ignored.Dropped cause))
 
 -- A packet is heard from the responder alone.
-abbrev pub hears_packet : WorldSetup → Requesting → List ℕ → Result PacketFields PacketFault → PacketStep
-hears_packet w a packet (Err fault) = ignores a packet (event.Ignored (ignored.Packet fault))
-hears_packet w a packet (Ok fields) = hears_gathered w a packet (gathered_from a.setup.eid a.setup.responder a.given fields)
+abbrev pub hears_packet : Requesting → List ℕ → Result PacketFields PacketFault → PacketStep
+hears_packet a packet (Err fault) = ignores a packet (event.Ignored (ignored.Packet fault))
+hears_packet a packet (Ok fields) = hears_gathered a packet (gathered_from a.setup.eid a.setup.responder a.given fields)
 
 -- A worn requester ignores a packet, and nothing changes.
 abbrev pub worn_step : Requesting → PacketStep
 worn_step a = record { event = event.Ignored ignored.Worn; sent = []; taken = None; measured = None; acts = []; after = a }
 
 -- A packet is given to a requester.
-unfoldable pub requester_given : WorldSetup → Requesting → List ℕ → PacketStep
-requester_given w a packet = if is_worn a then worn_step a else hears_packet w a packet (parsed packet)
+unfoldable pub requester_given : Requesting → List ℕ → PacketStep
+requester_given a packet = if is_worn a then worn_step a else hears_packet a packet (parsed packet)

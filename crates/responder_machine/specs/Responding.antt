@@ -1,4 +1,5 @@
--- The responder with all its connections: what a packet leads to. This project's own.
+-- The responder as a whole end: all its connections, and what a packet, queued data and time lead to. This project's
+-- own.
 use Rattle.std.specs.Prelude.{◌+◌, ◌==◌, ◌||◌, not, nat_le, nat_lt, ℕ, List, [], ◌∷◌, map, find, length, if◌then◌else◌, Bool, false, Option, Some, None, Result, Ok, Err}
 use Rattle.mctp_framing.specs.Gathering.{Gathered}
 use Rattle.mctp_framing.specs.Gathering.Gathered.{Whole, More, Dropped}
@@ -20,32 +21,33 @@ use Rattle.spdm_machine.specs.Keys.{Draw, draw_of}
 use Rattle.responder_machine.specs.Responder.{Outcome, after, body_of}
 use Rattle.responder_machine.specs.Responder.Outcome.{Adds}
 use Rattle.responder_machine.specs.ResponderLog.{acts_of}
-use Rattle.responder_machine.specs.Setup.{RspSetup}
-use Rattle.requester_machine.specs.Setup.{ReqSetup}
+use Rattle.responder_machine.specs.Setup.{RspSetup, RspPart, Known, RspEnd, towards}
 use Rattle.spdm_machine.specs.TagLog.{Act}
 use Rattle.responder_machine.specs.Turn.Effect.{NoEffect, Took, TookData}
 use Rattle.responder_machine.specs.Turn.{Effect}
-use Rattle.world_machine.specs.Packets.{gathered_from, packets_to, body_type, wear_limit}
-use Rattle.world_machine.specs.Setup.{WorldSetup, towards, responder_seed}
+use Rattle.spdm_machine.specs.Packets.{gathered_from, packets_to, body_type, wear_limit}
 
 -- One connection: how it is set up, and what was taken from its requester.
 pub record Connection : Type 0 where
   pub setup : RspSetup
   pub history : History
 
--- A responder: all packets that it was given, the newest first, and its connections in the order of the
--- requesters.
+-- A responder: how it is set up, the seed of its draws and the number of the first one, all packets that it was
+-- given, the newest first, and its connections in the order of the requesters.
 pub record Responding : Type 0 where
+  pub part : RspPart
+  pub seed : List ℕ
+  pub first : ℕ
   pub given : List (List ℕ)
   pub connections : List Connection
 
 -- A connection with a requester from which nothing was taken yet.
-abbrev pub new_connection : WorldSetup → ReqSetup → Connection
-new_connection w q = record { setup = towards w.responder q; history = [] }
+abbrev pub new_connection : RspPart → Known → Connection
+new_connection part q = record { setup = towards part q; history = [] }
 
--- The responder that was given nothing yet, with a connection for each requester.
-abbrev pub new_responding : WorldSetup → Responding
-new_responding w = record { given = []; connections = map (new_connection w) w.requesters }
+-- The responder that was given nothing yet, with a connection for each requester that it knows.
+abbrev pub new_responding : RspEnd → Responding
+new_responding e = record { part = e.part; seed = e.seed; first = e.first; given = []; connections = map (new_connection e.part) e.known }
 
 -- ---- Which connection. The end points of the requesters differ.
 
@@ -73,8 +75,8 @@ all_draws [] = 0
 all_draws (c ∷ others) = draws_of c.history + all_draws others
 
 -- The draw that stands next.
-unfoldable pub next_draw : WorldSetup → Responding → Draw
-next_draw w r = draw_of (responder_seed w.seed) (w.first + all_draws r.connections)
+unfoldable pub next_draw : Responding → Draw
+next_draw r = draw_of r.seed (r.first + all_draws r.connections)
 
 -- ---- A packet.
 
@@ -109,33 +111,33 @@ answers r c packet route body outcome = record {
   sent = packets_to c.setup.peer c.setup.eid false route.tag c.setup.unit (body_of outcome);
   taken = data_of outcome;
   acts = acts_of c.setup c.history body outcome;
-  after = record { given = packet ∷ r.given; connections = with_history c.setup.peer (λ h. after h outcome) r.connections };
+  after = record r { given = packet ∷ r.given; connections = with_history c.setup.peer (λ h. after h outcome) r.connections };
 }
 
 -- A body that is whole: it has to be a request, of a known type.
-abbrev pub hears_whole : WorldSetup → Responding → Connection → List ℕ → RouteFields → List ℕ → RspStep
-hears_whole w r c packet route body =
+abbrev pub hears_whole : Responding → Connection → List ℕ → RouteFields → List ℕ → RspStep
+hears_whole r c packet route body =
     if not route.owner then ignores r packet (heard.Ignored ignored.NotRequest)
     else (if not (body_type body == 5 || body_type body == 6) then ignores r packet (heard.Ignored ignored.OtherType)
-    else answers r c packet route body (responder_does c.setup c.history route.tag body (next_draw w r)))
+    else answers r c packet route body (responder_does c.setup c.history route.tag body (next_draw r)))
 
 -- A packet that completes a body is heard; one that awaits more, or is dropped, changes nothing else.
-abbrev pub hears_gathered : WorldSetup → Responding → Connection → List ℕ → Gathered → RspStep
-hears_gathered w r c packet (Whole route body) = hears_whole w r c packet route body
-hears_gathered w r c packet More = ignores r packet heard.More
-hears_gathered w r c packet (Dropped cause) = ignores r packet (heard.Ignored (ignored.Dropped cause))
+abbrev pub hears_gathered : Responding → Connection → List ℕ → Gathered → RspStep
+hears_gathered r c packet (Whole route body) = hears_whole r c packet route body
+hears_gathered r c packet More = ignores r packet heard.More
+hears_gathered r c packet (Dropped cause) = ignores r packet (heard.Ignored (ignored.Dropped cause))
 
 -- A packet from an end point without a connection is ignored.
-abbrev pub hears_from : WorldSetup → Responding → List ℕ → PacketFields → Option Connection → RspStep
-hears_from w r packet fields None = ignores r packet (heard.Ignored ignored.UnknownPeer)
-hears_from w r packet fields (Some c) = hears_gathered w r c packet (gathered_from c.setup.eid c.setup.peer r.given fields)
+abbrev pub hears_from : Responding → List ℕ → PacketFields → Option Connection → RspStep
+hears_from r packet fields None = ignores r packet (heard.Ignored ignored.UnknownPeer)
+hears_from r packet fields (Some c) = hears_gathered r c packet (gathered_from c.setup.eid c.setup.peer r.given fields)
 
 -- A packet has to be for the responder, and from a requester.
-abbrev pub hears_packet : WorldSetup → Responding → List ℕ → Result PacketFields PacketFault → RspStep
-hears_packet w r packet (Err fault) = ignores r packet (heard.Ignored (ignored.Packet fault))
-hears_packet w r packet (Ok fields) =
-    if not (fields.to == w.responder.eid) then ignores r packet (heard.Ignored (ignored.Dropped NotOurs))
-    else hears_from w r packet fields (connection_of fields.from r.connections)
+abbrev pub hears_packet : Responding → List ℕ → Result PacketFields PacketFault → RspStep
+hears_packet r packet (Err fault) = ignores r packet (heard.Ignored (ignored.Packet fault))
+hears_packet r packet (Ok fields) =
+    if not (fields.to == r.part.eid) then ignores r packet (heard.Ignored (ignored.Dropped NotOurs))
+    else hears_from r packet fields (connection_of fields.from r.connections)
 
 -- A worn responder takes no packet.
 abbrev pub is_worn : Responding → Bool
@@ -146,8 +148,8 @@ abbrev pub worn_step : Responding → RspStep
 worn_step r = record { heard = heard.Ignored ignored.Worn; sent = []; taken = None; acts = []; after = r }
 
 -- A packet is given to the responder.
-unfoldable pub responder_hears : WorldSetup → Responding → List ℕ → RspStep
-responder_hears w r packet = if is_worn r then worn_step r else hears_packet w r packet (parsed packet)
+unfoldable pub responder_hears : Responding → List ℕ → RspStep
+responder_hears r packet = if is_worn r then worn_step r else hears_packet r packet (parsed packet)
 
 -- ---- Queued data and time.
 
