@@ -27,7 +27,7 @@ pub mod Others
 pub mod Alike
 pub mod KeptRest
 pub mod Within
-mod VerifyLength
+pub mod VerifyLength
 mod Pinned
 mod PinnedClear
 mod PinnedInChunks

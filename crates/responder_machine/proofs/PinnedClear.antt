@@ -3,7 +3,7 @@ use Rattle.std.proofs.Common.{refl, ◌≡◌, [], ◌∷◌, Some, None}
 use Rattle.spdm_grammar.specs.declared.error_code.ErrorCode.TheVariants.{UnexpectedRequest, SessionRequired, VersionMismatch}
 use Rattle.spdm_grammar.specs.declared.phase.Phase.TheVariants.{Fresh, Versioned, Capable, Negotiated}
 use Rattle.responder_machine.proofs.Pinned.{computed, setup, free, IsTable, fresh, versioned, capable, negotiated, clear_with, negotiation, large, misversioned, get_version, get_capabilities, negotiate_algorithms, get_measurements, psk_exchange, psk_finish, heartbeat, key_update, end_session, chunk_send, chunk_get}
-use Rattle.responder_machine.proofs.VerifyLength.{length-verify_data}
+use Rattle.responder_machine.proofs.VerifyLength.{length_verify}
 use Rattle.responder_machine.specs.Refusal.{refusal}
 
 -- ---- What each phase allows, by requests of another version.
@@ -140,7 +140,7 @@ taken_in_negotiated = refl
 -- The length of its answer is known, without the verify data in it.
 exchange_is_taken : refusal setup negotiated psk_exchange free ≡ None
 unfolding computed
-exchange_is_taken = rw length-verify_data refl
+exchange_is_taken = rw length_verify refl
 
 -- ---- CHUNK_GET, with a large answer pending.
 

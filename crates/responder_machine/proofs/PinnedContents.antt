@@ -8,7 +8,7 @@ use Rattle.spdm_grammar.specs.declared.capabilities.Caps.{Caps}
 use Rattle.spdm_grammar.specs.declared.error_code.ErrorCode.TheVariants.{InvalidRequest, UnexpectedRequest, SessionLimitExceeded}
 use Rattle.spdm_grammar.specs.declared.phase.Phase.TheVariants.{Negotiated}
 use Rattle.responder_machine.proofs.Pinned.{computed, setup, free, IsTable, versioned, capable, negotiated, clear_with, negotiation_with, all_caps, offer, exchange, caps_with, opened, verifying, get_capabilities, negotiate_algorithms, get_measurements, psk_exchange, key_update}
-use Rattle.responder_machine.proofs.VerifyLength.{length-verify_data}
+use Rattle.responder_machine.proofs.VerifyLength.{length_verify}
 use Rattle.responder_machine.specs.Place.{Place, session_place}
 use Rattle.responder_machine.specs.Refusal.{refusal}
 
@@ -105,16 +105,16 @@ summaries_without_measurements = refl
 
 no_summary_without_measurements : refusal setup unmeasured psk_exchange free ≡ None
 unfolding computed
-no_summary_without_measurements = rw length-verify_data refl
+no_summary_without_measurements = rw length_verify refl
 
 -- Beside four sessions past their handshake no exchange is taken, beside three it is.
 fourth_session : refusal setup (record negotiated { past_handshake = 3 }) psk_exchange free ≡ None
 unfolding computed
-fourth_session = rw length-verify_data refl
+fourth_session = rw length_verify refl
 
 fifth_session : refusal setup (record negotiated { past_handshake = 4 }) psk_exchange free ≡ Some SessionLimitExceeded
 unfolding computed
-fifth_session = rw length-verify_data refl
+fifth_session = rw length_verify refl
 
 -- The limit is one of PSK_EXCHANGE alone.
 beside_four_sessions : IsTable setup (record negotiated { past_handshake = 4 }) ((get_measurements 0, None) ∷ [])
@@ -146,4 +146,4 @@ updates_in_verifying = refl
 -- A summary of all measurements, with measurements.
 summary_with_measurements : refusal setup negotiated (exchanging (record exchange { summary = 255 })) free ≡ None
 unfolding computed
-summary_with_measurements = simp (length-append, length-sha256, length-verify_data) refl
+summary_with_measurements = simp (length-append, length-sha256, length_verify) refl

@@ -3,7 +3,7 @@ use Rattle.std.proofs.Common.{refl, ◌≡◌, [], ◌∷◌, Some, None}
 use Rattle.spdm_grammar.specs.declared.error_code.ErrorCode.TheVariants.{UnexpectedRequest, SessionRequired, VersionMismatch}
 use Rattle.spdm_grammar.specs.declared.phase.Phase.TheVariants.{Fresh, Versioned, Capable, Negotiated}
 use Rattle.responder_machine.proofs.Pinned.{computed, setup, free, IsTable, fresh, versioned, capable, negotiated, clear_with, negotiation, large, misversioned, get_version, get_capabilities, negotiate_algorithms, get_measurements, psk_exchange, psk_finish, heartbeat, key_update, end_session, chunk_send, chunk_get}
-use Rattle.responder_machine.proofs.VerifyLength.{length-verify_data}
+use Rattle.responder_machine.proofs.VerifyLength.{length_verify}
 use Rattle.responder_machine.specs.Place.{inside}
 use Rattle.responder_machine.specs.Refusal.{refusal}
 
@@ -141,7 +141,7 @@ taken_in_negotiated = refl
 -- The length of its answer is known, without the verify data in it.
 exchange_is_taken : refusal setup (inside negotiated) psk_exchange free ≡ None
 unfolding computed
-exchange_is_taken = rw length-verify_data refl
+exchange_is_taken = rw length_verify refl
 
 -- ---- CHUNK_GET does not come by chunks, with a large answer pending either.
 

@@ -10,7 +10,7 @@ use Rattle.spdm_grammar.specs.declared.error_code.ErrorCode.TheVariants.{Invalid
 use Rattle.spdm_grammar.specs.declared.phase.Phase.TheVariants.{Negotiated}
 use Rattle.transcript.specs.Transcripts.{Negotiation}
 use Rattle.responder_machine.proofs.Pinned.{computed, setup, free, IsTable, clear_with, negotiation_with, caps_with, all_caps, offer, exchange, only_chunk, large, fresh, capable, negotiated, begun, opened, opened_with, misversioned, get_version, get_capabilities, negotiate_algorithms, get_measurements, psk_exchange, psk_finish, heartbeat, key_update, end_session, chunk_send, chunk_get}
-use Rattle.responder_machine.proofs.VerifyLength.{length-verify_data}
+use Rattle.responder_machine.proofs.VerifyLength.{length_verify}
 use Rattle.responder_machine.specs.Place.{Place, inside, session_place}
 use Rattle.responder_machine.specs.Refusal.{refusal, code_of}
 
@@ -160,13 +160,13 @@ contents_before_session_limit = refl
 -- The length of the answer, before the number of sessions.
 length_before_session_limit : refusal setup (record small { past_handshake = 4 }) psk_exchange free ≡ Some ResponseTooLarge
 unfolding computed
-length_before_session_limit = rw length-verify_data refl
+length_before_session_limit = rw length_verify refl
 
 -- PSK_EXCHANGE_RSP of 76 bytes, at the max size and one more.
 exchange_at_max_size : refusal setup (clear_with Negotiated [] (negotiation_with setup (caps_with 0 76 76) offer)) psk_exchange free ≡ None
 unfolding computed
-exchange_at_max_size = rw length-verify_data refl
+exchange_at_max_size = rw length_verify refl
 
 exchange_over_max_size : refusal setup (clear_with Negotiated [] (negotiation_with setup (caps_with 0 75 75) offer)) psk_exchange free ≡ Some ResponseTooLarge
 unfolding computed
-exchange_over_max_size = rw length-verify_data refl
+exchange_over_max_size = rw length_verify refl

@@ -6,7 +6,7 @@ use Rattle.spdm_grammar.specs.Message.RequestMessage.{ChunkSend}
 use Rattle.spdm_grammar.specs.Requests.{canonical_request}
 use Rattle.spdm_grammar.specs.declared.phase.Phase.TheVariants.{Capable}
 use Rattle.responder_machine.proofs.Pinned.{computed, setup, free, clear_with, negotiation_with, caps_with, chunks, offer, fresh, versioned, capable, negotiated, opened, verifying, opened_with, misversioned, get_version, get_capabilities, negotiate_algorithms, get_measurements, psk_exchange, psk_finish, heartbeat, key_update, end_session, chunk_send}
-use Rattle.responder_machine.proofs.VerifyLength.{length-verify_data}
+use Rattle.responder_machine.proofs.VerifyLength.{length_verify}
 use Rattle.responder_machine.specs.Handling.{turn_of}
 use Rattle.responder_machine.specs.Place.{Place, session_place}
 use Rattle.responder_machine.specs.Setup.{RspSetup}
@@ -67,7 +67,7 @@ missing_flags = refl
 -- SessionLimitExceeded. ResponseTooLarge has the length of the answer, and LargeResponse its handle.
 session_limit : (turn_of setup (record negotiated { past_handshake = 4 }) psk_exchange free).reply ≡ 0x12 ∷ 0x7f ∷ 0x0a ∷ 0x00 ∷ []
 unfolding computed
-session_limit = rw length-verify_data refl
+session_limit = rw length_verify refl
 
 too_long : AreReplies setup (clear_with Capable [] (negotiation_with setup (caps_with chunks 42 51) offer)) ((negotiate_algorithms, 0x12 ∷ 0x7f ∷ 0x0d ∷ 0x00 ∷ 0x34 ∷ 0x00 ∷ 0x00 ∷ 0x00 ∷ []) ∷ [])
 unfolding computed

@@ -11,14 +11,14 @@ use Rattle.spdm_basis.specs.declared.hash_alg.HashAlg.TheVariants.{Sha256, Sha38
 use Rattle.spdm_grammar.specs.declared.choice.Choice.{Choice}
 use Rattle.spdm_machine.specs.Keys.{verify_data}
 
-length-digest : (hash : HashAlg) (m : List ℕ) → length ((hash_of hash).digest m) ≡ hash_size hash
-length-digest Sha256 m = length-sha256 m
-length-digest Sha384 m = length-sha384 m
+pub length_digest : (hash : HashAlg) (m : List ℕ) → length ((hash_of hash).digest m) ≡ hash_size hash
+length_digest Sha256 m = length-sha256 m
+length_digest Sha384 m = length-sha384 m
 
-length-hmac : (hash : HashAlg) (key text : List ℕ) → length (hmac (hash_of hash) key text) ≡ hash_size hash
+length_hmac : (hash : HashAlg) (key text : List ℕ) → length (hmac (hash_of hash) key text) ≡ hash_size hash
 unfolding hmac
-length-hmac hash key text = length-digest hash _
+length_hmac hash key text = length_digest hash _
 
-pub length-verify_data : (choice : Choice) (psk t1 : List ℕ) (direction : Direction) (text : List ℕ) → length (verify_data choice psk t1 direction text) ≡ hash_size choice.hash
+pub length_verify : (choice : Choice) (psk t1 : List ℕ) (direction : Direction) (text : List ℕ) → length (verify_data choice psk t1 direction text) ≡ hash_size choice.hash
 unfolding verify_data
-length-verify_data choice psk t1 direction text = length-hmac choice.hash _ _
+length_verify choice psk t1 direction text = length_hmac choice.hash _ _
