@@ -38,3 +38,5 @@ mod PinnedChunks
 mod PinnedSizes
 mod PinnedOrder
 mod PinnedReplies
+mod PinnedSessions
+mod PinnedCounts
