@@ -7,6 +7,7 @@ use Rattle.std.specs.Option.{unwrap_or}
 use Rattle.spdm_grammar.specs.Message.{ChunkMessage}
 use Rattle.spdm_grammar.specs.declared.ChunkFault.{ChunkFault}
 use Rattle.spdm_grammar.specs.declared.ChunkFault.TheVariants.{WrongHandle, WrongNumber, WrongSize, TooLarge, EarlyLast, MissingLast}
+use Rattle.spdm_grammar.specs.declared.names.TheConstants.{MAX_MESSAGE_SIZE}
 
 -- The chunks of the message under way, of all accepted ones: none after one with the last mark; else those
 -- back to the newest of number 0.
@@ -53,7 +54,7 @@ size_rule told held c = first_fault (
 -- The rule that a chunk of number 0 breaks: it tells more than the greatest length or more than 4,096; or
 -- that of sizes and marks.
 abbrev pub first_rule : (max : ℕ) → ChunkMessage → Option ChunkFault
-first_rule max c = if nat_lt (min max 4096) (told_by c) then Some TooLarge else size_rule (told_by c) 0 c
+first_rule max c = if nat_lt (min max MAX_MESSAGE_SIZE) (told_by c) then Some TooLarge else size_rule (told_by c) 0 c
 
 -- The rule that a chunk of another number breaks, by the chunks of its message before it: there are none;
 -- it has another handle; its number is not one above that of the chunk before it; or that of sizes and

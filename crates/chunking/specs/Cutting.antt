@@ -3,6 +3,7 @@
 use Rattle.std.specs.Prelude.{◌==◌, ◌<◌, ◌≤◌, ◌+◌, ◌-◌, ◌*◌, zero, suc, ℕ, List, [], ◌∷◌, map, length, slice_range, if◌then◌else◌, Some, None}
 use Rattle.std.specs.Int.{div_ceil}
 use Rattle.std.specs.List.{range_with_len}
+use Rattle.spdm_grammar.specs.declared.names.TheConstants.{MIN_DATA_TRANSFER_SIZE, MAX_MESSAGE_SIZE}
 use Rattle.spdm_grammar.specs.Message.{ChunkMessage}
 
 -- How many bytes a chunk that is not the first holds: a message of the transfer size, less the 12 bytes
@@ -47,7 +48,7 @@ chunks_before transfer handle message (suc k) = nth_chunk transfer handle messag
 -- What has to hold of a message for its chunks to be collected again: it goes by chunks at this transfer
 -- size, and is at most as long as the collector and this project allow.
 pub record IsCollectable (max transfer : ℕ) (message : List ℕ) : Type 0 where
-  pub low : 42 ≤ transfer
+  pub low : MIN_DATA_TRANSFER_SIZE ≤ transfer
   pub large : transfer < length message + 16
   pub fits : length message ≤ max
-  pub short : length message ≤ 4096
+  pub short : length message ≤ MAX_MESSAGE_SIZE

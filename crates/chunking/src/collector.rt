@@ -8,6 +8,7 @@ ghost use Rattle.chunking.specs.Keeping.{Kept, StandsFor, after_chunk, after_fir
 
 use crate::unfinished::{Unfinished, broken_first_rule, told_by};
 use spdm_basis::Frame;
+use spdm_grammar::names::MAX_MESSAGE_SIZE;
 use spdm_grammar::{ChunkFault, ChunkView};
 use std::marker::Model;
 
@@ -21,6 +22,7 @@ pub struct Collector {
 }
 
 impl Model for Collector {
+    ghost use Rattle.spdm_grammar.specs.declared.names.TheConstants.{MAX_MESSAGE_SIZE};
     ghost use Rattle.std.specs.Prelude.{◌≤◌, IfSome};
     ghost use Rattle.chunking.specs.Keeping.{Kept};
 
@@ -28,7 +30,7 @@ impl Model for Collector {
 
     ghost view = { λ c. record { max = c.max; unfinished = c.unfinished; bytes = c.bytes } };
 
-    ghost invariant = { λ c. IfSome c.unfinished (λ u. u.told ≤ 4096) };
+    ghost invariant = { λ c. IfSome c.unfinished (λ u. u.told ≤ MAX_MESSAGE_SIZE) };
 }
 
 /// What a chunk led to.
@@ -73,7 +75,7 @@ impl Collector {
     /// size. `MissingLast`: the told size is reached without the mark.
     pub fn take(&mut self, chunk: ChunkView<'_>) -> Collected<'_>
         ensures answer { (accepted : List ChunkMessage) → StandsFor self.old accepted → collection_of result ≡ collected self.old.max accepted (chunk_message chunk.entry) }
-        ensures fits { length (whole_of result) ≤ 4096 }
+        ensures fits { length (whole_of result) ≤ MAX_MESSAGE_SIZE }
         // What it is once the message is given back.
         ensures* rests { sem 𝓛 (RestsWith self.entry (chunk_message chunk.entry) (collection_of result)) }
     {
@@ -147,7 +149,7 @@ impl Collector {
 
     // Adds a chunk that breaks no rule.
     fn grow(&mut self, chunk: ChunkView<'_>, told: u32) -> Step
-        requires most { told ≤ 4096 }
+        requires most { told ≤ MAX_MESSAGE_SIZE }
         requires fits { length self.old.bytes + length chunk.chunk.now ≤ told }
         ensures answer { step_answer result self.new.bytes ≡ answer_from None (chunk_message chunk.entry) (self.old.bytes ++ chunk.entry.chunk.now) }
         ensures after { self.new ≡ grown self.old (chunk_message chunk.entry) told }

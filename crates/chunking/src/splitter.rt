@@ -6,6 +6,7 @@ ghost use Rattle.spdm_grammar.specs.Message.{chunk_message};
 
 use spdm_basis::Frame;
 use spdm_grammar::ChunkView;
+use spdm_grammar::names::{MAX_MESSAGE_SIZE, MIN_DATA_TRANSFER_SIZE};
 use std::marker::Model;
 use thiserror::Error;
 
@@ -19,9 +20,6 @@ pub enum SplitFault {
     #[error("a message that fits into one chunk")]
     Fits,
 }
-
-/// The least DataTransferSize (DSP0274, "CAPABILITIES").
-const MIN_TRANSFER: u32 = 42;
 
 // What stands before the bytes of a chunk: the header of four bytes, ChunkSeqNo, two reserved bytes and
 // ChunkSize; and in the first one LargeMessageSize.
@@ -42,6 +40,7 @@ pub struct Splitter {
 }
 
 impl Model for Splitter {
+    ghost use Rattle.spdm_grammar.specs.declared.names.TheConstants.{MIN_DATA_TRANSFER_SIZE, MAX_MESSAGE_SIZE};
     ghost use Rattle.std.specs.Prelude.{◌≡◌, ◌≤◌, ◌<◌, ◌+◌, List, drop, length};
     ghost use Rattle.spdm_grammar.specs.Message.{ChunkMessage};
     ghost use Rattle.chunking.specs.Cutting.{chunk_count, chunks_of};
@@ -50,7 +49,7 @@ impl Model for Splitter {
 
     ghost view = { λ s. drop s.taken (chunks_of s.transfer s.handle s.message) };
 
-    ghost invariant = { λ s. (42 ≤ s.transfer) × (length s.message ≤ 4096) × (s.transfer < length s.message + 16) × (s.count ≡ chunk_count s.transfer s.message) × (s.taken ≤ s.count) };
+    ghost invariant = { λ s. (MIN_DATA_TRANSFER_SIZE ≤ s.transfer) × (length s.message ≤ MAX_MESSAGE_SIZE) × (s.transfer < length s.message + 16) × (s.count ≡ chunk_count s.transfer s.message) × (s.taken ≤ s.count) };
 }
 
 impl Splitter {
@@ -58,12 +57,12 @@ impl Splitter {
     /// less 12, and the rest. `TransferTooSmall` comes exactly where `transfer` is below 42, and then
     /// `Fits` exactly where the message is not longer than `transfer` less 16.
     pub fn new(message: &[u8], transfer: u32, handle: u8) -> Result<Splitter, SplitFault>
-        requires { length message.now ≤ 4096 }
+        requires { length message.now ≤ MAX_MESSAGE_SIZE }
         ensures chunks { IfOk result (λ splitter. splitter ≡ chunks_of transfer handle message.now) }
-        ensures small { (result ≡ Err SplitFault.TransferTooSmall) ↔ (transfer < 42) }
-        ensures fits { (result ≡ Err SplitFault.Fits) ↔ ((42 ≤ transfer) × (length message.now + 16 ≤ transfer)) }
+        ensures small { (result ≡ Err SplitFault.TransferTooSmall) ↔ (transfer < MIN_DATA_TRANSFER_SIZE) }
+        ensures fits { (result ≡ Err SplitFault.Fits) ↔ ((MIN_DATA_TRANSFER_SIZE ≤ transfer) × (length message.now + 16 ≤ transfer)) }
     {
-        if transfer < MIN_TRANSFER {
+        if transfer < MIN_DATA_TRANSFER_SIZE {
             return Err(SplitFault::TransferTooSmall);
         }
         let unit = transfer as usize - HEADER_LEN;
@@ -104,8 +103,8 @@ impl Splitter {
 
 // The chunk of this number, of the number of chunks that the message has.
 fn chunk_at(message: &[u8], transfer: u32, handle: u8, number: usize, count: usize) -> ChunkView<'_>
-    requires low { 42 ≤ transfer }
-    requires high { length message.now ≤ 4096 }
+    requires low { MIN_DATA_TRANSFER_SIZE ≤ transfer }
+    requires high { length message.now ≤ MAX_MESSAGE_SIZE }
     requires counted { count ≡ chunk_count transfer message.now }
     requires within { number < count }
     ensures { chunk_message result ≡ nth_chunk transfer handle message.now number }

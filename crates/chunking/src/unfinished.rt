@@ -3,6 +3,7 @@ ghost use Rattle.spdm_grammar.specs.Message.{chunk_message};
 ghost use Rattle.chunking.specs.Collecting.{first_rule, has_wrong_size, size_rule, told_by};
 ghost use Rattle.chunking.specs.Keeping.{next_rule};
 
+use spdm_grammar::names::MAX_MESSAGE_SIZE;
 use spdm_grammar::{ChunkFault, ChunkView};
 
 // What the next chunk of an unfinished message must follow.
@@ -18,7 +19,7 @@ pub(crate) struct Unfinished {
 impl Unfinished {
     // The rule that a later chunk of the message breaks, where `held` bytes came before it.
     pub(crate) fn broken_rule(&self, chunk: ChunkView<'_>, held: usize) -> Option<ChunkFault>
-        requires { held ≤ 4096 }
+        requires { held ≤ MAX_MESSAGE_SIZE }
         ensures rule { result ≡ next_rule self.now held (chunk_message chunk.entry) }
         ensures fits { IfNone result (held + length chunk.entry.chunk.now ≤ self.now.told) }
     {
@@ -31,9 +32,6 @@ impl Unfinished {
         broken_size_rule(chunk, held, self.told)
     }
 }
-
-// The length of a message: up to 4,096 bytes.
-const MAX_MESSAGE: u32 = 4096;
 
 // The fewest bytes of a chunk that is not the last.
 const MIN_CHUNK: usize = 26;
@@ -48,11 +46,11 @@ pub(crate) fn told_by(chunk: ChunkView<'_>) -> u32
 // The rule that a first chunk breaks.
 pub(crate) fn broken_first_rule(chunk: ChunkView<'_>, max: u32) -> Option<ChunkFault>
     ensures rule { result ≡ first_rule max (chunk_message chunk.entry) }
-    ensures most { IfNone result (told_by (chunk_message chunk.entry) ≤ 4096) }
+    ensures most { IfNone result (told_by (chunk_message chunk.entry) ≤ MAX_MESSAGE_SIZE) }
     ensures fits { IfNone result (length chunk.entry.chunk.now ≤ told_by (chunk_message chunk.entry)) }
 {
     let told = told_by(chunk);
-    if told > max.min(MAX_MESSAGE) {
+    if told > max.min(MAX_MESSAGE_SIZE) {
         return Some(ChunkFault::TooLarge);
     }
     broken_size_rule(chunk, 0, told)
@@ -60,7 +58,7 @@ pub(crate) fn broken_first_rule(chunk: ChunkView<'_>, max: u32) -> Option<ChunkF
 
 // The rule of sizes and marks that a chunk breaks, where `held` bytes of `told` came before it.
 fn broken_size_rule(chunk: ChunkView<'_>, held: usize, told: u32) -> Option<ChunkFault>
-    requires { held ≤ 4096 }
+    requires { held ≤ MAX_MESSAGE_SIZE }
     ensures rule { result ≡ size_rule told held (chunk_message chunk.entry) }
     ensures fits { IfNone result (held + length chunk.entry.chunk.now ≤ told) }
 {
@@ -79,7 +77,7 @@ fn broken_size_rule(chunk: ChunkView<'_>, held: usize, told: u32) -> Option<Chun
 
 // Whether a chunk is empty, or passes the told length, or has too few bytes without the last mark.
 fn has_wrong_size(chunk: ChunkView<'_>, held: usize, told: u32) -> bool
-    requires { held ≤ 4096 }
+    requires { held ≤ MAX_MESSAGE_SIZE }
     ensures value { result ≡ has_wrong_size told held (chunk_message chunk.entry) }
 {
     let len = chunk.chunk.len();

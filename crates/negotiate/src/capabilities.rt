@@ -1,18 +1,13 @@
 ghost use Rattle.std.specs.Prelude.{◌≡◌};
-ghost use Rattle.negotiate.specs.Capabilities.{has_all, measures, psk_is, protects, both_have, common_of};
+ghost use Rattle.negotiate.specs.Capabilities.{has_all, measures, psk_is, protects, both_have, sizes_of, common_of};
 
 use crate::{Common, Sizes};
+use spdm_grammar::names::capability::{
+    CHUNK_CAP, ENCRYPT_CAP, HBEAT_CAP, KEY_UPD_CAP, MAC_CAP, MEAS_CAP, MEAS_CAP_BITS,
+    MEAS_CAP_SIGNED, PSK_CAP, PSK_CAP_BITS, PSK_CAP_WITH_CONTEXT,
+};
+use spdm_grammar::names::{MAX_MESSAGE_SIZE, MIN_DATA_TRANSFER_SIZE};
 use spdm_grammar::{Caps, CapsFault};
-
-// The smallest DataTransferSize (DSP0274, "DataTransferSize").
-const MIN_TRANSFER: u32 = 42;
-
-// Bits 4:3, MEAS_CAP, and bits 11:10, PSK_CAP.
-const MEAS_CAP_BITS: u32 = 3 << 3;
-
-const MEAS_CAP_SIGNED: u32 = 2 << 3;
-
-const PSK_CAP_BITS: u32 = 3 << 10;
 
 /// What `requester` and `responder`, from GET_CAPABILITIES and CAPABILITIES, can do together, or why
 /// they do not go together (DSP0274, "CAPABILITIES"). `CapsFault` lists the reasons in the order in
@@ -20,14 +15,14 @@ const PSK_CAP_BITS: u32 = 3 << 10;
 pub fn common(requester: &Caps, responder: &Caps) -> Result<Common, CapsFault>
     ensures { result ≡ common_of requester.now responder.now }
 {
-    if requester.transfer < MIN_TRANSFER || responder.transfer < MIN_TRANSFER {
+    if requester.transfer < MIN_DATA_TRANSFER_SIZE || responder.transfer < MIN_DATA_TRANSFER_SIZE {
         return Err(CapsFault::SizeTooSmall);
     }
     if requester.max < requester.transfer || responder.max < responder.transfer {
         return Err(CapsFault::SizesCrossed);
     }
-    if requester.flags & PSK_CAP_BITS != Caps::PSK_CAP
-        || responder.flags & PSK_CAP_BITS != Caps::PSK_CAP_WITH_CONTEXT
+    if requester.flags & PSK_CAP_BITS != PSK_CAP
+        || responder.flags & PSK_CAP_BITS != PSK_CAP_WITH_CONTEXT
     {
         return Err(CapsFault::NoPsk);
     }
@@ -36,18 +31,22 @@ pub fn common(requester: &Caps, responder: &Caps) -> Result<Common, CapsFault>
     }
     Ok(Common {
         measure: measures(responder.flags),
-        heartbeat: both_have(Caps::HBEAT_CAP, requester, responder),
-        key_update: both_have(Caps::KEY_UPD_CAP, requester, responder),
-        chunk: both_have(Caps::CHUNK_CAP, requester, responder),
-        to_requester: Sizes {
-            transfer: requester.transfer,
-            max: requester.max,
-        },
-        to_responder: Sizes {
-            transfer: responder.transfer,
-            max: responder.max,
-        },
+        heartbeat: both_have(HBEAT_CAP, requester, responder),
+        key_update: both_have(KEY_UPD_CAP, requester, responder),
+        chunk: both_have(CHUNK_CAP, requester, responder),
+        to_requester: sizes(requester),
+        to_responder: sizes(responder),
     })
+}
+
+// How long the messages are that an end takes.
+fn sizes(caps: &Caps) -> Sizes
+    ensures { result ≡ sizes_of caps.now }
+{
+    Sizes {
+        transfer: caps.transfer.min(MAX_MESSAGE_SIZE),
+        max: caps.max.min(MAX_MESSAGE_SIZE),
+    }
 }
 
 /// Whether all these bits are set.
@@ -68,7 +67,7 @@ fn both_have(flag: u32, requester: &Caps, responder: &Caps) -> bool
 fn protects(flags: u32) -> bool
     ensures { result ≡ protects flags }
 {
-    has_all(flags, Caps::ENCRYPT_CAP) && has_all(flags, Caps::MAC_CAP)
+    has_all(flags, ENCRYPT_CAP) && has_all(flags, MAC_CAP)
 }
 
 // Whether a responder has measurements, with signatures or without.
@@ -76,5 +75,5 @@ fn measures(flags: u32) -> bool
     ensures { result ≡ measures flags }
 {
     let cap = flags & MEAS_CAP_BITS;
-    cap == Caps::MEAS_CAP || cap == MEAS_CAP_SIGNED
+    cap == MEAS_CAP || cap == MEAS_CAP_SIGNED
 }

@@ -15,7 +15,7 @@ pub struct Common {
     pub to_responder: Sizes,
 }
 
-/// How long the messages are that an end takes, in bytes.
+/// How long the messages are that an end takes, in bytes: what it announces, and at most 4,096.
 #[derive(Clone, Copy, Debug, PartialEq, Eq)]
 pub struct Sizes {
     /// DataTransferSize: in one piece.

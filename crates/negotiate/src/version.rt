@@ -2,6 +2,7 @@ ghost use Rattle.std.specs.Prelude.{◌≡◌};
 ghost use Rattle.negotiate.specs.Versions.{version_entries, first_of_1_2};
 
 use byteorder::{ByteOrder, LittleEndian};
+use spdm_grammar::names::spdm_version::V1_2;
 
 /// The entry to use of the entries of VERSION, two bytes each with the low byte first: the first one of
 /// version 1.2, whose bits 15:8 are 0x12, and `None` exactly where there is none (DSP0274, "VERSION
@@ -12,7 +13,7 @@ pub fn choose_version(entries: &[u8]) -> Option<u16>
     let mut rest = entries;
     while let [low, high, others @ ..] = rest {
         let entry = LittleEndian::read_u16(&[*low, *high]);
-        if entry / 256 == 0x12 {
+        if entry / 256 == u16::from(V1_2) {
             return Some(entry);
         }
         rest = others;

@@ -32,6 +32,7 @@ use Rattle.requester_machine.specs.Order.Waits.{Rests}
 use Rattle.requester_machine.specs.Sending.{plain_sent, request_sent, piece_sent, piece_of, get_sent, is_too_long}
 use Rattle.requester_machine.specs.Session.{Steps, session_of, with_sent, after_clear}
 use Rattle.requester_machine.proofs.Steps.{Good, refused_good, exchange_good}
+use Rattle.spdm_grammar.specs.declared.names.error_number.TheConstants.{LARGE_RESPONSE}
 
 -- What a message leads to keeps the session with this id good.
 abbrev pub GoodLed : ℕ → Steps → Led → Type 0
@@ -67,7 +68,7 @@ refuses-good id s code _ good = good
 
 error_led-good : (id : ℕ) (s : Steps) (h : History) (asked : RequestMessage) (code : ℕ) (extended : List ℕ) → Good (waits_asked id asked) s → GoodLed id s (error_led h asked code extended)
 error_led-good id s h asked code extended good =
-    either_led id s (code == 0x0f && may_be_large asked && (connection_terms h).common.chunk) (goes_on Nothing (get_sent h asked (slice_index extended 0) 0 [])) (is_refused code (Refuses asked))
+    either_led id s (code == LARGE_RESPONSE && may_be_large asked && (connection_terms h).common.chunk) (goes_on Nothing (get_sent h asked (slice_index extended 0) 0 [])) (is_refused code (Refuses asked))
     good (refuses-good id s code asked good)
 
 version_led-good : (id : ℕ) (s : Steps) (q : ReqSetup) (h : History) (answer : List ℕ) (entry : Option ℕ) → Good Rests s → GoodLed id s (version_led q h answer entry)

@@ -9,7 +9,8 @@ use Rattle.spdm_machine.specs.Keys.{Draw}
 use Rattle.requester_machine.specs.Setup.{ReqSetup}
 use Rattle.requester_machine.specs.Asking.{Outcome, asks, asks_by, done}
 use Rattle.requester_machine.specs.Asking.Outcome.{Fails, Ignores, Warns, Resends, Adds}
-use Rattle.requester_machine.specs.Commands.{Free, command_fault, command_tests, first_of_tests}
+use Rattle.requester_machine.specs.Commands.{Free, command_fault, command_tests}
+use Rattle.spdm_basis.specs.Tests.{first_of_tests}
 use Rattle.requester_machine.specs.History.{History, Entry}
 use Rattle.requester_machine.specs.Message.{Command, Sent, asked_in}
 use Rattle.requester_machine.specs.Sending.{request_sent, piece_sent, plain_sent}

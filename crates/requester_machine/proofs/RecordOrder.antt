@@ -23,6 +23,7 @@ use Rattle.requester_machine.specs.Order.Waits.{Rests, ForRecord}
 use Rattle.requester_machine.specs.Sending.{operation_of}
 use Rattle.requester_machine.specs.Session.{Steps, with_sent, after_record}
 use Rattle.requester_machine.proofs.Steps.{Good, end_good, done_good, next_good}
+use Rattle.spdm_grammar.specs.declared.names.error_number.TheConstants.{LARGE_RESPONSE}
 
 -- The session with an id, behind a record that came and what it leads to.
 abbrev pub steps_behind : ℕ → Steps → Came → Led → Steps
@@ -108,7 +109,7 @@ whole_led-good : (id : ℕ) (s : Steps) (q : ReqSetup) (h : History) (f : Free) 
     → Waiting id s came (AskChunk op handle number before) → GoodInner id s came (whole_led q h f came op whole reading)
 whole_led-good id s q h f came op handle number before whole (Err fault) good = tt
 whole_led-good id s q h f came op handle number before whole (Ok (Error version code detail extended)) good =
-    either_record id s came (code == 0x0f && not (has_reached 65300 came.steps)) (first_get q h f came op extended) (is_refused code Nothing)
+    either_record id s came (code == LARGE_RESPONSE && not (has_reached 65300 came.steps)) (first_get q h f came op extended) (is_refused code Nothing)
     (first_get-good id s q h f came (AskChunk op handle number before) op extended refl good) (refused-good id s came (AskChunk op handle number before) code refl good)
 whole_led-good id s q h f came op handle number before whole (Ok (Measurements measured)) good =
     done_good (came.id == id) came.sealed came.inner (Grants (AskMeasure op) whole) (AskChunk op handle number before) s refl (eq-eqb op op refl) refl good

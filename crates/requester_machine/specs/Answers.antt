@@ -28,6 +28,7 @@ use Rattle.requester_machine.specs.Message.{Sent}
 use Rattle.requester_machine.specs.Sending.{plain_sent, request_sent, get_sent, finish_sent, is_too_long}
 use Rattle.requester_machine.specs.Session.{Steps, session_of, when_live, session_terms, t1_of}
 use Rattle.requester_machine.specs.Session.Step.{Accepted}
+use Rattle.spdm_grammar.specs.declared.names.error_number.TheConstants.{LARGE_RESPONSE}
 
 -- ---- What a message leads to.
 
@@ -60,7 +61,7 @@ may_be_large _ = false
 -- any other ERROR refuses the request (DSP0274, "ERROR", "Large SPDM message transfer mechanism").
 abbrev pub error_led : History → RequestMessage → (code : ℕ) → (extended : List ℕ) → Led
 error_led h asked code extended =
-    if code == 0x0f && may_be_large asked && (connection_terms h).common.chunk
+    if code == LARGE_RESPONSE && may_be_large asked && (connection_terms h).common.chunk
     then goes_on Nothing (get_sent h asked (slice_index extended 0) 0 [])
     else is_refused code (Refuses asked)
 

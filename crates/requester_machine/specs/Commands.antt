@@ -1,6 +1,7 @@
 -- Which commands a requester does not do, and why: a list of tests in order, of which the first that holds
 -- decides. This project's own.
 use Rattle.std.specs.Prelude.{◌+◌, ◌==◌, ◌&&◌, ◌||◌, not, nat_lt, nat_le, ℕ, List, [], ◌∷◌, length, if◌then◌else◌, Bool, true, false, Option, Some, None, is_none, is_some}
+use Rattle.spdm_basis.specs.Tests.{first_of_tests}
 use Rattle.spdm_grammar.specs.Fields.{is_summary}
 use Rattle.spdm_grammar.specs.Message.{RequestMessage}
 use Rattle.spdm_grammar.specs.Message.RequestMessage.{PskExchange}
@@ -121,11 +122,6 @@ is_long q h f (Open summary) = is_too_long (connection_terms h).common (canonica
 is_long q h f _ = false
 
 -- ---- The tests.
-
--- The fault of the first test that holds.
-abbrev pub first_of_tests : List (Bool × CommandFault) → Option CommandFault
-first_of_tests [] = None
-first_of_tests (t ∷ ts) = if t.0 then Some t.1 else first_of_tests ts
 
 -- The tests behind Worn.
 abbrev pub command_tests : ReqSetup → History → Command → Free → List (Bool × CommandFault)

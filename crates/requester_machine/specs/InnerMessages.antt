@@ -1,6 +1,7 @@
 -- What the inner message of a record leads to at a requester, once the record opened, or why it is no answer.
 -- This project's own but for the answers themselves (DSP0274, section 10).
 use Rattle.std.specs.Prelude.{◌+◌, ◌==◌, ◌&&◌, ◌||◌, not, nat_lt, ℕ, List, [], ◌∷◌, length, slice_index, drop, if◌then◌else◌, Bool, true, false, Option, Some, None, Result, Ok, Err}
+use Rattle.spdm_basis.specs.Tests.{first_of_tests}
 use Rattle.chunking.specs.Collecting.{joined_with}
 use Rattle.spdm_grammar.specs.Message.{ResponseMessage, ChunkMessage}
 use Rattle.spdm_grammar.specs.Message.ResponseMessage.{Measurements, PskFinishRsp, HeartbeatAck, KeyUpdateAck, EndSessionAck, ChunkResponse, Error}
@@ -23,6 +24,7 @@ use Rattle.requester_machine.specs.Message.Ask.{AskFinish, AskData, AskBeat, Ask
 use Rattle.requester_machine.specs.Sending.{verify_sent, chunk_sent, operation_of, update_tag}
 use Rattle.requester_machine.specs.Session.{Steps, when_live, session_id, session_terms}
 use Rattle.requester_machine.specs.Session.Step.{Took}
+use Rattle.spdm_grammar.specs.declared.names.error_number.TheConstants.{LARGE_RESPONSE}
 
 -- A record as it came to a session: the ReqSessionID and the own history of the session when it came, the
 -- record, and its inner message.
@@ -41,11 +43,6 @@ abbrev pub message_in : Came → List ℕ
 message_in came = drop 1 came.inner
 
 -- ---- Faults of the inner message.
-
--- The fault of the first test that holds.
-abbrev pub first_of_tests : List (Bool × BadReply) → Option BadReply
-first_of_tests [] = None
-first_of_tests (t ∷ ts) = if t.0 then Some t.1 else first_of_tests ts
 
 -- An SPDM message, type 5, is over the own transfer size; application data, type 1, has more than 1,024 bytes;
 -- the inner message is empty or of another type.
@@ -79,7 +76,7 @@ first_get q h f came op extended = goes_on Nothing (chunk_sent q h came.id (with
 
 -- LargeResponse, 0F, to GET_MEASUREMENTS is followed where chunks are in common.
 abbrev pub follows : Came → Ask → (code : ℕ) → Bool
-follows came (AskMeasure op) code = code == 0x0f && (session_terms came.steps).common.chunk
+follows came (AskMeasure op) code = code == LARGE_RESPONSE && (session_terms came.steps).common.chunk
 follows came _ code = false
 
 -- The operation of the GET_MEASUREMENTS that is asked, also by chunks; 0 for all else.
@@ -120,7 +117,7 @@ verified_led came echo =
 abbrev pub whole_led : ReqSetup → History → Free → Came → (op : ℕ) → (whole : List ℕ) → Result ResponseMessage Malformed → Result Led BadReply
 whole_led q h f came op whole (Err fault) = Err (bad.Malformed fault.at)
 whole_led q h f came op whole (Ok (Error version code detail extended)) =
-    Ok (if code == 0x0f && not (has_reached 65300 came.steps) then first_get q h f came op extended else is_refused code Nothing)
+    Ok (if code == LARGE_RESPONSE && not (has_reached 65300 came.steps) then first_get q h f came op extended else is_refused code Nothing)
 whole_led q h f came op whole (Ok (Measurements measured)) = Ok (measured_led op measured (Grants (AskMeasure op) whole))
 whole_led q h f came op whole (Ok _) = Err bad.WrongKind
 

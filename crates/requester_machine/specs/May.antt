@@ -9,6 +9,7 @@ use Rattle.requester_machine.specs.Hearing.{hears}
 use Rattle.requester_machine.specs.History.{History, connection_terms}
 use Rattle.requester_machine.specs.Message.{Command}
 use Rattle.requester_machine.specs.Session.{session_of, is_live}
+use Rattle.spdm_grammar.specs.declared.names.TheConstants.{MAX_MESSAGE_SIZE}
 
 -- A setup within its limits. This project's own.
 pub record IsSetUp (q : ReqSetup) : Type 0 where
@@ -25,7 +26,7 @@ pub record IsAllowed (q : ReqSetup) (h : History) (f : Free) : Type 0 where
   pub unused : live_count h ≢ 4 → is_live (session_of f.id h) ≡ false
   pub context : hash_len (connection_terms h) ≤ length f.context
   pub opaque : length f.opaque ≤ 1024
-  pub exchange : 12 + length q.hint + length f.context + length f.opaque ≤ 4096
+  pub exchange : 12 + length q.hint + length f.context + length f.opaque ≤ MAX_MESSAGE_SIZE
   pub pad : length f.pad ≤ 16
 
 -- The outcome of a command, under some allowed values. The command is free.

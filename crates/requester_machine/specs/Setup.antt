@@ -1,8 +1,9 @@
 -- How a requester is set up, and which capabilities it announces.
-use Rattle.std.specs.Prelude.{◌+◌, ◌^◌, ℕ, List}
+use Rattle.std.specs.Prelude.{◌+◌, ℕ, List}
 use Rattle.spdm_grammar.specs.declared.capabilities.Caps.{Caps}
 use Rattle.spdm_grammar.specs.declared.choice.FlagSet.{FlagSet}
 use Rattle.spdm_grammar.specs.declared.choice.Suites.{Suites}
+use Rattle.spdm_grammar.specs.declared.names.capability.TheConstants.{PSK_CAP}
 use Rattle.spdm_machine.specs.Setup.{protection_flags, optional_flags}
 
 -- A requester: its end point and that of its responder, the sizes of its messages, the payload size of its
@@ -27,6 +28,6 @@ pub record ReqEnd : Type 0 where
   pub seed : List ℕ
   pub first : ℕ
 
--- The capabilities of a requester: PSK_CAP, bits 11:10, is 01.
+-- The capabilities of a requester: PSK_CAP is 01.
 abbrev pub requester_caps : ReqSetup → Caps
-requester_caps q = record { ct = 0; flags = protection_flags + 2 ^ 10 + optional_flags q.flags; transfer = q.transfer; max = q.max }
+requester_caps q = record { ct = 0; flags = protection_flags + PSK_CAP + optional_flags q.flags; transfer = q.transfer; max = q.max }

@@ -1,13 +1,14 @@
 -- What comes of an outcome: the history behind it, the message that is sent, what is told; and what is shown of
 -- a requester. This project's own.
-use Rattle.std.specs.Prelude.{ℕ, List, [], ◌∷◌, ◌++◌, if◌then◌else◌, Option, Some, None}
+use Rattle.std.specs.Prelude.{ℕ, List, [], ◌∷◌, ◌++◌, if◌then◌else◌, Option, Some, None, unwrap_or}
+use Rattle.std.specs.Option.{option_or}
 use Rattle.spdm_grammar.specs.Message.{ResponseMessage}
 use Rattle.spdm_grammar.specs.Message.RequestMessage.{GetMeasurements}
 use Rattle.spdm_grammar.specs.Message.ResponseMessage.{Measurements}
 use Rattle.spdm_grammar.specs.declared.command_fault.CommandFault.{CommandFault}
 use Rattle.spdm_grammar.specs.declared.event.Event.{Event}
 use Rattle.spdm_grammar.specs.declared.event.Event.TheVariants as event
-use Rattle.spdm_grammar.specs.View.{View}
+use Rattle.spdm_grammar.specs.declared.session_view.SessionView.{SessionView}
 use Rattle.spdm_machine.specs.Sessions.{transcript_in}
 use Rattle.spdm_machine.specs.Terms.{response_value}
 use Rattle.requester_machine.specs.Asking.{Outcome}
@@ -80,16 +81,6 @@ effect_in (Told command sent d) = Effect.Nothing
 effect_in (TookClear tag m led d) = led.effect
 effect_in (TookRecord tag id sealed inner led d) = led.effect
 
--- The first of two that is there.
-abbrev pub or_else : Option (List ℕ) → Option (List ℕ) → Option (List ℕ)
-or_else (Some bytes) other = Some bytes
-or_else None other = other
-
--- The bytes that are there, else the other ones.
-abbrev pub or_bytes : Option (List ℕ) → List ℕ → List ℕ
-or_bytes (Some bytes) other = bytes
-or_bytes None other = other
-
 -- The measurement record that just came.
 abbrev pub record_of : Outcome → Option (List ℕ)
 record_of (Adds entry) = blocks_in (effect_in entry)
@@ -103,12 +94,12 @@ data_of _ = None
 -- The last application data or measurement record that came, whichever came later; no bytes before the first.
 abbrev pub last_data : History → List ℕ
 last_data [] = []
-last_data (entry ∷ older) = or_bytes (or_else (bytes_in (effect_in entry)) (blocks_in (effect_in entry))) (last_data older)
+last_data (entry ∷ older) = unwrap_or (option_or (bytes_in (effect_in entry)) (blocks_in (effect_in entry))) (last_data older)
 
 -- ---- Sessions as they are shown.
 
 -- A session as it is shown, read off its own history.
-unfoldable pub view_of : Steps → View
+unfoldable pub view_of : Steps → SessionView
 view_of s = record {
   id = session_id s;
   stage = stage_of s;
@@ -122,9 +113,9 @@ view_of s = record {
 }
 
 -- A session is shown from its PSK_EXCHANGE_RSP on.
-abbrev pub view_if_accepted : Steps → List View
+abbrev pub view_if_accepted : Steps → List SessionView
 view_if_accepted s = if is_accepted s then view_of s ∷ [] else []
 
 -- The live sessions that are shown, by rising ReqSessionID.
-abbrev pub views_of : History → List View
+abbrev pub views_of : History → List SessionView
 views_of h = view_if_accepted (session_of 1 h) ++ view_if_accepted (session_of 2 h) ++ view_if_accepted (session_of 3 h) ++ view_if_accepted (session_of 4 h)

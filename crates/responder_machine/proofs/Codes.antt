@@ -1,5 +1,6 @@
 -- The request that bytes spell has the code that stands in them.
 use Rattle.std.proofs.Common.{refl, ◌∙◌, ◌≡◌, ℕ, ◌+◌, List, [], ◌∷◌, true, false, Bool, Option, Some, None, Result, Ok, Err, ap, sym, subst, arith}
+use Rattle.std.proofs.Math.Bool.{or-false}
 use Rattle.std.proofs.lemmas.Bool.{false≢true}
 use Rattle.std.proofs.lemmas.Bool.Decides.{nat_tests}
 use Rattle.std.proofs.lemmas.Option.{none-some, same_Some}
@@ -10,7 +11,8 @@ use Rattle.spdm_grammar.specs.Layout.Layout.{Whole, Sized, Number, Optional, Byt
 use Rattle.spdm_grammar.specs.Message.{RequestMessage}
 use Rattle.spdm_grammar.specs.Reading.{read, and_then, ended, ended_sized, all_up_to, field_at, number_at, optional_at, tables_at, front}
 use Rattle.spdm_grammar.specs.Reading as reading
-use Rattle.spdm_grammar.specs.Requests.{request_in, request_body, is_request_code, get_version_layout, get_capabilities_layout, negotiate_algorithms_layout, get_measurements_layout, psk_exchange_layout, psk_finish_layout, heartbeat_layout, key_update_layout, end_session_layout, chunk_send_layout, chunk_get_layout}
+use Rattle.spdm_grammar.specs.Requests.{request_in, request_body, get_version_layout, get_capabilities_layout, negotiate_algorithms_layout, get_measurements_layout, psk_exchange_layout, psk_finish_layout, heartbeat_layout, key_update_layout, end_session_layout, chunk_send_layout, chunk_get_layout}
+use Rattle.spdm_grammar.specs.Codes.{is_request_code}
 use Rattle.spdm_grammar.specs.declared.malformed.Malformed.{Malformed}
 use Rattle.byteorder.specs.Endian.{little_number}
 use Rattle.spdm_grammar.specs.declared.malformed.Part.TheVariants.{End, Field}
@@ -18,7 +20,9 @@ use Rattle.responder_machine.specs.Answer.{request_at}
 use Rattle.responder_machine.specs.Place.{Place, place_terms}
 use Rattle.spdm_machine.specs.Terms.{hash_len}
 use Rattle.responder_machine.specs.Refusal.{code_of}
-use Rattle.responder_machine.specs.Turn.{code_for}
+use Rattle.spdm_grammar.specs.Codes.{code_for}
+use Rattle.spdm_grammar.specs.declared.names.request_code.TheConstants.{GET_VERSION, CHUNK_SEND, CHUNK_GET, GET_MEASUREMENTS, GET_CAPABILITIES, NEGOTIATE_ALGORITHMS, PSK_EXCHANGE, PSK_FINISH, HEARTBEAT, KEY_UPDATE, END_SESSION}
+use Rattle.spdm_grammar.specs.declared.names.spdm_version.TheConstants.{V1_0, V1_2}
 
 -- Every value that a layout gives has this code.
 abbrev pub Gives : ℕ → Layout RequestMessage → Type 0
@@ -73,74 +77,74 @@ gives_either : (n k : ℕ) (x : Bool) (a b : Layout RequestMessage) → (n == k)
 gives_either n k true a b is g h = gives_eq n k a g is
 gives_either n k false a b is g h = h is
 
-get_version-code : Gives 0x84 get_version_layout
+get_version-code : Gives GET_VERSION get_version_layout
 unfolding get_version_layout
 get_version-code = λ a. refl
 
-get_capabilities-code : Gives 0xe1 get_capabilities_layout
+get_capabilities-code : Gives GET_CAPABILITIES get_capabilities_layout
 unfolding get_capabilities_layout
 get_capabilities-code = λ a b c d e f. refl
 
-negotiate_algorithms-code : Gives 0xe3 negotiate_algorithms_layout
+negotiate_algorithms-code : Gives NEGOTIATE_ALGORITHMS negotiate_algorithms_layout
 unfolding negotiate_algorithms_layout
 negotiate_algorithms-code = λ a b c d e f g h i j k l m n. refl
 
-get_measurements-code : Gives 0xe0 get_measurements_layout
+get_measurements-code : Gives GET_MEASUREMENTS get_measurements_layout
 unfolding get_measurements_layout
 get_measurements-code = λ a b. refl
 
-psk_exchange-code : (hash_len : ℕ) → Gives 0xe6 (psk_exchange_layout hash_len)
+psk_exchange-code : (hash_len : ℕ) → Gives PSK_EXCHANGE (psk_exchange_layout hash_len)
 unfolding psk_exchange_layout
 psk_exchange-code hash_len = λ a b c d e f g h i. refl
 
-psk_finish-code : (hash_len : ℕ) → Gives 0xe7 (psk_finish_layout hash_len)
+psk_finish-code : (hash_len : ℕ) → Gives PSK_FINISH (psk_finish_layout hash_len)
 unfolding psk_finish_layout
 psk_finish-code hash_len = λ a b. refl
 
-heartbeat-code : Gives 0xe8 heartbeat_layout
+heartbeat-code : Gives HEARTBEAT heartbeat_layout
 unfolding heartbeat_layout
 heartbeat-code = λ a. refl
 
-key_update-code : Gives 0xe9 key_update_layout
+key_update-code : Gives KEY_UPDATE key_update_layout
 unfolding key_update_layout
 key_update-code = λ a b. refl
 
-end_session-code : Gives 0xec end_session_layout
+end_session-code : Gives END_SESSION end_session_layout
 unfolding end_session_layout
 end_session-code = λ a. refl
 
-chunk_send-code : Gives 0x85 chunk_send_layout
+chunk_send-code : Gives CHUNK_SEND chunk_send_layout
 unfolding chunk_send_layout
 chunk_send-code = λ a b c d e f g. refl
 
-chunk_get-code : Gives 0x86 chunk_get_layout
+chunk_get-code : Gives CHUNK_GET chunk_get_layout
 unfolding chunk_get_layout
 chunk_get-code = λ a b c. refl
 
 -- A code that none of the others is, is the last one.
-last_of_codes : (version b84 be1 be3 be0 be6 be7 be8 be9 bec b85 b86 : Bool) → (if version then b84 else be1 || be3 || be0 || be6 || be7 || be8 || be9 || bec || b85 || b86) ≡ true
+last_of_codes : (version b84 be1 be3 be0 be6 be7 be8 be9 bec b85 b86 : Bool) → (if version then b84 else be1 || (be3 || (be0 || (be6 || (be7 || (be8 || (be9 || (bec || (b85 || (b86 || false)))))))))) ≡ true
     → b84 ≡ false → be1 ≡ false → be3 ≡ false → be0 ≡ false → be6 ≡ false → be7 ≡ false → be8 ≡ false → be9 ≡ false → bec ≡ false → b85 ≡ false → b86 ≡ true
 last_of_codes true b84 be1 be3 be0 be6 be7 be8 be9 bec b85 b86 is z84 ze1 ze3 ze0 ze6 ze7 ze8 ze9 zec z85 = absurd (false≢true (sym z84 ∙ is))
 last_of_codes false b84 be1 be3 be0 be6 be7 be8 be9 bec b85 b86 is z84 ze1 ze3 ze0 ze6 ze7 ze8 ze9 zec z85 = sym (others be1 be3 be0 be6 be7 be8 be9 bec b85 b86 ze1 ze3 ze0 ze6 ze7 ze8 ze9 zec z85) ∙ is
   where
-    others : (be1 be3 be0 be6 be7 be8 be9 bec b85 b86 : Bool) → be1 ≡ false → be3 ≡ false → be0 ≡ false → be6 ≡ false → be7 ≡ false → be8 ≡ false → be9 ≡ false → bec ≡ false → b85 ≡ false → (be1 || be3 || be0 || be6 || be7 || be8 || be9 || bec || b85 || b86) ≡ b86
-    others be1 be3 be0 be6 be7 be8 be9 bec b85 b86 ze1 ze3 ze0 ze6 ze7 ze8 ze9 zec z85 = rw (ze1, ze3, ze0, ze6, ze7, ze8, ze9, zec, z85) refl
+    others : (be1 be3 be0 be6 be7 be8 be9 bec b85 b86 : Bool) → be1 ≡ false → be3 ≡ false → be0 ≡ false → be6 ≡ false → be7 ≡ false → be8 ≡ false → be9 ≡ false → bec ≡ false → b85 ≡ false → (be1 || (be3 || (be0 || (be6 || (be7 || (be8 || (be9 || (bec || (b85 || (b86 || false)))))))))) ≡ b86
+    others be1 be3 be0 be6 be7 be8 be9 bec b85 b86 ze1 ze3 ze0 ze6 ze7 ze8 ze9 zec z85 = rw (ze1, ze3, ze0, ze6, ze7, ze8, ze9, zec, z85) (or-false b86)
 
 -- The fields behind a code give requests of that code.
 pub body-code : (hash_len version code : ℕ) → is_request_code version code ≡ true → Gives code (request_body hash_len code)
 unfolding request_body
 body-code hash_len version code is =
-    gives_either code 0x84 (code == 0x84) get_version_layout _ refl get_version-code (λ z84.
-    gives_either code 0xe1 (code == 0xe1) get_capabilities_layout _ refl get_capabilities-code (λ ze1.
-    gives_either code 0xe3 (code == 0xe3) negotiate_algorithms_layout _ refl negotiate_algorithms-code (λ ze3.
-    gives_either code 0xe0 (code == 0xe0) get_measurements_layout _ refl get_measurements-code (λ ze0.
-    gives_either code 0xe6 (code == 0xe6) (psk_exchange_layout hash_len) _ refl (psk_exchange-code hash_len) (λ ze6.
-    gives_either code 0xe7 (code == 0xe7) (psk_finish_layout hash_len) _ refl (psk_finish-code hash_len) (λ ze7.
-    gives_either code 0xe8 (code == 0xe8) heartbeat_layout _ refl heartbeat-code (λ ze8.
-    gives_either code 0xe9 (code == 0xe9) key_update_layout _ refl key_update-code (λ ze9.
-    gives_either code 0xec (code == 0xec) end_session_layout _ refl end_session-code (λ zec.
-    gives_either code 0x85 (code == 0x85) chunk_send_layout _ refl chunk_send-code (λ z85.
-    gives_eq code 0x86 chunk_get_layout chunk_get-code (last_of_codes (version == 0x10) (code == 0x84) (code == 0xe1) (code == 0xe3) (code == 0xe0) (code == 0xe6) (code == 0xe7) (code == 0xe8) (code == 0xe9) (code == 0xec) (code == 0x85) (code == 0x86) is z84 ze1 ze3 ze0 ze6 ze7 ze8 ze9 zec z85)))))))))))
+    gives_either code GET_VERSION (code == GET_VERSION) get_version_layout _ refl get_version-code (λ z84.
+    gives_either code GET_CAPABILITIES (code == GET_CAPABILITIES) get_capabilities_layout _ refl get_capabilities-code (λ ze1.
+    gives_either code NEGOTIATE_ALGORITHMS (code == NEGOTIATE_ALGORITHMS) negotiate_algorithms_layout _ refl negotiate_algorithms-code (λ ze3.
+    gives_either code GET_MEASUREMENTS (code == GET_MEASUREMENTS) get_measurements_layout _ refl get_measurements-code (λ ze0.
+    gives_either code PSK_EXCHANGE (code == PSK_EXCHANGE) (psk_exchange_layout hash_len) _ refl (psk_exchange-code hash_len) (λ ze6.
+    gives_either code PSK_FINISH (code == PSK_FINISH) (psk_finish_layout hash_len) _ refl (psk_finish-code hash_len) (λ ze7.
+    gives_either code HEARTBEAT (code == HEARTBEAT) heartbeat_layout _ refl heartbeat-code (λ ze8.
+    gives_either code KEY_UPDATE (code == KEY_UPDATE) key_update_layout _ refl key_update-code (λ ze9.
+    gives_either code END_SESSION (code == END_SESSION) end_session_layout _ refl end_session-code (λ zec.
+    gives_either code CHUNK_SEND (code == CHUNK_SEND) chunk_send_layout _ refl chunk_send-code (λ z85.
+    gives_eq code CHUNK_GET chunk_get_layout chunk_get-code (last_of_codes (version == V1_0) (code == GET_VERSION) (code == GET_CAPABILITIES) (code == NEGOTIATE_ALGORITHMS) (code == GET_MEASUREMENTS) (code == PSK_EXCHANGE) (code == PSK_FINISH) (code == HEARTBEAT) (code == KEY_UPDATE) (code == END_SESSION) (code == CHUNK_SEND) (code == CHUNK_GET) is z84 ze1 ze3 ze0 ze6 ze7 ze8 ze9 zec z85)))))))))))
 
 -- ---- The whole request.
 
@@ -153,7 +157,7 @@ one_byte : (x : ℕ) (rest : List ℕ) → little_number 1 (take 1 (x ∷ rest))
 one_byte x rest = omega arith
 
 abbrev pub is_version : ℕ → Bool
-is_version version = version == 0x10 || version == 0x12
+is_version version = version == V1_0 || version == V1_2
 
 not_short : (x : ℕ) (rest : List ℕ) → nat_lt (length (x ∷ rest)) 1 ≡ false
 not_short x rest = grind (arith, nat_tests)

@@ -21,6 +21,7 @@ use Rattle.spdm_machine.specs.Sessions.{is_past_handshake}
 use Rattle.responder_machine.specs.Session.Event.{Began, Heard, Waited}
 use Rattle.responder_machine.specs.Turn.{Effect, code_in, takes, updates}
 use Rattle.responder_machine.specs.Turn.Effect.{NoEffect, Took, TookData}
+use Rattle.spdm_grammar.specs.declared.names.request_code.TheConstants.{PSK_FINISH, KEY_UPDATE}
 
 -- ---- Purposes.
 
@@ -90,7 +91,7 @@ none_taken psk t epoch [] stage = refl
 none_taken psk t epoch (Began n x a ∷ s) stage = none_taken psk t epoch s stage
 none_taken psk t epoch (Waited seconds ∷ s) stage = none_taken psk t epoch s stage
 none_taken psk t epoch (Heard m u reply ∷ s) stage =
-    let before : stage_of s ≡ Handshake = stage_before (takes 0xe7 u) (updates 3 u) (takes 0xe9 u) (stage_of s) stage in
+    let before : stage_of s ≡ Handshake = stage_before (takes PSK_FINISH u) (updates 3 u) (takes KEY_UPDATE u) (stage_of s) stage in
     not_counted (same_purpose (application_record psk t Request epoch) (request_purpose psk s)) (taken_under psk (application_record psk t Request epoch) s)
     (other_kind (application_record psk t Request epoch) (request_purpose psk s) (rw before refl)) (none_taken psk t epoch s before)
 
@@ -141,7 +142,7 @@ finish_taken psk t s stage =
 
 -- A record with this effect.
 heard_taken : (psk sealed message : List ℕ) (refused : Option ErrorCode) (chunk : Option ChunkMessage) (e : Effect) (answer reply : List ℕ) (s : Events)
-    → ((code_in e == 0xe7) ≡ true → stage_of s ≡ Handshake) → ((code_in e == 0xe9) ≡ true → is_past_handshake (stage_of s) ≡ true)
+    → ((code_in e == PSK_FINISH) ≡ true → stage_of s ≡ Handshake) → ((code_in e == KEY_UPDATE) ≡ true → is_past_handshake (stage_of s) ≡ true)
     → request_next s ≡ taken_under psk (request_purpose psk s) s
     → request_next (Heard sealed (record { message = message; refused = refused; chunk = chunk; effect = e; reply = answer }) reply ∷ s)
     ≡ taken_under psk (request_purpose psk (Heard sealed (record { message = message; refused = refused; chunk = chunk; effect = e; reply = answer }) reply ∷ s)) (Heard sealed (record { message = message; refused = refused; chunk = chunk; effect = e; reply = answer }) reply ∷ s)
@@ -179,7 +180,7 @@ none_sealed psk t epoch [] stage = refl
 none_sealed psk t epoch (Began n x a ∷ s) stage = none_sealed psk t epoch s stage
 none_sealed psk t epoch (Waited seconds ∷ s) stage = none_sealed psk t epoch s stage
 none_sealed psk t epoch (Heard m u reply ∷ s) stage =
-    let before : stage_of s ≡ Handshake = stage_before (takes 0xe7 u) (updates 3 u) (takes 0xe9 u) (stage_of s) stage in
+    let before : stage_of s ≡ Handshake = stage_before (takes PSK_FINISH u) (updates 3 u) (takes KEY_UPDATE u) (stage_of s) stage in
     let kind : (reply_purpose psk s u).kind ≡ HandshakeRecord =
     reply_kind (updates 2 u) (response_epoch s) (response_purpose psk s) ∙ handshake_kind (stage_of s) psk (t1_of s) (t2_of s) Response (response_epoch s) before in
     not_counted (same_purpose (application_record psk t Response epoch) (reply_purpose psk s u)) (sealed_under psk (application_record psk t Response epoch) s)
@@ -230,7 +231,7 @@ finish_sealed psk t s stage =
     (none_sealed psk t (response_epoch s) s stage))
 
 heard_sealed : (psk sealed message : List ℕ) (refused : Option ErrorCode) (chunk : Option ChunkMessage) (e : Effect) (answer reply : List ℕ) (s : Events)
-    → ((code_in e == 0xe7) ≡ true → stage_of s ≡ Handshake) → ((code_in e == 0xe9) ≡ true → is_past_handshake (stage_of s) ≡ true)
+    → ((code_in e == PSK_FINISH) ≡ true → stage_of s ≡ Handshake) → ((code_in e == KEY_UPDATE) ≡ true → is_past_handshake (stage_of s) ≡ true)
     → response_next s ≡ sealed_under psk (response_purpose psk s) s
     → response_next (Heard sealed (record { message = message; refused = refused; chunk = chunk; effect = e; reply = answer }) reply ∷ s)
     ≡ sealed_under psk (response_purpose psk (Heard sealed (record { message = message; refused = refused; chunk = chunk; effect = e; reply = answer }) reply ∷ s)) (Heard sealed (record { message = message; refused = refused; chunk = chunk; effect = e; reply = answer }) reply ∷ s)

@@ -27,6 +27,7 @@ use Rattle.responder_machine.specs.Setup.{RspSetup}
 use Rattle.responder_machine.specs.Turn.{Turn, Effect, code_in, takes, request_in, answer_in}
 use Rattle.responder_machine.specs.Turn.Effect.{NoEffect, Took, TookData}
 use Rattle.transcript.specs.Transcripts.{Negotiation}
+use Rattle.spdm_grammar.specs.declared.names.request_code.TheConstants.{GET_VERSION, PSK_EXCHANGE}
 
 -- The answer to an exchange has this id, and fewer than four sessions were held.
 abbrev IsFreshRequest : ℕ → ℕ → RequestMessage → List ℕ → Type 0
@@ -43,7 +44,7 @@ exchange-id r p m f exchange few = little_number-reads_back 2 f.id [] (omega ari
 
 room : (r : RspSetup) (p : Place) (m : List ℕ) (f : Free) (exchange : ExchangeMessage) → refusal r p m f ≡ None → request_at p m ≡ Some (PskExchange exchange) → (p.past_handshake == 4) ≡ false
 room r p m f exchange taken is =
-    ap (λ (code : ℕ). code == 0xe6 && p.past_handshake == 4) (asked-code p m (PskExchange exchange) is) ∙ contents_shown r p m f taken 11
+    ap (λ (code : ℕ). code == PSK_EXCHANGE && p.past_handshake == 4) (asked-code p m (PskExchange exchange) is) ∙ contents_shown r p m f taken 11
 
 fresh_request : (r : RspSetup) (p : Place) (m : List ℕ) (f : Free) (large : Option ℕ) (q : Option RequestMessage) → f.id ≤ 4 → refusal r p m f ≡ None → request_at p m ≡ q
     → IsFresh p.past_handshake f.id (effect_of q m (answer_to r p m f q) large)
@@ -73,16 +74,16 @@ pub turn_of-fresh : (r : RspSetup) (p : Place) (m : List ℕ) (f : Free) → f.i
 unfolding turn_of
 turn_of-fresh r p m f few = turn_by-fresh r p m f (refusal r p m f) (chunk_in (request_at p m)) few refl
 
-pub exchange-fresh : (held id : ℕ) (e : Effect) → (code_in e == 0xe6) ≡ true → IsFresh held id e → (id_in_exchange (answer_in e) ≡ id) × ((held == 4) ≡ false)
+pub exchange-fresh : (held id : ℕ) (e : Effect) → (code_in e == PSK_EXCHANGE) ≡ true → IsFresh held id e → (id_in_exchange (answer_in e) ≡ id) × ((held == 4) ≡ false)
 exchange-fresh held id NoEffect is h = absurd (false≢true is)
 exchange-fresh held id (TookData bytes answer) is h = absurd (false≢true is)
 exchange-fresh held id (Took (PskExchange exchange) request answer large) is h = h
 exchange-fresh held id (Took _ request answer large) is h = absurd (false≢true is)
 
-other_code : (c : ℕ) → (c == 0xe6) ≡ true → (c == 0x84) ≡ false
+other_code : (c : ℕ) → (c == PSK_EXCHANGE) ≡ true → (c == GET_VERSION) ≡ false
 other_code c h = grind (arith, nat_tests)
 
-begins : (id : ℕ) (s : Events) (t : Turn) (n : Negotiation) → takes 0xe6 t ≡ true → (id_in_exchange (answer_in t.effect) == id) ≡ true → after_clear id s t n ≡ Began n (request_in t.effect) (answer_in t.effect) ∷ []
+begins : (id : ℕ) (s : Events) (t : Turn) (n : Negotiation) → takes PSK_EXCHANGE t ≡ true → (id_in_exchange (answer_in t.effect) == id) ≡ true → after_clear id s t n ≡ Began n (request_in t.effect) (answer_in t.effect) ∷ []
 begins id s t n is same = rw (other_code (code_in t.effect) is, is, same) refl
 
 pub taken_exchange : TakenExchangeIsFresh

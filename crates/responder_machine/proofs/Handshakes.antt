@@ -12,6 +12,7 @@ use Rattle.responder_machine.specs.Session.{Events, session_of, is_live, is_time
 use Rattle.spdm_machine.specs.Sessions.{is_past_handshake, id_in_exchange}
 use Rattle.responder_machine.specs.Session.Event.{Began, Waited}
 use Rattle.responder_machine.specs.Turn.{Turn, takes, updates, answer_in, request_in}
+use Rattle.spdm_grammar.specs.declared.names.request_code.TheConstants.{GET_VERSION, PSK_EXCHANGE, PSK_FINISH, KEY_UPDATE, END_SESSION}
 
 abbrev pub in_handshake : Events → Bool
 in_handshake s = is_live s && not (is_past_handshake (stage_of s))
@@ -28,8 +29,8 @@ either true s n P x y h = x h
 either false s n P x y h = y h
 
 before_record : (s : Events) (m : List ℕ) (t : Turn) (reply : List ℕ) → in_handshake (after_record s m t reply) ≡ true → in_handshake s ≡ true
-before_record [] m t reply = either (takes 0xec t) [] [] false (λ h. h) (λ h. h)
-before_record (v ∷ s) m t reply = either (takes 0xec t) [] _ _ (λ h. absurd (false≢true h)) (stage_before (takes 0xe7 t) (updates 3 t) (takes 0xe9 t) (stage_of (v ∷ s)))
+before_record [] m t reply = either (takes END_SESSION t) [] [] false (λ h. h) (λ h. h)
+before_record (v ∷ s) m t reply = either (takes END_SESSION t) [] _ _ (λ h. absurd (false≢true h)) (stage_before (takes PSK_FINISH t) (updates 3 t) (takes KEY_UPDATE t) (stage_of (v ∷ s)))
 
 -- A tick leaves a session as it is, ends it, or is an event of it that keeps its stage.
 before_tick : (s : Events) (seconds : ℕ) → in_handshake (after_tick s seconds) ≡ true → in_handshake s ≡ true
@@ -63,7 +64,7 @@ pub one_in_handshake : (h : History) (i j : ℕ) → i ≢ j → in_handshake (s
 unfolding session_of
 one_in_handshake [] i j ne x y = false≢true x
 one_in_handshake (Clear tag t d ∷ older) i j ne x y =
-    one_by_clear (takes 0x84 t) (takes 0xe6 t) (id_in_exchange (answer_in t.effect) == i) (id_in_exchange (answer_in t.effect) == j) (session_of i older) (session_of j older)
+    one_by_clear (takes GET_VERSION t) (takes PSK_EXCHANGE t) (id_in_exchange (answer_in t.effect) == i) (id_in_exchange (answer_in t.effect) == j) (session_of i older) (session_of j older)
     (Began (negotiation_of (clear_turns older)) (request_in t.effect) (answer_in t.effect) ∷ []) (Began (negotiation_of (clear_turns older)) (request_in t.effect) (answer_in t.effect) ∷ [])
     (λ a b. ne (same_id (id_in_exchange (answer_in t.effect)) i j a b)) (one_in_handshake older i j ne) x y
 one_in_handshake (Sealed tag m t reply d ∷ older) i j ne x y =

@@ -18,6 +18,7 @@ use Rattle.responder_machine.specs.Session.Event.{Began}
 use Rattle.responder_machine.specs.Setup.{RspSetup}
 use Rattle.responder_machine.specs.Turn.{Turn, takes, answer_in, request_in}
 use Rattle.transcript.specs.Transcripts.{Negotiation}
+use Rattle.spdm_grammar.specs.declared.names.request_code.TheConstants.{GET_VERSION, PSK_EXCHANGE, END_SESSION}
 
 -- Of two lists the live one.
 either-live : (b : Bool) (s n : Events) (P : Type 0) → (is_live s ≡ true → P) → (is_live n ≡ true → P) → is_live (if b then s else n) ≡ true → P
@@ -33,11 +34,11 @@ live_by false true false true s b h = inl h
 live_by false true false false s b h = absurd (false≢true h)
 live_by false false same past s b h = inl h
 
-live_after : (id : ℕ) (s : Events) (t : Turn) (n : Negotiation) → is_live (after_clear id s t n) ≡ true → (is_live s ≡ true) ⊎ ((takes 0xe6 t ≡ true) × ((id_in_exchange (answer_in t.effect) == id) ≡ true))
-live_after id s t n h = live_by (takes 0x84 t) (takes 0xe6 t) (id_in_exchange (answer_in t.effect) == id) (is_past_handshake (stage_of s)) s (Began n (request_in t.effect) (answer_in t.effect) ∷ []) h
+live_after : (id : ℕ) (s : Events) (t : Turn) (n : Negotiation) → is_live (after_clear id s t n) ≡ true → (is_live s ≡ true) ⊎ ((takes PSK_EXCHANGE t ≡ true) × ((id_in_exchange (answer_in t.effect) == id) ≡ true))
+live_after id s t n h = live_by (takes GET_VERSION t) (takes PSK_EXCHANGE t) (id_in_exchange (answer_in t.effect) == id) (is_past_handshake (stage_of s)) s (Began n (request_in t.effect) (answer_in t.effect) ∷ []) h
 
 live_before_record : (s : Events) (m : List ℕ) (t : Turn) (reply : List ℕ) → is_live (after_record s m t reply) ≡ true → is_live s ≡ true
-live_before_record [] m t reply h = either-live (takes 0xec t) [] [] (false ≡ true) (λ x. x) (λ x. x) h
+live_before_record [] m t reply h = either-live (takes END_SESSION t) [] [] (false ≡ true) (λ x. x) (λ x. x) h
 live_before_record (v ∷ s) m t reply h = refl
 
 live_before_tick : (s : Events) (seconds : ℕ) → is_live (after_tick s seconds) ≡ true → is_live s ≡ true
@@ -52,7 +53,7 @@ unfolding chosen
 chosen-few r h d = refl
 
 -- The id of an exchange of a made history is in the range.
-begun_in_range : (r : RspSetup) (h : History) (tag : ℕ) (t : Turn) (d : Draw) (id : ℕ) → IsMade r (Clear tag t d ∷ h) → takes 0xe6 t ≡ true → (id_in_exchange (answer_in t.effect) == id) ≡ true → (1 ≤ id) × (id ≤ 4)
+begun_in_range : (r : RspSetup) (h : History) (tag : ℕ) (t : Turn) (d : Draw) (id : ℕ) → IsMade r (Clear tag t d ∷ h) → takes PSK_EXCHANGE t ≡ true → (id_in_exchange (answer_in t.effect) == id) ≡ true → (1 ≤ id) × (id ≤ 4)
 begun_in_range r h tag t d id made is same =
     let range = free_id-range h in
     let few : (clear_chosen r h d).id ≤ 4 = rw (chosen-few r h d) range.1 in
@@ -62,7 +63,7 @@ begun_in_range r h tag t d id made is same =
     subst (λ n. (1 ≤ n) × (n ≤ 4)) (sym (chosen-few r h d) ∙ sym found ∙ number) range
 
 either_begun : (r : RspSetup) (h : History) (tag : ℕ) (t : Turn) (d : Draw) (id : ℕ) → IsMade r (Clear tag t d ∷ h) → (is_live (session_of id h) ≡ true → (1 ≤ id) × (id ≤ 4))
-    → (is_live (session_of id h) ≡ true) ⊎ ((takes 0xe6 t ≡ true) × ((id_in_exchange (answer_in t.effect) == id) ≡ true)) → (1 ≤ id) × (id ≤ 4)
+    → (is_live (session_of id h) ≡ true) ⊎ ((takes PSK_EXCHANGE t ≡ true) × ((id_in_exchange (answer_in t.effect) == id) ≡ true)) → (1 ≤ id) × (id ≤ 4)
 either_begun r h tag t d id made older (inl live) = older live
 either_begun r h tag t d id made older (inr begun) = begun_in_range r h tag t d id made begun.0 begun.1
 

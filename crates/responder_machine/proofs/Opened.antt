@@ -25,6 +25,7 @@ use Rattle.responder_machine.specs.Session.Event.{Began, Heard, Waited}
 use Rattle.responder_machine.specs.Setup.{RspSetup}
 use Rattle.responder_machine.specs.Turn.{Turn, takes, updates, request_in, answer_in}
 use Rattle.transcript.specs.Transcripts.{Negotiation}
+use Rattle.spdm_grammar.specs.declared.names.request_code.TheConstants.{GET_VERSION, PSK_EXCHANGE, PSK_FINISH, END_SESSION}
 
 abbrev reply_in : Outcome → Option (List ℕ)
 reply_in (Adds (Sealed tag m t reply d)) = Some reply
@@ -102,16 +103,16 @@ one_more : (a b : ℕ) → (a == 65536 || b == 65536) ≡ false → a ≤ 65536 
 one_more a b h x y = (grind (arith, nat_tests), grind (arith, nat_tests))
 
 record_few : (s : Events) (m : List ℕ) (t : Turn) (reply : List ℕ) → is_spent s ≡ false → IsFew s → IsFew (after_record s m t reply)
-record_few [] m t reply spent few = either-few (takes 0xec t) [] [] none-few none-few
+record_few [] m t reply spent few = either-few (takes END_SESSION t) [] [] none-few none-few
 record_few (v ∷ s) m t reply spent few =
     let more = one_more (request_next (v ∷ s)) (response_next (v ∷ s)) spent few.0 few.1 in
-    either-few (takes 0xec t) [] (Heard m t reply ∷ v ∷ s) none-few
-    (either_zero (takes 0xe7 t || updates 1 t || updates 2 t) _ more.0, either_zero (takes 0xe7 t) _ (either_one (updates 2 t) _ more.1))
+    either-few (takes END_SESSION t) [] (Heard m t reply ∷ v ∷ s) none-few
+    (either_zero (takes PSK_FINISH t || updates 1 t || updates 2 t) _ more.0, either_zero (takes PSK_FINISH t) _ (either_one (updates 2 t) _ more.1))
 
 clear_few : (id : ℕ) (s : Events) (t : Turn) (n : Negotiation) → IsFew s → IsFew (after_clear id s t n)
 clear_few id s t n few =
-    either-few (takes 0x84 t) [] _ none-few
-    (either-few (takes 0xe6 t) _ s
+    either-few (takes GET_VERSION t) [] _ none-few
+    (either-few (takes PSK_EXCHANGE t) _ s
     (either-few (id_in_exchange (answer_in t.effect) == id) (Began n (request_in t.effect) (answer_in t.effect) ∷ []) _ none-few (either-few (is_past_handshake (stage_of s)) s [] few none-few))
     few)
 

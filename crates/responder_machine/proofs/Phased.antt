@@ -22,6 +22,7 @@ use Rattle.responder_machine.specs.Refusal.{refusal, phase_allows, has_pending, 
 use Rattle.responder_machine.specs.Setup.{RspSetup}
 use Rattle.responder_machine.specs.Turn.{Turn, Effect}
 use Rattle.responder_machine.specs.Turn.Effect.{NoEffect, Took, TookData}
+use Rattle.spdm_grammar.specs.declared.names.request_code.TheConstants.{GET_CAPABILITIES, NEGOTIATE_ALGORITHMS, PSK_EXCHANGE}
 
 abbrev pub IsPhasedRequest : Phase → RequestMessage → Type 0
 IsPhasedRequest phase (GetCapabilities caps) = phase ≡ Versioned
@@ -35,19 +36,19 @@ IsPhased phase NoEffect = Unit {0}
 IsPhased phase (Took asked request answer large) = IsPhasedRequest phase asked
 IsPhased phase (TookData bytes answer) = Unit {0}
 
-capabilities_phase : (phase : Phase) (pending : Bool) → not (phase_allows phase pending 0xe1) ≡ false → phase ≡ Versioned
+capabilities_phase : (phase : Phase) (pending : Bool) → not (phase_allows phase pending GET_CAPABILITIES) ≡ false → phase ≡ Versioned
 capabilities_phase Fresh pending h = absurd (false≢true (sym h))
 capabilities_phase Versioned pending h = refl
 capabilities_phase Capable pending h = absurd (false≢true (sym h))
 capabilities_phase Negotiated pending h = absurd (false≢true (sym h))
 
-algorithms_phase : (phase : Phase) (pending : Bool) → not (phase_allows phase pending 0xe3) ≡ false → phase ≡ Capable
+algorithms_phase : (phase : Phase) (pending : Bool) → not (phase_allows phase pending NEGOTIATE_ALGORITHMS) ≡ false → phase ≡ Capable
 algorithms_phase Fresh pending h = absurd (false≢true (sym h))
 algorithms_phase Versioned pending h = absurd (false≢true (sym h))
 algorithms_phase Capable pending h = refl
 algorithms_phase Negotiated pending h = absurd (false≢true (sym h))
 
-exchange_phase : (phase : Phase) (pending : Bool) → not (phase_allows phase pending 0xe6) ≡ false → phase ≡ Negotiated
+exchange_phase : (phase : Phase) (pending : Bool) → not (phase_allows phase pending PSK_EXCHANGE) ≡ false → phase ≡ Negotiated
 exchange_phase Fresh pending h = absurd (false≢true (sym h))
 exchange_phase Versioned pending h = absurd (false≢true (sym h))
 exchange_phase Capable pending h = absurd (false≢true (sym h))
@@ -65,11 +66,11 @@ phased_request : (r : RspSetup) (p : Place) (m : List ℕ) (f : Free) (answer : 
     → IsPhased p.phase (effect_of q m answer large)
 phased_request r p m f answer large None outside taken is = tt
 phased_request r p m f answer large (Some (GetCapabilities caps)) outside taken is =
-    capabilities_phase p.phase (has_pending p) (allowed_code r p m f 0xe1 outside taken (asked-code p m (GetCapabilities caps) is))
+    capabilities_phase p.phase (has_pending p) (allowed_code r p m f GET_CAPABILITIES outside taken (asked-code p m (GetCapabilities caps) is))
 phased_request r p m f answer large (Some (NegotiateAlgorithms offer)) outside taken is =
-    algorithms_phase p.phase (has_pending p) (allowed_code r p m f 0xe3 outside taken (asked-code p m (NegotiateAlgorithms offer) is))
+    algorithms_phase p.phase (has_pending p) (allowed_code r p m f NEGOTIATE_ALGORITHMS outside taken (asked-code p m (NegotiateAlgorithms offer) is))
 phased_request r p m f answer large (Some (PskExchange exchange)) outside taken is =
-    exchange_phase p.phase (has_pending p) (allowed_code r p m f 0xe6 outside taken (asked-code p m (PskExchange exchange) is))
+    exchange_phase p.phase (has_pending p) (allowed_code r p m f PSK_EXCHANGE outside taken (asked-code p m (PskExchange exchange) is))
 phased_request r p m f answer large (Some _) outside taken is = tt
 
 carried-phased : (r : RspSetup) (p : Place) (m : List ℕ) (f : Free) (c : ChunkMessage) (whole : List ℕ) (x : Option ErrorCode) → IsOutside p → refusal r p whole f ≡ x → IsPhased p.phase (carried_turn r p m f c whole x).effect

@@ -1,6 +1,6 @@
 -- What the rows of the responder's table are computed over: a responder and a requester, their messages, and
 -- made-up places. No tag is computed in the rows.
-use Rattle.std.proofs.Common.{◌≡◌, ◌+◌, ◌^◌, ℕ, List, [], ◌∷◌, drop, take, true, Option, Some, None}
+use Rattle.std.proofs.Common.{◌≡◌, ◌+◌, ℕ, List, [], ◌∷◌, drop, take, true, Option, Some, None}
 use Rattle.std.specs.Prelude.{codes, map, replicate}
 use Rattle.measurements.specs.Blocks.{up_to}
 use Rattle.negotiate.specs.Offer.{offer_tables}
@@ -12,6 +12,7 @@ use Rattle.spdm_grammar.specs.Requests.{canonical_request, request_body, get_ver
 use Rattle.spdm_grammar.specs.Responses.{canonical_response, response_body, version_layout, capabilities_layout, algorithms_layout}
 use Rattle.spdm_grammar.specs.declared.capabilities.Caps.{Caps}
 use Rattle.spdm_grammar.specs.declared.choice.Pick.TheVariants.{Small}
+use Rattle.spdm_grammar.specs.declared.names.capability.TheConstants.{PSK_CAP, HBEAT_CAP, KEY_UPD_CAP, CHUNK_CAP}
 use Rattle.spdm_grammar.specs.declared.error_code.ErrorCode.{ErrorCode}
 use Rattle.spdm_grammar.specs.declared.phase.Phase.{Phase}
 use Rattle.spdm_grammar.specs.declared.phase.Phase.TheVariants.{Fresh, Versioned, Capable, Negotiated}
@@ -49,23 +50,13 @@ setup = record {
   psk = codes "1234567890123456";
 }
 
--- PSK_CAP is 01, and HBEAT_CAP, KEY_UPD_CAP and CHUNK_CAP are set.
-abbrev pub heartbeats : ℕ
-heartbeats = 2 ^ 13
-
-abbrev pub key_updates : ℕ
-key_updates = 2 ^ 14
-
-abbrev pub chunks : ℕ
-chunks = 2 ^ 17
-
 -- The capabilities of a requester that has these flags and sizes.
 abbrev pub caps_with : (flags transfer max : ℕ) → Caps
-caps_with flags transfer max = record { ct = 0; flags = protection_flags + 2 ^ 10 + flags; transfer = transfer; max = max }
+caps_with flags transfer max = record { ct = 0; flags = protection_flags + PSK_CAP + flags; transfer = transfer; max = max }
 
--- Those of one that has all flags and the responder's sizes.
+-- Those of one that has all that are optional, and the responder's sizes.
 abbrev pub all_caps : Caps
-all_caps = caps_with (heartbeats + key_updates + chunks) 1024 4096
+all_caps = caps_with (HBEAT_CAP + KEY_UPD_CAP + CHUNK_CAP) 1024 4096
 
 -- An offer of SHA-256 and AES-128-GCM, with measurements.
 abbrev pub offer : OfferMessage

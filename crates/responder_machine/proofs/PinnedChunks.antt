@@ -5,7 +5,8 @@ use Rattle.spdm_grammar.specs.Message.RequestMessage.{GetMeasurements, ChunkSend
 use Rattle.spdm_grammar.specs.Requests.{canonical_request}
 use Rattle.spdm_grammar.specs.declared.error_code.ErrorCode.TheVariants.{InvalidRequest, UnexpectedRequest, RequestTooLarge}
 use Rattle.spdm_grammar.specs.declared.phase.Phase.TheVariants.{Negotiated}
-use Rattle.responder_machine.proofs.Pinned.{computed, setup, IsTable, clear_with, negotiation, negotiation_with, caps_with, chunks, offer, took, large, opened_with, with_large, after_taking, chunk_get}
+use Rattle.spdm_grammar.specs.declared.names.capability.TheConstants.{CHUNK_CAP}
+use Rattle.responder_machine.proofs.Pinned.{computed, setup, IsTable, clear_with, negotiation, negotiation_with, caps_with, offer, took, large, opened_with, with_large, after_taking, chunk_get}
 use Rattle.responder_machine.specs.Place.{Place, session_place}
 use Rattle.responder_machine.specs.Turn.{Turn}
 use Rattle.responder_machine.specs.Turn.Effect.{NoEffect}
@@ -96,7 +97,7 @@ abbrev get : Turn
 get = took (ChunkGet 5 0) [] None
 
 abbrev small_after : List Turn → Place
-small_after turns = clear_with Negotiated turns (negotiation_with setup (caps_with chunks 42 4096) offer)
+small_after turns = clear_with Negotiated turns (negotiation_with setup (caps_with CHUNK_CAP 42 4096) offer)
 
 first_get : IsTable setup (small_after (large ∷ [])) (
     (chunk_get 5 0, None)

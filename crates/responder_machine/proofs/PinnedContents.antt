@@ -1,5 +1,5 @@
 -- What is refused of the contents of a request, one rule after another.
-use Rattle.std.proofs.Common.{refl, ◌≡◌, ◌+◌, ◌^◌, ℕ, List, [], ◌∷◌, ◌++◌, take, replicate, Some, None, length-append}
+use Rattle.std.proofs.Common.{refl, ◌≡◌, ◌+◌, ℕ, List, [], ◌∷◌, ◌++◌, take, replicate, Some, None, length-append}
 use Rattle.sha2.proofs.Facts256.{length-sha256}
 use Rattle.spdm_grammar.specs.Message.{OfferMessage, ExchangeMessage}
 use Rattle.spdm_grammar.specs.Message.RequestMessage.{GetCapabilities, NegotiateAlgorithms, PskExchange}
@@ -7,6 +7,7 @@ use Rattle.spdm_grammar.specs.Requests.{canonical_request}
 use Rattle.spdm_grammar.specs.declared.capabilities.Caps.{Caps}
 use Rattle.spdm_grammar.specs.declared.error_code.ErrorCode.TheVariants.{InvalidRequest, UnexpectedRequest, SessionLimitExceeded}
 use Rattle.spdm_grammar.specs.declared.phase.Phase.TheVariants.{Negotiated}
+use Rattle.spdm_grammar.specs.declared.names.capability.TheConstants.{ENCRYPT_CAP, MAC_CAP, PSK_CAP, PSK_CAP_WITH_CONTEXT}
 use Rattle.responder_machine.proofs.Pinned.{computed, setup, free, IsTable, versioned, capable, negotiated, clear_with, negotiation_with, all_caps, offer, exchange, caps_with, opened, verifying, get_capabilities, negotiate_algorithms, get_measurements, psk_exchange, key_update}
 use Rattle.responder_machine.proofs.VerifyLength.{length_verify}
 use Rattle.responder_machine.specs.Place.{Place, session_place}
@@ -23,11 +24,11 @@ capabilities : IsTable setup versioned (
     ∷ (telling (caps_with 0 42 42), None)
     ∷ (telling (caps_with 0 41 42), Some InvalidRequest)
     ∷ (telling (caps_with 0 43 42), Some InvalidRequest)
-    ∷ (telling (record all_caps { flags = 2 ^ 6 + 2 ^ 7 + 2 ^ 10 }), None)
-    ∷ (telling (record all_caps { flags = 2 ^ 6 + 2 ^ 7 }), Some InvalidRequest)
-    ∷ (telling (record all_caps { flags = 2 ^ 6 + 2 ^ 7 + 2 ^ 11 }), Some InvalidRequest)
-    ∷ (telling (record all_caps { flags = 2 ^ 6 + 2 ^ 10 }), Some InvalidRequest)
-    ∷ (telling (record all_caps { flags = 2 ^ 7 + 2 ^ 10 }), Some InvalidRequest)
+    ∷ (telling (record all_caps { flags = ENCRYPT_CAP + MAC_CAP + PSK_CAP }), None)
+    ∷ (telling (record all_caps { flags = ENCRYPT_CAP + MAC_CAP }), Some InvalidRequest)
+    ∷ (telling (record all_caps { flags = ENCRYPT_CAP + MAC_CAP + PSK_CAP_WITH_CONTEXT }), Some InvalidRequest)
+    ∷ (telling (record all_caps { flags = ENCRYPT_CAP + PSK_CAP }), Some InvalidRequest)
+    ∷ (telling (record all_caps { flags = MAC_CAP + PSK_CAP }), Some InvalidRequest)
     ∷ (take 19 get_capabilities, Some InvalidRequest)
     ∷ (get_capabilities ++ 0 ∷ [], Some InvalidRequest)
     ∷ [])

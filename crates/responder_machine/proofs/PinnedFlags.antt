@@ -3,7 +3,9 @@ use Rattle.std.proofs.Common.{refl, ◌+◌, ℕ, List, [], ◌∷◌, drop, Som
 use Rattle.spdm_grammar.specs.declared.error_code.ErrorCode.TheVariants.{UnsupportedRequest, VersionMismatch}
 use Rattle.spdm_grammar.specs.declared.phase.Phase.TheVariants.{Negotiated}
 use Rattle.transcript.specs.Transcripts.{Negotiation}
-use Rattle.responder_machine.proofs.Pinned.{computed, setup, IsTable, fresh, versioned, capable, clear_with, negotiation_with, caps_with, all_caps, offer, heartbeats, key_updates, chunks, large, opened, opened_with, verifying_with, with_large, begun, get_version, get_capabilities, negotiate_algorithms, get_measurements, psk_exchange, psk_finish, heartbeat, key_update, end_session, chunk_send, chunk_get}
+use Rattle.spdm_grammar.specs.declared.names.spdm_version.TheConstants.{V1_0, V1_2}
+use Rattle.spdm_grammar.specs.declared.names.capability.TheConstants.{CHUNK_CAP, HBEAT_CAP, KEY_UPD_CAP}
+use Rattle.responder_machine.proofs.Pinned.{computed, setup, IsTable, fresh, versioned, capable, clear_with, negotiation_with, caps_with, all_caps, offer, large, opened, opened_with, verifying_with, with_large, begun, get_version, get_capabilities, negotiate_algorithms, get_measurements, psk_exchange, psk_finish, heartbeat, key_update, end_session, chunk_send, chunk_get}
 use Rattle.responder_machine.specs.Place.{inside, session_place}
 
 -- ---- Flags. The requester lacks one of them, or did not offer measurements.
@@ -12,13 +14,13 @@ abbrev without_measurements : Negotiation
 without_measurements = negotiation_with setup all_caps (record offer { measurement = 0 })
 
 abbrev without_heartbeats : Negotiation
-without_heartbeats = negotiation_with setup (caps_with (key_updates + chunks) 1024 4096) offer
+without_heartbeats = negotiation_with setup (caps_with (KEY_UPD_CAP + CHUNK_CAP) 1024 4096) offer
 
 abbrev without_key_updates : Negotiation
-without_key_updates = negotiation_with setup (caps_with (heartbeats + chunks) 1024 4096) offer
+without_key_updates = negotiation_with setup (caps_with (HBEAT_CAP + CHUNK_CAP) 1024 4096) offer
 
 abbrev without_chunks : Negotiation
-without_chunks = negotiation_with setup (caps_with (heartbeats + key_updates) 1024 1024) offer
+without_chunks = negotiation_with setup (caps_with (HBEAT_CAP + KEY_UPD_CAP) 1024 1024) offer
 
 no_measurements_in_clear : IsTable setup (clear_with Negotiated [] without_measurements) (
     (get_measurements 0, Some UnsupportedRequest)
@@ -87,18 +89,18 @@ abbrev of_version : ℕ → List ℕ → List ℕ
 of_version version m = version ∷ drop 1 m
 
 versions_of_get_version : IsTable setup fresh (
-    (of_version 0x10 get_version, None)
+    (of_version V1_0 get_version, None)
     ∷ (of_version 0x00 get_version, Some VersionMismatch)
     ∷ (of_version 0x11 get_version, Some VersionMismatch)
-    ∷ (of_version 0x12 get_version, Some VersionMismatch)
+    ∷ (of_version V1_2 get_version, Some VersionMismatch)
     ∷ (of_version 0x13 get_version, Some VersionMismatch)
     ∷ [])
 unfolding computed
 versions_of_get_version = refl
 
 versions_of_get_capabilities : IsTable setup versioned (
-    (of_version 0x12 get_capabilities, None)
-    ∷ (of_version 0x10 get_capabilities, Some VersionMismatch)
+    (of_version V1_2 get_capabilities, None)
+    ∷ (of_version V1_0 get_capabilities, Some VersionMismatch)
     ∷ (of_version 0x11 get_capabilities, Some VersionMismatch)
     ∷ (of_version 0x13 get_capabilities, Some VersionMismatch)
     ∷ [])
@@ -106,45 +108,45 @@ unfolding computed
 versions_of_get_capabilities = refl
 
 versions_in_capable : IsTable setup capable (
-    (of_version 0x12 negotiate_algorithms, None)
-    ∷ (of_version 0x10 negotiate_algorithms, Some VersionMismatch)
+    (of_version V1_2 negotiate_algorithms, None)
+    ∷ (of_version V1_0 negotiate_algorithms, Some VersionMismatch)
     ∷ (of_version 0x13 negotiate_algorithms, Some VersionMismatch)
     ∷ [])
 unfolding computed
 versions_in_capable = refl
 
 versions_in_negotiated : IsTable setup (clear_with Negotiated (large ∷ []) (negotiation_with setup all_caps offer)) (
-    (of_version 0x12 (get_measurements 0), None)
-    ∷ (of_version 0x10 (get_measurements 0), Some VersionMismatch)
+    (of_version V1_2 (get_measurements 0), None)
+    ∷ (of_version V1_0 (get_measurements 0), Some VersionMismatch)
     ∷ (of_version 0x13 (get_measurements 0), Some VersionMismatch)
-    ∷ (of_version 0x10 psk_exchange, Some VersionMismatch)
+    ∷ (of_version V1_0 psk_exchange, Some VersionMismatch)
     ∷ (of_version 0x13 psk_exchange, Some VersionMismatch)
-    ∷ (of_version 0x12 chunk_send, None)
-    ∷ (of_version 0x10 chunk_send, Some VersionMismatch)
+    ∷ (of_version V1_2 chunk_send, None)
+    ∷ (of_version V1_0 chunk_send, Some VersionMismatch)
     ∷ (of_version 0x13 chunk_send, Some VersionMismatch)
-    ∷ (of_version 0x12 (chunk_get 5 0), None)
-    ∷ (of_version 0x10 (chunk_get 5 0), Some VersionMismatch)
+    ∷ (of_version V1_2 (chunk_get 5 0), None)
+    ∷ (of_version V1_0 (chunk_get 5 0), Some VersionMismatch)
     ∷ (of_version 0x13 (chunk_get 5 0), Some VersionMismatch)
     ∷ [])
 unfolding computed
 versions_in_negotiated = refl
 
 versions_in_begun : IsTable setup (session_place begun) (
-    (of_version 0x10 psk_finish, Some VersionMismatch)
+    (of_version V1_0 psk_finish, Some VersionMismatch)
     ∷ (of_version 0x13 psk_finish, Some VersionMismatch)
     ∷ [])
 unfolding computed
 versions_in_begun = refl
 
 versions_in_opened : IsTable setup (session_place opened) (
-    (of_version 0x12 heartbeat, None)
-    ∷ (of_version 0x10 heartbeat, Some VersionMismatch)
+    (of_version V1_2 heartbeat, None)
+    ∷ (of_version V1_0 heartbeat, Some VersionMismatch)
     ∷ (of_version 0x13 heartbeat, Some VersionMismatch)
-    ∷ (of_version 0x12 (key_update 1), None)
-    ∷ (of_version 0x10 (key_update 1), Some VersionMismatch)
+    ∷ (of_version V1_2 (key_update 1), None)
+    ∷ (of_version V1_0 (key_update 1), Some VersionMismatch)
     ∷ (of_version 0x13 (key_update 1), Some VersionMismatch)
-    ∷ (of_version 0x12 end_session, None)
-    ∷ (of_version 0x10 end_session, Some VersionMismatch)
+    ∷ (of_version V1_2 end_session, None)
+    ∷ (of_version V1_0 end_session, Some VersionMismatch)
     ∷ (of_version 0x13 end_session, Some VersionMismatch)
     ∷ [])
 unfolding computed

@@ -28,6 +28,10 @@ supported_at p = filter (λ (code : ℕ). not (is_unsupported (refusal setup p (
 abbrev known_codes : List ℕ
 known_codes = map code_of (get_version ∷ chunk_send ∷ chunk_get 0 0 ∷ get_measurements 0 ∷ get_capabilities ∷ negotiate_algorithms ∷ psk_exchange ∷ psk_finish ∷ heartbeat ∷ key_update 1 ∷ end_session ∷ [])
 
+-- Their numbers in DSP0274.
+numbers_of_codes : known_codes ≡ 0x84 ∷ 0x85 ∷ 0x86 ∷ 0xe0 ∷ 0xe1 ∷ 0xe3 ∷ 0xe6 ∷ 0xe7 ∷ 0xe8 ∷ 0xe9 ∷ 0xec ∷ []
+numbers_of_codes = refl
+
 supported_in_clear : supported_at negotiated ≡ known_codes
 unfolding computed
 supported_in_clear = refl

@@ -5,7 +5,8 @@ use Rattle.std.specs.Prelude.{map}
 use Rattle.spdm_grammar.specs.Message.RequestMessage.{ChunkSend}
 use Rattle.spdm_grammar.specs.Requests.{canonical_request}
 use Rattle.spdm_grammar.specs.declared.phase.Phase.TheVariants.{Capable}
-use Rattle.responder_machine.proofs.Pinned.{computed, setup, free, clear_with, negotiation_with, caps_with, chunks, offer, fresh, versioned, capable, negotiated, opened, verifying, opened_with, misversioned, get_version, get_capabilities, negotiate_algorithms, get_measurements, psk_exchange, psk_finish, heartbeat, key_update, end_session, chunk_send}
+use Rattle.spdm_grammar.specs.declared.names.capability.TheConstants.{CHUNK_CAP}
+use Rattle.responder_machine.proofs.Pinned.{computed, setup, free, clear_with, negotiation_with, caps_with, offer, fresh, versioned, capable, negotiated, opened, verifying, opened_with, misversioned, get_version, get_capabilities, negotiate_algorithms, get_measurements, psk_exchange, psk_finish, heartbeat, key_update, end_session, chunk_send}
 use Rattle.responder_machine.proofs.VerifyLength.{length_verify}
 use Rattle.responder_machine.specs.Handling.{turn_of}
 use Rattle.responder_machine.specs.Place.{Place, session_place}
@@ -69,11 +70,11 @@ session_limit : (turn_of setup (record negotiated { past_handshake = 4 }) psk_ex
 unfolding computed
 session_limit = rw length_verify refl
 
-too_long : AreReplies setup (clear_with Capable [] (negotiation_with setup (caps_with chunks 42 51) offer)) ((negotiate_algorithms, 0x12 ∷ 0x7f ∷ 0x0d ∷ 0x00 ∷ 0x34 ∷ 0x00 ∷ 0x00 ∷ 0x00 ∷ []) ∷ [])
+too_long : AreReplies setup (clear_with Capable [] (negotiation_with setup (caps_with CHUNK_CAP 42 51) offer)) ((negotiate_algorithms, 0x12 ∷ 0x7f ∷ 0x0d ∷ 0x00 ∷ 0x34 ∷ 0x00 ∷ 0x00 ∷ 0x00 ∷ []) ∷ [])
 unfolding computed
 too_long = refl
 
-by_handle : AreReplies setup (clear_with Capable [] (negotiation_with setup (caps_with chunks 42 52) offer)) ((negotiate_algorithms, 0x12 ∷ 0x7f ∷ 0x0f ∷ 0x00 ∷ 0x09 ∷ []) ∷ [])
+by_handle : AreReplies setup (clear_with Capable [] (negotiation_with setup (caps_with CHUNK_CAP 42 52) offer)) ((negotiate_algorithms, 0x12 ∷ 0x7f ∷ 0x0f ∷ 0x00 ∷ 0x09 ∷ []) ∷ [])
 unfolding computed
 by_handle = refl
 
@@ -96,11 +97,11 @@ acknowledgements : AreReplies setup capable (
 unfolding computed
 acknowledgements = refl
 
-carried_answers : AreReplies setup (clear_with Capable [] (negotiation_with setup (caps_with chunks 57 57) offer)) ((carrying negotiate_algorithms, 0x12 ∷ 0x05 ∷ 0x00 ∷ 0x07 ∷ 0x00 ∷ 0x00 ∷ 0x12 ∷ 0x7f ∷ 0x0f ∷ 0x00 ∷ 0x09 ∷ []) ∷ [])
+carried_answers : AreReplies setup (clear_with Capable [] (negotiation_with setup (caps_with CHUNK_CAP 57 57) offer)) ((carrying negotiate_algorithms, 0x12 ∷ 0x05 ∷ 0x00 ∷ 0x07 ∷ 0x00 ∷ 0x00 ∷ 0x12 ∷ 0x7f ∷ 0x0f ∷ 0x00 ∷ 0x09 ∷ []) ∷ [])
 unfolding computed
 carried_answers = refl
 
-carried_too_long : AreReplies setup (clear_with Capable [] (negotiation_with setup (caps_with chunks 51 51) offer)) ((carrying negotiate_algorithms, 0x12 ∷ 0x05 ∷ 0x00 ∷ 0x07 ∷ 0x00 ∷ 0x00 ∷ 0x12 ∷ 0x7f ∷ 0x0d ∷ 0x00 ∷ 0x34 ∷ 0x00 ∷ 0x00 ∷ 0x00 ∷ []) ∷ [])
+carried_too_long : AreReplies setup (clear_with Capable [] (negotiation_with setup (caps_with CHUNK_CAP 51 51) offer)) ((carrying negotiate_algorithms, 0x12 ∷ 0x05 ∷ 0x00 ∷ 0x07 ∷ 0x00 ∷ 0x00 ∷ 0x12 ∷ 0x7f ∷ 0x0d ∷ 0x00 ∷ 0x34 ∷ 0x00 ∷ 0x00 ∷ 0x00 ∷ []) ∷ [])
 unfolding computed
 carried_too_long = refl
 

@@ -7,7 +7,8 @@ use Rattle.spdm_grammar.specs.declared.error_code.ErrorCode.{ErrorCode}
 use Rattle.spdm_grammar.specs.declared.error_code.ErrorCode.TheVariants.{InvalidRequest, ResponseTooLarge, RequestTooLarge}
 use Rattle.spdm_grammar.specs.declared.phase.Phase.TheVariants.{Capable}
 use Rattle.transcript.specs.Transcripts.{Negotiation}
-use Rattle.responder_machine.proofs.Pinned.{computed, setup, free, IsTable, clear_with, negotiation_with, caps_with, offer, chunks, fresh, versioned, capable, opened, opened_with, get_version, get_capabilities, negotiate_algorithms, get_measurements, heartbeat}
+use Rattle.spdm_grammar.specs.declared.names.capability.TheConstants.{CHUNK_CAP}
+use Rattle.responder_machine.proofs.Pinned.{computed, setup, free, IsTable, clear_with, negotiation_with, caps_with, offer, fresh, versioned, capable, opened, opened_with, get_version, get_capabilities, negotiate_algorithms, get_measurements, heartbeat}
 use Rattle.responder_machine.specs.Answer.{Free}
 use Rattle.responder_machine.specs.Handling.{turn_of}
 use Rattle.responder_machine.specs.Place.{Place, inside, session_place}
@@ -107,7 +108,7 @@ abbrev row : Bool → (transfer max : ℕ) → Way → SizeRow
 row chunked transfer max goes = record { chunked = chunked; transfer = transfer; max = max; goes = goes }
 
 abbrev settled : SizeRow → Negotiation
-settled s = negotiation_with setup (caps_with (if s.chunked then chunks else 0) s.transfer s.max) offer
+settled s = negotiation_with setup (caps_with (if s.chunked then CHUNK_CAP else 0) s.transfer s.max) offer
 
 -- A message is answered so at the places that go by the requester's sizes.
 abbrev AreAnswered : (SizeRow → Place) → List ℕ → Free → List SizeRow → Type 0
@@ -179,6 +180,23 @@ all_measurements_in_session : AreAnswered in_session (get_measurements 255) (wit
     ∷ [])
 unfolding computed
 all_measurements_in_session = refl
+
+-- No message passes 4,096 bytes, whatever the requester tells.
+answers_of_4096_bytes : AreAnswered in_session (get_measurements 0) (with_opaque 4054) (
+    row true 5000 5000 (whole 4096)
+    ∷ row false 5000 5000 (whole 4096)
+    ∷ row true 4095 5000 (by_handle 9)
+    ∷ [])
+unfolding computed
+answers_of_4096_bytes = refl
+
+answers_of_4097_bytes : AreAnswered in_session (get_measurements 0) (with_opaque 4055) (
+    row true 5000 5000 too_long
+    ∷ row false 5000 5000 too_long
+    ∷ row true 1024 5000 too_long
+    ∷ [])
+unfolding computed
+answers_of_4097_bytes = refl
 
 -- ---- Before phase Capable no size of the requester is tested.
 

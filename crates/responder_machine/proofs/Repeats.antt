@@ -18,6 +18,7 @@ use Rattle.responder_machine.specs.Session.{Events, session_of, is_live, when_li
 use Rattle.responder_machine.specs.Session.Event.{Heard}
 use Rattle.responder_machine.specs.Setup.{RspSetup}
 use Rattle.responder_machine.specs.Turn.{Turn, takes}
+use Rattle.spdm_grammar.specs.declared.names.request_code.TheConstants.{END_SESSION}
 
 pub repeat : RepeatAddsNothing
 unfolding on_clear
@@ -69,7 +70,7 @@ ended_or_live r phase s ended f tag m t reply d false new live = rw new (to_hear
 pub taken_record : TakenRecordIsRepeated
 unfolding on_record session_of
 taken_record r h tag other m f again_f d next t reply adds =
-    rw (eq-eqb (id_in_record m) (id_in_record m) refl) (ended_or_live r (phase_of (clear_turns h)) (session_of (id_in_record m) h) (ended_of h) again_f other m t reply next (takes 0xec t) fresh.0 (was_live r _ _ _ _ _ _ _ fresh.1))
+    rw (eq-eqb (id_in_record m) (id_in_record m) refl) (ended_or_live r (phase_of (clear_turns h)) (session_of (id_in_record m) h) (ended_of h) again_f other m t reply next (takes END_SESSION t) fresh.0 (was_live r _ _ _ _ _ _ _ fresh.1))
   where
     fresh : (repeats (ended_of h) m ≡ false) × (to_session r (phase_of (clear_turns h)) (session_of (id_in_record m) h) f tag m d ≡ Adds (Sealed tag m t reply d))
     fresh = not_first (repeats (ended_of h) m) (Same (record_body (kept_record (ended_of h)))) _ (Sealed tag m t reply d) refl adds

@@ -22,7 +22,8 @@ use Rattle.spdm_grammar.specs.Message.RequestMessage.{GetCapabilities, Negotiate
 use Rattle.spdm_grammar.specs.Message.ResponseMessage.{Capabilities, Algorithms}
 use Rattle.spdm_grammar.specs.Reading as reading_at
 use Rattle.spdm_grammar.specs.Reading.{read, and_then, number_at, field_at}
-use Rattle.spdm_grammar.specs.Requests.{request_in, request_body, is_request_code}
+use Rattle.spdm_grammar.specs.Requests.{request_in, request_body}
+use Rattle.spdm_grammar.specs.Codes.{is_request_code}
 use Rattle.spdm_grammar.specs.Responses.{response_layout, canonical_response, FitsResponse, IsSoundResponse, FitsReply, IsSoundReply}
 use Rattle.spdm_grammar.specs.declared.capabilities.Caps.{Caps}
 use Rattle.spdm_grammar.specs.declared.choice.Choice.{Choice}
@@ -36,10 +37,11 @@ use Rattle.responder_machine.specs.Setup.{RspSetup, responder_caps, policy_of}
 use Rattle.responder_machine.specs.SettledLaws.{CapabilitiesSettleCommon, AlgorithmsSettleChoice}
 use Rattle.spdm_machine.specs.Terms.{terms_of, hash_len, request_value, response_value, common_from, choice_from, asked_caps, told_caps, offer_in, reply_in, no_common, no_choice}
 use Rattle.transcript.specs.Transcripts.{Negotiation}
+use Rattle.spdm_grammar.specs.declared.names.request_code.TheConstants.{GET_CAPABILITIES, NEGOTIATE_ALGORITHMS, PSK_EXCHANGE, PSK_FINISH}
 
 -- ---- The length of the hash does not tell in most requests.
 
-body_same : (a b code : ℕ) → (code == 0xe6) ≡ false → (code == 0xe7) ≡ false → request_body a code ≡ request_body b code
+body_same : (a b code : ℕ) → (code == PSK_EXCHANGE) ≡ false → (code == PSK_FINISH) ≡ false → request_body a code ≡ request_body b code
 unfolding request_body
 body_same a b code x y = rw (x, y) refl
 
@@ -58,14 +60,14 @@ reading size x y rest =
 one_byte : (x : ℕ) (rest : List ℕ) → little_number 1 (take 1 (x ∷ rest)) ≡ x
 one_byte x rest = omega arith
 
-pub same_reading : (a b : ℕ) (m : List ℕ) → (code_of m == 0xe6) ≡ false → (code_of m == 0xe7) ≡ false → request_in a m ≡ request_in b m
+pub same_reading : (a b : ℕ) (m : List ℕ) → (code_of m == PSK_EXCHANGE) ≡ false → (code_of m == PSK_FINISH) ≡ false → request_in a m ≡ request_in b m
 unfolding number_at field_at
 same_reading a b [] x y = refl
 same_reading a b (v ∷ []) x y = refl
 same_reading a b (v ∷ code ∷ rest) x y =
     reading a v code rest
     ∙ ap (λ (l : Layout RequestMessage). result_ok (with_body (little_number 1 (take 1 (v ∷ code ∷ rest))) (little_number 1 (take 1 (code ∷ rest))) l rest))
-    (body_same a b (little_number 1 (take 1 (code ∷ rest))) (subst (λ c. (c == 0xe6) ≡ false) (sym (one_byte code rest)) x) (subst (λ c. (c == 0xe7) ≡ false) (sym (one_byte code rest)) y))
+    (body_same a b (little_number 1 (take 1 (code ∷ rest))) (subst (λ c. (c == PSK_EXCHANGE) ≡ false) (sym (one_byte code rest)) x) (subst (λ c. (c == PSK_FINISH) ≡ false) (sym (one_byte code rest)) y))
     ∙ sym (reading b v code rest)
 
 -- ---- What is read of the messages that settle.
@@ -74,9 +76,9 @@ other_code : (k c code : ℕ) → k ≡ code → (k == c) ≡ false → (code ==
 other_code k c code is h = subst (λ n. (n == c) ≡ false) is h
 
 -- A request other than those of the key exchange is read alike without a hash.
-value_read : (p : Place) (m : List ℕ) (asked : RequestMessage) (code : ℕ) → request_at p m ≡ Some asked → code ≡ code_of m → (code == 0xe6) ≡ false → (code == 0xe7) ≡ false → request_value m ≡ Some asked
+value_read : (p : Place) (m : List ℕ) (asked : RequestMessage) (code : ℕ) → request_at p m ≡ Some asked → code ≡ code_of m → (code == PSK_EXCHANGE) ≡ false → (code == PSK_FINISH) ≡ false → request_value m ≡ Some asked
 value_read p m asked code is known x y =
-    same_reading 32 (hash_len (place_terms p)) m (other_code code 0xe6 (code_of m) known x) (other_code code 0xe7 (code_of m) known y) ∙ is
+    same_reading 32 (hash_len (place_terms p)) m (other_code code PSK_EXCHANGE (code_of m) known x) (other_code code PSK_FINISH (code_of m) known y) ∙ is
 
 told_read : (message : ResponseMessage) → FitsResponse message → IsSoundResponse 32 false message → response_value (canonical_response message) ≡ Some message
 told_read message fits sound =
@@ -99,7 +101,7 @@ common_by n m answer caps told common asked answered is =
 
 pub common_settled : CapabilitiesSettleCommon
 common_settled r p m f caps common n fits is agreed_on =
-    common_by n m (answer_bytes r p m f) caps (responder_caps r) common (value_read p m (GetCapabilities caps) 0xe1 is (sized-code (hash_len (place_terms p)) m (GetCapabilities caps) is) refl refl)
+    common_by n m (answer_bytes r p m f) caps (responder_caps r) common (value_read p m (GetCapabilities caps) GET_CAPABILITIES is (sized-code (hash_len (place_terms p)) m (GetCapabilities caps) is) refl refl)
     (ap response_value (answer_is r p m f (GetCapabilities caps) is) ∙ told_read (Capabilities (responder_caps r)) fits tt) agreed_on
 
 choice_by : (n : Negotiation) (m answer : List ℕ) (offer : OfferMessage) (reply : ReplyMessage) (choice : Choice) → request_value m ≡ Some (NegotiateAlgorithms offer) → response_value answer ≡ Some (Algorithms reply) → agreed offer reply ≡ Some choice
@@ -150,6 +152,6 @@ reply_chosen r p m f offer choice is chosen =
 
 pub choice_settled : AlgorithmsSettleChoice
 choice_settled r p m f offer choice n is chosen =
-    choice_by n m (answer_bytes r p m f) offer (reply_of offer choice) choice (value_read p m (NegotiateAlgorithms offer) 0xe3 is (sized-code (hash_len (place_terms p)) m (NegotiateAlgorithms offer) is) refl refl)
+    choice_by n m (answer_bytes r p m f) offer (reply_of offer choice) choice (value_read p m (NegotiateAlgorithms offer) NEGOTIATE_ALGORITHMS is (sized-code (hash_len (place_terms p)) m (NegotiateAlgorithms offer) is) refl refl)
     (ap response_value (reply_chosen r p m f offer choice is chosen) ∙ told_read (Algorithms (reply_of offer choice)) (reply_fits offer choice) (reply_sound offer choice))
     (choice_is_agreed offer (policy_of r) choice chosen)

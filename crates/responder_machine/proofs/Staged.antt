@@ -34,6 +34,7 @@ use Rattle.responder_machine.specs.Setup.{RspSetup}
 use Rattle.responder_machine.specs.Turn.{Turn, Effect, code_in, takes, request_in, answer_in}
 use Rattle.responder_machine.specs.Turn.Effect.{NoEffect, Took, TookData}
 use Rattle.transcript.specs.Transcripts.{Negotiation}
+use Rattle.spdm_grammar.specs.declared.names.request_code.TheConstants.{GET_VERSION, CHUNK_SEND, PSK_EXCHANGE, PSK_FINISH, KEY_UPDATE, END_SESSION}
 
 abbrev IsPlacedRequest : Stage → RequestMessage → Type 0
 IsPlacedRequest stage (PskFinish verify) = stage ≡ Handshake
@@ -46,12 +47,12 @@ IsPlaced stage NoEffect = Unit {0}
 IsPlaced stage (Took asked request answer large) = IsPlacedRequest stage asked
 IsPlaced stage (TookData bytes answer) = Unit {0}
 
-finish_stage : (stage : Stage) (pending : Bool) → not (stage_allows stage pending 0xe7) ≡ false → stage ≡ Handshake
+finish_stage : (stage : Stage) (pending : Bool) → not (stage_allows stage pending PSK_FINISH) ≡ false → stage ≡ Handshake
 finish_stage Handshake pending h = refl
 finish_stage Open pending h = absurd (false≢true (sym h))
 finish_stage Verifying pending h = absurd (false≢true (sym h))
 
-update_stage : (stage : Stage) (pending : Bool) → not (stage_allows stage pending 0xe9) ≡ false → is_past_handshake stage ≡ true
+update_stage : (stage : Stage) (pending : Bool) → not (stage_allows stage pending KEY_UPDATE) ≡ false → is_past_handshake stage ≡ true
 update_stage Handshake pending h = absurd (false≢true (sym h))
 update_stage Open pending h = refl
 update_stage Verifying pending h = refl
@@ -64,13 +65,13 @@ placed_request : (r : RspSetup) (s : Events) (m : List ℕ) (f : Free) (answer :
     → IsPlaced (stage_of s) (effect_of q m answer large)
 placed_request r s m f answer large None taken is = tt
 placed_request r s m f answer large (Some (PskFinish verify)) taken is =
-    finish_stage (stage_of s) (has_pending (session_place s)) (allowed_code r s m f 0xe7 taken (asked-code (session_place s) m (PskFinish verify) is))
+    finish_stage (stage_of s) (has_pending (session_place s)) (allowed_code r s m f PSK_FINISH taken (asked-code (session_place s) m (PskFinish verify) is))
 placed_request r s m f answer large (Some (KeyUpdate op tag)) taken is =
-    update_stage (stage_of s) (has_pending (session_place s)) (allowed_code r s m f 0xe9 taken (asked-code (session_place s) m (KeyUpdate op tag) is))
+    update_stage (stage_of s) (has_pending (session_place s)) (allowed_code r s m f KEY_UPDATE taken (asked-code (session_place s) m (KeyUpdate op tag) is))
 placed_request r s m f answer large (Some _) taken is = tt
 
 -- A chunk has the code of CHUNK_SEND.
-chunk_code : (p : Place) (m : List ℕ) (c : ChunkMessage) (q : Option RequestMessage) → request_at p m ≡ q → chunk_in q ≡ Some c → 0x85 ≡ code_of m
+chunk_code : (p : Place) (m : List ℕ) (c : ChunkMessage) (q : Option RequestMessage) → request_at p m ≡ q → chunk_in q ≡ Some c → CHUNK_SEND ≡ code_of m
 chunk_code p m c None is chunk = absurd (none-some c chunk)
 chunk_code p m c (Some (ChunkSend other)) is chunk = asked-code p m (ChunkSend other) is
 chunk_code p m c (Some _) is chunk = absurd (none-some c chunk)
@@ -78,7 +79,7 @@ chunk_code p m c (Some _) is chunk = absurd (none-some c chunk)
 -- No chunk is taken in a session.
 no_chunk : (r : RspSetup) (s : Events) (m : List ℕ) (f : Free) (c : ChunkMessage) → refusal r (session_place s) m f ≡ None → chunk_in (request_at (session_place s) m) ≡ Some c → ⊥
 no_chunk r s m f c taken chunk =
-    false≢true (sym (form_shown r (session_place s) m f taken 4) ∙ sym (ap (λ (code : ℕ). code == 0x85) (chunk_code (session_place s) m c (request_at (session_place s) m) refl chunk)))
+    false≢true (sym (form_shown r (session_place s) m f taken 4) ∙ sym (ap (λ (code : ℕ). code == CHUNK_SEND) (chunk_code (session_place s) m c (request_at (session_place s) m) refl chunk)))
 
 turn_by-placed : (r : RspSetup) (s : Events) (m : List ℕ) (f : Free) (x : Option ErrorCode) (c : Option ChunkMessage) → refusal r (session_place s) m f ≡ x → chunk_in (request_at (session_place s) m) ≡ c
     → IsPlaced (stage_of s) (turn_by r (session_place s) m f x c).effect
@@ -137,13 +138,13 @@ made_placed r h tag m t reply d made = on_record-placed r h tag m (record_chosen
 
 -- ---- What of it is read in a session's own history.
 
-finish_placed : (stage : Stage) (e : Effect) → IsPlaced stage e → (code_in e == 0xe7) ≡ true → stage ≡ Handshake
+finish_placed : (stage : Stage) (e : Effect) → IsPlaced stage e → (code_in e == PSK_FINISH) ≡ true → stage ≡ Handshake
 finish_placed stage NoEffect h is = absurd (false≢true is)
 finish_placed stage (TookData bytes answer) h is = absurd (false≢true is)
 finish_placed stage (Took (PskFinish verify) request answer large) h is = h
 finish_placed stage (Took _ request answer large) h is = absurd (false≢true is)
 
-update_placed : (stage : Stage) (e : Effect) → IsPlaced stage e → (code_in e == 0xe9) ≡ true → is_past_handshake stage ≡ true
+update_placed : (stage : Stage) (e : Effect) → IsPlaced stage e → (code_in e == KEY_UPDATE) ≡ true → is_past_handshake stage ≡ true
 update_placed stage NoEffect h is = absurd (false≢true is)
 update_placed stage (TookData bytes answer) h is = absurd (false≢true is)
 update_placed stage (Took (KeyUpdate op tag) request answer large) h is = h
@@ -159,14 +160,14 @@ when-staged true s n x y = x refl
 when-staged false s n x y = y
 
 record_staged : (s : Events) (m : List ℕ) (t : Turn) (reply : List ℕ) → IsPlaced (stage_of s) t.effect → IsStaged s → IsStaged (after_record s m t reply)
-record_staged [] m t reply placed staged = either-staged (takes 0xec t) [] [] tt tt
+record_staged [] m t reply placed staged = either-staged (takes END_SESSION t) [] [] tt tt
 record_staged (v ∷ s) m t reply placed staged =
-    either-staged (takes 0xec t) [] (Heard m t reply ∷ v ∷ s) tt (finish_placed (stage_of (v ∷ s)) t.effect placed, update_placed (stage_of (v ∷ s)) t.effect placed, staged)
+    either-staged (takes END_SESSION t) [] (Heard m t reply ∷ v ∷ s) tt (finish_placed (stage_of (v ∷ s)) t.effect placed, update_placed (stage_of (v ∷ s)) t.effect placed, staged)
 
 clear_staged : (id : ℕ) (s : Events) (t : Turn) (n : Negotiation) → IsStaged s → IsStaged (after_clear id s t n)
 clear_staged id s t n staged =
-    either-staged (takes 0x84 t) [] _ tt
-    (either-staged (takes 0xe6 t) _ s
+    either-staged (takes GET_VERSION t) [] _ tt
+    (either-staged (takes PSK_EXCHANGE t) _ s
     (either-staged (id_in_exchange (answer_in t.effect) == id) (Began n (request_in t.effect) (answer_in t.effect) ∷ []) _ refl (either-staged (is_past_handshake (stage_of s)) s [] staged tt))
     staged)
 

@@ -5,7 +5,9 @@ use Rattle.std.specs.Prelude.{if◌then◌else◌}
 use Rattle.spdm_grammar.specs.declared.error_code.ErrorCode.{ErrorCode}
 use Rattle.responder_machine.specs.Answer.{Free}
 use Rattle.responder_machine.specs.Place.{Place}
-use Rattle.responder_machine.specs.Refusal.{refusal, first_of_tests, or_else, refused_form, refused_contents, tests_of_form, tests_of_contents}
+use Rattle.responder_machine.specs.Refusal.{refusal, refused_form, refused_contents, tests_of_form, tests_of_contents}
+use Rattle.spdm_basis.specs.Tests.{first_of_tests}
+use Rattle.std.specs.Option.{option_or}
 use Rattle.responder_machine.specs.Setup.{RspSetup}
 
 -- The test of this number in a table, counted from 0.
@@ -24,7 +26,7 @@ tests_are_false [] h n = refl
 tests_are_false (t ∷ ts) h zero = (both t.0 t.1 _ h).0
 tests_are_false (t ∷ ts) h (suc n) = tests_are_false ts (both t.0 t.1 _ h).1 n
 
-none_of_both : (a b : Option ErrorCode) → or_else a b ≡ None → (a ≡ None) × (b ≡ None)
+none_of_both : (a b : Option ErrorCode) → option_or a b ≡ None → (a ≡ None) × (b ≡ None)
 none_of_both (Some e) b h = absurd (none-some e (sym h))
 none_of_both None b h = (refl, h)
 

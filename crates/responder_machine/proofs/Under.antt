@@ -16,6 +16,7 @@ use Rattle.spdm_machine.specs.Sessions.{is_past_handshake, id_in_exchange}
 use Rattle.responder_machine.specs.Session.Event.{Began, Heard, Waited}
 use Rattle.responder_machine.specs.Turn.{Turn, Effect, takes}
 use Rattle.responder_machine.specs.Turn.Effect.{NoEffect, Took, TookData}
+use Rattle.spdm_grammar.specs.declared.names.request_code.TheConstants.{END_SESSION}
 
 -- A session is not live, or the phase is Negotiated and its negotiation is this one.
 abbrev IsUnder : List Turn → Events → Type 0
@@ -54,8 +55,8 @@ clear_under id s ts message refused chunk (Took (PskExchange exchange) request a
 clear_under id s ts message refused chunk (Took _ request answer large) reply phased under live = under live
 
 record_under : (ts : List Turn) (s : Events) (m : List ℕ) (t : Turn) (reply : List ℕ) → IsUnder ts s → IsUnder ts (after_record s m t reply)
-record_under ts [] m t reply under = either-under ts (takes 0xec t) [] [] (none-under ts) (none-under ts)
-record_under ts (v ∷ s) m t reply under = either-under ts (takes 0xec t) [] (Heard m t reply ∷ v ∷ s) (none-under ts) (λ live. under refl)
+record_under ts [] m t reply under = either-under ts (takes END_SESSION t) [] [] (none-under ts) (none-under ts)
+record_under ts (v ∷ s) m t reply under = either-under ts (takes END_SESSION t) [] (Heard m t reply ∷ v ∷ s) (none-under ts) (λ live. under refl)
 
 tick_under : (ts : List Turn) (s : Events) (seconds : ℕ) → IsUnder ts s → IsUnder ts (after_tick s seconds)
 tick_under ts [] seconds under = none-under ts

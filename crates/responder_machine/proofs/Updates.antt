@@ -17,6 +17,7 @@ use Rattle.spdm_machine.specs.Sessions.{is_past_handshake}
 use Rattle.responder_machine.specs.Session.Event.{Heard}
 use Rattle.responder_machine.specs.Turn.{Effect, takes, updates}
 use Rattle.responder_machine.specs.Turn.Effect.{NoEffect, Took, TookData}
+use Rattle.spdm_grammar.specs.declared.names.request_code.TheConstants.{PSK_FINISH}
 
 pub numbers_counted : NextNumbersAreCounts
 numbers_counted psk s staged = (requests_counted psk s staged, responses_counted psk s staged)
@@ -37,7 +38,7 @@ begins_anew true b c n h = refl
 begins_anew false b c n h = rw h refl
 
 pub update_begins : UpdateBeginsAtZero
-update_begins s m t reply is = begins_anew (takes 0xe7 t) (updates 1 t) (updates 2 t) _ is
+update_begins s m t reply is = begins_anew (takes PSK_FINISH t) (updates 1 t) (updates 2 t) _ is
 
 all_updated : (psk : List ℕ) (s : Events) (all verify : Bool) → all ≡ true → is_past_handshake (stage_of s) ≡ true
     → ((if all then 0 else response_next s) ≡ 0)

@@ -2,6 +2,7 @@
 use Rattle.std.proofs.Common.{◌≤◌, ◌<◌, ℕ, ◌+◌, List, [], ◌∷◌, ◌++◌, length, drop, true, false, Bool, arith, length-append}
 use Rattle.std.specs.List.{AllByRecursion}
 use Rattle.std.specs.Prelude.{if◌then◌else◌, ◌==◌, ◌*◌, ◌||◌, not, nat_le, is_some}
+use Rattle.spdm_grammar.specs.declared.names.request_code.TheConstants.{GET_VERSION, PSK_EXCHANGE, END_SESSION}
 use Rattle.responder_machine.specs.BoundLaws.{messages_of, IsSessionWithin, ConnectionIsBounded, SessionIsBounded, QueueIsBounded}
 use Rattle.responder_machine.specs.History.{clear_turns, negotiation_of, queue_of, draws_of, all_taken}
 use Rattle.responder_machine.specs.History.Entry.{Clear, Sealed, Queued, Ticked, Dropped}
@@ -73,14 +74,14 @@ either-within true s n most x y = x
 either-within false s n most x y = y
 
 record_within : (s : Events) (m : List ℕ) (t : Turn) (reply : List ℕ) (most : ℕ) → IsSessionWithin s most → IsSessionWithin (after_record s m t reply) (most + 1)
-record_within [] m t reply most w = either-within (takes 0xec t) [] [] (most + 1) (none_within (most + 1)) (none_within (most + 1))
+record_within [] m t reply most w = either-within (takes END_SESSION t) [] [] (most + 1) (none_within (most + 1)) (none_within (most + 1))
 record_within (v ∷ s) m t reply most w =
-    either-within (takes 0xec t) [] (Heard m t reply ∷ v ∷ s) (most + 1) (none_within (most + 1)) (heard_within m t reply (v ∷ s) most w)
+    either-within (takes END_SESSION t) [] (Heard m t reply ∷ v ∷ s) (most + 1) (none_within (most + 1)) (heard_within m t reply (v ∷ s) most w)
 
 clear_within : (id : ℕ) (s : Events) (t : Turn) (n : Negotiation) (most : ℕ) → IsSessionWithin s most → IsSessionWithin (after_clear id s t n) most
 clear_within id s t n most w =
-    either-within (takes 0x84 t) [] _ most (none_within most)
-    (either-within (takes 0xe6 t) _ s most
+    either-within (takes GET_VERSION t) [] _ most (none_within most)
+    (either-within (takes PSK_EXCHANGE t) _ s most
     (either-within (id_in_exchange (answer_in t.effect) == id) (Began n (request_in t.effect) (answer_in t.effect) ∷ []) _ most (begun_within n (request_in t.effect) (answer_in t.effect) most)
     (either-within (is_past_handshake (stage_of s)) s [] most w (none_within most)))
     w)

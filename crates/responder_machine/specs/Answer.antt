@@ -19,6 +19,7 @@ use Rattle.responder_machine.specs.Place.{Place, place_terms}
 use Rattle.responder_machine.specs.Setup.{RspSetup, responder_caps, policy_of, inventory_of}
 use Rattle.spdm_machine.specs.Terms.{no_choice, hash_len}
 use Rattle.transcript.specs.Transcripts.{vca_of}
+use Rattle.spdm_grammar.specs.declared.names.spdm_version.TheConstants.{V1_2}
 
 -- All that an answer leaves free: the id, the context and the opaque data of PSK_EXCHANGE_RSP, the nonce and
 -- the opaque data of MEASUREMENTS, the handle of a large answer, the application data sent in answer, and
@@ -35,7 +36,7 @@ pub record Free : Type 0 where
 
 -- "VERSION": one entry, 1.2.
 abbrev pub version_answer : ResponseMessage
-version_answer = Version (0x00 ∷ 0x12 ∷ [])
+version_answer = Version (0x00 ∷ V1_2 ∷ [])
 
 -- "ALGORITHMS": the reply to the offer with the choice that the responder makes.
 abbrev pub algorithms_answer : RspSetup → OfferMessage → ResponseMessage

@@ -11,6 +11,7 @@ use Rattle.responder_machine.specs.Session.{Events, stage_of}
 use Rattle.spdm_machine.specs.Sessions.{is_past_handshake}
 use Rattle.responder_machine.specs.Session.Event.{Began, Heard, Waited}
 use Rattle.responder_machine.specs.Turn.{takes}
+use Rattle.spdm_grammar.specs.declared.names.request_code.TheConstants.{PSK_FINISH, KEY_UPDATE}
 
 -- Two kinds are one: verify data, records of the handshake, or records after it.
 abbrev pub same_kind : Kind → Kind → Bool
@@ -49,5 +50,5 @@ abbrev pub IsStaged : Events → Type 0
 IsStaged [] = Unit {0}
 IsStaged (Began negotiation exchange answer ∷ older) = older ≡ []
 IsStaged (Heard m t reply ∷ older) =
-    (takes 0xe7 t ≡ true → stage_of older ≡ Handshake) × (takes 0xe9 t ≡ true → is_past_handshake (stage_of older) ≡ true) × IsStaged older
+    (takes PSK_FINISH t ≡ true → stage_of older ≡ Handshake) × (takes KEY_UPDATE t ≡ true → is_past_handshake (stage_of older) ≡ true) × IsStaged older
 IsStaged (Waited seconds ∷ older) = IsStaged older

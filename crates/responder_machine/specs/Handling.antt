@@ -18,15 +18,16 @@ use Rattle.responder_machine.specs.Refusal.{refusal, code_of, sizes_are_known, b
 use Rattle.responder_machine.specs.Setup.{RspSetup}
 use Rattle.responder_machine.specs.Turn.{Turn, Effect}
 use Rattle.responder_machine.specs.Turn.Effect.{NoEffect, Took}
+use Rattle.spdm_grammar.specs.declared.names.spdm_version.TheConstants.{V1_0, V1_2}
 
 -- ---- ERROR (DSP0274, "ERROR response message format").
 
 -- SPDMVersion of an ERROR: 1.0 in phase Fresh, and 1.2 in all others.
 abbrev pub version_in : Phase → ℕ
-version_in Fresh = 0x10
-version_in Versioned = 0x12
-version_in Capable = 0x12
-version_in Negotiated = 0x12
+version_in Fresh = V1_0
+version_in Versioned = V1_2
+version_in Capable = V1_2
+version_in Negotiated = V1_2
 
 -- Error data: the request's code for UnsupportedRequest, else 0.
 abbrev pub detail_of : ErrorCode → ℕ → ℕ
@@ -45,7 +46,7 @@ error_bytes r p m f e =
 
 -- LargeResponse tells the handle of the answer.
 abbrev pub large_response : ℕ → List ℕ
-large_response handle = canonical_response (Error 0x12 (error_number LargeResponse) 0 (handle ∷ []))
+large_response handle = canonical_response (Error V1_2 (error_number LargeResponse) 0 (handle ∷ []))
 
 -- ---- One message.
 

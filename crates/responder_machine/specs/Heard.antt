@@ -7,7 +7,7 @@ use Rattle.spdm_grammar.specs.declared.heard.Heard.{Heard}
 use Rattle.spdm_grammar.specs.declared.heard.Heard.TheVariants as heard
 use Rattle.byteorder.specs.Endian.{little_number}
 use Rattle.std.specs.Prelude.{drop}
-use Rattle.spdm_grammar.specs.View.{View}
+use Rattle.spdm_grammar.specs.declared.session_view.SessionView.{SessionView}
 use Rattle.spdm_machine.specs.Sessions.{transcript_in}
 use Rattle.responder_machine.specs.History.{History, Entry}
 use Rattle.responder_machine.specs.History.Entry.{Clear, Sealed}
@@ -52,7 +52,7 @@ abbrev pub session_id : Events → SessionId
 session_id s = record { req = id_in_exchange (exchange_of s); rsp = id_in_exchange (exchange_answer s) }
 
 -- A session as it is shown, read off its own history.
-unfoldable pub view_of : Events → View
+unfoldable pub view_of : Events → SessionView
 view_of s = record {
   id = session_id s;
   stage = stage_of s;
@@ -66,10 +66,10 @@ view_of s = record {
 }
 
 -- A live session is shown; where there is none, nothing is.
-abbrev pub view_if_live : Events → List View
+abbrev pub view_if_live : Events → List SessionView
 view_if_live [] = []
 view_if_live (e ∷ s) = view_of (e ∷ s) ∷ []
 
 -- The live sessions, by rising RspSessionID.
-abbrev pub views_of : History → List View
+abbrev pub views_of : History → List SessionView
 views_of h = view_if_live (session_of 1 h) ++ view_if_live (session_of 2 h) ++ view_if_live (session_of 3 h) ++ view_if_live (session_of 4 h)

@@ -6,6 +6,7 @@ use Rattle.spdm_machine.specs.Keys.{Draw}
 use Rattle.spdm_machine.specs.Terms.{no_negotiation}
 use Rattle.responder_machine.specs.Turn.{Turn, is_taken, takes, takes_draw, is_data, request_in, answer_in}
 use Rattle.transcript.specs.Transcripts.{Negotiation}
+use Rattle.spdm_grammar.specs.declared.names.request_code.TheConstants.{GET_VERSION, GET_CAPABILITIES, NEGOTIATE_ALGORITHMS, PSK_EXCHANGE, END_SESSION}
 
 -- What came: a clear message with its tag; a record with its tag, the turn of what was sealed in it, and the
 -- record sent in answer; application data queued for the requester; seconds that passed. Each message
@@ -34,18 +35,18 @@ clear_turns (_ ∷ older) = clear_turns older
 abbrev pub phase_of : List Turn → Phase
 phase_of [] = Fresh
 phase_of (t ∷ older) =
-    if takes 0x84 t then Versioned
-    else (if takes 0xe1 t then Capable
-    else (if takes 0xe3 t then Negotiated
+    if takes GET_VERSION t then Versioned
+    else (if takes GET_CAPABILITIES t then Capable
+    else (if takes NEGOTIATE_ALGORITHMS t then Negotiated
     else phase_of older))
 
 -- The messages of the negotiation from the last GET_VERSION on, each whole, as they were sent.
 abbrev pub negotiation_of : List Turn → Negotiation
 negotiation_of [] = no_negotiation
 negotiation_of (t ∷ older) =
-    if takes 0x84 t then record no_negotiation { get_version = request_in t.effect; version = answer_in t.effect }
-    else (if takes 0xe1 t then record (negotiation_of older) { get_capabilities = request_in t.effect; capabilities = answer_in t.effect }
-    else (if takes 0xe3 t then record (negotiation_of older) { negotiate_algorithms = request_in t.effect; algorithms = answer_in t.effect }
+    if takes GET_VERSION t then record no_negotiation { get_version = request_in t.effect; version = answer_in t.effect }
+    else (if takes GET_CAPABILITIES t then record (negotiation_of older) { get_capabilities = request_in t.effect; capabilities = answer_in t.effect }
+    else (if takes NEGOTIATE_ALGORITHMS t then record (negotiation_of older) { negotiate_algorithms = request_in t.effect; algorithms = answer_in t.effect }
     else negotiation_of older))
 
 -- A clear request with its tag, and its reply.
@@ -78,8 +79,8 @@ pub record KeptRecord : Type 0 where
 -- GET_VERSION or END_SESSION is taken.
 abbrev pub ended_of : History → Option KeptRecord
 ended_of [] = None
-ended_of (Clear tag t d ∷ older) = if takes 0x84 t || takes 0xe6 t then None else ended_of older
-ended_of (Sealed tag m t reply d ∷ older) = if takes 0xec t then Some (record { sealed = m; reply = reply }) else ended_of older
+ended_of (Clear tag t d ∷ older) = if takes GET_VERSION t || takes PSK_EXCHANGE t then None else ended_of older
+ended_of (Sealed tag m t reply d ∷ older) = if takes END_SESSION t then Some (record { sealed = m; reply = reply }) else ended_of older
 ended_of (_ ∷ older) = ended_of older
 
 -- How many draws the connection took.

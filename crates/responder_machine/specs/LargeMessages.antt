@@ -4,18 +4,19 @@ use Rattle.std.specs.Prelude.{◌+◌, ◌%◌, ◌||◌, not, nat_lt, ℕ, List
 use Rattle.chunking.specs.Cutting.{chunk_count}
 use Rattle.spdm_grammar.specs.Message.{ChunkMessage}
 use Rattle.responder_machine.specs.Turn.{Turn, is_taken, takes, large_in, handle_in}
+use Rattle.spdm_grammar.specs.declared.names.request_code.TheConstants.{CHUNK_GET}
 
 -- THE LARGE ANSWER
 
 -- The answer that last went by LargeResponse, where no taken message but CHUNK_GET came after it.
 abbrev pub large_of : List Turn → Option (List ℕ)
 large_of [] = None
-large_of (t ∷ older) = if not (is_taken t) || takes 0x86 t then large_of older else large_in t.effect
+large_of (t ∷ older) = if not (is_taken t) || takes CHUNK_GET t then large_of older else large_in t.effect
 
 -- How many chunks of it were given.
 abbrev pub given_of : List Turn → ℕ
 given_of [] = 0
-given_of (t ∷ older) = if not (is_taken t) then given_of older else (if takes 0x86 t then given_of older + 1 else 0)
+given_of (t ∷ older) = if not (is_taken t) then given_of older else (if takes CHUNK_GET t then given_of older + 1 else 0)
 
 -- The large answer, while a chunk of it is still to be given.
 abbrev pub still_pending : ℕ → ℕ → Option (List ℕ) → Option (List ℕ)

@@ -27,8 +27,10 @@ use Rattle.responder_machine.specs.Session.{Events, session_of, session_negotiat
 use Rattle.spdm_machine.specs.Sessions.{is_past_handshake, id_in_exchange}
 use Rattle.responder_machine.specs.Session.Event.{Began}
 use Rattle.responder_machine.specs.Setup.{RspSetup}
-use Rattle.responder_machine.specs.Turn.{Turn, code_for, takes, request_in, answer_in}
+use Rattle.responder_machine.specs.Turn.{Turn, takes, request_in, answer_in}
+use Rattle.spdm_grammar.specs.Codes.{code_for}
 use Rattle.responder_machine.specs.Turn.Effect.{Took}
+use Rattle.spdm_grammar.specs.declared.names.request_code.TheConstants.{PSK_EXCHANGE}
 
 -- ---- What it does, it may.
 
@@ -179,6 +181,6 @@ NewSessionIsFresh = (r : RspSetup) (h : History) (tag : ℕ) (m : List ℕ) (f :
 -- The same for each clear message that takes a PSK_EXCHANGE, as the last chunk of a large one does.
 abbrev pub TakenExchangeIsFresh : Type 0
 TakenExchangeIsFresh = (r : RspSetup) (h : History) (tag : ℕ) (m : List ℕ) (f : Free) (d : Draw) (t : Turn)
-    → IsAllowed h (clear_place h) f → turn_of r (clear_place h) m f ≡ t → takes 0xe6 t ≡ true
+    → IsAllowed h (clear_place h) f → turn_of r (clear_place h) m f ≡ t → takes PSK_EXCHANGE t ≡ true
     → (is_held h f.id ≡ false) × (id_in_exchange (answer_in t.effect) ≡ f.id)
     × (session_of f.id (Clear tag t d ∷ h) ≡ Began (negotiation_of (clear_turns h)) (request_in t.effect) (answer_in t.effect) ∷ [])

@@ -10,6 +10,7 @@ use Rattle.spdm_machine.specs.Sessions.{is_past_handshake}
 use Rattle.responder_machine.specs.Session.Event.{Heard}
 use Rattle.responder_machine.specs.Setup.{RspSetup}
 use Rattle.responder_machine.specs.Turn.{Turn, takes, updates}
+use Rattle.spdm_grammar.specs.declared.names.request_code.TheConstants.{PSK_FINISH}
 
 -- In each session of a history that the responder made, PSK_FINISH was taken in the handshake alone and
 -- KEY_UPDATE after it alone.
@@ -28,7 +29,7 @@ ReplyNumberIsCount = (psk : List ℕ) (s : Events) (t : Turn) → IsStaged s →
 
 -- PSK_FINISH: both directions begin anew.
 abbrev pub FinishBeginsAtZero : Type 0
-FinishBeginsAtZero = (s : Events) (m : List ℕ) (t : Turn) (reply : List ℕ) → takes 0xe7 t ≡ true
+FinishBeginsAtZero = (s : Events) (m : List ℕ) (t : Turn) (reply : List ℕ) → takes PSK_FINISH t ≡ true
     → (request_next (Heard m t reply ∷ s) ≡ 0) × (response_next (Heard m t reply ∷ s) ≡ 0)
 
 -- UpdateKey and UpdateAllKeys: the requests begin anew.

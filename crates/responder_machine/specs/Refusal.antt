@@ -1,12 +1,15 @@
 -- Which requests a responder refuses, with which error code: a list of tests in order, of which the first
 -- that holds decides (DSP0274, "ERROR" and the error codes; the order is this project's own).
 use Rattle.std.specs.Prelude.{◌+◌, ◌==◌, ◌&&◌, ◌||◌, not, nat_lt, ℕ, List, [], ◌∷◌, length, slice_index, if◌then◌else◌, Bool, true, false, Option, Some, None, is_none, is_some, bytes_eq}
+use Rattle.std.specs.Option.{option_or}
 use Rattle.std.specs.Result.{result_ok}
+use Rattle.spdm_basis.specs.Tests.{first_of_tests}
 use Rattle.chunking.specs.Collecting.{broken_rule, under_way}
 use Rattle.key_schedule.specs.declared.direction.Direction.TheVariants as direction
 use Rattle.measurements.specs.Records.{is_missing}
 use Rattle.negotiate.specs.Capabilities.{common_of}
 use Rattle.negotiate.specs.Choosing.{selected}
+use Rattle.spdm_grammar.specs.Codes.{is_one_of, request_codes}
 use Rattle.spdm_grammar.specs.Message.{RequestMessage}
 use Rattle.spdm_grammar.specs.Message.RequestMessage.{GetCapabilities, NegotiateAlgorithms, GetMeasurements, PskExchange, PskFinish, KeyUpdate, ChunkSend, ChunkGet}
 use Rattle.spdm_grammar.specs.declared.error_code.ErrorCode.{ErrorCode}
@@ -25,61 +28,53 @@ use Rattle.responder_machine.specs.Place.Where.{InClear, InChunks, InSession}
 use Rattle.responder_machine.specs.Session.{stage_of, t1_of, tv_of}
 use Rattle.responder_machine.specs.Setup.{RspSetup, responder_caps, policy_of, inventory_of}
 use Rattle.spdm_machine.specs.Terms.{Terms}
-
--- The code of the first test that holds.
-abbrev pub first_of_tests : List (Bool × ErrorCode) → Option ErrorCode
-first_of_tests [] = None
-first_of_tests (t ∷ ts) = if t.0 then Some t.1 else first_of_tests ts
+use Rattle.spdm_grammar.specs.declared.names.request_code.TheConstants.{GET_VERSION, CHUNK_SEND, CHUNK_GET, GET_MEASUREMENTS, GET_CAPABILITIES, NEGOTIATE_ALGORITHMS, PSK_EXCHANGE, PSK_FINISH, HEARTBEAT, KEY_UPDATE, END_SESSION}
+use Rattle.spdm_grammar.specs.declared.names.spdm_version.TheConstants.{V1_0, V1_2}
 
 -- The request code of a message of at least two bytes.
 abbrev pub code_of : List ℕ → ℕ
 code_of m = slice_index m 1
 
--- The code stands in the list.
-abbrev pub is_one_of : List ℕ → ℕ → Bool
-is_one_of [] c = false
-is_one_of (x ∷ xs) c = c == x || is_one_of xs c
-
 -- The eleven requests of this profile.
 abbrev pub is_known : ℕ → Bool
-is_known = is_one_of (0x84 ∷ 0xe1 ∷ 0xe3 ∷ 0xe0 ∷ 0xe6 ∷ 0xe7 ∷ 0xe8 ∷ 0xe9 ∷ 0xec ∷ 0x85 ∷ 0x86 ∷ [])
+is_known = is_one_of request_codes
 
 -- ---- Where a request may come.
 
 -- PSK_FINISH, HEARTBEAT, KEY_UPDATE and END_SESSION need a session.
 abbrev pub needs_session : Where → ℕ → Bool
-needs_session InClear c = is_one_of (0xe7 ∷ 0xe8 ∷ 0xe9 ∷ 0xec ∷ []) c
-needs_session InChunks c = is_one_of (0xe7 ∷ 0xe8 ∷ 0xe9 ∷ 0xec ∷ []) c
+needs_session InClear c = is_one_of (PSK_FINISH ∷ HEARTBEAT ∷ KEY_UPDATE ∷ END_SESSION ∷ []) c
+needs_session InChunks c = is_one_of (PSK_FINISH ∷ HEARTBEAT ∷ KEY_UPDATE ∷ END_SESSION ∷ []) c
 needs_session InSession c = false
 
 -- Nothing is sent by chunks inside a session.
 abbrev pub is_chunk_in_session : Where → ℕ → Bool
 is_chunk_in_session InClear c = false
 is_chunk_in_session InChunks c = false
-is_chunk_in_session InSession c = c == 0x85
+is_chunk_in_session InSession c = c == CHUNK_SEND
 
 -- GET_VERSION, GET_CAPABILITIES, NEGOTIATE_ALGORITHMS and PSK_EXCHANGE do not come in a session, and
 -- GET_VERSION, CHUNK_SEND and CHUNK_GET not by chunks.
 abbrev pub is_misplaced : Where → ℕ → Bool
 is_misplaced InClear c = false
-is_misplaced InChunks c = is_one_of (0x84 ∷ 0x85 ∷ 0x86 ∷ []) c
-is_misplaced InSession c = is_one_of (0x84 ∷ 0xe1 ∷ 0xe3 ∷ 0xe6 ∷ []) c
+is_misplaced InChunks c = is_one_of (GET_VERSION ∷ CHUNK_SEND ∷ CHUNK_GET ∷ []) c
+is_misplaced InSession c = is_one_of (GET_VERSION ∷ GET_CAPABILITIES ∷ NEGOTIATE_ALGORITHMS ∷ PSK_EXCHANGE ∷ []) c
 
 -- ---- What a phase and a stage allow.
 
 -- CHUNK_GET needs a pending large answer in every phase. There is none before Capable.
 abbrev pub phase_allows : Phase → Bool → ℕ → Bool
-phase_allows Fresh pending c = c == 0x84 || (c == 0x86 && pending)
-phase_allows Versioned pending c = is_one_of (0x84 ∷ 0xe1 ∷ []) c || (c == 0x86 && pending)
-phase_allows Capable pending c = is_one_of (0x84 ∷ 0xe3 ∷ 0x85 ∷ []) c || (c == 0x86 && pending)
-phase_allows Negotiated pending c = is_one_of (0x84 ∷ 0xe0 ∷ 0xe6 ∷ 0x85 ∷ []) c || (c == 0x86 && pending)
+phase_allows Fresh pending c = c == GET_VERSION || (c == CHUNK_GET && pending)
+phase_allows Versioned pending c = is_one_of (GET_VERSION ∷ GET_CAPABILITIES ∷ []) c || (c == CHUNK_GET && pending)
+phase_allows Capable pending c = is_one_of (GET_VERSION ∷ NEGOTIATE_ALGORITHMS ∷ CHUNK_SEND ∷ []) c || (c == CHUNK_GET && pending)
+phase_allows Negotiated pending c = is_one_of (GET_VERSION ∷ GET_MEASUREMENTS ∷ PSK_EXCHANGE ∷ CHUNK_SEND ∷ []) c || (c == CHUNK_GET && pending)
 
 -- The handshake allows PSK_FINISH alone, and Verifying KEY_UPDATE alone. Open allows GET_MEASUREMENTS,
 -- HEARTBEAT, KEY_UPDATE and END_SESSION, and CHUNK_GET with a pending large answer.
 abbrev pub stage_allows : Stage → Bool → ℕ → Bool
-stage_allows Handshake pending c = c == 0xe7
-stage_allows Open pending c = is_one_of (0xe0 ∷ 0xe8 ∷ 0xe9 ∷ 0xec ∷ []) c || (c == 0x86 && pending)
-stage_allows Verifying pending c = c == 0xe9
+stage_allows Handshake pending c = c == PSK_FINISH
+stage_allows Open pending c = is_one_of (GET_MEASUREMENTS ∷ HEARTBEAT ∷ KEY_UPDATE ∷ END_SESSION ∷ []) c || (c == CHUNK_GET && pending)
+stage_allows Verifying pending c = c == KEY_UPDATE
 
 -- A large answer of the place is pending: a chunk of it is still to be given.
 abbrev pub has_pending : Place → Bool
@@ -97,8 +92,8 @@ is_allowed InSession p c = stage_allows (stage_of p.events) (has_pending p) c
 -- and KEY_UPDATE theirs.
 abbrev pub lacks_flag : Terms → ℕ → Bool
 lacks_flag terms c =
-    (c == 0xe0 && not terms.choice.measure) || (is_one_of (0x85 ∷ 0x86 ∷ []) c && not terms.common.chunk)
-    || (c == 0xe8 && not terms.common.heartbeat) || (c == 0xe9 && not terms.common.key_update)
+    (c == GET_MEASUREMENTS && not terms.choice.measure) || (is_one_of (CHUNK_SEND ∷ CHUNK_GET ∷ []) c && not terms.common.chunk)
+    || (c == HEARTBEAT && not terms.common.heartbeat) || (c == KEY_UPDATE && not terms.common.key_update)
 
 -- ---- What is refused of the contents.
 
@@ -187,7 +182,7 @@ limit_of r InSession = r.transfer
 
 -- GET_VERSION has SPDMVersion 1.0, and each other request 1.2.
 abbrev pub version_for : ℕ → ℕ
-version_for c = if c == 0x84 then 0x10 else 0x12
+version_for c = if c == GET_VERSION then V1_0 else V1_2
 
 -- Where it came, how long it is, and whether it is a request at all.
 abbrev pub tests_of_form : RspSetup → Place → List ℕ → List (Bool × ErrorCode)
@@ -217,7 +212,7 @@ tests_of_contents r p m f =
     ∷ (is_some (chunk_fault r p (request_at p m)), InvalidRequest)
     ∷ (is_get_refused p (request_at p m), InvalidRequest)
     ∷ (is_answer_too_long p (answer_bytes r p m f), ResponseTooLarge)
-    ∷ (code_of m == 0xe6 && p.past_handshake == 4, SessionLimitExceeded)
+    ∷ (code_of m == PSK_EXCHANGE && p.past_handshake == 4, SessionLimitExceeded)
     ∷ []
 
 -- The code for which the form of a request is refused, or none: the first of its tests that holds decides.
@@ -228,12 +223,7 @@ refused_form r p m = first_of_tests (tests_of_form r p m)
 unfoldable pub refused_contents : RspSetup → Place → List ℕ → Free → Option ErrorCode
 refused_contents r p m f = first_of_tests (tests_of_contents r p m f)
 
--- The first code of two.
-abbrev pub or_else : Option ErrorCode → Option ErrorCode → Option ErrorCode
-or_else (Some e) other = Some e
-or_else None other = other
-
 -- The code with which a request that is no repeat is refused at a place, or none. The length of the answer is
 -- that under the free values.
 unfoldable pub refusal : RspSetup → Place → List ℕ → Free → Option ErrorCode
-refusal r p m f = or_else (refused_form r p m) (refused_contents r p m f)
+refusal r p m f = option_or (refused_form r p m) (refused_contents r p m f)

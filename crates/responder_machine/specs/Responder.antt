@@ -16,7 +16,7 @@ use Rattle.responder_machine.specs.History.Entry.{Clear, Sealed}
 use Rattle.spdm_machine.specs.Keys.{Draw}
 use Rattle.responder_machine.specs.Place.{clear_place, session_place}
 use Rattle.responder_machine.specs.Records.{opening_fault, opened, reply_record}
-use Rattle.responder_machine.specs.Refusal.{first_of_tests}
+use Rattle.spdm_basis.specs.Tests.{first_of_tests}
 use Rattle.responder_machine.specs.Session.{Events, session_of, id_in_record, last_of, stage_of}
 use Rattle.responder_machine.specs.Setup.{RspSetup}
 use Rattle.responder_machine.specs.Turn.{Turn, is_data}

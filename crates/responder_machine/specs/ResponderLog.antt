@@ -19,6 +19,7 @@ use Rattle.responder_machine.specs.Setup.{RspSetup}
 use Rattle.spdm_machine.specs.TagLog.{Act, made_record, checked_record}
 use Rattle.spdm_machine.specs.TagLog.Act.{Made, Checked}
 use Rattle.responder_machine.specs.Turn.{Turn, takes, request_in, answer_in}
+use Rattle.spdm_grammar.specs.declared.names.request_code.TheConstants.{PSK_EXCHANGE}
 
 -- ---- In the clear: verify data are made with each PSK_EXCHANGE_RSP that takes effect.
 
@@ -33,7 +34,7 @@ response_made r s =
 
 -- A clear message makes verify data where PSK_EXCHANGE took effect; else it makes and compares nothing.
 abbrev pub clear_acts : RspSetup → History → Turn → List Act
-clear_acts r h t = if takes 0xe6 t then response_made r (began_by h t) ∷ [] else []
+clear_acts r h t = if takes PSK_EXCHANGE t then response_made r (began_by h t) ∷ [] else []
 
 -- ---- In a session. Each list has the newest act first.
 

@@ -13,6 +13,7 @@ use Rattle.responder_machine.specs.Turn.{Turn, takes, updates, is_data, request_
 use Rattle.transcript.specs.Transcripts as transcript
 use Rattle.transcript.specs.Transcripts.{Negotiation, vca_of}
 use Rattle.spdm_machine.specs.Sessions.{id_in_exchange, is_past_handshake}
+use Rattle.spdm_grammar.specs.declared.names.request_code.TheConstants.{GET_VERSION, PSK_EXCHANGE, PSK_FINISH, KEY_UPDATE, END_SESSION}
 
 -- What a session sees: PSK_EXCHANGE and PSK_EXCHANGE_RSP, which began it, with the negotiation that they
 -- were made under; a record taken, with the turn of its inner message and the record sent in answer;
@@ -73,9 +74,9 @@ period_of s = slice_index (exchange_answer s) 2
 abbrev pub stage_of : Events → Stage
 stage_of [] = Handshake
 stage_of (Heard m t reply ∷ older) =
-    if takes 0xe7 t then Open
+    if takes PSK_FINISH t then Open
     else (if updates 3 t then Open
-    else (if takes 0xe9 t then Verifying
+    else (if takes KEY_UPDATE t then Verifying
     else stage_of older))
 stage_of (_ ∷ older) = stage_of older
 
@@ -115,14 +116,14 @@ response_epoch (_ ∷ older) = response_epoch older
 -- before.
 abbrev pub request_next : Events → ℕ
 request_next [] = 0
-request_next (Heard m t reply ∷ older) = if takes 0xe7 t || updates 1 t || updates 2 t then 0 else request_next older + 1
+request_next (Heard m t reply ∷ older) = if takes PSK_FINISH t || updates 1 t || updates 2 t then 0 else request_next older + 1
 request_next (_ ∷ older) = request_next older
 
 -- The records sealed under the present response key. PSK_FINISH_RSP is the last one under the key before, and
 -- UpdateAllKeys is answered by the first one under the new key.
 abbrev pub response_next : Events → ℕ
 response_next [] = 0
-response_next (Heard m t reply ∷ older) = if takes 0xe7 t then 0 else (if updates 2 t then 1 else response_next older + 1)
+response_next (Heard m t reply ∷ older) = if takes PSK_FINISH t then 0 else (if updates 2 t then 1 else response_next older + 1)
 response_next (_ ∷ older) = response_next older
 
 -- A key of the session has sealed 65,536 records, as many as it may. This project's own limit.
@@ -142,13 +143,13 @@ t1_of s = transcript.t1_of (session_hash s) (session_vca s) (exchange_of s) (exc
 -- PSK_FINISH, once it was taken.
 abbrev pub finish_of : Events → List ℕ
 finish_of [] = []
-finish_of (Heard m t reply ∷ older) = if takes 0xe7 t then request_in t.effect else finish_of older
+finish_of (Heard m t reply ∷ older) = if takes PSK_FINISH t then request_in t.effect else finish_of older
 finish_of (_ ∷ older) = finish_of older
 
 -- PSK_FINISH_RSP, once PSK_FINISH was taken.
 abbrev pub finish_answer : Events → List ℕ
 finish_answer [] = []
-finish_answer (Heard m t reply ∷ older) = if takes 0xe7 t then answer_in t.effect else finish_answer older
+finish_answer (Heard m t reply ∷ older) = if takes PSK_FINISH t then answer_in t.effect else finish_answer older
 finish_answer (_ ∷ older) = finish_answer older
 
 -- What the verify data of this PSK_FINISH cover.
@@ -191,7 +192,7 @@ when_live (s ∷ ss) e = e ∷ s ∷ ss
 
 -- END_SESSION ends it. Any other record becomes an event of it.
 abbrev pub after_record : Events → List ℕ → Turn → List ℕ → Events
-after_record s m t reply = if takes 0xec t then [] else when_live s (Heard m t reply)
+after_record s m t reply = if takes END_SESSION t then [] else when_live s (Heard m t reply)
 
 -- PSK_EXCHANGE begins the session to which its answer gives an id, and ends one in its handshake.
 abbrev pub after_exchange : ℕ → Events → Turn → Negotiation → Events
@@ -202,8 +203,8 @@ after_exchange id s t negotiation =
 -- GET_VERSION ends all sessions, PSK_EXCHANGE is as said, and nothing else in the clear touches one.
 abbrev pub after_clear : ℕ → Events → Turn → Negotiation → Events
 after_clear id s t negotiation =
-    if takes 0x84 t then []
-    else (if takes 0xe6 t then after_exchange id s t negotiation
+    if takes GET_VERSION t then []
+    else (if takes PSK_EXCHANGE t then after_exchange id s t negotiation
     else s)
 
 -- The own history of the live session that has this RspSessionID, from its exchange on.

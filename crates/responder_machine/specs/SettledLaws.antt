@@ -10,6 +10,7 @@ use Rattle.spdm_grammar.specs.Message.{OfferMessage}
 use Rattle.spdm_grammar.specs.Message.RequestMessage.{GetCapabilities, NegotiateAlgorithms}
 use Rattle.spdm_grammar.specs.declared.capabilities.Caps.{Caps}
 use Rattle.spdm_grammar.specs.declared.choice.Choice.{Choice}
+use Rattle.spdm_grammar.specs.declared.names.TheConstants.{MIN_DATA_TRANSFER_SIZE}
 use Rattle.responder_machine.specs.Answer.{Free, answer_bytes, request_at}
 use Rattle.responder_machine.specs.Does.{IsMade}
 use Rattle.responder_machine.specs.History.{History, clear_turns, phase_of, negotiation_of}
@@ -35,5 +36,5 @@ AlgorithmsSettleChoice = (r : RspSetup) (p : Place) (m : List ℕ) (f : Free) (o
 -- transfer size.
 abbrev pub SizesAreKnown : Type 0
 SizesAreKnown = (r : RspSetup) (h : History) → IsMade r h → FitsCaps (responder_caps r) → sizes_are_known (phase_of (clear_turns h)) ≡ true
-    → (42 ≤ (terms_of (negotiation_of (clear_turns h))).common.to_requester.transfer)
+    → (MIN_DATA_TRANSFER_SIZE ≤ (terms_of (negotiation_of (clear_turns h))).common.to_requester.transfer)
     × ((terms_of (negotiation_of (clear_turns h))).common.to_requester.transfer ≤ (terms_of (negotiation_of (clear_turns h))).common.to_requester.max)

@@ -1,11 +1,12 @@
 -- How a responder is set up, for all requesters and towards each of them, and which capabilities it announces.
-use Rattle.std.specs.Prelude.{◌+◌, ◌^◌, ℕ, List, if◌then◌else◌}
+use Rattle.std.specs.Prelude.{◌+◌, ℕ, List, if◌then◌else◌}
 use Rattle.measurements.specs.Blocks.{by_index}
 use Rattle.negotiate.specs.declared.selection.AlgPolicy.{AlgPolicy}
 use Rattle.spdm_grammar.specs.declared.block_spec.BlockSpec.{BlockSpec}
 use Rattle.spdm_grammar.specs.declared.capabilities.Caps.{Caps}
 use Rattle.spdm_grammar.specs.declared.choice.FlagSet.{FlagSet}
 use Rattle.spdm_grammar.specs.declared.choice.Suites.{Suites}
+use Rattle.spdm_grammar.specs.declared.names.capability.TheConstants.{MEAS_CAP, PSK_CAP_WITH_CONTEXT}
 use Rattle.spdm_machine.specs.Setup.{protection_flags, optional_flags}
 
 -- What is set up of a responder for all requesters: its end point, the sizes of its messages, the payload size of
@@ -71,11 +72,11 @@ towards r q = record {
   psk = q.psk;
 }
 
--- The capabilities of a responder: PSK_CAP is 10, and MEAS_CAP, bits 4:3, is 01 where it has measurements.
+-- The capabilities of a responder: PSK_CAP is 10, and MEAS_CAP is 01 where it has measurements.
 abbrev pub responder_caps : RspSetup → Caps
 responder_caps r = record {
   ct = 0;
-  flags = protection_flags + 2 ^ 11 + (if r.flags.measure then 2 ^ 3 else 0) + optional_flags r.flags;
+  flags = protection_flags + PSK_CAP_WITH_CONTEXT + (if r.flags.measure then MEAS_CAP else 0) + optional_flags r.flags;
   transfer = r.transfer;
   max = r.max;
 }

@@ -1,22 +1,10 @@
 -- One message that a responder handled at a place, and what it led to.
 use Rattle.std.specs.Prelude.{◌==◌, ◌||◌, ℕ, List, [], Bool, true, false, Option, Some, None, is_none, option_map}
+use Rattle.spdm_grammar.specs.Codes.{code_for}
 use Rattle.spdm_grammar.specs.Message.{RequestMessage, ChunkMessage}
-use Rattle.spdm_grammar.specs.Message.RequestMessage.{GetVersion, GetCapabilities, NegotiateAlgorithms, GetMeasurements, PskExchange, PskFinish, Heartbeat, KeyUpdate, EndSession, ChunkSend, ChunkGet}
+use Rattle.spdm_grammar.specs.Message.RequestMessage.{KeyUpdate}
 use Rattle.spdm_grammar.specs.declared.error_code.ErrorCode.{ErrorCode}
-
--- The code of a request (DSP0274, "SPDM request codes").
-abbrev pub code_for : RequestMessage → ℕ
-code_for GetVersion = 0x84
-code_for (GetCapabilities caps) = 0xe1
-code_for (NegotiateAlgorithms offer) = 0xe3
-code_for (GetMeasurements op) = 0xe0
-code_for (PskExchange exchange) = 0xe6
-code_for (PskFinish verify) = 0xe7
-code_for Heartbeat = 0xe8
-code_for (KeyUpdate op tag) = 0xe9
-code_for EndSession = 0xec
-code_for (ChunkSend chunk) = 0x85
-code_for (ChunkGet handle number) = 0x86
+use Rattle.spdm_grammar.specs.declared.names.request_code.TheConstants.{GET_MEASUREMENTS, PSK_EXCHANGE}
 
 -- What took effect: nothing; a request, as a value and as its bytes, with its whole answer, and with the
 -- handle of the ERROR LargeResponse by which the answer went, where it went so; application data, with the
@@ -96,4 +84,4 @@ updates operation t = is_update operation (asked_in t.effect)
 
 -- A draw was taken: for the context of a PSK_EXCHANGE_RSP, or for the nonce of MEASUREMENTS.
 abbrev pub takes_draw : Turn → Bool
-takes_draw t = takes 0xe6 t || takes 0xe0 t
+takes_draw t = takes PSK_EXCHANGE t || takes GET_MEASUREMENTS t

@@ -23,8 +23,8 @@ pub fn common_is_negotiated()
 {}
 
 /// In a history of a responder whose sizes are within their limits, from phase Capable on and in each
-/// live session, messages to the responder have its configured sizes, and those to the requester have
-/// sizes of at least 42 bytes of which the max size is at least the transfer size.
+/// live session, messages to the responder have its configured sizes, and the transfer size of messages to
+/// the requester is at least 42 bytes, their max size at least that, and at most 4,096.
 pub fn sizes_are_set_up()
     ensures connection { SizesAreSetUp }
     ensures session { SessionSizesAreSetUp }

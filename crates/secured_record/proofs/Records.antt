@@ -11,7 +11,8 @@ use Rattle.aes_gcm.proofs.Tags.{length-tag_of}
 use Rattle.aes_gcm.proofs.Twice.{crypt-crypt, length-crypt}
 use Rattle.secured_record.specs.Format.{header, nonce, plain_text, sealed_text, record_of}
 use Rattle.secured_record.specs.Contents.{IsRecordOf}
-use Rattle.secured_record.specs.Faults.{first_of_tests, header_fault, text_part, tag_part, is_authentic, opened_text, fault_behind, fault_of, inner_of, same_bytes}
+use Rattle.secured_record.specs.Faults.{header_fault, text_part, tag_part, is_authentic, opened_text, fault_behind, fault_of, inner_of, same_bytes}
+use Rattle.spdm_basis.specs.Tests.{first_of_tests}
 use Rattle.spdm_basis.specs.declared.record_fault.RecordFault.{RecordFault}
 use Rattle.spdm_basis.specs.declared.record_fault.RecordFault.TheVariants.{Short, WrongId, WrongNumber, WrongLength, BadTag, BadInnerLength}
 use Rattle.secured_record.proofs.Same.{same-true, true-same}

@@ -1,5 +1,6 @@
 -- What bytes are not a record for, and what a record holds. The order of the tests is this project's own.
 use Rattle.std.specs.Prelude.{ℕ, ◌-◌, Bool, true, false, ◌==◌, ◌&&◌, ◌||◌, not, nat_lt, if◌then◌else◌, List, [], ◌∷◌, length, take, drop, Option, Some, None}
+use Rattle.spdm_basis.specs.Tests.{first_of_tests}
 use Rattle.byteorder.specs.Endian.{little_bytes, little_number}
 use Rattle.aes_gcm.specs.Gcm.{crypt, tag_of}
 use Rattle.secured_record.specs.Format.{nonce}
@@ -12,11 +13,6 @@ same_bytes [] [] = true
 same_bytes (x ∷ xs) (y ∷ ys) = x == y && same_bytes xs ys
 same_bytes [] (y ∷ ys) = false
 same_bytes (x ∷ xs) [] = false
-
--- The fault of the first test that holds.
-abbrev pub first_of_tests : List (Bool × RecordFault) → Option RecordFault
-first_of_tests [] = None
-first_of_tests (test ∷ tests) = if test.0 then Some test.1 else first_of_tests tests
 
 -- The faults that are seen without the key: fewer bytes than a record without inner message and padding has, another session id, another number, a length field that is not the count of bytes behind it, and more bytes than a record may have.
 unfoldable pub header_fault : List ℕ → ℕ → List ℕ → Option RecordFault

@@ -9,11 +9,13 @@ use Rattle.spdm_grammar.specs.Reading.{front}
 use Rattle.spdm_grammar.specs.Responses.{IsResponseSpelling, response_reading, response_layout, response_body, version_layout, error_layout, capabilities_layout, algorithms_layout, measurements_layout, psk_exchange_rsp_layout, psk_finish_rsp_layout, heartbeat_ack_layout, key_update_ack_layout, end_session_ack_layout, chunk_send_ack_layout, chunk_response_layout}
 use Rattle.spdm_grammar.proofs.Spellings.{read_spelling}
 use Rattle.spdm_agreement.proofs.Codes.{Gives, given, HasGiven, tested, is_code, second_byte}
+use Rattle.spdm_grammar.specs.declared.names.error_number.TheConstants.{RESPONSE_TOO_LARGE, LARGE_RESPONSE}
+use Rattle.spdm_grammar.specs.declared.names.response_code.TheConstants.{MEASUREMENTS, CAPABILITIES, ALGORITHMS, PSK_EXCHANGE_RSP, PSK_FINISH_RSP, HEARTBEAT_ACK, KEY_UPDATE_ACK, END_SESSION_ACK, ERROR, VERSION, CHUNK_SEND_ACK}
 
 -- An answer of one of the two codes is of no other.
 abbrev pub TellsCode : ℕ → ResponseMessage → Type 0
-TellsCode code PskFinishRsp = code ≡ 0x67
-TellsCode code (KeyUpdateAck op tag) = code ≡ 0x69
+TellsCode code PskFinishRsp = code ≡ PSK_FINISH_RSP
+TellsCode code (KeyUpdateAck op tag) = code ≡ KEY_UPDATE_ACK
 TellsCode code _ = Unit {0}
 
 both_given : {A : Type 0} (P : A → Type 0) (b : Bool) (l m : Layout A) → Gives P l → Gives P m → Gives P (cond b l m)
@@ -26,7 +28,7 @@ version code = record { are = λ _ _ _. tt }
 
 error : (code said : ℕ) → HasGiven (TellsCode code) (error_layout said)
 unfolding error_layout
-error code said = record { are = λ c detail. both_given (TellsCode code) (c == 0x0d) _ _ (λ _. tt) (both_given (TellsCode code) (c == 0x0f) _ _ (λ _. tt) (λ _. tt)) }
+error code said = record { are = λ c detail. both_given (TellsCode code) (c == RESPONSE_TOO_LARGE) _ _ (λ _. tt) (both_given (TellsCode code) (c == LARGE_RESPONSE) _ _ (λ _. tt) (λ _. tt)) }
 
 capabilities : (code : ℕ) → HasGiven (TellsCode code) capabilities_layout
 unfolding capabilities_layout
@@ -44,17 +46,17 @@ exchange : (len code : ℕ) (summary : Bool) → HasGiven (TellsCode code) (psk_
 unfolding psk_exchange_rsp_layout
 exchange len code summary = record { are = λ _ _ _ _ _ _ _ _ _ _. tt }
 
-finish : (code : ℕ) → (code == 0x67) ≡ true → HasGiven (TellsCode code) psk_finish_rsp_layout
+finish : (code : ℕ) → (code == PSK_FINISH_RSP) ≡ true → HasGiven (TellsCode code) psk_finish_rsp_layout
 unfolding psk_finish_rsp_layout
-finish code e = record { are = λ _. sym (is_code code 0x67 e) }
+finish code e = record { are = λ _. sym (is_code code PSK_FINISH_RSP e) }
 
 heartbeat : (code : ℕ) → HasGiven (TellsCode code) heartbeat_ack_layout
 unfolding heartbeat_ack_layout
 heartbeat code = record { are = λ _. tt }
 
-key_update : (code : ℕ) → (code == 0x69) ≡ true → HasGiven (TellsCode code) key_update_ack_layout
+key_update : (code : ℕ) → (code == KEY_UPDATE_ACK) ≡ true → HasGiven (TellsCode code) key_update_ack_layout
 unfolding key_update_ack_layout
-key_update code e = record { are = λ _ _. sym (is_code code 0x69 e) }
+key_update code e = record { are = λ _ _. sym (is_code code KEY_UPDATE_ACK e) }
 
 end_session : (code : ℕ) → HasGiven (TellsCode code) end_session_ack_layout
 unfolding end_session_ack_layout
@@ -71,17 +73,17 @@ chunk_response code = record { are = λ _ _ _ _ _ _ _. tt }
 body : (len said code : ℕ) (summary : Bool) → HasGiven (TellsCode code) (response_body len summary said code)
 unfolding response_body
 body len said code summary =
-    tested (code == 0x04) _ _ (λ e. version code) (λ e.
-    tested (code == 0x7f) _ _ (λ e. error code said) (λ e.
-    tested (code == 0x61) _ _ (λ e. capabilities code) (λ e.
-    tested (code == 0x63) _ _ (λ e. algorithms code) (λ e.
-    tested (code == 0x60) _ _ (λ e. measurements code) (λ e.
-    tested (code == 0x66) _ _ (λ e. exchange len code summary) (λ e.
-    tested (code == 0x67) _ _ (λ e. finish code e) (λ e.
-    tested (code == 0x68) _ _ (λ e. heartbeat code) (λ e.
-    tested (code == 0x69) _ _ (λ e. key_update code e) (λ e.
-    tested (code == 0x6c) _ _ (λ e. end_session code) (λ e.
-    tested (code == 0x05) _ _ (λ e. chunk_send code) (λ e.
+    tested (code == VERSION) _ _ (λ e. version code) (λ e.
+    tested (code == ERROR) _ _ (λ e. error code said) (λ e.
+    tested (code == CAPABILITIES) _ _ (λ e. capabilities code) (λ e.
+    tested (code == ALGORITHMS) _ _ (λ e. algorithms code) (λ e.
+    tested (code == MEASUREMENTS) _ _ (λ e. measurements code) (λ e.
+    tested (code == PSK_EXCHANGE_RSP) _ _ (λ e. exchange len code summary) (λ e.
+    tested (code == PSK_FINISH_RSP) _ _ (λ e. finish code e) (λ e.
+    tested (code == HEARTBEAT_ACK) _ _ (λ e. heartbeat code) (λ e.
+    tested (code == KEY_UPDATE_ACK) _ _ (λ e. key_update code e) (λ e.
+    tested (code == END_SESSION_ACK) _ _ (λ e. end_session code) (λ e.
+    tested (code == CHUNK_SEND_ACK) _ _ (λ e. chunk_send code) (λ e.
     chunk_response code)))))))))))
 
 tells : (code byte : ℕ) (v : ResponseMessage) → byte ≡ code → TellsCode code v → TellsCode byte v

@@ -33,6 +33,7 @@ use Rattle.spdm_grammar.specs.declared.malformed.Malformed.{Malformed}
 use Rattle.spdm_grammar.specs.declared.part_faults.CapsFault.{CapsFault}
 use Rattle.spdm_grammar.specs.declared.part_faults.ChunkFault.{ChunkFault}
 use Rattle.requester_machine.specs.Setup.{ReqSetup}
+use Rattle.spdm_grammar.specs.declared.names.error_number.TheConstants.{LARGE_RESPONSE}
 
 -- ---- Messages in the clear.
 
@@ -91,7 +92,7 @@ either P false x y a c = c
 
 error_aside : (h : History) (asked : RequestMessage) (code : ℕ) (extended : List ℕ) → IsAside asked (error_led h asked code extended)
 error_aside h asked code extended =
-    either (IsAside asked) (code == 0x0f && may_be_large asked && (connection_terms h).common.chunk) (goes_on Nothing (get_sent h asked (slice_index extended 0) 0 [])) (is_refused code (Refuses asked))
+    either (IsAside asked) (code == LARGE_RESPONSE && may_be_large asked && (connection_terms h).common.chunk) (goes_on Nothing (get_sent h asked (slice_index extended 0) 0 [])) (is_refused code (Refuses asked))
     (record { effect = tt; next = (tt, tt, inl (refl, refl)) }) (record { effect = tt; next = tt })
 
 version_aside : (q : ReqSetup) (h : History) (answer : List ℕ) (entry : Option ℕ) → IsAside GetVersion (version_led q h answer entry)

@@ -31,6 +31,7 @@ use Rattle.requester_machine.specs.Setup.{ReqSetup}
 use Rattle.spdm_agreement.proofs.AskingClear.{IsClear, IsClearAim, NoExchange, ClearLed, ClearResult, clear_shape, either}
 use Rattle.spdm_agreement.proofs.AskingRecord.{RecordLed, record_shape}
 use Rattle.spdm_agreement.proofs.Sessions.{is_message, is_update_of, operation_in}
+use Rattle.spdm_grammar.specs.declared.names.response_code.TheConstants.{KEY_UPDATE_ACK}
 
 -- ---- Texts of requests.
 
@@ -44,9 +45,9 @@ asks_verify _ = false
 
 -- The text of a request tells whether it asks for an update, or verifies one.
 pub record RequestTells (ask : Ask) (b : List ℕ) : Type 0 where
-  pub update : (reply : List ℕ) → is_update_of (operation_in b == 1 || operation_in b == 2) (b, reply) ≡ (asks_update ask && is_message 0x69 reply)
-  pub all : (reply : List ℕ) → is_update_of (operation_in b == 2) (b, reply) ≡ (asks_all ask && is_message 0x69 reply)
-  pub verify : (reply : List ℕ) → is_update_of (operation_in b == 3) (b, reply) ≡ (asks_verify ask && is_message 0x69 reply)
+  pub update : (reply : List ℕ) → is_update_of (operation_in b == 1 || operation_in b == 2) (b, reply) ≡ (asks_update ask && is_message KEY_UPDATE_ACK reply)
+  pub all : (reply : List ℕ) → is_update_of (operation_in b == 2) (b, reply) ≡ (asks_all ask && is_message KEY_UPDATE_ACK reply)
+  pub verify : (reply : List ℕ) → is_update_of (operation_in b == 3) (b, reply) ≡ (asks_verify ask && is_message KEY_UPDATE_ACK reply)
 
 pub data_tells : (bytes pad : List ℕ) → RequestTells AskData (plain_text (inner_data bytes) pad)
 data_tells bytes pad = record { update = λ reply. refl; all = λ reply. refl; verify = λ reply. refl }

@@ -24,6 +24,7 @@ use Rattle.spdm_agreement.proofs.AskingRecord.{InnerTells}
 use Rattle.spdm_agreement.proofs.Data.{is_verification, is_any_update, verifying}
 use Rattle.spdm_agreement.proofs.Sessions.{reading_of, is_message}
 use Rattle.spdm_agreement.proofs.Steps.{own_key}
+use Rattle.spdm_grammar.specs.declared.names.response_code.TheConstants.{HEARTBEAT_ACK, KEY_UPDATE_ACK}
 
 abbrev pub waits : Option Text → ℕ
 waits None = 0
@@ -150,8 +151,8 @@ brings_verify (Grants _ a) AskVerify e = absurd (cc)
 brings_verify (Grants _ a) _ e = refl
 brings_verify _ ask e = absurd (cc)
 
-inner_verifies : (effect : Effect) (n : ℕ) (text : List ℕ) → InnerTells effect (take n (drop 2 text)) → verifies effect ≡ true → is_message 0x69 text ≡ true
-inner_verifies (Grants AskVerify a) n text tells e = text_tells n text 0x68 tells.0 tells.1 refl
+inner_verifies : (effect : Effect) (n : ℕ) (text : List ℕ) → InnerTells effect (take n (drop 2 text)) → verifies effect ≡ true → is_message KEY_UPDATE_ACK text ≡ true
+inner_verifies (Grants AskVerify a) n text tells e = text_tells n text HEARTBEAT_ACK tells.0 tells.1 refl
 inner_verifies (Grants _ a) n text tells e = absurd (cc)
 inner_verifies _ n text tells e = absurd (cc)
 
@@ -160,8 +161,8 @@ no_both (Grants AskVerify a) e = refl
 no_both (Grants _ a) e = absurd (cc)
 no_both _ e = absurd (cc)
 
-inner_updates : (effect : Effect) (n : ℕ) (text : List ℕ) → InnerTells effect (take n (drop 2 text)) → updates effect ≡ true → is_message 0x69 text ≡ true
-inner_updates (Grants (AskUpdate all) a) n text tells e = text_tells n text 0x68 tells.0 tells.1 refl
+inner_updates : (effect : Effect) (n : ℕ) (text : List ℕ) → InnerTells effect (take n (drop 2 text)) → updates effect ≡ true → is_message KEY_UPDATE_ACK text ≡ true
+inner_updates (Grants (AskUpdate all) a) n text tells e = text_tells n text HEARTBEAT_ACK tells.0 tells.1 refl
 inner_updates (Grants _ a) n text tells e = absurd (cc)
 inner_updates _ n text tells e = absurd (cc)
 
@@ -179,9 +180,9 @@ pub update_told : (psk : List ℕ) (effect : Effect) (ask : Ask) (b text : Text)
     → ((reading_of psk).is_update (b, text) ≡ updates effect) × ((reading_of psk).is_update_all (b, text) ≡ updates_all effect) × (is_verification (b, text) ≡ verifies effect)
 update_told psk effect ask b text n brings tells t =
     let same = brings_update effect ask brings in (
-      t.update text ∙ ap (λ (c : Bool). c && is_message 0x69 text) same.0 ∙ and_itself (updates effect) (is_message 0x69 text) (inner_updates effect n text tells),
-      t.all text ∙ ap (λ (c : Bool). c && is_message 0x69 text) same.1 ∙ and_itself (updates_all effect) (is_message 0x69 text) (λ e. inner_updates effect n text tells (all_updates effect e)),
-      t.verify text ∙ ap (λ (c : Bool). c && is_message 0x69 text) (brings_verify effect ask brings) ∙ and_itself (verifies effect) (is_message 0x69 text) (inner_verifies effect n text tells),
+      t.update text ∙ ap (λ (c : Bool). c && is_message KEY_UPDATE_ACK text) same.0 ∙ and_itself (updates effect) (is_message KEY_UPDATE_ACK text) (inner_updates effect n text tells),
+      t.all text ∙ ap (λ (c : Bool). c && is_message KEY_UPDATE_ACK text) same.1 ∙ and_itself (updates_all effect) (is_message KEY_UPDATE_ACK text) (λ e. inner_updates effect n text tells (all_updates effect e)),
+      t.verify text ∙ ap (λ (c : Bool). c && is_message KEY_UPDATE_ACK text) (brings_verify effect ask brings) ∙ and_itself (verifies effect) (is_message KEY_UPDATE_ACK text) (inner_verifies effect n text tells),
     )
 
 -- ---- Marks.

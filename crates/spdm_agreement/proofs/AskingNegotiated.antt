@@ -31,6 +31,7 @@ use Rattle.spdm_agreement.proofs.AskingAccepts.{exchange_read}
 use Rattle.spdm_agreement.proofs.AskingClear.{either}
 use Rattle.spdm_agreement.proofs.AskingNegotiates.{is_answer}
 use Rattle.spdm_agreement.proofs.Sessions.{is_request, is_response}
+use Rattle.spdm_grammar.specs.declared.names.error_number.TheConstants.{LARGE_RESPONSE}
 
 abbrev pub One : Negotiation → Type 0
 One n = (is_request 32 n.get_version ≡ true) × (is_response n.version ≡ true)
@@ -71,7 +72,7 @@ module _ (q : ReqSetup) (own : OwnReads q) (p : Phase) (n : Negotiation) (sound 
 
   error_sound : (h : History) (asked : RequestMessage) (code : ℕ) (extended : List ℕ) → AskSound n (Some asked) → LedSound p n (error_led h asked code extended)
   error_sound h asked code extended k =
-      either (LedSound p n) (code == 0x0f && may_be_large asked && (connection_terms h).common.chunk) (goes_on Nothing (get_sent h asked (slice_index extended 0) 0 [])) (is_refused code (Refuses asked))
+      either (LedSound p n) (code == LARGE_RESPONSE && may_be_large asked && (connection_terms h).common.chunk) (goes_on Nothing (get_sent h asked (slice_index extended 0) 0 [])) (is_refused code (Refuses asked))
       (sound, k) (refused_phase (negotiates asked), tt)
 
   version_sound : (h : History) (answer : List ℕ) (entry : Option ℕ) → is_response answer ≡ true → LedSound p n (version_led q h answer entry)

@@ -11,6 +11,7 @@ use Rattle.spdm_grammar.specs.Requests.{canonical_request}
 use Rattle.spdm_grammar.specs.declared.choice.FlagSet.{FlagSet}
 use Rattle.requester_machine.specs.Setup.{ReqSetup, requester_caps}
 use Rattle.spdm_machine.specs.Setup.{optional_flags}
+use Rattle.spdm_grammar.specs.declared.names.capability.TheConstants.{HBEAT_CAP, KEY_UPD_CAP, CHUNK_CAP}
 use Rattle.spdm_agreement.specs.Configured.{IsRequester}
 use Rattle.spdm_agreement.proofs.AskingAccepts.{exchange_read}
 use Rattle.spdm_agreement.proofs.AskingKept.{AskedKept}
@@ -23,8 +24,8 @@ at_most : (b : Bool) (x : ℕ) → cond b x 0 ≤ x
 at_most true x = omega arith
 at_most false x = omega arith
 
-few_flags : (f : FlagSet) → optional_flags f ≤ 2 ^ 13 + 2 ^ 14 + 2 ^ 17
-few_flags f = (let a = at_most f.heartbeat (2 ^ 13) in let b = at_most f.key_update (2 ^ 14) in let c = at_most f.chunk (2 ^ 17) in omega arith)
+few_flags : (f : FlagSet) → optional_flags f ≤ HBEAT_CAP + KEY_UPD_CAP + CHUNK_CAP
+few_flags f = (let a = at_most f.heartbeat HBEAT_CAP in let b = at_most f.key_update KEY_UPD_CAP in let c = at_most f.chunk CHUNK_CAP in omega arith)
 
 caps_fit : (q : ReqSetup) → IsRequester q → FitsCaps (requester_caps q)
 caps_fit q setup = record {

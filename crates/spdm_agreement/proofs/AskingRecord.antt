@@ -25,12 +25,14 @@ use Rattle.spdm_grammar.specs.declared.phase.Stage.TheVariants as stage
 use Rattle.requester_machine.specs.Setup.{ReqSetup}
 use Rattle.spdm_agreement.proofs.AnswerCodes.{answer_code}
 use Rattle.spdm_agreement.proofs.AskingClear.{either}
+use Rattle.spdm_grammar.specs.declared.names.error_number.TheConstants.{LARGE_RESPONSE}
+use Rattle.spdm_grammar.specs.declared.names.response_code.TheConstants.{PSK_FINISH_RSP, KEY_UPDATE_ACK}
 
 -- The inner message is PSK_FINISH_RSP, or KEY_UPDATE_ACK, where the effect says so.
 abbrev pub InnerTells : Effect → List ℕ → Type 0
-InnerTells (Grants AskFinish answer) inner = (slice_index inner 0 ≡ 5) × (slice_index (drop 1 inner) 1 ≡ 0x67) × (answer ≡ drop 1 inner)
-InnerTells (Grants (AskUpdate all) answer) inner = (slice_index inner 0 ≡ 5) × (slice_index (drop 1 inner) 1 ≡ 0x69)
-InnerTells (Grants AskVerify answer) inner = (slice_index inner 0 ≡ 5) × (slice_index (drop 1 inner) 1 ≡ 0x69)
+InnerTells (Grants AskFinish answer) inner = (slice_index inner 0 ≡ 5) × (slice_index (drop 1 inner) 1 ≡ PSK_FINISH_RSP) × (answer ≡ drop 1 inner)
+InnerTells (Grants (AskUpdate all) answer) inner = (slice_index inner 0 ≡ 5) × (slice_index (drop 1 inner) 1 ≡ KEY_UPDATE_ACK)
+InnerTells (Grants AskVerify answer) inner = (slice_index inner 0 ≡ 5) × (slice_index (drop 1 inner) 1 ≡ KEY_UPDATE_ACK)
 InnerTells _ inner = Unit {0}
 
 -- The request that goes out with an answer: VerifyNewKey behind an update; CHUNK_GET.
@@ -117,7 +119,7 @@ error q h f came AskEnd code extended = tt
 
 -- ---- KEY_UPDATE_ACK.
 
-updated : (q : ReqSetup) (h : History) (f : Free) (came : Came) (all echo : Bool) → slice_index came.inner 0 ≡ 5 → slice_index (message_in came) 1 ≡ 0x69 → RecordResult q h f came (AskUpdate all) (update_led q h f came all echo)
+updated : (q : ReqSetup) (h : History) (f : Free) (came : Came) (all echo : Bool) → slice_index came.inner 0 ≡ 5 → slice_index (message_in came) 1 ≡ KEY_UPDATE_ACK → RecordResult q h f came (AskUpdate all) (update_led q h f came all echo)
 updated q h f came all true five code = inl (record {
   brings = same_all all;
   stays = refl;
@@ -133,7 +135,7 @@ updated q h f came all true five code = inl (record {
 })
 updated q h f came all false five code = tt
 
-verified : (q : ReqSetup) (h : History) (f : Free) (came : Came) (echo : Bool) → slice_index came.inner 0 ≡ 5 → slice_index (message_in came) 1 ≡ 0x69 → RecordResult q h f came AskVerify (verified_led came echo)
+verified : (q : ReqSetup) (h : History) (f : Free) (came : Came) (echo : Bool) → slice_index came.inner 0 ≡ 5 → slice_index (message_in came) 1 ≡ KEY_UPDATE_ACK → RecordResult q h f came AskVerify (verified_led came echo)
 verified q h f came true five code = inl (record { brings = refl; stays = refl; tells = (five, code); next = refl })
 verified q h f came false five code = tt
 
@@ -143,7 +145,7 @@ whole : (q : ReqSetup) (h : History) (f : Free) (came : Came) (op handle number 
     → RecordResult q h f came (AskChunk op handle number before) (whole_led q h f came op whole reading)
 whole q h f came op handle number before bytes (Err fault) = tt
 whole q h f came op handle number before bytes (Ok (Error version code detail extended)) =
-    either (RecordLed q h f came (AskChunk op handle number before)) (code == 0x0f && not (has_reached 65300 came.steps)) (first_get q h f came op extended) (is_refused code Nothing)
+    either (RecordLed q h f came (AskChunk op handle number before)) (code == LARGE_RESPONSE && not (has_reached 65300 came.steps)) (first_get q h f came op extended) (is_refused code Nothing)
     (gets q h f came (AskChunk op handle number before) op extended refl) (refused q h f came (AskChunk op handle number before) code refl)
 whole q h f came op handle number before bytes (Ok (Measurements measured)) = inl (record { brings = eq-eqb op op refl; stays = refl; tells = tt; next = refl })
 whole q h f came op handle number before bytes (Ok _) = tt

@@ -31,6 +31,7 @@ use Rattle.spdm_agreement.proofs.AskingRecord.{RecordLed, IsNext, NextRecord, In
 use Rattle.spdm_agreement.proofs.AskingTalks.{at, says, hears, inner_as}
 use Rattle.spdm_agreement.proofs.Owed.{OwnLeads}
 use Rattle.spdm_agreement.proofs.Sessions.{reading_of, finish_reply}
+use Rattle.spdm_grammar.specs.declared.names.response_code.TheConstants.{PSK_EXCHANGE_RSP, PSK_FINISH_RSP}
 
 -- ---- A reply.
 
@@ -131,8 +132,8 @@ opens_by q n exchange answer x m served log sealed effect waits opened ends tell
     let inner = answer_inner q.psk s AskFinish sealed in
     let e = finish_effect effect ends in
     let t = subst (λ (z : Effect). InnerTells z inner) e.1 tells in
-    let inside : (slice_index (take (little_number 2 text) (drop 2 text)) 0 ≡ 5) × (slice_index (drop 1 (take (little_number 2 text) (drop 2 text))) 1 ≡ 0x67) =
-    subst (λ (z : List ℕ). (slice_index z 0 ≡ 5) × (slice_index (drop 1 z) 1 ≡ 0x67)) (inner_as q.psk s AskFinish sealed) (t.0, t.1) in
+    let inside : (slice_index (take (little_number 2 text) (drop 2 text)) 0 ≡ 5) × (slice_index (drop 1 (take (little_number 2 text) (drop 2 text))) 1 ≡ PSK_FINISH_RSP) =
+    subst (λ (z : List ℕ). (slice_index z 0 ≡ 5) × (slice_index (drop 1 z) 1 ≡ PSK_FINISH_RSP)) (inner_as q.psk s AskFinish sealed) (t.0, t.1) in
     let whole : text ≡ (reading_of q.psk).finish_answer (asked_first s) → e.0 ≡ finish_reply = λ same. t.2 ∙ ap (λ (z : List ℕ). drop 1 z) (inner_as q.psk s AskFinish sealed) ∙ ap (λ (z : List ℕ). drop 1 (take (little_number 2 z) (drop 2 z))) same ∙ finish_inside in
-    opens q s (t2_of (Took sealed inner effect ∷ s)) m served log sealed refl refl waits opened (text_tells (little_number 2 text) text 0x66 inside.0 inside.1 refl)
+    opens q s (t2_of (Took sealed inner effect ∷ s)) m served log sealed refl refl waits opened (text_tells (little_number 2 text) text PSK_EXCHANGE_RSP inside.0 inside.1 refl)
     (λ same. ap (λ (z : Effect). t2_of (Took sealed inner z ∷ s)) e.1 ∙ ap (λ (a : List ℕ). transcript.t2_of (session_vca s) (exchange_of s) (exchange_answer s) (finish_of s) a) (whole same))

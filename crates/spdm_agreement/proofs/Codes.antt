@@ -1,13 +1,17 @@
 -- The code of a request is that of its bytes.
 use Rattle.std.proofs.Common.{◌≡◌, ℕ, ◌+◌, List, [], ◌∷◌, ◌++◌, length, Bool, true, false, cond, Option, Some, None, ◌==◌, ◌||◌, refl, sym, ap, ◌∙◌, subst, arith, eqb-true, true≢false}
 use Rattle.std.specs.Prelude.{slice_index}
+use Rattle.std.proofs.Math.Bool.{or-false}
 use Rattle.byteorder.specs.Endian.{little_number}
 use Rattle.spdm_grammar.specs.Layout.{Layout, IsSpelling}
 use Rattle.spdm_grammar.specs.Layout.Layout.{Whole, Sized, Number, Optional, Bytes, Tables, UpTo, Remaining}
 use Rattle.spdm_grammar.specs.Message.{RequestMessage}
-use Rattle.spdm_grammar.specs.Requests.{IsRequestSpelling, is_request_code, request_layout, request_in, request_body, get_version_layout, get_capabilities_layout, negotiate_algorithms_layout, get_measurements_layout, psk_exchange_layout, psk_finish_layout, heartbeat_layout, key_update_layout, end_session_layout, chunk_send_layout, chunk_get_layout}
+use Rattle.spdm_grammar.specs.Requests.{IsRequestSpelling, request_layout, request_in, request_body, get_version_layout, get_capabilities_layout, negotiate_algorithms_layout, get_measurements_layout, psk_exchange_layout, psk_finish_layout, heartbeat_layout, key_update_layout, end_session_layout, chunk_send_layout, chunk_get_layout}
+use Rattle.spdm_grammar.specs.Codes.{is_request_code}
 use Rattle.spdm_grammar.proofs.Spellings.{read_iff}
-use Rattle.responder_machine.specs.Turn.{code_for}
+use Rattle.spdm_grammar.specs.Codes.{code_for}
+use Rattle.spdm_grammar.specs.declared.names.request_code.TheConstants.{GET_VERSION, CHUNK_SEND, CHUNK_GET, GET_MEASUREMENTS, GET_CAPABILITIES, NEGOTIATE_ALGORITHMS, PSK_EXCHANGE, PSK_FINISH, HEARTBEAT, KEY_UPDATE, END_SESSION}
+use Rattle.spdm_grammar.specs.declared.names.spdm_version.TheConstants.{V1_0}
 
 -- ---- What holds of each value of a layout holds of a value that bytes spell.
 
@@ -47,69 +51,69 @@ HasCode code v = code_for v ≡ code
 pub is_code : (code n : ℕ) → (code == n) ≡ true → n ≡ code
 is_code code n e = sym (eqb-true code n e)
 
-version : (code : ℕ) → (code == 0x84) ≡ true → HasGiven (HasCode code) get_version_layout
+version : (code : ℕ) → (code == GET_VERSION) ≡ true → HasGiven (HasCode code) get_version_layout
 unfolding get_version_layout
-version code e = record { are = λ _. is_code code 0x84 e }
+version code e = record { are = λ _. is_code code GET_VERSION e }
 
-capabilities : (code : ℕ) → (code == 0xe1) ≡ true → HasGiven (HasCode code) get_capabilities_layout
+capabilities : (code : ℕ) → (code == GET_CAPABILITIES) ≡ true → HasGiven (HasCode code) get_capabilities_layout
 unfolding get_capabilities_layout
-capabilities code e = record { are = λ _ _ _ _ _ _. is_code code 0xe1 e }
+capabilities code e = record { are = λ _ _ _ _ _ _. is_code code GET_CAPABILITIES e }
 
-algorithms : (code : ℕ) → (code == 0xe3) ≡ true → HasGiven (HasCode code) negotiate_algorithms_layout
+algorithms : (code : ℕ) → (code == NEGOTIATE_ALGORITHMS) ≡ true → HasGiven (HasCode code) negotiate_algorithms_layout
 unfolding negotiate_algorithms_layout
-algorithms code e = record { are = λ _ _ _ _ _ _ _ _ _ _ _ _ _ _. is_code code 0xe3 e }
+algorithms code e = record { are = λ _ _ _ _ _ _ _ _ _ _ _ _ _ _. is_code code NEGOTIATE_ALGORITHMS e }
 
-measurements : (code : ℕ) → (code == 0xe0) ≡ true → HasGiven (HasCode code) get_measurements_layout
+measurements : (code : ℕ) → (code == GET_MEASUREMENTS) ≡ true → HasGiven (HasCode code) get_measurements_layout
 unfolding get_measurements_layout
-measurements code e = record { are = λ _ _. is_code code 0xe0 e }
+measurements code e = record { are = λ _ _. is_code code GET_MEASUREMENTS e }
 
-exchange : (len code : ℕ) → (code == 0xe6) ≡ true → HasGiven (HasCode code) (psk_exchange_layout len)
+exchange : (len code : ℕ) → (code == PSK_EXCHANGE) ≡ true → HasGiven (HasCode code) (psk_exchange_layout len)
 unfolding psk_exchange_layout
-exchange len code e = record { are = λ _ _ _ _ _ _ _ _ _. is_code code 0xe6 e }
+exchange len code e = record { are = λ _ _ _ _ _ _ _ _ _. is_code code PSK_EXCHANGE e }
 
-finish : (len code : ℕ) → (code == 0xe7) ≡ true → HasGiven (HasCode code) (psk_finish_layout len)
+finish : (len code : ℕ) → (code == PSK_FINISH) ≡ true → HasGiven (HasCode code) (psk_finish_layout len)
 unfolding psk_finish_layout
-finish len code e = record { are = λ _ _. is_code code 0xe7 e }
+finish len code e = record { are = λ _ _. is_code code PSK_FINISH e }
 
-heartbeat : (code : ℕ) → (code == 0xe8) ≡ true → HasGiven (HasCode code) heartbeat_layout
+heartbeat : (code : ℕ) → (code == HEARTBEAT) ≡ true → HasGiven (HasCode code) heartbeat_layout
 unfolding heartbeat_layout
-heartbeat code e = record { are = λ _. is_code code 0xe8 e }
+heartbeat code e = record { are = λ _. is_code code HEARTBEAT e }
 
-key_update : (code : ℕ) → (code == 0xe9) ≡ true → HasGiven (HasCode code) key_update_layout
+key_update : (code : ℕ) → (code == KEY_UPDATE) ≡ true → HasGiven (HasCode code) key_update_layout
 unfolding key_update_layout
-key_update code e = record { are = λ _ _. is_code code 0xe9 e }
+key_update code e = record { are = λ _ _. is_code code KEY_UPDATE e }
 
-end_session : (code : ℕ) → (code == 0xec) ≡ true → HasGiven (HasCode code) end_session_layout
+end_session : (code : ℕ) → (code == END_SESSION) ≡ true → HasGiven (HasCode code) end_session_layout
 unfolding end_session_layout
-end_session code e = record { are = λ _. is_code code 0xec e }
+end_session code e = record { are = λ _. is_code code END_SESSION e }
 
-chunk_send : (code : ℕ) → (code == 0x85) ≡ true → HasGiven (HasCode code) chunk_send_layout
+chunk_send : (code : ℕ) → (code == CHUNK_SEND) ≡ true → HasGiven (HasCode code) chunk_send_layout
 unfolding chunk_send_layout
-chunk_send code e = record { are = λ _ _ _ _ _ _ _. is_code code 0x85 e }
+chunk_send code e = record { are = λ _ _ _ _ _ _ _. is_code code CHUNK_SEND e }
 
-chunk_get : (code : ℕ) → (code == 0x86) ≡ true → HasGiven (HasCode code) chunk_get_layout
+chunk_get : (code : ℕ) → (code == CHUNK_GET) ≡ true → HasGiven (HasCode code) chunk_get_layout
 unfolding chunk_get_layout
-chunk_get code e = record { are = λ _ _ _. is_code code 0x86 e }
+chunk_get code e = record { are = λ _ _ _. is_code code CHUNK_GET e }
 
 last_code : (v10 c84 ce1 ce3 ce0 ce6 ce7 ce8 ce9 cec c85 c86 : Bool) → c84 ≡ false → ce1 ≡ false → ce3 ≡ false → ce0 ≡ false → ce6 ≡ false → ce7 ≡ false → ce8 ≡ false → ce9 ≡ false → cec ≡ false → c85 ≡ false
-    → cond v10 c84 (ce1 || ce3 || ce0 || ce6 || ce7 || ce8 || ce9 || cec || c85 || c86) ≡ true → c86 ≡ true
+    → cond v10 c84 (ce1 || (ce3 || (ce0 || (ce6 || (ce7 || (ce8 || (ce9 || (cec || (c85 || (c86 || false)))))))))) ≡ true → c86 ≡ true
 last_code true c84 ce1 ce3 ce0 ce6 ce7 ce8 ce9 cec c85 c86 e84 e1 e3 e0 e6 e7 e8 e9 ec e85 k = absurd (true≢false (sym k ∙ e84))
-last_code false c84 ce1 ce3 ce0 ce6 ce7 ce8 ce9 cec c85 c86 e84 e1 e3 e0 e6 e7 e8 e9 ec e85 k = rw (e1, e3, e0, e6, e7, e8, e9, ec, e85) at k
+last_code false c84 ce1 ce3 ce0 ce6 ce7 ce8 ce9 cec c85 c86 e84 e1 e3 e0 e6 e7 e8 e9 ec e85 k = sym (or-false c86) ∙ rw (e1, e3, e0, e6, e7, e8, e9, ec, e85) at k
 
 body : (len spoken code : ℕ) → is_request_code spoken code ≡ true → HasGiven (HasCode code) (request_body len code)
 unfolding request_body
 body len spoken code known =
-    tested (code == 0x84) _ _ (version code) (λ e84.
-    tested (code == 0xe1) _ _ (capabilities code) (λ e1.
-    tested (code == 0xe3) _ _ (algorithms code) (λ e3.
-    tested (code == 0xe0) _ _ (measurements code) (λ e0.
-    tested (code == 0xe6) _ _ (exchange len code) (λ e6.
-    tested (code == 0xe7) _ _ (finish len code) (λ e7.
-    tested (code == 0xe8) _ _ (heartbeat code) (λ e8.
-    tested (code == 0xe9) _ _ (key_update code) (λ e9.
-    tested (code == 0xec) _ _ (end_session code) (λ ec.
-    tested (code == 0x85) _ _ (chunk_send code) (λ e85.
-    chunk_get code (last_code (spoken == 0x10) (code == 0x84) (code == 0xe1) (code == 0xe3) (code == 0xe0) (code == 0xe6) (code == 0xe7) (code == 0xe8) (code == 0xe9) (code == 0xec) (code == 0x85) (code == 0x86) e84 e1 e3 e0 e6 e7 e8 e9 ec e85 known)))))))))))
+    tested (code == GET_VERSION) _ _ (version code) (λ e84.
+    tested (code == GET_CAPABILITIES) _ _ (capabilities code) (λ e1.
+    tested (code == NEGOTIATE_ALGORITHMS) _ _ (algorithms code) (λ e3.
+    tested (code == GET_MEASUREMENTS) _ _ (measurements code) (λ e0.
+    tested (code == PSK_EXCHANGE) _ _ (exchange len code) (λ e6.
+    tested (code == PSK_FINISH) _ _ (finish len code) (λ e7.
+    tested (code == HEARTBEAT) _ _ (heartbeat code) (λ e8.
+    tested (code == KEY_UPDATE) _ _ (key_update code) (λ e9.
+    tested (code == END_SESSION) _ _ (end_session code) (λ ec.
+    tested (code == CHUNK_SEND) _ _ (chunk_send code) (λ e85.
+    chunk_get code (last_code (spoken == V1_0) (code == GET_VERSION) (code == GET_CAPABILITIES) (code == NEGOTIATE_ALGORITHMS) (code == GET_MEASUREMENTS) (code == PSK_EXCHANGE) (code == PSK_FINISH) (code == HEARTBEAT) (code == KEY_UPDATE) (code == END_SESSION) (code == CHUNK_SEND) (code == CHUNK_GET) e84 e1 e3 e0 e6 e7 e8 e9 ec e85 known)))))))))))
 
 -- ---- The whole request.
 

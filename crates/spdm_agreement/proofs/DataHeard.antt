@@ -4,7 +4,8 @@ use Rattle.std.proofs.lemmas.Bool.{leb-false, lt-leb, leb-true, le-leb}
 use Rattle.requester_machine.specs.Commands.{Free}
 use Rattle.requester_machine.specs.History.{History, Effect, Led}
 use Rattle.requester_machine.specs.History.Effect.{Nothing, Answers, Refuses, Stops, Grants, Loses}
-use Rattle.requester_machine.specs.InnerMessages.{Came, inner_led, inner_led_by, inner_fault, read_led, message_led, data_led, or_lost, first_of_tests, reading_of, message_in}
+use Rattle.requester_machine.specs.InnerMessages.{Came, inner_led, inner_led_by, inner_fault, read_led, message_led, data_led, or_lost, reading_of, message_in}
+use Rattle.spdm_basis.specs.Tests.{first_of_tests}
 use Rattle.requester_machine.specs.Message.{Ask}
 use Rattle.requester_machine.specs.Message.Ask.{AskFinish, AskData, AskBeat, AskUpdate, AskVerify, AskMeasure, AskChunk, AskEnd}
 use Rattle.requester_machine.specs.Order.{may_bring}

@@ -13,7 +13,8 @@ use Rattle.responder_machine.specs.History.Entry.{Clear, Sealed, Queued, Ticked,
 use Rattle.spdm_machine.specs.Keys.{Draw}
 use Rattle.responder_machine.specs.Place.{Place, inside, session_place}
 use Rattle.responder_machine.specs.Records.{opened, request_purpose}
-use Rattle.responder_machine.specs.Refusal.{first_of_tests, refusal}
+use Rattle.responder_machine.specs.Refusal.{refusal}
+use Rattle.spdm_basis.specs.Tests.{first_of_tests}
 use Rattle.responder_machine.specs.Responder.{session_turn, session_turn_by, data_turn, inner_refusal, is_open}
 use Rattle.responder_machine.specs.Session.{Events, Event, session_of, stage_of, id_in_record, t2_of, session_terms, request_next}
 use Rattle.responder_machine.specs.Setup.{RspSetup}
@@ -30,6 +31,7 @@ use Rattle.spdm_agreement.proofs.Data.{inner_in, is_data_inner, is_data_text, da
 use Rattle.spdm_agreement.proofs.DataTexts.{data_text, message_no_data, as_list, one_more, no_more}
 use Rattle.spdm_agreement.proofs.Steady.{record_entry}
 use Rattle.spdm_agreement.proofs.Texts.{inner_text}
+use Rattle.spdm_grammar.specs.declared.names.request_code.TheConstants.{PSK_EXCHANGE, PSK_FINISH}
 
 -- ---- Effects without application data.
 
@@ -201,7 +203,7 @@ module _ (choose : Exchange → List (List ℕ)) (data_of : Effect → Option (L
 
   staged : (g : Stage) (r : RspSetup) (s : Events) (f : Free) (sealed : List ℕ) (t : Turn) (reply t2 : List ℕ) (older : List Served) → length f.reply ≤ 1024 → stage_of s ≡ g → DataTurn (stage_of s) (opened r.psk s sealed) f t
       → AddsData choose data_of t2 (t2_of s) (served_turn g r s sealed t reply) older t.effect
-  staged stage.Handshake r s f sealed t reply t2 older short at x = shaken r s sealed t reply t2 older (takes 0xe7 t) (no_effect (stage_of s) (opened r.psk s sealed) f t (ap is_open at) x)
+  staged stage.Handshake r s f sealed t reply t2 older short at x = shaken r s sealed t reply t2 older (takes PSK_FINISH t) (no_effect (stage_of s) (opened r.psk s sealed) f t (ap is_open at) x)
   staged stage.Open r s f sealed t reply t2 older short at x = one_more choose (taken_text r.psk s sealed, reply_text t) (taken t2 older) t2 (t2_of s) (data_of t.effect) (is (taken_text r.psk s sealed) (reply_text t) t.effect (turn_told r s f sealed t short x))
   staged stage.Verifying r s f sealed t reply t2 older short at x = one_more choose (taken_text r.psk s sealed, reply_text t) (taken t2 older) t2 (t2_of s) (data_of t.effect) (is (taken_text r.psk s sealed) (reply_text t) t.effect (turn_told r s f sealed t short x))
 
@@ -225,7 +227,7 @@ module _ (choose : Exchange → List (List ℕ)) (data_of : Effect → Option (L
 
 pub requests_are : (r : RspSetup) (h : History) → IsMade r h → (t2 : List ℕ) → requests_taken t2 h ≡ in_order taken_data (taken t2 (served_marks r h))
 requests_are r [] made t2 = refl
-requests_are r (Clear tag t d ∷ older) made t2 = requests_are r older made.1 t2 ∙ ap (in_order taken_data) (sym (cleared taken_data data_taken (λ text reply e told. told.taken) (λ e none. none.taken) (takes 0xe6 t) _ t2 (served_marks r older)))
+requests_are r (Clear tag t d ∷ older) made t2 = requests_are r older made.1 t2 ∙ ap (in_order taken_data) (sym (cleared taken_data data_taken (λ text reply e told. told.taken) (λ e none. none.taken) (takes PSK_EXCHANGE t) _ t2 (served_marks r older)))
 requests_are r (Sealed tag sealed t reply d ∷ older) made t2 =
     ap (λ (l : List (List ℕ)). l ++ some_under t2 (t2_of (session_of (id_in_record sealed) older)) (data_taken t.effect)) (requests_are r older made.1 t2)
     ∙ sym (one_record taken_data data_taken (λ text reply e told. told.taken) (λ e none. none.taken) r older tag sealed t reply d t2 made)
@@ -235,7 +237,7 @@ requests_are r (Dropped id ∷ older) made t2 = absurd made
 
 pub responses_are : (r : RspSetup) (h : History) → IsMade r h → (t2 : List ℕ) → responses_sealed t2 h ≡ in_order answered_data (taken t2 (served_marks r h))
 responses_are r [] made t2 = refl
-responses_are r (Clear tag t d ∷ older) made t2 = responses_are r older made.1 t2 ∙ ap (in_order answered_data) (sym (cleared answered_data data_answered (λ text reply e told. told.answered) (λ e none. none.answered) (takes 0xe6 t) _ t2 (served_marks r older)))
+responses_are r (Clear tag t d ∷ older) made t2 = responses_are r older made.1 t2 ∙ ap (in_order answered_data) (sym (cleared answered_data data_answered (λ text reply e told. told.answered) (λ e none. none.answered) (takes PSK_EXCHANGE t) _ t2 (served_marks r older)))
 responses_are r (Sealed tag sealed t reply d ∷ older) made t2 =
     ap (λ (l : List (List ℕ)). l ++ some_under t2 (t2_of (session_of (id_in_record sealed) older)) (data_answered t.effect)) (responses_are r older made.1 t2)
     ∙ sym (one_record answered_data data_answered (λ text reply e told. told.answered) (λ e none. none.answered) r older tag sealed t reply d t2 made)

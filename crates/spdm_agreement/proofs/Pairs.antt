@@ -30,6 +30,7 @@ use Rattle.world_machine.specs.Agreement as world
 use Rattle.world_machine.specs.Agreement.{AreOne, HasOpened, IsMade}
 use Rattle.requester_machine.specs.Requesting.{Requesting}
 use Rattle.responder_machine.specs.Responding.{Connection}
+use Rattle.spdm_grammar.specs.declared.names.request_code.TheConstants.{PSK_EXCHANGE, PSK_FINISH, END_SESSION}
 
 -- The state of the machine of moves that a requester and its connection stand for.
 abbrev pub state_of : Requesting → Connection → Log → State
@@ -75,14 +76,14 @@ one a c log stands req rsp live held ids =
 
 -- ---- Sessions that match.
 
-not_end : (n : ℕ) → (n == 0xe7) ≡ true → (n == 0xec) ≡ false
-not_end n e = subst (λ (k : ℕ). (k == 0xec) ≡ false) (sym (eqb-true n 0xe7 e)) refl
+not_end : (n : ℕ) → (n == PSK_FINISH) ≡ true → (n == END_SESSION) ≡ false
+not_end n e = subst (λ (k : ℕ). (k == END_SESSION) ≡ false) (sym (eqb-true n PSK_FINISH e)) refl
 
 -- The turn took PSK_FINISH, and this is the T2 of its session then.
 abbrev OpensAt : responder.Events → List ℕ → Turn → List ℕ → List ℕ → Type 0
-OpensAt s sealed t reply u = (takes 0xe7 t ≡ true) × (responder.t2_of (responder.after_record s sealed t reply) ≡ u)
+OpensAt s sealed t reply u = (takes PSK_FINISH t ≡ true) × (responder.t2_of (responder.after_record s sealed t reply) ≡ u)
 
-opened_turn : (b : Bool) (r : RspSetup) (e : Event) (s : responder.Events) (sealed : List ℕ) (t : Turn) (reply : List ℕ) (rest : List Served) (first : First) (u : List ℕ) → takes 0xe7 t ≡ b
+opened_turn : (b : Bool) (r : RspSetup) (e : Event) (s : responder.Events) (sealed : List ℕ) (t : Turn) (reply : List ℕ) (rest : List Served) (first : First) (u : List ℕ) → takes PSK_FINISH t ≡ b
     → marks.HasOpened (cond b (Finished (served_first (e ∷ s)) (responder.t2_of (Heard sealed t reply ∷ e ∷ s)) ∷ []) (Refused (served_first (e ∷ s)) (reply_text t) ∷ []) ++ rest) first u
     → OpensAt (e ∷ s) sealed t reply u ⊎ marks.HasOpened rest first u
 opened_turn true r e s sealed t reply rest first u is h = elim h [
@@ -93,7 +94,7 @@ opened_turn false r e s sealed t reply rest first u is h = inr h
 
 opened_stage : (g : Stage) (r : RspSetup) (e : Event) (s : responder.Events) (sealed : List ℕ) (t : Turn) (reply : List ℕ) (rest : List Served) (first : First) (u : List ℕ)
     → marks.HasOpened (served_turn g r (e ∷ s) sealed t reply ++ rest) first u → OpensAt (e ∷ s) sealed t reply u ⊎ marks.HasOpened rest first u
-opened_stage stage.Handshake r e s sealed t reply rest first u h = opened_turn (takes 0xe7 t) r e s sealed t reply rest first u refl h
+opened_stage stage.Handshake r e s sealed t reply rest first u h = opened_turn (takes PSK_FINISH t) r e s sealed t reply rest first u refl h
 opened_stage stage.Open r e s sealed t reply rest first u h = inr h
 opened_stage stage.Verifying r e s sealed t reply rest first u h = inr h
 
@@ -114,7 +115,7 @@ own_session older tag sealed t reply d =
 
 pub opened_there : (r : RspSetup) (h : served.History) (first : First) (u : List ℕ) → marks.HasOpened (served_marks r h) first u → HasOpened u h
 opened_there r [] first u h = elim h [ ]
-opened_there r (Clear tag t d ∷ older) first u h = opened_there r older first u (opened_clear (takes 0xe6 t) (served_first (began_by older t)) (served_marks r older) first u h)
+opened_there r (Clear tag t d ∷ older) first u h = opened_there r older first u (opened_clear (takes PSK_EXCHANGE t) (served_first (began_by older t)) (served_marks r older) first u h)
 opened_there r (Sealed tag sealed t reply d ∷ older) first u h = elim (opened_record r (responder.session_of (responder.id_in_record sealed) older) sealed t reply (served_marks r older) first u h) [
   | inl x ↦ inl (x.0, ap responder.t2_of (own_session older tag sealed t reply d) ∙ x.1)
   | inr y ↦ inr (opened_there r older first u y)

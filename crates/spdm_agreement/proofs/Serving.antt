@@ -16,12 +16,13 @@ use Rattle.spdm_agreement.specs.Reading.{First}
 use Rattle.spdm_agreement.specs.Story.{served_marks, served_first, served_turn, record_marks, reply_text, taken_text}
 use Rattle.spdm_agreement.proofs.Sessions.{reading_of}
 use Rattle.transcript.specs.Transcripts as transcript
+use Rattle.spdm_grammar.specs.declared.names.request_code.TheConstants.{GET_VERSION, PSK_EXCHANGE, PSK_FINISH, END_SESSION}
 
 -- A record in the handshake ends it only where it is PSK_FINISH, and behind it there is none.
 abbrev pub EndsByFinish : Stage → Events → List ℕ → Turn → List ℕ → Type 0
-EndsByFinish stage.Handshake s sealed t reply = is_past_handshake (stage_of (Heard sealed t reply ∷ s)) ≡ true → takes 0xe7 t ≡ true
-EndsByFinish stage.Open s sealed t reply = takes 0xe7 t ≡ false
-EndsByFinish stage.Verifying s sealed t reply = takes 0xe7 t ≡ false
+EndsByFinish stage.Handshake s sealed t reply = is_past_handshake (stage_of (Heard sealed t reply ∷ s)) ≡ true → takes PSK_FINISH t ≡ true
+EndsByFinish stage.Open s sealed t reply = takes PSK_FINISH t ≡ false
+EndsByFinish stage.Verifying s sealed t reply = takes PSK_FINISH t ≡ false
 
 abbrev pub IsSteady : History → Type 0
 IsSteady [] = Unit {0}
@@ -81,7 +82,7 @@ elsewhere_turn psk id x u reply m false other = refl
 
 elsewhere_stage : (psk : List ℕ) (r : RspSetup) (id : ℕ) (g : Stage) (s : Events) (sealed : List ℕ) (t : Turn) (reply : List ℕ) (m : List Served) → (id_in_exchange (exchange_answer s) == id) ≡ false
     → served_open (reading_of psk) id (served_turn g r s sealed t reply ++ m) ≡ served_open (reading_of psk) id m
-elsewhere_stage psk r id stage.Handshake s sealed t reply m other = elsewhere_turn psk id (served_first s) (t2_of (Heard sealed t reply ∷ s)) (reply_text t) m (takes 0xe7 t) other
+elsewhere_stage psk r id stage.Handshake s sealed t reply m other = elsewhere_turn psk id (served_first s) (t2_of (Heard sealed t reply ∷ s)) (reply_text t) m (takes PSK_FINISH t) other
 elsewhere_stage psk r id stage.Open s sealed t reply m other = refl
 elsewhere_stage psk r id stage.Verifying s sealed t reply m other = refl
 
@@ -106,11 +107,11 @@ finished_by psk id e s sealed t reply m true own ends = record {
 }
 finished_by psk id e s sealed t reply m false own ends = record { own = λ l. own; told = λ l. absurd (true≢false (sym (ends l))) }
 
-pub same_second : (s : Events) (sealed : List ℕ) (t : Turn) (reply : List ℕ) → takes 0xe7 t ≡ false → t2_of s ≡ t2_of (Heard sealed t reply ∷ s)
+pub same_second : (s : Events) (sealed : List ℕ) (t : Turn) (reply : List ℕ) → takes PSK_FINISH t ≡ false → t2_of s ≡ t2_of (Heard sealed t reply ∷ s)
 same_second s sealed t reply other =
     sym (ap (λ (b : Bool). transcript.t2_of (session_vca s) (exchange_of s) (exchange_answer s) (cond b (request_in t.effect) (finish_of s)) (cond b (answer_in t.effect) (finish_answer s))) other)
 
-taken_by : (psk : List ℕ) (id : ℕ) (e : Event) (s : Events) (sealed : List ℕ) (t : Turn) (reply : List ℕ) (x : Served) (m : List Served) → is_past_handshake (stage_of (e ∷ s)) ≡ true → takes 0xe7 t ≡ false
+taken_by : (psk : List ℕ) (id : ℕ) (e : Event) (s : Events) (sealed : List ℕ) (t : Turn) (reply : List ℕ) (x : Served) (m : List Served) → is_past_handshake (stage_of (e ∷ s)) ≡ true → takes PSK_FINISH t ≡ false
     → served_open (reading_of psk) id (x ∷ m) ≡ served_open (reading_of psk) id m → ServedAt psk id (e ∷ s) m → ServedAt psk id (Heard sealed t reply ∷ e ∷ s) (x ∷ m)
 taken_by psk id e s sealed t reply x m past_it other same i = record {
   own = λ l. i.own refl;
@@ -119,7 +120,7 @@ taken_by psk id e s sealed t reply x m past_it other same i = record {
 
 heard_stage : (psk : List ℕ) (r : RspSetup) (id : ℕ) (g : Stage) (e : Event) (s : Events) (sealed : List ℕ) (t : Turn) (reply : List ℕ) (m : List Served) → stage_of (e ∷ s) ≡ g → EndsByFinish g (e ∷ s) sealed t reply
     → ServedAt psk id (e ∷ s) m → ServedAt psk id (Heard sealed t reply ∷ e ∷ s) (served_turn g r (e ∷ s) sealed t reply ++ m)
-heard_stage psk r id stage.Handshake e s sealed t reply m is steady i = finished_by psk id e s sealed t reply m (takes 0xe7 t) (i.own refl) steady
+heard_stage psk r id stage.Handshake e s sealed t reply m is steady i = finished_by psk id e s sealed t reply m (takes PSK_FINISH t) (i.own refl) steady
 heard_stage psk r id stage.Open e s sealed t reply m is steady i = taken_by psk id e s sealed t reply (Took (t2_of (e ∷ s)) (taken_text r.psk (e ∷ s) sealed) (reply_text t)) m (ap is_past_handshake is) steady refl i
 heard_stage psk r id stage.Verifying e s sealed t reply m is steady i = taken_by psk id e s sealed t reply (Took (t2_of (e ∷ s)) (taken_text r.psk (e ∷ s) sealed) (reply_text t)) m (ap is_past_handshake is) steady refl i
 
@@ -129,9 +130,9 @@ ended_by psk id s m false i = i
 
 heard : (psk : List ℕ) (r : RspSetup) (id : ℕ) (s : Events) (sealed : List ℕ) (t : Turn) (reply : List ℕ) (m : List Served) → EndsByFinish (stage_of s) s sealed t reply
     → ServedAt psk id s m → ServedAt psk id (after_record s sealed t reply) (record_marks r s sealed t reply ++ m)
-heard psk r id [] sealed t reply m steady i = ended_by psk id [] m (takes 0xec t) (gone psk id m)
+heard psk r id [] sealed t reply m steady i = ended_by psk id [] m (takes END_SESSION t) (gone psk id m)
 heard psk r id (e ∷ s) sealed t reply m steady i =
-    ended_by psk id (Heard sealed t reply ∷ e ∷ s) (record_marks r (e ∷ s) sealed t reply ++ m) (takes 0xec t)
+    ended_by psk id (Heard sealed t reply ∷ e ∷ s) (record_marks r (e ∷ s) sealed t reply ++ m) (takes END_SESSION t)
     (heard_stage psk r id (stage_of (e ∷ s)) e s sealed t reply m refl steady i)
 
 -- ---- All sessions.
@@ -146,7 +147,7 @@ sealed_by psk r id of own s sealed t reply m false is same steady o i = past psk
 pub served_stands : (psk : List ℕ) (r : RspSetup) (h : History) → IsSteady h → (id : ℕ) → ServedAt psk id (session_of id h) (served_marks r h)
 unfolding session_of
 served_stands psk r [] steady id = gone psk id []
-served_stands psk r (Clear tag t d ∷ older) steady id = cleared_by psk id (session_of id older) older t (served_marks r older) (takes 0x84 t) (takes 0xe6 t) (served_stands psk r older steady id)
+served_stands psk r (Clear tag t d ∷ older) steady id = cleared_by psk id (session_of id older) older t (served_marks r older) (takes GET_VERSION t) (takes PSK_EXCHANGE t) (served_stands psk r older steady id)
 served_stands psk r (Sealed tag sealed t reply d ∷ older) steady id =
     sealed_by psk r id (id_in_record sealed) (session_of (id_in_record sealed) older) (session_of id older) sealed t reply (served_marks r older) (id_in_record sealed == id) refl
     (λ e. ap (λ (n : ℕ). session_of n older) e) steady.0 (served_stands psk r older steady.1 (id_in_record sealed)) (served_stands psk r older steady.1 id)

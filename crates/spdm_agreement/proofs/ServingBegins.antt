@@ -36,8 +36,10 @@ use Rattle.spdm_machine.specs.Sessions.{is_past_handshake, id_in_exchange}
 use Rattle.responder_machine.specs.Session.Event.{Began, Heard, Waited}
 use Rattle.responder_machine.specs.Setup.{RspSetup, inventory_of}
 use Rattle.spdm_machine.specs.Terms.{terms_of, hash_len}
-use Rattle.responder_machine.specs.Turn.{Turn, Effect, code_for, code_in, takes, request_in as request_bytes, answer_in}
+use Rattle.responder_machine.specs.Turn.{Turn, Effect, code_in, takes, request_in as request_bytes, answer_in}
+use Rattle.spdm_grammar.specs.Codes.{code_for}
 use Rattle.transcript.specs.Transcripts.{Negotiation, vca_of, without_verify}
+use Rattle.spdm_grammar.specs.declared.names.TheConstants.{MIN_DATA_TRANSFER_SIZE}
 use Rattle.spdm_agreement.specs.Configured.{IsResponder}
 use Rattle.spdm_agreement.specs.Reading.{First}
 use Rattle.spdm_agreement.proofs.Codes.{code_read, second_byte}
@@ -48,16 +50,19 @@ use Rattle.spdm_agreement.proofs.ServingPlaces.{TakesClear, clear_case}
 use Rattle.spdm_agreement.proofs.ServingKnown.{HasVersion, HasCaps, HasAlgorithms, IsKnown, answered, entry_turn, known, common_in}
 use Rattle.spdm_agreement.proofs.ServingReplies.{IsRoomy}
 use Rattle.spdm_agreement.proofs.ServingDoes.{AreCounted, BeginsWell, clear_turn, does_where}
+use Rattle.spdm_grammar.specs.declared.names.request_code.TheConstants.{GET_VERSION, PSK_EXCHANGE, END_SESSION}
+use Rattle.spdm_grammar.specs.declared.names.response_code.TheConstants.{PSK_EXCHANGE_RSP}
+use Rattle.spdm_grammar.specs.declared.names.spdm_version.TheConstants.{V1_2}
 
 -- ---- PSK_EXCHANGE comes where all is negotiated.
 
-begins_known : (p : Phase) (pending : Bool) (n : Negotiation) → phase_allows p pending 0xe6 ≡ true → IsKnown p n → HasVersion n × HasCaps n × HasAlgorithms n
+begins_known : (p : Phase) (pending : Bool) (n : Negotiation) → phase_allows p pending PSK_EXCHANGE ≡ true → IsKnown p n → HasVersion n × HasCaps n × HasAlgorithms n
 begins_known Fresh pending n e k = absurd (true≢false (sym e))
 begins_known Versioned pending n e k = absurd (true≢false (sym e))
 begins_known Capable pending n e k = absurd (true≢false (sym e))
 begins_known Negotiated pending n e k = k
 
-exchange_value : (v : RequestMessage) → (code_for v == 0xe6) ≡ true → (exchange : ExchangeMessage) × (v ≡ PskExchange exchange)
+exchange_value : (v : RequestMessage) → (code_for v == PSK_EXCHANGE) ≡ true → (exchange : ExchangeMessage) × (v ≡ PskExchange exchange)
 exchange_value (PskExchange exchange) e = (exchange, refl)
 exchange_value v e = absurd (true≢false (sym e))
 
@@ -72,9 +77,9 @@ pub record Exchanges (r : RspSetup) (n : Negotiation) (f : Free) (e : Effect) : 
   pub caps : HasCaps n
   pub algorithms : HasAlgorithms n
 
-exchanges_by : (r : RspSetup) (n : Negotiation) (p : Phase) (f : Free) (e : Effect) → IsKnown p n → (code_in e == 0xe6) ≡ true → TakesClear r n p f e → Exchanges r n f e
+exchanges_by : (r : RspSetup) (n : Negotiation) (p : Phase) (f : Free) (e : Effect) → IsKnown p n → (code_in e == PSK_EXCHANGE) ≡ true → TakesClear r n p f e → Exchanges r n f e
 exchanges_by r n p f e k code a =
-    let v = exchange_value a.value (sym (ap (λ (e : Effect). code_in e == 0xe6) a.is) ∙ code) in
+    let v = exchange_value a.value (sym (ap (λ (e : Effect). code_in e == PSK_EXCHANGE) a.is) ∙ code) in
     let allowed = ap (λ (v : RequestMessage). phase_allows p (has_pending a.place) (code_for v)) (sym v.1) ∙ a.allowed in
     let known = begins_known p (has_pending a.place) n allowed k in
     let spelled : request_at a.place a.request ≡ Some (PskExchange v.0) = a.spelled ∙ ap (λ (v : RequestMessage). Some v) v.1 in
@@ -90,16 +95,16 @@ exchanges_by r n p f e k code a =
       algorithms = known.2;
     }
 
-exchanges : (r : RspSetup) (h : History) (m : List ℕ) (d : Draw) → IsResponder r → IsMade r h → takes 0xe6 (clear_turn r h m d) ≡ true → Exchanges r (negotiation_of (clear_turns h)) (clear_chosen r h d) (clear_turn r h m d).effect
+exchanges : (r : RspSetup) (h : History) (m : List ℕ) (d : Draw) → IsResponder r → IsMade r h → takes PSK_EXCHANGE (clear_turn r h m d) ≡ true → Exchanges r (negotiation_of (clear_turns h)) (clear_chosen r h d) (clear_turn r h m d).effect
 exchanges r h m d setup made code = elim (clear_case r h m (clear_chosen r h d)) [
-  | inl is ↦ absurd (true≢false (sym code ∙ ap (λ (e : Effect). code_in e == 0xe6) is))
+  | inl is ↦ absurd (true≢false (sym code ∙ ap (λ (e : Effect). code_in e == PSK_EXCHANGE) is))
   | inr a ↦ exchanges_by r (negotiation_of (clear_turns h)) (phase_of (clear_turns h)) (clear_chosen r h d) (clear_turn r h m d).effect (known r h setup made) code a
 ]
 
 -- ---- Every live session is under such a negotiation.
 
 pub record HasRoom (s : Events) : Type 0 where
-  pub room : is_live s ≡ true → 42 ≤ (common_in (session_negotiation s)).to_requester.transfer
+  pub room : is_live s ≡ true → MIN_DATA_TRANSFER_SIZE ≤ (common_in (session_negotiation s)).to_requester.transfer
 
 no_session : HasRoom []
 no_session = record { room = λ e. absurd (true≢false (sym e)) }
@@ -113,9 +118,9 @@ room_after_tick : (s : Events) (seconds : ℕ) → HasRoom s → HasRoom (after_
 room_after_tick [] seconds i = no_session
 room_after_tick (e ∷ s) seconds i = room_ticked e s seconds _ _ i
 
-room_heard : (s : Events) (sealed : List ℕ) (t : Turn) (reply : List ℕ) (b : Bool) → HasRoom s → HasRoom (cond b (cond (takes 0xec t) [] (when_live s (Heard sealed t reply))) s)
+room_heard : (s : Events) (sealed : List ℕ) (t : Turn) (reply : List ℕ) (b : Bool) → HasRoom s → HasRoom (cond b (cond (takes END_SESSION t) [] (when_live s (Heard sealed t reply))) s)
 room_heard s sealed t reply false i = i
-room_heard s sealed t reply true i = go (takes 0xec t) s i
+room_heard s sealed t reply true i = go (takes END_SESSION t) s i
   where
     go : (c : Bool) (s : Events) → HasRoom s → HasRoom (cond c [] (when_live s (Heard sealed t reply)))
     go true s i = no_session
@@ -126,21 +131,21 @@ room_dropped : (s : Events) (b : Bool) → HasRoom s → HasRoom (cond b [] s)
 room_dropped s true i = no_session
 room_dropped s false i = i
 
-room_cleared : (s : Events) (n : Negotiation) (request answer : List ℕ) (a b c d : Bool) → (b ≡ true → 42 ≤ (common_in n).to_requester.transfer) → HasRoom s → HasRoom (cond a [] (cond b (cond c (Began n request answer ∷ []) (cond d s [])) s))
+room_cleared : (s : Events) (n : Negotiation) (request answer : List ℕ) (a b c d : Bool) → (b ≡ true → MIN_DATA_TRANSFER_SIZE ≤ (common_in n).to_requester.transfer) → HasRoom s → HasRoom (cond a [] (cond b (cond c (Began n request answer ∷ []) (cond d s [])) s))
 room_cleared s n request answer true b c d k i = no_session
 room_cleared s n request answer false true true d k i = record { room = λ l. k refl }
 room_cleared s n request answer false true false true k i = i
 room_cleared s n request answer false true false false k i = no_session
 room_cleared s n request answer false false c d k i = i
 
-clear_room : (r : RspSetup) (h : History) (m : List ℕ) (d : Draw) (t : Turn) → IsResponder r → IsMade r h → clear_turn r h m d ≡ t → takes 0xe6 t ≡ true → 42 ≤ (common_in (negotiation_of (clear_turns h))).to_requester.transfer
-clear_room r h m d t setup made is code = (exchanges r h m d setup made (ap (takes 0xe6) is ∙ code)).caps.room
+clear_room : (r : RspSetup) (h : History) (m : List ℕ) (d : Draw) (t : Turn) → IsResponder r → IsMade r h → clear_turn r h m d ≡ t → takes PSK_EXCHANGE t ≡ true → MIN_DATA_TRANSFER_SIZE ≤ (common_in (negotiation_of (clear_turns h))).to_requester.transfer
+clear_room r h m d t setup made is code = (exchanges r h m d setup made (ap (takes PSK_EXCHANGE) is ∙ code)).caps.room
 
 rooms : (r : RspSetup) (h : History) → IsResponder r → IsMade r h → (id : ℕ) → HasRoom (session_of id h)
 unfolding session_of
 rooms r [] setup made id = no_session
 rooms r (Clear tag t d ∷ older) setup made id =
-    room_cleared (session_of id older) (negotiation_of (clear_turns older)) (request_bytes t.effect) (answer_in t.effect) (takes 0x84 t) (takes 0xe6 t) (id_in_exchange (answer_in t.effect) == id) (is_past_handshake (stage_of (session_of id older)))
+    room_cleared (session_of id older) (negotiation_of (clear_turns older)) (request_bytes t.effect) (answer_in t.effect) (takes GET_VERSION t) (takes PSK_EXCHANGE t) (id_in_exchange (answer_in t.effect) == id) (is_past_handshake (stage_of (session_of id older)))
     (clear_room r older t.message d t setup made.1 (entry_turn r older tag t d made.0)) (rooms r older setup made.1 id)
 rooms r (Sealed tag sealed t reply d ∷ older) setup made id = room_heard (session_of id older) sealed t reply (id_in_record sealed == id) (rooms r older setup made.1 id)
 rooms r (Queued bytes ∷ older) setup made id = rooms r older setup made.2 id
@@ -165,7 +170,7 @@ own_verify r p m f exchange = verify_data (place_terms p).choice r.psk (t1_with 
 answer_parts : (r : RspSetup) (p : Place) (f : Free) (exchange : ExchangeMessage) (v : List ℕ) → canonical_response (exchange_rsp r p f exchange v) ≡ front_of r p f exchange ++ v
 answer_parts r p f exchange v =
     let heartbeat = if (place_terms p).common.heartbeat then r.beat else 0 in
-    ap (λ (l : List ℕ). (0x12 ∷ 0x66 ∷ heartbeat ∷ 0 ∷ []) ++ little_bytes 2 f.id ++ (0 ∷ 0 ∷ []) ++ little_bytes 2 (length f.context) ++ little_bytes 2 (length f.exchange_opaque) ++ (l ++ v)) (sym (append-nil (fields_of r p f exchange)))
+    ap (λ (l : List ℕ). (V1_2 ∷ PSK_EXCHANGE_RSP ∷ heartbeat ∷ 0 ∷ []) ++ little_bytes 2 f.id ++ (0 ∷ 0 ∷ []) ++ little_bytes 2 (length f.context) ++ little_bytes 2 (length f.exchange_opaque) ++ (l ++ v)) (sym (append-nil (fields_of r p f exchange)))
 
 before_verify : (hash : HashAlg) (front v : List ℕ) → length v ≡ hash_size hash → without_verify (hash_of hash) (front ++ v) ≡ front
 before_verify hash front v long =
@@ -214,7 +219,7 @@ length_blocks : (hash : HashAlg) (blocks : List BlockSpec) → length (hash_of_b
 length_blocks hash [] = length-replicate (hash_size hash) 0
 length_blocks hash (block ∷ others) = length_digest hash (record_of (block ∷ others))
 
-summary_spelled : (len : ℕ) (exchange : ExchangeMessage) (rest : List ℕ) → IsSpelling (request_body len 0xe6) 2 (PskExchange exchange) rest → is_summary exchange.summary ≡ true
+summary_spelled : (len : ℕ) (exchange : ExchangeMessage) (rest : List ℕ) → IsSpelling (request_body len PSK_EXCHANGE) 2 (PskExchange exchange) rest → is_summary exchange.summary ≡ true
 unfolding request_body psk_exchange_layout
 summary_spelled len exchange rest s =
     let same : exchange.summary ≡ little_number 1 s.0 = ap summary_in (s.5.4.5.5.5.5.4.4.4.0) in
@@ -228,7 +233,7 @@ summary_read : (len : ℕ) (m : List ℕ) (exchange : ExchangeMessage) → reque
 summary_read len m exchange e =
     let s : IsRequestSpelling len (PskExchange exchange) m = (read_iff (request_layout len) (PskExchange exchange) m).0 e in
     let t = s.5 in
-    let code : little_number 1 t.0 ≡ 0xe6 = sym (second_byte m s.0 t.0 s.1 t.1 s.2 t.2 s.3 t.3) ∙ sym (code_read len m (PskExchange exchange) e) in
+    let code : little_number 1 t.0 ≡ PSK_EXCHANGE = sym (second_byte m s.0 t.0 s.1 t.1 s.2 t.2 s.3 t.3) ∙ sym (code_read len m (PskExchange exchange) e) in
     summary_spelled len exchange t.1 (subst (λ (c : ℕ). IsSpelling (request_body len c) 2 (PskExchange exchange) t.1) code t.5)
 
 length_summary : (r : RspSetup) (p : Place) (m : List ℕ) (exchange : ExchangeMessage) → request_at p m ≡ Some (PskExchange exchange) → length (summary_answer r p exchange.summary) ≡ summary_size (hash_len (place_terms p)) (Some (PskExchange exchange))

@@ -29,6 +29,7 @@ use Rattle.std.specs.Prelude.{nat_le}
 use Rattle.spdm_grammar.specs.Fields.{is_key_operation}
 use Rattle.responder_machine.specs.Records.{opened}
 use Rattle.spdm_agreement.proofs.ServingSteps.{Counts, Opens, is_verifying, exchange_of, updates_all, updates_any, updates_third}
+use Rattle.spdm_grammar.specs.declared.names.request_code.TheConstants.{GET_VERSION, PSK_EXCHANGE, PSK_FINISH, KEY_UPDATE, END_SESSION}
 
 -- What is held open is counted.
 pub record IsCounted (psk : List ℕ) (s : Events) (m : List Served) : Type 0 where
@@ -75,8 +76,8 @@ cleared_by psk id s older t m false true i = exchanged psk s older t m (id_in_ex
 cleared_by psk id s older t m false false i = i
 
 pub cleared : (psk : List ℕ) (id : ℕ) (s : Events) (older : History) (t : Turn) (m : List Served) → IsCounted psk s m
-    → IsCounted psk (cond (takes 0x84 t) [] (cond (takes 0xe6 t) (after_exchange id s t (negotiation_of (clear_turns older))) s)) (cond (takes 0xe6 t) (Served.Began (served_first (began_by older t)) ∷ []) [] ++ m)
-cleared psk id s older t m i = cleared_by psk id s older t m (takes 0x84 t) (takes 0xe6 t) i
+    → IsCounted psk (cond (takes GET_VERSION t) [] (cond (takes PSK_EXCHANGE t) (after_exchange id s t (negotiation_of (clear_turns older))) s)) (cond (takes PSK_EXCHANGE t) (Served.Began (served_first (began_by older t)) ∷ []) [] ++ m)
+cleared psk id s older t m i = cleared_by psk id s older t m (takes GET_VERSION t) (takes PSK_EXCHANGE t) i
 
 -- ---- A record of the session itself.
 
@@ -108,7 +109,7 @@ by_operation op old false false false x y z e =
     absurd (omega (arith, no_one, no_two, no_three))
 
 verifies_in : (e : Effect) (old : Bool) → ((op tag : ℕ) → asked_in e ≡ Some (KeyUpdate op tag) → is_key_operation op ≡ true)
-    → cond (updates_in 3 e) false (cond (code_in e == 0xe9) true old) ≡ cond (updates_in 1 e || updates_in 2 e) true (cond (updates_in 3 e) false old)
+    → cond (updates_in 3 e) false (cond (code_in e == KEY_UPDATE) true old) ≡ cond (updates_in 1 e || updates_in 2 e) true (cond (updates_in 3 e) false old)
 verifies_in NoEffect old k = refl
 verifies_in (TookData bytes answer) old k = refl
 verifies_in (Effect.Took (KeyUpdate op tag) request answer large) old k = by_operation op old (op == 1) (op == 2) (op == 3) refl refl refl (k op tag refl)
@@ -120,15 +121,15 @@ stage_by false true c g e = refl
 stage_by false false true g e = refl
 stage_by false false false g e = refl
 
-verifies : (r : RspSetup) (s : Events) (f : Free) (sealed : List ℕ) (t : Turn) (reply : List ℕ) → Opens r s f sealed t reply → takes 0xe7 t ≡ false → (older : List Exchange) → is_verifying (stage_of s) ≡ verifying older
+verifies : (r : RspSetup) (s : Events) (f : Free) (sealed : List ℕ) (t : Turn) (reply : List ℕ) → Opens r s f sealed t reply → takes PSK_FINISH t ≡ false → (older : List Exchange) → is_verifying (stage_of s) ≡ verifying older
     → is_verifying (stage_of (Heard sealed t reply ∷ s)) ≡ verifying (exchange_of r s sealed t ∷ older)
 verifies r s f sealed t reply o other older is =
-    stage_by (takes 0xe7 t) (updates 3 t) (takes 0xe9 t) (stage_of s) other
+    stage_by (takes PSK_FINISH t) (updates 3 t) (takes KEY_UPDATE t) (stage_of s) other
     ∙ verifies_in t.effect (is_verifying (stage_of s)) (operation_known r s (opened r.psk s sealed) f t o.turn)
     ∙ ap (λ (old : Bool). cond (updates 1 t || updates 2 t) true (cond (updates 3 t) false old)) is
     ∙ ap₂ (λ (a b : Bool). cond a true (cond b false (verifying older))) (sym (updates_any r s f sealed t reply o)) (sym (updates_third r s f sealed t reply o))
 
-pub took_counts : (r : RspSetup) (s : Events) (f : Free) (sealed : List ℕ) (t : Turn) (reply : List ℕ) (m : List Served) → Opens r s f sealed t reply → takes 0xe7 t ≡ false → Counts r.psk s m
+pub took_counts : (r : RspSetup) (s : Events) (f : Free) (sealed : List ℕ) (t : Turn) (reply : List ℕ) (m : List Served) → Opens r s f sealed t reply → takes PSK_FINISH t ≡ false → Counts r.psk s m
     → Counts r.psk (Heard sealed t reply ∷ s) (Took (t2_of s) (taken_text r.psk s sealed) (reply_text t) ∷ m)
 took_counts r s f sealed t reply m o other c =
     let u = t2_of s in
@@ -140,20 +141,20 @@ took_counts r s f sealed t reply m o other c =
     let all = sym (updates_all r s f sealed t reply o) in
     record {
       request_epoch = ap₂ (λ (b : Bool) (n : ℕ). cond b (n + 1) n) any c.request_epoch ∙ ap (epoch_of (reading_of r.psk).is_update) now;
-      request_next = after_none (takes 0xe7 t) (updates 1 t) (updates 2 t) 0 (request_next s + 1) other ∙ ap₂ (λ (b : Bool) (n : ℕ). cond b 0 (n + 1)) any c.request_next ∙ ap (count_of (reading_of r.psk).is_update 0) now;
+      request_next = after_none (takes PSK_FINISH t) (updates 1 t) (updates 2 t) 0 (request_next s + 1) other ∙ ap₂ (λ (b : Bool) (n : ℕ). cond b 0 (n + 1)) any c.request_next ∙ ap (count_of (reading_of r.psk).is_update 0) now;
       response_epoch = ap₂ (λ (b : Bool) (n : ℕ). cond b (n + 1) n) all c.response_epoch ∙ ap (epoch_of (reading_of r.psk).is_update_all) now;
-      response_next = then_none (takes 0xe7 t) 0 (cond (updates 2 t) 1 (response_next s + 1)) other ∙ ap₂ (λ (b : Bool) (n : ℕ). cond b 1 (n + 1)) all c.response_next ∙ ap (count_of (reading_of r.psk).is_update_all 1) now;
+      response_next = then_none (takes PSK_FINISH t) 0 (cond (updates 2 t) 1 (response_next s + 1)) other ∙ ap₂ (λ (b : Bool) (n : ℕ). cond b 1 (n + 1)) all c.response_next ∙ ap (count_of (reading_of r.psk).is_update_all 1) now;
       stands = verifies r s f sealed t reply o other (taken u m) c.stands ∙ ap verifying now;
     }
 
 -- A session in its handshake has changed no key.
-no_update_in : (e : Effect) → (code_in e == 0xe7) ≡ true → (updates_in 1 e ≡ false) × (updates_in 2 e ≡ false)
+no_update_in : (e : Effect) → (code_in e == PSK_FINISH) ≡ true → (updates_in 1 e ≡ false) × (updates_in 2 e ≡ false)
 no_update_in NoEffect e = (refl, refl)
 no_update_in (TookData bytes answer) e = (refl, refl)
 no_update_in (Effect.Took (KeyUpdate op tag) request answer large) e = absurd (true≢false (sym e))
 no_update_in (Effect.Took v request answer large) e = (refl, refl)
 
-quiet_code : (e : Effect) → (code_in e == 0xe9) ≡ false → (updates_in 1 e ≡ false) × (updates_in 2 e ≡ false)
+quiet_code : (e : Effect) → (code_in e == KEY_UPDATE) ≡ false → (updates_in 1 e ≡ false) × (updates_in 2 e ≡ false)
 quiet_code NoEffect e = (refl, refl)
 quiet_code (TookData bytes answer) e = (refl, refl)
 quiet_code (Effect.Took (KeyUpdate op tag) request answer large) e = absurd (true≢false e)
@@ -170,7 +171,7 @@ first_epochs [] e = (refl, refl)
 first_epochs (Began negotiation exchange answer ∷ s) e = first_epochs s e
 first_epochs (Waited seconds ∷ s) e = first_epochs s e
 first_epochs (Heard sealed t reply ∷ s) e =
-    let l = shakes_still (takes 0xe7 t) (updates 3 t) (takes 0xe9 t) (stage_of s) e in
+    let l = shakes_still (takes PSK_FINISH t) (updates 3 t) (takes KEY_UPDATE t) (stage_of s) e in
     let older = first_epochs s l.1 in
     let none = quiet_code t.effect l.0 in (
       ap₂ (λ (a b : Bool). cond (a || b) (request_epoch s + 1) (request_epoch s)) none.0 none.1 ∙ older.0,
@@ -178,7 +179,7 @@ first_epochs (Heard sealed t reply ∷ s) e =
     )
 
 -- With PSK_FINISH all begins at 0.
-pub finish_counts : (psk : List ℕ) (s : Events) (sealed : List ℕ) (t : Turn) (reply : List ℕ) (m : List Served) → is_past_handshake (stage_of s) ≡ false → takes 0xe7 t ≡ true → taken (t2_of (Heard sealed t reply ∷ s)) m ≡ [] → Counts psk (Heard sealed t reply ∷ s) m
+pub finish_counts : (psk : List ℕ) (s : Events) (sealed : List ℕ) (t : Turn) (reply : List ℕ) (m : List Served) → is_past_handshake (stage_of s) ≡ false → takes PSK_FINISH t ≡ true → taken (t2_of (Heard sealed t reply ∷ s)) m ≡ [] → Counts psk (Heard sealed t reply ∷ s) m
 finish_counts psk s sealed t reply m shakes finish none =
     let older = first_epochs s shakes in
     let quiet = no_update_in t.effect finish in
@@ -187,11 +188,11 @@ finish_counts psk s sealed t reply m shakes finish none =
       request_next = ap (λ (b : Bool). cond (b || updates 1 t || updates 2 t) 0 (request_next s + 1)) finish ∙ ap (count_of (reading_of psk).is_update 0) (sym none);
       response_epoch = ap (λ (b : Bool). cond b (response_epoch s + 1) (response_epoch s)) quiet.1 ∙ older.1 ∙ ap (epoch_of (reading_of psk).is_update_all) (sym none);
       response_next = ap (λ (b : Bool). cond b 0 (cond (updates 2 t) 1 (response_next s + 1))) finish ∙ ap (count_of (reading_of psk).is_update_all 1) (sym none);
-      stands = ap (λ (b : Bool). is_verifying (cond b stage.Open (cond (updates 3 t) stage.Open (cond (takes 0xe9 t) stage.Verifying (stage_of s))))) finish ∙ ap verifying (sym none);
+      stands = ap (λ (b : Bool). is_verifying (cond b stage.Open (cond (updates 3 t) stage.Open (cond (takes KEY_UPDATE t) stage.Verifying (stage_of s))))) finish ∙ ap verifying (sym none);
     }
 
-finishes_by : (psk : List ℕ) (e : Event) (s : Events) (sealed : List ℕ) (t : Turn) (reply : List ℕ) (m : List Served) (b : Bool) → takes 0xe7 t ≡ b → is_past_handshake (stage_of (e ∷ s)) ≡ false
-    → (is_past_handshake (stage_of (Heard sealed t reply ∷ e ∷ s)) ≡ true → takes 0xe7 t ≡ true) → (takes 0xe7 t ≡ true → taken (t2_of (Heard sealed t reply ∷ e ∷ s)) m ≡ [])
+finishes_by : (psk : List ℕ) (e : Event) (s : Events) (sealed : List ℕ) (t : Turn) (reply : List ℕ) (m : List Served) (b : Bool) → takes PSK_FINISH t ≡ b → is_past_handshake (stage_of (e ∷ s)) ≡ false
+    → (is_past_handshake (stage_of (Heard sealed t reply ∷ e ∷ s)) ≡ true → takes PSK_FINISH t ≡ true) → (takes PSK_FINISH t ≡ true → taken (t2_of (Heard sealed t reply ∷ e ∷ s)) m ≡ [])
     → IsCounted psk (Heard sealed t reply ∷ e ∷ s) (cond b (Finished (served_first (e ∷ s)) (t2_of (Heard sealed t reply ∷ e ∷ s)) ∷ []) (Refused (served_first (e ∷ s)) (reply_text t) ∷ []) ++ m)
 finishes_by psk e s sealed t reply m true is shakes ends none =
     let u = t2_of (Heard sealed t reply ∷ e ∷ s) in
@@ -199,9 +200,9 @@ finishes_by psk e s sealed t reply m true is shakes ends none =
 finishes_by psk e s sealed t reply m false is shakes ends none = record { counts = λ l. absurd (true≢false (sym (ends l) ∙ is)) }
 
 own_stage : (r : RspSetup) (e : Event) (s : Events) (f : Free) (sealed : List ℕ) (t : Turn) (reply : List ℕ) (m : List Served) (g : Stage) → stage_of (e ∷ s) ≡ g → Opens r (e ∷ s) f sealed t reply → EndsByFinish g (e ∷ s) sealed t reply
-    → (stage_of (e ∷ s) ≡ stage.Handshake → takes 0xe7 t ≡ true → taken (t2_of (Heard sealed t reply ∷ e ∷ s)) m ≡ []) → IsCounted r.psk (e ∷ s) m
+    → (stage_of (e ∷ s) ≡ stage.Handshake → takes PSK_FINISH t ≡ true → taken (t2_of (Heard sealed t reply ∷ e ∷ s)) m ≡ []) → IsCounted r.psk (e ∷ s) m
     → IsCounted r.psk (Heard sealed t reply ∷ e ∷ s) (served_turn g r (e ∷ s) sealed t reply ++ m)
-own_stage r e s f sealed t reply m stage.Handshake is o steady none i = finishes_by r.psk e s sealed t reply m (takes 0xe7 t) refl (ap is_past_handshake is) steady (none is)
+own_stage r e s f sealed t reply m stage.Handshake is o steady none i = finishes_by r.psk e s sealed t reply m (takes PSK_FINISH t) refl (ap is_past_handshake is) steady (none is)
 own_stage r e s f sealed t reply m stage.Open is o steady none i = record { counts = λ l. took_counts r (e ∷ s) f sealed t reply m o steady (i.counts (ap is_past_handshake is)) }
 own_stage r e s f sealed t reply m stage.Verifying is o steady none i = record { counts = λ l. took_counts r (e ∷ s) f sealed t reply m o steady (i.counts (ap is_past_handshake is)) }
 
@@ -210,10 +211,10 @@ ended_by psk s m true i = gone psk m
 ended_by psk s m false i = i
 
 pub own_record : (r : RspSetup) (e : Event) (s : Events) (f : Free) (sealed : List ℕ) (t : Turn) (reply : List ℕ) (m : List Served) → Opens r (e ∷ s) f sealed t reply → EndsByFinish (stage_of (e ∷ s)) (e ∷ s) sealed t reply
-    → (stage_of (e ∷ s) ≡ stage.Handshake → takes 0xe7 t ≡ true → taken (t2_of (Heard sealed t reply ∷ e ∷ s)) m ≡ []) → IsCounted r.psk (e ∷ s) m
+    → (stage_of (e ∷ s) ≡ stage.Handshake → takes PSK_FINISH t ≡ true → taken (t2_of (Heard sealed t reply ∷ e ∷ s)) m ≡ []) → IsCounted r.psk (e ∷ s) m
     → IsCounted r.psk (after_record (e ∷ s) sealed t reply) (record_marks r (e ∷ s) sealed t reply ++ m)
 own_record r e s f sealed t reply m o steady none i =
-    ended_by r.psk (Heard sealed t reply ∷ e ∷ s) (record_marks r (e ∷ s) sealed t reply ++ m) (takes 0xec t) (own_stage r e s f sealed t reply m (stage_of (e ∷ s)) refl o steady none i)
+    ended_by r.psk (Heard sealed t reply ∷ e ∷ s) (record_marks r (e ∷ s) sealed t reply ++ m) (takes END_SESSION t) (own_stage r e s f sealed t reply m (stage_of (e ∷ s)) refl o steady none i)
 
 -- ---- A record of another session: the T2 of two are different.
 
@@ -239,7 +240,7 @@ other_turn x u v reply m true = refl
 other_turn x u v reply m false = refl
 
 other_stage : (r : RspSetup) (own : Events) (sealed : List ℕ) (t : Turn) (reply v : List ℕ) (m : List Served) (g : Stage) → (is_past_handshake g ≡ true → t2_of own ≡ v → ⊥) → taken v (served_turn g r own sealed t reply ++ m) ≡ taken v m
-other_stage r own sealed t reply v m stage.Handshake other = other_turn (served_first own) (t2_of (Heard sealed t reply ∷ own)) v (reply_text t) m (takes 0xe7 t)
+other_stage r own sealed t reply v m stage.Handshake other = other_turn (served_first own) (t2_of (Heard sealed t reply ∷ own)) v (reply_text t) m (takes PSK_FINISH t)
 other_stage r own sealed t reply v m stage.Open other = other_taken (t2_of own) v (taken_text r.psk own sealed) (reply_text t) m (other refl)
 other_stage r own sealed t reply v m stage.Verifying other = other_taken (t2_of own) v (taken_text r.psk own sealed) (reply_text t) m (other refl)
 

@@ -27,6 +27,7 @@ use Rattle.spdm_agreement.proofs.ServingBegins as begins
 use Rattle.spdm_agreement.proofs.ServingDoes as does
 use Rattle.spdm_agreement.proofs.ServingDoes.{AreCounted}
 use Rattle.spdm_agreement.proofs.Steady.{record_entry}
+use Rattle.spdm_grammar.specs.declared.names.request_code.TheConstants.{PSK_EXCHANGE, PSK_FINISH}
 
 -- ---- One turn.
 
@@ -51,7 +52,7 @@ shaken x u reply m false all = record { duly = all.duly }
 -- While a new key is not verified, the marks say so.
 staged : (g : Stage) (r : RspSetup) (s : Events) (f : Free) (sealed : List ℕ) (t : Turn) (reply : List ℕ) (m : List Served) → length f.reply ≤ 1024 → stage_of s ≡ g → DataTurn (stage_of s) (opened r.psk s sealed) f t
     → (is_past_handshake (stage_of s) ≡ true → is_verifying (stage_of s) ≡ verifying (taken (t2_of s) m)) → ServesDuly m → ServesDuly (served_turn g r s sealed t reply ++ m)
-staged stage.Handshake r s f sealed t reply m short is x stands all = shaken (served_first s) (t2_of (Event.Heard sealed t reply ∷ s)) (reply_text t) m (takes 0xe7 t) all
+staged stage.Handshake r s f sealed t reply m short is x stands all = shaken (served_first s) (t2_of (Event.Heard sealed t reply ∷ s)) (reply_text t) m (takes PSK_FINISH t) all
 staged stage.Open r s f sealed t reply m short is x stands all = record {
   duly = λ v. more_by (bytes_eq (t2_of s) v) (t2_of s) v (taken_text r.psk s sealed, reply_text t) (taken v m) refl (λ same e verified. answers_data r s f sealed t short (ap is_open is) x e) (all.duly v);
 }
@@ -78,7 +79,7 @@ pub record IsKept (r : RspSetup) (h : History) : Type 0 where
 after_duly : (r : RspSetup) (h : History) (o : Outcome) → IsMade r (after h o) → AreCounted r h → ServesDuly (served_marks r h) → ServesDuly (served_marks r (after h o))
 after_duly r h (Outcome.Same body) made counted all = all
 after_duly r h (Outcome.Unopened body) made counted all = all
-after_duly r h (Outcome.Adds (Clear tag t d)) made counted all = cleared _ (served_marks r h) (takes 0xe6 t) all
+after_duly r h (Outcome.Adds (Clear tag t d)) made counted all = cleared _ (served_marks r h) (takes PSK_EXCHANGE t) all
 after_duly r h (Outcome.Adds (Sealed tag sealed t reply d)) made counted all =
     let of = id_in_record sealed in
     let s = session_of of h in

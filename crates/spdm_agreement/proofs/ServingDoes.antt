@@ -45,6 +45,7 @@ use Rattle.spdm_agreement.proofs.ServingShakes.{ShakesAt, newest_begun, shakes_s
 use Rattle.spdm_agreement.proofs.ServingFinish.{finish_told, finish_inner, finish_second}
 use Rattle.spdm_agreement.proofs.ServingSteps.{Opens, state, compared, compares, passes, shake_request, record_moves}
 use Rattle.spdm_agreement.proofs.ServingCounts.{IsCounted, cleared, ticked, own_record, elsewhere}
+use Rattle.spdm_grammar.specs.declared.names.request_code.TheConstants.{GET_MEASUREMENTS, PSK_EXCHANGE, PSK_FINISH}
 
 -- What is kept of a history: the sessions are counted.
 abbrev pub AreCounted : RspSetup → History → Type 0
@@ -57,7 +58,7 @@ clear_turn r h m d = turn_of r (clear_place h) m (clear_chosen r h d)
 -- A session begins well: its beginning is sound and holds the number of the draw, and an answer of four bytes passes no
 -- transfer size in it.
 pub record BeginsWell (r : RspSetup) : Type 0 where
-  pub begins : (h : History) → IsMade r h → (m : List ℕ) (d : Draw) → IsDraw d → takes 0xe6 (clear_turn r h m d) ≡ true
+  pub begins : (h : History) → IsMade r h → (m : List ℕ) (d : Draw) → IsDraw d → takes PSK_EXCHANGE (clear_turn r h m d) ≡ true
       → (is_sound_first r.psk (served_first (began_by h (clear_turn r h m d))) ≡ true) × ((reading_of r.psk).responder_draw (served_first (began_by h (clear_turn r h m d))) ≡ d.number)
   pub room : (h : History) → IsMade r h → (id : ℕ) → is_live (session_of id h) ≡ true → IsRoomy (session_of id h)
 
@@ -84,7 +85,7 @@ unopened r h asked log body d reply ready =
 
 -- ---- In the clear.
 
-begins : (r : RspSetup) (h : History) (asked : List Asked) (log : Log) (m : List ℕ) (d : Draw) (b : Bool) → takes 0xe6 (clear_turn r h m d) ≡ b → BeginsWell r → ServedReady AreCounted r h asked log d
+begins : (r : RspSetup) (h : History) (asked : List Asked) (log : Log) (m : List ℕ) (d : Draw) (b : Bool) → takes PSK_EXCHANGE (clear_turn r h m d) ≡ b → BeginsWell r → ServedReady AreCounted r h asked log d
     → IsMoved (reading_of r.psk) (serves_state r h asked log)
     (state asked (cond b (Served.Began (served_first (began_by h (clear_turn r h m d))) ∷ []) [] ++ served_marks r h) (cond b (response_made r (began_by h (clear_turn r h m d)) ∷ []) [] ++ log))
 begins r h asked log m d false is well ready = stays (reading_of r.psk) (serves_state r h asked log)
@@ -95,7 +96,7 @@ begins r h asked log m d true is well ready =
     moves_by (reading_of r.psk) (Move.Begin (served_first s) (verify_data (session_terms s).choice r.psk (t1_of s) Response (t1_of s))) _ _ tt
     (w.0, subst (λ (n : ℕ). next_served (reading_of r.psk) (served_marks r h) ≤ n) (sym w.1) ready.fresh) refl
 
-clear_draws : (r : RspSetup) (h : History) (asked : List Asked) (log : Log) (m : List ℕ) (d : Draw) (b c : Bool) → takes 0xe6 (clear_turn r h m d) ≡ b → BeginsWell r → ServedReady AreCounted r h asked log d
+clear_draws : (r : RspSetup) (h : History) (asked : List Asked) (log : Log) (m : List ℕ) (d : Draw) (b c : Bool) → takes PSK_EXCHANGE (clear_turn r h m d) ≡ b → BeginsWell r → ServedReady AreCounted r h asked log d
     → next_served (reading_of r.psk) (cond b (Served.Began (served_first (began_by h (clear_turn r h m d))) ∷ []) [] ++ served_marks r h) + draws_of h ≤ d.number + cond (b || c) (draws_of h + 1) (draws_of h)
 clear_draws r h asked log m d true c is well ready =
     let w = (well.begins h ready.made m d ready.draw is).1 in
@@ -113,9 +114,9 @@ clear_kept r h tag t d kept = λ id. cleared r.psk id (session_of id h) h t (ser
 adds_clear : (r : RspSetup) (h : History) (asked : List Asked) (log : Log) (body : List ℕ) (tag : ℕ) (m : List ℕ) (d : Draw) → BeginsWell r → ServedReady AreCounted r h asked log d
     → ServedStep AreCounted r h asked log body d (Adds (Clear tag (clear_turn r h m d) d))
 adds_clear r h asked log body tag m d well ready = record {
-  leads = leads_by (reading_of r.psk) _ _ (begins r h asked log m d (takes 0xe6 (clear_turn r h m d)) refl well ready);
+  leads = leads_by (reading_of r.psk) _ _ (begins r h asked log m d (takes PSK_EXCHANGE (clear_turn r h m d)) refl well ready);
   keeps = λ reached. clear_kept r h tag (clear_turn r h m d) d ready.kept;
-  draws = clear_draws r h asked log m d (takes 0xe6 (clear_turn r h m d)) (takes 0xe0 (clear_turn r h m d)) refl well ready;
+  draws = clear_draws r h asked log m d (takes PSK_EXCHANGE (clear_turn r h m d)) (takes GET_MEASUREMENTS (clear_turn r h m d)) refl well ready;
 }
 
 clear_by : (r : RspSetup) (h : History) (asked : List Asked) (log : Log) (body : List ℕ) (tag : ℕ) (m : List ℕ) (d : Draw) (b : Bool) → BeginsWell r → ServedReady AreCounted r h asked log d
@@ -135,7 +136,7 @@ unfolding chosen
 no_pad r h sealed d = refl
 
 next_by : (r : Reading) (g : Stage) (setup : RspSetup) (s : Events) (sealed : List ℕ) (t : Turn) (reply : List ℕ) (m : List Served) → next_served r (served_turn g setup s sealed t reply ++ m) ≡ next_served r m
-next_by r stage.Handshake setup s sealed t reply m = go (takes 0xe7 t)
+next_by r stage.Handshake setup s sealed t reply m = go (takes PSK_FINISH t)
   where
     go : (b : Bool) → next_served r (cond b (Finished (served_first s) (t2_of (Heard sealed t reply ∷ s)) ∷ []) (Refused (served_first s) (reply_text t) ∷ []) ++ m) ≡ next_served r m
     go true = refl
@@ -165,7 +166,7 @@ sealed_draws r h asked log s sealed t reply d ready =
 
 -- With PSK_FINISH nothing was taken under the T2 of the session.
 untaken_yet : (r : RspSetup) (s : Events) (f : Free) (sealed : List ℕ) (t : Turn) (reply : List ℕ) (asked : List Asked) (m : List Served) (log : Log) → Opens r s f sealed t reply → ShakesAt s m
-    → Invariant (reading_of r.psk) asked m (compared r s sealed ++ log) → NoChance (compared r s sealed ++ log) → stage_of s ≡ stage.Handshake → takes 0xe7 t ≡ true → taken (t2_of (Heard sealed t reply ∷ s)) m ≡ []
+    → Invariant (reading_of r.psk) asked m (compared r s sealed ++ log) → NoChance (compared r s sealed ++ log) → stage_of s ≡ stage.Handshake → takes PSK_FINISH t ≡ true → taken (t2_of (Heard sealed t reply ∷ s)) m ≡ []
 untaken_yet r s f sealed t reply asked m log o at k n shakes finish =
     let x = served_first s in
     let inner = opened r.psk s sealed in

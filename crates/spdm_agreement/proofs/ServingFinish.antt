@@ -21,7 +21,8 @@ use Rattle.responder_machine.specs.Responder.{is_open}
 use Rattle.responder_machine.specs.Session.{Events, stage_of, session_vca, exchange_of, exchange_answer, finish_of, finish_answer, t2_of}
 use Rattle.responder_machine.specs.Session.Event.{Heard}
 use Rattle.responder_machine.specs.Setup.{RspSetup}
-use Rattle.responder_machine.specs.Turn.{Turn, Effect, code_for, code_in, takes, updates, is_data, answer_in, request_in}
+use Rattle.responder_machine.specs.Turn.{Turn, Effect, code_in, takes, updates, is_data, answer_in, request_in}
+use Rattle.spdm_grammar.specs.Codes.{code_for}
 use Rattle.transcript.specs.Transcripts as transcript
 use Rattle.transcript.specs.Transcripts.{vca_of}
 use Rattle.spdm_agreement.specs.Reading.{First}
@@ -30,29 +31,31 @@ use Rattle.spdm_agreement.proofs.Sessions.{first_terms, transcript_of, is_messag
 use Rattle.responder_machine.proofs.VerifyLength.{length_verify}
 use Rattle.spdm_agreement.proofs.ServingTurns.{TakesRequest, TurnIs, took}
 use Rattle.spdm_agreement.proofs.ServingReplies.{IsRoomy, replies_whole, refused_reply, reply_of, answers, updates_in}
+use Rattle.spdm_grammar.specs.declared.names.request_code.TheConstants.{PSK_FINISH}
+use Rattle.spdm_grammar.specs.declared.names.response_code.TheConstants.{PSK_FINISH_RSP}
 
 not_past : (g : Stage) → g ≡ stage.Handshake → is_open g ≡ true → ⊥
 not_past stage.Handshake e f = true≢false (sym f)
 not_past stage.Open e f = absurd (cc)
 not_past stage.Verifying e f = absurd (cc)
 
-shakes_alone : (g : Stage) (pending : Bool) (c : ℕ) → g ≡ stage.Handshake → stage_allows g pending c ≡ true → (c == 0xe7) ≡ true
+shakes_alone : (g : Stage) (pending : Bool) (c : ℕ) → g ≡ stage.Handshake → stage_allows g pending c ≡ true → (c == PSK_FINISH) ≡ true
 shakes_alone stage.Handshake pending c e f = f
 shakes_alone stage.Open pending c e f = absurd (cc)
 shakes_alone stage.Verifying pending c e f = absurd (cc)
 
-finish_value : (v : RequestMessage) → (code_for v == 0xe7) ≡ true → (verify : List ℕ) × (v ≡ PskFinish verify)
+finish_value : (v : RequestMessage) → (code_for v == PSK_FINISH) ≡ true → (verify : List ℕ) × (v ≡ PskFinish verify)
 finish_value (PskFinish verify) e = (verify, refl)
 finish_value v e = absurd (true≢false (sym e))
 
 -- A turn that took no PSK_FINISH.
-pub refuse_told : (r : RspSetup) (s : Events) (inner : List ℕ) (f : Free) (t : Turn) → stage_of s ≡ stage.Handshake → TurnIs r s inner f t → takes 0xe7 t ≡ false
-    → (is_message 0x67 (reply_text t) ≡ false) × (updates 2 t ≡ false)
+pub refuse_told : (r : RspSetup) (s : Events) (inner : List ℕ) (f : Free) (t : Turn) → stage_of s ≡ stage.Handshake → TurnIs r s inner f t → takes PSK_FINISH t ≡ false
+    → (is_message PSK_FINISH_RSP (reply_text t) ≡ false) × (updates 2 t ≡ false)
 refuse_told r s inner f t shakes x no_finish = elim x [
-  | inl a ↦ (refused_reply r s inner f t a 0x67 refl, ap (λ (t : Turn). updates 2 t) a.is)
+  | inl a ↦ (refused_reply r s inner f t a PSK_FINISH_RSP refl, ap (λ (t : Turn). updates 2 t) a.is)
   | inr y ↦ elim y [
     | inl a ↦ absurd (not_past (stage_of s) shakes a.past)
-    | inr a ↦ absurd (true≢false (sym (shakes_alone (stage_of s) (has_pending (session_place s)) (code_for a.value) shakes a.allowed) ∙ sym (ap (λ (e : Effect). code_in e == 0xe7) (took r s inner f t a)) ∙ no_finish))
+    | inr a ↦ absurd (true≢false (sym (shakes_alone (stage_of s) (has_pending (session_place s)) (code_for a.value) shakes a.allowed) ∙ sym (ap (λ (e : Effect). code_in e == PSK_FINISH) (took r s inner f t a)) ∙ no_finish))
   ]
 ]
 
@@ -75,9 +78,9 @@ finishes_by r s inner f t room a verify is =
       update = ap (updates_in 2) effect ∙ ap (λ (v : RequestMessage). updates_in 2 (Effect.Took v m [] None)) is;
     }
 
-pub finish_told : (r : RspSetup) (s : Events) (inner : List ℕ) (f : Free) (t : Turn) → stage_of s ≡ stage.Handshake → IsRoomy s → TurnIs r s inner f t → takes 0xe7 t ≡ true → Finishes inner t
+pub finish_told : (r : RspSetup) (s : Events) (inner : List ℕ) (f : Free) (t : Turn) → stage_of s ≡ stage.Handshake → IsRoomy s → TurnIs r s inner f t → takes PSK_FINISH t ≡ true → Finishes inner t
 finish_told r s inner f t shakes room x finish = elim x [
-  | inl a ↦ absurd (true≢false (sym finish ∙ ap (λ (t : Turn). takes 0xe7 t) a.is))
+  | inl a ↦ absurd (true≢false (sym finish ∙ ap (λ (t : Turn). takes PSK_FINISH t) a.is))
   | inr y ↦ elim y [
     | inl a ↦ absurd (not_past (stage_of s) shakes a.past)
     | inr a ↦ (let v = finish_value a.value (shakes_alone (stage_of s) (has_pending (session_place s)) (code_for a.value) shakes a.allowed) in finishes_by r s inner f t room a v.0 v.1)
@@ -104,7 +107,7 @@ pub finish_inner : (psk : List ℕ) (t : First) (text inner : List ℕ) → inne
 finish_inner psk t text inner holds is = holds ∙ ap (λ (l : List ℕ). take (little_number 2 l) (drop 2 l)) is ∙ plain_inner (5 ∷ finish_message psk t) (finish_short psk t)
 
 -- Then T2 is the one that belongs to the session.
-pub finish_second : (psk : List ℕ) (s : Events) (sealed inner : List ℕ) (t : Turn) (reply : List ℕ) → takes 0xe7 t ≡ true → Finishes inner t → inner ≡ 5 ∷ finish_message psk (served_first s)
+pub finish_second : (psk : List ℕ) (s : Events) (sealed inner : List ℕ) (t : Turn) (reply : List ℕ) → takes PSK_FINISH t ≡ true → Finishes inner t → inner ≡ 5 ∷ finish_message psk (served_first s)
     → t2_of (Heard sealed t reply ∷ s) ≡ second_of psk (served_first s)
 finish_second psk s sealed inner t reply finish x is =
     ap (λ (b : Bool). transcript.t2_of (session_vca s) (exchange_of s) (exchange_answer s) (cond b (request_in t.effect) (finish_of s)) (cond b (answer_in t.effect) (finish_answer s))) finish

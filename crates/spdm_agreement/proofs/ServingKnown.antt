@@ -41,13 +41,18 @@ use Rattle.spdm_machine.specs.Bodies.{clear_body}
 use Rattle.responder_machine.specs.Responder.Outcome.{Same, Adds}
 use Rattle.responder_machine.specs.Setup.{RspSetup, responder_caps, policy_of}
 use Rattle.spdm_machine.specs.Terms.{hash_len, no_negotiation, no_choice, no_common, request_value, response_value, asked_caps, told_caps, common_from}
-use Rattle.responder_machine.specs.Turn.{Turn, Effect, code_for, code_in, request_in as request_bytes, answer_in}
+use Rattle.responder_machine.specs.Turn.{Turn, Effect, code_in, request_in as request_bytes, answer_in}
+use Rattle.spdm_grammar.specs.Codes.{code_for}
 use Rattle.responder_machine.specs.Turn.Effect.{NoEffect, Took}
 use Rattle.transcript.specs.Transcripts.{Negotiation}
+use Rattle.std.proofs.Math.Nat.{le-min}
+use Rattle.spdm_grammar.specs.declared.names.TheConstants.{MIN_DATA_TRANSFER_SIZE}
+use Rattle.spdm_grammar.specs.declared.names.capability.TheConstants.{MEAS_CAP, PSK_CAP, PSK_CAP_WITH_CONTEXT, HBEAT_CAP, KEY_UPD_CAP, CHUNK_CAP}
 use Rattle.spdm_agreement.specs.Configured.{IsResponder}
 use Rattle.spdm_agreement.proofs.Codes.{code_read, second_byte}
 use Rattle.spdm_agreement.proofs.Sessions.{is_request, is_response, ends_by_itself}
 use Rattle.spdm_agreement.proofs.ServingPlaces.{TakesClear, clear_case, contents_fit}
+use Rattle.spdm_grammar.specs.declared.names.request_code.TheConstants.{GET_VERSION, GET_CAPABILITIES, NEGOTIATE_ALGORITHMS}
 
 -- ---- A request of the negotiation is read alike under each hash.
 
@@ -59,15 +64,15 @@ read_alike len m v e alike =
     let body : request_body len (little_number 1 t.0) ≡ request_body 32 (little_number 1 t.0) = subst (λ (c : ℕ). request_body len c ≡ request_body 32 c) code alike in
     (read_iff (request_layout 32) v m).1 (s.0, s.1, s.2, s.3, s.4, (t.0, t.1, t.2, t.3, t.4, subst (λ (l : Layout RequestMessage). IsSpelling l 2 v t.1) body t.5))
 
-version_alike : (len : ℕ) → request_body len 0x84 ≡ request_body 32 0x84
+version_alike : (len : ℕ) → request_body len GET_VERSION ≡ request_body 32 GET_VERSION
 unfolding request_body
 version_alike len = refl
 
-caps_alike : (len : ℕ) → request_body len 0xe1 ≡ request_body 32 0xe1
+caps_alike : (len : ℕ) → request_body len GET_CAPABILITIES ≡ request_body 32 GET_CAPABILITIES
 unfolding request_body
 caps_alike len = refl
 
-algorithms_alike : (len : ℕ) → request_body len 0xe3 ≡ request_body 32 0xe3
+algorithms_alike : (len : ℕ) → request_body len NEGOTIATE_ALGORITHMS ≡ request_body 32 NEGOTIATE_ALGORITHMS
 unfolding request_body
 algorithms_alike len = refl
 
@@ -82,10 +87,10 @@ flag_most false n = omega arith
 
 caps_fit : (r : RspSetup) → IsResponder r → FitsCaps (responder_caps r)
 caps_fit r s =
-    let a = flag_most r.flags.measure (2 ^ 3) in
-    let b = flag_most r.flags.heartbeat (2 ^ 13) in
-    let c = flag_most r.flags.key_update (2 ^ 14) in
-    let d = flag_most r.flags.chunk (2 ^ 17) in
+    let a = flag_most r.flags.measure MEAS_CAP in
+    let b = flag_most r.flags.heartbeat HBEAT_CAP in
+    let c = flag_most r.flags.key_update KEY_UPD_CAP in
+    let d = flag_most r.flags.chunk CHUNK_CAP in
     let m = s.sizes.most in
     let o = s.sizes.ordered in
     record { ct = omega arith; flags = omega arith; transfer = omega arith; max = omega arith }
@@ -130,7 +135,7 @@ pub record HasVersion (n : Negotiation) : Type 0 where
 pub record HasCaps (n : Negotiation) : Type 0 where
   pub request : is_request 32 n.get_capabilities ≡ true
   pub answer : is_response n.capabilities ≡ true
-  pub room : 42 ≤ (common_in n).to_requester.transfer
+  pub room : MIN_DATA_TRANSFER_SIZE ≤ (common_in n).to_requester.transfer
 
 pub record HasAlgorithms (n : Negotiation) : Type 0 where
   pub request : is_request 32 n.negotiate_algorithms ≡ true
@@ -145,13 +150,13 @@ IsKnown Negotiated n = HasVersion n × HasCaps n × HasAlgorithms n
 -- ---- One turn more.
 
 abbrev phase_with : Effect → Phase → Phase
-phase_with e p = if code_in e == 0x84 then Versioned else (if code_in e == 0xe1 then Capable else (if code_in e == 0xe3 then Negotiated else p))
+phase_with e p = if code_in e == GET_VERSION then Versioned else (if code_in e == GET_CAPABILITIES then Capable else (if code_in e == NEGOTIATE_ALGORITHMS then Negotiated else p))
 
 abbrev negotiation_with : Effect → Negotiation → Negotiation
 negotiation_with e n =
-    if code_in e == 0x84 then record no_negotiation { get_version = request_bytes e; version = answer_in e }
-    else (if code_in e == 0xe1 then record n { get_capabilities = request_bytes e; capabilities = answer_in e }
-    else (if code_in e == 0xe3 then record n { negotiate_algorithms = request_bytes e; algorithms = answer_in e }
+    if code_in e == GET_VERSION then record no_negotiation { get_version = request_bytes e; version = answer_in e }
+    else (if code_in e == GET_CAPABILITIES then record n { get_capabilities = request_bytes e; capabilities = answer_in e }
+    else (if code_in e == NEGOTIATE_ALGORITHMS then record n { negotiate_algorithms = request_bytes e; algorithms = answer_in e }
     else n))
 
 -- The bytes of the answer to a request that was read.
@@ -171,12 +176,12 @@ room_by false false false true e common w x y z h = absurd (true≢false h)
 room_by false false false false true common w x y z h = absurd (true≢false h)
 room_by false false false false false common w x y z h = (refl, refl)
 
-has_room : (asked told : Caps) → is_none (result_ok (common_of asked told)) ≡ false → 42 ≤ (unwrap_or (result_ok (common_of asked told)) no_common).to_requester.transfer
+has_room : (asked told : Caps) → is_none (result_ok (common_of asked told)) ≡ false → MIN_DATA_TRANSFER_SIZE ≤ (unwrap_or (result_ok (common_of asked told)) no_common).to_requester.transfer
 has_room asked told e =
-    let l = room_by (nat_lt asked.transfer 42) (nat_lt told.transfer 42) (nat_lt asked.max asked.transfer || nat_lt told.max told.transfer) (not (psk_is 1 asked.flags && psk_is 2 told.flags)) (not (protects asked.flags && protects told.flags)) (shared asked told) SizeTooSmall SizesCrossed NoPsk NoProtection e in
-    subst (λ (c : Common). 42 ≤ c.to_requester.transfer) (sym l.1) (ltb-false asked.transfer 42 l.0)
+    let l = room_by (nat_lt asked.transfer MIN_DATA_TRANSFER_SIZE) (nat_lt told.transfer MIN_DATA_TRANSFER_SIZE) (nat_lt asked.max asked.transfer || nat_lt told.max told.transfer) (not (psk_is PSK_CAP asked.flags && psk_is PSK_CAP_WITH_CONTEXT told.flags)) (not (protects asked.flags && protects told.flags)) (shared asked told) SizeTooSmall SizesCrossed NoPsk NoProtection e in
+    subst (λ (c : Common). MIN_DATA_TRANSFER_SIZE ≤ c.to_requester.transfer) (sym l.1) (le-min (ltb-false asked.transfer MIN_DATA_TRANSFER_SIZE l.0) (omega arith))
 
-caps_took : (r : RspSetup) (n : Negotiation) (p : Phase) (pending : Bool) (f : Free) (caps : Caps) (place : Place) (request answer : List ℕ) → IsResponder r → request_at place request ≡ Some (GetCapabilities caps) → phase_allows p pending 0xe1 ≡ true
+caps_took : (r : RspSetup) (n : Negotiation) (p : Phase) (pending : Bool) (f : Free) (caps : Caps) (place : Place) (request answer : List ℕ) → IsResponder r → request_at place request ≡ Some (GetCapabilities caps) → phase_allows p pending GET_CAPABILITIES ≡ true
     → refused_contents r place request f ≡ None → answer ≡ canonical_response (Capabilities (responder_caps r)) → IsKnown p n → IsKnown Capable (record n { get_capabilities = request; capabilities = answer })
 caps_took r n Fresh pending f caps place request answer setup is allowed contents told known = absurd (true≢false (sym allowed))
 caps_took r n Versioned pending f caps place request answer setup is allowed contents told known =
@@ -189,13 +194,13 @@ caps_took r n Versioned pending f caps place request answer setup is allowed con
       record {
         request = ap is_some asked;
         answer = read_response answer (Capabilities (responder_caps r)) mine refl;
-        room = subst (λ (c : Common). 42 ≤ c.to_requester.transfer) (sym common) (has_room caps (responder_caps r) fit);
+        room = subst (λ (c : Common). MIN_DATA_TRANSFER_SIZE ≤ c.to_requester.transfer) (sym common) (has_room caps (responder_caps r) fit);
       },
     )
 caps_took r n Capable pending f caps place request answer setup is allowed contents told known = absurd (true≢false (sym allowed))
 caps_took r n Negotiated pending f caps place request answer setup is allowed contents told known = absurd (true≢false (sym allowed))
 
-algorithms_took : (r : RspSetup) (n : Negotiation) (p : Phase) (pending : Bool) (offer : OfferMessage) (place : Place) (request answer : List ℕ) → request_at place request ≡ Some (NegotiateAlgorithms offer) → phase_allows p pending 0xe3 ≡ true
+algorithms_took : (r : RspSetup) (n : Negotiation) (p : Phase) (pending : Bool) (offer : OfferMessage) (place : Place) (request answer : List ℕ) → request_at place request ≡ Some (NegotiateAlgorithms offer) → phase_allows p pending NEGOTIATE_ALGORITHMS ≡ true
     → answer ≡ canonical_response (algorithms_answer r offer) → IsKnown p n → IsKnown Negotiated (record n { negotiate_algorithms = request; algorithms = answer })
 algorithms_took r n Fresh pending offer place request answer is allowed told known = absurd (true≢false (sym allowed))
 algorithms_took r n Versioned pending offer place request answer is allowed told known = absurd (true≢false (sym allowed))

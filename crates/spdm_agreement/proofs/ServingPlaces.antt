@@ -10,10 +10,13 @@ use Rattle.responder_machine.specs.Handling.{turn_of, turn_by, chunk_in, request
 use Rattle.responder_machine.specs.History.{History, clear_turns, phase_of, negotiation_of}
 use Rattle.responder_machine.specs.LargeMessages.{chunks_of}
 use Rattle.responder_machine.specs.Place.{Place, clear_place, inside, place_terms}
-use Rattle.responder_machine.specs.Refusal.{first_of_tests, tests_of_form, tests_of_contents, refused_form, refused_contents, refusal, or_else, code_of, phase_allows, has_pending, is_allowed, are_caps_refused, is_exchange_refused}
+use Rattle.responder_machine.specs.Refusal.{tests_of_form, tests_of_contents, refused_form, refused_contents, refusal, code_of, phase_allows, has_pending, is_allowed, are_caps_refused, is_exchange_refused}
+use Rattle.spdm_basis.specs.Tests.{first_of_tests}
+use Rattle.std.specs.Option.{option_or}
 use Rattle.responder_machine.specs.Setup.{RspSetup}
 use Rattle.spdm_machine.specs.Terms.{hash_len}
-use Rattle.responder_machine.specs.Turn.{Effect, code_for}
+use Rattle.responder_machine.specs.Turn.{Effect}
+use Rattle.spdm_grammar.specs.Codes.{code_for}
 use Rattle.responder_machine.specs.Turn.Effect.{NoEffect, Took}
 use Rattle.transcript.specs.Transcripts.{Negotiation}
 use Rattle.spdm_agreement.proofs.Codes.{code_read}
@@ -43,7 +46,7 @@ pub all_fail : (ts : List (Bool × ErrorCode)) → first_of_tests ts ≡ None �
 all_fail [] e = tt
 all_fail (t ∷ ts) e = let l = test_fails t.0 t.1 (first_of_tests ts) e in (l.0, all_fail ts l.1)
 
-or_both : (a b : Option ErrorCode) → or_else a b ≡ None → (a ≡ None) × (b ≡ None)
+or_both : (a b : Option ErrorCode) → option_or a b ≡ None → (a ≡ None) × (b ≡ None)
 or_both None b e = (refl, e)
 or_both (Some x) b e = absurd (cc)
 

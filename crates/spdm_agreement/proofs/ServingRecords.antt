@@ -4,7 +4,8 @@ use Rattle.std.specs.Prelude.{slice_index}
 use Rattle.byteorder.specs.Endian.{little_number}
 use Rattle.aes_gcm.specs.Gcm.{tag_of}
 use Rattle.key_schedule.specs.Purpose.{Purpose, key_of, iv_of}
-use Rattle.secured_record.specs.Faults.{first_of_tests, header_fault, fault_behind, fault_of, is_authentic, tag_part, text_part}
+use Rattle.secured_record.specs.Faults.{header_fault, fault_behind, fault_of, is_authentic, tag_part, text_part}
+use Rattle.spdm_basis.specs.Tests.{first_of_tests}
 use Rattle.secured_record.specs.Format.{nonce}
 use Rattle.secured_record.proofs.Same.{true-same}
 use Rattle.spdm_basis.specs.declared.record_fault.RecordFault.{RecordFault}

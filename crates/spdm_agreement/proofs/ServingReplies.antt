@@ -23,6 +23,8 @@ use Rattle.spdm_agreement.specs.Story.{reply_text}
 use Rattle.spdm_agreement.proofs.Codes.{code_read, second_byte}
 use Rattle.spdm_agreement.proofs.Sessions.{is_message, is_update_of, operation_in, message_text}
 use Rattle.spdm_agreement.proofs.ServingTurns.{TakesData, TakesRequest, RefusesTurn, TurnIs, took}
+use Rattle.spdm_grammar.specs.declared.names.request_code.TheConstants.{HEARTBEAT, KEY_UPDATE}
+use Rattle.spdm_grammar.specs.declared.names.response_code.TheConstants.{KEY_UPDATE_ACK, ERROR}
 
 -- An answer of four bytes passes no transfer size.
 abbrev pub IsRoomy : Events → Type 0
@@ -60,14 +62,14 @@ no_message : (code : ℕ) (message : List ℕ) → is_message code (plain_text (
 no_message code message = refl
 
 -- The code of a reply: none for application data, 0x7f where the request is refused or the answer is large.
-sent_code : (b : Bool) (handle code : ℕ) (v : ResponseMessage) → (0x7f == code) ≡ false → is_message code (message_text (canonical_response v)) ≡ false → is_message code (message_text (cond b (large_response handle) (canonical_response v))) ≡ false
+sent_code : (b : Bool) (handle code : ℕ) (v : ResponseMessage) → (ERROR == code) ≡ false → is_message code (message_text (canonical_response v)) ≡ false → is_message code (message_text (cond b (large_response handle) (canonical_response v))) ≡ false
 sent_code true handle code v other e = other
 sent_code false handle code v other e = e
 
 pub reply_of : (t : Turn) → is_data t.effect ≡ false → reply_text t ≡ message_text t.reply
 reply_of t none = ap (λ (b : Bool). plain_text (cond b 1 5 ∷ t.reply) []) none
 
-pub refused_reply : (r : RspSetup) (s : Events) (inner : List ℕ) (f : Free) (t : Turn) → RefusesTurn r s inner f t → (code : ℕ) → (0x7f == code) ≡ false → is_message code (reply_text t) ≡ false
+pub refused_reply : (r : RspSetup) (s : Events) (inner : List ℕ) (f : Free) (t : Turn) → RefusesTurn r s inner f t → (code : ℕ) → (ERROR == code) ≡ false → is_message code (reply_text t) ≡ false
 refused_reply r s inner f t x code other = ap (λ (t : Turn). is_message code (reply_text t)) x.is ∙ other
 
 pub data_reply : (s : Events) (inner : List ℕ) (f : Free) (t : Turn) → TakesData s inner f t → (code : ℕ) → is_message code (reply_text t) ≡ false
@@ -85,7 +87,7 @@ updated_by test _ = false
 
 acknowledges : (r : RspSetup) (s : Events) (m : List ℕ) (f : Free) (v : RequestMessage)
     → ((op : ℕ) × (tag : ℕ) × (v ≡ KeyUpdate op tag))
-    ⊎ ((is_message 0x69 (message_text (canonical_response (answer_of r (session_place s) m f v))) ≡ false) × ((test : ℕ → Bool) → updated_by test (Some v) ≡ false))
+    ⊎ ((is_message KEY_UPDATE_ACK (message_text (canonical_response (answer_of r (session_place s) m f v))) ≡ false) × ((test : ℕ → Bool) → updated_by test (Some v) ≡ false))
 acknowledges r s m f (KeyUpdate op tag) = inl (op, tag, refl)
 acknowledges r s m f v = inr (refl, λ test. refl)
 
@@ -112,7 +114,7 @@ third_byte m f (x ∷ y ∷ g) h r1 r2 r3 e1 e2 e3 n1 n2 n3 = absurd (omega arit
 third_byte m f g [] r1 r2 r3 e1 e2 e3 n1 n2 n3 = absurd (omega arith)
 third_byte m f g (x ∷ y ∷ h) r1 r2 r3 e1 e2 e3 n1 n2 n3 = absurd (omega arith)
 
-update_spelled : (len op tag : ℕ) (rest : List ℕ) → IsSpelling (request_body len 0xe9) 2 (KeyUpdate op tag) rest → (h : List ℕ) × (others : List ℕ) × (rest ≡ h ++ others) × (length h ≡ 1) × (op ≡ little_number 1 h) × (is_key_operation op ≡ true)
+update_spelled : (len op tag : ℕ) (rest : List ℕ) → IsSpelling (request_body len KEY_UPDATE) 2 (KeyUpdate op tag) rest → (h : List ℕ) × (others : List ℕ) × (rest ≡ h ++ others) × (length h ≡ 1) × (op ≡ little_number 1 h) × (is_key_operation op ≡ true)
 unfolding request_body key_update_layout
 update_spelled len op tag rest s = let same : op ≡ little_number 1 s.0 = cc (s.5.5.0) in (s.0, s.1, s.2, s.3, same, subst (λ (n : ℕ). is_key_operation n ≡ true) (sym same) s.4)
 
@@ -120,7 +122,7 @@ pub operation_read : (len : ℕ) (m : List ℕ) (op tag : ℕ) → request_in le
 operation_read len m op tag e =
     let s : IsRequestSpelling len (KeyUpdate op tag) m = (read_iff (request_layout len) (KeyUpdate op tag) m).0 e in
     let t = s.5 in
-    let code : little_number 1 t.0 ≡ 0xe9 = sym (second_byte m s.0 t.0 s.1 t.1 s.2 t.2 s.3 t.3) ∙ sym (code_read len m (KeyUpdate op tag) e) in
+    let code : little_number 1 t.0 ≡ KEY_UPDATE = sym (second_byte m s.0 t.0 s.1 t.1 s.2 t.2 s.3 t.3) ∙ sym (code_read len m (KeyUpdate op tag) e) in
     let u = update_spelled len op tag t.1 (subst (λ (c : ℕ). IsSpelling (request_body len c) 2 (KeyUpdate op tag) t.1) code t.5) in
     (third_byte m s.0 t.0 u.0 s.1 t.1 u.1 s.2 t.2 u.2 s.3 t.3 u.3 ∙ sym u.4, u.5)
 
@@ -155,47 +157,47 @@ updated_data : (s : Events) (inner : List ℕ) (f : Free) (t : Turn) → TakesDa
 updated_data s inner f t x test = ap (λ (t : Turn). updated_by test (asked_in t.effect)) x.is
 
 update_told : (r : RspSetup) (s : Events) (inner : List ℕ) (f : Free) (t : Turn) (n : ℕ) (text : List ℕ) → inner ≡ take n (drop 2 text) → IsRoomy s → (x : TakesRequest r s inner f t) → (op tag : ℕ) → x.value ≡ KeyUpdate op tag
-    → (is_message 0xe9 text ≡ true) × (operation_in text ≡ op) × (is_message 0x69 (reply_text t) ≡ true)
+    → (is_message KEY_UPDATE text ≡ true) × (operation_in text ≡ op) × (is_message KEY_UPDATE_ACK (reply_text t) ≡ true)
 update_told r s inner f t n text holds room x op tag is =
     let m = drop 1 inner in
     let spelled : request_in (hash_len (session_terms s)) m ≡ Some (KeyUpdate op tag) = x.spelled ∙ ap (λ (v : RequestMessage). Some v) is in
     let kind : slice_index inner 0 ≡ 5 = eqb-true (slice_index inner 0) 5 x.typed in
-    let code : slice_index inner 2 ≡ 0xe9 = sym (index_dropped 1 inner 1) ∙ sym (code_read (hash_len (session_terms s)) m (KeyUpdate op tag) spelled) in
+    let code : slice_index inner 2 ≡ KEY_UPDATE = sym (index_dropped 1 inner 1) ∙ sym (code_read (hash_len (session_terms s)) m (KeyUpdate op tag) spelled) in
     let told = operation_read (hash_len (session_terms s)) m op tag spelled in
     let some = least op told.1 in
     let third : slice_index inner 3 ≡ suc some.0 = sym (index_dropped 1 inner 2) ∙ told.0 ∙ some.1 in
     let one : slice_index text 2 ≡ 5 = in_text n text inner 0 4 holds kind in
-    let two : slice_index text 4 ≡ 0xe9 = in_text n text inner 2 0xe8 holds code in
+    let two : slice_index text 4 ≡ KEY_UPDATE = in_text n text inner 2 HEARTBEAT holds code in
     let three : slice_index text 5 ≡ suc some.0 = in_text n text inner 3 some.0 holds third in
     let reply : t.reply ≡ canonical_response (KeyUpdateAck op tag) =
     replies_whole r s inner f t x room (ap (λ (v : RequestMessage). length (canonical_response (answer_of r (session_place s) m f v))) is)
     ∙ ap (λ (v : RequestMessage). canonical_response (answer_of r (session_place s) m f v)) is in
     let quiet : is_data t.effect ≡ false = ap is_data (took r s inner f t x) in (
-      both_are (slice_index text 2) 5 (eq-eqb _ _ one) (slice_index text 4) 0xe9 (eq-eqb _ _ two),
+      both_are (slice_index text 2) 5 (eq-eqb _ _ one) (slice_index text 4) KEY_UPDATE (eq-eqb _ _ two),
       three ∙ sym some.1,
-      ap (is_message 0x69) (reply_of t quiet) ∙ ap (λ (l : List ℕ). is_message 0x69 (message_text l)) reply,
+      ap (is_message KEY_UPDATE_ACK) (reply_of t quiet) ∙ ap (λ (l : List ℕ). is_message KEY_UPDATE_ACK (message_text l)) reply,
     )
 
 update_by : (r : RspSetup) (s : Events) (inner : List ℕ) (f : Free) (t : Turn) (n : ℕ) (text : List ℕ) → inner ≡ take n (drop 2 text) → IsRoomy s → (x : TakesRequest r s inner f t) → (test : ℕ → Bool)
     → is_update_of (test (operation_in text)) (text, reply_text t) ≡ updated_by test (asked_in t.effect)
 update_by r s inner f t n text holds room x test = elim (acknowledges r s (drop 1 inner) f x.value) [
   | inl u ↦ (let told = update_told r s inner f t n text holds room x u.0 u.1 u.2 in
-      all_three (is_message 0xe9 text) (test (operation_in text)) (is_message 0x69 (reply_text t)) told.0 told.2 ∙ ap test told.1
+      all_three (is_message KEY_UPDATE text) (test (operation_in text)) (is_message KEY_UPDATE_ACK (reply_text t)) told.0 told.2 ∙ ap test told.1
       ∙ ap (λ (v : RequestMessage). updated_by test (Some v)) (sym u.2) ∙ ap (λ (e : Effect). updated_by test (asked_in e)) (sym (took r s inner f t x)))
   | inr u ↦ (let quiet : is_data t.effect ≡ false = ap is_data (took r s inner f t x) in
       let a = canonical_response (answer_of r (session_place s) (drop 1 inner) f x.value) in
-      let code : is_message 0x69 (reply_text t) ≡ false = ap (is_message 0x69) (reply_of t quiet) ∙ ap (λ (l : List ℕ). is_message 0x69 (message_text l)) (replies r s inner f t x)
-      ∙ sent_code (goes_large (session_place s) a) f.handle 0x69 (answer_of r (session_place s) (drop 1 inner) f x.value) refl u.0 in
-      not_third (is_message 0xe9 text) (test (operation_in text)) (is_message 0x69 (reply_text t)) code
+      let code : is_message KEY_UPDATE_ACK (reply_text t) ≡ false = ap (is_message KEY_UPDATE_ACK) (reply_of t quiet) ∙ ap (λ (l : List ℕ). is_message KEY_UPDATE_ACK (message_text l)) (replies r s inner f t x)
+      ∙ sent_code (goes_large (session_place s) a) f.handle KEY_UPDATE_ACK (answer_of r (session_place s) (drop 1 inner) f x.value) refl u.0 in
+      not_third (is_message KEY_UPDATE text) (test (operation_in text)) (is_message KEY_UPDATE_ACK (reply_text t)) code
       ∙ sym (ap (λ (e : Effect). updated_by test (asked_in e)) (took r s inner f t x) ∙ u.1 test))
 ]
 
 pub tells_updates : (r : RspSetup) (s : Events) (inner : List ℕ) (f : Free) (t : Turn) (n : ℕ) (text : List ℕ) → inner ≡ take n (drop 2 text) → IsRoomy s → TurnIs r s inner f t → (test : ℕ → Bool)
     → is_update_of (test (operation_in text)) (text, reply_text t) ≡ updated_by test (asked_in t.effect)
 tells_updates r s inner f t n text holds room x test = elim x [
-  | inl a ↦ not_third (is_message 0xe9 text) (test (operation_in text)) (is_message 0x69 (reply_text t)) (refused_reply r s inner f t a 0x69 refl) ∙ sym (updated_refused r s inner f t a test)
+  | inl a ↦ not_third (is_message KEY_UPDATE text) (test (operation_in text)) (is_message KEY_UPDATE_ACK (reply_text t)) (refused_reply r s inner f t a KEY_UPDATE_ACK refl) ∙ sym (updated_refused r s inner f t a test)
   | inr y ↦ elim y [
-    | inl a ↦ not_third (is_message 0xe9 text) (test (operation_in text)) (is_message 0x69 (reply_text t)) (data_reply s inner f t a 0x69) ∙ sym (updated_data s inner f t a test)
+    | inl a ↦ not_third (is_message KEY_UPDATE text) (test (operation_in text)) (is_message KEY_UPDATE_ACK (reply_text t)) (data_reply s inner f t a KEY_UPDATE_ACK) ∙ sym (updated_data s inner f t a test)
     | inr a ↦ update_by r s inner f t n text holds room a test
   ]
 ]

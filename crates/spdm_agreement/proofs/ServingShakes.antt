@@ -18,6 +18,7 @@ use Rattle.spdm_agreement.specs.Reading.{First}
 use Rattle.spdm_agreement.specs.Story.{served_marks, served_first, served_turn, record_marks, reply_text}
 use Rattle.spdm_agreement.proofs.Serving.{IsSteady, served_stands}
 use Rattle.spdm_agreement.proofs.ServingReplies.{updates_in}
+use Rattle.spdm_grammar.specs.declared.names.request_code.TheConstants.{GET_VERSION, PSK_EXCHANGE, PSK_FINISH, KEY_UPDATE, END_SESSION}
 
 -- The session that began last.
 abbrev pub newest : List Served → Option First
@@ -80,7 +81,7 @@ cleared_by id s older t m false false i = i
 -- ---- In a session.
 
 -- A record that counts as none before it, or changes a key, ends the handshake.
-update_code : (e : Effect) → (updates_in 1 e || updates_in 2 e) ≡ true → takes 0xe9 (record { message = []; refused = None; chunk = None; effect = e; reply = [] }) ≡ true
+update_code : (e : Effect) → (updates_in 1 e || updates_in 2 e) ≡ true → takes KEY_UPDATE (record { message = []; refused = None; chunk = None; effect = e; reply = [] }) ≡ true
 update_code (Took (KeyUpdate op tag) request answer large) e = refl
 update_code (Took v request answer large) e = absurd (true≢false (sym e))
 update_code NoEffect e = absurd (true≢false (sym e))
@@ -93,7 +94,7 @@ past_by false false true g x = refl
 past_by false false false g x = elim x [ inl p ↦ p | inr y ↦ elim y [ inl e ↦ absurd (true≢false (sym e)) | inr e ↦ absurd (true≢false (sym e)) ] ]
 
 pub past_stays : (s : Events) (sealed : List ℕ) (t : Turn) (reply : List ℕ) → is_past_handshake (stage_of s) ≡ true → is_past_handshake (stage_of (Heard sealed t reply ∷ s)) ≡ true
-past_stays s sealed t reply past = past_by (takes 0xe7 t) (updates 3 t) (takes 0xe9 t) (stage_of s) (inl past)
+past_stays s sealed t reply past = past_by (takes PSK_FINISH t) (updates 3 t) (takes KEY_UPDATE t) (stage_of s) (inl past)
 
 counted_by : (a b c : Bool) (n : ℕ) → cond (a || b || c) 0 (n + 1) ≡ 0 → (a ≡ true) ⊎ ((b || c) ≡ true)
 counted_by true b c n e = inl refl
@@ -102,14 +103,14 @@ counted_by false false true n e = inr refl
 counted_by false false false n e = absurd (omega arith)
 
 first_ends : (s : Events) (sealed : List ℕ) (t : Turn) (reply : List ℕ) → request_next (Heard sealed t reply ∷ s) ≡ 0 → is_past_handshake (stage_of (Heard sealed t reply ∷ s)) ≡ true
-first_ends s sealed t reply e = elim (counted_by (takes 0xe7 t) (updates 1 t) (updates 2 t) (request_next s) e) [
-  | inl a ↦ past_by (takes 0xe7 t) (updates 3 t) (takes 0xe9 t) (stage_of s) (inr (inl a))
-  | inr u ↦ past_by (takes 0xe7 t) (updates 3 t) (takes 0xe9 t) (stage_of s) (inr (inr (update_code t.effect u)))
+first_ends s sealed t reply e = elim (counted_by (takes PSK_FINISH t) (updates 1 t) (updates 2 t) (request_next s) e) [
+  | inl a ↦ past_by (takes PSK_FINISH t) (updates 3 t) (takes KEY_UPDATE t) (stage_of s) (inr (inl a))
+  | inr u ↦ past_by (takes PSK_FINISH t) (updates 3 t) (takes KEY_UPDATE t) (stage_of s) (inr (inr (update_code t.effect u)))
 ]
 
 -- Marks of records name no session that begins.
 newest_turn : (g : Stage) (r : RspSetup) (s : Events) (sealed : List ℕ) (t : Turn) (reply : List ℕ) (m : List Served) → newest (served_turn g r s sealed t reply ++ m) ≡ newest m
-newest_turn stage.Handshake r s sealed t reply m = go (takes 0xe7 t)
+newest_turn stage.Handshake r s sealed t reply m = go (takes PSK_FINISH t)
   where
     go : (b : Bool) → newest (cond b (Finished (served_first s) (t2_of (Heard sealed t reply ∷ s)) ∷ []) (Refused (served_first s) (reply_text t) ∷ []) ++ m) ≡ newest m
     go true = refl
@@ -133,8 +134,8 @@ ended_by s m true i = gone m
 ended_by s m false i = i
 
 heard : (r : RspSetup) (s : Events) (sealed : List ℕ) (t : Turn) (reply : List ℕ) (m : List Served) → ShakesAt s m → ShakesAt (after_record s sealed t reply) (record_marks r s sealed t reply ++ m)
-heard r [] sealed t reply m i = ended_by [] m (takes 0xec t) (gone m)
-heard r (e ∷ s) sealed t reply m i = ended_by (Heard sealed t reply ∷ e ∷ s) (record_marks r (e ∷ s) sealed t reply ++ m) (takes 0xec t) (heard_by r e s sealed t reply m (is_past_handshake (stage_of (e ∷ s))) refl i)
+heard r [] sealed t reply m i = ended_by [] m (takes END_SESSION t) (gone m)
+heard r (e ∷ s) sealed t reply m i = ended_by (Heard sealed t reply ∷ e ∷ s) (record_marks r (e ∷ s) sealed t reply ++ m) (takes END_SESSION t) (heard_by r e s sealed t reply m (is_past_handshake (stage_of (e ∷ s))) refl i)
 
 -- The session of another id: two are never in their handshake.
 two_shake : (id of : ℕ) (own s : Events) (m : List Served) → (of ≡ id → ⊥) → (is_live own ≡ true → id_in_exchange (exchange_answer own) ≡ of) → (is_live s ≡ true → id_in_exchange (exchange_answer s) ≡ id) → ShakesAt own m → ShakesAt s m
@@ -174,7 +175,7 @@ sealed_by r id of own s sealed t reply m false is same own_id s_id a b = elsewhe
 pub shakes_stand : (r : RspSetup) (h : History) → IsSteady h → (id : ℕ) → ShakesAt (session_of id h) (served_marks r h)
 unfolding session_of
 shakes_stand r [] steady id = gone []
-shakes_stand r (Clear tag t d ∷ older) steady id = cleared_by id (session_of id older) older t (served_marks r older) (takes 0x84 t) (takes 0xe6 t) (shakes_stand r older steady id)
+shakes_stand r (Clear tag t d ∷ older) steady id = cleared_by id (session_of id older) older t (served_marks r older) (takes GET_VERSION t) (takes PSK_EXCHANGE t) (shakes_stand r older steady id)
 shakes_stand r (Sealed tag sealed t reply d ∷ older) steady id =
     let of = id_in_record sealed in
     sealed_by r id of (session_of of older) (session_of id older) sealed t reply (served_marks r older) (of == id) refl (λ e. ap (λ (n : ℕ). session_of n older) e)

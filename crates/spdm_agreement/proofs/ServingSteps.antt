@@ -32,6 +32,7 @@ use Rattle.spdm_agreement.proofs.ServingTurns.{TurnIs}
 use Rattle.spdm_agreement.proofs.ServingReplies.{IsRoomy, tells_all, tells_any, tells_third}
 use Rattle.spdm_agreement.proofs.ServingShakes.{ShakesAt, newest_begun}
 use Rattle.spdm_agreement.proofs.ServingFinish.{refuse_told, finish_told, finish_inner, finish_second}
+use Rattle.spdm_grammar.specs.declared.names.request_code.TheConstants.{PSK_FINISH}
 
 -- A new key of the requester was not verified yet.
 abbrev pub is_verifying : Stage → Bool
@@ -109,7 +110,7 @@ shake_reply r s t shakes quiet = same_purpose (updates 2 t) (records.response_pu
 pub shake_request : (r : RspSetup) (s : Events) → stage_of s ≡ stage.Handshake → records.request_purpose r.psk s ≡ request_shake (reading_of r.psk) (served_first s)
 shake_request r s shakes = ap (λ (g : Stage). purpose_in g r.psk (t1_of s) (t2_of s) Request (request_epoch s)) shakes
 
-finishes : (r : RspSetup) (s : Events) (f : Free) (sealed : List ℕ) (t : Turn) (reply : List ℕ) (asked : List Asked) (m : List Served) (log : Log) → Opens r s f sealed t reply → stage_of s ≡ stage.Handshake → ShakesAt s m → takes 0xe7 t ≡ true
+finishes : (r : RspSetup) (s : Events) (f : Free) (sealed : List ℕ) (t : Turn) (reply : List ℕ) (asked : List Asked) (m : List Served) (log : Log) → Opens r s f sealed t reply → stage_of s ≡ stage.Handshake → ShakesAt s m → takes PSK_FINISH t ≡ true
     → IsMoved (reading_of r.psk) (state asked m (compared r s sealed ++ log)) (state asked (Finished (served_first s) (t2_of (Heard sealed t reply ∷ s)) ∷ m) (reply_made r s t reply ∷ compared r s sealed ++ log))
 finishes r s f sealed t reply asked m log o shakes at finish =
     let x = served_first s in
@@ -128,7 +129,7 @@ finishes r s f sealed t reply asked m log o shakes at finish =
     (ap (λ (a : Act). state asked (Finished x (t2_of (Heard sealed t reply ∷ s)) ∷ m) (a ∷ compared r s sealed ++ log))
     (made_is r s t reply (response_shake (reading_of r.psk) x) (records.reply_number s t) o.answers (shake_reply r s t shakes told.update) refl))
 
-refuses : (r : RspSetup) (s : Events) (f : Free) (sealed : List ℕ) (t : Turn) (reply : List ℕ) (asked : List Asked) (m : List Served) (log : Log) → Opens r s f sealed t reply → stage_of s ≡ stage.Handshake → ShakesAt s m → takes 0xe7 t ≡ false
+refuses : (r : RspSetup) (s : Events) (f : Free) (sealed : List ℕ) (t : Turn) (reply : List ℕ) (asked : List Asked) (m : List Served) (log : Log) → Opens r s f sealed t reply → stage_of s ≡ stage.Handshake → ShakesAt s m → takes PSK_FINISH t ≡ false
     → IsMoved (reading_of r.psk) (state asked m (compared r s sealed ++ log)) (state asked (Refused (served_first s) (reply_text t) ∷ m) (reply_made r s t reply ∷ compared r s sealed ++ log))
 refuses r s f sealed t reply asked m log o shakes at none =
     let x = served_first s in
@@ -143,7 +144,7 @@ refuses r s f sealed t reply asked m log o shakes at none =
     (ap (λ (a : Act). state asked (Refused x (reply_text t) ∷ m) (a ∷ compared r s sealed ++ log))
     (made_is r s t reply (response_shake (reading_of r.psk) x) (records.reply_number s t) o.answers (shake_reply r s t shakes told.1) refl))
 
-shakes_by : (r : RspSetup) (s : Events) (f : Free) (sealed : List ℕ) (t : Turn) (reply : List ℕ) (asked : List Asked) (m : List Served) (log : Log) (b : Bool) → Opens r s f sealed t reply → stage_of s ≡ stage.Handshake → ShakesAt s m → takes 0xe7 t ≡ b
+shakes_by : (r : RspSetup) (s : Events) (f : Free) (sealed : List ℕ) (t : Turn) (reply : List ℕ) (asked : List Asked) (m : List Served) (log : Log) (b : Bool) → Opens r s f sealed t reply → stage_of s ≡ stage.Handshake → ShakesAt s m → takes PSK_FINISH t ≡ b
     → IsMoved (reading_of r.psk) (state asked m (compared r s sealed ++ log))
     (state asked (cond b (Finished (served_first s) (t2_of (Heard sealed t reply ∷ s)) ∷ []) (Refused (served_first s) (reply_text t) ∷ []) ++ m) (reply_made r s t reply ∷ compared r s sealed ++ log))
 shakes_by r s f sealed t reply asked m log true o shakes at is = finishes r s f sealed t reply asked m log o shakes at is
@@ -220,7 +221,7 @@ takes_record r id s f sealed t reply asked m log o past held counts =
 by_stage : (r : RspSetup) (id : ℕ) (s : Events) (f : Free) (sealed : List ℕ) (t : Turn) (reply : List ℕ) (asked : List Asked) (m : List Served) (log : Log) (g : Stage) → stage_of s ≡ g → Opens r s f sealed t reply → ShakesAt s m
     → (is_past_handshake (stage_of s) ≡ true → (served_open (reading_of r.psk) id m ≡ Some (served_first s, t2_of s)) × Counts r.psk s m)
     → IsMoved (reading_of r.psk) (state asked m (compared r s sealed ++ log)) (state asked (served_turn g r s sealed t reply ++ m) (reply_made r s t reply ∷ compared r s sealed ++ log))
-by_stage r id s f sealed t reply asked m log stage.Handshake is o at held = shakes_by r s f sealed t reply asked m log (takes 0xe7 t) o is at refl
+by_stage r id s f sealed t reply asked m log stage.Handshake is o at held = shakes_by r s f sealed t reply asked m log (takes PSK_FINISH t) o is at refl
 by_stage r id s f sealed t reply asked m log stage.Open is o at held = let past = ap is_past_handshake is in let h = held past in takes_record r id s f sealed t reply asked m log o past h.0 h.1
 by_stage r id s f sealed t reply asked m log stage.Verifying is o at held = let past = ap is_past_handshake is in let h = held past in takes_record r id s f sealed t reply asked m log o past h.0 h.1
 

@@ -8,15 +8,19 @@ use Rattle.spdm_grammar.specs.declared.error_code.ErrorCode.TheVariants.{Invalid
 use Rattle.responder_machine.specs.Answer.{Free, request_at, answer_bytes}
 use Rattle.responder_machine.specs.Handling.{turn_of, turn_by, chunk_in, refused_turn, plain_turn, effect_of, handle_for}
 use Rattle.responder_machine.specs.Place.{session_place, place_terms}
-use Rattle.responder_machine.specs.Refusal.{first_of_tests, refused_form, refusal, code_of, is_known, is_one_of, version_for, stage_allows, has_pending}
+use Rattle.responder_machine.specs.Refusal.{refused_form, refusal, code_of, is_known, version_for, stage_allows, has_pending}
+use Rattle.spdm_basis.specs.Tests.{first_of_tests}
+use Rattle.spdm_grammar.specs.Codes.{is_one_of}
 use Rattle.responder_machine.specs.Responder.{inner_refusal, data_turn, session_turn, session_turn_by, is_open}
 use Rattle.responder_machine.specs.Session.{Events, stage_of}
 use Rattle.responder_machine.specs.Setup.{RspSetup}
 use Rattle.spdm_machine.specs.Terms.{hash_len}
-use Rattle.responder_machine.specs.Turn.{Turn, code_for}
+use Rattle.responder_machine.specs.Turn.{Turn}
+use Rattle.spdm_grammar.specs.Codes.{code_for}
 use Rattle.responder_machine.specs.Turn.Effect.{Took}
 use Rattle.spdm_agreement.proofs.Codes.{code_read}
 use Rattle.spdm_agreement.proofs.Steady.{form_of, sound_form}
+use Rattle.spdm_grammar.specs.declared.names.request_code.TheConstants.{GET_VERSION, CHUNK_SEND, GET_CAPABILITIES, NEGOTIATE_ALGORITHMS, PSK_EXCHANGE}
 
 -- Application data is taken.
 pub record TakesData (s : Events) (inner : List ℕ) (f : Free) (t : Turn) : Type 0 where
@@ -65,9 +69,9 @@ spelled_form : (r : RspSetup) (s : Events) (m : List ℕ) → refused_form r (se
 unfolding refused_form
 spelled_form r s m form is =
     let c = code_of m in
-    let to = λ (b : Bool). first_of_tests ((nat_lt (length m) 4, InvalidRequest) ∷ (nat_lt r.transfer (length m), RequestTooLarge) ∷ (not (is_known c), UnsupportedRequest) ∷ (false, SessionRequired) ∷ (c == 0x85, UnsupportedRequest)
-    ∷ (is_one_of (0x84 ∷ 0xe1 ∷ 0xe3 ∷ 0xe6 ∷ []) c, UnexpectedRequest) ∷ (not (stage_allows (stage_of s) (has_pending (session_place s)) c), UnexpectedRequest) ∷ (not (slice_index m 0 == version_for c), VersionMismatch) ∷ (b, InvalidRequest) ∷ []) in
-    nine (nat_lt (length m) 4) (nat_lt r.transfer (length m)) (not (is_known c)) false (c == 0x85) (is_one_of (0x84 ∷ 0xe1 ∷ 0xe3 ∷ 0xe6 ∷ []) c)
+    let to = λ (b : Bool). first_of_tests ((nat_lt (length m) 4, InvalidRequest) ∷ (nat_lt r.transfer (length m), RequestTooLarge) ∷ (not (is_known c), UnsupportedRequest) ∷ (false, SessionRequired) ∷ (c == CHUNK_SEND, UnsupportedRequest)
+    ∷ (is_one_of (GET_VERSION ∷ GET_CAPABILITIES ∷ NEGOTIATE_ALGORITHMS ∷ PSK_EXCHANGE ∷ []) c, UnexpectedRequest) ∷ (not (stage_allows (stage_of s) (has_pending (session_place s)) c), UnexpectedRequest) ∷ (not (slice_index m 0 == version_for c), VersionMismatch) ∷ (b, InvalidRequest) ∷ []) in
+    nine (nat_lt (length m) 4) (nat_lt r.transfer (length m)) (not (is_known c)) false (c == CHUNK_SEND) (is_one_of (GET_VERSION ∷ GET_CAPABILITIES ∷ NEGOTIATE_ALGORITHMS ∷ PSK_EXCHANGE ∷ []) c)
     (not (stage_allows (stage_of s) (has_pending (session_place s)) c)) (not (slice_index m 0 == version_for c)) (ap to (ap is_none (sym is)) ∙ form)
 
 spelled_by : (r : RspSetup) (s : Events) (inner : List ℕ) (f : Free) (v : Option RequestMessage) → (slice_index inner 0 == 5) ≡ true → request_at (session_place s) (drop 1 inner) ≡ v → refused_form r (session_place s) (drop 1 inner) ≡ None
@@ -77,9 +81,9 @@ spelled_by r s inner f (Some v) typed is form =
     let m = drop 1 inner in
     let code : code_of m ≡ code_for v = sym (code_read (hash_len (place_terms (session_place s))) m v is) in
     let l = sound_form r s m form in
-    plain v (ap (λ (n : ℕ). n == 0x85) (sym code) ∙ l.0) (record { value = v; typed = typed; spelled = is; allowed = ap (λ (n : ℕ). stage_allows (stage_of s) (has_pending (session_place s)) n) (sym code) ∙ l.1; is = refl })
+    plain v (ap (λ (n : ℕ). n == CHUNK_SEND) (sym code) ∙ l.0) (record { value = v; typed = typed; spelled = is; allowed = ap (λ (n : ℕ). stage_allows (stage_of s) (has_pending (session_place s)) n) (sym code) ∙ l.1; is = refl })
   where
-    plain : (v : RequestMessage) → (code_for v == 0x85) ≡ false → TakesRequest r s inner f (plain_turn r (session_place s) (drop 1 inner) f) → TurnIs r s inner f (turn_by r (session_place s) (drop 1 inner) f None (chunk_in (Some v)))
+    plain : (v : RequestMessage) → (code_for v == CHUNK_SEND) ≡ false → TakesRequest r s inner f (plain_turn r (session_place s) (drop 1 inner) f) → TurnIs r s inner f (turn_by r (session_place s) (drop 1 inner) f None (chunk_in (Some v)))
     plain (ChunkSend c) e x = absurd (true≢false e)
     plain v e x = inr (inr x)
 

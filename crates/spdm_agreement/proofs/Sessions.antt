@@ -27,6 +27,8 @@ use Rattle.spdm_machine.specs.Sessions.{id_in_exchange}
 use Rattle.spdm_machine.specs.Terms.{Terms, terms_of, hash_len}
 use Rattle.transcript.specs.Transcripts.{Negotiation, vca_of, without_verify, t1_of, t2_of}
 use Rattle.spdm_agreement.specs.Reading.{First, Reading}
+use Rattle.spdm_grammar.specs.declared.names.request_code.TheConstants.{KEY_UPDATE}
+use Rattle.spdm_grammar.specs.declared.names.response_code.TheConstants.{PSK_FINISH_RSP, KEY_UPDATE_ACK}
 
 -- ---- One message behind which others stand is told by the bytes of all.
 
@@ -302,7 +304,7 @@ abbrev pub is_message : ℕ → List ℕ → Bool
 is_message code text = slice_index text 2 == 5 && slice_index text 4 == code
 
 abbrev pub is_update_of : Bool → List ℕ × List ℕ → Bool
-is_update_of is_operation x = is_message 0xe9 x.0 && is_operation && is_message 0x69 x.1
+is_update_of is_operation x = is_message KEY_UPDATE x.0 && is_operation && is_message KEY_UPDATE_ACK x.1
 
 abbrev pub operation_in : List ℕ → ℕ
 operation_in text = slice_index text 5
@@ -324,7 +326,7 @@ reading_of psk = record {
   responder_draw = λ t. context_number (first_terms t).choice.hash (answer_context t);
   finish = λ t. message_text (finish_message psk t);
   finish_answer = λ t. message_text finish_reply;
-  opens = is_message 0x67;
+  opens = is_message PSK_FINISH_RSP;
   is_update = λ x. is_update_of (operation_in x.0 == 1 || operation_in x.0 == 2) x;
   is_update_all = λ x. is_update_of (operation_in x.0 == 2) x;
   granted = message_text (canonical_response (KeyUpdateAck 1 0));

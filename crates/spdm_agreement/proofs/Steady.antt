@@ -17,7 +17,10 @@ use Rattle.responder_machine.specs.History.Entry.{Clear, Sealed, Queued, Ticked,
 use Rattle.spdm_machine.specs.Keys.{Draw}
 use Rattle.responder_machine.specs.Place.{Place, session_place, place_terms}
 use Rattle.responder_machine.specs.Records.{opened, opening_fault}
-use Rattle.responder_machine.specs.Refusal.{first_of_tests, refused_form, refused_contents, refusal, or_else, code_of, is_known, is_one_of, version_for, stage_allows, has_pending}
+use Rattle.responder_machine.specs.Refusal.{refused_form, refused_contents, refusal, code_of, is_known, version_for, stage_allows, has_pending}
+use Rattle.spdm_basis.specs.Tests.{first_of_tests}
+use Rattle.std.specs.Option.{option_or}
+use Rattle.spdm_grammar.specs.Codes.{is_one_of}
 use Rattle.responder_machine.specs.Responder.{Outcome, on_record, to_session, in_session, in_session_by, session_turn, session_turn_by, inner_refusal, data_turn, repeats, kept_record}
 use Rattle.spdm_machine.specs.Bodies.{record_body}
 use Rattle.responder_machine.specs.Responder.Outcome.{Same, Adds}
@@ -26,10 +29,12 @@ use Rattle.spdm_machine.specs.Sessions.{is_past_handshake}
 use Rattle.responder_machine.specs.Session.Event.{Heard}
 use Rattle.responder_machine.specs.Setup.{RspSetup}
 use Rattle.spdm_machine.specs.Terms.{hash_len}
-use Rattle.responder_machine.specs.Turn.{Turn, Effect, code_for, code_in, asked_in}
+use Rattle.responder_machine.specs.Turn.{Turn, Effect, code_in, asked_in}
+use Rattle.spdm_grammar.specs.Codes.{code_for}
 use Rattle.responder_machine.specs.Turn.Effect.{NoEffect, Took, TookData}
 use Rattle.spdm_agreement.proofs.Codes.{code_read}
 use Rattle.spdm_agreement.proofs.Serving.{EndsByFinish, IsSteady}
+use Rattle.spdm_grammar.specs.declared.names.request_code.TheConstants.{GET_VERSION, CHUNK_SEND, GET_CAPABILITIES, NEGOTIATE_ALGORITHMS, PSK_EXCHANGE, PSK_FINISH}
 
 -- ---- What was not refused for its form.
 
@@ -51,11 +56,11 @@ not_false false e = absurd (cc)
 
 -- It is no chunk, and the stage allows its code.
 pub sound_form : (r : RspSetup) (s : Events) (m : List ℕ) → refused_form r (session_place s) m ≡ None
-    → ((code_of m == 0x85) ≡ false) × (stage_allows (stage_of s) (has_pending (session_place s)) (code_of m) ≡ true)
+    → ((code_of m == CHUNK_SEND) ≡ false) × (stage_allows (stage_of s) (has_pending (session_place s)) (code_of m) ≡ true)
 unfolding refused_form
 sound_form r s m e =
     let c = code_of m in
-    let t = seven (nat_lt (length m) 4) (nat_lt r.transfer (length m)) (not (is_known c)) false (c == 0x85) (is_one_of (0x84 ∷ 0xe1 ∷ 0xe3 ∷ 0xe6 ∷ []) c)
+    let t = seven (nat_lt (length m) 4) (nat_lt r.transfer (length m)) (not (is_known c)) false (c == CHUNK_SEND) (is_one_of (GET_VERSION ∷ GET_CAPABILITIES ∷ NEGOTIATE_ALGORITHMS ∷ PSK_EXCHANGE ∷ []) c)
     (not (stage_allows (stage_of s) (has_pending (session_place s)) c)) (not (slice_index m 0 == version_for c)) (is_none (request_at (session_place s) m)) e in
     (t.0, not_false _ t.1)
 
@@ -65,9 +70,9 @@ sound_form r s m e =
 abbrev Takes : RspSetup → Events → List ℕ → Effect → Type 0
 Takes r s m effect =
     ((code_in effect ≡ 0) × (asked_in effect ≡ None))
-    ⊎ ((v : RequestMessage) × (request_at (session_place s) m ≡ Some v) × (refused_form r (session_place s) m ≡ None) × ((code_in effect ≡ code_for v) ⊎ (code_for v ≡ 0x85)))
+    ⊎ ((v : RequestMessage) × (request_at (session_place s) m ≡ Some v) × (refused_form r (session_place s) m ≡ None) × ((code_in effect ≡ code_for v) ⊎ (code_for v ≡ CHUNK_SEND)))
 
-or_none : (a b : Option ErrorCode) → or_else a b ≡ None → a ≡ None
+or_none : (a b : Option ErrorCode) → option_or a b ≡ None → a ≡ None
 or_none None b e = refl
 or_none (Some x) b e = absurd (cc)
 
@@ -106,11 +111,11 @@ takes_session r s inner f = takes_session_by r s inner f (inner_refusal (stage_o
 
 -- The code of a request that a turn took is allowed in the stage.
 allowed : (r : RspSetup) (s : Events) (m : List ℕ) (v : RequestMessage) → request_at (session_place s) m ≡ Some v → refused_form r (session_place s) m ≡ None
-    → ((code_for v == 0x85) ≡ false) × (stage_allows (stage_of s) (has_pending (session_place s)) (code_for v) ≡ true)
+    → ((code_for v == CHUNK_SEND) ≡ false) × (stage_allows (stage_of s) (has_pending (session_place s)) (code_for v) ≡ true)
 allowed r s m v is form =
     let code : code_of m ≡ code_for v = sym (code_read (hash_len (place_terms (session_place s))) m v is) in
     let l = sound_form r s m form in
-    (ap (λ (n : ℕ). n == 0x85) (sym code) ∙ l.0, ap (λ (n : ℕ). stage_allows (stage_of s) (has_pending (session_place s)) n) (sym code) ∙ l.1)
+    (ap (λ (n : ℕ). n == CHUNK_SEND) (sym code) ∙ l.0, ap (λ (n : ℕ). stage_allows (stage_of s) (has_pending (session_place s)) n) (sym code) ∙ l.1)
 
 no_update : (e : Effect) (operation : ℕ) (sealed : List ℕ) (t : Turn) (reply : List ℕ) (s : Events) → t.effect ≡ e → code_in e ≡ 0 → asked_in e ≡ None → stage_of (Heard sealed t reply ∷ s) ≡ stage_of s
 no_update NoEffect operation sealed t reply s is c a = ap (λ (x : Effect). stage_of (Heard sealed (record t { effect = x }) reply ∷ s)) is
@@ -124,34 +129,34 @@ other_code n m apart = go (n == m) refl
     go true e = absurd (apart (eqb-true n m e))
     go false e = e
 
-not_open : (pending : Bool) (c : ℕ) → stage_allows stage.Open pending c ≡ true → (c == 0xe7) ≡ false
-not_open pending c e = other_code c 0xe7 (λ is. true≢false (sym (subst (λ (n : ℕ). stage_allows stage.Open pending n ≡ true) is e)))
+not_open : (pending : Bool) (c : ℕ) → stage_allows stage.Open pending c ≡ true → (c == PSK_FINISH) ≡ false
+not_open pending c e = other_code c PSK_FINISH (λ is. true≢false (sym (subst (λ (n : ℕ). stage_allows stage.Open pending n ≡ true) is e)))
 
-not_verifying : (pending : Bool) (c : ℕ) → stage_allows stage.Verifying pending c ≡ true → (c == 0xe7) ≡ false
-not_verifying pending c e = other_code c 0xe7 (λ is. true≢false (sym (subst (λ (n : ℕ). stage_allows stage.Verifying pending n ≡ true) is e)))
+not_verifying : (pending : Bool) (c : ℕ) → stage_allows stage.Verifying pending c ≡ true → (c == PSK_FINISH) ≡ false
+not_verifying pending c e = other_code c PSK_FINISH (λ is. true≢false (sym (subst (λ (n : ℕ). stage_allows stage.Verifying pending n ≡ true) is e)))
 
-no_chunk : (c : ℕ) → (c == 0x85) ≡ false → c ≡ 0x85 → ⊥
-no_chunk c e is = true≢false (sym (eq-eqb c 0x85 is) ∙ e)
+no_chunk : (c : ℕ) → (c == CHUNK_SEND) ≡ false → c ≡ CHUNK_SEND → ⊥
+no_chunk c e is = true≢false (sym (eq-eqb c CHUNK_SEND is) ∙ e)
 
 pub ends : (r : RspSetup) (s : Events) (m sealed : List ℕ) (t : Turn) (reply : List ℕ) (g : Stage) → stage_of s ≡ g → Takes r s m t.effect → EndsByFinish g s sealed t reply
 ends r s m sealed t reply stage.Handshake is x = λ past. elim x [
   | inl quiet ↦ absurd (true≢false (sym past ∙ ap is_past_handshake (no_update t.effect 0 sealed t reply s refl quiet.0 quiet.1 ∙ is)))
   | inr y ↦ (let a = allowed r s m y.0 y.1 y.2 in elim y.3 [
-    | inl c ↦ ap (λ (n : ℕ). n == 0xe7) c ∙ subst (λ (g : Stage). stage_allows g (has_pending (session_place s)) (code_for y.0) ≡ true) is a.1
+    | inl c ↦ ap (λ (n : ℕ). n == PSK_FINISH) c ∙ subst (λ (g : Stage). stage_allows g (has_pending (session_place s)) (code_for y.0) ≡ true) is a.1
     | inr c ↦ absurd (no_chunk (code_for y.0) a.0 c)
   ])
 ]
 ends r s m sealed t reply stage.Open is x = elim x [
-  | inl quiet ↦ ap (λ (n : ℕ). n == 0xe7) quiet.0
+  | inl quiet ↦ ap (λ (n : ℕ). n == PSK_FINISH) quiet.0
   | inr y ↦ (let a = allowed r s m y.0 y.1 y.2 in elim y.3 [
-    | inl c ↦ ap (λ (n : ℕ). n == 0xe7) c ∙ not_open (has_pending (session_place s)) (code_for y.0) (subst (λ (g : Stage). stage_allows g (has_pending (session_place s)) (code_for y.0) ≡ true) is a.1)
+    | inl c ↦ ap (λ (n : ℕ). n == PSK_FINISH) c ∙ not_open (has_pending (session_place s)) (code_for y.0) (subst (λ (g : Stage). stage_allows g (has_pending (session_place s)) (code_for y.0) ≡ true) is a.1)
     | inr c ↦ absurd (no_chunk (code_for y.0) a.0 c)
   ])
 ]
 ends r s m sealed t reply stage.Verifying is x = elim x [
-  | inl quiet ↦ ap (λ (n : ℕ). n == 0xe7) quiet.0
+  | inl quiet ↦ ap (λ (n : ℕ). n == PSK_FINISH) quiet.0
   | inr y ↦ (let a = allowed r s m y.0 y.1 y.2 in elim y.3 [
-    | inl c ↦ ap (λ (n : ℕ). n == 0xe7) c ∙ not_verifying (has_pending (session_place s)) (code_for y.0) (subst (λ (g : Stage). stage_allows g (has_pending (session_place s)) (code_for y.0) ≡ true) is a.1)
+    | inl c ↦ ap (λ (n : ℕ). n == PSK_FINISH) c ∙ not_verifying (has_pending (session_place s)) (code_for y.0) (subst (λ (g : Stage). stage_allows g (has_pending (session_place s)) (code_for y.0) ≡ true) is a.1)
     | inr c ↦ absurd (no_chunk (code_for y.0) a.0 c)
   ])
 ]

@@ -9,7 +9,8 @@ use Rattle.aes_gcm.proofs.Tags.{length-tag_of}
 use Rattle.aes_gcm.proofs.Twice.{crypt-crypt, length-crypt}
 use Rattle.byteorder.specs.Endian.{little_bytes, little_number}
 use Rattle.key_schedule.specs.Purpose.{Purpose, key_of, iv_of}
-use Rattle.secured_record.specs.Faults.{first_of_tests, header_fault, text_part, opened_text, inner_of, same_bytes}
+use Rattle.secured_record.specs.Faults.{header_fault, text_part, opened_text, inner_of, same_bytes}
+use Rattle.spdm_basis.specs.Tests.{first_of_tests}
 use Rattle.secured_record.specs.Format.{header, nonce, plain_text, record_of}
 use Rattle.secured_record.proofs.Same.{true-same}
 use Rattle.spdm_basis.specs.declared.record_fault.RecordFault.TheVariants.{Short, WrongId, WrongNumber, WrongLength}

@@ -9,6 +9,8 @@ use Rattle.spdm_grammar.specs.Message.ResponseMessage.{PskExchangeRsp}
 use Rattle.spdm_grammar.specs.Reading.{front}
 use Rattle.spdm_grammar.specs.Responses.{IsResponseSpelling, response_reading, response_layout, response_body, version_layout, error_layout, capabilities_layout, algorithms_layout, measurements_layout, psk_exchange_rsp_layout, psk_finish_rsp_layout, heartbeat_ack_layout, key_update_ack_layout, end_session_ack_layout, chunk_send_ack_layout, chunk_response_layout}
 use Rattle.spdm_grammar.proofs.Spellings.{read_spelling}
+use Rattle.spdm_grammar.specs.declared.names.error_number.TheConstants.{RESPONSE_TOO_LARGE, LARGE_RESPONSE}
+use Rattle.spdm_grammar.specs.declared.names.response_code.TheConstants.{MEASUREMENTS, CAPABILITIES, ALGORITHMS, PSK_EXCHANGE_RSP, PSK_FINISH_RSP, HEARTBEAT_ACK, KEY_UPDATE_ACK, END_SESSION_ACK, ERROR, VERSION, CHUNK_SEND_ACK}
 
 -- ---- What a value says of all bytes that spell it.
 
@@ -56,9 +58,9 @@ version : (len : ℕ) → HasReached (HasVerify len) version_layout
 unfolding version_layout
 version len = record { are = λ pre _ _ _ _ _. tt }
 
-error_ends : (len said code detail : ℕ) (pre : List ℕ) → HasReached (HasVerify len) (cond (code == 0x0d) (Bytes 4 (λ extended. Whole (ResponseMessage.Error said code detail extended))) (cond (code == 0x0f) (Bytes 1 (λ extended. Whole (ResponseMessage.Error said code detail extended))) (UpTo 32 (λ extended. ResponseMessage.Error said code detail extended))))
+error_ends : (len said code detail : ℕ) (pre : List ℕ) → HasReached (HasVerify len) (cond (code == RESPONSE_TOO_LARGE) (Bytes 4 (λ extended. Whole (ResponseMessage.Error said code detail extended))) (cond (code == LARGE_RESPONSE) (Bytes 1 (λ extended. Whole (ResponseMessage.Error said code detail extended))) (UpTo 32 (λ extended. ResponseMessage.Error said code detail extended))))
 error_ends len said code detail pre =
-    either_reached (code == 0x0d) _ _ (record { are = λ pre _ _. tt }) (either_reached (code == 0x0f) _ _ (record { are = λ pre _ _. tt }) (record { are = λ pre _. tt }))
+    either_reached (code == RESPONSE_TOO_LARGE) _ _ (record { are = λ pre _ _. tt }) (either_reached (code == LARGE_RESPONSE) _ _ (record { are = λ pre _ _. tt }) (record { are = λ pre _. tt }))
 
 error : (len said : ℕ) → HasReached (HasVerify len) (error_layout said)
 unfolding error_layout
@@ -110,17 +112,17 @@ chunk_response len = record { are = λ pre _ _ _ _ _ _. ((λ _ _. tt), (λ _ _ _
 body : (len said code : ℕ) (summary : Bool) → HasReached (HasVerify len) (response_body len summary said code)
 unfolding response_body
 body len said code summary =
-    either_reached (code == 0x04) _ _ (version len)
-    (either_reached (code == 0x7f) _ _ (error len said)
-    (either_reached (code == 0x61) _ _ (capabilities len)
-    (either_reached (code == 0x63) _ _ (algorithms len)
-    (either_reached (code == 0x60) _ _ (measurements len)
-    (either_reached (code == 0x66) _ _ (exchange len summary)
-    (either_reached (code == 0x67) _ _ (finish len)
-    (either_reached (code == 0x68) _ _ (heartbeat len)
-    (either_reached (code == 0x69) _ _ (key_update len)
-    (either_reached (code == 0x6c) _ _ (end_session len)
-    (either_reached (code == 0x05) _ _ (chunk_send len)
+    either_reached (code == VERSION) _ _ (version len)
+    (either_reached (code == ERROR) _ _ (error len said)
+    (either_reached (code == CAPABILITIES) _ _ (capabilities len)
+    (either_reached (code == ALGORITHMS) _ _ (algorithms len)
+    (either_reached (code == MEASUREMENTS) _ _ (measurements len)
+    (either_reached (code == PSK_EXCHANGE_RSP) _ _ (exchange len summary)
+    (either_reached (code == PSK_FINISH_RSP) _ _ (finish len)
+    (either_reached (code == HEARTBEAT_ACK) _ _ (heartbeat len)
+    (either_reached (code == KEY_UPDATE_ACK) _ _ (key_update len)
+    (either_reached (code == END_SESSION_ACK) _ _ (end_session len)
+    (either_reached (code == CHUNK_SEND_ACK) _ _ (chunk_send len)
     (chunk_response len)))))))))))
 
 pub verify_stands : (len : ℕ) (summary : Bool) (m : List ℕ) (rsp : ExchangeRspMessage) → response_reading len summary m ≡ Ok (PskExchangeRsp rsp) → (behind : List ℕ) × (m ≡ behind ++ rsp.verify) × (length rsp.verify ≡ len)

@@ -3,6 +3,7 @@
 use Rattle.std.specs.Prelude.{◌≡◌, ◌≢◌, ◌≤◌, ◌<◌, ◌+◌, ◌-◌, ◌^◌, ℕ, List, [], ◌∷◌, length, map, false, None, All}
 use Rattle.measurements.specs.Faults.{inventory_fault}
 use Rattle.spdm_grammar.specs.declared.choice.FlagSet.{FlagSet}
+use Rattle.spdm_grammar.specs.declared.names.TheConstants.{MIN_DATA_TRANSFER_SIZE, MAX_MESSAGE_SIZE}
 use Rattle.responder_machine.specs.Setup.{RspSetup, Known, towards}
 use Rattle.requester_machine.specs.Setup.{ReqSetup, ReqEnd}
 use Rattle.spdm_machine.specs.Packets.{wear_limit}
@@ -18,9 +19,9 @@ pub record IsEid (eid : ℕ) : Type 0 where
 -- The payload of a packet has at least the 64 bytes of the baseline transmission unit (DSP0236), and at most 1,024
 -- (this project's own limit).
 pub record HasSizes (transfer max unit : ℕ) (flags : FlagSet) : Type 0 where
-  pub least : 42 ≤ transfer
+  pub least : MIN_DATA_TRANSFER_SIZE ≤ transfer
   pub ordered : transfer ≤ max
-  pub most : max ≤ 4096
+  pub most : max ≤ MAX_MESSAGE_SIZE
   pub whole : flags.chunk ≡ false → max ≡ transfer
   pub payload : 64 ≤ unit
   pub payload_most : unit ≤ 1024

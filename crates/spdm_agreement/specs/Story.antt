@@ -37,6 +37,7 @@ use Rattle.responder_machine.specs.Session.{Event}
 use Rattle.requester_machine.specs.Setup.{ReqSetup}
 use Rattle.responder_machine.specs.Setup.{RspSetup}
 use Rattle.responder_machine.specs.Turn.{Turn, takes}
+use Rattle.spdm_grammar.specs.declared.names.request_code.TheConstants.{PSK_EXCHANGE, PSK_FINISH}
 
 -- ---- What is read off a record.
 
@@ -129,7 +130,7 @@ taken_text psk s sealed = text_of (responder.session_terms s).choice (request_pu
 -- A record is taken in the handshake: it is PSK_FINISH, or is refused. After it, a record is a request.
 abbrev pub served_turn : Stage → RspSetup → responder.Events → List ℕ → Turn → List ℕ → List Served
 served_turn stage.Handshake r s sealed t reply =
-    if takes 0xe7 t then Finished (served_first s) (responder.t2_of (Event.Heard sealed t reply ∷ s)) ∷ []
+    if takes PSK_FINISH t then Finished (served_first s) (responder.t2_of (Event.Heard sealed t reply ∷ s)) ∷ []
     else Refused (served_first s) (reply_text t) ∷ []
 served_turn stage.Open r s sealed t reply = Took (responder.t2_of s) (taken_text r.psk s sealed) (reply_text t) ∷ []
 served_turn stage.Verifying r s sealed t reply = Took (responder.t2_of s) (taken_text r.psk s sealed) (reply_text t) ∷ []
@@ -141,7 +142,7 @@ record_marks r (e ∷ s) sealed t reply = served_turn (responder.stage_of (e ∷
 
 -- PSK_EXCHANGE is answered.
 abbrev pub began_marks : served.History → Turn → List Served
-began_marks h t = if takes 0xe6 t then Began (served_first (began_by h t)) ∷ [] else []
+began_marks h t = if takes PSK_EXCHANGE t then Began (served_first (began_by h t)) ∷ [] else []
 
 abbrev pub served_marks : RspSetup → served.History → List Served
 served_marks r [] = []

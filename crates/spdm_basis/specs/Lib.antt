@@ -3,3 +3,4 @@ pub mod Memory
 pub mod SessionIdBytes
 pub mod Sizes
 pub mod Lending
+pub mod Tests

@@ -14,10 +14,11 @@ use Rattle.spdm_cmd.specs.Body.{ClearMessage, body_of, clear_in}
 use Rattle.spdm_cmd.specs.History.{ResponderEntry, responder_phase}
 use Rattle.spdm_cmd.specs.History.ResponderEntry.{Clear}
 use Rattle.spdm_cmd.specs.Refusal.{code_of, hash_len, refusal, error_reply}
+use Rattle.spdm_grammar.specs.declared.names.spdm_version.TheConstants.{V1_2}
 
 -- VERSION with the one entry 1.2 (DSP0274, "VERSION").
 unfoldable pub version_reply : List ℕ
-version_reply = canonical_response (Version (0x00 ∷ 0x12 ∷ []))
+version_reply = canonical_response (Version (0x00 ∷ V1_2 ∷ []))
 
 -- What a message leads to: what is told of it, the message that is sent, and the request that was taken.
 pub record ResponderTurn : Type 0 where

@@ -6,6 +6,8 @@ ghost use Rattle.spdm_cmd.specs.Refusal.{refusal, error_reply, error_version, er
 ghost use Rattle.spdm_cmd.specs.Responder.{version_reply, responder_does, responder_hears, with_taken};
 ghost use Rattle.spdm_cmd.specs.StandsFor.{IsResponder};
 
+use spdm_grammar::names::request_code::GET_VERSION;
+use spdm_grammar::names::spdm_version::{V1_0, V1_2};
 use crate::body::{clear_in, send};
 use crate::ends::{Heard, Phase};
 use crate::packets::Packets;
@@ -20,7 +22,7 @@ use std::marker::Model;
 pub const HASH_LEN: usize = 32;
 
 // The one version that the responder has, as an entry of VERSION: 1.2.
-const VERSION_ENTRY: [u8; 2] = [0x00, 0x12];
+const VERSION_ENTRY: [u8; 2] = [0x00, V1_2];
 
 /// The responder, towards the one requester that it knows.
 #[derive(Drop)]
@@ -120,10 +122,10 @@ fn refusal(transfer: u32, message: &[u8]) -> Option<ErrorCode>
     if message.len() > transfer as usize {
         return Some(ErrorCode::RequestTooLarge);
     }
-    if message[1] != 0x84 {
+    if message[1] != GET_VERSION {
         return Some(ErrorCode::UnsupportedRequest);
     }
-    if message[0] != 0x10 {
+    if message[0] != V1_0 {
         return Some(ErrorCode::VersionMismatch);
     }
     match read_request(message, HASH_LEN) {
@@ -159,11 +161,11 @@ fn write_error(phase: Phase, code: ErrorCode, message: &[u8], reply: &mut Frame)
 
 fn error_version(phase: Phase) -> u8
     ensures value { result ≡ error_version phase }
-    ensures sound { (result ≡ 0x10) ⊎ (result ≡ 0x12) }
+    ensures sound { (result ≡ V1_0) ⊎ (result ≡ V1_2) }
 {
     match phase {
-        Phase::Fresh => 0x10,
-        Phase::Versioned => 0x12,
+        Phase::Fresh => V1_0,
+        Phase::Versioned => V1_2,
     }
 }
 

@@ -8,6 +8,10 @@ ghost use Rattle.spdm_codec.specs.Answer.{Gives};
 use crate::cursor::Cursor;
 use crate::put::{TooLong, put, put_four, put_two};
 use spdm_basis::Frame;
+use spdm_grammar::names::MAX_MESSAGE_SIZE;
+use spdm_grammar::names::request_code::NEGOTIATE_ALGORITHMS;
+use spdm_grammar::names::response_code::ALGORITHMS;
+use spdm_grammar::names::spdm_version::V1_2;
 use spdm_grammar::{AlgOffer, AlgReply, Malformed, Request, Response};
 
 /// NEGOTIATE_ALGORITHMS behind its code.
@@ -81,12 +85,12 @@ pub fn write_negotiate_algorithms(offer: &AlgOffer<'_>, out: &mut Frame) -> Resu
     requires ext_asym { length offer.now.ext_asym.now ≤ 1020 }
     requires ext_hash { length offer.now.ext_hash.now ≤ 1020 }
     requires told { 32 + length offer.now.ext_asym.now + length offer.now.ext_hash.now + length offer.now.tables.now < 2 ^ 16 }
-    ensures ok { OnOk result (out.new ≡ 0x12 ∷ 0xe3 ∷ offer_bytes (offer_message offer.now)) }
-    ensures fits { OnOk result (length out.new ≤ 4096) }
-    ensures err { OnErr result (4096 < length (0x12 ∷ 0xe3 ∷ offer_bytes (offer_message offer.now))) }
+    ensures ok { OnOk result (out.new ≡ V1_2 ∷ NEGOTIATE_ALGORITHMS ∷ offer_bytes (offer_message offer.now)) }
+    ensures fits { OnOk result (length out.new ≤ MAX_MESSAGE_SIZE) }
+    ensures err { OnErr result (MAX_MESSAGE_SIZE < length (V1_2 ∷ NEGOTIATE_ALGORITHMS ∷ offer_bytes (offer_message offer.now))) }
 {
     out.clear();
-    put(out, &[0x12, 0xe3, offer.count, 0])?;
+    put(out, &[V1_2, NEGOTIATE_ALGORITHMS, offer.count, 0])?;
     put_two(
         out,
         (32 + offer.ext_asym.len() + offer.ext_hash.len() + offer.tables.len()) as u16,
@@ -114,12 +118,12 @@ pub fn write_algorithms(reply: &AlgReply<'_>, out: &mut Frame) -> Result<(), Too
     requires ext_asym { length reply.now.ext_asym.now ≤ 1020 }
     requires ext_hash { length reply.now.ext_hash.now ≤ 1020 }
     requires told { 36 + length reply.now.ext_asym.now + length reply.now.ext_hash.now + length reply.now.tables.now < 2 ^ 16 }
-    ensures ok { OnOk result (out.new ≡ 0x12 ∷ 0x63 ∷ reply_bytes (reply_message reply.now)) }
-    ensures fits { OnOk result (length out.new ≤ 4096) }
-    ensures err { OnErr result (4096 < length (0x12 ∷ 0x63 ∷ reply_bytes (reply_message reply.now))) }
+    ensures ok { OnOk result (out.new ≡ V1_2 ∷ ALGORITHMS ∷ reply_bytes (reply_message reply.now)) }
+    ensures fits { OnOk result (length out.new ≤ MAX_MESSAGE_SIZE) }
+    ensures err { OnErr result (MAX_MESSAGE_SIZE < length (V1_2 ∷ ALGORITHMS ∷ reply_bytes (reply_message reply.now))) }
 {
     out.clear();
-    put(out, &[0x12, 0x63, reply.count, 0])?;
+    put(out, &[V1_2, ALGORITHMS, reply.count, 0])?;
     put_two(
         out,
         (36 + reply.ext_asym.len() + reply.ext_hash.len() + reply.tables.len()) as u16,

@@ -10,6 +10,8 @@ ghost use Rattle.spdm_grammar.specs.Fields.{caps_bytes};
 use crate::cursor::Cursor;
 use crate::put::{TooLong, put, put_four};
 use spdm_basis::Frame;
+use spdm_grammar::names::MAX_MESSAGE_SIZE;
+use spdm_grammar::names::spdm_version::V1_2;
 use spdm_grammar::{Caps, Malformed};
 
 /// GET_CAPABILITIES or CAPABILITIES behind its code.
@@ -35,12 +37,12 @@ pub fn read_caps(cursor: &mut Cursor<'_>) -> Result<Caps, Malformed>
 
 /// GET_CAPABILITIES or CAPABILITIES, by its code, in place of what `out` holds.
 pub fn write_caps(code: u8, caps: &Caps, out: &mut Frame) -> Result<(), TooLong>
-    ensures ok { OnOk result (out.new ≡ 0x12 ∷ code ∷ caps_bytes caps.now) }
-    ensures fits { OnOk result (length out.new ≤ 4096) }
-    ensures err { OnErr result (4096 < length (0x12 ∷ code ∷ caps_bytes caps.now)) }
+    ensures ok { OnOk result (out.new ≡ V1_2 ∷ code ∷ caps_bytes caps.now) }
+    ensures fits { OnOk result (length out.new ≤ MAX_MESSAGE_SIZE) }
+    ensures err { OnErr result (MAX_MESSAGE_SIZE < length (V1_2 ∷ code ∷ caps_bytes caps.now)) }
 {
     out.clear();
-    put(out, &[0x12, code, 0, 0, 0, caps.ct, 0, 0])?;
+    put(out, &[V1_2, code, 0, 0, 0, caps.ct, 0, 0])?;
     put_four(out, caps.flags)?;
     put_four(out, caps.transfer)?;
     put_four(out, caps.max)

@@ -11,6 +11,8 @@ ghost use Rattle.spdm_grammar.specs.Fields.{chunk_bytes};
 use crate::cursor::Cursor;
 use crate::put::{TooLong, put, put_four, put_optional_four, put_two};
 use spdm_basis::Frame;
+use spdm_grammar::names::MAX_MESSAGE_SIZE;
+use spdm_grammar::names::spdm_version::V1_2;
 use spdm_grammar::{ChunkView, Malformed, Request, Response};
 
 /// CHUNK_SEND or CHUNK_RESPONSE behind its code.
@@ -67,12 +69,12 @@ pub fn read_chunk_send_ack<'a>(cursor: &mut Cursor<'a>) -> Result<Response<'a>, 
 /// CHUNK_SEND or CHUNK_RESPONSE, by its code, in place of what `out` holds.
 pub fn write_chunk(code: u8, chunk: &ChunkView<'_>, out: &mut Frame) -> Result<(), TooLong>
     requires { length chunk.now.chunk.now < 2 ^ 32 }
-    ensures ok { OnOk result (out.new ≡ 0x12 ∷ code ∷ chunk_bytes (chunk_message chunk.now)) }
-    ensures fits { OnOk result (length out.new ≤ 4096) }
-    ensures err { OnErr result (4096 < length (0x12 ∷ code ∷ chunk_bytes (chunk_message chunk.now))) }
+    ensures ok { OnOk result (out.new ≡ V1_2 ∷ code ∷ chunk_bytes (chunk_message chunk.now)) }
+    ensures fits { OnOk result (length out.new ≤ MAX_MESSAGE_SIZE) }
+    ensures err { OnErr result (MAX_MESSAGE_SIZE < length (V1_2 ∷ code ∷ chunk_bytes (chunk_message chunk.now))) }
 {
     out.clear();
-    put(out, &[0x12, code, u8::from(chunk.last), chunk.handle])?;
+    put(out, &[V1_2, code, u8::from(chunk.last), chunk.handle])?;
     put_two(out, chunk.number)?;
     put(out, &[0, 0])?;
     put_four(out, chunk.chunk.len() as u32)?;

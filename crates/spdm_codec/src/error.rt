@@ -5,6 +5,7 @@ ghost use Rattle.spdm_grammar.specs.Message.{response_message};
 ghost use Rattle.spdm_codec.specs.Answer.{Gives};
 
 use crate::cursor::Cursor;
+use spdm_grammar::names::error_number::{LARGE_RESPONSE, RESPONSE_TOO_LARGE};
 use spdm_grammar::{ErrorCode, Malformed, Part, Response};
 
 /// ERROR behind its code.
@@ -14,7 +15,7 @@ pub fn read_error<'a>(cursor: &mut Cursor<'a>, version: u8) -> Result<Response<'
 {
     let code = cursor.byte()?;
     let detail = cursor.byte()?;
-    if code == 0x0d {
+    if code == RESPONSE_TOO_LARGE {
         let extended = cursor.field(4)?;
         cursor.end()?;
         return Ok(Response::Error {
@@ -24,7 +25,7 @@ pub fn read_error<'a>(cursor: &mut Cursor<'a>, version: u8) -> Result<Response<'
             extended,
         });
     }
-    if code == 0x0f {
+    if code == LARGE_RESPONSE {
         let extended = cursor.field(1)?;
         cursor.end()?;
         return Ok(Response::Error {

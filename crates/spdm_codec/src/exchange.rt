@@ -7,6 +7,9 @@ ghost use Rattle.spdm_codec.specs.Answer.{Gives};
 use crate::cursor::{Cursor, not_allowed};
 use crate::put::{TooLong, put, put_two};
 use spdm_basis::Frame;
+use spdm_grammar::names::MAX_MESSAGE_SIZE;
+use spdm_grammar::names::request_code::PSK_EXCHANGE;
+use spdm_grammar::names::spdm_version::V1_2;
 use spdm_grammar::{Exchange, Malformed, Request};
 
 /// PSK_EXCHANGE behind its code.
@@ -53,12 +56,12 @@ pub fn write_psk_exchange(exchange: &Exchange<'_>, out: &mut Frame) -> Result<()
     requires hint { length exchange.now.hint.now < 2 ^ 16 }
     requires context { length exchange.now.context.now < 2 ^ 16 }
     requires opaque { length exchange.now.opaque.now ≤ 1024 }
-    ensures ok { OnOk result (out.new ≡ 0x12 ∷ 0xe6 ∷ exchange_bytes (exchange_message exchange.now)) }
-    ensures fits { OnOk result (length out.new ≤ 4096) }
-    ensures err { OnErr result (4096 < length (0x12 ∷ 0xe6 ∷ exchange_bytes (exchange_message exchange.now))) }
+    ensures ok { OnOk result (out.new ≡ V1_2 ∷ PSK_EXCHANGE ∷ exchange_bytes (exchange_message exchange.now)) }
+    ensures fits { OnOk result (length out.new ≤ MAX_MESSAGE_SIZE) }
+    ensures err { OnErr result (MAX_MESSAGE_SIZE < length (V1_2 ∷ PSK_EXCHANGE ∷ exchange_bytes (exchange_message exchange.now))) }
 {
     out.clear();
-    put(out, &[0x12, 0xe6, exchange.summary, 0])?;
+    put(out, &[V1_2, PSK_EXCHANGE, exchange.summary, 0])?;
     put_two(out, exchange.req_id)?;
     put_two(out, exchange.hint.len() as u16)?;
     put_two(out, exchange.context.len() as u16)?;

@@ -7,6 +7,9 @@ ghost use Rattle.spdm_codec.specs.Answer.{Gives};
 use crate::cursor::{Cursor, not_allowed};
 use crate::put::{TooLong, put, put_two};
 use spdm_basis::Frame;
+use spdm_grammar::names::MAX_MESSAGE_SIZE;
+use spdm_grammar::names::response_code::PSK_EXCHANGE_RSP;
+use spdm_grammar::names::spdm_version::V1_2;
 use spdm_grammar::{ExchangeRsp, Malformed, Response};
 
 /// PSK_EXCHANGE_RSP behind its code.
@@ -58,12 +61,12 @@ fn summary_len(hash_len: usize, has_summary: bool) -> usize
 pub fn write_psk_exchange_rsp(exchange: &ExchangeRsp<'_>, out: &mut Frame) -> Result<(), TooLong>
     requires context { length exchange.now.context.now < 2 ^ 16 }
     requires opaque { length exchange.now.opaque.now ≤ 1024 }
-    ensures ok { OnOk result (out.new ≡ 0x12 ∷ 0x66 ∷ exchange_rsp_bytes (exchange_rsp_message exchange.now)) }
-    ensures fits { OnOk result (length out.new ≤ 4096) }
-    ensures err { OnErr result (4096 < length (0x12 ∷ 0x66 ∷ exchange_rsp_bytes (exchange_rsp_message exchange.now))) }
+    ensures ok { OnOk result (out.new ≡ V1_2 ∷ PSK_EXCHANGE_RSP ∷ exchange_rsp_bytes (exchange_rsp_message exchange.now)) }
+    ensures fits { OnOk result (length out.new ≤ MAX_MESSAGE_SIZE) }
+    ensures err { OnErr result (MAX_MESSAGE_SIZE < length (V1_2 ∷ PSK_EXCHANGE_RSP ∷ exchange_rsp_bytes (exchange_rsp_message exchange.now))) }
 {
     out.clear();
-    put(out, &[0x12, 0x66, exchange.heartbeat, 0])?;
+    put(out, &[V1_2, PSK_EXCHANGE_RSP, exchange.heartbeat, 0])?;
     put_two(out, exchange.rsp_id)?;
     put(out, &[0, 0])?;
     put_two(out, exchange.context.len() as u16)?;

@@ -11,6 +11,7 @@ ghost use Rattle.spdm_codec.specs.Feed.{fault_in, AwaitsRequest, AwaitsResponse}
 
 use crate::{Expect, read_request, read_response};
 use spdm_basis::Frame;
+use spdm_grammar::names::MAX_MESSAGE_SIZE;
 use spdm_grammar::{Malformed, Part, Request, Response};
 use std::marker::Model;
 use thiserror::Error;
@@ -60,9 +61,9 @@ impl Feed {
         ensures ok { OnOk result (self.new ≡ record { expect = self.old.expect; bytes = self.old.bytes ++ piece.now }) }
         ensures err { OnErr result (self.new ≡ self.old) }
 
-        ensures too_long { (result ≡ Err FeedFault.TooLong) ↔ (4096 < length self.old.bytes + length piece.now) }
+        ensures too_long { (result ≡ Err FeedFault.TooLong) ↔ (MAX_MESSAGE_SIZE < length self.old.bytes + length piece.now) }
         ensures bad { (fault : Malformed) → (result ≡ Err (FeedFault.Bad fault)) ↔
-            ((length self.old.bytes + length piece.now ≤ 4096)
+            ((length self.old.bytes + length piece.now ≤ MAX_MESSAGE_SIZE)
             × (fault_in self.old.expect (self.old.bytes ++ piece.now) ≡ Some fault)
             × (fault.what ≢ End)) }
     {

@@ -10,6 +10,9 @@ ghost use Rattle.spdm_grammar.specs.Message.{measured_message};
 use crate::cursor::{Cursor, not_allowed};
 use crate::put::{TooLong, put, put_three, put_two};
 use spdm_basis::Frame;
+use spdm_grammar::names::MAX_MESSAGE_SIZE;
+use spdm_grammar::names::response_code::MEASUREMENTS;
+use spdm_grammar::names::spdm_version::V1_2;
 use spdm_grammar::{Malformed, Measured, Request, Response};
 
 /// GET_MEASUREMENTS behind its code.
@@ -58,12 +61,15 @@ pub fn read_measurements<'a>(cursor: &mut Cursor<'a>) -> Result<Response<'a>, Ma
 pub fn write_measurements(measured: &Measured<'_>, out: &mut Frame) -> Result<(), TooLong>
     requires block_bytes { length measured.now.block_bytes.now < 2 ^ 24 }
     requires opaque { length measured.now.opaque.now ≤ 1024 }
-    ensures ok { OnOk result (out.new ≡ 0x12 ∷ 0x60 ∷ measured_bytes (measured_message measured.now)) }
-    ensures fits { OnOk result (length out.new ≤ 4096) }
-    ensures err { OnErr result (4096 < length (0x12 ∷ 0x60 ∷ measured_bytes (measured_message measured.now))) }
+    ensures ok { OnOk result (out.new ≡ V1_2 ∷ MEASUREMENTS ∷ measured_bytes (measured_message measured.now)) }
+    ensures fits { OnOk result (length out.new ≤ MAX_MESSAGE_SIZE) }
+    ensures err { OnErr result (MAX_MESSAGE_SIZE < length (V1_2 ∷ MEASUREMENTS ∷ measured_bytes (measured_message measured.now))) }
 {
     out.clear();
-    put(out, &[0x12, 0x60, measured.total, 0, measured.blocks])?;
+    put(
+        out,
+        &[V1_2, MEASUREMENTS, measured.total, 0, measured.blocks],
+    )?;
     put_three(out, measured.block_bytes.len() as u32)?;
     put(out, measured.block_bytes)?;
     put(out, measured.nonce)?;

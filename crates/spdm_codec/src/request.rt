@@ -2,7 +2,8 @@ ghost use Rattle.std.specs.Prelude.{◌≡◌, ◌<◌, length, ℕ, List, IfOk,
 ghost use Rattle.std.specs.Option.{option_map};
 ghost use Rattle.std.specs.Result.{result_ok, result_err};
 ghost use Rattle.spdm_grammar.specs.Reading.{read};
-ghost use Rattle.spdm_grammar.specs.Requests.{IsRequestSpelling, request_in, request_fault, request_reading, is_request_code, request_body, IsSoundRequest, canonical_request};
+ghost use Rattle.spdm_grammar.specs.Requests.{IsRequestSpelling, request_in, request_fault, request_reading, request_body, IsSoundRequest, canonical_request};
+ghost use Rattle.spdm_grammar.specs.Codes.{is_request_code};
 ghost use Rattle.spdm_grammar.specs.Message.{RequestMessage, request_message};
 ghost use Rattle.spdm_codec.specs.Answer.{Gives};
 
@@ -19,19 +20,22 @@ use crate::measurements::read_get_measurements;
 use crate::put::{TooLong, put, put_two};
 use crate::version::read_get_version;
 use spdm_basis::Frame;
+use spdm_grammar::names::request_code::{
+    CHUNK_GET, CHUNK_SEND, END_SESSION, GET_CAPABILITIES, GET_MEASUREMENTS, GET_VERSION, HEARTBEAT,
+    KEY_UPDATE, NEGOTIATE_ALGORITHMS, PSK_EXCHANGE, PSK_FINISH,
+};
+use spdm_grammar::names::spdm_version::{V1_0, V1_2};
+use spdm_grammar::names::{MAX_MESSAGE_SIZE, REQUESTS_OF_V1_2, is_one_of};
 use spdm_grammar::{Malformed, Request};
 
-// Whether a request of this code is one of this SPDMVersion, 0x10 or 0x12.
+// Whether a request of this code is one of this SPDMVersion, 1.0 or 1.2.
 fn is_known_code(version: u8, code: u8) -> bool
     ensures { result ≡ is_request_code version code }
 {
-    if version == 0x10 {
-        code == 0x84
+    if version == V1_0 {
+        code == GET_VERSION
     } else {
-        matches!(
-            code,
-            0xe1 | 0xe3 | 0xe0 | 0xe6 | 0xe7 | 0xe8 | 0xe9 | 0xec | 0x85 | 0x86
-        )
+        is_one_of(&REQUESTS_OF_V1_2, code)
     }
 }
 
@@ -45,16 +49,16 @@ fn read_body<'a>(
     ensures { Gives request_message result (read (request_body hash_len code) cursor.old) }
 {
     match code {
-        0x84 => read_get_version(cursor),
-        0xe1 => Ok(Request::GetCapabilities(read_caps(cursor)?)),
-        0xe3 => read_negotiate_algorithms(cursor),
-        0xe0 => read_get_measurements(cursor),
-        0xe6 => read_psk_exchange(cursor, hash_len),
-        0xe7 => read_psk_finish(cursor, hash_len),
-        0xe8 => read_heartbeat(cursor),
-        0xe9 => read_key_update(cursor),
-        0xec => read_end_session(cursor),
-        0x85 => Ok(Request::ChunkSend(read_chunk(cursor)?)),
+        GET_VERSION => read_get_version(cursor),
+        GET_CAPABILITIES => Ok(Request::GetCapabilities(read_caps(cursor)?)),
+        NEGOTIATE_ALGORITHMS => read_negotiate_algorithms(cursor),
+        GET_MEASUREMENTS => read_get_measurements(cursor),
+        PSK_EXCHANGE => read_psk_exchange(cursor, hash_len),
+        PSK_FINISH => read_psk_finish(cursor, hash_len),
+        HEARTBEAT => read_heartbeat(cursor),
+        KEY_UPDATE => read_key_update(cursor),
+        END_SESSION => read_end_session(cursor),
+        CHUNK_SEND => Ok(Request::ChunkSend(read_chunk(cursor)?)),
         _ => read_chunk_get(cursor),
     }
 }
@@ -65,7 +69,7 @@ fn read_whole(bytes: &[u8], hash_len: usize) -> Result<Request<'_>, Malformed>
 {
     let mut cursor = Cursor::new(bytes);
     let version = cursor.byte()?;
-    if !matches!(version, 0x10 | 0x12) {
+    if !matches!(version, V1_0 | V1_2) {
         return Err(not_allowed(0));
     }
     let at = cursor.at();
@@ -96,26 +100,26 @@ pub fn read_request(bytes: &[u8], hash_len: usize) -> Result<Request<'_>, Malfor
 pub fn write_request(message: &Request<'_>, hash_len: usize, out: &mut Frame) -> Result<(), TooLong>
     requires { IsSoundRequest hash_len (request_message message.now) }
     ensures ok { OnOk result (out.new ≡ canonical_request (request_message message.now)) }
-    ensures fits { OnOk result (length out.new ≤ 4096) }
-    ensures err { OnErr result (4096 < length (canonical_request (request_message message.now))) }
+    ensures fits { OnOk result (length out.new ≤ MAX_MESSAGE_SIZE) }
+    ensures err { OnErr result (MAX_MESSAGE_SIZE < length (canonical_request (request_message message.now))) }
 {
     out.clear();
     match message {
-        Request::GetVersion => put(out, &[0x10, 0x84, 0, 0]),
-        Request::GetCapabilities(caps) => write_caps(0xe1, caps, out),
+        Request::GetVersion => put(out, &[V1_0, GET_VERSION, 0, 0]),
+        Request::GetCapabilities(caps) => write_caps(GET_CAPABILITIES, caps, out),
         Request::NegotiateAlgorithms(offer) => write_negotiate_algorithms(offer, out),
-        Request::GetMeasurements { op } => put(out, &[0x12, 0xe0, 0, *op]),
+        Request::GetMeasurements { op } => put(out, &[V1_2, GET_MEASUREMENTS, 0, *op]),
         Request::PskExchange(exchange) => write_psk_exchange(exchange, out),
         Request::PskFinish { verify } => {
-            put(out, &[0x12, 0xe7, 0, 0])?;
+            put(out, &[V1_2, PSK_FINISH, 0, 0])?;
             put(out, verify)
         }
-        Request::Heartbeat => put(out, &[0x12, 0xe8, 0, 0]),
-        Request::KeyUpdate { op, tag } => put(out, &[0x12, 0xe9, *op, *tag]),
-        Request::EndSession => put(out, &[0x12, 0xec, 0, 0]),
-        Request::ChunkSend(chunk) => write_chunk(0x85, chunk, out),
+        Request::Heartbeat => put(out, &[V1_2, HEARTBEAT, 0, 0]),
+        Request::KeyUpdate { op, tag } => put(out, &[V1_2, KEY_UPDATE, *op, *tag]),
+        Request::EndSession => put(out, &[V1_2, END_SESSION, 0, 0]),
+        Request::ChunkSend(chunk) => write_chunk(CHUNK_SEND, chunk, out),
         Request::ChunkGet { handle, number } => {
-            put(out, &[0x12, 0x86, 0, *handle])?;
+            put(out, &[V1_2, CHUNK_GET, 0, *handle])?;
             put_two(out, *number)
         }
     }

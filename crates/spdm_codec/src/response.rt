@@ -2,7 +2,8 @@ ghost use Rattle.std.specs.Prelude.{◌≡◌, ◌<◌, length, IfOk, IsOkAnd, O
 ghost use Rattle.std.specs.Option.{option_map};
 ghost use Rattle.std.specs.Result.{result_ok, result_err};
 ghost use Rattle.spdm_grammar.specs.Reading.{read};
-ghost use Rattle.spdm_grammar.specs.Responses.{IsResponseSpelling, response_in, response_fault, response_reading, is_response_code, response_body, IsSoundResponse, canonical_response};
+ghost use Rattle.spdm_grammar.specs.Responses.{IsResponseSpelling, response_in, response_fault, response_reading, response_body, IsSoundResponse, canonical_response};
+ghost use Rattle.spdm_grammar.specs.Codes.{is_response_code};
 ghost use Rattle.spdm_grammar.specs.Message.{ResponseMessage, response_message};
 ghost use Rattle.spdm_codec.specs.Answer.{Gives};
 
@@ -20,6 +21,12 @@ use crate::measurements::{read_measurements, write_measurements};
 use crate::put::{TooLong, put, put_two};
 use crate::version::read_version;
 use spdm_basis::Frame;
+use spdm_grammar::names::response_code::{
+    ALGORITHMS, CAPABILITIES, CHUNK_RESPONSE, CHUNK_SEND_ACK, END_SESSION_ACK, ERROR,
+    HEARTBEAT_ACK, KEY_UPDATE_ACK, MEASUREMENTS, PSK_EXCHANGE_RSP, PSK_FINISH_RSP, VERSION,
+};
+use spdm_grammar::names::spdm_version::{V1_0, V1_2};
+use spdm_grammar::names::{MAX_MESSAGE_SIZE, RESPONSES_OF_V1_0, RESPONSES_OF_V1_2, is_one_of};
 use spdm_grammar::{Malformed, Response};
 
 // What decides how long the parts of a response are.
@@ -29,17 +36,14 @@ struct Lengths {
     has_summary: bool,
 }
 
-// Whether a response of this code is one of this SPDMVersion, 0x10 or 0x12.
+// Whether a response of this code is one of this SPDMVersion, 1.0 or 1.2.
 fn is_known_code(version: u8, code: u8) -> bool
     ensures { result ≡ is_response_code version code }
 {
-    if version == 0x10 {
-        matches!(code, 0x04 | 0x7f)
+    if version == V1_0 {
+        is_one_of(&RESPONSES_OF_V1_0, code)
     } else {
-        matches!(
-            code,
-            0x7f | 0x61 | 0x63 | 0x60 | 0x66 | 0x67 | 0x68 | 0x69 | 0x6c | 0x05 | 0x06
-        )
+        is_one_of(&RESPONSES_OF_V1_2, code)
     }
 }
 
@@ -54,17 +58,17 @@ fn read_body<'a>(
     ensures { Gives response_message result (read (response_body lengths.hash_len lengths.has_summary version code) cursor.old) }
 {
     match code {
-        0x04 => read_version(cursor),
-        0x7f => read_error(cursor, version),
-        0x61 => Ok(Response::Capabilities(read_caps(cursor)?)),
-        0x63 => read_algorithms(cursor),
-        0x60 => read_measurements(cursor),
-        0x66 => read_psk_exchange_rsp(cursor, lengths.hash_len, lengths.has_summary),
-        0x67 => read_psk_finish_rsp(cursor),
-        0x68 => read_heartbeat_ack(cursor),
-        0x69 => read_key_update_ack(cursor),
-        0x6c => read_end_session_ack(cursor),
-        0x05 => read_chunk_send_ack(cursor),
+        VERSION => read_version(cursor),
+        ERROR => read_error(cursor, version),
+        CAPABILITIES => Ok(Response::Capabilities(read_caps(cursor)?)),
+        ALGORITHMS => read_algorithms(cursor),
+        MEASUREMENTS => read_measurements(cursor),
+        PSK_EXCHANGE_RSP => read_psk_exchange_rsp(cursor, lengths.hash_len, lengths.has_summary),
+        PSK_FINISH_RSP => read_psk_finish_rsp(cursor),
+        HEARTBEAT_ACK => read_heartbeat_ack(cursor),
+        KEY_UPDATE_ACK => read_key_update_ack(cursor),
+        END_SESSION_ACK => read_end_session_ack(cursor),
+        CHUNK_SEND_ACK => read_chunk_send_ack(cursor),
         _ => Ok(Response::ChunkResponse(read_chunk(cursor)?)),
     }
 }
@@ -75,7 +79,7 @@ fn read_whole(bytes: &[u8], lengths: Lengths) -> Result<Response<'_>, Malformed>
 {
     let mut cursor = Cursor::new(bytes);
     let version = cursor.byte()?;
-    if !matches!(version, 0x10 | 0x12) {
+    if !matches!(version, V1_0 | V1_2) {
         return Err(not_allowed(0));
     }
     let at = cursor.at();
@@ -123,41 +127,41 @@ pub fn write_response(
 ) -> Result<(), TooLong>
     requires { IsSoundResponse hash_len summary (response_message message.now) }
     ensures ok { OnOk result (out.new ≡ canonical_response (response_message message.now)) }
-    ensures fits { OnOk result (length out.new ≤ 4096) }
-    ensures err { OnErr result (4096 < length (canonical_response (response_message message.now))) }
+    ensures fits { OnOk result (length out.new ≤ MAX_MESSAGE_SIZE) }
+    ensures err { OnErr result (MAX_MESSAGE_SIZE < length (canonical_response (response_message message.now))) }
 {
     out.clear();
     match message {
         Response::Version { entries } => {
-            put(out, &[0x10, 0x04, 0, 0, 0, (entries.len() / 2) as u8])?;
+            put(out, &[V1_0, VERSION, 0, 0, 0, (entries.len() / 2) as u8])?;
             put(out, entries)
         }
-        Response::Capabilities(caps) => write_caps(0x61, caps, out),
+        Response::Capabilities(caps) => write_caps(CAPABILITIES, caps, out),
         Response::Algorithms(reply) => write_algorithms(reply, out),
         Response::Measurements(measured) => write_measurements(measured, out),
         Response::PskExchangeRsp(exchange) => write_psk_exchange_rsp(exchange, out),
-        Response::PskFinishRsp => put(out, &[0x12, 0x67, 0, 0]),
-        Response::HeartbeatAck => put(out, &[0x12, 0x68, 0, 0]),
-        Response::KeyUpdateAck { op, tag } => put(out, &[0x12, 0x69, *op, *tag]),
-        Response::EndSessionAck => put(out, &[0x12, 0x6c, 0, 0]),
+        Response::PskFinishRsp => put(out, &[V1_2, PSK_FINISH_RSP, 0, 0]),
+        Response::HeartbeatAck => put(out, &[V1_2, HEARTBEAT_ACK, 0, 0]),
+        Response::KeyUpdateAck { op, tag } => put(out, &[V1_2, KEY_UPDATE_ACK, *op, *tag]),
+        Response::EndSessionAck => put(out, &[V1_2, END_SESSION_ACK, 0, 0]),
         Response::ChunkSendAck {
             early,
             handle,
             number,
             response,
         } => {
-            put(out, &[0x12, 0x05, u8::from(*early), *handle])?;
+            put(out, &[V1_2, CHUNK_SEND_ACK, u8::from(*early), *handle])?;
             put_two(out, *number)?;
             put(out, response)
         }
-        Response::ChunkResponse(chunk) => write_chunk(0x06, chunk, out),
+        Response::ChunkResponse(chunk) => write_chunk(CHUNK_RESPONSE, chunk, out),
         Response::Error {
             version,
             code,
             detail,
             extended,
         } => {
-            put(out, &[*version, 0x7f, *code, *detail])?;
+            put(out, &[*version, ERROR, *code, *detail])?;
             put(out, extended)
         }
     }

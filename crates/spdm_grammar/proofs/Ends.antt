@@ -15,6 +15,7 @@ use Rattle.spdm_grammar.specs.Responses.{response_layout, response_body, version
 use Rattle.spdm_grammar.proofs.Steps.{then_ok, passed, ok_is, Takes, Between, field_takes, number_takes, optional_none, optional_some, tables_take}
 use Rattle.spdm_grammar.proofs.Longer.{longer, field_longer, number_longer, optional_longer, tables_longer}
 use Rattle.spdm_grammar.proofs.Spellings.{spelling_read}
+use Rattle.spdm_grammar.specs.declared.names.error_number.TheConstants.{RESPONSE_TOO_LARGE, LARGE_RESPONSE}
 
 -- the values of those ends that take all the rest
 abbrev pub OpenEnds : {A : Type 0} → (A → Type 0) → Layout A → Type 0
@@ -197,7 +198,7 @@ version_ends = record { are = λ _ _ _. tt }
 
 error_ends : (version : ℕ) → HasEnds Open (error_layout version)
 unfolding error_layout
-error_ends version = record { are = λ code detail. (either_ends (eqb code 0x0d) (one_field_ends version code detail 4) (either_ends (eqb code 0x0f) (one_field_ends version code detail 1) (open_ends version code detail))).are }
+error_ends version = record { are = λ code detail. (either_ends (eqb code RESPONSE_TOO_LARGE) (one_field_ends version code detail 4) (either_ends (eqb code LARGE_RESPONSE) (one_field_ends version code detail 1) (open_ends version code detail))).are }
 
 capabilities_ends : HasEnds Open (capabilities_layout)
 unfolding capabilities_layout

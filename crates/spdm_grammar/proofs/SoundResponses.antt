@@ -8,13 +8,15 @@ use Rattle.spdm_grammar.specs.Message.ResponseMessage.{Capabilities, ChunkRespon
 use Rattle.spdm_grammar.specs.Responses.{response_layout, response_body, version_layout, capabilities_layout, algorithms_layout, measurements_layout, psk_exchange_rsp_layout, psk_finish_rsp_layout, heartbeat_ack_layout, key_update_ack_layout, end_session_ack_layout, chunk_send_ack_layout, chunk_response_layout, error_layout, FitsResponse, IsSoundResponse, IsResponseSpelling}
 use Rattle.spdm_grammar.proofs.Sound.{AreBytes, HasValues, value_of, either_values, tested_values, both_of, one_of}
 use Rattle.spdm_grammar.proofs.SoundRequests.{caps_values, chunk_values}
+use Rattle.spdm_grammar.specs.declared.names.error_number.TheConstants.{RESPONSE_TOO_LARGE, LARGE_RESPONSE}
+use Rattle.spdm_grammar.specs.declared.names.spdm_version.TheConstants.{V1_0, V1_2}
 
 abbrev Good : ℕ → Bool → ResponseMessage → Type 0
 Good h s m = FitsResponse m × IsSoundResponse h s m
 
 -- SPDMVersion is 1.0 or 1.2
 abbrev IsKnown : ℕ → Type 0
-IsKnown version = (version ≡ 0x10) ⊎ (version ≡ 0x12)
+IsKnown version = (version ≡ V1_0) ⊎ (version ≡ V1_2)
 
 version_values : (h : ℕ) (s : Bool) → HasValues (Good h s) version_layout 2
 unfolding version_layout
@@ -97,14 +99,14 @@ chunk_response h s = record { are = chunk_values (Good h s) ChunkResponse 2 (λ 
 error : (h : ℕ) (s : Bool) (version : ℕ) → IsKnown version → HasValues (Good h s) (error_layout version) 2
 unfolding error_layout
 error h s version known = record {
-  are = λ code code_fits _ detail detail_fits _. (tested_values {P = Good h s} {at = 4} (eqb code 0x0d)
+  are = λ code code_fits _ detail detail_fits _. (tested_values {P = Good h s} {at = 4} (eqb code RESPONSE_TOO_LARGE)
       (Bytes 4 (λ extended. Whole (Error version code detail extended)))
-      (cond (eqb code 0x0f) (Bytes 1 (λ extended. Whole (Error version code detail extended))) (UpTo 32 (λ extended. Error version code detail extended)))
-      (λ is. let here : code ≡ 0x0d = eqb-true _ _ is in record { are = λ extended long. ((code_fits, detail_fits), (known, ((λ _. long), (λ e. absurd (omega (arith, here, e))), omega (arith, long)))) })
-      (λ not_large. tested_values {P = Good h s} {at = 4} (eqb code 0x0f)
+      (cond (eqb code LARGE_RESPONSE) (Bytes 1 (λ extended. Whole (Error version code detail extended))) (UpTo 32 (λ extended. Error version code detail extended)))
+      (λ is. let here : code ≡ RESPONSE_TOO_LARGE = eqb-true _ _ is in record { are = λ extended long. ((code_fits, detail_fits), (known, ((λ _. long), (λ e. absurd (omega (arith, here, e))), omega (arith, long)))) })
+      (λ not_large. tested_values {P = Good h s} {at = 4} (eqb code LARGE_RESPONSE)
       (Bytes 1 (λ extended. Whole (Error version code detail extended)))
       (UpTo 32 (λ extended. Error version code detail extended))
-      (λ is. let here : code ≡ 0x0f = eqb-true _ _ is in record { are = λ extended long. ((code_fits, detail_fits), (known, ((λ e. absurd (omega (arith, here, e))), (λ _. long), omega (arith, long)))) })
+      (λ is. let here : code ≡ LARGE_RESPONSE = eqb-true _ _ is in record { are = λ extended long. ((code_fits, detail_fits), (known, ((λ e. absurd (omega (arith, here, e))), (λ _. long), omega (arith, long)))) })
       (λ not_handle. record { are = λ extended few. ((code_fits, detail_fits), (known, ((λ e. absurd (eqb-false _ _ not_large e)), (λ e. absurd (eqb-false _ _ not_handle e)), few))) }))).are;
 }
 
@@ -124,9 +126,9 @@ body h s version code known =
     (either_values _ (chunk_send_ack h s)
     (chunk_response h s)))))))))))
 
-known_version : (version : ℕ) → (eqb version 0x10 || eqb version 0x12) ≡ true → IsKnown version
+known_version : (version : ℕ) → (eqb version V1_0 || eqb version V1_2) ≡ true → IsKnown version
 known_version version e =
-    elim (one_of (eqb version 0x10) (eqb version 0x12) e) [ inl is ↦ inl (eqb-true _ _ is) | inr is ↦ inr (eqb-true _ _ is) ]
+    elim (one_of (eqb version V1_0) (eqb version V1_2) e) [ inl is ↦ inl (eqb-true _ _ is) | inr is ↦ inr (eqb-true _ _ is) ]
 
 -- what bytes spell fits and is sound
 pub spelled_response : (h : ℕ) (s : Bool) (m : ResponseMessage) (bytes : List ℕ) → AreBytes bytes → IsResponseSpelling h s m bytes → FitsResponse m × IsSoundResponse h s m

@@ -3,9 +3,9 @@ pub mod Message
 pub mod Layout
 pub mod Reading
 pub mod Fields
+pub mod Codes
 pub mod Requests
 pub mod Responses
 pub mod Ends
 pub mod Tables
-pub mod View
 pub mod Lines

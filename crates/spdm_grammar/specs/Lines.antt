@@ -6,7 +6,7 @@ use Rattle.spdm_grammar.specs.declared.event.Event.{Event}
 use Rattle.spdm_grammar.specs.declared.heard.Heard.{Heard}
 use Rattle.spdm_grammar.specs.declared.heard.ReplyFault.{ReplyFault}
 use Rattle.spdm_grammar.specs.declared.phase.Phase.{Phase}
-use Rattle.spdm_grammar.specs.View.{View}
+use Rattle.spdm_grammar.specs.declared.session_view.SessionView.{SessionView}
 
 -- Whose line it is: that of requester n, or that of the responder towards requester n, counted from 1.
 pub data Whose : Type 0 where
@@ -17,7 +17,7 @@ pub data Whose : Type 0 where
 pub data Line : Type 0 where
   -- The phase of an end, and a session of it.
   State : (whose : Whose) → (phase : Phase) → Line
-  Session : (whose : Whose) → (view : View) → Line
+  Session : (whose : Whose) → (view : SessionView) → Line
   -- The event of this line of the script follows.
   At : (number : ℕ) → Line
   -- A command was done, or not.

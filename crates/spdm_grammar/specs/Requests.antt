@@ -3,12 +3,15 @@ use Rattle.std.specs.Prelude.{◌≡◌, ◌<◌, ◌≤◌, ◌^◌, ◌+◌, �
 use Rattle.std.specs.Result.{result_ok, result_err}
 use Rattle.byteorder.specs.Endian.{little_bytes}
 use Rattle.spdm_grammar.specs.declared.malformed.Malformed.{Malformed}
+use Rattle.spdm_grammar.specs.Codes.{is_request_code}
 use Rattle.spdm_grammar.specs.Layout.{Layout, IsSpelling, reserved, AreTables}
 use Rattle.spdm_grammar.specs.Layout.Layout.{Whole, Sized, Number, Bytes, Tables}
 use Rattle.spdm_grammar.specs.Reading.{read, front}
 use Rattle.spdm_grammar.specs.Fields.{any, is_even, is_key_operation, is_summary, is_opaque_length, FitsCaps, FitsChunk, IsSoundChunk, caps_bytes, chunk_bytes, zeros, caps_layout, chunk_layout}
 use Rattle.spdm_grammar.specs.Message.{RequestMessage, OfferMessage, ExchangeMessage}
 use Rattle.spdm_grammar.specs.Message.RequestMessage.{GetVersion, GetCapabilities, NegotiateAlgorithms, GetMeasurements, PskExchange, PskFinish, Heartbeat, KeyUpdate, EndSession, ChunkSend, ChunkGet}
+use Rattle.spdm_grammar.specs.declared.names.request_code.TheConstants.{GET_VERSION, CHUNK_SEND, CHUNK_GET, GET_MEASUREMENTS, GET_CAPABILITIES, NEGOTIATE_ALGORITHMS, PSK_EXCHANGE, PSK_FINISH, HEARTBEAT, KEY_UPDATE, END_SESSION}
+use Rattle.spdm_grammar.specs.declared.names.spdm_version.TheConstants.{V1_0, V1_2}
 
 -- ---- The fields of each request behind SPDMVersion and code. Param1 and Param2 come first; where they mean nothing they are reserved.
 
@@ -83,31 +86,25 @@ chunk_get_layout = reserved 1 (Number 1 any (λ handle. Number 2 any (λ number.
 
 -- ---- The whole request
 
--- A request of SPDMVersion 1.0 is GET_VERSION, and the ten others are of 1.2.
-abbrev pub is_request_code : ℕ → ℕ → Bool
-is_request_code version code =
-    if version == 0x10 then code == 0x84
-    else code == 0xe1 || code == 0xe3 || code == 0xe0 || code == 0xe6 || code == 0xe7 || code == 0xe8 || code == 0xe9 || code == 0xec || code == 0x85 || code == 0x86
-
 -- The fields behind a code that goes with its SPDMVersion.
 unfoldable pub request_body : ℕ → ℕ → Layout RequestMessage
 request_body hash_len code =
-    if code == 0x84 then get_version_layout
-    else (if code == 0xe1 then get_capabilities_layout
-    else (if code == 0xe3 then negotiate_algorithms_layout
-    else (if code == 0xe0 then get_measurements_layout
-    else (if code == 0xe6 then psk_exchange_layout hash_len
-    else (if code == 0xe7 then psk_finish_layout hash_len
-    else (if code == 0xe8 then heartbeat_layout
-    else (if code == 0xe9 then key_update_layout
-    else (if code == 0xec then end_session_layout
-    else (if code == 0x85 then chunk_send_layout
+    if code == GET_VERSION then get_version_layout
+    else (if code == GET_CAPABILITIES then get_capabilities_layout
+    else (if code == NEGOTIATE_ALGORITHMS then negotiate_algorithms_layout
+    else (if code == GET_MEASUREMENTS then get_measurements_layout
+    else (if code == PSK_EXCHANGE then psk_exchange_layout hash_len
+    else (if code == PSK_FINISH then psk_finish_layout hash_len
+    else (if code == HEARTBEAT then heartbeat_layout
+    else (if code == KEY_UPDATE then key_update_layout
+    else (if code == END_SESSION then end_session_layout
+    else (if code == CHUNK_SEND then chunk_send_layout
     else chunk_get_layout)))))))))
 
 -- SPDMVersion, then a code that goes with it, then what belongs to the code.
 abbrev pub request_layout : ℕ → Layout RequestMessage
 request_layout hash_len =
-    Number 1 (λ version. version == 0x10 || version == 0x12) (λ version.
+    Number 1 (λ version. version == V1_0 || version == V1_2) (λ version.
     Number 1 (is_request_code version) (λ code.
     request_body hash_len code))
 
@@ -199,14 +196,14 @@ exchange_bytes exchange =
 
 -- The one spelling that is written: zero in each reserved field.
 abbrev pub canonical_request : RequestMessage → List ℕ
-canonical_request GetVersion = 0x10 ∷ 0x84 ∷ 0 ∷ 0 ∷ []
-canonical_request (GetCapabilities caps) = (0x12 ∷ 0xe1 ∷ []) ++ caps_bytes caps
-canonical_request (NegotiateAlgorithms offer) = (0x12 ∷ 0xe3 ∷ []) ++ offer_bytes offer
-canonical_request (GetMeasurements op) = 0x12 ∷ 0xe0 ∷ 0 ∷ op ∷ []
-canonical_request (PskExchange exchange) = (0x12 ∷ 0xe6 ∷ []) ++ exchange_bytes exchange
-canonical_request (PskFinish verify) = (0x12 ∷ 0xe7 ∷ 0 ∷ 0 ∷ []) ++ verify
-canonical_request Heartbeat = 0x12 ∷ 0xe8 ∷ 0 ∷ 0 ∷ []
-canonical_request (KeyUpdate op tag) = 0x12 ∷ 0xe9 ∷ op ∷ tag ∷ []
-canonical_request EndSession = 0x12 ∷ 0xec ∷ 0 ∷ 0 ∷ []
-canonical_request (ChunkSend chunk) = (0x12 ∷ 0x85 ∷ []) ++ chunk_bytes chunk
-canonical_request (ChunkGet handle number) = (0x12 ∷ 0x86 ∷ 0 ∷ handle ∷ []) ++ little_bytes 2 number
+canonical_request GetVersion = V1_0 ∷ GET_VERSION ∷ 0 ∷ 0 ∷ []
+canonical_request (GetCapabilities caps) = (V1_2 ∷ GET_CAPABILITIES ∷ []) ++ caps_bytes caps
+canonical_request (NegotiateAlgorithms offer) = (V1_2 ∷ NEGOTIATE_ALGORITHMS ∷ []) ++ offer_bytes offer
+canonical_request (GetMeasurements op) = V1_2 ∷ GET_MEASUREMENTS ∷ 0 ∷ op ∷ []
+canonical_request (PskExchange exchange) = (V1_2 ∷ PSK_EXCHANGE ∷ []) ++ exchange_bytes exchange
+canonical_request (PskFinish verify) = (V1_2 ∷ PSK_FINISH ∷ 0 ∷ 0 ∷ []) ++ verify
+canonical_request Heartbeat = V1_2 ∷ HEARTBEAT ∷ 0 ∷ 0 ∷ []
+canonical_request (KeyUpdate op tag) = V1_2 ∷ KEY_UPDATE ∷ op ∷ tag ∷ []
+canonical_request EndSession = V1_2 ∷ END_SESSION ∷ 0 ∷ 0 ∷ []
+canonical_request (ChunkSend chunk) = (V1_2 ∷ CHUNK_SEND ∷ []) ++ chunk_bytes chunk
+canonical_request (ChunkGet handle number) = (V1_2 ∷ CHUNK_GET ∷ 0 ∷ handle ∷ []) ++ little_bytes 2 number

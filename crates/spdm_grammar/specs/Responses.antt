@@ -3,12 +3,16 @@ use Rattle.std.specs.Prelude.{◌≡◌, ◌<◌, ◌≤◌, ◌^◌, ◌+◌, �
 use Rattle.std.specs.Result.{result_ok, result_err}
 use Rattle.byteorder.specs.Endian.{little_bytes}
 use Rattle.spdm_grammar.specs.declared.malformed.Malformed.{Malformed}
+use Rattle.spdm_grammar.specs.Codes.{is_response_code}
 use Rattle.spdm_grammar.specs.Layout.{Layout, IsSpelling, reserved, AreTables}
 use Rattle.spdm_grammar.specs.Layout.Layout.{Whole, Sized, Number, Bytes, Tables, UpTo, Remaining}
 use Rattle.spdm_grammar.specs.Reading.{read, front}
 use Rattle.spdm_grammar.specs.Fields.{any, is_key_operation, is_opaque_length, FitsCaps, FitsChunk, IsSoundChunk, caps_bytes, chunk_bytes, zeros, caps_layout, chunk_layout}
 use Rattle.spdm_grammar.specs.Message.{ResponseMessage, ReplyMessage, ExchangeRspMessage, MeasuredMessage}
 use Rattle.spdm_grammar.specs.Message.ResponseMessage.{Version, Capabilities, Algorithms, Measurements, PskExchangeRsp, PskFinishRsp, HeartbeatAck, KeyUpdateAck, EndSessionAck, ChunkSendAck, ChunkResponse, Error}
+use Rattle.spdm_grammar.specs.declared.names.error_number.TheConstants.{RESPONSE_TOO_LARGE, LARGE_RESPONSE}
+use Rattle.spdm_grammar.specs.declared.names.response_code.TheConstants.{MEASUREMENTS, CAPABILITIES, ALGORITHMS, PSK_EXCHANGE_RSP, PSK_FINISH_RSP, HEARTBEAT_ACK, KEY_UPDATE_ACK, END_SESSION_ACK, ERROR, VERSION, CHUNK_SEND_ACK, CHUNK_RESPONSE}
+use Rattle.spdm_grammar.specs.declared.names.spdm_version.TheConstants.{V1_0, V1_2}
 
 -- ---- The fields of each response behind SPDMVersion and code. Param1 and Param2 come first; where they mean nothing they are reserved.
 
@@ -105,38 +109,32 @@ unfoldable pub error_layout : ℕ → Layout ResponseMessage
 error_layout version =
     Number 1 any (λ code.
     Number 1 any (λ detail.
-    if code == 0x0d then Bytes 4 (λ extended. Whole (Error version code detail extended))
-    else (if code == 0x0f then Bytes 1 (λ extended. Whole (Error version code detail extended))
+    if code == RESPONSE_TOO_LARGE then Bytes 4 (λ extended. Whole (Error version code detail extended))
+    else (if code == LARGE_RESPONSE then Bytes 1 (λ extended. Whole (Error version code detail extended))
     else UpTo 32 (λ extended. Error version code detail extended))))
 
 -- ---- The whole response
 
--- A response of SPDMVersion 1.0 is VERSION or ERROR; ERROR and the ten others are of 1.2.
-abbrev pub is_response_code : ℕ → ℕ → Bool
-is_response_code version code =
-    if version == 0x10 then code == 0x04 || code == 0x7f
-    else code == 0x7f || code == 0x61 || code == 0x63 || code == 0x60 || code == 0x66 || code == 0x67 || code == 0x68 || code == 0x69 || code == 0x6c || code == 0x05 || code == 0x06
-
 -- The fields behind a code that goes with its SPDMVersion.
 unfoldable pub response_body : ℕ → Bool → ℕ → ℕ → Layout ResponseMessage
 response_body hash_len has_summary version code =
-    if code == 0x04 then version_layout
-    else (if code == 0x7f then error_layout version
-    else (if code == 0x61 then capabilities_layout
-    else (if code == 0x63 then algorithms_layout
-    else (if code == 0x60 then measurements_layout
-    else (if code == 0x66 then psk_exchange_rsp_layout hash_len has_summary
-    else (if code == 0x67 then psk_finish_rsp_layout
-    else (if code == 0x68 then heartbeat_ack_layout
-    else (if code == 0x69 then key_update_ack_layout
-    else (if code == 0x6c then end_session_ack_layout
-    else (if code == 0x05 then chunk_send_ack_layout
+    if code == VERSION then version_layout
+    else (if code == ERROR then error_layout version
+    else (if code == CAPABILITIES then capabilities_layout
+    else (if code == ALGORITHMS then algorithms_layout
+    else (if code == MEASUREMENTS then measurements_layout
+    else (if code == PSK_EXCHANGE_RSP then psk_exchange_rsp_layout hash_len has_summary
+    else (if code == PSK_FINISH_RSP then psk_finish_rsp_layout
+    else (if code == HEARTBEAT_ACK then heartbeat_ack_layout
+    else (if code == KEY_UPDATE_ACK then key_update_ack_layout
+    else (if code == END_SESSION_ACK then end_session_ack_layout
+    else (if code == CHUNK_SEND_ACK then chunk_send_ack_layout
     else chunk_response_layout))))))))))
 
 -- SPDMVersion, then a code that goes with it, then what belongs to the code.
 abbrev pub response_layout : ℕ → Bool → Layout ResponseMessage
 response_layout hash_len has_summary =
-    Number 1 (λ version. version == 0x10 || version == 0x12) (λ version.
+    Number 1 (λ version. version == V1_0 || version == V1_2) (λ version.
     Number 1 (is_response_code version) (λ code.
     response_body hash_len has_summary version code))
 
@@ -208,7 +206,7 @@ pub record IsSoundExchangeRsp (hash_len : ℕ) (has_summary : Bool) (exchange : 
 -- Extended error data of the length that the code wants.
 abbrev pub IsExtended : ℕ → List ℕ → Type 0
 IsExtended code extended =
-    (code ≡ 0x0d → length extended ≡ 4) × (code ≡ 0x0f → length extended ≡ 1) × (length extended ≤ 32)
+    (code ≡ RESPONSE_TOO_LARGE → length extended ≡ 4) × (code ≡ LARGE_RESPONSE → length extended ≡ 1) × (length extended ≤ 32)
 
 -- The responses that have a spelling, of those whose numbers fit.
 abbrev pub IsSoundResponse : ℕ → Bool → ResponseMessage → Type 0
@@ -224,7 +222,7 @@ IsSoundResponse hash_len has_summary EndSessionAck = Unit {0}
 IsSoundResponse hash_len has_summary (ChunkSendAck early handle number answer) = Unit {0}
 IsSoundResponse hash_len has_summary (ChunkResponse chunk) = IsSoundChunk chunk
 IsSoundResponse hash_len has_summary (Error version code detail extended) =
-    ((version ≡ 0x10) ⊎ (version ≡ 0x12)) × IsExtended code extended
+    ((version ≡ V1_0) ⊎ (version ≡ V1_2)) × IsExtended code extended
 
 -- A choice behind its code.
 abbrev pub reply_bytes : ReplyMessage → List ℕ
@@ -249,16 +247,16 @@ exchange_rsp_bytes exchange =
 
 -- The one spelling that is written: zero in each reserved field.
 abbrev pub canonical_response : ResponseMessage → List ℕ
-canonical_response (Version entries) = (0x10 ∷ 0x04 ∷ 0 ∷ 0 ∷ 0 ∷ length entries / 2 ∷ []) ++ entries
-canonical_response (Capabilities caps) = (0x12 ∷ 0x61 ∷ []) ++ caps_bytes caps
-canonical_response (Algorithms reply) = (0x12 ∷ 0x63 ∷ []) ++ reply_bytes reply
-canonical_response (Measurements measured) = (0x12 ∷ 0x60 ∷ []) ++ measured_bytes measured
-canonical_response (PskExchangeRsp exchange) = (0x12 ∷ 0x66 ∷ []) ++ exchange_rsp_bytes exchange
-canonical_response PskFinishRsp = 0x12 ∷ 0x67 ∷ 0 ∷ 0 ∷ []
-canonical_response HeartbeatAck = 0x12 ∷ 0x68 ∷ 0 ∷ 0 ∷ []
-canonical_response (KeyUpdateAck op tag) = 0x12 ∷ 0x69 ∷ op ∷ tag ∷ []
-canonical_response EndSessionAck = 0x12 ∷ 0x6c ∷ 0 ∷ 0 ∷ []
+canonical_response (Version entries) = (V1_0 ∷ VERSION ∷ 0 ∷ 0 ∷ 0 ∷ length entries / 2 ∷ []) ++ entries
+canonical_response (Capabilities caps) = (V1_2 ∷ CAPABILITIES ∷ []) ++ caps_bytes caps
+canonical_response (Algorithms reply) = (V1_2 ∷ ALGORITHMS ∷ []) ++ reply_bytes reply
+canonical_response (Measurements measured) = (V1_2 ∷ MEASUREMENTS ∷ []) ++ measured_bytes measured
+canonical_response (PskExchangeRsp exchange) = (V1_2 ∷ PSK_EXCHANGE_RSP ∷ []) ++ exchange_rsp_bytes exchange
+canonical_response PskFinishRsp = V1_2 ∷ PSK_FINISH_RSP ∷ 0 ∷ 0 ∷ []
+canonical_response HeartbeatAck = V1_2 ∷ HEARTBEAT_ACK ∷ 0 ∷ 0 ∷ []
+canonical_response (KeyUpdateAck op tag) = V1_2 ∷ KEY_UPDATE_ACK ∷ op ∷ tag ∷ []
+canonical_response EndSessionAck = V1_2 ∷ END_SESSION_ACK ∷ 0 ∷ 0 ∷ []
 canonical_response (ChunkSendAck early handle number answer) =
-    (0x12 ∷ 0x05 ∷ (if early then 1 else 0) ∷ handle ∷ []) ++ little_bytes 2 number ++ answer
-canonical_response (ChunkResponse chunk) = (0x12 ∷ 0x06 ∷ []) ++ chunk_bytes chunk
-canonical_response (Error version code detail extended) = (version ∷ 0x7f ∷ code ∷ detail ∷ []) ++ extended
+    (V1_2 ∷ CHUNK_SEND_ACK ∷ (if early then 1 else 0) ∷ handle ∷ []) ++ little_bytes 2 number ++ answer
+canonical_response (ChunkResponse chunk) = (V1_2 ∷ CHUNK_RESPONSE ∷ []) ++ chunk_bytes chunk
+canonical_response (Error version code detail extended) = (version ∷ ERROR ∷ code ∷ detail ∷ []) ++ extended

@@ -1,6 +1,12 @@
 ghost use Rattle.std.specs.Prelude.{◌≡◌};
 ghost use Rattle.spdm_grammar.specs.ErrorNumber.{error_number};
 
+use crate::names::error_number::{
+    DECRYPT_ERROR, INVALID_REQUEST, LARGE_RESPONSE, REQUEST_TOO_LARGE, RESPONSE_TOO_LARGE,
+    SESSION_LIMIT_EXCEEDED, SESSION_REQUIRED, UNEXPECTED_REQUEST, UNSPECIFIED, UNSUPPORTED_REQUEST,
+    VERSION_MISMATCH,
+};
+
 /// The codes of ERROR that the responder of this project sends, and Unspecified (DSP0274, "Error
 /// code and error data").
 #[derive(Clone, Copy, Debug, PartialEq, Eq)]
@@ -24,17 +30,17 @@ impl ErrorCode {
         ensures { result ≡ error_number self }
     {
         match self {
-            ErrorCode::InvalidRequest => 0x01,
-            ErrorCode::UnexpectedRequest => 0x04,
-            ErrorCode::Unspecified => 0x05,
-            ErrorCode::DecryptError => 0x06,
-            ErrorCode::UnsupportedRequest => 0x07,
-            ErrorCode::SessionLimitExceeded => 0x0a,
-            ErrorCode::SessionRequired => 0x0b,
-            ErrorCode::ResponseTooLarge => 0x0d,
-            ErrorCode::RequestTooLarge => 0x0e,
-            ErrorCode::LargeResponse => 0x0f,
-            ErrorCode::VersionMismatch => 0x41,
+            ErrorCode::InvalidRequest => INVALID_REQUEST,
+            ErrorCode::UnexpectedRequest => UNEXPECTED_REQUEST,
+            ErrorCode::Unspecified => UNSPECIFIED,
+            ErrorCode::DecryptError => DECRYPT_ERROR,
+            ErrorCode::UnsupportedRequest => UNSUPPORTED_REQUEST,
+            ErrorCode::SessionLimitExceeded => SESSION_LIMIT_EXCEEDED,
+            ErrorCode::SessionRequired => SESSION_REQUIRED,
+            ErrorCode::ResponseTooLarge => RESPONSE_TOO_LARGE,
+            ErrorCode::RequestTooLarge => REQUEST_TOO_LARGE,
+            ErrorCode::LargeResponse => LARGE_RESPONSE,
+            ErrorCode::VersionMismatch => VERSION_MISMATCH,
         }
     }
 }

@@ -1,4 +1,174 @@
-//! Bits and numbers of messages by their names.
+//! Codes, bits and numbers of messages by their names, each once for the program and for its definitions.
+
+ghost use Rattle.std.specs.Prelude.{◌≡◌};
+ghost use Rattle.spdm_grammar.specs.Codes.{is_one_of};
+
+/// Whether the code stands in the list.
+pub fn is_one_of(codes: &[u8], code: u8) -> bool
+    ensures { result ≡ is_one_of codes.now code }
+{
+    codes.iter().any(|known| code == *known)
+}
+
+/// Values of SPDMVersion (DSP0274, "SPDM messages byte field definitions").
+pub mod spdm_version {
+    /// Version 1.0, that of GET_VERSION and VERSION.
+    pub const V1_0: u8 = 0x10;
+
+    /// Version 1.2, that of all other messages.
+    pub const V1_2: u8 = 0x12;
+}
+
+/// Request codes (DSP0274, "SPDM request codes").
+pub mod request_code {
+    pub const GET_VERSION: u8 = 0x84;
+
+    pub const CHUNK_SEND: u8 = 0x85;
+
+    pub const CHUNK_GET: u8 = 0x86;
+
+    pub const GET_MEASUREMENTS: u8 = 0xe0;
+
+    pub const GET_CAPABILITIES: u8 = 0xe1;
+
+    pub const NEGOTIATE_ALGORITHMS: u8 = 0xe3;
+
+    pub const PSK_EXCHANGE: u8 = 0xe6;
+
+    pub const PSK_FINISH: u8 = 0xe7;
+
+    pub const HEARTBEAT: u8 = 0xe8;
+
+    pub const KEY_UPDATE: u8 = 0xe9;
+
+    pub const END_SESSION: u8 = 0xec;
+}
+
+/// Response codes (DSP0274, "SPDM response codes").
+pub mod response_code {
+    pub const VERSION: u8 = 0x04;
+
+    pub const CHUNK_SEND_ACK: u8 = 0x05;
+
+    pub const CHUNK_RESPONSE: u8 = 0x06;
+
+    pub const MEASUREMENTS: u8 = 0x60;
+
+    pub const CAPABILITIES: u8 = 0x61;
+
+    pub const ALGORITHMS: u8 = 0x63;
+
+    pub const PSK_EXCHANGE_RSP: u8 = 0x66;
+
+    pub const PSK_FINISH_RSP: u8 = 0x67;
+
+    pub const HEARTBEAT_ACK: u8 = 0x68;
+
+    pub const KEY_UPDATE_ACK: u8 = 0x69;
+
+    pub const END_SESSION_ACK: u8 = 0x6c;
+
+    pub const ERROR: u8 = 0x7f;
+}
+
+/// The request codes of version 1.2; GET_VERSION alone is of version 1.0.
+pub const REQUESTS_OF_V1_2: [u8; 10] = [
+    request_code::GET_CAPABILITIES,
+    request_code::NEGOTIATE_ALGORITHMS,
+    request_code::GET_MEASUREMENTS,
+    request_code::PSK_EXCHANGE,
+    request_code::PSK_FINISH,
+    request_code::HEARTBEAT,
+    request_code::KEY_UPDATE,
+    request_code::END_SESSION,
+    request_code::CHUNK_SEND,
+    request_code::CHUNK_GET,
+];
+
+/// The response codes of version 1.0.
+pub const RESPONSES_OF_V1_0: [u8; 2] = [response_code::VERSION, response_code::ERROR];
+
+/// The response codes of version 1.2.
+pub const RESPONSES_OF_V1_2: [u8; 11] = [
+    response_code::ERROR,
+    response_code::CAPABILITIES,
+    response_code::ALGORITHMS,
+    response_code::MEASUREMENTS,
+    response_code::PSK_EXCHANGE_RSP,
+    response_code::PSK_FINISH_RSP,
+    response_code::HEARTBEAT_ACK,
+    response_code::KEY_UPDATE_ACK,
+    response_code::END_SESSION_ACK,
+    response_code::CHUNK_SEND_ACK,
+    response_code::CHUNK_RESPONSE,
+];
+
+/// Numbers of error codes, which stand in Param1 of ERROR (DSP0274, "Error code and error data").
+pub mod error_number {
+    pub const INVALID_REQUEST: u8 = 0x01;
+
+    pub const UNEXPECTED_REQUEST: u8 = 0x04;
+
+    pub const UNSPECIFIED: u8 = 0x05;
+
+    pub const DECRYPT_ERROR: u8 = 0x06;
+
+    pub const UNSUPPORTED_REQUEST: u8 = 0x07;
+
+    pub const SESSION_LIMIT_EXCEEDED: u8 = 0x0a;
+
+    pub const SESSION_REQUIRED: u8 = 0x0b;
+
+    pub const RESPONSE_TOO_LARGE: u8 = 0x0d;
+
+    pub const REQUEST_TOO_LARGE: u8 = 0x0e;
+
+    pub const LARGE_RESPONSE: u8 = 0x0f;
+
+    pub const VERSION_MISMATCH: u8 = 0x41;
+}
+
+/// Bits of Flags in GET_CAPABILITIES and CAPABILITIES (DSP0274, "Flag fields definitions").
+pub mod capability {
+    /// The two bits of MEAS_CAP.
+    pub const MEAS_CAP_BITS: u32 = 3 << 3;
+
+    /// MEAS_CAP of a responder: measurements without signatures.
+    pub const MEAS_CAP: u32 = 1 << 3;
+
+    /// MEAS_CAP of a responder: measurements with signatures.
+    pub const MEAS_CAP_SIGNED: u32 = 2 << 3;
+
+    /// ENCRYPT_CAP: records are encrypted.
+    pub const ENCRYPT_CAP: u32 = 1 << 6;
+
+    /// MAC_CAP: records are authenticated.
+    pub const MAC_CAP: u32 = 1 << 7;
+
+    /// The two bits of PSK_CAP.
+    pub const PSK_CAP_BITS: u32 = 3 << 10;
+
+    /// PSK_CAP of a requester: sessions under pre-shared keys.
+    pub const PSK_CAP: u32 = 1 << 10;
+
+    /// PSK_CAP of a responder: the same, with a context of its own.
+    pub const PSK_CAP_WITH_CONTEXT: u32 = 2 << 10;
+
+    /// HBEAT_CAP: heartbeats.
+    pub const HBEAT_CAP: u32 = 1 << 13;
+
+    /// KEY_UPD_CAP: updates of keys.
+    pub const KEY_UPD_CAP: u32 = 1 << 14;
+
+    /// CHUNK_CAP: large messages in chunks.
+    pub const CHUNK_CAP: u32 = 1 << 17;
+}
+
+/// The least DataTransferSize, in bytes (DSP0274, "GET_CAPABILITIES request message format").
+pub const MIN_DATA_TRANSFER_SIZE: u32 = 42;
+
+/// The greatest length of an SPDM message, in bytes, whatever an end announces. This project's own limit.
+pub const MAX_MESSAGE_SIZE: u32 = 4096;
 
 /// Bits of BaseHashAlgo and BaseHashSel (DSP0274, "NEGOTIATE_ALGORITHMS request message format").
 pub mod base_hash {

@@ -1,6 +1,8 @@
 ghost use Rattle.std.specs.Prelude.{◌↔◌, IsTrue};
 ghost use Rattle.spdm_grammar.specs.Responses.{IsExtended};
 
+use crate::names::error_number::{LARGE_RESPONSE, RESPONSE_TOO_LARGE};
+use crate::names::spdm_version::{V1_0, V1_2};
 use crate::{AlgReply, Caps, ChunkView, ExchangeRsp, Measured};
 
 /// A response (DSP0274, "SPDM response codes"), with its variable parts lent from the bytes that it
@@ -70,7 +72,7 @@ impl Response<'_> {
                 code,
                 extended,
                 ..
-            } => (version == 0x10 || version == 0x12) && is_extended(code, extended),
+            } => (version == V1_0 || version == V1_2) && is_extended(code, extended),
         }
     }
 }
@@ -80,8 +82,8 @@ fn is_extended(code: u8, extended: &[u8]) -> bool
     ensures { IsTrue result ↔ IsExtended code extended.now }
 {
     match code {
-        0x0d => extended.len() == 4,
-        0x0f => extended.len() == 1,
+        RESPONSE_TOO_LARGE => extended.len() == 4,
+        LARGE_RESPONSE => extended.len() == 1,
         _ => extended.len() <= 32,
     }
 }

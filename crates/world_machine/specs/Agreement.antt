@@ -21,6 +21,7 @@ use Rattle.responder_machine.specs.Turn.Effect.{TookData}
 use Rattle.requester_machine.specs.Requesting.{Requesting}
 use Rattle.responder_machine.specs.Responding.{Connection}
 use Rattle.world_machine.specs.World.{World}
+use Rattle.spdm_grammar.specs.declared.names.request_code.TheConstants.{PSK_FINISH}
 
 -- ---- The two ends of a pair.
 
@@ -129,7 +130,7 @@ DataPrefix world =
 abbrev pub HasOpened : (t2 : List ℕ) → History → Type 0
 HasOpened t2 [] = ⊥
 HasOpened t2 (Sealed tag sealed t reply d ∷ older) =
-    ((takes 0xe7 t ≡ true) × (responder.t2_of (responder.session_of (id_in_record sealed) (Sealed tag sealed t reply d ∷ older)) ≡ t2)) ⊎ HasOpened t2 older
+    ((takes PSK_FINISH t ≡ true) × (responder.t2_of (responder.session_of (id_in_record sealed) (Sealed tag sealed t reply d ∷ older)) ≡ t2)) ⊎ HasOpened t2 older
 HasOpened t2 (_ ∷ older) = HasOpened t2 older
 
 -- A session that a requester holds open was opened at the responder with the same T2, and different ones have

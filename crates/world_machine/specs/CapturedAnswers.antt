@@ -25,6 +25,8 @@ use Rattle.responder_machine.specs.Turn.{takes, answer_in}
 use Rattle.world_machine.specs.LargeAnswers.{IsLargeAnswer, is_large, entry_with, dropped_before_large, place_of, judging, gives_last}
 use Rattle.world_machine.specs.LargeRequests.{with_ack}
 use Rattle.world_machine.specs.Rounds.{Dialogue, Round, no_draw}
+use Rattle.spdm_grammar.specs.declared.names.request_code.TheConstants.{PSK_EXCHANGE}
+use Rattle.spdm_grammar.specs.declared.names.TheConstants.{MAX_MESSAGE_SIZE}
 
 -- ---- No SPDM message has more than 4,096 bytes.
 
@@ -55,7 +57,7 @@ answer_to r h body f =
 unfoldable pub MayLeadTo : RspSetup → History → ℕ → List ℕ → Outcome → Type 0
 MayLeadTo r h tag body outcome =
     (f : Free) × IsAllowed h (place_for h body) f
-    × (length (answer_to r h body f) ≤ 4096)
+    × (length (answer_to r h body f) ≤ MAX_MESSAGE_SIZE)
     × (on_body r h tag body f no_draw ≡ outcome)
 
 -- The same, after sessions were dropped unseen.
@@ -74,7 +76,7 @@ belongs_to r s sealed = repeats (last_of s) sealed || is_none (opening_fault r.p
 abbrev pub shows : RspSetup → History → List ℕ → (id : ℕ) → Outcome → Bool
 shows r h body id (Same reply) = false
 shows r h body id (Unopened reply) = id_in_record (drop 1 body) == id && belongs_to r (session_of id h) (drop 1 body)
-shows r h body id (Adds (Clear tag t d)) = takes 0xe6 t && id_in_exchange (answer_in t.effect) == id
+shows r h body id (Adds (Clear tag t d)) = takes PSK_EXCHANGE t && id_in_exchange (answer_in t.effect) == id
 shows r h body id (Adds _) = false
 
 -- A session counts as dropped only where the answer shows it, and no answer shows more than one.

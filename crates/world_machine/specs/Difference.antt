@@ -26,6 +26,7 @@ use Rattle.spdm_machine.specs.Packets.{gathered_from, body_type}
 use Rattle.world_machine.specs.Rounds.{Dialogue, Round, following_tag, dialogue_at}
 use Rattle.responder_machine.specs.Setup.{towards}
 use Rattle.world_machine.specs.Setup.{Configuration, known_of}
+use Rattle.spdm_grammar.specs.declared.names.response_code.TheConstants.{PSK_EXCHANGE_RSP, CHUNK_SEND_ACK}
 
 -- The reasons, of which the first that holds is the one. It is no packet, is dropped by its receiver, or completes a
 -- body of another type than 5 and 6; it does not go between the responder and a requester that is set up; it comes
@@ -114,7 +115,7 @@ verify_size d = hash_len (terms_of (negotiation_of (clear_turns d.responder)))
 
 -- PSK_EXCHANGE_RSP, plain or in an acknowledgement.
 abbrev pub carries_exchange : List ℕ → Bool
-carries_exchange body = body_type body == 5 && (slice_index body 2 == 0x66 || (slice_index body 2 == 0x05 && slice_index body 8 == 0x66))
+carries_exchange body = body_type body == 5 && (slice_index body 2 == PSK_EXCHANGE_RSP || (slice_index body 2 == CHUNK_SEND_ACK && slice_index body 8 == PSK_EXCHANGE_RSP))
 
 -- An answer may be given that carries PSK_EXCHANGE_RSP, and from which this one is apart.
 abbrev pub RepliesApart : RspSetup → Dialogue → Round → List ℕ → Type 0
@@ -133,7 +134,7 @@ CompletesApart r d round answer =
     × (gives_last (judging d.fetching d.responder) entry ≡ true)
     × (sent_by entry ≡ answer)
     × MayHaveLed r dropped (with_large other d.responder)
-    × (slice_index other 1 ≡ 0x66)
+    × (slice_index other 1 ≡ PSK_EXCHANGE_RSP)
     × (is_apart (verify_size d) other whole ≡ true)
 
 -- An answer is apart in one of these two ways; where there is no round, in none.

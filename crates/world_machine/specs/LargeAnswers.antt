@@ -16,6 +16,8 @@ use Rattle.responder_machine.specs.Refusal.{has_pending, is_answer_too_long}
 use Rattle.responder_machine.specs.Session.{session_of, id_in_record}
 use Rattle.responder_machine.specs.Turn.{Turn, Effect, takes, handle_in}
 use Rattle.responder_machine.specs.Turn.Effect.{NoEffect, Took, TookData}
+use Rattle.spdm_grammar.specs.declared.names.request_code.TheConstants.{CHUNK_GET}
+use Rattle.spdm_grammar.specs.declared.names.TheConstants.{MAX_MESSAGE_SIZE}
 
 -- ---- Entries whose answer went by LargeResponse.
 
@@ -63,7 +65,7 @@ place_of h _ = clear_place h
 -- A length that goes by chunks: with what stands round the answer over the requester's transfer size, and at most
 -- its max size and 4,096.
 abbrev pub IsLargeAnswer : Place → List ℕ → Type 0
-IsLargeAnswer p whole = (goes_large p whole ≡ true) × (is_answer_too_long p whole ≡ false) × (length whole ≤ 4096)
+IsLargeAnswer p whole = (goes_large p whole ≡ true) × (is_answer_too_long p whole ≡ false) × (length whole ≤ MAX_MESSAGE_SIZE)
 
 -- ---- While it is fetched.
 
@@ -97,8 +99,8 @@ judging (Some whole) h = with_large whole h
 
 -- CHUNK_GET took effect with the entry.
 abbrev pub takes_get : Entry → Bool
-takes_get (Clear tag t d) = takes 0x86 t
-takes_get (Sealed tag sealed t reply d) = takes 0x86 t
+takes_get (Clear tag t d) = takes CHUNK_GET t
+takes_get (Sealed tag sealed t reply d) = takes CHUNK_GET t
 takes_get _ = false
 
 -- CHUNK_GET was taken, and no chunk is left to be fetched.

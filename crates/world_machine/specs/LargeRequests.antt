@@ -20,6 +20,7 @@ use Rattle.spdm_grammar.specs.Message.RequestMessage.{ChunkSend}
 use Rattle.spdm_grammar.specs.Requests.{canonical_request}
 use Rattle.requester_machine.specs.Setup.{ReqSetup}
 use Rattle.world_machine.specs.Rounds.{no_draw}
+use Rattle.spdm_grammar.specs.declared.names.TheConstants.{MAX_MESSAGE_SIZE}
 
 -- What both ends can do, as the requester has negotiated it.
 abbrev pub common_of : History → Common
@@ -28,7 +29,7 @@ common_of h = (connection_terms h).common
 -- A length that goes by chunks: over the responder's transfer size, and at most its max size and 4,096.
 abbrev pub IsLargeRequest : Common → List ℕ → Type 0
 IsLargeRequest common whole =
-    (nat_lt common.to_responder.transfer (length whole) ≡ true) × (is_too_long common whole ≡ false) × (length whole ≤ 4096)
+    (nat_lt common.to_responder.transfer (length whole) ≡ true) × (is_too_long common whole ≡ false) × (length whole ≤ MAX_MESSAGE_SIZE)
 
 -- CHUNK_SEND with the chunk of this number of the bytes that stand for a request.
 abbrev pub piece_with : History → RequestMessage → List ℕ → ℕ → ℕ → Sent

@@ -15,6 +15,7 @@ use Rattle.responder_machine.specs.Session.Event.{Heard}
 use Rattle.responder_machine.specs.Setup.{RspSetup}
 use Rattle.requester_machine.specs.Setup.{ReqSetup}
 use Rattle.responder_machine.specs.Turn.{Turn, takes}
+use Rattle.spdm_grammar.specs.declared.names.request_code.TheConstants.{END_SESSION}
 
 -- ---- As a request.
 
@@ -63,7 +64,7 @@ opens_again r (_ ∷ older) sealed = opens_again r older sealed
 abbrev pub opens_ended : RspSetup → History → List ℕ → Bool
 opens_ended r [] sealed = false
 opens_ended r (Sealed tag m t reply d ∷ older) sealed =
-    if takes 0xec t then opens_to r (session_of (id_in_record m) older) t sealed else opens_ended r older sealed
+    if takes END_SESSION t then opens_to r (session_of (id_in_record m) older) t sealed else opens_ended r older sealed
 opens_ended r (_ ∷ older) sealed = opens_ended r older sealed
 
 -- Under which key a turn is answered depends on no free value.

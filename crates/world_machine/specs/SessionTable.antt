@@ -18,6 +18,7 @@ use Rattle.responder_machine.specs.Turn.{Turn, takes, answer_in}
 use Rattle.world_machine.specs.Capture.{Conforms, Follows}
 use Rattle.world_machine.specs.Rounds.{Dialogue, Round, new_dialogue}
 use Rattle.world_machine.specs.Setup.{Configuration}
+use Rattle.spdm_grammar.specs.declared.names.request_code.TheConstants.{PSK_EXCHANGE}
 
 -- A session that a PSK_EXCHANGE_RSP began: the end point of its requester; its own history at the responder, as it
 -- last was, and whether it is live there; its ReqSessionID, where the requester took that answer, and until a later
@@ -47,7 +48,7 @@ with_record sealed others = if is_among sealed others then others else sealed �
 
 -- PSK_EXCHANGE took effect, and its answer is whole.
 abbrev pub begins : Turn → Bool
-begins t = takes 0xe6 t && not (length (answer_in t.effect) == 0)
+begins t = takes PSK_EXCHANGE t && not (length (answer_in t.effect) == 0)
 
 -- How many sessions were begun.
 abbrev pub begun_count : History → ℕ

@@ -9,7 +9,7 @@ use Rattle.spdm_grammar.specs.declared.event.Event.{Event}
 use Rattle.spdm_grammar.specs.declared.event.Event.TheVariants as event
 use Rattle.spdm_grammar.specs.declared.event.Finished.{Finished}
 use Rattle.spdm_grammar.specs.declared.event.Finished.TheVariants as finished
-use Rattle.spdm_grammar.specs.View.{View}
+use Rattle.spdm_grammar.specs.declared.session_view.SessionView.{SessionView}
 use Rattle.responder_machine.specs.Heard.{views_of, no_id}
 use Rattle.responder_machine.specs.History.{clear_turns, phase_of}
 use Rattle.spdm_machine.specs.TagLog.{Log}
@@ -251,7 +251,7 @@ replied world bytes (Some a) = replied_by world a.setup.eid bytes (connection_of
 -- ---- The ends as they are shown: by requester, its phase and sessions, and those of the responder towards it.
 
 -- A line for each session.
-abbrev pub session_lines : Whose → List View → List Line
+abbrev pub session_lines : Whose → List SessionView → List Line
 session_lines who [] = []
 session_lines who (view ∷ others) = Line.Session who view ∷ session_lines who others
 
