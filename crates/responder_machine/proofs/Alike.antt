@@ -1,10 +1,11 @@
 -- Two responders that are alike towards an end point do alike with a packet from it.
 use Rattle.std.proofs.Common.{◌≡◌, ℕ, List, [], ◌∷◌, Bool, true, false, Option, Some, None, refl, sym, ap, ◌∙◌, subst, filter, if◌then◌else◌, ◌==◌, ◌||◌, not}
+use Rattle.mctp_framing.proofs.OwnPackets.{gathered-alike}
 use Rattle.mctp_framing.specs.Cutting.{RouteFields}
-use Rattle.mctp_framing.specs.Gathering.{Gathered, Receiver, is_ours, gathered, group_of, answer_of, belongs_to}
+use Rattle.mctp_framing.specs.Gathering.{Gathered, Receiver, is_ours}
 use Rattle.mctp_framing.specs.Gathering.Gathered.{Whole, More, Dropped}
 use Rattle.mctp_framing.specs.Packet.{PacketFields, packet_fault, fault_or, fields_of, parsed}
-use Rattle.spdm_basis.specs.declared.DropCause.TheVariants.{NotOurs, NoStart}
+use Rattle.spdm_basis.specs.declared.DropCause.TheVariants.{NotOurs}
 use Rattle.spdm_basis.specs.declared.PacketFault.{PacketFault}
 use Rattle.responder_machine.specs.Does.{responder_does}
 use Rattle.responder_machine.specs.History.{History}
@@ -20,22 +21,11 @@ use Rattle.responder_machine.specs.Setup.{RspPart}
 use Rattle.responder_machine.specs.Responding.{Connection, Responding, RspStep, connection_of, changed, with_history, ignores, answers, hears_whole, hears_gathered, hears_from, hears_packet, is_worn, worn_step, next_draw, responder_hears}
 
 -- What a packet leads to goes by the packets from the peer alone.
-gathered_by : (r : Receiver) (given others : List PacketFields) (p : PacketFields) → filter (is_ours r) given ≡ filter (is_ours r) others → gathered r given p ≡ gathered r others p
-gathered_by r given others p e = ap (λ (own : List PacketFields). gathered_in own) e
-  where
-    gathered_in : List PacketFields → Gathered
-    gathered_in own =
-        let group = group_of own in
-        if not (is_ours r p) then Dropped NotOurs
-        else (if p.start then answer_of r.limit p []
-        else (if belongs_to r.limit p group then answer_of r.limit p group
-        else Dropped NoStart))
-
 pub gathered_alike : (own eid : ℕ) (given others : List (List ℕ)) (p : PacketFields)
     → filter (is_ours (receiver_of own eid)) (fields_in given) ≡ filter (is_ours (receiver_of own eid)) (fields_in others)
     → gathered_from own eid given p ≡ gathered_from own eid others p
 unfolding gathered_from
-gathered_alike own eid given others p e = gathered_by (receiver_of own eid) (fields_in given) (fields_in others) p e
+gathered_alike own eid given others p e = gathered-alike (receiver_of own eid) (fields_in given) (fields_in others) p e
 
 -- ---- Packets and connections.
 
@@ -128,7 +118,7 @@ module _ (r s : Responding) (packet : List ℕ) (d : Draw) (alike : AreAlike (so
   by_fault (Some fault) = nothing _
   by_fault None =
       subst (λ (part : RspPart). LeadAlike (source_of packet) (hears_packet r d packet (fault_or None (fields_of packet)))
-          (if not ((fields_of packet).to == part.eid) then ignores s packet (heard.Ignored (ignored.Dropped NotOurs)) else hears_from s d packet (fields_of packet) (connection_of (fields_of packet).from s.connections)))
+      (if not ((fields_of packet).to == part.eid) then ignores s packet (heard.Ignored (ignored.Dropped NotOurs)) else hears_from s d packet (fields_of packet) (connection_of (fields_of packet).from s.connections)))
       alike.part
       (either (source_of packet) (not ((fields_of packet).to == r.part.eid)) _ _ _ _ (nothing (heard.Ignored (ignored.Dropped NotOurs))) (by_source (fields_of packet) refl))
 

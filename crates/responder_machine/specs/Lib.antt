@@ -21,3 +21,6 @@ pub mod SettledLaws
 pub mod Responding
 pub mod EndLaws
 pub mod Independence
+pub mod RefusalLaws
+pub mod BoundLaws
+pub mod SizeLaws

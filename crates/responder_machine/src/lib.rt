@@ -3,9 +3,12 @@
 //! in `specs/`, and each function below has a law about them as its contract.
 #![tactic(auto)]
 
+mod bounds;
 mod end_laws;
 mod laws;
+mod refusals;
 
+pub use bounds::{common_is_negotiated, counts_are_bounded, queue_is_bounded, sizes_are_set_up};
 pub use end_laws::{
     connections_are_independent, given_stands_alike, others_stand, own_decide,
 };
@@ -20,3 +23,4 @@ pub use laws::{
     taken_exchange_is_fresh, taken_is_repeated, taken_record_is_opened, taken_record_is_repeated,
     unopened_adds_nothing, update_all_is_answered_at_zero, update_begins_at_zero,
 };
+pub use refusals::{refused_in_chunks_keeps_connection, refused_record_keeps_connection};
