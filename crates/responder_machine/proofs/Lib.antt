@@ -41,3 +41,5 @@ mod PinnedOrder
 mod PinnedReplies
 mod PinnedSessions
 mod PinnedCounts
+pub mod Making
+pub mod Connected

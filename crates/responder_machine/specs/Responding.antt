@@ -70,10 +70,14 @@ with_history eid change connections = map (changed_if eid change) connections
 
 -- ---- Draws go round all connections.
 
+-- A count over the histories of all connections.
+abbrev pub over_all : (History → ℕ) → List Connection → ℕ
+over_all count [] = 0
+over_all count (c ∷ others) = count c.history + over_all count others
+
 -- How many draws all connections took.
 abbrev pub all_draws : List Connection → ℕ
-all_draws [] = 0
-all_draws (c ∷ others) = draws_of c.history + all_draws others
+all_draws = over_all draws_of
 
 -- The draw that stands next.
 unfoldable pub next_draw : Responding → Draw

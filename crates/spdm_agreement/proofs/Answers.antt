@@ -32,12 +32,13 @@ use Rattle.world_machine.specs.World.{World, SentPacket}
 use Rattle.spdm_agreement.specs.Claims.{IsReached}
 use Rattle.spdm_agreement.proofs.Fits.{IsPair, IsServing, Fits, same_key}
 use Rattle.spdm_agreement.proofs.Happens.{good_draw, below}
-use Rattle.spdm_agreement.proofs.Members.{IsIn, found_in, in_map}
+use Rattle.spdm_machine.proofs.Members.{IsIn, found_in, in_map}
 use Rattle.spdm_agreement.proofs.Owed.{ServedReady, ServedStep, DoesWell, Waits}
 use Rattle.spdm_agreement.proofs.Pairs.{state_of}
 use Rattle.spdm_agreement.proofs.ResponderChanges as changes
-use Rattle.spdm_agreement.proofs.ResponderChanges.{responder_goes, draws_changed, still_apart}
-use Rattle.spdm_agreement.proofs.ServedMade.{does_made}
+use Rattle.responder_machine.proofs.Connected.{count_changed}
+use Rattle.spdm_agreement.proofs.ResponderChanges.{responder_goes, still_apart}
+use Rattle.responder_machine.proofs.Making.{does_made}
 use Rattle.spdm_agreement.proofs.Sessions.{reading_of}
 
 module _ (KeptAsked : ReqSetup → asked.History → Type 0) (KeptServed : RspSetup → served.History → Type 0) (world : World) (k : Fits KeptAsked KeptServed world) (does_well : DoesWell KeptServed) (waits : Waits KeptServed) where
@@ -87,7 +88,7 @@ module _ (KeptAsked : ReqSetup → asked.History → Type 0) (KeptServed : RspSe
       let runs = λ (b : Requesting) (its : IsPair world.requesters connections b x). (steps b its).leads in
       let draws = step.draws in
       let number = draw_number in
-      let count = draws_changed (λ h. after h o) connections x k.apart.peers is in
+      let count = count_changed draws_of (λ h. after h o) connections x k.apart.peers is in
       let wear = k.wear in
       responder_goes KeptAsked KeptServed world k x is (packet ∷ world.responder.given) (with_taken (responding.data_of o) world.responder.taken) (λ h. after h o) (acts_of x.setup x.history body o) n sent
       (omega arith)
@@ -148,7 +149,7 @@ module _ (KeptAsked : ReqSetup → asked.History → Type 0) (KeptServed : RspSe
       → Fits KeptAsked KeptServed (record { requesters = world.requesters; responder = record world.responder { connections = with_history x.setup.peer (λ h. Queued bytes ∷ h) connections }; sent = sent; log = world.log })
   queued_at x is bytes short room n sent =
       let old = k.serves x is in
-      let count = draws_changed (λ h. Queued bytes ∷ h) connections x k.apart.peers is in
+      let count = count_changed draws_of (λ h. Queued bytes ∷ h) connections x k.apart.peers is in
       let wear = k.wear in
       let fresh = old.fresh in
       responder_goes KeptAsked KeptServed world k x is world.responder.given world.responder.taken (λ h. Queued bytes ∷ h) [] n sent

@@ -10,8 +10,9 @@ use Rattle.world_machine.specs.Setup.{WorldSetup, known_of}
 use Rattle.world_machine.specs.World.{new_world}
 use Rattle.spdm_agreement.specs.Claims.{IsReached}
 use Rattle.spdm_agreement.specs.Configured.{IsConfigured, IsRequester, IsResponder, AreApart, HasDraws, setups_of}
-use Rattle.spdm_agreement.proofs.Fits.{Apart, PeersDiffer, IsAsking, IsServing, Fits}
-use Rattle.spdm_agreement.proofs.Members.{IsIn, all_in, in_map, map_in}
+use Rattle.spdm_agreement.proofs.Fits.{Apart, IsAsking, IsServing, Fits}
+use Rattle.responder_machine.proofs.Connected.{PeersDiffer}
+use Rattle.spdm_machine.proofs.Members.{IsIn, all_in, in_map, map_in}
 use Rattle.spdm_agreement.proofs.Owed.{AskedStarts, ServedStarts}
 use Rattle.spdm_agreement.proofs.Pairs.{state_of}
 use Rattle.spdm_agreement.proofs.Sessions.{reading_of}
