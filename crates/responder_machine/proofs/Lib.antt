@@ -43,3 +43,4 @@ mod PinnedSessions
 mod PinnedCounts
 pub mod Making
 pub mod Connected
+pub mod Runs

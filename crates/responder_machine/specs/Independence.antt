@@ -1,12 +1,16 @@
 -- Whole runs of a responder: what it sends to an end point is a function of what concerns that end point alone, its
 -- packets with the draws that stood next, the data queued for it and time. This project's own.
-use Rattle.std.specs.Prelude.{◌≡◌, ◌≢◌, ◌==◌, ◌&&◌, ◌++◌, not, ℕ, List, [], ◌∷◌, if◌then◌else◌}
+use Rattle.std.specs.Prelude.{⊤, ◌≡◌, ◌≢◌, ◌≤◌, ◌==◌, ◌&&◌, ◌++◌, not, ℕ, List, [], ◌∷◌, length, if◌then◌else◌}
+use Rattle.std.specs.List.{AllByRecursion}
 use Rattle.std.specs.Option.{option_to_list}
 use Rattle.mctp_framing.specs.Packet.{parsed}
+use Rattle.responder_machine.specs.BoundLaws.{messages_of}
+use Rattle.responder_machine.specs.Does.{IsMade}
 use Rattle.responder_machine.specs.EndLaws.{AreAlike, source_of}
-use Rattle.responder_machine.specs.Responding.{Responding, connection_of, new_responding, hears_packet, is_worn, next_draw, responder_hears, reply_fault_of, queues, ticks}
-use Rattle.responder_machine.specs.Setup.{RspEnd}
+use Rattle.responder_machine.specs.Responding.{Connection, Responding, over_all, connection_of, new_responding, hears_packet, is_worn, next_draw, responder_hears, reply_fault_of, queues, ticks}
+use Rattle.responder_machine.specs.Setup.{RspEnd, Known}
 use Rattle.spdm_machine.specs.Keys.{Draw}
+use Rattle.spdm_machine.specs.Packets.{wear_limit}
 
 -- ---- A run.
 
@@ -102,3 +106,24 @@ GivenStandsAlike = (eid : ℕ) (r s : Responding)
     → (AreAlike eid r s → (bytes : List ℕ) → AreAlike eid (after_reply eid bytes r) (after_reply eid bytes s))
     × (AreAlike eid r s → (seconds : ℕ) → AreAlike eid (ticks r seconds) (ticks s seconds))
     × ((other : ℕ) (bytes : List ℕ) → other ≢ eid → AreAlike eid (after_reply other bytes r) r)
+
+-- ---- What every run keeps.
+
+-- No two requesters that a responder knows have one end point.
+abbrev pub AreKnownApart : List Known → Type 0
+AreKnownApart [] = ⊤
+AreKnownApart (q ∷ others) = AllByRecursion (λ (other : Known). other.eid ≢ q.eid) others × AreKnownApart others
+
+-- Each history is one that the responder made; in all of them there are at most as many messages as it took packets,
+-- and of those it takes no more than its limit; its set-up stays.
+pub record IsRun (e : RspEnd) (r : Responding) : Type 0 where
+  pub part : r.part ≡ e.part
+  pub seed : r.seed ≡ e.seed
+  pub first : r.first ≡ e.first
+  pub made : AllByRecursion (λ (c : Connection). IsMade c.setup c.history) r.connections
+  pub messages : over_all messages_of r.connections ≤ length r.given
+  pub limit : length r.given ≤ wear_limit
+
+-- So it is after every run.
+abbrev pub RunsAreBounded : Type 0
+RunsAreBounded = (e : RspEnd) (given : List Given) → AreKnownApart e.known → IsRun e (run_of e given)

@@ -2,7 +2,7 @@
 //! nothing.
 
 ghost use Rattle.responder_machine.specs.EndLaws.{OthersStand, OwnDecide};
-ghost use Rattle.responder_machine.specs.Independence.{ConnectionsAreIndependent, GivenStandsAlike};
+ghost use Rattle.responder_machine.specs.Independence.{ConnectionsAreIndependent, GivenStandsAlike, RunsAreBounded};
 
 /// A packet from another end point changes nothing of what the responder is towards this one: the
 /// connection, and the packets that bodies are gathered from.
@@ -26,4 +26,10 @@ pub fn connections_are_independent()
 /// for another one change nothing of what a responder is towards it.
 pub fn given_stands_alike()
     ensures { GivenStandsAlike }
+{}
+
+/// After every run each history is one that the responder made, and all of them together have at most
+/// as many messages as it took packets, of which it takes 2^40 at most.
+pub fn runs_are_bounded()
+    ensures { RunsAreBounded }
 {}
