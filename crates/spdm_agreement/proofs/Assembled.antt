@@ -1,5 +1,5 @@
 -- Agreement over every schedule: the steps of the two ends, put together.
-use Rattle.spdm_agreement.specs.Worlds.{WorldsAgree, WorldsDeliver, WorldsMatch, WorldsSealOnce}
+use Rattle.spdm_agreement.specs.Worlds.{WorldsAgree, WorldsDeliver, WorldsMatch, WorldsSealOnce, WorldsShowAlike}
 use Rattle.spdm_agreement.proofs.AskingBodies as bodies
 use Rattle.spdm_agreement.proofs.AskingKeeps as asks
 use Rattle.spdm_agreement.proofs.ServingData as serves
@@ -11,6 +11,9 @@ agree = worlds.worlds_agree asks.IsKept serves.IsKept asks.starts asks.asks_well
 
 pub matches : WorldsMatch
 matches = worlds.worlds_match asks.IsKept serves.IsKept asks.starts asks.asks_well asks.hears_well bodies.steady serves.served_starts serves.does_well serves.waits
+
+pub show_alike : WorldsShowAlike
+show_alike = worlds.worlds_show_alike asks.IsKept serves.IsKept asks.starts asks.asks_well asks.hears_well bodies.steady serves.served_starts serves.does_well serves.waits
 
 pub seal_once : WorldsSealOnce
 seal_once = worlds.worlds_seal_once asks.IsKept serves.IsKept asks.starts asks.asks_well asks.hears_well bodies.steady serves.served_starts serves.does_well serves.waits

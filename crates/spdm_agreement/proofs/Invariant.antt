@@ -5,7 +5,7 @@ use Rattle.key_schedule.specs.Purpose.Kind.{Verify, HandshakeRecord, Application
 use Rattle.key_schedule.specs.declared.direction.Direction.{Direction}
 use Rattle.key_schedule.specs.declared.direction.Direction.TheVariants.{Request, Response}
 use Rattle.spdm_agreement.proofs.Earlier.{IsEarlier}
-use Rattle.spdm_agreement.specs.Marks.{Asked, Served, Text, Exchange, IsAccepted, AcceptedOnce, IsOpened, HasBegun, HasFinished, HasOpened, HasReplied, next_asked, waiting, finishing, asked_open, requests, outstanding, heard, next_served, handshake, served_open, taken, firsts, epoch_of, request_input, reply_input}
+use Rattle.spdm_agreement.specs.Marks.{Asked, Served, Text, Exchange, IsAccepted, AcceptedOnce, IsOpened, OpenedApart, HasBegun, HasFinished, HasOpened, HasReplied, next_asked, waiting, finishing, asked_open, requests, outstanding, heard, next_served, handshake, served_open, taken, firsts, epoch_of, request_input, reply_input}
 use Rattle.spdm_agreement.specs.Moves.{request_shake, response_shake}
 use Rattle.spdm_agreement.specs.Reading.{First, Reading, covered}
 use Rattle.spdm_machine.specs.TagLog.{Log}
@@ -34,6 +34,7 @@ pub record AskedWell (r : Reading) (h : List Asked) : Type 0 where
   pub waits : (x : ℕ × ℕ) → waiting h ≡ Some x → (x.1 < next_asked h) × ((t : First) → IsAccepted h t → r.requester_draw t < x.1)
   pub once : (s t : First) → IsAccepted h s → IsAccepted h t → r.requester_draw s ≡ r.requester_draw t → s ≡ t
   pub apart : AcceptedOnce h
+  pub seconds : OpenedApart h
   pub well : (t : First) → IsAccepted h t → r.is_sound t ≡ true
   pub finishes : (t : First) → finishing h ≡ Some t → IsAccepted h t × ((s : First) → IsAccepted h s → r.requester_draw s ≤ r.requester_draw t) × ((u : List ℕ) → IsOpened h t u → ⊥)
   pub opens : (id : ℕ) (x : First × List ℕ) → asked_open r id h ≡ Some x → IsOpened h x.0 x.1 × (r.requester_id x.0 ≡ id) × ((s : First) → IsAccepted h s → r.requester_id s ≡ id → r.requester_draw s ≤ r.requester_draw x.0)
@@ -60,6 +61,7 @@ pub record Linked (r : Reading) (asked : List Asked) (served : List Served) : Ty
   pub accepted : (t : First) → IsAccepted asked t → HasBegun served t
   pub finished : (t : First) → HasFinished served t → IsAccepted asked t
   pub opened : (id : ℕ) (x : First × List ℕ) → asked_open r id asked ≡ Some x → HasFinished served x.0
+  pub ever : (t : First) (u : List ℕ) → IsOpened asked t u → HasFinished served t
   pub order : (s t : First) → IsAccepted asked s → HasFinished served t → r.requester_draw s < r.requester_draw t → r.responder_draw s < r.responder_draw t
   pub ahead : (u : List ℕ) → IsAhead (outstanding u asked) (heard u asked) (taken u served)
 

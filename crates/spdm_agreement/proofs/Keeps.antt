@@ -90,7 +90,7 @@ module _ (r : Reading) (asked : List Asked) (served : List Served) (log : Log) (
   start_keeps id draw new = record {
     asks = asks_start r asked id draw new k.asks;
     serves = k.serves;
-    links = (let l = k.links in record { accepted = l.accepted; finished = l.finished; opened = l.opened; order = l.order; ahead = l.ahead });
+    links = (let l = k.links in record { accepted = l.accepted; finished = l.finished; opened = l.opened; ever = l.ever; order = l.order; ahead = l.ahead });
     backed = λ p i m own. backed_grows r asked served (Started id draw ∷ asked) served (record { accepted = λ t a. a; opened = λ t u a. a; begun = λ t a. a; finished = λ t u a. a; replied = λ t b a. a; said = λ u b l a. a; took = λ u l a. a }) p i (k.backed p i m own);
   }
 
@@ -102,7 +102,7 @@ module _ (r : Reading) (asked : List Asked) (served : List Served) (log : Log) (
   begin_keeps t well d v = record {
     asks = k.asks;
     serves = serves_begin r served t well d k.serves;
-    links = (let l = k.links in record { accepted = λ s a. inr (l.accepted s a); finished = l.finished; opened = l.opened; order = l.order; ahead = l.ahead });
+    links = (let l = k.links in record { accepted = λ s a. inr (l.accepted s a); finished = l.finished; opened = l.opened; ever = l.ever; order = l.order; ahead = l.ahead });
     backed = backed_more r asked served asked (Began t ∷ served) (response_verify r t) (r.transcript t) (record { accepted = λ t a. a; opened = λ t u a. a; begun = λ t a. inr a; finished = λ t u a. a; replied = λ t b a. a; said = λ u b l a. a; took = λ u l a. a }) (t, refl, inl refl) k.backed;
   }
 
@@ -115,6 +115,7 @@ module _ (r : Reading) (asked : List Asked) (served : List Served) (log : Log) (
       accepted = λ s a. elim a [ inl e ↦ subst (λ (y : First). HasBegun served y) (sym e) b | inr y ↦ l.accepted s y ];
       finished = λ s f. inr (l.finished s f);
       opened = λ id y e. accept_opened _ id y e;
+      ever = l.ever;
       order = λ s z a f lt. elim a [
         | inl e ↦ absurd (let before = (k.asks.waits x w).1 z (l.finished z f) in let is = ap r.requester_draw e in omega arith)
         | inr y ↦ l.order s z y f lt
@@ -140,6 +141,7 @@ module _ (r : Reading) (asked : List Asked) (served : List Served) (log : Log) (
       accepted = l.accepted;
       finished = λ s f. elim f [ inl e ↦ subst (λ (y : First). IsAccepted asked y) (sym e) a | inr y ↦ l.finished s y ];
       opened = λ id y e. inr (l.opened id y e);
+      ever = λ s v o. inr (l.ever s v o);
       order = λ s z b f lt. elim f [
         | inl e ↦ subst (λ (y : First). r.responder_draw s < r.responder_draw y) (sym e)
             (strict _ _ (newest.1 s (l.accepted s b))
@@ -162,7 +164,7 @@ module _ (r : Reading) (asked : List Asked) (served : List Served) (log : Log) (
   refuse_keeps t reply w closed v = record {
     asks = k.asks;
     serves = serves_refuse r served t reply w closed k.serves;
-    links = (let l = k.links in record { accepted = l.accepted; finished = l.finished; opened = l.opened; order = l.order; ahead = l.ahead });
+    links = (let l = k.links in record { accepted = l.accepted; finished = l.finished; opened = l.opened; ever = l.ever; order = l.order; ahead = l.ahead });
     backed = backed_more r asked served asked (Refused t reply ∷ served) (response_shake r t) (covered r t (response_shake r t) 0 reply) (record { accepted = λ t a. a; opened = λ t u a. a; begun = λ t a. a; finished = λ t u a. a; replied = λ t b a. inr a; said = λ u b l a. a; took = λ u l a. a }) (record { first = t; is = refl; reply = reply; story = inl (refl, refl); covers = refl }) k.backed;
   }
 
@@ -174,7 +176,7 @@ module _ (r : Reading) (asked : List Asked) (served : List Served) (log : Log) (
   open_keeps t u w f right = record {
     asks = asks_open r asked t u w right k.asks;
     serves = k.serves;
-    links = (let l = k.links in record { accepted = l.accepted; finished = l.finished; opened = λ id y e. open_opened _ t u id y f e; order = l.order; ahead = l.ahead });
+    links = (let l = k.links in record { accepted = l.accepted; finished = l.finished; opened = λ id y e. open_opened _ t u id y f e; ever = λ s v o. elim o [ inl e ↦ subst (λ (z : First). HasFinished served z) (sym e.0) f | inr y ↦ l.ever s v y ]; order = l.order; ahead = l.ahead });
     backed = λ p i m own. backed_grows r asked served (Opened t u ∷ asked) served (record { accepted = λ t a. a; opened = λ t u a. inr a; begun = λ t a. a; finished = λ t u a. a; replied = λ t b a. a; said = λ u b l a. a; took = λ u l a. a }) p i (k.backed p i m own);
   }
 
@@ -193,6 +195,7 @@ module _ (r : Reading) (asked : List Asked) (served : List Served) (log : Log) (
       accepted = l.accepted;
       finished = l.finished;
       opened = l.opened;
+      ever = l.ever;
       order = l.order;
       ahead = at_key (λ u' c. IsAhead (cond c (Some b) (outstanding u' asked)) (heard u' asked) (taken u' served)) u (say_ahead u b o) l.ahead;
     });
@@ -244,6 +247,7 @@ module _ (r : Reading) (asked : List Asked) (served : List Served) (log : Log) (
       accepted = l.accepted;
       finished = l.finished;
       opened = l.opened;
+      ever = l.ever;
       order = l.order;
       ahead = at_key (λ u' c. IsAhead (outstanding u' asked) (heard u' asked) (cond c ((b, reply) ∷ taken u' served) (taken u' served))) u
           (let n = next_request t u b opened is in inr (b, reply, n.0, ap (λ (x : List Exchange). (b, reply) ∷ x) n.1)) l.ahead;
@@ -288,6 +292,7 @@ module _ (r : Reading) (asked : List Asked) (served : List Served) (log : Log) (
       accepted = l.accepted;
       finished = l.finished;
       opened = l.opened;
+      ever = l.ever;
       order = l.order;
       ahead = at_key (λ u' c. IsAhead (cond c None (outstanding u' asked)) (cond c ((b, reply) ∷ heard u' asked) (heard u' asked)) (taken u' served)) u (inl (next_reply t u b reply opened o is)) l.ahead;
     });

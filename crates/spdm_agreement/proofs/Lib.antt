@@ -69,3 +69,4 @@ pub mod AskingReady
 pub mod AskingOwn
 pub mod Configuration
 mod Scripts
+pub mod AskedOpened

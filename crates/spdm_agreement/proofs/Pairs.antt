@@ -1,7 +1,12 @@
 -- What the marks of the two ends of a pair say of their sessions.
-use Rattle.std.proofs.Common.{◌≡◌, ℕ, ◌/◌, ◌%◌, List, [], ◌∷◌, ◌++◌, Bool, true, false, Some, ◌==◌, refl, sym, ap, ◌∙◌, subst, inl, inr, arith, eqb-true, eq-eqb, cond, ◌⊎◌}
+use Rattle.std.proofs.Common.{◌≡◌, ℕ, ◌/◌, ◌%◌, List, [], ◌∷◌, ◌++◌, Bool, true, false, Some, ◌==◌, refl, sym, ap, ◌∙◌, subst, inl, inr, arith, eqb-true, eq-eqb, cond, true≢false, ◌⊎◌}
 use Rattle.key_schedule.specs.Purpose.{Purpose, is_record}
 use Rattle.requester_machine.specs.Session as requester
+use Rattle.requester_machine.specs.Shown as asked_shown
+use Rattle.responder_machine.specs.Heard as served_shown
+use Rattle.running_hash.specs.Hash.{hash_of}
+use Rattle.spdm_machine.specs.Sessions.{is_past_handshake, transcript_in}
+use Rattle.std.proofs.lemmas.Bool.{and_parts}
 use Rattle.spdm_basis.specs.SessionIdBytes.{session_id_bytes}
 use Rattle.responder_machine.specs.History as served
 use Rattle.responder_machine.specs.History.Entry.{Clear, Sealed, Queued, Ticked, Dropped}
@@ -24,10 +29,12 @@ use Rattle.spdm_agreement.specs.Marks.Served.{Began, Finished, Refused, Took}
 use Rattle.spdm_agreement.specs.Moves.{State}
 use Rattle.spdm_agreement.specs.Reading.{First}
 use Rattle.spdm_agreement.specs.Story.{asked_marks, served_marks, asked_first, served_first, served_turn, record_marks, reply_text}
-use Rattle.spdm_agreement.proofs.Runs.{holds, agrees, opened_matches, one_id, one_sealed}
+use Rattle.spdm_agreement.proofs.AskedOpened.{opened_told, apart_told}
+use Rattle.spdm_agreement.proofs.Asking.{IsSteady}
+use Rattle.spdm_agreement.proofs.Runs.{holds, agrees, opened_matches, ever_matches, one_beginning, one_id, one_sealed}
 use Rattle.spdm_agreement.proofs.Sessions.{reading_of}
 use Rattle.world_machine.specs.Agreement as world
-use Rattle.world_machine.specs.Agreement.{AreOne, HasOpened, IsMade}
+use Rattle.world_machine.specs.Agreement.{AreOne, HasOpened, IsMade, IsMatched, WasOpened}
 use Rattle.requester_machine.specs.Requesting.{Requesting}
 use Rattle.responder_machine.specs.Responding.{Connection}
 use Rattle.spdm_grammar.specs.declared.names.request_code.TheConstants.{PSK_EXCHANGE, PSK_FINISH, END_SESSION}
@@ -124,19 +131,59 @@ opened_there r (Queued bytes ∷ older) first u h = opened_there r older first u
 opened_there r (Ticked seconds ∷ older) first u h = opened_there r older first u h
 opened_there r (Dropped id ∷ older) first u h = opened_there r older first u h
 
-pub matched : (a : Requesting) (c : Connection) (log : Log) → Stands a c log → (req : ℕ) → world.holds a.history req ≡ true
-    → HasOpened (requester.t2_of (requester.session_of req a.history)) c.history
-    × ((other : ℕ) → world.holds a.history other ≡ true → requester.t2_of (requester.session_of other a.history) ≡ requester.t2_of (requester.session_of req a.history) → other ≡ req)
-matched a c log stands req live =
-    let s = requester.session_of req a.history in
+-- What was ever opened at the requester was finished at the responder.
+ever_there : (a : Requesting) (c : Connection) (log : Log) → Stands a c log → IsSteady a.history → (t2 : List ℕ) → WasOpened t2 a.history → HasOpened t2 c.history
+ever_there a c log stands steady t2 was =
     let r = reading_of a.setup.psk in
     let k = holds r (state_of a c log) stands.reached in
-    let mine = stands.asked req live in (
-      opened_there c.setup c.history (asked_first s) (requester.t2_of s) (opened_matches r _ _ _ k req (asked_first s) (requester.t2_of s) mine),
-      λ other its same. (let o = requester.session_of other a.history in
+    let o = opened_told a.setup a.history steady t2 was in
+    opened_there c.setup c.history o.0 t2 (ever_matches r _ _ _ k o.0 t2 o.1)
+
+pub matched : (a : Requesting) (c : Connection) (log : Log) → Stands a c log → IsSteady a.history → IsMatched a c
+matched a c log stands steady =
+    let r = reading_of a.setup.psk in
+    let k = holds r (state_of a c log) stands.reached in record {
+      held = λ req live. (let s = requester.session_of req a.history in
+          opened_there c.setup c.history (asked_first s) (requester.t2_of s) (opened_matches r _ _ _ k req (asked_first s) (requester.t2_of s) (stands.asked req live)));
+      ids = λ req other live its same. (let s = requester.session_of req a.history in let o = requester.session_of other a.history in
           one_id r _ _ _ k other req (asked_first o) (asked_first s) (requester.t2_of s)
-          (subst (λ (u : List ℕ). asked_open r other (asked_marks a.setup a.history) ≡ Some (asked_first o, u)) same (stands.asked other its)) mine),
-    )
+          (subst (λ (u : List ℕ). asked_open r other (asked_marks a.setup a.history) ≡ Some (asked_first o, u)) same (stands.asked other its)) (stands.asked req live));
+      opened = ever_there a c log stands steady;
+      apart = apart_told a.setup a.history steady k.asks.seconds;
+    }
+
+-- ---- Hashes.
+
+-- Sessions that are held open at both ends, with one T2, began with the same messages.
+one_first : (a : Requesting) (c : Connection) (log : Log) → Stands a c log → (req rsp : ℕ) → world.holds a.history req ≡ true → is_held c.history rsp ≡ true
+    → requester.t2_of (requester.session_of req a.history) ≡ responder.t2_of (responder.session_of rsp c.history)
+    → asked_first (requester.session_of req a.history) ≡ served_first (responder.session_of rsp c.history)
+one_first a c log stands req rsp live held same =
+    let s = requester.session_of req a.history in
+    let t = responder.session_of rsp c.history in
+    let r = reading_of a.setup.psk in
+    let k = holds r (state_of a c log) stands.reached in
+    one_beginning r _ _ _ k (asked_first s) (served_first t) (requester.t2_of s)
+    (k.asks.opens req (asked_first s, requester.t2_of s) (stands.asked req live)).0
+    (subst (λ (u : List ℕ). marks.HasOpened (served_marks c.setup c.history) (served_first t) u) (sym same) (k.serves.opens rsp (served_first t, responder.t2_of t) (stands.served rsp held)).0)
+
+past_shown : (g : Stage) (t1 t2 : List ℕ) → is_past_handshake g ≡ true → transcript_in g t1 t2 ≡ t2
+past_shown stage.Handshake t1 t2 past = absurd (true≢false (sym past))
+past_shown stage.Open t1 t2 past = refl
+past_shown stage.Verifying t1 t2 past = refl
+
+pub hashes : (a : Requesting) (c : Connection) (log : Log) → Stands a c log → (req rsp : ℕ) → world.holds a.history req ≡ true → is_held c.history rsp ≡ true
+    → requester.t2_of (requester.session_of req a.history) ≡ responder.t2_of (responder.session_of rsp c.history)
+    → (asked_shown.view_of (requester.session_of req a.history)).hash ≡ (served_shown.view_of (responder.session_of rsp c.history)).hash
+unfolding asked_shown.view_of served_shown.view_of
+hashes a c log stands req rsp live held same =
+    let s = requester.session_of req a.history in
+    let t = responder.session_of rsp c.history in
+    let first = one_first a c log stands req rsp live held same in
+    ap (λ (x : List ℕ). (requester.session_hash s).digest x) (past_shown (requester.stage_of s) (requester.t1_of s) (requester.t2_of s) (and_parts _ _ live).1)
+    ∙ ap (λ (x : First). (hash_of (terms_of x.negotiation).choice.hash).digest (requester.t2_of s)) first
+    ∙ ap (λ (x : List ℕ). (responder.session_hash t).digest x) same
+    ∙ sym (ap (λ (x : List ℕ). (responder.session_hash t).digest x) (past_shown (responder.stage_of t) (responder.t1_of t) (responder.t2_of t) (and_parts _ _ held).1))
 
 -- ---- Numbers.
 

@@ -103,6 +103,7 @@ starts_good r = record {
       waits = λ x e. absurd (none_some _ e);
       once = λ s t a. elim a [ ];
       apart = tt;
+      seconds = tt;
       well = λ t a. elim a [ ];
       finishes = λ x e. absurd (none_some _ e);
       opens = λ id x e. absurd (none_some _ e);
@@ -123,7 +124,7 @@ starts_good r = record {
       only = λ t b c a. elim a [ ];
       quiet = λ u n. refl;
     };
-    links = record { accepted = λ t a. elim a [ ]; finished = λ t a. elim a [ ]; opened = λ id x e. absurd (none_some _ e); order = λ s t a. elim a [ ]; ahead = λ u. inl refl };
+    links = record { accepted = λ t a. elim a [ ]; finished = λ t a. elim a [ ]; opened = λ id x e. absurd (none_some _ e); ever = λ t u a. elim a [ ]; order = λ s t a. elim a [ ]; ahead = λ u. inl refl };
     backed = λ p i m. elim m [ ];
   };
 }
@@ -173,6 +174,19 @@ same_finished r asked served log k s t u a b =
     let two = k.serves.opened t u b in
     let well : (x : First) → HasFinished served x → r.is_sound x ≡ true = λ x f. k.serves.well x (k.serves.replied x (r.finish_answer x) (k.serves.seconds x f).1) in
     r.second_tells s t (well s one.0) (well t two.0) (sym one.1 ∙ two.1)
+
+pub ever_matches : (r : Reading) (asked : List Asked) (served : List Served) (log : Log) → Invariant r asked served log → (t : First) (u : List ℕ) → IsOpened asked t u → HasOpened served t u
+ever_matches r asked served log k t u o =
+    let right = (k.asks.opened t u o).1 in
+    subst (λ (l : List ℕ). HasOpened served t l) (sym right) (k.serves.seconds t (k.links.ever t u o)).0
+
+-- A T2 under which both ends opened sessions is that of one session.
+pub one_beginning : (r : Reading) (asked : List Asked) (served : List Served) (log : Log) → Invariant r asked served log → (s t : First) (u : List ℕ) → IsOpened asked s u → HasOpened served t u → s ≡ t
+one_beginning r asked served log k s t u a b =
+    let one = k.asks.opened s u a in
+    let two = k.serves.opened t u b in
+    let begun = k.serves.replied t (r.finish_answer t) (k.serves.seconds t two.0).1 in
+    r.second_tells s t (k.asks.well s one.0) (k.serves.well t begun) (sym one.1 ∙ two.1)
 
 pub one_id : (r : Reading) (asked : List Asked) (served : List Served) (log : Log) → Invariant r asked served log → (id other : ℕ) (t t' : First) (u : List ℕ) → asked_open r id asked ≡ Some (t, u) → asked_open r other asked ≡ Some (t', u) → id ≡ other
 one_id r asked served log k id other t t' u a b =

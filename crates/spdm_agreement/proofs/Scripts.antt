@@ -3,7 +3,7 @@ use Rattle.std.proofs.Common.{◌≡◌, ◌≤◌, ◌+◌, ℕ, List, [], ◌�
 use Rattle.std.proofs.lemmas.List.Elements.{All-from_recursion}
 use Rattle.std.specs.List.{AllByRecursion}
 use Rattle.requester_machine.specs.Setup.{ReqSetup, ReqEnd}
-use Rattle.spdm_agreement.proofs.Assembled.{agree, deliver, matches, seal_once}
+use Rattle.spdm_agreement.proofs.Assembled.{agree, deliver, matches, seal_once, show_alike}
 use Rattle.spdm_agreement.specs.Configured.{AreApart, HasDraws, IsRequester, setups_of, boot_most}
 use Rattle.spdm_agreement.specs.Worlds.{ScriptsAreConfigured, ScriptsHold}
 use Rattle.world_machine.specs.Setup.{known_of, ends_from, first_draw, script_world}
@@ -45,5 +45,6 @@ scripts_hold c seed boot is most entries chance =
       agreement = agree (script_world c seed boot) configured entries chance;
       data_prefix = deliver (script_world c seed boot) configured entries chance;
       matched = matches (script_world c seed boot) configured entries chance;
+      hashes_agree = show_alike (script_world c seed boot) configured entries chance;
       sealed_once = seal_once (script_world c seed boot) configured entries chance;
     }

@@ -53,6 +53,7 @@ asks_accept r h t x w d well i =
         | inr z ↦ elim b [ inl et ↦ absurd (let n = below s z in let k = ap r.requester_draw et in omega arith) | inr y ↦ i.once s s' z y e ]
       ];
       apart = (new, i.apart);
+      seconds = i.seconds;
       well = λ s a. elim a [ inl e ↦ ap r.is_sound e ∙ well | inr b ↦ i.well s b ];
       finishes = λ s e. subst (λ (z : First). ((z ≡ t) ⊎ IsAccepted h z) × ((s' : First) → (s' ≡ t) ⊎ IsAccepted h s' → r.requester_draw s' ≤ r.requester_draw z) × ((u : List ℕ) → IsOpened h z u → ⊥)) (some_same _ _ e)
           (inl refl, (λ s' a. elim a [ inl es ↦ rw es (omega arith) | inr b ↦ (let n = below s' b in omega arith) ]), (λ u o. new (i.opened t u o).0));
@@ -68,6 +69,7 @@ asks_start r h id draw new i = record {
   waits = λ y e. (let same = some_same _ _ e in rw (← same) ((omega arith), (λ t a. (let n = i.below t a in omega arith))));
   once = i.once;
   apart = i.apart;
+  seconds = i.seconds;
   well = i.well;
   finishes = λ y e. absurd (none_some _ e);
   opens = i.opens;
@@ -89,6 +91,8 @@ asks_open r h t u f right i = record {
   waits = i.waits;
   once = i.once;
   apart = i.apart;
+  seconds = (λ s o. (let was = i.opened s u o in
+      (i.finishes t f).2 u (subst (λ (z : First). IsOpened h z u) (r.second_tells s t (i.well s was.0) (i.well t (i.finishes t f).0) (sym was.1 ∙ right)) o)), i.seconds);
   well = i.well;
   finishes = λ y e. absurd (none_some _ e);
   opens = λ id y e. open_opens r _ h t u id y i f refl e;
@@ -114,6 +118,7 @@ asks_say r h t u b opened o i = record {
   waits = i.waits;
   once = i.once;
   apart = i.apart;
+  seconds = i.seconds;
   well = i.well;
   finishes = i.finishes;
   opens = i.opens;
@@ -130,6 +135,7 @@ asks_hear r h u b reply o i = record {
   waits = i.waits;
   once = i.once;
   apart = i.apart;
+  seconds = i.seconds;
   well = i.well;
   finishes = i.finishes;
   opens = i.opens;

@@ -6,7 +6,7 @@ use Rattle.responder_machine.specs.History as served
 use Rattle.responder_machine.specs.Setup.{RspSetup}
 use Rattle.requester_machine.specs.Setup.{ReqSetup}
 use Rattle.world_machine.proofs.Logs.{no_chance_before}
-use Rattle.world_machine.specs.Agreement.{Agreement, Matched, SealedOnce, ArePair}
+use Rattle.world_machine.specs.Agreement.{Agreement, HashesAgree, Matched, SealedOnce, ArePair}
 use Rattle.world_machine.specs.Chance.{NoChance}
 use Rattle.world_machine.specs.Happenings.{Happening, Entry}
 use Rattle.world_machine.specs.Happenings.Happening.{Told, Reply, Deliver, Lose, Inject, Pump, Tick, Show}
@@ -16,14 +16,14 @@ use Rattle.world_machine.specs.Setup.{WorldSetup}
 use Rattle.world_machine.specs.Trace.{world_from, world_after}
 use Rattle.world_machine.specs.World.{World, WorldStep, new_world, told, given, given_to, given_to_responder, delivers, loses, without_waiting, stopped_of, with_sent, packet_of, turn, pumps, first_waiting, replied, requester_of, requester_at, is_at, happens, entry_step}
 use Rattle.spdm_agreement.specs.Configured.{IsConfigured}
-use Rattle.spdm_agreement.specs.Worlds.{WorldsAgree, WorldsMatch, WorldsSealOnce}
+use Rattle.spdm_agreement.specs.Worlds.{WorldsAgree, WorldsMatch, WorldsSealOnce, WorldsShowAlike}
 use Rattle.spdm_agreement.proofs.Answers as answers
 use Rattle.spdm_agreement.proofs.Asking.{asked_stands}
 use Rattle.spdm_agreement.proofs.Fits.{IsPair, Fits}
 use Rattle.spdm_agreement.proofs.Happens as asks
 use Rattle.spdm_machine.proofs.Members.{IsIn, in_contained, found_in, some_same, none_some}
 use Rattle.spdm_agreement.proofs.Owed.{AsksWell, HearsWell, AskedStarts, AskedSteady, DoesWell, ServedStarts, Waits}
-use Rattle.spdm_agreement.proofs.Pairs.{Stands, one, matched, once}
+use Rattle.spdm_agreement.proofs.Pairs.{Stands, one, matched, once, hashes}
 use Rattle.spdm_agreement.proofs.Serving.{served_stands}
 use Rattle.spdm_agreement.proofs.Starts.{starts}
 use Rattle.spdm_agreement.proofs.Steady.{made_steady}
@@ -141,7 +141,12 @@ module _ (KeptAsked : ReqSetup → asked.History → Type 0) (KeptServed : RspSe
   agree world k a x pair req rsp live held ids = one a x world.log (stands world k a x (is_pair world a x pair)) req rsp live held ids
 
   match_all : (world : World) → Fits KeptAsked KeptServed world → Matched world
-  match_all world k a x pair req live = matched a x world.log (stands world k a x (is_pair world a x pair)) req live
+  match_all world k a x pair =
+      let its = is_pair world a x pair in
+      matched a x world.log (stands world k a x its) (asked_steady a.setup a.history (k.asks a its.requester).made)
+
+  hash_all : (world : World) → Fits KeptAsked KeptServed world → HashesAgree world
+  hash_all world k a x pair req rsp live held same = hashes a x world.log (stands world k a x (is_pair world a x pair)) req rsp live held same
 
   seal_once : (world : World) → Fits KeptAsked KeptServed world → SealedOnce world.log
   seal_once world k p number y z is m n =
@@ -154,6 +159,9 @@ module _ (KeptAsked : ReqSetup → asked.History → Type 0) (KeptServed : RspSe
 
   pub worlds_match : WorldsMatch
   worlds_match w c entries chance = match_all (world_after w entries) ((after_good w c entries).fits chance)
+
+  pub worlds_show_alike : WorldsShowAlike
+  worlds_show_alike w c entries chance = hash_all (world_after w entries) ((after_good w c entries).fits chance)
 
   pub worlds_seal_once : WorldsSealOnce
   worlds_seal_once w c entries chance = seal_once (world_after w entries) ((after_good w c entries).fits chance)

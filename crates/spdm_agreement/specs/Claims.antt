@@ -1,7 +1,7 @@
 -- What holds wherever the moves of a pre-shared key lead without chance.
 use Rattle.std.specs.Prelude.{◌≡◌, ℕ, List, [], ◌∷◌, ◌++◌, true, Some, None}
 use Rattle.key_schedule.specs.Purpose.{Purpose, is_record}
-use Rattle.spdm_agreement.specs.Marks.{Exchange, Text, AcceptedOnce, HasOpened, finishing, asked_open, requests, outstanding, heard, handshake, served_open, taken, firsts}
+use Rattle.spdm_agreement.specs.Marks.{Exchange, Text, AcceptedOnce, IsOpened, OpenedApart, HasOpened, finishing, asked_open, requests, outstanding, heard, handshake, served_open, taken, firsts}
 use Rattle.spdm_agreement.specs.Moves.{Move, State, IsRun, nothing_yet}
 use Rattle.spdm_agreement.specs.Reading.{First, Reading}
 use Rattle.world_machine.specs.Agreement.{IsPrefixOf, IsMade}
@@ -35,14 +35,17 @@ Delivered =
     → ((choose : Text → List (List ℕ)) → IsPrefixOf (in_order choose (firsts (taken u s.served))) (in_order choose (requests u s.asked)))
     × ((choose : Exchange → List (List ℕ)) → IsPrefixOf (in_order choose (heard u s.asked)) (in_order choose (taken u s.served)))
 
--- A session that the requester holds open was finished at the responder, with the same beginning and T2; the open
--- sessions of two ids begin otherwise; and no session was accepted twice.
+-- A session that the requester holds open, and each that it ever opened, was finished at the responder, with the same
+-- beginning and T2; the open sessions of two ids begin otherwise; no session was accepted twice, and no two that opened
+-- have one T2.
 abbrev pub MatchedSessions : Type 0
 MatchedSessions =
     (r : Reading) (s : State) → IsReached r s
     → ((id : ℕ) (t : First) (u : List ℕ) → asked_open r id s.asked ≡ Some (t, u) → HasOpened s.served t u)
     × ((id other : ℕ) (t t' : First) (u : List ℕ) → asked_open r id s.asked ≡ Some (t, u) → asked_open r other s.asked ≡ Some (t', u) → id ≡ other)
+    × ((t : First) (u : List ℕ) → IsOpened s.asked t u → HasOpened s.served t u)
     × AcceptedOnce s.asked
+    × OpenedApart s.asked
 
 -- No two different records are sealed under one purpose and number.
 abbrev pub OneRecord : Type 0

@@ -73,6 +73,12 @@ IsOpened [] t u = ⊥
 IsOpened (Opened s v ∷ older) t u = ((t ≡ s) × (u ≡ v)) ⊎ IsOpened older t u
 IsOpened (_ ∷ older) t u = IsOpened older t u
 
+-- No two sessions that opened led to one T2.
+abbrev pub OpenedApart : List Asked → Type 0
+OpenedApart [] = Unit {0}
+OpenedApart (Opened t u ∷ older) = ((s : First) → IsOpened older s u → ⊥) × OpenedApart older
+OpenedApart (_ ∷ older) = OpenedApart older
+
 -- The requests that were sealed under a T2.
 abbrev pub requests : List ℕ → List Asked → List Text
 requests u [] = []

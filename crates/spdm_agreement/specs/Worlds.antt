@@ -1,7 +1,7 @@
 -- Agreement over every schedule: what holds of each world that events lead to, where nothing agrees by chance.
 use Rattle.std.specs.Prelude.{◌≤◌, ℕ, List}
 use Rattle.spdm_agreement.specs.Configured.{IsConfigured, IsConfiguration, boot_most}
-use Rattle.world_machine.specs.Agreement.{Agreement, DataPrefix, Matched, SealedOnce}
+use Rattle.world_machine.specs.Agreement.{Agreement, DataPrefix, HashesAgree, Matched, SealedOnce}
 use Rattle.world_machine.specs.Chance.{NoChance}
 use Rattle.world_machine.specs.Happenings.{Entry}
 use Rattle.world_machine.specs.Setup.{WorldSetup, Configuration, script_world}
@@ -21,9 +21,13 @@ WorldsAgree = InEachWorld Agreement
 abbrev pub WorldsDeliver : Type 0
 WorldsDeliver = InEachWorld DataPrefix
 
--- A session that a requester holds open was opened at the responder, each at another one.
+-- A session that a requester holds open, and each that it ever opened, was opened at the responder, each at another one.
 abbrev pub WorldsMatch : Type 0
 WorldsMatch = InEachWorld Matched
+
+-- Where a T2 is one at both ends of a pair, the hashes that they show of the session are equal.
+abbrev pub WorldsShowAlike : Type 0
+WorldsShowAlike = InEachWorld HashesAgree
 
 -- No end seals two different records under one purpose and number.
 abbrev pub WorldsSealOnce : Type 0
@@ -36,14 +40,15 @@ WorldsSealOnce = InEachWorld (λ world. SealedOnce world.log)
 abbrev pub ScriptsAreConfigured : Type 0
 ScriptsAreConfigured = (c : Configuration) (seed : List ℕ) (boot : ℕ) → IsConfiguration c → boot ≤ boot_most → IsConfigured (script_world c seed boot)
 
--- Agreement, data prefix, matched sessions and single use of numbers, all of one world.
+-- Agreement, data prefix, matched sessions, equal hashes and single use of numbers, all of one world.
 pub record HoldsTogether (world : World) : Type 0 where
   pub agreement : Agreement world
   pub data_prefix : DataPrefix world
   pub matched : Matched world
+  pub hashes_agree : HashesAgree world
   pub sealed_once : SealedOnce world.log
 
--- So all four hold of each world that the events of a script lead to, where nothing agrees by chance.
+-- So all of them hold of each world that the events of a script lead to, where nothing agrees by chance.
 abbrev pub ScriptsHold : Type 0
 ScriptsHold = (c : Configuration) (seed : List ℕ) (boot : ℕ) → IsConfiguration c → boot ≤ boot_most → (entries : List Entry)
     → NoChance (world_after (script_world c seed boot) entries).log → HoldsTogether (world_after (script_world c seed boot) entries)

@@ -2,7 +2,7 @@
 //! it, each law as the contract of a function that does nothing.
 
 ghost use Rattle.spdm_agreement.specs.Claims.{OneTranscript, Delivered, MatchedSessions, OneRecord, FreshSessions};
-ghost use Rattle.spdm_agreement.specs.Worlds.{ScriptsAreConfigured, ScriptsHold, WorldsAgree, WorldsDeliver, WorldsMatch, WorldsSealOnce};
+ghost use Rattle.spdm_agreement.specs.Worlds.{ScriptsAreConfigured, ScriptsHold, WorldsAgree, WorldsDeliver, WorldsMatch, WorldsSealOnce, WorldsShowAlike};
 
 /// Where both ends hold open a session of one pair of ids, its transcripts are equal.
 pub fn one_transcript()
@@ -51,6 +51,12 @@ pub fn matched()
 /// In every such world no two different records are sealed under one purpose and number.
 pub fn sealed_once()
     ensures { WorldsSealOnce }
+{}
+
+/// In every such world, where both ends of a pair hold open a session with one T2, the hashes that they
+/// show of it are equal.
+pub fn hashes_agree()
+    ensures { WorldsShowAlike }
 {}
 
 /// What a text within its limits sets up is such a world, with whatever common seed and in the life

@@ -8,6 +8,9 @@ use Rattle.requester_machine.specs.History.Entry.{Told, TookClear, TookRecord}
 use Rattle.requester_machine.specs.Message.{Command}
 use Rattle.requester_machine.specs.Message.Command.{Send}
 use Rattle.requester_machine.specs.Session as requester
+use Rattle.requester_machine.specs.Session.Step.{Took}
+use Rattle.requester_machine.specs.Shown as asked_shown
+use Rattle.responder_machine.specs.Heard as served_shown
 use Rattle.responder_machine.specs.History.{History}
 use Rattle.responder_machine.specs.History.Entry.{Sealed}
 use Rattle.responder_machine.specs.Place.{is_held}
@@ -133,14 +136,47 @@ HasOpened t2 (Sealed tag sealed t reply d ∷ older) =
     ((takes PSK_FINISH t ≡ true) × (responder.t2_of (responder.session_of (id_in_record sealed) (Sealed tag sealed t reply d ∷ older)) ≡ t2)) ⊎ HasOpened t2 older
 HasOpened t2 (_ ∷ older) = HasOpened t2 older
 
--- A session that a requester holds open was opened at the responder with the same T2, and different ones have
--- different T2.
+-- T2 of a session at the requester, with a record that it takes.
+abbrev pub t2_with : requester.Steps → (sealed inner : List ℕ) → asked.Effect → List ℕ
+t2_with s sealed inner effect = requester.t2_of (Took sealed inner effect ∷ s)
+
+-- The requester opened a session with this T2: it took its PSK_FINISH_RSP.
+abbrev pub WasOpened : (t2 : List ℕ) → asked.History → Type 0
+WasOpened t2 [] = ⊥
+WasOpened t2 (TookRecord tag id sealed inner led d ∷ older) =
+    ((requester.finishes led.effect ≡ true) × (t2_with (requester.session_of id older) sealed inner led.effect ≡ t2)) ⊎ WasOpened t2 older
+WasOpened t2 (_ ∷ older) = WasOpened t2 older
+
+-- No two sessions that the requester opened have one T2.
+abbrev pub WereOpenedApart : asked.History → Type 0
+WereOpenedApart [] = Unit {0}
+WereOpenedApart (TookRecord tag id sealed inner led d ∷ older) =
+    (requester.finishes led.effect ≡ true → WasOpened (t2_with (requester.session_of id older) sealed inner led.effect) older → ⊥) × WereOpenedApart older
+WereOpenedApart (_ ∷ older) = WereOpenedApart older
+
+-- A requester and the responder towards it: a session that the requester holds open, and each that it ever opened, was
+-- opened at the responder with the same T2. Those that are held under different ids have different T2, and so have all
+-- that were ever opened.
+pub record IsMatched (a : Requesting) (c : Connection) : Type 0 where
+  pub held : (req : ℕ) → holds a.history req ≡ true → HasOpened (requester.t2_of (requester.session_of req a.history)) c.history
+  pub ids : (req other : ℕ) → holds a.history req ≡ true → holds a.history other ≡ true
+      → requester.t2_of (requester.session_of other a.history) ≡ requester.t2_of (requester.session_of req a.history) → other ≡ req
+  pub opened : (t2 : List ℕ) → WasOpened t2 a.history → HasOpened t2 c.history
+  pub apart : WereOpenedApart a.history
+
+-- So it is of each pair.
 abbrev pub Matched : World → Type 0
-Matched world =
-    (a : Requesting) (c : Connection) → ArePair world a c → (req : ℕ) → holds a.history req ≡ true
-    → HasOpened (requester.t2_of (requester.session_of req a.history)) c.history
-    × ((other : ℕ) → holds a.history other ≡ true
-    → requester.t2_of (requester.session_of other a.history) ≡ requester.t2_of (requester.session_of req a.history) → other ≡ req)
+Matched world = (a : Requesting) (c : Connection) → ArePair world a c → IsMatched a c
+
+-- ---- Hashes.
+
+-- Where a T2 is one at both ends of a pair, which hold the session open, the hashes that they show of it are equal.
+abbrev pub HashesAgree : World → Type 0
+HashesAgree world =
+    (a : Requesting) (c : Connection) → ArePair world a c → (req rsp : ℕ)
+    → holds a.history req ≡ true → is_held c.history rsp ≡ true
+    → requester.t2_of (requester.session_of req a.history) ≡ responder.t2_of (responder.session_of rsp c.history)
+    → (asked_shown.view_of (requester.session_of req a.history)).hash ≡ (served_shown.view_of (responder.session_of rsp c.history)).hash
 
 -- ---- Numbers.
 

@@ -1,0 +1,5 @@
+use Rattle.spdm_agreement.proofs.Assembled.{show_alike}
+use Rattle.spdm_agreement.proofs.laws.hashes_agree.Goals as goal
+
+pub returns : goal.returns
+returns c = show_alike
