@@ -8,3 +8,4 @@ mod SpanList
 mod Room
 mod NewStart
 mod CutAndGathered
+pub mod OwnPackets

@@ -1,6 +1,6 @@
 //! Laws of the definitions: each is the contract of a function that does nothing. Call one where a proof
 //! needs it.
-ghost use Rattle.std.specs.Prelude.{◌≡◌, ◌≤◌, ◌<◌, ◌+◌, [], ◌∷◌, ◌++◌, true, ◌==◌, if◌then◌else◌, ℕ, List, Ok, All, length, map, drop, slice_get, Some};
+ghost use Rattle.std.specs.Prelude.{◌≡◌, ◌≤◌, ◌<◌, ◌+◌, [], ◌∷◌, ◌++◌, true, ◌==◌, if◌then◌else◌, ℕ, List, Ok, All, length, map, drop, filter, slice_get, Some};
 ghost use Rattle.std.specs.List.{concat};
 ghost use Rattle.mctp_framing.specs.Packet.{PacketFields, fields_of, parsed, spelled_packet};
 ghost use Rattle.mctp_framing.specs.CutAndGather.{IsGatherable};
@@ -35,6 +35,13 @@ pub fn short_body_is_one_packet()
 pub fn first_packet_begins_anew()
     ensures answer { (r : Receiver) (earlier : List PacketFields) (p : PacketFields) → p.start ≡ true → gathered r earlier p ≡ gathered r [] p }
     ensures later { (r : Receiver) (later earlier : List PacketFields) (p q : PacketFields) → is_ours r p ≡ true → p.start ≡ true → gathered r (later ++ p ∷ earlier) q ≡ gathered r (later ++ p ∷ []) q }
+{}
+
+/// What a packet leads to is the same with the packets that are not the receiver's left out of those given
+/// before it. So it goes by the receiver's packets alone.
+pub fn others_count_in_nothing()
+    ensures left_out { (r : Receiver) (earlier : List PacketFields) (p : PacketFields) → gathered r (filter (is_ours r) earlier) p ≡ gathered r earlier p }
+    ensures alike { (r : Receiver) (given others : List PacketFields) (p : PacketFields) → filter (is_ours r) given ≡ filter (is_ours r) others → gathered r given p ≡ gathered r others p }
 {}
 
 /// The packets of a body, given in order to the receiver that they are for, whatever packets came before:

@@ -16,8 +16,8 @@ mod unfinished;
 pub use assembler::{Assembler, Fed};
 pub use cutter::{Cutter, PacketBuf, cut};
 pub use laws::{
-    cut_is_gathered, first_packet_begins_anew, packets_fit, payloads_are_the_body,
-    short_body_is_one_packet, written_is_read,
+    cut_is_gathered, first_packet_begins_anew, others_count_in_nothing, packets_fit,
+    payloads_are_the_body, short_body_is_one_packet, written_is_read,
 };
 pub use packet::{Packet, PacketView};
 pub use packet_list::PacketList;

@@ -23,3 +23,4 @@ pub mod Bounds
 pub mod AcceptedLaws
 pub mod UnderWay
 pub mod SpentLaws
+pub mod EndLaws

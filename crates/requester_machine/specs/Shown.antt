@@ -1,6 +1,6 @@
 -- What comes of an outcome: the history behind it, the message that is sent, what is told; and what is shown of
 -- a requester. This project's own.
-use Rattle.std.specs.Prelude.{ℕ, List, [], ◌∷◌, ◌++◌, if◌then◌else◌, Option, Some, None, unwrap_or}
+use Rattle.std.specs.Prelude.{◌+◌, ℕ, List, [], ◌∷◌, ◌++◌, if◌then◌else◌, Option, Some, None, is_some, unwrap_or}
 use Rattle.std.specs.Option.{option_or}
 use Rattle.spdm_grammar.specs.Message.{ResponseMessage}
 use Rattle.spdm_grammar.specs.Message.RequestMessage.{GetMeasurements}
@@ -95,6 +95,11 @@ data_of _ = None
 abbrev pub last_data : History → List ℕ
 last_data [] = []
 last_data (entry ∷ older) = unwrap_or (option_or (bytes_in (effect_in entry)) (blocks_in (effect_in entry))) (last_data older)
+
+-- How many application messages were ever taken.
+abbrev pub all_taken : History → ℕ
+all_taken [] = 0
+all_taken (entry ∷ older) = if is_some (bytes_in (effect_in entry)) then all_taken older + 1 else all_taken older
 
 -- ---- Sessions as they are shown.
 

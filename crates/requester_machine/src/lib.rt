@@ -5,6 +5,7 @@
 
 mod accepted_laws;
 mod bound_laws;
+mod end_laws;
 mod number_laws;
 mod under_way_laws;
 
@@ -15,6 +16,7 @@ pub use accepted_laws::{
     accepted_is_verified, accepted_session_is_verified, taken_record_is_opened,
 };
 pub use bound_laws::{counts_are_bounded, sessions_are_bounded};
+pub use end_laws::runs_are_bounded;
 pub use number_laws::{keys_are_few, numbers_are_few, taken_number_is_few};
 pub use under_way_laws::{
     chunks_are_under_way, live_is_under_negotiation, session_sizes_are_set_up, sizes_are_set_up,

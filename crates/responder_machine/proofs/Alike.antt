@@ -1,10 +1,11 @@
 -- Two responders that are alike towards an end point do alike with a packet from it.
 use Rattle.std.proofs.Common.{◌≡◌, ℕ, List, [], ◌∷◌, Bool, true, false, Option, Some, None, refl, sym, ap, ◌∙◌, subst, filter, if◌then◌else◌, ◌==◌, ◌||◌, not}
+use Rattle.mctp_framing.proofs.OwnPackets.{gathered-alike}
 use Rattle.mctp_framing.specs.Cutting.{RouteFields}
-use Rattle.mctp_framing.specs.Gathering.{Gathered, Receiver, is_ours, gathered, group_of, answer_of, belongs_to}
+use Rattle.mctp_framing.specs.Gathering.{Gathered, Receiver, is_ours}
 use Rattle.mctp_framing.specs.Gathering.Gathered.{Whole, More, Dropped}
 use Rattle.mctp_framing.specs.Packet.{PacketFields, packet_fault, fault_or, fields_of, parsed}
-use Rattle.spdm_basis.specs.declared.DropCause.TheVariants.{NotOurs, NoStart}
+use Rattle.spdm_basis.specs.declared.DropCause.TheVariants.{NotOurs}
 use Rattle.spdm_basis.specs.declared.PacketFault.{PacketFault}
 use Rattle.responder_machine.specs.Does.{responder_does}
 use Rattle.responder_machine.specs.History.{History}
@@ -20,22 +21,11 @@ use Rattle.responder_machine.specs.Setup.{RspPart}
 use Rattle.responder_machine.specs.Responding.{Connection, Responding, RspStep, connection_of, changed, with_history, ignores, answers, hears_whole, hears_gathered, hears_from, hears_packet, is_worn, worn_step, next_draw, responder_hears}
 
 -- What a packet leads to goes by the packets from the peer alone.
-gathered_by : (r : Receiver) (given others : List PacketFields) (p : PacketFields) → filter (is_ours r) given ≡ filter (is_ours r) others → gathered r given p ≡ gathered r others p
-gathered_by r given others p e = ap (λ (own : List PacketFields). gathered_in own) e
-  where
-    gathered_in : List PacketFields → Gathered
-    gathered_in own =
-        let group = group_of own in
-        if not (is_ours r p) then Dropped NotOurs
-        else (if p.start then answer_of r.limit p []
-        else (if belongs_to r.limit p group then answer_of r.limit p group
-        else Dropped NoStart))
-
 pub gathered_alike : (own eid : ℕ) (given others : List (List ℕ)) (p : PacketFields)
     → filter (is_ours (receiver_of own eid)) (fields_in given) ≡ filter (is_ours (receiver_of own eid)) (fields_in others)
     → gathered_from own eid given p ≡ gathered_from own eid others p
 unfolding gathered_from
-gathered_alike own eid given others p e = gathered_by (receiver_of own eid) (fields_in given) (fields_in others) p e
+gathered_alike own eid given others p e = gathered-alike (receiver_of own eid) (fields_in given) (fields_in others) p e
 
 -- ---- Packets and connections.
 
@@ -75,7 +65,7 @@ either eid false x y u v a b = b
 
 -- ---- A packet.
 
-module _ (r s : Responding) (packet : List ℕ) (alike : AreAlike (source_of packet) r s) (draws : next_draw r ≡ next_draw s) where
+module _ (r s : Responding) (packet : List ℕ) (d : Draw) (alike : AreAlike (source_of packet) r s) where
   -- Nothing is sent.
   nothing : (told : Heard) → LeadAlike (source_of packet) (ignores r packet told) (ignores s packet told)
   nothing told = record {
@@ -100,16 +90,10 @@ module _ (r s : Responding) (packet : List ℕ) (alike : AreAlike (source_of pac
     };
   }
 
-  by_draw : (c : Connection) (route : RouteFields) (body : List ℕ) → connection_of (source_of packet) r.connections ≡ Some c
-      → LeadAlike (source_of packet) (answers r c packet route body (responder_does c.setup c.history route.tag body (next_draw r))) (answers s c packet route body (responder_does c.setup c.history route.tag body (next_draw s)))
-  by_draw c route body is =
-      subst (λ (d : Draw). LeadAlike (source_of packet) (answers r c packet route body (responder_does c.setup c.history route.tag body (next_draw r))) (answers s c packet route body (responder_does c.setup c.history route.tag body d)))
-      draws (by_answer c route body (responder_does c.setup c.history route.tag body (next_draw r)) is)
+  by_whole : (c : Connection) (route : RouteFields) (body : List ℕ) → connection_of (source_of packet) r.connections ≡ Some c → LeadAlike (source_of packet) (hears_whole r d c packet route body) (hears_whole s d c packet route body)
+  by_whole c route body is = either (source_of packet) (not route.owner) _ _ _ _ (nothing (heard.Ignored ignored.NotRequest)) (either (source_of packet) (not (body_type body == 5 || body_type body == 6)) _ _ _ _ (nothing (heard.Ignored ignored.OtherType)) (by_answer c route body (responder_does c.setup c.history route.tag body d) is))
 
-  by_whole : (c : Connection) (route : RouteFields) (body : List ℕ) → connection_of (source_of packet) r.connections ≡ Some c → LeadAlike (source_of packet) (hears_whole r c packet route body) (hears_whole s c packet route body)
-  by_whole c route body is = either (source_of packet) (not route.owner) _ _ _ _ (nothing (heard.Ignored ignored.NotRequest)) (either (source_of packet) (not (body_type body == 5 || body_type body == 6)) _ _ _ _ (nothing (heard.Ignored ignored.OtherType)) (by_draw c route body is))
-
-  by_gathered : (c : Connection) (g : Gathered) → connection_of (source_of packet) r.connections ≡ Some c → LeadAlike (source_of packet) (hears_gathered r c packet g) (hears_gathered s c packet g)
+  by_gathered : (c : Connection) (g : Gathered) → connection_of (source_of packet) r.connections ≡ Some c → LeadAlike (source_of packet) (hears_gathered r d c packet g) (hears_gathered s d c packet g)
   by_gathered c (Whole route body) is = by_whole c route body is
   by_gathered c More is = nothing _
   by_gathered c (Dropped cause) is = nothing _
@@ -117,33 +101,38 @@ module _ (r s : Responding) (packet : List ℕ) (alike : AreAlike (source_of pac
   gathers : (c : Connection) (fields : PacketFields) → c.setup.peer ≡ source_of packet → gathered_from c.setup.eid c.setup.peer r.given fields ≡ gathered_from c.setup.eid c.setup.peer s.given fields
   gathers c fields e = subst (λ (peer : ℕ). gathered_from c.setup.eid peer r.given fields ≡ gathered_from c.setup.eid peer s.given fields) (sym e) (gathered_alike c.setup.eid (source_of packet) r.given s.given fields (alike.packets c.setup.eid))
 
-  by_connection : (fields : PacketFields) (c : Option Connection) → connection_of (source_of packet) r.connections ≡ c → LeadAlike (source_of packet) (hears_from r packet fields c) (hears_from s packet fields c)
+  by_connection : (fields : PacketFields) (c : Option Connection) → connection_of (source_of packet) r.connections ≡ c → LeadAlike (source_of packet) (hears_from r d packet fields c) (hears_from s d packet fields c)
   by_connection fields None is = nothing _
   by_connection fields (Some c) is =
-      subst (λ (g : Gathered). LeadAlike (source_of packet) (hears_gathered r c packet (gathered_from c.setup.eid c.setup.peer r.given fields)) (hears_gathered s c packet g))
+      subst (λ (g : Gathered). LeadAlike (source_of packet) (hears_gathered r d c packet (gathered_from c.setup.eid c.setup.peer r.given fields)) (hears_gathered s d c packet g))
       (gathers c fields (found (source_of packet) r.connections c is))
       (by_gathered c (gathered_from c.setup.eid c.setup.peer r.given fields) is)
 
-  by_source : (fields : PacketFields) → fields.from ≡ source_of packet → LeadAlike (source_of packet) (hears_from r packet fields (connection_of (source_of packet) r.connections)) (hears_from s packet fields (connection_of (source_of packet) s.connections))
+  by_source : (fields : PacketFields) → fields.from ≡ source_of packet → LeadAlike (source_of packet) (hears_from r d packet fields (connection_of (source_of packet) r.connections)) (hears_from s d packet fields (connection_of (source_of packet) s.connections))
   by_source fields e =
-      subst (λ (c : Option Connection). LeadAlike (source_of packet) (hears_from r packet fields (connection_of (source_of packet) r.connections)) (hears_from s packet fields c))
+      subst (λ (c : Option Connection). LeadAlike (source_of packet) (hears_from r d packet fields (connection_of (source_of packet) r.connections)) (hears_from s d packet fields c))
       alike.connection
       (by_connection fields (connection_of (source_of packet) r.connections) refl)
 
-  by_fault : (fault : Option PacketFault) → LeadAlike (source_of packet) (hears_packet r packet (fault_or fault (fields_of packet))) (hears_packet s packet (fault_or fault (fields_of packet)))
+  by_fault : (fault : Option PacketFault) → LeadAlike (source_of packet) (hears_packet r d packet (fault_or fault (fields_of packet))) (hears_packet s d packet (fault_or fault (fields_of packet)))
   by_fault (Some fault) = nothing _
   by_fault None =
-      subst (λ (part : RspPart). LeadAlike (source_of packet) (hears_packet r packet (fault_or None (fields_of packet)))
-          (if not ((fields_of packet).to == part.eid) then ignores s packet (heard.Ignored (ignored.Dropped NotOurs)) else hears_from s packet (fields_of packet) (connection_of (fields_of packet).from s.connections)))
+      subst (λ (part : RspPart). LeadAlike (source_of packet) (hears_packet r d packet (fault_or None (fields_of packet)))
+      (if not ((fields_of packet).to == part.eid) then ignores s packet (heard.Ignored (ignored.Dropped NotOurs)) else hears_from s d packet (fields_of packet) (connection_of (fields_of packet).from s.connections)))
       alike.part
       (either (source_of packet) (not ((fields_of packet).to == r.part.eid)) _ _ _ _ (nothing (heard.Ignored (ignored.Dropped NotOurs))) (by_source (fields_of packet) refl))
 
   worn : LeadAlike (source_of packet) (worn_step r) (worn_step s)
   worn = record { heard = refl; sent = refl; taken = refl; after = alike }
 
+-- A packet leads alike under one draw.
+pub lead : (r s : Responding) (packet : List ℕ) (d : Draw) → AreAlike (source_of packet) r s → LeadAlike (source_of packet) (hears_packet r d packet (parsed packet)) (hears_packet s d packet (parsed packet))
+lead r s packet d alike = by_fault r s packet d alike (packet_fault packet)
+
 pub decide : OwnDecide
 unfolding responder_hears
 decide r s packet alike draws wear =
-    subst (λ (b : Bool). LeadAlike (source_of packet) (if is_worn r then worn_step r else hears_packet r packet (parsed packet)) (if b then worn_step s else hears_packet s packet (parsed packet)))
+    subst (λ (b : Bool). LeadAlike (source_of packet) (if is_worn r then worn_step r else hears_packet r (next_draw r) packet (parsed packet)) (if b then worn_step s else hears_packet s (next_draw s) packet (parsed packet)))
     wear
-    (either (source_of packet) (is_worn r) _ _ _ _ (worn r s packet alike draws) (by_fault r s packet alike draws (packet_fault packet)))
+    (either (source_of packet) (is_worn r) _ _ _ _ (worn r s packet (next_draw r) alike)
+    (subst (λ (d : Draw). LeadAlike (source_of packet) (hears_packet r (next_draw r) packet (parsed packet)) (hears_packet s d packet (parsed packet))) draws (lead r s packet (next_draw r) alike)))

@@ -20,7 +20,27 @@ pub mod Opened
 pub mod Held
 pub mod Connection
 pub mod Settled
+pub mod CommonCaps
 pub mod Sizes
 pub mod Verified
 pub mod Others
 pub mod Alike
+pub mod Independent
+pub mod KeptRest
+pub mod Within
+pub mod VerifyLength
+mod Pinned
+mod PinnedClear
+mod PinnedInChunks
+mod PinnedInSession
+mod PinnedFlags
+mod PinnedContents
+mod PinnedChunks
+mod PinnedSizes
+mod PinnedOrder
+mod PinnedReplies
+mod PinnedSessions
+mod PinnedCounts
+pub mod Making
+pub mod Connected
+pub mod Runs

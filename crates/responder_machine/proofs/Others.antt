@@ -6,10 +6,11 @@ use Rattle.mctp_framing.specs.Gathering.Gathered.{Whole, More, Dropped}
 use Rattle.mctp_framing.specs.Packet.{PacketFields, packet_fault, fault_or, fields_of}
 use Rattle.spdm_basis.specs.declared.PacketFault.{PacketFault}
 use Rattle.responder_machine.specs.History.{History}
+use Rattle.spdm_machine.specs.Keys.{Draw}
 use Rattle.responder_machine.specs.Responder.{Outcome, after}
 use Rattle.responder_machine.specs.EndLaws.{AreAlike, OthersStand, source_of, receiver_of}
 use Rattle.spdm_machine.specs.Packets.{fields_in, fields_with, gathered_from}
-use Rattle.responder_machine.specs.Responding.{Connection, Responding, RspStep, connection_of, changed, with_history, answers, hears_whole, hears_gathered, hears_from, hears_packet, is_worn, responder_hears}
+use Rattle.responder_machine.specs.Responding.{Connection, Responding, RspStep, connection_of, changed, with_history, answers, hears_whole, hears_gathered, hears_from, hears_packet, is_worn, next_draw, responder_hears}
 
 -- ---- Packets.
 
@@ -64,7 +65,7 @@ either : (eid : ℕ) (r : Responding) (b : Bool) (x y : RspStep) → AreAlike ei
 either eid r true x y a b = a
 either eid r false x y a b = b
 
-module _ (r : Responding) (packet : List ℕ) (eid : ℕ) (n : source_of packet ≢ eid) where
+module _ (r : Responding) (d : Draw) (packet : List ℕ) (eid : ℕ) (n : source_of packet ≢ eid) where
   -- Where connections stand.
   same : AreAlike eid (record r { given = packet ∷ r.given }) r
   same = record { part = refl; connection = refl; packets = λ own. packets_stand own eid packet r.given n }
@@ -72,22 +73,22 @@ module _ (r : Responding) (packet : List ℕ) (eid : ℕ) (n : source_of packet 
   by_answer : (c : Connection) (route : RouteFields) (body : List ℕ) (outcome : Outcome) → c.setup.peer ≢ eid → AreAlike eid (answers r c packet route body outcome).after r
   by_answer c route body outcome m = record { part = refl; connection = kept eid c.setup.peer (λ h. after h outcome) r.connections m; packets = λ own. packets_stand own eid packet r.given n }
 
-  by_whole : (c : Connection) (route : RouteFields) (body : List ℕ) → c.setup.peer ≢ eid → AreAlike eid (hears_whole r c packet route body).after r
+  by_whole : (c : Connection) (route : RouteFields) (body : List ℕ) → c.setup.peer ≢ eid → AreAlike eid (hears_whole r d c packet route body).after r
   by_whole c route body m = either eid r (not route.owner) _ _ same (either eid r _ _ _ same (by_answer c route body _ m))
 
-  by_gathered : (c : Connection) (g : Gathered) → c.setup.peer ≢ eid → AreAlike eid (hears_gathered r c packet g).after r
+  by_gathered : (c : Connection) (g : Gathered) → c.setup.peer ≢ eid → AreAlike eid (hears_gathered r d c packet g).after r
   by_gathered c (Whole route body) m = by_whole c route body m
   by_gathered c More m = same
   by_gathered c (Dropped cause) m = same
 
-  by_connection : (fields : PacketFields) (c : Option Connection) → fields.from ≡ source_of packet → connection_of fields.from r.connections ≡ c → AreAlike eid (hears_from r packet fields c).after r
+  by_connection : (fields : PacketFields) (c : Option Connection) → fields.from ≡ source_of packet → connection_of fields.from r.connections ≡ c → AreAlike eid (hears_from r d packet fields c).after r
   by_connection fields None e is = same
   by_connection fields (Some c) e is = by_gathered c (gathered_from c.setup.eid c.setup.peer r.given fields) (λ m. n (sym e ∙ sym (found fields.from r.connections c is) ∙ m))
 
-  by_fault : (fault : Option PacketFault) → AreAlike eid (hears_packet r packet (fault_or fault (fields_of packet))).after r
+  pub by_fault : (fault : Option PacketFault) → AreAlike eid (hears_packet r d packet (fault_or fault (fields_of packet))).after r
   by_fault (Some fault) = same
   by_fault None = either eid r _ _ _ same (by_connection (fields_of packet) (connection_of (fields_of packet).from r.connections) refl refl)
 
 pub others : OthersStand
 unfolding responder_hears
-others r packet eid n = either eid r (is_worn r) _ _ (record { part = refl; connection = refl; packets = λ own. refl }) (by_fault r packet eid n (packet_fault packet))
+others r packet eid n = either eid r (is_worn r) _ _ (record { part = refl; connection = refl; packets = λ own. refl }) (by_fault r (next_draw r) packet eid n (packet_fault packet))

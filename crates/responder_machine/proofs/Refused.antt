@@ -53,7 +53,7 @@ turn_in (Adds (Ticked seconds)) = None
 turn_in (Adds (Dropped id)) = None
 
 -- An outcome has no turn, or one that had no effect if it was refused.
-abbrev IsHarmless : Outcome → Type 0
+abbrev pub IsHarmless : Outcome → Type 0
 IsHarmless o = (t : Turn) (e : ErrorCode) → turn_in o ≡ Some t → t.refused ≡ Some e → t.effect ≡ NoEffect
 
 either-harmless : (b : Bool) (o u : Outcome) → IsHarmless o → IsHarmless u → IsHarmless (if b then o else u)
@@ -77,7 +77,7 @@ to_session-harmless r phase [] f tag m d = none-harmless (Unopened (decrypt_erro
 to_session-harmless r phase (v ∷ s) f tag m d =
     either-harmless (repeats (last_of (v ∷ s)) m) (Same (record_body (kept_record (last_of (v ∷ s))))) (in_session r phase (v ∷ s) f tag m d) (none-harmless (Same (record_body (kept_record (last_of (v ∷ s))))) refl) (in_session-harmless r phase (v ∷ s) f tag m d)
 
-on_record-harmless : (r : RspSetup) (h : History) (tag : ℕ) (m : List ℕ) (f : Free) (d : Draw) → IsHarmless (on_record r h tag m f d)
+pub on_record-harmless : (r : RspSetup) (h : History) (tag : ℕ) (m : List ℕ) (f : Free) (d : Draw) → IsHarmless (on_record r h tag m f d)
 unfolding on_record
 on_record-harmless r h tag m f d =
     either-harmless (repeats (ended_of h) m) (Same (record_body (kept_record (ended_of h)))) (to_session r (phase_of (clear_turns h)) (session_of (id_in_record m) h) f tag m d)
@@ -88,6 +88,7 @@ unchanged s = record {
   live = refl;
   stage = refl;
   id = refl;
+  period = refl;
   handshake = refl;
   transcript = refl;
   requests = λ psk. refl;
@@ -100,6 +101,8 @@ unchanged s = record {
   pending = λ transfer. refl;
   handle = refl;
   given = refl;
+  larges = refl;
+  chunks = refl;
 }
 
 -- A record whose request had no effect.
@@ -109,6 +112,7 @@ with_record (v ∷ s) m t reply e refused effect = rw (effect, refused) (record 
   live = refl;
   stage = refl;
   id = refl;
+  period = refl;
   handshake = refl;
   transcript = refl;
   requests = λ psk. refl;
@@ -121,6 +125,8 @@ with_record (v ∷ s) m t reply e refused effect = rw (effect, refused) (record 
   pending = λ transfer. refl;
   handle = refl;
   given = refl;
+  larges = refl;
+  chunks = refl;
 })
 
 either-same : (b : Bool) (s n : Events) → IsSameSession s n → IsSameSession s (if b then n else s)

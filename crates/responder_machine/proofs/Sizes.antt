@@ -1,42 +1,28 @@
--- The sizes of the requester in a made history.
-use Rattle.std.proofs.Common.{refl, ◌∙◌, ◌≡◌, ◌≤◌, ℕ, List, [], ◌∷◌, true, false, Bool, Option, Some, None, Ok, Err, ap, sym, subst, arith}
-use Rattle.std.proofs.lemmas.Bool.{false≢true}
+-- The sizes of messages in a made history.
+use Rattle.std.proofs.Common.{refl, ◌∙◌, ◌≡◌, ◌≤◌, ◌<◌, ◌^◌, ℕ, true, false, Bool, Some, Ok, Err, ap, sym, subst, arith}
 use Rattle.std.proofs.lemmas.Bool.Decides.{nat_tests}
 use Rattle.std.proofs.lemmas.Option.{none-some, same_Some}
-use Rattle.std.proofs.Math.Nat.{le-min, min-le_left, min-le_right}
-use Rattle.std.specs.Prelude.{min, if◌then◌else◌, ◌||◌, ◌&&◌, not, nat_lt, is_none}
+use Rattle.std.proofs.Math.Nat.{le-min, min-eq_left, min-le_left, min-le_right}
+use Rattle.std.specs.Prelude.{min, if◌then◌else◌, ◌||◌, ◌&&◌, not, nat_lt}
 use Rattle.std.specs.Result.{result_ok}
-use Rattle.negotiate.specs.Capabilities.{common_of, shared, psk_is, protects}
+use Rattle.negotiate.specs.Capabilities.{common_of, shared, sizes_of, psk_is, protects}
 use Rattle.negotiate.specs.declared.shared.Common.{Common}
 use Rattle.spdm_grammar.specs.Fields.{FitsCaps}
-use Rattle.spdm_grammar.specs.Message.{RequestMessage, ChunkMessage}
-use Rattle.spdm_grammar.specs.Message.RequestMessage.{GetVersion, GetCapabilities, NegotiateAlgorithms}
 use Rattle.spdm_grammar.specs.declared.capabilities.Caps.{Caps}
-use Rattle.spdm_grammar.specs.declared.error_code.ErrorCode.{ErrorCode}
 use Rattle.spdm_grammar.specs.declared.part_faults.CapsFault.TheVariants.{SizeTooSmall, SizesCrossed, NoPsk, NoProtection}
 use Rattle.spdm_grammar.specs.declared.names.TheConstants.{MIN_DATA_TRANSFER_SIZE, MAX_MESSAGE_SIZE}
-use Rattle.spdm_grammar.specs.declared.names.capability.TheConstants.{PSK_CAP, PSK_CAP_WITH_CONTEXT}
+use Rattle.spdm_grammar.specs.declared.names.capability.TheConstants.{PSK_CAP, PSK_CAP_WITH_CONTEXT, MEAS_CAP, HBEAT_CAP, KEY_UPD_CAP, CHUNK_CAP}
 use Rattle.spdm_grammar.specs.declared.phase.Phase.{Phase}
-use Rattle.spdm_grammar.specs.declared.phase.Phase.TheVariants.{Capable}
-use Rattle.responder_machine.proofs.Made.{made_clear}
-use Rattle.responder_machine.proofs.Phased.{IsPhased, made_phased}
-use Rattle.responder_machine.proofs.Settled.{common_settled}
-use Rattle.responder_machine.proofs.Tests.{contents_shown}
-use Rattle.responder_machine.specs.Answer.{Free, answer_bytes, request_at}
-use Rattle.responder_machine.specs.Does.{IsMade, clear_chosen}
-use Rattle.responder_machine.specs.Handling.{turn_of, turn_by, effect_of, carried_turn, last_chunk_turn, taken_chunk, chunk_in}
-use Rattle.responder_machine.specs.History.{History, clear_turns, phase_of, negotiation_of}
-use Rattle.responder_machine.specs.History.Entry.{Clear, Sealed, Queued, Ticked, Dropped}
-use Rattle.spdm_machine.specs.Keys.{Draw}
-use Rattle.responder_machine.specs.Laws.{completed_at}
-use Rattle.responder_machine.specs.Place.{Place, clear_place, inside}
-use Rattle.responder_machine.specs.Refusal.{refusal, are_caps_refused, sizes_are_known}
-use Rattle.responder_machine.specs.Setup.{RspSetup, responder_caps}
-use Rattle.responder_machine.specs.SettledLaws.{SizesAreKnown}
+use Rattle.spdm_grammar.specs.declared.phase.Phase.TheVariants.{Negotiated}
 use Rattle.spdm_machine.specs.Terms.{terms_of}
-use Rattle.responder_machine.specs.Turn.{Turn, Effect}
-use Rattle.responder_machine.specs.Turn.Effect.{NoEffect, Took, TookData}
 use Rattle.transcript.specs.Transcripts.{Negotiation}
+use Rattle.responder_machine.proofs.CommonCaps.{common_negotiated}
+use Rattle.responder_machine.proofs.Under.{live_under}
+use Rattle.responder_machine.specs.History.{clear_turns, phase_of, negotiation_of}
+use Rattle.responder_machine.specs.Refusal.{sizes_are_known}
+use Rattle.responder_machine.specs.SettledLaws.{SizesAreKnown}
+use Rattle.responder_machine.specs.Setup.{RspSetup, responder_caps}
+use Rattle.responder_machine.specs.SizeLaws.{HasSizes, SizesAreSetUp, SessionSizesAreSetUp}
 
 abbrev IsSized : Common → Type 0
 IsSized common = (MIN_DATA_TRANSFER_SIZE ≤ common.to_requester.transfer) × (common.to_requester.transfer ≤ common.to_requester.max)
@@ -64,76 +50,50 @@ common_sized caps told common is =
     let ordered = not_less caps.max caps.transfer (nat_lt told.max told.transfer) passed.1 in
     subst IsSized passed.2 (le-min least (omega arith), min_rises caps.transfer caps.max MAX_MESSAGE_SIZE ordered)
 
--- The negotiation that a request of capabilities leads to has sizes.
-abbrev IsSizedRequest : RequestMessage → List ℕ → List ℕ → Type 0
-IsSizedRequest (GetCapabilities caps) request answer = (n : Negotiation) → IsSized (terms_of (record n { get_capabilities = request; capabilities = answer })).common
-IsSizedRequest _ request answer = Unit {0}
-
-abbrev IsSizedEffect : Effect → Type 0
-IsSizedEffect NoEffect = Unit {0}
-IsSizedEffect (Took asked request answer large) = IsSizedRequest asked request answer
-IsSizedEffect (TookData bytes answer) = Unit {0}
-
-by_common : (r : RspSetup) (p : Place) (m : List ℕ) (f : Free) (caps : Caps) (x : Option Common) → FitsCaps (responder_caps r) → request_at p m ≡ Some (GetCapabilities caps) → result_ok (common_of caps (responder_caps r)) ≡ x → is_none x ≡ false
-    → (n : Negotiation) → IsSized (terms_of (record n { get_capabilities = m; capabilities = answer_bytes r p m f })).common
-by_common r p m f caps None fits is agreed some = absurd (false≢true (sym some))
-by_common r p m f caps (Some common) fits is agreed some = λ n. subst IsSized (sym (common_settled r p m f caps common n fits is agreed)) (common_sized caps (responder_caps r) common agreed)
-
-sized_request : (r : RspSetup) (p : Place) (m : List ℕ) (f : Free) (large : Option ℕ) (q : Option RequestMessage) → FitsCaps (responder_caps r) → refusal r p m f ≡ None → request_at p m ≡ q
-    → IsSizedEffect (effect_of q m (answer_bytes r p m f) large)
-sized_request r p m f large None fits taken is = tt
-sized_request r p m f large (Some (GetCapabilities caps)) fits taken is =
-    by_common r p m f caps (result_ok (common_of caps (responder_caps r))) fits is refl (sym (ap (are_caps_refused r) is) ∙ contents_shown r p m f taken 1)
-sized_request r p m f large (Some _) fits taken is = tt
-
-carried-sized : (r : RspSetup) (p : Place) (m : List ℕ) (f : Free) (c : ChunkMessage) (whole : List ℕ) (x : Option ErrorCode) → FitsCaps (responder_caps r) → refusal r p whole f ≡ x → IsSizedEffect (carried_turn r p m f c whole x).effect
-carried-sized r p m f c whole (Some e) fits h = tt
-carried-sized r p m f c whole None fits h = sized_request r p whole f _ (request_at p whole) fits h refl
-
-either-sized : (b : Bool) (t u : Turn) → IsSizedEffect t.effect → IsSizedEffect u.effect → IsSizedEffect (if b then t else u).effect
-either-sized true t u x y = x
-either-sized false t u x y = y
-
-turn_by-sized : (r : RspSetup) (p : Place) (m : List ℕ) (f : Free) (x : Option ErrorCode) (c : Option ChunkMessage) → FitsCaps (responder_caps r) → refusal r p m f ≡ x → IsSizedEffect (turn_by r p m f x c).effect
-turn_by-sized r p m f (Some e) c fits h = tt
-turn_by-sized r p m f None None fits h = sized_request r p m f _ (request_at p m) fits h refl
-turn_by-sized r p m f None (Some c) fits h =
-    either-sized c.last (last_chunk_turn r (inside p) m f c (completed_at p c)) (taken_chunk m c NoEffect []) (carried-sized r (inside p) m f c (completed_at p c) (refusal r (inside p) (completed_at p c) f) fits refl) tt
-
-turn_of-sized : (r : RspSetup) (p : Place) (m : List ℕ) (f : Free) → FitsCaps (responder_caps r) → IsSizedEffect (turn_of r p m f).effect
-unfolding turn_of
-turn_of-sized r p m f fits = turn_by-sized r p m f (refusal r p m f) (chunk_in (request_at p m)) fits refl
-
-made_sized : (r : RspSetup) (h : History) (tag : ℕ) (t : Turn) (d : Draw) → FitsCaps (responder_caps r) → IsMade r (Clear tag t d ∷ h) → IsSizedEffect t.effect
-made_sized r h tag t d fits made = subst (λ (u : Turn). IsSizedEffect u.effect) (made_clear r h tag t d made) (turn_of-sized r (clear_place h) t.message (clear_chosen r h d) fits)
-
--- ---- Turn by turn.
-
-abbrev AreSized : List Turn → Type 0
-AreSized ts = sizes_are_known (phase_of ts) ≡ true → IsSized (terms_of (negotiation_of ts)).common
-
-after_algorithms : (n : Negotiation) (request answer : List ℕ) → (terms_of n).common ≡ (terms_of (record n { negotiate_algorithms = request; algorithms = answer })).common
-unfolding terms_of
-after_algorithms n request answer = refl
-
-capable_is_known : (phase : Phase) → phase ≡ Capable → sizes_are_known phase ≡ true
-capable_is_known phase is = rw is refl
-
-turn_sized : (ts : List Turn) (message : List ℕ) (refused : Option ErrorCode) (chunk : Option ChunkMessage) (e : Effect) (reply : List ℕ) → IsPhased (phase_of ts) e → IsSizedEffect e → AreSized ts
-    → AreSized (record { message = message; refused = refused; chunk = chunk; effect = e; reply = reply } ∷ ts)
-turn_sized ts message refused chunk NoEffect reply phased sized older known = older known
-turn_sized ts message refused chunk (TookData bytes answer) reply phased sized older known = older known
-turn_sized ts message refused chunk (Took GetVersion request answer large) reply phased sized older known = absurd (false≢true known)
-turn_sized ts message refused chunk (Took (GetCapabilities caps) request answer large) reply phased sized older known = sized (negotiation_of ts)
-turn_sized ts message refused chunk (Took (NegotiateAlgorithms offer) request answer large) reply phased sized older known =
-    subst IsSized (after_algorithms (negotiation_of ts) request answer) (older (capable_is_known (phase_of ts) phased))
-turn_sized ts message refused chunk (Took _ request answer large) reply phased sized older known = older known
-
 pub sizes_known : SizesAreKnown
-sizes_known r [] made fits known = absurd (false≢true known)
-sizes_known r (Clear tag t d ∷ older) made fits known =
-    turn_sized (clear_turns older) t.message t.refused t.chunk t.effect t.reply (made_phased r older tag t d made) (made_sized r older tag t d fits made) (sizes_known r older made.1 fits) known
-sizes_known r (Sealed tag m t reply d ∷ older) made fits known = sizes_known r older made.1 fits known
-sizes_known r (Queued bytes ∷ older) made fits known = sizes_known r older made.2 fits known
-sizes_known r (Ticked seconds ∷ older) made fits known = sizes_known r older made fits known
-sizes_known r (Dropped which ∷ older) made fits known = absurd made
+sizes_known r h made fits known =
+    let found = common_negotiated r h made fits known in
+    common_sized found.0 (responder_caps r) _ found.1
+
+-- ---- The sizes that were set up.
+
+flag_most : (b : Bool) (n : ℕ) → (if b then n else 0) ≤ n
+flag_most true n = omega arith
+flag_most false n = omega arith
+
+-- Capabilities that fit, where their sizes do.
+caps_fit : (r : RspSetup) → r.transfer < 2 ^ 32 → r.max < 2 ^ 32 → FitsCaps (responder_caps r)
+caps_fit r transfer max =
+    let measure = flag_most r.flags.measure MEAS_CAP in
+    let heartbeat = flag_most r.flags.heartbeat HBEAT_CAP in
+    let key_update = flag_most r.flags.key_update KEY_UPD_CAP in
+    let chunk = flag_most r.flags.chunk CHUNK_CAP in
+    record { ct = omega arith; flags = omega arith; transfer = transfer; max = max }
+
+sizes_kept : (r : RspSetup) → r.transfer ≤ MAX_MESSAGE_SIZE → r.max ≤ MAX_MESSAGE_SIZE → sizes_of (responder_caps r) ≡ record { transfer = r.transfer; max = r.max }
+sizes_kept r transfer max = rw (min-eq_left transfer, min-eq_left max) refl
+
+common_has_sizes : (r : RspSetup) (caps : Caps) (common : Common) → r.transfer ≤ MAX_MESSAGE_SIZE → r.max ≤ MAX_MESSAGE_SIZE → result_ok (common_of caps (responder_caps r)) ≡ Some common → HasSizes r common
+common_has_sizes r caps common transfer max is =
+    let told = responder_caps r in
+    let passed = both_passed (nat_lt caps.transfer MIN_DATA_TRANSFER_SIZE || nat_lt told.transfer MIN_DATA_TRANSFER_SIZE) (nat_lt caps.max caps.transfer || nat_lt told.max told.transfer) (not (psk_is PSK_CAP caps.flags && psk_is PSK_CAP_WITH_CONTEXT told.flags)) (not (protects caps.flags && protects told.flags)) (shared caps told) common is in
+    let sized = common_sized caps told common is in
+    record {
+      own = ap (λ (c : Common). c.to_responder) (sym passed.2) ∙ sizes_kept r transfer max;
+      least = sized.0;
+      crossed = sized.1;
+      most = subst (λ (c : Common). c.to_requester.max ≤ MAX_MESSAGE_SIZE) passed.2 (min-le_right caps.max MAX_MESSAGE_SIZE);
+    }
+
+pub sizes_set_up : SizesAreSetUp
+sizes_set_up r h made ordered most known =
+    let found = common_negotiated r h made (caps_fit r (omega arith) (omega arith)) known in
+    common_has_sizes r found.0 (terms_of (negotiation_of (clear_turns h))).common (omega arith) most found.1
+
+negotiated_is_known : (phase : Phase) → phase ≡ Negotiated → sizes_are_known phase ≡ true
+negotiated_is_known phase is = rw is refl
+
+pub session_sizes_set_up : SessionSizesAreSetUp
+session_sizes_set_up r h id made ordered most live =
+    let under = live_under r h id made live in
+    subst (λ (n : Negotiation). HasSizes r (terms_of n).common) (sym under.1) (sizes_set_up r h made ordered most (negotiated_is_known (phase_of (clear_turns h)) under.0))

@@ -2,7 +2,6 @@
 use Rattle.std.specs.Prelude.{◌≡◌, ◌≢◌, ℕ, List, filter, slice_index}
 use Rattle.mctp_framing.specs.Gathering.{Receiver, is_ours}
 use Rattle.responder_machine.specs.Responding.{Responding, RspStep, connection_of, responder_hears, is_worn, next_draw}
-use Rattle.responder_machine.specs.Setup.{RspPart}
 use Rattle.spdm_machine.specs.Packets.{body_limit, fields_in}
 
 -- The source of a packet.

@@ -20,3 +20,7 @@ pub mod NumberLaws
 pub mod SettledLaws
 pub mod Responding
 pub mod EndLaws
+pub mod Independence
+pub mod RefusalLaws
+pub mod BoundLaws
+pub mod SizeLaws

@@ -1,10 +1,11 @@
 -- The records of a session at the responder: under which purpose and number the next ones are taken and
 -- sealed. DSP0277, "Sequence number" and "Secured Message format"; DSP0274, "KEY_UPDATE".
-use Rattle.std.specs.Prelude.{ℕ, List, Option, Some, if◌then◌else◌, ◌+◌}
+use Rattle.std.specs.Prelude.{ℕ, List, length, take, not, nat_lt, Option, Some, if◌then◌else◌, ◌+◌}
 use Rattle.key_schedule.specs.Purpose.{Purpose}
 use Rattle.key_schedule.specs.declared.direction.Direction.TheVariants.{Request, Response}
+use Rattle.secured_record.specs.Faults.{same_bytes}
 use Rattle.spdm_basis.specs.declared.record_fault.RecordFault.{RecordFault}
-use Rattle.spdm_basis.specs.declared.record_fault.RecordFault.TheVariants.{KeySpent}
+use Rattle.spdm_basis.specs.declared.record_fault.RecordFault.TheVariants.{KeySpent, Short, WrongId, WrongNumber}
 use Rattle.spdm_machine.specs.Keys.{record_fault, inner_message, sealed_of}
 use Rattle.responder_machine.specs.Session.{Events, stage_of, t1_of, t2_of, request_epoch, response_epoch, request_next, response_next, id_bytes, session_terms, is_spent}
 use Rattle.responder_machine.specs.Turn.{Turn, updates}
@@ -24,6 +25,14 @@ unfoldable pub opening_fault : List ℕ → Events → List ℕ → Option Recor
 opening_fault psk s sealed =
     if is_spent s then Some KeySpent
     else record_fault (session_terms s).choice (request_purpose psk s) (request_next s) (id_bytes s) sealed
+
+-- Why a record that is no repeat does not open at an ended session: none does, and what is told is its length or its
+-- id where they are wrong, and else its number. This project's own.
+abbrev pub ended_fault : (id : List ℕ) → List ℕ → RecordFault
+ended_fault id sealed =
+    if nat_lt (length sealed) 26 then Short
+    else (if not (same_bytes (take 4 sealed) id) then WrongId
+    else WrongNumber)
 
 -- The inner message of the next record.
 unfoldable pub opened : List ℕ → Events → List ℕ → List ℕ

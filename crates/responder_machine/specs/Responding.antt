@@ -33,12 +33,13 @@ pub record Connection : Type 0 where
   pub history : History
 
 -- A responder: how it is set up, the seed of its draws and the number of the first one, all packets that it was
--- given, the newest first, and its connections in the order of the requesters.
+-- given and all application data that it took, the newest first, and its connections in the order of the requesters.
 pub record Responding : Type 0 where
   pub part : RspPart
   pub seed : List ℕ
   pub first : ℕ
   pub given : List (List ℕ)
+  pub taken : List (List ℕ)
   pub connections : List Connection
 
 -- A connection with a requester from which nothing was taken yet.
@@ -47,7 +48,7 @@ new_connection part q = record { setup = towards part q; history = [] }
 
 -- The responder that was given nothing yet, with a connection for each requester that it knows.
 abbrev pub new_responding : RspEnd → Responding
-new_responding e = record { part = e.part; seed = e.seed; first = e.first; given = []; connections = map (new_connection e.part) e.known }
+new_responding e = record { part = e.part; seed = e.seed; first = e.first; given = []; taken = []; connections = map (new_connection e.part) e.known }
 
 -- ---- Which connection. The end points of the requesters differ.
 
@@ -69,10 +70,14 @@ with_history eid change connections = map (changed_if eid change) connections
 
 -- ---- Draws go round all connections.
 
+-- A count over the histories of all connections.
+abbrev pub over_all : (History → ℕ) → List Connection → ℕ
+over_all count [] = 0
+over_all count (c ∷ others) = count c.history + over_all count others
+
 -- How many draws all connections took.
 abbrev pub all_draws : List Connection → ℕ
-all_draws [] = 0
-all_draws (c ∷ others) = draws_of c.history + all_draws others
+all_draws = over_all draws_of
 
 -- The draw that stands next.
 unfoldable pub next_draw : Responding → Draw
@@ -104,6 +109,19 @@ abbrev pub data_of : Outcome → Option (SessionId × List ℕ)
 data_of (Adds (Sealed tag sealed t reply d)) = data_in sealed t.effect
 data_of _ = None
 
+-- Application data that were just taken, in front of the others.
+abbrev pub with_taken : Option (SessionId × List ℕ) → List (List ℕ) → List (List ℕ)
+with_taken None others = others
+with_taken (Some new) others = new.1 ∷ others
+
+-- The data of the last application message that was taken, over all connections; no bytes before the first.
+abbrev pub last_data : Responding → List ℕ
+last_data r = first_or_none r.taken
+  where
+    first_or_none : List (List ℕ) → List ℕ
+    first_or_none [] = []
+    first_or_none (bytes ∷ others) = bytes
+
 -- A whole request of type 5 or 6 has this outcome, and its answer goes back by the route reversed.
 abbrev pub answers : Responding → Connection → List ℕ → RouteFields → List ℕ → Outcome → RspStep
 answers r c packet route body outcome = record {
@@ -111,33 +129,33 @@ answers r c packet route body outcome = record {
   sent = packets_to c.setup.peer c.setup.eid false route.tag c.setup.unit (body_of outcome);
   taken = data_of outcome;
   acts = acts_of c.setup c.history body outcome;
-  after = record r { given = packet ∷ r.given; connections = with_history c.setup.peer (λ h. after h outcome) r.connections };
+  after = record r { given = packet ∷ r.given; taken = with_taken (data_of outcome) r.taken; connections = with_history c.setup.peer (λ h. after h outcome) r.connections };
 }
 
--- A body that is whole: it has to be a request, of a known type.
-abbrev pub hears_whole : Responding → Connection → List ℕ → RouteFields → List ℕ → RspStep
-hears_whole r c packet route body =
+-- A body that is whole, while this draw stands next: it has to be a request, of a known type.
+abbrev pub hears_whole : Responding → Draw → Connection → List ℕ → RouteFields → List ℕ → RspStep
+hears_whole r d c packet route body =
     if not route.owner then ignores r packet (heard.Ignored ignored.NotRequest)
     else (if not (body_type body == 5 || body_type body == 6) then ignores r packet (heard.Ignored ignored.OtherType)
-    else answers r c packet route body (responder_does c.setup c.history route.tag body (next_draw r)))
+    else answers r c packet route body (responder_does c.setup c.history route.tag body d))
 
 -- A packet that completes a body is heard; one that awaits more, or is dropped, changes nothing else.
-abbrev pub hears_gathered : Responding → Connection → List ℕ → Gathered → RspStep
-hears_gathered r c packet (Whole route body) = hears_whole r c packet route body
-hears_gathered r c packet More = ignores r packet heard.More
-hears_gathered r c packet (Dropped cause) = ignores r packet (heard.Ignored (ignored.Dropped cause))
+abbrev pub hears_gathered : Responding → Draw → Connection → List ℕ → Gathered → RspStep
+hears_gathered r d c packet (Whole route body) = hears_whole r d c packet route body
+hears_gathered r d c packet More = ignores r packet heard.More
+hears_gathered r d c packet (Dropped cause) = ignores r packet (heard.Ignored (ignored.Dropped cause))
 
 -- A packet from an end point without a connection is ignored.
-abbrev pub hears_from : Responding → List ℕ → PacketFields → Option Connection → RspStep
-hears_from r packet fields None = ignores r packet (heard.Ignored ignored.UnknownPeer)
-hears_from r packet fields (Some c) = hears_gathered r c packet (gathered_from c.setup.eid c.setup.peer r.given fields)
+abbrev pub hears_from : Responding → Draw → List ℕ → PacketFields → Option Connection → RspStep
+hears_from r d packet fields None = ignores r packet (heard.Ignored ignored.UnknownPeer)
+hears_from r d packet fields (Some c) = hears_gathered r d c packet (gathered_from c.setup.eid c.setup.peer r.given fields)
 
 -- A packet has to be for the responder, and from a requester.
-abbrev pub hears_packet : Responding → List ℕ → Result PacketFields PacketFault → RspStep
-hears_packet r packet (Err fault) = ignores r packet (heard.Ignored (ignored.Packet fault))
-hears_packet r packet (Ok fields) =
+abbrev pub hears_packet : Responding → Draw → List ℕ → Result PacketFields PacketFault → RspStep
+hears_packet r d packet (Err fault) = ignores r packet (heard.Ignored (ignored.Packet fault))
+hears_packet r d packet (Ok fields) =
     if not (fields.to == r.part.eid) then ignores r packet (heard.Ignored (ignored.Dropped NotOurs))
-    else hears_from r packet fields (connection_of fields.from r.connections)
+    else hears_from r d packet fields (connection_of fields.from r.connections)
 
 -- A worn responder takes no packet.
 abbrev pub is_worn : Responding → Bool
@@ -149,7 +167,7 @@ worn_step r = record { heard = heard.Ignored ignored.Worn; sent = []; taken = No
 
 -- A packet is given to the responder.
 unfoldable pub responder_hears : Responding → List ℕ → RspStep
-responder_hears r packet = if is_worn r then worn_step r else hears_packet r packet (parsed packet)
+responder_hears r packet = if is_worn r then worn_step r else hears_packet r (next_draw r) packet (parsed packet)
 
 -- ---- Queued data and time.
 

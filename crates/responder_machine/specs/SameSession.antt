@@ -3,15 +3,17 @@ use Rattle.std.specs.Prelude.{◌≡◌, ℕ, List}
 use Rattle.responder_machine.specs.History.{History, clear_turns, phase_of, negotiation_of, kept_of, ended_of, queue_of, draws_of, all_taken}
 use Rattle.responder_machine.specs.LargeMessages.{pending_of, handle_of, given_of, larges_of, chunks_of}
 use Rattle.responder_machine.specs.Records.{request_purpose, response_purpose}
-use Rattle.responder_machine.specs.Session.{Events, is_live, stage_of, id_bytes, t1_of, t2_of, session_negotiation, session_terms, request_epoch, response_epoch, taken_of, turns_of}
+use Rattle.responder_machine.specs.Session.{Events, is_live, stage_of, id_bytes, period_of, t1_of, t2_of, session_negotiation, session_terms, request_epoch, response_epoch, taken_of, turns_of}
 
--- Liveness, stage, id, transcripts, the purposes of records in both directions, epochs, negotiation, choice
--- and common capabilities, application data taken, and the pending large answer are as they were. The counts
--- of records, the kept reply and the clock may have moved.
+-- Liveness, stage, id, heartbeat period, transcripts, the purposes of records in both directions, epochs,
+-- negotiation, choice and common capabilities, application data taken, the pending large answer, the count of
+-- large answers and the chunks taken are as they were. The counts of records, the kept reply and the clock may
+-- have moved.
 pub record IsSameSession (old new : Events) : Type 0 where
   pub live : is_live new ≡ is_live old
   pub stage : stage_of new ≡ stage_of old
   pub id : id_bytes new ≡ id_bytes old
+  pub period : period_of new ≡ period_of old
   pub handshake : t1_of new ≡ t1_of old
   pub transcript : t2_of new ≡ t2_of old
   pub requests : (psk : List ℕ) → request_purpose psk new ≡ request_purpose psk old
@@ -24,6 +26,8 @@ pub record IsSameSession (old new : Events) : Type 0 where
   pub pending : (transfer : ℕ) → pending_of transfer (turns_of new) ≡ pending_of transfer (turns_of old)
   pub handle : handle_of (turns_of new) ≡ handle_of (turns_of old)
   pub given : given_of (turns_of new) ≡ given_of (turns_of old)
+  pub larges : larges_of (turns_of new) ≡ larges_of (turns_of old)
+  pub chunks : chunks_of (turns_of new) ≡ chunks_of (turns_of old)
 
 -- What is counted for the whole connection and for its clear part is as it was.
 pub record IsSameConnection (old new : History) : Type 0 where

@@ -3,10 +3,16 @@
 //! in `specs/`, and each function below has a law about them as its contract.
 #![tactic(auto)]
 
+mod bounds;
 mod end_laws;
 mod laws;
+mod refusals;
 
-pub use end_laws::{others_stand, own_decide};
+pub use bounds::{common_is_negotiated, counts_are_bounded, queue_is_bounded, sizes_are_set_up};
+pub use end_laws::{
+    connections_are_independent, given_stands_alike, others_stand, own_decide,
+    runs_are_bounded,
+};
 pub use laws::{
     algorithms_settle_choice, capabilities_settle_common, chosen_is_allowed, does_what_it_may,
     finish_begins_at_zero, finish_is_verified, four_are_held_at_most, free_id_is_free,
@@ -18,3 +24,4 @@ pub use laws::{
     taken_exchange_is_fresh, taken_is_repeated, taken_record_is_opened, taken_record_is_repeated,
     unopened_adds_nothing, update_all_is_answered_at_zero, update_begins_at_zero,
 };
+pub use refusals::{refused_in_chunks_keeps_connection, refused_record_keeps_connection};

@@ -27,17 +27,18 @@ use Rattle.world_machine.specs.Chance.{NoChance}
 use Rattle.spdm_machine.specs.Packets.{gathered_from, body_type, wear_limit}
 use Rattle.requester_machine.specs.Requesting.{Requesting}
 use Rattle.responder_machine.specs.Responding as responding
-use Rattle.responder_machine.specs.Responding.{Connection, Responding, RspStep, connection_of, changed, with_history, all_draws, responder_hears, ignores, answers, reply_fault_of, queues, ticks}
+use Rattle.responder_machine.specs.Responding.{Connection, Responding, RspStep, connection_of, changed, with_history, all_draws, responder_hears, ignores, answers, with_taken, reply_fault_of, queues, ticks}
 use Rattle.world_machine.specs.World.{World, SentPacket}
 use Rattle.spdm_agreement.specs.Claims.{IsReached}
 use Rattle.spdm_agreement.proofs.Fits.{IsPair, IsServing, Fits, same_key}
 use Rattle.spdm_agreement.proofs.Happens.{good_draw, below}
-use Rattle.spdm_agreement.proofs.Members.{IsIn, found_in, in_map}
+use Rattle.spdm_machine.proofs.Members.{IsIn, found_in, in_map}
 use Rattle.spdm_agreement.proofs.Owed.{ServedReady, ServedStep, DoesWell, Waits}
 use Rattle.spdm_agreement.proofs.Pairs.{state_of}
 use Rattle.spdm_agreement.proofs.ResponderChanges as changes
-use Rattle.spdm_agreement.proofs.ResponderChanges.{responder_goes, draws_changed, still_apart}
-use Rattle.spdm_agreement.proofs.ServedMade.{does_made}
+use Rattle.responder_machine.proofs.Connected.{count_changed}
+use Rattle.spdm_agreement.proofs.ResponderChanges.{responder_goes, still_apart}
+use Rattle.responder_machine.proofs.Making.{does_made}
 use Rattle.spdm_agreement.proofs.Sessions.{reading_of}
 
 module _ (KeptAsked : ReqSetup → asked.History → Type 0) (KeptServed : RspSetup → served.History → Type 0) (world : World) (k : Fits KeptAsked KeptServed world) (does_well : DoesWell KeptServed) (waits : Waits KeptServed) where
@@ -78,7 +79,7 @@ module _ (KeptAsked : ReqSetup → asked.History → Type 0) (KeptServed : RspSe
   goes_by : (x : Connection) → IsIn connections x → (packet body : List ℕ) (o : Outcome) → serving_made.IsMade x.setup (after x.history o)
       → draws_of x.history ≤ draws_of (after x.history o) → draws_of (after x.history o) ≤ draws_of x.history + 1
       → ((a : Requesting) → IsPair world.requesters connections a x → ServedStep KeptServed x.setup x.history (state_of a x world.log).asked world.log body (responding.next_draw world.responder) o)
-      → Goes (acts_of x.setup x.history body o) (record world.responder { given = packet ∷ world.responder.given; connections = with_history x.setup.peer (λ h. after h o) connections })
+      → Goes (acts_of x.setup x.history body o) (record world.responder { given = packet ∷ world.responder.given; taken = with_taken (responding.data_of o) world.responder.taken; connections = with_history x.setup.peer (λ h. after h o) connections })
   goes_by x is packet body o made more most steps sent n =
       let old = k.serves x is in
       let a = k.apart.paired x is in
@@ -87,15 +88,15 @@ module _ (KeptAsked : ReqSetup → asked.History → Type 0) (KeptServed : RspSe
       let runs = λ (b : Requesting) (its : IsPair world.requesters connections b x). (steps b its).leads in
       let draws = step.draws in
       let number = draw_number in
-      let count = draws_changed (λ h. after h o) connections x k.apart.peers is in
+      let count = count_changed draws_of (λ h. after h o) connections x k.apart.peers is in
       let wear = k.wear in
-      responder_goes KeptAsked KeptServed world k x is (packet ∷ world.responder.given) (λ h. after h o) (acts_of x.setup x.history body o) n sent
+      responder_goes KeptAsked KeptServed world k x is (packet ∷ world.responder.given) (with_taken (responding.data_of o) world.responder.taken) (λ h. after h o) (acts_of x.setup x.history body o) n sent
       (omega arith)
       (omega arith)
       (record {
         setup = old.setup;
         made = made;
-        kept = step.keeps (changes.now_reached KeptAsked KeptServed world k x is (packet ∷ world.responder.given) (λ h. after h o) (acts_of x.setup x.history body o) n runs a.0 pair);
+        kept = step.keeps (changes.now_reached KeptAsked KeptServed world k x is (packet ∷ world.responder.given) (with_taken (responding.data_of o) world.responder.taken) (λ h. after h o) (acts_of x.setup x.history body o) n runs a.0 pair);
         fresh = omega arith;
       })
       runs
@@ -117,22 +118,22 @@ module _ (KeptAsked : ReqSetup → asked.History → Type 0) (KeptServed : RspSe
       goes_by x is packet body (responder_does x.setup x.history route.tag body (responding.next_draw world.responder)) made.made made.more made.most
       (λ a pair. does_well x.setup x.history (state_of a x world.log).asked world.log route.tag body (responding.next_draw world.responder) (ready x a pair fresh))
 
-  gathered_goes : (x : Connection) → IsIn connections x → (packet : List ℕ) (g : Gathered) → responding.is_worn world.responder ≡ false → GoesOn (responding.hears_gathered world.responder x packet g)
+  gathered_goes : (x : Connection) → IsIn connections x → (packet : List ℕ) (g : Gathered) → responding.is_worn world.responder ≡ false → GoesOn (responding.hears_gathered world.responder (responding.next_draw world.responder) x packet g)
   gathered_goes x is packet (Whole route body) fresh =
       either (not route.owner) (ignores world.responder packet (heard.Ignored ignored.NotRequest)) _ (ignores_goes packet (heard.Ignored ignored.NotRequest))
       (either (not (body_type body == 5 || body_type body == 6)) (ignores world.responder packet (heard.Ignored ignored.OtherType)) _ (ignores_goes packet (heard.Ignored ignored.OtherType)) (answers_goes x is packet route body fresh))
   gathered_goes x is packet More fresh = ignores_goes packet heard.More
   gathered_goes x is packet (Dropped cause) fresh = ignores_goes packet (heard.Ignored (ignored.Dropped cause))
 
-  from_goes : (packet : List ℕ) (fields : PacketFields) (o : Option Connection) → connection_of fields.from connections ≡ o → responding.is_worn world.responder ≡ false → GoesOn (responding.hears_from world.responder packet fields o)
+  from_goes : (packet : List ℕ) (fields : PacketFields) (o : Option Connection) → connection_of fields.from connections ≡ o → responding.is_worn world.responder ≡ false → GoesOn (responding.hears_from world.responder (responding.next_draw world.responder) packet fields o)
   from_goes packet fields None is fresh = ignores_goes packet (heard.Ignored ignored.UnknownPeer)
   from_goes packet fields (Some x) is fresh = gathered_goes x (found_in (λ (y : Connection). y.setup.peer == fields.from) connections x is).0 packet (gathered_from x.setup.eid x.setup.peer world.responder.given fields) fresh
 
-  parsed_goes : (packet : List ℕ) (p : Result PacketFields PacketFault) → responding.is_worn world.responder ≡ false → GoesOn (responding.hears_packet world.responder packet p)
+  parsed_goes : (packet : List ℕ) (p : Result PacketFields PacketFault) → responding.is_worn world.responder ≡ false → GoesOn (responding.hears_packet world.responder (responding.next_draw world.responder) packet p)
   parsed_goes packet (Err fault) fresh = ignores_goes packet (heard.Ignored (ignored.Packet fault))
   parsed_goes packet (Ok fields) fresh = either (not (fields.to == world.responder.part.eid)) (ignores world.responder packet (heard.Ignored (ignored.Dropped NotOurs))) _ (ignores_goes packet (heard.Ignored (ignored.Dropped NotOurs))) (from_goes packet fields (connection_of fields.from connections) refl fresh)
 
-  given_by : (packet : List ℕ) (worn : Bool) → responding.is_worn world.responder ≡ worn → GoesOn (cond worn (responding.worn_step world.responder) (responding.hears_packet world.responder packet (parsed packet)))
+  given_by : (packet : List ℕ) (worn : Bool) → responding.is_worn world.responder ≡ worn → GoesOn (cond worn (responding.worn_step world.responder) (responding.hears_packet world.responder (responding.next_draw world.responder) packet (parsed packet)))
   given_by packet true e = rests world.responder.given (omega arith)
   given_by packet false e = parsed_goes packet (parsed packet) e
 
@@ -148,10 +149,10 @@ module _ (KeptAsked : ReqSetup → asked.History → Type 0) (KeptServed : RspSe
       → Fits KeptAsked KeptServed (record { requesters = world.requesters; responder = record world.responder { connections = with_history x.setup.peer (λ h. Queued bytes ∷ h) connections }; sent = sent; log = world.log })
   queued_at x is bytes short room n sent =
       let old = k.serves x is in
-      let count = draws_changed (λ h. Queued bytes ∷ h) connections x k.apart.peers is in
+      let count = count_changed draws_of (λ h. Queued bytes ∷ h) connections x k.apart.peers is in
       let wear = k.wear in
       let fresh = old.fresh in
-      responder_goes KeptAsked KeptServed world k x is world.responder.given (λ h. Queued bytes ∷ h) [] n sent
+      responder_goes KeptAsked KeptServed world k x is world.responder.given world.responder.taken (λ h. Queued bytes ∷ h) [] n sent
       (omega arith)
       (omega arith)
       (record { setup = old.setup; made = (short, room, old.made); kept = (waits x.setup x.history old.made old.kept).0 bytes; fresh = omega arith })

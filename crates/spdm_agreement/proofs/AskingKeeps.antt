@@ -8,7 +8,7 @@ use Rattle.requester_machine.specs.History.{History}
 use Rattle.requester_machine.specs.Shown.{after}
 use Rattle.requester_machine.specs.Setup.{ReqSetup}
 use Rattle.spdm_agreement.specs.Story.{asked_marks}
-use Rattle.spdm_agreement.proofs.AskedMade.{asks_made, hears_made}
+use Rattle.requester_machine.proofs.Making.{asks_made, hears_made}
 use Rattle.spdm_agreement.proofs.AskingBodies as bodies
 use Rattle.spdm_agreement.proofs.AskingKept.{AskedKept}
 use Rattle.spdm_agreement.proofs.AskingOwn.{asks_well_always}

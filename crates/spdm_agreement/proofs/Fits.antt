@@ -19,16 +19,12 @@ use Rattle.spdm_agreement.specs.Marks.{Asked, Served, next_asked, next_served}
 use Rattle.spdm_agreement.specs.Moves.{State}
 use Rattle.spdm_agreement.specs.Reading.{Reading}
 use Rattle.spdm_agreement.specs.Story.{asked_marks, served_marks}
+use Rattle.responder_machine.proofs.Connected.{PeersDiffer}
 use Rattle.spdm_agreement.proofs.Foreign.{Leads, join, theirs}
-use Rattle.spdm_agreement.proofs.Members.{IsIn}
+use Rattle.spdm_machine.proofs.Members.{IsIn}
 use Rattle.spdm_agreement.proofs.Owed.{OwnLeads}
 use Rattle.spdm_agreement.proofs.Pairs.{state_of}
 use Rattle.spdm_agreement.proofs.Sessions.{reading_of}
-
--- Each connection has an end point of its own.
-abbrev pub PeersDiffer : List Connection → Type 0
-PeersDiffer [] = Unit {0}
-PeersDiffer (c ∷ others) = ((d : Connection) → IsIn others d → d.setup.peer ≡ c.setup.peer → ⊥) × PeersDiffer others
 
 -- What keeps the ends of a world apart: the set-up alone decides it.
 pub record Apart (rs : List Requesting) (cs : List Connection) : Type 0 where
@@ -51,13 +47,6 @@ pub same_key : (rs : List Requesting) (cs : List Connection) → Apart rs cs →
 same_key rs cs apart a c pair =
     let b = apart.paired c pair.connection in
     b.3 ∙ ap (λ (x : Requesting). x.setup.psk) (same_requester rs cs apart b.0 a b.1 pair.requester (sym b.2 ∙ pair.peer))
-
-pub same_connection : (cs : List Connection) → PeersDiffer cs → (c d : Connection) → IsIn cs c → IsIn cs d → c.setup.peer ≡ d.setup.peer → c ≡ d
-same_connection [] apart c d m n e = absurd m
-same_connection (x ∷ others) apart c d m n e = elim m [
-  | inl is ↦ elim n [ inl its ↦ is ∙ sym its | inr l ↦ absurd (apart.0 d l (sym e ∙ ap (λ (y : Connection). y.setup.peer) is)) ]
-  | inr k ↦ elim n [ inl its ↦ absurd (apart.0 c k (e ∙ ap (λ (y : Connection). y.setup.peer) its)) | inr l ↦ same_connection others apart.1 c d k l e ]
-]
 
 -- The laws below stand over whatever is kept of histories.
 module _ (KeptAsked : ReqSetup → asked.History → Type 0) (KeptServed : RspSetup → served.History → Type 0) where

@@ -28,9 +28,9 @@ use Rattle.requester_machine.specs.Requesting as requesting
 use Rattle.requester_machine.specs.Requesting.{Requesting, CommandStep, PacketStep, requester_told, requester_given}
 use Rattle.responder_machine.specs.Responding.{Connection}
 use Rattle.world_machine.specs.World.{World, SentPacket, with_requester}
-use Rattle.spdm_agreement.proofs.AskedMade.{asks_made, hears_made}
+use Rattle.requester_machine.proofs.Making.{asks_made, hears_made}
 use Rattle.spdm_agreement.proofs.Fits.{IsPair, Fits}
-use Rattle.spdm_agreement.proofs.Members.{IsIn}
+use Rattle.spdm_machine.proofs.Members.{IsIn}
 use Rattle.spdm_agreement.proofs.Owed.{IsDraw, AskedReady, AskedStep, AsksWell, HearsWell}
 use Rattle.spdm_agreement.proofs.Pairs.{state_of}
 use Rattle.spdm_agreement.proofs.RequesterChanges as requester_changes

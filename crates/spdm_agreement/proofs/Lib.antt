@@ -26,13 +26,10 @@ pub mod Steady
 pub mod Example
 pub mod Asking
 pub mod Owed
-pub mod Members
 pub mod Fits
 pub mod RequesterChanges
 pub mod ResponderChanges
 pub mod Starts
-pub mod ServedMade
-pub mod AskedMade
 pub mod Happens
 pub mod Answers
 pub mod Owners

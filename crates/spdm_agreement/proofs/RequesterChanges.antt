@@ -13,7 +13,7 @@ use Rattle.responder_machine.specs.Responding.{Connection}
 use Rattle.world_machine.specs.World.{World, SentPacket, replaced, with_requester}
 use Rattle.spdm_agreement.specs.Claims.{IsReached}
 use Rattle.spdm_agreement.proofs.Fits.{Apart, IsPair, IsAsking, Fits, own_reach, others_reach}
-use Rattle.spdm_agreement.proofs.Members.{IsIn, in_map, map_in}
+use Rattle.spdm_machine.proofs.Members.{IsIn, in_map, map_in}
 use Rattle.spdm_agreement.proofs.Owed.{OwnLeads}
 use Rattle.spdm_agreement.proofs.Owners.{own_made}
 use Rattle.spdm_agreement.proofs.Pairs.{state_of}

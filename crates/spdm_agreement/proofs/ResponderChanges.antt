@@ -13,26 +13,13 @@ use Rattle.requester_machine.specs.Requesting.{Requesting}
 use Rattle.responder_machine.specs.Responding.{Connection, changed, changed_if, with_history, all_draws}
 use Rattle.world_machine.specs.World.{World, SentPacket}
 use Rattle.spdm_agreement.specs.Claims.{IsReached}
-use Rattle.spdm_agreement.proofs.Fits.{Apart, PeersDiffer, IsPair, IsServing, Fits, same_connection, same_key, own_reach, others_reach}
-use Rattle.spdm_agreement.proofs.Members.{IsIn, in_map, map_in}
+use Rattle.spdm_agreement.proofs.Fits.{Apart, IsPair, IsServing, Fits, same_key, own_reach, others_reach}
+use Rattle.responder_machine.proofs.Connected.{KeepsSetup, peers_stay, changed_keeps, origin, same_connection}
+use Rattle.spdm_machine.proofs.Members.{IsIn, in_map, map_in}
 use Rattle.spdm_agreement.proofs.Owed.{OwnLeads}
 use Rattle.spdm_agreement.proofs.Owners.{own_made}
 use Rattle.spdm_agreement.proofs.Pairs.{state_of}
 use Rattle.spdm_agreement.proofs.Sessions.{reading_of}
-
--- ---- Any change of histories.
-
--- Each connection keeps its set-up.
-abbrev pub KeepsSetup : (Connection → Connection) → Type 0
-KeepsSetup f = (c : Connection) → (f c).setup ≡ c.setup
-
-pub peers_stay : (f : Connection → Connection) (cs : List Connection) → KeepsSetup f → PeersDiffer cs → PeersDiffer (map f cs)
-peers_stay f [] keeps apart = tt
-peers_stay f (c ∷ others) keeps apart = (
-  λ d m e. (let o = in_map f others d m in
-      apart.0 o.0 o.1 (sym (ap (λ (s : RspSetup). s.peer) (keeps o.0)) ∙ sym (ap (λ (x : Connection). x.setup.peer) o.2) ∙ e ∙ ap (λ (s : RspSetup). s.peer) (keeps c))),
-  peers_stay f others keeps apart.1,
-)
 
 pub still_apart : (rs : List Requesting) (cs : List Connection) (f : Connection → Connection) → KeepsSetup f → Apart rs cs → Apart rs (map f cs)
 still_apart rs cs f keeps apart = record {
@@ -46,61 +33,10 @@ still_apart rs cs f keeps apart = record {
   served = λ a m. (let c = apart.served a m in (f c.0, map_in f cs c.0 c.1, ap (λ (s : RspSetup). s.peer) (keeps c.0) ∙ c.2));
 }
 
-pub changed_keeps : (eid : ℕ) (change : History → History) → KeepsSetup (changed_if eid change)
-changed_keeps eid change c = go (c.setup.peer == eid)
-  where
-    go : (b : Bool) → (cond b (changed change c) c).setup ≡ c.setup
-    go true = refl
-    go false = refl
-
--- Where a connection of the new list comes from.
-pub record Origin (eid : ℕ) (change : History → History) (cs : List Connection) (x : Connection) : Type 0 where
-  pub old : Connection
-  pub is : IsIn cs old
-  pub same : ((old.setup.peer ≡ eid) × (x ≡ changed change old)) ⊎ ((old.setup.peer ≢ eid) × (x ≡ old))
-
-origin_by : (eid : ℕ) (change : History → History) (cs : List Connection) (old x : Connection) (b : Bool) → (old.setup.peer == eid) ≡ b → IsIn cs old → x ≡ cond b (changed change old) old → Origin eid change cs x
-origin_by eid change cs old x true e m is = record { old = old; is = m; same = inl (eqb-true _ _ e, is) }
-origin_by eid change cs old x false e m is = record { old = old; is = m; same = inr (λ s. true≢false (sym (eq-eqb _ _ s) ∙ e), is) }
-
-pub origin : (eid : ℕ) (change : History → History) (cs : List Connection) (x : Connection) → IsIn (with_history eid change cs) x → Origin eid change cs x
-origin eid change cs x m = (let o = in_map (changed_if eid change) cs x m in origin_by eid change cs o.0 x (o.0.setup.peer == eid) refl o.1 o.2)
-
--- ---- Draws.
-
-draws_kept : (eid : ℕ) (change : History → History) (cs : List Connection) → ((d : Connection) → IsIn cs d → d.setup.peer ≡ eid → ⊥) → all_draws (with_history eid change cs) ≡ all_draws cs
-draws_kept eid change [] none = refl
-draws_kept eid change (c ∷ others) none = go (c.setup.peer == eid) refl (draws_kept eid change others (λ d m. none d (inr m)))
-  where
-    go : (b : Bool) → (c.setup.peer == eid) ≡ b → all_draws (with_history eid change others) ≡ all_draws others → all_draws (with_history eid change (c ∷ others)) ≡ all_draws (c ∷ others)
-    go true e next = absurd (none c (inl refl) (eqb-true _ _ e))
-    go false e next = ap (λ (b : Bool). draws_of (cond b (changed change c) c).history + all_draws (with_history eid change others)) e ∙ ap (λ (n : ℕ). draws_of c.history + n) next
-
--- What the draws of all connections come to where one has another history.
-pub draws_changed : (change : History → History) (cs : List Connection) (c : Connection) → PeersDiffer cs → IsIn cs c
-    → all_draws (with_history c.setup.peer change cs) + draws_of c.history ≡ all_draws cs + draws_of (change c.history)
-draws_changed change [] c apart m = absurd m
-draws_changed change (d ∷ others) c apart m = elim m [
-  | inl e ↦ (let here : all_draws (with_history d.setup.peer change (d ∷ others)) ≡ draws_of (change d.history) + all_draws others =
-      ap (λ (b : Bool). draws_of (cond b (changed change d) d).history + all_draws (with_history d.setup.peer change others)) (eq-eqb d.setup.peer d.setup.peer refl)
-      ∙ ap (λ (n : ℕ). draws_of (change d.history) + n) (draws_kept d.setup.peer change others apart.0) in
-      subst (λ (x : Connection). all_draws (with_history x.setup.peer change (d ∷ others)) + draws_of x.history ≡ all_draws (d ∷ others) + draws_of (change x.history)) (sym e) (omega (arith, here)))
-  | inr l ↦ (let there = draws_changed change others c apart.1 l in
-      go (d.setup.peer == c.setup.peer) refl l there)
-]
-  where
-    go : (b : Bool) → (d.setup.peer == c.setup.peer) ≡ b → IsIn others c → all_draws (with_history c.setup.peer change others) + draws_of c.history ≡ all_draws others + draws_of (change c.history)
-        → all_draws (with_history c.setup.peer change (d ∷ others)) + draws_of c.history ≡ all_draws (d ∷ others) + draws_of (change c.history)
-    go true e l there = absurd (apart.0 c l (sym (eqb-true _ _ e)))
-    go false e l there =
-        let here : all_draws (with_history c.setup.peer change (d ∷ others)) ≡ draws_of d.history + all_draws (with_history c.setup.peer change others) =
-        ap (λ (b : Bool). draws_of (cond b (changed change d) d).history + all_draws (with_history c.setup.peer change others)) e in
-        omega (arith, here, there)
-
 -- ---- One connection goes on.
 
 module _ (KeptAsked : ReqSetup → asked.History → Type 0) (KeptServed : RspSetup → served.History → Type 0) (world : World) (k : Fits KeptAsked KeptServed world)
-    (c : Connection) (is : IsIn world.responder.connections c) (given : List (List ℕ)) (change : History → History) (acts : List Act) (n : NoChance (acts ++ world.log)) where
+    (c : Connection) (is : IsIn world.responder.connections c) (given taken : List (List ℕ)) (change : History → History) (acts : List Act) (n : NoChance (acts ++ world.log)) where
   abbrev cs : List Connection
   cs = world.responder.connections
 
@@ -108,7 +44,7 @@ module _ (KeptAsked : ReqSetup → asked.History → Type 0) (KeptServed : RspSe
   next = with_history c.setup.peer change cs
 
   abbrev later : List SentPacket → World
-  later sent = record { requesters = world.requesters; responder = record world.responder { given = given; connections = next }; sent = sent; log = acts ++ world.log }
+  later sent = record { requesters = world.requesters; responder = record world.responder { given = given; taken = taken; connections = next }; sent = sent; log = acts ++ world.log }
 
   -- The run of this connection and its requester.
   abbrev Runs : Type 0

@@ -1,13 +1,12 @@
 -- What a text sets up is a configured world, so all that holds of those holds of it.
-use Rattle.std.proofs.Common.{◌≡◌, ◌≤◌, ◌+◌, ◌*◌, ◌-◌, ◌^◌, ℕ, List, [], ◌∷◌, map, length, All, refl, sym, ap, ◌∙◌, subst, arith}
+use Rattle.std.proofs.Common.{◌≡◌, ◌≤◌, ◌+◌, ℕ, List, [], ◌∷◌, map, length, All, refl, sym, ap, subst, arith}
 use Rattle.std.proofs.lemmas.List.Elements.{All-from_recursion}
 use Rattle.std.specs.List.{AllByRecursion}
 use Rattle.requester_machine.specs.Setup.{ReqSetup, ReqEnd}
-use Rattle.responder_machine.specs.Setup.{Known, towards}
 use Rattle.spdm_agreement.proofs.Assembled.{agree, deliver, matches, seal_once}
-use Rattle.spdm_agreement.specs.Configured.{AreApart, HasDraws, IsConfigured, IsConfiguration, IsRequester, IsResponder, setups_of, boot_most}
+use Rattle.spdm_agreement.specs.Configured.{AreApart, HasDraws, IsRequester, setups_of, boot_most}
 use Rattle.spdm_agreement.specs.Worlds.{ScriptsAreConfigured, ScriptsHold}
-use Rattle.world_machine.specs.Setup.{Configuration, known_of, ends_from, first_draw, script_world}
+use Rattle.world_machine.specs.Setup.{known_of, ends_from, first_draw, script_world}
 
 -- The set-ups of the ends of a text are those of the text.
 setups_told : (n : ℕ) (seed : List ℕ) (boot : ℕ) (qs : List ReqSetup) → setups_of (ends_from n seed boot qs) ≡ qs

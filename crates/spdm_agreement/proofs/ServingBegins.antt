@@ -44,7 +44,8 @@ use Rattle.spdm_agreement.specs.Configured.{IsResponder}
 use Rattle.spdm_agreement.specs.Reading.{First}
 use Rattle.spdm_agreement.proofs.Codes.{code_read, second_byte}
 use Rattle.spdm_agreement.proofs.Owed.{IsDraw, DoesWell}
-use Rattle.spdm_agreement.proofs.Sessions.{reading_of, is_sound_first, is_negotiated, first_hash, transcript_of, answer_verify, length_digest, length_verify, context_number, summary_size, answer_context}
+use Rattle.responder_machine.proofs.VerifyLength.{length_digest, length_verify}
+use Rattle.spdm_agreement.proofs.Sessions.{reading_of, is_sound_first, is_negotiated, first_hash, transcript_of, answer_verify, context_number, summary_size, answer_context}
 use Rattle.spdm_agreement.proofs.ServingPlaces.{TakesClear, clear_case}
 use Rattle.spdm_agreement.proofs.ServingKnown.{HasVersion, HasCaps, HasAlgorithms, IsKnown, answered, entry_turn, known, common_in}
 use Rattle.spdm_agreement.proofs.ServingReplies.{IsRoomy}

@@ -22,7 +22,7 @@ use Rattle.std.proofs.lemmas.Slice.Eq.{bytes_eq-Decides}
 use Rattle.spdm_agreement.proofs.DataServed.{DataTurn, data_turn_is, chosen_short, opened_in}
 use Rattle.spdm_agreement.proofs.DataTexts.{data_text}
 use Rattle.spdm_agreement.proofs.Owed.{ServedStarts, DoesWell, Waits}
-use Rattle.spdm_agreement.proofs.ServedMade.{does_made}
+use Rattle.responder_machine.proofs.Making.{does_made}
 use Rattle.spdm_agreement.proofs.ServingBegins as begins
 use Rattle.spdm_agreement.proofs.ServingDoes as does
 use Rattle.spdm_agreement.proofs.ServingDoes.{AreCounted}

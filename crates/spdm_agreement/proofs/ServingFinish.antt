@@ -27,7 +27,8 @@ use Rattle.transcript.specs.Transcripts as transcript
 use Rattle.transcript.specs.Transcripts.{vca_of}
 use Rattle.spdm_agreement.specs.Reading.{First}
 use Rattle.spdm_agreement.specs.Story.{served_first, reply_text}
-use Rattle.spdm_agreement.proofs.Sessions.{first_terms, transcript_of, is_message, message_text, finish_message, finish_reply, second_of, length_verify}
+use Rattle.spdm_agreement.proofs.Sessions.{first_terms, transcript_of, is_message, message_text, finish_message, finish_reply, second_of}
+use Rattle.responder_machine.proofs.VerifyLength.{length_verify}
 use Rattle.spdm_agreement.proofs.ServingTurns.{TakesRequest, TurnIs, took}
 use Rattle.spdm_agreement.proofs.ServingReplies.{IsRoomy, replies_whole, refused_reply, reply_of, answers, updates_in}
 use Rattle.spdm_grammar.specs.declared.names.request_code.TheConstants.{PSK_FINISH}

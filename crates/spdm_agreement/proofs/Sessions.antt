@@ -5,14 +5,10 @@ use Rattle.std.proofs.lemmas.Slice.Eq.{bytes_eq-Decides}
 use Rattle.aes_gcm.specs.Gcm.{crypt}
 use Rattle.aes_gcm.proofs.Twice.{crypt-crypt}
 use Rattle.byteorder.specs.Endian.{little_number}
-use Rattle.hmac_hkdf.specs.Hmac.{hmac}
 use Rattle.key_schedule.specs.Purpose.{Purpose, key_of, iv_of}
-use Rattle.key_schedule.specs.declared.direction.Direction.{Direction}
 use Rattle.key_schedule.specs.declared.direction.Direction.TheVariants.{Request, Response}
 use Rattle.running_hash.specs.Hash.{Hash, hash_of}
 use Rattle.secured_record.specs.Format.{header, nonce, plain_text}
-use Rattle.sha2.proofs.Facts256.{length-sha256}
-use Rattle.sha2.proofs.Facts512.{length-sha384}
 use Rattle.spdm_basis.specs.Sizes.{hash_size}
 use Rattle.spdm_basis.specs.SessionIdBytes.{session_id_bytes}
 use Rattle.spdm_basis.specs.declared.hash_alg.HashAlg.{HashAlg}
@@ -25,8 +21,8 @@ use Rattle.spdm_grammar.specs.Requests.{IsRequestSpelling, request_layout, reque
 use Rattle.spdm_grammar.specs.Responses.{IsResponseSpelling, response_layout, response_in, canonical_response}
 use Rattle.spdm_grammar.proofs.Ends.{no_request_longer, no_response_longer}
 use Rattle.spdm_grammar.proofs.Spellings.{read_iff}
-use Rattle.spdm_grammar.specs.declared.choice.Choice.{Choice}
 use Rattle.spdm_machine.specs.Keys.{verify_data}
+use Rattle.responder_machine.proofs.VerifyLength.{length_verify}
 use Rattle.spdm_machine.specs.Sessions.{id_in_exchange}
 use Rattle.spdm_machine.specs.Terms.{Terms, terms_of, hash_len}
 use Rattle.transcript.specs.Transcripts.{Negotiation, vca_of, without_verify, t1_of, t2_of}
@@ -231,18 +227,6 @@ finish_reply = canonical_response PskFinishRsp
 
 abbrev pub second_of : List ℕ → First → List ℕ
 second_of psk t = t2_of (vca_of t.negotiation) t.exchange t.answer (finish_message psk t) finish_reply
-
-pub length_digest : (hash : HashAlg) (m : List ℕ) → length ((hash_of hash).digest m) ≡ hash_size hash
-length_digest Sha256 m = length-sha256 m
-length_digest Sha384 m = length-sha384 m
-
-length_hmac : (hash : HashAlg) (key text : List ℕ) → length (hmac (hash_of hash) key text) ≡ hash_size hash
-unfolding hmac
-length_hmac hash key text = length_digest hash _
-
-pub length_verify : (choice : Choice) (psk t1 : List ℕ) (direction : Direction) (text : List ℕ) → length (verify_data choice psk t1 direction text) ≡ hash_size choice.hash
-unfolding verify_data
-length_verify choice psk t1 direction text = length_hmac choice.hash _ _
 
 nothing : (c : List ℕ) → length c ≡ 0 → c ≡ []
 nothing [] e = refl

@@ -1,5 +1,5 @@
 -- The world in which nothing has happened yet.
-use Rattle.std.proofs.Common.{◌≡◌, ◌≢◌, ℕ, ◌<◌, ◌+◌, List, [], ◌∷◌, map, refl, sym, ap, ◌∙◌, subst, inl, inr, arith}
+use Rattle.std.proofs.Common.{◌≡◌, ◌≢◌, ℕ, ◌+◌, List, [], ◌∷◌, map, refl, sym, ap, ◌∙◌, subst, inl, inr, arith}
 use Rattle.requester_machine.specs.History as asked
 use Rattle.responder_machine.specs.History as served
 use Rattle.responder_machine.specs.Setup.{RspSetup, RspPart, Known, towards}
@@ -10,8 +10,9 @@ use Rattle.world_machine.specs.Setup.{WorldSetup, known_of}
 use Rattle.world_machine.specs.World.{new_world}
 use Rattle.spdm_agreement.specs.Claims.{IsReached}
 use Rattle.spdm_agreement.specs.Configured.{IsConfigured, IsRequester, IsResponder, AreApart, HasDraws, setups_of}
-use Rattle.spdm_agreement.proofs.Fits.{Apart, PeersDiffer, IsAsking, IsServing, Fits}
-use Rattle.spdm_agreement.proofs.Members.{IsIn, all_in, in_map, map_in}
+use Rattle.spdm_agreement.proofs.Fits.{Apart, IsAsking, IsServing, Fits}
+use Rattle.responder_machine.proofs.Connected.{PeersDiffer}
+use Rattle.spdm_machine.proofs.Members.{IsIn, all_in, in_map, map_in}
 use Rattle.spdm_agreement.proofs.Owed.{AskedStarts, ServedStarts}
 use Rattle.spdm_agreement.proofs.Pairs.{state_of}
 use Rattle.spdm_agreement.proofs.Sessions.{reading_of}
@@ -72,10 +73,12 @@ starts_apart r es apart =
       eids = told_by (λ (q : ReqSetup). q.eid) es differ;
       keys = λ a b m k e. ap (λ (x : Requesting). x.setup.eid) (told_by (λ (q : ReqSetup). q.psk) es (keys_differ qs apart) a b m k e);
       peers = peers_differ r qs differ;
-      paired = λ x m. (let o = in_map (new_connection r) (map known_of qs) x m in let s = in_map known_of qs o.0 o.1 in let a = placed es s.0 s.1 in
-          (a.0, a.1,
-            ap (λ (y : Connection). y.setup.peer) o.2 ∙ ap (λ (k : Known). k.eid) s.2 ∙ ap (λ (q : ReqSetup). q.eid) a.2,
-            ap (λ (y : Connection). y.setup.psk) o.2 ∙ ap (λ (k : Known). k.psk) s.2 ∙ ap (λ (q : ReqSetup). q.psk) a.2));
+      paired = λ x m. (let o = in_map (new_connection r) (map known_of qs) x m in let s = in_map known_of qs o.0 o.1 in let a = placed es s.0 s.1 in (
+        a.0,
+        a.1,
+        ap (λ (y : Connection). y.setup.peer) o.2 ∙ ap (λ (k : Known). k.eid) s.2 ∙ ap (λ (q : ReqSetup). q.eid) a.2,
+        ap (λ (y : Connection). y.setup.psk) o.2 ∙ ap (λ (k : Known). k.psk) s.2 ∙ ap (λ (q : ReqSetup). q.psk) a.2,
+      ));
       served = λ a m. (new_connection r (known_of a.setup), map_in (new_connection r) (map known_of qs) (known_of a.setup) (map_in known_of qs a.setup (setup_in es a m)), refl);
     }
 

@@ -21,7 +21,7 @@ use Rattle.spdm_agreement.proofs.Answers as answers
 use Rattle.spdm_agreement.proofs.Asking.{asked_stands}
 use Rattle.spdm_agreement.proofs.Fits.{IsPair, Fits}
 use Rattle.spdm_agreement.proofs.Happens as asks
-use Rattle.spdm_agreement.proofs.Members.{IsIn, in_contained, found_in, some_same, none_some}
+use Rattle.spdm_machine.proofs.Members.{IsIn, in_contained, found_in, some_same, none_some}
 use Rattle.spdm_agreement.proofs.Owed.{AsksWell, HearsWell, AskedStarts, AskedSteady, DoesWell, ServedStarts, Waits}
 use Rattle.spdm_agreement.proofs.Pairs.{Stands, one, matched, once}
 use Rattle.spdm_agreement.proofs.Serving.{served_stands}

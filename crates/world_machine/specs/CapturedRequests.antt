@@ -67,15 +67,17 @@ GoesOn d body after sending =
     × (after ≡ d.requester)
     × (sending ≡ still_sending d.requester d.sending sent.aim)
 
--- The first chunk of a large request, where some allowed values make the command send one. The request and the
--- bytes that stand for it are not judged yet.
+-- The first chunk of a large request, where some allowed values make the command send one. The bytes that stand for
+-- it are not judged yet.
 abbrev pub BeginsLarge : Dialogue → List ℕ → History → List ℕ → Type 0
 BeginsLarge d body after whole =
-    (command : Command) × (some : Sent) × MayAsk false d.setup d.requester command no_draw (Adds (Told command some no_draw))
+    (command : Command) × (some : Sent) × (asked : RequestMessage)
+    × MayAsk false d.setup d.requester command no_draw (Adds (Told command some no_draw))
     × (begins_large some.aim ≡ true)
+    × (asked_in some.aim ≡ Some asked)
     × IsLargeRequest (common_of d.requester) whole
-    × ((asked : RequestMessage) × (body_of (first_piece d.requester asked whole).content ≡ body)
-    × (after ≡ Told command (first_piece d.requester asked whole) no_draw ∷ d.requester))
+    × (body_of (first_piece d.requester asked whole).content ≡ body)
+    × (after ≡ Told command (first_piece d.requester asked whole) no_draw ∷ d.requester)
 
 -- The first chunk of a large request that is owed. The bytes that stand for it are not judged yet.
 abbrev pub BeginsOwed : Dialogue → List ℕ → History → List ℕ → Type 0

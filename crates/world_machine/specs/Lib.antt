@@ -14,3 +14,4 @@ pub mod Capture
 pub mod SessionTable
 pub mod Opening
 pub mod Difference
+pub mod Totals
