@@ -10,10 +10,10 @@ use Rattle.negotiate.specs.declared.shared.Common.{Common}
 use Rattle.spdm_machine.specs.Keys.{Draw}
 use Rattle.requester_machine.specs.Setup.{ReqSetup}
 use Rattle.requester_machine.specs.Answers.{is_refused}
-use Rattle.requester_machine.specs.Asking.{done, resent}
+use Rattle.requester_machine.specs.Asking.{done}
 use Rattle.requester_machine.specs.Asking.Outcome.{Adds}
 use Rattle.requester_machine.specs.Commands.{Free, command_fault, exchange_for, needs_connection, session_in, is_spent, is_spent_at, has_reached}
-use Rattle.requester_machine.specs.History.{History, Entry, Effect, Led, outstanding, negotiation_of, negotiates, connection_terms, next_handle}
+use Rattle.requester_machine.specs.History.{History, Effect, Led, outstanding, negotiation_of, negotiates, connection_terms, next_handle}
 use Rattle.requester_machine.specs.History.Effect.{Nothing, Grants, Refuses}
 use Rattle.requester_machine.specs.History.Entry.{Told}
 use Rattle.requester_machine.specs.Hearing.{came_to}
@@ -32,7 +32,7 @@ use Rattle.requester_machine.proofs.ClearLeads.ClearLeads.{ByRefusal, ByLarge, B
 use Rattle.requester_machine.proofs.Collected.{one_more}
 use Rattle.requester_machine.proofs.Entries.{test_is_false}
 use Rattle.requester_machine.proofs.Few.{Few, FewBy, FewFor, none_few, asked_few, begun_few, unreached, exchange_few, refused_few, end_few, done_few, next_few, answered_few, updated_few, first_few, chunk_few}
-use Rattle.requester_machine.proofs.HoldsTold.{somewhere}
+use Rattle.requester_machine.proofs.HoldsTold.{and_true, told_sent, resent_adds, somewhere}
 use Rattle.requester_machine.proofs.RecordLeads.{RecordLeads, Follows}
 use Rattle.requester_machine.proofs.RecordLeads.Follows.{ToAsk, ToWhole}
 use Rattle.requester_machine.proofs.RecordLeads.RecordLeads.{ByEnd, ByAnswer, ByUpdate, ByFirst, ByChunk}
@@ -42,10 +42,6 @@ use Rattle.requester_machine.proofs.RecordLeads.RecordLeads.{ByEnd, ByAnswer, By
 nothing_waits : (id : ℕ) (waiting : Option Sent) → is_some waiting ≡ false → waits_for id waiting ≡ Rests
 nothing_waits id None is = refl
 nothing_waits id (Some sent) is = absurd (false≢true (sym is))
-
-and_true : (a b : Bool) → (a && b) ≡ false → a ≡ true → b ≡ false
-and_true true b is a = is
-and_true false b is a = absurd (false≢true a)
 
 -- While a command that needs a connection is done, nothing is outstanding.
 rests : (q : ReqSetup) (h : History) (id : ℕ) (command : Command) (f : Free) → command_fault false q h command f ≡ None → needs_connection command ≡ true
@@ -99,13 +95,6 @@ measure_few : (h : History) (id op : ℕ) (common : Common) → Few Rests (sessi
 measure_few h id op common few =
     either (λ (sent : Sent). Few (waits_aim id sent.aim) (with_aim id sent.aim sent.content (session_of id h))) (nat_lt common.to_responder.transfer (length (canonical_request (GetMeasurements op))))
     (piece_sent common h (GetMeasurements op) (next_handle h) 0) (plain_sent h (GetMeasurements op)) few few
-
-told_sent : (command : Command) (x y : Sent) (d : Draw) → Adds (Told command x d) ≡ Adds (Told command y d) → x ≡ y
-told_sent command x y d is = cc is
-
-resent_adds : {A : Type 0} (waiting : Option Sent) (entry : Entry) → resent waiting ≡ Adds entry → A
-resent_adds None entry is = absurd (cc is)
-resent_adds (Some sent) entry is = absurd (cc is)
 
 abbrev FewTold : History → ℕ → Command → Draw → Sent → Type 0
 FewTold h id command d sent = Few (waits_aim id sent.aim) (session_of id (Told command sent d ∷ h))

@@ -45,7 +45,7 @@ is_phase Versioned is = absurd (false≢true is)
 is_phase Capable is = absurd (false≢true is)
 is_phase Negotiated is = refl
 
-and_true : (a b : Bool) → (a && b) ≡ false → a ≡ true → b ≡ false
+pub and_true : (a b : Bool) → (a && b) ≡ false → a ≡ true → b ≡ false
 and_true true b is a = is
 and_true false b is a = absurd (false≢true a)
 
@@ -146,10 +146,10 @@ asks_hold q h later id ask inner pad sessions same phase out live behind k = rec
 
 -- ---- All commands.
 
-told_sent : (command : Command) (x y : Sent) (d : Draw) → Adds (Told command x d) ≡ Adds (Told command y d) → x ≡ y
+pub told_sent : (command : Command) (x y : Sent) (d : Draw) → Adds (Told command x d) ≡ Adds (Told command y d) → x ≡ y
 told_sent command x y d is = cc is
 
-resent_adds : {A : Type 0} (waiting : Option Sent) (entry : Entry) → resent waiting ≡ Adds entry → A
+pub resent_adds : {A : Type 0} (waiting : Option Sent) (entry : Entry) → resent waiting ≡ Adds entry → A
 resent_adds None entry is = absurd (cc is)
 resent_adds (Some sent) entry is = absurd (cc is)
 
