@@ -1,6 +1,6 @@
 -- The application data that a requester took are those in the texts of its marks.
 use Rattle.std.proofs.Common.{◌≡◌, ℕ, ◌<◌, ◌≤◌, ◌==◌, ◌&&◌, ◌||◌, not, List, [], ◌∷◌, length, drop, nat_lt, slice_index, Bool, true, false, cond, Option, Some, None, Result, Ok, Err, refl, sym, ap, ◌∙◌, inl, inr, arith, true≢false, eqb-true}
-use Rattle.std.proofs.lemmas.Bool.{leb-false, lt-leb, leb-true, le-leb}
+use Rattle.std.proofs.lemmas.Bool.{leb-false, lt-leb, leb-true, le-leb, and_right}
 use Rattle.requester_machine.specs.Commands.{Free}
 use Rattle.requester_machine.specs.History.{History, Effect, Led}
 use Rattle.requester_machine.specs.History.Effect.{Nothing, Answers, Refuses, Stops, Grants, Loses}
@@ -29,10 +29,6 @@ asks_data _ = false
 pub record BringsData (ask : Ask) (inner : List ℕ) (effect : Effect) : Type 0 where
   pub told : is_data effect ≡ (asks_data ask && is_data_inner inner)
   pub answer : is_data effect ≡ true → answer_in effect ≡ drop 1 inner
-
-no_and : (a b : Bool) → b ≡ false → (a && b) ≡ false
-no_and true b e = e
-no_and false b e = refl
 
 brings_none : (ask : Ask) (inner : List ℕ) (effect : Effect) → is_data effect ≡ false → (asks_data ask && is_data_inner inner) ≡ false → BringsData ask inner effect
 brings_none ask inner effect none quiet = record { told = none ∙ sym quiet; answer = λ e. absurd (true≢false (sym e ∙ none)) }

@@ -45,13 +45,14 @@ use Rattle.spdm_agreement.specs.Reading.{First}
 use Rattle.spdm_agreement.specs.Story.{asked_marks, command_marks, taken_marks, next_marks, content_marks, asked_first, sent_text, request_text, answer_text, ask_in, ask_of}
 use Rattle.spdm_agreement.proofs.Requester.ClearLeads.{IsClearAim, NextClear, either}
 use Rattle.spdm_agreement.proofs.Requester.Entries.{IsTookClear, IsTookRecord, clear_entry, record_entry}
-use Rattle.spdm_agreement.proofs.Requester.Waiting.{waited_for, asked_stage}
+use Rattle.spdm_agreement.proofs.Requester.Waiting.{waited_for}
 use Rattle.spdm_agreement.proofs.Requester.RecordLeads.{NextRecord}
 use Rattle.spdm_agreement.proofs.Requester.SealAndHear.{inner_as}
 use Rattle.spdm_agreement.proofs.Delivery.Data.{is_data_text, is_data_inner, data_in, answered_data, inner_in}
 use Rattle.spdm_agreement.proofs.Delivery.OneRecord.{asks_data, BringsData, brings}
 use Rattle.spdm_agreement.proofs.Delivery.SealedAtRequester.{clear_same}
 use Rattle.spdm_agreement.proofs.Delivery.InnerText.{data_text, message_no_data, as_list, one_more}
+use Rattle.requester_machine.proofs.Steps.{asked_stage}
 
 -- ---- The text of a request tells whether application data were asked.
 

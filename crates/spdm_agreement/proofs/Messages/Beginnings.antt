@@ -29,6 +29,7 @@ use Rattle.transcript.specs.Transcripts.{Negotiation, vca_of, without_verify, t1
 use Rattle.spdm_agreement.specs.Reading.{First, Reading}
 use Rattle.spdm_grammar.specs.declared.names.request_code.TheConstants.{KEY_UPDATE}
 use Rattle.spdm_grammar.specs.declared.names.response_code.TheConstants.{PSK_FINISH_RSP, KEY_UPDATE_ACK}
+use Rattle.std.proofs.lemmas.Bool.{and_parts}
 
 -- ---- One message behind which others stand is told by the bytes of all.
 
@@ -140,22 +141,18 @@ same_negotiation n m a b c d e f =
     ∙ ap (λ (l : List ℕ). negotiation m.get_version m.version m.get_capabilities m.capabilities l n.algorithms) e
     ∙ ap (λ (l : List ℕ). negotiation m.get_version m.version m.get_capabilities m.capabilities m.negotiate_algorithms l) f
 
-pub both : (a b : Bool) → (a && b) ≡ true → (a ≡ true) × (b ≡ true)
-both true b e = (refl, e)
-both false b e = absurd (cc)
-
 negotiation_told : (n m : Negotiation) (x y : List ℕ) → is_negotiated n ≡ true → is_negotiated m ≡ true → vca_of n ++ x ≡ vca_of m ++ y → (n ≡ m) × (x ≡ y)
 negotiation_told n m x y p q e =
-    let p1 = both _ _ p in
-    let p2 = both _ _ p1.1 in
-    let p3 = both _ _ p2.1 in
-    let p4 = both _ _ p3.1 in
-    let p5 = both _ _ p4.1 in
-    let q1 = both _ _ q in
-    let q2 = both _ _ q1.1 in
-    let q3 = both _ _ q2.1 in
-    let q4 = both _ _ q3.1 in
-    let q5 = both _ _ q4.1 in
+    let p1 = and_parts _ _ p in
+    let p2 = and_parts _ _ p1.1 in
+    let p3 = and_parts _ _ p2.1 in
+    let p4 = and_parts _ _ p3.1 in
+    let p5 = and_parts _ _ p4.1 in
+    let q1 = and_parts _ _ q in
+    let q2 = and_parts _ _ q1.1 in
+    let q3 = and_parts _ _ q2.1 in
+    let q4 = and_parts _ _ q3.1 in
+    let q5 = and_parts _ _ q4.1 in
     let n6 = n.algorithms ++ x in
     let n5 = n.negotiate_algorithms ++ n6 in
     let n4 = n.capabilities ++ n5 in
@@ -193,8 +190,8 @@ pub record IsSound (psk : List ℕ) (t : First) : Type 0 where
 pub sound : (psk : List ℕ) (t : First) → is_sound_first psk t ≡ true → IsSound psk t
 unfolding is_sound_first
 sound psk t e =
-    let one = both (is_negotiated t.negotiation) _ e in
-    let two = both (is_request (hash_len (first_terms t)) t.exchange) _ one.1 in
+    let one = and_parts (is_negotiated t.negotiation) _ e in
+    let two = and_parts (is_request (hash_len (first_terms t)) t.exchange) _ one.1 in
     record { negotiated = one.0; exchange = two.0; answer = (bytes_eq-Decides t.answer (without_verify (first_hash t) t.answer ++ answer_verify psk t)).0 two.1 }
 
 -- Where the bytes behind the negotiation and PSK_EXCHANGE are one, so are these.

@@ -31,7 +31,7 @@ use Rattle.spdm_agreement.proofs.Requester.Comparisons.{stays}
 use Rattle.spdm_agreement.proofs.Requester.Entries.{RequestTells, IsTookRecord, clear_entry, record_entry, no_command_heard}
 use Rattle.spdm_agreement.proofs.Requester.Counts.{HeldWell}
 use Rattle.spdm_agreement.proofs.Requester.HistoryInvariant.{AskedKept, IsFinishing, WaitingKept, AimKept, waiting_text, is_held, kept_record, kept_finish, record_kept, apart}
-use Rattle.spdm_agreement.proofs.Requester.Waiting.{waited_for, asked_stage, is_finish}
+use Rattle.spdm_agreement.proofs.Requester.Waiting.{waited_for, is_finish}
 use Rattle.spdm_agreement.proofs.Requester.RecordLeads.{RecordLed, NextRecord}
 use Rattle.spdm_agreement.proofs.Requester.RecordsTaken.{aimed, waits_aimed, was_kept, own_waits, other_waits, past_marks, asks_past, held_at, finish_is}
 use Rattle.spdm_agreement.proofs.Requester.AfterRecord.{behind, past_held, finish_held}
@@ -42,6 +42,7 @@ use Rattle.spdm_agreement.proofs.Worlds.EndSteps.{AskedStep, AskedReady, HearsWe
 use Rattle.spdm_agreement.proofs.Requester.Waiting.{made_steady}
 use Rattle.spdm_agreement.proofs.Moves.Runs.{holds, unsaid}
 use Rattle.spdm_agreement.proofs.Messages.Beginnings.{reading_of}
+use Rattle.requester_machine.proofs.Steps.{asked_stage}
 
 -- ---- What is asked next.
 

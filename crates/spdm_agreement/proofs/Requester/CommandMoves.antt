@@ -17,7 +17,7 @@ use Rattle.requester_machine.specs.RequesterLog.{acts_of, record_made, steps_at}
 use Rattle.requester_machine.specs.Session.{Steps, session_of, is_live, t2_of, when_live, with_aim, begun, after_command}
 use Rattle.requester_machine.specs.Session.Step.{Started, Asked}
 use Rattle.requester_machine.specs.Shown.{after}
-use Rattle.requester_machine.proofs.Choosing.{free_id-in_range}
+use Rattle.requester_machine.proofs.Choosing.{free_id-in_range, context-length}
 use Rattle.requester_machine.proofs.MadeOrder.{in_order}
 use Rattle.secured_record.specs.Format.{plain_text}
 use Rattle.spdm_basis.specs.Sizes.{hash_size}
@@ -51,6 +51,7 @@ use Rattle.spdm_agreement.proofs.Requester.SealAndHear.{at, says}
 use Rattle.spdm_agreement.proofs.Worlds.EndSteps.{OwnLeads, IsDraw, AskedStep, AskedReady, AsksWell}
 use Rattle.spdm_agreement.proofs.Messages.Beginnings.{reading_of, is_negotiated}
 use Rattle.transcript.specs.Transcripts as transcript
+use Rattle.spdm_basis.proofs.Bools.{and_second}
 
 -- Once a negotiation is complete, its messages are what they should be.
 abbrev pub Negotiates : Type 0
@@ -88,10 +89,6 @@ asked_held q h f x a made = rest_open (waits_for a.id (outstanding h)) (session_
 rests : (q : ReqSetup) (h : History) (id : ℕ) → is_some (outstanding h) ≡ false → AskedKept q h → is_held (session_of id h) ≡ true → HeldWell q.psk (session_of id h) (asked_marks q h) None
 rests q h id free kept held = subst (λ (w : Option Text). HeldWell q.psk (session_of id h) (asked_marks q h) w) (nothing_waits id (outstanding h) free).1 (kept.held id held)
 
-both_are : (a b : Bool) → (a && b) ≡ true → b ≡ true
-both_are true b e = e
-both_are false b e = absurd (cc)
-
 -- ---- What is asked of a session.
 
 asked_leads : (q : ReqSetup) (h : History) (f : Free) (x : Sent) (served : List Served) (log : Log) → IsAsked q h f x → IsMade q h → AskedKept q h
@@ -99,7 +96,7 @@ asked_leads : (q : ReqSetup) (h : History) (f : Free) (x : Sent) (served : List 
 asked_leads q h f x served log a made kept =
     let held = asked_held q h f x a made in
     subst (λ (y : Sent). OwnLeads (reading_of q.psk) (at (asked_marks q h) served log) (at (content_marks (steps_at h y.aim) y.content ++ asked_marks q h) served (record_made q.psk (steps_at h y.aim) y.content ++ log))) (sym a.is)
-    (says q.psk (session_of a.id h) a.id (asked_marks q h) served log a.inner f.pad (both_are _ _ held) (held_open q h a.id made held) (rests q h a.id a.free kept held))
+    (says q.psk (session_of a.id h) a.id (asked_marks q h) served log a.inner f.pad (and_second _ _ held) (held_open q h a.id made held) (rests q h a.id a.free kept held))
 
 same_asked : (ask : Ask) (inner sealed : List ℕ) (s : Steps) → is_finish ask ≡ false → t2_of s ≡ t2_of (Asked ask inner sealed ∷ s)
 same_asked AskFinish inner sealed s n = absurd (cc)
@@ -185,10 +182,6 @@ context_chosen : (q : ReqSetup) (h : History) (d : Draw) → (command_chosen q h
 unfolding chosen
 context_chosen q h d = refl
 
-context_length : (hash : HashAlg) (d : Draw) → length d.bytes ≡ 32 → length (context_of hash d) ≡ hash_size hash
-context_length Sha256 d bytes = grind (arith, common_steps)
-context_length Sha384 d bytes = grind (arith, common_steps)
-
 size_small : (hash : HashAlg) → hash_size hash ≤ 48
 size_small Sha256 = omega arith
 size_small Sha384 = omega arith
@@ -206,7 +199,7 @@ command_read : (q : ReqSetup) (h : History) (d : Draw) (summary : ℕ) → IsReq
 command_read q h d summary setup bytes kind =
     let most : (command_chosen q h d).id ≤ 4 = id_chosen q h d in
     let hint : length q.hint ≤ 64 = setup.key.hint_most in
-    let size : length (command_chosen q h d).context ≡ hash_size (connection_terms h).choice.hash = ap (λ (l : List ℕ). length l) (context_chosen q h d) ∙ context_length (connection_terms h).choice.hash d bytes in
+    let size : length (command_chosen q h d).context ≡ hash_size (connection_terms h).choice.hash = ap (λ (l : List ℕ). length l) (context_chosen q h d) ∙ context-length (connection_terms h).choice.hash d bytes in
     let small : hash_size (connection_terms h).choice.hash ≤ 48 = size_small (connection_terms h).choice.hash in
     let opaque : length (command_chosen q h d).opaque ≤ 1024 = subst (λ (l : List ℕ). length l ≤ 1024) (sym (opaque_chosen q h d)) setup.opaque in
     exchange_read (hash_len (connection_terms h)) (PskExchange (exchange_of_command q h d summary)) (few_summary summary kind, omega arith) (record {

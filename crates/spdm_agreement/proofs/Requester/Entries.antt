@@ -32,6 +32,7 @@ use Rattle.spdm_agreement.proofs.Requester.ClearLeads.{IsClear, IsClearAim, NoEx
 use Rattle.spdm_agreement.proofs.Requester.RecordLeads.{RecordLed, record_shape}
 use Rattle.spdm_agreement.proofs.Messages.Beginnings.{is_message, is_update_of, operation_in}
 use Rattle.spdm_grammar.specs.declared.names.response_code.TheConstants.{KEY_UPDATE_ACK}
+use Rattle.spdm_basis.proofs.Bools.{and_rest}
 
 -- ---- Texts of requests.
 
@@ -117,22 +118,18 @@ CommandOutcome q h f (Adds (TookClear tag m led d)) = ⊥
 CommandOutcome q h f (Adds (TookRecord tag id sealed inner led d)) = ⊥
 CommandOutcome q h f _ = Unit {0}
 
-and_true : (a b : Bool) → (a && b) ≡ false → a ≡ true → b ≡ false
-and_true true b is a = is
-and_true false b is a = absurd (true≢false (sym a))
-
 not_false : (b : Bool) → not b ≡ false → b ≡ true
 not_false true e = refl
 not_false false e = absurd (cc)
 
 free : (worn : Bool) (q : ReqSetup) (h : History) (c : Command) (f : Free) → command_fault worn q h c f ≡ None → needs_connection c ≡ true → is_some (outstanding h) ≡ false
-free worn q h c f none needs = and_true (needs_connection c) (is_some (outstanding h)) (test_is_false worn q h c f none 1) needs
+free worn q h c f none needs = and_rest (needs_connection c) (is_some (outstanding h)) (test_is_false worn q h c f none 1) needs
 
 somewhere : (worn : Bool) (q : ReqSetup) (h : History) (c : Command) (f : Free) (id : ℕ) → command_fault worn q h c f ≡ None → session_in c ≡ Some id → is_live (session_of id h) ≡ true
 somewhere worn q h c f id none named = not_false _ (sym (ap (is_nowhere h) named) ∙ test_is_false worn q h c f none 3)
 
 connected : (worn : Bool) (q : ReqSetup) (h : History) (c : Command) (f : Free) → command_fault worn q h c f ≡ None → needs_connection c ≡ true → is_negotiated (phase_of h) ≡ true
-connected worn q h c f none needs = not_false _ (and_true (needs_connection c) (not (is_negotiated (phase_of h))) (test_is_false worn q h c f none 2) needs)
+connected worn q h c f none needs = not_false _ (and_rest (needs_connection c) (not (is_negotiated (phase_of h))) (test_is_false worn q h c f none 2) needs)
 
 begun : (q : ReqSetup) (h : History) (f : Free) (summary : ℕ) → is_some (outstanding h) ≡ false → is_negotiated (phase_of h) ≡ true → is_summary summary ≡ true → IsBegun q h f summary (request_sent (connection_terms h).common h (exchange_for q f summary))
 begun q h f summary quiet ready kind =

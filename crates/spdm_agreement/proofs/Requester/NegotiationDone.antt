@@ -12,6 +12,7 @@ use Rattle.spdm_grammar.proofs.Spellings.{read_spelling, spelling_read}
 use Rattle.spdm_agreement.proofs.Messages.RequestCodes.{given, HasGiven}
 use Rattle.spdm_agreement.proofs.Messages.Beginnings.{is_response, ends_by_itself}
 use Rattle.spdm_grammar.specs.declared.names.response_code.TheConstants.{MEASUREMENTS, CAPABILITIES, ALGORITHMS, PSK_EXCHANGE_RSP, PSK_FINISH_RSP, HEARTBEAT_ACK, KEY_UPDATE_ACK, END_SESSION_ACK, ERROR, VERSION, CHUNK_SEND_ACK}
+use Rattle.requester_machine.proofs.CapsRead.{alike, exchange_body}
 
 -- ---- A response other than PSK_EXCHANGE_RSP is spelled alike for every hash.
 
@@ -22,17 +23,6 @@ IsExchangeRsp _ = ⊥
 exchange_gives : (len : ℕ) (summary : Bool) → HasGiven IsExchangeRsp (psk_exchange_rsp_layout len summary)
 unfolding psk_exchange_rsp_layout
 exchange_gives len summary = record { are = λ _ _ _ _ _ _ _ _ _ _. tt }
-
-exchange_body : (len : ℕ) (summary : Bool) (said : ℕ) → response_body len summary said PSK_EXCHANGE_RSP ≡ psk_exchange_rsp_layout len summary
-unfolding response_body
-exchange_body len summary said = refl
-
-alike : (len : ℕ) (summary : Bool) (said code : ℕ) → (code == PSK_EXCHANGE_RSP) ≡ false → response_body len summary said code ≡ response_body 32 false said code
-unfolding response_body
-alike len summary said code e =
-    let a = ap (λ (b : Bool). cond (code == VERSION) version_layout (cond (code == ERROR) (error_layout said) (cond (code == CAPABILITIES) capabilities_layout (cond (code == ALGORITHMS) algorithms_layout (cond (code == MEASUREMENTS) measurements_layout (cond b (psk_exchange_rsp_layout len summary) (cond (code == PSK_FINISH_RSP) psk_finish_rsp_layout (cond (code == HEARTBEAT_ACK) heartbeat_ack_layout (cond (code == KEY_UPDATE_ACK) key_update_ack_layout (cond (code == END_SESSION_ACK) end_session_ack_layout (cond (code == CHUNK_SEND_ACK) chunk_send_ack_layout chunk_response_layout))))))))))) e in
-    let b = ap (λ (b : Bool). cond (code == VERSION) version_layout (cond (code == ERROR) (error_layout said) (cond (code == CAPABILITIES) capabilities_layout (cond (code == ALGORITHMS) algorithms_layout (cond (code == MEASUREMENTS) measurements_layout (cond b (psk_exchange_rsp_layout 32 false) (cond (code == PSK_FINISH_RSP) psk_finish_rsp_layout (cond (code == HEARTBEAT_ACK) heartbeat_ack_layout (cond (code == KEY_UPDATE_ACK) key_update_ack_layout (cond (code == END_SESSION_ACK) end_session_ack_layout (cond (code == CHUNK_SEND_ACK) chunk_send_ack_layout chunk_response_layout))))))))))) e in
-    a ∙ sym b
 
 body_alike : (len : ℕ) (summary : Bool) (said code : ℕ) (v : ResponseMessage) (bytes : List ℕ) (c : Bool) → (code == PSK_EXCHANGE_RSP) ≡ c → (IsExchangeRsp v → ⊥) → IsSpelling (response_body len summary said code) 2 v bytes → IsSpelling (response_body 32 false said code) 2 v bytes
 body_alike len summary said code v bytes true e other s =

@@ -26,6 +26,7 @@ use Rattle.spdm_agreement.specs.Marks as marks
 use Rattle.spdm_agreement.specs.Reading.{First}
 use Rattle.spdm_agreement.specs.Story.{asked_marks, asked_first, content_marks, next_marks, command_marks, clear_marks, taken_marks, request_text, ask_in, answer_text}
 use Rattle.spdm_agreement.proofs.Messages.Beginnings.{reading_of}
+use Rattle.spdm_basis.proofs.Bools.{and_second}
 
 -- What is known of the session of an id and the marks.
 pub record AskedAt (psk : List ℕ) (id : ℕ) (s : Steps) (m : List marks.Asked) : Type 0 where
@@ -89,12 +90,8 @@ pub record Shakes (id : ℕ) (s : Steps) : Type 0 where
   pub own : is_live s ≡ true → id_in_exchange (exchange_of s) ≡ id
   pub closed : is_past_handshake (stage_of s) ≡ false
 
-both_true : (a b : Bool) → (a && b) ≡ true → b ≡ true
-both_true true b e = e
-both_true false b e = absurd (cc)
-
 shaking : (psk : List ℕ) (id : ℕ) (s : Steps) (m : List marks.Asked) → Shakes id s → AskedAt psk id s m
-shaking psk id s m k = record { own = k.own; told = λ e. absurd (true≢false (sym (both_true _ _ e) ∙ k.closed)) }
+shaking psk id s m k = record { own = k.own; told = λ e. absurd (true≢false (sym (and_second _ _ e) ∙ k.closed)) }
 
 shakes_content : (id : ℕ) (ask : Ask) (c : Content) (s : Steps) → Shakes id s → Shakes id (with_content ask c s)
 shakes_content id ask (Clear message) s k = k

@@ -27,6 +27,7 @@ use Rattle.spdm_agreement.proofs.Messages.ResponseCodes.{answer_code}
 use Rattle.spdm_agreement.proofs.Requester.ClearLeads.{either}
 use Rattle.spdm_grammar.specs.declared.names.error_number.TheConstants.{LARGE_RESPONSE}
 use Rattle.spdm_grammar.specs.declared.names.response_code.TheConstants.{PSK_FINISH_RSP, KEY_UPDATE_ACK}
+use Rattle.requester_machine.proofs.RecordOrder.{is_same-refl, outlives-open}
 
 -- The inner message is PSK_FINISH_RSP, or KEY_UPDATE_ACK, where the effect says so.
 abbrev pub InnerTells : Effect → List ℕ → Type 0
@@ -67,24 +68,10 @@ abbrev RecordResult : ReqSetup → History → Free → Came → Ask → Result 
 RecordResult q h f came ask (Ok led) = RecordLed q h f came ask led
 RecordResult q h f came ask (Err fault) = Unit {0}
 
-same_all : (b : Bool) → is_same b b ≡ true
-same_all true = refl
-same_all false = refl
-
-outlives_open : (ask : Ask) → outlives_error ask ≡ true → stage_for ask ≡ stage.Open
-outlives_open AskFinish is = absurd (cc)
-outlives_open AskData is = refl
-outlives_open AskBeat is = refl
-outlives_open (AskUpdate all) is = absurd (cc)
-outlives_open AskVerify is = absurd (cc)
-outlives_open (AskMeasure op) is = refl
-outlives_open (AskChunk op handle number before) is = refl
-outlives_open AskEnd is = absurd (cc)
-
 -- ---- ERROR.
 
 refused : (q : ReqSetup) (h : History) (f : Free) (came : Came) (ask : Ask) (code : ℕ) → outlives_error ask ≡ true → RecordLed q h f came ask (is_refused code Nothing)
-refused q h f came ask code outlives = inl (record { brings = outlives; stays = refl; tells = tt; next = outlives_open ask outlives })
+refused q h f came ask code outlives = inl (record { brings = outlives; stays = refl; tells = tt; next = outlives-open ask outlives })
 
 gets : (q : ReqSetup) (h : History) (f : Free) (came : Came) (ask : Ask) (op : ℕ) (extended : List ℕ) → outlives_error ask ≡ true → RecordLed q h f came ask (first_get q h f came op extended)
 gets q h f came ask op extended outlives = inl (record {
@@ -95,7 +82,7 @@ gets q h f came ask op extended outlives = inl (record {
     asks = AskChunk op (slice_index extended 0) 0 [];
     inner = inner_request (ChunkGet (slice_index extended 0) 0);
     is = refl;
-    fits = outlives_open ask outlives;
+    fits = outlives-open ask outlives;
     other = refl;
     kind = inr (op, slice_index extended 0, 0, [], refl, refl);
   };
@@ -121,7 +108,7 @@ error q h f came AskEnd code extended = tt
 
 updated : (q : ReqSetup) (h : History) (f : Free) (came : Came) (all echo : Bool) → slice_index came.inner 0 ≡ 5 → slice_index (message_in came) 1 ≡ KEY_UPDATE_ACK → RecordResult q h f came (AskUpdate all) (update_led q h f came all echo)
 updated q h f came all true five code = inl (record {
-  brings = same_all all;
+  brings = is_same-refl all;
   stays = refl;
   tells = (five, code);
   next = record {

@@ -30,6 +30,8 @@ use Rattle.spdm_agreement.proofs.Requester.OpenSessions.{IsSteady, CommandSteady
 use Rattle.spdm_agreement.proofs.Requester.ClearLeads.{IsClearAim, NoExchange, NextClear, IsPlain}
 use Rattle.spdm_agreement.proofs.Requester.Entries.{CommandShape, IsAsked, IsTookClear, IsTookRecord, told_shape, clear_entry, record_entry}
 use Rattle.spdm_agreement.proofs.Requester.RecordLeads.{NextRecord}
+use Rattle.requester_machine.proofs.FewMade.{waits_clear}
+use Rattle.requester_machine.proofs.Steps.{asked_stage, opening_stage}
 
 -- ---- Aims.
 
@@ -38,12 +40,6 @@ clear_aim (Plain request) asked e = tt
 clear_aim (ByChunks request handle number) asked e = tt
 clear_aim (ForChunk request handle number before) asked e = tt
 clear_aim (InSession id ask) asked e = absurd (cc)
-
-pub waits_clear : (id : ℕ) (aim : Aim) (asked : RequestMessage) → asked_in aim ≡ Some asked → waits_aim id aim ≡ waits_asked id asked
-waits_clear id (Plain request) asked e = (let same : request ≡ asked = cc in ap (waits_asked id) same)
-waits_clear id (ByChunks request handle number) asked e = (let same : request ≡ asked = cc in ap (waits_asked id) same)
-waits_clear id (ForChunk request handle number before) asked e = (let same : request ≡ asked = cc in ap (waits_asked id) same)
-waits_clear id (InSession of ask) asked e = absurd (cc)
 
 no_waits : (id : ℕ) (asked : RequestMessage) → NoExchange (Some asked) → waits_asked id asked ≡ Rests
 no_waits id (PskExchange exchange) n = absurd n
@@ -183,21 +179,6 @@ opening w (x ∷ s) e l fits = subst (λ (y : Waits). FitsWaits y (x ∷ s)) e f
 pub recording : (w : Waits) (ask : Ask) (s : Steps) → w ≡ ForRecord ask → LiveAs w s → FitsWaits w s → waiting_ask s ≡ Some ask
 recording w ask [] e l fits = absurd (true≢false (sym (subst (λ (x : Waits). LiveAs x []) e l)))
 recording w ask (x ∷ s) e l fits = subst (λ (y : Waits). FitsWaits y (x ∷ s)) e fits
-
-pub opening_stage : (s : Steps) → is_opening s ≡ true → stage_of s ≡ stage.Handshake
-opening_stage [] is = absurd (cc)
-opening_stage (Started n x ∷ []) is = refl
-opening_stage (Started n x ∷ (step ∷ older)) is = absurd (cc)
-opening_stage (Accepted a ∷ older) is = absurd (cc)
-opening_stage (Asked ask inner sealed ∷ older) is = absurd (cc)
-opening_stage (Took sealed inner effect ∷ older) is = absurd (cc)
-
-pub asked_stage : (ask : Ask) (s : Steps) → IsOrdered s → waiting_ask s ≡ Some ask → (stage_of s ≡ stage_for ask) × (is_accepted s ≡ true)
-asked_stage ask [] ordered waits = absurd (cc)
-asked_stage ask (Started n x ∷ older) ordered waits = absurd (cc)
-asked_stage ask (Accepted a ∷ older) ordered waits = absurd (cc)
-asked_stage ask (Asked other inner sealed ∷ older) ordered waits = (let same : other ≡ ask = cc waits in (ordered.0 ∙ ap stage_for same, ordered.1))
-asked_stage ask (Took sealed inner effect ∷ older) ordered waits = absurd (cc)
 
 -- ---- What is sent is no PSK_FINISH.
 

@@ -21,10 +21,10 @@ use Rattle.spdm_agreement.specs.Story.{served_first, served_turn, record_marks, 
 use Rattle.spdm_agreement.proofs.Moves.Invariant.{Invariant}
 use Rattle.spdm_agreement.proofs.Moves.Runs.{same_finished}
 use Rattle.spdm_agreement.proofs.Responder.OpenSessions.{ServedAt, EndsByFinish, same_second}
-use Rattle.spdm_agreement.proofs.Messages.Beginnings.{reading_of, both}
+use Rattle.spdm_agreement.proofs.Messages.Beginnings.{reading_of}
 use Rattle.spdm_agreement.proofs.Responder.Replies.{updates_in, operation_known}
 use Rattle.spdm_agreement.proofs.Delivery.Data.{verifying}
-use Rattle.std.proofs.lemmas.Bool.{leb-true}
+use Rattle.std.proofs.lemmas.Bool.{leb-true, and_parts}
 use Rattle.std.specs.Prelude.{nat_le}
 use Rattle.spdm_grammar.specs.Fields.{is_key_operation}
 use Rattle.responder_machine.specs.Records.{opened}
@@ -100,7 +100,7 @@ by_operation op old true b c x y z e = subst (λ (n : ℕ). cond (n == 3) false 
 by_operation op old false true c x y z e = subst (λ (n : ℕ). cond (n == 3) false true ≡ cond (n == 1 || n == 2) true (cond (n == 3) false old)) (sym (eqb-true op 2 y)) refl
 by_operation op old false false true x y z e = subst (λ (n : ℕ). cond (n == 3) false true ≡ cond (n == 1 || n == 2) true (cond (n == 3) false old)) (sym (eqb-true op 3 z)) refl
 by_operation op old false false false x y z e =
-    let l = both (nat_le 1 op) (nat_le op 3) e in
+    let l = and_parts (nat_le 1 op) (nat_le op 3) e in
     let least = leb-true 1 op l.0 in
     let most = leb-true op 3 l.1 in
     let no_one : op ≡ 1 → ⊥ = λ is. true≢false (sym (eq-eqb op 1 is) ∙ x) in
