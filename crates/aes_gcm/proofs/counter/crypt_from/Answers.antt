@@ -4,7 +4,7 @@ use Rattle.std.proofs.lemmas.Bool.{cases_lt}
 use Rattle.std.proofs.lemmas.List.FromFn.{fill_by_all}
 use Rattle.aes_gcm.specs.Gcm.{stream_block}
 use Rattle.aes_gcm.specs.Behind.{crypted_behind}
-use Rattle.aes_gcm.proofs.counter.crypt_behind.Goals as goal
+use Rattle.aes_gcm.proofs.counter.crypt_from.Goals as goal
 
 pub returns-then-text-gt0 : goal.returns-then-text-gt0
 returns-then-text-gt0 c =
