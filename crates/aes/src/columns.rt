@@ -20,7 +20,10 @@ fn mixed(a: u8, b: u8, c: u8, d: u8) -> u32
 fn substituted(a: u8, b: u8, c: u8, d: u8) -> u32
     ensures { big_bytes 4 result ≡ sub_bytes (a ∷ b ∷ c ∷ d ∷ []) }
 {
-    u32::from_be_bytes([substitute(a), substitute(b), substitute(c), substitute(d)])
+    substitute(a) as u32 * (1 << 24)
+        + substitute(b) as u32 * (1 << 16)
+        + substitute(c) as u32 * (1 << 8)
+        + substitute(d) as u32
 }
 
 /// A state as four numbers, one for each column. The byte of the first row is the highest (FIPS 197,
@@ -64,10 +67,9 @@ impl Columns {
     pub fn block(&self) -> u128
         ensures { block_bytes result ≡ bytes_of self.now }
     {
-        self.first as u128 * (1 << 96)
-            + self.second as u128 * (1 << 64)
-            + self.third as u128 * (1 << 32)
-            + self.fourth as u128
+        let left = self.first as u64 * (1 << 32) + self.second as u64;
+        let right = self.third as u64 * (1 << 32) + self.fourth as u64;
+        left as u128 * (1 << 64) + right as u128
     }
 
     /// AddRoundKey (FIPS 197, section 5.1.4).

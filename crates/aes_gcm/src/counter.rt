@@ -54,21 +54,31 @@ fn next_block(aes: &Aes, iv: &[u8; 12], begun: &mut Begun, counter: u32) -> u128
     begun_block(aes, iv, begun, counter)
 }
 
-// The sum of 16 bytes and a block of the key stream.
-fn masked(bytes: &[u8], stream: u128) -> u128
-    requires { length bytes.now ≡ 16 }
-    ensures { (k : ℕ) → k < 16 → slice_index (block_bytes result) k ≡ bit_xor (slice_index bytes.now k) (slice_index (block_bytes stream) k) }
+// The sum of eight bytes and half a block of the key stream.
+fn masked(bytes: &[u8], stream: u64) -> u64
+    requires { length bytes.now ≡ 8 }
+    ensures { (k : ℕ) → k < 8 → slice_index (big_bytes 8 result) k ≡ bit_xor (slice_index bytes.now k) (slice_index (big_bytes 8 stream) k) }
 {
-    BigEndian::read_u128(bytes) ^ stream
+    BigEndian::read_u64(bytes) ^ stream
 }
 
-// Encrypts or decrypts 16 bytes in place.
-fn mask(bytes: &mut [u8], stream: u128)
-    requires { length bytes.old ≡ 16 }
-    ensures { (k : ℕ) → k < 16 → slice_index bytes.new k ≡ bit_xor (slice_index bytes.old k) (slice_index (block_bytes stream) k) }
+// Encrypts or decrypts eight bytes in place.
+fn mask_half(bytes: &mut [u8], stream: u64)
+    requires { length bytes.old ≡ 8 }
+    ensures { (k : ℕ) → k < 8 → slice_index bytes.new k ≡ bit_xor (slice_index bytes.old k) (slice_index (big_bytes 8 stream) k) }
 {
     let sum = masked(bytes, stream);
-    BigEndian::write_u128(bytes, sum);
+    BigEndian::write_u64(bytes, sum);
+}
+
+// Encrypts or decrypts in place the eight bytes from `at` on.
+fn mask(text: &mut [u8], at: usize, stream: u64)
+    requires { at + 8 ≤ length text.old }
+    ensures here { (k : ℕ) → at ≤ k → k < at + 8 → slice_index text.new k ≡ bit_xor (slice_index text.old k) (slice_index (big_bytes 8 stream) (k - at)) }
+    ensures before { (k : ℕ) → k < at → slice_index text.new k ≡ slice_index text.old k }
+    ensures behind { (k : ℕ) → at + 8 ≤ k → slice_index text.new k ≡ slice_index text.old k }
+{
+    mask_half(&mut text[at..at + 8], stream);
 }
 
 // Encrypts or decrypts in place block `n` of a text that stands behind `first` blocks, where what was begun
@@ -83,7 +93,8 @@ fn crypt_block(aes: &Aes, iv: &[u8; 12], begun: &mut Begun, first: usize, text: 
     ensures begun { HasBegun begun.new aes.now iv.now (first + n + 2) }
 {
     let stream = next_block(aes, iv, begun, (first + n) as u32 + 2);
-    mask(&mut text[16 * n..16 * n + 16], stream);
+    mask(text, 16 * n, (stream >> 64) as u64);
+    mask(text, 16 * n + 8, (stream % (1 << 64)) as u64);
 }
 
 // Encrypts or decrypts in place what a text that stands behind `first` blocks has behind its `n` whole
