@@ -12,7 +12,7 @@ use Rattle.aes.specs.Words.{block_bytes}
 use Rattle.aes.specs.declared.columns.Columns.{Columns}
 use Rattle.aes.specs.Words.{bytes_of}
 use Rattle.aes.proofs.ColumnSums.{big_bytes-column}
-use Rattle.aes.proofs.StateBytes.{number-bytes, block_bytes-big_number}
+use Rattle.aes.proofs.StateBytes.{number-bytes}
 use Rattle.ghash.specs.Hash.{block_number}
 use Rattle.aes_gcm.specs.Gcm.{stream_block}
 use Rattle.aes_gcm.specs.Behind.{crypted_behind}
