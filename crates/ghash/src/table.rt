@@ -45,8 +45,9 @@ fn window(half: u64, at: u32) -> usize
     ((half >> at) % 64) as usize
 }
 
-/// The product of `a` with the block `b`, whose table is given: six coefficients at a time of both halves of
-/// `a`, from the first 30 coefficients of each and from the others side by side.
+/// The product of `a` with the block `b`, whose table is given. It goes by six coefficients of each half of
+/// `a`, in two sums that do not wait for each other: one over the first 30 coefficients of both halves, and one
+/// over the others.
 pub fn multiply_by_table(a: u128, table: &[u128; 64], b: u128) -> u128
     requires { IsTable table.now b }
     ensures { result ≡ product a b }

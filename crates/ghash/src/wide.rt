@@ -1,5 +1,5 @@
-/// A sum of 256 coefficients, that of x^0 the highest bit of `high`. It stands for a block: for the sum of
-/// x^j over its coefficients that are set, moved to where its maker says.
+/// A sum of blocks that is not yet folded: 256 coefficients, that of x^0 the highest bit of `high` and that
+/// of x^128 the highest of `low`.
 #[derive(Clone, Copy)]
 pub struct Wide {
     pub high: u128,
@@ -10,7 +10,7 @@ impl Wide {
     ghost use Rattle.std.specs.Prelude.{ℕ, ◌≡◌, ◌+◌, ◌-◌, ◌*◌, ◌^◌, ◌<◌, ◌≤◌, bit_xor, length, slice_index};
     ghost use Rattle.ghash.specs.Windows.{number_of, moved};
 
-    /// Each coefficient `n` places to the left.
+    /// The sum with each coefficient `n` places to the left, where none falls out.
     pub fn shifted(&self, n: u32) -> Wide
         requires some { 0 < n }
         requires less { n < 128 }
@@ -35,8 +35,8 @@ impl Wide {
         }
     }
 
-    /// The sum six places to the left, with two more blocks: one whose last coefficient is the 64th from the
-    /// end, and one at the end.
+    /// The sum six places to the left, and with it two more blocks: `lower` at its end, and `upper` 64 places
+    /// to the left of there.
     pub fn next(&self, upper: u128, lower: u128) -> Wide
         requires { self.now.high < 2 ^ 122 }
         ensures value { number_of result ≡ bit_xor (number_of self.now * 64) (bit_xor (upper * 2 ^ 64) lower) }
@@ -48,7 +48,8 @@ impl Wide {
         })
     }
 
-    /// The block that the sum stands for where x^128 is its lowest bit but 127: x^128 is x^7 + x^2 + x + 1.
+    /// The block of the sum. x^128 is x^7 + x^2 + x + 1, so that each coefficient of `low` counts at four
+    /// places, and the last seven come round once more.
     pub fn folded(&self) -> u128
         ensures { result ≡ moved 128 (number_of self.now) }
     {
