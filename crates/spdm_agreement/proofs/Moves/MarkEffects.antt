@@ -91,8 +91,11 @@ asks_open r h t u f right i = record {
   waits = i.waits;
   once = i.once;
   apart = i.apart;
-  seconds = (λ s o. (let was = i.opened s u o in
-      (i.finishes t f).2 u (subst (λ (z : First). IsOpened h z u) (r.second_tells s t (i.well s was.0) (i.well t (i.finishes t f).0) (sym was.1 ∙ right)) o)), i.seconds);
+  seconds = (
+    λ s o. (let was = i.opened s u o in
+        (i.finishes t f).2 u (subst (λ (z : First). IsOpened h z u) (r.second_tells s t (i.well s was.0) (i.well t (i.finishes t f).0) (sym was.1 ∙ right)) o)),
+    i.seconds,
+  );
   well = i.well;
   finishes = λ y e. absurd (none_some _ e);
   opens = λ id y e. open_opens r _ h t u id y i f refl e;
