@@ -1,0 +1,6 @@
+mod FirstLine
+mod EndPointLemmas
+mod LineWords
+mod HexLengths
+mod Requesters
+mod Letters

@@ -1,0 +1,12 @@
+pub mod Lines
+pub mod Numbers
+pub mod HexWords
+pub mod Choices
+pub mod EndPoints
+pub mod Tests
+pub mod Measured
+pub mod Configuring
+pub mod Commands
+pub mod EventLines
+pub mod Reading
+pub mod ConfigText

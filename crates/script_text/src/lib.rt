@@ -1,0 +1,25 @@
+//! Every text that the program reads, and every line that it prints.
+#![tactic(auto)]
+
+mod block_line;
+mod choices;
+mod command;
+mod config;
+mod config_kind;
+mod config_text;
+mod end_line;
+mod end_numbers;
+mod event;
+mod event_kind;
+mod faults;
+mod given;
+mod hex_words;
+mod lines;
+mod numbers;
+mod opaque_line;
+mod reader;
+mod requester_line;
+mod responder_line;
+mod seed_line;
+mod suite_line;
+mod words;
