@@ -10,3 +10,4 @@ pub mod Commands
 pub mod EventLines
 pub mod Reading
 pub mod ConfigText
+pub mod ScriptText

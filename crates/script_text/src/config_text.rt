@@ -33,8 +33,11 @@ impl LineReader for Given {
         take_config(alloc, false, self, kind, line)
     }
 
-    fn finish(self, alloc: Global) -> Option<ScriptConfig> {
-        self.config(alloc)
+    fn finish(self, alloc: Global) -> Result<ScriptConfig, LineError> {
+        match self.config(alloc) {
+            Some(config) => Ok(config),
+            None => Err(LineError::Fault(LineFault::Incomplete)),
+        }
     }
 }
 

@@ -2,6 +2,7 @@
 #![tactic(auto)]
 
 mod block_line;
+mod capture_text;
 mod choices;
 mod command;
 mod config;
@@ -15,11 +16,14 @@ mod faults;
 mod given;
 mod hex_words;
 mod lines;
+mod lives_text;
 mod numbers;
 mod opaque_line;
 mod reader;
 mod requester_line;
 mod responder_line;
+mod script;
+mod script_text;
 mod seed_line;
 mod suite_line;
 mod words;

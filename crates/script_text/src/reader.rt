@@ -1,8 +1,10 @@
-ghost use Rattle.std.specs.Prelude.{◌≡◌, ◌+◌, ◌^◌, ◌<◌, ℕ, List, Option, OnOk, length};
+ghost use Rattle.std.specs.Prelude.{◌≡◌, ◌+◌, ◌^◌, ◌<◌, ◌⊎◌, ℕ, List, Option, Some, None, IfOk, IfErr, OnOk, length};
 ghost use Rattle.script_text.specs.Lines.{lines_of};
 ghost use Rattle.script_text.specs.Reading.{line_fault, after_line, told_of, read_lines, IsReading};
 ghost use Rattle.script_text.specs.Tests.{IsAnswerTo};
 ghost use Rattle.script_text.specs.declared.faults.LineFault.{LineFault};
+ghost use Rattle.script_text.specs.declared.faults.LineFault.TheVariants.{Incomplete};
+ghost use Rattle.script_text.specs.declared.faults.LineError.TheVariants.{Fault, NoMemory};
 
 use crate::faults::{LineError, LineFault, ScriptFault};
 use crate::lines::{is_passed_over, is_too_long, next_line};
@@ -28,8 +30,9 @@ pub trait LineReader: Drop {
         ensures after { OnOk result (self.new ≡ after self.old number line.now) };
 
     /// Ends the text.
-    fn finish(self, alloc: Global) -> Option<Self::Whole>
-        ensures { result ≡ whole self };
+    fn finish(self, alloc: Global) -> Result<Self::Whole, LineError>
+        ensures ok { IfOk result (λ v. whole self ≡ Some v) }
+        ensures missing { IfErr result (λ e. (e ≡ NoMemory) ⊎ ((e ≡ Fault Incomplete) × (whole self ≡ None))) };
 }
 
 // Takes a line of any kind.
@@ -84,5 +87,5 @@ pub fn read_text<R: LineReader>(
     }
     reader
         .finish(alloc)
-        .ok_or(ScriptFault::Line(number, LineFault::Incomplete))
+        .map_err(|error| told(number, error))
 }
