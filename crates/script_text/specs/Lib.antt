@@ -11,3 +11,5 @@ pub mod EventLines
 pub mod Reading
 pub mod ConfigText
 pub mod ScriptText
+pub mod CommandText
+pub mod PolicyText

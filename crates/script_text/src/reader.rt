@@ -54,8 +54,8 @@ fn take_line<R: LineReader>(
     reader.take(alloc, number, line)
 }
 
-// The error of a line, as it is told of a text.
-fn told(number: u32, error: LineError) -> ScriptFault
+/// The error of a line, as it is told of a text.
+pub fn told(number: u32, error: LineError) -> ScriptFault
     ensures { result ≡ told_of number error }
 {
     match error {
