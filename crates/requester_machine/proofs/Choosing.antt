@@ -6,8 +6,8 @@ use Rattle.spdm_basis.specs.Sizes.{hash_size}
 use Rattle.spdm_basis.specs.declared.hash_alg.HashAlg.{HashAlg}
 use Rattle.spdm_basis.specs.declared.hash_alg.HashAlg.TheVariants.{Sha256, Sha384}
 use Rattle.spdm_machine.specs.Keys.{Draw, context_of}
-use Rattle.spdm_machine.specs.Place.{one_if}
-use Rattle.spdm_machine.specs.Setup.{ReqSetup}
+use Rattle.spdm_machine.specs.Sessions.{one_if}
+use Rattle.requester_machine.specs.Setup.{ReqSetup}
 use Rattle.requester_machine.specs.Commands.{live_count}
 use Rattle.requester_machine.specs.Does.{chosen, free_id, command_chosen, body_chosen}
 use Rattle.requester_machine.specs.History.{History, connection_terms}

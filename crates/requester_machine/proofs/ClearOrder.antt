@@ -18,7 +18,7 @@ use Rattle.spdm_grammar.specs.declared.event.Stop.TheVariants as stop
 use Rattle.spdm_grammar.specs.declared.malformed.Malformed.{Malformed}
 use Rattle.spdm_grammar.specs.declared.part_faults.CapsFault.{CapsFault}
 use Rattle.spdm_grammar.specs.declared.part_faults.ChunkFault.{ChunkFault}
-use Rattle.spdm_machine.specs.Setup.{ReqSetup}
+use Rattle.requester_machine.specs.Setup.{ReqSetup}
 use Rattle.requester_machine.specs.Answers.{goes_on, is_refused, stopped, error_led, version_led, offer_led, caps_led, algorithms_led, exchange_led, answer_led, answer_verify, with_answer, may_be_large}
 use Rattle.requester_machine.specs.Bodies.{error_in, first_cause}
 use Rattle.requester_machine.specs.ClearAnswers.{Carried, ack_tests, acknowledged, ack_carries, collected, get_fault, chunk_carries, carried_by, carried_led, read_led, reading_of, clear_led}

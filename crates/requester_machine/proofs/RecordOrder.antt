@@ -9,7 +9,7 @@ use Rattle.spdm_grammar.specs.declared.event.BadReply.{BadReply}
 use Rattle.spdm_grammar.specs.declared.malformed.Malformed.{Malformed}
 use Rattle.spdm_grammar.specs.declared.part_faults.ChunkFault.{ChunkFault}
 use Rattle.spdm_grammar.specs.declared.phase.Stage.TheVariants as stage
-use Rattle.spdm_machine.specs.Setup.{ReqSetup}
+use Rattle.requester_machine.specs.Setup.{ReqSetup}
 use Rattle.requester_machine.specs.Answers.{is_refused}
 use Rattle.requester_machine.specs.ClearAnswers.{get_fault}
 use Rattle.requester_machine.specs.Commands.{Free, has_reached}

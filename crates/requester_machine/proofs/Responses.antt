@@ -6,8 +6,8 @@ use Rattle.key_schedule.specs.Purpose.{Purpose, application_record}
 use Rattle.key_schedule.specs.declared.direction.Direction.TheVariants.{Response}
 use Rattle.spdm_grammar.specs.declared.phase.Stage.{Stage}
 use Rattle.spdm_grammar.specs.declared.phase.Stage.TheVariants as stage
-use Rattle.spdm_machine.specs.Records.{purpose_in}
-use Rattle.spdm_machine.specs.Session.{is_past_handshake}
+use Rattle.spdm_machine.specs.Sessions.{purpose_in}
+use Rattle.spdm_machine.specs.Sessions.{is_past_handshake}
 use Rattle.requester_machine.specs.History.{Effect}
 use Rattle.requester_machine.specs.History.Effect.{Nothing, Answers, Refuses, Stops, Grants, Loses}
 use Rattle.requester_machine.specs.Laws.{is_same_purpose, is_same_kind}

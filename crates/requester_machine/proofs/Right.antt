@@ -17,7 +17,7 @@ use Rattle.spdm_grammar.specs.declared.event.ReqIgnored.{ReqIgnored}
 use Rattle.spdm_grammar.specs.declared.event.ReqIgnored.TheVariants as ignored
 use Rattle.spdm_grammar.specs.declared.malformed.Malformed.{Malformed}
 use Rattle.spdm_machine.specs.Keys.{Draw, record_fault}
-use Rattle.spdm_machine.specs.Setup.{ReqSetup}
+use Rattle.requester_machine.specs.Setup.{ReqSetup}
 use Rattle.spdm_machine.specs.TagLog.{Act, record_tag, record_input}
 use Rattle.spdm_machine.specs.TagLog.Act.{Checked}
 use Rattle.requester_machine.specs.Answers.{answer_verify, with_answer}

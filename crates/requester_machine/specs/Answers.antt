@@ -20,7 +20,7 @@ use Rattle.spdm_grammar.specs.declared.event.Stop.{Stop}
 use Rattle.spdm_grammar.specs.declared.event.Stop.TheVariants as stop
 use Rattle.spdm_grammar.specs.declared.part_faults.CapsFault.{CapsFault}
 use Rattle.spdm_machine.specs.Keys.{verify_data}
-use Rattle.spdm_machine.specs.Setup.{ReqSetup, requester_caps}
+use Rattle.requester_machine.specs.Setup.{ReqSetup, requester_caps}
 use Rattle.requester_machine.specs.Commands.{Free}
 use Rattle.requester_machine.specs.History.{History, Effect, Led, connection_terms}
 use Rattle.requester_machine.specs.History.Effect.{Nothing, Answers, Refuses, Stops}

@@ -5,7 +5,7 @@ use Rattle.spdm_grammar.specs.declared.command_fault.CommandFault.{CommandFault}
 use Rattle.spdm_grammar.specs.declared.command_fault.CommandFault.TheVariants as fault
 use Rattle.spdm_grammar.specs.declared.event.ReqIgnored.{ReqIgnored}
 use Rattle.spdm_machine.specs.Keys.{Draw}
-use Rattle.spdm_machine.specs.Setup.{ReqSetup}
+use Rattle.requester_machine.specs.Setup.{ReqSetup}
 use Rattle.requester_machine.specs.Commands.{Free, command_fault, exchange_for}
 use Rattle.requester_machine.specs.History.{History, Entry, outstanding, connection_terms}
 use Rattle.requester_machine.specs.History.Entry.{Told}

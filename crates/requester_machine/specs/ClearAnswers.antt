@@ -13,7 +13,7 @@ use Rattle.spdm_grammar.specs.declared.event.ReqIgnored.TheVariants as ignored
 use Rattle.spdm_grammar.specs.declared.malformed.Malformed.{Malformed}
 use Rattle.spdm_grammar.specs.declared.part_faults.ChunkFault.{ChunkFault}
 use Rattle.spdm_grammar.specs.declared.part_faults.ChunkFault.TheVariants as chunk
-use Rattle.spdm_machine.specs.Setup.{ReqSetup}
+use Rattle.requester_machine.specs.Setup.{ReqSetup}
 use Rattle.spdm_machine.specs.Terms.{hash_len}
 use Rattle.requester_machine.specs.Answers.{answer_led, goes_on, is_refused}
 use Rattle.requester_machine.specs.Bodies.{first_cause, error_in}

@@ -9,8 +9,8 @@ use Rattle.spdm_grammar.specs.declared.command_fault.CommandFault.{CommandFault}
 use Rattle.spdm_grammar.specs.declared.command_fault.CommandFault.TheVariants as fault
 use Rattle.spdm_grammar.specs.declared.phase.Phase.{Phase}
 use Rattle.spdm_grammar.specs.declared.phase.Phase.TheVariants.{Fresh, Versioned, Capable, Negotiated}
-use Rattle.spdm_machine.specs.Place.{one_if}
-use Rattle.spdm_machine.specs.Setup.{ReqSetup}
+use Rattle.spdm_machine.specs.Sessions.{one_if}
+use Rattle.requester_machine.specs.Setup.{ReqSetup}
 use Rattle.spdm_machine.specs.Terms.{Terms}
 use Rattle.requester_machine.specs.History.{History, outstanding, phase_of, connection_terms, is_open}
 use Rattle.requester_machine.specs.Message.{Command}

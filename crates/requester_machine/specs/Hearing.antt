@@ -4,7 +4,7 @@ use Rattle.spdm_basis.specs.declared.record_fault.RecordFault.{RecordFault}
 use Rattle.spdm_grammar.specs.declared.event.ReqIgnored.{ReqIgnored}
 use Rattle.spdm_grammar.specs.declared.event.ReqIgnored.TheVariants as ignored
 use Rattle.spdm_machine.specs.Keys.{Draw}
-use Rattle.spdm_machine.specs.Setup.{ReqSetup}
+use Rattle.requester_machine.specs.Setup.{ReqSetup}
 use Rattle.requester_machine.specs.Asking.{Outcome}
 use Rattle.requester_machine.specs.Asking.Outcome.{Ignores, Warns, Adds}
 use Rattle.requester_machine.specs.Bodies.{body_fault, is_clear, error_in}

@@ -7,7 +7,7 @@ use Rattle.spdm_grammar.specs.declared.event.Event.{Event}
 use Rattle.spdm_grammar.specs.declared.phase.Phase.{Phase}
 use Rattle.spdm_grammar.specs.declared.phase.Phase.TheVariants.{Fresh, Versioned, Capable, Negotiated}
 use Rattle.spdm_machine.specs.Keys.{Draw}
-use Rattle.spdm_machine.specs.Setup.{ReqSetup}
+use Rattle.requester_machine.specs.Setup.{ReqSetup}
 use Rattle.spdm_machine.specs.Terms.{Terms, no_negotiation, terms_of}
 use Rattle.transcript.specs.Transcripts.{Negotiation}
 use Rattle.requester_machine.specs.Message.{Command, Ask, Aim, Sent}

@@ -1,3 +1,4 @@
+pub mod Setup
 pub mod Message
 pub mod History
 pub mod Session
@@ -17,3 +18,4 @@ pub mod RequesterLog
 pub mod Order
 pub mod Laws
 pub mod ResponseLaws
+pub mod Requesting

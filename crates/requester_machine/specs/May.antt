@@ -1,7 +1,7 @@
 -- What any requester of this profile may do: the same outcome, at any values that are left free.
 use Rattle.std.specs.Prelude.{◌≡◌, ◌≢◌, ◌≤◌, ◌+◌, ℕ, List, length, Bool, false}
 use Rattle.spdm_machine.specs.Keys.{Draw}
-use Rattle.spdm_machine.specs.Setup.{ReqSetup}
+use Rattle.requester_machine.specs.Setup.{ReqSetup}
 use Rattle.spdm_machine.specs.Terms.{hash_len}
 use Rattle.requester_machine.specs.Asking.{Outcome, asks}
 use Rattle.requester_machine.specs.Commands.{Free, live_count}

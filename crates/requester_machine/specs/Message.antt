@@ -1,7 +1,7 @@
 -- What a requester is told to do, what it sends, and what each message that it sends asks for.
 use Rattle.std.specs.Prelude.{ℕ, List, Bool, Option, Some, None}
 use Rattle.spdm_grammar.specs.Message.{RequestMessage, ChunkMessage}
-use Rattle.spdm_machine.specs.Responder.{clear_body, record_body}
+use Rattle.spdm_machine.specs.Bodies.{clear_body, record_body}
 
 -- The commands of a requester. Negotiate anew; open a session, with a measurement summary of a kind; send
 -- application data; send a heartbeat; update the request key, or all keys; ask for measurements, in the

@@ -5,7 +5,7 @@ use Rattle.key_schedule.specs.Purpose.{Purpose}
 use Rattle.key_schedule.specs.declared.direction.Direction.TheVariants.{Request, Response}
 use Rattle.spdm_basis.specs.declared.record_fault.RecordFault.{RecordFault}
 use Rattle.spdm_machine.specs.Keys.{record_fault, inner_message, sealed_of}
-use Rattle.spdm_machine.specs.Records.{purpose_in}
+use Rattle.spdm_machine.specs.Sessions.{purpose_in}
 use Rattle.requester_machine.specs.Message.{Ask}
 use Rattle.requester_machine.specs.Message.Ask.{AskUpdate}
 use Rattle.requester_machine.specs.Session.{Steps, stage_of, t1_of, t2_of, request_epoch, response_epoch, request_next, response_next, id_bytes, session_terms}

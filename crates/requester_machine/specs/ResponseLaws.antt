@@ -2,7 +2,7 @@
 -- number"; the laws are this project's own.
 use Rattle.std.specs.Prelude.{◌≡◌, ◌+◌, ℕ, List, [], ◌∷◌, if◌then◌else◌, true}
 use Rattle.key_schedule.specs.Purpose.{Purpose}
-use Rattle.spdm_machine.specs.Setup.{ReqSetup}
+use Rattle.requester_machine.specs.Setup.{ReqSetup}
 use Rattle.requester_machine.specs.Does.{IsMade}
 use Rattle.requester_machine.specs.History.{History, Effect}
 use Rattle.requester_machine.specs.History.Effect.{Grants}

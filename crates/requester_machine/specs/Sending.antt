@@ -7,7 +7,7 @@ use Rattle.spdm_grammar.specs.Message.{RequestMessage, ChunkMessage}
 use Rattle.spdm_grammar.specs.Message.RequestMessage.{PskFinish, KeyUpdate, ChunkSend, ChunkGet}
 use Rattle.spdm_grammar.specs.Requests.{canonical_request}
 use Rattle.spdm_machine.specs.Keys.{verify_data}
-use Rattle.spdm_machine.specs.Setup.{ReqSetup}
+use Rattle.requester_machine.specs.Setup.{ReqSetup}
 use Rattle.requester_machine.specs.History.{History, next_tag, next_handle}
 use Rattle.requester_machine.specs.Message.{Ask, Aim, Sent}
 use Rattle.requester_machine.specs.Message.Aim.{Plain, ByChunks, ForChunk, InSession}

@@ -7,7 +7,8 @@ use Rattle.spdm_grammar.specs.Message.ResponseMessage.{Measurements}
 use Rattle.spdm_grammar.specs.declared.command_fault.CommandFault.{CommandFault}
 use Rattle.spdm_grammar.specs.declared.event.Event.{Event}
 use Rattle.spdm_grammar.specs.declared.event.Event.TheVariants as event
-use Rattle.spdm_machine.specs.Heard.{View, transcript_in}
+use Rattle.spdm_grammar.specs.View.{View}
+use Rattle.spdm_machine.specs.Sessions.{transcript_in}
 use Rattle.spdm_machine.specs.Terms.{response_value}
 use Rattle.requester_machine.specs.Asking.{Outcome}
 use Rattle.requester_machine.specs.Asking.Outcome.{Fails, Ignores, Warns, Resends, Adds}

@@ -6,7 +6,7 @@ use Rattle.spdm_grammar.specs.declared.command_fault.CommandFault.{CommandFault}
 use Rattle.spdm_grammar.specs.declared.event.ReqIgnored.{ReqIgnored}
 use Rattle.spdm_grammar.specs.declared.event.ReqIgnored.TheVariants as ignored
 use Rattle.spdm_machine.specs.Keys.{Draw}
-use Rattle.spdm_machine.specs.Setup.{ReqSetup}
+use Rattle.requester_machine.specs.Setup.{ReqSetup}
 use Rattle.requester_machine.specs.Asking.{Outcome, asks, asks_by, done, resent}
 use Rattle.requester_machine.specs.Asking.Outcome.{Ignores, Warns, Adds}
 use Rattle.requester_machine.specs.Bodies.{body_fault, first_cause, is_clear, is_record, is_out_of_place, error_in}

@@ -5,8 +5,8 @@ use Rattle.spdm_grammar.specs.Message.RequestMessage.{PskExchange}
 use Rattle.spdm_grammar.specs.Requests.{canonical_request}
 use Rattle.spdm_grammar.specs.declared.phase.Stage.{Stage}
 use Rattle.spdm_grammar.specs.declared.phase.Stage.TheVariants as stage
-use Rattle.spdm_machine.specs.Session.{is_past_handshake, id_in_exchange}
-use Rattle.spdm_machine.specs.Setup.{ReqSetup}
+use Rattle.spdm_machine.specs.Sessions.{is_past_handshake, id_in_exchange}
+use Rattle.requester_machine.specs.Setup.{ReqSetup}
 use Rattle.requester_machine.specs.History.{History, Effect, Led, outstanding, negotiation_of}
 use Rattle.requester_machine.specs.History.Effect.{Answers, Refuses}
 use Rattle.requester_machine.specs.History.Entry.{Told, TookClear, TookRecord}

@@ -27,8 +27,8 @@ use Rattle.spdm_grammar.proofs.Spellings.{spelling_read}
 use Rattle.spdm_grammar.specs.declared.phase.Stage.{Stage}
 use Rattle.spdm_grammar.specs.declared.phase.Stage.TheVariants as stage
 use Rattle.spdm_machine.specs.Keys.{Draw, context_of}
-use Rattle.spdm_machine.specs.Records.{purpose_in}
-use Rattle.spdm_machine.specs.Setup.{ReqSetup}
+use Rattle.spdm_machine.specs.Sessions.{purpose_in}
+use Rattle.requester_machine.specs.Setup.{ReqSetup}
 use Rattle.spdm_machine.specs.TagLog.{Act, Log, record_input}
 use Rattle.spdm_machine.specs.TagLog.Act.{Made}
 use Rattle.spdm_machine.specs.Terms.{hash_len}

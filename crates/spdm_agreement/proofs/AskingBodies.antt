@@ -18,8 +18,8 @@ use Rattle.secured_record.specs.Format.{plain_text}
 use Rattle.spdm_grammar.specs.declared.phase.Stage.{Stage}
 use Rattle.spdm_grammar.specs.declared.phase.Stage.TheVariants as stage
 use Rattle.spdm_machine.specs.Keys.{Draw}
-use Rattle.spdm_machine.specs.Session.{is_past_handshake}
-use Rattle.spdm_machine.specs.Setup.{ReqSetup}
+use Rattle.spdm_machine.specs.Sessions.{is_past_handshake}
+use Rattle.requester_machine.specs.Setup.{ReqSetup}
 use Rattle.spdm_machine.specs.TagLog.{Log}
 use Rattle.spdm_agreement.specs.Claims.{IsReached}
 use Rattle.spdm_agreement.specs.Marks as marks

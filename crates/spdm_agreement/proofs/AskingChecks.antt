@@ -15,7 +15,7 @@ use Rattle.spdm_grammar.specs.Message.ResponseMessage.{PskExchangeRsp}
 use Rattle.spdm_grammar.specs.declared.event.ReqIgnored.{ReqIgnored}
 use Rattle.spdm_grammar.specs.declared.event.ReqIgnored.TheVariants as ignored
 use Rattle.spdm_grammar.specs.declared.malformed.Malformed.{Malformed}
-use Rattle.spdm_machine.specs.Setup.{ReqSetup}
+use Rattle.requester_machine.specs.Setup.{ReqSetup}
 use Rattle.spdm_machine.specs.TagLog.{Act, Log}
 use Rattle.spdm_machine.specs.TagLog.Act.{Made, Checked}
 use Rattle.spdm_agreement.specs.Marks.{Asked, Served}

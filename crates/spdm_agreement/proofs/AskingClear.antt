@@ -32,7 +32,7 @@ use Rattle.spdm_grammar.specs.declared.event.Stop.TheVariants as stop
 use Rattle.spdm_grammar.specs.declared.malformed.Malformed.{Malformed}
 use Rattle.spdm_grammar.specs.declared.part_faults.CapsFault.{CapsFault}
 use Rattle.spdm_grammar.specs.declared.part_faults.ChunkFault.{ChunkFault}
-use Rattle.spdm_machine.specs.Setup.{ReqSetup}
+use Rattle.requester_machine.specs.Setup.{ReqSetup}
 
 -- ---- Messages in the clear.
 

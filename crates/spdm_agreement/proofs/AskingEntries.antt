@@ -27,7 +27,7 @@ use Rattle.spdm_grammar.specs.Requests.{canonical_request}
 use Rattle.spdm_grammar.specs.declared.event.ReqIgnored.{ReqIgnored}
 use Rattle.spdm_grammar.specs.declared.phase.Stage.TheVariants as stage
 use Rattle.spdm_machine.specs.Keys.{Draw}
-use Rattle.spdm_machine.specs.Setup.{ReqSetup}
+use Rattle.requester_machine.specs.Setup.{ReqSetup}
 use Rattle.spdm_agreement.proofs.AskingClear.{IsClear, IsClearAim, NoExchange, ClearLed, ClearResult, clear_shape, either}
 use Rattle.spdm_agreement.proofs.AskingRecord.{RecordLed, record_shape}
 use Rattle.spdm_agreement.proofs.Sessions.{is_message, is_update_of, operation_in}

@@ -14,8 +14,8 @@ use Rattle.requester_machine.specs.Session.{Steps, stage_of, t1_of, t2_of, reque
 use Rattle.requester_machine.specs.Session.Step.{Asked, Took}
 use Rattle.spdm_grammar.specs.declared.phase.Stage.{Stage}
 use Rattle.spdm_grammar.specs.declared.phase.Stage.TheVariants as stage
-use Rattle.spdm_machine.specs.Records.{purpose_in}
-use Rattle.spdm_machine.specs.Session.{is_past_handshake}
+use Rattle.spdm_machine.specs.Sessions.{purpose_in}
+use Rattle.spdm_machine.specs.Sessions.{is_past_handshake}
 use Rattle.spdm_agreement.specs.Marks as marks
 use Rattle.spdm_agreement.specs.Marks.{Text, Exchange, outstanding, heard, epoch_of, count_of, reply_number}
 use Rattle.spdm_agreement.specs.Reading.{First}

@@ -22,7 +22,7 @@ use Rattle.spdm_grammar.specs.declared.event.ReqIgnored.{ReqIgnored}
 use Rattle.spdm_grammar.specs.declared.malformed.Malformed.{Malformed}
 use Rattle.spdm_grammar.specs.declared.part_faults.ChunkFault.{ChunkFault}
 use Rattle.spdm_machine.specs.Keys.{Draw}
-use Rattle.spdm_machine.specs.Setup.{ReqSetup}
+use Rattle.requester_machine.specs.Setup.{ReqSetup}
 use Rattle.spdm_agreement.proofs.AskingClear.{either}
 use Rattle.spdm_agreement.proofs.AskingNegotiated.{PhaseSound, AskSound, LedSound, OwnReads, asked_of, answer_sound, ResultSound, refused_phase}
 

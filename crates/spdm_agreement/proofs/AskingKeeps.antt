@@ -6,7 +6,7 @@ use Rattle.requester_machine.specs.Asking.Outcome.{Fails, Ignores, Warns, Resend
 use Rattle.requester_machine.specs.Does.{IsMade, requester_asks, requester_hears}
 use Rattle.requester_machine.specs.History.{History}
 use Rattle.requester_machine.specs.Shown.{after}
-use Rattle.spdm_machine.specs.Setup.{ReqSetup}
+use Rattle.requester_machine.specs.Setup.{ReqSetup}
 use Rattle.spdm_agreement.specs.Story.{asked_marks}
 use Rattle.spdm_agreement.proofs.AskedMade.{asks_made, hears_made}
 use Rattle.spdm_agreement.proofs.AskingBodies as bodies

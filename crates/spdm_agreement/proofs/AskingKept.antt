@@ -13,8 +13,8 @@ use Rattle.spdm_grammar.specs.Message.{RequestMessage, ExchangeMessage}
 use Rattle.spdm_grammar.specs.Message.RequestMessage.{PskExchange}
 use Rattle.spdm_grammar.specs.Requests.{canonical_request, request_in}
 use Rattle.spdm_machine.specs.Keys.{Draw, context_of}
-use Rattle.spdm_machine.specs.Session.{is_past_handshake}
-use Rattle.spdm_machine.specs.Setup.{ReqSetup}
+use Rattle.spdm_machine.specs.Sessions.{is_past_handshake}
+use Rattle.requester_machine.specs.Setup.{ReqSetup}
 use Rattle.spdm_machine.specs.TagLog.{Log}
 use Rattle.spdm_machine.specs.Terms.{hash_len}
 use Rattle.transcript.specs.Transcripts.{Negotiation}

@@ -22,9 +22,9 @@ use Rattle.spdm_grammar.specs.Requests.{canonical_request}
 use Rattle.spdm_grammar.specs.declared.phase.Stage.{Stage}
 use Rattle.spdm_grammar.specs.declared.phase.Stage.TheVariants as stage
 use Rattle.spdm_machine.specs.Keys.{Draw}
-use Rattle.spdm_machine.specs.Responder.{clear_body, record_body}
-use Rattle.spdm_machine.specs.Session.{is_past_handshake}
-use Rattle.spdm_machine.specs.Setup.{ReqSetup}
+use Rattle.spdm_machine.specs.Bodies.{clear_body, record_body}
+use Rattle.spdm_machine.specs.Sessions.{is_past_handshake}
+use Rattle.requester_machine.specs.Setup.{ReqSetup}
 use Rattle.transcript.specs.Transcripts.{Negotiation}
 use Rattle.spdm_agreement.proofs.Asking.{IsSteady, CommandSteady, ClearSteady, RecordSteady, EndsByAnswer, NoFinish, NoFinishAim, TellsId}
 use Rattle.spdm_agreement.proofs.AskingClear.{IsClearAim, NoExchange, NextClear, IsPlain}

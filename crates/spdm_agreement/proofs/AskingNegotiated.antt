@@ -25,7 +25,7 @@ use Rattle.spdm_grammar.specs.declared.event.Stop.TheVariants as stop
 use Rattle.spdm_grammar.specs.declared.part_faults.CapsFault.{CapsFault}
 use Rattle.spdm_grammar.specs.declared.phase.Phase.{Phase}
 use Rattle.spdm_grammar.specs.declared.phase.Phase.TheVariants.{Fresh, Versioned, Capable, Negotiated}
-use Rattle.spdm_machine.specs.Setup.{ReqSetup, requester_caps}
+use Rattle.requester_machine.specs.Setup.{ReqSetup, requester_caps}
 use Rattle.transcript.specs.Transcripts.{Negotiation}
 use Rattle.spdm_agreement.proofs.AskingAccepts.{exchange_read}
 use Rattle.spdm_agreement.proofs.AskingClear.{either}

@@ -9,7 +9,8 @@ use Rattle.spdm_grammar.specs.Message.{OfferMessage}
 use Rattle.spdm_grammar.specs.Message.RequestMessage.{GetCapabilities, NegotiateAlgorithms}
 use Rattle.spdm_grammar.specs.Requests.{canonical_request}
 use Rattle.spdm_grammar.specs.declared.choice.FlagSet.{FlagSet}
-use Rattle.spdm_machine.specs.Setup.{ReqSetup, requester_caps, optional_flags}
+use Rattle.requester_machine.specs.Setup.{ReqSetup, requester_caps}
+use Rattle.spdm_machine.specs.Setup.{optional_flags}
 use Rattle.spdm_agreement.specs.Configured.{IsRequester}
 use Rattle.spdm_agreement.proofs.AskingAccepts.{exchange_read}
 use Rattle.spdm_agreement.proofs.AskingKept.{AskedKept}

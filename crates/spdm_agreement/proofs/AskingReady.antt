@@ -14,8 +14,8 @@ use Rattle.spdm_grammar.specs.Message.RequestMessage.{GetCapabilities, Negotiate
 use Rattle.spdm_grammar.specs.declared.phase.Phase.{Phase}
 use Rattle.spdm_grammar.specs.declared.phase.Phase.TheVariants.{Fresh, Versioned, Capable, Negotiated}
 use Rattle.spdm_machine.specs.Keys.{Draw}
-use Rattle.spdm_machine.specs.Responder.{clear_body, record_body}
-use Rattle.spdm_machine.specs.Setup.{ReqSetup}
+use Rattle.spdm_machine.specs.Bodies.{clear_body, record_body}
+use Rattle.requester_machine.specs.Setup.{ReqSetup}
 use Rattle.transcript.specs.Transcripts.{Negotiation}
 use Rattle.spdm_agreement.specs.Configured.{IsRequester}
 use Rattle.spdm_agreement.proofs.AskingCommands.{Negotiates, asks_well}

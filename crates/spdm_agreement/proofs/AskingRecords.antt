@@ -13,8 +13,8 @@ use Rattle.requester_machine.specs.Session.{Steps, session_of, stage_of, t2_of, 
 use Rattle.requester_machine.specs.Session.Step.{Took}
 use Rattle.spdm_grammar.specs.declared.phase.Stage.{Stage}
 use Rattle.spdm_grammar.specs.declared.phase.Stage.TheVariants as stage
-use Rattle.spdm_machine.specs.Session.{is_past_handshake}
-use Rattle.spdm_machine.specs.Setup.{ReqSetup}
+use Rattle.spdm_machine.specs.Sessions.{is_past_handshake}
+use Rattle.requester_machine.specs.Setup.{ReqSetup}
 use Rattle.spdm_machine.specs.TagLog.{Log}
 use Rattle.transcript.specs.Transcripts as transcript
 use Rattle.spdm_agreement.specs.Marks as marks

@@ -9,7 +9,7 @@ use Rattle.requester_machine.specs.Records.{answer_inner, sealed_next}
 use Rattle.requester_machine.specs.Session.{Step, Steps, t2_of, finishes, ends, with_sent, with_aim, after_record}
 use Rattle.requester_machine.specs.Session.Step.{Took, Asked}
 use Rattle.secured_record.specs.Format.{plain_text}
-use Rattle.spdm_machine.specs.Setup.{ReqSetup}
+use Rattle.requester_machine.specs.Setup.{ReqSetup}
 use Rattle.transcript.specs.Transcripts as transcript
 use Rattle.spdm_agreement.specs.Marks as marks
 use Rattle.spdm_agreement.specs.Marks.{Text, heard, outstanding}

@@ -15,8 +15,8 @@ use Rattle.requester_machine.specs.Session.{Step, Steps, session_vca, exchange_o
 use Rattle.requester_machine.specs.Session.Step.{Started, Accepted, Asked, Took}
 use Rattle.requester_machine.proofs.Steps.{stage_behind}
 use Rattle.secured_record.specs.Format.{plain_text}
-use Rattle.spdm_machine.specs.Session.{is_past_handshake}
-use Rattle.spdm_machine.specs.Setup.{ReqSetup}
+use Rattle.spdm_machine.specs.Sessions.{is_past_handshake}
+use Rattle.requester_machine.specs.Setup.{ReqSetup}
 use Rattle.spdm_machine.specs.TagLog.{Log}
 use Rattle.transcript.specs.Transcripts as transcript
 use Rattle.spdm_agreement.specs.Marks as marks

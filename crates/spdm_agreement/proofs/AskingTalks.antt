@@ -14,8 +14,8 @@ use Rattle.spdm_basis.specs.declared.record_fault.RecordFault.{RecordFault}
 use Rattle.spdm_basis.specs.declared.record_fault.RecordFault.TheVariants.{BadTag}
 use Rattle.spdm_grammar.specs.declared.choice.Choice.{Choice}
 use Rattle.spdm_machine.specs.Keys.{record_fault}
-use Rattle.spdm_machine.specs.Session.{is_past_handshake}
-use Rattle.spdm_machine.specs.Setup.{ReqSetup}
+use Rattle.spdm_machine.specs.Sessions.{is_past_handshake}
+use Rattle.requester_machine.specs.Setup.{ReqSetup}
 use Rattle.spdm_machine.specs.TagLog.{Act, Log, record_input, record_tag}
 use Rattle.spdm_machine.specs.TagLog.Act.{Made, Checked}
 use Rattle.spdm_agreement.specs.Marks as marks

@@ -7,7 +7,7 @@ use Rattle.spdm_grammar.specs.Layout.Layout.{Whole, Sized, Number, Optional, Byt
 use Rattle.spdm_grammar.specs.Message.{RequestMessage}
 use Rattle.spdm_grammar.specs.Requests.{IsRequestSpelling, is_request_code, request_layout, request_in, request_body, get_version_layout, get_capabilities_layout, negotiate_algorithms_layout, get_measurements_layout, psk_exchange_layout, psk_finish_layout, heartbeat_layout, key_update_layout, end_session_layout, chunk_send_layout, chunk_get_layout}
 use Rattle.spdm_grammar.proofs.Spellings.{read_iff}
-use Rattle.spdm_machine.specs.Turn.{code_for}
+use Rattle.responder_machine.specs.Turn.{code_for}
 
 -- ---- What holds of each value of a layout holds of a value that bytes spell.
 

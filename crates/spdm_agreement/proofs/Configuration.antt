@@ -1,10 +1,11 @@
 -- A set-up that keeps all limits: the laws of worlds speak of worlds that exist.
-use Rattle.std.proofs.Common.{◌≡◌, ◌≢◌, ◌<◌, [], ◌∷◌, ℕ, false, true, refl, arith, replicate}
+use Rattle.std.proofs.Common.{◌≡◌, ◌≢◌, ◌<◌, [], ◌∷◌, ℕ, false, true, refl, arith}
 use Rattle.std.proofs.lemmas.List.Elements.{All-from_recursion}
 use Rattle.spdm_grammar.specs.declared.choice.Pick.TheVariants.{Small}
-use Rattle.spdm_machine.specs.Setup.{ReqSetup}
-use Rattle.world_machine.specs.Setup.{RspPart, WorldSetup, towards}
-use Rattle.spdm_agreement.specs.Configured.{IsConfigured, IsRequester, IsResponder}
+use Rattle.requester_machine.specs.Setup.{ReqSetup}
+use Rattle.responder_machine.specs.Setup.{RspPart, Known, towards}
+use Rattle.world_machine.specs.Setup.{Configuration, known_of}
+use Rattle.spdm_agreement.specs.Configured.{IsConfiguration, IsRequester, IsResponder}
 
 abbrev requester : ReqSetup
 requester = record {
@@ -34,11 +35,11 @@ part = record {
   suites = record { hash = Small; aead = Small };
 }
 
-abbrev pub setup : WorldSetup
-setup = record { seed = replicate 32 0; first = 0; responder = part; requesters = requester ∷ [] }
+abbrev pub setup : Configuration
+setup = record { responder = part; requesters = requester ∷ [] }
 
-pub configured : IsConfigured setup
-configured = record {
+pub configuration : IsConfiguration setup
+configuration = record {
   count = omega arith;
   requesters = All-from_recursion IsRequester (requester ∷ []) (
     record {
@@ -59,7 +60,7 @@ configured = record {
     },
     tt,
   );
-  responders = All-from_recursion (λ (q : ReqSetup). IsResponder (towards part q)) (requester ∷ []) (
+  responders = All-from_recursion (λ (q : Known). IsResponder (towards part q)) (known_of requester ∷ []) (
     record {
       eid = record { least = omega arith; most = omega arith };
       peer = record { least = omega arith; most = omega arith };
@@ -80,5 +81,4 @@ configured = record {
   );
   peers = All-from_recursion (λ (q : ReqSetup). q.responder ≡ part.eid) (requester ∷ []) (refl, tt);
   apart = (All-from_recursion (λ (other : ReqSetup). (requester.eid ≢ other.eid) × (requester.psk ≢ other.psk)) [] tt, tt);
-  draws = omega arith;
 }

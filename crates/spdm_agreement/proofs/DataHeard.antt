@@ -14,7 +14,7 @@ use Rattle.spdm_grammar.specs.Message.ResponseMessage.{Error}
 use Rattle.spdm_grammar.specs.declared.event.BadReply.{BadReply}
 use Rattle.spdm_grammar.specs.declared.event.BadReply.TheVariants as bad
 use Rattle.spdm_grammar.specs.declared.malformed.Malformed.{Malformed}
-use Rattle.spdm_machine.specs.Setup.{ReqSetup}
+use Rattle.requester_machine.specs.Setup.{ReqSetup}
 use Rattle.spdm_agreement.proofs.AskingRecord.{RecordLed, record_shape}
 use Rattle.spdm_agreement.proofs.Data.{is_data_inner}
 

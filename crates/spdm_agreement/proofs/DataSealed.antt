@@ -23,8 +23,8 @@ use Rattle.spdm_grammar.specs.Requests.{canonical_request}
 use Rattle.spdm_grammar.specs.declared.phase.Stage.{Stage}
 use Rattle.spdm_grammar.specs.declared.phase.Stage.TheVariants as stage
 use Rattle.spdm_machine.specs.Keys.{Draw}
-use Rattle.spdm_machine.specs.Responder.{record_body}
-use Rattle.spdm_machine.specs.Setup.{ReqSetup}
+use Rattle.spdm_machine.specs.Bodies.{record_body}
+use Rattle.requester_machine.specs.Setup.{ReqSetup}
 use Rattle.world_machine.specs.Agreement.{sent_under, requests_sealed}
 use Rattle.secured_record.specs.Format.{plain_text}
 use Rattle.spdm_agreement.specs.Claims.{in_order}

@@ -5,20 +5,20 @@ use Rattle.spdm_grammar.specs.declared.error_code.ErrorCode.{ErrorCode}
 use Rattle.spdm_grammar.specs.declared.error_code.ErrorCode.TheVariants.{InvalidRequest, UnexpectedRequest, RequestTooLarge}
 use Rattle.spdm_grammar.specs.declared.phase.Stage.{Stage}
 use Rattle.spdm_grammar.specs.declared.phase.Stage.TheVariants as stage
-use Rattle.spdm_machine.specs.Answer.{Free, request_at, answer_bytes}
-use Rattle.spdm_machine.specs.Does.{IsMade, chosen, record_chosen, first_queued}
-use Rattle.spdm_machine.specs.Handling.{turn_of, turn_by, chunk_in, carried_turn, taken_chunk, last_chunk_turn, effect_of, handle_for}
-use Rattle.spdm_machine.specs.History.{History, queue_of}
-use Rattle.spdm_machine.specs.History.Entry.{Clear, Sealed, Queued, Ticked, Dropped}
+use Rattle.responder_machine.specs.Answer.{Free, request_at, answer_bytes}
+use Rattle.responder_machine.specs.Does.{IsMade, chosen, record_chosen, first_queued}
+use Rattle.responder_machine.specs.Handling.{turn_of, turn_by, chunk_in, carried_turn, taken_chunk, last_chunk_turn, effect_of, handle_for}
+use Rattle.responder_machine.specs.History.{History, queue_of}
+use Rattle.responder_machine.specs.History.Entry.{Clear, Sealed, Queued, Ticked, Dropped}
 use Rattle.spdm_machine.specs.Keys.{Draw}
-use Rattle.spdm_machine.specs.Place.{Place, inside, session_place}
-use Rattle.spdm_machine.specs.Records.{opened, request_purpose}
-use Rattle.spdm_machine.specs.Refusal.{first_of_tests, refusal}
-use Rattle.spdm_machine.specs.Responder.{session_turn, session_turn_by, data_turn, inner_refusal, is_open}
-use Rattle.spdm_machine.specs.Session.{Events, Event, session_of, stage_of, id_in_record, t2_of, session_terms, request_next}
-use Rattle.spdm_machine.specs.Setup.{RspSetup}
-use Rattle.spdm_machine.specs.Turn.{Turn, Effect, takes, is_data}
-use Rattle.spdm_machine.specs.Turn.Effect.{NoEffect, TookData}
+use Rattle.responder_machine.specs.Place.{Place, inside, session_place}
+use Rattle.responder_machine.specs.Records.{opened, request_purpose}
+use Rattle.responder_machine.specs.Refusal.{first_of_tests, refusal}
+use Rattle.responder_machine.specs.Responder.{session_turn, session_turn_by, data_turn, inner_refusal, is_open}
+use Rattle.responder_machine.specs.Session.{Events, Event, session_of, stage_of, id_in_record, t2_of, session_terms, request_next}
+use Rattle.responder_machine.specs.Setup.{RspSetup}
+use Rattle.responder_machine.specs.Turn.{Turn, Effect, takes, is_data}
+use Rattle.responder_machine.specs.Turn.Effect.{NoEffect, TookData}
 use Rattle.world_machine.specs.Agreement.{data_taken, data_answered, some_under, requests_taken, responses_sealed}
 use Rattle.spdm_agreement.specs.Claims.{in_order}
 use Rattle.spdm_agreement.specs.Marks.{Served, Text, Exchange, taken}

@@ -35,8 +35,8 @@ use Rattle.spdm_grammar.specs.declared.event.ReqIgnored.{ReqIgnored}
 use Rattle.spdm_grammar.specs.declared.phase.Stage.{Stage}
 use Rattle.spdm_grammar.specs.declared.phase.Stage.TheVariants as stage
 use Rattle.spdm_machine.specs.Keys.{Draw}
-use Rattle.spdm_machine.specs.Responder.{clear_body, record_body}
-use Rattle.spdm_machine.specs.Setup.{ReqSetup}
+use Rattle.spdm_machine.specs.Bodies.{clear_body, record_body}
+use Rattle.requester_machine.specs.Setup.{ReqSetup}
 use Rattle.world_machine.specs.Agreement.{answered_under, responses_taken, some_under}
 use Rattle.spdm_agreement.specs.Claims.{in_order}
 use Rattle.spdm_agreement.specs.Marks as marks

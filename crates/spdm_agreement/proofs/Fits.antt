@@ -1,16 +1,17 @@
 -- What every world keeps, in which nothing agrees by chance.
-use Rattle.std.proofs.Common.{◌≡◌, ◌≢◌, ℕ, ◌≤◌, ◌+◌, List, [], ◌∷◌, length, sym, ap, ◌∙◌, inl, inr}
+use Rattle.std.proofs.Common.{◌≡◌, ◌≢◌, ℕ, ◌≤◌, ◌+◌, ◌^◌, List, [], ◌∷◌, length, sym, ap, ◌∙◌, inl, inr}
 use Rattle.key_schedule.specs.Purpose.{Purpose}
 use Rattle.requester_machine.specs.Does as asking
 use Rattle.requester_machine.specs.History as asked
-use Rattle.spdm_machine.specs.Does as serving
-use Rattle.spdm_machine.specs.History as served
-use Rattle.spdm_machine.specs.Setup.{RspSetup, ReqSetup}
+use Rattle.responder_machine.specs.Does as serving
+use Rattle.responder_machine.specs.History as served
+use Rattle.responder_machine.specs.Setup.{RspSetup}
+use Rattle.requester_machine.specs.Setup.{ReqSetup}
 use Rattle.world_machine.specs.Agreement.{IsMade}
 use Rattle.world_machine.specs.Chance.{NoChance}
-use Rattle.world_machine.specs.Requesting.{Requesting}
-use Rattle.world_machine.specs.Responding.{Connection, all_draws}
-use Rattle.world_machine.specs.Setup.{WorldSetup}
+use Rattle.requester_machine.specs.Requesting.{Requesting}
+use Rattle.responder_machine.specs.Responding.{Connection, all_draws}
+use Rattle.spdm_machine.specs.Packets.{wear_limit}
 use Rattle.world_machine.specs.World.{World}
 use Rattle.spdm_agreement.specs.Claims.{IsReached}
 use Rattle.spdm_agreement.specs.Configured.{IsRequester, IsResponder}
@@ -31,9 +32,8 @@ PeersDiffer (c ∷ others) = ((d : Connection) → IsIn others d → d.setup.pee
 
 -- What keeps the ends of a world apart: the set-up alone decides it.
 pub record Apart (rs : List Requesting) (cs : List Connection) : Type 0 where
-  pub numbers : (a b : Requesting) → IsIn rs a → IsIn rs b → a.number ≡ b.number → a ≡ b
-  pub eids : (a b : Requesting) → IsIn rs a → IsIn rs b → a.setup.eid ≡ b.setup.eid → a.number ≡ b.number
-  pub keys : (a b : Requesting) → IsIn rs a → IsIn rs b → a.setup.psk ≡ b.setup.psk → a.number ≡ b.number
+  pub eids : (a b : Requesting) → IsIn rs a → IsIn rs b → a.setup.eid ≡ b.setup.eid → a ≡ b
+  pub keys : (a b : Requesting) → IsIn rs a → IsIn rs b → a.setup.psk ≡ b.setup.psk → a.setup.eid ≡ b.setup.eid
   pub peers : PeersDiffer cs
   pub paired : (c : Connection) → IsIn cs c → (a : Requesting) × IsIn rs a × (c.setup.peer ≡ a.setup.eid) × (c.setup.psk ≡ a.setup.psk)
   pub served : (a : Requesting) → IsIn rs a → (c : Connection) × IsIn cs c × (c.setup.peer ≡ a.setup.eid)
@@ -45,7 +45,7 @@ pub record IsPair (rs : List Requesting) (cs : List Connection) (a : Requesting)
   pub peer : c.setup.peer ≡ a.setup.eid
 
 pub same_requester : (rs : List Requesting) (cs : List Connection) → Apart rs cs → (a b : Requesting) → IsIn rs a → IsIn rs b → a.setup.eid ≡ b.setup.eid → a ≡ b
-same_requester rs cs apart a b m n e = apart.numbers a b m n (apart.eids a b m n e)
+same_requester rs cs apart a b m n e = apart.eids a b m n e
 
 pub same_key : (rs : List Requesting) (cs : List Connection) → Apart rs cs → (a : Requesting) (c : Connection) → IsPair rs cs a c → c.setup.psk ≡ a.setup.psk
 same_key rs cs apart a c pair =
@@ -60,25 +60,27 @@ same_connection (x ∷ others) apart c d m n e = elim m [
 ]
 
 -- The laws below stand over whatever is kept of histories.
-module _ (KeptAsked : ReqSetup → asked.History → Type 0) (KeptServed : RspSetup → served.History → Type 0) (w : WorldSetup) where
+module _ (KeptAsked : ReqSetup → asked.History → Type 0) (KeptServed : RspSetup → served.History → Type 0) where
   pub record IsAsking (a : Requesting) : Type 0 where
     pub setup : IsRequester a.setup
     pub made : asking.IsMade a.setup a.history
     pub kept : KeptAsked a.setup a.history
-    pub fresh : next_asked (asked_marks a.setup a.history) ≤ w.first + asked.draws_of a.setup a.history
+    pub fresh : next_asked (asked_marks a.setup a.history) ≤ a.first + asked.draws_of a.setup a.history
+    pub draws : a.first + wear_limit ≤ 2 ^ 64
     pub wear : asked.draws_of a.setup a.history ≤ a.commands
 
-  pub record IsServing (draws : ℕ) (c : Connection) : Type 0 where
+  pub record IsServing (next : ℕ) (c : Connection) : Type 0 where
     pub setup : IsResponder c.setup
     pub made : serving.IsMade c.setup c.history
     pub kept : KeptServed c.setup c.history
-    pub fresh : next_served (reading_of c.setup.psk) (served_marks c.setup c.history) ≤ w.first + draws
+    pub fresh : next_served (reading_of c.setup.psk) (served_marks c.setup c.history) ≤ next
 
   pub record Fits (world : World) : Type 0 where
     pub apart : Apart world.requesters world.responder.connections
     pub asks : (a : Requesting) → IsIn world.requesters a → IsAsking a
-    pub serves : (c : Connection) → IsIn world.responder.connections c → IsServing (all_draws world.responder.connections) c
+    pub serves : (c : Connection) → IsIn world.responder.connections c → IsServing (world.responder.first + all_draws world.responder.connections) c
     pub wear : all_draws world.responder.connections ≤ length world.responder.given
+    pub draws : world.responder.first + wear_limit ≤ 2 ^ 64
     pub owned : (p : Purpose) (i : List ℕ) → IsMade p i world.log → (a : Requesting) × IsIn world.requesters a × (p.psk ≡ a.setup.psk)
     pub pairs : (a : Requesting) (c : Connection) → IsPair world.requesters world.responder.connections a c → IsReached (reading_of a.setup.psk) (state_of a c world.log)
 

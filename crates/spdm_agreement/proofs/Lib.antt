@@ -71,3 +71,4 @@ pub mod AskingHistory
 pub mod AskingReady
 pub mod AskingOwn
 pub mod Configuration
+mod Scripts

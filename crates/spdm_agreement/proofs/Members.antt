@@ -29,10 +29,10 @@ pub map_in : {A B : Type 0} (f : A → B) (xs : List A) (x : A) → IsIn xs x �
 map_in f [] x m = absurd m
 map_in f (y ∷ others) x m = elim m [ inl e ↦ inl (ap f e) | inr l ↦ inr (map_in f others x l) ]
 
-some_same : {A : Type 0} (x y : A) → Some x ≡ Some y → x ≡ y
+pub some_same : {A : Type 0} (x y : A) → Some x ≡ Some y → x ≡ y
 some_same x y e = cc
 
-none_some : {A : Type 0} (y : A) → None ≡ Some y → ⊥
+pub none_some : {A : Type 0} (y : A) → None ≡ Some y → ⊥
 none_some y e = cc
 
 found_by : {A : Type 0} (p : A → Bool) (y : A) (others : List A) (x : A) (b : Bool) → p y ≡ b → cond b (Some y) (find p others) ≡ Some x → (find p others ≡ Some x → IsIn others x × (p x ≡ true))

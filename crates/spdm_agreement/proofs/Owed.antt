@@ -7,14 +7,15 @@ use Rattle.requester_machine.specs.History as asked
 use Rattle.requester_machine.specs.Message.{Command}
 use Rattle.requester_machine.specs.RequesterLog as asked_log
 use Rattle.requester_machine.specs.Shown as asked_shown
-use Rattle.spdm_machine.specs.Does as serving
-use Rattle.spdm_machine.specs.Does.{responder_does}
-use Rattle.spdm_machine.specs.History as served
-use Rattle.spdm_machine.specs.History.Entry.{Queued, Ticked}
+use Rattle.responder_machine.specs.Does as serving
+use Rattle.responder_machine.specs.Does.{responder_does}
+use Rattle.responder_machine.specs.History as served
+use Rattle.responder_machine.specs.History.Entry.{Queued, Ticked}
 use Rattle.spdm_machine.specs.Keys.{Draw}
-use Rattle.spdm_machine.specs.Responder as responder
-use Rattle.spdm_machine.specs.ResponderLog as served_log
-use Rattle.spdm_machine.specs.Setup.{RspSetup, ReqSetup}
+use Rattle.responder_machine.specs.Responder as responder
+use Rattle.responder_machine.specs.ResponderLog as served_log
+use Rattle.responder_machine.specs.Setup.{RspSetup}
+use Rattle.requester_machine.specs.Setup.{ReqSetup}
 use Rattle.spdm_machine.specs.TagLog.{Log}
 use Rattle.spdm_agreement.specs.Claims.{IsReached}
 use Rattle.spdm_agreement.specs.Configured.{IsRequester, IsResponder}

@@ -3,18 +3,18 @@ use Rattle.std.proofs.Common.{◌≡◌, ℕ, ◌/◌, ◌%◌, List, [], ◌∷
 use Rattle.key_schedule.specs.Purpose.{Purpose, is_record}
 use Rattle.requester_machine.specs.Session as requester
 use Rattle.spdm_basis.specs.SessionIdBytes.{session_id_bytes}
-use Rattle.spdm_machine.specs.History as served
-use Rattle.spdm_machine.specs.History.Entry.{Clear, Sealed, Queued, Ticked, Dropped}
+use Rattle.responder_machine.specs.History as served
+use Rattle.responder_machine.specs.History.Entry.{Clear, Sealed, Queued, Ticked, Dropped}
 use Rattle.spdm_machine.specs.Keys.{Draw}
-use Rattle.spdm_machine.specs.Place.{is_held}
-use Rattle.spdm_machine.specs.ResponderLog.{began_by}
-use Rattle.spdm_machine.specs.Session as responder
-use Rattle.spdm_machine.specs.Session.{Event}
-use Rattle.spdm_machine.specs.Session.Event.{Heard}
-use Rattle.spdm_machine.specs.Setup.{RspSetup}
+use Rattle.responder_machine.specs.Place.{is_held}
+use Rattle.responder_machine.specs.ResponderLog.{began_by}
+use Rattle.responder_machine.specs.Session as responder
+use Rattle.responder_machine.specs.Session.{Event}
+use Rattle.responder_machine.specs.Session.Event.{Heard}
+use Rattle.responder_machine.specs.Setup.{RspSetup}
 use Rattle.spdm_machine.specs.TagLog.{Log}
 use Rattle.spdm_machine.specs.Terms.{terms_of}
-use Rattle.spdm_machine.specs.Turn.{Turn, takes, code_in}
+use Rattle.responder_machine.specs.Turn.{Turn, takes, code_in}
 use Rattle.spdm_grammar.specs.declared.phase.Stage.{Stage}
 use Rattle.spdm_grammar.specs.declared.phase.Stage.TheVariants as stage
 use Rattle.spdm_agreement.specs.Claims.{IsReached}
@@ -28,8 +28,8 @@ use Rattle.spdm_agreement.proofs.Runs.{holds, agrees, opened_matches, one_id, on
 use Rattle.spdm_agreement.proofs.Sessions.{reading_of}
 use Rattle.world_machine.specs.Agreement as world
 use Rattle.world_machine.specs.Agreement.{AreOne, HasOpened, IsMade}
-use Rattle.world_machine.specs.Requesting.{Requesting}
-use Rattle.world_machine.specs.Responding.{Connection}
+use Rattle.requester_machine.specs.Requesting.{Requesting}
+use Rattle.responder_machine.specs.Responding.{Connection}
 
 -- The state of the machine of moves that a requester and its connection stand for.
 abbrev pub state_of : Requesting → Connection → Log → State

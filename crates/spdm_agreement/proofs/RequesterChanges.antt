@@ -2,14 +2,14 @@
 use Rattle.std.proofs.Common.{◌≡◌, ◌≢◌, ◌⊎◌, ℕ, ◌==◌, List, ◌++◌, Bool, true, false, cond, refl, sym, ap, ◌∙◌, subst, inl, inr, eqb-true, eq-eqb, true≢false}
 use Rattle.key_schedule.specs.Purpose.{Purpose}
 use Rattle.requester_machine.specs.History as asked
-use Rattle.spdm_machine.specs.History as served
-use Rattle.spdm_machine.specs.Setup.{RspSetup, ReqSetup}
+use Rattle.responder_machine.specs.History as served
+use Rattle.responder_machine.specs.Setup.{RspSetup}
+use Rattle.requester_machine.specs.Setup.{ReqSetup}
 use Rattle.spdm_machine.specs.TagLog.{Act}
 use Rattle.world_machine.specs.Agreement.{IsMade}
 use Rattle.world_machine.specs.Chance.{NoChance}
-use Rattle.world_machine.specs.Requesting.{Requesting}
-use Rattle.world_machine.specs.Responding.{Connection}
-use Rattle.world_machine.specs.Setup.{WorldSetup}
+use Rattle.requester_machine.specs.Requesting.{Requesting}
+use Rattle.responder_machine.specs.Responding.{Connection}
 use Rattle.world_machine.specs.World.{World, SentPacket, replaced, with_requester}
 use Rattle.spdm_agreement.specs.Claims.{IsReached}
 use Rattle.spdm_agreement.proofs.Fits.{Apart, IsPair, IsAsking, Fits, own_reach, others_reach}
@@ -19,22 +19,22 @@ use Rattle.spdm_agreement.proofs.Owners.{own_made}
 use Rattle.spdm_agreement.proofs.Pairs.{state_of}
 use Rattle.spdm_agreement.proofs.Sessions.{reading_of}
 
--- A requester after something: its number and its set-up stay.
+-- A requester after something: its set-up stays.
 abbrev pub renewed : Requesting → List (List ℕ) → ℕ → asked.History → Requesting
-renewed a given commands history = record { number = a.number; setup = a.setup; given = given; commands = commands; history = history }
+renewed a given commands history = record a { given = given; commands = commands; history = history }
 
 -- Where a requester of the new list comes from.
 pub record Origin (rs : List Requesting) (new x : Requesting) : Type 0 where
   pub old : Requesting
   pub is : IsIn rs old
-  pub same : ((old.number ≡ new.number) × (x ≡ new)) ⊎ ((old.number ≢ new.number) × (x ≡ old))
+  pub same : ((old.setup.eid ≡ new.setup.eid) × (x ≡ new)) ⊎ ((old.setup.eid ≢ new.setup.eid) × (x ≡ old))
 
-origin_by : (rs : List Requesting) (new old x : Requesting) (b : Bool) → (old.number == new.number) ≡ b → IsIn rs old → x ≡ cond b new old → Origin rs new x
+origin_by : (rs : List Requesting) (new old x : Requesting) (b : Bool) → (old.setup.eid == new.setup.eid) ≡ b → IsIn rs old → x ≡ cond b new old → Origin rs new x
 origin_by rs new old x true e m is = record { old = old; is = m; same = inl (eqb-true _ _ e, is) }
 origin_by rs new old x false e m is = record { old = old; is = m; same = inr (λ s. true≢false (sym (eq-eqb _ _ s) ∙ e), is) }
 
 pub origin : (rs : List Requesting) (new x : Requesting) → IsIn (with_requester new rs) x → Origin rs new x
-origin rs new x m = (let o = in_map (replaced new) rs x m in origin_by rs new o.0 x (o.0.number == new.number) refl o.1 o.2)
+origin rs new x m = (let o = in_map (replaced new) rs x m in origin_by rs new o.0 x (o.0.setup.eid == new.setup.eid) refl o.1 o.2)
 
 module _ (rs : List Requesting) (cs : List Connection) (apart : Apart rs cs) (a : Requesting) (is : IsIn rs a) (given : List (List ℕ)) (commands : ℕ) (history : asked.History) where
   abbrev new : Requesting
@@ -44,25 +44,25 @@ module _ (rs : List Requesting) (cs : List Connection) (apart : Apart rs cs) (a 
   record Stays (x : Requesting) : Type 0 where
     old : Requesting
     in_old : IsIn rs old
-    number : x.number ≡ old.number
+    number : x.setup.eid ≡ old.setup.eid
     setup : x.setup ≡ old.setup
-    same : ((old ≡ a) × (x ≡ new)) ⊎ ((old.number ≢ a.number) × (x ≡ old))
+    same : ((old ≡ a) × (x ≡ new)) ⊎ ((old.setup.eid ≢ a.setup.eid) × (x ≡ old))
 
   stays : (x : Requesting) → IsIn (with_requester new rs) x → Stays x
   stays x m =
       let o = origin rs new x m in
       elim o.same [
-        | inl s ↦ (let own = apart.numbers o.old a o.is is s.0 in record {
+        | inl s ↦ (let own = apart.eids o.old a o.is is s.0 in record {
           old = o.old;
           in_old = o.is;
-          number = ap (λ (y : Requesting). y.number) s.1 ∙ sym s.0;
+          number = ap (λ (y : Requesting). y.setup.eid) s.1 ∙ sym s.0;
           setup = ap (λ (y : Requesting). y.setup) s.1 ∙ sym (ap (λ (y : Requesting). y.setup) own);
           same = inl (own, s.1);
         })
         | inr s ↦ record {
           old = o.old;
           in_old = o.is;
-          number = ap (λ (y : Requesting). y.number) s.1;
+          number = ap (λ (y : Requesting). y.setup.eid) s.1;
           setup = ap (λ (y : Requesting). y.setup) s.1;
           same = inr (s.0, s.1);
         }
@@ -70,39 +70,38 @@ module _ (rs : List Requesting) (cs : List Connection) (apart : Apart rs cs) (a 
 
   alike : (x y : Requesting) (p : Stays x) (q : Stays y) → p.old ≡ q.old → x ≡ y
   alike x y p q e = elim p.same [
-    | inl s ↦ elim q.same [ inl t ↦ s.1 ∙ sym t.1 | inr t ↦ absurd (t.0 (ap (λ (z : Requesting). z.number) (sym e ∙ s.0))) ]
-    | inr s ↦ elim q.same [ inl t ↦ absurd (s.0 (ap (λ (z : Requesting). z.number) (e ∙ t.0))) | inr t ↦ s.1 ∙ e ∙ sym t.1 ]
+    | inl s ↦ elim q.same [ inl t ↦ s.1 ∙ sym t.1 | inr t ↦ absurd (t.0 (ap (λ (z : Requesting). z.setup.eid) (sym e ∙ s.0))) ]
+    | inr s ↦ elim q.same [ inl t ↦ absurd (s.0 (ap (λ (z : Requesting). z.setup.eid) (e ∙ t.0))) | inr t ↦ s.1 ∙ e ∙ sym t.1 ]
   ]
 
   -- Each old requester has its place in the new list.
-  placed_by : (o : Requesting) → IsIn rs o → (x : Requesting) × IsIn (with_requester new rs) x × (x.setup ≡ o.setup) × (x.number ≡ o.number)
+  placed_by : (o : Requesting) → IsIn rs o → (x : Requesting) × IsIn (with_requester new rs) x × (x.setup ≡ o.setup) × (x.setup.eid ≡ o.setup.eid)
   placed_by o m =
       let placed = map_in (replaced new) rs o m in
       let s = stays (replaced new o) placed in
-      go (o.number == a.number) refl
+      go (o.setup.eid == a.setup.eid) refl
     where
-      go : (b : Bool) → (o.number == a.number) ≡ b → (x : Requesting) × IsIn (with_requester new rs) x × (x.setup ≡ o.setup) × (x.number ≡ o.number)
+      go : (b : Bool) → (o.setup.eid == a.setup.eid) ≡ b → (x : Requesting) × IsIn (with_requester new rs) x × (x.setup ≡ o.setup) × (x.setup.eid ≡ o.setup.eid)
       go b e = (replaced new o, map_in (replaced new) rs o m, at b e, counted b e)
         where
-          at : (b : Bool) → (o.number == a.number) ≡ b → (replaced new o).setup ≡ o.setup
-          at true e = ap (λ (c : Bool). (cond c new o).setup) e ∙ sym (ap (λ (y : Requesting). y.setup) (apart.numbers o a m is (eqb-true _ _ e)))
+          at : (b : Bool) → (o.setup.eid == a.setup.eid) ≡ b → (replaced new o).setup ≡ o.setup
+          at true e = ap (λ (c : Bool). (cond c new o).setup) e ∙ sym (ap (λ (y : Requesting). y.setup) (apart.eids o a m is (eqb-true _ _ e)))
           at false e = ap (λ (c : Bool). (cond c new o).setup) e
 
-          counted : (b : Bool) → (o.number == a.number) ≡ b → (replaced new o).number ≡ o.number
-          counted true e = ap (λ (c : Bool). (cond c new o).number) e ∙ sym (eqb-true _ _ e)
-          counted false e = ap (λ (c : Bool). (cond c new o).number) e
+          counted : (b : Bool) → (o.setup.eid == a.setup.eid) ≡ b → (replaced new o).setup.eid ≡ o.setup.eid
+          counted true e = ap (λ (c : Bool). (cond c new o).setup.eid) e ∙ sym (eqb-true _ _ e)
+          counted false e = ap (λ (c : Bool). (cond c new o).setup.eid) e
 
   pub still_apart : Apart (with_requester new rs) cs
   still_apart = record {
-    numbers = λ x y m n e. (let p = stays x m in let q = stays y n in alike x y p q (apart.numbers p.old q.old p.in_old q.in_old (sym p.number ∙ e ∙ q.number)));
-    eids = λ x y m n e. (let p = stays x m in let q = stays y n in p.number ∙ apart.eids p.old q.old p.in_old q.in_old (sym (ap (λ (s : ReqSetup). s.eid) p.setup) ∙ e ∙ ap (λ (s : ReqSetup). s.eid) q.setup) ∙ sym q.number);
+    eids = λ x y m n e. (let p = stays x m in let q = stays y n in alike x y p q (apart.eids p.old q.old p.in_old q.in_old (sym p.number ∙ e ∙ q.number)));
     keys = λ x y m n e. (let p = stays x m in let q = stays y n in p.number ∙ apart.keys p.old q.old p.in_old q.in_old (sym (ap (λ (s : ReqSetup). s.psk) p.setup) ∙ e ∙ ap (λ (s : ReqSetup). s.psk) q.setup) ∙ sym q.number);
     peers = apart.peers;
     paired = λ c m. (let o = apart.paired c m in let x = placed_by o.0 o.1 in (x.0, x.1, o.2 ∙ sym (ap (λ (s : ReqSetup). s.eid) x.2), o.3 ∙ sym (ap (λ (s : ReqSetup). s.psk) x.2)));
     served = λ x m. (let p = stays x m in let c = apart.served p.old p.in_old in (c.0, c.1, c.2 ∙ sym (ap (λ (s : ReqSetup). s.eid) p.setup)));
   }
 
-module _ (KeptAsked : ReqSetup → asked.History → Type 0) (KeptServed : RspSetup → served.History → Type 0) (w : WorldSetup) (world : World) (k : Fits KeptAsked KeptServed w world)
+module _ (KeptAsked : ReqSetup → asked.History → Type 0) (KeptServed : RspSetup → served.History → Type 0) (world : World) (k : Fits KeptAsked KeptServed world)
     (a : Requesting) (is : IsIn world.requesters a) (given : List (List ℕ)) (commands : ℕ) (history : asked.History) (acts : List Act) (n : NoChance (acts ++ world.log)) where
   abbrev next : Requesting
   next = renewed a given commands history
@@ -117,15 +116,15 @@ module _ (KeptAsked : ReqSetup → asked.History → Type 0) (KeptServed : RspSe
   pub now_reached : Runs → (c : Connection) → IsPair world.requesters world.responder.connections a c → IsReached (reading_of a.setup.psk) (state_of next c (acts ++ world.log))
   now_reached runs c pair = own_reach (reading_of a.setup.psk) (state_of a c world.log) (state_of next c (acts ++ world.log)) (k.pairs a c pair) (runs c pair) n
 
-  all_ask : IsAsking KeptAsked KeptServed w next → (x : Requesting) → IsIn (with_requester next world.requesters) x → IsAsking KeptAsked KeptServed w x
+  all_ask : IsAsking KeptAsked KeptServed next → (x : Requesting) → IsIn (with_requester next world.requesters) x → IsAsking KeptAsked KeptServed x
   all_ask well x m =
       let p = stays world.requesters world.responder.connections k.apart a is given commands history x m in
       elim p.same [
-        | inl s ↦ subst (IsAsking KeptAsked KeptServed w) (sym s.1) well
-        | inr s ↦ subst (IsAsking KeptAsked KeptServed w) (sym s.1) (k.asks p.old p.in_old)
+        | inl s ↦ subst (IsAsking KeptAsked KeptServed) (sym s.1) well
+        | inr s ↦ subst (IsAsking KeptAsked KeptServed) (sym s.1) (k.asks p.old p.in_old)
       ]
 
-  other_pair : Runs → (o : Requesting) (c : Connection) → IsPair world.requesters world.responder.connections o c → o.number ≢ a.number → IsReached (reading_of o.setup.psk) (state_of o c (acts ++ world.log))
+  other_pair : Runs → (o : Requesting) (c : Connection) → IsPair world.requesters world.responder.connections o c → o.setup.eid ≢ a.setup.eid → IsReached (reading_of o.setup.psk) (state_of o c (acts ++ world.log))
   other_pair runs o c pair differ =
       let own = k.apart.served a is in
       others_reach (reading_of a.setup.psk) (reading_of o.setup.psk) (state_of a own.0 world.log) (state_of next own.0 (acts ++ world.log)) (state_of o c world.log).asked (state_of o c world.log).served
@@ -153,12 +152,13 @@ module _ (KeptAsked : ReqSetup → asked.History → Type 0) (KeptServed : RspSe
         | inr l ↦ (let o = k.owned p i l in let x = placed_by world.requesters world.responder.connections k.apart a is given commands history o.0 o.1 in (x.0, x.1, o.2 ∙ sym (ap (λ (s : ReqSetup). s.psk) x.2)))
       ]
 
-  pub requester_goes : (sent : List SentPacket) → IsAsking KeptAsked KeptServed w next → Runs → Fits KeptAsked KeptServed w (later sent)
+  pub requester_goes : (sent : List SentPacket) → IsAsking KeptAsked KeptServed next → Runs → Fits KeptAsked KeptServed (later sent)
   requester_goes sent well runs = record {
     apart = still_apart world.requesters world.responder.connections k.apart a is given commands history;
     asks = all_ask well;
     serves = k.serves;
     wear = k.wear;
+    draws = k.draws;
     owned = all_owned runs;
     pairs = all_reached runs;
   }

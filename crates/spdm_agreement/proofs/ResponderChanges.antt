@@ -2,15 +2,15 @@
 use Rattle.std.proofs.Common.{◌≡◌, ◌≢◌, ◌⊎◌, ℕ, ◌≤◌, ◌+◌, ◌==◌, List, [], ◌∷◌, ◌++◌, length, Bool, true, false, cond, map, refl, sym, ap, ◌∙◌, subst, inl, inr, arith, eqb-true, eq-eqb, true≢false}
 use Rattle.key_schedule.specs.Purpose.{Purpose}
 use Rattle.requester_machine.specs.History as asked
-use Rattle.spdm_machine.specs.History as served
-use Rattle.spdm_machine.specs.History.{History, draws_of}
-use Rattle.spdm_machine.specs.Setup.{RspSetup, ReqSetup}
+use Rattle.responder_machine.specs.History as served
+use Rattle.responder_machine.specs.History.{History, draws_of}
+use Rattle.responder_machine.specs.Setup.{RspSetup}
+use Rattle.requester_machine.specs.Setup.{ReqSetup}
 use Rattle.spdm_machine.specs.TagLog.{Act}
 use Rattle.world_machine.specs.Agreement.{IsMade}
 use Rattle.world_machine.specs.Chance.{NoChance}
-use Rattle.world_machine.specs.Requesting.{Requesting}
-use Rattle.world_machine.specs.Responding.{Connection, changed, changed_if, with_history, all_draws}
-use Rattle.world_machine.specs.Setup.{WorldSetup}
+use Rattle.requester_machine.specs.Requesting.{Requesting}
+use Rattle.responder_machine.specs.Responding.{Connection, changed, changed_if, with_history, all_draws}
 use Rattle.world_machine.specs.World.{World, SentPacket}
 use Rattle.spdm_agreement.specs.Claims.{IsReached}
 use Rattle.spdm_agreement.proofs.Fits.{Apart, PeersDiffer, IsPair, IsServing, Fits, same_connection, same_key, own_reach, others_reach}
@@ -36,7 +36,6 @@ peers_stay f (c ∷ others) keeps apart = (
 
 pub still_apart : (rs : List Requesting) (cs : List Connection) (f : Connection → Connection) → KeepsSetup f → Apart rs cs → Apart rs (map f cs)
 still_apart rs cs f keeps apart = record {
-  numbers = apart.numbers;
   eids = apart.eids;
   keys = apart.keys;
   peers = peers_stay f cs keeps apart.peers;
@@ -100,7 +99,7 @@ draws_changed change (d ∷ others) c apart m = elim m [
 
 -- ---- One connection goes on.
 
-module _ (KeptAsked : ReqSetup → asked.History → Type 0) (KeptServed : RspSetup → served.History → Type 0) (w : WorldSetup) (world : World) (k : Fits KeptAsked KeptServed w world)
+module _ (KeptAsked : ReqSetup → asked.History → Type 0) (KeptServed : RspSetup → served.History → Type 0) (world : World) (k : Fits KeptAsked KeptServed world)
     (c : Connection) (is : IsIn world.responder.connections c) (given : List (List ℕ)) (change : History → History) (acts : List Act) (n : NoChance (acts ++ world.log)) where
   abbrev cs : List Connection
   cs = world.responder.connections
@@ -109,7 +108,7 @@ module _ (KeptAsked : ReqSetup → asked.History → Type 0) (KeptServed : RspSe
   next = with_history c.setup.peer change cs
 
   abbrev later : List SentPacket → World
-  later sent = record { requesters = world.requesters; responder = record { given = given; connections = next }; sent = sent; log = acts ++ world.log }
+  later sent = record { requesters = world.requesters; responder = record world.responder { given = given; connections = next }; sent = sent; log = acts ++ world.log }
 
   -- The run of this connection and its requester.
   abbrev Runs : Type 0
@@ -121,14 +120,14 @@ module _ (KeptAsked : ReqSetup → asked.History → Type 0) (KeptServed : RspSe
   pub now_reached : Runs → (a : Requesting) → IsPair world.requesters cs a c → IsReached (reading_of c.setup.psk) (state_of a (changed change c) (acts ++ world.log))
   now_reached runs a pair = own_reach (reading_of c.setup.psk) (state_of a c world.log) (state_of a (changed change c) (acts ++ world.log)) (own_reached a pair) (runs a pair) n
 
-  all_serve : all_draws cs ≤ all_draws next → IsServing KeptAsked KeptServed w (all_draws next) (changed change c) → (x : Connection) → IsIn next x → IsServing KeptAsked KeptServed w (all_draws next) x
+  all_serve : all_draws cs ≤ all_draws next → IsServing KeptAsked KeptServed (world.responder.first + all_draws next) (changed change c) → (x : Connection) → IsIn next x → IsServing KeptAsked KeptServed (world.responder.first + all_draws next) x
   all_serve more well x m =
       let o = origin c.setup.peer change cs x m in
       elim o.same [
-        | inl s ↦ subst (IsServing KeptAsked KeptServed w (all_draws next)) (sym (s.1 ∙ ap (changed change) (same_connection cs k.apart.peers o.old c o.is is s.0))) well
+        | inl s ↦ subst (IsServing KeptAsked KeptServed (world.responder.first + all_draws next)) (sym (s.1 ∙ ap (changed change) (same_connection cs k.apart.peers o.old c o.is is s.0))) well
         | inr s ↦ (let old = k.serves o.old o.is in
             let fresh = old.fresh in
-            subst (IsServing KeptAsked KeptServed w (all_draws next)) (sym s.1) (record { setup = old.setup; made = old.made; kept = old.kept; fresh = omega arith }))
+            subst (IsServing KeptAsked KeptServed (world.responder.first + all_draws next)) (sym s.1) (record { setup = old.setup; made = old.made; kept = old.kept; fresh = omega arith }))
       ]
 
   other_pair : Runs → (a : Requesting) (o : Connection) → IsPair world.requesters cs a o → o.setup.peer ≢ c.setup.peer → IsReached (reading_of a.setup.psk) (state_of a o (acts ++ world.log))
@@ -136,7 +135,7 @@ module _ (KeptAsked : ReqSetup → asked.History → Type 0) (KeptServed : RspSe
       let b = k.apart.paired c is in
       let own : IsPair world.requesters cs b.0 c = record { requester = b.1; connection = is; peer = b.2 } in
       others_reach (reading_of c.setup.psk) (reading_of a.setup.psk) (state_of b.0 c world.log) (state_of b.0 (changed change c) (acts ++ world.log)) (state_of a o world.log).asked (state_of a o world.log).served
-      (λ e. differ (pair.peer ∙ sym (b.2 ∙ ap (λ (y : Requesting). y.setup.eid) (k.apart.numbers b.0 a b.1 pair.requester (k.apart.keys b.0 a b.1 pair.requester (sym b.3 ∙ e))))))
+      (λ e. differ (pair.peer ∙ sym (b.2 ∙ ap (λ (y : Requesting). y.setup.eid) (k.apart.eids b.0 a b.1 pair.requester (k.apart.keys b.0 a b.1 pair.requester (sym b.3 ∙ e))))))
       (runs b.0 own)
       (k.pairs a o pair) n
 
@@ -162,12 +161,13 @@ module _ (KeptAsked : ReqSetup → asked.History → Type 0) (KeptServed : RspSe
         | inr l ↦ k.owned p i l
       ]
 
-  pub responder_goes : (sent : List SentPacket) → all_draws cs ≤ all_draws next → all_draws next ≤ length given → IsServing KeptAsked KeptServed w (all_draws next) (changed change c) → Runs → Fits KeptAsked KeptServed w (later sent)
+  pub responder_goes : (sent : List SentPacket) → all_draws cs ≤ all_draws next → all_draws next ≤ length given → IsServing KeptAsked KeptServed (world.responder.first + all_draws next) (changed change c) → Runs → Fits KeptAsked KeptServed (later sent)
   responder_goes sent more wear well runs = record {
     apart = still_apart world.requesters cs (changed_if c.setup.peer change) (changed_keeps c.setup.peer change) k.apart;
     asks = k.asks;
     serves = all_serve more well;
     wear = wear;
+    draws = k.draws;
     owned = all_owned runs;
     pairs = all_reached runs;
   }

@@ -5,21 +5,22 @@ use Rattle.spdm_basis.specs.declared.record_fault.RecordFault.{RecordFault}
 use Rattle.spdm_grammar.specs.Message.{ChunkMessage}
 use Rattle.spdm_grammar.specs.declared.error_code.ErrorCode.{ErrorCode}
 use Rattle.spdm_grammar.specs.declared.phase.Phase.{Phase}
-use Rattle.spdm_machine.specs.Answer.{Free, request_at}
-use Rattle.spdm_machine.specs.Does.{IsMade, responder_does, clear_does, record_does, clear_chosen, record_chosen}
-use Rattle.spdm_machine.specs.Handling.{turn_of, turn_by, chunk_in, chunk_turn, carried_turn, taken_chunk, last_chunk_turn}
-use Rattle.spdm_machine.specs.History.{History, draws_of, kept_of, ended_of, clear_turns, phase_of}
-use Rattle.spdm_machine.specs.History.Entry.{Clear, Sealed}
+use Rattle.responder_machine.specs.Answer.{Free, request_at}
+use Rattle.responder_machine.specs.Does.{IsMade, responder_does, clear_does, record_does, clear_chosen, record_chosen}
+use Rattle.responder_machine.specs.Handling.{turn_of, turn_by, chunk_in, chunk_turn, carried_turn, taken_chunk, last_chunk_turn}
+use Rattle.responder_machine.specs.History.{History, draws_of, kept_of, ended_of, clear_turns, phase_of}
+use Rattle.responder_machine.specs.History.Entry.{Clear, Sealed}
 use Rattle.spdm_machine.specs.Keys.{Draw}
-use Rattle.spdm_machine.specs.Place.{Place, clear_place, inside}
-use Rattle.spdm_machine.specs.Records.{opening_fault, opened}
-use Rattle.spdm_machine.specs.Refusal.{refusal}
-use Rattle.spdm_machine.specs.Responder.{Outcome, after, on_clear, on_record, to_session, in_session, in_session_by, is_repeat, kept_reply, kept_record, repeats, clear_body, record_body, session_turn}
-use Rattle.spdm_machine.specs.Responder.Outcome.{Same, Adds}
-use Rattle.spdm_machine.specs.Session.{Events, session_of, id_in_record, last_of}
-use Rattle.spdm_machine.specs.Setup.{RspSetup}
-use Rattle.spdm_machine.specs.Turn.{Turn, takes_draw}
-use Rattle.spdm_machine.specs.Turn.Effect.{NoEffect}
+use Rattle.responder_machine.specs.Place.{Place, clear_place, inside}
+use Rattle.responder_machine.specs.Records.{opening_fault, opened}
+use Rattle.responder_machine.specs.Refusal.{refusal}
+use Rattle.responder_machine.specs.Responder.{Outcome, after, on_clear, on_record, to_session, in_session, in_session_by, is_repeat, kept_reply, kept_record, repeats, session_turn}
+use Rattle.spdm_machine.specs.Bodies.{clear_body, record_body}
+use Rattle.responder_machine.specs.Responder.Outcome.{Same, Adds}
+use Rattle.responder_machine.specs.Session.{Events, session_of, id_in_record, last_of}
+use Rattle.responder_machine.specs.Setup.{RspSetup}
+use Rattle.responder_machine.specs.Turn.{Turn, takes_draw}
+use Rattle.responder_machine.specs.Turn.Effect.{NoEffect}
 
 -- ---- A turn keeps the message that came.
 

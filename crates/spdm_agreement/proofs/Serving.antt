@@ -2,13 +2,14 @@
 use Rattle.std.proofs.Common.{◌≡◌, ℕ, List, [], ◌∷◌, ◌++◌, Bool, true, false, Some, None, ◌==◌, ◌&&◌, refl, sym, ap, ◌∙◌, subst, eqb-true, eq-eqb, cond, true≢false}
 use Rattle.spdm_grammar.specs.declared.phase.Stage.{Stage}
 use Rattle.spdm_grammar.specs.declared.phase.Stage.TheVariants as stage
-use Rattle.spdm_machine.specs.History.{History, clear_turns, negotiation_of}
-use Rattle.spdm_machine.specs.History.Entry.{Clear, Sealed, Queued, Ticked, Dropped}
-use Rattle.spdm_machine.specs.ResponderLog.{began_by}
-use Rattle.spdm_machine.specs.Session.{Event, Events, session_of, is_live, stage_of, is_past_handshake, after_record, after_exchange, after_tick, id_in_record, id_in_exchange, exchange_of, exchange_answer, finish_of, finish_answer, session_vca, t2_of}
-use Rattle.spdm_machine.specs.Session.Event.{Began, Heard, Waited}
-use Rattle.spdm_machine.specs.Setup.{RspSetup}
-use Rattle.spdm_machine.specs.Turn.{Turn, takes, answer_in, request_in}
+use Rattle.responder_machine.specs.History.{History, clear_turns, negotiation_of}
+use Rattle.responder_machine.specs.History.Entry.{Clear, Sealed, Queued, Ticked, Dropped}
+use Rattle.responder_machine.specs.ResponderLog.{began_by}
+use Rattle.responder_machine.specs.Session.{Event, Events, session_of, is_live, stage_of, after_record, after_exchange, after_tick, id_in_record, exchange_of, exchange_answer, finish_of, finish_answer, session_vca, t2_of}
+use Rattle.spdm_machine.specs.Sessions.{is_past_handshake, id_in_exchange}
+use Rattle.responder_machine.specs.Session.Event.{Began, Heard, Waited}
+use Rattle.responder_machine.specs.Setup.{RspSetup}
+use Rattle.responder_machine.specs.Turn.{Turn, takes, answer_in, request_in}
 use Rattle.spdm_agreement.specs.Marks.{Served, served_open}
 use Rattle.spdm_agreement.specs.Marks.Served.{Finished, Refused, Took}
 use Rattle.spdm_agreement.specs.Reading.{First}

@@ -24,18 +24,19 @@ use Rattle.spdm_grammar.specs.declared.block_spec.BlockSpec.{BlockSpec}
 use Rattle.spdm_grammar.specs.declared.phase.Phase.{Phase}
 use Rattle.spdm_grammar.specs.declared.phase.Phase.TheVariants.{Fresh, Versioned, Capable, Negotiated}
 use Rattle.spdm_grammar.proofs.Spellings.{read_iff}
-use Rattle.spdm_machine.specs.Answer.{Free, request_at, summary_answer, exchange_rsp, exchange_answer, t1_with}
-use Rattle.spdm_machine.specs.Does.{IsMade, chosen, clear_chosen}
-use Rattle.spdm_machine.specs.History.{History, clear_turns, phase_of, negotiation_of}
-use Rattle.spdm_machine.specs.History.Entry.{Clear, Sealed, Queued, Ticked, Dropped}
+use Rattle.responder_machine.specs.Answer.{Free, request_at, summary_answer, exchange_rsp, exchange_answer, t1_with}
+use Rattle.responder_machine.specs.Does.{IsMade, chosen, clear_chosen}
+use Rattle.responder_machine.specs.History.{History, clear_turns, phase_of, negotiation_of}
+use Rattle.responder_machine.specs.History.Entry.{Clear, Sealed, Queued, Ticked, Dropped}
 use Rattle.spdm_machine.specs.Keys.{Draw, context_of, verify_data}
-use Rattle.spdm_machine.specs.Place.{Place, place_terms}
-use Rattle.spdm_machine.specs.Refusal.{phase_allows, has_pending}
-use Rattle.spdm_machine.specs.Session.{Event, Events, session_of, is_live, stage_of, is_past_handshake, session_negotiation, after_tick, when_live, id_in_exchange, id_in_record}
-use Rattle.spdm_machine.specs.Session.Event.{Began, Heard, Waited}
-use Rattle.spdm_machine.specs.Setup.{RspSetup, inventory_of}
+use Rattle.responder_machine.specs.Place.{Place, place_terms}
+use Rattle.responder_machine.specs.Refusal.{phase_allows, has_pending}
+use Rattle.responder_machine.specs.Session.{Event, Events, session_of, is_live, stage_of, session_negotiation, after_tick, when_live, id_in_record}
+use Rattle.spdm_machine.specs.Sessions.{is_past_handshake, id_in_exchange}
+use Rattle.responder_machine.specs.Session.Event.{Began, Heard, Waited}
+use Rattle.responder_machine.specs.Setup.{RspSetup, inventory_of}
 use Rattle.spdm_machine.specs.Terms.{terms_of, hash_len}
-use Rattle.spdm_machine.specs.Turn.{Turn, Effect, code_for, code_in, takes, request_in as request_bytes, answer_in}
+use Rattle.responder_machine.specs.Turn.{Turn, Effect, code_for, code_in, takes, request_in as request_bytes, answer_in}
 use Rattle.transcript.specs.Transcripts.{Negotiation, vca_of, without_verify}
 use Rattle.spdm_agreement.specs.Configured.{IsResponder}
 use Rattle.spdm_agreement.specs.Reading.{First}

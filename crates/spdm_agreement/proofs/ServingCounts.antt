@@ -4,15 +4,16 @@ use Rattle.std.proofs.lemmas.Slice.Eq.{bytes_eq-Decides}
 use Rattle.spdm_grammar.specs.Message.RequestMessage.{KeyUpdate}
 use Rattle.spdm_grammar.specs.declared.phase.Stage.{Stage}
 use Rattle.spdm_grammar.specs.declared.phase.Stage.TheVariants as stage
-use Rattle.spdm_machine.specs.Answer.{Free}
-use Rattle.spdm_machine.specs.History.{History, clear_turns, negotiation_of}
-use Rattle.spdm_machine.specs.ResponderLog.{began_by}
-use Rattle.spdm_machine.specs.Session.{Event, Events, stage_of, is_live, is_past_handshake, after_record, after_exchange, after_tick, id_in_exchange, request_next, response_next, request_epoch, response_epoch, t2_of}
-use Rattle.spdm_machine.specs.Session.Event.{Began, Heard, Waited}
-use Rattle.spdm_machine.specs.Setup.{RspSetup}
+use Rattle.responder_machine.specs.Answer.{Free}
+use Rattle.responder_machine.specs.History.{History, clear_turns, negotiation_of}
+use Rattle.responder_machine.specs.ResponderLog.{began_by}
+use Rattle.responder_machine.specs.Session.{Event, Events, stage_of, is_live, after_record, after_exchange, after_tick, request_next, response_next, request_epoch, response_epoch, t2_of}
+use Rattle.spdm_machine.specs.Sessions.{is_past_handshake, id_in_exchange}
+use Rattle.responder_machine.specs.Session.Event.{Began, Heard, Waited}
+use Rattle.responder_machine.specs.Setup.{RspSetup}
 use Rattle.spdm_machine.specs.TagLog.{Log}
-use Rattle.spdm_machine.specs.Turn.{Turn, Effect, code_in, takes, updates, answer_in, request_in, asked_in}
-use Rattle.spdm_machine.specs.Turn.Effect.{NoEffect, TookData}
+use Rattle.responder_machine.specs.Turn.{Turn, Effect, code_in, takes, updates, answer_in, request_in, asked_in}
+use Rattle.responder_machine.specs.Turn.Effect.{NoEffect, TookData}
 use Rattle.spdm_agreement.specs.Marks.{Asked, Served, HasOpened, served_open, taken, epoch_of, count_of, Exchange}
 use Rattle.spdm_agreement.specs.Marks.Served.{Finished, Refused, Took}
 use Rattle.spdm_agreement.specs.Reading.{First}
@@ -26,7 +27,7 @@ use Rattle.spdm_agreement.proofs.Data.{verifying}
 use Rattle.std.proofs.lemmas.Bool.{leb-true}
 use Rattle.std.specs.Prelude.{nat_le}
 use Rattle.spdm_grammar.specs.Fields.{is_key_operation}
-use Rattle.spdm_machine.specs.Records.{opened}
+use Rattle.responder_machine.specs.Records.{opened}
 use Rattle.spdm_agreement.proofs.ServingSteps.{Counts, Opens, is_verifying, exchange_of, updates_all, updates_any, updates_third}
 
 -- What is held open is counted.

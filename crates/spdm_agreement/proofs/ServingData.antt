@@ -2,15 +2,16 @@
 use Rattle.std.proofs.Common.{◌≡◌, ℕ, ◌≤◌, List, [], ◌∷◌, ◌++◌, length, Bool, true, false, cond, refl, sym, ap, ◌∙◌, subst, inl, inr, true≢false, bytes_eq}
 use Rattle.spdm_grammar.specs.declared.phase.Stage.{Stage}
 use Rattle.spdm_grammar.specs.declared.phase.Stage.TheVariants as stage
-use Rattle.spdm_machine.specs.Answer.{Free}
-use Rattle.spdm_machine.specs.Does.{IsMade, record_chosen, responder_does}
-use Rattle.spdm_machine.specs.History.{History}
-use Rattle.spdm_machine.specs.History.Entry.{Clear, Sealed, Queued, Ticked, Dropped}
-use Rattle.spdm_machine.specs.Records.{opened}
-use Rattle.spdm_machine.specs.Responder.{Outcome, is_open, after}
-use Rattle.spdm_machine.specs.Session.{Events, Event, session_of, stage_of, is_past_handshake, id_in_record, t2_of}
-use Rattle.spdm_machine.specs.Setup.{RspSetup}
-use Rattle.spdm_machine.specs.Turn.{Turn, takes}
+use Rattle.responder_machine.specs.Answer.{Free}
+use Rattle.responder_machine.specs.Does.{IsMade, record_chosen, responder_does}
+use Rattle.responder_machine.specs.History.{History}
+use Rattle.responder_machine.specs.History.Entry.{Clear, Sealed, Queued, Ticked, Dropped}
+use Rattle.responder_machine.specs.Records.{opened}
+use Rattle.responder_machine.specs.Responder.{Outcome, is_open, after}
+use Rattle.responder_machine.specs.Session.{Events, Event, session_of, stage_of, id_in_record, t2_of}
+use Rattle.spdm_machine.specs.Sessions.{is_past_handshake}
+use Rattle.responder_machine.specs.Setup.{RspSetup}
+use Rattle.responder_machine.specs.Turn.{Turn, takes}
 use Rattle.spdm_agreement.specs.Marks.{Served, Exchange, taken}
 use Rattle.spdm_agreement.specs.Reading.{First}
 use Rattle.spdm_agreement.specs.Story.{served_marks, served_first, served_turn, record_marks, taken_text, reply_text}

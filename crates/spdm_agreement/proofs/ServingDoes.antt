@@ -6,22 +6,24 @@ use Rattle.spdm_basis.specs.declared.record_fault.RecordFault.{RecordFault}
 use Rattle.spdm_grammar.specs.declared.phase.Phase.{Phase}
 use Rattle.spdm_grammar.specs.declared.phase.Stage.{Stage}
 use Rattle.spdm_grammar.specs.declared.phase.Stage.TheVariants as stage
-use Rattle.spdm_machine.specs.Answer.{Free}
-use Rattle.spdm_machine.specs.Does.{IsMade, chosen, clear_chosen, record_chosen, clear_does, record_does, responder_does}
-use Rattle.spdm_machine.specs.Handling.{turn_of}
-use Rattle.spdm_machine.specs.History.{History, kept_of, ended_of, clear_turns, phase_of, draws_of}
-use Rattle.spdm_machine.specs.History.Entry.{Clear, Sealed}
+use Rattle.responder_machine.specs.Answer.{Free}
+use Rattle.responder_machine.specs.Does.{IsMade, chosen, clear_chosen, record_chosen, clear_does, record_does, responder_does}
+use Rattle.responder_machine.specs.Handling.{turn_of}
+use Rattle.responder_machine.specs.History.{History, kept_of, ended_of, clear_turns, phase_of, draws_of}
+use Rattle.responder_machine.specs.History.Entry.{Clear, Sealed}
 use Rattle.spdm_machine.specs.Keys.{Draw, verify_data}
-use Rattle.spdm_machine.specs.Place.{clear_place}
-use Rattle.spdm_machine.specs.Records.{opening_fault, opened, reply_record}
-use Rattle.spdm_machine.specs.Responder.{on_clear, on_record, to_session, in_session, in_session_by, session_turn, inner_reply, is_repeat, kept_reply, clear_body, repeats, record_body, kept_record, decrypt_error}
-use Rattle.spdm_machine.specs.Responder.Outcome.{Same, Unopened, Adds}
-use Rattle.spdm_machine.specs.ResponderLog.{began_by, response_made, opened_acts, unopened_acts}
-use Rattle.spdm_machine.specs.Session.{Event, Events, session_of, stage_of, is_live, is_past_handshake, after_record, id_in_record, last_of, session_terms, t1_of, t2_of}
-use Rattle.spdm_machine.specs.Session.Event.{Heard}
-use Rattle.spdm_machine.specs.Setup.{RspSetup}
+use Rattle.responder_machine.specs.Place.{clear_place}
+use Rattle.responder_machine.specs.Records.{opening_fault, opened, reply_record}
+use Rattle.responder_machine.specs.Responder.{on_clear, on_record, to_session, in_session, in_session_by, session_turn, inner_reply, is_repeat, kept_reply, repeats, kept_record, decrypt_error}
+use Rattle.spdm_machine.specs.Bodies.{clear_body, record_body}
+use Rattle.responder_machine.specs.Responder.Outcome.{Same, Unopened, Adds}
+use Rattle.responder_machine.specs.ResponderLog.{began_by, response_made, opened_acts, unopened_acts}
+use Rattle.responder_machine.specs.Session.{Event, Events, session_of, stage_of, is_live, after_record, id_in_record, last_of, session_terms, t1_of, t2_of}
+use Rattle.spdm_machine.specs.Sessions.{is_past_handshake}
+use Rattle.responder_machine.specs.Session.Event.{Heard}
+use Rattle.responder_machine.specs.Setup.{RspSetup}
 use Rattle.spdm_machine.specs.TagLog.{Log}
-use Rattle.spdm_machine.specs.Turn.{Turn, takes, takes_draw}
+use Rattle.responder_machine.specs.Turn.{Turn, takes, takes_draw}
 use Rattle.world_machine.specs.Chance.{NoChance}
 use Rattle.spdm_agreement.specs.Claims.{IsReached}
 use Rattle.spdm_agreement.specs.Marks.{Asked, Served, next_served, taken}

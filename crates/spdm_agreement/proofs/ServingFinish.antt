@@ -14,14 +14,14 @@ use Rattle.spdm_grammar.specs.Requests.{canonical_request}
 use Rattle.spdm_grammar.specs.Responses.{canonical_response}
 use Rattle.spdm_grammar.specs.declared.phase.Stage.{Stage}
 use Rattle.spdm_grammar.specs.declared.phase.Stage.TheVariants as stage
-use Rattle.spdm_machine.specs.Answer.{Free, answer_of}
-use Rattle.spdm_machine.specs.Place.{session_place}
-use Rattle.spdm_machine.specs.Refusal.{stage_allows, has_pending}
-use Rattle.spdm_machine.specs.Responder.{is_open}
-use Rattle.spdm_machine.specs.Session.{Events, stage_of, session_vca, exchange_of, exchange_answer, finish_of, finish_answer, t2_of}
-use Rattle.spdm_machine.specs.Session.Event.{Heard}
-use Rattle.spdm_machine.specs.Setup.{RspSetup}
-use Rattle.spdm_machine.specs.Turn.{Turn, Effect, code_for, code_in, takes, updates, is_data, answer_in, request_in}
+use Rattle.responder_machine.specs.Answer.{Free, answer_of}
+use Rattle.responder_machine.specs.Place.{session_place}
+use Rattle.responder_machine.specs.Refusal.{stage_allows, has_pending}
+use Rattle.responder_machine.specs.Responder.{is_open}
+use Rattle.responder_machine.specs.Session.{Events, stage_of, session_vca, exchange_of, exchange_answer, finish_of, finish_answer, t2_of}
+use Rattle.responder_machine.specs.Session.Event.{Heard}
+use Rattle.responder_machine.specs.Setup.{RspSetup}
+use Rattle.responder_machine.specs.Turn.{Turn, Effect, code_for, code_in, takes, updates, is_data, answer_in, request_in}
 use Rattle.transcript.specs.Transcripts as transcript
 use Rattle.transcript.specs.Transcripts.{vca_of}
 use Rattle.spdm_agreement.specs.Reading.{First}

@@ -28,20 +28,21 @@ use Rattle.spdm_grammar.specs.declared.part_faults.CapsFault.{CapsFault}
 use Rattle.spdm_grammar.specs.declared.part_faults.CapsFault.TheVariants.{SizeTooSmall, SizesCrossed, NoPsk, NoProtection}
 use Rattle.spdm_grammar.specs.declared.phase.Phase.{Phase}
 use Rattle.spdm_grammar.specs.declared.phase.Phase.TheVariants.{Fresh, Versioned, Capable, Negotiated}
-use Rattle.spdm_machine.specs.Answer.{Free, request_at, answer_bytes, answer_to, answer_of, version_answer, algorithms_answer}
-use Rattle.spdm_machine.specs.Does.{IsMade, clear_does, clear_chosen}
-use Rattle.spdm_machine.specs.Handling.{turn_of, handle_for}
-use Rattle.spdm_machine.specs.History.{History, clear_turns, phase_of, negotiation_of, kept_of}
-use Rattle.spdm_machine.specs.History.Entry.{Clear, Sealed, Queued, Ticked, Dropped}
+use Rattle.responder_machine.specs.Answer.{Free, request_at, answer_bytes, answer_to, answer_of, version_answer, algorithms_answer}
+use Rattle.responder_machine.specs.Does.{IsMade, clear_does, clear_chosen}
+use Rattle.responder_machine.specs.Handling.{turn_of, handle_for}
+use Rattle.responder_machine.specs.History.{History, clear_turns, phase_of, negotiation_of, kept_of}
+use Rattle.responder_machine.specs.History.Entry.{Clear, Sealed, Queued, Ticked, Dropped}
 use Rattle.spdm_machine.specs.Keys.{Draw}
-use Rattle.spdm_machine.specs.Place.{Place, clear_place, place_terms}
-use Rattle.spdm_machine.specs.Refusal.{phase_allows, refused_contents, are_caps_refused}
-use Rattle.spdm_machine.specs.Responder.{on_clear, is_repeat, kept_reply, clear_body}
-use Rattle.spdm_machine.specs.Responder.Outcome.{Same, Adds}
-use Rattle.spdm_machine.specs.Setup.{RspSetup, responder_caps, policy_of}
+use Rattle.responder_machine.specs.Place.{Place, clear_place, place_terms}
+use Rattle.responder_machine.specs.Refusal.{phase_allows, refused_contents, are_caps_refused}
+use Rattle.responder_machine.specs.Responder.{on_clear, is_repeat, kept_reply}
+use Rattle.spdm_machine.specs.Bodies.{clear_body}
+use Rattle.responder_machine.specs.Responder.Outcome.{Same, Adds}
+use Rattle.responder_machine.specs.Setup.{RspSetup, responder_caps, policy_of}
 use Rattle.spdm_machine.specs.Terms.{hash_len, no_negotiation, no_choice, no_common, request_value, response_value, asked_caps, told_caps, common_from}
-use Rattle.spdm_machine.specs.Turn.{Turn, Effect, code_for, code_in, request_in as request_bytes, answer_in}
-use Rattle.spdm_machine.specs.Turn.Effect.{NoEffect, Took}
+use Rattle.responder_machine.specs.Turn.{Turn, Effect, code_for, code_in, request_in as request_bytes, answer_in}
+use Rattle.responder_machine.specs.Turn.Effect.{NoEffect, Took}
 use Rattle.transcript.specs.Transcripts.{Negotiation}
 use Rattle.spdm_agreement.specs.Configured.{IsResponder}
 use Rattle.spdm_agreement.proofs.Codes.{code_read, second_byte}

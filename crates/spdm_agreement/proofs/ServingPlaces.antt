@@ -5,16 +5,16 @@ use Rattle.chunking.specs.Collecting.{under_way, joined_with}
 use Rattle.spdm_grammar.specs.Message.{RequestMessage, ChunkMessage}
 use Rattle.spdm_grammar.specs.declared.error_code.ErrorCode.{ErrorCode}
 use Rattle.spdm_grammar.specs.declared.phase.Phase.{Phase}
-use Rattle.spdm_machine.specs.Answer.{Free, request_at, answer_bytes}
-use Rattle.spdm_machine.specs.Handling.{turn_of, turn_by, chunk_in, request_effect, effect_of, handle_for, last_chunk_turn, carried_turn, taken_chunk}
-use Rattle.spdm_machine.specs.History.{History, clear_turns, phase_of, negotiation_of}
-use Rattle.spdm_machine.specs.LargeMessages.{chunks_of}
-use Rattle.spdm_machine.specs.Place.{Place, clear_place, inside, place_terms}
-use Rattle.spdm_machine.specs.Refusal.{first_of_tests, tests_of_form, tests_of_contents, refused_form, refused_contents, refusal, or_else, code_of, phase_allows, has_pending, is_allowed, are_caps_refused, is_exchange_refused}
-use Rattle.spdm_machine.specs.Setup.{RspSetup}
+use Rattle.responder_machine.specs.Answer.{Free, request_at, answer_bytes}
+use Rattle.responder_machine.specs.Handling.{turn_of, turn_by, chunk_in, request_effect, effect_of, handle_for, last_chunk_turn, carried_turn, taken_chunk}
+use Rattle.responder_machine.specs.History.{History, clear_turns, phase_of, negotiation_of}
+use Rattle.responder_machine.specs.LargeMessages.{chunks_of}
+use Rattle.responder_machine.specs.Place.{Place, clear_place, inside, place_terms}
+use Rattle.responder_machine.specs.Refusal.{first_of_tests, tests_of_form, tests_of_contents, refused_form, refused_contents, refusal, or_else, code_of, phase_allows, has_pending, is_allowed, are_caps_refused, is_exchange_refused}
+use Rattle.responder_machine.specs.Setup.{RspSetup}
 use Rattle.spdm_machine.specs.Terms.{hash_len}
-use Rattle.spdm_machine.specs.Turn.{Effect, code_for}
-use Rattle.spdm_machine.specs.Turn.Effect.{NoEffect, Took}
+use Rattle.responder_machine.specs.Turn.{Effect, code_for}
+use Rattle.responder_machine.specs.Turn.Effect.{NoEffect, Took}
 use Rattle.transcript.specs.Transcripts.{Negotiation}
 use Rattle.spdm_agreement.proofs.Codes.{code_read}
 

@@ -12,18 +12,18 @@ use Rattle.spdm_basis.specs.declared.record_fault.RecordFault.TheVariants.{BadTa
 use Rattle.spdm_grammar.specs.Message.{RequestMessage}
 use Rattle.spdm_grammar.specs.Message.RequestMessage.{PskFinish}
 use Rattle.spdm_grammar.specs.declared.choice.Choice.{Choice}
-use Rattle.spdm_machine.specs.Answer.{request_at}
+use Rattle.responder_machine.specs.Answer.{request_at}
 use Rattle.spdm_machine.specs.Keys.{record_fault}
-use Rattle.spdm_machine.specs.Place.{session_place}
-use Rattle.spdm_machine.specs.Records.{opening_fault, opened, request_purpose, reply_purpose, reply_number, reply_record}
-use Rattle.spdm_machine.specs.Refusal.{refused_form}
-use Rattle.spdm_machine.specs.Responder.{inner_refusal, inner_reply}
-use Rattle.spdm_machine.specs.ResponderLog.{finish_check, finish_acts, inner_acts, record_check, unopened_acts}
-use Rattle.spdm_machine.specs.Session.{Events, stage_of, session_terms, request_next, id_bytes, is_spent}
-use Rattle.spdm_machine.specs.Setup.{RspSetup}
+use Rattle.responder_machine.specs.Place.{session_place}
+use Rattle.responder_machine.specs.Records.{opening_fault, opened, request_purpose, reply_purpose, reply_number, reply_record}
+use Rattle.responder_machine.specs.Refusal.{refused_form}
+use Rattle.responder_machine.specs.Responder.{inner_refusal, inner_reply}
+use Rattle.responder_machine.specs.ResponderLog.{finish_check, finish_acts, inner_acts, record_check, unopened_acts}
+use Rattle.responder_machine.specs.Session.{Events, stage_of, session_terms, request_next, id_bytes, is_spent}
+use Rattle.responder_machine.specs.Setup.{RspSetup}
 use Rattle.spdm_machine.specs.TagLog.{Log, record_input, record_tag, checked_record}
 use Rattle.spdm_machine.specs.TagLog.Act.{Checked}
-use Rattle.spdm_machine.specs.Turn.{Turn}
+use Rattle.responder_machine.specs.Turn.{Turn}
 use Rattle.spdm_agreement.specs.Moves.{IsPassed}
 use Rattle.spdm_agreement.specs.Story.{served_first, taken_text, reply_text}
 use Rattle.spdm_agreement.proofs.ServingMoves.{AreChecks}

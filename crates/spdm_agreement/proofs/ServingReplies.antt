@@ -11,14 +11,14 @@ use Rattle.spdm_grammar.specs.Message.ResponseMessage.{KeyUpdateAck}
 use Rattle.spdm_grammar.specs.Requests.{IsRequestSpelling, request_layout, request_in, request_body, key_update_layout}
 use Rattle.spdm_grammar.specs.Responses.{canonical_response}
 use Rattle.spdm_grammar.proofs.Spellings.{read_iff}
-use Rattle.spdm_machine.specs.Answer.{Free, answer_of, answer_to, answer_bytes}
-use Rattle.spdm_machine.specs.Handling.{goes_large, large_response, sent_for}
-use Rattle.spdm_machine.specs.Place.{session_place}
-use Rattle.spdm_machine.specs.Session.{Events, session_terms}
-use Rattle.spdm_machine.specs.Setup.{RspSetup}
+use Rattle.responder_machine.specs.Answer.{Free, answer_of, answer_to, answer_bytes}
+use Rattle.responder_machine.specs.Handling.{goes_large, large_response, sent_for}
+use Rattle.responder_machine.specs.Place.{session_place}
+use Rattle.responder_machine.specs.Session.{Events, session_terms}
+use Rattle.responder_machine.specs.Setup.{RspSetup}
 use Rattle.spdm_machine.specs.Terms.{hash_len}
-use Rattle.spdm_machine.specs.Turn.{Turn, Effect, is_data, updates, answer_in, asked_in}
-use Rattle.spdm_machine.specs.Turn.Effect.{NoEffect, Took, TookData}
+use Rattle.responder_machine.specs.Turn.{Turn, Effect, is_data, updates, answer_in, asked_in}
+use Rattle.responder_machine.specs.Turn.Effect.{NoEffect, Took, TookData}
 use Rattle.spdm_agreement.specs.Story.{reply_text}
 use Rattle.spdm_agreement.proofs.Codes.{code_read, second_byte}
 use Rattle.spdm_agreement.proofs.Sessions.{is_message, is_update_of, operation_in, message_text}

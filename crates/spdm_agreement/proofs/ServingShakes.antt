@@ -3,14 +3,15 @@ use Rattle.std.proofs.Common.{◌≡◌, ◌⊎◌, ℕ, ◌+◌, List, [], ◌�
 use Rattle.spdm_grammar.specs.Message.RequestMessage.{KeyUpdate}
 use Rattle.spdm_grammar.specs.declared.phase.Stage.{Stage}
 use Rattle.spdm_grammar.specs.declared.phase.Stage.TheVariants as stage
-use Rattle.spdm_machine.specs.History.{History, clear_turns, negotiation_of}
-use Rattle.spdm_machine.specs.History.Entry.{Clear, Sealed, Queued, Ticked, Dropped}
-use Rattle.spdm_machine.specs.ResponderLog.{began_by}
-use Rattle.spdm_machine.specs.Session.{Event, Events, session_of, is_live, stage_of, is_past_handshake, after_record, after_exchange, after_tick, id_in_record, id_in_exchange, exchange_answer, request_next, response_next, t2_of}
-use Rattle.spdm_machine.specs.Session.Event.{Began, Heard, Waited}
-use Rattle.spdm_machine.specs.Setup.{RspSetup}
-use Rattle.spdm_machine.specs.Turn.{Turn, Effect, takes, updates, answer_in, request_in}
-use Rattle.spdm_machine.specs.Turn.Effect.{NoEffect, Took, TookData}
+use Rattle.responder_machine.specs.History.{History, clear_turns, negotiation_of}
+use Rattle.responder_machine.specs.History.Entry.{Clear, Sealed, Queued, Ticked, Dropped}
+use Rattle.responder_machine.specs.ResponderLog.{began_by}
+use Rattle.responder_machine.specs.Session.{Event, Events, session_of, is_live, stage_of, after_record, after_exchange, after_tick, id_in_record, exchange_answer, request_next, response_next, t2_of}
+use Rattle.spdm_machine.specs.Sessions.{is_past_handshake, id_in_exchange}
+use Rattle.responder_machine.specs.Session.Event.{Began, Heard, Waited}
+use Rattle.responder_machine.specs.Setup.{RspSetup}
+use Rattle.responder_machine.specs.Turn.{Turn, Effect, takes, updates, answer_in, request_in}
+use Rattle.responder_machine.specs.Turn.Effect.{NoEffect, Took, TookData}
 use Rattle.spdm_agreement.specs.Marks.{Served, HasBegun, handshake}
 use Rattle.spdm_agreement.specs.Marks.Served.{Finished, Refused}
 use Rattle.spdm_agreement.specs.Reading.{First}

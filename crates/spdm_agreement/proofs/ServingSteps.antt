@@ -5,17 +5,19 @@ use Rattle.key_schedule.specs.Purpose.{Purpose, application_record}
 use Rattle.key_schedule.specs.declared.direction.Direction.TheVariants.{Request, Response}
 use Rattle.spdm_grammar.specs.declared.phase.Stage.{Stage}
 use Rattle.spdm_grammar.specs.declared.phase.Stage.TheVariants as stage
-use Rattle.spdm_machine.specs.Answer.{Free}
-use Rattle.spdm_machine.specs.Records as records
-use Rattle.spdm_machine.specs.Records.{purpose_in, opening_fault, opened, reply_record}
-use Rattle.spdm_machine.specs.Responder.{inner_reply}
-use Rattle.spdm_machine.specs.ResponderLog.{inner_acts, record_check, reply_made, opened_acts}
-use Rattle.spdm_machine.specs.Session.{Events, stage_of, is_live, is_past_handshake, session_terms, request_next, response_next, request_epoch, response_epoch, t1_of, t2_of}
-use Rattle.spdm_machine.specs.Session.Event.{Heard}
-use Rattle.spdm_machine.specs.Setup.{RspSetup}
+use Rattle.responder_machine.specs.Answer.{Free}
+use Rattle.responder_machine.specs.Records as records
+use Rattle.spdm_machine.specs.Sessions.{purpose_in}
+use Rattle.responder_machine.specs.Records.{opening_fault, opened, reply_record}
+use Rattle.responder_machine.specs.Responder.{inner_reply}
+use Rattle.responder_machine.specs.ResponderLog.{inner_acts, record_check, reply_made, opened_acts}
+use Rattle.responder_machine.specs.Session.{Events, stage_of, is_live, session_terms, request_next, response_next, request_epoch, response_epoch, t1_of, t2_of}
+use Rattle.spdm_machine.specs.Sessions.{is_past_handshake}
+use Rattle.responder_machine.specs.Session.Event.{Heard}
+use Rattle.responder_machine.specs.Setup.{RspSetup}
 use Rattle.spdm_machine.specs.TagLog.{Act, Log, record_input, record_tag}
 use Rattle.spdm_machine.specs.TagLog.Act.{Made}
-use Rattle.spdm_machine.specs.Turn.{Turn, takes, updates}
+use Rattle.responder_machine.specs.Turn.{Turn, takes, updates}
 use Rattle.spdm_agreement.specs.Marks.{Asked, Served, Text, Exchange, HasBegun, handshake, served_open, taken, epoch_of, count_of}
 use Rattle.spdm_agreement.specs.Marks as marks
 use Rattle.spdm_agreement.specs.Marks.Served.{Finished, Refused, Took}

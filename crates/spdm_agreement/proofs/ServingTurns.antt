@@ -5,16 +5,16 @@ use Rattle.spdm_grammar.specs.Message.{RequestMessage}
 use Rattle.spdm_grammar.specs.Message.RequestMessage.{ChunkSend}
 use Rattle.spdm_grammar.specs.declared.error_code.ErrorCode.{ErrorCode}
 use Rattle.spdm_grammar.specs.declared.error_code.ErrorCode.TheVariants.{InvalidRequest, RequestTooLarge, UnsupportedRequest, SessionRequired, UnexpectedRequest, VersionMismatch}
-use Rattle.spdm_machine.specs.Answer.{Free, request_at, answer_bytes}
-use Rattle.spdm_machine.specs.Handling.{turn_of, turn_by, chunk_in, refused_turn, plain_turn, effect_of, handle_for}
-use Rattle.spdm_machine.specs.Place.{session_place, place_terms}
-use Rattle.spdm_machine.specs.Refusal.{first_of_tests, refused_form, refusal, code_of, is_known, is_one_of, version_for, stage_allows, has_pending}
-use Rattle.spdm_machine.specs.Responder.{inner_refusal, data_turn, session_turn, session_turn_by, is_open}
-use Rattle.spdm_machine.specs.Session.{Events, stage_of}
-use Rattle.spdm_machine.specs.Setup.{RspSetup}
+use Rattle.responder_machine.specs.Answer.{Free, request_at, answer_bytes}
+use Rattle.responder_machine.specs.Handling.{turn_of, turn_by, chunk_in, refused_turn, plain_turn, effect_of, handle_for}
+use Rattle.responder_machine.specs.Place.{session_place, place_terms}
+use Rattle.responder_machine.specs.Refusal.{first_of_tests, refused_form, refusal, code_of, is_known, is_one_of, version_for, stage_allows, has_pending}
+use Rattle.responder_machine.specs.Responder.{inner_refusal, data_turn, session_turn, session_turn_by, is_open}
+use Rattle.responder_machine.specs.Session.{Events, stage_of}
+use Rattle.responder_machine.specs.Setup.{RspSetup}
 use Rattle.spdm_machine.specs.Terms.{hash_len}
-use Rattle.spdm_machine.specs.Turn.{Turn, code_for}
-use Rattle.spdm_machine.specs.Turn.Effect.{Took}
+use Rattle.responder_machine.specs.Turn.{Turn, code_for}
+use Rattle.responder_machine.specs.Turn.Effect.{Took}
 use Rattle.spdm_agreement.proofs.Codes.{code_read}
 use Rattle.spdm_agreement.proofs.Steady.{form_of, sound_form}
 

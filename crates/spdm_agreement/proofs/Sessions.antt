@@ -27,7 +27,7 @@ use Rattle.spdm_grammar.proofs.Ends.{no_request_longer, no_response_longer}
 use Rattle.spdm_grammar.proofs.Spellings.{read_iff}
 use Rattle.spdm_grammar.specs.declared.choice.Choice.{Choice}
 use Rattle.spdm_machine.specs.Keys.{verify_data}
-use Rattle.spdm_machine.specs.Session.{id_in_exchange}
+use Rattle.spdm_machine.specs.Sessions.{id_in_exchange}
 use Rattle.spdm_machine.specs.Terms.{Terms, terms_of, hash_len}
 use Rattle.transcript.specs.Transcripts.{Negotiation, vca_of, without_verify, t1_of, t2_of}
 use Rattle.spdm_agreement.specs.Reading.{First, Reading}

@@ -9,23 +9,25 @@ use Rattle.spdm_grammar.specs.declared.error_code.ErrorCode.TheVariants.{Invalid
 use Rattle.spdm_grammar.specs.declared.phase.Phase.{Phase}
 use Rattle.spdm_grammar.specs.declared.phase.Stage.{Stage}
 use Rattle.spdm_grammar.specs.declared.phase.Stage.TheVariants as stage
-use Rattle.spdm_machine.specs.Answer.{Free, request_at, answer_bytes}
-use Rattle.spdm_machine.specs.Does.{IsMade, record_chosen}
-use Rattle.spdm_machine.specs.Handling.{turn_of, turn_by, chunk_in, effect_of, handle_for}
-use Rattle.spdm_machine.specs.History.{History, ended_of, clear_turns, phase_of}
-use Rattle.spdm_machine.specs.History.Entry.{Clear, Sealed, Queued, Ticked, Dropped}
+use Rattle.responder_machine.specs.Answer.{Free, request_at, answer_bytes}
+use Rattle.responder_machine.specs.Does.{IsMade, record_chosen}
+use Rattle.responder_machine.specs.Handling.{turn_of, turn_by, chunk_in, effect_of, handle_for}
+use Rattle.responder_machine.specs.History.{History, ended_of, clear_turns, phase_of}
+use Rattle.responder_machine.specs.History.Entry.{Clear, Sealed, Queued, Ticked, Dropped}
 use Rattle.spdm_machine.specs.Keys.{Draw}
-use Rattle.spdm_machine.specs.Place.{Place, session_place, place_terms}
-use Rattle.spdm_machine.specs.Records.{opened, opening_fault}
-use Rattle.spdm_machine.specs.Refusal.{first_of_tests, refused_form, refused_contents, refusal, or_else, code_of, is_known, is_one_of, version_for, stage_allows, has_pending}
-use Rattle.spdm_machine.specs.Responder.{Outcome, on_record, to_session, in_session, in_session_by, session_turn, session_turn_by, inner_refusal, data_turn, repeats, record_body, kept_record}
-use Rattle.spdm_machine.specs.Responder.Outcome.{Same, Adds}
-use Rattle.spdm_machine.specs.Session.{Events, session_of, stage_of, is_past_handshake, id_in_record, last_of}
-use Rattle.spdm_machine.specs.Session.Event.{Heard}
-use Rattle.spdm_machine.specs.Setup.{RspSetup}
+use Rattle.responder_machine.specs.Place.{Place, session_place, place_terms}
+use Rattle.responder_machine.specs.Records.{opened, opening_fault}
+use Rattle.responder_machine.specs.Refusal.{first_of_tests, refused_form, refused_contents, refusal, or_else, code_of, is_known, is_one_of, version_for, stage_allows, has_pending}
+use Rattle.responder_machine.specs.Responder.{Outcome, on_record, to_session, in_session, in_session_by, session_turn, session_turn_by, inner_refusal, data_turn, repeats, kept_record}
+use Rattle.spdm_machine.specs.Bodies.{record_body}
+use Rattle.responder_machine.specs.Responder.Outcome.{Same, Adds}
+use Rattle.responder_machine.specs.Session.{Events, session_of, stage_of, id_in_record, last_of}
+use Rattle.spdm_machine.specs.Sessions.{is_past_handshake}
+use Rattle.responder_machine.specs.Session.Event.{Heard}
+use Rattle.responder_machine.specs.Setup.{RspSetup}
 use Rattle.spdm_machine.specs.Terms.{hash_len}
-use Rattle.spdm_machine.specs.Turn.{Turn, Effect, code_for, code_in, asked_in}
-use Rattle.spdm_machine.specs.Turn.Effect.{NoEffect, Took, TookData}
+use Rattle.responder_machine.specs.Turn.{Turn, Effect, code_for, code_in, asked_in}
+use Rattle.responder_machine.specs.Turn.Effect.{NoEffect, Took, TookData}
 use Rattle.spdm_agreement.proofs.Codes.{code_read}
 use Rattle.spdm_agreement.proofs.Serving.{EndsByFinish, IsSteady}
 

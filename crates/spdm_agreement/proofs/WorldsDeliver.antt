@@ -1,13 +1,12 @@
 -- What the ends of each pair took of application data is the beginning of what was sealed, in every world.
 use Rattle.std.proofs.Common.{◌≡◌, List, ℕ, sym, subst}
 use Rattle.requester_machine.specs.History as asked
-use Rattle.spdm_machine.specs.History as served
-use Rattle.spdm_machine.specs.Setup.{RspSetup, ReqSetup}
+use Rattle.responder_machine.specs.History as served
+use Rattle.responder_machine.specs.Setup.{RspSetup}
+use Rattle.requester_machine.specs.Setup.{ReqSetup}
 use Rattle.world_machine.specs.Agreement.{DataPrefix, IsPrefixOf}
-use Rattle.world_machine.specs.Setup.{WorldSetup}
 use Rattle.world_machine.specs.Trace.{world_after}
 use Rattle.world_machine.specs.World.{World}
-use Rattle.spdm_agreement.specs.Configured.{IsConfigured}
 use Rattle.spdm_agreement.specs.Worlds.{WorldsDeliver}
 use Rattle.spdm_agreement.proofs.Data.{data_prefix}
 use Rattle.spdm_agreement.proofs.DataSealed as sealed
@@ -26,9 +25,9 @@ same_prefix a b x y p q k = subst (λ (l : List (List ℕ)). IsPrefixOf l b) (sy
 module _ (KeptAsked : ReqSetup → asked.History → Type 0) (KeptServed : RspSetup → served.History → Type 0)
     (asked_starts : AskedStarts KeptAsked) (asks_well : AsksWell KeptAsked) (hears_well : HearsWell KeptAsked) (asked_steady : AskedSteady) (keeps_openly : KeepsOpenly KeptAsked)
     (served_starts : ServedStarts KeptServed) (does_well : DoesWell KeptServed) (waits : Waits KeptServed) (keeps_duly : KeepsDuly KeptServed) where
-  deliver : (w : WorldSetup) (c : IsConfigured w) (world : World) → Fits KeptAsked KeptServed w world → DataPrefix world
-  deliver w c world k a x are t2 =
-      let pair = is_pair KeptAsked KeptServed asked_starts asks_well hears_well asked_steady served_starts does_well waits w c world a x are in
+  deliver : (world : World) → Fits KeptAsked KeptServed world → DataPrefix world
+  deliver world k a x are t2 =
+      let pair = is_pair KeptAsked KeptServed asked_starts asks_well hears_well asked_steady served_starts does_well waits world a x are in
       let asks = k.asks a pair.requester in
       let serves = k.serves x pair.connection in
       let s = state_of a x world.log in
@@ -39,4 +38,4 @@ module _ (KeptAsked : ReqSetup → asked.History → Type 0) (KeptServed : RspSe
 
   pub worlds_deliver : WorldsDeliver
   worlds_deliver w c entries chance =
-      deliver w c (world_after w entries) ((after_good KeptAsked KeptServed asked_starts asks_well hears_well asked_steady served_starts does_well waits w c entries).fits chance)
+      deliver (world_after w entries) ((after_good KeptAsked KeptServed asked_starts asks_well hears_well asked_steady served_starts does_well waits w c entries).fits chance)

@@ -1,11 +1,12 @@
 -- How a responder and its requesters may be set up: the limits that both ends refuse to go past, and what keeps the
 -- pairs of a world apart. A script that is read keeps all of this.
-use Rattle.std.specs.Prelude.{◌≡◌, ◌≢◌, ◌≤◌, ◌<◌, ◌+◌, ◌^◌, ℕ, List, [], ◌∷◌, length, false, None, All}
+use Rattle.std.specs.Prelude.{◌≡◌, ◌≢◌, ◌≤◌, ◌<◌, ◌+◌, ◌-◌, ◌^◌, ℕ, List, [], ◌∷◌, length, map, false, None, All}
 use Rattle.measurements.specs.Faults.{inventory_fault}
 use Rattle.spdm_grammar.specs.declared.choice.FlagSet.{FlagSet}
-use Rattle.spdm_machine.specs.Setup.{RspSetup, ReqSetup}
-use Rattle.world_machine.specs.Packets.{wear_limit}
-use Rattle.world_machine.specs.Setup.{WorldSetup, towards}
+use Rattle.responder_machine.specs.Setup.{RspSetup, Known, towards}
+use Rattle.requester_machine.specs.Setup.{ReqSetup, ReqEnd}
+use Rattle.spdm_machine.specs.Packets.{wear_limit}
+use Rattle.world_machine.specs.Setup.{WorldSetup, Configuration, known_of}
 
 -- An EID is neither one of the special ones, 0 to 7, nor the broadcast EID, 255 (DSP0236, "MCTP endpoint ID").
 pub record IsEid (eid : ℕ) : Type 0 where
@@ -61,12 +62,35 @@ abbrev pub AreApart : List ReqSetup → Type 0
 AreApart [] = Unit {0}
 AreApart (q ∷ others) = All (λ (other : ReqSetup). (q.eid ≢ other.eid) × (q.psk ≢ other.psk)) others × AreApart others
 
--- A world: at most eight requesters, each of which knows the responder. No draw has a number that eight bytes do not
--- hold: an end takes at most one draw with each packet and command.
+-- No draw from this first one on has a number that eight bytes do not hold: an end takes at most one draw with each
+-- packet and command.
+abbrev pub HasDraws : (first : ℕ) → Type 0
+HasDraws first = first + wear_limit ≤ 2 ^ 64
+
+-- How the requesters of a world are set up.
+abbrev pub setups_of : List ReqEnd → List ReqSetup
+setups_of ends = map (λ (e : ReqEnd). e.setup) ends
+
+-- A world of ends: at most eight requesters, each of which knows the responder, and each of which the responder knows;
+-- and each end with draws enough, whatever its seed and wherever they begin.
 pub record IsConfigured (w : WorldSetup) : Type 0 where
   pub count : length w.requesters ≤ 8
-  pub requesters : All IsRequester w.requesters
-  pub responders : All (λ (q : ReqSetup). IsResponder (towards w.responder q)) w.requesters
-  pub peers : All (λ (q : ReqSetup). q.responder ≡ w.responder.eid) w.requesters
-  pub apart : AreApart w.requesters
-  pub draws : w.first + wear_limit ≤ 2 ^ 64
+  pub requesters : All IsRequester (setups_of w.requesters)
+  pub responders : All (λ (q : Known). IsResponder (towards w.responder.part q)) w.responder.known
+  pub known : w.responder.known ≡ map known_of (setups_of w.requesters)
+  pub peers : All (λ (q : ReqSetup). q.responder ≡ w.responder.part.eid) (setups_of w.requesters)
+  pub apart : AreApart (setups_of w.requesters)
+  pub draws : All (λ (e : ReqEnd). HasDraws e.first) w.requesters
+  pub responder_draws : HasDraws w.responder.first
+
+-- What a text may set up: the same limits of the responder and its requesters.
+pub record IsConfiguration (c : Configuration) : Type 0 where
+  pub count : length c.requesters ≤ 8
+  pub requesters : All IsRequester c.requesters
+  pub responders : All (λ (q : Known). IsResponder (towards c.responder q)) (map known_of c.requesters)
+  pub peers : All (λ (q : ReqSetup). q.responder ≡ c.responder.eid) c.requesters
+  pub apart : AreApart c.requesters
+
+-- The greatest boot number: the draws of its life still have numbers of eight bytes.
+abbrev pub boot_most : ℕ
+boot_most = 2 ^ 24 - 2

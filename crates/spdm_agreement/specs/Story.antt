@@ -26,16 +26,17 @@ use Rattle.spdm_grammar.specs.Message.RequestMessage.{PskExchange}
 use Rattle.spdm_grammar.specs.declared.choice.Choice.{Choice}
 use Rattle.spdm_grammar.specs.declared.phase.Stage.{Stage}
 use Rattle.spdm_grammar.specs.declared.phase.Stage.TheVariants as stage
-use Rattle.spdm_machine.specs.History as served
-use Rattle.spdm_machine.specs.History.{Entry}
+use Rattle.responder_machine.specs.History as served
+use Rattle.responder_machine.specs.History.{Entry}
 use Rattle.spdm_machine.specs.Keys.{Draw}
-use Rattle.spdm_machine.specs.Records.{request_purpose}
-use Rattle.spdm_machine.specs.Responder.{inner_reply}
-use Rattle.spdm_machine.specs.ResponderLog.{began_by}
-use Rattle.spdm_machine.specs.Session as responder
-use Rattle.spdm_machine.specs.Session.{Event}
-use Rattle.spdm_machine.specs.Setup.{ReqSetup, RspSetup}
-use Rattle.spdm_machine.specs.Turn.{Turn, takes}
+use Rattle.responder_machine.specs.Records.{request_purpose}
+use Rattle.responder_machine.specs.Responder.{inner_reply}
+use Rattle.responder_machine.specs.ResponderLog.{began_by}
+use Rattle.responder_machine.specs.Session as responder
+use Rattle.responder_machine.specs.Session.{Event}
+use Rattle.requester_machine.specs.Setup.{ReqSetup}
+use Rattle.responder_machine.specs.Setup.{RspSetup}
+use Rattle.responder_machine.specs.Turn.{Turn, takes}
 
 -- ---- What is read off a record.
 

@@ -2,7 +2,7 @@
 //! it, each law as the contract of a function that does nothing.
 
 ghost use Rattle.spdm_agreement.specs.Claims.{OneTranscript, Delivered, MatchedSessions, OneRecord, FreshSessions};
-ghost use Rattle.spdm_agreement.specs.Worlds.{WorldsAgree, WorldsDeliver, WorldsMatch, WorldsSealOnce};
+ghost use Rattle.spdm_agreement.specs.Worlds.{ScriptsAreConfigured, ScriptsHold, WorldsAgree, WorldsDeliver, WorldsMatch, WorldsSealOnce};
 
 /// Where both ends hold open a session of one pair of ids, its transcripts are equal.
 pub fn one_transcript()
@@ -51,4 +51,16 @@ pub fn matched()
 /// In every such world no two different records are sealed under one purpose and number.
 pub fn sealed_once()
     ensures { WorldsSealOnce }
+{}
+
+/// What a text within its limits sets up is such a world, with whatever common seed and in the life
+/// of each boot number.
+pub fn scripts_are_configured()
+    ensures { ScriptsAreConfigured }
+{}
+
+/// So agreement, data prefix, matched sessions and single use of numbers hold of each world that the
+/// events of a script lead to, where no two tags agree by chance.
+pub fn scripts_hold()
+    ensures { ScriptsHold }
 {}

@@ -13,5 +13,5 @@ mod laws;
 
 pub use laws::{
     agreement, data_prefix, delivered, fresh_sessions, matched, matched_sessions, one_record,
-    one_transcript, sealed_once,
+    one_transcript, scripts_are_configured, scripts_hold, sealed_once,
 };

@@ -7,3 +7,5 @@ pub mod Requests
 pub mod Responses
 pub mod Ends
 pub mod Tables
+pub mod View
+pub mod Lines

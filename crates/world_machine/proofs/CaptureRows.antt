@@ -15,12 +15,12 @@ use Rattle.spdm_grammar.specs.Reading.{field_at, number_at, optional_at, tables_
 use Rattle.spdm_grammar.specs.Requests.{request_body, get_version_layout, get_capabilities_layout, negotiate_algorithms_layout, psk_finish_layout, chunk_send_layout, chunk_get_layout}
 use Rattle.spdm_grammar.specs.Responses.{response_body, version_layout, capabilities_layout, algorithms_layout, chunk_send_ack_layout, chunk_response_layout, error_layout}
 use Rattle.spdm_grammar.specs.declared.choice.Pick.TheVariants.{Small}
-use Rattle.spdm_machine.specs.Answer as answer
-use Rattle.spdm_machine.specs.Answer.{answer_bytes}
-use Rattle.spdm_machine.specs.Handling.{turn_of}
-use Rattle.spdm_machine.specs.Refusal.{refused_form, refused_contents, refusal}
-use Rattle.spdm_machine.specs.Responder.{on_clear, on_record}
-use Rattle.spdm_machine.specs.Session as responder_session
+use Rattle.responder_machine.specs.Answer as answer
+use Rattle.responder_machine.specs.Answer.{answer_bytes}
+use Rattle.responder_machine.specs.Handling.{turn_of}
+use Rattle.responder_machine.specs.Refusal.{refused_form, refused_contents, refusal}
+use Rattle.responder_machine.specs.Responder.{on_clear, on_record}
+use Rattle.responder_machine.specs.Session as responder_session
 use Rattle.spdm_machine.specs.Terms.{terms_of}
 use Rattle.world_machine.specs.Capture.{Conforms, IsFirstDifference, Leads, Follows}
 use Rattle.world_machine.specs.CapturedAnswers.{Answers, Hears, MayLeadTo}
@@ -28,15 +28,13 @@ use Rattle.world_machine.specs.CapturedRequests.{Sends}
 use Rattle.world_machine.specs.Rounds.{Dialogue, new_dialogue}
 use Rattle.world_machine.specs.Difference.{IsApartBy, IsDifference, IsOtherwiseWrong, IsVerifyApart}
 use Rattle.world_machine.specs.Difference.Why.{WrongTurn}
-use Rattle.world_machine.specs.Packets.{gathered_from}
+use Rattle.spdm_machine.specs.Packets.{gathered_from}
 use Rattle.mctp_framing.specs.Packet.{parsed}
-use Rattle.world_machine.specs.Setup.{WorldSetup}
+use Rattle.world_machine.specs.Setup.{Configuration}
 
--- A seed of zeros; `responder 8 1024 4096 64 30 mhkc`; `requester 9 1024 4096 64 0 hkc 71 31..36 -`.
-abbrev setup : WorldSetup
+-- `responder 8 1024 4096 64 30 mhkc`; `requester 9 1024 4096 64 0 hkc 71 31..36 -`.
+abbrev setup : Configuration
 setup = record {
-  seed = replicate 32 0;
-  first = 0;
   responder = record {
     eid = 8;
     transfer = 1024;
@@ -136,7 +134,7 @@ version_alone_differs = record {
 }
 
 -- Transfer size 42 at both ends.
-abbrev small : WorldSetup
+abbrev small : Configuration
 small = record setup {
   responder = record setup.responder { transfer = 42 };
   requesters = record {

@@ -6,10 +6,10 @@ use Rattle.std.proofs.lemmas.List.{reverse-append}
 use Rattle.world_machine.specs.Capture.{Conforms, Leads, BeginningConforms, IsFirstDifference, OneIsFirst}
 use Rattle.world_machine.specs.Rounds.{Dialogue}
 use Rattle.world_machine.specs.SessionTable.{Row, ConformingHasTable, LeadsShowing, rows_after, seen}
-use Rattle.world_machine.specs.Setup.{WorldSetup}
+use Rattle.world_machine.specs.Setup.{Configuration}
 
 -- What packets lead to, the older ones of them led to something.
-leads_before : (w : WorldSetup) (later earlier : List (List ℕ)) (ds : List Dialogue) → Leads w (later ++ earlier) ds → (before : List Dialogue) × Leads w earlier before
+leads_before : (w : Configuration) (later earlier : List (List ℕ)) (ds : List Dialogue) → Leads w (later ++ earlier) ds → (before : List Dialogue) × Leads w earlier before
 leads_before w [] earlier ds leads = (ds, leads)
 leads_before w (packet ∷ later) earlier ds leads = leads_before w later earlier leads.0 leads.1
 
@@ -19,13 +19,13 @@ beginning w earlier later conforms =
     leads_before w (reverse later) (reverse earlier) conforms.0 (subst P (reverse-append earlier later) conforms.1)
 
 -- What packets lead to shows some rows.
-shows_rows : (w : WorldSetup) (packets : List (List ℕ)) (ds : List Dialogue) → Leads w packets ds → (rows : List Row) × LeadsShowing w packets ds rows
+shows_rows : (w : Configuration) (packets : List (List ℕ)) (ds : List Dialogue) → Leads w packets ds → (rows : List Row) × LeadsShowing w packets ds rows
 shows_rows w [] ds leads = ([], (leads, refl))
 shows_rows w (packet ∷ older) ds leads =
     let earlier = shows_rows w older leads.0 leads.1 in
     (rows_after leads.0 ds earlier.0, (leads.0, earlier.0, earlier.1, leads.2, refl))
 
-leads_too : (w : WorldSetup) (packets : List (List ℕ)) (ds : List Dialogue) (rows : List Row) → LeadsShowing w packets ds rows → Leads w packets ds
+leads_too : (w : Configuration) (packets : List (List ℕ)) (ds : List Dialogue) (rows : List Row) → LeadsShowing w packets ds rows → Leads w packets ds
 leads_too w [] ds rows shown = shown.0
 leads_too w (packet ∷ older) ds rows shown = (shown.0, leads_too w older shown.0 shown.1 shown.2, shown.3)
 
@@ -37,14 +37,14 @@ has_table w packets = (
 )
 
 -- A capture that conforms up to a number conforms up to a lesser one.
-conforms_up_to : (w : WorldSetup) (packets : List (List ℕ)) (less more : ℕ) → less ≤ more → Conforms w (take more packets) → Conforms w (take less packets)
+conforms_up_to : (w : Configuration) (packets : List (List ℕ)) (less more : ℕ) → less ≤ more → Conforms w (take more packets) → Conforms w (take less packets)
 conforms_up_to w packets less more order conforms =
     let P : ℕ → Type 0 = λ n. Conforms w (take n packets) in
     let whole : P (less + (more - less)) = subst P (omega arith) conforms in
     beginning w (take less packets) (take (more - less) (drop less packets)) (subst (Conforms w) (take-add less (more - less) packets) whole)
 
 -- No first difference stands before another.
-none_before : (w : WorldSetup) (packets : List (List ℕ)) (less more : ℕ) → less < more → IsFirstDifference w packets less → IsFirstDifference w packets more → ⊥
+none_before : (w : Configuration) (packets : List (List ℕ)) (less more : ℕ) → less < more → IsFirstDifference w packets less → IsFirstDifference w packets more → ⊥
 none_before w packets less more order first second =
     first.at (conforms_up_to w packets less (more - 1) (omega arith) second.before)
 

@@ -17,29 +17,27 @@ use Rattle.spdm_grammar.specs.declared.event.Event.TheVariants as event
 use Rattle.spdm_grammar.specs.declared.event.Finished.TheVariants as finished
 use Rattle.spdm_grammar.specs.declared.heard.Heard.TheVariants as heard
 use Rattle.spdm_grammar.specs.declared.phase.Phase.TheVariants.{Fresh, Negotiated}
-use Rattle.spdm_machine.specs.Answer.{answer_bytes}
-use Rattle.spdm_machine.specs.Does as responder_does
-use Rattle.spdm_machine.specs.Handling.{turn_of}
-use Rattle.spdm_machine.specs.Refusal.{refused_form, refused_contents, refusal}
-use Rattle.spdm_machine.specs.Responder.{on_clear, on_record}
-use Rattle.spdm_machine.specs.Session as responder_session
+use Rattle.responder_machine.specs.Answer.{answer_bytes}
+use Rattle.responder_machine.specs.Does as responder_does
+use Rattle.responder_machine.specs.Handling.{turn_of}
+use Rattle.responder_machine.specs.Refusal.{refused_form, refused_contents, refusal}
+use Rattle.responder_machine.specs.Responder.{on_clear, on_record}
+use Rattle.responder_machine.specs.Session as responder_session
 use Rattle.spdm_machine.specs.Terms.{terms_of}
 use Rattle.world_machine.specs.Happenings.{Entry}
 use Rattle.world_machine.specs.Happenings.Happening.{Told, Deliver, Inject, Pump, Show}
-use Rattle.world_machine.specs.Lines.Line.{State, At, Command, Packet, NoPacket, ToResponder, ToRequester}
-use Rattle.world_machine.specs.Lines.Whose.{Requester, Responder}
-use Rattle.world_machine.specs.Packets.{gathered_from}
-use Rattle.world_machine.specs.Requesting.{requester_told, requester_given}
-use Rattle.world_machine.specs.Responding.{responder_hears}
-use Rattle.world_machine.specs.Setup.{WorldSetup}
+use Rattle.spdm_grammar.specs.Lines.Line.{State, At, Command, Packet, NoPacket, ToResponder, ToRequester}
+use Rattle.spdm_grammar.specs.Lines.Whose.{Requester, Responder}
+use Rattle.spdm_machine.specs.Packets.{gathered_from}
+use Rattle.requester_machine.specs.Requesting.{requester_told, requester_given}
+use Rattle.responder_machine.specs.Responding.{responder_hears}
+use Rattle.world_machine.specs.Setup.{Configuration, WorldSetup, script_world}
 use Rattle.world_machine.specs.Trace.{trace_lines}
 use Rattle.world_machine.specs.World.{happens, pumps}
 
--- A seed of zeros; `responder 8 1024 4096 64 30 mhkc`; `requester 9 1024 4096 64 0 hkc 71 31..36 -`.
-abbrev setup : WorldSetup
+-- `responder 8 1024 4096 64 30 mhkc`; `requester 9 1024 4096 64 0 hkc 71 31..36 -`.
+abbrev setup : Configuration
 setup = record {
-  seed = replicate 32 0;
-  first = 0;
   responder = record {
     eid = 8;
     transfer = 1024;
@@ -67,10 +65,8 @@ setup = record {
 }
 
 -- The same with transfer size 42 at both ends.
-abbrev small : WorldSetup
+abbrev small : Configuration
 small = record {
-  seed = replicate 32 0;
-  first = 0;
   responder = record {
     eid = 8;
     transfer = 42;
@@ -97,11 +93,15 @@ small = record {
   } ∷ [];
 }
 
+-- The world of a script with a seed of zeros.
+abbrev zeros : Configuration → WorldSetup
+zeros c = script_world c (replicate 32 0) 0
+
 abbrev configuration_alone_events : List Entry
 configuration_alone_events =
     []
 
-configuration_alone : trace_lines setup configuration_alone_events
+configuration_alone : trace_lines (zeros setup) configuration_alone_events
     ≡ State (Requester 1) Fresh
     ∷ State (Responder 1) Fresh
     ∷ []
@@ -114,7 +114,7 @@ connect_sends_get_version_events =
     ∷ record { line = 6; happening = Pump 1 }
     ∷ []
 
-connect_sends_get_version : trace_lines setup connect_sends_get_version_events
+connect_sends_get_version : trace_lines (zeros setup) connect_sends_get_version_events
     ≡ State (Requester 1) Fresh
     ∷ State (Responder 1) Fresh
     ∷ At 5
@@ -133,7 +133,7 @@ version_then_capabilities_events =
     ∷ record { line = 6; happening = Pump 3 }
     ∷ []
 
-version_then_capabilities : trace_lines setup version_then_capabilities_events
+version_then_capabilities : trace_lines (zeros setup) version_then_capabilities_events
     ≡ State (Requester 1) Fresh
     ∷ State (Responder 1) Fresh
     ∷ At 5
@@ -155,7 +155,7 @@ deliver_absent_packet_events =
     record { line = 5; happening = Deliver 7 }
     ∷ []
 
-deliver_absent_packet : trace_lines setup deliver_absent_packet_events
+deliver_absent_packet : trace_lines (zeros setup) deliver_absent_packet_events
     ≡ State (Requester 1) Fresh
     ∷ State (Responder 1) Fresh
     ∷ At 5
@@ -169,7 +169,7 @@ capabilities_before_version_events =
     record { line = 5; happening = Inject (0x01 ∷ 0x08 ∷ 0x09 ∷ 0xc8 ∷ 0x05 ∷ 0x12 ∷ 0xe1 ∷ 0x00 ∷ 0x00 ∷ 0x00 ∷ 0x00 ∷ 0x00 ∷ 0x00 ∷ 0xc0 ∷ 0x64 ∷ 0x02 ∷ 0x00 ∷ 0x00 ∷ 0x04 ∷ 0x00 ∷ 0x00 ∷ 0x00 ∷ 0x10 ∷ 0x00 ∷ 0x00 ∷ []) }
     ∷ []
 
-capabilities_before_version : trace_lines setup capabilities_before_version_events
+capabilities_before_version : trace_lines (zeros setup) capabilities_before_version_events
     ≡ State (Requester 1) Fresh
     ∷ State (Responder 1) Fresh
     ∷ At 5
@@ -184,7 +184,7 @@ get_version_of_version_12_events =
     record { line = 5; happening = Inject (0x01 ∷ 0x08 ∷ 0x09 ∷ 0xc8 ∷ 0x05 ∷ 0x12 ∷ 0x84 ∷ 0x00 ∷ 0x00 ∷ []) }
     ∷ []
 
-get_version_of_version_12 : trace_lines setup get_version_of_version_12_events
+get_version_of_version_12 : trace_lines (zeros setup) get_version_of_version_12_events
     ≡ State (Requester 1) Fresh
     ∷ State (Responder 1) Fresh
     ∷ At 5
@@ -199,7 +199,7 @@ one_byte_message_events =
     record { line = 5; happening = Inject (0x01 ∷ 0x08 ∷ 0x09 ∷ 0xc8 ∷ 0x05 ∷ 0x10 ∷ []) }
     ∷ []
 
-one_byte_message : trace_lines setup one_byte_message_events
+one_byte_message : trace_lines (zeros setup) one_byte_message_events
     ≡ State (Requester 1) Fresh
     ∷ State (Responder 1) Fresh
     ∷ At 5
@@ -216,7 +216,7 @@ negotiation_completes_events =
     ∷ record { line = 7; happening = Show }
     ∷ []
 
-negotiation_completes : trace_lines setup negotiation_completes_events
+negotiation_completes : trace_lines (zeros setup) negotiation_completes_events
     ≡ State (Requester 1) Fresh
     ∷ State (Responder 1) Fresh
     ∷ At 5
@@ -250,7 +250,7 @@ unsupported_and_session_required_events =
     ∷ record { line = 9; happening = Show }
     ∷ []
 
-unsupported_and_session_required : trace_lines setup unsupported_and_session_required_events
+unsupported_and_session_required : trace_lines (zeros setup) unsupported_and_session_required_events
     ≡ State (Requester 1) Fresh
     ∷ State (Responder 1) Fresh
     ∷ At 5
@@ -288,7 +288,7 @@ negotiation_by_chunks_events =
     ∷ record { line = 7; happening = Show }
     ∷ []
 
-negotiation_by_chunks : trace_lines small negotiation_by_chunks_events
+negotiation_by_chunks : trace_lines (zeros small) negotiation_by_chunks_events
     ≡ State (Requester 1) Fresh
     ∷ State (Responder 1) Fresh
     ∷ At 5

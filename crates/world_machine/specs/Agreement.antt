@@ -8,17 +8,18 @@ use Rattle.requester_machine.specs.History.Entry.{Told, TookClear, TookRecord}
 use Rattle.requester_machine.specs.Message.{Command}
 use Rattle.requester_machine.specs.Message.Command.{Send}
 use Rattle.requester_machine.specs.Session as requester
-use Rattle.spdm_machine.specs.History.{History}
-use Rattle.spdm_machine.specs.History.Entry.{Sealed}
-use Rattle.spdm_machine.specs.Place.{is_held}
-use Rattle.spdm_machine.specs.Session as responder
-use Rattle.spdm_machine.specs.Session.{id_in_record, is_past_handshake}
+use Rattle.responder_machine.specs.History.{History}
+use Rattle.responder_machine.specs.History.Entry.{Sealed}
+use Rattle.responder_machine.specs.Place.{is_held}
+use Rattle.responder_machine.specs.Session as responder
+use Rattle.responder_machine.specs.Session.{id_in_record}
+use Rattle.spdm_machine.specs.Sessions.{is_past_handshake}
 use Rattle.spdm_machine.specs.TagLog.{Log}
 use Rattle.spdm_machine.specs.TagLog.Act.{Made, Checked}
-use Rattle.spdm_machine.specs.Turn.{Effect, takes}
-use Rattle.spdm_machine.specs.Turn.Effect.{TookData}
-use Rattle.world_machine.specs.Requesting.{Requesting}
-use Rattle.world_machine.specs.Responding.{Connection}
+use Rattle.responder_machine.specs.Turn.{Effect, takes}
+use Rattle.responder_machine.specs.Turn.Effect.{TookData}
+use Rattle.requester_machine.specs.Requesting.{Requesting}
+use Rattle.responder_machine.specs.Responding.{Connection}
 use Rattle.world_machine.specs.World.{World}
 
 -- ---- The two ends of a pair.

@@ -8,14 +8,15 @@ use Rattle.requester_machine.specs.History as requester_history
 use Rattle.spdm_basis.specs.declared.PacketFault.{PacketFault}
 use Rattle.spdm_grammar.specs.Message.RequestMessage.{GetVersion}
 use Rattle.spdm_grammar.specs.Requests.{canonical_request}
-use Rattle.spdm_machine.specs.History.{History}
-use Rattle.spdm_machine.specs.Responder.{clear_body}
+use Rattle.responder_machine.specs.History.{History}
+use Rattle.spdm_machine.specs.Bodies.{clear_body}
 use Rattle.world_machine.specs.CapturedAnswers.{Answers, Hears}
 use Rattle.world_machine.specs.CapturedRequests.{Sends}
 use Rattle.world_machine.specs.LargeAnswers.{while_fetched}
-use Rattle.world_machine.specs.Packets.{gathered_from, body_type}
+use Rattle.spdm_machine.specs.Packets.{gathered_from, body_type}
 use Rattle.world_machine.specs.Rounds.{Dialogue, Round, new_dialogue, new_round, following_tag, dialogue_at, with_dialogue}
-use Rattle.world_machine.specs.Setup.{WorldSetup, towards}
+use Rattle.responder_machine.specs.Setup.{towards}
+use Rattle.world_machine.specs.Setup.{Configuration, known_of}
 
 -- ---- A request.
 
@@ -43,10 +44,10 @@ Begins d tag body next =
 
 -- An answer has the tag of the last round, in which a request has none yet. The responder takes the oldest such
 -- request and may answer it so, and the requester hears the answer.
-abbrev pub Replies : WorldSetup → Dialogue → ℕ → List ℕ → Dialogue → Type 0
+abbrev pub Replies : Configuration → Dialogue → ℕ → List ℕ → Dialogue → Type 0
 Replies w d tag answer next =
     (round : Round) × (d.round ≡ Some round) × (round.tag ≡ tag) × (0 < round.waiting)
-    × ((h : History) × (fetching : Option (List ℕ)) × Answers (towards w.responder d.setup) d round answer h fetching
+    × ((h : History) × (fetching : Option (List ℕ)) × Answers (towards w.responder (known_of d.setup)) d round answer h fetching
     × ((g : requester_history.History) × Hears d tag answer g
     × (next ≡ record d {
       requester = g;
@@ -68,25 +69,25 @@ AsksBy d More next = next ≡ d
 AsksBy d (Dropped cause) next = ⊥
 
 -- The same for a requester and an answer, with the tag owner bit clear.
-abbrev pub RepliesBy : WorldSetup → Dialogue → Gathered → Dialogue → Type 0
+abbrev pub RepliesBy : Configuration → Dialogue → Gathered → Dialogue → Type 0
 RepliesBy w d (Whole route body) next = IsBody body × (route.owner ≡ false) × Replies w d route.tag body next
 RepliesBy w d More next = next ≡ d
 RepliesBy w d (Dropped cause) next = ⊥
 
 -- It comes from a requester that is set up, after the packets before it, the newest first.
-abbrev pub ComesFrom : WorldSetup → List (List ℕ) → PacketFields → List Dialogue → List Dialogue → Option Dialogue → Type 0
+abbrev pub ComesFrom : Configuration → List (List ℕ) → PacketFields → List Dialogue → List Dialogue → Option Dialogue → Type 0
 ComesFrom w older packet before after None = ⊥
 ComesFrom w older packet before after (Some d) =
     (next : Dialogue) × AsksBy d (gathered_from w.responder.eid d.setup.eid older packet) next × (after ≡ with_dialogue next before)
 
 -- It goes to a requester that is set up, after the packets before it, the newest first.
-abbrev pub GoesTo : WorldSetup → List (List ℕ) → PacketFields → List Dialogue → List Dialogue → Option Dialogue → Type 0
+abbrev pub GoesTo : Configuration → List (List ℕ) → PacketFields → List Dialogue → List Dialogue → Option Dialogue → Type 0
 GoesTo w older packet before after None = ⊥
 GoesTo w older packet before after (Some d) =
     (next : Dialogue) × RepliesBy w d (gathered_from d.setup.eid w.responder.eid older packet) next × (after ≡ with_dialogue next before)
 
 -- A packet parses, and goes between the responder and a requester. So it may follow those before it.
-abbrev pub FollowsBy : WorldSetup → List (List ℕ) → List Dialogue → List Dialogue → Result PacketFields PacketFault → Type 0
+abbrev pub FollowsBy : Configuration → List (List ℕ) → List Dialogue → List Dialogue → Result PacketFields PacketFault → Type 0
 FollowsBy w older before after (Err fault) = ⊥
 FollowsBy w older before after (Ok packet) =
     MatchBool (packet.to == w.responder.eid)
@@ -94,23 +95,23 @@ FollowsBy w older before after (Ok packet) =
     (MatchBool (packet.from == w.responder.eid) (GoesTo w older packet before after (dialogue_at packet.to before)) ⊥)
 
 -- A packet may follow those before it, the newest first, and lead from dialogues to what they are after it.
-unfoldable pub Follows : WorldSetup → List (List ℕ) → List Dialogue → List ℕ → List Dialogue → Type 0
+unfoldable pub Follows : Configuration → List (List ℕ) → List Dialogue → List ℕ → List Dialogue → Type 0
 Follows w older before packet after = FollowsBy w older before after (parsed packet)
 
 -- ---- A capture.
 
 -- Packets, the newest first, may lead to what the dialogues then are.
-abbrev pub Leads : WorldSetup → List (List ℕ) → List Dialogue → Type 0
+abbrev pub Leads : Configuration → List (List ℕ) → List Dialogue → Type 0
 Leads w [] ds = ds ≡ map new_dialogue w.requesters
 Leads w (packet ∷ older) ds = (before : List Dialogue) × Leads w older before × Follows w older before packet ds
 
 -- Packets, in order, conform where they may lead to something.
-abbrev pub Conforms : WorldSetup → List (List ℕ) → Type 0
+abbrev pub Conforms : Configuration → List (List ℕ) → Type 0
 Conforms w packets = (ds : List Dialogue) × Leads w (reverse packets) ds
 
 -- The packet of this number, counted from 1, is the first that does not conform: the packets before it do, and
 -- those up to it do not.
-pub record IsFirstDifference (w : WorldSetup) (packets : List (List ℕ)) (number : ℕ) : Type 0 where
+pub record IsFirstDifference (w : Configuration) (packets : List (List ℕ)) (number : ℕ) : Type 0 where
   pub least : 0 < number
   pub most : number < length packets + 1
   pub before : Conforms w (take (number - 1) packets)
@@ -118,9 +119,9 @@ pub record IsFirstDifference (w : WorldSetup) (packets : List (List ℕ)) (numbe
 
 -- The beginning of a conforming capture conforms.
 abbrev pub BeginningConforms : Type 0
-BeginningConforms = (w : WorldSetup) (earlier later : List (List ℕ)) → Conforms w (earlier ++ later) → Conforms w earlier
+BeginningConforms = (w : Configuration) (earlier later : List (List ℕ)) → Conforms w (earlier ++ later) → Conforms w earlier
 
 -- No capture has two first differences.
 abbrev pub OneIsFirst : Type 0
-OneIsFirst = (w : WorldSetup) (packets : List (List ℕ)) (one other : ℕ)
+OneIsFirst = (w : Configuration) (packets : List (List ℕ)) (one other : ℕ)
     → IsFirstDifference w packets one → IsFirstDifference w packets other → one ≡ other

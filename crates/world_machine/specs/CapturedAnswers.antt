@@ -7,19 +7,21 @@ use Rattle.requester_machine.specs.History as requester_history
 use Rattle.requester_machine.specs.May.{MayHear}
 use Rattle.requester_machine.specs.Shown as shown
 use Rattle.spdm_grammar.specs.Message.{ChunkMessage}
-use Rattle.spdm_machine.specs.Answer.{Free, answer_bytes, request_at}
-use Rattle.spdm_machine.specs.Handling.{chunk_in}
-use Rattle.spdm_machine.specs.History.{History, Entry}
-use Rattle.spdm_machine.specs.History.Entry.{Clear, Sealed}
-use Rattle.spdm_machine.specs.LargeMessages.{chunks_of}
-use Rattle.spdm_machine.specs.May.{IsAllowed, MayDrop, with_dropped, place_for, on_body}
-use Rattle.spdm_machine.specs.Place.{Place, clear_place, session_place, inside}
-use Rattle.spdm_machine.specs.Records.{opening_fault, opened}
-use Rattle.spdm_machine.specs.Responder.{Outcome, after, body_of, sent_by, repeats, clear_body, record_body}
-use Rattle.spdm_machine.specs.Responder.Outcome.{Same, Unopened, Adds}
-use Rattle.spdm_machine.specs.Session.{Events, session_of, id_in_record, id_in_exchange, last_of}
-use Rattle.spdm_machine.specs.Setup.{RspSetup}
-use Rattle.spdm_machine.specs.Turn.{takes, answer_in}
+use Rattle.responder_machine.specs.Answer.{Free, answer_bytes, request_at}
+use Rattle.responder_machine.specs.Handling.{chunk_in}
+use Rattle.responder_machine.specs.History.{History, Entry}
+use Rattle.responder_machine.specs.History.Entry.{Clear, Sealed}
+use Rattle.responder_machine.specs.LargeMessages.{chunks_of}
+use Rattle.responder_machine.specs.May.{IsAllowed, MayDrop, with_dropped, place_for, on_body}
+use Rattle.responder_machine.specs.Place.{Place, clear_place, session_place, inside}
+use Rattle.responder_machine.specs.Records.{opening_fault, opened}
+use Rattle.responder_machine.specs.Responder.{Outcome, after, body_of, sent_by, repeats}
+use Rattle.spdm_machine.specs.Bodies.{clear_body, record_body}
+use Rattle.responder_machine.specs.Responder.Outcome.{Same, Unopened, Adds}
+use Rattle.responder_machine.specs.Session.{Events, session_of, id_in_record, last_of}
+use Rattle.spdm_machine.specs.Sessions.{id_in_exchange}
+use Rattle.responder_machine.specs.Setup.{RspSetup}
+use Rattle.responder_machine.specs.Turn.{takes, answer_in}
 use Rattle.world_machine.specs.LargeAnswers.{IsLargeAnswer, is_large, entry_with, dropped_before_large, place_of, judging, gives_last}
 use Rattle.world_machine.specs.LargeRequests.{with_ack}
 use Rattle.world_machine.specs.Rounds.{Dialogue, Round, no_draw}

@@ -8,7 +8,7 @@ use Rattle.requester_machine.specs.May.{MayAsk}
 use Rattle.requester_machine.specs.Message.{Command, Sent, body_of, asked_in}
 use Rattle.requester_machine.specs.Message.Command.{Connect}
 use Rattle.spdm_grammar.specs.Message.{RequestMessage}
-use Rattle.spdm_machine.specs.Setup.{ReqSetup}
+use Rattle.requester_machine.specs.Setup.{ReqSetup}
 use Rattle.world_machine.specs.LargeRequests.{IsLargeRequest, IsJudged, common_of, first_piece, still_sending}
 use Rattle.world_machine.specs.Rounds.{Dialogue, Round, no_draw}
 

@@ -12,19 +12,20 @@ use Rattle.requester_machine.specs.Session as requester_session
 use Rattle.spdm_basis.specs.declared.PacketFault.{PacketFault}
 use Rattle.spdm_grammar.specs.Message.{RequestMessage}
 use Rattle.spdm_grammar.specs.Message.RequestMessage.{GetVersion}
-use Rattle.spdm_machine.specs.History.{History, Entry, clear_turns, negotiation_of}
-use Rattle.spdm_machine.specs.Responder.Outcome.{Adds}
-use Rattle.spdm_machine.specs.Responder.{sent_by}
-use Rattle.spdm_machine.specs.Setup.{RspSetup}
+use Rattle.responder_machine.specs.History.{History, Entry, clear_turns, negotiation_of}
+use Rattle.responder_machine.specs.Responder.Outcome.{Adds}
+use Rattle.responder_machine.specs.Responder.{sent_by}
+use Rattle.responder_machine.specs.Setup.{RspSetup}
 use Rattle.spdm_machine.specs.Terms.{request_value, terms_of, hash_len}
 use Rattle.world_machine.specs.Capture.{IsFirstDifference, Leads}
 use Rattle.world_machine.specs.CapturedAnswers.{Answers, MayLeadTo, MayHaveLed}
 use Rattle.world_machine.specs.CapturedRequests.{owes, without_owed}
 use Rattle.world_machine.specs.LargeAnswers.{gives_last, judging, with_large}
 use Rattle.world_machine.specs.Opening.{names, session_named, opens_asking, inner_asking, opens_answering}
-use Rattle.world_machine.specs.Packets.{gathered_from, body_type}
+use Rattle.spdm_machine.specs.Packets.{gathered_from, body_type}
 use Rattle.world_machine.specs.Rounds.{Dialogue, Round, following_tag, dialogue_at}
-use Rattle.world_machine.specs.Setup.{WorldSetup, towards}
+use Rattle.responder_machine.specs.Setup.{towards}
+use Rattle.world_machine.specs.Setup.{Configuration, known_of}
 
 -- The reasons, of which the first that holds is the one. It is no packet, is dropped by its receiver, or completes a
 -- body of another type than 5 and 6; it does not go between the responder and a requester that is set up; it comes
@@ -151,17 +152,17 @@ GoesApart r d (Whole route body) = (replies_out_of_turn d route.owner route.tag 
 GoesApart r d _ = ⊥
 
 -- It comes from a requester that is set up and completes such a request.
-abbrev pub ComesApartFrom : WorldSetup → List (List ℕ) → PacketFields → Option Dialogue → Type 0
+abbrev pub ComesApartFrom : Configuration → List (List ℕ) → PacketFields → Option Dialogue → Type 0
 ComesApartFrom w older packet None = ⊥
 ComesApartFrom w older packet (Some d) = ComesApart d (gathered_from w.responder.eid d.setup.eid older packet)
 
 -- It goes to a requester that is set up and completes such an answer.
-abbrev pub GoesApartTo : WorldSetup → List (List ℕ) → PacketFields → Option Dialogue → Type 0
+abbrev pub GoesApartTo : Configuration → List (List ℕ) → PacketFields → Option Dialogue → Type 0
 GoesApartTo w older packet None = ⊥
-GoesApartTo w older packet (Some d) = GoesApart (towards w.responder d.setup) d (gathered_from d.setup.eid w.responder.eid older packet)
+GoesApartTo w older packet (Some d) = GoesApart (towards w.responder (known_of d.setup)) d (gathered_from d.setup.eid w.responder.eid older packet)
 
 -- It parses, and is such a packet to the responder from a requester, or from the responder to one.
-abbrev pub IsApartBy : WorldSetup → List (List ℕ) → List Dialogue → Result PacketFields PacketFault → Type 0
+abbrev pub IsApartBy : Configuration → List (List ℕ) → List Dialogue → Result PacketFields PacketFault → Type 0
 IsApartBy w older ds (Err fault) = ⊥
 IsApartBy w older ds (Ok packet) =
     MatchBool (packet.to == w.responder.eid)
@@ -169,7 +170,7 @@ IsApartBy w older ds (Ok packet) =
     (MatchBool (packet.from == w.responder.eid) (GoesApartTo w older packet (dialogue_at packet.to ds)) ⊥)
 
 -- After some walk over the packets before it, the newest first.
-unfoldable pub IsVerifyApart : WorldSetup → List (List ℕ) → List ℕ → Type 0
+unfoldable pub IsVerifyApart : Configuration → List (List ℕ) → List ℕ → Type 0
 IsVerifyApart w older packet = (ds : List Dialogue) × Leads w older ds × IsApartBy w older ds (parsed packet)
 
 -- ---- The other reasons.
@@ -211,17 +212,17 @@ goes_why r d More = None
 goes_why r d (Dropped cause) = Some BadPacket
 
 -- The end that it comes from is unknown; else the reason is that of what it completes.
-abbrev pub from_why : WorldSetup → List (List ℕ) → PacketFields → Option Dialogue → Option Why
+abbrev pub from_why : Configuration → List (List ℕ) → PacketFields → Option Dialogue → Option Why
 from_why w older packet None = Some UnknownEnd
 from_why w older packet (Some d) = comes_why d (gathered_from w.responder.eid d.setup.eid older packet)
 
 -- The end that it goes to is unknown; else the reason is that of what it completes.
-abbrev pub to_why : WorldSetup → List (List ℕ) → PacketFields → Option Dialogue → Option Why
+abbrev pub to_why : Configuration → List (List ℕ) → PacketFields → Option Dialogue → Option Why
 to_why w older packet None = Some UnknownEnd
-to_why w older packet (Some d) = goes_why (towards w.responder d.setup) d (gathered_from d.setup.eid w.responder.eid older packet)
+to_why w older packet (Some d) = goes_why (towards w.responder (known_of d.setup)) d (gathered_from d.setup.eid w.responder.eid older packet)
 
 -- It is no packet; it goes to the responder or comes from it, and is judged so; or its ends are unknown.
-abbrev pub why_by : WorldSetup → List (List ℕ) → List Dialogue → Result PacketFields PacketFault → Option Why
+abbrev pub why_by : Configuration → List (List ℕ) → List Dialogue → Result PacketFields PacketFault → Option Why
 why_by w older ds (Err fault) = Some BadPacket
 why_by w older ds (Ok packet) =
     if packet.to == w.responder.eid then from_why w older packet (dialogue_at packet.from ds)
@@ -229,18 +230,18 @@ why_by w older ds (Ok packet) =
     else Some UnknownEnd)
 
 -- No walk over the packets before it leaves its verify data alone wrong, and after some walk this is the reason.
-unfoldable pub IsOtherwiseWrong : WorldSetup → List (List ℕ) → List ℕ → Why → Type 0
+unfoldable pub IsOtherwiseWrong : Configuration → List (List ℕ) → List ℕ → Why → Type 0
 IsOtherwiseWrong w older packet why =
     (IsVerifyApart w older packet → ⊥) × ((ds : List Dialogue) × Leads w older ds × (why_by w older ds (parsed packet) ≡ Some why))
 
 -- ---- All together.
 
 -- Why a packet does not conform behind those before it, the newest first.
-abbrev pub IsReason : WorldSetup → List (List ℕ) → List ℕ → Why → Type 0
+abbrev pub IsReason : Configuration → List (List ℕ) → List ℕ → Why → Type 0
 IsReason w older packet BadVerify = IsVerifyApart w older packet
 IsReason w older packet why = IsOtherwiseWrong w older packet why
 
 -- The packet of this number, counted from 1, is the first that does not conform, for this reason.
-pub record IsDifference (w : WorldSetup) (packets : List (List ℕ)) (number : ℕ) (why : Why) : Type 0 where
+pub record IsDifference (w : Configuration) (packets : List (List ℕ)) (number : ℕ) (why : Why) : Type 0 where
   pub first : IsFirstDifference w packets number
   pub reason : IsReason w (reverse (take (number - 1) packets)) (slice_index_or packets (number - 1) []) why

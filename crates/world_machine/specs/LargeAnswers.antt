@@ -7,15 +7,15 @@ use Rattle.requester_machine.specs.History as requester_history
 use Rattle.requester_machine.specs.Message.{Ask, Aim, Sent}
 use Rattle.requester_machine.specs.Message.Aim.{Plain, ByChunks, ForChunk, InSession}
 use Rattle.requester_machine.specs.Message.Ask.{AskChunk}
-use Rattle.spdm_machine.specs.Handling.{goes_large}
-use Rattle.spdm_machine.specs.History.{History, Entry}
-use Rattle.spdm_machine.specs.History.Entry.{Clear, Sealed}
-use Rattle.spdm_machine.specs.May.{with_dropped}
-use Rattle.spdm_machine.specs.Place.{Place, clear_place, session_place, inside}
-use Rattle.spdm_machine.specs.Refusal.{has_pending, is_answer_too_long}
-use Rattle.spdm_machine.specs.Session.{session_of, id_in_record}
-use Rattle.spdm_machine.specs.Turn.{Turn, Effect, takes, handle_in}
-use Rattle.spdm_machine.specs.Turn.Effect.{NoEffect, Took, TookData}
+use Rattle.responder_machine.specs.Handling.{goes_large}
+use Rattle.responder_machine.specs.History.{History, Entry}
+use Rattle.responder_machine.specs.History.Entry.{Clear, Sealed}
+use Rattle.responder_machine.specs.May.{with_dropped}
+use Rattle.responder_machine.specs.Place.{Place, clear_place, session_place, inside}
+use Rattle.responder_machine.specs.Refusal.{has_pending, is_answer_too_long}
+use Rattle.responder_machine.specs.Session.{session_of, id_in_record}
+use Rattle.responder_machine.specs.Turn.{Turn, Effect, takes, handle_in}
+use Rattle.responder_machine.specs.Turn.Effect.{NoEffect, Took, TookData}
 
 -- ---- Entries whose answer went by LargeResponse.
 

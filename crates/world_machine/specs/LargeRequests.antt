@@ -18,7 +18,7 @@ use Rattle.requester_machine.specs.Sending.{clear_sent, is_too_long}
 use Rattle.spdm_grammar.specs.Message.{RequestMessage}
 use Rattle.spdm_grammar.specs.Message.RequestMessage.{ChunkSend}
 use Rattle.spdm_grammar.specs.Requests.{canonical_request}
-use Rattle.spdm_machine.specs.Setup.{ReqSetup}
+use Rattle.requester_machine.specs.Setup.{ReqSetup}
 use Rattle.world_machine.specs.Rounds.{no_draw}
 
 -- What both ends can do, as the requester has negotiated it.

@@ -1,8 +1,4 @@
 pub mod Setup
-pub mod Packets
-pub mod Responding
-pub mod Requesting
-pub mod Lines
 pub mod Happenings
 pub mod World
 pub mod Trace

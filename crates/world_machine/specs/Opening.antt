@@ -4,16 +4,17 @@ use Rattle.std.specs.Prelude.{◌&&◌, ◌||◌, not, ℕ, List, [], ◌∷◌,
 use Rattle.requester_machine.specs.History as requester_history
 use Rattle.requester_machine.specs.Records as requester_records
 use Rattle.requester_machine.specs.Session as requester_session
-use Rattle.spdm_machine.specs.Answer.{Free}
-use Rattle.spdm_machine.specs.History.{History, ended_of}
-use Rattle.spdm_machine.specs.History.Entry.{Sealed}
+use Rattle.responder_machine.specs.Answer.{Free}
+use Rattle.responder_machine.specs.History.{History, ended_of}
+use Rattle.responder_machine.specs.History.Entry.{Sealed}
 use Rattle.spdm_machine.specs.Keys.{record_fault, inner_message}
-use Rattle.spdm_machine.specs.Records.{response_purpose, reply_purpose, reply_number, opening_fault, opened}
-use Rattle.spdm_machine.specs.Responder.{repeats, session_turn}
-use Rattle.spdm_machine.specs.Session.{Events, session_of, session_terms, is_live, id_bytes, id_in_record, last_of, response_next}
-use Rattle.spdm_machine.specs.Session.Event.{Heard}
-use Rattle.spdm_machine.specs.Setup.{RspSetup, ReqSetup}
-use Rattle.spdm_machine.specs.Turn.{Turn, takes}
+use Rattle.responder_machine.specs.Records.{response_purpose, reply_purpose, reply_number, opening_fault, opened}
+use Rattle.responder_machine.specs.Responder.{repeats, session_turn}
+use Rattle.responder_machine.specs.Session.{Events, session_of, session_terms, is_live, id_bytes, id_in_record, last_of, response_next}
+use Rattle.responder_machine.specs.Session.Event.{Heard}
+use Rattle.responder_machine.specs.Setup.{RspSetup}
+use Rattle.requester_machine.specs.Setup.{ReqSetup}
+use Rattle.responder_machine.specs.Turn.{Turn, takes}
 
 -- ---- As a request.
 

@@ -1,9 +1,9 @@
 -- What a capture shows of a requester and its responder: rounds, one after another. This project's own.
 use Rattle.std.specs.Prelude.{◌+◌, ◌%◌, ◌==◌, ℕ, List, [], map, find, if◌then◌else◌, Bool, false, Option, Some, None}
 use Rattle.requester_machine.specs.History as requester_history
-use Rattle.spdm_machine.specs.History.{History}
+use Rattle.responder_machine.specs.History.{History}
 use Rattle.spdm_machine.specs.Keys.{Draw}
-use Rattle.spdm_machine.specs.Setup.{ReqSetup}
+use Rattle.requester_machine.specs.Setup.{ReqSetup}
 
 -- A round: the tag and the body of the request that began it, how many requests of it, the first one and its
 -- copies, have no answer yet, and whether one has. All of them are equal, so the next answer is to the oldest

@@ -8,15 +8,16 @@ use Rattle.requester_machine.specs.Message.Aim.{InSession}
 use Rattle.spdm_basis.specs.declared.session_id.SessionId.{SessionId}
 use Rattle.spdm_grammar.specs.Message.RequestMessage.{PskExchange}
 use Rattle.spdm_grammar.specs.declared.phase.Stage.{Stage}
-use Rattle.spdm_machine.specs.Heard.{view_of}
-use Rattle.spdm_machine.specs.History.{History}
-use Rattle.spdm_machine.specs.History.Entry.{Clear, Sealed}
-use Rattle.spdm_machine.specs.Session.{Events, session_of, is_live, exchange_answer, id_in_exchange, id_in_record}
-use Rattle.spdm_machine.specs.Setup.{ReqSetup}
-use Rattle.spdm_machine.specs.Turn.{Turn, takes, answer_in}
+use Rattle.responder_machine.specs.Heard.{view_of}
+use Rattle.responder_machine.specs.History.{History}
+use Rattle.responder_machine.specs.History.Entry.{Clear, Sealed}
+use Rattle.responder_machine.specs.Session.{Events, session_of, is_live, exchange_answer, id_in_record}
+use Rattle.spdm_machine.specs.Sessions.{id_in_exchange}
+use Rattle.requester_machine.specs.Setup.{ReqSetup}
+use Rattle.responder_machine.specs.Turn.{Turn, takes, answer_in}
 use Rattle.world_machine.specs.Capture.{Conforms, Follows}
 use Rattle.world_machine.specs.Rounds.{Dialogue, Round, new_dialogue}
-use Rattle.world_machine.specs.Setup.{WorldSetup}
+use Rattle.world_machine.specs.Setup.{Configuration}
 
 -- A session that a PSK_EXCHANGE_RSP began: the end point of its requester; its own history at the responder, as it
 -- last was, and whether it is live there; its ReqSessionID, where the requester took that answer, and until a later
@@ -180,7 +181,7 @@ rows_after (b ∷ bs) (d ∷ ds) rows = rows_after bs ds (rows_between b d rows)
 -- ---- The table.
 
 -- Packets, the newest first, may lead to what the dialogues then are, and show these rows.
-abbrev pub LeadsShowing : WorldSetup → List (List ℕ) → List Dialogue → List Row → Type 0
+abbrev pub LeadsShowing : Configuration → List (List ℕ) → List Dialogue → List Row → Type 0
 LeadsShowing w [] ds rows = (ds ≡ map new_dialogue w.requesters) × (rows ≡ [])
 LeadsShowing w (packet ∷ older) ds rows =
     (before : List Dialogue) × (earlier : List Row) × LeadsShowing w older before earlier
@@ -204,7 +205,7 @@ number_from n eid [] = 0
 number_from n eid (q ∷ others) = if q.eid == eid then n else number_from (n + 1) eid others
 
 -- A row as an entry of the table.
-abbrev pub seen : WorldSetup → Row → Seen
+abbrev pub seen : Configuration → Row → Seen
 seen w row = record {
   requester = number_from 1 row.eid w.requesters;
   id = (view_of row.events).id;
@@ -215,12 +216,12 @@ seen w row = record {
 }
 
 -- Packets, in order, conform and have this table: its entries stand in the order in which PSK_EXCHANGE_RSP came.
-abbrev pub HasTable : WorldSetup → List (List ℕ) → List Seen → Type 0
+abbrev pub HasTable : Configuration → List (List ℕ) → List Seen → Type 0
 HasTable w packets table =
     (ds : List Dialogue) × (rows : List Row) × LeadsShowing w (reverse packets) ds rows × (table ≡ map (seen w) (reverse rows))
 
 -- What conforms has a table, and what has one conforms.
 abbrev pub ConformingHasTable : Type 0
-ConformingHasTable = (w : WorldSetup) (packets : List (List ℕ))
+ConformingHasTable = (w : Configuration) (packets : List (List ℕ))
     → (Conforms w packets → (table : List Seen) × HasTable w packets table)
     × ((table : List Seen) → HasTable w packets table → Conforms w packets)

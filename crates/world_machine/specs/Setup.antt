@@ -1,48 +1,27 @@
--- A responder with its requesters, as a script sets them up.
-use Rattle.std.specs.Prelude.{ℕ, List, [], ◌∷◌}
+-- A world is made of ends, a responder and requesters, each with a seed of its own; and what a text sets up is such a
+-- world, in which one common seed gives those of the ends.
+use Rattle.std.specs.Prelude.{◌+◌, ◌*◌, ◌^◌, ℕ, List, [], ◌∷◌, map}
 use Rattle.hmac_hkdf.specs.Hmac.{hmac}
+use Rattle.requester_machine.specs.Setup.{ReqSetup, ReqEnd}
+use Rattle.responder_machine.specs.Setup.{RspPart, Known, RspEnd}
 use Rattle.running_hash.specs.Hash.{hash_of}
 use Rattle.spdm_basis.specs.declared.hash_alg.HashAlg.TheVariants.{Sha256}
-use Rattle.spdm_grammar.specs.declared.block_spec.BlockSpec.{BlockSpec}
-use Rattle.spdm_grammar.specs.declared.choice.FlagSet.{FlagSet}
-use Rattle.spdm_grammar.specs.declared.choice.Suites.{Suites}
-use Rattle.spdm_machine.specs.Setup.{RspSetup, ReqSetup}
 
--- What is set up of a responder for all requesters.
-pub record RspPart : Type 0 where
-  pub eid : ℕ
-  pub transfer : ℕ
-  pub max : ℕ
-  pub unit : ℕ
-  pub beat : ℕ
-  pub flags : FlagSet
-  pub opaque : List ℕ
-  pub blocks : List BlockSpec
-  pub suites : Suites
-
--- The seed of all draws, the number of each end's first draw, the responder, and the requesters in order.
+-- A responder and requesters, in order, each as an end of its own.
 pub record WorldSetup : Type 0 where
-  pub seed : List ℕ
-  pub first : ℕ
+  pub responder : RspEnd
+  pub requesters : List ReqEnd
+
+-- ---- What a text sets up.
+
+-- A responder and its requesters, in order, without seeds.
+pub record Configuration : Type 0 where
   pub responder : RspPart
   pub requesters : List ReqSetup
 
--- The responder as it is set up towards one requester.
-abbrev pub towards : RspPart → ReqSetup → RspSetup
-towards r q = record {
-  eid = r.eid;
-  transfer = r.transfer;
-  max = r.max;
-  unit = r.unit;
-  beat = r.beat;
-  flags = r.flags;
-  opaque = r.opaque;
-  blocks = r.blocks;
-  suites = r.suites;
-  peer = q.eid;
-  hint = q.hint;
-  psk = q.psk;
-}
+-- What a configured responder knows of a configured requester.
+abbrev pub known_of : ReqSetup → Known
+known_of q = record { eid = q.eid; hint = q.hint; psk = q.psk }
 
 -- The seed of the responder: HMAC over SHA-256 of the common seed and the byte 72, and for requester n of the
 -- bytes 71 and n (hexadecimal). This project's own.
@@ -52,3 +31,19 @@ responder_seed seed = hmac (hash_of Sha256) seed (0x72 ∷ [])
 -- The seed of requester n.
 abbrev pub requester_seed : List ℕ → ℕ → List ℕ
 requester_seed seed n = hmac (hash_of Sha256) seed (0x71 ∷ n ∷ [])
+
+-- The number of the first draw of a life: lives are 2^40 numbers apart, and no end takes more draws than that.
+abbrev pub first_draw : (boot : ℕ) → ℕ
+first_draw boot = boot * 2 ^ 40
+
+-- The requesters as ends, numbered from n on.
+abbrev pub ends_from : (n : ℕ) → (seed : List ℕ) → (boot : ℕ) → List ReqSetup → List ReqEnd
+ends_from n seed boot [] = []
+ends_from n seed boot (q ∷ others) = record { setup = q; seed = requester_seed seed n; first = first_draw boot } ∷ ends_from (n + 1) seed boot others
+
+-- The world of a text with a common seed, in the life of a boot number: 0 for a single life.
+abbrev pub script_world : Configuration → (seed : List ℕ) → (boot : ℕ) → WorldSetup
+script_world c seed boot = record {
+  responder = record { part = c.responder; known = map known_of c.requesters; seed = responder_seed seed; first = first_draw boot };
+  requesters = ends_from 1 seed boot c.requesters;
+}

@@ -9,14 +9,15 @@ use Rattle.spdm_grammar.specs.declared.event.Event.{Event}
 use Rattle.spdm_grammar.specs.declared.event.Event.TheVariants as event
 use Rattle.spdm_grammar.specs.declared.event.Finished.{Finished}
 use Rattle.spdm_grammar.specs.declared.event.Finished.TheVariants as finished
-use Rattle.spdm_machine.specs.Heard.{View, views_of, no_id}
-use Rattle.spdm_machine.specs.History.{clear_turns, phase_of}
+use Rattle.spdm_grammar.specs.View.{View}
+use Rattle.responder_machine.specs.Heard.{views_of, no_id}
+use Rattle.responder_machine.specs.History.{clear_turns, phase_of}
 use Rattle.spdm_machine.specs.TagLog.{Log}
 use Rattle.world_machine.specs.Happenings.{Happening, Entry}
 use Rattle.world_machine.specs.Happenings.Happening.{Told, Reply, Deliver, Lose, Inject, Pump, Tick, Show}
-use Rattle.world_machine.specs.Lines.{Line, Whose}
-use Rattle.world_machine.specs.Requesting.{Requesting, CommandStep, PacketStep, numbered, requester_told, requester_given}
-use Rattle.world_machine.specs.Responding.{Responding, Connection, RspStep, new_responding, connection_of, responder_hears, reply_fault_of, queues, ticks}
+use Rattle.spdm_grammar.specs.Lines.{Line, Whose}
+use Rattle.requester_machine.specs.Requesting.{Requesting, CommandStep, PacketStep, new_requesting, requester_told, requester_given}
+use Rattle.responder_machine.specs.Responding.{Responding, Connection, RspStep, new_responding, connection_of, responder_hears, reply_fault_of, queues, ticks}
 use Rattle.world_machine.specs.Setup.{WorldSetup}
 
 -- A packet that was sent, and whether it waits to be given to its end. Its number is its place among all packets
@@ -35,7 +36,7 @@ pub record World : Type 0 where
 
 -- Nothing has happened yet.
 abbrev pub new_world : WorldSetup → World
-new_world w = record { requesters = numbered 0 w.requesters; responder = new_responding w; sent = []; log = [] }
+new_world w = record { requesters = map new_requesting w.requesters; responder = new_responding w.responder; sent = []; log = [] }
 
 -- The lines that something writes, and the world after it.
 pub record WorldStep : Type 0 where
@@ -67,33 +68,45 @@ packet_lines count (bytes ∷ others) = Line.Packet (count + 1) bytes ∷ packet
 
 -- ---- Requesters.
 
--- The requester has this number.
-abbrev pub is_number : ℕ → Requesting → Bool
-is_number n a = a.number == n
+-- The requester at a place, counted from 0, if there is one.
+abbrev pub requester_at : ℕ → List Requesting → Option Requesting
+requester_at place [] = None
+requester_at zero (a ∷ others) = Some a
+requester_at (suc place) (a ∷ others) = requester_at place others
 
--- The requester of this number, if there is one.
+-- The requester of this number, counted from 1, if there is one.
 abbrev pub requester_of : ℕ → World → Option Requesting
-requester_of n world = find (is_number n) world.requesters
+requester_of zero world = None
+requester_of (suc place) world = requester_at place world.requesters
 
--- The new requester in place of the old one, where they have one number.
+-- The number of the requester with this end point, where the first of these has number n; 0 where none has it.
+abbrev pub number_from : ℕ → ℕ → List Requesting → ℕ
+number_from n eid [] = 0
+number_from n eid (a ∷ others) = if a.setup.eid == eid then n else number_from (n + 1) eid others
+
+-- The number of the requester with this end point, and 0 where there is none.
+abbrev pub number_at : ℕ → World → ℕ
+number_at eid world = number_from 1 eid world.requesters
+
+-- The new requester in place of the old one, where they have one end point.
 abbrev pub replaced : Requesting → Requesting → Requesting
-replaced new old = if old.number == new.number then new else old
+replaced new old = if old.setup.eid == new.setup.eid then new else old
 
--- The requesters with the new one in place of the one with its number.
+-- The requesters with the new one in place of the one with its end point.
 abbrev pub with_requester : Requesting → List Requesting → List Requesting
 with_requester new requesters = map (replaced new) requesters
 
--- A requester was told a command.
-abbrev pub told_by : World → Requesting → CommandStep → WorldStep
-told_by world a step = record {
-  lines = Line.Command a.number step.fault ∷ packet_lines (length world.sent) step.sent;
+-- Requester n was told a command.
+abbrev pub told_by : World → ℕ → CommandStep → WorldStep
+told_by world n step = record {
+  lines = Line.Command n step.fault ∷ packet_lines (length world.sent) step.sent;
   after = record { requesters = with_requester step.after world.requesters; responder = world.responder; sent = with_sent world.sent step.sent; log = step.acts ++ world.log };
 }
 
 -- A command for a requester that is not set up does nothing.
-abbrev pub told : WorldSetup → World → Command → Option Requesting → WorldStep
-told w world command None = rests world
-told w world command (Some a) = told_by world a (requester_told w a command)
+abbrev pub told : World → ℕ → Command → Option Requesting → WorldStep
+told world n command None = rests world
+told world n command (Some a) = told_by world n (requester_told a command)
 
 -- ---- A packet is given to a requester.
 
@@ -119,11 +132,11 @@ record_lines n (Some bytes) = Line.Record n bytes ∷ []
 
 -- What comes of it: lines of what is told, of data, of measurements and of the packets sent; and the
 -- requester as it is after it.
-abbrev pub given_to_requester : World → Requesting → PacketStep → WorldStep
-given_to_requester world a step = record {
-  lines = Line.ToRequester a.number step.event
-      ∷ data_lines (Whose.Requester a.number) (id_in_event step.event) step.taken
-      ++ record_lines a.number step.measured
+abbrev pub given_to_requester : World → ℕ → PacketStep → WorldStep
+given_to_requester world n step = record {
+  lines = Line.ToRequester n step.event
+      ∷ data_lines (Whose.Requester n) (id_in_event step.event) step.taken
+      ++ record_lines n step.measured
       ++ packet_lines (length world.sent) step.sent;
   after = record { requesters = with_requester step.after world.requesters; responder = world.responder; sent = with_sent world.sent step.sent; log = step.acts ++ world.log };
 }
@@ -133,15 +146,6 @@ given_to_requester world a step = record {
 -- The requester with an end point.
 abbrev pub is_at : ℕ → Requesting → Bool
 is_at eid a = a.setup.eid == eid
-
--- The number of a requester, and 0 where there is none.
-abbrev pub number_in : Option Requesting → ℕ
-number_in None = 0
-number_in (Some a) = a.number
-
--- The number of the requester with this end point, and 0 where there is none.
-abbrev pub number_at : ℕ → World → ℕ
-number_at eid world = number_in (find (is_at eid) world.requesters)
 
 -- The line of application data that the responder just took from requester n, if it took any.
 abbrev pub taken_lines : ℕ → Option (SessionId × List ℕ) → List Line
@@ -161,16 +165,16 @@ given_to_responder world packet step = record {
 -- nobody.
 
 -- A packet is given to a requester, or to nobody where there is none.
-abbrev pub given_to : WorldSetup → World → List ℕ → Option Requesting → WorldStep
-given_to w world packet None = record { lines = Line.ToNobody ∷ []; after = world }
-given_to w world packet (Some a) = given_to_requester world a (requester_given w a packet)
+abbrev pub given_to : World → List ℕ → Option Requesting → WorldStep
+given_to world packet None = record { lines = Line.ToNobody ∷ []; after = world }
+given_to world packet (Some a) = given_to_requester world (number_at a.setup.eid world) (requester_given a packet)
 
 -- A packet is given by its byte 1: to the responder, to a requester, or to nobody.
-abbrev pub given : WorldSetup → World → List ℕ → WorldStep
-given w world packet =
-    if nat_lt (length packet) 2 then given_to w world packet None
-    else (if slice_index packet 1 == w.responder.eid then given_to_responder world packet (responder_hears w world.responder packet)
-    else given_to w world packet (find (is_at (slice_index packet 1)) world.requesters))
+abbrev pub given : World → List ℕ → WorldStep
+given world packet =
+    if nat_lt (length packet) 2 then given_to world packet None
+    else (if slice_index packet 1 == world.responder.part.eid then given_to_responder world packet (responder_hears world.responder packet)
+    else given_to world packet (find (is_at (slice_index packet 1)) world.requesters))
 
 -- ---- Packets by number.
 
@@ -201,9 +205,9 @@ abbrev pub without_waiting : ℕ → World → World
 without_waiting number world = record world { sent = stopped_of number world.sent }
 
 -- A packet is given by its number, also one that no longer waits. From then on it waits no longer.
-abbrev pub delivers : WorldSetup → World → ℕ → Option (List ℕ) → WorldStep
-delivers w world number None = record { lines = Line.NoPacket number ∷ []; after = world }
-delivers w world number (Some packet) = given w (without_waiting number world) packet
+abbrev pub delivers : World → ℕ → Option (List ℕ) → WorldStep
+delivers world number None = record { lines = Line.NoPacket number ∷ []; after = world }
+delivers world number (Some packet) = given (without_waiting number world) packet
 
 -- A packet is lost by its number: it waits no longer. A line is written only where there is none of the number.
 abbrev pub loses : World → ℕ → Option (List ℕ) → WorldStep
@@ -221,14 +225,14 @@ first_waiting [] = None
 first_waiting (packet ∷ others) = if packet.waits then Some 1 else next_number (first_waiting others)
 
 -- A turn: where a packet waits it is given, and what follows goes on from there.
-abbrev pub turn : WorldSetup → World → (World → WorldStep) → Option ℕ → WorldStep
-turn w world next None = rests world
-turn w world next (Some number) = behind (delivers w world number (packet_of number world.sent)) next
+abbrev pub turn : World → (World → WorldStep) → Option ℕ → WorldStep
+turn world next None = rests world
+turn world next (Some number) = behind (delivers world number (packet_of number world.sent)) next
 
 -- The waiting packet of least number is given, so often at most.
-unfoldable pub pumps : WorldSetup → ℕ → World → WorldStep
-pumps w zero world = rests world
-pumps w (suc count) world = turn w world (pumps w count) (first_waiting world.sent)
+unfoldable pub pumps : ℕ → World → WorldStep
+pumps zero world = rests world
+pumps (suc count) world = turn world (pumps count) (first_waiting world.sent)
 
 -- ---- Queued data.
 
@@ -256,35 +260,35 @@ abbrev pub connection_lines : ℕ → Option Connection → List Line
 connection_lines n None = []
 connection_lines n (Some c) = Line.State (Whose.Responder n) (phase_of (clear_turns c.history)) ∷ session_lines (Whose.Responder n) (views_of c.history)
 
--- A requester's phase and sessions, and then those of the responder towards it.
-abbrev pub end_lines : Responding → Requesting → List Line
-end_lines r a =
-    Line.State (Whose.Requester a.number) (requester_history.phase_of a.history)
-    ∷ session_lines (Whose.Requester a.number) (requester_shown.views_of a.history)
-    ++ connection_lines a.number (connection_of a.setup.eid r.connections)
+-- The phase and sessions of requester n, and then those of the responder towards it.
+abbrev pub end_lines : Responding → ℕ → Requesting → List Line
+end_lines r n a =
+    Line.State (Whose.Requester n) (requester_history.phase_of a.history)
+    ∷ session_lines (Whose.Requester n) (requester_shown.views_of a.history)
+    ++ connection_lines n (connection_of a.setup.eid r.connections)
 
--- The lines of all requesters, in order.
-abbrev pub all_end_lines : Responding → List Requesting → List Line
-all_end_lines r [] = []
-all_end_lines r (a ∷ others) = end_lines r a ++ all_end_lines r others
+-- The lines of all requesters, in order, of which the first has number n.
+abbrev pub all_end_lines : Responding → ℕ → List Requesting → List Line
+all_end_lines r n [] = []
+all_end_lines r n (a ∷ others) = end_lines r n a ++ all_end_lines r (n + 1) others
 
 -- The lines by which a world is shown: those of all its ends.
 abbrev pub shown_lines : World → List Line
-shown_lines world = all_end_lines world.responder world.requesters
+shown_lines world = all_end_lines world.responder 1 world.requesters
 
 -- ---- One event.
 
 -- What each event of a script writes, and the world that it leaves.
-unfoldable pub happens : WorldSetup → World → Happening → WorldStep
-happens w world (Told n command) = told w world command (requester_of n world)
-happens w world (Reply n bytes) = replied world bytes (requester_of n world)
-happens w world (Deliver number) = delivers w world number (packet_of number world.sent)
-happens w world (Lose number) = loses world number (packet_of number world.sent)
-happens w world (Inject bytes) = given w world bytes
-happens w world (Pump count) = pumps w count world
-happens w world (Tick seconds) = rests (record world { responder = ticks world.responder seconds })
-happens w world Show = record { lines = shown_lines world; after = world }
+unfoldable pub happens : World → Happening → WorldStep
+happens world (Told n command) = told world n command (requester_of n world)
+happens world (Reply n bytes) = replied world bytes (requester_of n world)
+happens world (Deliver number) = delivers world number (packet_of number world.sent)
+happens world (Lose number) = loses world number (packet_of number world.sent)
+happens world (Inject bytes) = given world bytes
+happens world (Pump count) = pumps count world
+happens world (Tick seconds) = rests (record world { responder = ticks world.responder seconds })
+happens world Show = record { lines = shown_lines world; after = world }
 
 -- An event with its line in front.
-abbrev pub entry_step : WorldSetup → World → Entry → WorldStep
-entry_step w world entry = record { lines = Line.At entry.line ∷ (happens w world entry.happening).lines; after = (happens w world entry.happening).after }
+abbrev pub entry_step : World → Entry → WorldStep
+entry_step world entry = record { lines = Line.At entry.line ∷ (happens world entry.happening).lines; after = (happens world entry.happening).after }

@@ -1,21 +1,9 @@
 //! What holds of the definitions at every world, each law as the contract of a function that does
 //! nothing.
 
-ghost use Rattle.world_machine.specs.Laws.{ChanceStays, OthersStand, OwnDecide};
+ghost use Rattle.world_machine.specs.Laws.{ChanceStays};
 
 /// Once two tags agree by chance, they do so after every further event.
 pub fn chance_stays()
     ensures { ChanceStays }
-{}
-
-/// A packet from another end point changes nothing of what the responder is towards this one: the
-/// connection, and the packets that bodies are gathered from.
-pub fn others_stand()
-    ensures { OthersStand }
-{}
-
-/// What the responder sends to an end point is decided by what came from it, the draw that stands
-/// next, and whether the responder is worn.
-pub fn own_decide()
-    ensures { OwnDecide }
 {}

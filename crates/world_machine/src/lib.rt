@@ -7,4 +7,4 @@ mod capture_laws;
 mod laws;
 
 pub use capture_laws::{beginning_conforms, conforming_has_table, one_is_first};
-pub use laws::{chance_stays, others_stand, own_decide};
+pub use laws::chance_stays;

@@ -1,5 +1,0 @@
-use Rattle.spdm_machine.proofs.Settled.{common_settled}
-use Rattle.spdm_machine.proofs.laws.capabilities_settle_common.Goals as goal
-
-pub returns : goal.returns
-returns c = common_settled

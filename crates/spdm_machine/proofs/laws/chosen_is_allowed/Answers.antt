@@ -1,5 +1,0 @@
-use Rattle.spdm_machine.proofs.Does.{chosen_allowed}
-use Rattle.spdm_machine.proofs.laws.chosen_is_allowed.Goals as goal
-
-pub returns : goal.returns
-returns c = chosen_allowed

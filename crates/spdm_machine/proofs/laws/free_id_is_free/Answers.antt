@@ -1,5 +1,0 @@
-use Rattle.spdm_machine.proofs.Ids.{free_id-free}
-use Rattle.spdm_machine.proofs.laws.free_id_is_free.Goals as goal
-
-pub returns : goal.returns
-returns c = free_id-free

@@ -1,5 +1,0 @@
-use Rattle.spdm_machine.proofs.Held.{held_few}
-use Rattle.spdm_machine.proofs.laws.held_are_few.Goals as goal
-
-pub returns : goal.returns
-returns c = held_few

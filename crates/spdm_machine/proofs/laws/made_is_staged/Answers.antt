@@ -1,5 +1,0 @@
-use Rattle.spdm_machine.proofs.Staged.{made_staged}
-use Rattle.spdm_machine.proofs.laws.made_is_staged.Goals as goal
-
-pub returns : goal.returns
-returns c = made_staged

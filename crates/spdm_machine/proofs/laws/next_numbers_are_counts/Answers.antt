@@ -1,5 +1,0 @@
-use Rattle.spdm_machine.proofs.Updates.{numbers_counted}
-use Rattle.spdm_machine.proofs.laws.next_numbers_are_counts.Goals as goal
-
-pub returns : goal.returns
-returns c = numbers_counted

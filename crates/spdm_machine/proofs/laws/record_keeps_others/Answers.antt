@@ -1,5 +1,0 @@
-use Rattle.spdm_machine.proofs.Entries.{others_kept}
-use Rattle.spdm_machine.proofs.laws.record_keeps_others.Goals as goal
-
-pub returns : goal.returns
-returns c = others_kept

@@ -1,5 +1,0 @@
-use Rattle.spdm_machine.proofs.Refused.{refused_record}
-use Rattle.spdm_machine.proofs.laws.refused_record_keeps_sessions.Goals as goal
-
-pub returns : goal.returns
-returns c = refused_record

@@ -1,5 +1,0 @@
-use Rattle.spdm_machine.proofs.Repeats.{repeat}
-use Rattle.spdm_machine.proofs.laws.repeat_adds_nothing.Goals as goal
-
-pub returns : goal.returns
-returns c = repeat

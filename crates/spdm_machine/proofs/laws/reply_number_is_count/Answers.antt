@@ -1,5 +1,0 @@
-use Rattle.spdm_machine.proofs.Updates.{reply_is_count}
-use Rattle.spdm_machine.proofs.laws.reply_number_is_count.Goals as goal
-
-pub returns : goal.returns
-returns c = reply_is_count

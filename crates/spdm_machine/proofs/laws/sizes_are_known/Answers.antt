@@ -1,5 +1,0 @@
-use Rattle.spdm_machine.proofs.Sizes.{sizes_known}
-use Rattle.spdm_machine.proofs.laws.sizes_are_known.Goals as goal
-
-pub returns : goal.returns
-returns c = sizes_known

@@ -1,5 +1,0 @@
-use Rattle.spdm_machine.proofs.Fresh.{taken_exchange}
-use Rattle.spdm_machine.proofs.laws.taken_exchange_is_fresh.Goals as goal
-
-pub returns : goal.returns
-returns c = taken_exchange

@@ -1,5 +1,0 @@
-use Rattle.spdm_machine.proofs.Repeats.{taken_record}
-use Rattle.spdm_machine.proofs.laws.taken_record_is_repeated.Goals as goal
-
-pub returns : goal.returns
-returns c = taken_record

@@ -1,5 +1,0 @@
-use Rattle.spdm_machine.proofs.Updates.{all_answered}
-use Rattle.spdm_machine.proofs.laws.update_all_is_answered_at_zero.Goals as goal
-
-pub returns : goal.returns
-returns c = all_answered

@@ -1,5 +1,0 @@
-use Rattle.spdm_machine.proofs.Updates.{update_begins}
-use Rattle.spdm_machine.proofs.laws.update_begins_at_zero.Goals as goal
-
-pub returns : goal.returns
-returns c = update_begins
