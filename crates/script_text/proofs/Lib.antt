@@ -4,3 +4,6 @@ mod LineWords
 mod HexLengths
 mod Requesters
 mod Letters
+mod Decimals
+mod HexText
+mod Folding

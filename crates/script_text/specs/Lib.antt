@@ -13,3 +13,7 @@ pub mod ConfigText
 pub mod ScriptText
 pub mod CommandText
 pub mod PolicyText
+pub mod Spelling
+pub mod TraceWords
+pub mod TraceLines
+pub mod Whose
