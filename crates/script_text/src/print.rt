@@ -148,3 +148,13 @@ pub fn push_requester(q: u8, out: &mut Line)
     push_word(b"q", out);
     push_digits(u64::from(q), out);
 }
+
+/// Begins a line with the sign in front of the number of a line.
+#[tactic(auto, using(crate::proofs::Decimals::decimal_short))]
+pub fn begin_at(number: u32, out: &mut Line)
+    ensures text { out.new ≡ codes "@" ++ decimal number }
+    ensures length { length out.new ≤ 1 + MOST_DIGITS }
+{
+    begin(b"@", out);
+    push_digits(u64::from(number), out);
+}
