@@ -3,7 +3,7 @@ ghost use Rattle.std.specs.Fmt.{decimal};
 ghost use Rattle.hex.specs.Hex.{encode_lower};
 ghost use Rattle.script_text.specs.Spelling.{with_word, hex_word, code_word, id_word, requester_word};
 
-use spdm_basis::{Line, SessionId};
+use spdm_basis::{HashBytes, Line, SessionId};
 
 /// How many bytes a line has room for.
 pub const LINE_ROOM: usize = 8_400;
@@ -157,4 +157,13 @@ pub fn begin_at(number: u32, out: &mut Line)
 {
     begin(b"@", out);
     push_digits(u64::from(number), out);
+}
+
+/// Puts a hash behind the words of a line.
+pub fn push_hash(hash: &HashBytes, out: &mut Line)
+    requires { length out.old + 98 ≤ LINE_ROOM }
+    ensures text { out.new ≡ with_word out.old (hex_word hash.now) }
+    ensures length { length out.new ≤ length out.old + 98 }
+{
+    push_hex(hash.as_slice(), out);
 }

@@ -1,20 +1,21 @@
 ghost use Rattle.std.specs.Prelude.{◌≡◌, ◌≤◌, ◌+◌, ◌*◌, ◌++◌, ◌∷◌, [], length, codes, Some, None};
 ghost use Rattle.std.specs.Bool.{if◌then◌else◌};
 ghost use Rattle.script_text.specs.Spelling.{with_words};
-ghost use Rattle.script_text.specs.TraceLines.{line_text, whose_words, heard_words, event_words, finished_words};
+ghost use Rattle.script_text.specs.TraceLines.{line_text, whose_words, heard_words, event_words, finished_words, view_words};
+ghost use Rattle.spdm_grammar.specs.ShownView.{shown_view};
 ghost use Rattle.script_text.specs.Whose.{whose_of, fault_of};
-ghost use Rattle.spdm_grammar.specs.Lines.Line.{State, Command, Reply, ToResponder, ToRequester, ToNobody, Data, Record, Packet, NoPacket, At};
+ghost use Rattle.spdm_grammar.specs.Lines.Line.{State, Session, Command, Reply, ToResponder, ToRequester, ToNobody, Data, Record, Packet, NoPacket, At};
 
 use crate::print::{
-    begin, begin_at, begin_requester, end_line, push_code, push_hex, push_id, push_number, push_requester,
+    begin, begin_at, begin_requester, end_line, push_code, push_hash, push_hex, push_id, push_number, push_requester,
     push_word,
 };
 use crate::trace_words::{
     command_fault_word, phase_word, reply_fault_word, requester_ignored_word,
-    responder_ignored_word, stop_word,
+    responder_ignored_word, stage_word, stop_word,
 };
 use spdm_basis::{Line, SessionId};
-use spdm_grammar::{CommandFault, Event, Finished, Heard, Phase, ReplyFault};
+use spdm_grammar::{CommandFault, Event, Finished, Heard, Phase, ReplyFault, SessionView};
 
 // Begins a line with a word and an end: requester `q`, or the responder towards it.
 fn begin_whose(word: &[u8], q: u8, responder: bool, out: &mut Line)
@@ -255,5 +256,31 @@ pub fn line_no_packet(number: u32, out: &mut Line)
     begin(b"no", out);
     push_word(b"packet", out);
     push_number(u64::from(number), out);
+    end_line(out);
+}
+
+// Puts a session behind the words of a line.
+fn push_view(view: &SessionView, out: &mut Line)
+    requires { length out.old ≤ 44 }
+    ensures text { out.new ≡ with_words out.old (view_words (shown_view view.now)) }
+    ensures length { length out.new ≤ 400 }
+{
+    push_id(view.id, out);
+    push_word(stage_word(view.stage), out);
+    push_number(view.request_epoch, out);
+    push_number(view.response_epoch, out);
+    push_number(u64::from(view.request_next), out);
+    push_number(u64::from(view.response_next), out);
+    push_number(view.taken, out);
+    push_hash(&view.hash, out);
+}
+
+/// A session of an end: of requester `q`, or of the responder with it.
+#[tactic(auto, using(crate::proofs::Folding::with_words_append), unfolding(crate::specs::TraceLines::line_text))]
+pub fn line_session(q: u8, responder: bool, view: &SessionView, out: &mut Line)
+    ensures { out.new ≡ line_text (Session (whose_of q responder) (shown_view view.now)) }
+{
+    begin_whose(b"session", q, responder, out);
+    push_view(view, out);
     end_line(out);
 }

@@ -9,3 +9,4 @@ pub mod Ends
 pub mod Tables
 pub mod View
 pub mod Lines
+pub mod ShownView

@@ -20,6 +20,7 @@ mod part_faults;
 mod phase;
 mod request;
 mod response;
+mod session_view;
 mod tables;
 
 pub use algorithms::{AlgOffer, AlgReply};
@@ -43,4 +44,5 @@ pub use part_faults::{CapsFault, ChunkFault};
 pub use phase::{Phase, Stage};
 pub use request::Request;
 pub use response::Response;
+pub use session_view::SessionView;
 pub use spdm_basis::{AeadAlg, HashAlg};

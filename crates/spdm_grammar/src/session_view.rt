@@ -1,0 +1,22 @@
+use crate::{Choice, Stage};
+use spdm_basis::{HashBytes, SessionId};
+
+/// A session as an end shows it.
+#[derive(Debug, Drop)]
+pub struct SessionView {
+    pub id: SessionId,
+    pub stage: Stage,
+    /// How often the keys of requests were updated.
+    pub request_epoch: u64,
+    /// How often the keys of responses were updated.
+    pub response_epoch: u64,
+    /// The number of the next record of a request.
+    pub request_next: u32,
+    /// The number of the next record of a response.
+    pub response_next: u32,
+    /// How many application messages were taken at this end.
+    pub taken: u64,
+    /// The hash of the transcript up to PSK_EXCHANGE_RSP in the handshake, and up to PSK_FINISH_RSP after it.
+    pub hash: HashBytes,
+    pub choice: Choice,
+}
