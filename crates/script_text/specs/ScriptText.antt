@@ -22,7 +22,7 @@ use Rattle.script_text.specs.declared.script.Capture.{Capture}
 use Rattle.script_text.specs.declared.script.Life.{Life}
 use Rattle.script_text.specs.declared.script.Lives.{Lives}
 use Rattle.script_text.specs.declared.script.Script.{Script}
-use Rattle.script_text.specs.declared.script_text.ScriptReader.{ScriptReader}
+use Rattle.script_text.specs.declared.script_lines.ScriptReader.{ScriptReader}
 
 -- The most events, cycles or packets of a text.
 abbrev pub is_full : ℕ → Bool

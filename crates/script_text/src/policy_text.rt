@@ -136,12 +136,7 @@ fn take_rule(
 }
 
 // Takes a line.
-fn take_line(
-    alloc: Global,
-    rules: &mut Rules,
-    number: u32,
-    line: &[u8],
-) -> Result<(), LineError>
+fn take_line(alloc: Global, rules: &mut Rules, number: u32, line: &[u8]) -> Result<(), LineError>
     ensures answer { IsAnswerTo (line_fault policy_fault rules.old line.now) result }
     ensures after { OnOk result (rules.new ≡ after_line after_policy rules.old number line.now) }
 {

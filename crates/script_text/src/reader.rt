@@ -85,7 +85,5 @@ pub fn read_text<R: LineReader>(
         number += 1;
         rest = behind;
     }
-    reader
-        .finish(alloc)
-        .map_err(|error| told(number, error))
+    reader.finish(alloc).map_err(|error| told(number, error))
 }

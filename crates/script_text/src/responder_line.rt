@@ -77,5 +77,7 @@ fn responder_has_eid(eid: u8, responder: Option<RspLine>) -> bool
 fn requester_has_eid(eid: u8, requesters: &[ReqPart]) -> bool
     ensures { result ≡ requester_has_eid eid requesters.now }
 {
-    requesters.iter().any(|requester| requester.eid.number() == eid)
+    requesters
+        .iter()
+        .any(|requester| requester.eid.number() == eid)
 }

@@ -14,7 +14,9 @@ pub enum Rule {
         value: Bytes,
     },
     /// The block of this index may be anything.
-    Skip { index: u8 },
+    Skip {
+        index: u8,
+    },
 }
 
 /// Rules in the order of their lines. Contracts see them as a list.

@@ -7,8 +7,8 @@ ghost use Rattle.script_text.specs.Whose.{whose_of, fault_of};
 ghost use Rattle.spdm_grammar.specs.Lines.Line.{State, Session, Command, Reply, ToResponder, ToRequester, ToNobody, Data, Record, Packet, NoPacket, At};
 
 use crate::print::{
-    begin, begin_at, begin_requester, end_line, push_code, push_hash, push_hex, push_id, push_number, push_requester,
-    push_word,
+    begin, begin_at, begin_requester, end_line, push_code, push_hash, push_hex, push_id,
+    push_number, push_requester, push_word,
 };
 use crate::trace_words::{
     command_fault_word, phase_word, reply_fault_word, requester_ignored_word,
