@@ -7,3 +7,4 @@ mod Letters
 mod Decimals
 mod HexText
 mod Folding
+mod Drawn

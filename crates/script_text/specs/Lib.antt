@@ -18,3 +18,5 @@ pub mod TraceWords
 pub mod TraceLines
 pub mod Whose
 pub mod OtherLines
+pub mod Generator
+pub mod Printing

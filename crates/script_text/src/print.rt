@@ -74,8 +74,8 @@ fn push_pairs(bytes: &[u8], out: &mut Line)
     }
 }
 
-// The two hexadecimal digits of a byte.
-fn hex_digits(byte: u8) -> [u8; 2]
+/// The two hexadecimal digits of a byte.
+pub fn hex_digits(byte: u8) -> [u8; 2]
     ensures { result ≡ code_word byte }
 {
     let mut digits = [0u8; 2];
