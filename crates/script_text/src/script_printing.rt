@@ -46,12 +46,7 @@ fn add_numbered(word: &[u8], number: u32, text: &mut Bytes) -> Result<(), OutOfM
 }
 
 // A line of a command in a session.
-fn add_in_session(
-    q: u8,
-    command: &[u8],
-    session: u8,
-    text: &mut Bytes,
-) -> Result<(), OutOfMemory>
+fn add_in_session(q: u8, command: &[u8], session: u8, text: &mut Bytes) -> Result<(), OutOfMemory>
     ensures { OnOk result (text.new ≡ with_word (with_word (text.old ++ requester_word q) command.now) (decimal session)) }
 {
     begin_command(q, command, text)?;

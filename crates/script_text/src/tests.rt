@@ -1,9 +1,13 @@
+mod printers;
+mod scripts;
 mod texts;
 
 use crate::{
-    ScriptFault, TEXT_LIMIT, parse_capture, parse_command, parse_config, parse_lives, parse_policy,
-    parse_script,
+    Rule, ScriptFault, TEXT_LIMIT, generate, parse_capture, parse_command, parse_config,
+    parse_lives, parse_policy, parse_script, print_script,
 };
+use scripts::{FOUR, PRINTED, SCRIPT, SIXTY};
+use spdm_basis::Bytes;
 use std::alloc::{AllocError, Global};
 use std::process::Abort;
 use std::test::Fail;
@@ -134,5 +138,93 @@ fn long_texts(rt: HostRuntime) -> Result<(), Fail> {
         text.push_str(last)?;
         assert_eq!(rt; answer(&rt, alloc, "S", text.as_bytes())?.as_str(), wanted);
     }
+    Ok(())
+}
+
+// The text of the script that a text is.
+fn printed(rt: &impl Abort, alloc: Global, text: &[u8]) -> Result<Bytes, Fail> {
+    assert!(rt; text.len() <= TEXT_LIMIT);
+    let script = parse_script(alloc, text)?;
+    assert!(rt; script.config.requesters.as_slice().len() <= 8);
+    Ok(print_script(alloc, &script)?)
+}
+
+#[test]
+fn each_kind_of_line_is_read_and_printed(rt: HostRuntime) -> Result<(), Fail> {
+    let alloc = rt.alloc();
+    let once = printed(&rt, alloc, SCRIPT.as_bytes())?;
+    assert_eq!(rt; once.as_slice(), PRINTED.as_bytes());
+    let twice = printed(&rt, alloc, once.as_slice())?;
+    assert_eq!(rt; twice.as_slice(), PRINTED.as_bytes());
+
+    assert!(rt; SCRIPT.len() <= TEXT_LIMIT);
+    let script = parse_script(alloc, SCRIPT.as_bytes())?;
+    let lines = [
+        15, 17, 18, 19, 20, 21, 22, 23, 24, 25, 26, 27, 28, 29, 30, 31, 33, 34, 35, 36, 37,
+    ];
+    let entries = script.events.as_slice();
+    assert_eq!(rt; entries.len(), lines.len());
+    for (entry, line) in entries.iter().zip(lines.as_slice()) {
+        assert_eq!(rt; entry.line, *line);
+    }
+    Ok(())
+}
+
+#[test]
+fn generated_scripts_are_those_of_their_seed(rt: HostRuntime) -> Result<(), Fail> {
+    let alloc = rt.alloc();
+    for (seed, count, wanted) in [(0, 4, FOUR), (u64::MAX, 60, SIXTY)] {
+        let script = generate(alloc, seed, count)?;
+        assert!(rt; script.config.requesters.as_slice().len() <= 8);
+        let text = print_script(alloc, &script)?;
+        assert_eq!(rt; text.as_slice(), wanted.as_bytes());
+
+        assert!(rt; text.as_slice().len() <= TEXT_LIMIT);
+        let read = parse_script(alloc, text.as_slice())?;
+        let pairs = read.events.as_slice().iter().zip(script.events.as_slice());
+        for (ours, theirs) in pairs {
+            assert_eq!(rt; ours.line, theirs.line);
+        }
+    }
+    Ok(())
+}
+
+#[test]
+fn captures_lives_and_policies_have_their_values(rt: HostRuntime) -> Result<(), Fail> {
+    let alloc = rt.alloc();
+    let front = front(alloc, "E")?;
+    let text = format!(in alloc; "{front}packet 1 01ABcd\n#\npacket 2 -\n")?;
+    assert!(rt; text.len() <= TEXT_LIMIT);
+    let capture = parse_capture(alloc, text.as_bytes())?;
+    let packets = capture.packets.as_slice();
+    assert_eq!(rt; packets.len(), 2);
+    assert_eq!(rt; packets[0].as_slice(), [0x01, 0xab, 0xcd].as_slice());
+    assert!(rt; packets[1].as_slice().is_empty());
+
+    let text = format!(in alloc; "{front}show\n\ncycle\ncycle\nshow\nshow\n")?;
+    assert!(rt; text.len() <= TEXT_LIMIT);
+    let lives = parse_lives(alloc, text.as_bytes())?;
+    let wanted = [(0, 1), (7, 0), (8, 2)];
+    assert_eq!(rt; lives.lives.as_slice().len(), wanted.len());
+    for (life, (line, count)) in lives.lives.as_slice().iter().zip(wanted.as_slice()) {
+        assert_eq!(rt; life.cycle_line, *line);
+        assert_eq!(rt; life.events.as_slice().len(), *count);
+    }
+
+    let rules = parse_policy(alloc, b"expect 1 129 aB\nskip 254\ngo\nexpect", 5)?;
+    let rules = rules.as_slice();
+    assert_eq!(rt; rules.len(), 2);
+    if let Rule::Expect {
+        index,
+        value_type,
+        value,
+    } = &rules[0]
+    {
+        assert_eq!(rt; (*index, *value_type), (1, 129));
+        assert_eq!(rt; value.as_slice(), [0xab].as_slice());
+    } else {
+        assert!(rt; false);
+    }
+    assert!(rt; matches!(&rules[1], Rule::Skip { index: 254 }));
     Ok(())
 }
