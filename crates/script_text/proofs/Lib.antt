@@ -8,3 +8,7 @@ mod Decimals
 mod HexText
 mod Folding
 mod Drawn
+mod PrintedNumbers
+mod PrintedLines
+mod PrintedBytes
+mod PrintedEvents

@@ -20,3 +20,5 @@ pub mod Whose
 pub mod OtherLines
 pub mod Generator
 pub mod Printing
+pub mod ShownText
+pub mod Sound

@@ -34,6 +34,8 @@ mod script;
 mod script_lines;
 mod script_printing;
 mod seed_line;
+mod shown;
+mod shown_text;
 mod suite_line;
 #[cfg(test)]
 mod tests;
@@ -61,6 +63,8 @@ pub use rule::{Rule, Rules};
 pub use script::{Capture, Life, LifeList, Lives, Packets, Script};
 pub use script_lines::parse_script;
 pub use script_printing::print_script;
+pub use shown::{Shown, ShownAs, ShownKind, ShownList};
+pub use shown_text::parse_shown;
 pub use trace_lines::{
     line_at, line_command, line_data, line_event, line_heard, line_no_packet, line_nobody,
     line_packet, line_record, line_reply, line_session, line_state,
