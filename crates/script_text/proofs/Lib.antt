@@ -12,3 +12,5 @@ mod PrintedNumbers
 mod PrintedLines
 mod PrintedBytes
 mod PrintedEvents
+mod PlainWords
+mod ReadBack

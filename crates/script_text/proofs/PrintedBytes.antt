@@ -72,3 +72,8 @@ pub is_hex_in-hex_word : (low high : ℕ) (bytes : List ℕ) → are_bytes bytes
 unfolding is_hex_in
 is_hex_in-hex_word low high bytes h more less =
     rw (bytes_of-hex_word bytes h, is_word bytes h) (grind (arith, nat_tests))
+
+-- how long a printed word of bytes is
+pub length-hex_word : (bytes : List ℕ) → length (hex_word bytes) ≤ 2 * length bytes + 1
+length-hex_word [] = rw hex_word-nil (omega arith)
+length-hex_word (b ∷ bytes) = rw (hex_word-cons b bytes) (omega (arith, length-encode_with lower_digits (b ∷ bytes)))

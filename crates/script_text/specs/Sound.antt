@@ -1,7 +1,8 @@
--- Which events are read back as they are printed: those in which each number and each list of bytes is in its range.
--- This project's own.
-use Rattle.std.specs.Prelude.{ℕ, List, ◌==◌, ◌&&◌, ◌||◌, ◌^◌, nat_le, nat_lt, length, Bool, true, Option, Some, None}
+-- Which events are read back as they are printed: those in which each number and each list of bytes is in its range,
+-- on lines one behind the other. This project's own.
+use Rattle.std.specs.Prelude.{ℕ, List, [], ◌∷◌, ◌+◌, ◌≡◌, ◌==◌, ◌&&◌, ◌||◌, ◌^◌, nat_le, nat_lt, length, Bool, true, Option, Some, None}
 use Rattle.std.specs.List.{list_all}
+use Rattle.script_text.specs.declared.event.Entry.{Entry}
 use Rattle.script_text.specs.declared.event.LinkEvent.{LinkEvent}
 use Rattle.script_text.specs.declared.event.LinkEvent.TheVariants as event
 
@@ -39,3 +40,12 @@ is_sound_event n (event.Inject bytes) = fits_word bytes
 is_sound_event n (event.Pump count) = nat_le count 65536
 is_sound_event n (event.Tick seconds) = nat_le seconds 1000000
 is_sound_event n event.Show = true
+
+-- Events in range.
+abbrev pub are_sound_events : (requesters : ℕ) → List Entry → Bool
+are_sound_events n entries = list_all (λ (e : Entry). is_sound_event n e.event) entries
+
+-- Events stand on lines one behind the other, of which the first has this number.
+abbrev pub AreNumbered : ℕ → List Entry → Type 0
+AreNumbered number [] = Unit {0}
+AreNumbered number (e ∷ entries) = (e.line ≡ number) × AreNumbered (number + 1) entries
