@@ -14,3 +14,6 @@ mod PrintedBytes
 mod PrintedEvents
 mod PlainWords
 mod ReadBack
+mod PrintedChoices
+mod PrintedConfig
+mod PrintedEnds

@@ -33,7 +33,7 @@ pub record IsReadAs (n : ℕ) (line : List ℕ) (e : LinkEvent) : Type 0 where
   pub other : config_kind (word 0 line) ≡ None
 
 -- the number of a decimal word in its range
-number_in-decimal : (low high n : ℕ) → low ≤ n → n ≤ high → n < 2 ^ 64 → is_number_in low high (decimal n) ≡ true
+pub number_in-decimal : (low high n : ℕ) → low ≤ n → n ≤ high → n < 2 ^ 64 → is_number_in low high (decimal n) ≡ true
 number_in-decimal low high n more less fits = rw (value_of-decimal n fits, is_number-decimal n fits) (grind (arith, nat_tests))
 
 -- a requester is read back

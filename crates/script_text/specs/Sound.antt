@@ -1,7 +1,14 @@
--- Which events are read back as they are printed: those in which each number and each list of bytes is in its range,
--- on lines one behind the other. This project's own.
-use Rattle.std.specs.Prelude.{ℕ, List, [], ◌∷◌, ◌+◌, ◌≡◌, ◌==◌, ◌&&◌, ◌||◌, ◌^◌, nat_le, nat_lt, length, Bool, true, Option, Some, None}
+-- Which configurations and events are read back as they are printed: those in which each number and each list of
+-- bytes is in its range, nothing is said twice, and events are on lines one behind the other. This project's own.
+use Rattle.std.specs.Prelude.{ℕ, List, [], ◌∷◌, ◌++◌, ◌+◌, ◌<◌, ◌≡◌, ◌==◌, ◌&&◌, ◌||◌, ◌^◌, not, nat_le, nat_lt, length, Bool, true, Option, Some, None}
 use Rattle.std.specs.List.{list_all}
+use Rattle.spdm_grammar.specs.declared.block_spec.BlockSpec.{BlockSpec}
+use Rattle.spdm_grammar.specs.declared.choice.FlagSet.{FlagSet}
+use Rattle.script_text.specs.Configuring.{has_block, requester_has_eid, has_psk}
+use Rattle.script_text.specs.Measured.{block_size, sizes_of}
+use Rattle.script_text.specs.declared.config.ReqPart.{ReqPart}
+use Rattle.script_text.specs.declared.config.RspPart.{RspPart}
+use Rattle.script_text.specs.declared.config.ScriptConfig.{ScriptConfig}
 use Rattle.script_text.specs.declared.event.Entry.{Entry}
 use Rattle.script_text.specs.declared.event.LinkEvent.{LinkEvent}
 use Rattle.script_text.specs.declared.event.LinkEvent.TheVariants as event
@@ -49,3 +56,61 @@ are_sound_events n entries = list_all (λ (e : Entry). is_sound_event n e.event)
 abbrev pub AreNumbered : ℕ → List Entry → Type 0
 AreNumbered number [] = Unit {0}
 AreNumbered number (e ∷ entries) = (e.line ≡ number) × AreNumbered (number + 1) entries
+
+-- ---- Configurations.
+
+-- As many bytes as these.
+abbrev pub are_bytes_in : (low high : ℕ) → List ℕ → Bool
+are_bytes_in low high bytes = are_bytes bytes && is_within low high (length bytes)
+
+-- The sizes of an end, a number of its own of at most `limit`, and its capabilities.
+abbrev pub is_sound_end : (limit transfer max unit own : ℕ) → FlagSet → Bool
+is_sound_end limit transfer max unit own flags =
+    is_within 42 4096 transfer
+    && is_within transfer 4096 max
+    && is_within 64 1024 unit
+    && nat_le own limit
+    && (flags.chunk || nat_le max transfer)
+
+abbrev pub is_sound_responder : RspPart → Bool
+is_sound_responder r = is_sound_end 255 r.transfer r.max r.unit r.beat r.flags && are_bytes_in 0 1024 r.opaque
+
+abbrev pub is_sound_requester : ReqPart → Bool
+is_sound_requester q =
+    is_sound_end 16 q.transfer q.max q.unit q.pad q.flags
+    && are_bytes_in 0 64 q.hint
+    && are_bytes_in 1 64 q.psk
+    && are_bytes_in 0 1024 q.opaque
+
+abbrev pub is_sound_block : BlockSpec → Bool
+is_sound_block b = is_within 1 254 b.index && nat_le b.value_type 255 && fits_word b.value
+
+-- Blocks behind others: each has an index of its own, and all together fit into a record.
+abbrev pub are_sound_blocks : (before blocks : List BlockSpec) → Bool
+are_sound_blocks before [] = true
+are_sound_blocks before (b ∷ blocks) =
+    is_sound_block b
+    && not (has_block b.index before)
+    && nat_le (sizes_of before + block_size b) 4054
+    && are_sound_blocks (before ++ b ∷ []) blocks
+
+-- Requesters behind others: at most eight, each with an end point, which is not that of the responder either, and a
+-- pre-shared key of its own.
+abbrev pub are_sound_requesters : (responder : ℕ) → (before requesters : List ReqPart) → Bool
+are_sound_requesters responder before [] = true
+are_sound_requesters responder before (q ∷ requesters) =
+    is_sound_requester q
+    && nat_lt (length before) 8
+    && not (responder == q.eid.number || requester_has_eid q.eid.number before)
+    && not (has_psk q.psk before)
+    && are_sound_requesters responder (before ++ q ∷ []) requesters
+
+-- A configuration with a seed.
+pub record IsSoundConfig (config : ScriptConfig) : Type 0 where
+  pub seed_bytes : List ℕ
+  pub seed : config.seed ≡ Some seed_bytes
+  pub seed_size : are_bytes_in 32 32 seed_bytes ≡ true
+  pub responder : is_sound_responder config.responder ≡ true
+  pub blocks : are_sound_blocks [] config.blocks ≡ true
+  pub some : 0 < length config.requesters
+  pub requesters : are_sound_requesters config.responder.eid.number [] config.requesters ≡ true
