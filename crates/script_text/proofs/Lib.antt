@@ -17,3 +17,4 @@ mod ReadBack
 mod PrintedChoices
 mod PrintedConfig
 mod PrintedEnds
+mod ConfigBack

@@ -38,6 +38,7 @@ use Rattle.script_text.specs.Configuring.{requester_fault, after_requester, requ
 use Rattle.script_text.specs.Printing.{flags_word, requester_words, suite_words, hash_word, aead_word}
 use Rattle.script_text.specs.Sound.{is_sound_responder, is_sound_requester}
 use Rattle.script_text.specs.Spelling.{requester_word}
+use Rattle.std.proofs.lemmas.Fmt.{decimal_digit}
 use Rattle.script_text.proofs.PrintedChoices.{IsFlagsWord, hash_in-word, aead_in-word, plain_hash, plain_aead, short_hash, short_aead}
 use Rattle.script_text.proofs.PrintedConfig.{IsTaken, IsNumberWord, IsBytesWord, number_is, bytes_are, plain_number}
 
@@ -155,4 +156,49 @@ requester_taken given r q open_ responder sound room new_eid new_psk =
       is_kind = refl;
       good = λ line words. rw (open_, responder, words, e.eid_is.good, e.transfer_is.good, e.transfer_is.value, e.max_is.good, e.max_is.value, e.unit_is.good, e.own_is.good, p.hint_is.good, p.psk_is.good, p.opaque_is.good, e.flags_is.good, e.flags_is.value, e.fits, room, e.eid_is.value, same_eid q.eid, new_eid, p.psk_is.value, new_psk) refl;
       leads = λ line words. rw (requester_is q p line words) refl;
+    }
+
+-- ---- `suite`
+
+pub responder_suite_taken : (given : Given) (suites : Suites) → given.ended ≡ false → slice_index_or given.has_suites 0 false ≡ false →
+    IsTaken given (suite_words (codes "r") suites) (record given { responder_suites = suites; has_suites = slice_set given.has_suites 0 true })
+unfolding config_kind suite_fault after_suite end_in
+responder_suite_taken given suites open_ new = record {
+  plain = rw (plain_hash suites.hash, plain_aead suites.aead) refl;
+  first = 115;
+  rest = 117 ∷ 105 ∷ 116 ∷ 101 ∷ [];
+  others = codes "r" ∷ hash_word suites.hash ∷ aead_word suites.aead ∷ [];
+  begins = refl;
+  no_comment = refl;
+  short = omega (arith, short_hash suites.hash, short_aead suites.aead);
+  kind = kind.Suite;
+  is_kind = refl;
+  good = λ line words. let none : nat_lt (length given.requesters) 0 ≡ false = grind (arith, nat_tests) in rw (open_, words, hash_in-word suites.hash, aead_in-word suites.aead, new, none) refl;
+  leads = λ line words. rw (words, hash_in-word suites.hash, aead_in-word suites.aead) refl;
+}
+
+end_in-word : (m : ℕ) → m < 8 → end_in (requester_word (suc m)) ≡ Some (suc m)
+unfolding end_in requester_in
+end_in-word m few =
+    let low : nat_le 49 (48 + suc m) ≡ true = grind (arith, nat_tests) in
+    let high : nat_le (48 + suc m) 56 ≡ true = grind (arith, nat_tests) in
+    rw (decimal_digit (suc m) (omega arith), low, high) (ap Some (omega arith))
+
+pub requester_suite_taken : (given : Given) (m : ℕ) (suites : Suites) → given.ended ≡ false → m < 8 → m < length given.requesters → slice_index_or given.has_suites (suc m) false ≡ false →
+    IsTaken given (suite_words (requester_word (suc m)) suites) (record given { requesters = with_suites m suites given.requesters; has_suites = slice_set given.has_suites (suc m) true })
+unfolding config_kind suite_fault after_suite
+requester_suite_taken given m suites open_ few configured new =
+    let plain = plain_decimal (suc m) (omega arith) in
+    record {
+      plain = rw (plain, plain_hash suites.hash, plain_aead suites.aead) refl;
+      first = 115;
+      rest = 117 ∷ 105 ∷ 116 ∷ 101 ∷ [];
+      others = requester_word (suc m) ∷ hash_word suites.hash ∷ aead_word suites.aead ∷ [];
+      begins = refl;
+      no_comment = refl;
+      short = omega (arith, decimal_short (suc m) (omega arith), short_hash suites.hash, short_aead suites.aead);
+      kind = kind.Suite;
+      is_kind = refl;
+      good = λ line words. let there : nat_lt (length given.requesters) (suc m) ≡ false = grind (arith, nat_tests) in rw (open_, words, end_in-word m few, hash_in-word suites.hash, aead_in-word suites.aead, new, there) refl;
+      leads = λ line words. rw (words, end_in-word m few, hash_in-word suites.hash, aead_in-word suites.aead) refl;
     }

@@ -78,7 +78,7 @@ abbrev pub event_lines : List Entry → List (List ℕ)
 event_lines entries = map (λ (e : Entry). event_line e.event) entries
 
 -- reads the lines of a script
-abbrev read_script : ℕ → ScriptReader → List (List ℕ) → Result Script ScriptFault
+abbrev pub read_script : ℕ → ScriptReader → List (List ℕ) → Result Script ScriptFault
 read_script number reader lines = read_lines script_fault after_script whole_script number reader lines
 
 same_entry : (e : Entry) (number : ℕ) → e.line ≡ number → record { line = number; event = e.event } ≡ e
