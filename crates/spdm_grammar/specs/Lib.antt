@@ -9,3 +9,4 @@ pub mod Responses
 pub mod Ends
 pub mod Tables
 pub mod Lines
+pub mod ShownView
