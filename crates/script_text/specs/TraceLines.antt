@@ -7,7 +7,7 @@ use Rattle.script_text.specs.TraceWords.{phase_word, stage_word, command_fault_w
 use Rattle.spdm_grammar.specs.Lines.{Whose, Line}
 use Rattle.spdm_grammar.specs.Lines.Line.{State, Session, At, Command, Reply, ToResponder, ToRequester, ToNobody, Data, Record, Packet, NoPacket}
 use Rattle.spdm_grammar.specs.Lines.Whose.{Requester, Responder}
-use Rattle.spdm_grammar.specs.View.{View}
+use Rattle.spdm_grammar.specs.declared.session_view.SessionView.{SessionView}
 use Rattle.spdm_grammar.specs.declared.event.Event.{Event}
 use Rattle.spdm_grammar.specs.declared.event.Event.TheVariants as event
 use Rattle.spdm_grammar.specs.declared.event.Finished.{Finished}
@@ -22,7 +22,7 @@ whose_words (Responder n) = codes "r" ∷ requester_word n ∷ []
 
 -- A session: its id and stage, the epochs of requests and responses, their next numbers, how many messages were
 -- taken, and the hash.
-abbrev pub view_words : View → List (List ℕ)
+abbrev pub view_words : SessionView → List (List ℕ)
 view_words view =
     id_word view.id
     ∷ stage_word view.stage

@@ -2,7 +2,6 @@ ghost use Rattle.std.specs.Prelude.{◌≡◌, ◌≤◌, ◌+◌, ◌*◌, ◌+
 ghost use Rattle.std.specs.Bool.{if◌then◌else◌};
 ghost use Rattle.script_text.specs.Spelling.{with_words};
 ghost use Rattle.script_text.specs.TraceLines.{line_text, whose_words, heard_words, event_words, finished_words, view_words};
-ghost use Rattle.spdm_grammar.specs.ShownView.{shown_view};
 ghost use Rattle.script_text.specs.Whose.{whose_of, fault_of};
 ghost use Rattle.spdm_grammar.specs.Lines.Line.{State, Session, Command, Reply, ToResponder, ToRequester, ToNobody, Data, Record, Packet, NoPacket, At};
 
@@ -262,7 +261,7 @@ pub fn line_no_packet(number: u32, out: &mut Line)
 // Puts a session behind the words of a line.
 fn push_view(view: &SessionView, out: &mut Line)
     requires { length out.old ≤ 44 }
-    ensures text { out.new ≡ with_words out.old (view_words (shown_view view.now)) }
+    ensures text { out.new ≡ with_words out.old (view_words view.now) }
     ensures length { length out.new ≤ 400 }
 {
     push_id(view.id, out);
@@ -278,7 +277,7 @@ fn push_view(view: &SessionView, out: &mut Line)
 /// A session of an end: of requester `q`, or of the responder with it.
 #[tactic(auto, using(crate::proofs::Folding::with_words_append), unfolding(crate::specs::TraceLines::line_text))]
 pub fn line_session(q: u8, responder: bool, view: &SessionView, out: &mut Line)
-    ensures { out.new ≡ line_text (Session (whose_of q responder) (shown_view view.now)) }
+    ensures { out.new ≡ line_text (Session (whose_of q responder) view.now) }
 {
     begin_whose(b"session", q, responder, out);
     push_view(view, out);

@@ -9,4 +9,3 @@ pub mod Responses
 pub mod Ends
 pub mod Tables
 pub mod Lines
-pub mod ShownView
