@@ -1,5 +1,5 @@
 -- A printed configuration is read back as it was.
-use Rattle.std.proofs.Common.{◌≡◌, ℕ, zero, suc, ◌+◌, ◌<◌, ◌≤◌, ◌≢◌, ◌++◌, List, [], ◌∷◌, length, map, get_or, refl, sym, subst, ap, ◌∙◌, Bool, true, false, ◌&&◌, ◌||◌, nat_eq, nat_lt, arith, append_assoc, length-append, Option, Some, None, Result, Ok, Err, fold, cond, get_or-set_other}
+use Rattle.std.proofs.Common.{◌≡◌, ℕ, zero, suc, ◌+◌, ◌<◌, ◌≤◌, ◌≢◌, ◌++◌, List, [], ◌∷◌, length, map, get_or, refl, sym, subst, ap, ◌∙◌, Bool, true, false, ◌&&◌, ◌||◌, nat_eq, nat_lt, arith, append_assoc, length-append, Option, Some, None, Ok, fold, cond, get_or-set_other}
 use Rattle.std.specs.Prelude.{not, nat_le, codes, slice_set, unwrap_or, replicate}
 use Rattle.std.proofs.lemmas.Bool.{and_parts, ne_eqb}
 use Rattle.std.proofs.lemmas.Bool.Decides.{nat_tests}
@@ -10,19 +10,16 @@ use Rattle.spdm_grammar.specs.declared.choice.Pick.{Pick}
 use Rattle.spdm_grammar.specs.declared.choice.Pick.TheVariants.{Small, Large, Both}
 use Rattle.spdm_grammar.specs.declared.choice.Suites.{Suites}
 use Rattle.script_text.specs.Choices.{small_suites}
-use Rattle.script_text.specs.Configuring.{config_of, config_with, config_kind, config_fault, after_config, nothing_given, has_block, requester_has_eid, has_psk, with_suites}
+use Rattle.script_text.specs.Configuring.{config_of, nothing_given, has_block, requester_has_eid, has_psk, with_suites}
 use Rattle.script_text.specs.Lines.{lines_of, words_of, word, is_too_long, is_passed_over}
 use Rattle.script_text.specs.Measured.{block_size, sizes_of}
-use Rattle.script_text.specs.Printing.{with_line, with_seed, with_opaque, with_block, with_requester, with_suite, with_requester_suites, responder_text, ends_text, config_text, block_words, requester_words, seed_words, responder_words, opaque_words, suite_words, is_small, with_entry, script_text}
-use Rattle.script_text.specs.Reading.{read_lines, line_fault, after_line, whole_or_missing}
-use Rattle.script_text.specs.ScriptText.{script_fault, after_script, whole_script, script_in}
+use Rattle.script_text.specs.Printing.{with_line, with_seed, with_opaque, with_block, with_requester, with_suite, with_requester_suites, responder_text, ends_text, config_text, block_words, requester_words, seed_words, responder_words, opaque_words, suite_words, is_small, script_text}
+use Rattle.script_text.specs.Reading.{line_fault, after_line}
+use Rattle.script_text.specs.ScriptText.{script_fault, after_script, script_in}
 use Rattle.script_text.specs.Sound.{IsSoundConfig, is_sound_block, are_sound_blocks, is_sound_requester, are_sound_requesters, are_bytes_in, is_sound_end, are_sound_events, AreNumbered}
 use Rattle.script_text.specs.Spelling.{with_words, requester_word}
 use Rattle.script_text.specs.declared.config.ReqPart.{ReqPart}
-use Rattle.script_text.specs.declared.config.RspPart.{RspPart}
 use Rattle.script_text.specs.declared.config.ScriptConfig.{ScriptConfig}
-use Rattle.script_text.specs.declared.event.Entry.{Entry}
-use Rattle.script_text.specs.declared.faults.LineFault.{LineFault}
 use Rattle.script_text.specs.declared.given.Given.{Given}
 use Rattle.script_text.specs.declared.given.RspLine.{RspLine}
 use Rattle.script_text.specs.declared.script.Script.{Script}

@@ -1,5 +1,5 @@
 -- Laws of printing and reading. This project's own.
-use Rattle.std.specs.Prelude.{ℕ, List, [], ◌++◌, ◌∷◌, ◌+◌, ◌≤◌, ◌≡◌, length, fold, true, Result, Ok}
+use Rattle.std.specs.Prelude.{ℕ, List, [], ◌++◌, ◌∷◌, ◌+◌, ◌≤◌, ◌≡◌, length, fold, true, Ok}
 use Rattle.script_text.specs.Lines.{lines_of}
 use Rattle.script_text.specs.Printing.{config_text, script_text, with_entry}
 use Rattle.script_text.specs.ScriptText.{script_in}
