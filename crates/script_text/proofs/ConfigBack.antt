@@ -1,5 +1,5 @@
 -- A printed configuration is read back as it was.
-use Rattle.std.proofs.Common.{◌≡◌, ℕ, zero, suc, ◌+◌, ◌<◌, ◌≤◌, ◌≢◌, ◌++◌, List, [], ◌∷◌, length, map, get_or, refl, sym, subst, ap, ◌∙◌, Bool, true, false, ◌&&◌, ◌||◌, nat_eq, nat_lt, arith, append_assoc, length-append, Option, Some, None, Result, Ok, Err, fold, cond, get_or-set_other}
+use Rattle.std.proofs.Common.{◌≡◌, ℕ, zero, suc, ◌+◌, ◌<◌, ◌≤◌, ◌≢◌, ◌++◌, List, [], ◌∷◌, length, map, get_or, refl, sym, subst, ap, ◌∙◌, Bool, true, false, ◌&&◌, ◌||◌, nat_eq, nat_lt, arith, append_assoc, length-append, Option, Some, None, Ok, fold, cond, get_or-set_other}
 use Rattle.std.specs.Prelude.{not, nat_le, codes, slice_set, unwrap_or, replicate}
 use Rattle.std.proofs.lemmas.Bool.{and_parts, ne_eqb}
 use Rattle.std.proofs.lemmas.Bool.Decides.{nat_tests}
@@ -10,19 +10,16 @@ use Rattle.spdm_grammar.specs.declared.choice.Pick.{Pick}
 use Rattle.spdm_grammar.specs.declared.choice.Pick.TheVariants.{Small, Large, Both}
 use Rattle.spdm_grammar.specs.declared.choice.Suites.{Suites}
 use Rattle.script_text.specs.Choices.{small_suites}
-use Rattle.script_text.specs.Configuring.{config_of, config_with, config_kind, config_fault, after_config, nothing_given, has_block, requester_has_eid, has_psk, with_suites}
+use Rattle.script_text.specs.Configuring.{config_of, nothing_given, has_block, requester_has_eid, has_psk, with_suites}
 use Rattle.script_text.specs.Lines.{lines_of, words_of, word, is_too_long, is_passed_over}
 use Rattle.script_text.specs.Measured.{block_size, sizes_of}
-use Rattle.script_text.specs.Printing.{with_line, with_seed, with_opaque, with_block, with_requester, with_suite, with_requester_suites, responder_text, ends_text, config_text, block_words, requester_words, seed_words, responder_words, opaque_words, suite_words, is_small, with_entry, script_text}
-use Rattle.script_text.specs.Reading.{read_lines, line_fault, after_line, whole_or_missing}
-use Rattle.script_text.specs.ScriptText.{script_fault, after_script, whole_script, script_in}
-use Rattle.script_text.specs.Sound.{IsSoundConfig, is_sound_block, are_sound_blocks, is_sound_requester, are_sound_requesters, are_bytes_in, is_sound_end}
+use Rattle.script_text.specs.Printing.{with_line, with_seed, with_opaque, with_block, with_requester, with_suite, with_requester_suites, responder_text, ends_text, config_text, block_words, requester_words, seed_words, responder_words, opaque_words, suite_words, is_small, script_text}
+use Rattle.script_text.specs.Reading.{line_fault, after_line}
+use Rattle.script_text.specs.ScriptText.{script_fault, after_script, script_in}
+use Rattle.script_text.specs.Sound.{IsSoundConfig, is_sound_block, are_sound_blocks, is_sound_requester, are_sound_requesters, are_bytes_in, is_sound_end, are_sound_events, AreNumbered}
 use Rattle.script_text.specs.Spelling.{with_words, requester_word}
 use Rattle.script_text.specs.declared.config.ReqPart.{ReqPart}
-use Rattle.script_text.specs.declared.config.RspPart.{RspPart}
 use Rattle.script_text.specs.declared.config.ScriptConfig.{ScriptConfig}
-use Rattle.script_text.specs.declared.event.Entry.{Entry}
-use Rattle.script_text.specs.declared.faults.LineFault.{LineFault}
 use Rattle.script_text.specs.declared.given.Given.{Given}
 use Rattle.script_text.specs.declared.given.RspLine.{RspLine}
 use Rattle.script_text.specs.declared.script.Script.{Script}
@@ -31,7 +28,7 @@ use Rattle.script_text.proofs.PlainWords.{length-with_words, long_words}
 use Rattle.script_text.proofs.PrintedConfig.{IsTaken, seed_taken, opaque_taken, block_taken, end_taken}
 use Rattle.script_text.proofs.PrintedEnds.{small, line_of_responder, responder_taken, requester_taken, responder_suite_taken, requester_suite_taken}
 use Rattle.script_text.proofs.PrintedLines.{line_of, words_of-line_of_some, line_is_text, lines_of-line, lines_of-ended, with_line-append_some, with_words-append}
-use Rattle.script_text.proofs.ReadBack.{read_script}
+use Rattle.script_text.proofs.ReadBack.{read_script, printed_events}
 
 -- a reader of a script without events
 abbrev pub reader_of : Given → ScriptReader
@@ -268,9 +265,13 @@ ends_given config = record {
   ended = false;
 }
 
+free_replicate : (n k : ℕ) → get_or (replicate n false) k false ≡ false
+free_replicate zero k = refl
+free_replicate (suc n) zero = refl
+free_replicate (suc n) (suc k) = free_replicate n k
+
 all_free : AreFree 0 (replicate 9 false)
-all_free zero h = refl
-all_free (suc k) h = ?
+all_free k h = free_replicate 9 k
 
 ends_read : (config : ScriptConfig) → IsSoundConfig config → Reads (ends_text config) (ends_given config)
 ends_read config sound =
@@ -284,3 +285,70 @@ ends_read config sound =
     let r3 = opaque_read (with_line (with_seed [] config.seed) (responder_words r)) g2 r.opaque r2 refl refl parts.1 in
     let r4 = blocks_read (responder_text config) g3 config.blocks r3 refl sound.blocks in
     requesters_read (fold with_block (responder_text config) config.blocks) (record g3 { blocks = config.blocks }) (line_of_responder r) [] config.requesters r4 refl refl refl sound.requesters
+
+pub few_requesters : (responder : ℕ) (before requesters : List ReqPart) → length before ≤ 8 → are_sound_requesters responder before requesters ≡ true → length before + length requesters ≤ 8
+few_requesters responder before [] few sound = omega (arith, few)
+few_requesters responder before (q ∷ requesters) few sound =
+    let same = nat_eq responder q.eid.number || requester_has_eid q.eid.number before in
+    let a = and_parts (is_sound_requester q && nat_lt (length before) 8 && not same && not (has_psk q.psk before)) (are_sound_requesters responder (before ++ q ∷ []) requesters) sound in
+    let b = and_parts (is_sound_requester q && nat_lt (length before) 8 && not same) (not (has_psk q.psk before)) a.0 in
+    let c = and_parts (is_sound_requester q && nat_lt (length before) 8) (not same) b.0 in
+    let room : length before < 8 = grind (arith, nat_tests, (and_parts (is_sound_requester q) (nat_lt (length before) 8) c.0).1) in
+    let long : length (before ++ q ∷ []) ≡ length before + 1 = length-append before (q ∷ []) in
+    let rest = few_requesters responder (before ++ q ∷ []) requesters (omega (arith, long, room)) a.1 in
+    omega (arith, long, rest)
+
+-- what is known of a configuration's text
+pub record ReadsConfig (config : ScriptConfig) (text : List ℕ) : Type 0 where
+  pub given : Given
+  pub reads : Reads text given
+  pub is : config_of given ≡ Some config
+  pub front : List ℕ
+  pub ended : text ≡ front ++ 10 ∷ []
+
+end_read : (config : ScriptConfig) (q : ReqPart) (qs : List ReqPart) (seed : List ℕ) (flags : List Bool) (text : List ℕ) → config.requesters ≡ q ∷ qs → config.seed ≡ Some seed →
+    Reads text (record (ends_given config) { requesters = config.requesters; responder_suites = config.responder.suites; has_suites = flags }) → ReadsConfig config (with_line text (codes "end" ∷ []))
+end_read config q qs seed flags text are seeded r =
+    let given : Given = record (ends_given config) { requesters = config.requesters; responder_suites = config.responder.suites; has_suites = flags } in
+    let after : Given = record given { ended = true } in
+    record {
+      given = after;
+      reads = one_more text given after (codes "end" ∷ []) r (end_taken given (line_of_responder config.responder) q qs seed refl refl are seeded);
+      is = let whole : List ℕ → Option ScriptConfig = λ bytes. Some (record config { responder = record config.responder { opaque = bytes } }) in ap whole (opaque_is config.responder.opaque);
+      front = text ++ codes "end";
+      ended = refl;
+    }
+
+some_requester : (requesters : List ReqPart) → 0 < length requesters → (q : ReqPart) × (qs : List ReqPart) × (requesters ≡ q ∷ qs)
+some_requester [] some = absurd (omega arith)
+some_requester (q ∷ qs) some = (q, qs, refl)
+
+pub config_read : (config : ScriptConfig) → IsSoundConfig config → ReadsConfig config (config_text config)
+unfolding config_text
+config_read config sound =
+    let first = some_requester config.requesters sound.some in
+    let few = few_requesters config.responder.eid.number [] config.requesters (omega arith) sound.requesters in
+    let a = ends_read config sound in
+    let b = responder_suites_read (ends_text config) (ends_given config) config.responder.suites a refl refl all_free in
+    let given : Given = record (ends_given config) { responder_suites = config.responder.suites; has_suites = b.flags } in
+    let c = requester_suites_read (with_suite (ends_text config) (codes "r") config.responder.suites) given 1 [] config.requesters b.reads refl refl refl few b.free in
+    end_read config first.0 first.1 sound.seed_bytes c.flags (with_requester_suites (with_suite (ends_text config) (codes "r") config.responder.suites) 1 config.requesters) first.2 sound.seed c.reads
+
+-- ---- the whole script
+
+-- a printed configuration is a script without events
+config_is_read : (config : ScriptConfig) (text : List ℕ) → ReadsConfig config text → script_in text ≡ Ok (record { config = config; events = [] })
+unfolding script_in
+config_is_read config text r =
+    ap (read_script 1 (reader_of nothing_given)) (sym (append-nil (lines_of text)))
+    ∙ r.reads.goes_on []
+    ∙ rw r.is refl
+
+-- what is printed of a script is read back as it was
+pub printed_script : (script : Script) → IsSoundConfig script.config → are_sound_events (length script.config.requesters) script.events ≡ true → AreNumbered (1 + length (lines_of (config_text script.config))) script.events → length script.events ≤ 100000 →
+    script_in (script_text script) ≡ Ok script
+unfolding script_text
+printed_script script config sound numbered room =
+    let r = config_read script.config config in
+    let few = few_requesters script.config.responder.eid.number [] script.config.requesters (omega arith) config.requesters in
+    printed_events (config_text script.config) r.front script.config script.events r.ended (config_is_read script.config (config_text script.config) r) (omega (arith, few)) sound numbered room

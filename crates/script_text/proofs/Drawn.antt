@@ -1,5 +1,5 @@
 -- One more event of a generated script.
-use Rattle.std.proofs.Common.{◌≡◌, ℕ, suc, ◌+◌, ◌++◌, List, [], ◌∷◌, add-one, sym, ap, ◌∙◌}
+use Rattle.std.proofs.Common.{◌≡◌, ℕ, suc, ◌+◌, ◌++◌, List, [], ◌∷◌, add-one, ap, ◌∙◌}
 use Rattle.script_text.specs.Generator.{drawn, next_drawn, events_up_to, generated_event, entry_at}
 use Rattle.script_text.specs.declared.event.Entry.{Entry}
 use Rattle.script_text.specs.declared.event.LinkEvent.{LinkEvent}

@@ -1,5 +1,5 @@
 -- An end point is its number.
-use Rattle.std.proofs.Common.{◌≡◌, ◌∙◌, ℕ, ◌≤◌, ◌<◌, ap, subst, min, max, arith, Option, Some, None}
+use Rattle.std.proofs.Common.{◌≡◌, ◌∙◌, ℕ, ◌≤◌, ◌<◌, ap, subst, arith, Option, Some, None}
 use Rattle.std.specs.Prelude.{IfSome}
 use Rattle.std.proofs.Math.Bridge.{le_prop}
 use Rattle.spdm_basis.specs.declared.eid.Eid.{Eid}

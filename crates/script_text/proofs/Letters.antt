@@ -1,6 +1,5 @@
 -- Words of some letters.
-use Rattle.std.proofs.Common.{◌≡◌, ℕ, List, [], ◌∷◌, length, drop, get_or, refl, sym, Bool, true, false, cond, nat_eq, eqb, ◌<◌, ◌≢◌, arith, eq-eqb}
-use Rattle.std.proofs.lemmas.Grind.{common_steps}
+use Rattle.std.proofs.Common.{◌≡◌, ℕ, List, [], ◌∷◌, length, drop, get_or, refl, true, false, nat_eq, ◌<◌, ◌≢◌, arith, eq-eqb}
 use Rattle.std.proofs.lemmas.Bool.{ne_eqb}
 use Rattle.script_text.specs.Choices.{is_some_of}
 

@@ -1,5 +1,5 @@
 -- The words of a line, one behind the other.
-use Rattle.std.proofs.Common.{◌≡◌, ℕ, zero, suc, ◌+◌, ◌-◌, ◌<◌, ◌≤◌, List, [], ◌∷◌, length, take, drop, get_or, refl, sym, ap, ◌∙◌, Bool, true, false, cond, nat_eq, arith}
+use Rattle.std.proofs.Common.{◌≡◌, ℕ, zero, suc, ◌+◌, List, [], ◌∷◌, take, drop, get_or, refl, sym, ap, ◌∙◌, Bool, true, false, cond, nat_eq, arith}
 use Rattle.std.specs.Prelude.{not, count_by}
 use Rattle.std.specs.List.{position_or_len, slice_split, onto_first, before_first, after_first}
 use Rattle.std.proofs.lemmas.List.Splits.{length-slice_split}

@@ -1,21 +1,20 @@
 -- The words of a printed event have no spaces, and are not too long.
-use Rattle.std.proofs.Common.{◌≡◌, ℕ, suc, ◌+◌, ◌*◌, ◌^◌, ◌<◌, ◌≤◌, ◌++◌, List, [], ◌∷◌, length, get_or, refl, sym, ap, ◌∙◌, Bool, true, false, ◌&&◌, ◌||◌, nat_eq, nat_lt, arith, Option, Some, None, length-append}
-use Rattle.std.specs.Prelude.{not, nat_le, ◌==◌, codes, slice_index, sum_by}
-use Rattle.std.specs.List.{list_all}
+use Rattle.std.proofs.Common.{◌≡◌, ℕ, suc, ◌+◌, ◌^◌, ◌<◌, ◌≤◌, ◌++◌, List, [], ◌∷◌, length, refl, true, false, ◌&&◌, ◌||◌, nat_eq, arith, Some, None, length-append}
+use Rattle.std.specs.Prelude.{nat_le, ◌==◌, codes, slice_index}
 use Rattle.std.specs.Fmt.{decimal}
-use Rattle.std.proofs.lemmas.Bool.{and_parts, ne_eqb}
+use Rattle.std.proofs.lemmas.Bool.{and_parts}
 use Rattle.std.proofs.lemmas.Bool.Decides.{nat_tests}
 use Rattle.std.proofs.lemmas.List.Sums.{AllPass-from_list_all}
 use Rattle.hex.specs.Hex.{lower_digits}
 use Rattle.script_text.specs.Printing.{event_words}
-use Rattle.script_text.specs.Sound.{is_within, is_sound_event, is_sound_place, fits_word, are_bytes}
+use Rattle.script_text.specs.Sound.{is_within, is_sound_event, fits_word, are_bytes}
 use Rattle.script_text.specs.Spelling.{hex_word, requester_word, with_words}
 use Rattle.script_text.specs.declared.event.LinkEvent.{LinkEvent}
 use Rattle.script_text.specs.declared.event.LinkEvent.TheVariants as event
 use Rattle.script_text.proofs.Decimals.{decimal_short}
 use Rattle.script_text.proofs.PrintedNumbers.{all_of_decimal}
 use Rattle.script_text.proofs.PrintedBytes.{all_of_hex_word, length-hex_word}
-use Rattle.script_text.proofs.PrintedLines.{is_plain, is_plain_word, are_plain, line_of}
+use Rattle.script_text.proofs.PrintedLines.{is_plain, is_plain_word, are_plain}
 
 pub plain_decimal : (n : ℕ) → n < 2 ^ 64 → is_plain_word (decimal n) ≡ true
 plain_decimal n fits = all_of_decimal is_plain (λ d h. grind (arith, nat_tests)) n fits

@@ -1,12 +1,11 @@
 -- Bytes as they are printed are read back.
-use Rattle.std.proofs.Common.{◌≡◌, ℕ, zero, suc, ◌+◌, ◌*◌, ◌/◌, ◌%◌, ◌<◌, ◌≤◌, List, [], ◌∷◌, length, get_or, refl, sym, ap, ◌∙◌, Bool, true, false, ◌&&◌, ◌||◌, nat_eq, nat_lt, arith, eq-eqb, Option, Some, None, Result, Ok, Err}
-use Rattle.std.specs.Prelude.{not, nat_le, ◌==◌, codes, slice_index, is_some}
+use Rattle.std.proofs.Common.{◌≡◌, ℕ, zero, suc, ◌+◌, ◌*◌, ◌/◌, ◌%◌, ◌<◌, ◌≤◌, List, [], ◌∷◌, length, refl, ap, Bool, true, false, ◌||◌, nat_eq, nat_lt, arith, eq-eqb, Option, Result}
+use Rattle.std.specs.Prelude.{codes, slice_index, is_some}
 use Rattle.std.specs.List.{list_all}
 use Rattle.std.specs.Result.{result_unwrap_or}
 use Rattle.std.proofs.lemmas.Bool.{and_parts, ne_eqb}
 use Rattle.std.proofs.lemmas.Bool.Decides.{nat_tests}
-use Rattle.std.specs.Str.{bytes_eq}
-use Rattle.hex.specs.Hex.{encode_lower, encode_with, decode_of, is_hex_digit, hex_digit_value, lower_digits, IsBytes}
+use Rattle.hex.specs.Hex.{encode_lower, encode_with, is_hex_digit, lower_digits, IsBytes}
 use Rattle.hex.specs.declared.error.FromHexError.{FromHexError}
 use Rattle.hex.proofs.HexLemmas.{decode_of-encode_lower, length-encode_with, IsDigits-lower_digits}
 use Rattle.script_text.specs.HexWords.{bytes_of, is_pairs, is_none_word, is_hex_in}

@@ -1,5 +1,5 @@
 -- Capabilities and algorithms as they are printed are read back.
-use Rattle.std.proofs.Common.{◌≡◌, ℕ, ◌≤◌, List, [], ◌∷◌, length, refl, Bool, true, false, Option, Some, None, arith}
+use Rattle.std.proofs.Common.{◌≡◌, ◌≤◌, length, refl, Bool, true, false, Some, arith}
 use Rattle.spdm_grammar.specs.declared.choice.FlagSet.{FlagSet}
 use Rattle.spdm_grammar.specs.declared.choice.Pick.{Pick}
 use Rattle.spdm_grammar.specs.declared.choice.Pick.TheVariants.{Small, Large, Both}

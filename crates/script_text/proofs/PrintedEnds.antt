@@ -1,23 +1,17 @@
 -- The printed lines of ends and of their algorithms are read back as they were.
-use Rattle.std.proofs.Common.{◌≡◌, ℕ, suc, ◌+◌, ◌-◌, ◌*◌, ◌^◌, ◌<◌, ◌≤◌, ◌++◌, List, [], ◌∷◌, length, refl, sym, ap, ◌∙◌, Bool, true, false, ◌&&◌, ◌||◌, nat_eq, nat_lt, arith, Option, Some, None}
-use Rattle.std.specs.Prelude.{not, nat_le, ◌==◌, codes, is_some, is_none}
+use Rattle.std.proofs.Common.{◌≡◌, ℕ, suc, ◌+◌, ◌<◌, ◌≤◌, ◌++◌, List, [], ◌∷◌, length, refl, sym, ap, true, false, ◌&&◌, ◌||◌, nat_eq, nat_lt, arith, Some, None}
+use Rattle.std.specs.Prelude.{nat_le, codes}
 use Rattle.std.specs.Fmt.{decimal}
-use Rattle.std.proofs.lemmas.Bool.{and_parts, ne_eqb}
+use Rattle.std.proofs.lemmas.Bool.{and_parts}
 use Rattle.std.proofs.lemmas.Bool.Decides.{nat_tests}
 use Rattle.spdm_basis.specs.declared.eid.Eid.{Eid}
-use Rattle.spdm_grammar.specs.declared.block_spec.BlockSpec.{BlockSpec}
 use Rattle.spdm_grammar.specs.declared.choice.FlagSet.{FlagSet}
-use Rattle.script_text.specs.Choices.{is_flags, flags_of}
-use Rattle.script_text.specs.Configuring.{config_kind, config_fault, after_config, seed_fault, after_seed, opaque_fault, after_opaque, block_fault, after_block, block_of, has_block, responder_fault, after_responder, end_fault, after_end}
+use Rattle.script_text.specs.Configuring.{config_kind, responder_fault, after_responder}
 use Rattle.script_text.specs.EndPoints.{eid_of}
-use Rattle.script_text.specs.HexWords.{is_hex_in, bytes_of}
-use Rattle.script_text.specs.Lines.{words_of, word}
-use Rattle.script_text.specs.Measured.{block_size, sizes_of}
-use Rattle.script_text.specs.Numbers.{is_number, is_number_in, value_of}
-use Rattle.script_text.specs.Printing.{seed_words, opaque_words, block_words, tcb_word, responder_words}
-use Rattle.script_text.specs.Sound.{is_within, are_bytes, are_bytes_in, fits_word, is_sound_block, is_sound_end}
+use Rattle.script_text.specs.Lines.{words_of}
+use Rattle.script_text.specs.Printing.{responder_words}
+use Rattle.script_text.specs.Sound.{is_within, are_bytes_in, is_sound_end}
 use Rattle.script_text.specs.Spelling.{hex_word}
-use Rattle.script_text.specs.declared.config_kind.ConfigKind.{ConfigKind}
 use Rattle.script_text.specs.declared.config_kind.ConfigKind.TheVariants as kind
 use Rattle.script_text.specs.declared.config.ReqPart.{ReqPart}
 use Rattle.script_text.specs.declared.config.RspPart.{RspPart}
@@ -25,18 +19,14 @@ use Rattle.script_text.specs.declared.given.Given.{Given}
 use Rattle.script_text.specs.declared.given.RspLine.{RspLine}
 use Rattle.script_text.proofs.Decimals.{decimal_short}
 use Rattle.script_text.proofs.EndPointLemmas.{eid_is}
-use Rattle.script_text.proofs.PlainWords.{long_words, plain_decimal, plain_hex}
-use Rattle.script_text.proofs.PrintedBytes.{bytes_of-hex_word, is_hex_in-hex_word, length-hex_word}
+use Rattle.script_text.proofs.PlainWords.{plain_decimal, plain_hex}
 use Rattle.script_text.proofs.PrintedChoices.{flags_are}
-use Rattle.script_text.proofs.PrintedEvents.{number_in-decimal}
-use Rattle.script_text.proofs.PrintedLines.{are_plain, is_plain_word}
-use Rattle.script_text.proofs.PrintedNumbers.{value_of-decimal}
-use Rattle.std.specs.Prelude.{slice_set, slice_index_or, unwrap_or}
+use Rattle.std.specs.Prelude.{slice_set, slice_index_or}
 use Rattle.spdm_grammar.specs.declared.choice.Suites.{Suites}
-use Rattle.script_text.specs.Choices.{end_in, hash_in, aead_in, small_suites, requester_in}
-use Rattle.script_text.specs.Configuring.{requester_fault, after_requester, requester_of, requester_has_eid, has_psk, suite_fault, after_suite, with_suites, numbers_of}
+use Rattle.script_text.specs.Choices.{end_in, small_suites, requester_in}
+use Rattle.script_text.specs.Configuring.{requester_fault, after_requester, requester_of, requester_has_eid, has_psk, suite_fault, after_suite, with_suites}
 use Rattle.script_text.specs.Printing.{flags_word, requester_words, suite_words, hash_word, aead_word}
-use Rattle.script_text.specs.Sound.{is_sound_responder, is_sound_requester}
+use Rattle.script_text.specs.Sound.{is_sound_requester}
 use Rattle.script_text.specs.Spelling.{requester_word}
 use Rattle.std.proofs.lemmas.Fmt.{decimal_digit}
 use Rattle.script_text.proofs.PrintedChoices.{IsFlagsWord, hash_in-word, aead_in-word, plain_hash, plain_aead, short_hash, short_aead}

@@ -1,7 +1,6 @@
 -- Each printed event is read back as it was.
-use Rattle.std.proofs.Common.{◌≡◌, ℕ, suc, ◌+◌, ◌-◌, ◌^◌, ◌<◌, ◌≤◌, ◌++◌, List, [], ◌∷◌, length, refl, sym, ap, ◌∙◌, Bool, true, false, ◌&&◌, ◌||◌, nat_eq, nat_lt, arith, Option, Some, None, lit<}
-use Rattle.std.specs.Prelude.{not, nat_le, ◌==◌, codes}
-use Rattle.std.specs.List.{list_all}
+use Rattle.std.proofs.Common.{◌≡◌, ℕ, ◌+◌, ◌-◌, ◌^◌, ◌<◌, ◌≤◌, List, [], ◌∷◌, length, refl, ap, true, false, ◌&&◌, ◌||◌, nat_eq, nat_lt, arith, Some, None}
+use Rattle.std.specs.Prelude.{nat_le, ◌==◌, codes}
 use Rattle.std.specs.Fmt.{decimal}
 use Rattle.std.proofs.lemmas.Bool.{and_parts, ne_eqb}
 use Rattle.std.proofs.lemmas.Bool.Decides.{nat_tests}
@@ -11,17 +10,17 @@ use Rattle.script_text.specs.Commands.{command_kind, is_summary, plain_fault, op
 use Rattle.script_text.specs.Configuring.{config_kind}
 use Rattle.script_text.specs.EventLines.{event_kind, event_fault, event_of, other_kind, reply_fault, number_fault, inject_fault, show_fault}
 use Rattle.script_text.specs.HexWords.{is_hex_in, bytes_of, is_none_word}
-use Rattle.script_text.specs.Lines.{words_of, word, is_too_long, is_passed_over}
-use Rattle.script_text.specs.Numbers.{is_number, is_number_in, value_of}
+use Rattle.script_text.specs.Lines.{words_of, word}
+use Rattle.script_text.specs.Numbers.{is_number_in, value_of}
 use Rattle.script_text.specs.Printing.{event_words}
-use Rattle.script_text.specs.Sound.{is_within, is_sound_event, is_sound_place, fits_word, are_bytes}
+use Rattle.script_text.specs.Sound.{is_within, is_sound_event, fits_word, are_bytes}
 use Rattle.script_text.specs.Spelling.{hex_word, requester_word}
 use Rattle.script_text.specs.declared.event.LinkEvent.{LinkEvent}
 use Rattle.script_text.specs.declared.event.LinkEvent.TheVariants as event
 use Rattle.script_text.specs.declared.event_kind.EventKind.{EventKind}
 use Rattle.script_text.specs.declared.event_kind.EventKind.TheVariants as kind
 use Rattle.script_text.specs.declared.command.CommandKind.TheVariants as command
-use Rattle.script_text.proofs.PrintedNumbers.{value_of-decimal, is_number-decimal, all_of_decimal}
+use Rattle.script_text.proofs.PrintedNumbers.{value_of-decimal, is_number-decimal}
 use Rattle.script_text.proofs.PrintedBytes.{bytes_of-hex_word, is_hex_in-hex_word}
 
 -- what a line of these words is read as

@@ -1,6 +1,6 @@
 -- The words of a line that was made of words, and the lines of a text that was made of lines.
-use Rattle.std.proofs.Common.{◌≡◌, ℕ, zero, suc, ◌+◌, ◌<◌, ◌≤◌, ◌++◌, List, [], ◌∷◌, length, refl, sym, ap, ◌∙◌, Bool, true, false, cond, ◌&&◌, nat_eq, nat_lt, arith, append_assoc, fold}
-use Rattle.std.specs.Prelude.{not, All}
+use Rattle.std.proofs.Common.{◌≡◌, ℕ, ◌<◌, ◌++◌, List, [], ◌∷◌, length, refl, sym, ap, ◌∙◌, Bool, true, false, cond, nat_eq, nat_lt, arith, append_assoc}
+use Rattle.std.specs.Prelude.{All}
 use Rattle.std.specs.List.{list_all, slice_split}
 use Rattle.std.proofs.lemmas.List.Splits.{slice_split_at, slice_split_none}
 use Rattle.std.proofs.lemmas.Bool.{and_parts, ne_eqb}
@@ -8,7 +8,7 @@ use Rattle.std.proofs.lemmas.Bool.Decides.{nat_tests}
 use Rattle.std.proofs.lemmas.List.Folds.{list_all-append}
 use Rattle.std.proofs.lemmas.List.Elements.{All-nil, All-cons}
 use Rattle.script_text.specs.Lines.{lines_of, onto_first, words_of}
-use Rattle.script_text.specs.Spelling.{with_word, with_words}
+use Rattle.script_text.specs.Spelling.{with_words}
 use Rattle.script_text.specs.Printing.{with_line}
 use Rattle.script_text.proofs.LineWords.{is_space}
 
@@ -100,10 +100,10 @@ some_line : (text : List ℕ) → (line : List ℕ) × (lines : List (List ℕ))
 some_line [] = ([], [], refl)
 some_line (b ∷ text) = go b (nat_eq b 10) (lines_of (text ++ 10 ∷ [])) (some_line text)
   where
-  go : (b : ℕ) (is_end : Bool) (rest : List (List ℕ)) → (line : List ℕ) × (lines : List (List ℕ)) × (rest ≡ line ∷ lines) →
-      (line : List ℕ) × (lines : List (List ℕ)) × (cond is_end ([] ∷ rest) (onto_first b rest) ≡ line ∷ lines)
-  go b true rest h = ([], rest, refl)
-  go b false rest h = (b ∷ h.0, h.1, ap (onto_first b) h.2)
+    go : (b : ℕ) (is_end : Bool) (rest : List (List ℕ)) → (line : List ℕ) × (lines : List (List ℕ)) × (rest ≡ line ∷ lines) →
+        (line : List ℕ) × (lines : List (List ℕ)) × (cond is_end ([] ∷ rest) (onto_first b rest) ≡ line ∷ lines)
+    go b true rest h = ([], rest, refl)
+    go b false rest h = (b ∷ h.0, h.1, ap (onto_first b) h.2)
 
 -- what stands behind a line feed begins a new line
 pub lines_of-ended : (text more : List ℕ) → lines_of ((text ++ 10 ∷ []) ++ more) ≡ lines_of (text ++ 10 ∷ []) ++ lines_of more
@@ -111,10 +111,10 @@ lines_of-ended [] more = refl
 lines_of-ended (b ∷ text) more =
     rw (lines_of-ended text more) (go b (nat_eq b 10) (lines_of (text ++ 10 ∷ [])) (lines_of more) (some_line text))
   where
-  go : (b : ℕ) (is_end : Bool) (rest more : List (List ℕ)) → (line : List ℕ) × (lines : List (List ℕ)) × (rest ≡ line ∷ lines) →
-      cond is_end ([] ∷ (rest ++ more)) (onto_first b (rest ++ more)) ≡ cond is_end ([] ∷ rest) (onto_first b rest) ++ more
-  go b true rest more h = refl
-  go b false rest more h = rw h.2 refl
+    go : (b : ℕ) (is_end : Bool) (rest more : List (List ℕ)) → (line : List ℕ) × (lines : List (List ℕ)) × (rest ≡ line ∷ lines) →
+        cond is_end ([] ∷ (rest ++ more)) (onto_first b (rest ++ more)) ≡ cond is_end ([] ∷ rest) (onto_first b rest) ++ more
+    go b true rest more h = refl
+    go b false rest more h = rw h.2 refl
 
 -- a line behind a text
 pub with_line-append : (text word : List ℕ) (words : List (List ℕ)) → with_line text (word ∷ words) ≡ text ++ (line_of (word ∷ words) ++ 10 ∷ [])

@@ -1,6 +1,5 @@
 -- Decimal numbers as they are printed are read back.
-use Rattle.std.proofs.Common.{◌≡◌, ℕ, zero, suc, ◌+◌, ◌-◌, ◌*◌, ◌/◌, ◌%◌, ◌^◌, ◌<◌, ◌≤◌, ◌++◌, List, [], ◌∷◌, length, get_or, refl, sym, ap, ◌∙◌, Bool, true, false, cond, ◌&&◌, nat_eq, nat_lt, arith, inl, inr, ◌⊎◌, fold, eq-eqb}
-use Rattle.std.specs.Prelude.{not, nat_le, ◌==◌}
+use Rattle.std.proofs.Common.{◌≡◌, ℕ, zero, suc, ◌+◌, ◌/◌, ◌%◌, ◌^◌, ◌<◌, [], ◌∷◌, length, get_or, refl, Bool, true, false, ◌&&◌, nat_eq, nat_lt, arith, inl, inr, fold}
 use Rattle.std.specs.List.{list_all}
 use Rattle.std.specs.Fmt.{decimal}
 use Rattle.std.proofs.lemmas.Bool.{cases_lt, ne_eqb}
@@ -8,7 +7,7 @@ use Rattle.std.proofs.lemmas.Bool.Decides.{nat_tests}
 use Rattle.std.proofs.lemmas.Fmt.{decimal_step, decimal_digit, decimal_nonempty, first_decimal}
 use Rattle.std.proofs.lemmas.List.Folds.{list_all-append}
 use Rattle.std.proofs.lemmas.List.Sums.{fold-append}
-use Rattle.script_text.specs.Numbers.{is_digit, is_number, is_number_in, has_leading_zero, value_of, with_digit}
+use Rattle.script_text.specs.Numbers.{is_digit, is_number, has_leading_zero, value_of, with_digit}
 
 value_below : (k n : ℕ) → n < k → n < 2 ^ 64 → fold with_digit 0 (decimal n) ≡ n
 value_below zero n h fits = absurd (omega arith)
@@ -44,9 +43,9 @@ no_zero n some fits =
     let first : nat_eq (get_or (decimal n) 0 0) 48 ≡ false = ne_eqb _ _ (omega (arith, first_decimal n some fits)) in
     rw first (and_false (nat_lt 1 (length (decimal n))))
   where
-  and_false : (b : Bool) → (b && false) ≡ false
-  and_false true = refl
-  and_false false = refl
+    and_false : (b : Bool) → (b && false) ≡ false
+    and_false true = refl
+    and_false false = refl
 
 -- the digits of a number are a number
 pub is_number-decimal : (n : ℕ) → n < 2 ^ 64 → is_number (decimal n) ≡ true

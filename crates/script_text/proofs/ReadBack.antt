@@ -1,18 +1,16 @@
 -- Events that are printed behind a configuration are read back.
-use Rattle.std.proofs.Common.{◌≡◌, ℕ, suc, ◌+◌, ◌<◌, ◌≤◌, ◌++◌, List, [], ◌∷◌, length, map, refl, sym, ap, ◌∙◌, Bool, true, false, ◌&&◌, nat_eq, nat_lt, arith, append_assoc, length-append, Option, Some, None, Result, Ok, Err, fold, cond}
-use Rattle.std.specs.Prelude.{not, nat_le}
+use Rattle.std.proofs.Common.{◌≡◌, ℕ, suc, ◌+◌, ◌<◌, ◌≤◌, ◌++◌, List, [], ◌∷◌, length, map, refl, sym, ap, ◌∙◌, Bool, true, false, nat_eq, arith, append_assoc, length-append, Option, Some, None, Result, Ok, fold, cond}
 use Rattle.std.specs.Option.{option_map, unwrap_or}
-use Rattle.std.specs.List.{list_all}
 use Rattle.std.specs.Result.{result_unwrap_or}
 use Rattle.std.proofs.lemmas.Bool.{and_parts, ne_eqb}
 use Rattle.std.proofs.lemmas.Bool.Decides.{nat_tests}
 use Rattle.std.proofs.lemmas.List.{append-nil}
-use Rattle.script_text.specs.Configuring.{config_of, config_with, config_kind, nothing_given}
-use Rattle.script_text.specs.EventLines.{event_kind, event_fault, event_of}
-use Rattle.script_text.specs.Lines.{lines_of, words_of, word, is_too_long, is_passed_over}
-use Rattle.script_text.specs.Printing.{event_words, with_entry, with_line}
-use Rattle.script_text.specs.Reading.{read_lines, line_fault, after_line, unless_bad, whole_or_missing, fault_at}
-use Rattle.script_text.specs.ScriptText.{script_fault, after_script, whole_script, script_kind_fault, script_event_fault, after_script_kind, after_script_event, script_with, script_in, or_too_many, is_full}
+use Rattle.script_text.specs.Configuring.{config_of, config_with, nothing_given}
+use Rattle.script_text.specs.EventLines.{event_fault}
+use Rattle.script_text.specs.Lines.{lines_of, words_of, is_too_long, is_passed_over}
+use Rattle.script_text.specs.Printing.{event_words, with_entry}
+use Rattle.script_text.specs.Reading.{read_lines, line_fault, after_line, unless_bad, whole_or_missing}
+use Rattle.script_text.specs.ScriptText.{script_fault, after_script, whole_script, script_with, script_in, is_full}
 use Rattle.script_text.specs.Sound.{is_sound_event, are_sound_events, AreNumbered}
 use Rattle.script_text.specs.Spelling.{with_words}
 use Rattle.script_text.specs.declared.config.ReqPart.{ReqPart}
@@ -27,7 +25,7 @@ use Rattle.script_text.specs.declared.script.Script.{Script}
 use Rattle.script_text.specs.declared.script_lines.ScriptReader.{ScriptReader}
 use Rattle.script_text.proofs.PlainWords.{IsPlainEvent, plain_event, length-with_words, long_words}
 use Rattle.script_text.proofs.PrintedEvents.{IsReadAs, reads_event}
-use Rattle.script_text.proofs.PrintedLines.{line_of, are_plain, words_of-line_of, words_of-line_of_some, line_is_text, lines_of-line, lines_of-ended, with_line-append_some, with_words-append}
+use Rattle.script_text.proofs.PrintedLines.{line_of, words_of-line_of_some, line_is_text, lines_of-line, lines_of-ended, with_line-append_some, with_words-append}
 
 -- the line of an event, without its line feed
 abbrev pub event_line : LinkEvent → List ℕ
@@ -155,7 +153,7 @@ lines_of-events text u n (e ∷ entries) ends few sound =
     let ended : with_entry text e ≡ (text ++ line) ++ 10 ∷ [] = whole ∙ sym (append_assoc text line (10 ∷ [])) in
     let one : lines_of (line ++ 10 ∷ []) ≡ line ∷ [] = lines_of-line line (line_is_text (event_words e.event) plain.plain) in
     let here : lines_of (with_entry text e) ≡ lines_of text ++ line ∷ [] =
-        ap lines_of (whole ∙ ap (λ t. t ++ (line ++ 10 ∷ [])) ends) ∙ lines_of-ended u (line ++ 10 ∷ []) ∙ ap (λ t. lines_of t ++ lines_of (line ++ 10 ∷ [])) (sym ends) ∙ ap (λ ls. lines_of text ++ ls) one in
+    ap lines_of (whole ∙ ap (λ t. t ++ (line ++ 10 ∷ [])) ends) ∙ lines_of-ended u (line ++ 10 ∷ []) ∙ ap (λ t. lines_of t ++ lines_of (line ++ 10 ∷ [])) (sym ends) ∙ ap (λ ls. lines_of text ++ ls) one in
     lines_of-events (with_entry text e) (text ++ line) n entries ended few parts.1
     ∙ ap (λ ls. ls ++ event_lines entries) here
     ∙ append_assoc (lines_of text) (line ∷ []) (event_lines entries)

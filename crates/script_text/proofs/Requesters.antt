@@ -1,5 +1,5 @@
 -- A requester that gets other algorithms.
-use Rattle.std.proofs.Common.{◌≡◌, ℕ, zero, suc, List, [], ◌∷◌, length, get_or, refl, ap, ◌<◌, arith}
+use Rattle.std.proofs.Common.{◌≡◌, ℕ, zero, suc, List, [], ◌∷◌, length, get_or, ap, ◌<◌, arith}
 use Rattle.std.specs.Prelude.{slice_set}
 use Rattle.spdm_grammar.specs.declared.choice.Suites.{Suites}
 use Rattle.script_text.specs.declared.config.ReqPart.{ReqPart}

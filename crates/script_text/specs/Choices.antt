@@ -1,5 +1,5 @@
 -- Words that choose: capabilities, algorithms and ends. This project's own.
-use Rattle.std.specs.Prelude.{ℕ, List, [], ◌∷◌, ◌-◌, ◌==◌, ◌&&◌, ◌||◌, nat_le, not, codes, length, slice_index, bytes_eq, if◌then◌else◌, Bool, true, false, Option, Some, None}
+use Rattle.std.specs.Prelude.{ℕ, List, [], ◌∷◌, ◌-◌, ◌==◌, ◌&&◌, ◌||◌, nat_le, not, codes, length, slice_index, bytes_eq, if◌then◌else◌, Bool, true, Option, Some, None}
 use Rattle.std.specs.List.{list_any}
 use Rattle.script_text.specs.HexWords.{is_none_word}
 use Rattle.spdm_grammar.specs.declared.choice.FlagSet.{FlagSet}

@@ -1,6 +1,5 @@
 -- The lines of commands: which faults each kind has, in order, and what it asks of a requester. This project's own.
-use Rattle.std.specs.Prelude.{ℕ, List, [], ◌∷◌, ◌==◌, ◌&&◌, ◌||◌, nat_lt, not, codes, bytes_eq, if◌then◌else◌, Bool, Option, Some, None, is_some}
-use Rattle.script_text.specs.Choices.{requester_in}
+use Rattle.std.specs.Prelude.{ℕ, List, [], ◌∷◌, ◌==◌, ◌&&◌, ◌||◌, nat_lt, not, codes, bytes_eq, if◌then◌else◌, Bool, Option, Some, None}
 use Rattle.script_text.specs.HexWords.{is_hex_in, bytes_of, is_none_word, most_bytes}
 use Rattle.script_text.specs.Lines.{word, has_words}
 use Rattle.script_text.specs.Numbers.{is_number_in, value_of}

@@ -1,5 +1,5 @@
 -- The lines of a configuration: which faults each kind has, in order, and what it says. This project's own.
-use Rattle.std.specs.Prelude.{ℕ, List, [], ◌∷◌, ◌++◌, ◌+◌, ◌-◌, ◌==◌, zero, suc, ◌&&◌, ◌||◌, nat_le, nat_lt, not, codes, length, slice_index_or, slice_set, bytes_eq, replicate, if◌then◌else◌, Bool, true, false, Option, Some, None, is_some, is_none, unwrap_or}
+use Rattle.std.specs.Prelude.{ℕ, List, [], ◌∷◌, ◌++◌, ◌+◌, ◌==◌, zero, suc, ◌&&◌, ◌||◌, nat_le, nat_lt, not, codes, length, slice_index_or, slice_set, bytes_eq, replicate, if◌then◌else◌, Bool, true, false, Option, Some, None, is_some, is_none, unwrap_or}
 use Rattle.std.specs.List.{list_any}
 use Rattle.spdm_grammar.specs.declared.block_spec.BlockSpec.{BlockSpec}
 use Rattle.spdm_grammar.specs.declared.choice.Suites.{Suites}

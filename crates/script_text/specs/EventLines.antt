@@ -1,5 +1,5 @@
 -- The lines of events: which faults each kind has, in order, and what it says. This project's own.
-use Rattle.std.specs.Prelude.{ℕ, List, [], ◌∷◌, ◌^◌, ◌-◌, nat_lt, nat_le, not, codes, bytes_eq, length, if◌then◌else◌, Bool, true, false, Option, Some, None}
+use Rattle.std.specs.Prelude.{ℕ, List, [], ◌∷◌, ◌^◌, ◌-◌, nat_le, not, codes, bytes_eq, if◌then◌else◌, Bool, false, Option, Some, None}
 use Rattle.std.specs.Option.{option_map}
 use Rattle.script_text.specs.Choices.{requester_in}
 use Rattle.script_text.specs.Commands.{command_kind, command_fault, command_of}
@@ -12,7 +12,7 @@ use Rattle.script_text.specs.declared.event.LinkEvent.TheVariants as event
 use Rattle.script_text.specs.declared.event_kind.EventKind.{EventKind}
 use Rattle.script_text.specs.declared.event_kind.EventKind.TheVariants as kind
 use Rattle.script_text.specs.declared.faults.LineFault.{LineFault}
-use Rattle.script_text.specs.declared.faults.LineFault.TheVariants.{Order, Words, Number, Hex, NoSuchEnd}
+use Rattle.script_text.specs.declared.faults.LineFault.TheVariants.{Words, Number, Hex, NoSuchEnd}
 
 -- The kind of a line that begins with no requester.
 unfoldable pub other_kind : List ℕ → Option EventKind

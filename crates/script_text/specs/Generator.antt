@@ -1,8 +1,7 @@
 -- Generated scripts: a configuration and events that a seed and a count determine. This project's own.
-use Rattle.std.specs.Prelude.{ℕ, zero, suc, List, [], ◌∷◌, ◌++◌, ◌+◌, ◌*◌, ◌/◌, ◌%◌, ◌^◌, ◌==◌, nat_le, replicate, if◌then◌else◌, Bool, true, false, Option, Some, None}
+use Rattle.std.specs.Prelude.{ℕ, zero, suc, List, [], ◌∷◌, ◌++◌, ◌+◌, ◌*◌, ◌/◌, ◌%◌, ◌^◌, ◌==◌, nat_le, replicate, if◌then◌else◌, Bool, true, false, Some}
 use Rattle.std.specs.Int.{to_le_bytes, w64}
 use Rattle.spdm_grammar.specs.declared.block_spec.BlockSpec.{BlockSpec}
-use Rattle.spdm_grammar.specs.declared.choice.FlagSet.{FlagSet}
 use Rattle.script_text.specs.Choices.{small_suites}
 use Rattle.script_text.specs.EndPoints.{eid_of}
 use Rattle.script_text.specs.declared.config.ReqPart.{ReqPart}

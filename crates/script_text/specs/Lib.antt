@@ -22,3 +22,4 @@ pub mod Generator
 pub mod Printing
 pub mod ShownText
 pub mod Sound
+pub mod Laws

@@ -2,9 +2,9 @@
 use Rattle.std.specs.Prelude.{ℕ, List, [], ◌∷◌, ◌++◌, ◌+◌, ◌==◌, not, codes, bytes_eq, if◌then◌else◌, Bool, Option, Some, None, Result, Ok, Err}
 use Rattle.std.specs.List.{list_any}
 use Rattle.script_text.specs.HexWords.{is_hex_in, bytes_of, most_bytes}
-use Rattle.script_text.specs.Lines.{lines_of, word, has_words}
+use Rattle.script_text.specs.Lines.{lines_of, word, has_words, is_passed_over}
 use Rattle.script_text.specs.Numbers.{is_number_in, value_of}
-use Rattle.script_text.specs.Reading.{line_fault, after_line, unless_bad}
+use Rattle.script_text.specs.Reading.{line_fault, unless_bad}
 use Rattle.script_text.specs.Tests.{first_of_tests}
 use Rattle.script_text.specs.declared.faults.LineFault.{LineFault}
 use Rattle.script_text.specs.declared.faults.LineFault.TheVariants.{Unknown, Words, Number, Hex, Twice, Incomplete}
@@ -79,8 +79,9 @@ after_rule rules (Some kind.Expect) line = rules ++ rule.Expect (value_of (word 
 after_rule rules (Some kind.Skip) line = rules ++ rule.Skip (value_of (word 1 line)) ∷ []
 after_rule rules (Some kind.Go) line = rules
 
-abbrev pub after_policy : List Rule → ℕ → List ℕ → List Rule
-after_policy rules number line = after_rule rules (rule_kind (word 0 line)) line
+-- Empty lines and comments say nothing.
+abbrev pub after_policy : List Rule → List ℕ → List Rule
+after_policy rules line = if is_passed_over line then rules else after_rule rules (rule_kind (word 0 line)) line
 
 -- What lines say of which the first has this number. Behind `go` nothing is read; a text without it misses it at the
 -- line behind the last.
@@ -88,7 +89,7 @@ abbrev pub policy_lines : ℕ → List Rule → List (List ℕ) → Result (List
 policy_lines number rules [] = Err (Line number Incomplete)
 policy_lines number rules (line ∷ lines) =
     if is_go line then Ok rules
-    else unless_bad number (line_fault policy_fault rules line) (policy_lines (number + 1) (after_line after_policy rules number line) lines)
+    else unless_bad number (line_fault policy_fault rules line) (policy_lines (number + 1) (after_policy rules line) lines)
 
 -- The rules that a text is whose first line has this number, or its first bad line.
 unfoldable pub policy_in : ℕ → List ℕ → Result (List Rule) ScriptFault

@@ -1,5 +1,5 @@
 -- How a text is read, line by line: the first bad line with its first fault, or what all lines say. This project's own.
-use Rattle.std.specs.Prelude.{ℕ, List, [], ◌∷◌, ◌+◌, ◌≡◌, if◌then◌else◌, Bool, Option, Some, None, Result, Ok, Err}
+use Rattle.std.specs.Prelude.{ℕ, List, [], ◌∷◌, ◌+◌, ◌≡◌, if◌then◌else◌, Option, Some, None, Result, Ok, Err}
 use Rattle.script_text.specs.declared.faults.LineError.{LineError}
 use Rattle.script_text.specs.declared.faults.LineError.TheVariants.{Fault, NoMemory}
 use Rattle.script_text.specs.declared.faults.LineFault.{LineFault}

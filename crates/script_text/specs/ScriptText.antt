@@ -12,7 +12,6 @@ use Rattle.script_text.specs.declared.capture_text.CaptureReader.{CaptureReader}
 use Rattle.script_text.specs.declared.config.ScriptConfig.{ScriptConfig}
 use Rattle.script_text.specs.declared.config_kind.ConfigKind.{ConfigKind}
 use Rattle.script_text.specs.declared.event.Entry.{Entry}
-use Rattle.script_text.specs.declared.event.LinkEvent.{LinkEvent}
 use Rattle.script_text.specs.declared.event_kind.EventKind.{EventKind}
 use Rattle.script_text.specs.declared.faults.LineFault.{LineFault}
 use Rattle.script_text.specs.declared.faults.LineFault.TheVariants.{Unknown, Order, Words, Number, Hex, TooManyEvents}

@@ -9,7 +9,6 @@ use Rattle.script_text.specs.declared.faults.LineFault.{LineFault}
 use Rattle.script_text.specs.declared.faults.LineFault.TheVariants.{Unknown, Words, Hex}
 use Rattle.script_text.specs.declared.faults.ScriptFault.{ScriptFault}
 use Rattle.script_text.specs.declared.shown.Shown.{Shown}
-use Rattle.script_text.specs.declared.shown.ShownKind.{ShownKind}
 use Rattle.script_text.specs.declared.shown.ShownKind.TheVariants as kind
 use Rattle.script_text.specs.declared.shown.ShownAs.{ShownAs}
 

@@ -1,7 +1,6 @@
 -- The lines of a trace as words. This project's own.
-use Rattle.std.specs.Prelude.{ℕ, List, [], ◌∷◌, ◌++◌, codes, Option, Some, None}
+use Rattle.std.specs.Prelude.{ℕ, List, [], ◌∷◌, ◌++◌, codes, Some, None}
 use Rattle.std.specs.Fmt.{decimal}
-use Rattle.hex.specs.Hex.{encode_lower}
 use Rattle.script_text.specs.Spelling.{spelled, hex_word, code_word, id_word, requester_word}
 use Rattle.script_text.specs.TraceWords.{phase_word, stage_word, command_fault_word, reply_fault_word, responder_ignored_word, requester_ignored_word, stop_word}
 use Rattle.spdm_grammar.specs.Lines.{Whose, Line}

@@ -46,9 +46,9 @@ pub fn take_block(alloc: Global, given: &mut Given, line: &[u8]) -> Result<(), L
         index,
         value_type: value_type as u8,
         tcb: tcb == 1,
-        value: bytes_of(alloc, word(4, line)).map_err(|_| LineError::NoMemory)?,
+        value: bytes_of(alloc, word(4, line))?,
     };
-    given.blocks.push(block).map_err(|_| LineError::NoMemory)?;
+    given.blocks.push(block)?;
     Ok(())
 }
 

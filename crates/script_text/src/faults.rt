@@ -1,5 +1,5 @@
 ghost use Rattle.std.specs.Prelude.{◌≡◌};
-ghost use Rattle.script_text.specs.declared.faults.LineError.TheVariants.{Fault, NoMemory};
+ghost use Rattle.script_text.specs.declared.faults.LineError.TheVariants.{NoMemory};
 
 use spdm_basis::OutOfMemory;
 use thiserror::Error;
@@ -74,14 +74,6 @@ pub enum LineError {
     Fault(LineFault),
     #[error("out of memory")]
     NoMemory,
-}
-
-impl From<LineFault> for LineError {
-    ghost from_gives = { λ fault error. error ≡ Fault fault };
-
-    fn from(fault: LineFault) -> LineError {
-        LineError::Fault(fault)
-    }
 }
 
 impl From<OutOfMemory> for LineError {

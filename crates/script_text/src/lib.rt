@@ -19,6 +19,7 @@ mod faults;
 mod generator;
 mod given;
 mod hex_words;
+mod laws;
 mod lines;
 mod lives_text;
 mod numbers;
@@ -53,6 +54,7 @@ pub use config_text::{TEXT_LIMIT, parse_config};
 pub use event::{Entry, Events, LinkEvent};
 pub use faults::{LineFault, ScriptFault};
 pub use generator::{MOST_GENERATED, generate};
+pub use laws::{printed_events_are_read, printed_script_is_read};
 pub use lives_text::parse_lives;
 pub use other_lines::{
     line_conforms, line_cycle, line_differs, line_malformed, line_request, line_response,

@@ -26,6 +26,6 @@ pub fn take_opaque(alloc: Global, given: &mut Given, line: &[u8]) -> Result<(), 
     if given.opaque.is_some() {
         return Err(LineError::Fault(LineFault::Twice));
     }
-    given.opaque = Some(bytes_of(alloc, word(1, line)).map_err(|_| LineError::NoMemory)?);
+    given.opaque = Some(bytes_of(alloc, word(1, line))?);
     Ok(())
 }

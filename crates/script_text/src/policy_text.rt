@@ -1,6 +1,6 @@
 ghost use Rattle.std.specs.Prelude.{◌≡◌, ◌≤◌, ◌==◌, ◌^◌, Some, length, OnOk};
 ghost use Rattle.script_text.specs.PolicyText.{policy_in, policy_fault, after_policy, rule_kind, rule_fault, after_rule, expect_fault, skip_fault, go_fault, has_index, index_of, is_go};
-ghost use Rattle.script_text.specs.Reading.{IsReading, line_fault, after_line};
+ghost use Rattle.script_text.specs.Reading.{IsReading, line_fault};
 ghost use Rattle.script_text.specs.Tests.{IsAnswerTo};
 ghost use Rattle.script_text.specs.declared.policy_text.RuleKind.TheVariants.{Expect, Skip};
 
@@ -136,11 +136,10 @@ fn take_rule(
 }
 
 // Takes a line.
-fn take_line(alloc: Global, rules: &mut Rules, number: u32, line: &[u8]) -> Result<(), LineError>
+fn take_line(alloc: Global, rules: &mut Rules, line: &[u8]) -> Result<(), LineError>
     ensures answer { IsAnswerTo (line_fault policy_fault rules.old line.now) result }
-    ensures after { OnOk result (rules.new ≡ after_line after_policy rules.old number line.now) }
+    ensures after { OnOk result (rules.new ≡ after_policy rules.old line.now) }
 {
-    let _ = number;
     if is_too_long(line) {
         return Err(LineError::Fault(LineFault::LineTooLong));
     }
@@ -172,7 +171,7 @@ pub fn parse_policy(alloc: Global, text: &[u8], first: u32) -> Result<Rules, Scr
         if is_go(line) {
             return Ok(rules);
         }
-        if let Err(error) = take_line(alloc, &mut rules, number, line) {
+        if let Err(error) = take_line(alloc, &mut rules, line) {
             return Err(told(number, error));
         }
         number += 1;

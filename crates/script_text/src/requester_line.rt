@@ -55,13 +55,8 @@ pub fn take_requester(alloc: Global, given: &mut Given, line: &[u8]) -> Result<(
     if has_psk(psk.as_slice(), given.requesters.as_slice()) {
         return Err(LineError::Fault(LineFault::SamePsk));
     }
-    let requester = requester_of(alloc, numbers, flags, psk, line).map_err(
-        |_| LineError::NoMemory,
-    )?;
-    given
-        .requesters
-        .push(requester)
-        .map_err(|_| LineError::NoMemory)?;
+    let requester = requester_of(alloc, numbers, flags, psk, line)?;
+    given.requesters.push(requester)?;
     Ok(())
 }
 

@@ -1,6 +1,6 @@
 use Rattle.std.proofs.Common.{arith, sym, length}
 use Rattle.std.proofs.lemmas.Bool.{eqb-true}
-use Rattle.script_text.proofs.Letters.{is_some_of-first, is_some_of-other}
+use Rattle.script_text.proofs.Letters.{is_some_of-other}
 use Rattle.script_text.proofs.choices.behind.Goals as goal
 use Rattle.script_text.proofs.choices.behind.Goals.{else-not-is_empty-via-then-not-is_empty+else-word-letter, else-not-is_empty-via-else-not-is_empty}
 

@@ -1,4 +1,4 @@
-use Rattle.std.proofs.Common.{refl, arith}
+use Rattle.std.proofs.Common.{refl}
 use Rattle.script_text.proofs.EndPointLemmas.{some_eid_is}
 use Rattle.script_text.proofs.generator.end_point.Goals as goal
 

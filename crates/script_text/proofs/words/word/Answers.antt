@@ -1,4 +1,4 @@
-use Rattle.std.proofs.Common.{◌≡◌, ◌+◌, suc, refl, arith, sym, ap, ◌∙◌}
+use Rattle.std.proofs.Common.{suc, refl, arith, sym, ap, ◌∙◌}
 use Rattle.script_text.specs.Lines.{word}
 use Rattle.script_text.proofs.LineWords.{word-zero, word-suc}
 use Rattle.script_text.proofs.words.word.Goals as goal

@@ -1,4 +1,4 @@
-use Rattle.std.proofs.Common.{ap, ◌∙◌, length, arith}
+use Rattle.std.proofs.Common.{ap, ◌∙◌}
 use Rattle.script_text.specs.Configuring.{with_suites}
 use Rattle.script_text.proofs.Requesters.{with_suites-is}
 use Rattle.script_text.proofs.config.ReqParts.set_suites.Goals as goal
