@@ -21,7 +21,7 @@ none_of_header : (a b c d e : Bool) → a ≡ false → b ≡ true → c ≡ tru
     first_of_tests ((a, Short) ∷ (not b, WrongId) ∷ (not c, WrongNumber) ∷ (not d || e, WrongLength) ∷ []) ≡ None
 none_of_header a b c d e p q r s t = rw (p, q, r, s, t) refl
 
-header_of_none : (a b c d e : Bool) → first_of_tests ((a, Short) ∷ (not b, WrongId) ∷ (not c, WrongNumber) ∷ (not d || e, WrongLength) ∷ []) ≡ None →
+pub header_of_none : (a b c d e : Bool) → first_of_tests ((a, Short) ∷ (not b, WrongId) ∷ (not c, WrongNumber) ∷ (not d || e, WrongLength) ∷ []) ≡ None →
     (a ≡ false) × (b ≡ true) × (c ≡ true) × (d ≡ true) × (e ≡ false)
 header_of_none true b c d e h = absurd (cc)
 header_of_none false false c d e h = absurd (cc)

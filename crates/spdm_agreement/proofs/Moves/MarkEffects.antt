@@ -6,15 +6,10 @@ use Rattle.spdm_agreement.specs.Marks.Asked.{Started, Accepted, Opened, Sealed, 
 use Rattle.spdm_agreement.specs.Marks.Served.{Began, Finished, Refused, Took}
 use Rattle.spdm_agreement.specs.Reading.{First, Reading}
 use Rattle.spdm_agreement.proofs.Moves.Invariant.{AskedWell, ServedWell, Talks}
+use Rattle.spdm_machine.proofs.Members.{none_some, some_same}
 
 pub differ : (a b : ℕ) → (a == b) ≡ false → a ≡ b → ⊥
 differ a b f e = true≢false (sym (eq-eqb a b e) ∙ f)
-
-pub some_same : {A : Type 0} (x y : A) → Some x ≡ Some y → x ≡ y
-some_same x y e = cc
-
-pub none_some : {A : Type 0} (y : A) → None ≡ Some y → ⊥
-none_some y e = cc
 
 -- What is kept by T2: one case for the T2 that a mark names, and one for the others.
 pub at_key : (P : List ℕ → Bool → Type 0) (k : List ℕ) → P k true → ((u : List ℕ) → P u false) → (u : List ℕ) → P u (bytes_eq k u)
