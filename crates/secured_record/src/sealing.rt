@@ -8,7 +8,7 @@ ghost use Rattle.secured_record.specs.Format.{plain_text, record_of, sealed_text
 use crate::aead::RecordCipher;
 use crate::format::{header, nonce, two_bytes};
 use key_schedule::DirectionKey;
-use spdm_basis::{AeadAlg, RecordFrame, SessionId};
+use spdm_basis::{RecordFrame, SessionId};
 use thiserror::Error;
 
 /// The record would have more than 4,160 bytes.
@@ -63,10 +63,31 @@ fn seal_by(
     let _ = out.extend(&tag);
 }
 
+// Writes the record of an inner message and padding under a cipher, where it has at most 4,160 bytes.
+#[tactic(auto, unfolding(crate::specs::Format::record_of))]
+pub fn seal_within(
+    cipher: &RecordCipher,
+    iv: &[u8; 12],
+    id: SessionId,
+    number: u16,
+    inner: &[u8],
+    pad: &[u8],
+    out: &mut RecordFrame,
+) -> Result<(), TooLong>
+    ensures fits { IsOk result ↔ (length inner.now + length pad.now + 26 ≤ 4160) }
+    ensures record { OnOk result (out.new ≡ record_of (cipher_key cipher.now) iv.now (session_id_bytes id.req id.rsp) number inner.now pad.now) }
+    ensures unchanged { OnErr result (out.new ≡ out.old) }
+{
+    if inner.len() > CONTENT_LIMIT || pad.len() > CONTENT_LIMIT - inner.len() {
+        return Err(TooLong);
+    }
+    seal_by(cipher, iv, &id.bytes(), number, inner, pad, out);
+    Ok(())
+}
+
 /// Writes the record of an inner message and padding, under the key of a direction, a session id and a
 /// number (DSP0277, "Secured Message format"). `TooLong` comes exactly where the record would have more
 /// than 4,160 bytes, and leaves `out` as it was. A number serves once under a key.
-#[tactic(auto, unfolding(crate::specs::Format::record_of))]
 pub fn seal(
     key: &DirectionKey,
     id: SessionId,
@@ -79,10 +100,6 @@ pub fn seal(
     ensures record { OnOk result (out.new ≡ record_of (key_of key.now) (iv_of key.now) (session_id_bytes id.req id.rsp) number inner.now pad.now) }
     ensures unchanged { OnErr result (out.new ≡ out.old) }
 {
-    if inner.len() > CONTENT_LIMIT || pad.len() > CONTENT_LIMIT - inner.len() {
-        return Err(TooLong);
-    }
     let cipher = RecordCipher::new(key.aead(), key.key());
-    seal_by(&cipher, key.iv(), &id.bytes(), number, inner, pad, out);
-    Ok(())
+    seal_within(&cipher, key.iv(), id, number, inner, pad, out)
 }
