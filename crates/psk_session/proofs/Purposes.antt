@@ -3,7 +3,9 @@ use Rattle.std.proofs.Common.{◌≡◌, ◌∙◌, ap, sym, subst, refl, ℕ, �
 use Rattle.std.specs.Prelude.{if◌then◌else◌, Option, Result, Ok, Err, None, Some, MatchResult, OnOk, IsOk}
 use Rattle.key_schedule.specs.Keys.{DirectionSecret}
 use Rattle.key_schedule.specs.Purpose as purpose
-use Rattle.key_schedule.specs.Purpose.{Purpose, IsSecretOf, is_record, secret_of}
+use Rattle.hmac_hkdf.specs.Hmac.{hmac}
+use Rattle.key_schedule.specs.Purpose.{Purpose, IsSecretOf, is_record, secret_of, verify}
+use Rattle.key_schedule.specs.declared.direction.Direction.{Direction}
 use Rattle.key_schedule.specs.Schedule.{record_key, record_iv, finished_key}
 use Rattle.running_hash.specs.Hash.{hash_of}
 use Rattle.secured_record.specs.Faults.{fault_of, inner_of}
@@ -15,7 +17,7 @@ use Rattle.spdm_basis.specs.declared.aead_alg.AeadAlg.{AeadAlg}
 use Rattle.spdm_basis.specs.declared.hash_alg.HashAlg.{HashAlg}
 use Rattle.spdm_basis.specs.declared.record_fault.RecordFault.{RecordFault}
 use Rattle.spdm_grammar.specs.declared.choice.Choice.{Choice}
-use Rattle.spdm_machine.specs.Keys.{sealed_of, record_fault, inner_message}
+use Rattle.spdm_machine.specs.Keys.{sealed_of, record_fault, inner_message, verify_data}
 use Rattle.psk_session.specs.Keys.{IsKeyOf}
 
 secret_at_choice : (k : DirectionSecret) (choice : Choice) (p : Purpose) → IsKeyOf k choice p → k.secret ≡ secret_of choice.hash p
@@ -67,3 +69,13 @@ pub size_of : (key iv : List ℕ) (req rsp number : ℕ) (inner pad out : List �
 unfolding record_of
 size_of key iv req rsp number inner pad out e =
     omega (arith, ap (λ (x : List ℕ). length x) e, length-sealed_text key iv (session_id_bytes req rsp) number (plain_text inner pad) refl, length-append inner pad)
+
+-- Verify data of a handshake are those of the definitions.
+pub verify_at : (hash : HashAlg) (aead : AeadAlg) (choice : Choice) (psk t1 transcript : List ℕ) (direction : Direction) (th out : List ℕ) → hash ≡ choice.hash → aead ≡ choice.aead
+    → th ≡ (hash_of choice.hash).digest transcript → out ≡ hmac (hash_of hash) (purpose.key_of hash aead (verify psk t1 direction)) th
+    → out ≡ verify_data choice psk t1 direction transcript
+unfolding verify_data
+verify_at hash aead choice psk t1 transcript direction th out h a t e =
+    e ∙ ap (λ (x : HashAlg). hmac (hash_of x) (purpose.key_of x aead (verify psk t1 direction)) th) h
+    ∙ ap (λ (x : AeadAlg). hmac (hash_of choice.hash) (purpose.key_of choice.hash x (verify psk t1 direction)) th) a
+    ∙ ap (λ (x : List ℕ). hmac (hash_of choice.hash) (purpose.key_of choice.hash choice.aead (verify psk t1 direction)) x) t

@@ -1,4 +1,4 @@
-ghost use Rattle.std.specs.Prelude.{◌≡◌, MatchResult, None, Some, Ok, slice_index};
+ghost use Rattle.std.specs.Prelude.{◌≡◌, MatchResult, None, Some, Ok, slice_index, bytes_eq};
 ghost use Rattle.byteorder.specs.Endian.{little_number};
 ghost use Rattle.spdm_grammar.specs.Message.{exchange_rsp_message, response_message};
 ghost use Rattle.spdm_grammar.specs.Message.ResponseMessage.{PskExchangeRsp};
@@ -50,4 +50,11 @@ pub fn told_id(message: &[u8]) -> u16
     ensures { result ≡ id_in_exchange message.now }
 {
     byte_at(message, 4) as u16 + 256 * byte_at(message, 5) as u16
+}
+
+// Whether bytes are the same.
+pub fn same_bytes(a: &[u8], b: &[u8]) -> bool
+    ensures { result ≡ bytes_eq a.now b.now }
+{
+    a == b
 }

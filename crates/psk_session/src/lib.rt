@@ -3,11 +3,16 @@
 #![tactic(auto)]
 
 mod answers;
+mod finishing;
+mod handshake;
+mod inner;
 mod keys;
 mod open_fault;
 mod opening;
+mod requests;
 mod terms;
 
+pub use finishing::Finishing;
 pub use open_fault::OpenFault;
 pub use opening::Opening;
 pub use terms::SessionTerms;

@@ -1,11 +1,16 @@
-ghost use Rattle.std.specs.Prelude.{◌≡◌, ◌++◌, ℕ, List, length};
+ghost use Rattle.std.specs.Prelude.{◌≡◌, ◌≤◌, ◌++◌, [], ℕ, List, length};
 ghost use Rattle.running_hash.specs.Hash.{hash_of};
 ghost use Rattle.spdm_basis.specs.Sizes.{hash_size};
 ghost use Rattle.transcript.specs.Transcripts.{Negotiation, vca_of, without_verify};
 ghost use Rattle.transcript.specs.Lane as lane;
-ghost use Rattle.psk_session.specs.Opening.{AreTermsOf, StandsFor};
+ghost use Rattle.psk_session.specs.Opening.{AreTermsOf, StandsFor, open_fault};
+ghost use Rattle.psk_session.specs.Finishing as finishing;
+ghost use Rattle.psk_session.specs.Handshake.{IsHandshakeOf};
+ghost use Rattle.psk_session.specs.Opened.{IsTaken};
 
-use crate::SessionTerms;
+use crate::answers::{read_exchange_rsp, same_bytes, told_id};
+use crate::handshake::Handshake;
+use crate::{Finishing, OpenFault, SessionTerms};
 use spdm_basis::{HashAlg, HashBytes, Psk};
 use std::marker::Model;
 use transcript::{Lane, Vca};
@@ -62,5 +67,71 @@ impl Opening {
         let mut lane = self.lane.clone().unwrap();
         lane.push(without_verify(self.terms.choice.hash, answer));
         lane.finish()
+    }
+
+    // The handshake that an answer fixes.
+    fn handshake_with(&self, answer: &[u8]) -> Handshake
+        ensures hash { result.keys.hash ≡ self.now.terms.choice.hash }
+        ensures value { (psk : List ℕ) (n : Negotiation) (exchange : List ℕ) → StandsFor self.now psk n exchange → IsHandshakeOf result psk n exchange answer.now }
+    {
+        let choice = self.terms.choice;
+        Handshake::new(choice.hash, choice.aead, &self.psk, self.hash_with(answer))
+    }
+
+    // The fault of an answer, whose handshake this is.
+    fn fault(&self, answer: &[u8], handshake: &Handshake) -> Option<OpenFault>
+        ensures { (psk : List ℕ) (n : Negotiation) (exchange : List ℕ) → StandsFor self.now psk n exchange → IsHandshakeOf handshake.now psk n exchange answer.now
+            → result ≡ open_fault psk n exchange self.now.terms.summary answer.now }
+    {
+        match read_exchange_rsp(answer, self.terms.choice.hash.size(), self.terms.summary) {
+            Err(at) => Some(OpenFault::Malformed(at)),
+            Ok(rsp) => {
+                if same_bytes(rsp.verify, handshake.responder_verify().as_slice()) {
+                    None
+                } else {
+                    Some(OpenFault::BadVerify)
+                }
+            }
+        }
+    }
+
+    /// The answer to PSK_EXCHANGE. Where its verify data are right, PSK_FINISH is made, without padding;
+    /// a refused answer changes nothing.
+    pub fn take_response(self, answer: &[u8]) -> Result<Finishing, (Opening, OpenFault)>
+        ensures { (psk : List ℕ) (n : Negotiation) (exchange : List ℕ) → StandsFor self psk n exchange → IsTaken self psk n exchange answer.now [] result }
+    {
+        self.take_response_with(answer, &[])
+    }
+
+    /// The same, with this padding for the record of PSK_FINISH, of at most 16 bytes.
+    pub fn take_response_with(
+        self,
+        answer: &[u8],
+        pad: &[u8],
+    ) -> Result<Finishing, (Opening, OpenFault)>
+        requires { length pad.now ≤ 16 }
+        ensures { (psk : List ℕ) (n : Negotiation) (exchange : List ℕ) → StandsFor self psk n exchange → IsTaken self psk n exchange answer.now pad.now result }
+    {
+        let handshake = self.handshake_with(answer);
+        match self.fault(answer, &handshake) {
+            Some(fault) => Err((self, fault)),
+            None => Ok(self.accept(answer, handshake, pad)),
+        }
+    }
+
+    // The session with its sound answer, whose handshake this is.
+    fn accept(self, answer: &[u8], handshake: Handshake, pad: &[u8]) -> Finishing
+        requires hash { handshake.keys.hash ≡ self.terms.choice.hash }
+        requires pad { length pad.now ≤ 16 }
+        ensures { (psk : List ℕ) (n : Negotiation) (exchange : List ℕ) → StandsFor self psk n exchange
+            → IsHandshakeOf handshake psk n exchange answer.now → finishing.StandsFor result psk n exchange answer.now pad.now }
+    {
+        let Opening {
+            mut lane,
+            psk: _,
+            terms,
+        } = self;
+        lane.push(answer);
+        Finishing::new(lane, handshake, terms, told_id(answer), pad)
     }
 }
