@@ -39,7 +39,7 @@ pub fn read_exchange_rsp(
 }
 
 // The byte at a place, and 0 behind the end.
-fn byte_at(message: &[u8], at: usize) -> u8
+pub fn byte_at(message: &[u8], at: usize) -> u8
     ensures { result ≡ slice_index message.now at }
 {
     message.get(at).copied().unwrap_or(0)

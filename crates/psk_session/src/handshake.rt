@@ -8,7 +8,7 @@ ghost use Rattle.transcript.specs.Lane.{lane_hash};
 
 use crate::keys::seal_short;
 use crate::requests::write_finish;
-use key_schedule::HandshakeKeys;
+use key_schedule::{AppKeys, HandshakeKeys};
 use secured_record::RecordKey;
 use spdm_basis::{AeadAlg, Buffer, Frame, HashAlg, HashBytes, Psk, SessionId};
 use transcript::Lane;
@@ -35,8 +35,8 @@ fn hash_with_finish(lane: &Lane) -> HashBytes
 
 impl Handshake {
     ghost use Rattle.std.specs.Prelude.{◌≡◌, ◌≤◌, ◌++◌, ℕ, List, length};
-    ghost use Rattle.key_schedule.specs.Purpose.{AreSecretsOf, handshake_record};
-    ghost use Rattle.key_schedule.specs.declared.direction.Direction.TheVariants.{Response};
+    ghost use Rattle.key_schedule.specs.Purpose.{AreSecretsOf, handshake_record, application_record};
+    ghost use Rattle.key_schedule.specs.declared.direction.Direction.TheVariants.{Request, Response};
     ghost use Rattle.requester_machine.specs.Answers.{answer_verify};
     ghost use Rattle.requester_machine.specs.Sending.{finish_verify};
     ghost use Rattle.requester_machine.specs.Session.{session_id, t1_of};
@@ -99,5 +99,16 @@ impl Handshake {
             → IsKeyOf result (terms_of n).choice (handshake_record psk (t1_of (accepted n exchange answer)) Response) }
     {
         RecordKey::new(self.keys.response_key())
+    }
+
+    // The first keys behind the handshake, from the hash of T2.
+    pub fn app_keys(&self, th2: &HashBytes) -> AppKeys
+        requires { length th2.now ≡ hash_size self.now.keys.hash }
+        ensures request { (psk : List ℕ) (n : Negotiation) (exchange answer t2 : List ℕ) → IsHandshakeOf self.now psk n exchange answer
+            → th2.now ≡ (hash_of (terms_of n).choice.hash).digest t2 → IsKeyOf result.request (terms_of n).choice (application_record psk t2 Request 0) }
+        ensures response { (psk : List ℕ) (n : Negotiation) (exchange answer t2 : List ℕ) → IsHandshakeOf self.now psk n exchange answer
+            → th2.now ≡ (hash_of (terms_of n).choice.hash).digest t2 → IsKeyOf result.response (terms_of n).choice (application_record psk t2 Response 0) }
+    {
+        AppKeys::derive(&self.keys, th2)
     }
 }

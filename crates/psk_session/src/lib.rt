@@ -3,16 +3,22 @@
 #![tactic(auto)]
 
 mod answers;
+mod closed;
+mod finish_took;
 mod finishing;
 mod handshake;
 mod inner;
 mod keys;
 mod open_fault;
 mod opening;
+mod req_open;
 mod requests;
 mod terms;
 
+pub use closed::Closed;
+pub use finish_took::FinishTook;
 pub use finishing::Finishing;
 pub use open_fault::OpenFault;
 pub use opening::Opening;
+pub use req_open::ReqOpen;
 pub use terms::SessionTerms;
