@@ -1,9 +1,9 @@
 -- The record of PSK_FINISH is the next one of the accepted session.
-use Rattle.std.proofs.Common.{◌≡◌, ◌∙◌, ap, sym, refl, ℕ, List, ◌∷◌}
-use Rattle.key_schedule.specs.Keys.{DirectionSecret, HandshakeSecrets}
+use Rattle.std.proofs.Common.{◌≡◌, ◌∙◌, ap, ℕ, List, ◌∷◌}
+use Rattle.key_schedule.specs.Keys.{DirectionSecret}
 use Rattle.key_schedule.specs.Purpose.{IsSecretOf, AreSecretsOf, handshake_record}
 use Rattle.key_schedule.specs.declared.direction.Direction.{Direction}
-use Rattle.key_schedule.specs.declared.direction.Direction.TheVariants.{Request, Response}
+use Rattle.key_schedule.specs.declared.direction.Direction.TheVariants.{Request}
 use Rattle.requester_machine.specs.Records.{sealed_next}
 use Rattle.requester_machine.specs.Session.{t1_of, session_id}
 use Rattle.spdm_basis.specs.SessionIdBytes.{session_id_bytes}

@@ -1,6 +1,6 @@
 -- The key of a purpose in the program is that of the definitions.
-use Rattle.std.proofs.Common.{◌≡◌, ◌∙◌, ap, sym, subst, refl, ℕ, ◌+◌, List, Bool, true, false, length, length-append, arith}
-use Rattle.std.specs.Prelude.{if◌then◌else◌, Option, Result, Ok, Err, None, Some, MatchResult, OnOk, IsOk}
+use Rattle.std.proofs.Common.{◌≡◌, ◌∙◌, ap, sym, subst, refl, ℕ, ◌+◌, List, Bool, length, length-append, arith}
+use Rattle.std.specs.Prelude.{if◌then◌else◌, Result, Ok, Err, None, Some, MatchResult, OnOk, IsOk}
 use Rattle.key_schedule.specs.Keys.{DirectionSecret}
 use Rattle.key_schedule.specs.Purpose as purpose
 use Rattle.hmac_hkdf.specs.Hmac.{hmac}

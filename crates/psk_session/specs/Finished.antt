@@ -10,7 +10,6 @@ use Rattle.requester_machine.specs.Records.{answer_fault, answer_inner}
 use Rattle.requester_machine.specs.Session.{Steps, session_id, session_terms}
 use Rattle.requester_machine.specs.Session.Step.{Took}
 use Rattle.requester_machine.specs.Setup.{ReqSetup}
-use Rattle.spdm_grammar.specs.Message.{ResponseMessage}
 use Rattle.spdm_grammar.specs.Message.ResponseMessage.{PskFinishRsp, Error}
 use Rattle.spdm_grammar.specs.declared.event.BadReply.{BadReply}
 use Rattle.spdm_grammar.specs.declared.event.BadReply.TheVariants as bad
@@ -48,7 +47,7 @@ abbrev pub IsJudged : (psk : List ℕ) → Steps → (sealed : List ℕ) → Opt
 IsJudged psk s sealed verdict =
     (answer_fault psk s AskFinish sealed ≡ None)
     × ((q : ReqSetup) (h : History) (f : Free) (id : ℕ) → q.transfer ≡ (session_terms s).common.to_requester.transfer
-        → inner_led q h f (came_to psk id s sealed) AskFinish ≡ finish_led (came_to psk id s sealed) verdict)
+    → inner_led q h f (came_to psk id s sealed) AskFinish ≡ finish_led (came_to psk id s sealed) verdict)
 
 -- The session with PSK_FINISH_RSP.
 abbrev pub finished_by : (psk : List ℕ) → Steps → (sealed : List ℕ) → Steps

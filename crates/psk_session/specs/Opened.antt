@@ -1,5 +1,5 @@
 -- What comes of an answer to PSK_EXCHANGE. This project's own.
-use Rattle.std.specs.Prelude.{◌≡◌, ℕ, List, Option, Some, None, Result, Ok, Err}
+use Rattle.std.specs.Prelude.{◌≡◌, ℕ, List, Some, None, Result, Ok, Err}
 use Rattle.transcript.specs.Transcripts.{Negotiation}
 use Rattle.psk_session.specs.Finishing.{StandsFor}
 use Rattle.psk_session.specs.Opening.{Seen, open_fault}

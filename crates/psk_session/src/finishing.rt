@@ -131,8 +131,8 @@ impl Finishing {
     fn open_answer(&self, sealed: &[u8], out: &mut RecordFrame) -> Result<(), RecordFault>
         ensures fault { (psk : List ℕ) (n : Negotiation) (exchange answer pad : List ℕ) → StandsFor self.now psk n exchange answer pad
             → MatchResult result
-                (λ _. answer_fault psk (finishing psk n exchange answer pad) AskFinish sealed.now ≡ None)
-                (λ e. answer_fault psk (finishing psk n exchange answer pad) AskFinish sealed.now ≡ Some e) }
+            (λ _. answer_fault psk (finishing psk n exchange answer pad) AskFinish sealed.now ≡ None)
+            (λ e. answer_fault psk (finishing psk n exchange answer pad) AskFinish sealed.now ≡ Some e) }
         ensures inner { (psk : List ℕ) (n : Negotiation) (exchange answer pad : List ℕ) → StandsFor self.now psk n exchange answer pad
             → OnOk result (out.new ≡ answer_inner psk (finishing psk n exchange answer pad) AskFinish sealed.now) }
     {

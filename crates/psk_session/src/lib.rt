@@ -22,3 +22,8 @@ pub use open_fault::OpenFault;
 pub use opening::Opening;
 pub use req_open::ReqOpen;
 pub use terms::SessionTerms;
+
+#[cfg(test)]
+mod suites;
+#[cfg(test)]
+mod tests;

@@ -39,7 +39,9 @@ impl Model for Opening {
 fn without_verify(hash: HashAlg, message: &[u8]) -> &[u8]
     ensures { result.now ≡ without_verify (hash_of hash) message.now }
 {
-    message.split_at(message.len().saturating_sub(hash.size())).0
+    message
+        .split_at(message.len().saturating_sub(hash.size()))
+        .0
 }
 
 impl Opening {

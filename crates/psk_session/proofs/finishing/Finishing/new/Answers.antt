@@ -1,6 +1,5 @@
 use Rattle.std.proofs.Common.{◌≡◌, ◌++◌, ◌∙◌, ap, subst, ℕ, List}
 use Rattle.requester_machine.specs.Session.{session_id}
-use Rattle.spdm_basis.specs.declared.session_id.SessionId.{SessionId}
 use Rattle.spdm_grammar.specs.Message.RequestMessage.{PskFinish}
 use Rattle.spdm_grammar.specs.Requests.{canonical_request}
 use Rattle.transcript.specs.Lane as lanes

@@ -1,5 +1,5 @@
-use Rattle.std.proofs.Common.{◌≡◌, sym, subst, ℕ, List}
-use Rattle.std.specs.Prelude.{None, Some, MatchResult, OnOk}
+use Rattle.std.proofs.Common.{◌≡◌, sym, subst}
+use Rattle.std.specs.Prelude.{None, Some, MatchResult}
 use Rattle.key_schedule.specs.Purpose.{handshake_record}
 use Rattle.key_schedule.specs.declared.direction.Direction.TheVariants.{Response}
 use Rattle.requester_machine.specs.Records.{answer_fault, answer_inner}

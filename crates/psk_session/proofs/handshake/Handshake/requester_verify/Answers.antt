@@ -1,4 +1,4 @@
-use Rattle.std.proofs.Common.{◌++◌, ap, ◌∙◌, ℕ, List}
+use Rattle.std.proofs.Common.{◌++◌, ap, ◌∙◌}
 use Rattle.key_schedule.specs.declared.direction.Direction.TheVariants.{Request}
 use Rattle.requester_machine.specs.Sending.{finish_input}
 use Rattle.requester_machine.specs.Session.{t1_of}

@@ -1,4 +1,4 @@
-use Rattle.std.proofs.Common.{◌++◌, sym, subst, ℕ, List}
+use Rattle.std.proofs.Common.{◌++◌, sym, subst}
 use Rattle.transcript.specs.Transcripts.{vca_of}
 use Rattle.psk_session.specs.Opening.{Seen, StandsFor}
 use Rattle.psk_session.proofs.opening.Opening.accept.Goals as goal
