@@ -6,3 +6,4 @@ pub mod StateBytes
 pub mod Schedules
 pub mod Words
 pub mod Vector
+pub mod Begins

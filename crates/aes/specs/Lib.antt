@@ -3,3 +3,4 @@ pub mod Cipher
 pub mod Tables
 pub mod Schedule
 pub mod Words
+pub mod Begun

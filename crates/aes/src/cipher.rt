@@ -1,3 +1,4 @@
+use crate::begun::Begun;
 use crate::columns::Columns;
 use crate::schedule::schedule;
 use arrayvec::ArrayVec;
@@ -13,7 +14,7 @@ pub struct Aes {
 }
 
 impl Model for Aes {
-    ghost use Rattle.std.specs.Prelude.{◌≡◌, ◌+◌, ℕ, List, length};
+    ghost use Rattle.std.specs.Prelude.{◌≡◌, ◌+◌, ◌%◌, ℕ, List, length};
 
     ghost Value = { List ℕ };
 
@@ -24,13 +25,15 @@ impl Model for Aes {
 
     ghost invariant = { λ a. IsSchedule a.keys.items a.key.items
         × (length a.keys.items ≡ a.rounds + 1)
-        × (a.rounds ≡ round_count a.key.items) };
+        × (a.rounds ≡ round_count a.key.items)
+        × (a.rounds % 2 ≡ 0) };
 }
 
 impl Aes {
-    ghost use Rattle.std.specs.Prelude.{◌≡◌, ◌⊎◌, length};
-    ghost use Rattle.aes.specs.Cipher.{cipher};
-    ghost use Rattle.aes.specs.Words.{block_bytes};
+    ghost use Rattle.std.specs.Prelude.{◌≡◌, ◌⊎◌, ◌+◌, ◌*◌, ◌/◌, ◌^◌, ℕ, List, length};
+    ghost use Rattle.aes.specs.Cipher.{cipher, rounds, round_keys};
+    ghost use Rattle.aes.specs.Words.{block_bytes, bytes_of};
+    ghost use Rattle.aes.specs.Begun.{IsBegun};
 
     /// AES under a key of 16 or 32 bytes.
     pub fn new(key: &[u8]) -> Aes
@@ -46,18 +49,43 @@ impl Aes {
         }
     }
 
+    // What the rounds from the third on make of the state after the second.
+    fn finish(&self, second: &Columns) -> u128
+        ensures { (block : List ℕ) → bytes_of second.now ≡ rounds (round_keys self.now) block 2 → block_bytes result ≡ cipher self.now block }
+    {
+        let keys = self.keys.as_slice();
+        let mut state = second.round(&keys[3]);
+        for n in 0..self.rounds / 2 - 2 {
+            state = state.round(&keys[2 * n + 4]).round(&keys[2 * n + 5]);
+        }
+        state.last_round(&keys[self.rounds]).block()
+    }
+
     /// The block that `block` is enciphered to (FIPS 197, section 5.1). Both are the numbers that their 16
     /// bytes read as, the highest first.
     pub fn encrypt_number(&self, block: u128) -> u128
         ensures { block_bytes result ≡ cipher self.now (block_bytes block) }
     {
         let keys = self.keys.as_slice();
-        let last = self.rounds - 1;
-        let mut state = Columns::of(block).add(&keys[0]);
-        for n in 0..last {
-            state = state.round(&keys[n + 1]);
-        }
-        state.last_round(&keys[self.rounds]).block()
+        let start = Columns::of(block).add(&keys[0]);
+        self.finish(&start.round(&keys[1]).round(&keys[2]))
+    }
+
+    /// What can be enciphered of a block without its last byte, for many blocks that have the other 15 bytes.
+    pub fn begin(&self, block: u128) -> Begun
+        ensures { IsBegun result self.now block }
+    {
+        let keys = self.keys.as_slice();
+        let start = Columns::of(block).add(&keys[0]);
+        Begun::of(&start, (keys[0].fourth % 256) as u8, &keys[1], &keys[2])
+    }
+
+    /// The block that the begun block with `last` as its last byte is enciphered to.
+    pub fn encrypt_begun(&self, begun: &Begun, last: u8) -> u128
+        ensures { (block : ℕ) → IsBegun begun.now self.now block
+            → block_bytes result ≡ cipher self.now (block_bytes (block / 2 ^ 8 * 2 ^ 8 + last)) }
+    {
+        self.finish(&begun.state(last))
     }
 
     /// The block that `block` is enciphered to (FIPS 197, section 5.1).

@@ -3,6 +3,7 @@
 //! keys and blocks.
 #![tactic(auto)]
 
+mod begun;
 mod cipher;
 mod columns;
 mod expansion;
@@ -12,6 +13,7 @@ mod schedule;
 mod state;
 mod tables;
 
+pub use begun::Begun;
 pub use cipher::Aes;
 pub use expansion::expand_key;
 pub use plain::encrypt_step_by_step;

@@ -1,6 +1,8 @@
 -- Blocks as numbers.
-use Rattle.std.proofs.Common.{◌≡◌, ℕ, ◌+◌, ◌-◌, ◌*◌, ◌/◌, ◌%◌, ◌^◌, ◌<◌, List, [], ◌∷◌, ◌++◌, length, get_or, take, drop, refl, ap, sym, ◌∙◌, arith}
+use Rattle.std.proofs.Common.{◌≡◌, ℕ, ◌+◌, ◌-◌, ◌*◌, ◌/◌, ◌%◌, ◌^◌, ◌<◌, ◌≤◌, zero, suc, List, [], ◌∷◌, ◌++◌, length, get_or, take, drop, refl, ap, sym, ◌∙◌, arith}
 use Rattle.std.specs.Prelude.{replicate}
+use Rattle.std.proofs.Math.Pow.{mod-mod-pow}
+use Rattle.std.proofs.lemmas.Nat.{shr-shr, field_of}
 use Rattle.std.proofs.lemmas.List.FromFn.{fill_by_all, get_or-map-range_with_len}
 use lib.Bits.{bit_xor, xor_shr, xor_mod}
 use Rattle.byteorder.specs.Endian.{big_bytes, big_number}
@@ -10,7 +12,7 @@ use Rattle.aes.specs.Words.{block_bytes}
 use Rattle.aes.specs.declared.columns.Columns.{Columns}
 use Rattle.aes.specs.Words.{bytes_of}
 use Rattle.aes.proofs.ColumnSums.{big_bytes-column}
-use Rattle.aes.proofs.StateBytes.{number-bytes, block_bytes-big_number}
+use Rattle.aes.proofs.StateBytes.{number-bytes}
 use Rattle.ghash.specs.Hash.{block_number}
 use Rattle.aes_gcm.specs.Gcm.{stream_block}
 use Rattle.aes_gcm.specs.Behind.{crypted_behind}
@@ -32,22 +34,55 @@ byte_of_block x k lt =
     ap (λ (t : ℕ). get_or (x / 2 ^ 120 % 2 ^ 8 ∷ x / 2 ^ 112 % 2 ^ 8 ∷ x / 2 ^ 104 % 2 ^ 8 ∷ x / 2 ^ 96 % 2 ^ 8 ∷ x / 2 ^ 88 % 2 ^ 8 ∷ x / 2 ^ 80 % 2 ^ 8 ∷ x / 2 ^ 72 % 2 ^ 8 ∷ x / 2 ^ 64 % 2 ^ 8 ∷ x / 2 ^ 56 % 2 ^ 8 ∷ x / 2 ^ 48 % 2 ^ 8 ∷ x / 2 ^ 40 % 2 ^ 8 ∷ x / 2 ^ 32 % 2 ^ 8 ∷ x / 2 ^ 24 % 2 ^ 8 ∷ x / 2 ^ 16 % 2 ^ 8 ∷ x / 2 ^ 8 % 2 ^ 8 ∷ t % 2 ^ 8 ∷ []) k 0) e
     ∙ get_or-map-range_with_len (λ (i : ℕ). x / 2 ^ (120 - 8 * i) % 2 ^ 8) 0 16 k k 0 lt (omega arith)
 
--- the bytes of a sum
-pub byte_of_sum : (x y k : ℕ) → k < 16 → get_or (block_bytes (bit_xor x y)) k 0 ≡ bit_xor (get_or (block_bytes x) k 0) (get_or (block_bytes y) k 0)
-byte_of_sum x y k lt =
-    let m = 120 - 8 * k in
-    byte_of_block (bit_xor x y) k lt
-    ∙ ap (λ (t : ℕ). t % 2 ^ 8) (xor_shr x y m)
-    ∙ xor_mod (x / 2 ^ m) (y / 2 ^ m) 8
-    ∙ ap (λ (t : ℕ). bit_xor t (y / 2 ^ m % 2 ^ 8)) (sym (byte_of_block x k lt))
-    ∙ ap (bit_xor (get_or (block_bytes x) k 0)) (sym (byte_of_block y k lt))
+-- byte k of half a block
+byte_of_half : (x k : ℕ) → k < 8 → get_or (big_bytes 8 x) k 0 ≡ x / 2 ^ (56 - 8 * k) % 2 ^ 8
+byte_of_half x k lt =
+    let e : x ≡ x / 2 ^ 0 = omega arith in
+    ap (λ (t : ℕ). get_or (x / 2 ^ 56 % 2 ^ 8 ∷ x / 2 ^ 48 % 2 ^ 8 ∷ x / 2 ^ 40 % 2 ^ 8 ∷ x / 2 ^ 32 % 2 ^ 8 ∷ x / 2 ^ 24 % 2 ^ 8 ∷ x / 2 ^ 16 % 2 ^ 8 ∷ x / 2 ^ 8 % 2 ^ 8 ∷ t % 2 ^ 8 ∷ []) k 0) e
+    ∙ get_or-map-range_with_len (λ (i : ℕ). x / 2 ^ (56 - 8 * i) % 2 ^ 8) 0 8 k k 0 lt (omega arith)
 
--- 16 bytes xored with a block of the key stream
-pub masked : (old : List ℕ) (s k : ℕ) → length old ≡ 16 → ((i : ℕ) → get_or old i 0 < 256) → k < 16 →
-    get_or (block_bytes (bit_xor (big_number 16 old) s)) k 0 ≡ bit_xor (get_or old k 0) (get_or (block_bytes s) k 0)
-masked old s k long h lt =
-    byte_of_sum (big_number 16 old) s k lt
-    ∙ ap (λ (t : List ℕ). bit_xor (get_or t k 0) (get_or (block_bytes s) k 0)) (block_bytes-big_number old long h)
+byte_of_number : (xs : List ℕ) (k : ℕ) → ((i : ℕ) → get_or xs i 0 < 256) → k < 8 → big_number 8 xs / 2 ^ (56 - 8 * k) % 2 ^ 8 ≡ get_or xs k 0
+byte_of_number xs zero h _ = omega (arith, h 0, h 1, h 2, h 3, h 4, h 5, h 6, h 7)
+byte_of_number xs (suc zero) h _ = omega (arith, h 0, h 1, h 2, h 3, h 4, h 5, h 6, h 7)
+byte_of_number xs (suc (suc zero)) h _ = omega (arith, h 0, h 1, h 2, h 3, h 4, h 5, h 6, h 7)
+byte_of_number xs (suc (suc (suc zero))) h _ = omega (arith, h 0, h 1, h 2, h 3, h 4, h 5, h 6, h 7)
+byte_of_number xs (suc (suc (suc (suc zero)))) h _ = omega (arith, h 0, h 1, h 2, h 3, h 4, h 5, h 6, h 7)
+byte_of_number xs (suc (suc (suc (suc (suc zero))))) h _ = omega (arith, h 0, h 1, h 2, h 3, h 4, h 5, h 6, h 7)
+byte_of_number xs (suc (suc (suc (suc (suc (suc zero)))))) h _ = omega (arith, h 0, h 1, h 2, h 3, h 4, h 5, h 6, h 7)
+byte_of_number xs (suc (suc (suc (suc (suc (suc (suc zero))))))) h _ = omega (arith, h 0, h 1, h 2, h 3, h 4, h 5, h 6, h 7)
+byte_of_number xs (suc (suc (suc (suc (suc (suc (suc (suc k)))))))) h lt = absurd (omega arith)
+
+-- eight bytes xored with half a block of the key stream
+pub masked_half : (old : List ℕ) (s k : ℕ) → ((i : ℕ) → get_or old i 0 < 256) → k < 8 →
+    get_or (big_bytes 8 (bit_xor (big_number 8 old) s)) k 0 ≡ bit_xor (get_or old k 0) (get_or (big_bytes 8 s) k 0)
+masked_half old s k h lt =
+    let m = 56 - 8 * k in
+    byte_of_half (bit_xor (big_number 8 old) s) k lt
+    ∙ ap (λ (t : ℕ). t % 2 ^ 8) (xor_shr (big_number 8 old) s m)
+    ∙ xor_mod (big_number 8 old / 2 ^ m) (s / 2 ^ m) 8
+    ∙ ap (λ (t : ℕ). bit_xor t (s / 2 ^ m % 2 ^ 8)) (byte_of_number old k h lt)
+    ∙ ap (bit_xor (get_or old k 0)) (sym (byte_of_half s k lt))
+
+-- the bytes of both halves of a block
+pub upper_byte : (x k : ℕ) → k < 8 → get_or (big_bytes 8 (x / 2 ^ 64)) k 0 ≡ get_or (block_bytes x) k 0
+upper_byte x k lt =
+    let e : 64 + (56 - 8 * k) ≡ 120 - 8 * k = omega arith in
+    byte_of_half (x / 2 ^ 64) k lt
+    ∙ ap (λ (t : ℕ). t % 2 ^ 8) (shr-shr x 64 (56 - 8 * k))
+    ∙ ap (λ (t : ℕ). x / 2 ^ t % 2 ^ 8) e
+    ∙ sym (byte_of_block x k (omega arith))
+
+pub lower_byte : (x k : ℕ) → 8 ≤ k → k < 16 → get_or (big_bytes 8 (x % 2 ^ 64)) (k - 8) 0 ≡ get_or (block_bytes x) k 0
+lower_byte x k more lt =
+    let m = 120 - 8 * k in
+    let e : 56 - 8 * (k - 8) ≡ m = omega arith in
+    let f : 64 ≡ 8 * (k - 8) + 8 + m = omega arith in
+    byte_of_half (x % 2 ^ 64) (k - 8) (omega arith)
+    ∙ ap (λ (t : ℕ). x % 2 ^ 64 / 2 ^ t % 2 ^ 8) e
+    ∙ ap (λ (t : ℕ). x % 2 ^ t / 2 ^ m % 2 ^ 8) f
+    ∙ ap (λ (t : ℕ). t % 2 ^ 8) (field_of x (8 * (k - 8) + 8) m)
+    ∙ mod-mod-pow (x / 2 ^ m) (8 * (k - 8)) 8
+    ∙ sym (byte_of_block x k lt)
 
 -- the bytes of an IV and a counter
 pub counter_bytes : (iv : List ℕ) (counter : ℕ) → length iv ≡ 12 → ((i : ℕ) → get_or iv i 0 < 256) → counter < 2 ^ 32 →

@@ -1,9 +1,10 @@
-ghost use Rattle.std.specs.Prelude.{◌≡◌, ◌≤◌, ◌+◌, ◌*◌, ◌↔◌, ◌⊎◌, IsOk, IfErr, OnOk, OnErr, length};
-ghost use Rattle.aes_gcm.specs.Gcm.{crypt, tag_of, lengths_block};
+ghost use Rattle.std.specs.Prelude.{◌≡◌, ℕ, List, ◌≤◌, ◌+◌, ◌*◌, ◌↔◌, ◌⊎◌, IsOk, IfErr, OnOk, OnErr, length};
+ghost use Rattle.aes.specs.Words.{block_bytes};
+ghost use Rattle.aes_gcm.specs.Gcm.{stream_block, crypt, tag_of, lengths_block};
 ghost use Rattle.aes_gcm.specs.Behind.{crypt_behind};
 
 use crate::BadTag;
-use crate::counter::{crypt_behind, crypt_in_place, stream_block};
+use crate::counter::{begin, begun_block, crypt_behind, crypt_in_place, stream_block};
 use aes::Aes;
 use ghash::{HashKey, block_bytes};
 use std::marker::Model;
@@ -46,17 +47,17 @@ impl GcmKey {
         GcmKey { aes, hash }
     }
 
-    // The tag of associated data and an encrypted text.
-    fn tag(&self, iv: &[u8; 12], aad: &[u8], text: &[u8]) -> [u8; 16]
+    // The tag of associated data and an encrypted text, where `mask` is the block of the key stream with the
+    // counter 1.
+    fn tag(&self, mask: u128, aad: &[u8], text: &[u8]) -> [u8; 16]
         requires aad { length aad.now ≤ 65535 }
         requires text { length text.now ≤ 65535 }
-        ensures { result ≡ tag_of self.now iv.now aad.now text.now }
+        ensures { (iv : List ℕ) → block_bytes mask ≡ stream_block self.now iv 1 → result ≡ tag_of self.now iv aad.now text.now }
     {
         let lengths = lengths_block(aad, text);
         let hash = self.hash.absorb(0, aad);
         let hash = self.hash.absorb(hash, text);
         let hash = self.hash.absorb_block(hash, lengths);
-        let mask = stream_block(&self.aes, iv, 1);
         block_bytes(hash ^ mask)
     }
 
@@ -67,8 +68,25 @@ impl GcmKey {
         ensures text { text.new ≡ crypt self.now iv.now text.old }
         ensures tag { result ≡ tag_of self.now iv.now aad.now text.new }
     {
-        self.crypt(iv, text);
-        self.tag(iv, aad, text)
+        let begun = begin(&self.aes, iv, 1);
+        let mask = begun_block(&self.aes, iv, &begun, 1);
+        crypt_in_place(&self.aes, iv, begun, text);
+        self.tag(mask, aad, text)
+    }
+
+    // Whether a tag is that of associated data and an encrypted text, where `mask` is the block of the key
+    // stream with the counter 1.
+    fn compare(&self, mask: u128, aad: &[u8], text: &[u8], tag: &[u8; 16]) -> Result<(), BadTag>
+        requires aad { length aad.now ≤ 65535 }
+        requires text { length text.now ≤ 65535 }
+        ensures opens { (iv : List ℕ) → block_bytes mask ≡ stream_block self.now iv 1 → IsOk result ↔ (tag.now ≡ tag_of self.now iv aad.now text.now) }
+        ensures computed { (iv : List ℕ) → block_bytes mask ≡ stream_block self.now iv 1 → IfErr result (λ e. e.computed ≡ tag_of self.now iv aad.now text.now) }
+    {
+        let computed = self.tag(mask, aad, text);
+        if computed != *tag {
+            return Err(BadTag { computed });
+        }
+        Ok(())
     }
 
     // Whether a tag is that of associated data and an encrypted text.
@@ -84,11 +102,7 @@ impl GcmKey {
         ensures opens { IsOk result ↔ (tag.now ≡ tag_of self.now iv.now aad.now text.now) }
         ensures computed { IfErr result (λ e. e.computed ≡ tag_of self.now iv.now aad.now text.now) }
     {
-        let computed = self.tag(iv, aad, text);
-        if computed != *tag {
-            return Err(BadTag { computed });
-        }
-        Ok(())
+        self.compare(stream_block(&self.aes, iv, 1), aad, text, tag)
     }
 
     // Decrypts a text in place where the tag is its own.
@@ -106,8 +120,10 @@ impl GcmKey {
         ensures computed { IfErr result (λ e. e.computed ≡ tag_of self.now iv.now aad.now text.old) }
         ensures unchanged { OnErr result (text.new ≡ text.old) }
     {
-        self.verify(iv, aad, text, tag)?;
-        self.crypt(iv, text);
+        let begun = begin(&self.aes, iv, 1);
+        let mask = begun_block(&self.aes, iv, &begun, 1);
+        self.compare(mask, aad, text, tag)?;
+        crypt_in_place(&self.aes, iv, begun, text);
         Ok(())
     }
 
@@ -116,7 +132,7 @@ impl GcmKey {
         requires { length text.old ≤ 65535 }
         ensures { text.new ≡ crypt self.now iv.now text.old }
     {
-        crypt_in_place(&self.aes, iv, text);
+        crypt_in_place(&self.aes, iv, begin(&self.aes, iv, 1), text);
     }
 
     // Encrypts or decrypts in place a text that stands behind `blocks` blocks.

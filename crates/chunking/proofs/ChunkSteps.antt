@@ -11,9 +11,7 @@ use Rattle.std.proofs.lemmas.List.FromFn.{map-range_with_len_more}
 use Rattle.spdm_grammar.specs.Message.{ChunkMessage}
 use Rattle.chunking.specs.Cutting.{unit_of, chunk_start, chunk_end, chunk_count, nth_chunk, chunks_of, chunks_before}
 use Rattle.chunking.specs.Collecting.{joined}
-
-pub suc_units : (k unit : ℕ) → suc k * unit ≡ k * unit + unit
-suc_units k unit = grind arith
+use Rattle.spdm_basis.proofs.Bools.{suc_units}
 
 range_length : (message : List ℕ) (a b : ℕ) → length (slice_range message a b) ≡ min b (length message) - a
 range_length message a b = grind (arith, common_steps)

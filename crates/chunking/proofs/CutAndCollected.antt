@@ -1,6 +1,5 @@
 -- What is cut is collected again.
 use Rattle.std.proofs.Common.{◌≡◌, ◌∙◌, ◌+◌, ◌-◌, ◌*◌, ◌<◌, ◌≤◌, ◌&&◌, ◌||◌, ◌++◌, ℕ, zero, suc, Bool, true, false, not, nat_lt, List, [], ◌∷◌, length, min, refl, sym, ap, subst, arith, add-one, eq-eqb, nat_eq, length-take}
-use Rattle.std.proofs.lemmas.Grind.{common_steps}
 use Rattle.std.proofs.lemmas.Bool.{ne_eqb, eqb-true, eqb-false}
 use Rattle.std.proofs.lemmas.List.{take_all}
 use Rattle.std.specs.Prelude.{Option, None, Some, if◌then◌else◌}
@@ -11,9 +10,7 @@ use Rattle.chunking.specs.Cutting.{IsCollectable, unit_of, chunk_count, nth_chun
 use Rattle.chunking.specs.Collecting.{under_way, joined, told_size, first_fault, has_wrong_size, size_rule, first_rule, later_rule, broken_rule, answer_from, accepted_unless, accepted_with, collected}
 use Rattle.chunking.specs.Collecting.Collection.{Whole, More}
 use Rattle.chunking.proofs.ChunkSteps as step
-
-lt_false : (a b : ℕ) → b ≤ a → nat_lt a b ≡ false
-lt_false a b more = grind (arith, common_steps)
+use Rattle.spdm_basis.proofs.Bools.{lt_false, suc_units}
 
 no_test : (a b c : Bool) (x y z : ChunkFault) → a ≡ false → b ≡ false → c ≡ false → first_fault ((a, x) ∷ (b, y) ∷ (c, z) ∷ []) ≡ None
 no_test a b c x y z ea eb ec = rw (ea, eb, ec) refl
@@ -149,7 +146,7 @@ module _ (max transfer handle : ℕ) (message : List ℕ) (sound : IsCollectable
 
     answered : (k : ℕ) (last : Bool) → nat_eq (k + 1) count ≡ last → (if last then Whole (joined (before (suc k))) else More) ≡ (if last then Whole message else More)
     answered k true e =
-        let enough : length message ≤ suc k * unit - 4 = omega (arith, is_last k e, step.suc_units k unit) in
+        let enough : length message ≤ suc k * unit - 4 = omega (arith, is_last k e, suc_units k unit) in
         ap Whole (step.joined-before transfer handle message some (suc k) ∙ take_all (suc k * unit - 4) message enough)
     answered k false e = refl
 

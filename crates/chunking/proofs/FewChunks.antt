@@ -21,7 +21,7 @@ adds told held c e = record {
   enough = λ last. grind (arith, common_steps);
 }
 
-not_too_large : (test : Bool) (rule : Option ChunkFault) → (if test then Some TooLarge else rule) ≡ None → (test ≡ false) × (rule ≡ None)
+pub not_too_large : (test : Bool) (rule : Option ChunkFault) → (if test then Some TooLarge else rule) ≡ None → (test ≡ false) × (rule ≡ None)
 not_too_large true rule e = cc
 not_too_large false rule e = (refl, e)
 

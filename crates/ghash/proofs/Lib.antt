@@ -1,3 +1,5 @@
 pub mod Products
-pub mod Nibbles
 pub mod Sums
+pub mod Moves
+pub mod Sides
+pub mod Parts

@@ -1,3 +1,3 @@
 pub mod Field
 pub mod Hash
-pub mod Nibbles
+pub mod Windows

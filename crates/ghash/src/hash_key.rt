@@ -3,44 +3,44 @@ ghost use Rattle.ghash.specs.Field.{product};
 ghost use Rattle.ghash.specs.Hash.{ghash, blocks};
 
 use crate::block::block_at;
-use crate::table::{moved_table_of, multiply_by_tables, table_of};
+use crate::table::{multiply_by_table, table_of};
 use std::marker::Model;
 
-/// A hash key of GHASH, with its tables of products. Contracts see the key: the number that its 16 bytes
+/// A hash key of GHASH, with its table of products. Contracts see the key: the number that its 16 bytes
 /// read as, the highest first.
 #[derive(Drop)]
 pub struct HashKey {
     h: u128,
-    table: [u128; 16],
-    moved: [u128; 16],
+    table: [u128; 64],
 }
 
 impl Model for HashKey {
     ghost use Rattle.std.specs.Prelude.{ℕ};
-    ghost use Rattle.ghash.specs.Nibbles.{IsTable, IsMovedTable};
+    ghost use Rattle.ghash.specs.Windows.{IsTable};
 
     ghost Value = { ℕ };
 
     ghost view = { λ k. k.h };
 
-    ghost invariant = { λ k. IsTable k.table k.h × IsMovedTable k.moved k.h };
+    ghost invariant = { λ k. IsTable k.table k.h };
 }
 
 impl HashKey {
-    /// A hash key, and the tables that it is multiplied by.
+    /// A hash key, and the table that it is multiplied by.
     pub fn new(h: u128) -> HashKey
         ensures { result ≡ h }
     {
-        let table = table_of(h);
-        let moved = moved_table_of(&table, h);
-        HashKey { h, table, moved }
+        HashKey {
+            h,
+            table: table_of(h),
+        }
     }
 
     /// The product of a block with the key.
     pub fn times(&self, a: u128) -> u128
         ensures { result ≡ product a self.now }
     {
-        multiply_by_tables(a, &self.table, &self.moved, self.h)
+        multiply_by_table(a, &self.table, self.h)
     }
 
     /// The hash of the blocks before and of one more, where `sum` is the hash of the blocks before. The

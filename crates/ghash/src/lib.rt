@@ -1,11 +1,12 @@
-//! GHASH, the hash of Galois/Counter Mode (SP 800-38D, section 6.4), by tables of four bits at a time. No
-//! call takes memory.
+//! GHASH, the hash of Galois/Counter Mode (SP 800-38D, section 6.4), by a table of six coefficients at a
+//! time. No call takes memory.
 #![tactic(auto)]
 
 mod block;
 mod field;
 mod hash_key;
 mod table;
+mod wide;
 
 pub use block::{block_bytes, block_number};
 pub use field::multiply;

@@ -1,103 +1,66 @@
-ghost use Rattle.std.specs.Prelude.{◌≡◌, ◌<◌, ◌*◌};
+ghost use Rattle.std.specs.Prelude.{◌≡◌, ◌<◌, ◌≤◌, ◌+◌, ◌-◌, ◌*◌, ◌/◌, ◌%◌, ◌^◌, ℕ, slice_index};
 ghost use Rattle.ghash.specs.Field.{product};
-ghost use Rattle.ghash.specs.Nibbles.{times_x4, nibble_times, IsTable, IsMovedTable};
+ghost use Rattle.ghash.specs.Windows.{IsTable};
 
 use crate::field::times_x;
+use crate::wide::Wide;
 
-// The highest 16 bits of x^8 times each eight last coefficients. The others are 0.
-static FOLDED: [u16; 256] = [
-    0x0000, 0x01c2, 0x0384, 0x0246, 0x0708, 0x06ca, 0x048c, 0x054e, 0x0e10, 0x0fd2, 0x0d94, 0x0c56,
-    0x0918, 0x08da, 0x0a9c, 0x0b5e, 0x1c20, 0x1de2, 0x1fa4, 0x1e66, 0x1b28, 0x1aea, 0x18ac, 0x196e,
-    0x1230, 0x13f2, 0x11b4, 0x1076, 0x1538, 0x14fa, 0x16bc, 0x177e, 0x3840, 0x3982, 0x3bc4, 0x3a06,
-    0x3f48, 0x3e8a, 0x3ccc, 0x3d0e, 0x3650, 0x3792, 0x35d4, 0x3416, 0x3158, 0x309a, 0x32dc, 0x331e,
-    0x2460, 0x25a2, 0x27e4, 0x2626, 0x2368, 0x22aa, 0x20ec, 0x212e, 0x2a70, 0x2bb2, 0x29f4, 0x2836,
-    0x2d78, 0x2cba, 0x2efc, 0x2f3e, 0x7080, 0x7142, 0x7304, 0x72c6, 0x7788, 0x764a, 0x740c, 0x75ce,
-    0x7e90, 0x7f52, 0x7d14, 0x7cd6, 0x7998, 0x785a, 0x7a1c, 0x7bde, 0x6ca0, 0x6d62, 0x6f24, 0x6ee6,
-    0x6ba8, 0x6a6a, 0x682c, 0x69ee, 0x62b0, 0x6372, 0x6134, 0x60f6, 0x65b8, 0x647a, 0x663c, 0x67fe,
-    0x48c0, 0x4902, 0x4b44, 0x4a86, 0x4fc8, 0x4e0a, 0x4c4c, 0x4d8e, 0x46d0, 0x4712, 0x4554, 0x4496,
-    0x41d8, 0x401a, 0x425c, 0x439e, 0x54e0, 0x5522, 0x5764, 0x56a6, 0x53e8, 0x522a, 0x506c, 0x51ae,
-    0x5af0, 0x5b32, 0x5974, 0x58b6, 0x5df8, 0x5c3a, 0x5e7c, 0x5fbe, 0xe100, 0xe0c2, 0xe284, 0xe346,
-    0xe608, 0xe7ca, 0xe58c, 0xe44e, 0xef10, 0xeed2, 0xec94, 0xed56, 0xe818, 0xe9da, 0xeb9c, 0xea5e,
-    0xfd20, 0xfce2, 0xfea4, 0xff66, 0xfa28, 0xfbea, 0xf9ac, 0xf86e, 0xf330, 0xf2f2, 0xf0b4, 0xf176,
-    0xf438, 0xf5fa, 0xf7bc, 0xf67e, 0xd940, 0xd882, 0xdac4, 0xdb06, 0xde48, 0xdf8a, 0xddcc, 0xdc0e,
-    0xd750, 0xd692, 0xd4d4, 0xd516, 0xd058, 0xd19a, 0xd3dc, 0xd21e, 0xc560, 0xc4a2, 0xc6e4, 0xc726,
-    0xc268, 0xc3aa, 0xc1ec, 0xc02e, 0xcb70, 0xcab2, 0xc8f4, 0xc936, 0xcc78, 0xcdba, 0xcffc, 0xce3e,
-    0x9180, 0x9042, 0x9204, 0x93c6, 0x9688, 0x974a, 0x950c, 0x94ce, 0x9f90, 0x9e52, 0x9c14, 0x9dd6,
-    0x9898, 0x995a, 0x9b1c, 0x9ade, 0x8da0, 0x8c62, 0x8e24, 0x8fe6, 0x8aa8, 0x8b6a, 0x892c, 0x88ee,
-    0x83b0, 0x8272, 0x8034, 0x81f6, 0x84b8, 0x857a, 0x873c, 0x86fe, 0xa9c0, 0xa802, 0xaa44, 0xab86,
-    0xaec8, 0xaf0a, 0xad4c, 0xac8e, 0xa7d0, 0xa612, 0xa454, 0xa596, 0xa0d8, 0xa11a, 0xa35c, 0xa29e,
-    0xb5e0, 0xb422, 0xb664, 0xb7a6, 0xb2e8, 0xb32a, 0xb16c, 0xb0ae, 0xbbf0, 0xba32, 0xb874, 0xb9b6,
-    0xbcf8, 0xbd3a, 0xbf7c, 0xbebe,
-];
-
-// x^8 times `v`.
-fn times_x8(v: u128) -> u128
-    ensures { result ≡ times_x4 (times_x4 v) }
+// The entries of the table of `b` from 2^i up to 2^(i + 1), from those below; `entry` is the first.
+fn extend(table: &mut [u128; 64], i: u32, entry: u128, b: u128)
+    requires place { i < 6 }
+    requires entry { entry ≡ product (2 ^ i * 2 ^ 122) b }
+    requires below { (w : ℕ) → w < 2 ^ i → slice_index table.old w ≡ product (w * 2 ^ 122) b }
+    ensures { (w : ℕ) → w < 2 ^ (i + 1) → slice_index table.new w ≡ product (w * 2 ^ 122) b }
 {
-    (v >> 8) ^ FOLDED[(v % 256) as usize] as u128 * (1 << 112)
+    let count = 1usize << i;
+    for w in 0..count {
+        table[count + w] = table[w] ^ entry;
+    }
 }
 
-// x^4 times `v`.
-fn times_x4(v: u128) -> u128
-    ensures { result ≡ times_x4 v }
-{
-    times_x(times_x(times_x(times_x(v))))
-}
-
-// `digit` times `b`.
-fn digit_times(digit: u8, b: u128) -> u128
-    requires { digit < 2 }
-    ensures { result ≡ digit * b }
-{
-    if digit == 1 { b } else { 0 }
-}
-
-// The block of four coefficients times `b`.
-fn nibble_times(b: u128, w: u8) -> u128
-    requires { w < 16 }
-    ensures { result ≡ nibble_times b w }
-{
-    let last = times_x(digit_times(w % 2, b));
-    let third = times_x(digit_times(w / 2 % 2, b) ^ last);
-    let second = times_x(digit_times(w / 4 % 2, b) ^ third);
-    digit_times(w / 8 % 2, b) ^ second
-}
-
-/// The products of `b` with each four coefficients.
-pub fn table_of(b: u128) -> [u128; 16]
+/// The products of `b` with each six first coefficients.
+pub fn table_of(b: u128) -> [u128; 64]
     ensures { IsTable result b }
 {
-    let mut table = [0u128; 16];
-    for w in 0..16u8 {
-        table[w as usize] = nibble_times(b, w);
-    }
+    let second = times_x(b);
+    let third = times_x(second);
+    let fourth = times_x(third);
+    let fifth = times_x(fourth);
+    let sixth = times_x(fifth);
+    let mut table = [0u128; 64];
+    extend(&mut table, 0, sixth, b);
+    extend(&mut table, 1, fifth, b);
+    extend(&mut table, 2, fourth, b);
+    extend(&mut table, 3, third, b);
+    extend(&mut table, 4, second, b);
+    extend(&mut table, 5, b, b);
     table
 }
 
-/// x^4 times each entry of the table of `b`.
-pub fn moved_table_of(table: &[u128; 16], b: u128) -> [u128; 16]
-    requires { IsTable table.now b }
-    ensures { IsMovedTable result b }
+// Six coefficients of half a block, the last of them `at` places from the right.
+fn window(half: u64, at: u32) -> usize
+    requires { at < 64 }
+    ensures { result ≡ half / 2 ^ at % 64 }
 {
-    let mut moved = [0u128; 16];
-    for w in 0..16usize {
-        moved[w] = times_x4(table[w]);
-    }
-    moved
+    ((half >> at) % 64) as usize
 }
 
-/// The product of `a` with the block `b`, whose tables are given.
-pub fn multiply_by_tables(a: u128, table: &[u128; 16], moved: &[u128; 16], b: u128) -> u128
-    requires table { IsTable table.now b }
-    requires moved { IsMovedTable moved.now b }
+/// The product of `a` with the block `b`, whose table is given. It goes by six coefficients of each half of
+/// `a`, in two sums that do not wait for each other: one over the first 30 coefficients of both halves, and one
+/// over the others.
+pub fn multiply_by_table(a: u128, table: &[u128; 64], b: u128) -> u128
+    requires { IsTable table.now b }
     ensures { result ≡ product a b }
 {
-    let mut sum = 0u128;
-    let mut rest = a;
-    for _j in 0..16u32 {
-        let byte = (rest % 256) as usize;
-        sum = times_x8(sum) ^ table[byte / 16] ^ moved[byte % 16];
-        rest >>= 8;
+    let x = (a >> 64) as u64;
+    let y = (a % (1 << 64)) as u64;
+    let mut first = Wide { high: 0, low: 0 };
+    let mut others = first;
+    for j in 0..5u32 {
+        let at = 58 - 6 * j;
+        first = first.next(table[window(x, at)], table[window(y, at)]);
+        others = others.next(table[window(x, at - 30)], table[window(y, at - 30)]);
     }
-    sum
+    let others = others.next(table[(x % 16 * 4) as usize], table[(y % 16 * 4) as usize]);
+    first.shifted(36).plus(&others).shifted(4).folded()
 }

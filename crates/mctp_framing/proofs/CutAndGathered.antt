@@ -15,9 +15,7 @@ use Rattle.mctp_framing.specs.Gathering.Gathered.{Whole, More, Dropped}
 use Rattle.mctp_framing.proofs.Packets.{next_unit}
 use Rattle.mctp_framing.proofs.GroupStep.{with_packet, group_of-later, group_of-first}
 use Rattle.mctp_framing.proofs.NewStart.{gathered-from}
-
-suc_units : (k unit : ℕ) → suc k * unit ≡ k * unit + unit
-suc_units k unit = grind arith
+use Rattle.spdm_basis.proofs.Bools.{suc_units, lt_false}
 
 module _ (route : RouteFields) (unit : ℕ) (body : List ℕ) where
   abbrev nth : ℕ → PacketFields
@@ -56,9 +54,6 @@ module _ (route : RouteFields) (unit : ℕ) (body : List ℕ) where
 
 le_false : (a b : ℕ) → b < a → nat_le a b ≡ false
 le_false a b less = grind (arith, common_steps)
-
-lt_false : (a b : ℕ) → b ≤ a → nat_lt a b ≡ false
-lt_false a b more = grind (arith, common_steps)
 
 no_test : (a b c : Bool) (x y z : DropCause) → a ≡ false → b ≡ false → c ≡ false → first_cause ((a, x) ∷ (b, y) ∷ (c, z) ∷ []) ≡ None
 no_test a b c x y z ea eb ec = rw (ea, eb, ec) refl

@@ -29,6 +29,7 @@ use Rattle.spdm_machine.specs.Terms.{terms_of, request_value, response_value, as
 use Rattle.transcript.specs.Transcripts.{Negotiation}
 use Rattle.requester_machine.specs.Setup.{ReqSetup, requester_caps}
 use Rattle.requester_machine.specs.UnderWay.{HasSizes, IsCommon}
+use Rattle.std.proofs.lemmas.Bool.{or_parts}
 
 -- ---- CAPABILITIES is spelled alike for every hash.
 
@@ -65,12 +66,12 @@ exchange_gives : (len : ℕ) (summary : Bool) → HasGiven IsExchangeRsp (psk_ex
 unfolding psk_exchange_rsp_layout
 exchange_gives len summary = record { are = λ _ _ _ _ _ _ _ _ _ _. tt }
 
-exchange_body : (len : ℕ) (summary : Bool) (said : ℕ) → response_body len summary said PSK_EXCHANGE_RSP ≡ psk_exchange_rsp_layout len summary
+pub exchange_body : (len : ℕ) (summary : Bool) (said : ℕ) → response_body len summary said PSK_EXCHANGE_RSP ≡ psk_exchange_rsp_layout len summary
 unfolding response_body
 exchange_body len summary said = refl
 
 -- All other bodies depend on no hash.
-alike : (len : ℕ) (summary : Bool) (said code : ℕ) → (code == PSK_EXCHANGE_RSP) ≡ false → response_body len summary said code ≡ response_body 32 false said code
+pub alike : (len : ℕ) (summary : Bool) (said code : ℕ) → (code == PSK_EXCHANGE_RSP) ≡ false → response_body len summary said code ≡ response_body 32 false said code
 unfolding response_body
 alike len summary said code e = at (psk_exchange_rsp_layout len summary) ∙ sym (at (psk_exchange_rsp_layout 32 false))
   where
@@ -155,10 +156,6 @@ passed false false true e x common is = absurd (cc)
 passed false false false true x common is = absurd (cc)
 passed false false false false x common is = (refl, refl, (cc))
 
-neither : (a b : Bool) → (a || b) ≡ false → (a ≡ false) × (b ≡ false)
-neither true b is = absurd (cc)
-neither false b is = (refl, is)
-
 at_least : (n m : ℕ) → nat_lt n m ≡ false → m ≤ n
 at_least n m is = grind (arith, nat_tests)
 
@@ -180,8 +177,8 @@ pub common_is : (q : ReqSetup) (theirs : Caps) (common : Common) → HasSizes q 
 common_is q theirs common s is =
     let p = passed (nat_lt q.transfer MIN_DATA_TRANSFER_SIZE || nat_lt theirs.transfer MIN_DATA_TRANSFER_SIZE) (nat_lt q.max q.transfer || nat_lt theirs.max theirs.transfer)
     (not (psk_is PSK_CAP (requester_caps q).flags && psk_is PSK_CAP_WITH_CONTEXT theirs.flags)) (not (protects (requester_caps q).flags && protects theirs.flags)) (shared (requester_caps q) theirs) common is in
-    let small = neither (nat_lt q.transfer MIN_DATA_TRANSFER_SIZE) (nat_lt theirs.transfer MIN_DATA_TRANSFER_SIZE) p.0 in
-    let crossed = neither (nat_lt q.max q.transfer) (nat_lt theirs.max theirs.transfer) p.1 in
+    let small = or_parts (nat_lt q.transfer MIN_DATA_TRANSFER_SIZE) (nat_lt theirs.transfer MIN_DATA_TRANSFER_SIZE) p.0 in
+    let crossed = or_parts (nat_lt q.max q.transfer) (nat_lt theirs.max theirs.transfer) p.1 in
     record {
       theirs = theirs;
       shared = is;

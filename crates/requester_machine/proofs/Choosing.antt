@@ -39,7 +39,7 @@ free_id-free h room = least (is_live (session_of 1 h)) (is_live (session_of 2 h)
 
 -- ---- The context.
 
-context-length : (hash : HashAlg) (d : Draw) → length d.bytes ≡ 32 → length (context_of hash d) ≡ hash_size hash
+pub context-length : (hash : HashAlg) (d : Draw) → length d.bytes ≡ 32 → length (context_of hash d) ≡ hash_size hash
 context-length Sha256 d bytes = grind (arith, common_steps)
 context-length Sha384 d bytes = grind (arith, common_steps)
 

@@ -35,6 +35,7 @@ use Rattle.requester_machine.specs.History.Effect.{Nothing, Answers, Refuses}
 use Rattle.requester_machine.specs.Message.{Aim, asked_in}
 use Rattle.requester_machine.specs.Message.Aim.{Plain, ByChunks, ForChunk, InSession}
 use Rattle.requester_machine.specs.Sending.{plain_sent, request_sent, piece_sent, piece_of, get_sent, is_too_long, finish_sent}
+use Rattle.spdm_basis.proofs.Bools.{and_first, and_second}
 
 -- The whole answer to a request, where it stands in the message, and what it spells.
 pub record IsRead (q : ReqSetup) (h : History) (aim : Aim) (m : List ℕ) (asked : RequestMessage) (answer : List ℕ) (value : ResponseMessage) : Type 0 where
@@ -71,14 +72,6 @@ either P false x y a c = c
 pub tested : {A : Type 0} (P : A → Type 0) (b : Bool) (x y : A) → (b ≡ true → P x) → (b ≡ false → P y) → P (if b then x else y)
 tested P true x y a c = a refl
 tested P false x y a c = c refl
-
-and_first : (a b : Bool) → (a && b) ≡ true → a ≡ true
-and_first true b is = refl
-and_first false b is = absurd (cc)
-
-and_second : (a b : Bool) → (a && b) ≡ true → b ≡ true
-and_second true b is = is
-and_second false b is = absurd (cc)
 
 module _ (q : ReqSetup) (h : History) (f : Free) (aim : Aim) (m : List ℕ) where
   abbrev Leads : RequestMessage → Led → Type 0

@@ -5,10 +5,11 @@ use Rattle.std.proofs.lemmas.Grind.{common_steps}
 use Rattle.chunking.specs.Collecting.{under_way, joined, told_by, told_size, size_rule, first_rule, later_rule, broken_rule, accepted_unless}
 use Rattle.spdm_grammar.specs.Message.{ChunkMessage}
 use Rattle.spdm_grammar.specs.declared.ChunkFault.{ChunkFault}
-use Rattle.spdm_grammar.specs.declared.ChunkFault.TheVariants.{WrongHandle, WrongNumber, TooLarge}
+use Rattle.spdm_grammar.specs.declared.ChunkFault.TheVariants.{WrongHandle, WrongNumber}
 use Rattle.spdm_grammar.specs.declared.names.TheConstants.{MAX_MESSAGE_SIZE}
 use Rattle.requester_machine.specs.ClearAnswers.{get_fault}
 use Rattle.requester_machine.specs.UnderWay.{AreNumbered, AreUnfinished, AreUnderWay}
+use Rattle.chunking.proofs.FewChunks.{not_too_large}
 
 -- None yet.
 pub none_yet : (max handle : ℕ) → AreUnderWay max handle 0 []
@@ -28,10 +29,6 @@ tested : (a b : Bool) (x y : ChunkFault) (rest : Option ChunkFault) → (if not 
 tested true true x y rest e = (refl, refl, e)
 tested true false x y rest e = absurd (cc)
 tested false b x y rest e = absurd (cc)
-
-not_too_large : (test : Bool) (rule : Option ChunkFault) → (if test then Some TooLarge else rule) ≡ None → (test ≡ false) × (rule ≡ None)
-not_too_large true rule e = absurd (cc)
-not_too_large false rule e = (refl, e)
 
 most : (max told : ℕ) → nat_lt (min max MAX_MESSAGE_SIZE) told ≡ false → told ≤ MAX_MESSAGE_SIZE
 most max told small = grind (arith, common_steps)

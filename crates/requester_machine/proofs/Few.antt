@@ -43,7 +43,7 @@ none_few = ((omega arith, omega arith), tt)
 
 -- ---- Commands.
 
-live_first : (s : Steps) (step : Step) → is_live s ≡ true → when_live s step ≡ step ∷ s
+pub live_first : (s : Steps) (step : Step) → is_live s ≡ true → when_live s step ≡ step ∷ s
 live_first [] step live = absurd (false≢true live)
 live_first (x ∷ s) step live = refl
 

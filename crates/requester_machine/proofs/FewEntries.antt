@@ -1,7 +1,7 @@
 -- The next numbers of a session stay few, entry by entry.
 use Rattle.std.proofs.Common.{refl, ◌≡◌, ◌∙◌, ◌≤◌, ◌<◌, ◌+◌, ℕ, List, [], ◌∷◌, true, false, Bool, Option, Some, None, ap, sym, subst, arith, eqb-true}
-use Rattle.std.specs.Prelude.{◌==◌, ◌||◌, ◌&&◌, not, nat_le, if◌then◌else◌, is_some, length, nat_lt}
-use Rattle.std.proofs.lemmas.Bool.{false≢true}
+use Rattle.std.specs.Prelude.{◌==◌, ◌||◌, ◌&&◌, not, nat_le, if◌then◌else◌, length, nat_lt}
+use Rattle.std.proofs.lemmas.Bool.{false≢true, or_parts}
 use Rattle.std.proofs.lemmas.Bool.Decides.{nat_tests}
 use Rattle.spdm_grammar.specs.Message.{RequestMessage}
 use Rattle.spdm_grammar.specs.Message.RequestMessage.{GetVersion, GetCapabilities, NegotiateAlgorithms, GetMeasurements, PskExchange}
@@ -12,7 +12,7 @@ use Rattle.requester_machine.specs.Setup.{ReqSetup}
 use Rattle.requester_machine.specs.Answers.{is_refused}
 use Rattle.requester_machine.specs.Asking.{done}
 use Rattle.requester_machine.specs.Asking.Outcome.{Adds}
-use Rattle.requester_machine.specs.Commands.{Free, command_fault, exchange_for, needs_connection, session_in, is_spent, is_spent_at, has_reached}
+use Rattle.requester_machine.specs.Commands.{Free, command_fault, exchange_for, session_in, is_spent, is_spent_at, has_reached}
 use Rattle.requester_machine.specs.History.{History, Effect, Led, outstanding, negotiation_of, negotiates, connection_terms, next_handle}
 use Rattle.requester_machine.specs.History.Effect.{Nothing, Grants, Refuses}
 use Rattle.requester_machine.specs.History.Entry.{Told}
@@ -32,30 +32,17 @@ use Rattle.requester_machine.proofs.ClearLeads.ClearLeads.{ByRefusal, ByLarge, B
 use Rattle.requester_machine.proofs.Collected.{one_more}
 use Rattle.requester_machine.proofs.Entries.{test_is_false}
 use Rattle.requester_machine.proofs.Few.{Few, FewBy, FewFor, none_few, asked_few, begun_few, unreached, exchange_few, refused_few, end_few, done_few, next_few, answered_few, updated_few, first_few, chunk_few}
-use Rattle.requester_machine.proofs.HoldsTold.{and_true, told_sent, resent_adds, somewhere}
+use Rattle.requester_machine.proofs.HoldsTold.{told_sent, resent_adds, somewhere}
 use Rattle.requester_machine.proofs.RecordLeads.{RecordLeads, Follows}
 use Rattle.requester_machine.proofs.RecordLeads.Follows.{ToAsk, ToWhole}
 use Rattle.requester_machine.proofs.RecordLeads.RecordLeads.{ByEnd, ByAnswer, ByUpdate, ByFirst, ByChunk}
+use Rattle.requester_machine.proofs.MadeOrder.{rests}
 
 -- ---- Commands.
-
-nothing_waits : (id : ℕ) (waiting : Option Sent) → is_some waiting ≡ false → waits_for id waiting ≡ Rests
-nothing_waits id None is = refl
-nothing_waits id (Some sent) is = absurd (false≢true (sym is))
-
--- While a command that needs a connection is done, nothing is outstanding.
-rests : (q : ReqSetup) (h : History) (id : ℕ) (command : Command) (f : Free) → command_fault false q h command f ≡ None → needs_connection command ≡ true
-    → Few (waits_for id (outstanding h)) (session_of id h) → Few Rests (session_of id h)
-rests q h id command f none needs few =
-    subst (λ (w : Waits). Few w (session_of id h)) (nothing_waits id (outstanding h) (and_true (needs_connection command) (is_some (outstanding h)) (test_is_false false q h command f none 1) needs)) few
 
 -- What room is left for each command.
 room_for_one : (s : Steps) → has_reached 65535 s ≡ false → (request_next s + 1 ≤ 65535) × (response_next s ≤ 65534)
 room_for_one s is = (let u = unreached 65535 s is in let r = u.0 in let p = u.1 in (omega (arith, r), omega (arith, p)))
-
-either_reached : (a b : Bool) → (a || b) ≡ false → (a ≡ false) × (b ≡ false)
-either_reached true b is = absurd (cc)
-either_reached false b is = (refl, is)
 
 less : (n m : ℕ) → nat_le m n ≡ false → n < m
 less n m is = grind (arith, nat_tests)
@@ -63,7 +50,7 @@ less n m is = grind (arith, nat_tests)
 room_for_update : (s : Steps) (all : Bool) → (not all && (has_reached 65535 s || nat_le 65534 (response_next s))) ≡ false → FewBy Rests s → FewFor (AskUpdate all) (request_next s + 1) (response_next s)
 room_for_update s true is few = (let r = few.0 in let p = few.1 in (omega (arith, r), omega (arith, p)))
 room_for_update s false is few =
-    let e = either_reached (has_reached 65535 s) (nat_le 65534 (response_next s)) is in
+    let e = or_parts (has_reached 65535 s) (nat_le 65534 (response_next s)) is in
     let one = room_for_one s e.0 in
     let p = less (response_next s) 65534 e.1 in
     (one.0, omega (arith, p))
@@ -104,24 +91,24 @@ pub told_few : (q : ReqSetup) (h : History) (id : ℕ) (command : Command) (f : 
 unfolding session_of
 told_few q h id Connect f d sent none is few = subst (FewTold h id Connect d) (told_sent Connect _ sent d is) none_few
 told_few q h id (Open summary) f d sent none is few =
-    subst (FewTold h id (Open summary) d) (told_sent (Open summary) _ sent d is) (open_few h q f id summary (connection_terms h).common (rests q h id (Open summary) f none refl few))
+    subst (FewTold h id (Open summary) d) (told_sent (Open summary) _ sent d is) (open_few h q f id summary (connection_terms h).common (rests Few q h id (Open summary) f none refl few))
 told_few q h id (Send of bytes) f d sent none is few =
     subst (FewTold h id (Send of bytes) d) (told_sent (Send of bytes) _ sent d is)
-    (asked_few (of == id) AskData _ _ (session_of id h) (lives q h f (Send of bytes) of id none refl) (λ same r. room_for_one (session_of id h) (unspent q h f (Send of bytes) of id none refl same)) (rests q h id (Send of bytes) f none refl few))
+    (asked_few (of == id) AskData _ _ (session_of id h) (lives q h f (Send of bytes) of id none refl) (λ same r. room_for_one (session_of id h) (unspent q h f (Send of bytes) of id none refl same)) (rests Few q h id (Send of bytes) f none refl few))
 told_few q h id (Beat of) f d sent none is few =
     subst (FewTold h id (Beat of) d) (told_sent (Beat of) _ sent d is)
-    (asked_few (of == id) AskBeat _ _ (session_of id h) (lives q h f (Beat of) of id none refl) (λ same r. room_for_one (session_of id h) (unspent q h f (Beat of) of id none refl same)) (rests q h id (Beat of) f none refl few))
+    (asked_few (of == id) AskBeat _ _ (session_of id h) (lives q h f (Beat of) of id none refl) (λ same r. room_for_one (session_of id h) (unspent q h f (Beat of) of id none refl same)) (rests Few q h id (Beat of) f none refl few))
 told_few q h id (Update of all) f d sent none is few =
     subst (FewTold h id (Update of all) d) (told_sent (Update of all) _ sent d is)
-    (asked_few (of == id) (AskUpdate all) _ _ (session_of id h) (lives q h f (Update of all) of id none refl) (λ same r. room_for_update (session_of id h) all (unspent q h f (Update of all) of id none refl same) r) (rests q h id (Update of all) f none refl few))
+    (asked_few (of == id) (AskUpdate all) _ _ (session_of id h) (lives q h f (Update of all) of id none refl) (λ same r. room_for_update (session_of id h) all (unspent q h f (Update of all) of id none refl same) r) (rests Few q h id (Update of all) f none refl few))
 told_few q h id (Measure None op) f d sent none is few =
-    subst (FewTold h id (Measure None op) d) (told_sent (Measure None op) _ sent d is) (measure_few h id op (connection_terms h).common (rests q h id (Measure None op) f none refl few))
+    subst (FewTold h id (Measure None op) d) (told_sent (Measure None op) _ sent d is) (measure_few h id op (connection_terms h).common (rests Few q h id (Measure None op) f none refl few))
 told_few q h id (Measure (Some of) op) f d sent none is few =
     subst (FewTold h id (Measure (Some of) op) d) (told_sent (Measure (Some of) op) _ sent d is)
-    (asked_few (of == id) (AskMeasure op) _ _ (session_of id h) (lives q h f (Measure (Some of) op) of id none refl) (λ same r. room_for_large (session_of id h) (unspent q h f (Measure (Some of) op) of id none refl same)) (rests q h id (Measure (Some of) op) f none refl few))
+    (asked_few (of == id) (AskMeasure op) _ _ (session_of id h) (lives q h f (Measure (Some of) op) of id none refl) (λ same r. room_for_large (session_of id h) (unspent q h f (Measure (Some of) op) of id none refl same)) (rests Few q h id (Measure (Some of) op) f none refl few))
 told_few q h id (End of) f d sent none is few =
     subst (FewTold h id (End of) d) (told_sent (End of) _ sent d is)
-    (asked_few (of == id) AskEnd _ _ (session_of id h) (lives q h f (End of) of id none refl) (λ same r. room_for_end (session_of id h) r) (rests q h id (End of) f none refl few))
+    (asked_few (of == id) AskEnd _ _ (session_of id h) (lives q h f (End of) of id none refl) (λ same r. room_for_end (session_of id h) r) (rests Few q h id (End of) f none refl few))
 told_few q h id Retry f d sent none is few = resent_adds (outstanding h) (Told Retry sent d) is
 
 -- ---- Clear messages.

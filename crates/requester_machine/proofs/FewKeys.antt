@@ -1,7 +1,7 @@
 -- No key of a session seals or takes too many records.
 use Rattle.std.proofs.Common.{refl, ◌≡◌, ◌∙◌, ◌≤◌, ◌<◌, ◌+◌, ℕ, List, [], ◌∷◌, true, false, Bool, Option, Some, None, ap, sym, subst, arith, eqb-true}
 use Rattle.std.specs.Prelude.{◌==◌, ◌&&◌, if◌then◌else◌, bytes_eq}
-use Rattle.std.proofs.lemmas.Bool.{false≢true}
+use Rattle.std.proofs.lemmas.Bool.{false≢true, and_parts}
 use Rattle.std.proofs.lemmas.Slice.Eq.{bytes_eq-Decides}
 use Rattle.key_schedule.specs.Purpose.{Purpose, Kind}
 use Rattle.key_schedule.specs.Purpose.Kind.{Verify, HandshakeRecord, ApplicationRecord}
@@ -24,10 +24,6 @@ use Rattle.requester_machine.proofs.Responses as response
 
 -- ---- Two purposes that are the same count the same records.
 
-and_both : (a b : Bool) → (a && b) ≡ true → (a ≡ true) × (b ≡ true)
-and_both true b is = (refl, is)
-and_both false b is = absurd (false≢true is)
-
 same_kind : (a b : Kind) → is_same_kind a b ≡ true → a ≡ b
 same_kind Verify Verify is = refl
 same_kind HandshakeRecord HandshakeRecord is = refl
@@ -41,8 +37,8 @@ same_kind ApplicationRecord HandshakeRecord is = absurd (false≢true is)
 
 alike : (p r x : Purpose) → is_same_purpose p r ≡ true → is_same_purpose p x ≡ is_same_purpose r x
 alike p r x is =
-    let parts = and_both (bytes_eq p.transcript r.transcript && is_same_kind p.kind r.kind) (p.epoch == r.epoch) is in
-    let front = and_both (bytes_eq p.transcript r.transcript) (is_same_kind p.kind r.kind) parts.0 in
+    let parts = and_parts (bytes_eq p.transcript r.transcript && is_same_kind p.kind r.kind) (p.epoch == r.epoch) is in
+    let front = and_parts (bytes_eq p.transcript r.transcript) (is_same_kind p.kind r.kind) parts.0 in
     ap (λ (t : List ℕ). bytes_eq t x.transcript && is_same_kind p.kind x.kind && p.epoch == x.epoch) ((bytes_eq-Decides p.transcript r.transcript).0 front.0)
     ∙ ap (λ (k : Kind). bytes_eq r.transcript x.transcript && is_same_kind k x.kind && p.epoch == x.epoch) (same_kind p.kind r.kind front.1)
     ∙ ap (λ (e : ℕ). bytes_eq r.transcript x.transcript && is_same_kind r.kind x.kind && e == x.epoch) (eqb-true p.epoch r.epoch parts.1)

@@ -34,7 +34,7 @@ use Rattle.requester_machine.proofs.RecordLeads.{record_leads}
 
 -- ---- A body.
 
-waits_clear : (id : ℕ) (aim : Aim) (asked : RequestMessage) → asked_in aim ≡ Some asked → waits_aim id aim ≡ waits_asked id asked
+pub waits_clear : (id : ℕ) (aim : Aim) (asked : RequestMessage) → asked_in aim ≡ Some asked → waits_aim id aim ≡ waits_asked id asked
 waits_clear id (Plain request) asked is = (let same : request ≡ asked = cc is in ap (waits_asked id) same)
 waits_clear id (ByChunks request handle number) asked is = (let same : request ≡ asked = cc is in ap (waits_asked id) same)
 waits_clear id (ForChunk request handle number before) asked is = (let same : request ≡ asked = cc is in ap (waits_asked id) same)

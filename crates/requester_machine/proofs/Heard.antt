@@ -1,7 +1,7 @@
 -- What a body was that added an entry, and what an entry of a made history was led to by.
 use Rattle.std.proofs.Common.{refl, ◌≡◌, ◌∙◌, ◌⊎◌, ℕ, List, [], ◌∷◌, true, false, Bool, Option, Some, None, ap, sym, inl, inr, eqb-true, zero, suc}
 use Rattle.std.specs.Prelude.{◌||◌, not, drop, if◌then◌else◌, Result, Ok, Err, unwrap_or}
-use Rattle.std.proofs.lemmas.Bool.{false≢true}
+use Rattle.std.proofs.lemmas.Bool.{false≢true, not-false}
 use Rattle.std.proofs.lemmas.Option.{none-some}
 use Rattle.spdm_basis.specs.declared.record_fault.RecordFault.{RecordFault}
 use Rattle.spdm_grammar.specs.Message.{RequestMessage, ExchangeMessage}
@@ -57,12 +57,8 @@ either_type false b is other = absurd (false≢true (sym is ∙ ap not other))
 clear_type : (q : ReqSetup) (sent : Sent) (owner : Bool) (tag : ℕ) (body : List ℕ) → body_fault q (Some sent) owner tag body ≡ None → is_record body ≡ false → is_clear body ≡ true
 clear_type q sent owner tag body is other = either_type (is_clear body) (is_record body) (test_is_false q (Some sent) owner tag body is 3) other
 
-not_false : (b : Bool) → not b ≡ false → b ≡ true
-not_false true is = refl
-not_false false is = absurd (false≢true (sym is))
-
 tag_type : (q : ReqSetup) (sent : Sent) (owner : Bool) (tag : ℕ) (body : List ℕ) → body_fault q (Some sent) owner tag body ≡ None → sent.tag ≡ tag
-tag_type q sent owner tag body is = eqb-true sent.tag tag (not_false (has_tag (Some sent) tag) (test_is_false q (Some sent) owner tag body is 2))
+tag_type q sent owner tag body is = eqb-true sent.tag tag (not-false (has_tag (Some sent) tag) (test_is_false q (Some sent) owner tag body is 2))
 
 -- ---- What was heard.
 

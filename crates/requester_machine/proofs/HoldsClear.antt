@@ -35,9 +35,9 @@ use Rattle.requester_machine.proofs.ClearLeads.{ClearLeads}
 use Rattle.requester_machine.proofs.ClearLeads.ClearLeads.{ByRefusal, ByLarge, BySend, ByGet, ByStop, ByVersion, ByCaps, ByChoice, ByMeasured, ByExchange}
 use Rattle.requester_machine.proofs.Collected.{none_yet, one_more}
 use Rattle.requester_machine.proofs.Holds.{Holds, Waits, live_stays, none_live, negotiating, awaited, awaited_stays, request_waits}
-use Rattle.requester_machine.proofs.HoldsTold.{live_behind}
 use Rattle.requester_machine.proofs.Keeps.{Keeps, behind_clear}
 use Rattle.requester_machine.proofs.Pieces.{next_piece}
+use Rattle.requester_machine.proofs.Few.{live_first}
 
 module _ (q : ReqSetup) (h : History) (tag : ℕ) (m : List ℕ) (d : Draw) where
   keeps : (led : Led) (id : ℕ) → Keeps (session_of id h) (session_of id (TookClear tag m led d ∷ h))
@@ -168,7 +168,7 @@ module _ (q : ReqSetup) (h : History) (tag : ℕ) (m : List ℕ) (d : Draw) wher
 
   finish_steps : (s : Steps) (answer : List ℕ) (step : Step) (b : Bool) → b ≡ true → is_live s ≡ true
       → (if b then when_live (if b then when_live s (Accepted answer) else s) step else (if b then when_live s (Accepted answer) else s)) ≡ step ∷ when_live s (Accepted answer)
-  finish_steps s answer step true is live = live_behind (when_live s (Accepted answer)) step (accepted_live s answer live)
+  finish_steps s answer step true is live = live_first (when_live s (Accepted answer)) step (accepted_live s answer live)
   finish_steps s answer step false is live = absurd (false≢true is)
 
   exchange_holds : (f : Free) (exchange : ExchangeMessage) (answer : List ℕ) → IsAwaited q h (PskExchange exchange) → Holds q h

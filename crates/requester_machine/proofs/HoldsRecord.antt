@@ -21,10 +21,10 @@ use Rattle.requester_machine.specs.Session.Step.{Asked, Took}
 use Rattle.requester_machine.specs.UnderWay.{IsOutstanding, IsSealed, AreBehind}
 use Rattle.requester_machine.proofs.Collected.{none_yet, one_more}
 use Rattle.requester_machine.proofs.Holds.{Holds, Waits, live_stays}
-use Rattle.requester_machine.proofs.HoldsTold.{live_behind}
 use Rattle.requester_machine.proofs.Keeps.{Keeps, behind_record}
 use Rattle.requester_machine.proofs.RecordLeads.{RecordLeads}
 use Rattle.requester_machine.proofs.RecordLeads.RecordLeads.{ByEnd, ByAnswer, ByUpdate, ByFirst, ByChunk}
+use Rattle.requester_machine.proofs.Few.{live_first}
 
 took_live : (s : Steps) (step : Step) → is_live s ≡ true → is_live (when_live s step) ≡ true
 took_live [] step live = live
@@ -35,7 +35,7 @@ next_steps : (s : Steps) (took step : Step) (ended b : Bool) → ended ≡ false
     → (if b then (if b then when_live (if ended then [] else when_live s took) step else (if ended then [] else when_live s took)) else s) ≡ step ∷ when_live s took
 next_steps s took step true b stays is live = absurd (false≢true (sym stays))
 next_steps s took step false false stays is live = absurd (false≢true is)
-next_steps s took step false true stays is live = live_behind (when_live s took) step (took_live s took live)
+next_steps s took step false true stays is live = live_first (when_live s took) step (took_live s took live)
 
 module _ (q : ReqSetup) (h : History) (f : Free) (tag id : ℕ) (ask : Ask) (sealed : List ℕ) (d : Draw) where
   abbrev Later : Led → Type 0

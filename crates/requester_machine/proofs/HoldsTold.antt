@@ -1,7 +1,7 @@
 -- What a command leaves of what a made history holds.
 use Rattle.std.proofs.Common.{refl, ◌≡◌, ◌∙◌, ◌≤◌, ℕ, List, [], ◌∷◌, true, false, Bool, Option, Some, None, ap, sym, subst, eq-eqb, arith, nat_lt}
 use Rattle.std.specs.Prelude.{◌==◌, ◌&&◌, ◌||◌, not, if◌then◌else◌}
-use Rattle.std.proofs.lemmas.Bool.{false≢true}
+use Rattle.std.proofs.lemmas.Bool.{false≢true, not-false}
 use Rattle.std.proofs.lemmas.Bool.Decides.{nat_tests}
 use Rattle.negotiate.specs.declared.shared.Common.{Common}
 use Rattle.spdm_grammar.specs.Message.{RequestMessage}
@@ -24,12 +24,14 @@ use Rattle.requester_machine.specs.Message.Ask.{AskData, AskBeat, AskUpdate, Ask
 use Rattle.requester_machine.specs.Message.Command.{Connect, Open, Send, Beat, Update, Measure, End, Retry}
 use Rattle.requester_machine.specs.Records.{sealed_next}
 use Rattle.requester_machine.specs.Sending.{plain_sent, request_sent, record_sent, is_too_long}
-use Rattle.requester_machine.specs.Session.{Steps, Step, session_of, session_negotiation, is_live, when_live, with_sent, begun}
+use Rattle.requester_machine.specs.Session.{Steps, session_of, session_negotiation, is_live, with_sent, begun}
 use Rattle.requester_machine.specs.Session.Step.{Started, Asked}
 use Rattle.requester_machine.specs.UnderWay.{IsCommon, is_capable, IsAwaited, IsSealed, AreBehind}
 use Rattle.requester_machine.proofs.Entries.{test_is_false, request_sent-asks}
 use Rattle.requester_machine.proofs.Holds.{Holds, Waits, LiveAt, live_stays, request_waits}
 use Rattle.requester_machine.proofs.Keeps.{Keeps, sent_keeps}
+use Rattle.spdm_basis.proofs.Bools.{and_rest}
+use Rattle.requester_machine.proofs.Few.{live_first}
 
 -- ---- Connect.
 
@@ -45,19 +47,11 @@ is_phase Versioned is = absurd (false≢true is)
 is_phase Capable is = absurd (false≢true is)
 is_phase Negotiated is = refl
 
-pub and_true : (a b : Bool) → (a && b) ≡ false → a ≡ true → b ≡ false
-and_true true b is a = is
-and_true false b is a = absurd (false≢true a)
-
-not_false : (b : Bool) → not b ≡ false → b ≡ true
-not_false true is = refl
-not_false false is = absurd (false≢true (sym is))
-
 pub connected : (q : ReqSetup) (h : History) (command : Command) (f : Free) → command_fault false q h command f ≡ None → needs_connection command ≡ true → phase_of h ≡ Negotiated
-connected q h command f none needs = is_phase (phase_of h) (not_false (is_negotiated (phase_of h)) (and_true (needs_connection command) (not (is_negotiated (phase_of h))) (test_is_false false q h command f none 2) needs))
+connected q h command f none needs = is_phase (phase_of h) (not-false (is_negotiated (phase_of h)) (and_rest (needs_connection command) (not (is_negotiated (phase_of h))) (test_is_false false q h command f none 2) needs))
 
 pub somewhere : (q : ReqSetup) (h : History) (command : Command) (f : Free) (id : ℕ) → command_fault false q h command f ≡ None → session_in command ≡ Some id → is_live (session_of id h) ≡ true
-somewhere q h command f id none named = not_false (is_live (session_of id h)) (sym (ap (is_nowhere h) named) ∙ test_is_false false q h command f none 3)
+somewhere q h command f id none named = not-false (is_live (session_of id h)) (sym (ap (is_nowhere h) named) ∙ test_is_false false q h command f none 3)
 
 -- ---- Open.
 
@@ -115,10 +109,6 @@ measure_holds q h op d phase k = record {
 
 -- ---- What is asked of a session.
 
-pub live_behind : (s : Steps) (step : Step) → is_live s ≡ true → when_live s step ≡ step ∷ s
-live_behind [] step live = absurd (false≢true live)
-live_behind (x ∷ s) step live = refl
-
 asks_hold : (q : ReqSetup) (h later : History) (id : ℕ) (ask : Ask) (inner pad : List ℕ)
     → ((other : ℕ) → session_of other later ≡ with_sent other (Some (record_sent q h id (session_of id h) ask inner pad)) (session_of other h))
     → negotiation_of later ≡ negotiation_of h → phase_of later ≡ phase_of h → outstanding later ≡ Some (record_sent q h id (session_of id h) ask inner pad)
@@ -139,7 +129,7 @@ asks_hold q h later id ask inner pad sessions same phase out live behind k = rec
       sealed = sealed_next q.psk (session_of id h) inner pad;
       pad = pad;
       live = live;
-      steps = sessions id ∙ rw (eq-eqb id id refl) (live_behind (session_of id h) (Asked ask inner (sealed_next q.psk (session_of id h) inner pad)) live);
+      steps = sessions id ∙ rw (eq-eqb id id refl) (live_first (session_of id h) (Asked ask inner (sealed_next q.psk (session_of id h) inner pad)) live);
       content_is = refl;
       sealed_is = refl;
     }

@@ -1,7 +1,7 @@
 -- The ids of sessions.
 use Rattle.std.proofs.Common.{refl, ◌∙◌, ◌≡◌, ◌≢◌, ◌≤◌, ℕ, List, [], ◌∷◌, true, false, Bool, Option, Some, None, ap, sym, subst, eq-eqb}
 use Rattle.std.specs.Prelude.{◌==◌, if◌then◌else◌}
-use Rattle.std.proofs.lemmas.Bool.{false≢true}
+use Rattle.std.proofs.lemmas.Bool.{false≢true, eqb-false}
 use Rattle.std.proofs.lemmas.Bool.Decides.{nat_tests}
 use Rattle.std.proofs.Common.{arith}
 use Rattle.spdm_grammar.specs.Message.{RequestMessage}
@@ -34,13 +34,10 @@ opened-is : (worn : Bool) (q : ReqSetup) (h : History) (summary : ℕ) (d : Draw
     → Told (Open summary) (request_sent (connection_terms h).common h (exchange_for q (command_chosen q h d) summary)) d ≡ entry
 opened-is worn q h summary d entry is = same_entry _ entry (asked worn q h (Open summary) (command_chosen q h d) d entry is).1
 
-not_four : (n : ℕ) → (n == 4) ≡ false → n ≢ 4
-not_four n is = grind (arith, nat_tests)
-
 -- Four sessions were not live.
 had_room : (worn : Bool) (q : ReqSetup) (h : History) (summary : ℕ) (d : Draw) (entry : Entry)
     → requester_asks worn q h (Open summary) d ≡ Adds entry → live_count h ≢ 4
-had_room worn q h summary d entry is = not_four (live_count h) (test_is_false worn q h (Open summary) (command_chosen q h d) (asked worn q h (Open summary) (command_chosen q h d) d entry is).0 4)
+had_room worn q h summary d entry is = eqb-false (live_count h) 4 (test_is_false worn q h (Open summary) (command_chosen q h d) (asked worn q h (Open summary) (command_chosen q h d) d entry is).0 4)
 
 begun-own : (id : ℕ) (n : Negotiation) (q : ReqSetup) (f : Free) (summary : ℕ) (s : Steps) → f.id ≡ id
     → begun id n (Some (exchange_for q f summary)) s ≡ Started n (canonical_request (exchange_for q f summary)) ∷ []

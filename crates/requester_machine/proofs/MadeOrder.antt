@@ -1,6 +1,6 @@
 -- The sessions of a made history are in order, and so their numbers are counts.
 use Rattle.std.proofs.Common.{refl, ◌≡◌, ℕ, List, [], ◌∷◌, true, false, Bool, Option, Some, None, sym, subst}
-use Rattle.std.specs.Prelude.{⊤, ◌==◌, ◌&&◌, nat_lt, length, if◌then◌else◌, Result, Ok, Err, is_some, drop}
+use Rattle.std.specs.Prelude.{⊤, ◌==◌, nat_lt, length, if◌then◌else◌, Result, Ok, Err, is_some, drop}
 use Rattle.std.proofs.lemmas.Bool.{false≢true}
 use Rattle.negotiate.specs.declared.shared.Common.{Common}
 use Rattle.spdm_basis.specs.declared.record_fault.RecordFault.{RecordFault}
@@ -25,11 +25,11 @@ use Rattle.requester_machine.specs.Laws.{SessionsAreInOrder, NumbersAreCounts}
 use Rattle.requester_machine.specs.Message.{Command, Ask, Aim, Sent, asked_in}
 use Rattle.requester_machine.specs.Message.Aim.{Plain, ByChunks, ForChunk, InSession}
 use Rattle.requester_machine.specs.Message.Command.{Connect, Open, Send, Beat, Update, Measure, End, Retry}
-use Rattle.requester_machine.specs.Order.{waits_for, waits_aim}
+use Rattle.requester_machine.specs.Order.{waits_for, waits_aim, Waits}
 use Rattle.requester_machine.specs.Order.Waits.{Rests, ForExchange, ForRecord}
 use Rattle.requester_machine.specs.Records.{answer_fault}
 use Rattle.requester_machine.specs.Sending.{request_sent, piece_sent, plain_sent}
-use Rattle.requester_machine.specs.Session.{session_of, begun, with_aim}
+use Rattle.requester_machine.specs.Session.{session_of, begun, with_aim, Steps}
 use Rattle.requester_machine.proofs.ClearOrder.{GoodResult, plain-good, by_chunks-good, for_chunk-good}
 use Rattle.requester_machine.proofs.Entries.{asked, test_is_false}
 use Rattle.requester_machine.proofs.Numbers.{counted}
@@ -37,6 +37,7 @@ use Rattle.requester_machine.proofs.Responses as response
 use Rattle.requester_machine.specs.ResponseLaws.{ResponsesAreCounts}
 use Rattle.requester_machine.proofs.RecordOrder.{record-good}
 use Rattle.requester_machine.proofs.Steps.{Good, asked_good, either_good}
+use Rattle.spdm_basis.proofs.Bools.{and_rest}
 
 -- A session is good behind an entry, and behind an outcome.
 abbrev GoodEntry : History → ℕ → Entry → Type 0
@@ -94,19 +95,15 @@ hears-good h q id owner tag body f d good = hears_by-good h q f id tag body d (o
 
 -- ---- Commands.
 
-nothing_waits : (id : ℕ) (waiting : Option Sent) → is_some waiting ≡ false → waits_for id waiting ≡ Rests
+pub nothing_waits : (id : ℕ) (waiting : Option Sent) → is_some waiting ≡ false → waits_for id waiting ≡ Rests
 nothing_waits id None is = refl
 nothing_waits id (Some sent) is = absurd (false≢true (sym is))
 
-and_true : (a b : Bool) → (a && b) ≡ false → a ≡ true → b ≡ false
-and_true true b is a = is
-and_true false b is a = absurd (false≢true a)
-
 -- While a command that needs a connection is done, all sessions rest.
-rests : (q : ReqSetup) (h : History) (id : ℕ) (command : Command) (f : Free) → command_fault false q h command f ≡ None → needs_connection command ≡ true
-    → Good (waits_for id (outstanding h)) (session_of id h) → Good Rests (session_of id h)
-rests q h id command f none needs good =
-    subst (λ w. Good w (session_of id h)) (nothing_waits id (outstanding h) (and_true (needs_connection command) (is_some (outstanding h)) (test_is_false false q h command f none 1) needs)) good
+pub rests : (P : Waits → Steps → Type 0) (q : ReqSetup) (h : History) (id : ℕ) (command : Command) (f : Free) → command_fault false q h command f ≡ None → needs_connection command ≡ true
+    → P (waits_for id (outstanding h)) (session_of id h) → P Rests (session_of id h)
+rests P q h id command f none needs good =
+    subst (λ w. P w (session_of id h)) (nothing_waits id (outstanding h) (and_rest (needs_connection command) (is_some (outstanding h)) (test_is_false false q h command f none 1) needs)) good
 
 -- A property of a request that is sent, whole or by chunks.
 sent_by_size : (P : Sent → Type 0) (common : Common) (h : History) (asked : RequestMessage) → P (piece_sent common h asked (next_handle h) 0) → P (plain_sent h asked) → P (request_sent common h asked)
@@ -135,13 +132,13 @@ done-good : (q : ReqSetup) (h : History) (id : ℕ) (command : Command) (f : Fre
     → command_fault false q h command f ≡ None → Good (waits_for id (outstanding h)) (session_of id h) → GoodOutcome h id (done q h command f d)
 unfolding session_of
 done-good q h id Connect f d none good = (tt, tt)
-done-good q h id (Open summary) f d none good = begun-good h q f id summary (connection_terms h).common (rests q h id (Open summary) f none refl good)
-done-good q h id (Send of bytes) f d none good = either_good (of == id) (ForRecord _) Rests _ (session_of id h) (asked_good _ _ _ (session_of id h) refl (rests q h id (Send of bytes) f none refl good)) (rests q h id (Send of bytes) f none refl good)
-done-good q h id (Beat of) f d none good = either_good (of == id) (ForRecord _) Rests _ (session_of id h) (asked_good _ _ _ (session_of id h) refl (rests q h id (Beat of) f none refl good)) (rests q h id (Beat of) f none refl good)
-done-good q h id (Update of all) f d none good = either_good (of == id) (ForRecord _) Rests _ (session_of id h) (asked_good _ _ _ (session_of id h) refl (rests q h id (Update of all) f none refl good)) (rests q h id (Update of all) f none refl good)
-done-good q h id (Measure None op) f d none good = measure-good h id op (connection_terms h).common (rests q h id (Measure None op) f none refl good)
-done-good q h id (Measure (Some of) op) f d none good = either_good (of == id) (ForRecord _) Rests _ (session_of id h) (asked_good _ _ _ (session_of id h) refl (rests q h id (Measure (Some of) op) f none refl good)) (rests q h id (Measure (Some of) op) f none refl good)
-done-good q h id (End of) f d none good = either_good (of == id) (ForRecord _) Rests _ (session_of id h) (asked_good _ _ _ (session_of id h) refl (rests q h id (End of) f none refl good)) (rests q h id (End of) f none refl good)
+done-good q h id (Open summary) f d none good = begun-good h q f id summary (connection_terms h).common (rests Good q h id (Open summary) f none refl good)
+done-good q h id (Send of bytes) f d none good = either_good (of == id) (ForRecord _) Rests _ (session_of id h) (asked_good _ _ _ (session_of id h) refl (rests Good q h id (Send of bytes) f none refl good)) (rests Good q h id (Send of bytes) f none refl good)
+done-good q h id (Beat of) f d none good = either_good (of == id) (ForRecord _) Rests _ (session_of id h) (asked_good _ _ _ (session_of id h) refl (rests Good q h id (Beat of) f none refl good)) (rests Good q h id (Beat of) f none refl good)
+done-good q h id (Update of all) f d none good = either_good (of == id) (ForRecord _) Rests _ (session_of id h) (asked_good _ _ _ (session_of id h) refl (rests Good q h id (Update of all) f none refl good)) (rests Good q h id (Update of all) f none refl good)
+done-good q h id (Measure None op) f d none good = measure-good h id op (connection_terms h).common (rests Good q h id (Measure None op) f none refl good)
+done-good q h id (Measure (Some of) op) f d none good = either_good (of == id) (ForRecord _) Rests _ (session_of id h) (asked_good _ _ _ (session_of id h) refl (rests Good q h id (Measure (Some of) op) f none refl good)) (rests Good q h id (Measure (Some of) op) f none refl good)
+done-good q h id (End of) f d none good = either_good (of == id) (ForRecord _) Rests _ (session_of id h) (asked_good _ _ _ (session_of id h) refl (rests Good q h id (End of) f none refl good)) (rests Good q h id (End of) f none refl good)
 done-good q h id Retry f d none good = resent-good h id (outstanding h)
 
 told-good : (q : ReqSetup) (h : History) (id : ℕ) (command : Command) (d : Draw) (entry : Entry)

@@ -22,6 +22,7 @@ use Rattle.requester_machine.specs.Message.Command.{Connect, Open, Send, Beat, U
 use Rattle.requester_machine.specs.Records.{answer_fault}
 use Rattle.requester_machine.specs.Session.{session_of}
 use Rattle.requester_machine.specs.Shown.{after}
+use Rattle.std.proofs.lemmas.Bool.{not-false}
 
 -- ---- Commands.
 
@@ -79,10 +80,6 @@ record IsPlaced (aim : Aim) (owner : Bool) (body : List ℕ) : Type 0 where
   typed : (is_clear body || is_record body) ≡ true
   placed : is_out_of_place aim body ≡ false
 
-not_false : (b : Bool) → not b ≡ false → b ≡ true
-not_false true e = refl
-not_false false e = absurd (cc)
-
 six_tests : (a b c d e f : Bool) → first_cause ((a, ignored.NotResponse) ∷ (b, ignored.NothingOutstanding) ∷ (c, ignored.WrongTag) ∷ (d, ignored.OtherType) ∷ (e, ignored.WrongPlace) ∷ (f, ignored.TooLong) ∷ []) ≡ None
     → (a ≡ false) × (d ≡ false) × (e ≡ false)
 six_tests true b c d e f n = absurd (cc)
@@ -96,7 +93,7 @@ is_placed : (q : ReqSetup) (sent : Sent) (owner : Bool) (tag : ℕ) (body : List
 unfolding body_fault
 is_placed q sent owner tag body n =
     let t = six_tests owner false (not (sent.tag == tag)) (not (is_clear body || is_record body)) (is_out_of_place sent.aim body) (is_clear body && nat_lt q.transfer (length (drop 1 body))) n in
-    record { owned = t.0; typed = not_false _ t.1; placed = t.2 }
+    record { owned = t.0; typed = not-false _ t.1; placed = t.2 }
 
 -- Not a record: a clear message.
 clear_told : (body : List ℕ) → (is_clear body || is_record body) ≡ true → is_record body ≡ false → is_clear body ≡ true

@@ -19,6 +19,7 @@ use Rattle.requester_machine.specs.Order.{IsOrdered, is_opening, is_answer, wait
 use Rattle.requester_machine.specs.Records.{request_purpose}
 use Rattle.requester_machine.specs.Session.{Steps, stage_of, t1_of, t2_of, request_epoch, request_next, finishes, updates, verifies}
 use Rattle.requester_machine.specs.Session.Step.{Started, Accepted, Asked, Took}
+use Rattle.spdm_basis.proofs.Bools.{not_less}
 
 pub update : UpdateBeginsAnew
 update psk s sealed inner answer all = (refl, refl)
@@ -60,15 +61,12 @@ epoch_in stage.Handshake psk t1 t2 e = omega arith
 epoch_in stage.Open psk t1 t2 e = omega arith
 epoch_in stage.Verifying psk t1 t2 e = omega arith
 
-pub not_same : (a b : ℕ) → b < a → (a == b) ≡ false
-not_same a b less = grind (arith, nat_tests)
-
 pub below : (a b c : ℕ) → a ≤ b → b < c → a < c
 below a b c x y = omega arith
 
 epochs_differ : (psk : List ℕ) (p : Purpose) (s : Steps) → request_epoch s < p.epoch → is_same_purpose p (request_purpose psk s) ≡ false
 epochs_differ psk p s later =
-    rw (not_same p.epoch (request_purpose psk s).epoch (below _ (request_epoch s) _ (epoch_in (stage_of s) psk (t1_of s) (t2_of s) (request_epoch s)) later))
+    rw (not_less p.epoch (request_purpose psk s).epoch (below _ (request_epoch s) _ (epoch_in (stage_of s) psk (t1_of s) (t2_of s) (request_epoch s)) later))
     (and_false (bytes_eq p.transcript (request_purpose psk s).transcript) (is_same_kind p.kind (request_purpose psk s).kind))
 
 -- ---- What was never sealed.

@@ -49,14 +49,14 @@ either_record : (id : ℕ) (s : Steps) (came : Came) (b : Bool) (x y : Led) → 
 either_record id s came true x y a c = a
 either_record id s came false x y a c = c
 
-is_same-refl : (b : Bool) → is_same b b ≡ true
+pub is_same-refl : (b : Bool) → is_same b b ≡ true
 is_same-refl true = refl
 is_same-refl false = refl
 
 -- ---- ERROR.
 
 -- What an ERROR leaves open was asked in an open session.
-outlives-open : (ask : Ask) → outlives_error ask ≡ true → stage_for ask ≡ stage.Open
+pub outlives-open : (ask : Ask) → outlives_error ask ≡ true → stage_for ask ≡ stage.Open
 outlives-open AskFinish is = absurd (false≢true is)
 outlives-open AskData is = refl
 outlives-open AskBeat is = refl

@@ -18,7 +18,8 @@ use Rattle.requester_machine.specs.Records.{response_purpose}
 use Rattle.requester_machine.specs.ResponseLaws.{taken_purpose, taken_under, UpdateAllBeginsAnew}
 use Rattle.requester_machine.specs.Session.{Steps, stage_of, t1_of, t2_of, response_epoch, response_next, updates_all}
 use Rattle.requester_machine.specs.Session.Step.{Started, Accepted, Asked, Took}
-use Rattle.requester_machine.proofs.Numbers.{is_same_purpose-refl, and_false, and_middle, not_same, below, unsealed, next_epoch, taken_in}
+use Rattle.requester_machine.proofs.Numbers.{is_same_purpose-refl, and_false, and_middle, below, unsealed, next_epoch, taken_in}
+use Rattle.spdm_basis.proofs.Bools.{not_less}
 
 pub update_all : UpdateAllBeginsAnew
 update_all psk s sealed inner answer = (refl, refl)
@@ -71,7 +72,7 @@ epoch_before true n m less = omega arith
 epoch_before false n m less = less
 
 later_differs : (p other : Purpose) → other.epoch < p.epoch → is_same_purpose p other ≡ false
-later_differs p other less = rw (not_same p.epoch other.epoch less) (and_false (bytes_eq p.transcript other.transcript) (is_same_kind p.kind other.kind))
+later_differs p other less = rw (not_less p.epoch other.epoch less) (and_false (bytes_eq p.transcript other.transcript) (is_same_kind p.kind other.kind))
 
 -- Nothing was taken under a purpose of a later epoch.
 pub none_later : (psk : List ℕ) (p : Purpose) (s : Steps) → response_epoch s < p.epoch → taken_under psk p s ≡ 0

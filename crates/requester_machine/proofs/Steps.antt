@@ -29,7 +29,7 @@ either_good false x y s t a b = b
 
 -- ---- The exchange.
 
-opening_stage : (s : Steps) → is_opening s ≡ true → stage_of s ≡ stage.Handshake
+pub opening_stage : (s : Steps) → is_opening s ≡ true → stage_of s ≡ stage.Handshake
 opening_stage [] is = absurd (false≢true is)
 opening_stage (Started n x ∷ []) is = refl
 opening_stage (Started n x ∷ (step ∷ older)) is = absurd (false≢true is)
@@ -56,7 +56,7 @@ refused_good false s good = good
 -- ---- Records.
 
 -- What waits was asked in its stage.
-asked_stage : (ask : Ask) (s : Steps) → IsOrdered s → waiting_ask s ≡ Some ask → (stage_of s ≡ stage_for ask) × (is_accepted s ≡ true)
+pub asked_stage : (ask : Ask) (s : Steps) → IsOrdered s → waiting_ask s ≡ Some ask → (stage_of s ≡ stage_for ask) × (is_accepted s ≡ true)
 asked_stage ask [] ordered waits = absurd (none-some ask waits)
 asked_stage ask (Started n x ∷ older) ordered waits = absurd (none-some ask waits)
 asked_stage ask (Accepted a ∷ older) ordered waits = absurd (none-some ask waits)

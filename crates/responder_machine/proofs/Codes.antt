@@ -153,7 +153,7 @@ when-code code true x fault h = h refl
 when-code code false x fault h = tt
 
 -- The number of one byte.
-one_byte : (x : ℕ) (rest : List ℕ) → little_number 1 (take 1 (x ∷ rest)) ≡ x
+pub one_byte : (x : ℕ) (rest : List ℕ) → little_number 1 (take 1 (x ∷ rest)) ≡ x
 one_byte x rest = omega arith
 
 abbrev pub is_version : ℕ → Bool

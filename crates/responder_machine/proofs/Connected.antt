@@ -3,7 +3,7 @@ use Rattle.std.proofs.Common.{◌≡◌, ◌≢◌, ◌⊎◌, ℕ, ◌+◌, ◌
 use Rattle.responder_machine.specs.History.{History}
 use Rattle.responder_machine.specs.Responding.{Connection, changed, changed_if, with_history, over_all}
 use Rattle.responder_machine.specs.Setup.{RspSetup}
-use Rattle.spdm_machine.proofs.Members.{IsIn, in_map, map_in}
+use Rattle.spdm_machine.proofs.Members.{IsIn, in_map}
 
 -- Each connection has an end point of its own.
 abbrev pub PeersDiffer : List Connection → Type 0

@@ -22,6 +22,7 @@ use Rattle.responder_machine.specs.Session.Event.{Began, Heard, Waited}
 use Rattle.responder_machine.specs.Turn.{Effect, code_in, takes, updates}
 use Rattle.responder_machine.specs.Turn.Effect.{NoEffect, Took, TookData}
 use Rattle.spdm_grammar.specs.declared.names.request_code.TheConstants.{PSK_FINISH, KEY_UPDATE}
+use Rattle.spdm_basis.proofs.Bools.{not_less}
 
 -- ---- Purposes.
 
@@ -47,11 +48,8 @@ second_false : (a b c d e : Bool) → b ≡ false → (a && b && c && d && e) �
 second_false true b c d e h = rw h refl
 second_false false b c d e h = refl
 
-other_number : (a b : ℕ) → b < a → (a == b) ≡ false
-other_number a b h = grind (arith, nat_tests)
-
 other_epoch : (p q : Purpose) → q.epoch < p.epoch → same_purpose p q ≡ false
-other_epoch p q h = first_false (p.epoch == q.epoch) (same_kind p.kind q.kind) (same_direction p.direction q.direction) _ _ (other_number p.epoch q.epoch h)
+other_epoch p q h = first_false (p.epoch == q.epoch) (same_kind p.kind q.kind) (same_direction p.direction q.direction) _ _ (not_less p.epoch q.epoch h)
 
 other_kind : (p q : Purpose) → same_kind p.kind q.kind ≡ false → same_purpose p q ≡ false
 other_kind p q h = second_false (p.epoch == q.epoch) (same_kind p.kind q.kind) (same_direction p.direction q.direction) _ _ h

@@ -1,6 +1,6 @@
 -- The session that a PSK_EXCHANGE begins, and its id.
 use Rattle.std.proofs.Common.{refl, ◌∙◌, ◌≡◌, ◌≤◌, ℕ, List, [], ◌∷◌, true, false, Bool, Option, Some, None, ap, subst, arith, eq-eqb}
-use Rattle.std.proofs.lemmas.Bool.{false≢true}
+use Rattle.std.proofs.lemmas.Bool.{false≢true, eqb-false}
 use Rattle.std.proofs.lemmas.Bool.Decides.{nat_tests}
 use Rattle.std.specs.Prelude.{if◌then◌else◌, ◌==◌, ◌&&◌}
 use Rattle.byteorder.specs.Numbers.{little_number-reads_back}
@@ -10,7 +10,6 @@ use Rattle.spdm_grammar.specs.Responses.{canonical_response}
 use Rattle.spdm_grammar.specs.declared.error_code.ErrorCode.{ErrorCode}
 use Rattle.responder_machine.proofs.Codes.{asked-code}
 use Rattle.responder_machine.proofs.Entries.{session_of-Clear}
-use Rattle.responder_machine.proofs.Ids.{is_four}
 use Rattle.responder_machine.proofs.Tests.{contents_shown}
 use Rattle.responder_machine.proofs.Turns.{turn_of-plain, plain_turn-asked}
 use Rattle.responder_machine.specs.Answer.{Free, answer_bytes, answer_to, exchange_answer, request_at}
@@ -90,7 +89,7 @@ pub taken_exchange : TakenExchangeIsFresh
 taken_exchange r h tag m f d t allowed turn is =
     let fresh : IsFresh (held_of h) f.id t.effect = subst (λ (u : Turn). IsFresh (held_of h) f.id u.effect) turn (turn_of-fresh r (clear_place h) m f allowed.most) in
     let found = exchange-fresh (held_of h) f.id t.effect is fresh in
-    (allowed.unused (is_four (held_of h) found.1), found.0, session_of-Clear f.id tag t d h ∙ begins f.id (session_of f.id h) t (negotiation_of (clear_turns h)) is (eq-eqb _ _ found.0))
+    (allowed.unused (eqb-false (held_of h) 4 found.1), found.0, session_of-Clear f.id tag t d h ∙ begins f.id (session_of f.id h) t (negotiation_of (clear_turns h)) is (eq-eqb _ _ found.0))
 
 pub new_session : NewSessionIsFresh
 new_session r h tag m f d exchange allowed is taken =

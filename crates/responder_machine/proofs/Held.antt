@@ -14,13 +14,10 @@ use Rattle.responder_machine.specs.Place.{is_held}
 use Rattle.responder_machine.specs.Session.{session_of, is_live, stage_of}
 use Rattle.spdm_machine.specs.Sessions.{is_past_handshake}
 use Rattle.responder_machine.specs.Setup.{RspSetup}
-
-first_true : (a b : Bool) → (a && b) ≡ true → a ≡ true
-first_true true b h = refl
-first_true false b h = h
+use Rattle.spdm_basis.proofs.Bools.{and_first}
 
 held_range : (r : RspSetup) (h : History) (id : ℕ) → IsMade r h → is_held h id ≡ true → (1 ≤ id) × (id ≤ 4)
-held_range r h id made held = live_ids r h id made (first_true (is_live (session_of id h)) (is_past_handshake (stage_of (session_of id h))) held)
+held_range r h id made held = live_ids r h id made (and_first (is_live (session_of id h)) (is_past_handshake (stage_of (session_of id h))) held)
 
 abbrev InRange : ℕ → Type 0
 InRange id = (1 ≤ id) × (id ≤ 4)

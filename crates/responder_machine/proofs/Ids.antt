@@ -30,9 +30,6 @@ free_id-unheld h room = least (is_held h 1) (is_held h 2) (is_held h 3) (is_held
 pub not_four : (n : ℕ) → n ≢ 4 → (n == 4) ≡ false
 not_four n h = grind (arith, nat_tests)
 
-pub is_four : (n : ℕ) → (n == 4) ≡ false → n ≢ 4
-is_four n h = grind (arith, nat_tests)
-
 pub free_id-free : FreeIdIsFree
 free_id-free h room = ((free_id-range h).0, (free_id-range h).1, free_id-unheld h (not_four (held_of h) room))
 

@@ -2,21 +2,18 @@
 use Rattle.std.proofs.Common.{◌≡◌, ◌≢◌, ℕ, List, [], ◌∷◌, ◌++◌, Bool, true, false, Option, Some, None, cond, map, not, ◌&&◌, ◌==◌, refl, sym, ap, ◌∙◌, subst, eqb-true, eq-eqb, true≢false}
 use Rattle.std.proofs.lemmas.List.{append-nil}
 use Rattle.std.specs.Option.{option_map, option_to_list}
-use Rattle.std.specs.Prelude.{if◌then◌else◌, filter}
-use Rattle.mctp_framing.specs.Gathering.{is_ours}
-use Rattle.mctp_framing.specs.Packet.{parsed, packet_fault}
+use Rattle.mctp_framing.specs.Packet.{parsed}
 use Rattle.spdm_grammar.specs.declared.heard.ReplyFault.{ReplyFault}
 use Rattle.responder_machine.proofs.Alike.{lead}
 use Rattle.responder_machine.proofs.Others.{found, kept, others}
-use Rattle.responder_machine.specs.EndLaws.{AreAlike, LeadAlike, source_of, receiver_of}
+use Rattle.responder_machine.specs.EndLaws.{AreAlike, LeadAlike, source_of}
 use Rattle.responder_machine.specs.History.{History}
 use Rattle.responder_machine.specs.History.Entry.{Queued, Ticked}
-use Rattle.responder_machine.specs.Independence.{Given, Own, ConnectionsAreIndependent, GivenStandsAlike, after_given, after_own, after_reply, alone, alone_at_first, alone_sends, answer_to, concerns, own_answer, own_of, run_of, sent_to}
+use Rattle.responder_machine.specs.Independence.{Given, Own, ConnectionsAreIndependent, GivenStandsAlike, after_given, after_reply, alone, alone_sends, answer_to, concerns, own_of, run_of, sent_to}
 use Rattle.responder_machine.specs.Independence.Given.{Packet, Reply, Seconds}
-use Rattle.responder_machine.specs.Independence.Own.{Came, Waits, Passed}
-use Rattle.responder_machine.specs.Responding.{Connection, Responding, RspStep, changed, changed_if, connection_of, hears_packet, is_worn, new_responding, next_draw, queues, reply_fault_of, responder_hears, ticks, with_history, worn_step}
+use Rattle.responder_machine.specs.Independence.Own.{Came, Waits}
+use Rattle.responder_machine.specs.Responding.{Connection, Responding, RspStep, changed, connection_of, hears_packet, is_worn, new_responding, next_draw, queues, reply_fault_of, responder_hears, ticks, with_history, worn_step}
 use Rattle.responder_machine.specs.Setup.{RspEnd}
-use Rattle.spdm_machine.specs.Packets.{fields_in}
 
 -- ---- Connections.
 

@@ -1,6 +1,6 @@
 -- The ids of live sessions in a made history are from 1 to 4.
 use Rattle.std.proofs.Common.{refl, ◌≡◌, ◌≤◌, ◌⊎◌, ℕ, List, [], ◌∷◌, true, false, Bool, inl, inr, sym, subst, arith, ◌∙◌}
-use Rattle.std.proofs.lemmas.Bool.{false≢true}
+use Rattle.std.proofs.lemmas.Bool.{false≢true, eqb-true}
 use Rattle.std.proofs.lemmas.Bool.Decides.{nat_tests}
 use Rattle.std.specs.Prelude.{if◌then◌else◌, ◌==◌}
 use Rattle.responder_machine.proofs.Fresh.{IsFresh, turn_of-fresh, exchange-fresh}
@@ -45,9 +45,6 @@ live_before_tick : (s : Events) (seconds : ℕ) → is_live (after_tick s second
 live_before_tick [] seconds h = absurd (false≢true h)
 live_before_tick (v ∷ s) seconds h = refl
 
-same_number : (n id : ℕ) → (n == id) ≡ true → n ≡ id
-same_number n id h = grind (arith, nat_tests)
-
 chosen-few : (r : RspSetup) (h : History) (d : Draw) → (clear_chosen r h d).id ≡ free_id h
 unfolding chosen
 chosen-few r h d = refl
@@ -59,7 +56,7 @@ begun_in_range r h tag t d id made is same =
     let few : (clear_chosen r h d).id ≤ 4 = rw (chosen-few r h d) range.1 in
     let fresh : IsFresh (held_of h) (clear_chosen r h d).id t.effect = subst (λ (u : Turn). IsFresh (held_of h) (clear_chosen r h d).id u.effect) (made_clear r h tag t d made) (turn_of-fresh r (clear_place h) t.message (clear_chosen r h d) few) in
     let found = (exchange-fresh (held_of h) (clear_chosen r h d).id t.effect is fresh).0 in
-    let number = same_number (id_in_exchange (answer_in t.effect)) id same in
+    let number = eqb-true (id_in_exchange (answer_in t.effect)) id same in
     subst (λ n. (1 ≤ n) × (n ≤ 4)) (sym (chosen-few r h d) ∙ sym found ∙ number) range
 
 either_begun : (r : RspSetup) (h : History) (tag : ℕ) (t : Turn) (d : Draw) (id : ℕ) → IsMade r (Clear tag t d ∷ h) → (is_live (session_of id h) ≡ true → (1 ≤ id) × (id ≤ 4))

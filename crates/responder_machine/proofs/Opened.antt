@@ -26,6 +26,7 @@ use Rattle.responder_machine.specs.Setup.{RspSetup}
 use Rattle.responder_machine.specs.Turn.{Turn, takes, updates, request_in, answer_in}
 use Rattle.transcript.specs.Transcripts.{Negotiation}
 use Rattle.spdm_grammar.specs.declared.names.request_code.TheConstants.{GET_VERSION, PSK_EXCHANGE, PSK_FINISH, END_SESSION}
+use Rattle.std.proofs.lemmas.Bool.{eqb-true}
 
 abbrev reply_in : Outcome → Option (List ℕ)
 reply_in (Adds (Sealed tag m t reply d)) = Some reply
@@ -119,9 +120,6 @@ clear_few id s t n few =
 tick_few : (s : Events) (seconds : ℕ) → IsFew s → IsFew (after_tick s seconds)
 tick_few s seconds few = either-few (not (is_timed s)) s _ few (either-few (nat_le (2 * period_of s) (idle_of s + seconds)) [] (Waited seconds ∷ s) none-few few)
 
-same_number : (n id : ℕ) → (n == id) ≡ true → n ≡ id
-same_number n id h = grind (arith, nat_tests)
-
 pub numbers_few : NumbersAreFew
 unfolding session_of
 numbers_few r [] id made = none-few
@@ -129,7 +127,7 @@ numbers_few r (Clear tag t d ∷ older) id made = clear_few id (session_of id ol
 numbers_few r (Sealed tag m t reply d ∷ older) id made =
     when-few (id_in_record m == id) (after_record (session_of id older) m t reply) (session_of id older)
     (λ same. record_few (session_of id older) m t reply
-    (subst (λ n. is_spent (session_of n older) ≡ false) (same_number (id_in_record m) id same) (unspent r.psk (session_of (id_in_record m) older) m (taken_record_opened r older tag m (record_chosen r older m d) d t reply made.0).3))
+    (subst (λ n. is_spent (session_of n older) ≡ false) (eqb-true (id_in_record m) id same) (unspent r.psk (session_of (id_in_record m) older) m (taken_record_opened r older tag m (record_chosen r older m d) d t reply made.0).3))
     (numbers_few r older id made.1))
     (numbers_few r older id made.1)
 numbers_few r (Queued bytes ∷ older) id made = numbers_few r older id made.2

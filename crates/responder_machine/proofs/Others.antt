@@ -11,15 +11,12 @@ use Rattle.responder_machine.specs.Responder.{Outcome, after}
 use Rattle.responder_machine.specs.EndLaws.{AreAlike, OthersStand, source_of, receiver_of}
 use Rattle.spdm_machine.specs.Packets.{fields_in, fields_with, gathered_from}
 use Rattle.responder_machine.specs.Responding.{Connection, Responding, RspStep, connection_of, changed, with_history, answers, hears_whole, hears_gathered, hears_from, hears_packet, is_worn, next_draw, responder_hears}
+use Rattle.std.proofs.lemmas.Bool.{and_right}
 
 -- ---- Packets.
 
-and_false : (a b : Bool) → b ≡ false → (a && b) ≡ false
-and_false true b e = e
-and_false false b e = refl
-
 not_ours : (own eid : ℕ) (packet : List ℕ) → source_of packet ≢ eid → is_ours (receiver_of own eid) (fields_of packet) ≡ false
-not_ours own eid packet n = and_false _ (slice_index packet 2 == eid) (ne_eqb _ _ n)
+not_ours own eid packet n = and_right _ (slice_index packet 2 == eid) (ne_eqb _ _ n)
 
 packets_by : (own eid : ℕ) (packet : List ℕ) (given : List PacketFields) (fault : Option PacketFault) → source_of packet ≢ eid
     → filter (is_ours (receiver_of own eid)) (fields_with (fault_or fault (fields_of packet)) given) ≡ filter (is_ours (receiver_of own eid)) given

@@ -123,6 +123,11 @@ fifth_get : IsTable setup (small_after (get ∷ get ∷ get ∷ get ∷ large �
 unfolding computed
 fifth_get = refl
 
+-- A new large answer begins at its first chunk.
+get_of_new_answer : IsTable setup (small_after (large ∷ get ∷ get ∷ large ∷ [])) ((chunk_get 5 0, None) ∷ (chunk_get 5 2, Some InvalidRequest) ∷ [])
+unfolding computed
+get_of_new_answer = refl
+
 -- A taken message other than CHUNK_GET drops the answer, a refused one does not.
 get_behind_other_messages : IsTable setup (small_after (took (GetMeasurements 0) [] None ∷ large ∷ [])) ((chunk_get 5 0, Some UnexpectedRequest) ∷ [])
 unfolding computed

@@ -16,8 +16,8 @@ use Rattle.responder_machine.specs.Independence.{AreKnownApart, Given, IsRun, Ru
 use Rattle.responder_machine.specs.Independence.Given.{Packet, Reply, Seconds}
 use Rattle.responder_machine.specs.Responder.{Outcome, after}
 use Rattle.responder_machine.specs.Responder.Outcome.{Same, Unopened, Adds}
-use Rattle.responder_machine.specs.Responding.{Connection, Responding, RspStep, answers, changed, changed_if, connection_of, data_of, hears_from, hears_gathered, hears_packet, hears_whole, ignores, is_worn, new_connection, new_responding, next_draw, over_all, queues, reply_fault_of, responder_hears, ticks, with_history, with_taken, worn_step}
-use Rattle.responder_machine.specs.Setup.{Known, RspEnd, RspPart, RspSetup}
+use Rattle.responder_machine.specs.Responding.{Connection, Responding, RspStep, answers, changed, changed_if, connection_of, data_of, hears_from, hears_gathered, hears_packet, ignores, is_worn, new_connection, next_draw, over_all, queues, reply_fault_of, responder_hears, ticks, with_history, with_taken, worn_step}
+use Rattle.responder_machine.specs.Setup.{Known, RspEnd, RspPart}
 use Rattle.spdm_basis.specs.declared.DropCause.TheVariants.{NotOurs}
 use Rattle.spdm_basis.specs.declared.PacketFault.{PacketFault}
 use Rattle.spdm_grammar.specs.declared.heard.Heard.{Heard}
@@ -156,7 +156,9 @@ module _ (e : RspEnd) where
   ticks_keeps : (r : Responding) (seconds : ℕ) → Keeps r → Keeps (ticks r seconds)
   ticks_keeps r seconds k = record {
     run = record {
-      part = k.run.part; seed = k.run.seed; first = k.run.first;
+      part = k.run.part;
+      seed = k.run.seed;
+      first = k.run.first;
       made = ticked_made seconds r.connections k.run.made;
       messages = subst (λ (n : ℕ). n ≤ length r.given) (sym (ticked_count seconds r.connections)) k.run.messages;
       limit = k.run.limit;

@@ -29,7 +29,7 @@ use Rattle.spdm_grammar.specs.declared.capabilities.Caps.{Caps}
 use Rattle.spdm_grammar.specs.declared.choice.Choice.{Choice}
 use Rattle.spdm_grammar.specs.declared.malformed.Malformed.{Malformed}
 use Rattle.spdm_grammar.specs.declared.malformed.Part.TheVariants.{Field}
-use Rattle.responder_machine.proofs.Codes.{number_at-cons, sized-code, is_version}
+use Rattle.responder_machine.proofs.Codes.{number_at-cons, sized-code, is_version, one_byte}
 use Rattle.responder_machine.specs.Answer.{Free, answer_bytes, answer_to, request_at, answer_of}
 use Rattle.responder_machine.specs.Place.{Place, place_terms}
 use Rattle.responder_machine.specs.Refusal.{code_of}
@@ -56,9 +56,6 @@ reading : (size x y : ℕ) (rest : List ℕ)
 reading size x y rest =
     ap (λ (z : Result (ℕ × reading_at.Place) Malformed). result_ok (and_then z (λ number. if is_version number.0 then read (Number 1 (is_request_code number.0) (λ code. request_body size code)) number.1 else Err (record { at = 0; what = Field })))) (number_at-cons x (y ∷ rest) 0)
     ∙ ap (λ (z : Result (ℕ × reading_at.Place) Malformed). result_ok (if is_version (little_number 1 (take 1 (x ∷ y ∷ rest))) then and_then z (λ number. if is_request_code (little_number 1 (take 1 (x ∷ y ∷ rest))) number.0 then read (request_body size number.0) number.1 else Err (record { at = 0 + 1; what = Field })) else Err (record { at = 0; what = Field }))) (number_at-cons y rest (0 + 1))
-
-one_byte : (x : ℕ) (rest : List ℕ) → little_number 1 (take 1 (x ∷ rest)) ≡ x
-one_byte x rest = omega arith
 
 pub same_reading : (a b : ℕ) (m : List ℕ) → (code_of m == PSK_EXCHANGE) ≡ false → (code_of m == PSK_FINISH) ≡ false → request_in a m ≡ request_in b m
 unfolding number_at field_at

@@ -1,6 +1,6 @@
 -- In a made history PSK_FINISH is taken in a handshake alone, and KEY_UPDATE after one alone.
 use Rattle.std.proofs.Common.{refl, ◌∙◌, ◌≡◌, ℕ, List, [], ◌∷◌, true, false, Bool, Option, Some, None, ap, sym, subst, arith}
-use Rattle.std.proofs.lemmas.Bool.{false≢true}
+use Rattle.std.proofs.lemmas.Bool.{false≢true, eqb-true}
 use Rattle.std.proofs.lemmas.Bool.Decides.{nat_tests}
 use Rattle.std.proofs.lemmas.Option.{none-some, same_Some}
 use Rattle.std.specs.Prelude.{if◌then◌else◌, ◌==◌, ◌*◌, ◌+◌, not, nat_le, slice_index, drop}
@@ -175,16 +175,13 @@ tick_staged : (s : Events) (seconds : ℕ) → IsStaged s → IsStaged (after_ti
 tick_staged s seconds staged =
     either-staged (not (is_timed s)) s _ staged (either-staged (nat_le (2 * period_of s) (idle_of s + seconds)) [] (Waited seconds ∷ s) tt staged)
 
-same_number : (n id : ℕ) → (n == id) ≡ true → n ≡ id
-same_number n id h = grind (arith, nat_tests)
-
 pub made_staged : (r : RspSetup) (h : History) (id : ℕ) → IsMade r h → IsStaged (session_of id h)
 unfolding session_of
 made_staged r [] id made = tt
 made_staged r (Clear tag t d ∷ older) id made = clear_staged id (session_of id older) t (negotiation_of (clear_turns older)) (made_staged r older id made.1)
 made_staged r (Sealed tag m t reply d ∷ older) id made =
     when-staged (id_in_record m == id) (after_record (session_of id older) m t reply) (session_of id older)
-    (λ same. record_staged (session_of id older) m t reply (subst (λ n. IsPlaced (stage_of (session_of n older)) t.effect) (same_number (id_in_record m) id same) (made_placed r older tag m t reply d made)) (made_staged r older id made.1))
+    (λ same. record_staged (session_of id older) m t reply (subst (λ n. IsPlaced (stage_of (session_of n older)) t.effect) (eqb-true (id_in_record m) id same) (made_placed r older tag m t reply d made)) (made_staged r older id made.1))
     (made_staged r older id made.1)
 made_staged r (Queued bytes ∷ older) id made = made_staged r older id made.2
 made_staged r (Ticked seconds ∷ older) id made = tick_staged (session_of id older) seconds (made_staged r older id made)

@@ -1,6 +1,6 @@
 -- The verify data of PSK_FINISH are compared.
 use Rattle.std.proofs.Common.{refl, ◌∙◌, ◌≡◌, ℕ, List, [], true, false, Bool, Option, Some, None, ap, sym, subst}
-use Rattle.std.proofs.lemmas.Bool.{false≢true}
+use Rattle.std.proofs.lemmas.Bool.{false≢true, not-false}
 use Rattle.std.proofs.lemmas.Slice.Eq.{bytes_eq-Decides}
 use Rattle.std.specs.Prelude.{if◌then◌else◌, ◌==◌, not, slice_index, drop, bytes_eq}
 use Rattle.spdm_grammar.specs.Message.{RequestMessage, ChunkMessage}
@@ -30,10 +30,6 @@ IsVerified r s NoEffect = Unit {0}
 IsVerified r s (Took asked request answer large) = IsRight r s asked request
 IsVerified r s (TookData bytes answer) = Unit {0}
 
-not_wrong : (b : Bool) → not b ≡ false → b ≡ true
-not_wrong true h = refl
-not_wrong false h = absurd (false≢true (sym h))
-
 -- A place of this session, inside of chunks or not.
 abbrev IsOf : Place → Events → Type 0
 IsOf p s = (m : List ℕ) (r : RspSetup) (verify : List ℕ) → is_verify_wrong r p m (Some (PskFinish verify)) ≡ not (bytes_eq verify (finish_verify r.psk s m))
@@ -43,7 +39,7 @@ right : (r : RspSetup) (p : Place) (s : Events) (m : List ℕ) (f : Free) (large
 right r p s m f large None of taken is = tt
 right r p s m f large (Some (PskFinish verify)) of taken is =
     (bytes_eq-Decides verify (finish_verify r.psk s m)).0
-    (not_wrong (bytes_eq verify (finish_verify r.psk s m)) (sym (of m r verify) ∙ ap (is_verify_wrong r p m) (sym is) ∙ contents_shown r p m f taken 5))
+    (not-false (bytes_eq verify (finish_verify r.psk s m)) (sym (of m r verify) ∙ ap (is_verify_wrong r p m) (sym is) ∙ contents_shown r p m f taken 5))
 right r p s m f large (Some _) of taken is = tt
 
 carried : (r : RspSetup) (p : Place) (s : Events) (m : List ℕ) (f : Free) (c : ChunkMessage) (whole : List ℕ) (x : Option ErrorCode) → IsOf p s → refusal r p whole f ≡ x → IsVerified r s (carried_turn r p m f c whole x).effect

@@ -10,8 +10,7 @@ mod refusals;
 
 pub use bounds::{common_is_negotiated, counts_are_bounded, queue_is_bounded, sizes_are_set_up};
 pub use end_laws::{
-    connections_are_independent, given_stands_alike, others_stand, own_decide,
-    runs_are_bounded,
+    connections_are_independent, given_stands_alike, others_stand, own_decide, runs_are_bounded,
 };
 pub use laws::{
     algorithms_settle_choice, capabilities_settle_common, chosen_is_allowed, does_what_it_may,

@@ -1,7 +1,7 @@
 -- What bytes spell fits its fields and is sound.
 use Rattle.std.proofs.Common.{◌≡◌, ℕ, zero, suc, ◌+◌, ◌*◌, ◌^◌, ◌<◌, ◌≤◌, ◌⊎◌, Bool, true, false, cond, List, ◌++◌, length, Option, Some, None, refl, sym, ap, subst, ◌∙◌, arith, inl, inr, add-one}
 use Rattle.std.specs.Prelude.{slice_index, ◌&&◌, ◌||◌}
-use Rattle.std.proofs.lemmas.Bool.{cases_lt}
+use Rattle.std.proofs.lemmas.Bool.{cases_lt, and_parts}
 use Rattle.std.proofs.lemmas.List.{get_or_append_left, get_or-append-add, get_or_past}
 use Rattle.std.proofs.lemmas.Grind.{pow_more}
 use Rattle.byteorder.specs.Endian.{little_number, little_from}
@@ -78,10 +78,6 @@ tested_values false l m x y = y refl
 pub optional_values : {A : Type 0} (P : A → Type 0) (b : Bool) (at : ℕ) (next : Option ℕ → Layout A) → (b ≡ false → Values P (next None) at) → (b ≡ true → (n : ℕ) → n < 256 ^ 4 → Values P (next (Some n)) (at + 4)) → Values P (Optional b 4 next) at
 optional_values P true at next x y = y refl
 optional_values P false at next x y = x refl
-
-pub both_of : (a b : Bool) → (a && b) ≡ true → (a ≡ true) × (b ≡ true)
-both_of true b e = (refl, e)
-both_of false b e = absurd cc
 
 pub one_of : (a b : Bool) → (a || b) ≡ true → (a ≡ true) ⊎ (b ≡ true)
 one_of true b e = inl refl

@@ -1,13 +1,13 @@
 -- A request that bytes spell fits its fields and is sound.
 use Rattle.std.proofs.Common.{ℕ, ◌%◌, eqb, leb, List, Some, None, sym, arith}
-use Rattle.std.proofs.lemmas.Bool.{leb-true}
+use Rattle.std.proofs.lemmas.Bool.{leb-true, and_parts}
 use Rattle.spdm_grammar.specs.declared.capabilities.Caps.{Caps}
 use Rattle.spdm_grammar.specs.Layout.Layout.{Whole, Bytes}
 use Rattle.spdm_grammar.specs.Fields.{FitsCaps, FitsChunk, IsSoundChunk, caps_layout, chunk_layout}
 use Rattle.spdm_grammar.specs.Message.{RequestMessage, ChunkMessage}
 use Rattle.spdm_grammar.specs.Message.RequestMessage.{GetCapabilities, ChunkSend}
 use Rattle.spdm_grammar.specs.Requests.{request_layout, request_body, get_version_layout, get_capabilities_layout, negotiate_algorithms_layout, get_measurements_layout, psk_exchange_layout, psk_finish_layout, heartbeat_layout, key_update_layout, end_session_layout, chunk_send_layout, chunk_get_layout, FitsRequest, IsSoundRequest, IsRequestSpelling}
-use Rattle.spdm_grammar.proofs.Sound.{AreBytes, Values, HasValues, value_of, either_values, optional_values, both_of}
+use Rattle.spdm_grammar.proofs.Sound.{AreBytes, Values, HasValues, value_of, either_values, optional_values}
 
 abbrev Good : ℕ → RequestMessage → Type 0
 Good hash_len m = FitsRequest m × IsSoundRequest hash_len m
@@ -76,7 +76,7 @@ heartbeat hash_len = record { are = λ _ _. (tt, tt) }
 key_update : (hash_len : ℕ) → HasValues (Good hash_len) key_update_layout 2
 unfolding key_update_layout
 key_update hash_len = record {
-  are = λ op op_fits known tag tag_fits _. let k = both_of (leb 1 op) (leb op 3) known in ((op_fits, tag_fits), (leb-true _ _ k.0, leb-true _ _ k.1));
+  are = λ op op_fits known tag tag_fits _. let k = and_parts (leb 1 op) (leb op 3) known in ((op_fits, tag_fits), (leb-true _ _ k.0, leb-true _ _ k.1));
 }
 
 end_session : (hash_len : ℕ) → HasValues (Good hash_len) end_session_layout 2

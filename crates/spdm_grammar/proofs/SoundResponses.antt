@@ -1,12 +1,12 @@
 -- A response that bytes spell fits its fields and is sound.
 use Rattle.std.proofs.Common.{◌≡◌, ℕ, ◌⊎◌, Bool, true, cond, eqb, leb, List, arith, inl, inr}
 use Rattle.std.specs.Prelude.{◌||◌}
-use Rattle.std.proofs.lemmas.Bool.{leb-true, eqb-true, eqb-false}
+use Rattle.std.proofs.lemmas.Bool.{leb-true, eqb-true, eqb-false, and_parts}
 use Rattle.spdm_grammar.specs.Layout.Layout.{Whole, Bytes, UpTo}
 use Rattle.spdm_grammar.specs.Message.{ResponseMessage}
 use Rattle.spdm_grammar.specs.Message.ResponseMessage.{Capabilities, ChunkResponse, Error}
 use Rattle.spdm_grammar.specs.Responses.{response_layout, response_body, version_layout, capabilities_layout, algorithms_layout, measurements_layout, psk_exchange_rsp_layout, psk_finish_rsp_layout, heartbeat_ack_layout, key_update_ack_layout, end_session_ack_layout, chunk_send_ack_layout, chunk_response_layout, error_layout, FitsResponse, IsSoundResponse, IsResponseSpelling}
-use Rattle.spdm_grammar.proofs.Sound.{AreBytes, HasValues, value_of, either_values, tested_values, both_of, one_of}
+use Rattle.spdm_grammar.proofs.Sound.{AreBytes, HasValues, value_of, either_values, tested_values, one_of}
 use Rattle.spdm_grammar.proofs.SoundRequests.{caps_values, chunk_values}
 use Rattle.spdm_grammar.specs.declared.names.error_number.TheConstants.{RESPONSE_TOO_LARGE, LARGE_RESPONSE}
 use Rattle.spdm_grammar.specs.declared.names.spdm_version.TheConstants.{V1_0, V1_2}
@@ -81,7 +81,7 @@ heartbeat_ack h s = record { are = λ _ _. (tt, tt) }
 key_update_ack : (h : ℕ) (s : Bool) → HasValues (Good h s) key_update_ack_layout 2
 unfolding key_update_ack_layout
 key_update_ack h s = record {
-  are = λ op op_fits known tag tag_fits _. let k = both_of (leb 1 op) (leb op 3) known in ((op_fits, tag_fits), (leb-true _ _ k.0, leb-true _ _ k.1));
+  are = λ op op_fits known tag tag_fits _. let k = and_parts (leb 1 op) (leb op 3) known in ((op_fits, tag_fits), (leb-true _ _ k.0, leb-true _ _ k.1));
 }
 
 end_session_ack : (h : ℕ) (s : Bool) → HasValues (Good h s) end_session_ack_layout 2

@@ -1,4 +1,4 @@
-use Rattle.spdm_agreement.proofs.Assembled.{agree}
+use Rattle.spdm_agreement.proofs.Worlds.Assembled.{agree}
 use Rattle.spdm_agreement.proofs.laws.agreement.Goals as goal
 
 pub returns : goal.returns

@@ -1,4 +1,4 @@
-use Rattle.spdm_agreement.proofs.Assembled.{deliver}
+use Rattle.spdm_agreement.proofs.Worlds.Assembled.{deliver}
 use Rattle.spdm_agreement.proofs.laws.data_prefix.Goals as goal
 
 pub returns : goal.returns

@@ -1,5 +1,5 @@
-use Rattle.spdm_agreement.proofs.Earlier.{in_order_prefix}
-use Rattle.spdm_agreement.proofs.Runs.{holds, taken_was_said, heard_was_taken}
+use Rattle.spdm_agreement.proofs.Moves.Earlier.{in_order_prefix}
+use Rattle.spdm_agreement.proofs.Moves.Runs.{holds, taken_was_said, heard_was_taken}
 use Rattle.spdm_agreement.proofs.laws.delivered.Goals as goal
 
 pub returns : goal.returns

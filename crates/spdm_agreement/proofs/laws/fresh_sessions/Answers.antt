@@ -1,4 +1,4 @@
-use Rattle.spdm_agreement.proofs.Runs.{holds, unsaid, untaken}
+use Rattle.spdm_agreement.proofs.Moves.Runs.{holds, unsaid, untaken}
 use Rattle.spdm_agreement.proofs.laws.fresh_sessions.Goals as goal
 
 pub returns : goal.returns

@@ -1,4 +1,4 @@
-use Rattle.spdm_agreement.proofs.Runs.{holds, opened_matches, ever_matches, one_id}
+use Rattle.spdm_agreement.proofs.Moves.Runs.{holds, opened_matches, ever_matches, one_id}
 use Rattle.spdm_agreement.proofs.laws.matched_sessions.Goals as goal
 
 pub returns : goal.returns

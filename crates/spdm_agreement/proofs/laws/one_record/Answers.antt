@@ -1,4 +1,4 @@
-use Rattle.spdm_agreement.proofs.Runs.{holds, one_sealed}
+use Rattle.spdm_agreement.proofs.Moves.Runs.{holds, one_sealed}
 use Rattle.spdm_agreement.proofs.laws.one_record.Goals as goal
 
 pub returns : goal.returns

@@ -1,4 +1,4 @@
-use Rattle.spdm_agreement.proofs.Runs.{holds, agrees}
+use Rattle.spdm_agreement.proofs.Moves.Runs.{holds, agrees}
 use Rattle.spdm_agreement.proofs.laws.one_transcript.Goals as goal
 
 pub returns : goal.returns

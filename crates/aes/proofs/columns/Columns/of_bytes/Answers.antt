@@ -5,4 +5,4 @@ use Rattle.aes.proofs.columns.Columns.of_bytes.Goals as goal
 
 pub returns : goal.returns
 returns c =
-    c.of.ensures ∙ ap block_bytes c.read_u128.ensures ∙ block_bytes-big_number c.args.block.now c.requires (λ i. (c.type_inv.block i).fits)
+    c.of.ensures.bytes ∙ ap block_bytes c.read_u128.ensures ∙ block_bytes-big_number c.args.block.now c.requires (λ i. (c.type_inv.block i).fits)
