@@ -44,9 +44,11 @@ impl Model for Finishing {
 
     ghost Value = { Seen };
 
-    ghost view = { λ f. record { lane = f.lane; handshake = f.handshake; response = f.response; id = f.id; sent = f.sent; terms = f.terms } };
+    ghost view = { λ f. record { lane = f.lane; handshake = f.handshake; response = f.response;
+        id = f.id; sent = f.sent; terms = f.terms } };
 
-    ghost invariant = { λ f. (lane_hash f.lane ≡ f.terms.choice.hash) × (f.handshake.keys.hash ≡ f.terms.choice.hash) };
+    ghost invariant = { λ f. (lane_hash f.lane ≡ f.terms.choice.hash)
+        × (f.handshake.keys.hash ≡ f.terms.choice.hash) };
 }
 
 impl Finishing {
@@ -62,8 +64,10 @@ impl Finishing {
         requires lane { lane_hash lane ≡ terms.choice.hash }
         requires keys { handshake.keys.hash ≡ terms.choice.hash }
         requires pad { length pad.now ≤ 16 }
-        ensures { (psk : List ℕ) (n : Negotiation) (exchange answer : List ℕ) → AreTermsOf terms n exchange
-            → IsHandshakeOf handshake psk n exchange answer → lanes.StandsFor lane (vca_of n ++ exchange ++ answer)
+        ensures { (psk : List ℕ) (n : Negotiation) (exchange answer : List ℕ)
+            → AreTermsOf terms n exchange
+            → IsHandshakeOf handshake psk n exchange answer
+                → lanes.StandsFor lane (vca_of n ++ exchange ++ answer)
             → rsp_id ≡ id_in_exchange answer → StandsFor result psk n exchange answer pad.now }
     {
         let id = SessionId {
@@ -88,7 +92,8 @@ impl Finishing {
     /// The session as it is shown.
     #[tactic(auto, unfolding(requester_machine::specs::Shown::view_of))]
     pub fn view(&self) -> SessionView
-        ensures { (psk : List ℕ) (n : Negotiation) (exchange answer pad : List ℕ) → StandsFor self.now psk n exchange answer pad
+        ensures { (psk : List ℕ) (n : Negotiation) (exchange answer pad : List ℕ)
+            → StandsFor self.now psk n exchange answer pad
             → result ≡ view_of (finishing psk n exchange answer pad) }
     {
         SessionView {
@@ -113,7 +118,8 @@ impl Finishing {
 
     /// A record of the responder. Only PSK_FINISH_RSP opens the session; anything else that opens ends it.
     pub fn take(self, sealed: &[u8]) -> FinishTook
-        ensures { (psk : List ℕ) (n : Negotiation) (exchange answer pad : List ℕ) → StandsFor self psk n exchange answer pad
+        ensures { (psk : List ℕ) (n : Negotiation) (exchange answer pad : List ℕ)
+            → StandsFor self psk n exchange answer pad
             → IsFinishTook self psk (finishing psk n exchange answer pad) sealed.now result }
     {
         let mut inner = RecordFrame::new();
@@ -127,14 +133,18 @@ impl Finishing {
     }
 
     // Opens the record that answers, and writes its inner message.
-    #[tactic(auto, unfolding(requester_machine::specs::Records::answer_fault, requester_machine::specs::Records::answer_inner))]
     fn open_answer(&self, sealed: &[u8], out: &mut RecordFrame) -> Result<(), RecordFault>
-        ensures fault { (psk : List ℕ) (n : Negotiation) (exchange answer pad : List ℕ) → StandsFor self.now psk n exchange answer pad
+        ensures fault { (psk : List ℕ) (n : Negotiation) (exchange answer pad : List ℕ)
+            → StandsFor self.now psk n exchange answer pad
             → MatchResult result
-            (λ _. answer_fault psk (finishing psk n exchange answer pad) AskFinish sealed.now ≡ None)
-            (λ e. answer_fault psk (finishing psk n exchange answer pad) AskFinish sealed.now ≡ Some e) }
-        ensures inner { (psk : List ℕ) (n : Negotiation) (exchange answer pad : List ℕ) → StandsFor self.now psk n exchange answer pad
-            → OnOk result (out.new ≡ answer_inner psk (finishing psk n exchange answer pad) AskFinish sealed.now) }
+            (λ _. answer_fault psk (finishing psk n exchange answer pad) AskFinish sealed.now
+                ≡ None)
+            (λ e. answer_fault psk (finishing psk n exchange answer pad) AskFinish sealed.now
+                ≡ Some e) }
+        ensures inner { (psk : List ℕ) (n : Negotiation) (exchange answer pad : List ℕ)
+            → StandsFor self.now psk n exchange answer pad
+            → OnOk result (out.new
+                ≡ answer_inner psk (finishing psk n exchange answer pad) AskFinish sealed.now) }
     {
         open_record(&self.response, self.id, 0, sealed, out)
     }
@@ -142,7 +152,8 @@ impl Finishing {
     // The fault of the inner message of an answer.
     fn fault(&self, inner: &[u8]) -> Option<BadReply>
         ensures { (q : ReqSetup) → q.transfer ≡ self.now.terms.common.to_requester.transfer
-            → result ≡ finish_fault (contents_of q (hash_size self.now.terms.choice.hash) inner.now) }
+            → result ≡ finish_fault
+                (contents_of q (hash_size self.now.terms.choice.hash) inner.now) }
     {
         let transfer = self.terms.common.to_requester.transfer;
         match read_inner(transfer, self.terms.choice.hash.size(), inner) {
@@ -155,9 +166,11 @@ impl Finishing {
 
     // The open session, with the inner message that holds PSK_FINISH_RSP.
     fn finish(self, inner: &[u8]) -> ReqOpen
-        ensures { (psk : List ℕ) (n : Negotiation) (exchange answer pad sealed : List ℕ) → StandsFor self psk n exchange answer pad
+        ensures { (psk : List ℕ) (n : Negotiation) (exchange answer pad sealed : List ℕ)
+            → StandsFor self psk n exchange answer pad
             → inner.now ≡ answer_inner psk (finishing psk n exchange answer pad) AskFinish sealed
-            → open_state.StandsFor result psk (finished_by psk (finishing psk n exchange answer pad) sealed) }
+            → open_state.StandsFor result psk
+                (finished_by psk (finishing psk n exchange answer pad) sealed) }
     {
         let Finishing {
             mut lane,

@@ -23,7 +23,9 @@ pub struct Handshake {
 
 // The hash of what a lane was given and of PSK_FINISH without its verify data.
 fn hash_with_finish(lane: &Lane) -> HashBytes
-    ensures value { (given : List ℕ) → lanes.StandsFor lane.now given → result ≡ (hash_of (lane_hash lane.now)).digest (given ++ canonical_request (PskFinish [])) }
+    ensures value { (given : List ℕ) → lanes.StandsFor lane.now given
+        → result ≡ (hash_of (lane_hash lane.now)).digest
+        (given ++ canonical_request (PskFinish [])) }
     ensures size { length result ≡ hash_size (lane_hash lane.now) }
 {
     let mut header = Frame::new();
@@ -57,7 +59,8 @@ impl Handshake {
         ensures hash { result.keys.hash ≡ hash }
         ensures aead { result.keys.aead ≡ aead }
         ensures th1 { result.th1 ≡ th1 }
-        ensures secrets { (t1 : List ℕ) → th1 ≡ (hash_of hash).digest t1 → AreSecretsOf result.keys psk.now t1 }
+        ensures secrets { (t1 : List ℕ) → th1 ≡ (hash_of hash).digest t1
+            → AreSecretsOf result.keys psk.now t1 }
     {
         let keys = HandshakeKeys::derive(hash, aead, psk, &th1);
         Handshake { th1, keys }
@@ -65,7 +68,8 @@ impl Handshake {
 
     // The verify data of PSK_EXCHANGE_RSP.
     pub fn responder_verify(&self) -> HashBytes
-        ensures { (psk : List ℕ) (n : Negotiation) (exchange answer : List ℕ) → IsHandshakeOf self.now psk n exchange answer
+        ensures { (psk : List ℕ) (n : Negotiation) (exchange answer : List ℕ)
+            → IsHandshakeOf self.now psk n exchange answer
             → result ≡ answer_verify psk (accepted n exchange answer) }
     {
         self.keys.responder_verify(&self.th1)
@@ -74,8 +78,10 @@ impl Handshake {
     // The verify data of PSK_FINISH, over the transcript up to PSK_EXCHANGE_RSP, which a lane was given.
     pub fn requester_verify(&self, lane: &Lane) -> HashBytes
         requires { lane_hash lane.now ≡ self.now.keys.hash }
-        ensures value { (psk : List ℕ) (n : Negotiation) (exchange answer : List ℕ) → IsHandshakeOf self.now psk n exchange answer
-            → lanes.StandsFor lane.now (vca_of n ++ exchange ++ answer) → result ≡ finish_verify psk (accepted n exchange answer) }
+        ensures value { (psk : List ℕ) (n : Negotiation) (exchange answer : List ℕ)
+            → IsHandshakeOf self.now psk n exchange answer
+            → lanes.StandsFor lane.now (vca_of n ++ exchange ++ answer)
+                → result ≡ finish_verify psk (accepted n exchange answer) }
         ensures size { length result ≤ 48 }
     {
         self.keys.requester_verify(&hash_with_finish(lane))
@@ -85,8 +91,10 @@ impl Handshake {
     pub fn seal_finish(&self, id: SessionId, message: &[u8], pad: &[u8]) -> Buffer<96>
         requires message { length message.now ≤ 52 }
         requires pad { length pad.now ≤ 16 }
-        ensures { (psk : List ℕ) (n : Negotiation) (exchange answer : List ℕ) → IsHandshakeOf self.now psk n exchange answer
-            → id ≡ session_id (accepted n exchange answer) → message.now ≡ finish_message psk n exchange answer
+        ensures { (psk : List ℕ) (n : Negotiation) (exchange answer : List ℕ)
+            → IsHandshakeOf self.now psk n exchange answer
+            → id ≡ session_id (accepted n exchange answer)
+                → message.now ≡ finish_message psk n exchange answer
             → result ≡ finish_record psk (accepted n exchange answer) pad.now }
     {
         let key = RecordKey::new(self.keys.request_key());
@@ -95,8 +103,10 @@ impl Handshake {
 
     // The key of the responder's records.
     pub fn response_key(&self) -> RecordKey
-        ensures { (psk : List ℕ) (n : Negotiation) (exchange answer : List ℕ) → IsHandshakeOf self.now psk n exchange answer
-            → IsKeyOf result (terms_of n).choice (handshake_record psk (t1_of (accepted n exchange answer)) Response) }
+        ensures { (psk : List ℕ) (n : Negotiation) (exchange answer : List ℕ)
+            → IsHandshakeOf self.now psk n exchange answer
+            → IsKeyOf result (terms_of n).choice
+                (handshake_record psk (t1_of (accepted n exchange answer)) Response) }
     {
         RecordKey::new(self.keys.response_key())
     }
@@ -104,10 +114,15 @@ impl Handshake {
     // The first keys behind the handshake, from the hash of T2.
     pub fn app_keys(&self, th2: &HashBytes) -> AppKeys
         requires { length th2.now ≡ hash_size self.now.keys.hash }
-        ensures request { (psk : List ℕ) (n : Negotiation) (exchange answer t2 : List ℕ) → IsHandshakeOf self.now psk n exchange answer
-            → th2.now ≡ (hash_of (terms_of n).choice.hash).digest t2 → IsKeyOf result.request (terms_of n).choice (application_record psk t2 Request 0) }
-        ensures response { (psk : List ℕ) (n : Negotiation) (exchange answer t2 : List ℕ) → IsHandshakeOf self.now psk n exchange answer
-            → th2.now ≡ (hash_of (terms_of n).choice.hash).digest t2 → IsKeyOf result.response (terms_of n).choice (application_record psk t2 Response 0) }
+        ensures request { (psk : List ℕ) (n : Negotiation) (exchange answer t2 : List ℕ)
+            → IsHandshakeOf self.now psk n exchange answer
+            → th2.now ≡ (hash_of (terms_of n).choice.hash).digest t2
+                → IsKeyOf result.request (terms_of n).choice (application_record psk t2 Request 0) }
+        ensures response { (psk : List ℕ) (n : Negotiation) (exchange answer t2 : List ℕ)
+            → IsHandshakeOf self.now psk n exchange answer
+            → th2.now ≡ (hash_of (terms_of n).choice.hash).digest t2
+                → IsKeyOf result.response (terms_of n).choice
+                (application_record psk t2 Response 0) }
     {
         AppKeys::derive(&self.keys, th2)
     }

@@ -19,7 +19,8 @@ pub fn seal_record(
     out: &mut RecordFrame,
 )
     requires { length inner.now + length pad.now + 26 ≤ 4160 }
-    ensures value { (choice : Choice) (p : Purpose) → IsKeyOf key.now choice p → out.new ≡ sealed_of choice p number (session_id_bytes id.req id.rsp) inner.now pad.now }
+    ensures value { (choice : Choice) (p : Purpose) → IsKeyOf key.now choice p
+        → out.new ≡ sealed_of choice p number (session_id_bytes id.req id.rsp) inner.now pad.now }
     ensures size { length out.new ≡ length inner.now + length pad.now + 26 }
 {
     let _ = key.seal(id, number, inner, pad, out);
@@ -36,7 +37,8 @@ pub fn open_record(
     ensures fault { (choice : Choice) (p : Purpose) → IsKeyOf key.now choice p → MatchResult result
         (λ _. record_fault choice p number (session_id_bytes id.req id.rsp) sealed.now ≡ None)
         (λ e. record_fault choice p number (session_id_bytes id.req id.rsp) sealed.now ≡ Some e) }
-    ensures inner { (choice : Choice) (p : Purpose) → IsKeyOf key.now choice p → OnOk result (out.new ≡ inner_message choice p number sealed.now) }
+    ensures inner { (choice : Choice) (p : Purpose) → IsKeyOf key.now choice p
+        → OnOk result (out.new ≡ inner_message choice p number sealed.now) }
 {
     key.open(id, number, sealed, out)
 }
@@ -51,7 +53,9 @@ pub fn seal_short(
 ) -> Buffer<96>
     requires message { length message.now ≤ 52 }
     requires pad { length pad.now ≤ 16 }
-    ensures { (choice : Choice) (p : Purpose) → IsKeyOf key.now choice p → result ≡ sealed_of choice p number (session_id_bytes id.req id.rsp) (5 ∷ message.now) pad.now }
+    ensures { (choice : Choice) (p : Purpose) → IsKeyOf key.now choice p
+        → result ≡ sealed_of choice p number (session_id_bytes id.req id.rsp)
+        (5 ∷ message.now) pad.now }
 {
     let mut inner = Buffer::<64>::new();
     let _ = inner.extend(&[SPDM_MESSAGE]);

@@ -48,7 +48,8 @@ impl Opening {
     /// The session that a PSK_EXCHANGE begins, after the messages of a negotiation and under its terms.
     pub fn start(vca: &Vca, psk: &Psk, exchange: &[u8], terms: SessionTerms) -> Opening
         ensures terms { result.terms ≡ terms }
-        ensures stands { (n : Negotiation) → vca.now ≡ vca_of n → AreTermsOf terms n exchange.now → StandsFor result psk.now n exchange.now }
+        ensures stands { (n : Negotiation) → vca.now ≡ vca_of n → AreTermsOf terms n exchange.now
+            → StandsFor result psk.now n exchange.now }
     {
         let mut lane = Lane::new(terms.choice.hash);
         lane.push(vca.as_slice());
@@ -63,7 +64,8 @@ impl Opening {
     // The hash of the transcript with an answer, without the verify data of the answer.
     fn hash_with(&self, answer: &[u8]) -> HashBytes
         ensures value { (given : List ℕ) → lane.StandsFor self.now.lane given
-            → result ≡ (hash_of self.now.terms.choice.hash).digest (given ++ without_verify (hash_of self.now.terms.choice.hash) answer.now) }
+            → result ≡ (hash_of self.now.terms.choice.hash).digest
+                (given ++ without_verify (hash_of self.now.terms.choice.hash) answer.now) }
         ensures size { length result ≡ hash_size self.now.terms.choice.hash }
     {
         let mut lane = self.lane.clone().unwrap();
@@ -74,7 +76,8 @@ impl Opening {
     // The handshake that an answer fixes.
     fn handshake_with(&self, answer: &[u8]) -> Handshake
         ensures hash { result.keys.hash ≡ self.now.terms.choice.hash }
-        ensures value { (psk : List ℕ) (n : Negotiation) (exchange : List ℕ) → StandsFor self.now psk n exchange → IsHandshakeOf result psk n exchange answer.now }
+        ensures value { (psk : List ℕ) (n : Negotiation) (exchange : List ℕ)
+            → StandsFor self.now psk n exchange → IsHandshakeOf result psk n exchange answer.now }
     {
         let choice = self.terms.choice;
         Handshake::new(choice.hash, choice.aead, &self.psk, self.hash_with(answer))
@@ -82,7 +85,9 @@ impl Opening {
 
     // The fault of an answer, whose handshake this is.
     fn fault(&self, answer: &[u8], handshake: &Handshake) -> Option<OpenFault>
-        ensures { (psk : List ℕ) (n : Negotiation) (exchange : List ℕ) → StandsFor self.now psk n exchange → IsHandshakeOf handshake.now psk n exchange answer.now
+        ensures { (psk : List ℕ) (n : Negotiation) (exchange : List ℕ)
+            → StandsFor self.now psk n exchange
+            → IsHandshakeOf handshake.now psk n exchange answer.now
             → result ≡ open_fault psk n exchange self.now.terms.summary answer.now }
     {
         match read_exchange_rsp(answer, self.terms.choice.hash.size(), self.terms.summary) {
@@ -100,7 +105,8 @@ impl Opening {
     /// The answer to PSK_EXCHANGE. Where its verify data are right, PSK_FINISH is made, without padding;
     /// a refused answer changes nothing.
     pub fn take_response(self, answer: &[u8]) -> Result<Finishing, (Opening, OpenFault)>
-        ensures { (psk : List ℕ) (n : Negotiation) (exchange : List ℕ) → StandsFor self psk n exchange → IsTaken self psk n exchange answer.now [] result }
+        ensures { (psk : List ℕ) (n : Negotiation) (exchange : List ℕ)
+            → StandsFor self psk n exchange → IsTaken self psk n exchange answer.now [] result }
     {
         self.take_response_with(answer, &[])
     }
@@ -112,7 +118,9 @@ impl Opening {
         pad: &[u8],
     ) -> Result<Finishing, (Opening, OpenFault)>
         requires { length pad.now ≤ 16 }
-        ensures { (psk : List ℕ) (n : Negotiation) (exchange : List ℕ) → StandsFor self psk n exchange → IsTaken self psk n exchange answer.now pad.now result }
+        ensures { (psk : List ℕ) (n : Negotiation) (exchange : List ℕ)
+            → StandsFor self psk n exchange
+            → IsTaken self psk n exchange answer.now pad.now result }
     {
         let handshake = self.handshake_with(answer);
         match self.fault(answer, &handshake) {
@@ -125,8 +133,10 @@ impl Opening {
     fn accept(self, answer: &[u8], handshake: Handshake, pad: &[u8]) -> Finishing
         requires hash { handshake.keys.hash ≡ self.terms.choice.hash }
         requires pad { length pad.now ≤ 16 }
-        ensures { (psk : List ℕ) (n : Negotiation) (exchange : List ℕ) → StandsFor self psk n exchange
-            → IsHandshakeOf handshake psk n exchange answer.now → finishing.StandsFor result psk n exchange answer.now pad.now }
+        ensures { (psk : List ℕ) (n : Negotiation) (exchange : List ℕ)
+            → StandsFor self psk n exchange
+            → IsHandshakeOf handshake psk n exchange answer.now
+                → finishing.StandsFor result psk n exchange answer.now pad.now }
     {
         let Opening {
             mut lane,

@@ -49,8 +49,11 @@ impl RecordKey {
     /// epoch is below 2^64 - 1.
     pub fn next(self) -> RecordKey
         requires { self.epoch < 2 ^ 64 - 1 }
-        ensures value { result ≡ record self { secret = updated_secret (hash_of self.hash) self.secret; epoch = self.epoch + 1 } }
-        ensures purpose { (p : Purpose) → IsSecretOf self p → IsSecretOf result (record p { epoch = p.epoch + 1 }) }
+        ensures value { result
+            ≡ record self { secret = updated_secret (hash_of self.hash) self.secret;
+            epoch = self.epoch + 1 } }
+        ensures purpose { (p : Purpose) → IsSecretOf self p
+            → IsSecretOf result (record p { epoch = p.epoch + 1 }) }
     {
         let RecordKey {
             direction,
@@ -76,7 +79,9 @@ impl RecordKey {
         out: &mut RecordFrame,
     ) -> Result<(), TooLong>
         ensures fits { IsOk result ↔ (length inner.now + length pad.now + 26 ≤ 4160) }
-        ensures record { OnOk result (out.new ≡ record_of (key_of self.now) (iv_of self.now) (session_id_bytes id.req id.rsp) number inner.now pad.now) }
+        ensures record { OnOk result (out.new
+            ≡ record_of (key_of self.now) (iv_of self.now)
+            (session_id_bytes id.req id.rsp) number inner.now pad.now) }
         ensures unchanged { OnErr result (out.new ≡ out.old) }
     {
         seal_within(
@@ -99,15 +104,22 @@ impl RecordKey {
         out: &mut RecordFrame,
     ) -> Result<(), RecordFault>
         ensures fault { MatchResult result
-            (λ _. fault_of (key_of self.now) (iv_of self.now) (session_id_bytes id.req id.rsp) number sealed.now ≡ None)
-            (λ e. fault_of (key_of self.now) (iv_of self.now) (session_id_bytes id.req id.rsp) number sealed.now ≡ Some e) }
-        ensures inner { OnOk result (out.new ≡ inner_of (key_of self.now) (iv_of self.now) number sealed.now) }
+            (λ _. fault_of (key_of self.now) (iv_of self.now)
+                (session_id_bytes id.req id.rsp) number sealed.now ≡ None)
+            (λ e. fault_of (key_of self.now) (iv_of self.now)
+                (session_id_bytes id.req id.rsp) number sealed.now ≡ Some e) }
+        ensures inner { OnOk result (out.new
+            ≡ inner_of (key_of self.now) (iv_of self.now) number sealed.now) }
         ensures unchanged { OnErr result (out.new ≡ out.old) }
         ensures not_spent { IfErr result (λ e. e ≢ RecordFault.KeySpent) }
 
         // What opens is a record of its inner message, and each record of at most 4,160 bytes opens.
-        ensures record { OnOk result (IsRecordOf (key_of self.now) (iv_of self.now) (session_id_bytes id.req id.rsp) number sealed.now out.new) }
-        ensures opens { (inner pad : List ℕ) → sealed.now ≡ record_of (key_of self.now) (iv_of self.now) (session_id_bytes id.req id.rsp) number inner pad
+        ensures record { OnOk result
+            (IsRecordOf (key_of self.now) (iv_of self.now)
+            (session_id_bytes id.req id.rsp) number sealed.now out.new) }
+        ensures opens { (inner pad : List ℕ)
+            → sealed.now ≡ record_of (key_of self.now) (iv_of self.now)
+            (session_id_bytes id.req id.rsp) number inner pad
             → length sealed.now ≤ 4160 → IsOk result × (out.new ≡ inner) }
     {
         open_by(&self.cipher, self.direction.iv(), id, number, sealed, out)

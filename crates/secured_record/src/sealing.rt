@@ -36,8 +36,10 @@ fn write_plain(out: &mut RecordFrame, header: &[u8; 8], inner: &[u8], pad: &[u8]
 fn seal_behind_header(cipher: &RecordCipher, iv: &[u8; 12], bytes: &mut [u8]) -> [u8; 16]
     requires header { 8 ≤ length bytes.old }
     requires most { length bytes.old ≤ 4160 }
-    ensures text { bytes.new ≡ take 8 bytes.old ++ crypt (cipher_key cipher.now) iv.now (drop 8 bytes.old) }
-    ensures tag { result ≡ tag_of (cipher_key cipher.now) iv.now (take 8 bytes.old) (crypt (cipher_key cipher.now) iv.now (drop 8 bytes.old)) }
+    ensures text { bytes.new
+        ≡ take 8 bytes.old ++ crypt (cipher_key cipher.now) iv.now (drop 8 bytes.old) }
+    ensures tag { result ≡ tag_of (cipher_key cipher.now) iv.now (take 8 bytes.old)
+        (crypt (cipher_key cipher.now) iv.now (drop 8 bytes.old)) }
 {
     let (header, text) = bytes.split_at_mut(8);
     cipher.seal(iv, header, text)
@@ -54,7 +56,8 @@ fn seal_by(
     out: &mut RecordFrame,
 )
     requires { length inner.now + length pad.now ≤ 4134 }
-    ensures { out.new ≡ sealed_text (cipher_key cipher.now) iv.now id.now number (plain_text inner.now pad.now) }
+    ensures { out.new ≡ sealed_text (cipher_key cipher.now) iv.now id.now number
+        (plain_text inner.now pad.now) }
 {
     let header = header(id, number, (inner.len() + pad.len() + 18) as u16);
     let nonce = nonce(iv, number);
@@ -75,7 +78,9 @@ pub fn seal_within(
     out: &mut RecordFrame,
 ) -> Result<(), TooLong>
     ensures fits { IsOk result ↔ (length inner.now + length pad.now + 26 ≤ 4160) }
-    ensures record { OnOk result (out.new ≡ record_of (cipher_key cipher.now) iv.now (session_id_bytes id.req id.rsp) number inner.now pad.now) }
+    ensures record { OnOk result (out.new
+        ≡ record_of (cipher_key cipher.now) iv.now
+        (session_id_bytes id.req id.rsp) number inner.now pad.now) }
     ensures unchanged { OnErr result (out.new ≡ out.old) }
 {
     if inner.len() > CONTENT_LIMIT || pad.len() > CONTENT_LIMIT - inner.len() {
@@ -97,7 +102,9 @@ pub fn seal(
     out: &mut RecordFrame,
 ) -> Result<(), TooLong>
     ensures fits { IsOk result ↔ (length inner.now + length pad.now + 26 ≤ 4160) }
-    ensures record { OnOk result (out.new ≡ record_of (key_of key.now) (iv_of key.now) (session_id_bytes id.req id.rsp) number inner.now pad.now) }
+    ensures record { OnOk result (out.new
+        ≡ record_of (key_of key.now) (iv_of key.now)
+        (session_id_bytes id.req id.rsp) number inner.now pad.now) }
     ensures unchanged { OnErr result (out.new ≡ out.old) }
 {
     let cipher = RecordCipher::new(key.aead(), key.key());
