@@ -1,0 +1,10 @@
+pub mod Keys
+pub mod Opening
+pub mod Handshake
+pub mod Finishing
+pub mod Opened
+pub mod Inner
+pub mod Held
+pub mod ReqOpen
+pub mod Finished
+pub mod Answers
