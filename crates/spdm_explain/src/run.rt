@@ -1,5 +1,5 @@
-ghost use Rattle.std.specs.Prelude.{◌≡◌, ◌≤◌, ◌<◌, ◌↔◌, ℕ, List, [], Some, None, map, length, string_bytes};
-ghost use Rattle.spdm_basis.specs.Stream.{HasFault, Takes};
+ghost use Rattle.std.specs.Prelude.{◌≡◌, ◌≤◌, ◌<◌, ◌↔◌, ◌⊎◌, ℕ, List, [], Some, None, map, length, string_bytes};
+ghost use Rattle.spdm_basis.specs.Stream.{HasFault, IsQuiet, Takes};
 ghost use Rattle.spdm_explain.specs.Words.{form_of};
 ghost use Rattle.spdm_explain.specs.Report.{said_of, report_text, IsBad};
 ghost use Rattle.spdm_explain.specs.declared.report.Report.TheVariants.{Good, Bad};
@@ -42,6 +42,9 @@ pub fn run<S: Source, K: Sink>(
     ensures usage { (result ≡ Outcome.Usage) ↔ (form_of (map string_bytes words.now) ≡ None) }
     ensures read_fault { result ≡ Outcome.ReadFault → HasFault (S.faults source.old) (S.faults source.new) }
     ensures write_fault { result ≡ Outcome.WriteFault → HasFault (K.faults sink.old) (K.faults sink.new) }
+    ensures tells { (form : Form) (text : List ℕ) → form_of (map string_bytes words.now) ≡ Some form → S.remaining source.old ≡ Some text
+        → IsQuiet (S.faults source.old) (S.faults source.new) → IsQuiet (K.faults sink.old) (K.faults sink.new) → length text ≤ TEXT_LIMIT
+        → ((result ≡ Outcome.Good) ⊎ (result ≡ Outcome.Bad)) ⊎ (result ≡ Outcome.OutOfMemory) }
     ensures too_long { result ≡ Outcome.TooLong → (text : List ℕ) → S.remaining source.old ≡ Some text → TEXT_LIMIT < length text }
 {
     let Some(form) = form_of(words) else {
