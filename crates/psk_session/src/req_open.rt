@@ -27,9 +27,16 @@ impl Model for ReqOpen {
 
     ghost Value = { Seen };
 
-    ghost view = { λ o. record { request = o.request; response = o.response;
-        request_next = o.request_next; response_next = o.response_next; taken = o.taken;
-        th2 = o.th2; id = o.id; terms = o.terms } };
+    ghost view = { λ o. record {
+      request = o.request;
+      response = o.response;
+      request_next = o.request_next;
+      response_next = o.response_next;
+      taken = o.taken;
+      th2 = o.th2;
+      id = o.id;
+      terms = o.terms;
+    } };
 }
 
 impl ReqOpen {
