@@ -1,4 +1,5 @@
 pub mod Logs
 mod Rows
 mod Captures
+mod Differences
 mod CaptureRows
