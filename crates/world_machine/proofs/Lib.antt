@@ -3,4 +3,5 @@ mod Rows
 mod Captures
 mod Differences
 mod Walks
+pub mod Agrees
 mod CaptureRows
