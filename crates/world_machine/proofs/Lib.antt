@@ -4,4 +4,5 @@ mod Captures
 mod Differences
 mod Walks
 pub mod Agrees
+pub mod AsksAlike
 mod CaptureRows
