@@ -5,4 +5,6 @@ mod Differences
 mod Walks
 pub mod Agrees
 pub mod AsksAlike
+pub mod AskTells
+pub mod RecordTells
 mod CaptureRows
