@@ -126,7 +126,7 @@ opens_same q f k summary kind e = ap summary_in e
 
 -- Commands of one request in the clear are one.
 pub clear_tells : (q : ReqSetup) (h g : History) (f k : Free) (c e : Command) (a b : RequestMessage) → IsAllowed q h f → IsAllowed q g k → IsSoundCommand c → IsSoundCommand e
-    → kind_of q h f c ≡ InClear a → kind_of q g k e ≡ InClear b → canonical_request a ≡ canonical_request b → (c ≡ e) × (a ≡ b)
+    → kind_of q h f c ≡ InClear a → kind_of q h k e ≡ InClear b → canonical_request a ≡ canonical_request b → (c ≡ e) × (a ≡ b)
 clear_tells q h g f k Connect Connect a b fits suits sound fine is are same = (refl, cc)
 clear_tells q h g f k Connect (Open kind) a b fits suits sound fine is are same =
     let x : a ≡ GetVersion = cc in let y : b ≡ exchange_for q k kind = cc in

@@ -7,4 +7,5 @@ pub mod Agrees
 pub mod AsksAlike
 pub mod AskTells
 pub mod RecordTells
+pub mod TellsAlike
 mod CaptureRows
