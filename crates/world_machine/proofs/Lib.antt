@@ -8,4 +8,5 @@ pub mod AsksAlike
 pub mod AskTells
 pub mod RecordTells
 pub mod TellsAlike
+pub mod HearsAlike
 mod CaptureRows
