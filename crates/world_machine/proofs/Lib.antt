@@ -9,4 +9,5 @@ pub mod AskTells
 pub mod RecordTells
 pub mod TellsAlike
 pub mod HearsAlike
+pub mod HeardNext
 mod CaptureRows
