@@ -10,4 +10,5 @@ pub mod RecordTells
 pub mod TellsAlike
 pub mod HearsAlike
 pub mod HeardNext
+pub mod ChunksTell
 mod CaptureRows
