@@ -66,7 +66,7 @@ sent_told : Entry → Option Sent
 sent_told (Told command sent d) = Some sent
 sent_told _ = None
 
-same_sent : (c : Command) (s t : Sent) (d : Draw) → Adds (Told c s d) ≡ Adds (Told c t d) → s ≡ t
+pub same_sent : (c : Command) (s t : Sent) (d : Draw) → Adds (Told c s d) ≡ Adds (Told c t d) → s ≡ t
 same_sent c s t d e = cc
 
 plain_by : (b : Bool) (h : History) (common : Common) (asked : RequestMessage) (s : Sent) → cond b (piece_sent common h asked (next_handle h) 0) (plain_sent h asked) ≡ s
@@ -74,7 +74,7 @@ plain_by : (b : Bool) (h : History) (common : Common) (asked : RequestMessage) (
 plain_by true h common asked s e = (λ not. absurd (false≢true (sym (ap (λ (x : Sent). begins_large x.aim) e ∙ not))), ap (λ (x : Sent). asked_in x.aim) (sym e))
 plain_by false h common asked s e = (λ not. sym e, ap (λ (x : Sent). asked_in x.aim) (sym e))
 
-no_again : (o : Option Sent) (c : Command) (s : Sent) (d : Draw) → resent o ≡ Adds (Told c s d) → ⊥
+pub no_again : (o : Option Sent) (c : Command) (s : Sent) (d : Draw) → resent o ≡ Adds (Told c s d) → ⊥
 no_again None c s d e = none-some _ (ap entry_in e)
 no_again (Some sent) c s d e = none-some _ (ap entry_in e)
 

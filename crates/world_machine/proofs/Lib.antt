@@ -11,4 +11,5 @@ pub mod TellsAlike
 pub mod HearsAlike
 pub mod HeardNext
 pub mod ChunksTell
+pub mod SentFacts
 mod CaptureRows

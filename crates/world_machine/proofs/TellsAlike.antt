@@ -29,7 +29,7 @@ use Rattle.world_machine.proofs.AskTells.Kind.{InClear, OfSession, Again}
 use Rattle.world_machine.proofs.RecordTells.{live_command, sound_command, record_command}
 
 -- The padding and the other free values are no part of what is asked of a session.
-asks_of : (q : ReqSetup) (h : History) (f k : Free) (c : Command) (id : ℕ) (ask : Ask) (inner : List ℕ) → kind_of q h f c ≡ OfSession id ask inner → kind_of q h k c ≡ OfSession id ask inner
+pub asks_of : (q : ReqSetup) (h : History) (f k : Free) (c : Command) (id : ℕ) (ask : Ask) (inner : List ℕ) → kind_of q h f c ≡ OfSession id ask inner → kind_of q h k c ≡ OfSession id ask inner
 asks_of q h f k Connect id ask inner is = absurd (cc)
 asks_of q h f k (Open summary) id ask inner is = absurd (cc)
 asks_of q h f k (Send of bytes) id ask inner is = is
@@ -45,7 +45,7 @@ id_in (PskExchange exchange) = exchange.req_id
 id_in _ = 0
 
 -- The id of a PSK_EXCHANGE that a command asks for is small.
-kind_small : (q : ReqSetup) (h : History) (f : Free) (c : Command) (a : RequestMessage) (x : ExchangeMessage) → IsAllowed q h f → kind_of q h f c ≡ InClear a → a ≡ PskExchange x → x.req_id ≤ 4
+pub kind_small : (q : ReqSetup) (h : History) (f : Free) (c : Command) (a : RequestMessage) (x : ExchangeMessage) → IsAllowed q h f → kind_of q h f c ≡ InClear a → a ≡ PskExchange x → x.req_id ≤ 4
 kind_small q h f Connect a x fits is e = absurd (cc)
 kind_small q h f (Open summary) a x fits is e =
     let same : exchange_for q f summary ≡ PskExchange x = cc in
