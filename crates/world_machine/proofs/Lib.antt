@@ -12,4 +12,5 @@ pub mod HearsAlike
 pub mod HeardNext
 pub mod ChunksTell
 pub mod SentFacts
+pub mod AskersAlike
 mod CaptureRows
