@@ -13,4 +13,5 @@ pub mod HeardNext
 pub mod ChunksTell
 pub mod SentFacts
 pub mod AskersAlike
+pub mod AskersBegin
 mod CaptureRows
