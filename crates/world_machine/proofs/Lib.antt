@@ -14,4 +14,5 @@ pub mod ChunksTell
 pub mod SentFacts
 pub mod AskersAlike
 pub mod AskersBegin
+pub mod AskersStep
 mod CaptureRows
