@@ -1,5 +1,5 @@
 -- Histories of a requester that differ in nothing that counts for what it does next, and what keeps them so.
-use Rattle.std.proofs.Common.{◌≡◌, ◌≢◌, ◌<◌, ◌≤◌, ◌+◌, ◌%◌, ◌==◌, ℕ, List, [], ◌∷◌, refl, sym, ap, ◌∙◌, subst, length, Bool, true, false, Option, Some, None, is_some, cond, arith, suc}
+use Rattle.std.proofs.Common.{◌≡◌, ◌≤◌, ◌+◌, ◌==◌, ℕ, List, [], ◌∷◌, refl, ap, ◌∙◌, length, Bool, true, false, Option, Some, None, is_some, cond, arith, suc}
 use Rattle.std.proofs.lemmas.Bool.{false≢true}
 use Rattle.std.proofs.lemmas.Bool.Decides.{nat_tests}
 use Rattle.spdm_grammar.specs.Message.{RequestMessage, ExchangeMessage}
@@ -10,14 +10,14 @@ use Rattle.spdm_machine.specs.Keys.{Draw}
 use Rattle.spdm_machine.specs.Terms.{no_negotiation}
 use Rattle.spdm_machine.specs.Sessions.{id_in_exchange}
 use Rattle.transcript.specs.Transcripts.{Negotiation}
-use Rattle.requester_machine.specs.History.{History, Entry, Effect, Led, sent_in, sent_count, larges_of, is_first_chunk, phase_of, phase_after, negotiation_of, negotiation_after, outstanding, is_connect}
-use Rattle.requester_machine.specs.History.Effect.{Nothing, Answers, Refuses, Stops, Grants, Loses}
+use Rattle.requester_machine.specs.History.{History, Entry, Effect, sent_in, sent_count, larges_of, is_first_chunk, phase_of, phase_after, negotiation_of, negotiation_after, outstanding, is_connect}
+use Rattle.requester_machine.specs.History.Effect.{Answers, Refuses}
 use Rattle.requester_machine.specs.History.Entry.{Told, TookClear, TookRecord}
 use Rattle.requester_machine.specs.Message.{Command, Ask, Aim, Content, Sent, asked_in}
 use Rattle.requester_machine.specs.Message.Aim.{Plain, ByChunks, ForChunk, InSession}
 use Rattle.requester_machine.specs.Message.Command.{Connect, Open, Send, Beat, Update, Measure, End, Retry}
 use Rattle.requester_machine.specs.Message.Content.{Clear, Sealed}
-use Rattle.requester_machine.specs.Session.{Steps, Step, session_of, is_live, exchange_of, when_live, with_content, with_aim, with_sent, begun, after_command, after_clear, after_record, ends}
+use Rattle.requester_machine.specs.Session.{Steps, session_of, is_live, exchange_of, when_live, with_content, with_aim, with_sent, begun, after_command, after_clear, after_record, ends}
 use Rattle.requester_machine.specs.Session.Step.{Started, Accepted, Asked, Took}
 use Rattle.world_machine.specs.SessionTable.{accepted_in}
 

@@ -1,41 +1,31 @@
 -- The body of a message tells the command that sent it, and all of the message.
-use Rattle.std.proofs.Common.{◌≡◌, ◌≢◌, ◌==◌, ◌<◌, ◌≤◌, ◌+◌, ◌%◌, ◌/◌, ◌⊎◌, ℕ, zero, suc, List, [], ◌∷◌, ◌++◌, refl, sym, ap, ◌∙◌, subst, length, drop, Bool, true, false, Option, Some, None, cond, inl, inr, arith}
-use Rattle.std.specs.Prelude.{not, nat_lt, slice_index, ◌||◌, ◌^◌}
+use Rattle.std.proofs.Common.{◌≡◌, ◌<◌, ℕ, List, refl, sym, ap, ◌∙◌, Bool, true, false, Option, Some, None, cond, arith}
+use Rattle.std.specs.Prelude.{slice_index, ◌^◌}
 use Rattle.std.proofs.lemmas.Bool.{false≢true}
 use Rattle.std.proofs.lemmas.Bool.Decides.{nat_tests}
 use Rattle.std.proofs.lemmas.Option.{none-some, same_Some}
 use Rattle.std.specs.Result.{result_ok}
-use Rattle.spdm_basis.specs.SessionIdBytes.{session_id_bytes}
-use Rattle.secured_record.specs.Format.{record_of}
-use Rattle.secured_record.proofs.Told.{record_tells}
-use Rattle.key_schedule.specs.Purpose.{Purpose, key_of, iv_of}
-use Rattle.spdm_grammar.specs.declared.choice.Choice.{Choice}
-use Rattle.spdm_grammar.specs.Message.{RequestMessage, ExchangeMessage}
-use Rattle.spdm_grammar.specs.Message.RequestMessage.{GetVersion, GetMeasurements, PskExchange, Heartbeat, EndSession, KeyUpdate}
-use Rattle.spdm_grammar.specs.Requests.{canonical_request, request_layout, request_in, IsSoundRequest, IsSoundExchange}
+use Rattle.spdm_grammar.specs.Message.{RequestMessage}
+use Rattle.spdm_grammar.specs.Message.RequestMessage.{GetVersion, GetMeasurements, PskExchange, Heartbeat, EndSession}
+use Rattle.spdm_grammar.specs.Requests.{canonical_request, request_layout, request_in, IsSoundExchange}
 use Rattle.spdm_grammar.proofs.CanonicalRequests.{request_spelled}
 use Rattle.spdm_grammar.proofs.Spellings.{spelling_read}
 use Rattle.spdm_grammar.specs.Fields.{is_summary}
-use Rattle.spdm_machine.specs.Keys.{Draw, sealed_of}
-use Rattle.spdm_machine.specs.Bodies.{clear_body, record_body}
-use Rattle.spdm_machine.specs.Sessions.{id_in_exchange}
+use Rattle.spdm_machine.specs.Keys.{Draw}
 use Rattle.negotiate.specs.declared.shared.Common.{Common}
 use Rattle.requester_machine.specs.Setup.{ReqSetup}
-use Rattle.requester_machine.specs.Asking.{Outcome, asks, done, asked_sent, resent}
+use Rattle.requester_machine.specs.Asking.{done, resent}
 use Rattle.requester_machine.specs.Asking.Outcome.{Adds}
-use Rattle.requester_machine.specs.Commands.{Free, command_fault, command_tests, exchange_for}
+use Rattle.requester_machine.specs.Commands.{Free, exchange_for}
 use Rattle.requester_machine.specs.History.{History, Entry, outstanding, connection_terms, next_handle, begins_large}
 use Rattle.requester_machine.specs.History.Entry.{Told}
 use Rattle.requester_machine.specs.May.{IsAllowed}
-use Rattle.requester_machine.specs.Message.{Command, Ask, Aim, Content, Sent, body_of, asked_in}
+use Rattle.requester_machine.specs.Message.{Command, Ask, Sent, asked_in}
 use Rattle.requester_machine.specs.Message.Ask.{AskData, AskBeat, AskUpdate, AskMeasure, AskEnd}
 use Rattle.requester_machine.specs.Message.Command.{Connect, Open, Send, Beat, Update, Measure, End, Retry}
-use Rattle.requester_machine.specs.Message.Content.{Clear, Sealed}
-use Rattle.requester_machine.specs.Records.{sealed_next, request_purpose}
-use Rattle.requester_machine.specs.Sending.{plain_sent, request_sent, record_sent, piece_sent, inner_request, inner_data, key_update, operation_of, update_tag}
-use Rattle.requester_machine.specs.Session.{Steps, session_of, is_live, session_terms, exchange_of, exchange_answer, request_next, id_bytes}
-use Rattle.requester_machine.proofs.Entries.{asked, test_is_false, entry_in}
-use Rattle.world_machine.proofs.Agrees.{HaveIds}
+use Rattle.requester_machine.specs.Sending.{plain_sent, record_sent, piece_sent, inner_request, inner_data, key_update, operation_of}
+use Rattle.requester_machine.specs.Session.{session_of}
+use Rattle.requester_machine.proofs.Entries.{asked, entry_in}
 
 -- ---- What a command asks.
 

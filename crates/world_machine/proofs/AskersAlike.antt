@@ -1,26 +1,22 @@
 -- When two requesters of one capture are alike: their histories agree but for what the capture does not show yet.
-use Rattle.std.proofs.Common.{◌≡◌, ◌≢◌, ◌≤◌, ◌<◌, ◌%◌, ◌+◌, ◌==◌, ◌⊎◌, ℕ, List, [], ◌∷◌, refl, sym, ap, ◌∙◌, subst, length, drop, Bool, true, false, Option, Some, None, is_some, arith, cond, inl, inr}
-use Rattle.std.specs.Prelude.{not, slice_index}
+use Rattle.std.proofs.Common.{◌≡◌, ◌<◌, ◌+◌, ◌==◌, ◌⊎◌, ℕ, List, ◌∷◌, refl, sym, ap, ◌∙◌, subst, length, drop, true, false, Option, Some, None, arith, inl, inr}
 use Rattle.std.proofs.lemmas.Bool.{cases_order, false≢true}
-use Rattle.chunking.specs.Cutting.{nth_chunk, chunk_count}
+use Rattle.chunking.specs.Cutting.{nth_chunk}
 use Rattle.spdm_grammar.specs.Message.{RequestMessage}
 use Rattle.spdm_grammar.specs.Message.RequestMessage.{ChunkSend}
 use Rattle.spdm_grammar.specs.Requests.{canonical_request}
-use Rattle.spdm_machine.specs.Terms.{terms_of}
 use Rattle.requester_machine.specs.Answers.{goes_on}
-use Rattle.requester_machine.specs.Setup.{ReqSetup}
-use Rattle.requester_machine.specs.History.{History, Entry, Led, sent_in, sent_count, larges_of, outstanding, connection_terms, negotiation_of, next_tag, next_handle, begins_large}
+use Rattle.requester_machine.specs.History.{History, Entry, Led, sent_in, sent_count, outstanding, connection_terms, next_tag, begins_large}
 use Rattle.requester_machine.specs.History.Effect.{Nothing}
 use Rattle.requester_machine.specs.History.Entry.{Told, TookClear, TookRecord}
-use Rattle.requester_machine.specs.Message.{Aim, Sent, body_of}
+use Rattle.requester_machine.specs.Message.{Sent, body_of}
 use Rattle.requester_machine.specs.Message.Aim.{ByChunks}
 use Rattle.requester_machine.specs.Session.{Steps, session_of, is_accepted}
 use Rattle.world_machine.specs.CapturedRequests.{is_later, with_next}
-use Rattle.world_machine.specs.LargeRequests.{common_of, piece_with, first_piece}
+use Rattle.world_machine.specs.LargeRequests.{common_of, piece_with}
 use Rattle.world_machine.specs.Rounds.{Round, no_draw, following_tag}
 use Rattle.world_machine.specs.SessionTable.{accepted_in}
 use Rattle.world_machine.proofs.Agrees.{Counted, Agree, agree_with, counted_with}
-use Rattle.world_machine.proofs.AsksAlike.{terms_same}
 use Rattle.world_machine.proofs.ChunksTell.{SameBelow, bytes_tell}
 use Rattle.world_machine.proofs.HeardNext.{IsOther}
 use Rattle.world_machine.proofs.HearsAlike.{SentAlike, LedAlike, EntryAlike, padded}

@@ -1,15 +1,14 @@
 -- A command begins a round of one body: from requesters whose histories agree it leads to requesters that are alike.
-use Rattle.std.proofs.Common.{◌≡◌, ◌≢◌, ◌≤◌, ◌<◌, ◌%◌, ◌+◌, ◌==◌, ◌&&◌, ◌⊎◌, ℕ, List, [], ◌∷◌, refl, sym, ap, ◌∙◌, subst, length, drop, Bool, true, false, Option, Some, None, is_some, arith, cond, inl, inr}
-use Rattle.std.specs.Prelude.{not, slice_index}
+use Rattle.std.proofs.Common.{◌≡◌, ◌≢◌, ◌<◌, ◌%◌, ◌+◌, ◌==◌, ◌⊎◌, ℕ, List, [], ◌∷◌, refl, sym, ap, ◌∙◌, subst, length, Bool, true, false, Option, Some, None, is_some, arith, cond, inl, inr}
+use Rattle.std.specs.Prelude.{not}
 use Rattle.std.proofs.lemmas.Bool.{false≢true}
 use Rattle.std.proofs.lemmas.Bool.Decides.{nat_tests}
-use Rattle.std.proofs.lemmas.Option.{none-some, same_Some}
+use Rattle.std.proofs.lemmas.Option.{same_Some}
 use Rattle.std.proofs.Common.{eq-eqb}
 use Rattle.chunking.specs.Cutting.{nth_chunk}
 use Rattle.spdm_grammar.specs.Message.{RequestMessage, ExchangeMessage}
-use Rattle.spdm_grammar.specs.Message.RequestMessage.{GetVersion, PskExchange, ChunkSend}
+use Rattle.spdm_grammar.specs.Message.RequestMessage.{GetVersion, PskExchange}
 use Rattle.spdm_grammar.specs.Requests.{canonical_request}
-use Rattle.spdm_grammar.specs.declared.names.TheConstants.{MAX_MESSAGE_SIZE}
 use Rattle.spdm_machine.specs.Terms.{Terms, terms_of, no_negotiation}
 use Rattle.transcript.specs.Transcripts.{Negotiation}
 use Rattle.requester_machine.specs.Setup.{ReqSetup}
@@ -19,25 +18,25 @@ use Rattle.requester_machine.specs.Commands.{Free, live_count, exchange_for}
 use Rattle.requester_machine.specs.History.{History, Entry, sent_in, sent_count, outstanding, connection_terms, negotiation_of, next_tag, next_handle, begins_large, is_connect}
 use Rattle.requester_machine.specs.History.Entry.{Told}
 use Rattle.requester_machine.specs.May.{IsAllowed}
-use Rattle.requester_machine.specs.Message.{Command, Sent, body_of, asked_in}
+use Rattle.requester_machine.specs.Message.{Command, Sent, body_of}
 use Rattle.requester_machine.specs.Message.Aim.{ByChunks}
 use Rattle.requester_machine.specs.Message.Command.{Connect, Open, Send, Beat, Update, Measure, End, Retry}
 use Rattle.requester_machine.specs.Sending.{plain_sent}
-use Rattle.requester_machine.specs.Session.{Steps, Step, session_of, is_accepted, is_live, begun, after_command}
+use Rattle.requester_machine.specs.Session.{Steps, session_of, is_accepted, is_live, begun}
 use Rattle.requester_machine.specs.Session.Step.{Started}
 use Rattle.requester_machine.proofs.Entries.{asked, test_is_false}
 use Rattle.responder_machine.specs.History as responder_history
 use Rattle.world_machine.specs.CapturedRequests.{Tells, BeginsLarge, is_later}
-use Rattle.world_machine.specs.LargeRequests.{IsLargeRequest, first_piece, piece_with}
+use Rattle.world_machine.specs.LargeRequests.{first_piece, piece_with}
 use Rattle.world_machine.specs.Rounds.{Dialogue, Round, no_draw, new_round, following_tag}
 use Rattle.world_machine.proofs.Agrees.{Agree, IsSmallIn, agree_with, counted_with}
 use Rattle.world_machine.proofs.AsksAlike.{asks_same, terms_same, tag_same, handle_same}
-use Rattle.world_machine.proofs.AskTells.{Kind, kind_of, clear_tells, same_sent}
+use Rattle.world_machine.proofs.AskTells.{kind_of, clear_tells, same_sent}
 use Rattle.world_machine.proofs.AskTells.Kind.{InClear}
 use Rattle.world_machine.proofs.RecordTells.{sound_command}
-use Rattle.world_machine.proofs.TellsAlike.{tells_agree, connects_agree, kind_small}
-use Rattle.world_machine.proofs.SentFacts.{asked_tag, large_kind, tells_other}
-use Rattle.world_machine.proofs.AskersAlike.{StepsAlike, UnderWay, AskersAlike, transfer_of, piece_tells, below_next, piece_same}
+use Rattle.world_machine.proofs.TellsAlike.{tells_agree, kind_small}
+use Rattle.world_machine.proofs.SentFacts.{asked_tag, large_kind}
+use Rattle.world_machine.proofs.AskersAlike.{StepsAlike, UnderWay, AskersAlike, piece_tells, below_next, piece_same}
 use Rattle.world_machine.proofs.AskersAlike.AskersAlike.{Settled, Shown}
 
 -- A dialogue of its parts.

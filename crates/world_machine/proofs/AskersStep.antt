@@ -1,40 +1,35 @@
 -- A request of one body leads from requesters that are alike to requesters that are alike.
-use Rattle.std.proofs.Common.{◌≡◌, ◌≢◌, ◌≤◌, ◌<◌, ◌%◌, ◌+◌, ◌==◌, ◌&&◌, ◌⊎◌, ℕ, List, [], ◌∷◌, refl, sym, ap, ◌∙◌, subst, length, drop, Bool, true, false, Option, Some, None, is_some, arith, cond, inl, inr}
+use Rattle.std.proofs.Common.{◌≡◌, ◌<◌, ◌==◌, ◌⊎◌, ℕ, List, ◌∷◌, refl, sym, ap, ◌∙◌, subst, length, Bool, true, false, Option, Some, None, arith, cond, inl, inr}
 use Rattle.std.specs.Prelude.{not, slice_index}
-use Rattle.std.specs.Bool.{OnTrue}
 use Rattle.std.proofs.lemmas.Bool.{false≢true}
-use Rattle.std.proofs.lemmas.Bool.Decides.{nat_tests}
-use Rattle.std.proofs.lemmas.Option.{none-some, same_Some}
-use Rattle.std.proofs.Common.{eq-eqb}
-use Rattle.chunking.specs.Cutting.{nth_chunk, chunk_count}
+use Rattle.std.proofs.lemmas.Option.{none-some}
+use Rattle.chunking.specs.Cutting.{nth_chunk}
 use Rattle.spdm_grammar.specs.Message.{RequestMessage}
-use Rattle.spdm_grammar.specs.Message.RequestMessage.{GetVersion, ChunkSend}
+use Rattle.spdm_grammar.specs.Message.RequestMessage.{GetVersion}
 use Rattle.spdm_grammar.specs.Requests.{canonical_request}
 use Rattle.spdm_machine.specs.Bodies.{clear_body}
-use Rattle.requester_machine.specs.Answers.{goes_on}
 use Rattle.requester_machine.specs.Setup.{ReqSetup}
-use Rattle.requester_machine.specs.History.{History, Entry, Led, sent_in, sent_count, outstanding, connection_terms, next_tag, next_handle, begins_large}
-use Rattle.requester_machine.specs.History.Effect.{Nothing}
+use Rattle.requester_machine.specs.History.{History, Entry, sent_in, outstanding, next_tag, next_handle, begins_large}
 use Rattle.requester_machine.specs.History.Entry.{Told, TookClear, TookRecord}
-use Rattle.requester_machine.specs.Message.{Command, Aim, Sent, body_of, asked_in}
-use Rattle.requester_machine.specs.Message.Aim.{ByChunks}
+use Rattle.requester_machine.specs.Message.{Command, Sent, body_of}
 use Rattle.requester_machine.specs.Message.Command.{Connect}
-use Rattle.requester_machine.specs.Session.{session_of}
+use Rattle.requester_machine.specs.Sending.{plain_sent}
+use Rattle.requester_machine.specs.Session.{session_of, with_sent, after_record}
+use Rattle.requester_machine.proofs.Entries.{asked}
 use Rattle.responder_machine.specs.History as responder_history
-use Rattle.world_machine.specs.CapturedRequests.{Sends, Tells, Connects, Commands, GoesOn, BeginsLarge, BeginsOwed, IsOwed, is_later, owes, without_owed, with_next}
-use Rattle.world_machine.specs.LargeRequests.{IsLargeRequest, IsJudged, first_piece, piece_with, is_last_piece, still_sending, AreAsked, MayHaveBegun}
+use Rattle.world_machine.specs.CapturedRequests.{Sends, Tells, GoesOn, BeginsLarge, BeginsOwed, is_later, owes, without_owed, with_next}
+use Rattle.world_machine.specs.LargeRequests.{piece_with}
 use Rattle.world_machine.specs.Rounds.{Dialogue, Round, no_draw, new_round, following_tag}
-use Rattle.world_machine.specs.SessionTable.{accepted_in}
-use Rattle.world_machine.proofs.Agrees.{Counted, Agree, agree_with, counted_with}
+use Rattle.world_machine.proofs.Agrees.{Counted, Agree, IsSmallIn, agree_with, counted_with}
+use Rattle.world_machine.proofs.AskTells.{sent_by_kind}
+use Rattle.world_machine.proofs.HearsAlike.SentAlike.{Equal, Padded}
 use Rattle.world_machine.proofs.AsksAlike.{terms_same}
-use Rattle.world_machine.proofs.HearsAlike.{SentAlike, EntryAlike}
+use Rattle.world_machine.proofs.HearsAlike.{SentAlike, EntryAlike, led_equal}
 use Rattle.world_machine.proofs.HeardNext.{IsOther}
-use Rattle.world_machine.proofs.ChunksTell.{SameBelow, whole_told}
 use Rattle.world_machine.proofs.TellsAlike.{connects_agree}
 use Rattle.world_machine.proofs.SentFacts.{asked_tag, large_free, tells_other}
-use Rattle.world_machine.proofs.AskersAlike.{StepsAlike, UnderWay, AskersAlike, transfer_of, acked, alike_told, alike_tag, alike_aim, alike_large, entry_told, next_agree, none_tag, piece_tells, below_next, piece_same, under_way_next}
-use Rattle.world_machine.proofs.AskersAlike.AskersAlike.{Settled, Owing, Shown, Due}
-use Rattle.world_machine.proofs.AskersBegin.{dial, same_later, tag_follows, settled_by, tells_settle, large_begins}
+use Rattle.world_machine.proofs.AskersAlike.{UnderWay, AskersAlike, transfer_of, alike_told, entry_told, next_agree, below_next, piece_same}
+use Rattle.world_machine.proofs.AskersBegin.{dial, tag_follows, settled_by, tells_settle, large_begins}
 
 -- ---- What may begin a round, by whether a message is owed.
 
@@ -94,6 +89,7 @@ settled_step q h g r x round sd se fd fe tag body next other sending sends agree
         let P : Option (List ℕ) → Type 0 = λ l. AskersAlike (Some (new_round tag body)) next other l b in
         let Q : Option (List ℕ) → Type 0 = λ l. AskersAlike (Some (new_round tag body)) next other sending l in
         subst Q (sym o) (subst P (sym p) alike)
+
     by_kind : (((c : Command) × ((c ≡ Connect) ⊎ (outstanding h ≡ None)) × Tells q h c body next) × (sending ≡ None)) ⊎ ((w : List ℕ) × BeginsLarge (dial q h r round sd fd) body next w × (sending ≡ Some w))
         → (((c : Command) × ((c ≡ Connect) ⊎ (outstanding g ≡ None)) × Tells q g c body other) × (sends ≡ None)) ⊎ ((w : List ℕ) × BeginsLarge (dial q g x round se fe) body other w × (sends ≡ Some w))
         → AskersAlike (Some (new_round tag body)) next other sending sends
@@ -109,3 +105,91 @@ connects_settle : (q : ReqSetup) (h g : History) (body : List ℕ) (next other :
     → AskersAlike (Some (new_round tag body)) next other None None
 connects_settle q h g body next other tag counted at one two =
     settled_by h g next other tag body (Told Connect one.0 no_draw) one.0 (connects_agree q h g body next other counted one two) one.4 refl (asked_tag q h one.1.0 Connect one.0 no_draw one.1.2) at
+
+connect_body : (q : ReqSetup) (h : History) (body : List ℕ) (next : History) → Tells q h Connect body next → body ≡ clear_body (canonical_request GetVersion)
+connect_body q h body next one =
+    let is : one.0 ≡ plain_sent h GetVersion = (sent_by_kind q h one.1.0 Connect one.0 no_draw (asked false q h Connect one.1.0 no_draw (Told Connect one.0 no_draw) one.1.2).1).0 one.2 in
+    sym one.3 ∙ ap (λ (m : Sent). body_of m.content) is
+
+alike_other : (s t : Sent) → SentAlike s t → IsOther s → IsOther t
+alike_other _ _ (Equal s) other = other
+alike_other _ _ (Padded tag psk s id ask inner pad padding) other = λ e. absurd (let t = ap (λ (l : List ℕ). slice_index l 0) e in omega (arith, t))
+
+took_small : (e f : Entry) → EntryAlike e f → IsSmallIn e
+took_small (TookClear tag m led d) f a = tt
+took_small (TookRecord tag id sealed inner led d) f a = tt
+took_small (Told c s d) f a = absurd a
+
+-- It is sent as it was owed.
+goes_settle : (e f : Entry) (h g : History) (s t : Sent) (tag : ℕ) (body : List ℕ) (next other : History) → Agree h g → EntryAlike e f → sent_in e ≡ Some s → sent_in f ≡ Some t → SentAlike s t
+    → s.tag ≡ next_tag h → next_tag h ≡ tag → body_of s.content ≡ body → body_of t.content ≡ body → next ≡ e ∷ h → other ≡ f ∷ g → AskersAlike (Some (new_round tag body)) next other None None
+goes_settle e f h g s t tag body next other agree alike sends sent like tagged at one two is are =
+    let same : s ≡ t = alike_told s t like (one ∙ sym two) in
+    let entry : e ≡ f = entry_told e f alike (sends ∙ ap Some same ∙ sym sent) in
+    let P : Entry → Type 0 = λ x. Agree (e ∷ h) (x ∷ g) in
+    let Q : History → Type 0 = λ l. Agree l (f ∷ g) in
+    let O : History → Type 0 = λ l. Agree next l in
+    settled_by h g next other tag body e s (subst O (sym are) (subst Q (sym is) (subst P entry (agree_with e h g (took_small e f alike) agree)))) is sends tagged at
+
+-- It begins a large request.
+owed_way : (e f : Entry) (h g : History) (a b : RequestMessage) (w v : List ℕ) (p o : Sent) (handle : ℕ) → Agree h g → EntryAlike e f → a ≡ b → length w ≡ length v → length w < 65536
+    → p ≡ piece_with (with_next None (e ∷ h)) a w handle 0 → o ≡ piece_with (with_next None (f ∷ g)) b v handle 0
+    → (nth_chunk (transfer_of (with_next None (e ∷ h))) handle w 0).chunk ≡ (nth_chunk (transfer_of (with_next None (e ∷ h))) handle v 0).chunk
+    → UnderWay (with_next (Some p) (e ∷ h)) (with_next (Some o) (f ∷ g)) w v a b handle 0
+unfolding session_of
+owed_way (TookClear tag m led d) (TookClear tag' m' led' d') h g a b w v p o handle agree alike asks size short is are here =
+    let none = next_agree (TookClear tag m led d) (TookClear tag' m' led' d') h g None alike agree in record {
+      counted = counted_with _ _ h g refl (ap (λ (x : Sent). begins_large x.aim) is ∙ sym (ap (λ (x : Sent). begins_large x.aim) are)) agree.counted;
+      terms = terms_same _ _ none;
+      accepted = none.accepted;
+      size = size;
+      short = short;
+      parts = below_next _ handle 0 w v (λ n less. absurd (omega arith)) here;
+      asked = λ same. asks;
+      resolves = λ one bytes.
+          let pieces : p ≡ o = is ∙ piece_same (with_next None (TookClear tag m led d ∷ h)) (with_next None (TookClear tag' m' led' d' ∷ g)) w v a b handle 0 none.counted.sent (terms_same _ _ none) one bytes ∙ sym are in
+          let P : Sent → Type 0 = λ x. Agree (with_next (Some p) (TookClear tag m led d ∷ h)) (with_next (Some x) (TookClear tag' m' led' d' ∷ g)) in
+          subst P pieces (next_agree (TookClear tag m led d) (TookClear tag' m' led' d') h g (Some p) alike agree);
+      sessions = λ id. inl (ap (λ (x : Sent). with_sent id (Some x) (session_of id (with_next None (TookClear tag m led d ∷ h)))) is ∙ none.sessions id ∙ sym (ap (λ (x : Sent). with_sent id (Some x) (session_of id (with_next None (TookClear tag' m' led' d' ∷ g)))) are));
+    }
+owed_way (TookRecord tag of sealed inner led d) (TookRecord tag' of' sealed' inner' led' d') h g a b w v p o handle agree alike asks size short is are here =
+    let none = next_agree (TookRecord tag of sealed inner led d) (TookRecord tag' of' sealed' inner' led' d') h g None alike agree in record {
+      counted = counted_with _ _ h g refl (ap (λ (x : Sent). begins_large x.aim) is ∙ sym (ap (λ (x : Sent). begins_large x.aim) are)) agree.counted;
+      terms = terms_same _ _ none;
+      accepted = none.accepted;
+      size = size;
+      short = short;
+      parts = below_next _ handle 0 w v (λ n less. absurd (omega arith)) here;
+      asked = λ same. asks;
+      resolves = λ one bytes.
+          let pieces : p ≡ o = is ∙ piece_same (with_next None (TookRecord tag of sealed inner led d ∷ h)) (with_next None (TookRecord tag' of' sealed' inner' led' d' ∷ g)) w v a b handle 0 none.counted.sent (terms_same _ _ none) one bytes ∙ sym are in
+          let P : Sent → Type 0 = λ x. Agree (with_next (Some p) (TookRecord tag of sealed inner led d ∷ h)) (with_next (Some x) (TookRecord tag' of' sealed' inner' led' d' ∷ g)) in
+          subst P pieces (next_agree (TookRecord tag of sealed inner led d) (TookRecord tag' of' sealed' inner' led' d') h g (Some p) alike agree);
+      sessions = λ id. inl (ap (λ (x : Sent). cond (of == id) (with_sent id (Some x) (after_record sealed inner led.effect (session_of id h))) (session_of id h)) is ∙ none.sessions id
+          ∙ sym (ap (λ (x : Sent). cond (of' == id) (with_sent id (Some x) (after_record sealed' inner' led'.effect (session_of id g))) (session_of id g)) are));
+    }
+owed_way (Told c s d) f h g a b w v p o handle agree alike asks size short is are here = absurd alike
+owed_way (TookClear tag m led d) (Told c s x) h g a b w v p o handle agree alike asks size short is are here = absurd alike
+owed_way (TookClear tag m led d) (TookRecord tag' id' sealed' inner' led' d') h g a b w v p o handle agree alike asks size short is are here = absurd alike
+owed_way (TookRecord tag id sealed inner led d) (Told c s x) h g a b w v p o handle agree alike asks size short is are here = absurd alike
+owed_way (TookRecord tag id sealed inner led d) (TookClear tag' m' led' d') h g a b w v p o handle agree alike asks size short is are here = absurd alike
+
+with_waits : (e f : Entry) (h : History) (p : Sent) → EntryAlike e f → outstanding (with_next (Some p) (e ∷ h)) ≡ Some p
+with_waits (TookClear tag m led d) f h p a = refl
+with_waits (TookRecord tag id sealed inner led d) f h p a = refl
+with_waits (Told c s d) f h p a = absurd a
+
+with_tag : (e f : Entry) (h : History) (p : Sent) (tag : ℕ) (body : List ℕ) → EntryAlike e f → next_tag h ≡ tag → next_tag (with_next (Some p) (e ∷ h)) ≡ following_tag (Some (new_round tag body))
+with_tag (TookClear x m led d) f h p tag body a at = tag_follows h (TookClear x m (record led { next = Some p }) d) p tag body refl at
+with_tag (TookRecord x id sealed inner led d) f h p tag body a at = tag_follows h (TookRecord x id sealed inner (record led { next = Some p }) d) p tag body refl at
+with_tag (Told c s d) f h p tag body a at = absurd a
+
+-- The other entry is a message that came, too.
+turned : (e f : Entry) → EntryAlike e f → EntryAlike f f
+turned (TookClear tag m led d) (TookClear tag' m' led' d') a = (refl, refl, led_equal led', refl)
+turned (TookRecord tag id sealed inner led d) (TookRecord tag' id' sealed' inner' led' d') a = (refl, refl, refl, refl, led_equal led', refl)
+turned (Told c s d) f a = absurd a
+turned (TookClear tag m led d) (Told c s x) a = absurd a
+turned (TookClear tag m led d) (TookRecord tag' id' sealed' inner' led' d') a = absurd a
+turned (TookRecord tag id sealed inner led d) (Told c s x) a = absurd a
+turned (TookRecord tag id sealed inner led d) (TookClear tag' m' led' d') a = absurd a

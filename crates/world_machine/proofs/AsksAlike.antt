@@ -1,6 +1,6 @@
 -- A command does the same with histories of a requester that agree.
-use Rattle.std.proofs.Common.{◌≡◌, ◌==◌, ◌%◌, ◌+◌, ◌&&◌, ℕ, List, [], ◌∷◌, refl, sym, ap, ◌∙◌, length, Bool, true, false, Option, Some, None, cond}
-use Rattle.std.specs.Prelude.{not, nat_lt}
+use Rattle.std.proofs.Common.{◌≡◌, ◌%◌, ℕ, List, ◌∷◌, refl, ap, ◌∙◌, Bool, Option, Some, None}
+use Rattle.std.specs.Prelude.{not}
 use Rattle.spdm_basis.specs.Tests.{first_of_tests}
 use Rattle.spdm_grammar.specs.Message.{RequestMessage}
 use Rattle.spdm_grammar.specs.Message.RequestMessage.{GetVersion, GetMeasurements, Heartbeat, EndSession}
@@ -10,17 +10,16 @@ use Rattle.spdm_grammar.specs.declared.command_fault.CommandFault.TheVariants as
 use Rattle.spdm_machine.specs.Keys.{Draw}
 use Rattle.spdm_machine.specs.Sessions.{one_if}
 use Rattle.spdm_machine.specs.Terms.{Terms, terms_of}
-use Rattle.negotiate.specs.declared.shared.Common.{Common}
 use Rattle.requester_machine.specs.Setup.{ReqSetup}
-use Rattle.requester_machine.specs.Asking.{Outcome, asks, asks_by, done, asked_sent, resent}
+use Rattle.requester_machine.specs.Asking.{asks, asks_by, done, asked_sent, resent}
 use Rattle.requester_machine.specs.Asking.Outcome.{Adds}
 use Rattle.requester_machine.specs.Commands.{Free, command_fault, command_tests, session_in, is_nowhere, live_count, terms_at, is_spent_at, is_spent, is_long, exchange_for}
-use Rattle.requester_machine.specs.History.{History, Entry, outstanding, phase_of, connection_terms, next_tag, next_handle}
+use Rattle.requester_machine.specs.History.{History, connection_terms, next_tag, next_handle}
 use Rattle.requester_machine.specs.History.Entry.{Told}
-use Rattle.requester_machine.specs.Message.{Command, Ask, Aim, Sent}
+use Rattle.requester_machine.specs.Message.{Command, Ask, Aim}
 use Rattle.requester_machine.specs.Message.Ask.{AskData, AskBeat, AskUpdate, AskMeasure, AskEnd}
 use Rattle.requester_machine.specs.Message.Command.{Connect, Open, Send, Beat, Update, Measure, End, Retry}
-use Rattle.requester_machine.specs.Sending.{plain_sent, request_sent, record_sent, inner_request, inner_data, key_update, operation_of, clear_sent, is_too_long}
+use Rattle.requester_machine.specs.Sending.{request_sent, record_sent, inner_request, inner_data, key_update, operation_of, clear_sent, is_too_long}
 use Rattle.requester_machine.specs.Session.{Steps, session_of, is_live, session_terms}
 use Rattle.world_machine.proofs.Agrees.{Agree}
 

@@ -1,5 +1,5 @@
 -- The chunks of a large request tell it.
-use Rattle.std.proofs.Common.{◌≡◌, ◌==◌, ◌+◌, ◌-◌, ◌*◌, ◌/◌, ◌%◌, ◌<◌, ◌≤◌, ℕ, zero, suc, List, [], ◌∷◌, ◌++◌, refl, sym, ap, ◌∙◌, subst, length, take, drop, min, Bool, true, false, Option, Some, None, cond, arith, add-one, inl, inr}
+use Rattle.std.proofs.Common.{◌≡◌, ◌+◌, ◌-◌, ◌*◌, ◌/◌, ◌%◌, ◌<◌, ◌≤◌, ℕ, zero, suc, List, ◌++◌, refl, sym, ap, ◌∙◌, subst, length, take, drop, min, Bool, true, false, Some, None, cond, arith, inl, inr}
 use Rattle.std.specs.Prelude.{slice_index}
 use Rattle.std.proofs.Math.Nat.{div-zero}
 use Rattle.std.proofs.lemmas.Grind.{div_ceil_times}
@@ -8,7 +8,6 @@ use Rattle.std.proofs.lemmas.Bool.{cases_order}
 use Rattle.chunking.specs.Collecting.{joined}
 use Rattle.chunking.specs.Cutting.{unit_of, chunk_count, nth_chunk, chunks_before}
 use Rattle.chunking.proofs.ChunkSteps.{joined-before}
-use Rattle.spdm_grammar.specs.Message.{ChunkMessage}
 use Rattle.spdm_grammar.specs.Message.RequestMessage.{ChunkSend}
 use Rattle.spdm_grammar.specs.Requests.{canonical_request}
 

@@ -1,5 +1,5 @@
 -- A first difference has a reason.
-use Rattle.std.proofs.Common.{◌≡◌, ◌≢◌, ◌+◌, ◌-◌, ◌<◌, ◌≤◌, ◌==◌, ℕ, suc, List, [], ◌∷◌, ◌++◌, refl, sym, ap, ◌∙◌, subst, reverse, take, get_or, length, Bool, true, false, Option, Some, None, Result, Ok, Err, inl, inr, arith, cond}
+use Rattle.std.proofs.Common.{◌≡◌, ◌≢◌, ◌+◌, ◌-◌, ◌<◌, ◌==◌, ℕ, suc, List, [], ◌∷◌, refl, sym, ap, ◌∙◌, subst, reverse, take, get_or, length, Bool, true, false, Option, Some, None, Result, Ok, Err, arith, cond}
 use Rattle.std.specs.Prelude.{MatchBool, slice_index_or}
 use Rattle.std.proofs.Math.Seq.{take-suc}
 use Rattle.std.proofs.lemmas.List.{reverse-append}
@@ -9,7 +9,7 @@ use Rattle.mctp_framing.specs.Packet.{PacketFields, parsed}
 use Rattle.responder_machine.specs.Setup.{RspSetup, towards}
 use Rattle.spdm_basis.specs.declared.PacketFault.{PacketFault}
 use Rattle.spdm_machine.specs.Packets.{gathered_from}
-use Rattle.world_machine.specs.Capture.{Conforms, Leads, Follows, FollowsBy, ComesFrom, GoesTo, AsksBy, RepliesBy, IsFirstDifference}
+use Rattle.world_machine.specs.Capture.{Leads, Follows, FollowsBy, ComesFrom, GoesTo, AsksBy, RepliesBy, IsFirstDifference}
 use Rattle.world_machine.specs.Difference.{Why, IsDifference, IsReason, IsVerifyApart, IsOtherwiseWrong, FirstHasReason, why_by, from_why, to_why, comes_why, goes_why, request_why, reply_why}
 use Rattle.world_machine.specs.Difference.Why.{BadPacket, UnknownEnd, WrongTurn, BadRequest, BadReply, BadVerify, BadRecord}
 use Rattle.world_machine.specs.Rounds.{Dialogue, Round, dialogue_at, with_dialogue}

@@ -1,33 +1,29 @@
 -- A message that a requester sends by itself has the next tag, and is not GET_VERSION.
-use Rattle.std.proofs.Common.{◌≡◌, ◌≢◌, ℕ, List, [], ◌∷◌, refl, sym, ap, ◌∙◌, subst, drop, Bool, true, false, Option, Some, None, Result, Ok, Err, inl, inr, arith, cond}
+use Rattle.std.proofs.Common.{◌≡◌, ◌≢◌, ℕ, List, refl, sym, ap, ◌∙◌, subst, drop, Bool, true, false, Option, Some, None, inl, inr, arith, cond}
 use Rattle.std.specs.Prelude.{not, slice_index}
 use Rattle.std.proofs.lemmas.Option.{none-some, same_Some}
-use Rattle.negotiate.specs.declared.shared.Common.{Common}
-use Rattle.spdm_grammar.specs.Message.{RequestMessage, OfferMessage}
+use Rattle.spdm_grammar.specs.Message.{RequestMessage}
 use Rattle.spdm_grammar.specs.Message.RequestMessage.{GetVersion, NegotiateAlgorithms}
 use Rattle.spdm_grammar.specs.Requests.{canonical_request}
 use Rattle.spdm_grammar.specs.declared.event.ReqIgnored.{ReqIgnored}
 use Rattle.spdm_grammar.specs.declared.event.ReqIgnored.TheVariants.{WrongTag}
-use Rattle.spdm_machine.specs.Bodies.{clear_body, record_body}
+use Rattle.spdm_machine.specs.Bodies.{clear_body}
 use Rattle.spdm_machine.specs.Keys.{Draw}
 use Rattle.requester_machine.specs.Setup.{ReqSetup}
 use Rattle.requester_machine.specs.Asking.Outcome.{Adds}
-use Rattle.requester_machine.specs.Bodies.{body_fault, first_cause, tests_of_body, has_tag}
-use Rattle.requester_machine.specs.Asking.{Outcome}
-use Rattle.requester_machine.specs.Asking.Outcome.{Ignores}
-use Rattle.requester_machine.specs.ClearAnswers.{clear_led}
+use Rattle.requester_machine.specs.Bodies.{body_fault, has_tag}
 use Rattle.requester_machine.specs.Commands.{Free}
 use Rattle.requester_machine.specs.Hearing.{hears, hears_by, came_to}
 use Rattle.requester_machine.specs.History.{History, Entry, Led, sent_in, next_tag, next_handle, outstanding}
-use Rattle.requester_machine.specs.InnerMessages.{Came, or_lost, inner_led}
-use Rattle.requester_machine.specs.Message.{Aim, Ask, Sent, body_of, asked_in}
+use Rattle.requester_machine.specs.InnerMessages.{Came}
+use Rattle.requester_machine.specs.Message.{Aim, Ask, Sent, body_of}
 use Rattle.requester_machine.specs.Sending.{piece_sent, plain_sent, request_sent}
 use Rattle.requester_machine.specs.Shown.{after}
 use Rattle.requester_machine.proofs.ClearLeads.{ClearLeads, clear_leads}
 use Rattle.requester_machine.proofs.ClearLeads.ClearLeads.{ByRefusal, ByLarge, BySend, ByGet, ByStop, ByVersion, ByCaps, ByChoice, ByMeasured, ByExchange}
 use Rattle.requester_machine.proofs.RecordLeads.{RecordLeads, record_leads}
 use Rattle.requester_machine.proofs.RecordLeads.RecordLeads.{ByEnd, ByAnswer, ByUpdate, ByFirst, ByChunk}
-use Rattle.requester_machine.proofs.Heard.{IsTaken, Heard, heard}
+use Rattle.requester_machine.proofs.Heard.{heard}
 
 -- The message does not have the body of GET_VERSION.
 abbrev pub IsOther : Sent → Type 0

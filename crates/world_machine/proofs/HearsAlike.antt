@@ -1,11 +1,10 @@
 -- A body that came leads at requesters whose histories agree to entries that differ at most in the padding of the
 -- message that is sent next.
-use Rattle.std.proofs.Common.{◌≡◌, ◌==◌, ◌+◌, ◌&&◌, ◌⊎◌, ℕ, List, [], ◌∷◌, refl, sym, ap, ◌∙◌, subst, length, drop, Bool, true, false, Option, Some, None, Result, Ok, Err, cond, inl, inr}
-use Rattle.std.specs.Prelude.{not, slice_index, unwrap_or, bytes_eq}
+use Rattle.std.proofs.Common.{◌≡◌, ◌==◌, ◌+◌, ◌&&◌, ℕ, List, [], ◌∷◌, refl, ap, ◌∙◌, subst, drop, Bool, true, false, Option, Some, None, Result, Ok, Err, cond}
+use Rattle.std.specs.Prelude.{not, slice_index, bytes_eq}
 use Rattle.chunking.specs.Collecting.{joined_with}
 use Rattle.negotiate.specs.declared.shared.Common.{Common}
 use Rattle.negotiate.specs.Capabilities.{common_of}
-use Rattle.negotiate.specs.Choosing.{agreed}
 use Rattle.negotiate.specs.Offer.{offer_of}
 use Rattle.negotiate.specs.Versions.{version_entries, first_of_1_2}
 use Rattle.spdm_basis.specs.declared.record_fault.RecordFault.{RecordFault}
@@ -26,27 +25,27 @@ use Rattle.requester_machine.specs.Setup.{ReqSetup}
 use Rattle.requester_machine.specs.Answers as answers
 use Rattle.requester_machine.specs.Answers.{goes_on, is_refused, with_answer, answer_led}
 use Rattle.requester_machine.specs.Asking.{Outcome}
-use Rattle.requester_machine.specs.Asking.Outcome.{Fails, Ignores, Warns, Resends, Adds}
+use Rattle.requester_machine.specs.Asking.Outcome.{Warns, Adds}
 use Rattle.requester_machine.specs.Bodies.{body_fault, is_clear}
 use Rattle.requester_machine.specs.ClearAnswers as clear
 use Rattle.requester_machine.specs.ClearAnswers.Carried.{Ignored, Refused, Further, Whole}
 use Rattle.requester_machine.specs.Commands.{Free, has_reached}
-use Rattle.requester_machine.specs.Hearing.{hears, hears_by, hears_to, in_session, on_record, record_outcome, took, came_to, clear_outcome}
+use Rattle.requester_machine.specs.Hearing.{hears, hears_by, hears_to, on_record, record_outcome, came_to, clear_outcome}
 use Rattle.requester_machine.specs.History.{History, Entry, Effect, Led, outstanding, connection_terms, next_tag}
 use Rattle.requester_machine.specs.History.Effect.{Nothing, Answers, Grants}
-use Rattle.requester_machine.specs.History.Entry.{Told, TookClear, TookRecord}
+use Rattle.requester_machine.specs.History.Entry.{TookClear, TookRecord}
 use Rattle.requester_machine.specs.InnerMessages as inner
 use Rattle.requester_machine.specs.InnerMessages.{Came}
-use Rattle.requester_machine.specs.Message.{Ask, Aim, Content, Sent}
+use Rattle.requester_machine.specs.Message.{Ask, Aim, Sent}
 use Rattle.requester_machine.specs.Message.Aim.{Plain, ByChunks, ForChunk, InSession}
-use Rattle.requester_machine.specs.Message.Ask.{AskFinish, AskData, AskBeat, AskUpdate, AskVerify, AskMeasure, AskChunk, AskEnd}
+use Rattle.requester_machine.specs.Message.Ask.{AskFinish, AskBeat, AskUpdate, AskVerify, AskMeasure, AskChunk, AskEnd}
 use Rattle.requester_machine.specs.Message.Content.{Sealed}
 use Rattle.requester_machine.specs.Records.{sealed_next, answer_fault, answer_inner}
-use Rattle.requester_machine.specs.Sending.{piece_of, record_sent, request_sent, plain_sent, get_sent, piece_sent, chunk_sent, verify_sent, finish_sent, operation_of}
-use Rattle.requester_machine.specs.Session.{Steps, Step, session_of, when_live}
+use Rattle.requester_machine.specs.Sending.{piece_of, record_sent, finish_sent, operation_of}
+use Rattle.requester_machine.specs.Session.{Steps, session_of, when_live}
 use Rattle.requester_machine.specs.Session.Step.{Accepted}
 use Rattle.world_machine.proofs.Agrees.{Agree}
-use Rattle.world_machine.proofs.AsksAlike.{terms_same, tag_same, handle_same, clear_same, request_same, record_same}
+use Rattle.world_machine.proofs.AsksAlike.{terms_same, tag_same, handle_same}
 
 -- ---- What differs at most.
 
@@ -90,7 +89,7 @@ next_equal : (o : Option Sent) → NextAlike o o
 next_equal None = tt
 next_equal (Some s) = Equal s
 
-led_equal : (l : Led) → LedAlike l l
+pub led_equal : (l : Led) → LedAlike l l
 led_equal l = record { event = refl; effect = refl; next = next_equal l.next }
 
 result_equal : {E : Type 0} (r : Result Led E) → ResultAlike r r

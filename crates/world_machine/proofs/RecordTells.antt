@@ -1,31 +1,25 @@
 -- The record of a command tells the session, the command and the padding.
-use Rattle.std.proofs.Common.{◌≡◌, ◌≢◌, ◌==◌, ◌<◌, ◌≤◌, ◌+◌, ◌%◌, ◌/◌, ◌*◌, ℕ, zero, suc, List, [], ◌∷◌, ◌++◌, refl, sym, ap, ◌∙◌, subst, length, drop, Bool, true, false, Option, Some, None, cond, arith}
-use Rattle.std.specs.Prelude.{not, nat_lt, slice_index, ◌||◌}
-use Rattle.std.proofs.lemmas.Bool.{false≢true, ltb-false}
-use Rattle.spdm_basis.specs.SessionIdBytes.{session_id_bytes}
+use Rattle.std.proofs.Common.{◌≡◌, ◌<◌, ◌≤◌, ◌%◌, ◌/◌, ℕ, List, [], ◌∷◌, refl, sym, ap, ◌∙◌, subst, length, drop, Bool, true, false, Some, None, arith}
+use Rattle.std.specs.Prelude.{not, slice_index}
+use Rattle.std.proofs.lemmas.Bool.{ltb-false}
 use Rattle.secured_record.specs.Format.{record_of}
 use Rattle.secured_record.proofs.Told.{record_tells, padding_told}
-use Rattle.key_schedule.specs.Purpose.{Purpose, key_of, iv_of}
-use Rattle.spdm_grammar.specs.declared.choice.Choice.{Choice}
-use Rattle.spdm_grammar.specs.Message.{RequestMessage}
-use Rattle.spdm_grammar.specs.Message.RequestMessage.{GetMeasurements, Heartbeat, EndSession, KeyUpdate}
-use Rattle.spdm_grammar.specs.Requests.{canonical_request}
-use Rattle.spdm_grammar.specs.Fields.{is_summary}
+use Rattle.key_schedule.specs.Purpose.{key_of, iv_of}
+use Rattle.spdm_grammar.specs.Message.RequestMessage.{GetMeasurements, Heartbeat, EndSession}
 use Rattle.spdm_machine.specs.Keys.{sealed_of}
 use Rattle.spdm_machine.specs.Sessions.{id_in_exchange}
 use Rattle.requester_machine.specs.Setup.{ReqSetup}
-use Rattle.requester_machine.specs.Commands.{Free, command_fault, command_tests}
+use Rattle.requester_machine.specs.Commands.{Free, command_fault}
 use Rattle.requester_machine.specs.History.{History}
 use Rattle.requester_machine.specs.Message.{Command, Ask}
-use Rattle.requester_machine.specs.Message.Ask.{AskData, AskBeat, AskUpdate, AskMeasure, AskEnd}
 use Rattle.requester_machine.specs.Message.Command.{Connect, Open, Send, Beat, Update, Measure, End, Retry}
 use Rattle.requester_machine.specs.Records.{sealed_next, request_purpose}
-use Rattle.requester_machine.specs.Sending.{inner_request, inner_data, key_update, operation_of, update_tag}
-use Rattle.requester_machine.specs.Session.{Steps, session_of, is_live, session_terms, exchange_of, exchange_answer, request_next, id_bytes}
+use Rattle.requester_machine.specs.Sending.{inner_request, inner_data, key_update, operation_of}
+use Rattle.requester_machine.specs.Session.{Steps, session_of, is_live, session_terms, exchange_of, exchange_answer, request_next}
 use Rattle.requester_machine.proofs.Entries.{test_is_false}
 use Rattle.world_machine.proofs.Agrees.{HaveIds}
-use Rattle.world_machine.proofs.AskTells.{Kind, kind_of, IsSoundCommand}
-use Rattle.world_machine.proofs.AskTells.Kind.{InClear, OfSession, Again}
+use Rattle.world_machine.proofs.AskTells.{kind_of, IsSoundCommand}
+use Rattle.world_machine.proofs.AskTells.Kind.{OfSession}
 
 -- ---- What the tests of a command show.
 

@@ -1,24 +1,23 @@
 -- What holds of each message that a command sends.
-use Rattle.std.proofs.Common.{◌≡◌, ◌≢◌, ◌≤◌, ◌<◌, ◌%◌, ◌+◌, ◌&&◌, ◌==◌, ℕ, List, [], ◌∷◌, refl, sym, ap, ◌∙◌, subst, length, drop, Bool, true, false, Option, Some, None, is_some, arith, cond}
-use Rattle.std.specs.Prelude.{slice_index, not}
+use Rattle.std.proofs.Common.{◌≡◌, ◌≢◌, ℕ, List, refl, sym, ap, ◌∙◌, drop, Bool, true, false, Option, Some, None, is_some, arith, cond}
+use Rattle.std.specs.Prelude.{slice_index}
 use Rattle.std.proofs.lemmas.Bool.{false≢true}
 use Rattle.std.proofs.lemmas.Option.{none-some, same_Some}
 use Rattle.negotiate.specs.declared.shared.Common.{Common}
-use Rattle.spdm_grammar.specs.Message.{RequestMessage, ExchangeMessage, ChunkMessage}
-use Rattle.spdm_grammar.specs.Message.RequestMessage.{GetVersion, GetMeasurements, PskExchange, ChunkSend}
+use Rattle.spdm_grammar.specs.Message.{RequestMessage, ChunkMessage}
+use Rattle.spdm_grammar.specs.Message.RequestMessage.{GetVersion, GetMeasurements, ChunkSend}
 use Rattle.spdm_grammar.specs.Requests.{canonical_request}
 use Rattle.spdm_machine.specs.Bodies.{clear_body}
 use Rattle.spdm_machine.specs.Keys.{Draw}
 use Rattle.requester_machine.specs.Setup.{ReqSetup}
-use Rattle.requester_machine.specs.Asking.{Outcome, asks, done}
+use Rattle.requester_machine.specs.Asking.{asks, done}
 use Rattle.requester_machine.specs.Asking.Outcome.{Adds}
 use Rattle.requester_machine.specs.Commands.{Free, exchange_for}
-use Rattle.requester_machine.specs.History.{History, Entry, outstanding, begins_large, connection_terms, next_tag, next_handle}
+use Rattle.requester_machine.specs.History.{History, outstanding, begins_large, connection_terms, next_tag, next_handle}
 use Rattle.requester_machine.specs.History.Entry.{Told}
-use Rattle.requester_machine.specs.May.{IsAllowed}
 use Rattle.requester_machine.specs.Message.{Command, Sent, body_of, asked_in}
 use Rattle.requester_machine.specs.Message.Command.{Connect, Open, Send, Beat, Update, Measure, End, Retry}
-use Rattle.requester_machine.specs.Sending.{plain_sent, piece_sent, request_sent}
+use Rattle.requester_machine.specs.Sending.{plain_sent, piece_sent}
 use Rattle.requester_machine.proofs.Entries.{asked, test_is_false}
 use Rattle.world_machine.specs.CapturedRequests.{Tells}
 use Rattle.world_machine.specs.Rounds.{no_draw}

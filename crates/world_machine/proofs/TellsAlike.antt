@@ -1,14 +1,12 @@
 -- A body that a command sends leads from histories that agree to histories that agree.
-use Rattle.std.proofs.Common.{◌≡◌, ◌≤◌, ◌<◌, ◌%◌, ℕ, List, [], ◌∷◌, refl, sym, ap, ◌∙◌, subst, length, drop, Bool, true, false, Option, Some, None, arith}
+use Rattle.std.proofs.Common.{◌≡◌, ◌≤◌, ℕ, List, ◌∷◌, refl, sym, ap, ◌∙◌, subst, drop, false, Some, None, arith}
 use Rattle.std.specs.Prelude.{slice_index}
 use Rattle.std.proofs.lemmas.Option.{none-some, same_Some}
 use Rattle.spdm_grammar.specs.Message.{RequestMessage, ExchangeMessage}
-use Rattle.spdm_grammar.specs.Message.RequestMessage.{GetVersion, GetMeasurements, PskExchange}
+use Rattle.spdm_grammar.specs.Message.RequestMessage.{GetVersion, PskExchange}
 use Rattle.spdm_grammar.specs.Requests.{canonical_request}
-use Rattle.spdm_machine.specs.Keys.{Draw}
-use Rattle.spdm_machine.specs.Bodies.{clear_body, record_body}
 use Rattle.requester_machine.specs.Setup.{ReqSetup}
-use Rattle.requester_machine.specs.Asking.{Outcome, asks, done}
+use Rattle.requester_machine.specs.Asking.{asks}
 use Rattle.requester_machine.specs.Asking.Outcome.{Adds}
 use Rattle.requester_machine.specs.Commands.{Free, exchange_for}
 use Rattle.requester_machine.specs.History.{History, Entry, begins_large}
@@ -90,9 +88,11 @@ kinds_tell q h g f k c e s t (OfSession id ask inner) (OfSession other wants mes
     let asks : ask ≡ wants = cc in
     let from : s ≡ record_sent q h id (session_of id h) ask inner f.pad = sent in
     let to : t ≡ record_sent q h other (session_of other h) wants message k.pad = made in
-    let one = told.1 in let two = told.2 in let three = told.3 in
-    (told.0, from ∙ ap (λ (n : ℕ). record_sent q h n (session_of n h) ask inner f.pad) one ∙ ap (λ a. record_sent q h other (session_of other h) a inner f.pad) asks
-    ∙ ap (λ (l : List ℕ). record_sent q h other (session_of other h) wants l f.pad) two ∙ ap (λ (l : List ℕ). record_sent q h other (session_of other h) wants message l) three ∙ sym to)
+    let one = told.1 in let two = told.2 in let three = told.3 in (
+      told.0,
+      from ∙ ap (λ (n : ℕ). record_sent q h n (session_of n h) ask inner f.pad) one ∙ ap (λ a. record_sent q h other (session_of other h) a inner f.pad) asks
+          ∙ ap (λ (l : List ℕ). record_sent q h other (session_of other h) wants l f.pad) two ∙ ap (λ (l : List ℕ). record_sent q h other (session_of other h) wants message l) three ∙ sym to,
+    )
 kinds_tell q h g f k c e s t (InClear a) (OfSession other wants message) ids fits suits adds too small few same is are sent made =
     let one : s ≡ plain_sent h a = sent.0 small in
     absurd (let t = ap (λ (l : List ℕ). slice_index l 0) (ap (λ (m : Sent). body_of m.content) (sym one) ∙ same ∙ ap (λ (m : Sent). body_of m.content) made) in omega (arith, t))

@@ -1,7 +1,7 @@
 -- What two walks over one capture show is the same, where some relation of their dialogues is kept by each step, and
 -- related dialogues show the same.
-use Rattle.std.proofs.Common.{◌≡◌, ◌==◌, ℕ, List, [], ◌∷◌, refl, sym, ap, ◌∙◌, subst, reverse, map, Bool, true, false, Option, Some, None, Result, Ok, Err, cond, find}
-use Rattle.std.specs.Prelude.{MatchBool, slice_index_or, take, ◌-◌, bytes_eq}
+use Rattle.std.proofs.Common.{◌≡◌, ◌==◌, ℕ, List, [], ◌∷◌, refl, sym, ap, ◌∙◌, subst, reverse, map, Bool, true, false, Option, Some, None, Result, Ok, Err, cond}
+use Rattle.std.specs.Prelude.{MatchBool}
 use Rattle.mctp_framing.specs.Gathering.{Gathered}
 use Rattle.mctp_framing.specs.Packet.{PacketFields, parsed}
 use Rattle.requester_machine.specs.Setup.{ReqSetup}
@@ -9,12 +9,11 @@ use Rattle.responder_machine.specs.Setup.{RspSetup, towards}
 use Rattle.spdm_basis.specs.declared.PacketFault.{PacketFault}
 use Rattle.spdm_machine.specs.Packets.{gathered_from}
 use Rattle.world_machine.specs.Capture.{Leads, Follows, FollowsBy, ComesFrom, GoesTo, AsksBy, RepliesBy}
-use Rattle.world_machine.specs.Difference.{Why, IsDifference, IsReason, IsOtherwiseWrong, why_by, from_why, to_why, comes_why, goes_why}
-use Rattle.world_machine.specs.Difference.Why.{BadPacket, UnknownEnd, WrongTurn, BadRequest, BadReply, BadVerify, BadRecord}
-use Rattle.world_machine.specs.Rounds.{Dialogue, new_dialogue, is_at, dialogue_at, replaced, with_dialogue}
+use Rattle.world_machine.specs.Difference.{Why, IsOtherwiseWrong, why_by, from_why, to_why, comes_why, goes_why}
+use Rattle.world_machine.specs.Difference.Why.{UnknownEnd}
+use Rattle.world_machine.specs.Rounds.{Dialogue, new_dialogue, is_at, dialogue_at, with_dialogue}
 use Rattle.world_machine.specs.SessionTable.{Row, Seen, HasTable, LeadsShowing, rows_after, rows_between, seen}
 use Rattle.world_machine.specs.Setup.{Configuration, known_of}
-use Rattle.world_machine.proofs.Differences.{told_not}
 
 -- A relation of dialogues that each step keeps, and that what is shown looks no further than.
 pub record IsKept (R : Dialogue → Dialogue → Type 0) : Type 1 where
@@ -66,7 +65,7 @@ with_all : (R : Dialogue → Dialogue → Type 0) → IsKept R → (d e : Dialog
 with_all R k d e [] [] r all = tt
 with_all R k d e (x ∷ ds) (y ∷ es) r all =
     let same : (x.setup.eid == d.setup.eid) ≡ (y.setup.eid == e.setup.eid) =
-        ap (λ (s : ReqSetup). s.eid == d.setup.eid) (k.setups x y all.0) ∙ ap (λ (s : ReqSetup). y.setup.eid == s.eid) (k.setups d e r) in
+    ap (λ (s : ReqSetup). s.eid == d.setup.eid) (k.setups x y all.0) ∙ ap (λ (s : ReqSetup). y.setup.eid == s.eid) (k.setups d e r) in
     (replaced_by R (x.setup.eid == d.setup.eid) (y.setup.eid == e.setup.eid) d e x y same r all.0, with_all R k d e ds es r all.1)
 with_all R k d e [] (y ∷ es) r all = absurd all
 with_all R k d e (x ∷ ds) [] r all = absurd all
