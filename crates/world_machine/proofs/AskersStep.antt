@@ -1,35 +1,40 @@
 -- A request of one body leads from requesters that are alike to requesters that are alike.
-use Rattle.std.proofs.Common.{◌≡◌, ◌<◌, ◌==◌, ◌⊎◌, ℕ, List, ◌∷◌, refl, sym, ap, ◌∙◌, subst, length, Bool, true, false, Option, Some, None, arith, cond, inl, inr}
+use Rattle.world_machine.proofs.AskersAlike.AskersAlike.{Settled, Owing, Shown, Due}
+use Rattle.world_machine.proofs.ChunksTell.{SameBelow, whole_told}
+use Rattle.requester_machine.specs.Message.Aim.{ByChunks}
+use Rattle.std.proofs.lemmas.Bool.Decides.{nat_tests}
+use Rattle.std.specs.Bool.{OnTrue}
+use Rattle.std.proofs.Common.{◌≡◌, ◌<◌, ◌==◌, ◌⊎◌, ℕ, List, ◌∷◌, refl, sym, ap, ◌∙◌, subst, length, Bool, true, false, Option, Some, None, arith, cond, inl, inr, ◌≢◌, ◌≤◌, ◌+◌, [], drop, is_some, eq-eqb}
 use Rattle.std.specs.Prelude.{not, slice_index}
 use Rattle.std.proofs.lemmas.Bool.{false≢true}
-use Rattle.std.proofs.lemmas.Option.{none-some}
-use Rattle.chunking.specs.Cutting.{nth_chunk}
+use Rattle.std.proofs.lemmas.Option.{none-some, same_Some}
+use Rattle.chunking.specs.Cutting.{nth_chunk, chunk_count}
 use Rattle.spdm_grammar.specs.Message.{RequestMessage}
-use Rattle.spdm_grammar.specs.Message.RequestMessage.{GetVersion}
+use Rattle.spdm_grammar.specs.Message.RequestMessage.{GetVersion, ChunkSend}
 use Rattle.spdm_grammar.specs.Requests.{canonical_request}
 use Rattle.spdm_machine.specs.Bodies.{clear_body}
 use Rattle.requester_machine.specs.Setup.{ReqSetup}
-use Rattle.requester_machine.specs.History.{History, Entry, sent_in, outstanding, next_tag, next_handle, begins_large}
+use Rattle.requester_machine.specs.History.{History, Entry, sent_in, outstanding, next_tag, next_handle, begins_large, Led, sent_count, connection_terms}
 use Rattle.requester_machine.specs.History.Entry.{Told, TookClear, TookRecord}
-use Rattle.requester_machine.specs.Message.{Command, Sent, body_of}
+use Rattle.requester_machine.specs.Message.{Command, Sent, body_of, Aim, asked_in}
 use Rattle.requester_machine.specs.Message.Command.{Connect}
 use Rattle.requester_machine.specs.Sending.{plain_sent}
 use Rattle.requester_machine.specs.Session.{session_of, with_sent, after_record}
 use Rattle.requester_machine.proofs.Entries.{asked}
 use Rattle.responder_machine.specs.History as responder_history
-use Rattle.world_machine.specs.CapturedRequests.{Sends, Tells, GoesOn, BeginsLarge, BeginsOwed, is_later, owes, without_owed, with_next}
-use Rattle.world_machine.specs.LargeRequests.{piece_with}
+use Rattle.world_machine.specs.CapturedRequests.{Sends, Tells, GoesOn, BeginsLarge, BeginsOwed, is_later, owes, without_owed, with_next, IsOwed}
+use Rattle.world_machine.specs.LargeRequests.{piece_with, IsJudged, first_piece, is_last_piece, still_sending, AreAsked, MayHaveBegun, IsLargeRequest}
 use Rattle.world_machine.specs.Rounds.{Dialogue, Round, no_draw, new_round, following_tag}
 use Rattle.world_machine.proofs.Agrees.{Counted, Agree, IsSmallIn, agree_with, counted_with}
 use Rattle.world_machine.proofs.AskTells.{sent_by_kind}
 use Rattle.world_machine.proofs.HearsAlike.SentAlike.{Equal, Padded}
-use Rattle.world_machine.proofs.AsksAlike.{terms_same}
+use Rattle.world_machine.proofs.AsksAlike.{terms_same, tag_same, handle_same}
 use Rattle.world_machine.proofs.HearsAlike.{SentAlike, EntryAlike, led_equal}
 use Rattle.world_machine.proofs.HeardNext.{IsOther}
 use Rattle.world_machine.proofs.TellsAlike.{connects_agree}
 use Rattle.world_machine.proofs.SentFacts.{asked_tag, large_free, tells_other}
-use Rattle.world_machine.proofs.AskersAlike.{UnderWay, AskersAlike, transfer_of, alike_told, entry_told, next_agree, below_next, piece_same}
-use Rattle.world_machine.proofs.AskersBegin.{dial, tag_follows, settled_by, tells_settle, large_begins}
+use Rattle.world_machine.proofs.AskersAlike.{UnderWay, AskersAlike, transfer_of, alike_told, entry_told, next_agree, below_next, piece_same, StepsAlike, acked, alike_tag, alike_aim, none_tag, piece_tells, under_way_next}
+use Rattle.world_machine.proofs.AskersBegin.{dial, tag_follows, settled_by, tells_settle, large_begins, same_later}
 
 -- ---- What may begin a round, by whether a message is owed.
 
@@ -193,3 +198,81 @@ turned (TookClear tag m led d) (Told c s x) a = absurd a
 turned (TookClear tag m led d) (TookRecord tag' id' sealed' inner' led' d') a = absurd a
 turned (TookRecord tag id sealed inner led d) (Told c s x) a = absurd a
 turned (TookRecord tag id sealed inner led d) (TookClear tag' m' led' d') a = absurd a
+
+-- Both first chunks are of one body.
+owed_begins : (q : ReqSetup) (e f : Entry) (h g : History) (s t : Sent) (r x : responder_history.History) (round : Option Round) (fd fe : Option (List ℕ)) (tag : ℕ) (body : List ℕ) (next other : History) (w v : List ℕ)
+    → Agree h g → EntryAlike e f → sent_in e ≡ Some s → sent_in f ≡ Some t → SentAlike s t → next_tag h ≡ tag → owes (dial q (e ∷ h) r round None fd) ≡ true → owes (dial q (f ∷ g) x round None fe) ≡ true
+    → BeginsOwed (dial q (e ∷ h) r round None fd) body next w → BeginsOwed (dial q (f ∷ g) x round None fe) body other v
+    → AskersAlike (Some (new_round tag body)) next other (Some w) (Some v)
+owed_begins q e f h g s t r x round fd fe tag body next other w v agree alike sends sent like at is_owed are_owed one two =
+    let h0 : History = with_next None (e ∷ h) in
+    let g0 : History = with_next None (f ∷ g) in
+    let none = next_agree e f h g None alike agree in
+    let a : RequestMessage = one.1 in
+    let b : RequestMessage = two.1 in
+    let mine : one.0 ≡ s = same_Some one.0 s (sym one.2.0 ∙ sends) in
+    let yours : two.0 ≡ t = same_Some two.0 t (sym two.2.0 ∙ sent) in
+    let asks : a ≡ b = same_Some a b (sym one.4 ∙ ap (λ (m : Sent). asked_in m.aim) mine ∙ ap asked_in (alike_aim s t like) ∙ ap (λ (m : Sent). asked_in m.aim) (sym yours) ∙ two.4) in
+    let handles = handle_same h0 g0 none in
+    let handle : ℕ = next_handle h0 in
+    let from = owed (dial q (e ∷ h) r round None fd) is_owed in
+    let to = owed (dial q (f ∷ g) x round None fe) are_owed in
+    let p : Sent = first_piece (without_owed (dial q (e ∷ h) r round None fd)) a w in
+    let o : Sent = first_piece (without_owed (dial q (f ∷ g) x round None fe)) b v in
+    let is : p ≡ piece_with h0 a w handle 0 = ap (λ l. first_piece l a w) from in
+    let are : o ≡ piece_with g0 b v handle 0 = ap (λ l. first_piece l b v) to ∙ ap (λ (n : ℕ). piece_with g0 b v n 0) (sym handles) in
+    let bodies : body_of (piece_with h0 a w handle 0).content ≡ body_of (piece_with g0 b v handle 0).content =
+    ap (λ (m : Sent). body_of m.content) (sym is) ∙ one.6 ∙ sym two.6 ∙ ap (λ (m : Sent). body_of m.content) are in
+    let short : length w < 65536 = omega (arith, one.5.2) in
+    let told = piece_tells h0 g0 w v a b handle 0 (terms_same h0 g0 none) short (omega (arith, two.5.2)) bodies in
+    let way = owed_way e f h g a b w v p o handle agree alike asks (told.1 refl) short is are told.0 in
+    let tags : p.tag ≡ o.tag = ap (λ (m : Sent). m.tag) is ∙ tag_same h0 g0 none ∙ ap (λ (m : Sent). m.tag) (sym are) in
+    let mine_tag : p.tag ≡ tag = ap (λ (m : Sent). m.tag) is ∙ none_tag e f h alike ∙ at in
+    let shown : AskersAlike (Some (new_round tag body)) (with_next (Some p) (e ∷ h)) (with_next (Some o) (f ∷ g)) (Some w) (Some v) =
+    Shown (with_next (Some p) (e ∷ h)) (with_next (Some o) (f ∷ g)) w v a b handle 0 p o way (with_waits e f h p alike) (with_waits f f g o (turned e f alike))
+    (ap (λ (m : Sent). m.aim) is) (ap (λ (m : Sent). m.aim) are) tags (same_later tag body p mine_tag) (with_tag e f h p tag body alike at) in
+    let P : History → Type 0 = λ l. AskersAlike (Some (new_round tag body)) l (with_next (Some o) (f ∷ g)) (Some w) (Some v) in
+    let Q : History → Type 0 = λ l. AskersAlike (Some (new_round tag body)) next l (Some w) (Some v) in
+    subst Q (sym two.7) (subst P (sym one.7) shown)
+
+pub into : (round : Option Round) (next other : History) (sending sends a b : Option (List ℕ)) → sending ≡ a → sends ≡ b → AskersAlike round next other a b → AskersAlike round next other sending sends
+into round next other sending sends a b p o alike =
+    let P : Option (List ℕ) → Type 0 = λ l. AskersAlike round next other l b in
+    let Q : Option (List ℕ) → Type 0 = λ l. AskersAlike round next other sending l in
+    subst Q (sym o) (subst P (sym p) alike)
+
+owing_step : (q : ReqSetup) (e f : Entry) (h g : History) (s t : Sent) (r x : responder_history.History) (round : Option Round) (fd fe : Option (List ℕ)) (tag : ℕ) (body : List ℕ) (next other : History) (sending sends : Option (List ℕ))
+    → Agree h g → EntryAlike e f → sent_in e ≡ Some s → sent_in f ≡ Some t → SentAlike s t → s.tag ≡ next_tag h → IsOther s → next_tag h ≡ tag
+    → owes (dial q (e ∷ h) r round None fd) ≡ true → owes (dial q (f ∷ g) x round None fe) ≡ true
+    → (Tells q (with_next None (e ∷ h)) Connect body next × (sending ≡ None)) ⊎ (GoesOn (dial q (e ∷ h) r round None fd) body next sending ⊎ ((w : List ℕ) × BeginsOwed (dial q (e ∷ h) r round None fd) body next w × (sending ≡ Some w)))
+    → (Tells q (with_next None (f ∷ g)) Connect body other × (sends ≡ None)) ⊎ (GoesOn (dial q (f ∷ g) x round None fe) body other sends ⊎ ((w : List ℕ) × BeginsOwed (dial q (f ∷ g) x round None fe) body other w × (sends ≡ Some w)))
+    → AskersAlike (Some (new_round tag body)) next other sending sends
+owing_step q e f h g s t r x round fd fe tag body next other sending sends agree alike out sent like tagged else at is_owed are_owed (inl a) (inl b) =
+    into _ next other sending sends None None a.1 b.1
+    (connects_settle q (with_next None (e ∷ h)) (with_next None (f ∷ g)) body next other tag (next_agree e f h g None alike agree).counted (none_tag e f h alike ∙ at) a.0 b.0)
+owing_step q e f h g s t r x round fd fe tag body next other sending sends agree alike out sent like tagged else at is_owed are_owed (inr (inl a)) (inr (inl b)) =
+    into _ next other sending sends None None a.6 b.6
+    (goes_settle e f h g s t tag body next other agree alike out sent like tagged at
+    (ap (λ (m : Sent). body_of m.content) (sym (same_Some a.0 s (sym a.1.0 ∙ out))) ∙ a.3)
+    (ap (λ (m : Sent). body_of m.content) (sym (same_Some b.0 t (sym b.1.0 ∙ sent))) ∙ b.3) a.5 b.5)
+owing_step q e f h g s t r x round fd fe tag body next other sending sends agree alike out sent like tagged else at is_owed are_owed (inr (inr a)) (inr (inr b)) =
+    into _ next other sending sends (Some a.0) (Some b.0) a.2 b.2
+    (owed_begins q e f h g s t r x round fd fe tag body next other a.0 b.0 agree alike out sent like at is_owed are_owed a.1 b.1)
+owing_step q e f h g s t r x round fd fe tag body next other sending sends agree alike out sent like tagged else at is_owed are_owed (inl a) (inr (inl b)) =
+    let body_is = ap (λ (m : Sent). body_of m.content) (sym (same_Some b.0 t (sym b.1.0 ∙ sent))) ∙ b.3 in
+    absurd (alike_other s t like else (body_is ∙ connect_body q (with_next None (e ∷ h)) body next a.0))
+owing_step q e f h g s t r x round fd fe tag body next other sending sends agree alike out sent like tagged else at is_owed are_owed (inr (inl a)) (inl b) =
+    let body_is = ap (λ (m : Sent). body_of m.content) (sym (same_Some a.0 s (sym a.1.0 ∙ out))) ∙ a.3 in
+    absurd (else (body_is ∙ connect_body q (with_next None (f ∷ g)) body other b.0))
+owing_step q e f h g s t r x round fd fe tag body next other sending sends agree alike out sent like tagged else at is_owed are_owed (inl a) (inr (inr b)) =
+    absurd (not_owed q (with_next None (e ∷ h)) Connect body next (dial q (f ∷ g) x round None fe) other b.0 a.0 b.1)
+owing_step q e f h g s t r x round fd fe tag body next other sending sends agree alike out sent like tagged else at is_owed are_owed (inr (inr a)) (inl b) =
+    absurd (not_owed q (with_next None (f ∷ g)) Connect body other (dial q (e ∷ h) r round None fd) next a.0 b.0 a.1)
+owing_step q e f h g s t r x round fd fe tag body next other sending sends agree alike out sent like tagged else at is_owed are_owed (inr (inl a)) (inr (inr b)) =
+    let mine : a.0 ≡ s = same_Some a.0 s (sym a.1.0 ∙ out) in
+    let yours : b.1.0 ≡ t = same_Some b.1.0 t (sym b.1.2.0 ∙ sent) in
+    absurd (false≢true (sym a.2 ∙ ap (λ (m : Sent). begins_large m.aim) mine ∙ ap begins_large (alike_aim s t like) ∙ ap (λ (m : Sent). begins_large m.aim) (sym yours) ∙ b.1.3))
+owing_step q e f h g s t r x round fd fe tag body next other sending sends agree alike out sent like tagged else at is_owed are_owed (inr (inr a)) (inr (inl b)) =
+    let mine : a.1.0 ≡ s = same_Some a.1.0 s (sym a.1.2.0 ∙ out) in
+    let yours : b.0 ≡ t = same_Some b.0 t (sym b.1.0 ∙ sent) in
+    absurd (false≢true (sym b.2 ∙ ap (λ (m : Sent). begins_large m.aim) yours ∙ ap begins_large (sym (alike_aim s t like)) ∙ ap (λ (m : Sent). begins_large m.aim) (sym mine) ∙ a.1.3))
