@@ -106,12 +106,12 @@ settled_step q h g r x round sd se fd fe tag body next other sending sends agree
 -- ---- A message is owed.
 
 -- GET_VERSION in its place.
-connects_settle : (q : ReqSetup) (h g : History) (body : List ℕ) (next other : History) (tag : ℕ) → Counted h g → next_tag h ≡ tag → Tells q h Connect body next → Tells q g Connect body other
+pub connects_settle : (q : ReqSetup) (h g : History) (body : List ℕ) (next other : History) (tag : ℕ) → Counted h g → next_tag h ≡ tag → Tells q h Connect body next → Tells q g Connect body other
     → AskersAlike (Some (new_round tag body)) next other None None
 connects_settle q h g body next other tag counted at one two =
     settled_by h g next other tag body (Told Connect one.0 no_draw) one.0 (connects_agree q h g body next other counted one two) one.4 refl (asked_tag q h one.1.0 Connect one.0 no_draw one.1.2) at
 
-connect_body : (q : ReqSetup) (h : History) (body : List ℕ) (next : History) → Tells q h Connect body next → body ≡ clear_body (canonical_request GetVersion)
+pub connect_body : (q : ReqSetup) (h : History) (body : List ℕ) (next : History) → Tells q h Connect body next → body ≡ clear_body (canonical_request GetVersion)
 connect_body q h body next one =
     let is : one.0 ≡ plain_sent h GetVersion = (sent_by_kind q h one.1.0 Connect one.0 no_draw (asked false q h Connect one.1.0 no_draw (Told Connect one.0 no_draw) one.1.2).1).0 one.2 in
     sym one.3 ∙ ap (λ (m : Sent). body_of m.content) is
@@ -241,7 +241,7 @@ into round next other sending sends a b p o alike =
     let Q : Option (List ℕ) → Type 0 = λ l. AskersAlike round next other sending l in
     subst Q (sym o) (subst P (sym p) alike)
 
-owing_step : (q : ReqSetup) (e f : Entry) (h g : History) (s t : Sent) (r x : responder_history.History) (round : Option Round) (fd fe : Option (List ℕ)) (tag : ℕ) (body : List ℕ) (next other : History) (sending sends : Option (List ℕ))
+pub owing_step : (q : ReqSetup) (e f : Entry) (h g : History) (s t : Sent) (r x : responder_history.History) (round : Option Round) (fd fe : Option (List ℕ)) (tag : ℕ) (body : List ℕ) (next other : History) (sending sends : Option (List ℕ))
     → Agree h g → EntryAlike e f → sent_in e ≡ Some s → sent_in f ≡ Some t → SentAlike s t → s.tag ≡ next_tag h → IsOther s → next_tag h ≡ tag
     → owes (dial q (e ∷ h) r round None fd) ≡ true → owes (dial q (f ∷ g) x round None fe) ≡ true
     → (Tells q (with_next None (e ∷ h)) Connect body next × (sending ≡ None)) ⊎ (GoesOn (dial q (e ∷ h) r round None fd) body next sending ⊎ ((w : List ℕ) × BeginsOwed (dial q (e ∷ h) r round None fd) body next w × (sending ≡ Some w)))

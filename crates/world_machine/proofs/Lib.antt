@@ -15,4 +15,5 @@ pub mod SentFacts
 pub mod AskersAlike
 pub mod AskersBegin
 pub mod AskersStep
+pub mod AskersGo
 mod CaptureRows
