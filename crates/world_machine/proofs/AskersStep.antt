@@ -120,7 +120,7 @@ alike_other : (s t : Sent) → SentAlike s t → IsOther s → IsOther t
 alike_other _ _ (Equal s) other = other
 alike_other _ _ (Padded tag psk s id ask inner pad padding) other = λ e. absurd (let t = ap (λ (l : List ℕ). slice_index l 0) e in omega (arith, t))
 
-took_small : (e f : Entry) → EntryAlike e f → IsSmallIn e
+pub took_small : (e f : Entry) → EntryAlike e f → IsSmallIn e
 took_small (TookClear tag m led d) f a = tt
 took_small (TookRecord tag id sealed inner led d) f a = tt
 took_small (Told c s d) f a = absurd a

@@ -16,4 +16,5 @@ pub mod AskersAlike
 pub mod AskersBegin
 pub mod AskersStep
 pub mod AskersGo
+pub mod AskersHear
 mod CaptureRows
