@@ -38,10 +38,10 @@ use Rattle.world_machine.proofs.AskersBegin.{dial, tag_follows, settled_by, tell
 
 -- ---- What may begin a round, by whether a message is owed.
 
-unowed : (d : Dialogue) → owes d ≡ false → without_owed d ≡ d.requester
+pub unowed : (d : Dialogue) → owes d ≡ false → without_owed d ≡ d.requester
 unowed d not = ap (λ (b : Bool). cond b (with_next None d.requester) d.requester) not
 
-owed : (d : Dialogue) → owes d ≡ true → without_owed d ≡ with_next None d.requester
+pub owed : (d : Dialogue) → owes d ≡ true → without_owed d ≡ with_next None d.requester
 owed d is = ap (λ (b : Bool). cond b (with_next None d.requester) d.requester) is
 
 not_both : (d : Dialogue) → owes d ≡ false → owes d ≡ true → ⊥

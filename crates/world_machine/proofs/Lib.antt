@@ -17,4 +17,5 @@ pub mod AskersBegin
 pub mod AskersStep
 pub mod AskersGo
 pub mod AskersHear
+pub mod ShownAlike
 mod CaptureRows
