@@ -18,4 +18,5 @@ pub mod AskersStep
 pub mod AskersGo
 pub mod AskersHear
 pub mod ShownAlike
+pub mod Alike
 mod CaptureRows
