@@ -19,4 +19,5 @@ pub mod AskersGo
 pub mod AskersHear
 pub mod ShownAlike
 pub mod Alike
+pub mod TurnsAlike
 mod CaptureRows
