@@ -20,4 +20,5 @@ pub mod AskersHear
 pub mod ShownAlike
 pub mod Alike
 pub mod TurnsAlike
+pub mod RepliesTell
 mod CaptureRows
