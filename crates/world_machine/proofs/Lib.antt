@@ -21,4 +21,5 @@ pub mod ShownAlike
 pub mod Alike
 pub mod TurnsAlike
 pub mod RepliesTell
+pub mod RecordsTell
 mod CaptureRows

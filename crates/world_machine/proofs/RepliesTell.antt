@@ -81,7 +81,7 @@ nat_apart : (a b : ℕ) → (a == b) ≡ false → a ≢ b
 nat_apart a b is = grind (arith, nat_tests)
 
 -- CHUNK_SEND is refused in a session.
-no_chunk : (r : RspSetup) (s : Events) (m : List ℕ) (f : Free) (c : ChunkMessage) → request_at (session_place s) m ≡ Some (ChunkSend c) → refusal r (session_place s) m f ≢ None
+pub no_chunk : (r : RspSetup) (s : Events) (m : List ℕ) (f : Free) (c : ChunkMessage) → request_at (session_place s) m ≡ Some (ChunkSend c) → refusal r (session_place s) m f ≢ None
 no_chunk r s m f c is none =
     nat_apart _ CHUNK_SEND (form_shown r (session_place s) m f none 4) (sym (asked-code (session_place s) m (ChunkSend c) is))
 

@@ -261,7 +261,7 @@ module _ (r : RspSetup) (p o : Place) (m : List ℕ) (f k : Free) where
   taken_apart q a other is None same = error_apart r p o m m f k q is a other same
   taken_apart q a other is (Some c) same = chunk_apart a c.last c (joined_with (under_way (chunks_of o.turns)) c) same
 
-chunk_is : (q : Option RequestMessage) (c : ChunkMessage) → chunk_in q ≡ Some c → q ≡ Some (ChunkSend c)
+pub chunk_is : (q : Option RequestMessage) (c : ChunkMessage) → chunk_in q ≡ Some c → q ≡ Some (ChunkSend c)
 chunk_is (Some (ChunkSend d)) c is = ap (λ x. Some (ChunkSend x)) (same_Some d c is)
 chunk_is None c is = absurd (none-some c is)
 chunk_is (Some GetVersion) c is = absurd (none-some c is)
