@@ -22,4 +22,5 @@ pub mod Alike
 pub mod TurnsAlike
 pub mod RepliesTell
 pub mod RecordsTell
+pub mod DropsTell
 mod CaptureRows
