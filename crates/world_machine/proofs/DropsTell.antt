@@ -120,7 +120,7 @@ turn_not_shown r h tag m body f p id (Adds (Queued bytes)) fits may alike plain 
 turn_not_shown r h tag m body f p id (Adds (Ticked seconds)) fits may alike plain shown = alike
 turn_not_shown r h tag m body f p id (Adds (Dropped other)) fits may alike plain shown = alike
 
-no_clear_drop : (r : RspSetup) (h : History) (tag : ℕ) (m body : List ℕ) (f : Free) (p : Place) (id : ℕ) (o q : Outcome) → IsAllowed h p f → MayDrop h (id ∷ []) → on_clear r h tag m f no_draw ≡ o
+pub no_clear_drop : (r : RspSetup) (h : History) (tag : ℕ) (m body : List ℕ) (f : Free) (p : Place) (id : ℕ) (o q : Outcome) → IsAllowed h p f → MayDrop h (id ∷ []) → on_clear r h tag m f no_draw ≡ o
     → OutcomesAlike o q → is_plain h q ≡ true → shows r h body id q ≡ true → ⊥
 no_clear_drop r h tag m body f p id o q fits may is alike plain shown = elim (clear_form r h tag m f o is) [
   | inl same ↦ same_not_shown r h body same.0 id q (subst (λ x. OutcomesAlike x q) same.1 alike) shown
@@ -128,7 +128,7 @@ no_clear_drop r h tag m body f p id o q fits may is alike plain shown = elim (cl
 ]
 
 -- Two outcomes that are alike show one drop.
-one_drop : (r : RspSetup) (h : History) (body : List ℕ) (id other : ℕ) (o q : Outcome) → OutcomesAlike o q → is_plain h o ≡ true → shows r h body id o ≡ true → shows r h body other q ≡ true → id ≡ other
+pub one_drop : (r : RspSetup) (h : History) (body : List ℕ) (id other : ℕ) (o q : Outcome) → OutcomesAlike o q → is_plain h o ≡ true → shows r h body id o ≡ true → shows r h body other q ≡ true → id ≡ other
 one_drop r h body id other (Same b) q alike plain one two = absurd (false≢true one)
 one_drop r h body id other (Unopened b) (Unopened c) alike plain one two = sym (nat_same (id_in_record (drop 1 body)) id (and_first _ _ one)) ∙ nat_same (id_in_record (drop 1 body)) other (and_first _ _ two)
 one_drop r h body id other (Unopened b) (Same c) alike plain one two = absurd alike
@@ -151,7 +151,7 @@ one_drop r h body id other (Adds (Dropped which)) q alike plain one two = absurd
 -- ---- Records.
 
 -- A kept record; no record of the session, with DecryptError; or an entry.
-abbrev RecordForm : RspSetup → History → ℕ → List ℕ → Outcome → Type 0
+abbrev pub RecordForm : RspSetup → History → ℕ → List ℕ → Outcome → Type 0
 RecordForm r h tag sealed o =
     ((b : List ℕ) × (o ≡ Same (record_body b)))
     ⊎ (((b : List ℕ) × (o ≡ Unopened (clear_body b)) × (is_live (session_of (id_in_record sealed) h) ≡ true → belongs_to r (session_of (id_in_record sealed) h) sealed ≡ false))
@@ -188,7 +188,7 @@ module _ (r : RspSetup) (tag : ℕ) (sealed : List ℕ) (f : Free) (o : Outcome)
   record_form h e = ended_form (repeats (ended_of h) sealed) _ (phase_of (clear_turns h)) (session_of (id_in_record sealed) h) e
 
 -- What shows a drop in answer to a record is DecryptError, and the record belongs to the session.
-record_shown : (r : RspSetup) (h g : History) (tag : ℕ) (body : List ℕ) (id : ℕ) (q : Outcome) → RecordForm r g tag (drop 1 body) q → shows r h body id q ≡ true
+pub record_shown : (r : RspSetup) (h g : History) (tag : ℕ) (body : List ℕ) (id : ℕ) (q : Outcome) → RecordForm r g tag (drop 1 body) q → shows r h body id q ≡ true
     → ((b : List ℕ) × (q ≡ Unopened (clear_body b))) × (id_in_record (drop 1 body) ≡ id) × (belongs_to r (session_of id h) (drop 1 body) ≡ true)
 record_shown r h g tag body id q (inl same) shown = absurd (false≢true (ap (shows r h body id) (sym same.1) ∙ shown))
 record_shown r h g tag body id q (inr (inl none)) shown =
@@ -207,7 +207,7 @@ not_decrypted r h tag body b id o may (inr (inl none)) same at belongs =
 not_decrypted r h tag body b id o may (inr (inr added)) same at belongs =
     absurd (let t = ap (λ (l : List ℕ). slice_index l 0) (ap body_of (sym added.2) ∙ same) in omega (arith, t))
 
-no_record_drop : (r : RspSetup) (h g : History) (tag : ℕ) (body : List ℕ) (id : ℕ) (o q : Outcome) → MayDrop h (id ∷ []) → RecordForm r h tag (drop 1 body) o → RecordForm r g tag (drop 1 body) q
+pub no_record_drop : (r : RspSetup) (h g : History) (tag : ℕ) (body : List ℕ) (id : ℕ) (o q : Outcome) → MayDrop h (id ∷ []) → RecordForm r h tag (drop 1 body) o → RecordForm r g tag (drop 1 body) q
     → shows r h body id q ≡ true → body_of o ≡ body_of q → ⊥
 no_record_drop r h g tag body id o q may form other shown same =
     let known = record_shown r h g tag body id q other shown in

@@ -23,4 +23,5 @@ pub mod TurnsAlike
 pub mod RepliesTell
 pub mod RecordsTell
 pub mod DropsTell
+pub mod PlainTells
 mod CaptureRows
