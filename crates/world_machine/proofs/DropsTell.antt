@@ -74,19 +74,19 @@ and_second true b is = is
 and_second false b is = absurd (false≢true is)
 
 -- A dropped session was held.
-held_before : (h : History) (id : ℕ) → MayDrop h (id ∷ []) → is_held h id ≡ true
+pub held_before : (h : History) (id : ℕ) → MayDrop h (id ∷ []) → is_held h id ≡ true
 held_before h id may =
     ap (λ (b : Bool). b && is_past_handshake (stage_of (session_of id h))) may.0 ∙ and_first _ _ may.1
 
 -- PSK_EXCHANGE is answered with an id that no session past its handshake has.
-fresh_id : (r : RspSetup) (h : History) (m : List ℕ) (f : Free) (p : Place) → IsAllowed h p f → takes PSK_EXCHANGE (turn_of r (clear_place h) m f) ≡ true
+pub fresh_id : (r : RspSetup) (h : History) (m : List ℕ) (f : Free) (p : Place) → IsAllowed h p f → takes PSK_EXCHANGE (turn_of r (clear_place h) m f) ≡ true
     → is_held h (id_in_exchange (answer_in (turn_of r (clear_place h) m f).effect)) ≡ false
 fresh_id r h m f p fits takes_it =
     let fresh = exchange-fresh (held_of h) f.id (turn_of r (clear_place h) m f).effect takes_it (turn_of-fresh r (clear_place h) m f fits.most) in
     ap (is_held h) fresh.0 ∙ fits.unused (λ four. absurd (false≢true (sym fresh.1 ∙ eq-eqb (held_of h) 4 four)))
 
 -- A repeat, or a turn.
-clear_form : (r : RspSetup) (h : History) (tag : ℕ) (m : List ℕ) (f : Free) (o : Outcome) → on_clear r h tag m f no_draw ≡ o → ((b : List ℕ) × (o ≡ Same b)) ⊎ (o ≡ Adds (Clear tag (turn_of r (clear_place h) m f) no_draw))
+pub clear_form : (r : RspSetup) (h : History) (tag : ℕ) (m : List ℕ) (f : Free) (o : Outcome) → on_clear r h tag m f no_draw ≡ o → ((b : List ℕ) × (o ≡ Same b)) ⊎ (o ≡ Adds (Clear tag (turn_of r (clear_place h) m f) no_draw))
 unfolding on_clear
 clear_form r h tag m f o is = by_repeat (is_repeat (kept_of h) tag m) is
   where

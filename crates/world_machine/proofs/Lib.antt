@@ -24,4 +24,5 @@ pub mod RepliesTell
 pub mod RecordsTell
 pub mod DropsTell
 pub mod PlainTells
+pub mod LargeTells
 mod CaptureRows

@@ -90,7 +90,7 @@ clear_plain r h (id ∷ []) [] tag body o q may might one two shown show plain p
 clear_plain r h (id ∷ x ∷ xs) others tag body o q may might one two shown show plain plane same = absurd shown
 clear_plain r h ids (id ∷ x ∷ xs) tag body o q may might one two shown show plain plane same = absurd show
 
-form_of : (r : RspSetup) (h : History) (tag : ℕ) (body : List ℕ) (o : Outcome) → RecordLed r h tag body o → RecordForm r h tag (drop 1 body) o
+pub form_of : (r : RspSetup) (h : History) (tag : ℕ) (body : List ℕ) (o : Outcome) → RecordLed r h tag body o → RecordForm r h tag (drop 1 body) o
 form_of r h tag body o led = record_form r tag (drop 1 body) led.free o h led.leads
 
 record_plain : (r : RspSetup) (h : History) (ids others : List ℕ) (tag : ℕ) (body : List ℕ) (o q : Outcome) → MayDrop h ids → MayDrop h others → RecordLed r (with_dropped h ids) tag body o → RecordLed r (with_dropped h others) tag body q
