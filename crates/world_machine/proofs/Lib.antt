@@ -25,4 +25,5 @@ pub mod RecordsTell
 pub mod DropsTell
 pub mod PlainTells
 pub mod LargeTells
+pub mod RepliesAlike
 mod CaptureRows
