@@ -2,7 +2,7 @@ pub mod Logs
 mod Rows
 mod Captures
 mod Differences
-mod Walks
+pub mod Walks
 pub mod Agrees
 pub mod AsksAlike
 pub mod AskTells
@@ -26,4 +26,6 @@ pub mod DropsTell
 pub mod PlainTells
 pub mod LargeTells
 pub mod RepliesAlike
+pub mod Rest
+pub mod SmallGets
 mod CaptureRows
