@@ -1,7 +1,7 @@
 -- When the dialogues of two walks over one capture are alike, and what keeps them so.
-use Rattle.std.proofs.Common.{◌≡◌, ◌≢◌, ◌+◌, ◌-◌, ◌%◌, ◌==◌, ◌&&◌, ◌||◌, ◌⊎◌, ℕ, List, [], ◌∷◌, refl, sym, ap, ◌∙◌, subst, length, drop, map, Bool, true, false, Option, Some, None, cond, inl, inr, arith}
-use Rattle.std.specs.Prelude.{nat_lt, not}
-use Rattle.std.proofs.lemmas.Option.{none-some, same_Some}
+use Rattle.std.proofs.Common.{◌≡◌, ◌+◌, ◌%◌, ◌==◌, ◌&&◌, ◌||◌, ◌⊎◌, ℕ, List, [], ◌∷◌, refl, sym, ap, ◌∙◌, subst, length, drop, map, Bool, Option, Some, None, cond, inl, inr, arith}
+use Rattle.std.specs.Prelude.{nat_lt}
+use Rattle.std.proofs.lemmas.Option.{same_Some}
 use Rattle.mctp_framing.specs.Gathering.{Gathered}
 use Rattle.mctp_framing.specs.Gathering.Gathered.{Whole, More, Dropped}
 use Rattle.requester_machine.specs.History.{History, outstanding}
@@ -10,11 +10,11 @@ use Rattle.responder_machine.specs.History as responder_history
 use Rattle.responder_machine.specs.Setup.{RspSetup}
 use Rattle.world_machine.specs.Capture.{AsksBy, Copies, Begins}
 use Rattle.world_machine.specs.CapturedRequests.{Sends, without_owed}
-use Rattle.world_machine.specs.Difference.{Why, comes_why, goes_why, request_why, reply_why, asks_out_of_turn, replies_out_of_turn, is_other_type}
+use Rattle.world_machine.specs.Difference.{Why, comes_why, goes_why, request_why, asks_out_of_turn, is_other_type}
 use Rattle.world_machine.specs.Difference.Why.{BadPacket, WrongTurn, BadRequest, BadRecord}
 use Rattle.world_machine.specs.Opening.{session_named, opens_asking}
 use Rattle.world_machine.specs.Rounds.{Dialogue, Round, new_dialogue, new_round, following_tag}
-use Rattle.world_machine.specs.SessionTable.{Row, accepted_in, accepted_between, request_by, request_between, is_of, is_new, rows_between, row_after, new_row, with_responder, with_requester, has_begun, with_record, with_option, is_named}
+use Rattle.world_machine.specs.SessionTable.{Row, accepted_in, accepted_between, request_by, request_between, is_of, is_new, rows_between, row_after, new_row, with_responder, with_requester, has_begun, with_option, is_named}
 use Rattle.spdm_machine.specs.Packets.{body_type}
 use Rattle.world_machine.proofs.Agrees.{agree_empty}
 use Rattle.world_machine.proofs.AskersAlike.{AskersAlike}

@@ -1,5 +1,5 @@
 -- The chunks of a large request one after another, and a request of one body from any requesters that are alike.
-use Rattle.std.proofs.Common.{◌≡◌, ◌≢◌, ◌≤◌, ◌<◌, ◌+◌, ◌%◌, ◌==◌, ◌⊎◌, ℕ, List, [], ◌∷◌, refl, sym, ap, ◌∙◌, subst, length, drop, Bool, true, false, Option, Some, None, is_some, arith, cond, inl, inr, eq-eqb}
+use Rattle.std.proofs.Common.{◌≡◌, ◌<◌, ◌+◌, ◌%◌, ◌==◌, ◌⊎◌, ℕ, List, refl, sym, ap, ◌∙◌, subst, length, Bool, true, false, Option, Some, None, arith, cond, inl, inr}
 use Rattle.std.specs.Prelude.{not, slice_index}
 use Rattle.std.specs.Bool.{OnTrue}
 use Rattle.std.proofs.lemmas.Bool.{false≢true}
@@ -9,29 +9,29 @@ use Rattle.chunking.specs.Cutting.{nth_chunk, chunk_count}
 use Rattle.std.specs.Int.{div_ceil}
 use Rattle.chunking.specs.Cutting.{unit_of}
 use Rattle.spdm_grammar.specs.Message.{RequestMessage}
-use Rattle.spdm_grammar.specs.Message.RequestMessage.{GetVersion, ChunkSend}
+use Rattle.spdm_grammar.specs.Message.RequestMessage.{GetVersion}
 use Rattle.spdm_grammar.specs.Requests.{canonical_request}
 use Rattle.spdm_machine.specs.Bodies.{clear_body}
 use Rattle.spdm_machine.specs.Terms.{Terms}
 use Rattle.requester_machine.specs.Answers.{goes_on}
 use Rattle.requester_machine.specs.Setup.{ReqSetup}
-use Rattle.requester_machine.specs.History.{History, Entry, outstanding, next_tag, begins_large}
+use Rattle.requester_machine.specs.History.{History, outstanding, next_tag, begins_large}
 use Rattle.requester_machine.specs.History.Effect.{Nothing}
 use Rattle.requester_machine.specs.History.Entry.{TookClear}
-use Rattle.requester_machine.specs.Message.{Command, Aim, Sent, body_of}
+use Rattle.requester_machine.specs.Message.{Command, Sent, body_of}
 use Rattle.requester_machine.specs.Message.Aim.{ByChunks}
 use Rattle.requester_machine.specs.Message.Command.{Connect}
 use Rattle.responder_machine.specs.History as responder_history
-use Rattle.world_machine.specs.CapturedRequests.{Sends, Tells, GoesOn, BeginsLarge, BeginsOwed, is_later, owes, with_next}
-use Rattle.world_machine.specs.LargeRequests.{IsJudgedAtLast, piece_with, is_last_piece, still_sending, AreAsked, MayHaveBegun}
-use Rattle.world_machine.specs.Rounds.{Dialogue, Round, no_draw, new_round, following_tag}
-use Rattle.world_machine.proofs.Agrees.{Counted, Agree, agree_with, counted_with}
+use Rattle.world_machine.specs.CapturedRequests.{Sends, Tells, GoesOn, BeginsLarge, BeginsOwed, owes, with_next}
+use Rattle.world_machine.specs.LargeRequests.{IsJudgedAtLast, piece_with, is_last_piece, still_sending}
+use Rattle.world_machine.specs.Rounds.{Dialogue, Round, no_draw, new_round}
+use Rattle.world_machine.proofs.Agrees.{Counted, Agree, counted_with}
 use Rattle.world_machine.proofs.ChunksTell.{SameBelow, whole_told}
 use Rattle.world_machine.proofs.SentFacts.{large_free}
-use Rattle.world_machine.proofs.AskersAlike.{UnderWay, AskersAlike, transfer_of, acked, piece_tells, below_next, piece_same, under_way_next, alike_tag, alike_aim}
-use Rattle.world_machine.proofs.AskersAlike.AskersAlike.{Settled, Owing, Shown, Due}
+use Rattle.world_machine.proofs.AskersAlike.{UnderWay, AskersAlike, transfer_of, acked, piece_tells, below_next, under_way_next}
+use Rattle.world_machine.proofs.AskersAlike.AskersAlike.{Shown}
 use Rattle.world_machine.proofs.AskersBegin.{dial, same_later, tag_follows, settled_by}
-use Rattle.world_machine.proofs.AskersStep.{settled_sends, owed_sends, settled_step, owing_step, connects_settle, connect_body, into}
+use Rattle.world_machine.proofs.AskersStep.{settled_sends, connects_settle, connect_body, into}
 
 -- ---- A chunk was sent, and its acknowledgement is awaited.
 

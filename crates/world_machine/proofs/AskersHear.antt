@@ -1,10 +1,7 @@
 -- A request, and an answer, of one body lead from requesters that are alike to requesters that are alike.
-use Rattle.std.proofs.Common.{◌≡◌, ◌≢◌, ◌≤◌, ◌<◌, ◌+◌, ◌%◌, ◌==◌, ◌⊎◌, ℕ, List, [], ◌∷◌, refl, sym, ap, ◌∙◌, subst, length, drop, Bool, true, false, Option, Some, None, is_some, arith, cond}
+use Rattle.std.proofs.Common.{◌≡◌, ◌≢◌, ◌+◌, ◌%◌, ◌==◌, ℕ, List, ◌∷◌, refl, sym, ap, ◌∙◌, subst, drop, Bool, true, false, Option, Some, None, is_some, arith, cond}
 use Rattle.std.specs.Prelude.{not}
-use Rattle.std.proofs.lemmas.Bool.{false≢true}
 use Rattle.std.proofs.lemmas.Bool.Decides.{nat_tests}
-use Rattle.std.proofs.lemmas.Option.{none-some, same_Some}
-use Rattle.std.proofs.Common.{eq-eqb}
 use Rattle.requester_machine.specs.Asking.{Outcome}
 use Rattle.requester_machine.specs.Asking.Outcome.{Fails, Ignores, Warns, Resends, Adds}
 use Rattle.requester_machine.specs.Bodies.{has_tag}
@@ -14,7 +11,7 @@ use Rattle.requester_machine.specs.Setup.{ReqSetup}
 use Rattle.requester_machine.specs.History.{History, Entry, sent_in, sent_count, outstanding, next_tag}
 use Rattle.requester_machine.specs.History.Entry.{Told, TookClear, TookRecord}
 use Rattle.requester_machine.specs.May.{MayHear}
-use Rattle.requester_machine.specs.Message.{Aim, Sent}
+use Rattle.requester_machine.specs.Message.{Sent}
 use Rattle.requester_machine.specs.Message.Aim.{ByChunks}
 use Rattle.requester_machine.specs.Shown.{after}
 use Rattle.spdm_grammar.specs.Message.{RequestMessage}
@@ -22,11 +19,11 @@ use Rattle.responder_machine.specs.History as responder_history
 use Rattle.world_machine.specs.CapturedAnswers.{Hears}
 use Rattle.world_machine.specs.CapturedRequests.{Sends, is_later, owes}
 use Rattle.world_machine.specs.LargeRequests.{piece_with, with_ack, with_ack_to, with_next_piece}
-use Rattle.world_machine.specs.Rounds.{Dialogue, Round, no_draw, new_round, following_tag}
-use Rattle.world_machine.proofs.Agrees.{Agree, agree_with, IsSmallIn}
-use Rattle.world_machine.proofs.HearsAlike.{SentAlike, NextAlike, EntryAlike, OutcomeAlike, hears_alike}
+use Rattle.world_machine.specs.Rounds.{Round, no_draw, new_round, following_tag}
+use Rattle.world_machine.proofs.Agrees.{Agree, agree_with}
+use Rattle.world_machine.proofs.HearsAlike.{NextAlike, EntryAlike, OutcomeAlike, hears_alike}
 use Rattle.world_machine.proofs.HeardNext.{IsNext, heard_next, other_tag}
-use Rattle.world_machine.proofs.AskersAlike.{UnderWay, AskersAlike, acked, alike_tag, entry_told}
+use Rattle.world_machine.proofs.AskersAlike.{AskersAlike, acked, alike_tag, entry_told}
 use Rattle.world_machine.proofs.AskersAlike.AskersAlike.{Settled, Owing, Shown, Due}
 use Rattle.world_machine.proofs.AskersBegin.{dial}
 use Rattle.world_machine.proofs.AskersStep.{owed_sends, settled_step, owing_step, took_small}

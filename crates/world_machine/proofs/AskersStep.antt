@@ -1,29 +1,25 @@
 -- A request of one body leads from requesters that are alike to requesters that are alike.
-use Rattle.world_machine.proofs.AskersAlike.AskersAlike.{Settled, Owing, Shown, Due}
-use Rattle.world_machine.proofs.ChunksTell.{SameBelow, whole_told}
-use Rattle.requester_machine.specs.Message.Aim.{ByChunks}
-use Rattle.std.proofs.lemmas.Bool.Decides.{nat_tests}
-use Rattle.std.specs.Bool.{OnTrue}
-use Rattle.std.proofs.Common.{◌≡◌, ◌<◌, ◌==◌, ◌⊎◌, ℕ, List, ◌∷◌, refl, sym, ap, ◌∙◌, subst, length, Bool, true, false, Option, Some, None, arith, cond, inl, inr, ◌≢◌, ◌≤◌, ◌+◌, [], drop, is_some, eq-eqb}
+use Rattle.world_machine.proofs.AskersAlike.AskersAlike.{Shown}
+use Rattle.std.proofs.Common.{◌≡◌, ◌<◌, ◌==◌, ◌⊎◌, ℕ, List, ◌∷◌, refl, sym, ap, ◌∙◌, subst, length, Bool, true, false, Option, Some, None, arith, cond, inl, inr}
 use Rattle.std.specs.Prelude.{not, slice_index}
 use Rattle.std.proofs.lemmas.Bool.{false≢true}
 use Rattle.std.proofs.lemmas.Option.{none-some, same_Some}
-use Rattle.chunking.specs.Cutting.{nth_chunk, chunk_count}
+use Rattle.chunking.specs.Cutting.{nth_chunk}
 use Rattle.spdm_grammar.specs.Message.{RequestMessage}
-use Rattle.spdm_grammar.specs.Message.RequestMessage.{GetVersion, ChunkSend}
+use Rattle.spdm_grammar.specs.Message.RequestMessage.{GetVersion}
 use Rattle.spdm_grammar.specs.Requests.{canonical_request}
 use Rattle.spdm_machine.specs.Bodies.{clear_body}
 use Rattle.requester_machine.specs.Setup.{ReqSetup}
-use Rattle.requester_machine.specs.History.{History, Entry, sent_in, outstanding, next_tag, next_handle, begins_large, Led, sent_count, connection_terms}
+use Rattle.requester_machine.specs.History.{History, Entry, sent_in, outstanding, next_tag, next_handle, begins_large}
 use Rattle.requester_machine.specs.History.Entry.{Told, TookClear, TookRecord}
-use Rattle.requester_machine.specs.Message.{Command, Sent, body_of, Aim, asked_in}
+use Rattle.requester_machine.specs.Message.{Command, Sent, body_of, asked_in}
 use Rattle.requester_machine.specs.Message.Command.{Connect}
 use Rattle.requester_machine.specs.Sending.{plain_sent}
 use Rattle.requester_machine.specs.Session.{session_of, with_sent, after_record}
 use Rattle.requester_machine.proofs.Entries.{asked}
 use Rattle.responder_machine.specs.History as responder_history
-use Rattle.world_machine.specs.CapturedRequests.{Sends, Tells, GoesOn, BeginsLarge, BeginsOwed, is_later, owes, without_owed, with_next, IsOwed}
-use Rattle.world_machine.specs.LargeRequests.{piece_with, IsJudged, first_piece, is_last_piece, still_sending, AreAsked, MayHaveBegun, IsLargeRequest}
+use Rattle.world_machine.specs.CapturedRequests.{Sends, Tells, GoesOn, BeginsLarge, BeginsOwed, is_later, owes, without_owed, with_next}
+use Rattle.world_machine.specs.LargeRequests.{piece_with, first_piece}
 use Rattle.world_machine.specs.Rounds.{Dialogue, Round, no_draw, new_round, following_tag}
 use Rattle.world_machine.proofs.Agrees.{Counted, Agree, IsSmallIn, agree_with, counted_with}
 use Rattle.world_machine.proofs.AskTells.{sent_by_kind}
@@ -33,7 +29,7 @@ use Rattle.world_machine.proofs.HearsAlike.{SentAlike, EntryAlike, led_equal}
 use Rattle.world_machine.proofs.HeardNext.{IsOther}
 use Rattle.world_machine.proofs.TellsAlike.{connects_agree}
 use Rattle.world_machine.proofs.SentFacts.{asked_tag, large_free, tells_other}
-use Rattle.world_machine.proofs.AskersAlike.{UnderWay, AskersAlike, transfer_of, alike_told, entry_told, next_agree, below_next, piece_same, StepsAlike, acked, alike_tag, alike_aim, none_tag, piece_tells, under_way_next}
+use Rattle.world_machine.proofs.AskersAlike.{UnderWay, AskersAlike, transfer_of, alike_told, entry_told, next_agree, below_next, piece_same, alike_aim, none_tag, piece_tells}
 use Rattle.world_machine.proofs.AskersBegin.{dial, tag_follows, settled_by, tells_settle, large_begins, same_later}
 
 -- ---- What may begin a round, by whether a message is owed.

@@ -1,39 +1,33 @@
 -- An answer tells whether a session was dropped before it, and what it led to.
-use Rattle.std.proofs.Common.{◌≡◌, ◌≢◌, ◌≤◌, ◌<◌, ◌+◌, ◌==◌, ◌&&◌, ◌||◌, ◌⊎◌, ℕ, List, [], ◌∷◌, refl, sym, ap, ◌∙◌, subst, length, drop, Bool, true, false, Option, Some, None, is_some, is_none, cond, inl, inr, arith, eq-eqb}
+use Rattle.std.proofs.Common.{◌≡◌, ◌==◌, ◌&&◌, ◌||◌, ◌⊎◌, ℕ, List, [], ◌∷◌, refl, sym, ap, ◌∙◌, subst, drop, Bool, true, false, Option, Some, None, is_some, is_none, cond, inl, inr, arith, eq-eqb}
 use Rattle.std.specs.Prelude.{slice_index, not}
 use Rattle.std.proofs.lemmas.Bool.{false≢true}
 use Rattle.std.proofs.lemmas.Bool.Decides.{nat_tests}
-use Rattle.std.proofs.lemmas.Option.{none-some}
 use Rattle.spdm_basis.specs.declared.record_fault.RecordFault.{RecordFault}
-use Rattle.spdm_grammar.specs.Message.{ChunkMessage}
 use Rattle.spdm_grammar.specs.declared.phase.Phase.{Phase}
 use Rattle.spdm_grammar.specs.declared.names.request_code.TheConstants.{PSK_EXCHANGE}
-use Rattle.spdm_grammar.specs.declared.names.TheConstants.{MAX_MESSAGE_SIZE}
 use Rattle.spdm_machine.specs.Bodies.{clear_body, record_body}
 use Rattle.spdm_machine.specs.Sessions.{id_in_exchange, is_past_handshake}
 use Rattle.spdm_machine.specs.Terms.{terms_of, hash_len}
 use Rattle.spdm_grammar.specs.Requests.{request_in}
-use Rattle.responder_machine.specs.Answer.{Free, answer_bytes}
+use Rattle.responder_machine.specs.Answer.{Free}
 use Rattle.responder_machine.specs.Handling.{turn_of}
-use Rattle.responder_machine.specs.History.{History, Entry, kept_of, ended_of, clear_turns, phase_of, negotiation_of}
+use Rattle.responder_machine.specs.History.{History, kept_of, ended_of, clear_turns, phase_of, negotiation_of}
 use Rattle.responder_machine.specs.History.Entry.{Clear, Sealed, Queued, Ticked, Dropped}
 use Rattle.responder_machine.specs.LargeMessages.{chunks_of}
-use Rattle.responder_machine.specs.May.{IsAllowed, MayDrop, with_dropped, place_for, on_body}
-use Rattle.responder_machine.specs.Place.{Place, clear_place, session_place, is_held, held_of}
-use Rattle.responder_machine.specs.Records.{opening_fault, opened}
-use Rattle.responder_machine.specs.Responder.{Outcome, on_clear, on_record, to_session, in_session, in_session_by, is_repeat, kept_reply, kept_record, repeats, body_of, decrypt_error}
+use Rattle.responder_machine.specs.May.{IsAllowed, MayDrop, with_dropped}
+use Rattle.responder_machine.specs.Place.{Place, clear_place, is_held, held_of}
+use Rattle.responder_machine.specs.Records.{opening_fault}
+use Rattle.responder_machine.specs.Responder.{Outcome, on_clear, on_record, to_session, in_session, in_session_by, is_repeat, kept_reply, repeats, body_of}
 use Rattle.responder_machine.specs.Responder.Outcome.{Same, Unopened, Adds}
-use Rattle.responder_machine.specs.Session.{Events, session_of, id_in_record, is_live, is_timed, last_of, stage_of}
+use Rattle.responder_machine.specs.Session.{Events, session_of, id_in_record, is_live, last_of, stage_of}
 use Rattle.responder_machine.specs.Setup.{RspSetup}
 use Rattle.responder_machine.specs.Turn.{Turn, takes, answer_in, handle_in}
 use Rattle.responder_machine.proofs.Fresh.{turn_of-fresh, exchange-fresh}
-use Rattle.responder_machine.proofs.Ids.{not_four}
-use Rattle.world_machine.specs.CapturedAnswers.{MayLeadTo, MayLeadAfter, AreShown, shows, belongs_to, is_plain, answer_to}
-use Rattle.world_machine.specs.LargeAnswers.{is_large}
+use Rattle.world_machine.specs.CapturedAnswers.{shows, belongs_to, is_plain}
 use Rattle.world_machine.specs.Rounds.{no_draw}
-use Rattle.world_machine.proofs.TurnsAlike.{TurnsAlike, ReadAlike, turns_same, turns_large}
-use Rattle.world_machine.proofs.RepliesTell.{EntriesAlike, OutcomesAlike, clear_told}
-use Rattle.world_machine.proofs.RecordsTell.{record_told}
+use Rattle.world_machine.proofs.TurnsAlike.{ReadAlike, turns_same, turns_large}
+use Rattle.world_machine.proofs.RepliesTell.{OutcomesAlike, clear_told}
 
 -- ---- What a drop leaves as it was.
 

@@ -1,6 +1,6 @@
 -- A LargeResponse, and the last chunk of a large answer, tell what they lead to at the responder, where no answer is
 -- being fetched.
-use Rattle.std.proofs.Common.{◌≡◌, ◌≢◌, ◌≤◌, ◌<◌, ◌+◌, ◌==◌, ◌&&◌, ◌||◌, ◌⊎◌, ℕ, List, [], ◌∷◌, refl, sym, ap, ◌∙◌, subst, length, drop, Bool, true, false, Option, Some, None, is_some, cond, inl, inr, arith}
+use Rattle.std.proofs.Common.{◌≡◌, ◌≤◌, ◌==◌, ◌&&◌, ◌⊎◌, ℕ, List, [], ◌∷◌, refl, sym, ap, ◌∙◌, subst, length, drop, Bool, true, false, cond, inl, inr, arith}
 use Rattle.std.specs.Prelude.{slice_index, not, MatchBool}
 use Rattle.std.proofs.lemmas.Bool.{false≢true}
 use Rattle.std.proofs.lemmas.Bool.Decides.{nat_tests}
@@ -13,20 +13,20 @@ use Rattle.responder_machine.specs.Answer.{Free, answer_bytes}
 use Rattle.responder_machine.specs.Handling.{turn_of}
 use Rattle.responder_machine.specs.History.{History, Entry, ended_of, clear_turns, phase_of}
 use Rattle.responder_machine.specs.History.Entry.{Clear, Sealed, Queued, Ticked, Dropped}
-use Rattle.responder_machine.specs.May.{IsAllowed, MayDrop, with_dropped, place_for}
-use Rattle.responder_machine.specs.Place.{Place, clear_place, session_place, is_held}
+use Rattle.responder_machine.specs.May.{MayDrop, with_dropped, place_for}
+use Rattle.responder_machine.specs.Place.{clear_place, session_place, is_held}
 use Rattle.responder_machine.specs.Records.{opened}
-use Rattle.responder_machine.specs.Responder.{Outcome, on_clear, on_record, to_session, repeats, kept_record, body_of, decrypt_error, sent_by}
+use Rattle.responder_machine.specs.Responder.{Outcome, on_record, to_session, repeats, kept_record, body_of, sent_by}
 use Rattle.responder_machine.specs.Responder.Outcome.{Same, Unopened, Adds}
 use Rattle.responder_machine.specs.Session.{Events, session_of, id_in_record}
 use Rattle.responder_machine.specs.Setup.{RspSetup}
 use Rattle.responder_machine.specs.Turn.{Turn, takes, answer_in}
 use Rattle.world_machine.specs.CapturedAnswers.{MayLeadTo, MayLeadAfter, AreShown, shows, is_plain, tag_in, request_in, MayHaveLed}
-use Rattle.world_machine.specs.LargeAnswers.{is_large, entry_with, gives_last}
+use Rattle.world_machine.specs.LargeAnswers.{is_large, entry_with}
 use Rattle.world_machine.specs.Rounds.{no_draw}
 use Rattle.world_machine.proofs.RepliesTell.{EntriesAlike, OutcomesAlike}
 use Rattle.world_machine.proofs.DropsTell.{RecordForm, record_shown, turns_stay, fresh_id, held_before, clear_form, no_record_drop}
-use Rattle.world_machine.proofs.PlainTells.{ClearLed, RecordLed, led_clear, led_record, clear_alike, record_alike, form_of, entries_erased, entries_same}
+use Rattle.world_machine.proofs.PlainTells.{ClearLed, RecordLed, led_clear, led_record, clear_alike, record_alike, form_of, entries_erased}
 
 -- ---- A record that adds an entry comes to a session that was not dropped.
 
@@ -59,16 +59,16 @@ adds_here : (r : RspSetup) (h : History) (ids : List ℕ) (tag : ℕ) (body : Li
 unfolding on_record
 adds_here r h ids tag body e led = elim (session_stays (id_in_record (drop 1 body)) ids h) [
   | inl same ↦ record {
-      free = led.free;
-      few = led.few;
-      short = subst (λ (s : Events). length (answer_bytes r (session_place s) (drop 1 (opened r.psk s (drop 1 body))) led.free) ≤ MAX_MESSAGE_SIZE) same led.short;
-      leads =
-          sym (
-          ap (λ (s : Events). record_on r tag (drop 1 body) led.free (with_dropped h ids) s) same
-          ∙ ap (λ k. cond (repeats k (drop 1 body)) (Same (record_body (kept_record k))) (to_session r (phase_of (clear_turns (with_dropped h ids))) (session_of (id_in_record (drop 1 body)) h) led.free tag (drop 1 body) no_draw)) (ended_stay ids h)
-          ∙ ap (λ (l : List Turn). cond (repeats (ended_of h) (drop 1 body)) (Same (record_body (kept_record (ended_of h)))) (to_session r (phase_of l) (session_of (id_in_record (drop 1 body)) h) led.free tag (drop 1 body) no_draw)) (turns_stay ids h))
-          ∙ led.leads;
-    }
+    free = led.free;
+    few = led.few;
+    short = subst (λ (s : Events). length (answer_bytes r (session_place s) (drop 1 (opened r.psk s (drop 1 body))) led.free) ≤ MAX_MESSAGE_SIZE) same led.short;
+    leads =
+        sym (
+        ap (λ (s : Events). record_on r tag (drop 1 body) led.free (with_dropped h ids) s) same
+        ∙ ap (λ k. cond (repeats k (drop 1 body)) (Same (record_body (kept_record k))) (to_session r (phase_of (clear_turns (with_dropped h ids))) (session_of (id_in_record (drop 1 body)) h) led.free tag (drop 1 body) no_draw)) (ended_stay ids h)
+        ∙ ap (λ (l : List Turn). cond (repeats (ended_of h) (drop 1 body)) (Same (record_body (kept_record (ended_of h)))) (to_session r (phase_of l) (session_of (id_in_record (drop 1 body)) h) led.free tag (drop 1 body) no_draw)) (turns_stay ids h))
+        ∙ led.leads;
+  }
   | inr gone ↦ absurd (not_gone r tag (drop 1 body) led.free (repeats (ended_of (with_dropped h ids)) (drop 1 body)) _ _ e
       (sym (ap (λ (s : Events). record_on r tag (drop 1 body) led.free (with_dropped h ids) s) gone) ∙ led.leads))
 ]
@@ -145,9 +145,11 @@ no_shown r h tag body id e may one two shown = by_type (slice_index body 0 == 5)
         let at : shows r h body id (Adds (Clear tag t no_draw)) ≡ true = ap (λ x. shows r h body id (Adds x)) (sym is) ∙ shown in
         let same : id_in_exchange (answer_in t.effect) ≡ id = nat_same _ id (and_second (takes PSK_EXCHANGE t) _ at) in
         false≢true (sym (fresh_id r h (drop 1 body) o.free (place_for h body) o.allowed (and_first _ _ at)) ∙ ap (is_held h) same ∙ held_before h id may)
+
     form : (o : ClearLed r h tag body (Adds e)) → ((b : List ℕ) × (Adds e ≡ Same b)) ⊎ (Adds e ≡ Adds (Clear tag (turn_of r (clear_place h) (drop 1 body) o.free) no_draw)) → ⊥
     form o (inl same) = let x = same.1 in absurd (cc)
     form o (inr added) = clear o (let x : Adds e ≡ Adds (Clear tag (turn_of r (clear_place h) (drop 1 body) o.free) no_draw) = added in cc)
+
     by_type : (b : Bool) → (slice_index body 0 == 5) ≡ b → ⊥
     by_type true is = let o = led_clear r h tag body (Adds e) is one in form o (clear_form r h tag (drop 1 body) o.free (Adds e) o.leads)
     by_type false is =

@@ -26,6 +26,6 @@ pub mod DropsTell
 pub mod PlainTells
 pub mod LargeTells
 pub mod RepliesAlike
-pub mod Rest
 pub mod SmallGets
+pub mod Rest
 mod CaptureRows

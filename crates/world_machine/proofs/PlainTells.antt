@@ -1,28 +1,24 @@
 -- An answer that goes whole, and a LargeResponse, tell what they lead to at the responder.
-use Rattle.std.proofs.Common.{◌≡◌, ◌≢◌, ◌≤◌, ◌<◌, ◌+◌, ◌==◌, ◌&&◌, ◌||◌, ◌⊎◌, ℕ, List, [], ◌∷◌, refl, sym, ap, ◌∙◌, subst, length, drop, Bool, true, false, Option, Some, None, is_some, cond, inl, inr, arith}
+use Rattle.std.proofs.Common.{◌≡◌, ◌≤◌, ◌==◌, ◌&&◌, ℕ, List, [], ◌∷◌, refl, sym, ap, ◌∙◌, subst, length, drop, Bool, true, false, cond}
 use Rattle.std.specs.Prelude.{slice_index, not}
-use Rattle.std.proofs.lemmas.Bool.{false≢true}
-use Rattle.spdm_grammar.specs.declared.phase.Phase.{Phase}
 use Rattle.spdm_grammar.specs.declared.names.TheConstants.{MAX_MESSAGE_SIZE}
-use Rattle.spdm_machine.specs.Bodies.{clear_body, record_body}
 use Rattle.responder_machine.specs.Answer.{Free, answer_bytes}
-use Rattle.responder_machine.specs.History.{History, Entry, ended_of, clear_turns, phase_of}
+use Rattle.responder_machine.specs.History.{History, Entry}
 use Rattle.responder_machine.specs.History.Entry.{Clear, Sealed, Queued, Ticked, Dropped}
-use Rattle.responder_machine.specs.May.{IsAllowed, MayDrop, with_dropped, place_for, on_body}
+use Rattle.responder_machine.specs.May.{IsAllowed, MayDrop, with_dropped, place_for}
 use Rattle.responder_machine.specs.Place.{clear_place, session_place}
 use Rattle.responder_machine.specs.Records.{opened}
-use Rattle.responder_machine.specs.Responder.{Outcome, on_clear, on_record, to_session, repeats, kept_record, body_of, after, sent_by}
+use Rattle.responder_machine.specs.Responder.{Outcome, on_clear, on_record, body_of, after}
 use Rattle.responder_machine.specs.Responder.Outcome.{Same, Unopened, Adds}
-use Rattle.responder_machine.specs.Session.{Events, session_of, id_in_record}
+use Rattle.responder_machine.specs.Session.{session_of, id_in_record}
 use Rattle.responder_machine.specs.Setup.{RspSetup}
-use Rattle.responder_machine.specs.Turn.{Turn, handle_in}
-use Rattle.world_machine.specs.CapturedAnswers.{MayLeadTo, MayLeadAfter, AreShown, shows, is_plain, answer_to, clear_answer, record_answer}
+use Rattle.world_machine.specs.CapturedAnswers.{MayLeadTo, MayLeadAfter, AreShown, is_plain, clear_answer, record_answer}
 use Rattle.world_machine.specs.LargeAnswers.{is_large, entry_with}
 use Rattle.world_machine.specs.Rounds.{no_draw}
-use Rattle.world_machine.proofs.TurnsAlike.{TurnsAlike, turns_same, turns_large, turns_erased}
+use Rattle.world_machine.proofs.TurnsAlike.{turns_same, turns_large, turns_erased}
 use Rattle.world_machine.proofs.RepliesTell.{EntriesAlike, OutcomesAlike}
 use Rattle.world_machine.proofs.RecordsTell.{record_told}
-use Rattle.world_machine.proofs.DropsTell.{clear_drops, no_clear_drop, one_drop, RecordForm, record_form, record_shown, no_record_drop, turns_stay}
+use Rattle.world_machine.proofs.DropsTell.{clear_drops, no_clear_drop, one_drop, RecordForm, record_form, record_shown, no_record_drop}
 
 -- ---- What a body may lead to, by its type.
 

@@ -1,27 +1,24 @@
 -- The record that a responder answers tells the turn of the record that it took.
-use Rattle.std.proofs.Common.{◌≡◌, ◌≢◌, ◌≤◌, ◌<◌, ◌+◌, ◌==◌, ◌&&◌, ◌||◌, ℕ, suc, List, [], ◌∷◌, ◌++◌, refl, sym, ap, ◌∙◌, subst, length, drop, Bool, true, false, Option, Some, None, is_some, is_none, cond, arith}
-use Rattle.std.specs.Prelude.{slice_index, not, nat_lt}
-use Rattle.std.proofs.lemmas.Bool.{false≢true}
+use Rattle.std.proofs.Common.{◌≡◌, ◌≤◌, ◌<◌, ◌+◌, ◌==◌, ℕ, List, [], ◌∷◌, refl, sym, ap, ◌∙◌, length, drop, Bool, true, false, Option, Some, None, cond, arith}
+use Rattle.std.specs.Prelude.{slice_index}
 use Rattle.key_schedule.specs.Purpose.{Purpose, key_of, iv_of}
 use Rattle.secured_record.proofs.Told.{record_tells}
 use Rattle.spdm_basis.specs.declared.record_fault.RecordFault.{RecordFault}
-use Rattle.spdm_grammar.specs.Message.{RequestMessage, ChunkMessage}
-use Rattle.spdm_grammar.specs.Message.RequestMessage.{ChunkSend}
+use Rattle.spdm_grammar.specs.Message.{ChunkMessage}
 use Rattle.spdm_grammar.specs.declared.error_code.ErrorCode.{ErrorCode}
 use Rattle.spdm_grammar.specs.declared.error_code.ErrorCode.TheVariants.{InvalidRequest, UnexpectedRequest, Unspecified, DecryptError, UnsupportedRequest, SessionLimitExceeded, SessionRequired, ResponseTooLarge, RequestTooLarge, LargeResponse, VersionMismatch}
 use Rattle.spdm_grammar.specs.declared.phase.Phase.{Phase}
 use Rattle.spdm_grammar.specs.declared.names.TheConstants.{MAX_MESSAGE_SIZE}
-use Rattle.spdm_machine.specs.Bodies.{clear_body, record_body}
 use Rattle.spdm_machine.specs.Keys.{Draw, sealed_of}
 use Rattle.spdm_machine.specs.Sessions.{id_in_exchange}
 use Rattle.responder_machine.specs.Answer.{Free, answer_bytes, request_at}
-use Rattle.responder_machine.specs.Handling.{turn_of, turn_by, refused_turn, chunk_in, error_bytes, goes_large, large_response}
-use Rattle.responder_machine.specs.History.{History, KeptRecord, ended_of, clear_turns, phase_of}
-use Rattle.responder_machine.specs.Place.{Place, clear_place, session_place}
+use Rattle.responder_machine.specs.Handling.{turn_of, turn_by, chunk_in, error_bytes, goes_large, large_response}
+use Rattle.responder_machine.specs.History.{History, ended_of, clear_turns, phase_of}
+use Rattle.responder_machine.specs.Place.{Place, session_place}
 use Rattle.responder_machine.specs.Records.{reply_record, opening_fault, opened, response_purpose}
 use Rattle.responder_machine.specs.Refusal.{refusal}
-use Rattle.responder_machine.specs.Responder.{Outcome, on_record, to_session, session_turn, session_turn_by, inner_refusal, data_turn, inner_reply, sealed_entry, in_session, in_session_by, body_of, repeats, kept_record}
-use Rattle.responder_machine.specs.Responder.Outcome.{Same, Unopened, Adds}
+use Rattle.responder_machine.specs.Responder.{on_record, to_session, session_turn, session_turn_by, inner_refusal, data_turn, inner_reply, sealed_entry, in_session, in_session_by, body_of, repeats}
+use Rattle.responder_machine.specs.Responder.Outcome.{Same, Adds}
 use Rattle.responder_machine.specs.Session.{Events, session_of, stage_of, session_terms, exchange_of, exchange_answer, response_next, response_epoch, id_bytes, id_in_record, last_of}
 use Rattle.responder_machine.specs.Setup.{RspSetup}
 use Rattle.responder_machine.specs.Turn.{Turn, updates}
@@ -114,7 +111,7 @@ record_at psk s t u b inner other pad padding is are less few same =
     let choice = (session_terms s).choice in
     let to = λ (x : Bool) (text fill : List ℕ). sealed_of choice (purpose_at psk s x) (cond x 0 (response_next s)) (id_bytes s) text fill in
     let there : to b inner pad ≡ to b other padding = sym (ap (λ (x : Bool). sealed_of choice (purpose_at psk s x) (cond x 0 (response_next s)) (id_bytes s) inner pad) is) ∙ same
-        ∙ ap (λ (x : Bool). sealed_of choice (purpose_at psk s x) (cond x 0 (response_next s)) (id_bytes s) other padding) are in
+    ∙ ap (λ (x : Bool). sealed_of choice (purpose_at psk s x) (cond x 0 (response_next s)) (id_bytes s) other padding) are in
     (record_tells (key_of choice.hash choice.aead (purpose_at psk s b)) (iv_of choice.hash (purpose_at psk s b)) (id_in_exchange (exchange_of s)) (id_in_exchange (exchange_answer s)) (cond b 0 (response_next s))
     inner other pad padding less few there).0
 
@@ -128,7 +125,7 @@ module _ (r : RspSetup) (tag : ℕ) (f k : Free) (d : Draw) (few : length f.repl
       let u = session_turn r s inner k in
       let replies = ap (λ (l : List ℕ). drop 1 l) same in
       let texts : inner_reply t ≡ inner_reply u = record_at r.psk s t u (updates 2 u) (inner_reply t) (inner_reply u) f.pad k.pad (session_updates r s inner f k) refl
-          (let e = session_short r s inner f short few in omega arith) (let e = session_short r s inner k brief less in omega arith) replies in
+      (let e = session_short r s inner f short few in omega arith) (let e = session_short r s inner k brief less in omega arith) replies in
       (refl, refl, session_told r s inner f k (ap (λ (l : List ℕ). drop 1 l) texts), replies, refl)
 
   in_session_told : (phase : Phase) (s : Events) (sealed : List ℕ) (x : Option RecordFault) → length (answer_bytes r (session_place s) (drop 1 (opened r.psk s sealed)) f) ≤ MAX_MESSAGE_SIZE → length (answer_bytes r (session_place s) (drop 1 (opened r.psk s sealed)) k) ≤ MAX_MESSAGE_SIZE

@@ -1,6 +1,6 @@
 -- An answer of one body leads from dialogues that are alike to dialogues that are alike, while no large answer is
 -- fetched.
-use Rattle.std.proofs.Common.{◌≡◌, ◌≢◌, ◌+◌, ◌-◌, ◌<◌, ◌==◌, ◌&&◌, ◌⊎◌, ℕ, List, [], ◌∷◌, refl, sym, ap, ◌∙◌, subst, drop, Bool, true, false, Option, Some, None, cond, inl, inr}
+use Rattle.std.proofs.Common.{◌≡◌, ◌-◌, ◌==◌, ◌&&◌, ℕ, List, [], ◌∷◌, refl, sym, ap, ◌∙◌, subst, drop, Bool, true, false, Option, Some, None, cond, inl, inr}
 use Rattle.std.specs.Prelude.{slice_index, not}
 use Rattle.std.proofs.lemmas.Bool.{false≢true}
 use Rattle.std.proofs.lemmas.Option.{none-some, same_Some}
@@ -10,15 +10,15 @@ use Rattle.requester_machine.specs.History as requester_history
 use Rattle.requester_machine.specs.Setup.{ReqSetup}
 use Rattle.responder_machine.specs.History.{History, Entry}
 use Rattle.responder_machine.specs.May.{MayDrop, with_dropped, place_for}
-use Rattle.responder_machine.specs.Responder.{Outcome, body_of, after, sent_by}
+use Rattle.responder_machine.specs.Responder.{Outcome, body_of}
 use Rattle.responder_machine.specs.Responder.Outcome.{Same, Unopened, Adds}
 use Rattle.responder_machine.specs.Setup.{RspSetup, towards}
 use Rattle.world_machine.specs.Capture.{Replies, RepliesBy}
-use Rattle.world_machine.specs.CapturedAnswers.{Answers, Hears, MayLeadTo, MayLeadAfter, AreShown, shows, is_plain}
-use Rattle.world_machine.specs.LargeAnswers.{is_large, gives_last, takes_get, is_fetching, while_fetched, dropped_before_large}
+use Rattle.world_machine.specs.CapturedAnswers.{Answers, Hears, MayLeadTo, MayLeadAfter, AreShown, is_plain}
+use Rattle.world_machine.specs.LargeAnswers.{is_large, gives_last, takes_get, while_fetched, dropped_before_large}
 use Rattle.world_machine.specs.Rounds.{Dialogue, Round}
 use Rattle.world_machine.specs.Setup.{Configuration, known_of}
-use Rattle.world_machine.proofs.RepliesTell.{OutcomesAlike, EntriesAlike}
+use Rattle.world_machine.proofs.RepliesTell.{OutcomesAlike}
 use Rattle.world_machine.proofs.DropsTell.{no_clear_drop, no_record_drop}
 use Rattle.world_machine.proofs.PlainTells.{ClearLed, RecordLed, led_clear, led_record, clear_alike, record_alike, form_of, plain_told, plain_next, entries_same, entries_erased}
 use Rattle.world_machine.proofs.LargeTells.{adds_alike, large_next, large_apart, led_drops}

@@ -1,38 +1,27 @@
 -- The body that a responder answers tells what the request led to, but for the bytes of an answer that goes by
 -- LargeResponse.
-use Rattle.std.proofs.Common.{◌≡◌, ◌≢◌, ◌≤◌, ◌<◌, ◌+◌, ◌==◌, ◌&&◌, ◌||◌, ℕ, suc, List, [], ◌∷◌, ◌++◌, refl, sym, ap, ◌∙◌, subst, length, drop, Bool, true, false, Option, Some, None, is_some, is_none, cond, arith}
-use Rattle.std.specs.Prelude.{slice_index, not, nat_lt}
-use Rattle.std.proofs.lemmas.Bool.{false≢true}
+use Rattle.std.proofs.Common.{◌≡◌, ◌≢◌, ◌==◌, ◌&&◌, ℕ, List, [], refl, sym, ap, ◌∙◌, subst, drop, Bool, true, false, Option, Some, None, is_none, cond, arith}
 use Rattle.std.proofs.lemmas.Bool.Decides.{nat_tests}
-use Rattle.std.proofs.lemmas.Option.{none-some, same_Some}
-use Rattle.key_schedule.specs.Purpose.{Purpose, key_of, iv_of}
-use Rattle.secured_record.proofs.Told.{record_tells}
-use Rattle.spdm_basis.specs.declared.record_fault.RecordFault.{RecordFault}
 use Rattle.spdm_grammar.specs.Message.{RequestMessage, ChunkMessage}
 use Rattle.spdm_grammar.specs.Message.RequestMessage.{GetVersion, GetCapabilities, NegotiateAlgorithms, GetMeasurements, PskExchange, PskFinish, Heartbeat, KeyUpdate, EndSession, ChunkSend, ChunkGet}
 use Rattle.spdm_grammar.specs.declared.error_code.ErrorCode.{ErrorCode}
-use Rattle.spdm_grammar.specs.declared.error_code.ErrorCode.TheVariants.{InvalidRequest, UnexpectedRequest, Unspecified, DecryptError, UnsupportedRequest, SessionLimitExceeded, SessionRequired, ResponseTooLarge, RequestTooLarge, LargeResponse, VersionMismatch}
-use Rattle.spdm_grammar.specs.declared.phase.Phase.{Phase}
 use Rattle.spdm_grammar.specs.declared.names.request_code.TheConstants.{CHUNK_SEND}
-use Rattle.spdm_machine.specs.Bodies.{clear_body, record_body}
-use Rattle.spdm_machine.specs.Keys.{Draw, sealed_of}
-use Rattle.spdm_machine.specs.Sessions.{id_in_exchange}
+use Rattle.spdm_machine.specs.Bodies.{clear_body}
+use Rattle.spdm_machine.specs.Keys.{Draw}
 use Rattle.responder_machine.specs.Answer.{Free, answer_bytes, answer_to, request_at}
-use Rattle.responder_machine.specs.Handling.{turn_of, turn_by, refused_turn, chunk_in, error_bytes, extended_of, sent_for, goes_large, large_response, request_effect, effect_of, handle_for}
-use Rattle.responder_machine.specs.History.{History, Entry, KeptRecord, kept_of, ended_of, clear_turns, phase_of}
-use Rattle.responder_machine.specs.History.Entry.{Clear, Sealed, Queued, Ticked, Dropped}
+use Rattle.responder_machine.specs.Handling.{turn_of, turn_by, chunk_in, effect_of, handle_for}
+use Rattle.responder_machine.specs.History.{History, Entry, kept_of}
+use Rattle.responder_machine.specs.History.Entry.{Clear, Sealed}
 use Rattle.responder_machine.specs.Place.{Place, clear_place, session_place}
-use Rattle.responder_machine.specs.Records.{reply_record, reply_purpose, reply_number, opening_fault, opened, response_purpose}
-use Rattle.responder_machine.specs.Refusal.{refusal, refused_form, refused_contents}
-use Rattle.responder_machine.specs.Responder.{Outcome, on_clear, is_repeat, kept_reply, session_turn, session_turn_by, inner_refusal, data_turn, inner_reply, sealed_entry, in_session, in_session_by, decrypt_error, body_of}
+use Rattle.responder_machine.specs.Refusal.{refusal, refused_contents}
+use Rattle.responder_machine.specs.Responder.{Outcome, on_clear, is_repeat, kept_reply, body_of}
 use Rattle.responder_machine.specs.Responder.Outcome.{Same, Unopened, Adds}
-use Rattle.responder_machine.specs.Session.{Events, stage_of, session_terms, exchange_of, exchange_answer, response_next}
+use Rattle.responder_machine.specs.Session.{Events}
 use Rattle.responder_machine.specs.Setup.{RspSetup}
-use Rattle.responder_machine.specs.Turn.{Turn, Effect, is_data, updates}
-use Rattle.responder_machine.specs.Turn.Effect.{NoEffect, Took, TookData}
+use Rattle.responder_machine.specs.Turn.{updates}
 use Rattle.responder_machine.proofs.Codes.{asked-code}
 use Rattle.responder_machine.proofs.Tests.{form_shown}
-use Rattle.world_machine.proofs.TurnsAlike.{TurnsAlike, EffectsAlike, ReadAlike, turn_told}
+use Rattle.world_machine.proofs.TurnsAlike.{TurnsAlike, ReadAlike, turn_told}
 
 -- ---- What is alike.
 
@@ -60,7 +49,7 @@ pub clear_told : (r : RspSetup) (h g : History) (tag : ℕ) (m : List ℕ) (f k 
 unfolding on_clear
 clear_told r h g tag m f k d kept read =
     let P : Bool → Type 0 = λ b. body_of (on_clear r h tag m f d) ≡ body_of (cond b (Same (clear_body (kept_reply (kept_of g)))) (Adds (Clear tag (turn_of r (clear_place g) m k) d)))
-        → OutcomesAlike (on_clear r h tag m f d) (cond b (Same (clear_body (kept_reply (kept_of g)))) (Adds (Clear tag (turn_of r (clear_place g) m k) d))) in
+    → OutcomesAlike (on_clear r h tag m f d) (cond b (Same (clear_body (kept_reply (kept_of g)))) (Adds (Clear tag (turn_of r (clear_place g) m k) d))) in
     subst P (ap (λ o. is_repeat o tag m) kept) (clear_by r h g tag m f k d (is_repeat (kept_of h) tag m) _ _ (ap (λ o. clear_body (kept_reply o)) kept) read)
 
 -- ---- In a session: under which key a turn is answered.

@@ -1,29 +1,22 @@
 -- Requesters that are alike show the same.
-use Rattle.std.proofs.Common.{◌≡◌, ◌+◌, ◌==◌, ◌&&◌, ◌||◌, ◌⊎◌, ℕ, suc, List, [], ◌∷◌, refl, sym, ap, ◌∙◌, subst, length, drop, take, map, Bool, true, false, Option, Some, None, cond, inl, inr}
-use Rattle.std.specs.Prelude.{nat_lt, not, bytes_eq}
+use Rattle.std.proofs.Common.{◌≡◌, ◌+◌, ◌&&◌, ℕ, suc, List, [], ◌∷◌, refl, sym, ap, ◌∙◌, length, take, Bool, true, false, Option, Some, None, cond, inl, inr}
+use Rattle.std.specs.Prelude.{not, bytes_eq}
 use Rattle.std.proofs.lemmas.Bool.{false≢true}
-use Rattle.mctp_framing.specs.Gathering.{Gathered}
-use Rattle.mctp_framing.specs.Gathering.Gathered.{Whole, More, Dropped}
-use Rattle.requester_machine.specs.History.{History, Entry, sent_in, outstanding}
+use Rattle.requester_machine.specs.History.{History, Entry, outstanding}
 use Rattle.requester_machine.specs.History.Entry.{Told, TookClear, TookRecord}
 use Rattle.requester_machine.specs.Message.{Aim, Sent}
 use Rattle.requester_machine.specs.Message.Aim.{ByChunks}
 use Rattle.requester_machine.specs.Session.{Steps, session_of, is_accepted, id_bytes}
 use Rattle.requester_machine.specs.Setup.{ReqSetup}
-use Rattle.responder_machine.specs.History as responder_history
-use Rattle.responder_machine.specs.Setup.{RspSetup}
 use Rattle.spdm_grammar.specs.Message.{RequestMessage}
 use Rattle.world_machine.specs.CapturedRequests.{is_later, owes, without_owed, with_next}
-use Rattle.world_machine.specs.Difference.{comes_why, goes_why, request_why, reply_why, asks_out_of_turn, replies_out_of_turn, is_other_type}
 use Rattle.world_machine.specs.LargeAnswers.{is_fetching, is_for_chunk}
 use Rattle.world_machine.specs.Opening.{names, session_named, opens_asking}
 use Rattle.world_machine.specs.Rounds.{Dialogue, Round}
-use Rattle.world_machine.specs.SessionTable.{Row, accepted_in, accepted_between, is_of, is_new, request_by, request_between, rows_between, row_after, new_row, with_responder, with_requester, has_begun}
-use Rattle.world_machine.proofs.Agrees.{Agree}
-use Rattle.world_machine.proofs.HearsAlike.{EntryAlike, LedAlike}
-use Rattle.world_machine.proofs.AskersAlike.{StepsAlike, UnderWay, AskersAlike, alike_aim, alike_tag, next_agree, acked}
+use Rattle.world_machine.specs.SessionTable.{accepted_in, is_of}
+use Rattle.world_machine.proofs.HearsAlike.{EntryAlike}
+use Rattle.world_machine.proofs.AskersAlike.{StepsAlike, AskersAlike, alike_aim, alike_tag, next_agree, acked}
 use Rattle.world_machine.proofs.AskersAlike.AskersAlike.{Settled, Owing, Shown, Due}
-use Rattle.world_machine.proofs.AskersStep.{owed, unowed}
 use Rattle.world_machine.proofs.AskersHear.{later_tag}
 
 -- ---- What the table of sessions looks at.

@@ -5,17 +5,17 @@ use Rattle.world_machine.specs.LargeAnswers.{is_large, takes_get}
 use Rattle.world_machine.specs.CapturedAnswers.{MayLeadTo}
 use Rattle.spdm_grammar.specs.declared.phase.Phase.{Phase}
 use Rattle.spdm_basis.specs.declared.record_fault.RecordFault.{RecordFault}
-use Rattle.responder_machine.specs.Responder.Outcome.{Same, Unopened, Adds}
+use Rattle.responder_machine.specs.Responder.Outcome.{Same, Adds}
 use Rattle.responder_machine.specs.Records.{opening_fault, opened}
-use Rattle.responder_machine.specs.History.Entry.{Clear, Sealed}
+use Rattle.responder_machine.specs.History.Entry.{Clear}
 use Rattle.responder_machine.specs.History.{History, Entry, ended_of, clear_turns, phase_of}
 use Rattle.responder_machine.proofs.Tests.{form_shown, contents_shown}
 use Rattle.responder_machine.proofs.Codes.{asked-code}
 use Rattle.responder_machine.specs.Turn.Effect.{NoEffect}
-use Rattle.responder_machine.specs.Turn.{Turn, Effect, code_in, handle_in}
+use Rattle.responder_machine.specs.Turn.{Effect, code_in, handle_in}
 use Rattle.responder_machine.specs.Setup.{RspSetup}
 use Rattle.responder_machine.specs.Session.{Events, stage_of, session_of, id_in_record, last_of}
-use Rattle.responder_machine.specs.Responder.{session_turn, session_turn_by, inner_refusal, data_turn, Outcome, on_clear, on_record, to_session, in_session, in_session_by, sealed_entry, repeats}
+use Rattle.responder_machine.specs.Responder.{session_turn, session_turn_by, inner_refusal, data_turn, on_clear, on_record, to_session, in_session, in_session_by, sealed_entry, repeats}
 use Rattle.responder_machine.specs.Refusal.{refusal, code_of, lacks_flag, bytes_round, sizes_are_known, is_misplaced}
 use Rattle.responder_machine.specs.Place.Where.{InChunks}
 use Rattle.responder_machine.specs.Place.{Place, place_terms, session_place, inside, clear_place}
@@ -27,7 +27,7 @@ use Rattle.spdm_grammar.specs.declared.error_code.ErrorCode.{ErrorCode}
 use Rattle.spdm_grammar.specs.Codes.{code_for}
 use Rattle.spdm_grammar.specs.Fields.{zeros, large_bytes}
 use Rattle.byteorder.specs.Endian.{little_bytes}
-use Rattle.std.proofs.Common.{◌≡◌, ◌≢◌, ◌≤◌, ◌<◌, ◌+◌, ◌-◌, ◌*◌, ◌==◌, ◌&&◌, ◌||◌, ℕ, zero, suc, List, [], ◌∷◌, ◌++◌, refl, sym, ap, ◌∙◌, subst, length, drop, min, Bool, true, false, Option, Some, None, Result, Ok, Err, is_some, cond, arith, length-append}
+use Rattle.std.proofs.Common.{◌≡◌, ◌≤◌, ◌+◌, ◌-◌, ◌==◌, ◌&&◌, ◌||◌, ℕ, List, [], ◌∷◌, ◌++◌, refl, sym, ap, ◌∙◌, subst, length, drop, Bool, true, false, Option, Some, None, Ok, Err, is_some, cond, arith}
 use Rattle.std.specs.Prelude.{not, nat_lt, slice_index, unwrap_or}
 use Rattle.std.specs.Result.{result_ok}
 use Rattle.std.proofs.lemmas.Bool.{false≢true, le-ltb}
@@ -39,12 +39,12 @@ use Rattle.chunking.proofs.ChunkSteps.{size_is}
 use Rattle.negotiate.specs.Capabilities.{common_of, shared, psk_is, protects}
 use Rattle.negotiate.specs.declared.shared.Common.{Common}
 use Rattle.spdm_grammar.specs.Message.{RequestMessage, ChunkMessage}
-use Rattle.spdm_grammar.specs.Message.RequestMessage.{ChunkSend, ChunkGet}
+use Rattle.spdm_grammar.specs.Message.RequestMessage.{ChunkGet}
 use Rattle.spdm_grammar.specs.Message.ResponseMessage.{ChunkResponse}
 use Rattle.spdm_grammar.specs.Responses.{canonical_response}
 use Rattle.spdm_grammar.specs.declared.capabilities.Caps.{Caps}
 use Rattle.spdm_grammar.specs.declared.part_faults.CapsFault.TheVariants.{SizeTooSmall, SizesCrossed, NoPsk, NoProtection}
-use Rattle.spdm_grammar.specs.declared.names.TheConstants.{MIN_DATA_TRANSFER_SIZE, MAX_MESSAGE_SIZE}
+use Rattle.spdm_grammar.specs.declared.names.TheConstants.{MIN_DATA_TRANSFER_SIZE}
 use Rattle.spdm_grammar.specs.declared.names.capability.TheConstants.{PSK_CAP, PSK_CAP_WITH_CONTEXT}
 use Rattle.spdm_grammar.specs.declared.names.request_code.TheConstants.{CHUNK_GET}
 use Rattle.spdm_machine.specs.Terms.{terms_of, common_from, no_common, asked_caps, told_caps, request_value, response_value}

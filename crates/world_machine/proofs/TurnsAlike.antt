@@ -1,13 +1,13 @@
 -- The reply to a message tells the turn, but for the bytes of an answer that goes by LargeResponse.
-use Rattle.std.proofs.Common.{◌≡◌, ◌≢◌, ◌≤◌, ◌<◌, ◌+◌, ◌==◌, ◌&&◌, ℕ, List, [], ◌∷◌, ◌++◌, refl, sym, ap, ◌∙◌, subst, length, drop, Bool, true, false, Option, Some, None, is_some, is_none, cond, arith}
-use Rattle.std.specs.Prelude.{slice_index, not, nat_lt}
+use Rattle.std.proofs.Common.{◌≡◌, ◌≢◌, ◌==◌, ◌&&◌, ℕ, List, [], ◌∷◌, refl, sym, ap, ◌∙◌, subst, drop, Bool, true, false, Option, Some, None, is_some, is_none, cond, arith}
+use Rattle.std.specs.Prelude.{slice_index, not}
 use Rattle.std.proofs.lemmas.Bool.{false≢true}
 use Rattle.std.proofs.lemmas.Option.{none-some, same_Some}
 use Rattle.std.specs.Option.{option_or}
 use Rattle.chunking.specs.Collecting.{under_way, joined_with}
 use Rattle.spdm_basis.specs.Tests.{first_of_tests}
 use Rattle.spdm_grammar.specs.ErrorNumber.{error_number}
-use Rattle.spdm_grammar.specs.Message.{RequestMessage, ResponseMessage, ChunkMessage}
+use Rattle.spdm_grammar.specs.Message.{RequestMessage, ChunkMessage}
 use Rattle.spdm_grammar.specs.Message.RequestMessage.{GetVersion, GetCapabilities, NegotiateAlgorithms, GetMeasurements, PskExchange, PskFinish, Heartbeat, KeyUpdate, EndSession, ChunkSend, ChunkGet}
 use Rattle.spdm_grammar.specs.Responses.{canonical_response}
 use Rattle.spdm_grammar.specs.declared.error_code.ErrorCode.{ErrorCode}
@@ -15,7 +15,7 @@ use Rattle.spdm_grammar.specs.declared.error_code.ErrorCode.TheVariants.{Invalid
 use Rattle.spdm_grammar.specs.declared.names.error_number.TheConstants.{INVALID_REQUEST, UNEXPECTED_REQUEST, UNSPECIFIED, DECRYPT_ERROR, UNSUPPORTED_REQUEST, SESSION_LIMIT_EXCEEDED, SESSION_REQUIRED, RESPONSE_TOO_LARGE, REQUEST_TOO_LARGE, LARGE_RESPONSE}
 use Rattle.spdm_grammar.specs.declared.names.response_code.TheConstants.{ERROR}
 use Rattle.responder_machine.specs.Answer.{Free, answer_bytes, answer_of, answer_to, request_at}
-use Rattle.responder_machine.specs.Handling.{turn_of, turn_by, refused_turn, plain_turn, chunk_turn, last_chunk_turn, carried_turn, taken_chunk, request_effect, request_reply, error_bytes, large_response, effect_of, goes_large, sent_for, handle_for, acknowledged, chunk_in}
+use Rattle.responder_machine.specs.Handling.{turn_of, turn_by, plain_turn, last_chunk_turn, carried_turn, taken_chunk, request_effect, request_reply, error_bytes, large_response, effect_of, goes_large, handle_for, chunk_in}
 use Rattle.responder_machine.specs.LargeMessages.{chunks_of}
 use Rattle.responder_machine.specs.Place.{Place, inside}
 use Rattle.responder_machine.specs.Refusal.{refusal, refused_form, refused_contents, tests_of_form, tests_of_contents}
