@@ -27,5 +27,7 @@ pub mod PlainTells
 pub mod LargeTells
 pub mod RepliesAlike
 pub mod SmallGets
+pub mod FetchedTells
+pub mod EventsAlike
 pub mod Rest
 mod CaptureRows
