@@ -30,21 +30,21 @@ live_alike _ _ NoEvent = refl
 live_alike _ _ (Behind e s u a) = refl
 live_alike _ _ (Here sealed t x m large w v reply s u not a) = refl
 
-negotiation_alike : (s u : Events) → EventsAlike s u → session_negotiation s ≡ session_negotiation u
+pub negotiation_alike : (s u : Events) → EventsAlike s u → session_negotiation s ≡ session_negotiation u
 negotiation_alike _ _ NoEvent = refl
 negotiation_alike _ _ (Behind (Began n x y) s u a) = refl
 negotiation_alike _ _ (Behind (Heard sealed t reply) s u a) = negotiation_alike s u a
 negotiation_alike _ _ (Behind (Waited n) s u a) = negotiation_alike s u a
 negotiation_alike _ _ (Here sealed t x m large w v reply s u not a) = negotiation_alike s u a
 
-exchange_alike : (s u : Events) → EventsAlike s u → exchange_of s ≡ exchange_of u
+pub exchange_alike : (s u : Events) → EventsAlike s u → exchange_of s ≡ exchange_of u
 exchange_alike _ _ NoEvent = refl
 exchange_alike _ _ (Behind (Began n x y) s u a) = refl
 exchange_alike _ _ (Behind (Heard sealed t reply) s u a) = exchange_alike s u a
 exchange_alike _ _ (Behind (Waited n) s u a) = exchange_alike s u a
 exchange_alike _ _ (Here sealed t x m large w v reply s u not a) = exchange_alike s u a
 
-answer_alike : (s u : Events) → EventsAlike s u → exchange_answer s ≡ exchange_answer u
+pub answer_alike : (s u : Events) → EventsAlike s u → exchange_answer s ≡ exchange_answer u
 answer_alike _ _ NoEvent = refl
 answer_alike _ _ (Behind (Began n x y) s u a) = refl
 answer_alike _ _ (Behind (Heard sealed t reply) s u a) = answer_alike s u a
@@ -68,7 +68,7 @@ stage_alike _ _ (Behind (Heard sealed t reply) s u a) = stage_step t s u sealed 
 stage_alike _ _ (Behind (Waited n) s u a) = stage_alike s u a
 stage_alike _ _ (Here sealed t x m large w v reply s u not a) = stage_step (answered t x m large w) s u sealed reply (stage_alike s u a)
 
-epoch_alike : (s u : Events) → EventsAlike s u → request_epoch s ≡ request_epoch u
+pub epoch_alike : (s u : Events) → EventsAlike s u → request_epoch s ≡ request_epoch u
 epoch_alike _ _ NoEvent = refl
 epoch_alike _ _ (Behind (Began n x y) s u a) = epoch_alike s u a
 epoch_alike _ _ (Behind (Heard sealed t reply) s u a) = ap (λ (n : ℕ). cond (updates 1 t || updates 2 t) (n + 1) n) (epoch_alike s u a)
@@ -98,14 +98,14 @@ response_number_alike _ _ (Behind (Waited n) s u a) = response_number_alike s u 
 response_number_alike _ _ (Here sealed t x m large w v reply s u not a) =
     ap (λ (n : ℕ). cond (takes PSK_FINISH (answered t x m large w)) 0 (cond (updates 2 (answered t x m large w)) 1 (n + 1))) (response_number_alike s u a)
 
-finish_alike : (s u : Events) → EventsAlike s u → finish_of s ≡ finish_of u
+pub finish_alike : (s u : Events) → EventsAlike s u → finish_of s ≡ finish_of u
 finish_alike _ _ NoEvent = refl
 finish_alike _ _ (Behind (Began n x y) s u a) = finish_alike s u a
 finish_alike _ _ (Behind (Heard sealed t reply) s u a) = ap (cond (takes PSK_FINISH t) (request_in t.effect)) (finish_alike s u a)
 finish_alike _ _ (Behind (Waited n) s u a) = finish_alike s u a
 finish_alike _ _ (Here sealed t x m large w v reply s u not a) = ap (cond (takes PSK_FINISH (answered t x m large w)) m) (finish_alike s u a)
 
-finish_answer_alike : (s u : Events) → EventsAlike s u → finish_answer s ≡ finish_answer u
+pub finish_answer_alike : (s u : Events) → EventsAlike s u → finish_answer s ≡ finish_answer u
 finish_answer_alike _ _ NoEvent = refl
 finish_answer_alike _ _ (Behind (Began n x y) s u a) = finish_answer_alike s u a
 finish_answer_alike _ _ (Behind (Heard sealed t reply) s u a) = ap (cond (takes PSK_FINISH t) (answer_in t.effect)) (finish_answer_alike s u a)

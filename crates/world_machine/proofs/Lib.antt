@@ -29,5 +29,6 @@ pub mod RepliesAlike
 pub mod SmallGets
 pub mod FetchedTells
 pub mod EventsAlike
+pub mod FetchedRecords
 pub mod Rest
 mod CaptureRows

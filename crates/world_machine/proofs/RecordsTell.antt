@@ -94,7 +94,7 @@ session_short_by r s inner f None short few = by_type (slice_index inner 0 == 5)
     by_type true = turn_short r s (drop 1 inner) f short
     by_type false = omega (arith, few)
 
-session_short : (r : RspSetup) (s : Events) (inner : List ℕ) (f : Free) → length (answer_bytes r (session_place s) (drop 1 inner) f) ≤ MAX_MESSAGE_SIZE → length f.reply ≤ 1024 → length (session_turn r s inner f).reply < 65535
+pub session_short : (r : RspSetup) (s : Events) (inner : List ℕ) (f : Free) → length (answer_bytes r (session_place s) (drop 1 inner) f) ≤ MAX_MESSAGE_SIZE → length f.reply ≤ 1024 → length (session_turn r s inner f).reply < 65535
 unfolding session_turn
 session_short r s inner f short few = session_short_by r s inner f (inner_refusal (stage_of s) inner) short few
 
@@ -104,7 +104,7 @@ session_short r s inner f short few = session_short_by r s inner f (inner_refusa
 abbrev purpose_at : List ℕ → Events → Bool → Purpose
 purpose_at psk s b = cond b (record (response_purpose psk s) { epoch = response_epoch s + 1 }) (response_purpose psk s)
 
-record_at : (psk : List ℕ) (s : Events) (t u : Turn) (b : Bool) (inner other pad padding : List ℕ) → updates 2 t ≡ b → updates 2 u ≡ b → length inner < 65536 → length other < 65536
+pub record_at : (psk : List ℕ) (s : Events) (t u : Turn) (b : Bool) (inner other pad padding : List ℕ) → updates 2 t ≡ b → updates 2 u ≡ b → length inner < 65536 → length other < 65536
     → reply_record psk s t inner pad ≡ reply_record psk s u other padding → inner ≡ other
 unfolding reply_record sealed_of
 record_at psk s t u b inner other pad padding is are less few same =

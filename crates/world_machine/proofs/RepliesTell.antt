@@ -74,12 +74,12 @@ pub no_chunk : (r : RspSetup) (s : Events) (m : List ℕ) (f : Free) (c : ChunkM
 no_chunk r s m f c is none =
     nat_apart _ CHUNK_SEND (form_shown r (session_place s) m f none 4) (sym (asked-code (session_place s) m (ChunkSend c) is))
 
-abbrev asks_update : Option RequestMessage → Bool
+abbrev pub asks_update : Option RequestMessage → Bool
 asks_update (Some (KeyUpdate op tag)) = op == 2
 asks_update _ = false
 
 -- Only KEY_UPDATE updates all keys.
-by_updates : (r : RspSetup) (s : Events) (m : List ℕ) (f : Free) (q : Option RequestMessage) (x : Option ErrorCode) → request_at (session_place s) m ≡ q → refusal r (session_place s) m f ≡ x
+pub by_updates : (r : RspSetup) (s : Events) (m : List ℕ) (f : Free) (q : Option RequestMessage) (x : Option ErrorCode) → request_at (session_place s) m ≡ q → refusal r (session_place s) m f ≡ x
     → updates 2 (turn_by r (session_place s) m f x (chunk_in q)) ≡ (is_none x && asks_update q)
 by_updates r s m f None (Some e) asks is = refl
 by_updates r s m f (Some q) (Some e) asks is = refl
