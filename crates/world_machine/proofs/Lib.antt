@@ -30,5 +30,6 @@ pub mod SmallGets
 pub mod FetchedTells
 pub mod EventsAlike
 pub mod FetchedRecords
+pub mod FetchedOutcomes
 pub mod Rest
 mod CaptureRows
