@@ -31,5 +31,6 @@ pub mod FetchedTells
 pub mod EventsAlike
 pub mod FetchedRecords
 pub mod FetchedOutcomes
+pub mod FetchedSessions
 pub mod Rest
 mod CaptureRows
