@@ -1,18 +1,16 @@
 -- A session in which a large answer is fetched, whatever bytes stand for it: all that a record goes by is the same.
-use Rattle.std.proofs.Common.{◌≡◌, ◌≢◌, ◌+◌, ◌==◌, ◌&&◌, ◌||◌, ◌⊎◌, ℕ, List, [], ◌∷◌, refl, sym, ap, ◌∙◌, subst, drop, Bool, true, false, Option, Some, None, cond, inl, inr}
-use Rattle.std.proofs.lemmas.Bool.{false≢true}
+use Rattle.std.proofs.Common.{◌≡◌, ◌+◌, ◌==◌, ◌||◌, ℕ, List, [], ◌∷◌, refl, sym, ap, ◌∙◌, Bool, false, Option, cond}
 use Rattle.spdm_grammar.specs.Message.{RequestMessage, ChunkMessage}
 use Rattle.spdm_grammar.specs.Codes.{code_for}
-use Rattle.spdm_grammar.specs.declared.phase.Stage.TheVariants.{Handshake, Open, Verifying}
+use Rattle.spdm_grammar.specs.declared.phase.Stage.TheVariants.{Open, Verifying}
 use Rattle.spdm_grammar.specs.declared.names.request_code.TheConstants.{PSK_FINISH, KEY_UPDATE}
 use Rattle.spdm_machine.specs.Terms.{terms_of}
-use Rattle.transcript.specs.Transcripts.{Negotiation}
 use Rattle.responder_machine.specs.LargeMessages.{chunks_of, chunks_with}
-use Rattle.responder_machine.specs.Records.{opening_fault, opened, request_purpose, response_purpose}
-use Rattle.responder_machine.specs.Session.{Events, Event, is_live, session_negotiation, exchange_of, exchange_answer, stage_of, turns_of, last_of, request_epoch, response_epoch, request_next, response_next, finish_of, finish_answer, t1_of, t2_of, is_spent, id_bytes, session_terms}
+use Rattle.responder_machine.specs.Records.{opening_fault, opened}
+use Rattle.responder_machine.specs.Session.{Events, Event, is_live, session_negotiation, exchange_of, exchange_answer, stage_of, turns_of, last_of, request_epoch, response_epoch, request_next, response_next, finish_of, finish_answer, session_terms}
 use Rattle.responder_machine.specs.Session.Event.{Began, Heard, Waited}
-use Rattle.responder_machine.specs.Turn.{Turn, Effect, is_taken, takes, updates, answer_in, request_in}
-use Rattle.responder_machine.specs.Turn.Effect.{NoEffect, Took, TookData}
+use Rattle.responder_machine.specs.Turn.{Turn, is_taken, takes, updates, answer_in, request_in}
+use Rattle.responder_machine.specs.Turn.Effect.{Took}
 
 -- One turn, with other bytes as its whole answer.
 abbrev pub answered : Turn → RequestMessage → List ℕ → Option ℕ → List ℕ → Turn

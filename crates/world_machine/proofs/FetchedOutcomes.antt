@@ -1,7 +1,7 @@
 -- While a large answer is fetched in a session, the answer to a record tells the outcome, whatever bytes stand for the
 -- large one.
 use Rattle.spdm_machine.specs.Bodies.{record_body}
-use Rattle.std.proofs.Common.{◌≡◌, ◌≤◌, ◌==◌, ℕ, List, [], ◌∷◌, refl, sym, ap, ◌∙◌, subst, length, drop, Bool, true, false, Option, Some, None, cond}
+use Rattle.std.proofs.Common.{◌≡◌, ◌≤◌, ℕ, List, ◌∷◌, refl, sym, ap, subst, length, drop, Bool, true, false, Option, Some, None, cond}
 use Rattle.std.proofs.lemmas.Bool.{false≢true}
 use Rattle.spdm_basis.specs.declared.record_fault.RecordFault.{RecordFault}
 use Rattle.spdm_grammar.specs.declared.phase.Phase.{Phase}
@@ -10,9 +10,9 @@ use Rattle.spdm_machine.specs.Keys.{Draw}
 use Rattle.responder_machine.specs.Answer.{Free, answer_bytes}
 use Rattle.responder_machine.specs.Place.{session_place}
 use Rattle.responder_machine.specs.Records.{opening_fault, opened}
-use Rattle.responder_machine.specs.Responder.{Outcome, session_turn, sealed_entry, in_session, in_session_by, to_session, repeats, kept_record, body_of}
-use Rattle.responder_machine.specs.Responder.Outcome.{Same, Unopened, Adds}
-use Rattle.responder_machine.specs.Session.{Events, Event, last_of}
+use Rattle.responder_machine.specs.Responder.{session_turn, sealed_entry, in_session, in_session_by, to_session, repeats, kept_record, body_of}
+use Rattle.responder_machine.specs.Responder.Outcome.{Same, Adds}
+use Rattle.responder_machine.specs.Session.{Events, last_of}
 use Rattle.responder_machine.specs.Session.Event.{Heard}
 use Rattle.responder_machine.specs.Setup.{RspSetup}
 use Rattle.world_machine.proofs.EventsAlike.{EventsAlike, last_alike, fault_alike, opened_alike, answered}
@@ -30,8 +30,8 @@ module _ (r : RspSetup) (tag : ℕ) (sealed : List ℕ) (f k : Free) (d : Draw) 
       → OutcomesAlike (Adds (sealed_entry r s f tag sealed d (session_turn r s (opened r.psk s sealed) f))) (Adds (sealed_entry r u k tag sealed d (session_turn r u (opened r.psk u sealed) k)))
   entry_told s u a short =
       let P : List ℕ → Type 0 = λ text. length (answer_bytes r (session_place u) (drop 1 text) k) ≤ MAX_MESSAGE_SIZE
-          → body_of (Adds (sealed_entry r s f tag sealed d (session_turn r s (opened r.psk s sealed) f))) ≡ body_of (Adds (sealed_entry r u k tag sealed d (session_turn r u text k)))
-          → OutcomesAlike (Adds (sealed_entry r s f tag sealed d (session_turn r s (opened r.psk s sealed) f))) (Adds (sealed_entry r u k tag sealed d (session_turn r u text k))) in
+      → body_of (Adds (sealed_entry r s f tag sealed d (session_turn r s (opened r.psk s sealed) f))) ≡ body_of (Adds (sealed_entry r u k tag sealed d (session_turn r u text k)))
+      → OutcomesAlike (Adds (sealed_entry r s f tag sealed d (session_turn r s (opened r.psk s sealed) f))) (Adds (sealed_entry r u k tag sealed d (session_turn r u text k))) in
       subst P (opened_alike r.psk s u sealed a)
       (λ brief same. (refl, refl, opened_told r s u (opened r.psk s sealed) f k a few less short.0 brief (ap (λ (l : List ℕ). drop 1 l) same), ap (λ (l : List ℕ). drop 1 l) same, refl)) short.1
 

@@ -3,40 +3,33 @@
 use Rattle.spdm_grammar.specs.Message.ResponseMessage.{KeyUpdateAck}
 use Rattle.spdm_grammar.specs.Responses.{canonical_response}
 use Rattle.spdm_grammar.specs.declared.error_code.ErrorCode.TheVariants.{UnsupportedRequest, InvalidRequest, DecryptError, UnexpectedRequest, RequestTooLarge, ResponseTooLarge, SessionLimitExceeded}
-use Rattle.std.proofs.Common.{◌≡◌, ◌≢◌, ◌≤◌, ◌<◌, ◌+◌, ◌==◌, ◌&&◌, ◌||◌, ◌⊎◌, ℕ, List, [], ◌∷◌, refl, sym, ap, ◌∙◌, subst, length, drop, Bool, true, false, Option, Some, None, is_some, is_none, cond, inl, inr, arith}
-use Rattle.std.specs.Prelude.{slice_index, not}
+use Rattle.std.proofs.Common.{◌≡◌, ◌≤◌, ◌==◌, ◌&&◌, ℕ, List, [], ◌∷◌, refl, sym, ap, ◌∙◌, subst, length, drop, Bool, true, false, Option, Some, None, is_some, is_none, cond, arith}
+use Rattle.std.specs.Prelude.{slice_index}
 use Rattle.std.specs.Option.{option_or}
-use Rattle.std.proofs.lemmas.Bool.{false≢true}
 use Rattle.spdm_basis.specs.Tests.{first_of_tests}
-use Rattle.spdm_basis.specs.declared.record_fault.RecordFault.{RecordFault}
 use Rattle.spdm_grammar.specs.Message.{RequestMessage}
 use Rattle.spdm_grammar.specs.Message.RequestMessage.{GetVersion, GetCapabilities, NegotiateAlgorithms, GetMeasurements, PskExchange, PskFinish, Heartbeat, KeyUpdate, EndSession, ChunkSend, ChunkGet}
 use Rattle.spdm_grammar.specs.Requests.{request_in}
 use Rattle.spdm_grammar.specs.declared.error_code.ErrorCode.{ErrorCode}
-use Rattle.spdm_grammar.specs.declared.phase.Phase.{Phase}
 use Rattle.spdm_grammar.specs.declared.phase.Stage.{Stage}
 use Rattle.spdm_grammar.specs.declared.phase.Stage.TheVariants.{Handshake, Open, Verifying}
 use Rattle.spdm_grammar.specs.declared.names.request_code.TheConstants.{KEY_UPDATE, PSK_EXCHANGE}
 use Rattle.spdm_grammar.specs.declared.names.TheConstants.{MAX_MESSAGE_SIZE}
-use Rattle.spdm_machine.specs.Keys.{Draw}
-use Rattle.spdm_machine.specs.Terms.{Terms, terms_of, hash_len}
+use Rattle.spdm_machine.specs.Terms.{terms_of, hash_len}
 use Rattle.transcript.specs.Transcripts.{Negotiation}
 use Rattle.responder_machine.specs.Answer.{Free, answer_bytes, answer_to, request_at}
 use Rattle.responder_machine.specs.Handling.{turn_of}
 use Rattle.responder_machine.specs.Place.{Place, session_place, place_terms}
-use Rattle.responder_machine.specs.Place.Where.{InSession}
-use Rattle.responder_machine.specs.Records.{reply_record, opening_fault, opened}
-use Rattle.responder_machine.specs.Refusal.{refusal, refused_form, refused_contents, tests_of_form, tests_of_contents, code_of, stage_allows, has_pending, lacks_flag, are_caps_refused, is_offer_refused, has_no_block, is_exchange_refused, is_verify_wrong, is_update_misplaced, is_too_large, chunk_fault, is_get_refused, is_answer_too_long}
-use Rattle.responder_machine.specs.Responder.{Outcome, session_turn, session_turn_by, inner_refusal, data_turn, inner_reply, sealed_entry, in_session, in_session_by, to_session, repeats, kept_record, body_of}
-use Rattle.responder_machine.specs.Responder.Outcome.{Same, Unopened, Adds}
-use Rattle.responder_machine.specs.Session.{Events, Event, session_negotiation, stage_of, last_of, turns_of}
+use Rattle.responder_machine.specs.Records.{reply_record}
+use Rattle.responder_machine.specs.Refusal.{refusal, refused_form, refused_contents, tests_of_form, code_of, stage_allows, has_pending, lacks_flag, are_caps_refused, is_offer_refused, has_no_block, is_exchange_refused, is_verify_wrong, is_update_misplaced, is_too_large, chunk_fault, is_get_refused, is_answer_too_long}
+use Rattle.responder_machine.specs.Responder.{session_turn, session_turn_by, inner_refusal, data_turn, inner_reply}
+use Rattle.responder_machine.specs.Session.{Events, stage_of}
 use Rattle.responder_machine.specs.Setup.{RspSetup}
 use Rattle.responder_machine.specs.Turn.{Turn, updates}
 use Rattle.responder_machine.proofs.Codes.{asked-code}
-use Rattle.world_machine.proofs.EventsAlike.{EventsAlike, negotiation_alike, exchange_alike, answer_alike, last_alike, stage_alike, epoch_alike, response_epoch_alike, response_number_alike, finish_alike, finish_answer_alike, chunks_alike, fault_alike, opened_alike}
-use Rattle.world_machine.proofs.EventsAlike.EventsAlike.{NoEvent, Behind, Here}
+use Rattle.world_machine.proofs.EventsAlike.{EventsAlike, negotiation_alike, exchange_alike, answer_alike, stage_alike, response_epoch_alike, response_number_alike, finish_alike, finish_answer_alike, chunks_alike}
 use Rattle.world_machine.proofs.TurnsAlike.{TurnsAlike, ReadAlike, turn_told}
-use Rattle.world_machine.proofs.RepliesTell.{OutcomesAlike, by_updates, asks_update}
+use Rattle.world_machine.proofs.RepliesTell.{by_updates, asks_update}
 use Rattle.world_machine.proofs.RecordsTell.{record_at, session_short}
 
 -- ---- What a place in the session reads.

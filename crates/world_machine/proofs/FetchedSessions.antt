@@ -1,5 +1,5 @@
 -- While a large answer is fetched in a session, its sessions are alike, whatever bytes stand for the large one.
-use Rattle.std.proofs.Common.{◌≡◌, ◌+◌, ◌*◌, ◌==◌, ◌&&◌, ◌||◌, ℕ, List, [], ◌∷◌, refl, sym, ap, ◌∙◌, subst, Bool, true, false, Option, Some, None, is_some, cond}
+use Rattle.std.proofs.Common.{◌≡◌, ◌+◌, ◌*◌, ◌==◌, ◌||◌, ℕ, List, [], ◌∷◌, refl, sym, ap, ◌∙◌, subst, Bool, true, false, Option, Some, None, is_some, cond}
 use Rattle.std.specs.Prelude.{MatchBool, not, nat_le, slice_index}
 use Rattle.std.proofs.lemmas.Bool.{false≢true}
 use Rattle.spdm_grammar.specs.Message.{RequestMessage}
@@ -7,9 +7,9 @@ use Rattle.spdm_grammar.specs.Codes.{code_for}
 use Rattle.spdm_grammar.specs.declared.names.request_code.TheConstants.{GET_VERSION, PSK_EXCHANGE, PSK_FINISH, END_SESSION}
 use Rattle.spdm_machine.specs.Sessions.{id_in_exchange, is_past_handshake}
 use Rattle.transcript.specs.Transcripts.{Negotiation}
-use Rattle.responder_machine.specs.History.{History, Entry, KeptRecord, clear_turns, negotiation_of, ended_of}
+use Rattle.responder_machine.specs.History.{History, Entry, clear_turns, negotiation_of, ended_of}
 use Rattle.responder_machine.specs.History.Entry.{Clear, Sealed, Queued, Ticked, Dropped}
-use Rattle.responder_machine.specs.Session.{Events, Event, session_of, is_live, stage_of, idle_of, is_timed, period_of, exchange_answer, when_live, after_record, after_exchange, after_clear, after_tick, id_in_record}
+use Rattle.responder_machine.specs.Session.{Events, Event, session_of, stage_of, idle_of, is_timed, period_of, when_live, after_record, after_clear, after_tick, id_in_record}
 use Rattle.responder_machine.specs.Session.Event.{Began, Heard, Waited}
 use Rattle.responder_machine.specs.Turn.{Turn, Effect, takes, code_in, request_in, answer_in, handle_in}
 use Rattle.responder_machine.specs.Turn.Effect.{NoEffect, Took, TookData}

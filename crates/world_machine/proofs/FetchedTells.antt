@@ -1,27 +1,23 @@
 -- While a large answer is fetched, the answer to a clear request tells what it led to, whatever bytes stand for the
 -- large one: to a repeat, to GET_VERSION and to CHUNK_GET.
-use Rattle.std.proofs.Common.{◌≡◌, ◌≢◌, ◌+◌, ◌==◌, ◌&&◌, ◌⊎◌, ℕ, List, [], ◌∷◌, refl, sym, ap, ◌∙◌, subst, drop, Bool, true, false, Option, Some, None, cond, inl, inr, arith}
-use Rattle.std.specs.Prelude.{slice_index}
-use Rattle.std.proofs.lemmas.Bool.{false≢true}
-use Rattle.spdm_grammar.specs.Message.{RequestMessage, ChunkMessage}
+use Rattle.std.proofs.Common.{◌≡◌, ◌≢◌, ℕ, List, [], ◌∷◌, refl, sym, ap, ◌∙◌, Bool, true, false, Option, Some, cond, arith}
 use Rattle.spdm_grammar.specs.Message.RequestMessage.{GetVersion, ChunkSend, ChunkGet}
 use Rattle.spdm_grammar.specs.Reading.{field_at, number_at}
 use Rattle.spdm_grammar.specs.Requests.{canonical_request, request_in, request_body, get_version_layout, chunk_get_layout}
 use Rattle.spdm_grammar.specs.declared.names.request_code.TheConstants.{CHUNK_SEND}
 use Rattle.spdm_machine.specs.Bodies.{clear_body}
 use Rattle.spdm_machine.specs.Terms.{hash_len}
-use Rattle.responder_machine.specs.Answer.{Free, request_at}
+use Rattle.responder_machine.specs.Answer.{Free}
 use Rattle.responder_machine.specs.Handling.{turn_of}
-use Rattle.responder_machine.specs.History.{History, Entry, Kept, kept_of, ended_of}
+use Rattle.responder_machine.specs.History.{History, Entry, Kept, kept_of}
 use Rattle.responder_machine.specs.History.Entry.{Clear, Sealed, Queued, Ticked, Dropped}
 use Rattle.responder_machine.specs.May.{with_dropped}
 use Rattle.responder_machine.specs.Place.{Place, clear_place, place_terms}
 use Rattle.responder_machine.specs.Refusal.{code_of}
-use Rattle.responder_machine.specs.Responder.{Outcome, on_clear, is_repeat, kept_reply, body_of}
-use Rattle.responder_machine.specs.Responder.Outcome.{Same, Unopened, Adds}
+use Rattle.responder_machine.specs.Responder.{on_clear, is_repeat, kept_reply, body_of}
+use Rattle.responder_machine.specs.Responder.Outcome.{Same, Adds}
 use Rattle.responder_machine.specs.Setup.{RspSetup}
-use Rattle.responder_machine.specs.Turn.{Turn, Effect, is_taken}
-use Rattle.responder_machine.specs.Turn.Effect.{NoEffect, Took, TookData}
+use Rattle.responder_machine.specs.Turn.{is_taken}
 use Rattle.responder_machine.proofs.Codes.{asked-code}
 use Rattle.world_machine.specs.LargeAnswers.{with_large, is_large, entry_with}
 use Rattle.world_machine.specs.Rounds.{no_draw}
