@@ -1,5 +1,15 @@
--- While a large answer is fetched in a session, its sessions are alike, whatever bytes stand for the large one.
-use Rattle.std.proofs.Common.{◌≡◌, ◌+◌, ◌*◌, ◌==◌, ◌||◌, ℕ, List, [], ◌∷◌, refl, sym, ap, ◌∙◌, subst, Bool, true, false, Option, Some, None, is_some, cond}
+-- While a large answer is fetched in a session, the sessions are alike, and the answer to a record tells the outcome,
+-- whatever bytes stand for the large one.
+use Rattle.world_machine.proofs.FetchedOutcomes.{AreShort, to_told}
+use Rattle.world_machine.proofs.RepliesTell.{OutcomesAlike}
+use Rattle.world_machine.specs.Rounds.{no_draw}
+use Rattle.responder_machine.specs.Setup.{RspSetup}
+use Rattle.responder_machine.specs.Responder.Outcome.{Same}
+use Rattle.responder_machine.specs.Responder.{on_record, to_session, repeats, kept_record, body_of}
+use Rattle.responder_machine.specs.Answer.{Free}
+use Rattle.spdm_machine.specs.Bodies.{record_body}
+use Rattle.spdm_grammar.specs.declared.phase.Phase.{Phase}
+use Rattle.std.proofs.Common.{◌≡◌, ◌+◌, ◌*◌, ◌==◌, ◌||◌, ℕ, List, [], ◌∷◌, refl, sym, ap, ◌∙◌, subst, Bool, true, false, Option, Some, None, is_some, cond, length, ◌≤◌}
 use Rattle.std.specs.Prelude.{MatchBool, not, nat_le, slice_index}
 use Rattle.std.proofs.lemmas.Bool.{false≢true}
 use Rattle.spdm_grammar.specs.Message.{RequestMessage}
@@ -7,7 +17,7 @@ use Rattle.spdm_grammar.specs.Codes.{code_for}
 use Rattle.spdm_grammar.specs.declared.names.request_code.TheConstants.{GET_VERSION, PSK_EXCHANGE, PSK_FINISH, END_SESSION}
 use Rattle.spdm_machine.specs.Sessions.{id_in_exchange, is_past_handshake}
 use Rattle.transcript.specs.Transcripts.{Negotiation}
-use Rattle.responder_machine.specs.History.{History, Entry, clear_turns, negotiation_of, ended_of}
+use Rattle.responder_machine.specs.History.{History, Entry, clear_turns, negotiation_of, ended_of, phase_of}
 use Rattle.responder_machine.specs.History.Entry.{Clear, Sealed, Queued, Ticked, Dropped}
 use Rattle.responder_machine.specs.Session.{Events, Event, session_of, stage_of, idle_of, is_timed, period_of, when_live, after_record, after_clear, after_tick, id_in_record}
 use Rattle.responder_machine.specs.Session.Event.{Began, Heard, Waited}
@@ -173,3 +183,31 @@ fetched_by id e h w v false large is before = behind id e (with_large w h) (with
 pub sessions_fetched : (id : ℕ) (w v : List ℕ) (h : History) → InSession h → EventsAlike (session_of id (with_large w h)) (session_of id (with_large v h))
 sessions_fetched id w v [] is = absurd is
 sessions_fetched id w v (e ∷ h) is = fetched_by id e h w v (is_large e) refl is (sessions_fetched id w v h)
+
+-- ---- A record.
+
+record_by : (r : RspSetup) (tag : ℕ) (sealed : List ℕ) (f k : Free) (few : length f.reply ≤ 1024) (less : length k.reply ≤ 1024) (b c : Bool) (kept other : List ℕ) (phase : Phase) (s u : Events) → b ≡ c → kept ≡ other → EventsAlike s u
+    → AreShort r tag sealed f k no_draw few less s u
+    → body_of (cond b (Same kept) (to_session r phase s f tag sealed no_draw)) ≡ body_of (cond c (Same other) (to_session r phase u k tag sealed no_draw))
+    → OutcomesAlike (cond b (Same kept) (to_session r phase s f tag sealed no_draw)) (cond c (Same other) (to_session r phase u k tag sealed no_draw))
+record_by r tag sealed f k few less true true kept other phase s u one two a short same = two
+record_by r tag sealed f k few less false false kept other phase s u one two a short same = to_told r tag sealed f k no_draw few less phase s u a short same
+record_by r tag sealed f k few less true false kept other phase s u one two a short same = absurd (false≢true (sym one))
+record_by r tag sealed f k few less false true kept other phase s u one two a short same = absurd (false≢true one)
+
+-- Where nothing was dropped before it, the answer to a record tells the outcome, whatever bytes stand for the large
+-- answer.
+pub record_fetched : (r : RspSetup) (h : History) (w v : List ℕ) (tag : ℕ) (sealed : List ℕ) (f k : Free) (few : length f.reply ≤ 1024) (less : length k.reply ≤ 1024) → InSession h
+    → AreShort r tag sealed f k no_draw few less (session_of (id_in_record sealed) (with_large w h)) (session_of (id_in_record sealed) (with_large v h))
+    → body_of (on_record r (with_large w h) tag sealed f no_draw) ≡ body_of (on_record r (with_large v h) tag sealed k no_draw)
+    → OutcomesAlike (on_record r (with_large w h) tag sealed f no_draw) (on_record r (with_large v h) tag sealed k no_draw)
+unfolding on_record
+record_fetched r h w v tag sealed f k few less is short =
+    let ended = ended_fetched w h ∙ sym (ended_fetched v h) in
+    let turns = turns_fetched w h is ∙ sym (turns_fetched v h is) in
+    let id : ℕ = id_in_record sealed in
+    let P : Phase → Type 0 = λ x. body_of (on_record r (with_large w h) tag sealed f no_draw) ≡ body_of (cond (repeats (ended_of (with_large v h)) sealed) (Same (record_body (kept_record (ended_of (with_large v h))))) (to_session r x (session_of id (with_large v h)) k tag sealed no_draw))
+    → OutcomesAlike (on_record r (with_large w h) tag sealed f no_draw) (cond (repeats (ended_of (with_large v h)) sealed) (Same (record_body (kept_record (ended_of (with_large v h))))) (to_session r x (session_of id (with_large v h)) k tag sealed no_draw)) in
+    subst P (ap phase_of turns)
+    (record_by r tag sealed f k few less _ _ _ _ (phase_of (clear_turns (with_large w h))) (session_of id (with_large w h)) (session_of id (with_large v h))
+    (ap (λ o. repeats o sealed) ended) (ap (λ o. record_body (kept_record o)) ended) (sessions_fetched id w v h is) short)
