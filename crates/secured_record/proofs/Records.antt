@@ -77,7 +77,7 @@ text_part-record key iv req rsp number inner pad =
     let c = crypt key n t in
     text_part-append c (tag_of key n (header id number (length t + 16)) c) (length-tag_of key n (header id number (length t + 16)) c)
 
-opened_text-record : (key iv : List ℕ) (req rsp number : ℕ) (inner pad : List ℕ)
+pub opened_text-record : (key iv : List ℕ) (req rsp number : ℕ) (inner pad : List ℕ)
     → opened_text key iv number (record_of key iv (session_id_bytes req rsp) number inner pad) ≡ plain_text inner pad
 unfolding opened_text
 opened_text-record key iv req rsp number inner pad =
