@@ -28,6 +28,7 @@ use Rattle.world_machine.proofs.AskersAlike.AskersAlike.{Settled, Owing, Shown, 
 use Rattle.world_machine.proofs.AskersBegin.{dial}
 use Rattle.world_machine.proofs.AskersStep.{owed_sends, settled_step, owing_step, took_small}
 use Rattle.world_machine.proofs.AskersGo.{shown_step, due_step}
+use Rattle.std.proofs.lemmas.Bool.{not-false}
 
 -- ---- Tags.
 
@@ -146,10 +147,6 @@ not_true : (b : Bool) → not b ≡ true → b ≡ false
 not_true true e = sym e
 not_true false e = refl
 
-not_false : (b : Bool) → not b ≡ false → b ≡ true
-not_false true e = refl
-not_false false e = sym e
-
 ack_none : (w : List ℕ) (tag : ℕ) (m : List ℕ) (h : History) (s : Sent) → outstanding h ≡ Some s → has_tag (Some s) tag ≡ false → with_ack w tag m h ≡ h
 ack_none w tag m h s waits not = ap (λ (o : Option Sent). cond (has_tag o tag) (with_ack_to w tag m h o) h) waits ∙ ap (λ (b : Bool). cond b (with_ack_to w tag m h (Some s)) h) not
 
@@ -176,7 +173,7 @@ hears_step q rd _ _ _ _ r x fd fe tag body next other (Owing e f h g s t agree a
     subst Q (sym (hears_none q (f ∷ g) t tag body other sent parts two))
     (subst P (sym (hears_none q (e ∷ h) s tag body next out apart one)) (Owing e f h g s t agree alike out sent like tagged else later at))
 hears_step q rd _ _ _ _ r x fd fe tag body next other (Shown h g w v a b handle number s t u waits wait aims aim tags not at) is one two =
-    let same : has_tag (Some s) tag ≡ true = ap (λ (n : ℕ). s.tag == n) (sym is) ∙ not_false (s.tag == rd.tag) not in
+    let same : has_tag (Some s) tag ≡ true = ap (λ (n : ℕ). s.tag == n) (sym is) ∙ not-false (s.tag == rd.tag) not in
     let sames : has_tag (Some t) tag ≡ true = ap (λ (n : ℕ). n == tag) (sym tags) ∙ same in
     let p : Sent = piece_with h a w handle (number + 1) in
     let due = Due tag (drop 1 body) h g w v a b handle number u (next_later rd p at) at in

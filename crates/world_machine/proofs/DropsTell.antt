@@ -28,6 +28,7 @@ use Rattle.world_machine.specs.CapturedAnswers.{shows, belongs_to, is_plain}
 use Rattle.world_machine.specs.Rounds.{no_draw}
 use Rattle.world_machine.proofs.TurnsAlike.{ReadAlike, turns_same, turns_large}
 use Rattle.world_machine.proofs.RepliesTell.{OutcomesAlike, clear_told}
+use Rattle.spdm_basis.proofs.Bools.{and_first, and_second}
 
 -- ---- What a drop leaves as it was.
 
@@ -58,14 +59,6 @@ clear_drops r h ids others tag m f k same =
 
 nat_same : (a b : ℕ) → (a == b) ≡ true → a ≡ b
 nat_same a b is = grind (arith, nat_tests)
-
-and_first : (a b : Bool) → (a && b) ≡ true → a ≡ true
-and_first true b is = refl
-and_first false b is = is
-
-and_second : (a b : Bool) → (a && b) ≡ true → b ≡ true
-and_second true b is = is
-and_second false b is = absurd (false≢true is)
 
 -- A dropped session was held.
 pub held_before : (h : History) (id : ℕ) → MayDrop h (id ∷ []) → is_held h id ≡ true

@@ -27,6 +27,7 @@ use Rattle.world_machine.specs.Rounds.{no_draw}
 use Rattle.world_machine.proofs.RepliesTell.{EntriesAlike, OutcomesAlike}
 use Rattle.world_machine.proofs.DropsTell.{RecordForm, record_shown, turns_stay, fresh_id, held_before, clear_form, no_record_drop}
 use Rattle.world_machine.proofs.PlainTells.{ClearLed, RecordLed, led_clear, led_record, clear_alike, record_alike, form_of, entries_erased}
+use Rattle.spdm_basis.proofs.Bools.{and_first, and_second}
 
 -- ---- A record that adds an entry comes to a session that was not dropped.
 
@@ -94,14 +95,6 @@ nat_same a b is = grind (arith, nat_tests)
 not_true : (b : Bool) → not b ≡ true → b ≡ false
 not_true true e = sym e
 not_true false e = refl
-
-and_first : (a b : Bool) → (a && b) ≡ true → a ≡ true
-and_first true b is = refl
-and_first false b is = is
-
-and_second : (a b : Bool) → (a && b) ≡ true → b ≡ true
-and_second true b is = is
-and_second false b is = absurd (false≢true is)
 
 -- No LargeResponse is an answer that goes whole.
 outcome_apart : (h : History) (o : Outcome) (f : Entry) → OutcomesAlike o (Adds f) → is_plain h o ≡ true → is_large f ≡ true → ⊥

@@ -19,6 +19,7 @@ use Rattle.world_machine.proofs.TurnsAlike.{turns_same, turns_large, turns_erase
 use Rattle.world_machine.proofs.RepliesTell.{EntriesAlike, OutcomesAlike}
 use Rattle.world_machine.proofs.RecordsTell.{record_told}
 use Rattle.world_machine.proofs.DropsTell.{clear_drops, no_clear_drop, one_drop, RecordForm, record_form, record_shown, no_record_drop}
+use Rattle.spdm_basis.proofs.Bools.{and_first}
 
 -- ---- What a body may lead to, by its type.
 
@@ -117,10 +118,6 @@ plain_told r h ids others tag body o q one two shown show plain plane same = by_
 not_true : (b : Bool) → not b ≡ true → b ≡ false
 not_true true e = sym e
 not_true false e = refl
-
-and_first : (a b : Bool) → (a && b) ≡ true → a ≡ true
-and_first true b is = refl
-and_first false b is = is
 
 -- An entry whose answer goes whole is told.
 pub entries_same : (e f : Entry) → EntriesAlike e f → is_large e ≡ false → e ≡ f

@@ -1,7 +1,7 @@
 -- The record of a command tells the session, the command and the padding.
 use Rattle.std.proofs.Common.{◌≡◌, ◌<◌, ◌≤◌, ◌%◌, ◌/◌, ℕ, List, [], ◌∷◌, refl, sym, ap, ◌∙◌, subst, length, drop, Bool, true, false, Some, None, arith}
 use Rattle.std.specs.Prelude.{not, slice_index}
-use Rattle.std.proofs.lemmas.Bool.{ltb-false}
+use Rattle.std.proofs.lemmas.Bool.{ltb-false, not-false}
 use Rattle.secured_record.specs.Format.{record_of}
 use Rattle.secured_record.proofs.Told.{record_tells, padding_told}
 use Rattle.key_schedule.specs.Purpose.{key_of, iv_of}
@@ -32,25 +32,21 @@ IsLiveCommand h (Measure (Some id) op) = is_live (session_of id h) ≡ true
 IsLiveCommand h (End id) = is_live (session_of id h) ≡ true
 IsLiveCommand h _ = Unit {0}
 
-not_false : (b : Bool) → not b ≡ false → b ≡ true
-not_false true e = refl
-not_false false e = sym e
-
 pub live_command : (worn : Bool) (q : ReqSetup) (h : History) (c : Command) (f : Free) → command_fault worn q h c f ≡ None → IsLiveCommand h c
 live_command worn q h Connect f none = tt
 live_command worn q h (Open summary) f none = tt
 live_command worn q h (Send id bytes) f none =
-    (not_false _ (test_is_false worn q h (Send id bytes) f none 3), ltb-false 1024 (length bytes) (test_is_false worn q h (Send id bytes) f none 8))
-live_command worn q h (Beat id) f none = not_false _ (test_is_false worn q h (Beat id) f none 3)
-live_command worn q h (Update id all) f none = not_false _ (test_is_false worn q h (Update id all) f none 3)
+    (not-false _ (test_is_false worn q h (Send id bytes) f none 3), ltb-false 1024 (length bytes) (test_is_false worn q h (Send id bytes) f none 8))
+live_command worn q h (Beat id) f none = not-false _ (test_is_false worn q h (Beat id) f none 3)
+live_command worn q h (Update id all) f none = not-false _ (test_is_false worn q h (Update id all) f none 3)
 live_command worn q h (Measure None op) f none = tt
-live_command worn q h (Measure (Some id) op) f none = not_false _ (test_is_false worn q h (Measure (Some id) op) f none 3)
-live_command worn q h (End id) f none = not_false _ (test_is_false worn q h (End id) f none 3)
+live_command worn q h (Measure (Some id) op) f none = not-false _ (test_is_false worn q h (Measure (Some id) op) f none 3)
+live_command worn q h (End id) f none = not-false _ (test_is_false worn q h (End id) f none 3)
 live_command worn q h Retry f none = tt
 
 pub sound_command : (worn : Bool) (q : ReqSetup) (h : History) (c : Command) (f : Free) → command_fault worn q h c f ≡ None → IsSoundCommand c
 sound_command worn q h Connect f none = tt
-sound_command worn q h (Open summary) f none = not_false _ (test_is_false worn q h (Open summary) f none 6)
+sound_command worn q h (Open summary) f none = not-false _ (test_is_false worn q h (Open summary) f none 6)
 sound_command worn q h (Send id bytes) f none = tt
 sound_command worn q h (Beat id) f none = tt
 sound_command worn q h (Update id all) f none = tt

@@ -28,6 +28,7 @@ use Rattle.world_machine.proofs.AskersHear.{hears_step, same_round}
 use Rattle.world_machine.proofs.ShownAlike.{fetching_alike}
 use Rattle.world_machine.proofs.Alike.{Alike, FetchesAlike}
 use Rattle.world_machine.proofs.Alike.FetchesAlike.{NoneFetched, BothFetched}
+use Rattle.spdm_basis.proofs.Bools.{and_first, and_second}
 
 -- No answer to CHUNK_GET goes by LargeResponse.
 pub record GetsAreSmall (r : RspSetup) (h : History) : Type 0 where
@@ -60,14 +61,6 @@ nil_told r h ids tag body o q one two shown plain same = by_type (slice_index bo
 not_true : (b : Bool) → not b ≡ true → b ≡ false
 not_true true e = sym e
 not_true false e = refl
-
-and_first : (a b : Bool) → (a && b) ≡ true → a ≡ true
-and_first true b is = refl
-and_first false b is = is
-
-and_second : (a b : Bool) → (a && b) ≡ true → b ≡ true
-and_second true b is = is
-and_second false b is = absurd (false≢true is)
 
 -- It is not the last chunk.
 last_apart : (h : History) (o : Outcome) (f : Entry) → OutcomesAlike o (Adds f) → is_plain h o ≡ true → gives_last h f ≡ true → ⊥
