@@ -25,6 +25,8 @@ returns c = λ psk n exchange answer pad sealed stands held.
     ∙ ap (λ (m : List ℕ). (hash_of (terms_of n).choice.hash).digest (before ++ m)) (c.behind_type.ensures ∙ ap (λ (m : List ℕ). drop 1 m) held) in
     record {
       stage = refl;
+      keeps = record {
+      past = refl;
       choice = inside.terms.choice;
       common = inside.terms.common;
       id = inside.id;
@@ -36,4 +38,5 @@ returns c = λ psk n exchange answer pad sealed stands held.
       response_next = refl;
       taken = refl;
       th2 = th2;
+      };
     }
