@@ -1,10 +1,10 @@
 -- A session past its handshake goes under its application keys, and what it asks keeps them.
-use Rattle.std.proofs.Common.{◌≡◌, ◌∙◌, ap, sym, subst, refl, ℕ, ◌+◌, List, ◌++◌, true, false}
+use Rattle.std.proofs.Common.{◌≡◌, ◌∙◌, ap, sym, subst, refl, ℕ, ◌+◌, List, true}
 use Rattle.key_schedule.specs.Purpose.{Purpose, application_record}
 use Rattle.key_schedule.specs.declared.direction.Direction.{Direction}
 use Rattle.key_schedule.specs.declared.direction.Direction.TheVariants.{Request, Response}
 use Rattle.requester_machine.specs.Records.{sealed_next}
-use Rattle.requester_machine.specs.Session.{Steps, stage_of, session_id, session_hash, session_terms, t1_of, t2_of, request_epoch, response_epoch, request_next, id_bytes}
+use Rattle.requester_machine.specs.Session.{Steps, stage_of, session_hash, session_terms, t1_of, t2_of, request_epoch, response_epoch, request_next}
 use Rattle.spdm_basis.specs.SessionIdBytes.{session_id_bytes}
 use Rattle.spdm_basis.specs.declared.session_id.SessionId.{SessionId}
 use Rattle.spdm_grammar.specs.declared.phase.Stage.{Stage}

@@ -1,5 +1,5 @@
 -- What comes of an ask of an open session. This project's own.
-use Rattle.std.specs.Prelude.{◌≡◌, ℕ, List, Option, Some, None, Result, Ok, Err}
+use Rattle.std.specs.Prelude.{◌≡◌, ℕ, List, Some, None, Result, Ok, Err}
 use Rattle.requester_machine.specs.Session.{Steps}
 use Rattle.psk_session.specs.Asking.{ask_fault, asked}
 use Rattle.psk_session.specs.Waiting.{StandsFor}

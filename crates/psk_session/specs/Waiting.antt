@@ -2,7 +2,7 @@
 use Rattle.std.specs.Prelude.{◌≡◌, ℕ, List, [], ◌∷◌}
 use Rattle.requester_machine.specs.Message as message
 use Rattle.requester_machine.specs.Session.{Steps, stage_of}
-use Rattle.requester_machine.specs.Session.Step.{Started, Accepted, Asked, Took}
+use Rattle.requester_machine.specs.Session.Step.{Asked}
 use Rattle.spdm_grammar.specs.declared.phase.Stage.{Stage}
 use Rattle.psk_session.specs.Asking.{awaited_ask}
 use Rattle.psk_session.specs.Kept.{Keeps}

@@ -29,7 +29,7 @@ pub fn read_exchange_rsp(
 ) -> Result<ExchangeRsp<'_>, usize>
     ensures { MatchResult result
         (λ rsp. response_reading hash_len summary message.now
-            ≡ Ok (PskExchangeRsp (exchange_rsp_message rsp)))
+        ≡ Ok (PskExchangeRsp (exchange_rsp_message rsp)))
         (λ at. no_exchange_rsp (response_reading hash_len summary message.now) ≡ Some at) }
 {
     match read_answer(message, hash_len, summary) {

@@ -12,9 +12,7 @@ pub enum Ask<'a> {
     /// KEY_UPDATE with UpdateAllKeys.
     UpdateAll,
     /// GET_MEASUREMENTS with an operation.
-    Measure {
-        op: u8,
-    },
+    Measure { op: u8 },
     /// END_SESSION.
     End,
 }
@@ -24,12 +22,8 @@ pub enum Ask<'a> {
 pub enum Awaited {
     Data,
     Beat,
-    Update {
-        all: bool,
-    },
-    Measure {
-        op: u8,
-    },
+    Update { all: bool },
+    Measure { op: u8 },
     End,
 }
 

@@ -45,8 +45,14 @@ impl Model for Finishing {
 
     ghost Value = { Seen };
 
-    ghost view = { λ f. record { lane = f.lane; handshake = f.handshake; response = f.response;
-        id = f.id; sent = f.sent; terms = f.terms } };
+    ghost view = { λ f. record {
+      lane = f.lane;
+      handshake = f.handshake;
+      response = f.response;
+      id = f.id;
+      sent = f.sent;
+      terms = f.terms;
+    } };
 
     ghost invariant = { λ f. (lane_hash f.lane ≡ f.terms.choice.hash)
         × (f.handshake.keys.hash ≡ f.terms.choice.hash) };
@@ -68,7 +74,7 @@ impl Finishing {
         ensures { (psk : List ℕ) (n : Negotiation) (exchange answer : List ℕ)
             → AreTermsOf terms n exchange
             → IsHandshakeOf handshake psk n exchange answer
-                → lanes.StandsFor lane (vca_of n ++ exchange ++ answer)
+            → lanes.StandsFor lane (vca_of n ++ exchange ++ answer)
             → rsp_id ≡ id_in_exchange answer → StandsFor result psk n exchange answer pad.now }
     {
         let id = SessionId {
@@ -139,13 +145,13 @@ impl Finishing {
             → StandsFor self.now psk n exchange answer pad
             → MatchResult result
             (λ _. answer_fault psk (finishing psk n exchange answer pad) AskFinish sealed.now
-                ≡ None)
+            ≡ None)
             (λ e. answer_fault psk (finishing psk n exchange answer pad) AskFinish sealed.now
-                ≡ Some e) }
+            ≡ Some e) }
         ensures inner { (psk : List ℕ) (n : Negotiation) (exchange answer pad : List ℕ)
             → StandsFor self.now psk n exchange answer pad
             → OnOk result (out.new
-                ≡ answer_inner psk (finishing psk n exchange answer pad) AskFinish sealed.now) }
+            ≡ answer_inner psk (finishing psk n exchange answer pad) AskFinish sealed.now) }
     {
         open_record(&self.response, self.id, 0, sealed, out)
     }
@@ -154,7 +160,7 @@ impl Finishing {
     fn fault(&self, inner: &[u8]) -> Option<BadReply>
         ensures { (q : ReqSetup) → q.transfer ≡ self.now.terms.common.to_requester.transfer
             → result ≡ finish_fault
-                (contents_of q (hash_size self.now.terms.choice.hash) inner.now) }
+            (contents_of q (hash_size self.now.terms.choice.hash) inner.now) }
     {
         let transfer = self.terms.common.to_requester.transfer;
         match read_inner(transfer, self.terms.choice.hash.size(), inner) {
@@ -171,7 +177,7 @@ impl Finishing {
             → StandsFor self psk n exchange answer pad
             → inner.now ≡ answer_inner psk (finishing psk n exchange answer pad) AskFinish sealed
             → open_state.StandsFor result psk
-                (finished_by psk (finishing psk n exchange answer pad) sealed) }
+            (finished_by psk (finishing psk n exchange answer pad) sealed) }
     {
         let Finishing {
             mut lane,

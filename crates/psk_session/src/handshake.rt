@@ -81,7 +81,7 @@ impl Handshake {
         ensures value { (psk : List ℕ) (n : Negotiation) (exchange answer : List ℕ)
             → IsHandshakeOf self.now psk n exchange answer
             → lanes.StandsFor lane.now (vca_of n ++ exchange ++ answer)
-                → result ≡ finish_verify psk (accepted n exchange answer) }
+            → result ≡ finish_verify psk (accepted n exchange answer) }
         ensures size { length result ≤ 48 }
     {
         self.keys.requester_verify(&hash_with_finish(lane))
@@ -94,7 +94,7 @@ impl Handshake {
         ensures { (psk : List ℕ) (n : Negotiation) (exchange answer : List ℕ)
             → IsHandshakeOf self.now psk n exchange answer
             → id ≡ session_id (accepted n exchange answer)
-                → message.now ≡ finish_message psk n exchange answer
+            → message.now ≡ finish_message psk n exchange answer
             → result ≡ finish_record psk (accepted n exchange answer) pad.now }
     {
         let key = RecordKey::new(self.keys.request_key());
@@ -106,7 +106,7 @@ impl Handshake {
         ensures { (psk : List ℕ) (n : Negotiation) (exchange answer : List ℕ)
             → IsHandshakeOf self.now psk n exchange answer
             → IsKeyOf result (terms_of n).choice
-                (handshake_record psk (t1_of (accepted n exchange answer)) Response) }
+            (handshake_record psk (t1_of (accepted n exchange answer)) Response) }
     {
         RecordKey::new(self.keys.response_key())
     }
@@ -117,12 +117,12 @@ impl Handshake {
         ensures request { (psk : List ℕ) (n : Negotiation) (exchange answer t2 : List ℕ)
             → IsHandshakeOf self.now psk n exchange answer
             → th2.now ≡ (hash_of (terms_of n).choice.hash).digest t2
-                → IsKeyOf result.request (terms_of n).choice (application_record psk t2 Request 0) }
+            → IsKeyOf result.request (terms_of n).choice (application_record psk t2 Request 0) }
         ensures response { (psk : List ℕ) (n : Negotiation) (exchange answer t2 : List ℕ)
             → IsHandshakeOf self.now psk n exchange answer
             → th2.now ≡ (hash_of (terms_of n).choice.hash).digest t2
-                → IsKeyOf result.response (terms_of n).choice
-                (application_record psk t2 Response 0) }
+            → IsKeyOf result.response (terms_of n).choice
+            (application_record psk t2 Response 0) }
     {
         AppKeys::derive(&self.keys, th2)
     }

@@ -65,7 +65,7 @@ impl Opening {
     fn hash_with(&self, answer: &[u8]) -> HashBytes
         ensures value { (given : List ℕ) → lane.StandsFor self.now.lane given
             → result ≡ (hash_of self.now.terms.choice.hash).digest
-                (given ++ without_verify (hash_of self.now.terms.choice.hash) answer.now) }
+            (given ++ without_verify (hash_of self.now.terms.choice.hash) answer.now) }
         ensures size { length result ≡ hash_size self.now.terms.choice.hash }
     {
         let mut lane = self.lane.clone().unwrap();
@@ -136,7 +136,7 @@ impl Opening {
         ensures { (psk : List ℕ) (n : Negotiation) (exchange : List ℕ)
             → StandsFor self psk n exchange
             → IsHandshakeOf handshake psk n exchange answer.now
-                → finishing.StandsFor result psk n exchange answer.now pad.now }
+            → finishing.StandsFor result psk n exchange answer.now pad.now }
     {
         let Opening {
             mut lane,
