@@ -1,3 +1,4 @@
 pub mod Purposes
 pub mod Finishes
 pub mod Judged
+pub mod Past

@@ -5,6 +5,10 @@ pub mod Finishing
 pub mod Opened
 pub mod Inner
 pub mod Held
+pub mod Kept
 pub mod ReqOpen
+pub mod Asking
+pub mod Waiting
+pub mod AskTook
 pub mod Finished
 pub mod Answers

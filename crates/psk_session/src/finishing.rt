@@ -17,6 +17,7 @@ ghost use Rattle.requester_machine.specs.Shown.{view_of};
 
 use crate::handshake::Handshake;
 use crate::inner::{Inner, behind_type, read_inner};
+use crate::kept::Kept;
 use crate::keys::open_record;
 use crate::requests::write_finish;
 use crate::{Closed, FinishTook, ReqOpen, SessionTerms};
@@ -189,7 +190,7 @@ impl Finishing {
         lane.push(behind_type(inner));
         let th2 = lane.finish();
         let keys = handshake.app_keys(&th2);
-        ReqOpen {
+        let kept = Kept {
             request: RecordKey::new(keys.request),
             response: RecordKey::new(keys.response),
             request_next: 0,
@@ -198,6 +199,7 @@ impl Finishing {
             th2,
             id,
             terms,
-        }
+        };
+        ReqOpen { kept }
     }
 }

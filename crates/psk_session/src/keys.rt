@@ -66,3 +66,23 @@ pub fn seal_short(
     let _ = short.extend(record.as_slice());
     short
 }
+
+// The record of an inner message of at most 1,025 bytes, under the key of a purpose.
+pub fn seal_inner(
+    key: &RecordKey,
+    id: SessionId,
+    number: u16,
+    inner: &[u8],
+    pad: &[u8],
+) -> Buffer<1088>
+    requires inner { length inner.now ≤ 1025 }
+    requires pad { length pad.now ≤ 16 }
+    ensures { (choice : Choice) (p : Purpose) → IsKeyOf key.now choice p
+        → result ≡ sealed_of choice p number (session_id_bytes id.req id.rsp) inner.now pad.now }
+{
+    let mut record = RecordFrame::new();
+    seal_record(key, id, number, inner, pad, &mut record);
+    let mut sent = Buffer::<1088>::new();
+    let _ = sent.extend(record.as_slice());
+    sent
+}

@@ -3,18 +3,24 @@
 #![tactic(auto)]
 
 mod answers;
+mod ask;
+mod ask_fault;
 mod closed;
 mod finish_took;
 mod finishing;
 mod handshake;
 mod inner;
+mod kept;
 mod keys;
 mod open_fault;
 mod opening;
 mod req_open;
 mod requests;
 mod terms;
+mod waiting;
 
+pub use ask::Ask;
+pub use ask_fault::AskFault;
 pub use closed::Closed;
 pub use finish_took::FinishTook;
 pub use finishing::Finishing;
@@ -22,6 +28,7 @@ pub use open_fault::OpenFault;
 pub use opening::Opening;
 pub use req_open::ReqOpen;
 pub use terms::SessionTerms;
+pub use waiting::Waiting;
 
 #[cfg(test)]
 mod suites;

@@ -1,60 +1,71 @@
-ghost use Rattle.std.specs.Prelude.{◌≡◌, ◌≤◌, ◌<◌, ℕ, List};
+ghost use Rattle.std.specs.Prelude.{◌≡◌, ◌≤◌, ℕ, List, false, length};
 ghost use Rattle.requester_machine.specs.Session.{Steps};
 ghost use Rattle.requester_machine.specs.Shown.{view_of};
+ghost use Rattle.psk_session.specs.AskTook.{IsAsked};
+ghost use Rattle.psk_session.specs.Asking.{asked, is_long};
 ghost use Rattle.psk_session.specs.ReqOpen.{StandsFor};
+ghost use Rattle.psk_session.specs.Waiting as waiting;
 
-use crate::SessionTerms;
-use secured_record::RecordKey;
-use spdm_basis::{HashBytes, SessionId};
+use crate::kept::Kept;
+use crate::{Ask, AskFault, Waiting};
+use spdm_basis::RecordFrame;
 use spdm_grammar::{SessionView, Stage};
 use std::marker::Model;
 
 /// A session at the requester that is open, with nothing outstanding.
 #[derive(Drop)]
 pub struct ReqOpen {
-    pub(crate) request: RecordKey,
-    pub(crate) response: RecordKey,
-    pub(crate) request_next: u32,
-    pub(crate) response_next: u32,
-    pub(crate) taken: u64,
-    pub(crate) th2: HashBytes,
-    pub(crate) id: SessionId,
-    pub(crate) terms: SessionTerms,
+    pub(crate) kept: Kept,
 }
 
 impl Model for ReqOpen {
-    ghost use Rattle.psk_session.specs.ReqOpen.{Seen};
+    ghost use Rattle.std.specs.Prelude.{◌≤◌};
+    ghost use Rattle.psk_session.specs.declared.kept.Kept.{Kept};
 
-    ghost Value = { Seen };
+    ghost Value = { Kept };
 
-    ghost view = { λ o. record {
-      request = o.request;
-      response = o.response;
-      request_next = o.request_next;
-      response_next = o.response_next;
-      taken = o.taken;
-      th2 = o.th2;
-      id = o.id;
-      terms = o.terms;
-    } };
+    ghost view = { λ o. o.kept };
+
+    ghost invariant = { λ o. (o.kept.request_next ≤ 65535) × (o.kept.response_next ≤ 65535) };
 }
 
 impl ReqOpen {
     /// The session as it is shown.
-    #[tactic(auto, unfolding(requester_machine::specs::Shown::view_of))]
     pub fn view(&self) -> SessionView
         ensures { (psk : List ℕ) (s : Steps) → StandsFor self.now psk s → result ≡ view_of s }
     {
-        SessionView {
-            id: self.id,
+        self.kept.view(Stage::Open)
+    }
+
+    /// Asks something of the session, in a record with this padding of at most 16 bytes. A refused ask
+    /// changes nothing.
+    pub fn ask(self, ask: Ask<'_>, pad: &[u8]) -> Result<Waiting, (ReqOpen, AskFault)>
+        requires { length pad.now ≤ 16 }
+        ensures { (psk : List ℕ) (s : Steps) → StandsFor self psk s
+            → IsAsked self psk s ask.entry pad.now result }
+    {
+        match self.kept.ask_fault(&ask) {
+            Some(fault) => Err((self, fault)),
+            None => Ok(self.send(ask, pad)),
+        }
+    }
+
+    // The session with the record that asks it.
+    fn send(self, ask: Ask<'_>, pad: &[u8]) -> Waiting
+        requires fits { is_long ask ≡ false }
+        requires pad { length pad.now ≤ 16 }
+        ensures { (psk : List ℕ) (s : Steps) → StandsFor self psk s
+            → waiting.StandsFor result psk (asked psk s ask.entry pad.now) }
+    {
+        let ReqOpen { mut kept } = self;
+        let mut inner = RecordFrame::new();
+        kept.write_inner(&ask, &mut inner);
+        let sent = kept.seal(inner.as_slice(), pad);
+        Waiting {
+            kept,
             stage: Stage::Open,
-            request_epoch: self.request.epoch(),
-            response_epoch: self.response.epoch(),
-            request_next: self.request_next,
-            response_next: self.response_next,
-            taken: self.taken,
-            hash: self.th2.clone().unwrap(),
-            choice: self.terms.choice,
+            awaited: ask.awaited(),
+            sent,
         }
     }
 }

@@ -2,7 +2,8 @@ use spdm_basis::{AeadAlg, HashAlg};
 
 // A handshake under one choice of algorithms and the pre-shared key "1234567890123456", in hexadecimal: the
 // messages up to the record of PSK_FINISH, that record with the padding 01 02 03, the record of PSK_FINISH_RSP,
-// a record of ERROR with the code 07 in its place, and the hashes of T1 and T2.
+// a record of ERROR with the code 07 in its place, the hashes of T1 and T2, and the first record that asks each of
+// what `asks` lists, without padding but for UpdateAllKeys, with the byte 09.
 pub struct Suite {
     pub hash: HashAlg,
     pub aead: AeadAlg,
@@ -15,6 +16,7 @@ pub struct Suite {
     pub refusal: &'static str,
     pub th1: &'static str,
     pub th2: &'static str,
+    pub asked: [&'static str; 6],
 }
 
 // Computed by an implementation in Python 3 with the modules hmac and hashlib and the package cryptography.
@@ -31,6 +33,14 @@ pub const SUITES: [Suite; 4] = [
         refusal: "01000100000017003ffb6f0c486702007043a9fb7a8cc2349d675caf66ec07",
         th1: "d3017f9e044932d673b398f65866425eb57e159cf36cef4158b79de62ec446b9",
         th2: "5ddcd350a2caa76e8c9a70aae22a180489d8866ddc61039d7d14f8353aaad73a",
+        asked: [
+            "01000100000015007da9fe145f6a1136b8edf8603081a3cddecc00d6fc",
+            "01000100000017007ba9fa6ede9d835b66f7a0b8a466a727d6fa8870c1a220",
+            "01000100000017007ba9fa6edf9c83a1fde1041783d2e2fd172fae39d9ac06",
+            "01000100000018007ba9fa6edf9f834618905e0fd8c44b7dcefb99f5dd36db4e",
+            "01000100000017007ba9fa6ed69d7cc9da9a6c9c445cc2c4b1c2716fc419a2",
+            "01000100000017007ba9fa6eda9d831831fa3f9b190adc37c1b9528e5f041c",
+        ],
     },
     Suite {
         hash: HashAlg::Sha256,
@@ -44,6 +54,14 @@ pub const SUITES: [Suite; 4] = [
         refusal: "0100010000001700cf4706268279ce8eeeac6afde035b17f80e78f862dcb21",
         th1: "ad107802ca3dd19a654aafc019eae1fcac1acd6898953c8b54a662d008b37865",
         th2: "a15b788a2c2c828b4243cda3a812f8f8e15da7937565bc8338862cc09b3b384d",
+        asked: [
+            "010001000000150045b512d3661fbdcf053d3d6139fa967e2e0b999b9e",
+            "010001000000170043b516a9e792166a9456c30a4b515dcc31dd4e3bd4cc25",
+            "010001000000170043b516a9e69316ccc58542c206f5b5e8eb119317309a8b",
+            "010001000000180043b516a9e690165a752941cf6cb61db515f9fd620dca027c",
+            "010001000000170043b516a9ef92e9c9a119034652ecf98ae53ab2af3227d7",
+            "010001000000170043b516a9e392161c65e97b93e46dc1c3558a6dabd597c5",
+        ],
     },
     Suite {
         hash: HashAlg::Sha384,
@@ -57,6 +75,14 @@ pub const SUITES: [Suite; 4] = [
         refusal: "010001000000170072e7250d7021a576bac12c667f7138189d95cf4ed049e4",
         th1: "735f3de9250a057c1e7f19fbf9b999b783a11aad2e1574d9096eec33add166fd3e374610af17801625c0963002255a95",
         th2: "d6517aff08615f027a30bd244e2896e3e9bc4de00e5e4bbda3d2661b349c9f6cb3015ceb09f3f51ea61c3b3dda038448",
+        asked: [
+            "0100010000001500fe02269b65a02d22d44a8d62b5df7414cd7a782b8a",
+            "0100010000001700f80222e1e46682d8aec91bf6858858c3445b8075ce7ac5",
+            "0100010000001700f80222e1e567824ea82d495f16da769fa00afae9af5e5f",
+            "0100010000001800f80222e1e564823bdee4c242a1989822a52b58f80416608b",
+            "0100010000001700f80222e1ec667d0db4edf43878f210b833cfac5c4c8822",
+            "0100010000001700f80222e1e06682c52cda420937721bf3e5bf8e0a3513c7",
+        ],
     },
     Suite {
         hash: HashAlg::Sha384,
@@ -70,5 +96,13 @@ pub const SUITES: [Suite; 4] = [
         refusal: "0100010000001700ebe218e4d059feacde30d405613e3339202350512e4d8c",
         th1: "6ab9695d9dbf1f2d357d8a9e27e32d10919c3a388816702b76c4a37e19ce1eeb63408422cc3af330569503d24bb81634",
         th2: "935673c949c3d53cc312e18ec87bbc5c12e95389e3fa858dfbe4d852b833d2ce2021ef5cae4b95e02523bcae3ddc82a3",
+        asked: [
+            "0100010000001500115a21962f07de89ea02958399d2e0f422d5b8d6de",
+            "0100010000001700175a25ecae1f5f8170a61d76811223c95f59218d783921",
+            "0100010000001700175a25ecaf1e5ff4a335ca21a92f7246507a45fb513251",
+            "0100010000001800175a25ecaf1d5f71e0ddb989b10249ee1149b825a51e3271",
+            "0100010000001700175a25eca61fa0e3ef9a5bb57cd0612872efaf703cec97",
+            "0100010000001700175a25ecaa1f5ff6f96086b1e680f7218b00e99dcca079",
+        ],
     },
 ];

@@ -1,5 +1,5 @@
 use crate::suites::{SUITES, Suite};
-use crate::{FinishTook, Finishing, OpenFault, Opening, ReqOpen, SessionTerms};
+use crate::{Ask, AskFault, FinishTook, Finishing, OpenFault, Opening, ReqOpen, SessionTerms};
 use negotiate::{Common, Sizes};
 use secured_record::RecordFault;
 use spdm_basis::{Psk, SessionId};
@@ -34,7 +34,7 @@ fn opening(rt: &impl Alloc, suite: &Suite, negotiation: &[u8]) -> Result<Opening
         choice: Choice {
             hash: suite.hash,
             aead: suite.aead,
-            measure: false,
+            measure: true,
         },
         common: COMMON,
         summary: false,
@@ -166,4 +166,72 @@ fn unopened_record_changes_nothing(rt: HostRuntime) -> Result<(), Fail> {
         }
     }
     Ok(())
+}
+
+// An ask, and the padding of its record.
+#[derive(Clone, Copy)]
+struct Asked {
+    ask: Ask<'static>,
+    pad: &'static [u8],
+}
+
+// One of each kind.
+fn asks() -> [Asked; 6] {
+    let plain = |ask| Asked { ask, pad: &[] };
+    [
+        plain(Ask::Data(b"hi")),
+        plain(Ask::Beat),
+        plain(Ask::UpdateKey),
+        Asked {
+            ask: Ask::UpdateAll,
+            pad: &[9],
+        },
+        plain(Ask::Measure { op: 255 }),
+        plain(Ask::End),
+    ]
+}
+
+// The open session of a suite.
+fn opened(rt: &impl Alloc, suite: &Suite) -> Result<ReqOpen, Fail> {
+    let sealed = hex::decode(rt.alloc(), suite.finish_answer)?;
+    open(finishing(rt, suite)?, sealed.as_slice())
+}
+
+// That an ask of a new session makes this record.
+fn expect_asked(
+    rt: &(impl Abort + Alloc),
+    suite: &Suite,
+    asked: Asked,
+    want: &str,
+) -> Result<(), Fail> {
+    assert!(rt; asked.pad.len() <= 16);
+    match opened(rt, suite)?.ask(asked.ask, asked.pad) {
+        Ok(state) => {
+            assert!(rt; state.view().request_next == 1);
+            expect_bytes(rt, state.again(), want)
+        }
+        Err(_) => Err(Fail::from("refused")),
+    }
+}
+
+#[test]
+fn first_record_of_each_ask(rt: HostRuntime) -> Result<(), Fail> {
+    for suite in &SUITES {
+        for (asked, want) in asks().iter().zip(suite.asked) {
+            expect_asked(&rt, suite, *asked, want)?;
+        }
+    }
+    Ok(())
+}
+
+#[test]
+fn long_data_is_refused(rt: HostRuntime) -> Result<(), Fail> {
+    match opened(&rt, &SUITES[0])?.ask(Ask::Data(&[7; 1025]), &[]) {
+        Err((state, fault)) => {
+            assert_eq!(rt; fault, AskFault::TooLong);
+            assert!(rt; state.view().request_next == 0);
+            Ok(())
+        }
+        Ok(_) => Err(Fail::from("asked")),
+    }
 }

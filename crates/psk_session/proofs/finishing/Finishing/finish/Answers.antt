@@ -25,15 +25,18 @@ returns c = λ psk n exchange answer pad sealed stands held.
     ∙ ap (λ (m : List ℕ). (hash_of (terms_of n).choice.hash).digest (before ++ m)) (c.behind_type.ensures ∙ ap (λ (m : List ℕ). drop 1 m) held) in
     record {
       stage = refl;
-      choice = inside.terms.choice;
-      common = inside.terms.common;
-      id = inside.id;
-      request = subst (λ (k : DirectionSecret). IsKeyOf k (terms_of n).choice (application_record psk t2 Request 0)) (sym c.new.ensures)
-          (c.app_keys-keys.ensures.request psk n exchange answer t2 inside.handshake th2);
-      response = subst (λ (k : DirectionSecret). IsKeyOf k (terms_of n).choice (application_record psk t2 Response 0)) (sym c.new-2.ensures)
-          (c.app_keys-keys.ensures.response psk n exchange answer t2 inside.handshake th2);
-      request_next = refl;
-      response_next = refl;
-      taken = refl;
-      th2 = th2;
+      keeps = record {
+        past = refl;
+        choice = inside.terms.choice;
+        common = inside.terms.common;
+        id = inside.id;
+        request = subst (λ (k : DirectionSecret). IsKeyOf k (terms_of n).choice (application_record psk t2 Request 0)) (sym c.new.ensures)
+            (c.app_keys-keys.ensures.request psk n exchange answer t2 inside.handshake th2);
+        response = subst (λ (k : DirectionSecret). IsKeyOf k (terms_of n).choice (application_record psk t2 Response 0)) (sym c.new-2.ensures)
+            (c.app_keys-keys.ensures.response psk n exchange answer t2 inside.handshake th2);
+        request_next = refl;
+        response_next = refl;
+        taken = refl;
+        th2 = th2;
+      };
     }
