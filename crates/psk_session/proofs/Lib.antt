@@ -2,3 +2,4 @@ pub mod Purposes
 pub mod Finishes
 pub mod Judged
 pub mod Past
+pub mod AskCommands

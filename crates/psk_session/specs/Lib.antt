@@ -10,5 +10,6 @@ pub mod ReqOpen
 pub mod Asking
 pub mod Waiting
 pub mod AskTook
+pub mod AskLaws
 pub mod Finished
 pub mod Answers
