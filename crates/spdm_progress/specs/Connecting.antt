@@ -1,0 +1,3 @@
+-- Dummy.
+abbrev pub ConnectCompletes : Type 0
+ConnectCompletes = Unit {0}
