@@ -5,3 +5,5 @@ pub mod ResponderTurns
 pub mod ResponderStages
 pub mod ResponderBegins
 pub mod RequesterStages
+pub mod Waiting
+pub mod Placed

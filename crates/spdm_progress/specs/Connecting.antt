@@ -1,3 +1,78 @@
--- Dummy.
+-- What a connect comes to where its messages are delivered honestly. This project's own.
+use Rattle.std.specs.Prelude.{◌≡◌, ◌≤◌, ◌+◌, ℕ, List, [], ◌∷◌, ◌++◌, length, Some, None, Contains}
+use Rattle.negotiate.specs.Choosing.{selected}
+use Rattle.negotiate.specs.Offer.{offer_of}
+use Rattle.requester_machine.specs.History as asked
+use Rattle.requester_machine.specs.Message.Command.{Connect}
+use Rattle.requester_machine.specs.Requesting.{Requesting}
+use Rattle.responder_machine.specs.Answer.{algorithms_answer}
+use Rattle.responder_machine.specs.History as served
+use Rattle.responder_machine.specs.Responding.{Connection, Responding, connection_of}
+use Rattle.responder_machine.specs.Setup.{policy_of}
+use Rattle.spdm_agreement.specs.Configured.{IsConfigured}
+use Rattle.spdm_grammar.specs.Lines.{Line}
+use Rattle.spdm_grammar.specs.Message.{OfferMessage}
+use Rattle.spdm_grammar.specs.Message.RequestMessage.{NegotiateAlgorithms}
+use Rattle.spdm_grammar.specs.Requests.{canonical_request}
+use Rattle.spdm_grammar.specs.Responses.{canonical_response}
+use Rattle.spdm_grammar.specs.declared.choice.Choice.{Choice}
+use Rattle.spdm_grammar.specs.declared.event.Event.TheVariants as event
+use Rattle.spdm_grammar.specs.declared.event.Finished.TheVariants as finished
+use Rattle.spdm_grammar.specs.declared.phase.Phase.TheVariants.{Negotiated}
+use Rattle.spdm_machine.specs.Packets.{wear_limit}
+use Rattle.spdm_machine.specs.Terms.{terms_of}
+use Rattle.world_machine.specs.Chance.{NoChance}
+use Rattle.world_machine.specs.Happenings.{Entry}
+use Rattle.world_machine.specs.Happenings.Happening.{Told}
+use Rattle.world_machine.specs.Setup.{WorldSetup}
+use Rattle.world_machine.specs.Trace.{world_from, world_after, lines_from}
+use Rattle.world_machine.specs.World.{World, requester_of, entry_step}
+use Rattle.spdm_progress.specs.Honest.{NothingWaits, AreHonest, HaveNoCommand}
+
+-- What a connect needs of the two set-ups: the requester has a hash to offer to a responder of this transfer size, the
+-- responder can choose of the offer, and the two messages that may have more than 42 bytes fit the transfer sizes of
+-- their receivers, so that they need no chunks.
+pub record CanConnect (a : Requesting) (c : Connection) : Type 0 where
+  pub offer : OfferMessage
+  pub offered : offer_of a.setup.suites c.setup.transfer ≡ Some offer
+  pub choice : Choice
+  pub chosen : selected offer (policy_of c.setup) ≡ Some choice
+  pub request_fits : length (canonical_request (NegotiateAlgorithms offer)) ≤ c.setup.transfer
+  pub answer_fits : length (canonical_response (algorithms_answer c.setup offer)) ≤ a.setup.transfer
+
+-- Neither end is worn out before a connect is over: the requester takes the command and three packets, the responder
+-- three packets. An end takes 2^40.
+pub record HasLife (a : Requesting) (r : Responding) : Type 0 where
+  pub requester : length a.given + a.commands + 4 ≤ wear_limit
+  pub responder : length r.given + 3 ≤ wear_limit
+
+-- The connect of requester n, the one of this end point, is done: it is told so in these lines; nothing is outstanding;
+-- both ends are in phase Negotiated, and hold the same negotiation: the same six messages, so the same choice and the
+-- same common capabilities. The choice is this one.
+pub record IsConnected (n eid : ℕ) (choice : Choice) (world : World) (lines : List Line) : Type 0 where
+  pub told : Contains lines (Line.ToRequester n (event.Done finished.Connected))
+  pub requester : Requesting
+  pub is_requester : requester_of n world ≡ Some requester
+  pub connection : Connection
+  pub is_connection : connection_of eid world.responder.connections ≡ Some connection
+  pub none : asked.outstanding requester.history ≡ None
+  pub requester_phase : asked.phase_of requester.history ≡ Negotiated
+  pub responder_phase : served.phase_of (served.clear_turns connection.history) ≡ Negotiated
+  pub same : asked.negotiation_of requester.history ≡ served.negotiation_of (served.clear_turns connection.history)
+  pub chosen : (asked.connection_terms requester.history).choice ≡ choice
+
+-- The world in which requester n was told to connect.
+abbrev pub connecting : World → (line n : ℕ) → World
+connecting world line n = (entry_step world (record { line = line; happening = Told n Connect })).after
+
+-- Whatever came before, where no packet waits, and whatever stands between this command and the next one of an honest
+-- script: once no packet waits any more, the connect is done.
 abbrev pub ConnectCompletes : Type 0
-ConnectCompletes = Unit {0}
+ConnectCompletes =
+    (w : WorldSetup) → IsConfigured w → (before : List Entry) → NoChance (world_after w before).log → NothingWaits (world_after w before)
+    → (n : ℕ) (a : Requesting) → requester_of n (world_after w before) ≡ Some a
+    → (c : Connection) → connection_of a.setup.eid (world_after w before).responder.connections ≡ Some c
+    → (can : CanConnect a c) → HasLife a (world_after w before).responder
+    → (line : ℕ) (behind : List Entry) → HaveNoCommand behind → AreHonest (connecting (world_after w before) line n) behind
+    → NothingWaits (world_from (connecting (world_after w before) line n) behind)
+    → IsConnected n a.setup.eid can.choice (world_from (connecting (world_after w before) line n) behind) (lines_from (connecting (world_after w before) line n) behind)
