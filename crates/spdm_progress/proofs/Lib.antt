@@ -7,3 +7,5 @@ pub mod ResponderBegins
 pub mod RequesterStages
 pub mod Waiting
 pub mod Placed
+pub mod Places
+pub mod PacketSteps
