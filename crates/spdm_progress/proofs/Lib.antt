@@ -9,3 +9,4 @@ pub mod Waiting
 pub mod Placed
 pub mod Places
 pub mod PacketSteps
+pub mod SetUps
