@@ -10,3 +10,4 @@ pub mod Placed
 pub mod Places
 pub mod PacketSteps
 pub mod SetUps
+pub mod UnderWay

@@ -226,12 +226,12 @@ module _ (p : Pair) (ends : AreEnds p) where
       ∙ ap (with_sent world.sent) (one_packet p.requester.responder p.requester.eid true x.0 p.requester.unit x.1 (omega arith) ∙ ap (λ (to : ℕ). packet_to to p.requester.eid true x.0 x.1 ∷ []) ends.to)))
       (one_waits world.sent (packet_to p.responder.eid p.requester.eid true x.0 x.1) idle)
 
-  module _ (k l : ℕ) (Asked Then : asked.History → Type 0) (Served : served.History → Type 0) (tag : ℕ) (m : List ℕ) (told : Event) (next : asked.History → Option (ℕ × List ℕ × RequestMessage)) (small : tag < 8) (short : length m < 64)
-      (next_short : (h : asked.History) → IsShort (next h)) (hears_it : (h : asked.History) (d : Draw) → Asked h → Hears p.requester h tag m d told (next_of (next h)) Then) where
+  module _ (k l : ℕ) (Asked : asked.History → Type 0) (Then : asked.History → asked.History → Type 0) (Served : served.History → Type 0) (tag : ℕ) (m : List ℕ) (told : Event) (next : asked.History → Option (ℕ × List ℕ × RequestMessage)) (small : tag < 8) (short : length m < 64)
+      (next_short : (h : asked.History) → IsShort (next h)) (hears_it : (h : asked.History) (d : Draw) → Asked h → Hears p.requester h tag m d told (next_of (next h)) (Then h)) where
     -- The pair, what waits behind it, and the line that was written.
     pub record AtNext (before : asked.History) (s : WorldStep) : Type 0 where
       pub waits : NextWaits (next before) s.after
-      pub pair : At p k l Then Served s.after
+      pub pair : At p k l (Then before) Served s.after
       pub writes : IsIn s.lines (Line.ToRequester p.number told)
 
     heard_at : (world : World) → first_waiting world.sent ≡ None → (at : At p (k + 1) l Asked Served world)

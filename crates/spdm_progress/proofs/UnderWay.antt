@@ -1,0 +1,175 @@
+-- A connect under way: which of its six packets waits, and what both ends hold; and what pumps, queued data and time do
+-- to it.
+use Rattle.std.proofs.Common.{◌≡◌, ◌≢◌, ◌⊎◌, ◌∙◌, ℕ, zero, suc, ◌<◌, ◌≤◌, ◌+◌, ◌==◌, List, [], ◌∷◌, ◌++◌, length, map, find, Bool, true, false, cond, Option, Some, None, Result, Ok, refl, sym, ap, subst, inl, inr, arith, append-nil}
+use Rattle.std.specs.Prelude.{if◌then◌else◌}
+use Rattle.spdm_grammar.specs.Lines.{Line}
+use Rattle.spdm_grammar.specs.Message.{OfferMessage, RequestMessage}
+use Rattle.spdm_grammar.specs.Message.RequestMessage.{GetVersion, GetCapabilities, NegotiateAlgorithms}
+use Rattle.spdm_grammar.specs.declared.choice.Choice.{Choice}
+use Rattle.spdm_grammar.specs.declared.event.Event.TheVariants as event
+use Rattle.spdm_grammar.specs.declared.event.Finished.TheVariants as finished
+use Rattle.spdm_machine.specs.Keys.{Draw}
+use Rattle.spdm_machine.specs.Terms.{no_negotiation}
+use Rattle.spdm_machine.proofs.Members.{IsIn, some_same}
+use Rattle.requester_machine.specs.History as asked
+use Rattle.requester_machine.specs.Setup.{ReqSetup, requester_caps}
+use Rattle.responder_machine.specs.History as served
+use Rattle.world_machine.specs.World.{World, WorldStep, first_waiting, packet_of, delivers, turn, pumps, rests, behind}
+use Rattle.spdm_progress.proofs.OnePacket.{packet_to}
+use Rattle.spdm_progress.proofs.PacketSteps.{Pair, AreEnds, At, RequestWaits, AnswerWaits, AtAnswer, AtNext, request_given, answer_given}
+use Rattle.spdm_progress.proofs.RequesterStages.{Asks, IsOver, version_heard, capabilities_heard, algorithms_heard}
+use Rattle.spdm_progress.proofs.ResponderStages.{AwaitsVersion, HasVersion, HasCapabilities, HasAlgorithms, get_version, version, get_capabilities, capabilities, negotiate_algorithms, algorithms, first_pair, two_pairs, three_pairs, version_answered, capabilities_answered, algorithms_answered}
+use Rattle.spdm_progress.proofs.SetUps.{CanTalk, common_for, takes_answer, algorithms_size}
+use Rattle.spdm_progress.proofs.Waiting.{OneWaits}
+
+module _ (p : Pair) (ends : AreEnds p) (offer : OfferMessage) (choice : Choice) (can : CanTalk p.requester p.responder offer choice) where
+  abbrev pub AsksVersion : ℕ → asked.History → Type 0
+  AsksVersion tag h = Asks p.requester tag GetVersion get_version no_negotiation h
+
+  abbrev pub AsksCapabilities : ℕ → asked.History → Type 0
+  AsksCapabilities tag h = Asks p.requester tag (GetCapabilities (requester_caps p.requester)) (get_capabilities p.requester) first_pair h
+
+  abbrev pub AsksAlgorithms : ℕ → asked.History → Type 0
+  AsksAlgorithms tag h = Asks p.requester tag (NegotiateAlgorithms offer) (negotiate_algorithms offer) (two_pairs p.requester p.responder) h
+
+  abbrev pub Capable : served.History → Type 0
+  Capable h = HasCapabilities p.requester p.responder h
+
+  abbrev pub Agreed : served.History → Type 0
+  Agreed h = HasAlgorithms p.requester p.responder offer h
+
+  -- A packet of the requester waits, or one of the responder.
+  pub record Requested (k l tag : ℕ) (m : List ℕ) (Asked : asked.History → Type 0) (Served : served.History → Type 0) (world : World) : Type 0 where
+    pub small : tag < 8
+    pub waits : RequestWaits p ends tag m world
+    pub pair : At p k l Asked Served world
+
+  pub record Replied (k l tag : ℕ) (m : List ℕ) (Asked : asked.History → Type 0) (Served : served.History → Type 0) (world : World) : Type 0 where
+    pub small : tag < 8
+    pub waits : AnswerWaits p ends tag m world
+    pub pair : At p k l Asked Served world
+
+  -- The six packets of a connect.
+  abbrev pub IsUnderWay : World → Type 0
+  IsUnderWay world =
+      ((tag : ℕ) × Requested 3 3 tag get_version (AsksVersion tag) AwaitsVersion world)
+      ⊎ (((tag : ℕ) × Replied 3 2 tag version (AsksVersion tag) HasVersion world)
+      ⊎ (((tag : ℕ) × Requested 2 2 tag (get_capabilities p.requester) (AsksCapabilities tag) HasVersion world)
+      ⊎ (((tag : ℕ) × Replied 2 1 tag (capabilities p.responder) (AsksCapabilities tag) Capable world)
+      ⊎ (((tag : ℕ) × Requested 1 1 tag (negotiate_algorithms offer) (AsksAlgorithms tag) Capable world)
+      ⊎ ((tag : ℕ) × Replied 1 0 tag (algorithms p.responder offer) (AsksAlgorithms tag) Agreed world)))))
+
+  pub record IsDone (world : World) : Type 0 where
+    pub idle : first_waiting world.sent ≡ None
+    pub pair : At p 0 0 (IsOver (three_pairs p.requester p.responder offer)) Agreed world
+
+  abbrev pub done_line : Line
+  done_line = Line.ToRequester p.number (event.Done finished.Connected)
+
+  -- The connect goes on, or is done and its line was written.
+  pub data Goes (s : WorldStep) : Type 0 where
+    GoesOn : IsUnderWay s.after → Goes s
+    Ends : IsDone s.after → IsIn s.lines done_line → Goes s
+
+  -- ---- One packet.
+
+  neg_short : length (negotiate_algorithms offer) < 64
+  neg_short = (let size = can.own.size in omega arith)
+
+  neg_long : 4 ≤ length (negotiate_algorithms offer)
+  neg_long = (let size = can.own.size in omega arith)
+
+  alg_short : length (algorithms p.responder offer) < 64
+  alg_short = (let size = algorithms_size p.responder offer in omega arith)
+
+  at_place : (world : World) (n m : ℕ) → first_waiting world.sent ≡ Some m → first_waiting world.sent ≡ Some n → Goes (delivers world m (packet_of m world.sent)) → Goes (delivers world n (packet_of n world.sent))
+  at_place world n m a b g = (let same : m ≡ n = some_same m n (sym a ∙ b) in subst (λ (k : ℕ). Goes (delivers world k (packet_of k world.sent))) same g)
+
+  version_given : (world : World) (tag : ℕ) (x : Requested 3 3 tag get_version (AsksVersion tag) AwaitsVersion world) → Goes (delivers world (suc x.waits.place) (packet_of (suc x.waits.place) world.sent))
+  version_given world tag x =
+      let s = request_given p ends 3 2 (AsksVersion tag) AwaitsVersion HasVersion tag get_version version x.small (omega arith) (omega arith)
+      (λ h d awaits. version_answered p.responder h tag d can.responder_room awaits) world x.waits x.pair in
+      GoesOn (inr (inl (tag, record { small = x.small; waits = s.waits; pair = s.pair })))
+
+  version_taken : (world : World) (tag : ℕ) (x : Replied 3 2 tag version (AsksVersion tag) HasVersion world) → Goes (delivers world (suc x.waits.place) (packet_of (suc x.waits.place) world.sent))
+  version_taken world tag x =
+      let s = answer_given p ends 2 2 (AsksVersion tag) (λ h. AsksCapabilities (asked.next_tag h)) HasVersion tag version event.Progress (λ h. Some (asked.next_tag h, get_capabilities p.requester, GetCapabilities (requester_caps p.requester))) x.small (omega arith)
+      (λ h. omega arith) (λ h d asks. version_heard p.requester h tag d can.requester_room asks) world x.waits x.pair in
+      GoesOn (inr (inr (inl (asked.next_tag x.pair.asked, record { small = s.pair.asks.small; waits = s.waits; pair = s.pair }))))
+
+  capabilities_given : (world : World) (tag : ℕ) (x : Requested 2 2 tag (get_capabilities p.requester) (AsksCapabilities tag) HasVersion world) → Goes (delivers world (suc x.waits.place) (packet_of (suc x.waits.place) world.sent))
+  capabilities_given world tag x =
+      let s = request_given p ends 2 1 (AsksCapabilities tag) HasVersion Capable tag (get_capabilities p.requester) (capabilities p.responder) x.small (omega arith) (omega arith)
+      (λ h d has. capabilities_answered p.requester p.responder h tag d (common_for p.requester p.responder) can.responder_room can.own_caps can.together has) world x.waits x.pair in
+      GoesOn (inr (inr (inr (inl (tag, record { small = x.small; waits = s.waits; pair = s.pair })))))
+
+  capabilities_taken : (world : World) (tag : ℕ) (x : Replied 2 1 tag (capabilities p.responder) (AsksCapabilities tag) Capable world) → Goes (delivers world (suc x.waits.place) (packet_of (suc x.waits.place) world.sent))
+  capabilities_taken world tag x =
+      let s = answer_given p ends 1 1 (AsksCapabilities tag) (λ h. AsksAlgorithms (asked.next_tag h)) Capable tag (capabilities p.responder) event.Progress (λ h. Some (asked.next_tag h, negotiate_algorithms offer, NegotiateAlgorithms offer)) x.small (omega arith)
+      (λ h. neg_short) (λ h d asks. capabilities_heard p.requester p.responder h tag d offer (common_for p.requester p.responder) can.requester_room can.their_caps can.offers asks) world x.waits x.pair in
+      GoesOn (inr (inr (inr (inr (inl (asked.next_tag x.pair.asked, record { small = s.pair.asks.small; waits = s.waits; pair = s.pair }))))))
+
+  algorithms_given : (world : World) (tag : ℕ) (x : Requested 1 1 tag (negotiate_algorithms offer) (AsksAlgorithms tag) Capable world) → Goes (delivers world (suc x.waits.place) (packet_of (suc x.waits.place) world.sent))
+  algorithms_given world tag x =
+      let s = request_given p ends 1 0 (AsksAlgorithms tag) Capable Agreed tag (negotiate_algorithms offer) (algorithms p.responder offer) x.small neg_short alg_short
+      (λ h d has. algorithms_answered p.requester p.responder h tag d offer choice neg_long can.request_fits can.own.fits can.own.sound can.chosen (takes_answer p.requester p.responder offer choice h can has) has) world x.waits x.pair in
+      GoesOn (inr (inr (inr (inr (inr (tag, record { small = x.small; waits = s.waits; pair = s.pair }))))))
+
+  algorithms_taken : (world : World) (tag : ℕ) (x : Replied 1 0 tag (algorithms p.responder offer) (AsksAlgorithms tag) Agreed world) → Goes (delivers world (suc x.waits.place) (packet_of (suc x.waits.place) world.sent))
+  algorithms_taken world tag x =
+      let s = answer_given p ends 0 0 (AsksAlgorithms tag) (λ h. IsOver (three_pairs p.requester p.responder offer)) Agreed tag (algorithms p.responder offer) (event.Done finished.Connected) (λ h. None) x.small alg_short
+      (λ h. tt) (λ h d asks. algorithms_heard p.requester p.responder h tag d offer choice can.answer_fits can.chosen asks) world x.waits x.pair in
+      Ends (record { idle = s.waits; pair = s.pair }) s.writes
+
+  one_given : (world : World) (n : ℕ) → first_waiting world.sent ≡ Some n → IsUnderWay world → Goes (delivers world n (packet_of n world.sent))
+  one_given world n is (inl x) = at_place world n (suc x.1.waits.place) x.1.waits.first is (version_given world x.0 x.1)
+  one_given world n is (inr (inl x)) = at_place world n (suc x.1.waits.place) x.1.waits.first is (version_taken world x.0 x.1)
+  one_given world n is (inr (inr (inl x))) = at_place world n (suc x.1.waits.place) x.1.waits.first is (capabilities_given world x.0 x.1)
+  one_given world n is (inr (inr (inr (inl x)))) = at_place world n (suc x.1.waits.place) x.1.waits.first is (capabilities_taken world x.0 x.1)
+  one_given world n is (inr (inr (inr (inr (inl x))))) = at_place world n (suc x.1.waits.place) x.1.waits.first is (algorithms_given world x.0 x.1)
+  one_given world n is (inr (inr (inr (inr (inr x))))) = at_place world n (suc x.1.waits.place) x.1.waits.first is (algorithms_taken world x.0 x.1)
+
+  -- A packet waits while it is under way.
+  some_waits : (world : World) → IsUnderWay world → (n : ℕ) × (first_waiting world.sent ≡ Some n)
+  some_waits world (inl x) = (suc x.1.waits.place, x.1.waits.first)
+  some_waits world (inr (inl x)) = (suc x.1.waits.place, x.1.waits.first)
+  some_waits world (inr (inr (inl x))) = (suc x.1.waits.place, x.1.waits.first)
+  some_waits world (inr (inr (inr (inl x)))) = (suc x.1.waits.place, x.1.waits.first)
+  some_waits world (inr (inr (inr (inr (inl x))))) = (suc x.1.waits.place, x.1.waits.first)
+  some_waits world (inr (inr (inr (inr (inr x))))) = (suc x.1.waits.place, x.1.waits.first)
+
+  -- ---- Pumps.
+
+  in_left : (xs ys : List Line) (x : Line) → IsIn xs x → IsIn (xs ++ ys) x
+  in_left [] ys x m = absurd m
+  in_left (y ∷ xs) ys x m = elim m [ inl e ↦ inl e | inr k ↦ inr (in_left xs ys x k) ]
+
+  in_right : (xs ys : List Line) (x : Line) → IsIn ys x → IsIn (xs ++ ys) x
+  in_right [] ys x m = m
+  in_right (y ∷ xs) ys x m = inr (in_right xs ys x m)
+
+  -- Where no packet waits a pump does nothing.
+  pub pumps_idle : (count : ℕ) (world : World) → first_waiting world.sent ≡ None → pumps count world ≡ rests world
+  unfolding pumps
+  pumps_idle zero world idle = refl
+  pumps_idle (suc count) world idle = ap (turn world (pumps count)) idle
+
+  -- What comes behind a step.
+  pub goes_behind : (first : WorldStep) (second : World → WorldStep) → Goes first → ((world : World) → IsUnderWay world → Goes (second world)) → ((world : World) → IsDone world → IsDone (second world).after) → Goes (behind first second)
+  goes_behind first second (GoesOn u) on stays = later (on first.after u)
+    where
+      later : Goes (second first.after) → Goes (behind first second)
+      later (GoesOn v) = GoesOn v
+      later (Ends d m) = Ends d (in_right first.lines (second first.after).lines done_line m)
+  goes_behind first second (Ends d m) on stays = Ends (stays first.after d) (in_left first.lines (second first.after).lines done_line m)
+
+  pub pumps_done : (count : ℕ) (world : World) → IsDone world → IsDone (pumps count world).after
+  pumps_done count world d = subst (λ (s : WorldStep). IsDone s.after) (sym (pumps_idle count world d.idle)) d
+
+  pub pumps_go : (count : ℕ) (world : World) → IsUnderWay world → Goes (pumps count world)
+  unfolding pumps
+  pumps_go zero world u = GoesOn u
+  pumps_go (suc count) world u =
+      let w = some_waits world u in
+      subst (λ (o : Option ℕ). Goes (turn world (pumps count) o)) (sym w.1)
+      (goes_behind (delivers world w.0 (packet_of w.0 world.sent)) (pumps count) (one_given world w.0 w.1 u) (λ later v. pumps_go count later v) (pumps_done count))
