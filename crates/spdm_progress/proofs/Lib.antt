@@ -11,3 +11,4 @@ pub mod Places
 pub mod PacketSteps
 pub mod SetUps
 pub mod UnderWay
+pub mod Between

@@ -130,7 +130,7 @@ module _ (p : Pair) (ends : AreEnds p) (offer : OfferMessage) (choice : Choice) 
   one_given world n is (inr (inr (inr (inr (inr x))))) = at_place world n (suc x.1.waits.place) x.1.waits.first is (algorithms_taken world x.0 x.1)
 
   -- A packet waits while it is under way.
-  some_waits : (world : World) → IsUnderWay world → (n : ℕ) × (first_waiting world.sent ≡ Some n)
+  pub some_waits : (world : World) → IsUnderWay world → (n : ℕ) × (first_waiting world.sent ≡ Some n)
   some_waits world (inl x) = (suc x.1.waits.place, x.1.waits.first)
   some_waits world (inr (inl x)) = (suc x.1.waits.place, x.1.waits.first)
   some_waits world (inr (inr (inl x))) = (suc x.1.waits.place, x.1.waits.first)
@@ -140,11 +140,11 @@ module _ (p : Pair) (ends : AreEnds p) (offer : OfferMessage) (choice : Choice) 
 
   -- ---- Pumps.
 
-  in_left : (xs ys : List Line) (x : Line) → IsIn xs x → IsIn (xs ++ ys) x
+  pub in_left : (xs ys : List Line) (x : Line) → IsIn xs x → IsIn (xs ++ ys) x
   in_left [] ys x m = absurd m
   in_left (y ∷ xs) ys x m = elim m [ inl e ↦ inl e | inr k ↦ inr (in_left xs ys x k) ]
 
-  in_right : (xs ys : List Line) (x : Line) → IsIn ys x → IsIn (xs ++ ys) x
+  pub in_right : (xs ys : List Line) (x : Line) → IsIn ys x → IsIn (xs ++ ys) x
   in_right [] ys x m = m
   in_right (y ∷ xs) ys x m = inr (in_right xs ys x m)
 
