@@ -12,3 +12,4 @@ pub mod PacketSteps
 pub mod SetUps
 pub mod UnderWay
 pub mod Between
+pub mod Connected

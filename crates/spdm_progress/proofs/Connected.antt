@@ -1,0 +1,196 @@
+-- A connect that is told where no packet waits is under way, so honest delivery completes it.
+use Rattle.std.proofs.Common.{◌≡◌, ◌≢◌, ◌∙◌, ◌==◌, ℕ, zero, suc, ◌≤◌, ◌<◌, ◌+◌, List, [], ◌∷◌, ◌++◌, length, map, find, Bool, true, false, nat_le, Option, Some, None, Contains, refl, sym, ap, subst, inl, inr, arith}
+use Rattle.std.proofs.lemmas.Bool.Decides.{nat_tests}
+use Rattle.std.proofs.lemmas.List.Elements.{Contains-append_left, Contains-append_right, Contains-push}
+use Rattle.spdm_grammar.specs.Lines.{Line}
+use Rattle.spdm_grammar.specs.Message.RequestMessage.{GetVersion}
+use Rattle.spdm_grammar.specs.declared.choice.Choice.{Choice}
+use Rattle.spdm_machine.specs.Packets.{packets_to, wear_limit}
+use Rattle.spdm_machine.specs.Terms.{terms_of}
+use Rattle.spdm_machine.proofs.Members.{IsIn, in_map, all_in, found_in, none_some}
+use Rattle.requester_machine.specs.Asking.Outcome.{Adds}
+use Rattle.requester_machine.specs.History as asked
+use Rattle.requester_machine.specs.History.Entry.{Told as WasTold}
+use Rattle.requester_machine.specs.Message.Command.{Connect}
+use Rattle.requester_machine.specs.Requesting as asking
+use Rattle.requester_machine.specs.Requesting.{Requesting, CommandStep, requester_told, commanded_by}
+use Rattle.requester_machine.specs.Sending.{plain_sent}
+use Rattle.requester_machine.specs.Setup.{ReqSetup}
+use Rattle.responder_machine.proofs.Others.{found}
+use Rattle.responder_machine.specs.Responding.{Connection, Responding, connection_of}
+use Rattle.responder_machine.specs.Setup.{RspSetup}
+use Rattle.transcript.specs.Transcripts.{Negotiation}
+use Rattle.world_machine.specs.Chance.{NoChance}
+use Rattle.world_machine.specs.Happenings.{Entry}
+use Rattle.world_machine.specs.Happenings.Happening.{Told}
+use Rattle.world_machine.specs.Setup.{WorldSetup}
+use Rattle.world_machine.specs.Trace.{world_from, world_after, lines_from}
+use Rattle.world_machine.specs.World.{World, WorldStep, happens, told, told_by, requester_of, with_requester, with_sent, first_waiting, entry_step, is_at, number_at}
+use Rattle.spdm_agreement.proofs.Requester.AfterBody as bodies
+use Rattle.spdm_agreement.proofs.Requester.Whole as asks
+use Rattle.spdm_agreement.proofs.Responder.DataAnswered as serves
+use Rattle.spdm_agreement.proofs.Worlds.AllEvents.{after_good, requester_in}
+use Rattle.spdm_agreement.proofs.Worlds.Fits.{Fits}
+use Rattle.spdm_agreement.specs.Configured.{IsConfigured, IsRequester, IsResponder, AreApart, setups_of}
+use Rattle.spdm_progress.specs.Connecting.{CanConnect, HasLife, IsConnected, ConnectCompletes, connecting}
+use Rattle.spdm_progress.specs.Honest.{NothingWaits, AreHonest, HaveNoCommand}
+use Rattle.spdm_progress.proofs.Between.{all_of, all_go}
+use Rattle.spdm_progress.proofs.OnePacket.{packet_to, one_packet}
+use Rattle.spdm_progress.proofs.PacketSteps.{Pair, AreEnds, At, asker, server}
+use Rattle.spdm_progress.proofs.Placed.{IsPlaced, always_placed}
+use Rattle.spdm_progress.proofs.Places.{AllDiffer, found_new, first_is, number_is, number_new, of_new}
+use Rattle.spdm_progress.proofs.RequesterStages.{told_connect, asks_version}
+use Rattle.spdm_progress.proofs.ResponderBegins.{awaits_version}
+use Rattle.spdm_progress.proofs.ResponderStages.{get_version}
+use Rattle.spdm_progress.proofs.SetUps.{CanTalk, can_talk}
+use Rattle.spdm_progress.proofs.UnderWay as under_way
+use Rattle.spdm_progress.proofs.Waiting.{OneWaits, one_waits}
+
+-- ---- What every world of a set-up has.
+
+fits_always : (w : WorldSetup) → IsConfigured w → (entries : List Entry) → NoChance (world_after w entries).log → Fits asks.IsKept serves.IsKept (world_after w entries)
+fits_always w c entries chance =
+    (after_good asks.IsKept serves.IsKept asks.starts asks.asks_well asks.hears_well bodies.steady serves.served_starts serves.does_well serves.waits w c entries).fits chance
+
+differ_all : (qs : List ReqSetup) → AreApart qs → AllDiffer (map (λ (q : ReqSetup). q.eid) qs)
+differ_all [] apart = tt
+differ_all (q ∷ others) apart = (
+  λ o m. (let x = in_map (λ (s : ReqSetup). s.eid) others o m in
+      λ e. (all_in (λ (other : ReqSetup). (q.eid ≢ other.eid) × (q.psk ≢ other.psk)) others apart.0 x.0 x.1).0 (e ∙ x.2)),
+  differ_all others apart.1,
+)
+
+-- ---- The command.
+
+not_worn : (n limit : ℕ) → n < limit → nat_le limit n ≡ false
+not_worn n limit h = grind (arith, nat_tests)
+
+abbrev pair_of : ℕ → Requesting → Connection → Pair
+pair_of n a c = record { number = n; requester = a.setup; responder = c.setup; seed = a.seed; first = a.first }
+
+-- The requester's step.
+abbrev connect_step : Requesting → CommandStep
+connect_step a = commanded_by a (Adds (WasTold Connect (plain_sent a.history GetVersion) (asking.next_draw a)))
+
+told_is : (world : World) (n : ℕ) (a : Requesting) → requester_of n world ≡ Some a → asking.is_worn a ≡ false → happens world (Told n Connect) ≡ told_by world n (connect_step a)
+unfolding happens
+told_is world n a is fresh = ap (told world n Connect) is ∙ ap (told_by world n) (told_connect a fresh)
+
+module _ (w : WorldSetup) (conf : IsConfigured w) (before : List Entry) (chance : NoChance (world_after w before).log) (idle : NothingWaits (world_after w before))
+    (n : ℕ) (a : Requesting) (is : requester_of n (world_after w before) ≡ Some a) (c : Connection) (connected : connection_of a.setup.eid (world_after w before).responder.connections ≡ Some c)
+    (can : CanConnect a c) (life : HasLife a (world_after w before).responder) where
+  abbrev world : World
+  world = world_after w before
+
+  fits : Fits asks.IsKept serves.IsKept world
+  fits = fits_always w conf before chance
+
+  placed : IsPlaced (map (λ (q : ReqSetup). q.eid) (setups_of w.requesters)) w.responder.part.eid world.requesters world.responder
+  placed = always_placed w conf before
+
+  abbrev p : Pair
+  p = pair_of n a c
+
+  a_in : IsIn world.requesters a
+  a_in = requester_in n world a is
+
+  c_in : IsIn world.responder.connections c
+  c_in = (found_in (λ (d : Connection). d.setup.peer == a.setup.eid) world.responder.connections c connected).0
+
+  a_setup : IsRequester a.setup
+  a_setup = (fits.asks a a_in).setup
+
+  c_setup : IsResponder c.setup
+  c_setup = (fits.serves c c_in).setup
+
+  same_own : a.setup.responder ≡ c.setup.eid
+  same_own = placed.theirs a a_in ∙ sym (placed.ends c c_in)
+
+  ends : AreEnds p
+  ends = record {
+    peer = found a.setup.eid world.responder.connections c connected;
+    to = same_own;
+    apart = λ e. a_setup.other (e ∙ sym same_own);
+    requester_unit = a_setup.sizes.payload;
+    responder_unit = c_setup.sizes.payload;
+  }
+
+  talks : CanTalk p.requester p.responder can.offer can.choice
+  talks = can_talk a.setup c.setup can.offer can.choice a_setup c_setup can.offered can.chosen can.request_fits can.answer_fits
+
+  differ : AllDiffer (map (λ (x : Requesting). x.setup.eid) world.requesters)
+  differ = subst AllDiffer (sym placed.eids_are) (differ_all (setups_of w.requesters) conf.apart)
+
+  abbrev later : World
+  later = (told_by world n (connect_step a)).after
+
+  abbrev new : Requesting
+  new = asker p a.given (a.commands + 1) (WasTold Connect (plain_sent a.history GetVersion) (asking.next_draw a) ∷ a.history)
+
+  sent_one : packets_to a.setup.responder a.setup.eid true (asked.next_tag a.history) a.setup.unit (5 ∷ get_version) ≡ packet_to c.setup.eid a.setup.eid true (asked.next_tag a.history) get_version ∷ []
+  sent_one =
+      let unit = a_setup.sizes.payload in
+      one_packet a.setup.responder a.setup.eid true (asked.next_tag a.history) a.setup.unit get_version (omega arith) ∙ ap (λ (to : ℕ). packet_to to a.setup.eid true (asked.next_tag a.history) get_version ∷ []) same_own
+
+  begins : under_way.IsUnderWay p ends can.offer can.choice talks later
+  begins =
+      let requester_life = life.requester in let responder_life = life.responder in
+      let asks_it = asks_version a.setup a.history (asking.next_draw a) in
+      inl (asked.next_tag a.history, record {
+        small = asks_it.small;
+        waits = subst (λ (packets : List (List ℕ)). OneWaits (packet_to c.setup.eid a.setup.eid true (asked.next_tag a.history) get_version) (with_sent world.sent packets)) (sym sent_one)
+            (one_waits world.sent (packet_to c.setup.eid a.setup.eid true (asked.next_tag a.history) get_version) idle);
+        pair = record {
+          given = a.given;
+          commands = a.commands + 1;
+          asked = WasTold Connect (plain_sent a.history GetVersion) (asking.next_draw a) ∷ a.history;
+          served = c.history;
+          is_requester = of_new n new world later a refl is refl;
+          found = found_new new world.requesters a (first_is n world a is differ);
+          number_is = number_new 1 a.setup.eid new world.requesters ∙ number_is n world a is differ;
+          is_connection = connected;
+          own = placed.own_is ∙ sym (placed.ends c c_in);
+          asks = asks_it;
+          serves = awaits_version c.setup c.history c_setup (fits.serves c c_in).made;
+          life = omega arith;
+          responder_life = responder_life;
+        };
+      })
+
+  fresh : asking.is_worn a ≡ false
+  fresh = (let requester_life = life.requester in not_worn (length a.given + a.commands) wear_limit (omega arith))
+
+  begun : (line : ℕ) → under_way.IsUnderWay p ends can.offer can.choice talks (connecting world line n)
+  begun line = subst (λ (s : WorldStep). under_way.IsUnderWay p ends can.offer can.choice talks s.after) (sym (told_is world n a is fresh)) begins
+
+  -- ---- The end.
+
+  contained : (lines : List Line) (x : Line) → IsIn lines x → Contains lines x
+  contained [] x m = absurd m
+  contained (y ∷ others) x m = elim m [
+    | inl e ↦ subst (Contains (y ∷ others)) (sym e) (Contains-append_left (y ∷ []) others y (Contains-push [] y))
+    | inr k ↦ Contains-append_right (y ∷ []) others x (contained others x k)
+  ]
+
+  result : (s : WorldStep) → first_waiting s.after.sent ≡ None → under_way.Goes p ends can.offer can.choice talks s → IsConnected n a.setup.eid can.choice s.after s.lines
+  result s none (under_way.GoesOn u) = (let x = under_way.some_waits p ends can.offer can.choice talks s.after u in absurd (none_some x.0 (sym none ∙ x.1)))
+  result s none (under_way.Ends d m) = record {
+    told = contained s.lines _ m;
+    requester = asker p d.pair.given d.pair.commands d.pair.asked;
+    is_requester = d.pair.is_requester;
+    connection = server p d.pair.served;
+    is_connection = d.pair.is_connection;
+    none = d.pair.asks.none;
+    requester_phase = d.pair.asks.phase;
+    responder_phase = d.pair.serves.phase_is;
+    same = d.pair.asks.negotiation ∙ sym d.pair.serves.negotiation;
+    chosen = ap (λ (x : Negotiation). (terms_of x).choice) d.pair.asks.negotiation ∙ talks.choice_is;
+  }
+
+  pub completes : (line : ℕ) (behind : List Entry) → HaveNoCommand behind → AreHonest (connecting world line n) behind → NothingWaits (world_from (connecting world line n) behind)
+      → IsConnected n a.setup.eid can.choice (world_from (connecting world line n) behind) (lines_from (connecting world line n) behind)
+  completes line behind none honest over =
+      result (all_of p ends can.offer can.choice talks (connecting world line n) behind) over (all_go p ends can.offer can.choice talks (connecting world line n) behind none honest (begun line))
+
+pub connect_completes : ConnectCompletes
+connect_completes w conf before chance idle n a is c connected can life line behind none honest over = completes w conf before chance idle n a is c connected can life line behind none honest over
