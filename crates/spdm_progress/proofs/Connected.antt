@@ -1,5 +1,6 @@
 -- A connect that is told where no packet waits is under way, so honest delivery completes it.
-use Rattle.std.proofs.Common.{◌≡◌, ◌≢◌, ◌∙◌, ◌==◌, ℕ, zero, suc, ◌≤◌, ◌<◌, ◌+◌, List, [], ◌∷◌, ◌++◌, length, map, find, Bool, true, false, nat_le, Option, Some, None, Contains, refl, sym, ap, subst, inl, inr, arith}
+use Rattle.std.proofs.Common.{◌≡◌, ◌≢◌, ◌∙◌, ◌==◌, ℕ, zero, suc, ◌≤◌, ◌<◌, ◌+◌, ◌-◌, ◌⊎◌, cond, eq-eqb, List, [], ◌∷◌, ◌++◌, length, map, find, Bool, true, false, nat_le, Option, Some, None, Contains, refl, sym, ap, subst, inl, inr, arith}
+use Rattle.std.proofs.lemmas.Bool.{false≢true}
 use Rattle.std.proofs.lemmas.Bool.Decides.{nat_tests}
 use Rattle.std.proofs.lemmas.List.Elements.{Contains-append_left, Contains-append_right, Contains-push}
 use Rattle.spdm_grammar.specs.Lines.{Line}
@@ -22,17 +23,17 @@ use Rattle.responder_machine.specs.Setup.{RspSetup}
 use Rattle.transcript.specs.Transcripts.{Negotiation}
 use Rattle.world_machine.specs.Chance.{NoChance}
 use Rattle.world_machine.specs.Happenings.{Entry}
-use Rattle.world_machine.specs.Happenings.Happening.{Told}
+use Rattle.world_machine.specs.Happenings.Happening.{Told, Pump}
 use Rattle.world_machine.specs.Setup.{WorldSetup}
 use Rattle.world_machine.specs.Trace.{world_from, world_after, lines_from}
-use Rattle.world_machine.specs.World.{World, WorldStep, happens, told, told_by, requester_of, with_requester, with_sent, first_waiting, entry_step, is_at, number_at}
+use Rattle.world_machine.specs.World.{World, WorldStep, happens, told, told_by, requester_of, with_requester, with_sent, first_waiting, entry_step, is_at, number_at, pumps}
 use Rattle.spdm_agreement.proofs.Requester.AfterBody as bodies
 use Rattle.spdm_agreement.proofs.Requester.Whole as asks
 use Rattle.spdm_agreement.proofs.Responder.DataAnswered as serves
 use Rattle.spdm_agreement.proofs.Worlds.AllEvents.{after_good, requester_in}
 use Rattle.spdm_agreement.proofs.Worlds.Fits.{Fits}
 use Rattle.spdm_agreement.specs.Configured.{IsConfigured, IsRequester, IsResponder, AreApart, setups_of}
-use Rattle.spdm_progress.specs.Connecting.{CanConnect, HasLife, IsConnected, ConnectCompletes, connecting}
+use Rattle.spdm_progress.specs.Connecting.{ConnectIsTold, IsConnected, ConnectCompletes, SixPacketsAreEnough, EachIsConnected, connecting}
 use Rattle.spdm_progress.specs.Honest.{NothingWaits, AreHonest, HaveNoCommand}
 use Rattle.spdm_progress.proofs.Between.{all_of, all_go}
 use Rattle.spdm_progress.proofs.OnePacket.{packet_to, one_packet}
@@ -41,7 +42,7 @@ use Rattle.spdm_progress.proofs.Placed.{IsPlaced, always_placed}
 use Rattle.spdm_progress.proofs.Places.{AllDiffer, found_new, first_is, number_is, number_new, of_new}
 use Rattle.spdm_progress.proofs.RequesterStages.{told_connect, asks_version}
 use Rattle.spdm_progress.proofs.ResponderBegins.{awaits_version}
-use Rattle.spdm_progress.proofs.ResponderStages.{get_version}
+use Rattle.spdm_progress.proofs.ResponderStages.{get_version, AwaitsVersion}
 use Rattle.spdm_progress.proofs.SetUps.{CanTalk, can_talk}
 use Rattle.spdm_progress.proofs.UnderWay as under_way
 use Rattle.spdm_progress.proofs.Waiting.{OneWaits, one_waits}
@@ -76,26 +77,24 @@ told_is : (world : World) (n : ℕ) (a : Requesting) → requester_of n world �
 unfolding happens
 told_is world n a is fresh = ap (told world n Connect) is ∙ ap (told_by world n) (told_connect a fresh)
 
-module _ (w : WorldSetup) (conf : IsConfigured w) (before : List Entry) (chance : NoChance (world_after w before).log) (idle : NothingWaits (world_after w before))
-    (n : ℕ) (a : Requesting) (is : requester_of n (world_after w before) ≡ Some a) (c : Connection) (connected : connection_of a.setup.eid (world_after w before).responder.connections ≡ Some c)
-    (can : CanConnect a c) (life : HasLife a (world_after w before).responder) where
+module _ (w : WorldSetup) (before : List Entry) (n : ℕ) (a : Requesting) (c : Connection) (is_told : ConnectIsTold w before n a c) where
   abbrev world : World
   world = world_after w before
 
   fits : Fits asks.IsKept serves.IsKept world
-  fits = fits_always w conf before chance
+  fits = fits_always w is_told.configured before is_told.no_chance
 
   placed : IsPlaced (map (λ (q : ReqSetup). q.eid) (setups_of w.requesters)) w.responder.part.eid world.requesters world.responder
-  placed = always_placed w conf before
+  placed = always_placed w is_told.configured before
 
   abbrev p : Pair
   p = pair_of n a c
 
   a_in : IsIn world.requesters a
-  a_in = requester_in n world a is
+  a_in = requester_in n world a is_told.is_requester
 
   c_in : IsIn world.responder.connections c
-  c_in = (found_in (λ (d : Connection). d.setup.peer == a.setup.eid) world.responder.connections c connected).0
+  c_in = (found_in (λ (d : Connection). d.setup.peer == a.setup.eid) world.responder.connections c is_told.is_connection).0
 
   a_setup : IsRequester a.setup
   a_setup = (fits.asks a a_in).setup
@@ -108,18 +107,18 @@ module _ (w : WorldSetup) (conf : IsConfigured w) (before : List Entry) (chance 
 
   ends : AreEnds p
   ends = record {
-    peer = found a.setup.eid world.responder.connections c connected;
+    peer = found a.setup.eid world.responder.connections c is_told.is_connection;
     to = same_own;
     apart = λ e. a_setup.other (e ∙ sym same_own);
     requester_unit = a_setup.sizes.payload;
     responder_unit = c_setup.sizes.payload;
   }
 
-  talks : CanTalk p.requester p.responder can.offer can.choice
-  talks = can_talk a.setup c.setup can.offer can.choice a_setup c_setup can.offered can.chosen can.request_fits can.answer_fits
+  talks : CanTalk p.requester p.responder is_told.can.offer is_told.can.choice
+  talks = can_talk a.setup c.setup is_told.can.offer is_told.can.choice a_setup c_setup is_told.can.offered is_told.can.chosen is_told.can.request_fits is_told.can.answer_fits
 
   differ : AllDiffer (map (λ (x : Requesting). x.setup.eid) world.requesters)
-  differ = subst AllDiffer (sym placed.eids_are) (differ_all (setups_of w.requesters) conf.apart)
+  differ = subst AllDiffer (sym placed.eids_are) (differ_all (setups_of w.requesters) is_told.configured.apart)
 
   abbrev later : World
   later = (told_by world n (connect_step a)).after
@@ -132,36 +131,40 @@ module _ (w : WorldSetup) (conf : IsConfigured w) (before : List Entry) (chance 
       let unit = a_setup.sizes.payload in
       one_packet a.setup.responder a.setup.eid true (asked.next_tag a.history) a.setup.unit get_version (omega arith) ∙ ap (λ (to : ℕ). packet_to to a.setup.eid true (asked.next_tag a.history) get_version ∷ []) same_own
 
-  begins : under_way.IsUnderWay p ends can.offer can.choice talks later
+  -- The first packet waits.
+  abbrev Begins : World → Type 0
+  Begins world = under_way.Requested p ends is_told.can.offer is_told.can.choice talks 3 3 (asked.next_tag a.history) get_version (under_way.AsksVersion p ends is_told.can.offer is_told.can.choice talks (asked.next_tag a.history)) AwaitsVersion world
+
+  begins : Begins later
   begins =
-      let requester_life = life.requester in let responder_life = life.responder in
+      let requester_life = is_told.life.requester in let responder_life = is_told.life.responder in
       let asks_it = asks_version a.setup a.history (asking.next_draw a) in
-      inl (asked.next_tag a.history, record {
+      record {
         small = asks_it.small;
         waits = subst (λ (packets : List (List ℕ)). OneWaits (packet_to c.setup.eid a.setup.eid true (asked.next_tag a.history) get_version) (with_sent world.sent packets)) (sym sent_one)
-            (one_waits world.sent (packet_to c.setup.eid a.setup.eid true (asked.next_tag a.history) get_version) idle);
+            (one_waits world.sent (packet_to c.setup.eid a.setup.eid true (asked.next_tag a.history) get_version) is_told.idle);
         pair = record {
           given = a.given;
           commands = a.commands + 1;
           asked = WasTold Connect (plain_sent a.history GetVersion) (asking.next_draw a) ∷ a.history;
           served = c.history;
-          is_requester = of_new n new world later a refl is refl;
-          found = found_new new world.requesters a (first_is n world a is differ);
-          number_is = number_new 1 a.setup.eid new world.requesters ∙ number_is n world a is differ;
-          is_connection = connected;
+          is_requester = of_new n new world later a refl is_told.is_requester refl;
+          found = found_new new world.requesters a (first_is n world a is_told.is_requester differ);
+          number_is = number_new 1 a.setup.eid new world.requesters ∙ number_is n world a is_told.is_requester differ;
+          is_connection = is_told.is_connection;
           own = placed.own_is ∙ sym (placed.ends c c_in);
           asks = asks_it;
           serves = awaits_version c.setup c.history c_setup (fits.serves c c_in).made;
           life = omega arith;
           responder_life = responder_life;
         };
-      })
+      }
 
   fresh : asking.is_worn a ≡ false
-  fresh = (let requester_life = life.requester in not_worn (length a.given + a.commands) wear_limit (omega arith))
+  fresh = (let requester_life = is_told.life.requester in not_worn (length a.given + a.commands) wear_limit (omega arith))
 
-  begun : (line : ℕ) → under_way.IsUnderWay p ends can.offer can.choice talks (connecting world line n)
-  begun line = subst (λ (s : WorldStep). under_way.IsUnderWay p ends can.offer can.choice talks s.after) (sym (told_is world n a is fresh)) begins
+  begun : (line : ℕ) → Begins (connecting world line n)
+  begun line = subst (λ (s : WorldStep). Begins s.after) (sym (told_is world n a is_told.is_requester fresh)) begins
 
   -- ---- The end.
 
@@ -172,8 +175,8 @@ module _ (w : WorldSetup) (conf : IsConfigured w) (before : List Entry) (chance 
     | inr k ↦ Contains-append_right (y ∷ []) others x (contained others x k)
   ]
 
-  result : (s : WorldStep) → first_waiting s.after.sent ≡ None → under_way.Goes p ends can.offer can.choice talks s → IsConnected n a.setup.eid can.choice s.after s.lines
-  result s none (under_way.GoesOn u) = (let x = under_way.some_waits p ends can.offer can.choice talks s.after u in absurd (none_some x.0 (sym none ∙ x.1)))
+  result : (s : WorldStep) → first_waiting s.after.sent ≡ None → under_way.Goes p ends is_told.can.offer is_told.can.choice talks s → IsConnected n a.setup.eid is_told.can.choice s.after s.lines
+  result s none (under_way.GoesOn u) = (let x = under_way.some_waits p ends is_told.can.offer is_told.can.choice talks s.after u in absurd (none_some x.0 (sym none ∙ x.1)))
   result s none (under_way.Ends d m) = record {
     told = contained s.lines _ m;
     requester = asker p d.pair.given d.pair.commands d.pair.asked;
@@ -188,9 +191,40 @@ module _ (w : WorldSetup) (conf : IsConfigured w) (before : List Entry) (chance 
   }
 
   pub completes : (line : ℕ) (behind : List Entry) → HaveNoCommand behind → AreHonest (connecting world line n) behind → NothingWaits (world_from (connecting world line n) behind)
-      → IsConnected n a.setup.eid can.choice (world_from (connecting world line n) behind) (lines_from (connecting world line n) behind)
+      → IsConnected n a.setup.eid is_told.can.choice (world_from (connecting world line n) behind) (lines_from (connecting world line n) behind)
   completes line behind none honest over =
-      result (all_of p ends can.offer can.choice talks (connecting world line n) behind) over (all_go p ends can.offer can.choice talks (connecting world line n) behind none honest (begun line))
+      result (all_of p ends is_told.can.offer is_told.can.choice talks (connecting world line n) behind) over (all_go p ends is_told.can.offer is_told.can.choice talks (connecting world line n) behind none honest (inl (asked.next_tag a.history, begun line)))
+
+  six_on : (count : ℕ) → 6 ≤ count → suc (suc (suc (suc (suc (suc (count - 6)))))) ≡ count
+  six_on count most = omega arith
+
+  pub six : (line count : ℕ) → 6 ≤ count → NothingWaits (happens (connecting world line n) (Pump count)).after
+  unfolding happens
+  six line count most =
+      subst (λ (k : ℕ). first_waiting (pumps k (connecting world line n)).after.sent ≡ None) (six_on count most)
+      (under_way.six_pumped p ends is_told.can.offer is_told.can.choice talks (count - 6) (connecting world line n) (asked.next_tag a.history) (begun line)).idle
 
 pub connect_completes : ConnectCompletes
-connect_completes w conf before chance idle n a is c connected can life line behind none honest over = completes w conf before chance idle n a is c connected can life line behind none honest over
+connect_completes w before n a c is_told line behind none honest over = completes w before n a c is_told line behind none honest over
+
+pub six_packets_are_enough : SixPacketsAreEnough
+six_packets_are_enough w before n a c is_told line count most = six w before n a c is_told line count most
+
+-- ---- Each requester has a connection.
+
+found_some : (eid : ℕ) (cs : List Connection) (c : Connection) → IsIn cs c → c.setup.peer ≡ eid → (d : Connection) × (connection_of eid cs ≡ Some d)
+found_some eid [] c m same = absurd m
+found_some eid (x ∷ others) c m same = first (x.setup.peer == eid) refl (elim m [
+  | inl e ↦ inl (ap (λ (y : Connection). y.setup.peer) (sym e) ∙ same)
+  | inr k ↦ inr (found_some eid others c k same)
+])
+  where
+    first : (b : Bool) → (x.setup.peer == eid) ≡ b → (x.setup.peer ≡ eid) ⊎ ((d : Connection) × (connection_of eid others ≡ Some d)) → (d : Connection) × (connection_of eid (x ∷ others) ≡ Some d)
+    first true e s = (x, ap (λ (b : Bool). cond b (Some x) (connection_of eid others)) e)
+    first false e (inl same_peer) = absurd (false≢true (sym e ∙ eq-eqb x.setup.peer eid same_peer))
+    first false e (inr s) = (s.0, ap (λ (b : Bool). cond b (Some x) (connection_of eid others)) e ∙ s.1)
+
+pub each_is_connected : EachIsConnected
+each_is_connected w conf before chance n a is =
+    let x = (fits_always w conf before chance).apart.served a (requester_in n (world_after w before) a is) in
+    found_some a.setup.eid (world_after w before).responder.connections x.0 x.1 x.2

@@ -85,49 +85,54 @@ module _ (p : Pair) (ends : AreEnds p) (offer : OfferMessage) (choice : Choice) 
   at_place : (world : World) (n m : ℕ) → first_waiting world.sent ≡ Some m → first_waiting world.sent ≡ Some n → Goes (delivers world m (packet_of m world.sent)) → Goes (delivers world n (packet_of n world.sent))
   at_place world n m a b g = (let same : m ≡ n = some_same m n (sym a ∙ b) in subst (λ (k : ℕ). Goes (delivers world k (packet_of k world.sent))) same g)
 
-  version_given : (world : World) (tag : ℕ) (x : Requested 3 3 tag get_version (AsksVersion tag) AwaitsVersion world) → Goes (delivers world (suc x.waits.place) (packet_of (suc x.waits.place) world.sent))
+  version_given : (world : World) (tag : ℕ) (x : Requested 3 3 tag get_version (AsksVersion tag) AwaitsVersion world) → Replied 3 2 tag version (AsksVersion tag) HasVersion (delivers world (suc x.waits.place) (packet_of (suc x.waits.place) world.sent)).after
   version_given world tag x =
       let s = request_given p ends 3 2 (AsksVersion tag) AwaitsVersion HasVersion tag get_version version x.small (omega arith) (omega arith)
       (λ h d awaits. version_answered p.responder h tag d can.responder_room awaits) world x.waits x.pair in
-      GoesOn (inr (inl (tag, record { small = x.small; waits = s.waits; pair = s.pair })))
+      record { small = x.small; waits = s.waits; pair = s.pair }
 
-  version_taken : (world : World) (tag : ℕ) (x : Replied 3 2 tag version (AsksVersion tag) HasVersion world) → Goes (delivers world (suc x.waits.place) (packet_of (suc x.waits.place) world.sent))
+  version_taken : (world : World) (tag : ℕ) (x : Replied 3 2 tag version (AsksVersion tag) HasVersion world)
+      → (next : ℕ) × Requested 2 2 next (get_capabilities p.requester) (AsksCapabilities next) HasVersion (delivers world (suc x.waits.place) (packet_of (suc x.waits.place) world.sent)).after
   version_taken world tag x =
       let s = answer_given p ends 2 2 (AsksVersion tag) (λ h. AsksCapabilities (asked.next_tag h)) HasVersion tag version event.Progress (λ h. Some (asked.next_tag h, get_capabilities p.requester, GetCapabilities (requester_caps p.requester))) x.small (omega arith)
       (λ h. omega arith) (λ h d asks. version_heard p.requester h tag d can.requester_room asks) world x.waits x.pair in
-      GoesOn (inr (inr (inl (asked.next_tag x.pair.asked, record { small = s.pair.asks.small; waits = s.waits; pair = s.pair }))))
+      (asked.next_tag x.pair.asked, record { small = s.pair.asks.small; waits = s.waits; pair = s.pair })
 
-  capabilities_given : (world : World) (tag : ℕ) (x : Requested 2 2 tag (get_capabilities p.requester) (AsksCapabilities tag) HasVersion world) → Goes (delivers world (suc x.waits.place) (packet_of (suc x.waits.place) world.sent))
+  capabilities_given : (world : World) (tag : ℕ) (x : Requested 2 2 tag (get_capabilities p.requester) (AsksCapabilities tag) HasVersion world)
+      → Replied 2 1 tag (capabilities p.responder) (AsksCapabilities tag) Capable (delivers world (suc x.waits.place) (packet_of (suc x.waits.place) world.sent)).after
   capabilities_given world tag x =
       let s = request_given p ends 2 1 (AsksCapabilities tag) HasVersion Capable tag (get_capabilities p.requester) (capabilities p.responder) x.small (omega arith) (omega arith)
       (λ h d has. capabilities_answered p.requester p.responder h tag d (common_for p.requester p.responder) can.responder_room can.own_caps can.together has) world x.waits x.pair in
-      GoesOn (inr (inr (inr (inl (tag, record { small = x.small; waits = s.waits; pair = s.pair })))))
+      record { small = x.small; waits = s.waits; pair = s.pair }
 
-  capabilities_taken : (world : World) (tag : ℕ) (x : Replied 2 1 tag (capabilities p.responder) (AsksCapabilities tag) Capable world) → Goes (delivers world (suc x.waits.place) (packet_of (suc x.waits.place) world.sent))
+  capabilities_taken : (world : World) (tag : ℕ) (x : Replied 2 1 tag (capabilities p.responder) (AsksCapabilities tag) Capable world)
+      → (next : ℕ) × Requested 1 1 next (negotiate_algorithms offer) (AsksAlgorithms next) Capable (delivers world (suc x.waits.place) (packet_of (suc x.waits.place) world.sent)).after
   capabilities_taken world tag x =
       let s = answer_given p ends 1 1 (AsksCapabilities tag) (λ h. AsksAlgorithms (asked.next_tag h)) Capable tag (capabilities p.responder) event.Progress (λ h. Some (asked.next_tag h, negotiate_algorithms offer, NegotiateAlgorithms offer)) x.small (omega arith)
       (λ h. neg_short) (λ h d asks. capabilities_heard p.requester p.responder h tag d offer (common_for p.requester p.responder) can.requester_room can.their_caps can.offers asks) world x.waits x.pair in
-      GoesOn (inr (inr (inr (inr (inl (asked.next_tag x.pair.asked, record { small = s.pair.asks.small; waits = s.waits; pair = s.pair }))))))
+      (asked.next_tag x.pair.asked, record { small = s.pair.asks.small; waits = s.waits; pair = s.pair })
 
-  algorithms_given : (world : World) (tag : ℕ) (x : Requested 1 1 tag (negotiate_algorithms offer) (AsksAlgorithms tag) Capable world) → Goes (delivers world (suc x.waits.place) (packet_of (suc x.waits.place) world.sent))
+  algorithms_given : (world : World) (tag : ℕ) (x : Requested 1 1 tag (negotiate_algorithms offer) (AsksAlgorithms tag) Capable world)
+      → Replied 1 0 tag (algorithms p.responder offer) (AsksAlgorithms tag) Agreed (delivers world (suc x.waits.place) (packet_of (suc x.waits.place) world.sent)).after
   algorithms_given world tag x =
       let s = request_given p ends 1 0 (AsksAlgorithms tag) Capable Agreed tag (negotiate_algorithms offer) (algorithms p.responder offer) x.small neg_short alg_short
       (λ h d has. algorithms_answered p.requester p.responder h tag d offer choice neg_long can.request_fits can.own.fits can.own.sound can.chosen (takes_answer p.requester p.responder offer choice h can has) has) world x.waits x.pair in
-      GoesOn (inr (inr (inr (inr (inr (tag, record { small = x.small; waits = s.waits; pair = s.pair }))))))
+      record { small = x.small; waits = s.waits; pair = s.pair }
 
-  algorithms_taken : (world : World) (tag : ℕ) (x : Replied 1 0 tag (algorithms p.responder offer) (AsksAlgorithms tag) Agreed world) → Goes (delivers world (suc x.waits.place) (packet_of (suc x.waits.place) world.sent))
+  algorithms_taken : (world : World) (tag : ℕ) (x : Replied 1 0 tag (algorithms p.responder offer) (AsksAlgorithms tag) Agreed world)
+      → IsDone (delivers world (suc x.waits.place) (packet_of (suc x.waits.place) world.sent)).after × IsIn (delivers world (suc x.waits.place) (packet_of (suc x.waits.place) world.sent)).lines done_line
   algorithms_taken world tag x =
       let s = answer_given p ends 0 0 (AsksAlgorithms tag) (λ h. IsOver (three_pairs p.requester p.responder offer)) Agreed tag (algorithms p.responder offer) (event.Done finished.Connected) (λ h. None) x.small alg_short
       (λ h. tt) (λ h d asks. algorithms_heard p.requester p.responder h tag d offer choice can.answer_fits can.chosen asks) world x.waits x.pair in
-      Ends (record { idle = s.waits; pair = s.pair }) s.writes
+      (record { idle = s.waits; pair = s.pair }, s.writes)
 
   one_given : (world : World) (n : ℕ) → first_waiting world.sent ≡ Some n → IsUnderWay world → Goes (delivers world n (packet_of n world.sent))
-  one_given world n is (inl x) = at_place world n (suc x.1.waits.place) x.1.waits.first is (version_given world x.0 x.1)
-  one_given world n is (inr (inl x)) = at_place world n (suc x.1.waits.place) x.1.waits.first is (version_taken world x.0 x.1)
-  one_given world n is (inr (inr (inl x))) = at_place world n (suc x.1.waits.place) x.1.waits.first is (capabilities_given world x.0 x.1)
-  one_given world n is (inr (inr (inr (inl x)))) = at_place world n (suc x.1.waits.place) x.1.waits.first is (capabilities_taken world x.0 x.1)
-  one_given world n is (inr (inr (inr (inr (inl x))))) = at_place world n (suc x.1.waits.place) x.1.waits.first is (algorithms_given world x.0 x.1)
-  one_given world n is (inr (inr (inr (inr (inr x))))) = at_place world n (suc x.1.waits.place) x.1.waits.first is (algorithms_taken world x.0 x.1)
+  one_given world n is (inl x) = at_place world n (suc x.1.waits.place) x.1.waits.first is (GoesOn (inr (inl (x.0, version_given world x.0 x.1))))
+  one_given world n is (inr (inl x)) = at_place world n (suc x.1.waits.place) x.1.waits.first is (GoesOn (inr (inr (inl (version_taken world x.0 x.1)))))
+  one_given world n is (inr (inr (inl x))) = at_place world n (suc x.1.waits.place) x.1.waits.first is (GoesOn (inr (inr (inr (inl (x.0, capabilities_given world x.0 x.1))))))
+  one_given world n is (inr (inr (inr (inl x)))) = at_place world n (suc x.1.waits.place) x.1.waits.first is (GoesOn (inr (inr (inr (inr (inl (capabilities_taken world x.0 x.1)))))))
+  one_given world n is (inr (inr (inr (inr (inl x))))) = at_place world n (suc x.1.waits.place) x.1.waits.first is (GoesOn (inr (inr (inr (inr (inr (x.0, algorithms_given world x.0 x.1)))))))
+  one_given world n is (inr (inr (inr (inr (inr x))))) = (let e = algorithms_taken world x.0 x.1 in at_place world n (suc x.1.waits.place) x.1.waits.first is (Ends e.0 e.1))
 
   -- A packet waits while it is under way.
   pub some_waits : (world : World) → IsUnderWay world → (n : ℕ) × (first_waiting world.sent ≡ Some n)
@@ -173,3 +178,28 @@ module _ (p : Pair) (ends : AreEnds p) (offer : OfferMessage) (choice : Choice) 
       let w = some_waits world u in
       subst (λ (o : Option ℕ). Goes (turn world (pumps count) o)) (sym w.1)
       (goes_behind (delivers world w.0 (packet_of w.0 world.sent)) (pumps count) (one_given world w.0 w.1 u) (λ later v. pumps_go count later v) (pumps_done count))
+
+  -- ---- Six packets are enough.
+
+  -- A pump of one packet more.
+  one_pumped : (count n : ℕ) (world : World) → first_waiting world.sent ≡ Some n → IsDone (pumps count (delivers world n (packet_of n world.sent)).after).after → IsDone (pumps (suc count) world).after
+  unfolding pumps
+  one_pumped count n world is d = subst (λ (o : Option ℕ). IsDone (turn world (pumps count) o).after) (sym is) d
+
+  last_pumped : (count : ℕ) (world : World) (tag : ℕ) → Replied 1 0 tag (algorithms p.responder offer) (AsksAlgorithms tag) Agreed world → IsDone (pumps (suc count) world).after
+  last_pumped count world tag x = one_pumped count (suc x.waits.place) world x.waits.first (pumps_done count _ (algorithms_taken world tag x).0)
+
+  two_pumped : (count : ℕ) (world : World) (tag : ℕ) → Requested 1 1 tag (negotiate_algorithms offer) (AsksAlgorithms tag) Capable world → IsDone (pumps (suc (suc count)) world).after
+  two_pumped count world tag x = one_pumped (suc count) (suc x.waits.place) world x.waits.first (last_pumped count _ tag (algorithms_given world tag x))
+
+  three_pumped : (count : ℕ) (world : World) (tag : ℕ) → Replied 2 1 tag (capabilities p.responder) (AsksCapabilities tag) Capable world → IsDone (pumps (suc (suc (suc count))) world).after
+  three_pumped count world tag x = (let y = capabilities_taken world tag x in one_pumped (suc (suc count)) (suc x.waits.place) world x.waits.first (two_pumped count _ y.0 y.1))
+
+  four_pumped : (count : ℕ) (world : World) (tag : ℕ) → Requested 2 2 tag (get_capabilities p.requester) (AsksCapabilities tag) HasVersion world → IsDone (pumps (suc (suc (suc (suc count)))) world).after
+  four_pumped count world tag x = one_pumped (suc (suc (suc count))) (suc x.waits.place) world x.waits.first (three_pumped count _ tag (capabilities_given world tag x))
+
+  five_pumped : (count : ℕ) (world : World) (tag : ℕ) → Replied 3 2 tag version (AsksVersion tag) HasVersion world → IsDone (pumps (suc (suc (suc (suc (suc count))))) world).after
+  five_pumped count world tag x = (let y = version_taken world tag x in one_pumped (suc (suc (suc (suc count)))) (suc x.waits.place) world x.waits.first (four_pumped count _ y.0 y.1))
+
+  pub six_pumped : (count : ℕ) (world : World) (tag : ℕ) → Requested 3 3 tag get_version (AsksVersion tag) AwaitsVersion world → IsDone (pumps (suc (suc (suc (suc (suc (suc count)))))) world).after
+  six_pumped count world tag x = one_pumped (suc (suc (suc (suc (suc count))))) (suc x.waits.place) world x.waits.first (five_pumped count _ tag (version_given world tag x))

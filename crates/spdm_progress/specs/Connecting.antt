@@ -23,10 +23,10 @@ use Rattle.spdm_machine.specs.Packets.{wear_limit}
 use Rattle.spdm_machine.specs.Terms.{terms_of}
 use Rattle.world_machine.specs.Chance.{NoChance}
 use Rattle.world_machine.specs.Happenings.{Entry}
-use Rattle.world_machine.specs.Happenings.Happening.{Told}
+use Rattle.world_machine.specs.Happenings.Happening.{Told, Pump}
 use Rattle.world_machine.specs.Setup.{WorldSetup}
 use Rattle.world_machine.specs.Trace.{world_from, world_after, lines_from}
-use Rattle.world_machine.specs.World.{World, requester_of, entry_step}
+use Rattle.world_machine.specs.World.{World, requester_of, entry_step, happens}
 use Rattle.spdm_progress.specs.Honest.{NothingWaits, AreHonest, HaveNoCommand}
 
 -- What a connect needs of the two set-ups: the requester has a hash to offer to a responder of this transfer size, the
@@ -65,14 +65,34 @@ pub record IsConnected (n eid : ℕ) (choice : Choice) (world : World) (lines : 
 abbrev pub connecting : World → (line n : ℕ) → World
 connecting world line n = (entry_step world (record { line = line; happening = Told n Connect })).after
 
--- Whatever came before, where no packet waits, and whatever stands between this command and the next one of an honest
--- script: once no packet waits any more, the connect is done.
+-- A connect is told to requester n of a world that a set-up and any events lead to, where no packet waits and nothing
+-- agrees by chance. The responder has this connection with it, and the two can connect.
+pub record ConnectIsTold (w : WorldSetup) (before : List Entry) (n : ℕ) (a : Requesting) (c : Connection) : Type 0 where
+  pub configured : IsConfigured w
+  pub no_chance : NoChance (world_after w before).log
+  pub idle : NothingWaits (world_after w before)
+  pub is_requester : requester_of n (world_after w before) ≡ Some a
+  pub is_connection : connection_of a.setup.eid (world_after w before).responder.connections ≡ Some c
+  pub can : CanConnect a c
+  pub life : HasLife a (world_after w before).responder
+
+-- Whatever stands between this command and the next one of an honest script: once no packet waits any more, the connect
+-- is done.
 abbrev pub ConnectCompletes : Type 0
 ConnectCompletes =
-    (w : WorldSetup) → IsConfigured w → (before : List Entry) → NoChance (world_after w before).log → NothingWaits (world_after w before)
-    → (n : ℕ) (a : Requesting) → requester_of n (world_after w before) ≡ Some a
-    → (c : Connection) → connection_of a.setup.eid (world_after w before).responder.connections ≡ Some c
-    → (can : CanConnect a c) → HasLife a (world_after w before).responder
+    (w : WorldSetup) (before : List Entry) (n : ℕ) (a : Requesting) (c : Connection) → (is : ConnectIsTold w before n a c)
     → (line : ℕ) (behind : List Entry) → HaveNoCommand behind → AreHonest (connecting (world_after w before) line n) behind
     → NothingWaits (world_from (connecting (world_after w before) line n) behind)
-    → IsConnected n a.setup.eid can.choice (world_from (connecting (world_after w before) line n) behind) (lines_from (connecting (world_after w before) line n) behind)
+    → IsConnected n a.setup.eid is.can.choice (world_from (connecting (world_after w before) line n) behind) (lines_from (connecting (world_after w before) line n) behind)
+
+-- A pump of six packets or more leaves none that waits.
+abbrev pub SixPacketsAreEnough : Type 0
+SixPacketsAreEnough =
+    (w : WorldSetup) (before : List Entry) (n : ℕ) (a : Requesting) (c : Connection) → ConnectIsTold w before n a c
+    → (line count : ℕ) → 6 ≤ count → NothingWaits (happens (connecting (world_after w before) line n) (Pump count)).after
+
+-- Each requester of a world has a connection at the responder.
+abbrev pub EachIsConnected : Type 0
+EachIsConnected =
+    (w : WorldSetup) → IsConfigured w → (before : List Entry) → NoChance (world_after w before).log → (n : ℕ) (a : Requesting) → requester_of n (world_after w before) ≡ Some a
+    → (c : Connection) × (connection_of a.setup.eid (world_after w before).responder.connections ≡ Some c)

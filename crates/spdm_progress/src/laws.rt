@@ -1,8 +1,20 @@
 //! What honest delivery completes, each law as the contract of a function that does nothing.
 
-ghost use Rattle.spdm_progress.specs.Connecting.{ConnectCompletes};
+ghost use Rattle.spdm_progress.specs.Connecting.{ConnectCompletes, EachIsConnected, SixPacketsAreEnough};
 
-/// A connect is completed.
+/// A connect that is told where no packet waits is done once no packet waits again, whatever an
+/// honest script says in between: the requester is told so, and both ends hold one negotiation. It
+/// speaks of set-ups with which no message of it needs chunks.
 pub fn connect_completes()
     ensures { ConnectCompletes }
+{}
+
+/// No packet of it waits after a pump of six.
+pub fn six_packets_are_enough()
+    ensures { SixPacketsAreEnough }
+{}
+
+/// The responder has a connection with each requester of a world.
+pub fn each_is_connected()
+    ensures { EachIsConnected }
 {}
