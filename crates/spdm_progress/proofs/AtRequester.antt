@@ -1,27 +1,26 @@
 -- What a requester does with the packet of a short clear message, where a clear request is outstanding.
-use Rattle.std.proofs.Common.{◌≡◌, ◌∙◌, ℕ, ◌<◌, ◌≤◌, ◌+◌, List, [], ◌∷◌, length, Bool, true, false, nat_lt, Option, Some, None, Result, Ok, Err, ◌==◌, ◌&&◌, ◌||◌, not, refl, sym, ap, subst, arith, eq-eqb}
-use Rattle.std.specs.Prelude.{slice_index, drop, if◌then◌else◌, is_none}
+use Rattle.std.proofs.Common.{◌≡◌, ◌∙◌, ℕ, ◌<◌, ◌≤◌, List, length, Bool, false, Option, Some, None, Result, Ok, refl, ap, eq-eqb}
+use Rattle.std.specs.Prelude.{if◌then◌else◌}
 use Rattle.mctp_framing.specs.Gathering.{Gathered}
 use Rattle.mctp_framing.specs.Packet.{PacketFields, parsed}
 use Rattle.spdm_basis.specs.declared.PacketFault.{PacketFault}
 use Rattle.spdm_grammar.specs.Message.{RequestMessage, ResponseMessage}
 use Rattle.spdm_grammar.specs.declared.malformed.Malformed.{Malformed}
 use Rattle.spdm_grammar.specs.declared.event.ReqIgnored.{ReqIgnored}
-use Rattle.spdm_grammar.specs.declared.event.ReqIgnored.TheVariants as ignored
 use Rattle.spdm_machine.specs.Bodies.{clear_body}
 use Rattle.spdm_machine.specs.Keys.{Draw}
 use Rattle.requester_machine.specs.Answers.{answer_led}
-use Rattle.requester_machine.specs.Bodies.{body_fault, first_cause}
+use Rattle.requester_machine.specs.Bodies.{body_fault}
 use Rattle.requester_machine.specs.ClearAnswers.{clear_led, carried_by, read_led, reading_of}
 use Rattle.requester_machine.specs.Commands.{Free}
 use Rattle.requester_machine.specs.Does.{requester_hears}
 use Rattle.requester_machine.specs.Hearing.{hears, hears_by, clear_outcome}
-use Rattle.requester_machine.specs.History.{History, Led, outstanding}
+use Rattle.requester_machine.specs.History.{History, outstanding}
 use Rattle.requester_machine.specs.Message.{Sent, Content}
 use Rattle.requester_machine.specs.Message.Aim.{Plain}
-use Rattle.requester_machine.specs.Requesting.{Requesting, PacketStep, requester_given, hears_packet, hears_gathered, heard_by, is_worn, worn_step, next_draw}
+use Rattle.requester_machine.specs.Requesting.{Requesting, requester_given, hears_packet, hears_gathered, heard_by, is_worn, worn_step, next_draw}
 use Rattle.requester_machine.specs.Setup.{ReqSetup}
-use Rattle.spdm_progress.proofs.OnePacket.{route_to, fields_to, packet_to, packet_read, packet_gathered, not_longer}
+use Rattle.spdm_progress.proofs.OnePacket.{packet_to, packet_read, packet_gathered, not_longer}
 
 -- The packet of a short clear message is heard whole.
 pub given_whole : (a : Requesting) (tag : ℕ) (m : List ℕ) → is_worn a ≡ false → tag < 8 → length m < 4161

@@ -1,6 +1,6 @@
 -- What a responder does with the packet of a short clear message.
-use Rattle.std.proofs.Common.{◌≡◌, ◌∙◌, ℕ, ◌<◌, ◌≤◌, ◌+◌, List, [], ◌∷◌, length, Bool, true, false, nat_lt, Option, Some, None, Result, Ok, Err, ◌==◌, ◌&&◌, ◌||◌, not, refl, sym, ap, subst, arith, eq-eqb}
-use Rattle.std.specs.Prelude.{slice_index, drop, if◌then◌else◌}
+use Rattle.std.proofs.Common.{◌≡◌, ◌∙◌, ℕ, ◌<◌, List, length, Bool, true, false, Option, Some, Result, ◌==◌, not, refl, ap, eq-eqb}
+use Rattle.std.specs.Prelude.{if◌then◌else◌}
 use Rattle.mctp_framing.specs.Gathering.{Gathered}
 use Rattle.mctp_framing.specs.Packet.{PacketFields, parsed}
 use Rattle.spdm_basis.specs.declared.PacketFault.{PacketFault}

@@ -1,24 +1,23 @@
 -- Whatever an honest script says between two commands, a connect under way goes on or is done.
-use Rattle.std.proofs.Common.{◌≡◌, ◌∙◌, ℕ, ◌≤◌, ◌+◌, ◌==◌, List, [], ◌∷◌, ◌++◌, length, map, Bool, true, false, cond, Option, Some, None, refl, sym, ap, subst, inl, inr, arith}
+use Rattle.std.proofs.Common.{◌≡◌, ◌∙◌, ℕ, ◌≤◌, ◌+◌, ◌==◌, List, [], ◌∷◌, length, map, Bool, true, false, cond, Option, Some, None, refl, sym, ap, subst, inl, inr}
 use Rattle.std.specs.Prelude.{if◌then◌else◌}
 use Rattle.std.proofs.lemmas.Bool.{false≢true}
-use Rattle.spdm_grammar.specs.Lines.{Line}
 use Rattle.spdm_grammar.specs.Message.{OfferMessage}
 use Rattle.spdm_grammar.specs.declared.choice.Choice.{Choice}
 use Rattle.spdm_grammar.specs.declared.heard.ReplyFault.{ReplyFault}
 use Rattle.spdm_machine.specs.Packets.{wear_limit}
-use Rattle.spdm_machine.proofs.Members.{IsIn, none_some, some_same}
+use Rattle.spdm_machine.proofs.Members.{none_some, some_same}
 use Rattle.requester_machine.specs.History as asked
 use Rattle.requester_machine.specs.Requesting.{Requesting}
 use Rattle.responder_machine.proofs.Connected.{KeepsSetup, changed_keeps}
 use Rattle.responder_machine.specs.History as served
 use Rattle.responder_machine.specs.History.Entry.{Queued, Ticked}
-use Rattle.responder_machine.specs.Responding.{Connection, Responding, connection_of, changed, changed_if, with_history, queues, reply_fault_of, ticks}
+use Rattle.responder_machine.specs.Responding.{Connection, Responding, connection_of, changed, changed_if, queues, reply_fault_of, ticks}
 use Rattle.responder_machine.specs.Setup.{RspSetup, RspPart}
 use Rattle.world_machine.specs.Happenings.{Happening, Entry}
 use Rattle.world_machine.specs.Happenings.Happening.{Told, Reply, Deliver, Lose, Inject, Pump, Tick, Show}
 use Rattle.world_machine.specs.Trace.{world_from, lines_from}
-use Rattle.world_machine.specs.World.{World, WorldStep, requester_of, replied, happens, entry_step, pumps}
+use Rattle.world_machine.specs.World.{World, WorldStep, requester_of, replied, happens, entry_step}
 use Rattle.spdm_progress.specs.Honest.{IsHonest, AreHonest, is_command, HaveNoCommand}
 use Rattle.spdm_progress.proofs.PacketSteps.{Pair, AreEnds, At, server}
 use Rattle.spdm_progress.proofs.Places.{of_same}

@@ -1,11 +1,10 @@
 -- A connect that is told where no packet waits is under way, so honest delivery completes it.
-use Rattle.std.proofs.Common.{◌≡◌, ◌≢◌, ◌∙◌, ◌==◌, ℕ, zero, suc, ◌≤◌, ◌<◌, ◌+◌, ◌-◌, ◌⊎◌, cond, eq-eqb, List, [], ◌∷◌, ◌++◌, length, map, find, Bool, true, false, nat_le, Option, Some, None, Contains, refl, sym, ap, subst, inl, inr, arith}
+use Rattle.std.proofs.Common.{◌≡◌, ◌≢◌, ◌∙◌, ◌==◌, ℕ, suc, ◌≤◌, ◌<◌, ◌+◌, ◌-◌, ◌⊎◌, cond, eq-eqb, List, [], ◌∷◌, length, map, Bool, true, false, nat_le, Some, None, Contains, refl, sym, ap, subst, inl, inr, arith}
 use Rattle.std.proofs.lemmas.Bool.{false≢true}
 use Rattle.std.proofs.lemmas.Bool.Decides.{nat_tests}
 use Rattle.std.proofs.lemmas.List.Elements.{Contains-append_left, Contains-append_right, Contains-push}
 use Rattle.spdm_grammar.specs.Lines.{Line}
 use Rattle.spdm_grammar.specs.Message.RequestMessage.{GetVersion}
-use Rattle.spdm_grammar.specs.declared.choice.Choice.{Choice}
 use Rattle.spdm_machine.specs.Packets.{packets_to, wear_limit}
 use Rattle.spdm_machine.specs.Terms.{terms_of}
 use Rattle.spdm_machine.proofs.Members.{IsIn, in_map, all_in, found_in, none_some}
@@ -18,15 +17,14 @@ use Rattle.requester_machine.specs.Requesting.{Requesting, CommandStep, requeste
 use Rattle.requester_machine.specs.Sending.{plain_sent}
 use Rattle.requester_machine.specs.Setup.{ReqSetup}
 use Rattle.responder_machine.proofs.Others.{found}
-use Rattle.responder_machine.specs.Responding.{Connection, Responding, connection_of}
-use Rattle.responder_machine.specs.Setup.{RspSetup}
+use Rattle.responder_machine.specs.Responding.{Connection, connection_of}
 use Rattle.transcript.specs.Transcripts.{Negotiation}
 use Rattle.world_machine.specs.Chance.{NoChance}
 use Rattle.world_machine.specs.Happenings.{Entry}
 use Rattle.world_machine.specs.Happenings.Happening.{Told, Pump}
 use Rattle.world_machine.specs.Setup.{WorldSetup}
 use Rattle.world_machine.specs.Trace.{world_from, world_after, lines_from}
-use Rattle.world_machine.specs.World.{World, WorldStep, happens, told, told_by, requester_of, with_requester, with_sent, first_waiting, entry_step, is_at, number_at, pumps}
+use Rattle.world_machine.specs.World.{World, WorldStep, happens, told, told_by, requester_of, with_sent, first_waiting, pumps}
 use Rattle.spdm_agreement.proofs.Requester.AfterBody as bodies
 use Rattle.spdm_agreement.proofs.Requester.Whole as asks
 use Rattle.spdm_agreement.proofs.Responder.DataAnswered as serves
@@ -37,7 +35,7 @@ use Rattle.spdm_progress.specs.Connecting.{ConnectIsTold, IsConnected, ConnectCo
 use Rattle.spdm_progress.specs.Honest.{NothingWaits, AreHonest, HaveNoCommand}
 use Rattle.spdm_progress.proofs.Between.{all_of, all_go}
 use Rattle.spdm_progress.proofs.OnePacket.{packet_to, one_packet}
-use Rattle.spdm_progress.proofs.PacketSteps.{Pair, AreEnds, At, asker, server}
+use Rattle.spdm_progress.proofs.PacketSteps.{Pair, AreEnds, asker, server}
 use Rattle.spdm_progress.proofs.Placed.{IsPlaced, always_placed}
 use Rattle.spdm_progress.proofs.Places.{AllDiffer, found_new, first_is, number_is, number_new, of_new}
 use Rattle.spdm_progress.proofs.RequesterStages.{told_connect, asks_version}

@@ -1,17 +1,17 @@
 -- A short clear message is one packet, which is gathered whole whatever came before it.
-use Rattle.std.proofs.Common.{◌≡◌, ◌∙◌, ℕ, ◌<◌, ◌≤◌, ◌+◌, List, [], ◌∷◌, length, Bool, true, false, nat_lt, nat_le, Option, Some, None, Result, Ok, Err, ◌==◌, ◌&&◌, not, refl, sym, ap, subst, arith, eq-eqb}
-use Rattle.std.specs.Prelude.{slice_index, if◌then◌else◌}
+use Rattle.std.proofs.Common.{◌≡◌, ◌∙◌, ℕ, ◌<◌, ◌≤◌, List, [], ◌∷◌, length, Bool, true, false, nat_lt, nat_le, Option, None, Ok, ◌==◌, ◌&&◌, not, refl, ap, arith, eq-eqb}
+use Rattle.std.specs.Prelude.{if◌then◌else◌}
 use Rattle.std.proofs.lemmas.Bool.Decides.{nat_tests}
 use Rattle.mctp_framing.specs.Packet.{PacketFields, spelled_packet, parsed}
-use Rattle.mctp_framing.specs.Cutting.{RouteFields, only_packet, packets_of}
-use Rattle.mctp_framing.specs.Gathering.{Gathered, Receiver, gathered, is_ours, answer_of, answer_from, broken_rule, first_cause}
-use Rattle.mctp_framing.specs.Gathering.Gathered.{Whole, Dropped}
+use Rattle.mctp_framing.specs.Cutting.{RouteFields, only_packet}
+use Rattle.mctp_framing.specs.Gathering.{Gathered, answer_from, first_cause}
+use Rattle.mctp_framing.specs.Gathering.Gathered.{Whole}
 use Rattle.mctp_framing.proofs.Packets.{packets_of-short}
 use Rattle.mctp_framing.proofs.Spelled.{parsed-spelled_packet}
 use Rattle.spdm_basis.specs.declared.DropCause.{DropCause}
-use Rattle.spdm_basis.specs.declared.DropCause.TheVariants.{NotOurs, NoStart, WrongSize, IntegritySet, TooLong}
+use Rattle.spdm_basis.specs.declared.DropCause.TheVariants.{WrongSize, IntegritySet, TooLong}
 use Rattle.spdm_machine.specs.Bodies.{clear_body}
-use Rattle.spdm_machine.specs.Packets.{gathered_from, packets_to, fields_in, body_limit}
+use Rattle.spdm_machine.specs.Packets.{gathered_from, packets_to, body_limit}
 
 abbrev pub route_to : (to from : ℕ) → Bool → ℕ → RouteFields
 route_to to from owner tag = record { to = to; from = from; owner = owner; tag = tag }

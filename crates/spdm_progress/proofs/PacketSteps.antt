@@ -1,10 +1,9 @@
 -- One packet of a clear exchange is given to its end, which answers it with one packet or with none.
-use Rattle.std.proofs.Common.{◌≡◌, ◌≢◌, ◌∙◌, ℕ, zero, suc, ◌<◌, ◌≤◌, ◌+◌, ◌==◌, List, [], ◌∷◌, ◌++◌, length, map, find, Bool, true, false, nat_lt, nat_le, Option, Some, None, unwrap_or, slice_index, refl, sym, ap, ap₂, subst, inl, inr, arith, eq-eqb}
+use Rattle.std.proofs.Common.{◌≡◌, ◌≢◌, ◌∙◌, ℕ, suc, ◌<◌, ◌≤◌, ◌+◌, ◌==◌, List, [], ◌∷◌, length, find, Bool, true, false, nat_lt, nat_le, Option, Some, None, unwrap_or, refl, sym, ap, subst, inl, arith, eq-eqb}
 use Rattle.std.specs.Prelude.{if◌then◌else◌}
 use Rattle.std.proofs.lemmas.Bool.{ne_eqb}
 use Rattle.std.proofs.lemmas.Bool.Decides.{nat_tests}
-use Rattle.spdm_basis.specs.declared.session_id.SessionId.{SessionId}
-use Rattle.spdm_grammar.specs.Lines.{Line, Whose}
+use Rattle.spdm_grammar.specs.Lines.{Line}
 use Rattle.spdm_grammar.specs.declared.event.Event.{Event}
 use Rattle.spdm_grammar.specs.declared.event.Event.TheVariants as event
 use Rattle.spdm_grammar.specs.Message.{RequestMessage}
@@ -23,11 +22,11 @@ use Rattle.requester_machine.specs.Shown as shown
 use Rattle.responder_machine.proofs.Alike.{changed_at}
 use Rattle.responder_machine.specs.Does.{clear_does}
 use Rattle.responder_machine.specs.History as served
-use Rattle.responder_machine.specs.Responder.{Outcome, after, body_of}
+use Rattle.responder_machine.specs.Responder.{after}
 use Rattle.responder_machine.specs.Responding as serving
 use Rattle.responder_machine.specs.Responding.{Connection, Responding, RspStep, connection_of, changed, answers, responder_hears}
 use Rattle.responder_machine.specs.Setup.{RspSetup}
-use Rattle.world_machine.specs.World.{World, WorldStep, SentPacket, first_waiting, packet_of, packet_at, stopped_at, with_sent, requester_of, is_at, number_at, number_from, with_requester, given, given_to, given_to_requester, given_to_responder, without_waiting, delivers}
+use Rattle.world_machine.specs.World.{World, WorldStep, first_waiting, packet_of, with_sent, requester_of, is_at, number_at, given, given_to, given_to_requester, given_to_responder, without_waiting, delivers}
 use Rattle.spdm_progress.proofs.AtRequester.{asking, given_whole}
 use Rattle.spdm_progress.proofs.AtResponder.{hears_request}
 use Rattle.spdm_progress.proofs.OnePacket.{route_to, packet_to, one_packet, not_longer}

@@ -1,8 +1,6 @@
 -- What no event changes of a world: which end points its requesters have, in order, and that all ends are those of one
 -- responder.
-use Rattle.std.proofs.Common.{◌≡◌, ◌∙◌, ℕ, zero, suc, ◌+◌, ◌==◌, ◌||◌, List, [], ◌∷◌, ◌++◌, length, map, find, Bool, true, false, cond, not, nat_lt, Option, Some, None, Result, Ok, Err, slice_index, refl, sym, ap, subst, inl, inr, arith, eqb-true}
-use Rattle.std.specs.Prelude.{if◌then◌else◌}
-use Rattle.mctp_framing.specs.Cutting.{RouteFields}
+use Rattle.std.proofs.Common.{◌≡◌, ◌∙◌, ℕ, zero, suc, ◌==◌, ◌||◌, List, [], ◌∷◌, length, map, find, Bool, true, false, cond, not, nat_lt, Option, Some, None, Result, Ok, Err, slice_index, refl, sym, ap, subst, eqb-true}
 use Rattle.mctp_framing.specs.Gathering.{Gathered}
 use Rattle.mctp_framing.specs.Gathering.Gathered.{Whole, More, Dropped}
 use Rattle.mctp_framing.specs.Packet.{PacketFields, parsed}
@@ -13,7 +11,6 @@ use Rattle.spdm_machine.proofs.Members.{IsIn, in_map, found_in, all_in, map_in}
 use Rattle.requester_machine.specs.Message.{Command}
 use Rattle.requester_machine.specs.Requesting as asking
 use Rattle.requester_machine.specs.Requesting.{Requesting, requester_told, requester_given, new_requesting}
-use Rattle.responder_machine.specs.History.{History}
 use Rattle.responder_machine.specs.Responding as serving
 use Rattle.responder_machine.specs.Responding.{Connection, Responding, RspStep, connection_of, changed, with_history, responder_hears, queues, reply_fault_of, ticks, new_connection}
 use Rattle.responder_machine.proofs.Connected.{KeepsSetup, changed_keeps}
@@ -25,7 +22,7 @@ use Rattle.requester_machine.specs.Setup.{ReqSetup, ReqEnd}
 use Rattle.responder_machine.specs.Setup.{RspSetup, RspPart}
 use Rattle.spdm_agreement.specs.Configured.{IsConfigured, setups_of}
 use Rattle.spdm_agreement.proofs.Worlds.AllEvents.{requester_in}
-use Rattle.world_machine.specs.World.{new_world, World, WorldStep, SentPacket, told, given, given_to, given_to_responder, delivers, loses, without_waiting, packet_of, turn, pumps, first_waiting, replied, requester_of, requester_at, is_at, happens, entry_step, with_requester, replaced}
+use Rattle.world_machine.specs.World.{new_world, World, WorldStep, told, given, given_to, given_to_responder, delivers, loses, without_waiting, packet_of, turn, pumps, first_waiting, replied, requester_of, is_at, happens, entry_step, with_requester, replaced}
 
 -- ---- The ends keep their set-up.
 

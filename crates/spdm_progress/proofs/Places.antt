@@ -1,12 +1,10 @@
 -- One requester of a world, and the responder's connection with it, found again after each change.
-use Rattle.std.proofs.Common.{◌≡◌, ◌≢◌, ◌∙◌, ℕ, zero, suc, ◌+◌, ◌==◌, List, [], ◌∷◌, length, map, find, Bool, true, false, cond, Option, Some, None, refl, sym, ap, subst, inl, inr, arith, eqb-true, eq-eqb}
+use Rattle.std.proofs.Common.{◌≡◌, ◌≢◌, ◌∙◌, ℕ, zero, suc, ◌+◌, ◌==◌, List, [], ◌∷◌, map, find, Bool, true, false, cond, Option, Some, refl, sym, ap, inl, inr, arith, eq-eqb}
 use Rattle.std.specs.Prelude.{if◌then◌else◌}
-use Rattle.std.specs.Option.{option_map}
-use Rattle.std.proofs.lemmas.Bool.{false≢true, ne_eqb}
+use Rattle.std.proofs.lemmas.Bool.{ne_eqb}
 use Rattle.spdm_machine.proofs.Members.{IsIn, some_same, none_some, map_in}
 use Rattle.requester_machine.specs.Requesting.{Requesting}
-use Rattle.requester_machine.specs.Setup.{ReqSetup}
-use Rattle.world_machine.specs.World.{World, requester_of, requester_at, is_at, number_from, number_at, with_requester, replaced}
+use Rattle.world_machine.specs.World.{World, requester_of, requester_at, is_at, number_from, number_at, with_requester}
 use Rattle.spdm_progress.proofs.Placed.{eids_stay}
 
 -- ---- The requester of an end point.

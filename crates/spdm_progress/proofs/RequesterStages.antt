@@ -1,6 +1,6 @@
 -- A requester as a connect goes on: each of the three answers leads to the next request, and the last one to the end.
-use Rattle.std.proofs.Common.{◌≡◌, ◌∙◌, ℕ, ◌<◌, ◌≤◌, ◌+◌, ◌%◌, List, [], ◌∷◌, length, Bool, true, false, nat_lt, Option, Some, None, Result, Ok, Err, ◌==◌, ◌&&◌, ◌||◌, not, refl, sym, ap, subst, arith}
-use Rattle.std.specs.Prelude.{if◌then◌else◌, unwrap_or, min}
+use Rattle.std.proofs.Common.{◌≡◌, ◌∙◌, ℕ, ◌<◌, ◌≤◌, List, ◌∷◌, length, false, nat_lt, Option, Some, None, Result, Ok, refl, sym, ap, subst, arith}
+use Rattle.std.specs.Prelude.{unwrap_or}
 use Rattle.negotiate.specs.Capabilities.{common_of}
 use Rattle.negotiate.specs.Choosing.{agreed, selected}
 use Rattle.negotiate.specs.Offer.{offer_of}
@@ -8,7 +8,7 @@ use Rattle.negotiate.specs.Reply.{reply_of}
 use Rattle.negotiate.specs.declared.shared.Common.{Common}
 use Rattle.spdm_grammar.proofs.CanonicalResponses.{response_spelled}
 use Rattle.spdm_grammar.proofs.Spellings.{spelling_read}
-use Rattle.spdm_grammar.specs.Message.{RequestMessage, ResponseMessage, OfferMessage, ReplyMessage}
+use Rattle.spdm_grammar.specs.Message.{RequestMessage, ResponseMessage, OfferMessage}
 use Rattle.spdm_grammar.specs.Message.RequestMessage.{GetVersion, GetCapabilities, NegotiateAlgorithms}
 use Rattle.spdm_grammar.specs.Message.ResponseMessage.{Capabilities, Algorithms}
 use Rattle.spdm_grammar.specs.Responses.{response_layout, response_reading, canonical_response, FitsResponse, IsSoundResponse}
@@ -20,7 +20,7 @@ use Rattle.spdm_grammar.specs.declared.phase.Phase.TheVariants.{Negotiated}
 use Rattle.spdm_machine.specs.Bodies.{clear_body}
 use Rattle.spdm_machine.specs.Keys.{Draw}
 use Rattle.spdm_machine.specs.Terms.{no_negotiation}
-use Rattle.requester_machine.specs.Answers.{answer_led, goes_on, is_done, caps_led, offer_led, algorithms_led}
+use Rattle.requester_machine.specs.Answers.{goes_on, is_done, caps_led, offer_led, algorithms_led}
 use Rattle.requester_machine.specs.Asking.{Outcome}
 use Rattle.requester_machine.specs.Asking.Outcome.{Adds}
 use Rattle.requester_machine.specs.ClearAnswers.{clear_led}
@@ -30,27 +30,26 @@ use Rattle.requester_machine.specs.Hearing.{clear_outcome}
 use Rattle.requester_machine.specs.History.{History, Led, outstanding, negotiation_of, phase_of, next_tag}
 use Rattle.requester_machine.specs.History.Effect.{Answers}
 use Rattle.requester_machine.specs.History.Entry.{TookClear}
-use Rattle.requester_machine.specs.Message.{Sent, Content}
+use Rattle.requester_machine.specs.Message.{Sent}
 use Rattle.requester_machine.specs.Message.Aim.{Plain}
 use Rattle.requester_machine.specs.Message.Content.{Clear}
-use Rattle.requester_machine.specs.Sending.{plain_sent, request_sent, is_too_long}
+use Rattle.requester_machine.specs.Sending.{plain_sent, is_too_long}
 use Rattle.requester_machine.specs.Setup.{ReqSetup, requester_caps}
 use Rattle.requester_machine.specs.Shown.{after, sent_by, event_of}
-use Rattle.responder_machine.specs.Answer.{version_answer, algorithms_answer}
+use Rattle.responder_machine.specs.Answer.{version_answer}
 use Rattle.responder_machine.specs.Setup.{RspSetup, responder_caps, policy_of}
 use Rattle.spdm_grammar.specs.declared.event.ReqIgnored.{ReqIgnored}
 use Rattle.requester_machine.specs.Asking.{asks}
 use Rattle.requester_machine.specs.Commands.{command_fault}
 use Rattle.requester_machine.specs.History.Entry.{Told}
 use Rattle.requester_machine.specs.Message.Command.{Connect}
-use Rattle.requester_machine.specs.Requesting.{Requesting, requester_told, commanded_by, is_worn, worn_command, next_draw}
+use Rattle.requester_machine.specs.Requesting.{Requesting, requester_told, commanded_by, is_worn, next_draw}
 use Rattle.spdm_machine.specs.Terms.{no_choice}
 use Rattle.negotiate.proofs.Choices.{choice_is_agreed}
 use Rattle.spdm_agreement.proofs.Responder.Negotiation.{reply_fits, reply_sound}
 use Rattle.transcript.specs.Transcripts.{Negotiation}
 use Rattle.spdm_progress.proofs.AtRequester.{asking, heard_plain, led_plain}
 use Rattle.spdm_progress.proofs.ResponderStages.{get_version, version, get_capabilities, capabilities, negotiate_algorithms, algorithms, first_pair, two_pairs, three_pairs}
-use Rattle.spdm_progress.proofs.OnePacket.{not_longer}
 
 -- A canonical answer without a summary reads, whatever the hash.
 reads : (h : History) (v : ResponseMessage) (len : ℕ) → FitsResponse v → IsSoundResponse len false v → response_reading len false (canonical_response v) ≡ Ok v

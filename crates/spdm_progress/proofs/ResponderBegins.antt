@@ -1,7 +1,6 @@
 -- In a history that a responder made, GET_VERSION is answered alike when it comes again; and queued data and time change
 -- nothing of what stands in the clear.
-use Rattle.std.proofs.Common.{◌≡◌, ◌∙◌, ℕ, ◌≤◌, ◌+◌, List, [], ◌∷◌, length, Bool, true, false, Option, Some, None, is_none, refl, sym, ap, subst, arith}
-use Rattle.std.specs.Prelude.{if◌then◌else◌}
+use Rattle.std.proofs.Common.{◌≡◌, ◌∙◌, ℕ, ◌≤◌, List, [], ◌∷◌, Bool, true, false, Option, Some, None, is_none, refl, sym, ap, subst, arith}
 use Rattle.std.proofs.lemmas.Bool.{false≢true}
 use Rattle.spdm_grammar.specs.declared.error_code.ErrorCode.{ErrorCode}
 use Rattle.spdm_grammar.specs.declared.phase.Phase.{Phase}
@@ -10,14 +9,13 @@ use Rattle.spdm_machine.proofs.Members.{some_same, none_some}
 use Rattle.responder_machine.proofs.Repeats.{kept_of-taken}
 use Rattle.responder_machine.proofs.Sizes.{sizes_set_up}
 use Rattle.responder_machine.proofs.Turns.{turn_of-effect}
-use Rattle.responder_machine.specs.Answer.{Free}
 use Rattle.responder_machine.specs.Does.{IsMade, clear_chosen}
 use Rattle.responder_machine.specs.Handling.{turn_of}
 use Rattle.responder_machine.specs.History.{History, Kept, kept_of, clear_turns, phase_of, negotiation_of}
 use Rattle.responder_machine.specs.History.Entry.{Clear, Sealed, Queued, Ticked, Dropped}
 use Rattle.responder_machine.specs.Place.{clear_place}
 use Rattle.responder_machine.specs.Setup.{RspSetup}
-use Rattle.responder_machine.specs.Turn.{Turn, Effect, is_taken}
+use Rattle.responder_machine.specs.Turn.{Turn, is_taken}
 use Rattle.responder_machine.specs.Turn.Effect.{NoEffect}
 use Rattle.spdm_grammar.specs.Message.RequestMessage.{GetVersion}
 use Rattle.responder_machine.specs.Refusal.{sizes_are_known}
@@ -26,7 +24,7 @@ use Rattle.spdm_grammar.specs.declared.phase.Phase.TheVariants.{Versioned}
 use Rattle.transcript.specs.Transcripts.{Negotiation}
 use Rattle.spdm_agreement.specs.Configured.{IsResponder}
 use Rattle.spdm_agreement.proofs.Responder.Negotiation.{entry_turn}
-use Rattle.spdm_progress.proofs.ResponderStages.{AwaitsVersion, HasVersion, LastTook, Stands, Takes, first_pair, get_version, version, version_turn, took_version}
+use Rattle.spdm_progress.proofs.ResponderStages.{AwaitsVersion, HasVersion, Stands, Takes, first_pair, get_version, version, version_turn, took_version}
 use Rattle.spdm_progress.proofs.ResponderTurns.{taken_turn}
 
 -- ---- The clear part of the connection alone tells.

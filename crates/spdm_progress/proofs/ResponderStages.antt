@@ -1,27 +1,25 @@
 -- A responder as a connect goes on: the three requests are taken one after the other, and answered.
-use Rattle.std.proofs.Common.{◌≡◌, ◌∙◌, ℕ, ◌<◌, ◌≤◌, ◌+◌, ◌^◌, List, [], ◌∷◌, length, Bool, true, false, nat_lt, Option, Some, None, Result, Ok, Err, ◌==◌, ◌&&◌, ◌||◌, not, is_none, is_some, refl, sym, ap, subst, arith, eq-eqb}
-use Rattle.std.specs.Prelude.{slice_index, if◌then◌else◌, unwrap_or, bytes_eq}
+use Rattle.std.proofs.Common.{◌≡◌, ◌∙◌, ℕ, ◌≤◌, ◌+◌, List, ◌∷◌, length, Bool, true, false, nat_lt, Option, Some, None, Result, Ok, ◌==◌, ◌&&◌, ◌||◌, not, is_none, refl, sym, ap, subst, arith}
+use Rattle.std.specs.Prelude.{bytes_eq}
 use Rattle.std.specs.Result.{result_ok}
 use Rattle.std.proofs.lemmas.Bool.{false≢true}
 use Rattle.std.proofs.lemmas.Slice.Eq.{bytes_eq-Decides}
 use Rattle.negotiate.specs.Capabilities.{common_of}
 use Rattle.negotiate.specs.Choosing.{selected}
 use Rattle.negotiate.specs.declared.shared.Common.{Common}
-use Rattle.spdm_basis.specs.declared.session_id.SessionId.{SessionId}
-use Rattle.spdm_grammar.specs.Message.{RequestMessage, ResponseMessage, OfferMessage}
+use Rattle.spdm_grammar.specs.Message.{OfferMessage}
 use Rattle.spdm_grammar.specs.Message.RequestMessage.{GetVersion, GetCapabilities, NegotiateAlgorithms}
 use Rattle.spdm_grammar.specs.Message.ResponseMessage.{Capabilities}
 use Rattle.spdm_grammar.specs.Requests.{canonical_request, FitsRequest, IsSoundRequest}
 use Rattle.spdm_grammar.specs.Responses.{canonical_response}
-use Rattle.spdm_grammar.specs.declared.capabilities.Caps.{Caps}
 use Rattle.spdm_grammar.specs.declared.choice.Choice.{Choice}
 use Rattle.spdm_grammar.specs.declared.phase.Phase.{Phase}
 use Rattle.spdm_grammar.specs.declared.phase.Phase.TheVariants.{Fresh, Versioned, Capable, Negotiated}
 use Rattle.spdm_grammar.specs.declared.names.request_code.TheConstants.{GET_VERSION, GET_CAPABILITIES, NEGOTIATE_ALGORITHMS}
 use Rattle.spdm_machine.specs.Bodies.{clear_body}
 use Rattle.spdm_machine.specs.Keys.{Draw}
-use Rattle.spdm_machine.specs.Terms.{no_negotiation, terms_of}
-use Rattle.responder_machine.specs.Answer.{Free, version_answer, algorithms_answer, request_at}
+use Rattle.spdm_machine.specs.Terms.{no_negotiation}
+use Rattle.responder_machine.specs.Answer.{Free, version_answer, algorithms_answer}
 use Rattle.responder_machine.specs.Does.{clear_does, clear_chosen}
 use Rattle.responder_machine.specs.Handling.{turn_of, goes_large}
 use Rattle.responder_machine.specs.History.{History, Kept, kept_of, clear_turns, phase_of, negotiation_of}
@@ -36,7 +34,7 @@ use Rattle.responder_machine.specs.Turn.{Turn}
 use Rattle.requester_machine.specs.Setup.{ReqSetup, requester_caps}
 use Rattle.transcript.specs.Transcripts.{Negotiation}
 use Rattle.spdm_progress.proofs.OnePacket.{not_longer}
-use Rattle.spdm_progress.proofs.ResponderTurns.{taken_turn, taken_at, read_at, PassesForm, PassesContents}
+use Rattle.spdm_progress.proofs.ResponderTurns.{taken_turn, taken_at, read_at}
 
 -- ---- The six messages.
 

@@ -1,5 +1,5 @@
 -- What a responder makes of a request in the clear that passes all its tests.
-use Rattle.std.proofs.Common.{◌≡◌, ◌∙◌, ℕ, ◌<◌, ◌≤◌, ◌+◌, List, [], ◌∷◌, length, Bool, true, false, nat_lt, Option, Some, None, Result, Ok, Err, ◌==◌, ◌&&◌, ◌||◌, not, is_none, is_some, refl, sym, ap, subst, arith, eq-eqb}
+use Rattle.std.proofs.Common.{◌≡◌, ◌∙◌, ℕ, List, [], ◌∷◌, length, Bool, true, false, nat_lt, Option, Some, None, ◌==◌, ◌&&◌, not, is_none, is_some, refl, ap}
 use Rattle.std.specs.Prelude.{slice_index, if◌then◌else◌}
 use Rattle.std.specs.Option.{option_or}
 use Rattle.spdm_basis.specs.Tests.{first_of_tests}
@@ -9,10 +9,9 @@ use Rattle.spdm_grammar.specs.Message.{RequestMessage, ChunkMessage}
 use Rattle.spdm_grammar.specs.Requests.{request_layout, canonical_request, FitsRequest, IsSoundRequest}
 use Rattle.spdm_grammar.specs.Responses.{canonical_response}
 use Rattle.spdm_grammar.specs.declared.error_code.ErrorCode.{ErrorCode}
-use Rattle.spdm_grammar.specs.declared.part_faults.ChunkFault.{ChunkFault}
 use Rattle.spdm_machine.specs.Terms.{hash_len}
 use Rattle.responder_machine.specs.Answer.{Free, answer_of, answer_bytes, request_at}
-use Rattle.responder_machine.specs.Handling.{turn_of, turn_by, chunk_in, goes_large, effect_of, large_response, plain_turn}
+use Rattle.responder_machine.specs.Handling.{turn_of, turn_by, chunk_in, goes_large, effect_of, large_response}
 use Rattle.responder_machine.specs.Place.{Place, place_terms}
 use Rattle.responder_machine.specs.Refusal.{refusal, refused_form, refused_contents, tests_of_form, tests_of_contents, lacks_flag, are_caps_refused, is_offer_refused, has_no_block, is_exchange_refused, is_verify_wrong, is_update_misplaced, is_too_large, chunk_fault, is_get_refused, is_answer_too_long, code_of, limit_of, is_known, needs_session, is_chunk_in_session, is_misplaced, is_allowed, version_for}
 use Rattle.responder_machine.specs.Setup.{RspSetup}
@@ -95,17 +94,37 @@ pub record PassesContents (r : RspSetup) (p : Place) (m : List ℕ) (f : Free) (
 pub contents_passed : (r : RspSetup) (p : Place) (m : List ℕ) (f : Free) (v : RequestMessage) → request_at p m ≡ Some v → PassesContents r p m f v → AreFalse (tests_of_contents r p m f)
 contents_passed r p m f v is k = (
   k.flags,
-  (ap (are_caps_refused r) is ∙ k.caps,
-  (ap (is_offer_refused r) is ∙ k.offer,
-  (ap (has_no_block r) is ∙ k.block,
-  (ap (is_exchange_refused r p) is ∙ k.exchange,
-  (ap (is_verify_wrong r p m) is ∙ k.verify,
-  (ap (is_update_misplaced p) is ∙ k.update,
-  (ap (λ (o : Option RequestMessage). is_too_large (chunk_fault r p o)) is ∙ ap is_too_large k.chunk,
-  (ap (λ (o : Option RequestMessage). is_some (chunk_fault r p o)) is ∙ ap is_some k.chunk,
-  (ap (is_get_refused p) is ∙ k.get,
-  (ap (is_answer_too_long p) (answered r p m f v is) ∙ k.fits,
-  (k.limit, tt)))))))))))
+  (
+    ap (are_caps_refused r) is ∙ k.caps,
+    (
+      ap (is_offer_refused r) is ∙ k.offer,
+      (
+        ap (has_no_block r) is ∙ k.block,
+        (
+          ap (is_exchange_refused r p) is ∙ k.exchange,
+          (
+            ap (is_verify_wrong r p m) is ∙ k.verify,
+            (
+              ap (is_update_misplaced p) is ∙ k.update,
+              (
+                ap (λ (o : Option RequestMessage). is_too_large (chunk_fault r p o)) is ∙ ap is_too_large k.chunk,
+                (
+                  ap (λ (o : Option RequestMessage). is_some (chunk_fault r p o)) is ∙ ap is_some k.chunk,
+                  (
+                    ap (is_get_refused p) is ∙ k.get,
+                    (
+                      ap (is_answer_too_long p) (answered r p m f v is) ∙ k.fits,
+                      (k.limit, tt),
+                    ),
+                  ),
+                ),
+              ),
+            ),
+          ),
+        ),
+      ),
+    ),
+  ),
 )
 
 -- ---- An own request is read at every place.

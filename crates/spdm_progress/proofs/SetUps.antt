@@ -1,5 +1,5 @@
 -- What follows of two configured ends: their capabilities go together, and their messages have these lengths.
-use Rattle.std.proofs.Common.{◌≡◌, ◌∙◌, ℕ, ◌<◌, ◌≤◌, ◌+◌, ◌^◌, ◌==◌, ◌&&◌, ◌||◌, not, List, [], ◌∷◌, length, Bool, true, false, cond, nat_lt, Option, Some, None, Result, Ok, Err, refl, sym, ap, subst, arith}
+use Rattle.std.proofs.Common.{◌≡◌, ◌∙◌, ℕ, ◌<◌, ◌≤◌, ◌+◌, ◌^◌, ◌==◌, ◌&&◌, ◌||◌, not, List, [], length, Bool, true, false, cond, nat_lt, Some, None, Result, Ok, Err, refl, sym, ap, subst, arith}
 use Rattle.std.specs.Prelude.{if◌then◌else◌, min, unwrap_or}
 use Rattle.std.specs.Result.{result_ok}
 use Rattle.std.proofs.Math.Nat.{le-min, min-eq_left}
@@ -13,7 +13,7 @@ use Rattle.negotiate.specs.declared.shared.Common.{Common}
 use Rattle.spdm_grammar.specs.Message.{OfferMessage}
 use Rattle.spdm_grammar.specs.Message.RequestMessage.{GetCapabilities, NegotiateAlgorithms}
 use Rattle.spdm_grammar.specs.Message.ResponseMessage.{Capabilities, Algorithms}
-use Rattle.spdm_grammar.specs.Requests.{canonical_request, FitsRequest, IsSoundRequest}
+use Rattle.spdm_grammar.specs.Requests.{FitsRequest, IsSoundRequest}
 use Rattle.spdm_grammar.specs.Responses.{canonical_response, FitsResponse}
 use Rattle.spdm_grammar.specs.declared.choice.Choice.{Choice}
 use Rattle.spdm_grammar.specs.declared.part_faults.CapsFault.{CapsFault}
@@ -23,9 +23,8 @@ use Rattle.spdm_grammar.specs.declared.names.capability.TheConstants.{PSK_CAP, P
 use Rattle.spdm_machine.specs.Setup.{protection_flags}
 use Rattle.spdm_machine.specs.Terms.{terms_of, no_choice}
 use Rattle.requester_machine.specs.Setup.{ReqSetup, requester_caps}
-use Rattle.requester_machine.specs.Sending.{is_too_long}
 use Rattle.responder_machine.proofs.Settled.{common_settled, choice_settled}
-use Rattle.responder_machine.specs.History.{History, clear_turns, negotiation_of}
+use Rattle.responder_machine.specs.History.{History}
 use Rattle.responder_machine.specs.Place.{Place, clear_place}
 use Rattle.responder_machine.specs.Setup.{RspSetup, responder_caps, policy_of}
 use Rattle.transcript.specs.Transcripts.{Negotiation}
@@ -37,7 +36,7 @@ use Rattle.spdm_agreement.proofs.Responder.Negotiation as served
 use Rattle.spdm_agreement.proofs.Responder.Negotiation.{answered}
 use Rattle.spdm_progress.proofs.OnePacket.{not_longer}
 use Rattle.spdm_progress.proofs.RequesterStages.{OffersWhole}
-use Rattle.spdm_progress.proofs.ResponderStages.{Takes, HasCapabilities, first_pair, two_pairs, three_pairs, get_capabilities, capabilities, negotiate_algorithms, algorithms}
+use Rattle.spdm_progress.proofs.ResponderStages.{Takes, HasCapabilities, first_pair, two_pairs, three_pairs, get_capabilities, negotiate_algorithms, algorithms}
 use Rattle.spdm_progress.proofs.ResponderTurns.{read_at}
 
 -- ---- Capabilities go together.

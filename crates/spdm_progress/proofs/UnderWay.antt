@@ -1,26 +1,22 @@
 -- A connect under way: which of its six packets waits, and what both ends hold; and what pumps, queued data and time do
 -- to it.
-use Rattle.std.proofs.Common.{◌≡◌, ◌≢◌, ◌⊎◌, ◌∙◌, ℕ, zero, suc, ◌<◌, ◌≤◌, ◌+◌, ◌==◌, List, [], ◌∷◌, ◌++◌, length, map, find, Bool, true, false, cond, Option, Some, None, Result, Ok, refl, sym, ap, subst, inl, inr, arith, append-nil}
-use Rattle.std.specs.Prelude.{if◌then◌else◌}
+use Rattle.std.proofs.Common.{◌≡◌, ◌⊎◌, ◌∙◌, ℕ, zero, suc, ◌<◌, ◌≤◌, List, [], ◌∷◌, ◌++◌, length, Option, Some, None, refl, sym, ap, subst, inl, inr, arith}
 use Rattle.spdm_grammar.specs.Lines.{Line}
-use Rattle.spdm_grammar.specs.Message.{OfferMessage, RequestMessage}
+use Rattle.spdm_grammar.specs.Message.{OfferMessage}
 use Rattle.spdm_grammar.specs.Message.RequestMessage.{GetVersion, GetCapabilities, NegotiateAlgorithms}
 use Rattle.spdm_grammar.specs.declared.choice.Choice.{Choice}
 use Rattle.spdm_grammar.specs.declared.event.Event.TheVariants as event
 use Rattle.spdm_grammar.specs.declared.event.Finished.TheVariants as finished
-use Rattle.spdm_machine.specs.Keys.{Draw}
 use Rattle.spdm_machine.specs.Terms.{no_negotiation}
 use Rattle.spdm_machine.proofs.Members.{IsIn, some_same}
 use Rattle.requester_machine.specs.History as asked
-use Rattle.requester_machine.specs.Setup.{ReqSetup, requester_caps}
+use Rattle.requester_machine.specs.Setup.{requester_caps}
 use Rattle.responder_machine.specs.History as served
 use Rattle.world_machine.specs.World.{World, WorldStep, first_waiting, packet_of, delivers, turn, pumps, rests, behind}
-use Rattle.spdm_progress.proofs.OnePacket.{packet_to}
-use Rattle.spdm_progress.proofs.PacketSteps.{Pair, AreEnds, At, RequestWaits, AnswerWaits, AtAnswer, AtNext, request_given, answer_given}
+use Rattle.spdm_progress.proofs.PacketSteps.{Pair, AreEnds, At, RequestWaits, AnswerWaits, request_given, answer_given}
 use Rattle.spdm_progress.proofs.RequesterStages.{Asks, IsOver, version_heard, capabilities_heard, algorithms_heard}
 use Rattle.spdm_progress.proofs.ResponderStages.{AwaitsVersion, HasVersion, HasCapabilities, HasAlgorithms, get_version, version, get_capabilities, capabilities, negotiate_algorithms, algorithms, first_pair, two_pairs, three_pairs, version_answered, capabilities_answered, algorithms_answered}
 use Rattle.spdm_progress.proofs.SetUps.{CanTalk, common_for, takes_answer, algorithms_size}
-use Rattle.spdm_progress.proofs.Waiting.{OneWaits}
 
 module _ (p : Pair) (ends : AreEnds p) (offer : OfferMessage) (choice : Choice) (can : CanTalk p.requester p.responder offer choice) where
   abbrev pub AsksVersion : ℕ → asked.History → Type 0

@@ -1,8 +1,7 @@
 -- Packets that wait: one that is sent where none waits is the next that a pump gives, and none waits behind it.
-use Rattle.std.proofs.Common.{◌≡◌, ◌∙◌, ℕ, zero, suc, ◌+◌, List, [], ◌∷◌, ◌++◌, length, map, Bool, true, false, Option, Some, None, refl, sym, ap, subst, arith}
+use Rattle.std.proofs.Common.{◌≡◌, ◌∙◌, ℕ, suc, ◌+◌, List, [], ◌∷◌, Bool, true, false, Option, Some, None, refl, ap, arith}
 use Rattle.std.specs.Prelude.{if◌then◌else◌}
-use Rattle.spdm_machine.proofs.Members.{none_some}
-use Rattle.world_machine.specs.World.{SentPacket, first_waiting, next_number, packet_of, packet_at, stopped_of, stopped_at, with_sent, waiting}
+use Rattle.world_machine.specs.World.{SentPacket, first_waiting, next_number, packet_at, stopped_at, with_sent}
 
 -- This packet alone waits, under this number.
 pub record OneWaits (packet : List ℕ) (sent : List SentPacket) : Type 0 where

@@ -1,5 +1,5 @@
 -- What a connect comes to where its messages are delivered honestly. This project's own.
-use Rattle.std.specs.Prelude.{◌≡◌, ◌≤◌, ◌+◌, ℕ, List, [], ◌∷◌, ◌++◌, length, Some, None, Contains}
+use Rattle.std.specs.Prelude.{◌≡◌, ◌≤◌, ◌+◌, ℕ, List, length, Some, None, Contains}
 use Rattle.negotiate.specs.Choosing.{selected}
 use Rattle.negotiate.specs.Offer.{offer_of}
 use Rattle.requester_machine.specs.History as asked
@@ -20,7 +20,6 @@ use Rattle.spdm_grammar.specs.declared.event.Event.TheVariants as event
 use Rattle.spdm_grammar.specs.declared.event.Finished.TheVariants as finished
 use Rattle.spdm_grammar.specs.declared.phase.Phase.TheVariants.{Negotiated}
 use Rattle.spdm_machine.specs.Packets.{wear_limit}
-use Rattle.spdm_machine.specs.Terms.{terms_of}
 use Rattle.world_machine.specs.Chance.{NoChance}
 use Rattle.world_machine.specs.Happenings.{Entry}
 use Rattle.world_machine.specs.Happenings.Happening.{Told, Pump}
