@@ -33,7 +33,7 @@ use Rattle.spdm_agreement.proofs.Worlds.Fits.{Fits}
 use Rattle.spdm_agreement.specs.Configured.{IsConfigured, IsRequester, IsResponder, AreApart, setups_of}
 use Rattle.spdm_progress.specs.Connecting.{ConnectIsTold, IsConnected, ConnectCompletes, SixPacketsAreEnough, EachIsConnected, connecting}
 use Rattle.spdm_progress.specs.Honest.{NothingWaits, AreHonest, HaveNoCommand}
-use Rattle.spdm_progress.proofs.Between.{all_of, all_go}
+use Rattle.spdm_progress.proofs.Between.{ended}
 use Rattle.spdm_progress.proofs.OnePacket.{packet_to, one_packet}
 use Rattle.spdm_progress.proofs.PacketSteps.{Pair, AreEnds, asker, server}
 use Rattle.spdm_progress.proofs.Placed.{IsPlaced, always_placed}
@@ -173,9 +173,14 @@ module _ (w : WorldSetup) (before : List Entry) (n : ℕ) (a : Requesting) (c : 
     | inr k ↦ Contains-append_right (y ∷ []) others x (contained others x k)
   ]
 
-  result : (s : WorldStep) → first_waiting s.after.sent ≡ None → under_way.Goes p ends is_told.can.offer is_told.can.choice talks s → IsConnected n a.setup.eid is_told.can.choice s.after s.lines
-  result s none (under_way.GoesOn u) = (let x = under_way.some_waits p ends is_told.can.offer is_told.can.choice talks s.after u in absurd (none_some x.0 (sym none ∙ x.1)))
-  result s none (under_way.Ends d m) = record {
+  abbrev IsUnderWay : World → Type 0
+  IsUnderWay later_world = under_way.IsUnderWay p ends is_told.can.offer is_told.can.choice talks later_world
+
+  abbrev IsDone : World → Type 0
+  IsDone later_world = under_way.IsDone p ends is_told.can.offer is_told.can.choice talks later_world
+
+  result : (s : WorldStep) → IsDone s.after → IsIn s.lines (under_way.done_line p ends is_told.can.offer is_told.can.choice talks) → IsConnected n a.setup.eid is_told.can.choice s.after s.lines
+  result s d m = record {
     told = contained s.lines _ m;
     requester = asker p d.pair.given d.pair.commands d.pair.asked;
     is_requester = d.pair.is_requester;
@@ -191,7 +196,10 @@ module _ (w : WorldSetup) (before : List Entry) (n : ℕ) (a : Requesting) (c : 
   pub completes : (line : ℕ) (behind : List Entry) → HaveNoCommand behind → AreHonest (connecting world line n) behind → NothingWaits (world_from (connecting world line n) behind)
       → IsConnected n a.setup.eid is_told.can.choice (world_from (connecting world line n) behind) (lines_from (connecting world line n) behind)
   completes line behind none honest over =
-      result (all_of p ends is_told.can.offer is_told.can.choice talks (connecting world line n) behind) over (all_go p ends is_told.can.offer is_told.can.choice talks (connecting world line n) behind none honest (inl (asked.next_tag a.history, begun line)))
+      let e = ended p IsUnderWay IsDone (under_way.done_line p ends is_told.can.offer is_told.can.choice talks) (under_way.one_given p ends is_told.can.offer is_told.can.choice talks)
+      (under_way.done_idle p ends is_told.can.offer is_told.can.choice talks) (under_way.under_way_kept p ends is_told.can.offer is_told.can.choice talks) (under_way.done_kept p ends is_told.can.offer is_told.can.choice talks)
+      (connecting world line n) behind none honest (inl (asked.next_tag a.history, begun line)) over in
+      result (record { lines = lines_from (connecting world line n) behind; after = world_from (connecting world line n) behind }) e.done e.line_is
 
   six_on : (count : ℕ) → 6 ≤ count → suc (suc (suc (suc (suc (suc (count - 6)))))) ≡ count
   six_on count most = omega arith

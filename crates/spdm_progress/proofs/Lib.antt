@@ -10,6 +10,7 @@ pub mod Placed
 pub mod Places
 pub mod PacketSteps
 pub mod SetUps
-pub mod UnderWay
+pub mod ClearKept
 pub mod Between
+pub mod UnderWay
 pub mod Connected

@@ -13,6 +13,10 @@ use Rattle.requester_machine.specs.History as asked
 use Rattle.requester_machine.specs.Setup.{requester_caps}
 use Rattle.responder_machine.specs.History as served
 use Rattle.world_machine.specs.World.{World, WorldStep, first_waiting, packet_of, delivers, turn, pumps, rests, behind}
+use Rattle.responder_machine.specs.Responding.{Responding}
+use Rattle.spdm_progress.proofs.Between.{Goes, GoesOn, Ends, IsGiven, pumps_done}
+use Rattle.spdm_progress.proofs.ClearKept.{KeepsClear, at_moved}
+use Rattle.spdm_progress.proofs.ResponderBegins.{awaits_on, stands_on}
 use Rattle.spdm_progress.proofs.PacketSteps.{Pair, AreEnds, At, RequestWaits, AnswerWaits, request_given, answer_given}
 use Rattle.spdm_progress.proofs.RequesterStages.{Asks, IsOver, version_heard, capabilities_heard, algorithms_heard}
 use Rattle.spdm_progress.proofs.ResponderStages.{AwaitsVersion, HasVersion, HasCapabilities, HasAlgorithms, get_version, version, get_capabilities, capabilities, negotiate_algorithms, algorithms, first_pair, two_pairs, three_pairs, version_answered, capabilities_answered, algorithms_answered}
@@ -63,9 +67,8 @@ module _ (p : Pair) (ends : AreEnds p) (offer : OfferMessage) (choice : Choice) 
   done_line = Line.ToRequester p.number (event.Done finished.Connected)
 
   -- The connect goes on, or is done and its line was written.
-  pub data Goes (s : WorldStep) : Type 0 where
-    GoesOn : IsUnderWay s.after → Goes s
-    Ends : IsDone s.after → IsIn s.lines done_line → Goes s
+  abbrev pub ConnectGoes : WorldStep → Type 0
+  ConnectGoes s = Goes IsUnderWay IsDone done_line s
 
   -- ---- One packet.
 
@@ -77,9 +80,6 @@ module _ (p : Pair) (ends : AreEnds p) (offer : OfferMessage) (choice : Choice) 
 
   alg_short : length (algorithms p.responder offer) < 64
   alg_short = (let size = algorithms_size p.responder offer in omega arith)
-
-  at_place : (world : World) (n m : ℕ) → first_waiting world.sent ≡ Some m → first_waiting world.sent ≡ Some n → Goes (delivers world m (packet_of m world.sent)) → Goes (delivers world n (packet_of n world.sent))
-  at_place world n m a b g = (let same : m ≡ n = some_same m n (sym a ∙ b) in subst (λ (k : ℕ). Goes (delivers world k (packet_of k world.sent))) same g)
 
   version_given : (world : World) (tag : ℕ) (x : Requested 3 3 tag get_version (AsksVersion tag) AwaitsVersion world) → Replied 3 2 tag version (AsksVersion tag) HasVersion (delivers world (suc x.waits.place) (packet_of (suc x.waits.place) world.sent)).after
   version_given world tag x =
@@ -122,58 +122,28 @@ module _ (p : Pair) (ends : AreEnds p) (offer : OfferMessage) (choice : Choice) 
       (λ h. tt) (λ h d asks. algorithms_heard p.requester p.responder h tag d offer choice can.answer_fits can.chosen asks) world x.waits x.pair in
       (record { idle = s.waits; pair = s.pair }, s.writes)
 
-  one_given : (world : World) (n : ℕ) → first_waiting world.sent ≡ Some n → IsUnderWay world → Goes (delivers world n (packet_of n world.sent))
-  one_given world n is (inl x) = at_place world n (suc x.1.waits.place) x.1.waits.first is (GoesOn (inr (inl (x.0, version_given world x.0 x.1))))
-  one_given world n is (inr (inl x)) = at_place world n (suc x.1.waits.place) x.1.waits.first is (GoesOn (inr (inr (inl (version_taken world x.0 x.1)))))
-  one_given world n is (inr (inr (inl x))) = at_place world n (suc x.1.waits.place) x.1.waits.first is (GoesOn (inr (inr (inr (inl (x.0, capabilities_given world x.0 x.1))))))
-  one_given world n is (inr (inr (inr (inl x)))) = at_place world n (suc x.1.waits.place) x.1.waits.first is (GoesOn (inr (inr (inr (inr (inl (capabilities_taken world x.0 x.1)))))))
-  one_given world n is (inr (inr (inr (inr (inl x))))) = at_place world n (suc x.1.waits.place) x.1.waits.first is (GoesOn (inr (inr (inr (inr (inr (x.0, algorithms_given world x.0 x.1)))))))
-  one_given world n is (inr (inr (inr (inr (inr x))))) = (let e = algorithms_taken world x.0 x.1 in at_place world n (suc x.1.waits.place) x.1.waits.first is (Ends e.0 e.1))
+  pub one_given : (world : World) → IsUnderWay world → IsGiven IsUnderWay IsDone done_line world
+  one_given world (inl x) = record { place = x.1.waits.place; first = x.1.waits.first; goes = GoesOn (inr (inl (x.0, version_given world x.0 x.1))) }
+  one_given world (inr (inl x)) = record { place = x.1.waits.place; first = x.1.waits.first; goes = GoesOn (inr (inr (inl (version_taken world x.0 x.1)))) }
+  one_given world (inr (inr (inl x))) = record { place = x.1.waits.place; first = x.1.waits.first; goes = GoesOn (inr (inr (inr (inl (x.0, capabilities_given world x.0 x.1))))) }
+  one_given world (inr (inr (inr (inl x)))) = record { place = x.1.waits.place; first = x.1.waits.first; goes = GoesOn (inr (inr (inr (inr (inl (capabilities_taken world x.0 x.1)))))) }
+  one_given world (inr (inr (inr (inr (inl x))))) = record { place = x.1.waits.place; first = x.1.waits.first; goes = GoesOn (inr (inr (inr (inr (inr (x.0, algorithms_given world x.0 x.1)))))) }
+  one_given world (inr (inr (inr (inr (inr x))))) = (let e = algorithms_taken world x.0 x.1 in record { place = x.1.waits.place; first = x.1.waits.first; goes = Ends e.0 e.1 })
 
-  -- A packet waits while it is under way.
-  pub some_waits : (world : World) → IsUnderWay world → (n : ℕ) × (first_waiting world.sent ≡ Some n)
-  some_waits world (inl x) = (suc x.1.waits.place, x.1.waits.first)
-  some_waits world (inr (inl x)) = (suc x.1.waits.place, x.1.waits.first)
-  some_waits world (inr (inr (inl x))) = (suc x.1.waits.place, x.1.waits.first)
-  some_waits world (inr (inr (inr (inl x)))) = (suc x.1.waits.place, x.1.waits.first)
-  some_waits world (inr (inr (inr (inr (inl x))))) = (suc x.1.waits.place, x.1.waits.first)
-  some_waits world (inr (inr (inr (inr (inr x))))) = (suc x.1.waits.place, x.1.waits.first)
+  pub done_idle : (world : World) → IsDone world → first_waiting world.sent ≡ None
+  done_idle world d = d.idle
 
-  -- ---- Pumps.
+  -- Each stage stays so where the responder keeps what is clear.
+  pub under_way_kept : (world : World) (r : Responding) → KeepsClear p world.responder r → IsUnderWay world → IsUnderWay (record world { responder = r })
+  under_way_kept world r keeps (inl x) = inl (x.0, record { small = x.1.small; waits = x.1.waits; pair = at_moved p 3 3 _ _ world r keeps awaits_on x.1.pair })
+  under_way_kept world r keeps (inr (inl x)) = inr (inl (x.0, record { small = x.1.small; waits = x.1.waits; pair = at_moved p 3 2 _ _ world r keeps (stands_on _ _ _) x.1.pair }))
+  under_way_kept world r keeps (inr (inr (inl x))) = inr (inr (inl (x.0, record { small = x.1.small; waits = x.1.waits; pair = at_moved p 2 2 _ _ world r keeps (stands_on _ _ _) x.1.pair })))
+  under_way_kept world r keeps (inr (inr (inr (inl x)))) = inr (inr (inr (inl (x.0, record { small = x.1.small; waits = x.1.waits; pair = at_moved p 2 1 _ _ world r keeps (stands_on _ _ _) x.1.pair }))))
+  under_way_kept world r keeps (inr (inr (inr (inr (inl x))))) = inr (inr (inr (inr (inl (x.0, record { small = x.1.small; waits = x.1.waits; pair = at_moved p 1 1 _ _ world r keeps (stands_on _ _ _) x.1.pair })))))
+  under_way_kept world r keeps (inr (inr (inr (inr (inr x))))) = inr (inr (inr (inr (inr (x.0, record { small = x.1.small; waits = x.1.waits; pair = at_moved p 1 0 _ _ world r keeps (stands_on _ _ _) x.1.pair })))))
 
-  pub in_left : (xs ys : List Line) (x : Line) → IsIn xs x → IsIn (xs ++ ys) x
-  in_left [] ys x m = absurd m
-  in_left (y ∷ xs) ys x m = elim m [ inl e ↦ inl e | inr k ↦ inr (in_left xs ys x k) ]
-
-  pub in_right : (xs ys : List Line) (x : Line) → IsIn ys x → IsIn (xs ++ ys) x
-  in_right [] ys x m = m
-  in_right (y ∷ xs) ys x m = inr (in_right xs ys x m)
-
-  -- Where no packet waits a pump does nothing.
-  pub pumps_idle : (count : ℕ) (world : World) → first_waiting world.sent ≡ None → pumps count world ≡ rests world
-  unfolding pumps
-  pumps_idle zero world idle = refl
-  pumps_idle (suc count) world idle = ap (turn world (pumps count)) idle
-
-  -- What comes behind a step.
-  pub goes_behind : (first : WorldStep) (second : World → WorldStep) → Goes first → ((world : World) → IsUnderWay world → Goes (second world)) → ((world : World) → IsDone world → IsDone (second world).after) → Goes (behind first second)
-  goes_behind first second (GoesOn u) on stays = later (on first.after u)
-    where
-      later : Goes (second first.after) → Goes (behind first second)
-      later (GoesOn v) = GoesOn v
-      later (Ends d m) = Ends d (in_right first.lines (second first.after).lines done_line m)
-  goes_behind first second (Ends d m) on stays = Ends (stays first.after d) (in_left first.lines (second first.after).lines done_line m)
-
-  pub pumps_done : (count : ℕ) (world : World) → IsDone world → IsDone (pumps count world).after
-  pumps_done count world d = subst (λ (s : WorldStep). IsDone s.after) (sym (pumps_idle count world d.idle)) d
-
-  pub pumps_go : (count : ℕ) (world : World) → IsUnderWay world → Goes (pumps count world)
-  unfolding pumps
-  pumps_go zero world u = GoesOn u
-  pumps_go (suc count) world u =
-      let w = some_waits world u in
-      subst (λ (o : Option ℕ). Goes (turn world (pumps count) o)) (sym w.1)
-      (goes_behind (delivers world w.0 (packet_of w.0 world.sent)) (pumps count) (one_given world w.0 w.1 u) (λ later v. pumps_go count later v) (pumps_done count))
+  pub done_kept : (world : World) (r : Responding) → KeepsClear p world.responder r → IsDone world → IsDone (record world { responder = r })
+  done_kept world r keeps d = record { idle = d.idle; pair = at_moved p 0 0 _ _ world r keeps (stands_on _ _ _) d.pair }
 
   -- ---- Six packets are enough.
 
@@ -183,7 +153,7 @@ module _ (p : Pair) (ends : AreEnds p) (offer : OfferMessage) (choice : Choice) 
   one_pumped count n world is d = subst (λ (o : Option ℕ). IsDone (turn world (pumps count) o).after) (sym is) d
 
   last_pumped : (count : ℕ) (world : World) (tag : ℕ) → Replied 1 0 tag (algorithms p.responder offer) (AsksAlgorithms tag) Agreed world → IsDone (pumps (suc count) world).after
-  last_pumped count world tag x = one_pumped count (suc x.waits.place) world x.waits.first (pumps_done count _ (algorithms_taken world tag x).0)
+  last_pumped count world tag x = one_pumped count (suc x.waits.place) world x.waits.first (pumps_done p IsUnderWay IsDone done_line one_given done_idle under_way_kept done_kept count _ (algorithms_taken world tag x).0)
 
   two_pumped : (count : ℕ) (world : World) (tag : ℕ) → Requested 1 1 tag (negotiate_algorithms offer) (AsksAlgorithms tag) Capable world → IsDone (pumps (suc (suc count)) world).after
   two_pumped count world tag x = one_pumped (suc count) (suc x.waits.place) world x.waits.first (last_pumped count _ tag (algorithms_given world tag x))
