@@ -26,7 +26,7 @@ use Rattle.responder_machine.specs.Responder.{after}
 use Rattle.responder_machine.specs.Responding as serving
 use Rattle.responder_machine.specs.Responding.{Connection, Responding, RspStep, connection_of, changed, answers, responder_hears}
 use Rattle.responder_machine.specs.Setup.{RspSetup}
-use Rattle.world_machine.specs.World.{World, WorldStep, first_waiting, packet_of, with_sent, requester_of, is_at, number_at, given, given_to, given_to_requester, given_to_responder, without_waiting, delivers}
+use Rattle.world_machine.specs.World.{World, WorldStep, SentPacket, first_waiting, packet_of, with_sent, requester_of, is_at, number_at, given, given_to, given_to_requester, given_to_responder, without_waiting, delivers}
 use Rattle.spdm_progress.proofs.AtRequester.{asking, given_whole}
 use Rattle.spdm_progress.proofs.AtResponder.{hears_request}
 use Rattle.spdm_progress.proofs.OnePacket.{route_to, packet_to, one_packet, not_longer}
@@ -113,20 +113,21 @@ module _ (p : Pair) (ends : AreEnds p) where
   abbrev pub AnswerWaits : ℕ → List ℕ → World → Type 0
   AnswerWaits tag m world = OneWaits (packet_to p.requester.eid p.responder.eid false tag m) world.sent
 
-  answer_sent : (tag : ℕ) (reply : List ℕ) → length reply < 64 → packets_to p.responder.peer p.responder.eid false tag p.responder.unit (clear_body reply) ≡ packet_to p.requester.eid p.responder.eid false tag reply ∷ []
-  answer_sent tag reply short =
-      let unit = ends.responder_unit in
-      one_packet p.responder.peer p.responder.eid false tag p.responder.unit reply (omega arith) ∙ ap (λ (to : ℕ). packet_to to p.responder.eid false tag reply ∷ []) ends.peer
+  -- The packets of an answer.
+  abbrev pub answer_packets : ℕ → List ℕ → List (List ℕ)
+  answer_packets tag m = packets_to p.requester.eid p.responder.eid false tag p.responder.unit (clear_body m)
 
   -- What the world is after the step of a responder.
   abbrev after_answer : World → List ℕ → RspStep → World
   after_answer world packet step = (given_to_responder world packet step).after
 
-  module _ (k l : ℕ) (Asked : asked.History → Type 0) (Served Then : served.History → Type 0) (tag : ℕ) (m reply : List ℕ) (small : tag < 8) (short : length m < 64) (reply_short : length reply < 64)
+  module _ (k l : ℕ) (Asked : asked.History → Type 0) (Served Then : served.History → Type 0) (tag : ℕ) (m reply : List ℕ) (small : tag < 8) (short : length m < 64)
       (answers_it : (h : served.History) (d : Draw) → Served h → Answered p.responder h tag m d reply Then) where
-    -- The pair and the packets behind the answer.
+    -- The pair, and the packets of the answer behind those that no longer wait.
     pub record AtAnswer (world : World) : Type 0 where
-      pub waits : AnswerWaits tag reply world
+      pub before : List SentPacket
+      pub idle : first_waiting before ≡ None
+      pub sends : world.sent ≡ with_sent before (answer_packets tag reply)
       pub pair : At p k l Asked Then world
 
     answered_at : (world : World) → first_waiting world.sent ≡ None → (at : At p k (l + 1) Asked Served world)
@@ -134,9 +135,10 @@ module _ (p : Pair) (ends : AreEnds p) where
     answered_at world idle at =
         let o = answers_it at.served (serving.next_draw world.responder) at.serves in
         let life = at.responder_life in record {
-          waits = subst (λ (packets : List (List ℕ)). OneWaits (packet_to p.requester.eid p.responder.eid false tag reply) (with_sent world.sent packets))
-              (sym (ap (packets_to p.responder.peer p.responder.eid false tag p.responder.unit) o.body ∙ answer_sent tag reply reply_short))
-              (one_waits world.sent (packet_to p.requester.eid p.responder.eid false tag reply) idle);
+          before = world.sent;
+          idle = idle;
+          sends = ap (λ (body : List ℕ). with_sent world.sent (packets_to p.responder.peer p.responder.eid false tag p.responder.unit body)) o.body
+              ∙ ap (λ (to : ℕ). with_sent world.sent (packets_to to p.responder.eid false tag p.responder.unit (clear_body reply))) ends.peer;
           pair = record {
             given = at.given;
             commands = at.commands;
@@ -182,6 +184,15 @@ module _ (p : Pair) (ends : AreEnds p) where
           life = at.life;
           responder_life = at.responder_life;
         }))
+
+  -- A short answer is one packet.
+  pub answer_waits : (tag : ℕ) (reply : List ℕ) (before sent : List SentPacket) → length reply < 64 → first_waiting before ≡ None → sent ≡ with_sent before (answer_packets tag reply)
+      → OneWaits (packet_to p.requester.eid p.responder.eid false tag reply) sent
+  answer_waits tag reply before sent short idle sends =
+      let unit = ends.responder_unit in
+      subst (OneWaits (packet_to p.requester.eid p.responder.eid false tag reply))
+      (sym (sends ∙ ap (with_sent before) (one_packet p.requester.eid p.responder.eid false tag p.responder.unit reply (omega arith))))
+      (one_waits before (packet_to p.requester.eid p.responder.eid false tag reply) idle)
 
   -- ---- A packet to the requester.
 
@@ -233,19 +244,19 @@ module _ (p : Pair) (ends : AreEnds p) where
       pub pair : At p k l (Then before) Served s.after
       pub writes : IsIn s.lines (Line.ToRequester p.number told)
 
-    heard_at : (world : World) → first_waiting world.sent ≡ None → (at : At p (k + 1) l Asked Served world)
-        → AtNext at.asked (given_to_requester world p.number (heard_by (asker p at.given at.commands at.asked) (packet_to p.requester.eid p.responder.eid false tag m) (clear_body m)
+    pub heard_at : (packet : List ℕ) (world : World) → first_waiting world.sent ≡ None → (at : At p (k + 1) l Asked Served world)
+        → AtNext at.asked (given_to_requester world p.number (heard_by (asker p at.given at.commands at.asked) packet (clear_body m)
         (requester_hears p.requester at.asked false tag (clear_body m) (asking.next_draw (asker p at.given at.commands at.asked)))))
-    heard_at world idle at =
+    heard_at packet world idle at =
         let a = asker p at.given at.commands at.asked in
         let d = asking.next_draw a in
         let o = hears_it at.asked d at.asks in
         let life = at.life in
-        let new = asker p (packet_to p.requester.eid p.responder.eid false tag m ∷ at.given) at.commands (shown.after at.asked (requester_hears p.requester at.asked false tag (clear_body m) d)) in
-        let later = (given_to_requester world p.number (heard_by a (packet_to p.requester.eid p.responder.eid false tag m) (clear_body m) (requester_hears p.requester at.asked false tag (clear_body m) d))).after in record {
+        let new = asker p (packet ∷ at.given) at.commands (shown.after at.asked (requester_hears p.requester at.asked false tag (clear_body m) d)) in
+        let later = (given_to_requester world p.number (heard_by a packet (clear_body m) (requester_hears p.requester at.asked false tag (clear_body m) d))).after in record {
           waits = next_waits (next at.asked) world later (shown.sent_by (requester_hears p.requester at.asked false tag (clear_body m) d)) (next_short at.asked) o.sends idle refl;
           pair = record {
-            given = packet_to p.requester.eid p.responder.eid false tag m ∷ at.given;
+            given = packet ∷ at.given;
             commands = at.commands;
             asked = shown.after at.asked (requester_hears p.requester at.asked false tag (clear_body m) d);
             served = at.served;
@@ -271,7 +282,7 @@ module _ (p : Pair) (ends : AreEnds p) where
         (sym (to_requester world a tag m at.own at.found
         ∙ ap (λ (n : ℕ). given_to_requester world n (requester_given a (packet_to p.requester.eid p.responder.eid false tag m))) at.number_is
         ∙ ap (given_to_requester world p.number) heard))
-        (heard_at world idle at)
+        (heard_at (packet_to p.requester.eid p.responder.eid false tag m) world idle at)
 
     -- The waiting answer is given.
     pub answer_given : (world : World) (w : AnswerWaits tag m world) (at : At p (k + 1) l Asked Served world) → AtNext at.asked (delivers world (suc w.place) (packet_of (suc w.place) world.sent))

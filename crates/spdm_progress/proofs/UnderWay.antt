@@ -17,7 +17,7 @@ use Rattle.responder_machine.specs.Responding.{Responding}
 use Rattle.spdm_progress.proofs.Between.{Goes, GoesOn, Ends, IsGiven, pumps_done}
 use Rattle.spdm_progress.proofs.ClearKept.{KeepsClear, at_moved}
 use Rattle.spdm_progress.proofs.ResponderBegins.{awaits_on, stands_on}
-use Rattle.spdm_progress.proofs.PacketSteps.{Pair, AreEnds, At, RequestWaits, AnswerWaits, request_given, answer_given}
+use Rattle.spdm_progress.proofs.PacketSteps.{Pair, AreEnds, At, RequestWaits, AnswerWaits, answer_waits, request_given, answer_given}
 use Rattle.spdm_progress.proofs.RequesterStages.{Asks, IsOver, version_heard, capabilities_heard, algorithms_heard}
 use Rattle.spdm_progress.proofs.ResponderStages.{AwaitsVersion, HasVersion, HasCapabilities, HasAlgorithms, get_version, version, get_capabilities, capabilities, negotiate_algorithms, algorithms, first_pair, two_pairs, three_pairs, version_answered, capabilities_answered, algorithms_answered}
 use Rattle.spdm_progress.proofs.SetUps.{CanTalk, common_for, takes_answer, algorithms_size}
@@ -83,9 +83,9 @@ module _ (p : Pair) (ends : AreEnds p) (offer : OfferMessage) (choice : Choice) 
 
   version_given : (world : World) (tag : ℕ) (x : Requested 3 3 tag get_version (AsksVersion tag) AwaitsVersion world) → Replied 3 2 tag version (AsksVersion tag) HasVersion (delivers world (suc x.waits.place) (packet_of (suc x.waits.place) world.sent)).after
   version_given world tag x =
-      let s = request_given p ends 3 2 (AsksVersion tag) AwaitsVersion HasVersion tag get_version version x.small (omega arith) (omega arith)
+      let s = request_given p ends 3 2 (AsksVersion tag) AwaitsVersion HasVersion tag get_version version x.small (omega arith)
       (λ h d awaits. version_answered p.responder h tag d can.responder_room awaits) world x.waits x.pair in
-      record { small = x.small; waits = s.waits; pair = s.pair }
+      record { small = x.small; waits = answer_waits p ends tag version s.before _ (omega arith) s.idle s.sends; pair = s.pair }
 
   version_taken : (world : World) (tag : ℕ) (x : Replied 3 2 tag version (AsksVersion tag) HasVersion world)
       → (next : ℕ) × Requested 2 2 next (get_capabilities p.requester) (AsksCapabilities next) HasVersion (delivers world (suc x.waits.place) (packet_of (suc x.waits.place) world.sent)).after
@@ -97,9 +97,9 @@ module _ (p : Pair) (ends : AreEnds p) (offer : OfferMessage) (choice : Choice) 
   capabilities_given : (world : World) (tag : ℕ) (x : Requested 2 2 tag (get_capabilities p.requester) (AsksCapabilities tag) HasVersion world)
       → Replied 2 1 tag (capabilities p.responder) (AsksCapabilities tag) Capable (delivers world (suc x.waits.place) (packet_of (suc x.waits.place) world.sent)).after
   capabilities_given world tag x =
-      let s = request_given p ends 2 1 (AsksCapabilities tag) HasVersion Capable tag (get_capabilities p.requester) (capabilities p.responder) x.small (omega arith) (omega arith)
+      let s = request_given p ends 2 1 (AsksCapabilities tag) HasVersion Capable tag (get_capabilities p.requester) (capabilities p.responder) x.small (omega arith)
       (λ h d has. capabilities_answered p.requester p.responder h tag d (common_for p.requester p.responder) can.responder_room can.own_caps can.together has) world x.waits x.pair in
-      record { small = x.small; waits = s.waits; pair = s.pair }
+      record { small = x.small; waits = answer_waits p ends tag (capabilities p.responder) s.before _ (omega arith) s.idle s.sends; pair = s.pair }
 
   capabilities_taken : (world : World) (tag : ℕ) (x : Replied 2 1 tag (capabilities p.responder) (AsksCapabilities tag) Capable world)
       → (next : ℕ) × Requested 1 1 next (negotiate_algorithms offer) (AsksAlgorithms next) Capable (delivers world (suc x.waits.place) (packet_of (suc x.waits.place) world.sent)).after
@@ -111,9 +111,9 @@ module _ (p : Pair) (ends : AreEnds p) (offer : OfferMessage) (choice : Choice) 
   algorithms_given : (world : World) (tag : ℕ) (x : Requested 1 1 tag (negotiate_algorithms offer) (AsksAlgorithms tag) Capable world)
       → Replied 1 0 tag (algorithms p.responder offer) (AsksAlgorithms tag) Agreed (delivers world (suc x.waits.place) (packet_of (suc x.waits.place) world.sent)).after
   algorithms_given world tag x =
-      let s = request_given p ends 1 0 (AsksAlgorithms tag) Capable Agreed tag (negotiate_algorithms offer) (algorithms p.responder offer) x.small neg_short alg_short
+      let s = request_given p ends 1 0 (AsksAlgorithms tag) Capable Agreed tag (negotiate_algorithms offer) (algorithms p.responder offer) x.small neg_short
       (λ h d has. algorithms_answered p.requester p.responder h tag d offer choice neg_long can.request_fits can.own.fits can.own.sound can.chosen (takes_answer p.requester p.responder offer choice h can has) has) world x.waits x.pair in
-      record { small = x.small; waits = s.waits; pair = s.pair }
+      record { small = x.small; waits = answer_waits p ends tag (algorithms p.responder offer) s.before _ alg_short s.idle s.sends; pair = s.pair }
 
   algorithms_taken : (world : World) (tag : ℕ) (x : Replied 1 0 tag (algorithms p.responder offer) (AsksAlgorithms tag) Agreed world)
       → IsDone (delivers world (suc x.waits.place) (packet_of (suc x.waits.place) world.sent)).after × IsIn (delivers world (suc x.waits.place) (packet_of (suc x.waits.place) world.sent)).lines done_line
