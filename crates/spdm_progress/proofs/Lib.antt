@@ -12,5 +12,6 @@ pub mod PacketSteps
 pub mod SetUps
 pub mod ClearKept
 pub mod Between
+pub mod ManyPackets
 pub mod UnderWay
 pub mod Connected

@@ -77,7 +77,7 @@ pub record At (p : Pair) (more_asked more_served : ℕ) (Asked : asked.History �
 
 -- ---- A packet to the responder.
 
-not_worn : (n limit : ℕ) → n < limit → nat_le limit n ≡ false
+pub not_worn : (n limit : ℕ) → n < limit → nat_le limit n ≡ false
 not_worn n limit h = grind (arith, nat_tests)
 
 -- The responder's answer to a packet of a clear request.
@@ -197,7 +197,7 @@ module _ (p : Pair) (ends : AreEnds p) where
   -- ---- A packet to the requester.
 
   -- The packet of an answer goes to the requester.
-  to_requester : (world : World) (a : Requesting) (tag : ℕ) (m : List ℕ) → world.responder.part.eid ≡ p.responder.eid → find (is_at p.requester.eid) world.requesters ≡ Some a
+  pub to_requester : (world : World) (a : Requesting) (tag : ℕ) (m : List ℕ) → world.responder.part.eid ≡ p.responder.eid → find (is_at p.requester.eid) world.requesters ≡ Some a
       → given world (packet_to p.requester.eid p.responder.eid false tag m) ≡ given_to_requester world (number_at a.setup.eid world) (requester_given a (packet_to p.requester.eid p.responder.eid false tag m))
   to_requester world a tag m own found =
       either_last _ (p.requester.eid == world.responder.part.eid) _ _ _ (four_bytes p.requester.eid p.responder.eid false tag m) (ne_eqb p.requester.eid world.responder.part.eid (λ e. ends.apart (e ∙ own)))
