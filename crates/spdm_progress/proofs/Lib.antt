@@ -13,5 +13,6 @@ pub mod SetUps
 pub mod ClearKept
 pub mod Between
 pub mod ManyPackets
+pub mod ComingSteps
 pub mod UnderWay
 pub mod Connected

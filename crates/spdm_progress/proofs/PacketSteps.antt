@@ -236,7 +236,7 @@ module _ (p : Pair) (ends : AreEnds p) where
       ∙ ap (with_sent world.sent) (one_packet p.requester.responder p.requester.eid true x.0 p.requester.unit x.1 (omega arith) ∙ ap (λ (to : ℕ). packet_to to p.requester.eid true x.0 x.1 ∷ []) ends.to)))
       (one_waits world.sent (packet_to p.responder.eid p.requester.eid true x.0 x.1) idle)
 
-  module _ (k l : ℕ) (Asked : asked.History → Type 0) (Then : asked.History → asked.History → Type 0) (Served : served.History → Type 0) (tag : ℕ) (m : List ℕ) (told : Event) (next : asked.History → Option (ℕ × List ℕ × RequestMessage)) (small : tag < 8) (short : length m < 64)
+  module _ (k l : ℕ) (Asked : asked.History → Type 0) (Then : asked.History → asked.History → Type 0) (Served : served.History → Type 0) (tag : ℕ) (m : List ℕ) (told : Event) (next : asked.History → Option (ℕ × List ℕ × RequestMessage)) (small : tag < 8)
       (next_short : (h : asked.History) → IsShort (next h)) (hears_it : (h : asked.History) (d : Draw) → Asked h → Hears p.requester h tag m d told (next_of (next h)) (Then h)) where
     -- The pair, what waits behind it, and the line that was written.
     pub record AtNext (before : asked.History) (s : WorldStep) : Type 0 where
@@ -273,8 +273,8 @@ module _ (p : Pair) (ends : AreEnds p) where
           writes = inl (ap (λ (e : Option Event). Line.ToRequester p.number (unwrap_or e event.More)) (sym o.event));
         }
 
-    given_heard : (world : World) → first_waiting world.sent ≡ None → (at : At p (k + 1) l Asked Served world) → AtNext at.asked (given world (packet_to p.requester.eid p.responder.eid false tag m))
-    given_heard world idle at =
+    given_heard : length m < 64 → (world : World) → first_waiting world.sent ≡ None → (at : At p (k + 1) l Asked Served world) → AtNext at.asked (given world (packet_to p.requester.eid p.responder.eid false tag m))
+    given_heard short world idle at =
         let a = asker p at.given at.commands at.asked in
         let life = at.life in
         let heard = given_as a tag m refl (not_worn (length at.given + at.commands) wear_limit (omega arith)) small (omega arith) in
@@ -285,10 +285,10 @@ module _ (p : Pair) (ends : AreEnds p) where
         (heard_at (packet_to p.requester.eid p.responder.eid false tag m) world idle at)
 
     -- The waiting answer is given.
-    pub answer_given : (world : World) (w : AnswerWaits tag m world) (at : At p (k + 1) l Asked Served world) → AtNext at.asked (delivers world (suc w.place) (packet_of (suc w.place) world.sent))
-    answer_given world w at =
+    pub answer_given : length m < 64 → (world : World) (w : AnswerWaits tag m world) (at : At p (k + 1) l Asked Served world) → AtNext at.asked (delivers world (suc w.place) (packet_of (suc w.place) world.sent))
+    answer_given short world w at =
         subst (λ (o : Option (List ℕ)). AtNext at.asked (delivers world (suc w.place) o)) (sym w.is)
-        (given_heard (without_waiting (suc w.place) world) w.none_after
+        (given_heard short (without_waiting (suc w.place) world) w.none_after
         (record {
           given = at.given;
           commands = at.commands;

@@ -90,8 +90,8 @@ module _ (p : Pair) (ends : AreEnds p) (offer : OfferMessage) (choice : Choice) 
   version_taken : (world : World) (tag : ℕ) (x : Replied 3 2 tag version (AsksVersion tag) HasVersion world)
       → (next : ℕ) × Requested 2 2 next (get_capabilities p.requester) (AsksCapabilities next) HasVersion (delivers world (suc x.waits.place) (packet_of (suc x.waits.place) world.sent)).after
   version_taken world tag x =
-      let s = answer_given p ends 2 2 (AsksVersion tag) (λ h. AsksCapabilities (asked.next_tag h)) HasVersion tag version event.Progress (λ h. Some (asked.next_tag h, get_capabilities p.requester, GetCapabilities (requester_caps p.requester))) x.small (omega arith)
-      (λ h. omega arith) (λ h d asks. version_heard p.requester h tag d can.requester_room asks) world x.waits x.pair in
+      let s = answer_given p ends 2 2 (AsksVersion tag) (λ h. AsksCapabilities (asked.next_tag h)) HasVersion tag version event.Progress (λ h. Some (asked.next_tag h, get_capabilities p.requester, GetCapabilities (requester_caps p.requester))) x.small
+      (λ h. omega arith) (λ h d asks. version_heard p.requester h tag d can.requester_room asks) (omega arith) world x.waits x.pair in
       (asked.next_tag x.pair.asked, record { small = s.pair.asks.small; waits = s.waits; pair = s.pair })
 
   capabilities_given : (world : World) (tag : ℕ) (x : Requested 2 2 tag (get_capabilities p.requester) (AsksCapabilities tag) HasVersion world)
@@ -104,8 +104,8 @@ module _ (p : Pair) (ends : AreEnds p) (offer : OfferMessage) (choice : Choice) 
   capabilities_taken : (world : World) (tag : ℕ) (x : Replied 2 1 tag (capabilities p.responder) (AsksCapabilities tag) Capable world)
       → (next : ℕ) × Requested 1 1 next (negotiate_algorithms offer) (AsksAlgorithms next) Capable (delivers world (suc x.waits.place) (packet_of (suc x.waits.place) world.sent)).after
   capabilities_taken world tag x =
-      let s = answer_given p ends 1 1 (AsksCapabilities tag) (λ h. AsksAlgorithms (asked.next_tag h)) Capable tag (capabilities p.responder) event.Progress (λ h. Some (asked.next_tag h, negotiate_algorithms offer, NegotiateAlgorithms offer)) x.small (omega arith)
-      (λ h. neg_short) (λ h d asks. capabilities_heard p.requester p.responder h tag d offer (common_for p.requester p.responder) can.requester_room can.their_caps can.offers asks) world x.waits x.pair in
+      let s = answer_given p ends 1 1 (AsksCapabilities tag) (λ h. AsksAlgorithms (asked.next_tag h)) Capable tag (capabilities p.responder) event.Progress (λ h. Some (asked.next_tag h, negotiate_algorithms offer, NegotiateAlgorithms offer)) x.small
+      (λ h. neg_short) (λ h d asks. capabilities_heard p.requester p.responder h tag d offer (common_for p.requester p.responder) can.requester_room can.their_caps can.offers asks) (omega arith) world x.waits x.pair in
       (asked.next_tag x.pair.asked, record { small = s.pair.asks.small; waits = s.waits; pair = s.pair })
 
   algorithms_given : (world : World) (tag : ℕ) (x : Requested 1 1 tag (negotiate_algorithms offer) (AsksAlgorithms tag) Capable world)
@@ -118,8 +118,8 @@ module _ (p : Pair) (ends : AreEnds p) (offer : OfferMessage) (choice : Choice) 
   algorithms_taken : (world : World) (tag : ℕ) (x : Replied 1 0 tag (algorithms p.responder offer) (AsksAlgorithms tag) Agreed world)
       → IsDone (delivers world (suc x.waits.place) (packet_of (suc x.waits.place) world.sent)).after × IsIn (delivers world (suc x.waits.place) (packet_of (suc x.waits.place) world.sent)).lines done_line
   algorithms_taken world tag x =
-      let s = answer_given p ends 0 0 (AsksAlgorithms tag) (λ h. IsOver (three_pairs p.requester p.responder offer)) Agreed tag (algorithms p.responder offer) (event.Done finished.Connected) (λ h. None) x.small alg_short
-      (λ h. tt) (λ h d asks. algorithms_heard p.requester p.responder h tag d offer choice can.answer_fits can.chosen asks) world x.waits x.pair in
+      let s = answer_given p ends 0 0 (AsksAlgorithms tag) (λ h. IsOver (three_pairs p.requester p.responder offer)) Agreed tag (algorithms p.responder offer) (event.Done finished.Connected) (λ h. None) x.small
+      (λ h. tt) (λ h d asks. algorithms_heard p.requester p.responder h tag d offer choice can.answer_fits can.chosen asks) alg_short world x.waits x.pair in
       (record { idle = s.waits; pair = s.pair }, s.writes)
 
   pub one_given : (world : World) → IsUnderWay world → IsGiven IsUnderWay IsDone done_line world
