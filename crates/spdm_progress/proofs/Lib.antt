@@ -15,4 +15,5 @@ pub mod Between
 pub mod ManyPackets
 pub mod ComingSteps
 pub mod UnderWay
+pub mod MeasureStages
 pub mod Connected

@@ -52,7 +52,7 @@ use Rattle.spdm_progress.proofs.AtRequester.{asking, heard_plain, led_plain}
 use Rattle.spdm_progress.proofs.ResponderStages.{get_version, version, get_capabilities, capabilities, negotiate_algorithms, algorithms, first_pair, two_pairs, three_pairs}
 
 -- A canonical answer without a summary reads, whatever the hash.
-reads : (h : History) (v : ResponseMessage) (len : ℕ) → FitsResponse v → IsSoundResponse len false v → response_reading len false (canonical_response v) ≡ Ok v
+pub reads : (h : History) (v : ResponseMessage) (len : ℕ) → FitsResponse v → IsSoundResponse len false v → response_reading len false (canonical_response v) ≡ Ok v
 reads h v len fits sound = spelling_read (response_layout len false) 0 v (canonical_response v) (response_spelled len false v fits sound).is
 
 -- This request is outstanding, and so much was settled.
@@ -72,12 +72,12 @@ pub record Hears (q : ReqSetup) (h : History) (tag : ℕ) (m : List ℕ) (d : Dr
   pub sends : sent_by (requester_hears q h false tag (clear_body m) d) ≡ sent
   pub leaves : P (after h (requester_hears q h false tag (clear_body m) d))
 
-hears_as : (q : ReqSetup) (h : History) (tag : ℕ) (asked : RequestMessage) (m : List ℕ) (n : Negotiation) (answer : List ℕ) (d : Draw) (led : Led) → Asks q tag asked m n h → length answer ≤ q.transfer
+pub hears_as : (q : ReqSetup) (h : History) (tag : ℕ) (asked : RequestMessage) (m : List ℕ) (n : Negotiation) (answer : List ℕ) (d : Draw) (led : Led) → Asks q tag asked m n h → length answer ≤ q.transfer
     → clear_led q h (body_chosen q h d) (Plain asked) asked answer ≡ Ok led → requester_hears q h false tag (clear_body answer) d ≡ Adds (TookClear tag answer led d)
 hears_as q h tag asked m n answer d led asks fits is =
     heard_plain q h (body_chosen q h d) tag (Clear m) asked answer d asks.waits fits ∙ ap (clear_outcome tag answer d) is
 
-hears_by : (q : ReqSetup) (h : History) (tag : ℕ) (answer : List ℕ) (d : Draw) (led : Led) (P : History → Type 0) → requester_hears q h false tag (clear_body answer) d ≡ Adds (TookClear tag answer led d) → P (TookClear tag answer led d ∷ h)
+pub hears_by : (q : ReqSetup) (h : History) (tag : ℕ) (answer : List ℕ) (d : Draw) (led : Led) (P : History → Type 0) → requester_hears q h false tag (clear_body answer) d ≡ Adds (TookClear tag answer led d) → P (TookClear tag answer led d ∷ h)
     → Hears q h tag answer d led.event led.next P
 hears_by q h tag answer d led P is holds = record {
   event = ap event_of is;
@@ -85,7 +85,7 @@ hears_by q h tag answer d led P is holds = record {
   leaves = subst (λ (o : Outcome). P (after h o)) (sym is) holds;
 }
 
-next_small : (h : History) → next_tag h < 8
+pub next_small : (h : History) → next_tag h < 8
 next_small h = omega arith
 
 -- ---- VERSION.

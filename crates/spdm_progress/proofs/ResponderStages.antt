@@ -106,11 +106,11 @@ other_message h tag m n last differ =
     ∙ ap (λ (b : Bool). last.kept.tag == tag && b) differ
     ∙ and_false (last.kept.tag == tag)
 
-adds : (r : RspSetup) (h : History) (tag : ℕ) (m : List ℕ) (d : Draw) (t : Turn) → is_repeat (kept_of h) tag m ≡ false → turn_of r (clear_place h) m (clear_chosen r h d) ≡ t → clear_does r h tag m d ≡ Adds (Clear tag t d)
+pub adds : (r : RspSetup) (h : History) (tag : ℕ) (m : List ℕ) (d : Draw) (t : Turn) → is_repeat (kept_of h) tag m ≡ false → turn_of r (clear_place h) m (clear_chosen r h d) ≡ t → clear_does r h tag m d ≡ Adds (Clear tag t d)
 unfolding on_clear
 adds r h tag m d t new is = rw (new, is) refl
 
-answers_by : (r : RspSetup) (h : History) (tag : ℕ) (m : List ℕ) (d : Draw) (t : Turn) (P : History → Type 0) → clear_does r h tag m d ≡ Adds (Clear tag t d) → P (Clear tag t d ∷ h) → Answered r h tag m d t.reply P
+pub answers_by : (r : RspSetup) (h : History) (tag : ℕ) (m : List ℕ) (d : Draw) (t : Turn) (P : History → Type 0) → clear_does r h tag m d ≡ Adds (Clear tag t d) → P (Clear tag t d ∷ h) → Answered r h tag m d t.reply P
 answers_by r h tag m d t P is holds = record {
   body = ap body_of is;
   leaves = subst (λ (o : Outcome). P (after h o)) (sym is) holds;
@@ -135,13 +135,13 @@ zero_plus n = omega arith
 pub record Takes (p : Place) (n : ℕ) : Type 0 where
   pub both : sizes_are_known p.phase ≡ true → (n ≤ (place_terms p).common.to_requester.max) × (n ≤ (place_terms p).common.to_requester.transfer)
 
-not_too_long : (h : History) (answer : List ℕ) → Takes (clear_place h) (length answer) → is_answer_too_long (clear_place h) answer ≡ false
+pub not_too_long : (h : History) (answer : List ℕ) → Takes (clear_place h) (length answer) → is_answer_too_long (clear_place h) answer ≡ false
 not_too_long h answer k =
     let common = (place_terms (clear_place h)).common in
     ap (λ (n : ℕ). sizes_are_known (phase_of (clear_turns h)) && (nat_lt common.to_requester.max (length answer) || (not common.chunk && nat_lt common.to_requester.transfer n))) (zero_plus (length answer))
     ∙ both_short (sizes_are_known (phase_of (clear_turns h))) common.chunk common.to_requester.max common.to_requester.transfer (length answer) k.both
 
-not_large : (h : History) (answer : List ℕ) → Takes (clear_place h) (length answer) → goes_large (clear_place h) answer ≡ false
+pub not_large : (h : History) (answer : List ℕ) → Takes (clear_place h) (length answer) → goes_large (clear_place h) answer ≡ false
 not_large h answer k =
     let common = (place_terms (clear_place h)).common in
     ap (λ (n : ℕ). sizes_are_known (phase_of (clear_turns h)) && nat_lt common.to_requester.transfer n) (zero_plus (length answer))
