@@ -71,7 +71,7 @@ ticks_clear p r seconds = record {
 abbrev pub IsStable : (served.History → Type 0) → Type 0
 IsStable P = (old new : served.History) → SameClear old new → P old → P new
 
-pub at_moved : (p : Pair) (k l : ℕ) (Asked : asked.History → Type 0) (Served : served.History → Type 0) (world : World) (r : Responding) → KeepsClear p world.responder r → IsStable Served → At p k l Asked Served world → At p k l Asked Served (record world { responder = r })
+abbrev pub at_moved : (p : Pair) (k l : ℕ) (Asked : asked.History → Type 0) (Served : served.History → Type 0) (world : World) (r : Responding) → KeepsClear p world.responder r → IsStable Served → At p k l Asked Served world → At p k l Asked Served (record world { responder = r })
 at_moved p k l Asked Served world r keeps stable at =
     let x = keeps.connection at.served at.is_connection in record {
       given = at.given;

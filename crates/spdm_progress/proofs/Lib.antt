@@ -16,4 +16,5 @@ pub mod ManyPackets
 pub mod ComingSteps
 pub mod UnderWay
 pub mod MeasureStages
+pub mod MeasureUnderWay
 pub mod Connected
