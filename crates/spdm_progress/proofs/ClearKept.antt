@@ -1,26 +1,19 @@
 -- Queued data and time change nothing in the clear, so a pair of ends is as it was.
-use Rattle.std.proofs.Common.{◌≡◌, ◌∙◌, ℕ, ◌≤◌, ◌+◌, ◌==◌, List, [], ◌∷◌, length, map, Bool, true, false, cond, Option, Some, None, refl, sym, ap, subst, inl, inr}
+use Rattle.std.proofs.Common.{◌≡◌, ◌∙◌, ℕ, ◌≤◌, ◌+◌, ◌==◌, List, [], ◌∷◌, length, map, Bool, true, false, cond, Option, Some, None, refl, sym, ap, subst}
 use Rattle.std.specs.Prelude.{if◌then◌else◌}
-use Rattle.std.proofs.lemmas.Bool.{false≢true}
-use Rattle.spdm_grammar.specs.Message.{OfferMessage}
-use Rattle.spdm_grammar.specs.declared.choice.Choice.{Choice}
 use Rattle.spdm_grammar.specs.declared.heard.ReplyFault.{ReplyFault}
 use Rattle.spdm_machine.specs.Packets.{wear_limit}
 use Rattle.spdm_machine.proofs.Members.{none_some, some_same}
 use Rattle.requester_machine.specs.History as asked
-use Rattle.requester_machine.specs.Requesting.{Requesting}
 use Rattle.responder_machine.proofs.Connected.{KeepsSetup, changed_keeps}
 use Rattle.responder_machine.specs.History as served
 use Rattle.responder_machine.specs.History.Entry.{Queued, Ticked}
-use Rattle.responder_machine.specs.Responding.{Connection, Responding, connection_of, changed, changed_if, queues, reply_fault_of, ticks}
+use Rattle.responder_machine.specs.Responding.{Connection, Responding, connection_of, changed, changed_if, queues, ticks}
 use Rattle.responder_machine.specs.Setup.{RspSetup, RspPart}
-use Rattle.world_machine.specs.Happenings.{Happening, Entry}
-use Rattle.world_machine.specs.Happenings.Happening.{Told, Reply, Deliver, Lose, Inject, Pump, Tick, Show}
-use Rattle.world_machine.specs.Trace.{world_from, lines_from}
-use Rattle.world_machine.specs.World.{World, WorldStep, requester_of, replied, happens, entry_step}
-use Rattle.spdm_progress.proofs.PacketSteps.{Pair, AreEnds, At, server}
+use Rattle.world_machine.specs.World.{World}
+use Rattle.spdm_progress.proofs.PacketSteps.{Pair, At, server}
 use Rattle.spdm_progress.proofs.Places.{of_same}
-use Rattle.spdm_progress.proofs.ResponderBegins.{SameClear, stands_on, queued_same, ticked_same}
+use Rattle.spdm_progress.proofs.ResponderBegins.{SameClear, queued_same, ticked_same}
 
 -- ---- A responder that changes nothing in the clear.
 
@@ -88,4 +81,3 @@ at_moved p k l Asked Served world r keeps stable at =
       life = at.life;
       responder_life = subst (λ (given : List (List ℕ)). length given + l ≤ wear_limit) (sym keeps.given) at.responder_life;
     }
-

@@ -1,5 +1,5 @@
 -- The packets of a clear answer of any length are given to the requester, one after the other.
-use Rattle.std.proofs.Common.{◌≡◌, ◌≢◌, ◌∙◌, ℕ, zero, suc, ◌<◌, ◌≤◌, ◌+◌, ◌==◌, List, [], ◌∷◌, ◌++◌, length, drop, find, Bool, true, false, nat_lt, Option, Some, None, Result, Ok, refl, sym, ap, subst, arith}
+use Rattle.std.proofs.Common.{◌≡◌, ◌≢◌, ◌∙◌, ℕ, suc, ◌<◌, ◌+◌, ◌==◌, List, ◌∷◌, length, drop, find, Bool, false, Option, Some, Result, Ok, refl, sym, ap, subst, arith}
 use Rattle.std.specs.Prelude.{if◌then◌else◌}
 use Rattle.std.proofs.lemmas.Bool.{ne_eqb}
 use Rattle.mctp_framing.proofs.Packets.{packets_from, no_packets_from}
@@ -13,12 +13,11 @@ use Rattle.spdm_grammar.specs.declared.event.Event.TheVariants as event
 use Rattle.spdm_machine.specs.Bodies.{clear_body}
 use Rattle.spdm_machine.specs.Keys.{Draw}
 use Rattle.spdm_machine.specs.Packets.{gathered_from, wear_limit}
-use Rattle.requester_machine.specs.Does.{requester_hears}
 use Rattle.requester_machine.specs.History as asked
 use Rattle.requester_machine.specs.Requesting as asking
 use Rattle.requester_machine.specs.Requesting.{Requesting, PacketStep, requester_given, hears_packet, hears_gathered, heard_by, ignores, worn_step}
 use Rattle.responder_machine.specs.History as served
-use Rattle.world_machine.specs.World.{World, WorldStep, SentPacket, first_waiting, packet_of, stopped_at, with_sent, is_at, number_at, given, given_to, given_to_requester, without_waiting, delivers}
+use Rattle.world_machine.specs.World.{World, WorldStep, packet_of, is_at, number_at, given, given_to, given_to_requester, without_waiting, delivers}
 use Rattle.spdm_progress.proofs.ManyPackets.{Came, FirstWaits, first_waits, waits_idle, waiting_in, one_came, last_gathers, more_gathers, nth, nth_read, number}
 use Rattle.spdm_progress.proofs.OnePacket.{not_longer, route_to}
 use Rattle.spdm_progress.proofs.PacketSteps.{Pair, AreEnds, At, AtNext, IsShort, asker, answer_packets, heard_at, next_of, not_worn}

@@ -7,7 +7,7 @@ use Rattle.spdm_grammar.specs.Lines.{Line}
 use Rattle.spdm_grammar.specs.Message.RequestMessage.{GetVersion}
 use Rattle.spdm_machine.specs.Packets.{packets_to, wear_limit}
 use Rattle.spdm_machine.specs.Terms.{terms_of}
-use Rattle.spdm_machine.proofs.Members.{IsIn, in_map, all_in, found_in, none_some}
+use Rattle.spdm_machine.proofs.Members.{IsIn, in_map, all_in, found_in}
 use Rattle.requester_machine.specs.Asking.Outcome.{Adds}
 use Rattle.requester_machine.specs.History as asked
 use Rattle.requester_machine.specs.History.Entry.{Told as WasTold}

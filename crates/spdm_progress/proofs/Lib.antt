@@ -17,4 +17,6 @@ pub mod ComingSteps
 pub mod UnderWay
 pub mod MeasureStages
 pub mod MeasureUnderWay
+pub mod Told
+pub mod Measured
 pub mod Connected

@@ -1,19 +1,18 @@
 -- A long clear answer comes packet by packet: each but the last leads to nothing but that more is awaited, and the last
 -- one completes it.
-use Rattle.std.proofs.Common.{◌≡◌, ◌≢◌, ◌∙◌, ℕ, zero, suc, ◌<◌, ◌≤◌, ◌+◌, ◌%◌, ◌==◌, List, [], ◌∷◌, ◌++◌, length, map, drop, find, Bool, true, false, cond, nat_lt, nat_eq, Option, Some, None, Result, Ok, slice_index, refl, sym, ap, subst, inl, inr, arith, eq-eqb, append_assoc}
+use Rattle.std.proofs.Common.{◌≡◌, ◌∙◌, ℕ, suc, ◌<◌, ◌+◌, List, [], ◌∷◌, ◌++◌, length, Bool, true, false, nat_eq, Option, Some, None, Result, Ok, refl, ap, arith, eq-eqb}
 use Rattle.std.specs.Prelude.{if◌then◌else◌}
 use Rattle.std.proofs.lemmas.Bool.{ne_eqb}
 use Rattle.mctp_framing.proofs.CutAndGathered.{gathered-nth}
-use Rattle.mctp_framing.proofs.Packets.{packets_from, no_packets_from}
 use Rattle.mctp_framing.proofs.Spelled.{parsed-spelled_packet}
 use Rattle.mctp_framing.specs.CutAndGather.{IsGatherable}
-use Rattle.mctp_framing.specs.Cutting.{RouteFields, nth_packet, packet_count, packets_before, packets_of}
-use Rattle.mctp_framing.specs.Gathering.{Gathered, Receiver, gathered}
+use Rattle.mctp_framing.specs.Cutting.{RouteFields, nth_packet, packet_count, packets_before}
+use Rattle.mctp_framing.specs.Gathering.{gathered}
 use Rattle.mctp_framing.specs.Gathering.Gathered.{Whole, More}
 use Rattle.mctp_framing.specs.Packet.{PacketFields, spelled_packet, parsed}
 use Rattle.spdm_basis.specs.declared.PacketFault.{PacketFault}
 use Rattle.spdm_machine.specs.Bodies.{clear_body}
-use Rattle.spdm_machine.specs.Packets.{gathered_from, packets_to, fields_in, fields_with, body_limit, wear_limit}
+use Rattle.spdm_machine.specs.Packets.{gathered_from, fields_in, fields_with, body_limit}
 use Rattle.world_machine.specs.World.{SentPacket, first_waiting, next_number, packet_at, stopped_at, with_sent}
 use Rattle.spdm_progress.proofs.OnePacket.{route_to}
 

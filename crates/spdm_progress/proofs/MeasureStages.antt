@@ -1,23 +1,23 @@
 -- What the two ends make of the two messages of a clear measure.
-use Rattle.std.proofs.Common.{◌≡◌, ◌∙◌, ℕ, ◌<◌, ◌≤◌, ◌+◌, ◌^◌, ◌==◌, ◌&&◌, ◌||◌, not, List, [], ◌∷◌, ◌++◌, length, Bool, true, false, nat_lt, Option, Some, None, Result, Ok, refl, sym, ap, subst, arith, length-append}
+use Rattle.std.proofs.Common.{◌≡◌, ◌∙◌, ℕ, ◌<◌, ◌≤◌, ◌+◌, ◌==◌, List, [], ◌∷◌, ◌++◌, length, Bool, true, false, Option, Some, None, Result, Ok, refl, sym, ap, subst, arith, length-append}
 use Rattle.std.specs.Prelude.{if◌then◌else◌}
 use Rattle.measurements.proofs.Lengths.{few}
-use Rattle.measurements.specs.Blocks.{record_of, block_of, at_most_one}
+use Rattle.measurements.specs.Blocks.{block_of, at_most_one}
 use Rattle.measurements.specs.Records.{asked as blocks_asked, is_missing}
 use Rattle.spdm_grammar.specs.declared.block_spec.BlockSpec.{BlockSpec}
-use Rattle.spdm_grammar.specs.Message.{MeasuredMessage, RequestMessage, ResponseMessage}
+use Rattle.spdm_grammar.specs.Message.{MeasuredMessage, ResponseMessage}
 use Rattle.spdm_grammar.specs.Message.RequestMessage.{GetMeasurements}
 use Rattle.spdm_grammar.specs.Message.ResponseMessage.{Measurements}
 use Rattle.spdm_grammar.specs.Requests.{canonical_request}
-use Rattle.spdm_grammar.specs.Responses.{canonical_response, FitsResponse, IsSoundResponse, response_layout}
+use Rattle.spdm_grammar.specs.Responses.{canonical_response, FitsResponse, IsSoundResponse}
 use Rattle.spdm_grammar.specs.declared.event.Event.TheVariants as event
 use Rattle.spdm_grammar.specs.declared.event.Finished.TheVariants as finished
 use Rattle.spdm_grammar.specs.declared.phase.Phase.{Phase}
 use Rattle.spdm_grammar.specs.declared.phase.Phase.TheVariants.{Negotiated}
 use Rattle.spdm_grammar.specs.declared.names.request_code.TheConstants.{GET_MEASUREMENTS}
 use Rattle.spdm_machine.specs.Keys.{Draw}
-use Rattle.spdm_machine.specs.Terms.{Terms, hash_len, terms_of, response_value}
-use Rattle.requester_machine.specs.Answers.{is_done, measured_led}
+use Rattle.spdm_machine.specs.Terms.{Terms, hash_len, terms_of}
+use Rattle.requester_machine.specs.Answers.{is_done}
 use Rattle.requester_machine.specs.Does.{body_chosen}
 use Rattle.requester_machine.specs.History as asked
 use Rattle.requester_machine.specs.History.{Led, outstanding, negotiation_of}

@@ -1,11 +1,10 @@
 -- A clear measure under way: its request waits, or so many packets of its answer were given.
-use Rattle.std.proofs.Common.{◌≡◌, ◌⊎◌, ◌∙◌, ℕ, zero, suc, ◌<◌, ◌≤◌, ◌+◌, ◌*◌, List, [], ◌∷◌, ◌++◌, length, drop, Bool, true, false, nat_le, Option, Some, None, refl, sym, ap, subst, inl, inr, arith}
+use Rattle.std.proofs.Common.{◌≡◌, ◌⊎◌, ◌∙◌, ℕ, zero, suc, ◌<◌, ◌≤◌, ◌+◌, ◌*◌, List, ◌++◌, length, Bool, true, false, nat_le, None, refl, ap, inl, inr, arith}
 use Rattle.std.proofs.lemmas.Bool.{leb-false, leb-true}
 use Rattle.std.proofs.lemmas.Grind.{div_ceil_times}
 use Rattle.std.proofs.lemmas.Nat.{mul-le}
 use Rattle.mctp_framing.specs.Cutting.{packet_count}
 use Rattle.spdm_grammar.specs.Lines.{Line}
-use Rattle.spdm_grammar.specs.Message.{RequestMessage}
 use Rattle.spdm_grammar.specs.Message.RequestMessage.{GetMeasurements}
 use Rattle.spdm_grammar.specs.declared.event.Event.{Event}
 use Rattle.spdm_grammar.specs.declared.event.Event.TheVariants as event
@@ -16,9 +15,9 @@ use Rattle.requester_machine.specs.History as asked
 use Rattle.responder_machine.specs.History as served
 use Rattle.responder_machine.specs.Responding.{Responding}
 use Rattle.transcript.specs.Transcripts.{Negotiation}
-use Rattle.world_machine.specs.World.{World, WorldStep, first_waiting, with_sent}
+use Rattle.world_machine.specs.World.{World, first_waiting}
 use Rattle.spdm_progress.specs.Measuring.{number_for}
-use Rattle.spdm_progress.proofs.Between.{Goes, GoesOn, Ends, IsGiven}
+use Rattle.spdm_progress.proofs.Between.{GoesOn, Ends, IsGiven}
 use Rattle.spdm_progress.proofs.ClearKept.{KeepsClear, at_moved}
 use Rattle.spdm_progress.proofs.ComingSteps.{Coming, first_coming, last_comes, more_comes}
 use Rattle.spdm_progress.proofs.ManyPackets.{idle_waits, none_came, sent_waits, waiting_in}

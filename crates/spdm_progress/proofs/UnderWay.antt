@@ -1,6 +1,6 @@
 -- A connect under way: which of its six packets waits, and what both ends hold; and what pumps, queued data and time do
 -- to it.
-use Rattle.std.proofs.Common.{◌≡◌, ◌⊎◌, ◌∙◌, ℕ, zero, suc, ◌<◌, ◌≤◌, List, [], ◌∷◌, ◌++◌, length, Option, Some, None, refl, sym, ap, subst, inl, inr, arith}
+use Rattle.std.proofs.Common.{◌≡◌, ◌⊎◌, ℕ, suc, ◌<◌, ◌≤◌, List, length, Option, Some, None, sym, subst, inl, inr, arith}
 use Rattle.spdm_grammar.specs.Lines.{Line}
 use Rattle.spdm_grammar.specs.Message.{OfferMessage}
 use Rattle.spdm_grammar.specs.Message.RequestMessage.{GetVersion, GetCapabilities, NegotiateAlgorithms}
@@ -8,11 +8,11 @@ use Rattle.spdm_grammar.specs.declared.choice.Choice.{Choice}
 use Rattle.spdm_grammar.specs.declared.event.Event.TheVariants as event
 use Rattle.spdm_grammar.specs.declared.event.Finished.TheVariants as finished
 use Rattle.spdm_machine.specs.Terms.{no_negotiation}
-use Rattle.spdm_machine.proofs.Members.{IsIn, some_same}
+use Rattle.spdm_machine.proofs.Members.{IsIn}
 use Rattle.requester_machine.specs.History as asked
 use Rattle.requester_machine.specs.Setup.{requester_caps}
 use Rattle.responder_machine.specs.History as served
-use Rattle.world_machine.specs.World.{World, WorldStep, first_waiting, packet_of, delivers, turn, pumps, rests, behind}
+use Rattle.world_machine.specs.World.{World, WorldStep, first_waiting, packet_of, delivers, turn, pumps}
 use Rattle.responder_machine.specs.Responding.{Responding}
 use Rattle.spdm_progress.proofs.Between.{Goes, GoesOn, Ends, IsGiven, pumps_done}
 use Rattle.spdm_progress.proofs.ClearKept.{KeepsClear, at_moved}

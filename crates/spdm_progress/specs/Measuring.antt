@@ -1,5 +1,5 @@
 -- What a clear measure comes to where its messages are delivered honestly. This project's own.
-use Rattle.std.specs.Prelude.{◌≡◌, ◌<◌, ◌≤◌, ◌+◌, ◌==◌, ℕ, List, [], ◌∷◌, length, if◌then◌else◌, Bool, true, false, Some, None, Contains}
+use Rattle.std.specs.Prelude.{◌≡◌, ◌<◌, ◌≤◌, ◌+◌, ◌==◌, ℕ, List, length, if◌then◌else◌, true, false, Some, None, Contains}
 use Rattle.measurements.specs.Blocks.{record_of}
 use Rattle.measurements.specs.Records.{asked as blocks_asked, is_missing}
 use Rattle.requester_machine.specs.History as asked
@@ -18,7 +18,6 @@ use Rattle.spdm_grammar.specs.declared.event.Event.TheVariants as event
 use Rattle.spdm_grammar.specs.declared.event.Finished.TheVariants as finished
 use Rattle.spdm_grammar.specs.declared.phase.Phase.TheVariants.{Negotiated}
 use Rattle.spdm_machine.specs.Packets.{wear_limit}
-use Rattle.spdm_machine.specs.Terms.{Terms}
 use Rattle.world_machine.specs.Chance.{NoChance}
 use Rattle.world_machine.specs.Happenings.{Entry}
 use Rattle.world_machine.specs.Happenings.Happening.{Told}

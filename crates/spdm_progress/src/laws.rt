@@ -1,6 +1,7 @@
 //! What honest delivery completes, each law as the contract of a function that does nothing.
 
 ghost use Rattle.spdm_progress.specs.Connecting.{ConnectCompletes, EachIsConnected, SixPacketsAreEnough};
+ghost use Rattle.spdm_progress.specs.Measuring.{MeasureCompletes};
 
 /// A connect that is told where no packet waits is done once no packet waits again, whatever an
 /// honest script says in between: the requester is told so, and both ends hold one negotiation. It
@@ -17,4 +18,12 @@ pub fn six_packets_are_enough()
 /// The responder has a connection with each requester of a world.
 pub fn each_is_connected()
     ensures { EachIsConnected }
+{}
+
+/// A measure in the clear, told where no packet waits, is done once no packet waits again, whatever
+/// an honest script says in between: the requester is told how many measurements there are, and the
+/// record that it took is the one that the responder is set up with. It speaks of answers that need
+/// no chunks, and not of a request that the responder answers from memory.
+pub fn measure_completes()
+    ensures { MeasureCompletes }
 {}

@@ -4,4 +4,4 @@
 
 mod laws;
 
-pub use laws::{connect_completes, each_is_connected, six_packets_are_enough};
+pub use laws::{connect_completes, each_is_connected, measure_completes, six_packets_are_enough};
