@@ -1,13 +1,10 @@
 -- A connect that is told where no packet waits is under way, so honest delivery completes it.
-use Rattle.std.proofs.Common.{◌≡◌, ◌≢◌, ◌∙◌, ◌==◌, ℕ, suc, ◌≤◌, ◌<◌, ◌+◌, ◌-◌, ◌⊎◌, cond, eq-eqb, List, [], ◌∷◌, length, map, Bool, true, false, nat_le, Some, None, Contains, refl, sym, ap, subst, inl, inr, arith}
+use Rattle.std.proofs.Common.{◌≡◌, ◌∙◌, ◌==◌, ℕ, suc, ◌≤◌, ◌+◌, ◌-◌, ◌⊎◌, cond, eq-eqb, List, [], ◌∷◌, length, Bool, true, false, Some, None, refl, sym, ap, subst, inl, inr, arith}
 use Rattle.std.proofs.lemmas.Bool.{false≢true}
-use Rattle.std.proofs.lemmas.Bool.Decides.{nat_tests}
-use Rattle.std.proofs.lemmas.List.Elements.{Contains-append_left, Contains-append_right, Contains-push}
-use Rattle.spdm_grammar.specs.Lines.{Line}
 use Rattle.spdm_grammar.specs.Message.RequestMessage.{GetVersion}
 use Rattle.spdm_machine.specs.Packets.{packets_to, wear_limit}
 use Rattle.spdm_machine.specs.Terms.{terms_of}
-use Rattle.spdm_machine.proofs.Members.{IsIn, in_map, all_in, found_in}
+use Rattle.spdm_machine.proofs.Members.{IsIn}
 use Rattle.requester_machine.specs.Asking.Outcome.{Adds}
 use Rattle.requester_machine.specs.History as asked
 use Rattle.requester_machine.specs.History.Entry.{Told as WasTold}
@@ -15,57 +12,29 @@ use Rattle.requester_machine.specs.Message.Command.{Connect}
 use Rattle.requester_machine.specs.Requesting as asking
 use Rattle.requester_machine.specs.Requesting.{Requesting, CommandStep, requester_told, commanded_by}
 use Rattle.requester_machine.specs.Sending.{plain_sent}
-use Rattle.requester_machine.specs.Setup.{ReqSetup}
-use Rattle.responder_machine.proofs.Others.{found}
 use Rattle.responder_machine.specs.Responding.{Connection, connection_of}
 use Rattle.transcript.specs.Transcripts.{Negotiation}
-use Rattle.world_machine.specs.Chance.{NoChance}
 use Rattle.world_machine.specs.Happenings.{Entry}
 use Rattle.world_machine.specs.Happenings.Happening.{Told, Pump}
 use Rattle.world_machine.specs.Setup.{WorldSetup}
 use Rattle.world_machine.specs.Trace.{world_from, world_after, lines_from}
 use Rattle.world_machine.specs.World.{World, WorldStep, happens, told, told_by, requester_of, with_sent, first_waiting, pumps}
-use Rattle.spdm_agreement.proofs.Requester.AfterBody as bodies
-use Rattle.spdm_agreement.proofs.Requester.Whole as asks
-use Rattle.spdm_agreement.proofs.Responder.DataAnswered as serves
-use Rattle.spdm_agreement.proofs.Worlds.AllEvents.{after_good, requester_in}
-use Rattle.spdm_agreement.proofs.Worlds.Fits.{Fits}
-use Rattle.spdm_agreement.specs.Configured.{IsConfigured, IsRequester, IsResponder, AreApart, setups_of}
+use Rattle.spdm_agreement.proofs.Worlds.AllEvents.{requester_in}
 use Rattle.spdm_progress.specs.Connecting.{ConnectIsTold, IsConnected, ConnectCompletes, SixPacketsAreEnough, EachIsConnected, connecting}
 use Rattle.spdm_progress.specs.Honest.{NothingWaits, AreHonest, HaveNoCommand}
 use Rattle.spdm_progress.proofs.Between.{ended}
 use Rattle.spdm_progress.proofs.OnePacket.{packet_to, one_packet}
-use Rattle.spdm_progress.proofs.PacketSteps.{Pair, AreEnds, asker, server}
-use Rattle.spdm_progress.proofs.Placed.{IsPlaced, always_placed}
-use Rattle.spdm_progress.proofs.Places.{AllDiffer, found_new, first_is, number_is, number_new, of_new}
+use Rattle.spdm_progress.proofs.PacketSteps.{not_worn, Pair, asker, server}
+use Rattle.spdm_progress.proofs.Places.{found_new, number_new, of_new}
 use Rattle.spdm_progress.proofs.RequesterStages.{told_connect, asks_version}
 use Rattle.spdm_progress.proofs.ResponderBegins.{awaits_version}
 use Rattle.spdm_progress.proofs.ResponderStages.{get_version, AwaitsVersion}
 use Rattle.spdm_progress.proofs.SetUps.{CanTalk, can_talk}
+use Rattle.requester_machine.proofs.CapsRead.{common_stays}
+use Rattle.spdm_progress.proofs.ResponderStages.{two_pairs}
+use Rattle.spdm_progress.proofs.Told.{ArePlaced, are_placed, contained, fits_always, pair_of}
 use Rattle.spdm_progress.proofs.UnderWay as under_way
 use Rattle.spdm_progress.proofs.Waiting.{OneWaits, one_waits}
-
--- ---- What every world of a set-up has.
-
-fits_always : (w : WorldSetup) → IsConfigured w → (entries : List Entry) → NoChance (world_after w entries).log → Fits asks.IsKept serves.IsKept (world_after w entries)
-fits_always w c entries chance =
-    (after_good asks.IsKept serves.IsKept asks.starts asks.asks_well asks.hears_well bodies.steady serves.served_starts serves.does_well serves.waits w c entries).fits chance
-
-differ_all : (qs : List ReqSetup) → AreApart qs → AllDiffer (map (λ (q : ReqSetup). q.eid) qs)
-differ_all [] apart = tt
-differ_all (q ∷ others) apart = (
-  λ o m. (let x = in_map (λ (s : ReqSetup). s.eid) others o m in
-      λ e. (all_in (λ (other : ReqSetup). (q.eid ≢ other.eid) × (q.psk ≢ other.psk)) others apart.0 x.0 x.1).0 (e ∙ x.2)),
-  differ_all others apart.1,
-)
-
--- ---- The command.
-
-not_worn : (n limit : ℕ) → n < limit → nat_le limit n ≡ false
-not_worn n limit h = grind (arith, nat_tests)
-
-abbrev pair_of : ℕ → Requesting → Connection → Pair
-pair_of n a c = record { number = n; requester = a.setup; responder = c.setup; seed = a.seed; first = a.first }
 
 -- The requester's step.
 abbrev connect_step : Requesting → CommandStep
@@ -79,44 +48,14 @@ module _ (w : WorldSetup) (before : List Entry) (n : ℕ) (a : Requesting) (c : 
   abbrev world : World
   world = world_after w before
 
-  fits : Fits asks.IsKept serves.IsKept world
-  fits = fits_always w is_told.configured before is_told.no_chance
-
-  placed : IsPlaced (map (λ (q : ReqSetup). q.eid) (setups_of w.requesters)) w.responder.part.eid world.requesters world.responder
-  placed = always_placed w is_told.configured before
+  placed : ArePlaced world n a c
+  placed = are_placed w before n a c is_told.configured is_told.no_chance is_told.is_requester is_told.is_connection
 
   abbrev p : Pair
   p = pair_of n a c
 
-  a_in : IsIn world.requesters a
-  a_in = requester_in n world a is_told.is_requester
-
-  c_in : IsIn world.responder.connections c
-  c_in = (found_in (λ (d : Connection). d.setup.peer == a.setup.eid) world.responder.connections c is_told.is_connection).0
-
-  a_setup : IsRequester a.setup
-  a_setup = (fits.asks a a_in).setup
-
-  c_setup : IsResponder c.setup
-  c_setup = (fits.serves c c_in).setup
-
-  same_own : a.setup.responder ≡ c.setup.eid
-  same_own = placed.theirs a a_in ∙ sym (placed.ends c c_in)
-
-  ends : AreEnds p
-  ends = record {
-    peer = found a.setup.eid world.responder.connections c is_told.is_connection;
-    to = same_own;
-    apart = λ e. a_setup.other (e ∙ sym same_own);
-    requester_unit = a_setup.sizes.payload;
-    responder_unit = c_setup.sizes.payload;
-  }
-
   talks : CanTalk p.requester p.responder is_told.can.offer is_told.can.choice
-  talks = can_talk a.setup c.setup is_told.can.offer is_told.can.choice a_setup c_setup is_told.can.offered is_told.can.chosen is_told.can.request_fits is_told.can.answer_fits
-
-  differ : AllDiffer (map (λ (x : Requesting). x.setup.eid) world.requesters)
-  differ = subst AllDiffer (sym placed.eids_are) (differ_all (setups_of w.requesters) is_told.configured.apart)
+  talks = can_talk a.setup c.setup is_told.can.offer is_told.can.choice placed.requester placed.responder is_told.can.offered is_told.can.chosen is_told.can.request_fits is_told.can.answer_fits
 
   abbrev later : World
   later = (told_by world n (connect_step a)).after
@@ -126,12 +65,12 @@ module _ (w : WorldSetup) (before : List Entry) (n : ℕ) (a : Requesting) (c : 
 
   sent_one : packets_to a.setup.responder a.setup.eid true (asked.next_tag a.history) a.setup.unit (5 ∷ get_version) ≡ packet_to c.setup.eid a.setup.eid true (asked.next_tag a.history) get_version ∷ []
   sent_one =
-      let unit = a_setup.sizes.payload in
-      one_packet a.setup.responder a.setup.eid true (asked.next_tag a.history) a.setup.unit get_version (omega arith) ∙ ap (λ (to : ℕ). packet_to to a.setup.eid true (asked.next_tag a.history) get_version ∷ []) same_own
+      let unit = placed.requester.sizes.payload in
+      one_packet a.setup.responder a.setup.eid true (asked.next_tag a.history) a.setup.unit get_version (omega arith) ∙ ap (λ (to : ℕ). packet_to to a.setup.eid true (asked.next_tag a.history) get_version ∷ []) placed.to
 
   -- The first packet waits.
   abbrev Begins : World → Type 0
-  Begins world = under_way.Requested p ends is_told.can.offer is_told.can.choice talks 3 3 (asked.next_tag a.history) get_version (under_way.AsksVersion p ends is_told.can.offer is_told.can.choice talks (asked.next_tag a.history)) AwaitsVersion world
+  Begins world = under_way.Requested p placed.ends is_told.can.offer is_told.can.choice talks 3 3 (asked.next_tag a.history) get_version (under_way.AsksVersion p placed.ends is_told.can.offer is_told.can.choice talks (asked.next_tag a.history)) AwaitsVersion world
 
   begins : Begins later
   begins =
@@ -147,12 +86,12 @@ module _ (w : WorldSetup) (before : List Entry) (n : ℕ) (a : Requesting) (c : 
           asked = WasTold Connect (plain_sent a.history GetVersion) (asking.next_draw a) ∷ a.history;
           served = c.history;
           is_requester = of_new n new world later a refl is_told.is_requester refl;
-          found = found_new new world.requesters a (first_is n world a is_told.is_requester differ);
-          number_is = number_new 1 a.setup.eid new world.requesters ∙ number_is n world a is_told.is_requester differ;
+          found = found_new new world.requesters a placed.found;
+          number_is = number_new 1 a.setup.eid new world.requesters ∙ placed.number_is;
           is_connection = is_told.is_connection;
-          own = placed.own_is ∙ sym (placed.ends c c_in);
+          own = placed.own;
           asks = asks_it;
-          serves = awaits_version c.setup c.history c_setup (fits.serves c c_in).made;
+          serves = awaits_version c.setup c.history placed.responder placed.made;
           life = omega arith;
           responder_life = responder_life;
         };
@@ -166,38 +105,34 @@ module _ (w : WorldSetup) (before : List Entry) (n : ℕ) (a : Requesting) (c : 
 
   -- ---- The end.
 
-  contained : (lines : List Line) (x : Line) → IsIn lines x → Contains lines x
-  contained [] x m = absurd m
-  contained (y ∷ others) x m = elim m [
-    | inl e ↦ subst (Contains (y ∷ others)) (sym e) (Contains-append_left (y ∷ []) others y (Contains-push [] y))
-    | inr k ↦ Contains-append_right (y ∷ []) others x (contained others x k)
-  ]
-
   abbrev IsUnderWay : World → Type 0
-  IsUnderWay later_world = under_way.IsUnderWay p ends is_told.can.offer is_told.can.choice talks later_world
+  IsUnderWay later_world = under_way.IsUnderWay p placed.ends is_told.can.offer is_told.can.choice talks later_world
 
   abbrev IsDone : World → Type 0
-  IsDone later_world = under_way.IsDone p ends is_told.can.offer is_told.can.choice talks later_world
+  IsDone later_world = under_way.IsDone p placed.ends is_told.can.offer is_told.can.choice talks later_world
 
-  result : (s : WorldStep) → IsDone s.after → IsIn s.lines (under_way.done_line p ends is_told.can.offer is_told.can.choice talks) → IsConnected n a.setup.eid is_told.can.choice s.after s.lines
+  result : (s : WorldStep) → IsDone s.after → IsIn s.lines (under_way.done_line p placed.ends is_told.can.offer is_told.can.choice talks) → IsConnected n a.setup c.setup is_told.can.choice s.after s.lines
   result s d m = record {
     told = contained s.lines _ m;
     requester = asker p d.pair.given d.pair.commands d.pair.asked;
     is_requester = d.pair.is_requester;
     connection = server p d.pair.served;
     is_connection = d.pair.is_connection;
+    requester_setup = refl;
+    responder_setup = refl;
     none = d.pair.asks.none;
     requester_phase = d.pair.asks.phase;
     responder_phase = d.pair.serves.phase_is;
     same = d.pair.asks.negotiation ∙ sym d.pair.serves.negotiation;
     chosen = ap (λ (x : Negotiation). (terms_of x).choice) d.pair.asks.negotiation ∙ talks.choice_is;
+    common = ap (λ (x : Negotiation). (terms_of x).common) d.pair.asks.negotiation ∙ common_stays (two_pairs a.setup c.setup) _ _ ∙ talks.common_is;
   }
 
   pub completes : (line : ℕ) (behind : List Entry) → HaveNoCommand behind → AreHonest (connecting world line n) behind → NothingWaits (world_from (connecting world line n) behind)
-      → IsConnected n a.setup.eid is_told.can.choice (world_from (connecting world line n) behind) (lines_from (connecting world line n) behind)
+      → IsConnected n a.setup c.setup is_told.can.choice (world_from (connecting world line n) behind) (lines_from (connecting world line n) behind)
   completes line behind none honest over =
-      let e = ended p IsUnderWay IsDone (under_way.done_line p ends is_told.can.offer is_told.can.choice talks) (under_way.one_given p ends is_told.can.offer is_told.can.choice talks)
-      (under_way.done_idle p ends is_told.can.offer is_told.can.choice talks) (under_way.under_way_kept p ends is_told.can.offer is_told.can.choice talks) (under_way.done_kept p ends is_told.can.offer is_told.can.choice talks)
+      let e = ended p IsUnderWay IsDone (under_way.done_line p placed.ends is_told.can.offer is_told.can.choice talks) (under_way.one_given p placed.ends is_told.can.offer is_told.can.choice talks)
+      (under_way.done_idle p placed.ends is_told.can.offer is_told.can.choice talks) (under_way.under_way_kept p placed.ends is_told.can.offer is_told.can.choice talks) (under_way.done_kept p placed.ends is_told.can.offer is_told.can.choice talks)
       (connecting world line n) behind none honest (inl (asked.next_tag a.history, begun line)) over in
       result (record { lines = lines_from (connecting world line n) behind; after = world_from (connecting world line n) behind }) e.done e.line_is
 
@@ -208,7 +143,7 @@ module _ (w : WorldSetup) (before : List Entry) (n : ℕ) (a : Requesting) (c : 
   unfolding happens
   six line count most =
       subst (λ (k : ℕ). first_waiting (pumps k (connecting world line n)).after.sent ≡ None) (six_on count most)
-      (under_way.six_pumped p ends is_told.can.offer is_told.can.choice talks (count - 6) (connecting world line n) (asked.next_tag a.history) (begun line)).idle
+      (under_way.six_pumped p placed.ends is_told.can.offer is_told.can.choice talks (count - 6) (connecting world line n) (asked.next_tag a.history) (begun line)).idle
 
 pub connect_completes : ConnectCompletes
 connect_completes w before n a c is_told line behind none honest over = completes w before n a c is_told line behind none honest over

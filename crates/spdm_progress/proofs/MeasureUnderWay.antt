@@ -15,7 +15,7 @@ use Rattle.requester_machine.specs.History as asked
 use Rattle.responder_machine.specs.History as served
 use Rattle.responder_machine.specs.Responding.{Responding}
 use Rattle.transcript.specs.Transcripts.{Negotiation}
-use Rattle.world_machine.specs.World.{World, first_waiting}
+use Rattle.world_machine.specs.World.{World, SentPacket, first_waiting, with_sent}
 use Rattle.spdm_progress.specs.Measuring.{number_for}
 use Rattle.spdm_progress.proofs.Between.{GoesOn, Ends, IsGiven}
 use Rattle.spdm_progress.proofs.ClearKept.{KeepsClear, at_moved}
@@ -105,31 +105,34 @@ module _ (p : Pair) (ends : AreEnds p) (op : ℕ) (n : Negotiation) (can : CanSe
   abbrev pub done_line : Line
   done_line = Line.ToRequester p.number told
 
+  -- Of an answer that was just sent no packet was given.
+  answering : (world : World) (tag : ℕ) (nonce : List ℕ) (before : List SentPacket) → tag < 8 → length nonce ≡ 32 → first_waiting before ≡ None → world.sent ≡ with_sent before (answer_packets p ends tag (measurements p.responder op nonce))
+      → At p 66 0 (AsksIt tag) (Served n) world → Answering world
+  answering world tag nonce before small whole idle sends at =
+      let answer = measurements p.responder op nonce in
+      let size = fits nonce whole in
+      let count = few_packets p.responder.unit (clear_body answer) ends.responder_unit (omega arith) (omega arith) in
+      let left = before_it (packet_count p.responder.unit (clear_body answer)) count.0 in
+      let fewer = at_less p 66 (0 + suc left.0) 0 (AsksIt tag) (Served n) world (omega (arith, left.1, count.1)) at in record {
+        tag = tag;
+        small = small;
+        nonce = nonce;
+        whole = whole;
+        done = 0;
+        left = left.0;
+        coming = record {
+          sum = omega (arith, left.1);
+          waits = ap waiting_in sends ∙ sent_waits before (answer_packets p ends tag answer) ∙ ap (λ (w : List (List ℕ)). w ++ answer_packets p ends tag answer) (idle_waits before idle);
+          pair = fewer;
+          came = none_came p.requester.eid p.responder.eid tag p.responder.unit answer small some (fits nonce whole) fewer.given;
+        };
+      }
+
   asked_given : (world : World) → Requested world → IsGiven IsUnderWay IsDone done_line world
   asked_given world x =
       let s = request_given p ends 66 0 (AsksIt x.tag) (Serves n x.tag op) (Served n) x.tag (get_measurements op) (λ d. measurements p.responder op d.bytes) x.small (omega arith)
       (λ h d drawn has. measure_answered p.requester p.responder h d x.tag op n drawn can has) world x.waits x.pair in
-      let answer = measurements p.responder op s.draw.bytes in
-      let size = fits s.draw.bytes s.drawn in
-      let count = few_packets p.responder.unit (clear_body answer) ends.responder_unit (omega arith) (omega arith) in
-      let left = before_it (packet_count p.responder.unit (clear_body answer)) count.0 in record {
-        place = x.waits.place;
-        first = x.waits.first;
-        goes = GoesOn (inr (record {
-          tag = x.tag;
-          small = x.small;
-          nonce = s.draw.bytes;
-          whole = s.drawn;
-          done = 0;
-          left = left.0;
-          coming = record {
-            sum = omega (arith, left.1);
-            waits = ap waiting_in s.sends ∙ sent_waits s.before (answer_packets p ends x.tag answer) ∙ ap (λ (w : List (List ℕ)). w ++ answer_packets p ends x.tag answer) (idle_waits s.before s.idle);
-            pair = at_less p 66 (0 + suc left.0) 0 _ _ _ (omega (arith, left.1, count.1)) s.pair;
-            came = none_came p.requester.eid p.responder.eid x.tag p.responder.unit answer x.small some (fits s.draw.bytes s.drawn) _;
-          };
-        }));
-      }
+      record { place = x.waits.place; first = x.waits.first; goes = GoesOn (inr (answering _ x.tag s.draw.bytes s.before x.small s.drawn s.idle s.sends s.pair)) }
 
   -- What an answer under way leads to, by how many packets of it are left.
   answer_given : (world : World) (tag : ℕ) (small : tag < 8) (nonce : List ℕ) (whole : length nonce ≡ 32) (done left : ℕ)

@@ -1,6 +1,5 @@
 -- A requester of a world and the responder's connection with it: how they are set up, and where they stand.
-use Rattle.std.proofs.Common.{find, ◌≡◌, ◌≢◌, ◌∙◌, ◌==◌, ℕ, ◌<◌, List, [], ◌∷◌, map, false, nat_le, Some, Contains, sym, subst, inl, inr, arith}
-use Rattle.std.proofs.lemmas.Bool.Decides.{nat_tests}
+use Rattle.std.proofs.Common.{find, ◌≡◌, ◌≢◌, ◌∙◌, ◌==◌, ℕ, List, [], ◌∷◌, map, Some, Contains, sym, subst, inl, inr}
 use Rattle.std.proofs.lemmas.List.Elements.{Contains-append_left, Contains-append_right, Contains-push}
 use Rattle.spdm_grammar.specs.Lines.{Line}
 use Rattle.spdm_machine.proofs.Members.{IsIn, in_map, all_in, found_in}
@@ -26,7 +25,7 @@ use Rattle.responder_machine.specs.Does.{IsMade}
 
 -- ---- What every world of a set-up has.
 
-fits_always : (w : WorldSetup) → IsConfigured w → (entries : List Entry) → NoChance (world_after w entries).log → Fits asks.IsKept serves.IsKept (world_after w entries)
+pub fits_always : (w : WorldSetup) → IsConfigured w → (entries : List Entry) → NoChance (world_after w entries).log → Fits asks.IsKept serves.IsKept (world_after w entries)
 fits_always w c entries chance =
     (after_good asks.IsKept serves.IsKept asks.starts asks.asks_well asks.hears_well bodies.steady serves.served_starts serves.does_well serves.waits w c entries).fits chance
 
@@ -88,6 +87,3 @@ contained (y ∷ others) x m = elim m [
   | inl e ↦ subst (Contains (y ∷ others)) (sym e) (Contains-append_left (y ∷ []) others y (Contains-push [] y))
   | inr k ↦ Contains-append_right (y ∷ []) others x (contained others x k)
 ]
-
-pub not_worn : (n limit : ℕ) → n < limit → nat_le limit n ≡ false
-not_worn n limit h = grind (arith, nat_tests)

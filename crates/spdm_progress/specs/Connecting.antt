@@ -1,5 +1,6 @@
 -- What a connect comes to where its messages are delivered honestly. This project's own.
 use Rattle.std.specs.Prelude.{◌≡◌, ◌≤◌, ◌+◌, ℕ, List, length, Some, None, Contains}
+use Rattle.negotiate.specs.Capabilities.{shared}
 use Rattle.negotiate.specs.Choosing.{selected}
 use Rattle.negotiate.specs.Offer.{offer_of}
 use Rattle.requester_machine.specs.History as asked
@@ -8,7 +9,8 @@ use Rattle.requester_machine.specs.Requesting.{Requesting}
 use Rattle.responder_machine.specs.Answer.{algorithms_answer}
 use Rattle.responder_machine.specs.History as served
 use Rattle.responder_machine.specs.Responding.{Connection, Responding, connection_of}
-use Rattle.responder_machine.specs.Setup.{policy_of}
+use Rattle.requester_machine.specs.Setup.{ReqSetup, requester_caps}
+use Rattle.responder_machine.specs.Setup.{RspSetup, policy_of, responder_caps}
 use Rattle.spdm_agreement.specs.Configured.{IsConfigured}
 use Rattle.spdm_grammar.specs.Lines.{Line}
 use Rattle.spdm_grammar.specs.Message.{OfferMessage}
@@ -45,20 +47,23 @@ pub record HasLife (a : Requesting) (r : Responding) : Type 0 where
   pub requester : length a.given + a.commands + 4 ≤ wear_limit
   pub responder : length r.given + 3 ≤ wear_limit
 
--- The connect of requester n, the one of this end point, is done: it is told so in these lines; nothing is outstanding;
--- both ends are in phase Negotiated, and hold the same negotiation: the same six messages, so the same choice and the
--- same common capabilities. The choice is this one.
-pub record IsConnected (n eid : ℕ) (choice : Choice) (world : World) (lines : List Line) : Type 0 where
+-- The connect of requester n is done: it is told so in these lines; nothing is outstanding; both ends are set up as they
+-- were, are in phase Negotiated, and hold the same negotiation: the same six messages, so the same choice and the same
+-- common capabilities. The choice is this one, and the capabilities are what the two set-ups can do together.
+pub record IsConnected (n : ℕ) (q : ReqSetup) (r : RspSetup) (choice : Choice) (world : World) (lines : List Line) : Type 0 where
   pub told : Contains lines (Line.ToRequester n (event.Done finished.Connected))
   pub requester : Requesting
   pub is_requester : requester_of n world ≡ Some requester
   pub connection : Connection
-  pub is_connection : connection_of eid world.responder.connections ≡ Some connection
+  pub is_connection : connection_of q.eid world.responder.connections ≡ Some connection
+  pub requester_setup : requester.setup ≡ q
+  pub responder_setup : connection.setup ≡ r
   pub none : asked.outstanding requester.history ≡ None
   pub requester_phase : asked.phase_of requester.history ≡ Negotiated
   pub responder_phase : served.phase_of (served.clear_turns connection.history) ≡ Negotiated
   pub same : asked.negotiation_of requester.history ≡ served.negotiation_of (served.clear_turns connection.history)
   pub chosen : (asked.connection_terms requester.history).choice ≡ choice
+  pub common : (asked.connection_terms requester.history).common ≡ shared (requester_caps q) (responder_caps r)
 
 -- The world in which requester n was told to connect.
 abbrev pub connecting : World → (line n : ℕ) → World
@@ -82,7 +87,7 @@ ConnectCompletes =
     (w : WorldSetup) (before : List Entry) (n : ℕ) (a : Requesting) (c : Connection) → (is : ConnectIsTold w before n a c)
     → (line : ℕ) (behind : List Entry) → HaveNoCommand behind → AreHonest (connecting (world_after w before) line n) behind
     → NothingWaits (world_from (connecting (world_after w before) line n) behind)
-    → IsConnected n a.setup.eid is.can.choice (world_from (connecting (world_after w before) line n) behind) (lines_from (connecting (world_after w before) line n) behind)
+    → IsConnected n a.setup c.setup is.can.choice (world_from (connecting (world_after w before) line n) behind) (lines_from (connecting (world_after w before) line n) behind)
 
 -- A pump of six packets or more leaves none that waits.
 abbrev pub SixPacketsAreEnough : Type 0
