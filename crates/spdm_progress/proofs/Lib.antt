@@ -19,4 +19,5 @@ pub mod MeasureStages
 pub mod MeasureUnderWay
 pub mod Told
 pub mod Measured
+pub mod AfterConnect
 pub mod Connected

@@ -1,7 +1,7 @@
 //! What honest delivery completes, each law as the contract of a function that does nothing.
 
 ghost use Rattle.spdm_progress.specs.Connecting.{ConnectCompletes, EachIsConnected, SixPacketsAreEnough};
-ghost use Rattle.spdm_progress.specs.Measuring.{MeasureCompletes};
+ghost use Rattle.spdm_progress.specs.Measuring.{ConnectedCanMeasure, MeasureCompletes};
 
 /// A connect that is told where no packet waits is done once no packet waits again, whatever an
 /// honest script says in between: the requester is told so, and both ends hold one negotiation. It
@@ -26,4 +26,10 @@ pub fn each_is_connected()
 /// no chunks, and not of a request that the responder answers from memory.
 pub fn measure_completes()
     ensures { MeasureCompletes }
+{}
+
+/// Right behind a connect that chose measurements, a measure needs no more than that a block which it
+/// names is configured, and that the answer fits the transfer size of the requester's set-up.
+pub fn connected_can_measure()
+    ensures { ConnectedCanMeasure }
 {}

@@ -4,4 +4,7 @@
 
 mod laws;
 
-pub use laws::{connect_completes, each_is_connected, measure_completes, six_packets_are_enough};
+pub use laws::{
+    connect_completes, connected_can_measure, each_is_connected, measure_completes,
+    six_packets_are_enough,
+};
