@@ -1,35 +1,15 @@
 -- Right behind a connect both ends stand as a measure needs it.
-use Rattle.std.proofs.Common.{◌≡◌, ◌∙◌, ℕ, ◌≤◌, ◌==◌, ◌&&◌, Bool, true, false, Option, Some, None, refl, sym, ap, subst, arith, eq-eqb}
-use Rattle.std.specs.Prelude.{min, bytes_eq}
-use Rattle.std.proofs.lemmas.Bool.{false≢true}
+use Rattle.std.proofs.Common.{◌≡◌, ◌∙◌, ◌≤◌, false, sym, ap, subst, arith}
+use Rattle.std.specs.Prelude.{min}
 use Rattle.std.proofs.Math.Nat.{le-min}
-use Rattle.std.proofs.lemmas.Slice.Eq.{bytes_eq-Decides}
 use Rattle.measurements.specs.Records.{is_missing}
 use Rattle.negotiate.specs.declared.shared.Common.{Common}
 use Rattle.requester_machine.specs.History as asked
 use Rattle.requester_machine.specs.Setup.{ReqSetup}
-use Rattle.responder_machine.specs.History as served
-use Rattle.responder_machine.specs.Refusal.{code_of}
-use Rattle.responder_machine.specs.Responder.{is_repeat}
 use Rattle.responder_machine.specs.Setup.{RspSetup, inventory_of}
 use Rattle.spdm_grammar.specs.declared.choice.Choice.{Choice}
 use Rattle.spdm_grammar.specs.declared.names.TheConstants.{MAX_MESSAGE_SIZE}
-use Rattle.spdm_grammar.specs.declared.names.request_code.TheConstants.{GET_MEASUREMENTS, NEGOTIATE_ALGORITHMS}
 use Rattle.spdm_progress.specs.Measuring.{ConnectedCanMeasure, measurements_size}
-use Rattle.spdm_progress.proofs.MeasureStages.{get_measurements}
-
--- The last request that was taken is another one.
-other_code : GET_MEASUREMENTS ≡ NEGOTIATE_ALGORITHMS → ⊥
-other_code e = false≢true (eq-eqb GET_MEASUREMENTS NEGOTIATE_ALGORITHMS e)
-
-new_by : (k : served.Kept) (tag op : ℕ) (a b : Bool) → bytes_eq k.message (get_measurements op) ≡ b → code_of k.message ≡ NEGOTIATE_ALGORITHMS → (a && b) ≡ false
-new_by k tag op a true same code = absurd (other_code (sym (ap code_of ((bytes_eq-Decides k.message (get_measurements op)).0 same)) ∙ code))
-new_by k tag op true false same code = refl
-new_by k tag op false false same code = refl
-
-is_new : (o : Option served.Kept) (tag op : ℕ) → ((k : served.Kept) → o ≡ Some k → code_of k.message ≡ NEGOTIATE_ALGORITHMS) → is_repeat o tag (get_measurements op) ≡ false
-is_new None tag op last = refl
-is_new (Some k) tag op last = new_by k tag op (k.tag == tag) (bytes_eq k.message (get_measurements op)) refl (last k refl)
 
 pub connected_can_measure : ConnectedCanMeasure
 connected_can_measure q r a b n choice world lines is measures op byte block fits =
@@ -49,5 +29,4 @@ connected_can_measure q r a b n choice world lines is measures op byte block fit
       answer_fits = subst (λ (s : RspSetup). measurements_size s op ≤ (asked.connection_terms is.requester.history).common.to_requester.transfer) (sym is.responder_setup) (subst (λ (c : Common). measurements_size r op ≤ c.to_requester.transfer) (sym is.common) room);
       answer_fits_max = subst (λ (s : RspSetup). measurements_size s op ≤ (asked.connection_terms is.requester.history).common.to_requester.max) (sym is.responder_setup) (subst (λ (c : Common). measurements_size r op ≤ c.to_requester.max) (sym is.common) room_max);
       answer_fits_own = subst (λ (s : RspSetup). measurements_size s op ≤ is.requester.setup.transfer) (sym is.responder_setup) (subst (λ (s : ReqSetup). measurements_size r op ≤ s.transfer) (sym is.requester_setup) fits);
-      new = is_new (served.kept_of is.connection.history) (asked.next_tag is.requester.history) op is.last;
     }

@@ -33,9 +33,6 @@ use Rattle.spdm_progress.proofs.SetUps.{CanTalk, can_talk}
 use Rattle.requester_machine.proofs.CapsRead.{common_stays}
 use Rattle.spdm_progress.proofs.ResponderStages.{two_pairs}
 use Rattle.spdm_progress.proofs.Told.{ArePlaced, are_placed, contained, fits_always, pair_of}
-use Rattle.responder_machine.specs.History.{Kept}
-use Rattle.responder_machine.specs.Refusal.{code_of}
-use Rattle.spdm_machine.proofs.Members.{some_same}
 use Rattle.spdm_progress.proofs.UnderWay as under_way
 use Rattle.spdm_progress.proofs.Waiting.{OneWaits, one_waits}
 
@@ -129,7 +126,6 @@ module _ (w : WorldSetup) (before : List Entry) (n : ℕ) (a : Requesting) (c : 
     same = d.pair.asks.negotiation ∙ sym d.pair.serves.negotiation;
     chosen = ap (λ (x : Negotiation). (terms_of x).choice) d.pair.asks.negotiation ∙ talks.choice_is;
     common = ap (λ (x : Negotiation). (terms_of x).common) d.pair.asks.negotiation ∙ common_stays (two_pairs a.setup c.setup) _ _ ∙ talks.common_is;
-    last = λ kept is. ap code_of (ap (λ (k : Kept). k.message) (some_same kept d.pair.serves.last.kept (sym is ∙ d.pair.serves.last.is)) ∙ d.pair.serves.last.message);
   }
 
   pub completes : (line : ℕ) (behind : List Entry) → HaveNoCommand behind → AreHonest (connecting world line n) behind → NothingWaits (world_from (connecting world line n) behind)

@@ -6,6 +6,7 @@ pub mod ResponderStages
 pub mod ResponderBegins
 pub mod RequesterStages
 pub mod Waiting
+pub mod Drawn
 pub mod Placed
 pub mod Places
 pub mod PacketSteps

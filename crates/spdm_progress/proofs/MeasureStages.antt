@@ -1,5 +1,5 @@
 -- What the two ends make of the two messages of a clear measure.
-use Rattle.std.proofs.Common.{◌≡◌, ◌∙◌, ℕ, ◌<◌, ◌≤◌, ◌+◌, ◌==◌, List, [], ◌∷◌, ◌++◌, length, Bool, true, false, Option, Some, None, Result, Ok, refl, sym, ap, subst, arith, length-append}
+use Rattle.std.proofs.Common.{◌&&◌, ◌≡◌, ◌∙◌, ℕ, ◌<◌, ◌≤◌, ◌+◌, ◌==◌, List, [], ◌∷◌, ◌++◌, length, Bool, true, false, Option, Some, None, Result, Ok, refl, sym, ap, subst, arith, length-append}
 use Rattle.std.specs.Prelude.{if◌then◌else◌}
 use Rattle.measurements.proofs.Lengths.{few}
 use Rattle.measurements.specs.Blocks.{block_of, at_most_one}
@@ -51,6 +51,26 @@ use Rattle.requester_machine.specs.Requesting.{Requesting, CommandStep, requeste
 use Rattle.requester_machine.specs.Sending.{plain_sent, request_sent}
 use Rattle.requester_machine.specs.Shown.{fault_of}
 use Rattle.spdm_progress.proofs.RequesterStages.{next_small}
+use Rattle.std.specs.Prelude.{bytes_eq, is_none}
+use Rattle.std.proofs.lemmas.Bool.{false≢true}
+use Rattle.std.proofs.lemmas.Slice.Eq.{bytes_eq-Decides}
+use Rattle.spdm_grammar.specs.declared.error_code.ErrorCode.{ErrorCode}
+use Rattle.spdm_machine.specs.Bodies.{clear_body}
+use Rattle.spdm_machine.proofs.Members.{some_same}
+use Rattle.responder_machine.proofs.Repeats.{kept_of-taken}
+use Rattle.responder_machine.proofs.Turns.{turn_of-effect, turn_of-refused}
+use Rattle.responder_machine.specs.Does.{IsMade, clear_does}
+use Rattle.responder_machine.specs.Handling.{goes_large}
+use Rattle.responder_machine.specs.History.Entry.{Clear, Sealed, Queued, Ticked, Dropped}
+use Rattle.responder_machine.specs.Refusal.{refusal}
+use Rattle.responder_machine.specs.Responder.{Outcome, after, body_of, kept_reply, on_clear}
+use Rattle.responder_machine.specs.Responder.Outcome.{Same}
+use Rattle.responder_machine.specs.Responding.{data_of}
+use Rattle.responder_machine.specs.Turn.{Turn, is_taken}
+use Rattle.responder_machine.specs.Turn.Effect.{NoEffect}
+use Rattle.spdm_agreement.proofs.Responder.Negotiation.{entry_turn}
+use Rattle.spdm_progress.proofs.Drawn.{AreDrawn}
+use Rattle.spdm_progress.proofs.ResponderTurns.{taken_somehow, turn_with}
 use Rattle.transcript.specs.Transcripts.{Negotiation}
 use Rattle.spdm_progress.specs.Measuring.{record_for, number_for, measurements_size}
 use Rattle.spdm_progress.proofs.AtRequester.{led_plain}
@@ -100,17 +120,26 @@ pub record CanServe (q : ReqSetup) (r : RspSetup) (op : ℕ) (n : Negotiation) :
   pub fits_own : measurements_size r op ≤ q.transfer
   pub most : q.transfer ≤ 4096
 
-pub record Serves (n : Negotiation) (tag op : ℕ) (h : served.History) : Type 0 where
+-- ---- The same request again.
+
+-- Where GET_MEASUREMENTS is the last clear request that was taken, it was answered by a MEASUREMENTS of the same blocks.
+abbrev pub Again : RspSetup → ℕ → served.History → Type 0
+Again r op h = (k : served.Kept) → served.kept_of h ≡ Some k → k.message ≡ get_measurements op → (nonce : List ℕ) × (length nonce ≡ 32) × (k.reply ≡ measurements r op nonce)
+
+again_on : (r : RspSetup) (op : ℕ) (old new : served.History) → served.kept_of new ≡ served.kept_of old → Again r op old → Again r op new
+again_on r op old new same again k is message = again k (sym same ∙ is) message
+
+pub record Serves (r : RspSetup) (n : Negotiation) (tag op : ℕ) (h : served.History) : Type 0 where
   pub phase_is : served.phase_of (served.clear_turns h) ≡ Negotiated
   pub negotiation : served.negotiation_of (served.clear_turns h) ≡ n
-  pub new : is_repeat (served.kept_of h) tag (get_measurements op) ≡ false
+  pub again : Again r op h
 
 pub record Served (n : Negotiation) (h : served.History) : Type 0 where
   pub phase_is : served.phase_of (served.clear_turns h) ≡ Negotiated
   pub negotiation : served.negotiation_of (served.clear_turns h) ≡ n
 
-pub serves_on : (n : Negotiation) (tag op : ℕ) (old new : served.History) → SameClear old new → Serves n tag op old → Serves n tag op new
-serves_on n tag op old new same s = record { phase_is = same.phase ∙ s.phase_is; negotiation = same.negotiation ∙ s.negotiation; new = ap (λ (k : Option served.Kept). is_repeat k tag (get_measurements op)) same.kept ∙ s.new }
+pub serves_on : (r : RspSetup) (n : Negotiation) (tag op : ℕ) (old new : served.History) → SameClear old new → Serves r n tag op old → Serves r n tag op new
+serves_on r n tag op old new same s = record { phase_is = same.phase ∙ s.phase_is; negotiation = same.negotiation ∙ s.negotiation; again = again_on r op old new same.kept s.again }
 
 pub served_on : (n : Negotiation) (old new : served.History) → SameClear old new → Served n old → Served n new
 served_on n old new same s = record { phase_is = same.phase ∙ s.phase_is; negotiation = same.negotiation ∙ s.negotiation }
@@ -126,17 +155,17 @@ answer_is : (r : RspSetup) (h : served.History) (d : Draw) (op : ℕ) → answer
 unfolding chosen
 answer_is r h d op = refl
 
-takes_it : (q : ReqSetup) (r : RspSetup) (h : served.History) (d : Draw) (tag op : ℕ) (n : Negotiation) → length d.bytes ≡ 32 → CanServe q r op n → Serves n tag op h → Takes (clear_place h) (length (answer_at r h d op))
-takes_it q r h d tag op n drawn can has =
+takes_under : (q : ReqSetup) (r : RspSetup) (h : served.History) (d : Draw) (op : ℕ) (n : Negotiation) → length d.bytes ≡ 32 → CanServe q r op n → served.negotiation_of (served.clear_turns h) ≡ n → Takes (clear_place h) (length (answer_at r h d op))
+takes_under q r h d op n drawn can under =
     let size : length (answer_at r h d op) ≡ measurements_size r op = ap length (answer_is r h d op) ∙ measurements_are r op d.bytes drawn in record {
-      both = λ known. subst (λ (x : Negotiation). (length (answer_at r h d op) ≤ (terms_of x).common.to_requester.max) × (length (answer_at r h d op) ≤ (terms_of x).common.to_requester.transfer)) (sym has.negotiation)
+      both = λ known. subst (λ (x : Negotiation). (length (answer_at r h d op) ≤ (terms_of x).common.to_requester.max) × (length (answer_at r h d op) ≤ (terms_of x).common.to_requester.transfer)) (sym under)
           (subst (λ (k : ℕ). k ≤ (terms_of n).common.to_requester.max) (sym size) can.fits_max, subst (λ (k : ℕ). k ≤ (terms_of n).common.to_requester.transfer) (sym size) can.fits);
     }
 
-measure_turn : (q : ReqSetup) (r : RspSetup) (h : served.History) (d : Draw) (tag op : ℕ) (n : Negotiation) → length d.bytes ≡ 32 → CanServe q r op n → Serves n tag op h
+measure_turn : (q : ReqSetup) (r : RspSetup) (h : served.History) (d : Draw) (tag op : ℕ) (n : Negotiation) → length d.bytes ≡ 32 → CanServe q r op n → Serves r n tag op h
     → turn_of r (clear_place h) (get_measurements op) (clear_chosen r h d) ≡ taken_turn r (clear_place h) (get_measurements op) (clear_chosen r h d) (GetMeasurements op)
 measure_turn q r h d tag op n drawn can has =
-    let takes = takes_it q r h d tag op n drawn can has in
+    let takes = takes_under q r h d op n drawn can has.negotiation in
     let room = can.room in
     taken_at r (clear_place h) (get_measurements op) (clear_chosen r h d) (GetMeasurements op) (read_at (clear_place h) (GetMeasurements op) can.byte tt) refl
     (record {
@@ -164,12 +193,101 @@ measure_turn q r h d tag op n drawn can has =
     })
     (not_large h (answer_at r h d op) takes)
 
-pub measure_answered : (q : ReqSetup) (r : RspSetup) (h : served.History) (d : Draw) (tag op : ℕ) (n : Negotiation) → length d.bytes ≡ 32 → CanServe q r op n → Serves n tag op h → Answered r h tag (get_measurements op) d (measurements r op d.bytes) (Served n)
-measure_answered q r h d tag op n drawn can has =
-    let t = taken_turn r (clear_place h) (get_measurements op) (clear_chosen r h d) (GetMeasurements op) in
-    subst (λ (reply : List ℕ). Answered r h tag (get_measurements op) d reply (Served n)) (answer_is r h d op)
-    (answers_by r h tag (get_measurements op) d t (Served n) (adds r h tag (get_measurements op) d t has.new (measure_turn q r h d tag op n drawn can has))
-    (record { phase_is = has.phase_is; negotiation = has.negotiation }))
+-- The answer, from memory or anew.
+abbrev IsAnswered : RspSetup → served.History → ℕ → ℕ → Negotiation → Draw → Type 0
+IsAnswered r h tag op n d = (nonce : List ℕ) × (length nonce ≡ 32) × Answered r h tag (get_measurements op) d (measurements r op nonce) (Served n)
+
+same_by : (r : RspSetup) (h : served.History) (tag op : ℕ) (d : Draw) (k : served.Kept) → served.kept_of h ≡ Some k → is_repeat (served.kept_of h) tag (get_measurements op) ≡ true → clear_does r h tag (get_measurements op) d ≡ Same (clear_body k.reply)
+unfolding on_clear
+same_by r h tag op d k is repeats = rw repeats (ap (λ (o : Option served.Kept). Same (clear_body (kept_reply o))) is)
+
+and_last : (a b : Bool) → (a && b) ≡ true → b ≡ true
+and_last true b e = e
+and_last false b e = absurd (false≢true e)
+
+from_memory : (q : ReqSetup) (r : RspSetup) (h : served.History) (d : Draw) (tag op : ℕ) (n : Negotiation) → Serves r n tag op h → (o : Option served.Kept) → served.kept_of h ≡ o → is_repeat o tag (get_measurements op) ≡ true → IsAnswered r h tag op n d
+from_memory q r h d tag op n has None is repeats = absurd (false≢true repeats)
+from_memory q r h d tag op n has (Some k) is repeats =
+    let found = has.again k is ((bytes_eq-Decides k.message (get_measurements op)).0 (and_last (k.tag == tag) (bytes_eq k.message (get_measurements op)) repeats)) in
+    let same = same_by r h tag op d k is (ap (λ (o : Option served.Kept). is_repeat o tag (get_measurements op)) is ∙ repeats) in (
+      found.0,
+      found.1,
+      record {
+        body = ap body_of same ∙ ap clear_body found.2;
+        leaves = subst (λ (o : Outcome). Served n (after h o)) (sym same) (record { phase_is = has.phase_is; negotiation = has.negotiation });
+        nothing = ap data_of same;
+      },
+    )
+
+anew : (q : ReqSetup) (r : RspSetup) (h : served.History) (d : Draw) (tag op : ℕ) (n : Negotiation) → length d.bytes ≡ 32 → CanServe q r op n → Serves r n tag op h → is_repeat (served.kept_of h) tag (get_measurements op) ≡ false → IsAnswered r h tag op n d
+anew q r h d tag op n drawn can has new =
+    let t = taken_turn r (clear_place h) (get_measurements op) (clear_chosen r h d) (GetMeasurements op) in (
+      d.bytes,
+      drawn,
+      subst (λ (reply : List ℕ). Answered r h tag (get_measurements op) d reply (Served n)) (answer_is r h d op)
+          (answers_by r h tag (get_measurements op) d t (Served n) (adds r h tag (get_measurements op) d t new (measure_turn q r h d tag op n drawn can has))
+          (record { phase_is = has.phase_is; negotiation = has.negotiation })),
+    )
+
+answered_by : (q : ReqSetup) (r : RspSetup) (h : served.History) (d : Draw) (tag op : ℕ) (n : Negotiation) → length d.bytes ≡ 32 → CanServe q r op n → Serves r n tag op h → (b : Bool) → is_repeat (served.kept_of h) tag (get_measurements op) ≡ b → IsAnswered r h tag op n d
+answered_by q r h d tag op n drawn can has true repeats = from_memory q r h d tag op n has (served.kept_of h) refl repeats
+answered_by q r h d tag op n drawn can has false new = anew q r h d tag op n drawn can has new
+
+pub measure_answered : (q : ReqSetup) (r : RspSetup) (h : served.History) (d : Draw) (tag op : ℕ) (n : Negotiation) → length d.bytes ≡ 32 → CanServe q r op n → Serves r n tag op h
+    → (nonce : List ℕ) × (length nonce ≡ 32) × Answered r h tag (get_measurements op) d (measurements r op nonce) (Served n)
+measure_answered q r h d tag op n drawn can has = answered_by q r h d tag op n drawn can has (is_repeat (served.kept_of h) tag (get_measurements op)) refl
+
+-- ---- Where it comes from.
+
+unchanged : (h : served.History) (t : Turn) → t.effect ≡ NoEffect → served.negotiation_of (t ∷ served.clear_turns h) ≡ served.negotiation_of (served.clear_turns h)
+unchanged h t nothing = rw nothing refl
+
+-- What a request that is taken leads to, whether its answer is large or not.
+abbrev some_turn : RspSetup → served.History → Draw → ℕ → Bool → Turn
+some_turn r h d op large = turn_with (get_measurements op) (clear_chosen r h d) (Some (GetMeasurements op)) (answer_at r h d op) large
+
+same_negotiation : (r : RspSetup) (h : served.History) (d : Draw) (op : ℕ) (large : Bool) → served.negotiation_of (some_turn r h d op large ∷ served.clear_turns h) ≡ served.negotiation_of (served.clear_turns h)
+same_negotiation r h d op large = refl
+
+-- A request that was not refused was taken so.
+taken_so : (r : RspSetup) (h : served.History) (d : Draw) (op : ℕ) (o : Option ErrorCode) → op < 256 → refusal r (clear_place h) (get_measurements op) (clear_chosen r h d) ≡ o → is_taken (turn_of r (clear_place h) (get_measurements op) (clear_chosen r h d)) ≡ true
+    → turn_of r (clear_place h) (get_measurements op) (clear_chosen r h d) ≡ some_turn r h d op (goes_large (clear_place h) (answer_at r h d op))
+taken_so r h d op (Some e) byte refused taken =
+    absurd (false≢true (sym (ap is_taken (turn_of-refused r (clear_place h) (get_measurements op) (clear_chosen r h d) e refused)) ∙ taken))
+taken_so r h d op None byte refused taken = taken_somehow r (clear_place h) (get_measurements op) (clear_chosen r h d) (GetMeasurements op) (read_at (clear_place h) (GetMeasurements op) byte tt) refl refused
+
+is_none_none : (o : Option ErrorCode) → is_none o ≡ true → o ≡ None
+is_none_none None e = refl
+is_none_none (Some x) e = absurd (false≢true e)
+
+refused_with : (o : Option ErrorCode) → is_none o ≡ false → (e : ErrorCode) × (o ≡ Some e)
+refused_with None refused = absurd (false≢true (sym refused))
+refused_with (Some e) refused = (e, refl)
+
+module _ (q : ReqSetup) (r : RspSetup) (op : ℕ) (n : Negotiation) (can : CanServe q r op n) where
+  entry_again : (older : served.History) (tag : ℕ) (t : Turn) (d : Draw) → turn_of r (clear_place older) t.message (clear_chosen r older d) ≡ t → length d.bytes ≡ 32 → served.negotiation_of (t ∷ served.clear_turns older) ≡ n
+      → (served.negotiation_of (served.clear_turns older) ≡ n → Again r op older) → (b : Bool) → is_taken t ≡ b → Again r op (Clear tag t d ∷ older)
+  entry_again older tag t d turn drawn under next true taken = λ k is message.
+      let same : record { tag = tag; message = t.message; reply = t.reply } ≡ k = some_same _ k (sym (kept_of-taken tag t d older (is_none_none t.refused taken)) ∙ is) in
+      let its : t.message ≡ get_measurements op = ap (λ (x : served.Kept). x.message) same ∙ message in
+      let here : turn_of r (clear_place older) (get_measurements op) (clear_chosen r older d) ≡ t = ap (λ (m : List ℕ). turn_of r (clear_place older) m (clear_chosen r older d)) (sym its) ∙ turn in
+      let so = taken_so r older d op (refusal r (clear_place older) (get_measurements op) (clear_chosen r older d)) can.byte refl (ap is_taken here ∙ taken) in
+      let before : served.negotiation_of (served.clear_turns older) ≡ n = sym (same_negotiation r older d op (goes_large (clear_place older) (answer_at r older d op))) ∙ ap (λ (u : Turn). served.negotiation_of (u ∷ served.clear_turns older)) (sym so ∙ here) ∙ under in
+      let small = not_large older (answer_at r older d op) (takes_under q r older d op n drawn can before) in
+      let reply : t.reply ≡ answer_at r older d op = sym (ap (λ (u : Turn). u.reply) (sym so ∙ here)) ∙ ap (λ (large : Bool). (some_turn r older d op large).reply) small in
+      (d.bytes, drawn, sym (ap (λ (x : served.Kept). x.reply) same) ∙ reply ∙ answer_is r older d op)
+  entry_again older tag t d turn drawn under next false refused =
+      let code = refused_with t.refused refused in
+      let nothing : t.effect ≡ NoEffect = sym (ap (λ (u : Turn). u.effect) turn) ∙ turn_of-effect r (clear_place older) t.message (clear_chosen r older d) code.0 (ap (λ (u : Turn). u.refused) turn ∙ code.1) in
+      again_on r op older (Clear tag t d ∷ older) (rw refused refl) (next (sym (unchanged older t nothing) ∙ under))
+
+  pub made_again : (h : served.History) → IsMade r h → AreDrawn h → served.negotiation_of (served.clear_turns h) ≡ n → Again r op h
+  made_again [] made drawn under = λ k is message. absurd (none_some k is)
+  made_again (Clear tag t d ∷ older) made drawn under = entry_again older tag t d (entry_turn r older tag t d made.0) drawn.0 under (made_again older made.1 drawn.1) (is_taken t) refl
+  made_again (Sealed tag m t reply d ∷ older) made drawn under = again_on r op older (Sealed tag m t reply d ∷ older) refl (made_again older made.1 drawn under)
+  made_again (Queued bytes ∷ older) made drawn under = again_on r op older (Queued bytes ∷ older) refl (made_again older made.2 drawn under)
+  made_again (Ticked seconds ∷ older) made drawn under = again_on r op older (Ticked seconds ∷ older) refl (made_again older made drawn under)
+  made_again (Dropped id ∷ older) made drawn under = absurd made
 
 -- ---- The requester.
 

@@ -83,7 +83,7 @@ module _ (p : Pair) (ends : AreEnds p) (op : ℕ) (n : Negotiation) (can : CanSe
     pub tag : ℕ
     pub small : tag < 8
     pub waits : RequestWaits p ends tag (get_measurements op) world
-    pub pair : At p 66 1 (AsksIt tag) (Serves n tag op) world
+    pub pair : At p 66 1 (AsksIt tag) (Serves p.responder n tag op) world
 
   -- So many packets of an answer are given.
   pub record Answering (world : World) : Type 0 where
@@ -130,9 +130,9 @@ module _ (p : Pair) (ends : AreEnds p) (op : ℕ) (n : Negotiation) (can : CanSe
 
   asked_given : (world : World) → Requested world → IsGiven IsUnderWay IsDone done_line world
   asked_given world x =
-      let s = request_given p ends 66 0 (AsksIt x.tag) (Serves n x.tag op) (Served n) x.tag (get_measurements op) (λ d. measurements p.responder op d.bytes) x.small (omega arith)
+      let s = request_given p ends 66 0 (AsksIt x.tag) (Serves p.responder n x.tag op) (Served n) x.tag (get_measurements op) (λ nonce. length nonce ≡ 32) (measurements p.responder op) x.small (omega arith)
       (λ h d drawn has. measure_answered p.requester p.responder h d x.tag op n drawn can has) world x.waits x.pair in
-      record { place = x.waits.place; first = x.waits.first; goes = GoesOn (inr (answering _ x.tag s.draw.bytes s.before x.small s.drawn s.idle s.sends s.pair)) }
+      record { place = x.waits.place; first = x.waits.first; goes = GoesOn (inr (answering _ x.tag s.value s.before x.small s.good s.idle s.sends s.pair)) }
 
   -- What an answer under way leads to, by how many packets of it are left.
   answer_given : (world : World) (tag : ℕ) (small : tag < 8) (nonce : List ℕ) (whole : length nonce ≡ 32) (done left : ℕ)
@@ -154,7 +154,7 @@ module _ (p : Pair) (ends : AreEnds p) (op : ℕ) (n : Negotiation) (can : CanSe
   done_idle world d = d.idle
 
   pub under_way_kept : (world : World) (r : Responding) → KeepsClear p world.responder r → IsUnderWay world → IsUnderWay (record world { responder = r })
-  under_way_kept world r keeps (inl x) = inl (record { tag = x.tag; small = x.small; waits = x.waits; pair = at_moved p 66 1 _ _ world r keeps (serves_on n x.tag op) x.pair })
+  under_way_kept world r keeps (inl x) = inl (record { tag = x.tag; small = x.small; waits = x.waits; pair = at_moved p 66 1 _ _ world r keeps (serves_on p.responder n x.tag op) x.pair })
   under_way_kept world r keeps (inr x) = inr (record {
     tag = x.tag;
     small = x.small;

@@ -25,7 +25,7 @@ use Rattle.spdm_progress.proofs.Waiting.{OneWaits, one_waits}
 use Rattle.requester_machine.specs.Message.Command.{Measure}
 use Rattle.spdm_grammar.specs.Message.RequestMessage.{GetMeasurements}
 use Rattle.spdm_progress.specs.Measuring.{IsMeasured, MeasureCompletes, MeasureIsTold, measuring}
-use Rattle.spdm_progress.proofs.MeasureStages.{CanServe, asks_measure, get_measurements, told_measure}
+use Rattle.spdm_progress.proofs.MeasureStages.{made_again, CanServe, asks_measure, get_measurements, told_measure}
 use Rattle.spdm_progress.proofs.MeasureUnderWay as under_way_measure
 use Rattle.spdm_progress.proofs.PacketSteps.{not_worn}
 use Rattle.spdm_progress.proofs.Told.{ArePlaced, are_placed, contained, pair_of}
@@ -96,7 +96,7 @@ module _ (w : WorldSetup) (before : List Entry) (n : ℕ) (a : Requesting) (c : 
           is_connection = is_told.is_connection;
           own = placed.own;
           asks = asks_it;
-          serves = record { phase_is = is_told.can.responder_phase; negotiation = sym is_told.can.same; new = is_told.can.new };
+          serves = record { phase_is = is_told.can.responder_phase; negotiation = sym is_told.can.same; again = made_again a.setup c.setup op negotiation can c.history placed.made placed.drawn (sym is_told.can.same) };
           life = omega arith;
           responder_life = responder_life;
         };

@@ -27,7 +27,7 @@ use Rattle.responder_machine.specs.Responding as serving
 use Rattle.responder_machine.specs.Responding.{Connection, Responding, RspStep, connection_of, changed, answers, responder_hears}
 use Rattle.responder_machine.specs.Setup.{RspSetup}
 use Rattle.world_machine.specs.World.{World, WorldStep, SentPacket, first_waiting, packet_of, with_sent, requester_of, is_at, number_at, given, given_to, given_to_requester, given_to_responder, without_waiting, delivers}
-use Rattle.spdm_agreement.proofs.Worlds.Happens.{draw_length}
+use Rattle.spdm_progress.proofs.Drawn.{draws_whole}
 use Rattle.spdm_progress.proofs.AtRequester.{asking, given_whole}
 use Rattle.spdm_progress.proofs.AtResponder.{hears_request}
 use Rattle.spdm_progress.proofs.OnePacket.{route_to, packet_to, one_packet, not_longer}
@@ -103,11 +103,6 @@ to_responder : (world : World) (to from tag : ℕ) (m : List ℕ) → world.resp
 to_responder world to from tag m own =
     either_first _ (to == world.responder.part.eid) _ _ _ (four_bytes to from true tag m) (eq-eqb to world.responder.part.eid (sym own))
 
--- A draw has 32 bytes.
-draws_whole : (r : Responding) → length (serving.next_draw r).bytes ≡ 32
-unfolding serving.next_draw
-draws_whole r = draw_length r.seed (r.first + serving.all_draws r.connections)
-
 -- The step of a responder that answers a clear request.
 abbrev answer_step : Responding → Connection → (to from tag : ℕ) → List ℕ → RspStep
 answer_step r c to from tag m = answers r c (packet_to to from true tag m) (route_to to from true tag) (clear_body m) (clear_does c.setup c.history tag m (serving.next_draw r))
@@ -127,28 +122,29 @@ module _ (p : Pair) (ends : AreEnds p) where
   abbrev after_answer : World → List ℕ → RspStep → World
   after_answer world packet step = (given_to_responder world packet step).after
 
-  module _ (k l : ℕ) (Asked : asked.History → Type 0) (Served Then : served.History → Type 0) (tag : ℕ) (m : List ℕ) (reply : Draw → List ℕ) (small : tag < 8) (short : length m < 64)
-      (answers_it : (h : served.History) (d : Draw) → length d.bytes ≡ 32 → Served h → Answered p.responder h tag m d (reply d) Then) where
+  module _ (k l : ℕ) (Asked : asked.History → Type 0) (Served Then : served.History → Type 0) (tag : ℕ) (m : List ℕ) (Good : List ℕ → Type 0) (reply : List ℕ → List ℕ) (small : tag < 8) (short : length m < 64)
+      (answers_it : (h : served.History) (d : Draw) → length d.bytes ≡ 32 → Served h → (value : List ℕ) × Good value × Answered p.responder h tag m d (reply value) Then) where
     -- The pair, and the packets of the answer behind those that no longer wait.
     pub record AtAnswer (world : World) : Type 0 where
       pub before : List SentPacket
       pub idle : first_waiting before ≡ None
-      pub draw : Draw
-      pub drawn : length draw.bytes ≡ 32
-      pub sends : world.sent ≡ with_sent before (answer_packets tag (reply draw))
+      pub value : List ℕ
+      pub good : Good value
+      pub sends : world.sent ≡ with_sent before (answer_packets tag (reply value))
       pub pair : At p k l Asked Then world
 
     answered_at : (world : World) → first_waiting world.sent ≡ None → (at : At p k (l + 1) Asked Served world)
         → AtAnswer (after_answer world (packet_to p.responder.eid p.requester.eid true tag m) (answer_step world.responder (server p at.served) p.responder.eid p.requester.eid tag m))
     answered_at world idle at =
-        let o = answers_it at.served (serving.next_draw world.responder) (draws_whole world.responder) at.serves in
+        let x = answers_it at.served (serving.next_draw world.responder) (draws_whole world.responder) at.serves in
+        let o = x.2 in
         let life = at.responder_life in record {
           before = world.sent;
           idle = idle;
-          draw = serving.next_draw world.responder;
-          drawn = draws_whole world.responder;
+          value = x.0;
+          good = x.1;
           sends = ap (λ (body : List ℕ). with_sent world.sent (packets_to p.responder.peer p.responder.eid false tag p.responder.unit body)) o.body
-              ∙ ap (λ (to : ℕ). with_sent world.sent (packets_to to p.responder.eid false tag p.responder.unit (clear_body (reply (serving.next_draw world.responder))))) ends.peer;
+              ∙ ap (λ (to : ℕ). with_sent world.sent (packets_to to p.responder.eid false tag p.responder.unit (clear_body (reply x.0)))) ends.peer;
           pair = record {
             given = at.given;
             commands = at.commands;

@@ -14,6 +14,9 @@ use Rattle.requester_machine.specs.Requesting.{Requesting, requester_told, reque
 use Rattle.responder_machine.specs.Responding as serving
 use Rattle.responder_machine.specs.Responding.{Connection, Responding, RspStep, connection_of, changed, with_history, responder_hears, queues, reply_fault_of, ticks, new_connection}
 use Rattle.responder_machine.proofs.Connected.{KeepsSetup, changed_keeps}
+use Rattle.responder_machine.specs.Responding.{changed_if}
+use Rattle.responder_machine.specs.History.{History}
+use Rattle.spdm_progress.proofs.Drawn.{AreDrawn, does_drawn, draws_whole}
 use Rattle.world_machine.specs.Happenings.{Happening, Entry}
 use Rattle.world_machine.specs.Happenings.Happening.{Told, Reply, Deliver, Lose, Inject, Pump, Tick, Show}
 use Rattle.world_machine.specs.Setup.{WorldSetup}
@@ -55,13 +58,26 @@ given_setup a packet = either_given (asking.is_worn a) _ _ a refl (packet_setup 
 
 pub record KeepsEnds (r s : Responding) : Type 0 where
   pub part : s.part ≡ r.part
-  pub ends : (c : Connection) → IsIn s.connections c → (d : Connection) × IsIn r.connections d × (c.setup ≡ d.setup)
+  pub ends : (c : Connection) → IsIn s.connections c → (d : Connection) × IsIn r.connections d × (c.setup ≡ d.setup) × (AreDrawn d.history → AreDrawn c.history)
 
 same_ends : (r s : Responding) → s.part ≡ r.part → s.connections ≡ r.connections → KeepsEnds r s
-same_ends r s part is = record { part = part; ends = λ c m. (c, subst (λ (cs : List Connection). IsIn cs c) is m, refl) }
+same_ends r s part is = record { part = part; ends = λ c m. (c, subst (λ (cs : List Connection). IsIn cs c) is m, refl, λ k. k) }
 
-map_ends : (f : Connection → Connection) (cs : List Connection) → KeepsSetup f → (c : Connection) → IsIn (map f cs) c → (d : Connection) × IsIn cs d × (c.setup ≡ d.setup)
-map_ends f cs keeps c m = (let o = in_map f cs c m in (o.0, o.1, ap (λ (x : Connection). x.setup) o.2 ∙ keeps o.0))
+map_ends : (f : Connection → Connection) (cs : List Connection) → KeepsSetup f → ((d : Connection) → AreDrawn d.history → AreDrawn (f d).history) → (c : Connection) → IsIn (map f cs) c
+    → (d : Connection) × IsIn cs d × (c.setup ≡ d.setup) × (AreDrawn d.history → AreDrawn c.history)
+map_ends f cs keeps drawn c m = (let o = in_map f cs c m in (
+  o.0,
+  o.1,
+  ap (λ (x : Connection). x.setup) o.2 ∙ keeps o.0,
+  λ k. subst (λ (x : Connection). AreDrawn x.history) (sym o.2) (drawn o.0 k),
+))
+
+changed_drawn : (eid : ℕ) (change : History → History) → ((h : History) → AreDrawn h → AreDrawn (change h)) → (d : Connection) → AreDrawn d.history → AreDrawn (changed_if eid change d).history
+changed_drawn eid change keeps d k = go (d.setup.peer == eid)
+  where
+    go : (b : Bool) → AreDrawn (cond b (changed change d) d).history
+    go true = keeps d.history k
+    go false = k
 
 either_ends : (r : Responding) (b : Bool) (s t : RspStep) → KeepsEnds r s.after → KeepsEnds r t.after → KeepsEnds r (cond b s t).after
 either_ends r true s t e f = e
@@ -72,7 +88,7 @@ module _ (r : Responding) (packet : List ℕ) where
   gathered_ends c (Whole route body) =
       either_ends r (not route.owner) _ _ (same_ends r _ refl refl)
       (either_ends r (not (body_type body == 5 || body_type body == 6)) _ _ (same_ends r _ refl refl)
-      (record { part = refl; ends = map_ends _ r.connections (changed_keeps c.setup.peer _) }))
+      (record { part = refl; ends = map_ends _ r.connections (changed_keeps c.setup.peer _) (changed_drawn c.setup.peer _ (λ h k. does_drawn c.setup c.history h route.tag body (serving.next_draw r) (draws_whole r) k)) }))
   gathered_ends c More = same_ends r _ refl refl
   gathered_ends c (Dropped cause) = same_ends r _ refl refl
 
@@ -90,10 +106,10 @@ hears_ends r packet = either_ends r (serving.is_worn r) _ _ (same_ends r _ refl 
 
 pub queues_ends : (r : Responding) (eid : ℕ) (bytes : List ℕ) (fault : Option ReplyFault) → KeepsEnds r (queues fault r eid bytes)
 queues_ends r eid bytes (Some fault) = same_ends r r refl refl
-queues_ends r eid bytes None = record { part = refl; ends = map_ends _ r.connections (changed_keeps eid _) }
+queues_ends r eid bytes None = record { part = refl; ends = map_ends _ r.connections (changed_keeps eid _) (changed_drawn eid _ (λ h k. k)) }
 
 pub ticks_ends : (r : Responding) (seconds : ℕ) → KeepsEnds r (ticks r seconds)
-ticks_ends r seconds = record { part = refl; ends = map_ends _ r.connections (λ c. refl) }
+ticks_ends r seconds = record { part = refl; ends = map_ends _ r.connections (λ c. refl) (λ c k. k) }
 
 -- ---- The world.
 
@@ -102,6 +118,7 @@ pub record IsPlaced (eids : List ℕ) (own : ℕ) (requesters : List Requesting)
   pub own_is : responder.part.eid ≡ own
   pub theirs : (a : Requesting) → IsIn requesters a → a.setup.responder ≡ own
   pub ends : (c : Connection) → IsIn responder.connections c → c.setup.eid ≡ own
+  pub drawn : (c : Connection) → IsIn responder.connections c → AreDrawn c.history
 
 replaced_eid : (new old : Requesting) (b : Bool) → (old.setup.eid == new.setup.eid) ≡ b → (cond b new old).setup.eid ≡ old.setup.eid
 replaced_eid new old true e = sym (eqb-true old.setup.eid new.setup.eid e)
@@ -124,6 +141,7 @@ requester_placed eids own rs r k a new m same = record {
   theirs = λ x i. (let o = in_map (replaced new) rs x i in
       ap (λ (y : Requesting). y.setup.responder) o.2 ∙ replaced_theirs own new o.0 (o.0.setup.eid == new.setup.eid) (ap (λ (q : ReqSetup). q.responder) same ∙ k.theirs a m) (k.theirs o.0 o.1));
   ends = k.ends;
+  drawn = k.drawn;
 }
 
 pub responder_placed : (eids : List ℕ) (own : ℕ) (rs : List Requesting) (r s : Responding) → IsPlaced eids own rs r → KeepsEnds r s → IsPlaced eids own rs s
@@ -132,6 +150,7 @@ responder_placed eids own rs r s k keeps = record {
   own_is = ap (λ (p : RspPart). p.eid) keeps.part ∙ k.own_is;
   theirs = k.theirs;
   ends = λ c m. (let d = keeps.ends c m in ap (λ (x : RspSetup). x.eid) d.2 ∙ k.ends d.0 d.1);
+  drawn = λ c m. (let d = keeps.ends c m in d.3 (k.drawn d.0 d.1));
 }
 
 -- ---- All events.
@@ -216,5 +235,6 @@ always_placed w c entries = (from_placed (map (λ (q : ReqSetup). q.eid) (setups
     theirs = λ a m. (let o = in_map new_requesting w.requesters a m in
         ap (λ (x : Requesting). x.setup.responder) o.2 ∙ all_in (λ (q : ReqSetup). q.responder ≡ w.responder.part.eid) (setups_of w.requesters) c.peers o.0.setup (map_in (λ (e : ReqEnd). e.setup) w.requesters o.0 o.1));
     ends = λ x m. (let o = in_map (new_connection w.responder.part) w.responder.known x m in ap (λ (y : Connection). y.setup.eid) o.2);
+    drawn = λ x m. (let o = in_map (new_connection w.responder.part) w.responder.known x m in subst (λ (y : Connection). AreDrawn y.history) (sym o.2) tt);
   };
 })).is

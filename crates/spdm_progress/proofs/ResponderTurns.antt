@@ -25,7 +25,7 @@ abbrev pub taken_turn : RspSetup → Place → List ℕ → Free → RequestMess
 taken_turn r p m f v = record { message = m; refused = None; chunk = None; effect = Took v m (canonical_response (answer_of r p m f v)) None; reply = canonical_response (answer_of r p m f v) }
 
 -- A turn by the request, its answer and whether that is too large for one message.
-abbrev turn_with : List ℕ → Free → Option RequestMessage → List ℕ → Bool → Turn
+abbrev pub turn_with : List ℕ → Free → Option RequestMessage → List ℕ → Bool → Turn
 turn_with m f asked answer large = record {
   message = m;
   refused = None;
@@ -34,16 +34,20 @@ turn_with m f asked answer large = record {
   reply = if large then large_response f.handle else answer;
 }
 
-pub plainly_taken : (r : RspSetup) (p : Place) (m : List ℕ) (f : Free) (v : RequestMessage) → request_at p m ≡ Some v → chunk_in (Some v) ≡ None → refusal r p m f ≡ None
-    → goes_large p (canonical_response (answer_of r p m f v)) ≡ false → turn_of r p m f ≡ taken_turn r p m f v
+pub taken_somehow : (r : RspSetup) (p : Place) (m : List ℕ) (f : Free) (v : RequestMessage) → request_at p m ≡ Some v → chunk_in (Some v) ≡ None → refusal r p m f ≡ None
+    → turn_of r p m f ≡ turn_with m f (Some v) (canonical_response (answer_of r p m f v)) (goes_large p (canonical_response (answer_of r p m f v)))
 unfolding turn_of
-plainly_taken r p m f v is single taken small =
+taken_somehow r p m f v is single taken =
     ap (λ (o : Option ErrorCode). turn_by r p m f o (chunk_in (request_at p m))) taken
     ∙ ap (λ (o : Option RequestMessage). turn_by r p m f None (chunk_in o)) is
     ∙ ap (λ (o : Option ChunkMessage). turn_by r p m f None o) single
     ∙ ap (λ (o : Option RequestMessage). turn_with m f o (answer_bytes r p m f) (goes_large p (answer_bytes r p m f))) is
     ∙ ap (λ (answer : List ℕ). turn_with m f (Some v) answer (goes_large p answer)) (answered r p m f v is)
-    ∙ ap (λ (large : Bool). turn_with m f (Some v) (canonical_response (answer_of r p m f v)) large) small
+
+pub plainly_taken : (r : RspSetup) (p : Place) (m : List ℕ) (f : Free) (v : RequestMessage) → request_at p m ≡ Some v → chunk_in (Some v) ≡ None → refusal r p m f ≡ None
+    → goes_large p (canonical_response (answer_of r p m f v)) ≡ false → turn_of r p m f ≡ taken_turn r p m f v
+plainly_taken r p m f v is single taken small =
+    taken_somehow r p m f v is single taken ∙ ap (λ (large : Bool). turn_with m f (Some v) (canonical_response (answer_of r p m f v)) large) small
 
 -- ---- No test holds.
 

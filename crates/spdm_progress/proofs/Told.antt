@@ -18,6 +18,7 @@ use Rattle.spdm_agreement.proofs.Responder.DataAnswered as serves
 use Rattle.spdm_agreement.proofs.Worlds.AllEvents.{after_good, requester_in}
 use Rattle.spdm_agreement.proofs.Worlds.Fits.{Fits}
 use Rattle.spdm_agreement.specs.Configured.{IsConfigured, IsRequester, IsResponder, AreApart, setups_of}
+use Rattle.spdm_progress.proofs.Drawn.{AreDrawn}
 use Rattle.spdm_progress.proofs.PacketSteps.{Pair, AreEnds}
 use Rattle.spdm_progress.proofs.Placed.{always_placed}
 use Rattle.spdm_progress.proofs.Places.{AllDiffer, first_is, number_is}
@@ -47,6 +48,7 @@ pub record ArePlaced (world : World) (n : ℕ) (a : Requesting) (c : Connection)
   pub requester : IsRequester a.setup
   pub responder : IsResponder c.setup
   pub made : IsMade c.setup c.history
+  pub drawn : AreDrawn c.history
   pub to : a.setup.responder ≡ c.setup.eid
   pub found : find (is_at a.setup.eid) world.requesters ≡ Some a
   pub number_is : number_at a.setup.eid world ≡ n
@@ -74,6 +76,7 @@ are_placed w before n a c configured chance is connected =
       requester = a_setup;
       responder = c_setup;
       made = (fits.serves c c_in).made;
+      drawn = placed.drawn c c_in;
       to = to;
       found = first_is n world a is differ;
       number_is = number_is n world a is differ;

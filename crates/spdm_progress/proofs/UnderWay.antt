@@ -1,6 +1,6 @@
 -- A connect under way: which of its six packets waits, and what both ends hold; and what pumps, queued data and time do
 -- to it.
-use Rattle.std.proofs.Common.{◌≡◌, ◌⊎◌, ℕ, suc, ◌<◌, ◌≤◌, List, length, Option, Some, None, sym, subst, inl, inr, arith}
+use Rattle.std.proofs.Common.{[], ◌≡◌, ◌⊎◌, ℕ, suc, ◌<◌, ◌≤◌, List, length, Option, Some, None, sym, subst, inl, inr, arith}
 use Rattle.spdm_grammar.specs.Lines.{Line}
 use Rattle.spdm_grammar.specs.Message.{OfferMessage}
 use Rattle.spdm_grammar.specs.Message.RequestMessage.{GetVersion, GetCapabilities, NegotiateAlgorithms}
@@ -83,8 +83,8 @@ module _ (p : Pair) (ends : AreEnds p) (offer : OfferMessage) (choice : Choice) 
 
   version_given : (world : World) (tag : ℕ) (x : Requested 3 3 tag get_version (AsksVersion tag) AwaitsVersion world) → Replied 3 2 tag version (AsksVersion tag) HasVersion (delivers world (suc x.waits.place) (packet_of (suc x.waits.place) world.sent)).after
   version_given world tag x =
-      let s = request_given p ends 3 2 (AsksVersion tag) AwaitsVersion HasVersion tag get_version (λ d. version) x.small (omega arith)
-      (λ h d drawn awaits. version_answered p.responder h tag d can.responder_room awaits) world x.waits x.pair in
+      let s = request_given p ends 3 2 (AsksVersion tag) AwaitsVersion HasVersion tag get_version (λ v. Unit {0}) (λ v. version) x.small (omega arith)
+      (λ h d drawn awaits. ([], tt, version_answered p.responder h tag d can.responder_room awaits)) world x.waits x.pair in
       record { small = x.small; waits = answer_waits p ends tag version s.before _ (omega arith) s.idle s.sends; pair = s.pair }
 
   version_taken : (world : World) (tag : ℕ) (x : Replied 3 2 tag version (AsksVersion tag) HasVersion world)
@@ -97,8 +97,8 @@ module _ (p : Pair) (ends : AreEnds p) (offer : OfferMessage) (choice : Choice) 
   capabilities_given : (world : World) (tag : ℕ) (x : Requested 2 2 tag (get_capabilities p.requester) (AsksCapabilities tag) HasVersion world)
       → Replied 2 1 tag (capabilities p.responder) (AsksCapabilities tag) Capable (delivers world (suc x.waits.place) (packet_of (suc x.waits.place) world.sent)).after
   capabilities_given world tag x =
-      let s = request_given p ends 2 1 (AsksCapabilities tag) HasVersion Capable tag (get_capabilities p.requester) (λ d. capabilities p.responder) x.small (omega arith)
-      (λ h d drawn has. capabilities_answered p.requester p.responder h tag d (common_for p.requester p.responder) can.responder_room can.own_caps can.together has) world x.waits x.pair in
+      let s = request_given p ends 2 1 (AsksCapabilities tag) HasVersion Capable tag (get_capabilities p.requester) (λ v. Unit {0}) (λ v. capabilities p.responder) x.small (omega arith)
+      (λ h d drawn has. ([], tt, capabilities_answered p.requester p.responder h tag d (common_for p.requester p.responder) can.responder_room can.own_caps can.together has)) world x.waits x.pair in
       record { small = x.small; waits = answer_waits p ends tag (capabilities p.responder) s.before _ (omega arith) s.idle s.sends; pair = s.pair }
 
   capabilities_taken : (world : World) (tag : ℕ) (x : Replied 2 1 tag (capabilities p.responder) (AsksCapabilities tag) Capable world)
@@ -111,8 +111,8 @@ module _ (p : Pair) (ends : AreEnds p) (offer : OfferMessage) (choice : Choice) 
   algorithms_given : (world : World) (tag : ℕ) (x : Requested 1 1 tag (negotiate_algorithms offer) (AsksAlgorithms tag) Capable world)
       → Replied 1 0 tag (algorithms p.responder offer) (AsksAlgorithms tag) Agreed (delivers world (suc x.waits.place) (packet_of (suc x.waits.place) world.sent)).after
   algorithms_given world tag x =
-      let s = request_given p ends 1 0 (AsksAlgorithms tag) Capable Agreed tag (negotiate_algorithms offer) (λ d. algorithms p.responder offer) x.small neg_short
-      (λ h d drawn has. algorithms_answered p.requester p.responder h tag d offer choice neg_long can.request_fits can.own.fits can.own.sound can.chosen (takes_answer p.requester p.responder offer choice h can has) has) world x.waits x.pair in
+      let s = request_given p ends 1 0 (AsksAlgorithms tag) Capable Agreed tag (negotiate_algorithms offer) (λ v. Unit {0}) (λ v. algorithms p.responder offer) x.small neg_short
+      (λ h d drawn has. ([], tt, algorithms_answered p.requester p.responder h tag d offer choice neg_long can.request_fits can.own.fits can.own.sound can.chosen (takes_answer p.requester p.responder offer choice h can has) has)) world x.waits x.pair in
       record { small = x.small; waits = answer_waits p ends tag (algorithms p.responder offer) s.before _ alg_short s.idle s.sends; pair = s.pair }
 
   algorithms_taken : (world : World) (tag : ℕ) (x : Replied 1 0 tag (algorithms p.responder offer) (AsksAlgorithms tag) Agreed world)

@@ -8,8 +8,6 @@ use Rattle.requester_machine.specs.Message.Command.{Connect}
 use Rattle.requester_machine.specs.Requesting.{Requesting}
 use Rattle.responder_machine.specs.Answer.{algorithms_answer}
 use Rattle.responder_machine.specs.History as served
-use Rattle.responder_machine.specs.Refusal.{code_of}
-use Rattle.spdm_grammar.specs.declared.names.request_code.TheConstants.{NEGOTIATE_ALGORITHMS}
 use Rattle.responder_machine.specs.Responding.{Connection, Responding, connection_of}
 use Rattle.requester_machine.specs.Setup.{ReqSetup, requester_caps}
 use Rattle.responder_machine.specs.Setup.{RspSetup, policy_of, responder_caps}
@@ -66,7 +64,6 @@ pub record IsConnected (n : ℕ) (q : ReqSetup) (r : RspSetup) (choice : Choice)
   pub same : asked.negotiation_of requester.history ≡ served.negotiation_of (served.clear_turns connection.history)
   pub chosen : (asked.connection_terms requester.history).choice ≡ choice
   pub common : (asked.connection_terms requester.history).common ≡ shared (requester_caps q) (responder_caps r)
-  pub last : (kept : served.Kept) → served.kept_of connection.history ≡ Some kept → code_of kept.message ≡ NEGOTIATE_ALGORITHMS
 
 -- The world in which requester n was told to connect.
 abbrev pub connecting : World → (line n : ℕ) → World

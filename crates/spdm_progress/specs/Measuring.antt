@@ -7,7 +7,6 @@ use Rattle.requester_machine.specs.Message.Command.{Measure}
 use Rattle.requester_machine.specs.Requesting.{Requesting, requester_told}
 use Rattle.requester_machine.specs.Shown.{last_data}
 use Rattle.responder_machine.specs.History as served
-use Rattle.responder_machine.specs.Responder.{is_repeat}
 use Rattle.responder_machine.specs.Responding.{Connection, Responding, connection_of}
 use Rattle.responder_machine.specs.Setup.{RspSetup, inventory_of}
 use Rattle.spdm_agreement.specs.Configured.{IsConfigured, IsRequester, IsResponder}
@@ -15,8 +14,6 @@ use Rattle.requester_machine.specs.Setup.{ReqSetup}
 use Rattle.spdm_grammar.specs.declared.choice.Choice.{Choice}
 use Rattle.spdm_progress.specs.Connecting.{IsConnected}
 use Rattle.spdm_grammar.specs.Lines.{Line}
-use Rattle.spdm_grammar.specs.Message.RequestMessage.{GetMeasurements}
-use Rattle.spdm_grammar.specs.Requests.{canonical_request}
 use Rattle.spdm_grammar.specs.declared.event.Event.TheVariants as event
 use Rattle.spdm_grammar.specs.declared.event.Finished.TheVariants as finished
 use Rattle.spdm_grammar.specs.declared.phase.Phase.TheVariants.{Negotiated}
@@ -44,8 +41,7 @@ measurements_size r op = 42 + length (record_for r op)
 -- What a clear measure needs. Both ends are negotiated, with one negotiation, as a connect leaves them, and it chose
 -- measurements. The operation is a byte, and a block that it names is configured. The request, of 4 bytes, and the
 -- answer fit the transfer sizes of their receivers as they were negotiated, and the answer that of the requester as it is
--- set up. The request is not the last one that the responder took in the clear, under the same tag, which would be
--- answered from memory.
+-- set up.
 pub record CanMeasure (a : Requesting) (c : Connection) (op : ℕ) : Type 0 where
   pub requester_phase : asked.phase_of a.history ≡ Negotiated
   pub responder_phase : served.phase_of (served.clear_turns c.history) ≡ Negotiated
@@ -57,7 +53,6 @@ pub record CanMeasure (a : Requesting) (c : Connection) (op : ℕ) : Type 0 wher
   pub answer_fits : measurements_size c.setup op ≤ (asked.connection_terms a.history).common.to_requester.transfer
   pub answer_fits_max : measurements_size c.setup op ≤ (asked.connection_terms a.history).common.to_requester.max
   pub answer_fits_own : measurements_size c.setup op ≤ a.setup.transfer
-  pub new : is_repeat (served.kept_of c.history) (asked.next_tag a.history) (canonical_request (GetMeasurements op)) ≡ false
 
 -- Neither end is worn out before it is over: the requester takes the command and up to 66 packets, the responder one.
 pub record LivesToMeasure (a : Requesting) (r : Responding) : Type 0 where

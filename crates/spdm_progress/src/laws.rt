@@ -23,7 +23,7 @@ pub fn each_is_connected()
 /// A measure in the clear, told where no packet waits, is done once no packet waits again, whatever
 /// an honest script says in between: the requester is told how many measurements there are, and the
 /// record that it took is the one that the responder is set up with. It speaks of answers that need
-/// no chunks, and not of a request that the responder answers from memory.
+/// no chunks.
 pub fn measure_completes()
     ensures { MeasureCompletes }
 {}
