@@ -7,5 +7,5 @@ mod WholeRoute
 mod SpanList
 mod Room
 mod NewStart
-mod CutAndGathered
+pub mod CutAndGathered
 pub mod OwnPackets

@@ -55,7 +55,7 @@ changed_one : (eid : ℕ) (change : History → History) (connections : List Con
 changed_one eid change [] c is = absurd (none_some c is)
 changed_one eid change (d ∷ others) c is = changed_by eid change (d.setup.peer == eid) c d others refl is (changed_one eid change others c)
 
-changed_at : (eid peer : ℕ) (change : History → History) (connections : List Connection) (c : Connection) → peer ≡ eid → connection_of eid connections ≡ Some c
+pub changed_at : (eid peer : ℕ) (change : History → History) (connections : List Connection) (c : Connection) → peer ≡ eid → connection_of eid connections ≡ Some c
     → connection_of eid (with_history peer change connections) ≡ Some (changed change c)
 changed_at eid peer change connections c e is = subst (λ (p : ℕ). connection_of eid (with_history p change connections) ≡ Some (changed change c)) (sym e) (changed_one eid change connections c is)
 

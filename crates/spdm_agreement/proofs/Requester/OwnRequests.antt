@@ -20,14 +20,14 @@ use Rattle.spdm_agreement.proofs.Requester.AnyCommand.{asks_well_by}
 use Rattle.spdm_agreement.proofs.Worlds.EndSteps.{AsksWell}
 use Rattle.spdm_agreement.proofs.Messages.Beginnings.{is_request}
 
-at_most : (b : Bool) (x : ℕ) → cond b x 0 ≤ x
+pub at_most : (b : Bool) (x : ℕ) → cond b x 0 ≤ x
 at_most true x = omega arith
 at_most false x = omega arith
 
 few_flags : (f : FlagSet) → optional_flags f ≤ HBEAT_CAP + KEY_UPD_CAP + CHUNK_CAP
 few_flags f = (let a = at_most f.heartbeat HBEAT_CAP in let b = at_most f.key_update KEY_UPD_CAP in let c = at_most f.chunk CHUNK_CAP in omega arith)
 
-caps_fit : (q : ReqSetup) → IsRequester q → FitsCaps (requester_caps q)
+pub caps_fit : (q : ReqSetup) → IsRequester q → FitsCaps (requester_caps q)
 caps_fit q setup = record {
   ct = omega arith;
   flags = (let k = few_flags q.flags in omega arith);
@@ -35,7 +35,7 @@ caps_fit q setup = record {
   max = (let b = setup.sizes.most in omega arith);
 }
 
-are_four : (aead : ℕ) → AreTables 4 (offer_tables aead)
+pub are_four : (aead : ℕ) → AreTables 4 (offer_tables aead)
 are_four aead = (
   2 ∷ 0x20 ∷ 0 ∷ 0 ∷ [],
   3 ∷ 0x20 ∷ aead ∷ 0 ∷ 4 ∷ 0x20 ∷ 0 ∷ 0 ∷ 5 ∷ 0x20 ∷ 1 ∷ 0 ∷ [],
@@ -59,7 +59,7 @@ are_four aead = (
     one : (kind value : ℕ) → IsTable (kind ∷ 0x20 ∷ value ∷ 0 ∷ [])
     one kind value = record { fixed_part = omega arith; fixed_count = refl; entries = refl }
 
-abbrev offer_with : (hash aead : ℕ) → OfferMessage
+abbrev pub offer_with : (hash aead : ℕ) → OfferMessage
 offer_with hash aead = record { measurement = 1; other = 2; asym = 0; hash = hash; ext_asym = []; ext_hash = []; count = 4; tables = offer_tables aead }
 
 offer_read : (hash aead : ℕ) → hash < 2 ^ 32 → is_request 32 (canonical_request (NegotiateAlgorithms (offer_with hash aead))) ≡ true

@@ -78,14 +78,14 @@ algorithms_alike len = refl
 
 -- ---- The answers are read again.
 
-answer_read : (len : ℕ) (v : ResponseMessage) → FitsResponse v → IsSoundResponse len false v → response_in len false (canonical_response v) ≡ Some v
+pub answer_read : (len : ℕ) (v : ResponseMessage) → FitsResponse v → IsSoundResponse len false v → response_in len false (canonical_response v) ≡ Some v
 answer_read len v fits sound = (read_iff (response_layout len false) v (canonical_response v)).1 (response_spelled len false v fits sound).is
 
 flag_most : (b : Bool) (n : ℕ) → cond b n 0 ≤ n
 flag_most true n = omega arith
 flag_most false n = omega arith
 
-caps_fit : (r : RspSetup) → IsResponder r → FitsCaps (responder_caps r)
+pub caps_fit : (r : RspSetup) → IsResponder r → FitsCaps (responder_caps r)
 caps_fit r s =
     let a = flag_most r.flags.measure MEAS_CAP in
     let b = flag_most r.flags.heartbeat HBEAT_CAP in
@@ -103,7 +103,7 @@ measurement_few : (hash : HashAlg) → measurement_hash_bit hash ≤ 4
 measurement_few Sha256 = omega arith
 measurement_few Sha384 = omega arith
 
-reply_fits : (offer : OfferMessage) (choice : Choice) → FitsReply (reply_of offer choice)
+pub reply_fits : (offer : OfferMessage) (choice : Choice) → FitsReply (reply_of offer choice)
 reply_fits offer choice =
     let a = flag_most choice.measure 1 in
     let b = flag_most choice.measure (measurement_hash_bit choice.hash) in
@@ -113,7 +113,7 @@ reply_fits offer choice =
     let f = few_kinds offer in
     record { measurement = omega arith; other = omega arith; measurement_hash = omega arith; asym = omega arith; hash = omega arith; count = omega arith }
 
-reply_sound : (offer : OfferMessage) (choice : Choice) → IsSoundReply (reply_of offer choice)
+pub reply_sound : (offer : OfferMessage) (choice : Choice) → IsSoundReply (reply_of offer choice)
 reply_sound offer choice = record {
   ext_asym = refl;
   ext_asym_few = omega arith;

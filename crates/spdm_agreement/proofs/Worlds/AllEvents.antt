@@ -34,7 +34,7 @@ found_at place [] a is = absurd (none_some a is)
 found_at zero (b ∷ others) a is = inl (sym (some_same b a is))
 found_at (suc place) (b ∷ others) a is = inr (found_at place others a is)
 
-requester_in : (n : ℕ) (world : World) (a : Requesting) → requester_of n world ≡ Some a → IsIn world.requesters a
+pub requester_in : (n : ℕ) (world : World) (a : Requesting) → requester_of n world ≡ Some a → IsIn world.requesters a
 requester_in zero world a is = absurd (none_some a is)
 requester_in (suc place) world a is = found_at place world.requesters a is
 

@@ -38,7 +38,7 @@ use Rattle.spdm_agreement.proofs.Worlds.RequesterChanges.{renewed, requester_goe
 
 -- ---- Draws.
 
-draw_length : (seed : List ℕ) (number : ℕ) → length (draw seed number) ≡ 32
+pub draw_length : (seed : List ℕ) (number : ℕ) → length (draw seed number) ≡ 32
 unfolding hmac
 draw_length seed number = length-sha256 _
 

@@ -1,0 +1,35 @@
+//! What honest delivery completes, each law as the contract of a function that does nothing.
+
+ghost use Rattle.spdm_progress.specs.Connecting.{ConnectCompletes, EachIsConnected, SixPacketsAreEnough};
+ghost use Rattle.spdm_progress.specs.Measuring.{ConnectedCanMeasure, MeasureCompletes};
+
+/// A connect that is told where no packet waits is done once no packet waits again, whatever an
+/// honest script says in between: the requester is told so, and both ends hold one negotiation. It
+/// speaks of set-ups with which no message of it needs chunks.
+pub fn connect_completes()
+    ensures { ConnectCompletes }
+{}
+
+/// No packet of it waits after a pump of six.
+pub fn six_packets_are_enough()
+    ensures { SixPacketsAreEnough }
+{}
+
+/// The responder has a connection with each requester of a world.
+pub fn each_is_connected()
+    ensures { EachIsConnected }
+{}
+
+/// A measure in the clear, told where no packet waits, is done once no packet waits again, whatever
+/// an honest script says in between: the requester is told how many measurements there are, and the
+/// record that it took is the one that the responder is set up with. It speaks of answers that need
+/// no chunks.
+pub fn measure_completes()
+    ensures { MeasureCompletes }
+{}
+
+/// Right behind a connect that chose measurements, a measure needs no more than that a block which it
+/// names is configured, and that the answer fits the transfer size of the requester's set-up.
+pub fn connected_can_measure()
+    ensures { ConnectedCanMeasure }
+{}
