@@ -74,10 +74,12 @@ impl Collector {
     /// without the last mark has fewer than 26 bytes. `EarlyLast`: the last mark with a sum below the told
     /// size. `MissingLast`: the told size is reached without the mark.
     pub fn take(&mut self, chunk: ChunkView<'_>) -> Collected<'_>
-        ensures answer { (accepted : List ChunkMessage) → StandsFor self.old accepted → collection_of result ≡ collected self.old.max accepted (chunk_message chunk.entry) }
+        ensures answer { (accepted : List ChunkMessage) → StandsFor self.old accepted
+            → collection_of result ≡ collected self.old.max accepted (chunk_message chunk.entry) }
         ensures fits { length (whole_of result) ≤ MAX_MESSAGE_SIZE }
         // What it is once the message is given back.
-        ensures* rests { sem 𝓛 (RestsWith self.entry (chunk_message chunk.entry) (collection_of result)) }
+        ensures* rests { sem 𝓛 (RestsWith self.entry (chunk_message chunk.entry)
+            (collection_of result)) }
     {
         match self.step(chunk) {
             Step::Whole => Collected::Whole(self.bytes.as_slice()),
@@ -110,7 +112,8 @@ impl Collector {
 
     // Takes a chunk.
     fn step(&mut self, chunk: ChunkView<'_>) -> Step
-        ensures answer { step_answer result self.new.bytes ≡ answer_to self.old (chunk_message chunk.entry) }
+        ensures answer { step_answer result self.new.bytes
+            ≡ answer_to self.old (chunk_message chunk.entry) }
         ensures after { self.new ≡ after_chunk self.old (chunk_message chunk.entry) }
     {
         if chunk.number == 0 {
@@ -121,7 +124,9 @@ impl Collector {
 
     // Takes a chunk of number 0.
     fn begin(&mut self, chunk: ChunkView<'_>) -> Step
-        ensures answer { step_answer result self.new.bytes ≡ answer_from (first_rule self.old.max (chunk_message chunk.entry)) (chunk_message chunk.entry) chunk.entry.chunk.now }
+        ensures answer { step_answer result self.new.bytes
+            ≡ answer_from (first_rule self.old.max (chunk_message chunk.entry))
+            (chunk_message chunk.entry) chunk.entry.chunk.now }
         ensures after { self.new ≡ after_first self.old (chunk_message chunk.entry) }
     {
         if let Some(fault) = broken_first_rule(chunk, self.max) {
@@ -134,8 +139,10 @@ impl Collector {
 
     // Takes a chunk of another number.
     fn go_on(&mut self, chunk: ChunkView<'_>) -> Step
-        ensures answer { step_answer result self.new.bytes ≡ answer_later self.old.unfinished self.old (chunk_message chunk.entry) }
-        ensures after { self.new ≡ after_later self.old.unfinished self.old (chunk_message chunk.entry) }
+        ensures answer { step_answer result self.new.bytes
+            ≡ answer_later self.old.unfinished self.old (chunk_message chunk.entry) }
+        ensures after { self.new ≡ after_later self.old.unfinished self.old
+            (chunk_message chunk.entry) }
     {
         let Some(unfinished) = self.unfinished else {
             return Step::Refused(ChunkFault::WrongNumber);
@@ -151,7 +158,9 @@ impl Collector {
     fn grow(&mut self, chunk: ChunkView<'_>, told: u32) -> Step
         requires most { told ≤ MAX_MESSAGE_SIZE }
         requires fits { length self.old.bytes + length chunk.chunk.now ≤ told }
-        ensures answer { step_answer result self.new.bytes ≡ answer_from None (chunk_message chunk.entry) (self.old.bytes ++ chunk.entry.chunk.now) }
+        ensures answer { step_answer result self.new.bytes
+            ≡ answer_from None (chunk_message chunk.entry)
+            (self.old.bytes ++ chunk.entry.chunk.now) }
         ensures after { self.new ≡ grown self.old (chunk_message chunk.entry) told }
     {
         let _ = self.bytes.extend(chunk.chunk);

@@ -58,9 +58,12 @@ impl Splitter {
     /// `Fits` exactly where the message is not longer than `transfer` less 16.
     pub fn new(message: &[u8], transfer: u32, handle: u8) -> Result<Splitter, SplitFault>
         requires { length message.now ≤ MAX_MESSAGE_SIZE }
-        ensures chunks { IfOk result (λ splitter. splitter ≡ chunks_of transfer handle message.now) }
-        ensures small { (result ≡ Err SplitFault.TransferTooSmall) ↔ (transfer < MIN_DATA_TRANSFER_SIZE) }
-        ensures fits { (result ≡ Err SplitFault.Fits) ↔ ((MIN_DATA_TRANSFER_SIZE ≤ transfer) × (length message.now + 16 ≤ transfer)) }
+        ensures chunks { IfOk result (λ splitter. splitter
+            ≡ chunks_of transfer handle message.now) }
+        ensures small { (result ≡ Err SplitFault.TransferTooSmall) ↔
+            (transfer < MIN_DATA_TRANSFER_SIZE) }
+        ensures fits { (result ≡ Err SplitFault.Fits) ↔ ((MIN_DATA_TRANSFER_SIZE ≤ transfer)
+            × (length message.now + 16 ≤ transfer)) }
     {
         if transfer < MIN_DATA_TRANSFER_SIZE {
             return Err(SplitFault::TransferTooSmall);

@@ -47,7 +47,8 @@ pub(crate) fn told_by(chunk: ChunkView<'_>) -> u32
 pub(crate) fn broken_first_rule(chunk: ChunkView<'_>, max: u32) -> Option<ChunkFault>
     ensures rule { result ≡ first_rule max (chunk_message chunk.entry) }
     ensures most { IfNone result (told_by (chunk_message chunk.entry) ≤ MAX_MESSAGE_SIZE) }
-    ensures fits { IfNone result (length chunk.entry.chunk.now ≤ told_by (chunk_message chunk.entry)) }
+    ensures fits { IfNone result (length chunk.entry.chunk.now ≤ told_by
+        (chunk_message chunk.entry)) }
 {
     let told = told_by(chunk);
     if told > max.min(MAX_MESSAGE_SIZE) {

@@ -39,7 +39,8 @@ fn next_block(hash: HashAlg, prk: &[u8], last: &[u8], info: &[u8], count: u8) ->
 // Writes `block` into `out` from `at` on, as much of it as there is room for.
 fn write_block(out: &mut [u8], at: usize, block: &[u8])
     requires { at ≤ length out.old }
-    ensures { out.new ≡ take at out.old ++ take (length out.old - at) block.now ++ drop (at + length block.now) out.old }
+    ensures { out.new ≡ take at out.old ++ take (length out.old - at) block.now ++ drop (at
+        + length block.now) out.old }
 {
     let count = block.len().min(out.len() - at);
     out[at..at + count].copy_from_slice(&block[..count]);

@@ -104,7 +104,8 @@ impl RunningMac {
     // The HMAC of the text.
     #[tactic(auto, unfolding(crate::specs::Hmac::hmac))]
     pub fn finish(mut self) -> HashBytes
-        ensures value { (hash : HashAlg) (key text : List ℕ) → Runs self hash → HoldsMac hash self key text
+        ensures value { (hash : HashAlg) (key text : List ℕ) → Runs self hash
+            → HoldsMac hash self key text
             → result ≡ hmac (hash_of hash) key text }
         ensures size { (hash : HashAlg) → Runs self hash → length result ≡ hash_size hash }
     {

@@ -29,20 +29,24 @@ impl AppKeys {
         ensures request { result.request ≡ record {
           hash = handshake.now.hash;
           aead = handshake.now.aead;
-          secret = application_direction_secret (hash_of handshake.now.hash) (master_secret (hash_of handshake.now.hash) handshake.now.handshake) Request th2.now;
+          secret = application_direction_secret (hash_of handshake.now.hash) (master_secret
+              (hash_of handshake.now.hash) handshake.now.handshake) Request th2.now;
           epoch = 0;
         } }
         ensures response { result.response ≡ record {
           hash = handshake.now.hash;
           aead = handshake.now.aead;
-          secret = application_direction_secret (hash_of handshake.now.hash) (master_secret (hash_of handshake.now.hash) handshake.now.handshake) Response th2.now;
+          secret = application_direction_secret (hash_of handshake.now.hash) (master_secret
+              (hash_of handshake.now.hash) handshake.now.handshake) Response th2.now;
           epoch = 0;
         } }
 
         // The hash may be that of any transcript.
-        ensures request_purpose { (psk t1 t2 : List ℕ) → AreSecretsOf handshake.now psk t1 → th2.now ≡ (hash_of handshake.now.hash).digest t2
+        ensures request_purpose { (psk t1 t2 : List ℕ) → AreSecretsOf handshake.now psk t1
+            → th2.now ≡ (hash_of handshake.now.hash).digest t2
             → IsSecretOf result.request (application_record psk t2 Request 0) }
-        ensures response_purpose { (psk t1 t2 : List ℕ) → AreSecretsOf handshake.now psk t1 → th2.now ≡ (hash_of handshake.now.hash).digest t2
+        ensures response_purpose { (psk t1 t2 : List ℕ) → AreSecretsOf handshake.now psk t1
+            → th2.now ≡ (hash_of handshake.now.hash).digest t2
             → IsSecretOf result.response (application_record psk t2 Response 0) }
     {
         let hash = handshake.hash();
@@ -76,7 +80,8 @@ fn direction_secret(
 ) -> HashBytes
     requires secret { length master.now ≡ hash_size hash }
     requires th2 { length th2.now ≡ hash_size hash }
-    ensures value { result ≡ application_direction_secret (hash_of hash) master.now direction th2.now }
+    ensures value { result ≡ application_direction_secret
+        (hash_of hash) master.now direction th2.now }
     ensures size { length result ≡ hash_size hash }
 {
     derive_secret(

@@ -69,8 +69,13 @@ impl DirectionKey {
     #[tactic(auto, unfolding(crate::specs::Schedule::secret_at))]
     pub fn next(self) -> DirectionKey
         requires { self.epoch < 2 ^ 64 - 1 }
-        ensures value { result ≡ record self { secret = updated_secret (hash_of self.hash) self.secret; epoch = self.epoch + 1 } }
-        ensures purpose { (p : Purpose) → IsSecretOf self p → IsSecretOf result (record p { epoch = p.epoch + 1 }) }
+        ensures value { result ≡ record self {
+          secret = updated_secret
+              (hash_of self.hash) self.secret;
+          epoch = self.epoch + 1;
+        } }
+        ensures purpose { (p : Purpose) → IsSecretOf self p
+            → IsSecretOf result (record p { epoch = p.epoch + 1 }) }
     {
         let secret = derive_secret(self.hash, &self.secret, Label::Update, &[]);
         DirectionKey::of_secret(self.hash, self.aead, secret, self.epoch + 1)
@@ -78,9 +83,11 @@ impl DirectionKey {
 
     /// The key of the records: 16 or 32 bytes, by the AEAD.
     pub fn key(&self) -> &[u8]
-        ensures value { result.now ≡ record_key (hash_of self.now.hash) self.now.aead self.now.secret }
+        ensures value { result.now ≡ record_key
+            (hash_of self.now.hash) self.now.aead self.now.secret }
         ensures size { length result.now ≡ key_size self.now.aead }
-        ensures purpose { (p : Purpose) → IsSecretOf self.now p → result.now ≡ key_of self.now.hash self.now.aead p }
+        ensures purpose { (p : Purpose) → IsSecretOf self.now p
+            → result.now ≡ key_of self.now.hash self.now.aead p }
     {
         self.key.as_slice()
     }
@@ -88,7 +95,8 @@ impl DirectionKey {
     /// The initialization vector of the records.
     pub fn iv(&self) -> &[u8; 12]
         ensures value { result.now ≡ record_iv (hash_of self.now.hash) self.now.secret }
-        ensures purpose { (p : Purpose) → IsSecretOf self.now p → result.now ≡ iv_of self.now.hash p }
+        ensures purpose { (p : Purpose) → IsSecretOf self.now p
+            → result.now ≡ iv_of self.now.hash p }
     {
         &self.iv
     }

@@ -46,11 +46,14 @@ impl HandshakeKeys {
         ensures hash { result.hash ≡ hash }
         ensures aead { result.aead ≡ aead }
         ensures handshake { result.handshake ≡ handshake_secret (hash_of hash) psk.now }
-        ensures request { result.request ≡ handshake_direction_secret (hash_of hash) result.handshake Request th1.now }
-        ensures response { result.response ≡ handshake_direction_secret (hash_of hash) result.handshake Response th1.now }
+        ensures request { result.request
+            ≡ handshake_direction_secret (hash_of hash) result.handshake Request th1.now }
+        ensures response { result.response
+            ≡ handshake_direction_secret (hash_of hash) result.handshake Response th1.now }
 
         // The hash may be that of any transcript.
-        ensures purpose { (t1 : List ℕ) → th1.now ≡ (hash_of hash).digest t1 → AreSecretsOf result psk.now t1 }
+        ensures purpose { (t1 : List ℕ) → th1.now ≡ (hash_of hash).digest t1
+            → AreSecretsOf result psk.now t1 }
     {
         let handshake = hmac_by(hash, zero_bytes(hash).as_slice(), psk.as_slice());
         let request = direction_secret(hash, &handshake, Direction::Request, th1);
@@ -72,7 +75,8 @@ impl HandshakeKeys {
         ensures value { result ≡ verify_data (hash_of self.now.hash) self.now.response th.now }
         ensures size { length result ≡ hash_size self.now.hash }
         ensures purpose { (psk t1 : List ℕ) → AreSecretsOf self.now psk t1
-            → result ≡ hmac (hash_of self.now.hash) (key_of self.now.hash self.now.aead (verify psk t1 Response)) th.now }
+            → result ≡ hmac (hash_of self.now.hash) (key_of self.now.hash self.now.aead
+            (verify psk t1 Response)) th.now }
     {
         verify_by(self.hash, &self.response, th)
     }
@@ -85,7 +89,8 @@ impl HandshakeKeys {
         ensures value { result ≡ verify_data (hash_of self.now.hash) self.now.request th.now }
         ensures size { length result ≡ hash_size self.now.hash }
         ensures purpose { (psk t1 : List ℕ) → AreSecretsOf self.now psk t1
-            → result ≡ hmac (hash_of self.now.hash) (key_of self.now.hash self.now.aead (verify psk t1 Request)) th.now }
+            → result ≡ hmac (hash_of self.now.hash) (key_of self.now.hash self.now.aead
+            (verify psk t1 Request)) th.now }
     {
         verify_by(self.hash, &self.request, th)
     }
@@ -94,7 +99,8 @@ impl HandshakeKeys {
     #[tactic(auto, unfolding(crate::specs::Schedule::secret_at))]
     pub fn request_key(&self) -> DirectionKey
         ensures value { result ≡ record { hash = self.now.hash; aead = self.now.aead; secret = self.now.request; epoch = 0 } }
-        ensures purpose { (psk t1 : List ℕ) → AreSecretsOf self.now psk t1 → IsSecretOf result (handshake_record psk t1 Request) }
+        ensures purpose { (psk t1 : List ℕ) → AreSecretsOf self.now psk t1
+            → IsSecretOf result (handshake_record psk t1 Request) }
     {
         DirectionKey::of_secret(self.hash, self.aead, self.request.clone().unwrap(), 0)
     }
@@ -103,7 +109,8 @@ impl HandshakeKeys {
     #[tactic(auto, unfolding(crate::specs::Schedule::secret_at))]
     pub fn response_key(&self) -> DirectionKey
         ensures value { result ≡ record { hash = self.now.hash; aead = self.now.aead; secret = self.now.response; epoch = 0 } }
-        ensures purpose { (psk t1 : List ℕ) → AreSecretsOf self.now psk t1 → IsSecretOf result (handshake_record psk t1 Response) }
+        ensures purpose { (psk t1 : List ℕ) → AreSecretsOf self.now psk t1
+            → IsSecretOf result (handshake_record psk t1 Response) }
     {
         DirectionKey::of_secret(self.hash, self.aead, self.response.clone().unwrap(), 0)
     }
@@ -140,7 +147,8 @@ fn direction_secret(
 ) -> HashBytes
     requires secret { length handshake.now ≡ hash_size hash }
     requires th1 { length th1.now ≡ hash_size hash }
-    ensures value { result ≡ handshake_direction_secret (hash_of hash) handshake.now direction th1.now }
+    ensures value { result ≡ handshake_direction_secret
+        (hash_of hash) handshake.now direction th1.now }
     ensures size { length result ≡ hash_size hash }
 {
     derive_secret(

@@ -59,7 +59,8 @@ impl Assembler {
     /// An assembler that was given no packet. It takes the memory for a body of `limit` bytes, and no
     /// more later.
     pub fn new(alloc: Global, own: Eid, peer: Eid, limit: usize) -> Result<Assembler, OutOfMemory>
-        ensures receiver { IfOk result (λ a. a.receiver ≡ record { own = own.number; peer = peer.number; limit = limit }) }
+        ensures receiver { IfOk result (λ a. a.receiver
+            ≡ record { own = own.number; peer = peer.number; limit = limit }) }
         ensures stands { IfOk result (λ a. StandsFor a []) }
     {
         Ok(Assembler {
@@ -83,7 +84,8 @@ impl Assembler {
     pub fn take(&mut self, packet: PacketView<'_>) -> Fed<'_>
         requires sequence { packet.sequence < 4 }
         requires tag { packet.tag < 8 }
-        ensures fed { (given : List PacketFields) → StandsFor self.old given → fed_answer result ≡ gathered self.old.receiver given (view_of packet.entry) }
+        ensures fed { (given : List PacketFields) → StandsFor self.old given
+            → fed_answer result ≡ gathered self.old.receiver given (view_of packet.entry) }
         ensures fits { length (whole_of result) ≤ self.old.receiver.limit }
         // What it is once the body is given back.
         ensures* rests { sem 𝓛 (RestsWith self.entry (view_of packet.entry)) }
@@ -111,7 +113,8 @@ impl Assembler {
     // Takes a packet.
     fn step(&mut self, packet: PacketView<'_>) -> Step
         requires { packet.sequence < 4 }
-        ensures answer { step_answer result (view_of packet.entry) self.new.body ≡ answer_to self.old (view_of packet.entry) }
+        ensures answer { step_answer result (view_of packet.entry) self.new.body
+            ≡ answer_to self.old (view_of packet.entry) }
         ensures after { self.new ≡ after_packet self.old (view_of packet.entry) }
     {
         if packet.to != self.own.number() || packet.from != self.peer.number() {
@@ -126,7 +129,9 @@ impl Assembler {
     // Takes a first packet. What was unfinished is dropped.
     fn begin(&mut self, packet: PacketView<'_>) -> Step
         requires { packet.sequence < 4 }
-        ensures answer { step_answer result (view_of packet.entry) self.new.body ≡ answer_from (broken_rule self.old.receiver.limit (view_of packet.entry ∷ [])) (view_of packet.entry) ([] ++ packet.entry.payload.now) }
+        ensures answer { step_answer result (view_of packet.entry) self.new.body
+            ≡ answer_from (broken_rule self.old.receiver.limit (view_of packet.entry ∷ []))
+            (view_of packet.entry) ([] ++ packet.entry.payload.now) }
         ensures after { self.new ≡ after_first self.old (view_of packet.entry) }
     {
         self.unfinished = None;
@@ -140,7 +145,8 @@ impl Assembler {
     // Takes a packet without SOM.
     fn go_on(&mut self, packet: PacketView<'_>) -> Step
         requires { packet.sequence < 4 }
-        ensures answer { step_answer result (view_of packet.entry) self.new.body ≡ answer_later self.old.unfinished self.old (view_of packet.entry) }
+        ensures answer { step_answer result (view_of packet.entry) self.new.body
+            ≡ answer_later self.old.unfinished self.old (view_of packet.entry) }
         ensures after { self.new ≡ after_later self.old.unfinished self.old (view_of packet.entry) }
     {
         let Some(unfinished) = self.unfinished else {
@@ -161,7 +167,8 @@ impl Assembler {
     fn grow(&mut self, packet: PacketView<'_>, unit: usize) -> Step
         requires sequence { packet.sequence < 4 }
         requires fits { length self.old.body + length packet.payload.now ≤ self.old.receiver.limit }
-        ensures answer { step_answer result (view_of packet.entry) self.new.body ≡ answer_from None (view_of packet.entry) (self.old.body ++ packet.entry.payload.now) }
+        ensures answer { step_answer result (view_of packet.entry) self.new.body
+            ≡ answer_from None (view_of packet.entry) (self.old.body ++ packet.entry.payload.now) }
         ensures after { self.new ≡ grown self.old (view_of packet.entry) unit }
     {
         self.body.append(packet.payload);

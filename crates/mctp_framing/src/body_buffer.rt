@@ -44,6 +44,7 @@ impl BodyBuffer {
         ensures value { result.now ≡ self.now.bytes }
         ensures fits { length self.now.bytes ≤ self.now.limit }
     {
+        // A field that is read brings in the bound that every buffer keeps.
         let _ = self.limit;
         self.bytes.as_slice()
     }

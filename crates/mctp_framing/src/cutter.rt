@@ -40,7 +40,8 @@ pub fn cut<'a>(body: &'a [u8], unit: usize, route: Route) -> Cutter<'a>
     requires high { unit ≤ 1024 }
     ensures packets { result ≡ packets_of (route_of route) unit body.now }
     // A body of at most a unit is one packet.
-    ensures only { length body.now ≤ unit → result ≡ spelled_packet (only_packet (route_of route) body.now) ∷ [] }
+    ensures only { length body.now ≤ unit
+        → result ≡ spelled_packet (only_packet (route_of route) body.now) ∷ [] }
 {
     Cutter {
         body,
@@ -95,7 +96,8 @@ fn packet_at(body: &[u8], unit: usize, route: Route, number: usize, count: usize
 
 // The fourth byte of a packet: SOM, EOM, sequence number, tag owner bit and tag.
 fn marks_byte(route: Route, start: bool, end: bool, number: usize) -> u8
-    ensures { result ≡ bit start * 128 + bit end * 64 + number % 4 * 16 + bit route.owner * 8 + route.tag }
+    ensures { result ≡ bit start * 128 + bit end * 64 + number % 4 * 16 + bit route.owner * 8
+        + route.tag }
 {
     let sequence = (number % 4) as u8;
     route.tag

@@ -39,7 +39,8 @@ fn has_chosen(kind: u8, blocks: &[BlockSpec]) -> bool
 fn push_chosen(kind: u8, block: &BlockSpec, running: &mut RunningHash)
     requires { length block.now.value ≤ 4047 }
     ensures function { function_of running.new ≡ function_of running.old }
-    ensures given { (given : List ℕ) → Holds running.old given → Holds running.new (given ++ record_of (summarized kind (block.now ∷ []))) }
+    ensures given { (given : List ℕ) → Holds running.old given
+        → Holds running.new (given ++ record_of (summarized kind (block.now ∷ []))) }
 {
     if kind == 255 || block.tcb {
         push_whole(block, running);
@@ -50,7 +51,8 @@ fn push_chosen(kind: u8, block: &BlockSpec, running: &mut RunningHash)
 fn push_whole(block: &BlockSpec, running: &mut RunningHash)
     requires { length block.now.value ≤ 4047 }
     ensures function { function_of running.new ≡ function_of running.old }
-    ensures given { (given : List ℕ) → Holds running.old given → Holds running.new (given ++ record_of (block.now ∷ [])) }
+    ensures given { (given : List ℕ) → Holds running.old given
+        → Holds running.new (given ++ record_of (block.now ∷ [])) }
 {
     running.push(&block_head(block));
     running.push(block.value.as_slice());

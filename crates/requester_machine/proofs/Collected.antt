@@ -5,7 +5,7 @@ use Rattle.std.proofs.lemmas.Grind.{common_steps}
 use Rattle.chunking.specs.Collecting.{under_way, joined, told_by, told_size, size_rule, first_rule, later_rule, broken_rule, accepted_unless}
 use Rattle.spdm_grammar.specs.Message.{ChunkMessage}
 use Rattle.spdm_grammar.specs.declared.ChunkFault.{ChunkFault}
-use Rattle.spdm_grammar.specs.declared.ChunkFault.TheVariants.{WrongHandle, WrongNumber, TooLarge}
+use Rattle.spdm_grammar.specs.declared.ChunkFault.TheVariants.{WrongHandle, WrongNumber}
 use Rattle.spdm_grammar.specs.declared.names.TheConstants.{MAX_MESSAGE_SIZE}
 use Rattle.requester_machine.specs.ClearAnswers.{get_fault}
 use Rattle.requester_machine.specs.UnderWay.{AreNumbered, AreUnfinished, AreUnderWay}

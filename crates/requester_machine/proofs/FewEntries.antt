@@ -1,6 +1,6 @@
 -- The next numbers of a session stay few, entry by entry.
 use Rattle.std.proofs.Common.{refl, ◌≡◌, ◌∙◌, ◌≤◌, ◌<◌, ◌+◌, ℕ, List, [], ◌∷◌, true, false, Bool, Option, Some, None, ap, sym, subst, arith, eqb-true}
-use Rattle.std.specs.Prelude.{◌==◌, ◌||◌, ◌&&◌, not, nat_le, if◌then◌else◌, is_some, length, nat_lt}
+use Rattle.std.specs.Prelude.{◌==◌, ◌||◌, ◌&&◌, not, nat_le, if◌then◌else◌, length, nat_lt}
 use Rattle.std.proofs.lemmas.Bool.{false≢true, or_parts}
 use Rattle.std.proofs.lemmas.Bool.Decides.{nat_tests}
 use Rattle.spdm_grammar.specs.Message.{RequestMessage}
@@ -12,7 +12,7 @@ use Rattle.requester_machine.specs.Setup.{ReqSetup}
 use Rattle.requester_machine.specs.Answers.{is_refused}
 use Rattle.requester_machine.specs.Asking.{done}
 use Rattle.requester_machine.specs.Asking.Outcome.{Adds}
-use Rattle.requester_machine.specs.Commands.{Free, command_fault, exchange_for, needs_connection, session_in, is_spent, is_spent_at, has_reached}
+use Rattle.requester_machine.specs.Commands.{Free, command_fault, exchange_for, session_in, is_spent, is_spent_at, has_reached}
 use Rattle.requester_machine.specs.History.{History, Effect, Led, outstanding, negotiation_of, negotiates, connection_terms, next_handle}
 use Rattle.requester_machine.specs.History.Effect.{Nothing, Grants, Refuses}
 use Rattle.requester_machine.specs.History.Entry.{Told}
@@ -36,8 +36,7 @@ use Rattle.requester_machine.proofs.HoldsTold.{told_sent, resent_adds, somewhere
 use Rattle.requester_machine.proofs.RecordLeads.{RecordLeads, Follows}
 use Rattle.requester_machine.proofs.RecordLeads.Follows.{ToAsk, ToWhole}
 use Rattle.requester_machine.proofs.RecordLeads.RecordLeads.{ByEnd, ByAnswer, ByUpdate, ByFirst, ByChunk}
-use Rattle.requester_machine.proofs.MadeOrder.{nothing_waits, rests}
-use Rattle.spdm_basis.proofs.Bools.{and_rest}
+use Rattle.requester_machine.proofs.MadeOrder.{rests}
 
 -- ---- Commands.
 

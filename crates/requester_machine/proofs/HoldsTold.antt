@@ -24,7 +24,7 @@ use Rattle.requester_machine.specs.Message.Ask.{AskData, AskBeat, AskUpdate, Ask
 use Rattle.requester_machine.specs.Message.Command.{Connect, Open, Send, Beat, Update, Measure, End, Retry}
 use Rattle.requester_machine.specs.Records.{sealed_next}
 use Rattle.requester_machine.specs.Sending.{plain_sent, request_sent, record_sent, is_too_long}
-use Rattle.requester_machine.specs.Session.{Steps, Step, session_of, session_negotiation, is_live, when_live, with_sent, begun}
+use Rattle.requester_machine.specs.Session.{Steps, session_of, session_negotiation, is_live, with_sent, begun}
 use Rattle.requester_machine.specs.Session.Step.{Started, Asked}
 use Rattle.requester_machine.specs.UnderWay.{IsCommon, is_capable, IsAwaited, IsSealed, AreBehind}
 use Rattle.requester_machine.proofs.Entries.{test_is_false, request_sent-asks}

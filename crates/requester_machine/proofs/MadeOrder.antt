@@ -1,6 +1,6 @@
 -- The sessions of a made history are in order, and so their numbers are counts.
 use Rattle.std.proofs.Common.{refl, ◌≡◌, ℕ, List, [], ◌∷◌, true, false, Bool, Option, Some, None, sym, subst}
-use Rattle.std.specs.Prelude.{⊤, ◌==◌, ◌&&◌, nat_lt, length, if◌then◌else◌, Result, Ok, Err, is_some, drop}
+use Rattle.std.specs.Prelude.{⊤, ◌==◌, nat_lt, length, if◌then◌else◌, Result, Ok, Err, is_some, drop}
 use Rattle.std.proofs.lemmas.Bool.{false≢true}
 use Rattle.negotiate.specs.declared.shared.Common.{Common}
 use Rattle.spdm_basis.specs.declared.record_fault.RecordFault.{RecordFault}

@@ -1,5 +1,5 @@
 -- What every run of a requester keeps.
-use Rattle.std.proofs.Common.{◌≡◌, ℕ, ◌≤◌, ◌<◌, ◌+◌, List, [], ◌∷◌, length, Bool, true, false, cond, nat_le, Result, Ok, Err, refl, subst, arith}
+use Rattle.std.proofs.Common.{◌≡◌, ℕ, ◌≤◌, ◌<◌, ◌+◌, List, [], ◌∷◌, length, Bool, true, false, cond, Result, Ok, Err, refl, arith}
 use Rattle.std.proofs.lemmas.Bool.{leb-false}
 use Rattle.mctp_framing.specs.Gathering.{Gathered}
 use Rattle.mctp_framing.specs.Gathering.Gathered.{Whole, More, Dropped}
@@ -12,7 +12,7 @@ use Rattle.requester_machine.specs.EndLaws.{Given, IsRun, RunsAreBounded, run_of
 use Rattle.requester_machine.specs.EndLaws.Given.{Told, Packet}
 use Rattle.requester_machine.specs.History.{History}
 use Rattle.requester_machine.specs.Message.{Command}
-use Rattle.requester_machine.specs.Requesting.{Requesting, CommandStep, PacketStep, is_worn, next_draw, requester_told, requester_given, worn_command, commanded_by, worn_step, hears_packet, hears_gathered}
+use Rattle.requester_machine.specs.Requesting.{Requesting, is_worn, next_draw, requester_told, requester_given, worn_command, commanded_by, worn_step, hears_packet, hears_gathered}
 use Rattle.requester_machine.specs.Setup.{ReqEnd}
 use Rattle.requester_machine.specs.Shown.{after}
 use Rattle.spdm_basis.specs.declared.PacketFault.{PacketFault}

@@ -1,6 +1,6 @@
 -- Which commands a requester does not do, and why: a list of tests in order, of which the first that holds
 -- decides. This project's own.
-use Rattle.std.specs.Prelude.{◌+◌, ◌==◌, ◌&&◌, ◌||◌, not, nat_lt, nat_le, ℕ, List, [], ◌∷◌, length, if◌then◌else◌, Bool, true, false, Option, Some, None, is_none, is_some}
+use Rattle.std.specs.Prelude.{◌+◌, ◌==◌, ◌&&◌, ◌||◌, not, nat_lt, nat_le, ℕ, List, [], ◌∷◌, length, Bool, true, false, Option, Some, None, is_none, is_some}
 use Rattle.spdm_basis.specs.Tests.{first_of_tests}
 use Rattle.spdm_grammar.specs.Fields.{is_summary}
 use Rattle.spdm_grammar.specs.Message.{RequestMessage}

@@ -192,10 +192,6 @@ finish_answer [] = []
 finish_answer (Took sealed inner effect ∷ older) = if finishes effect then answer_in effect else finish_answer older
 finish_answer (_ ∷ older) = finish_answer older
 
--- What the verify data of this PSK_FINISH cover.
-abbrev pub tv_of : Steps → List ℕ → List ℕ
-tv_of s finish = transcript.tv_of (session_hash s) (session_vca s) (exchange_of s) (exchange_answer s) finish
-
 -- T2: VCA, PSK_EXCHANGE, PSK_EXCHANGE_RSP, PSK_FINISH and PSK_FINISH_RSP, all whole.
 abbrev pub t2_of : Steps → List ℕ
 t2_of s = transcript.t2_of (session_vca s) (exchange_of s) (exchange_answer s) (finish_of s) (finish_answer s)

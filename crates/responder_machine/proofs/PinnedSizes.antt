@@ -1,14 +1,14 @@
 -- How long requests and answers may be, and which answers go by LargeResponse.
 use Rattle.std.proofs.Common.{refl, ◌≡◌, ℕ, List, [], ◌∷◌, ◌++◌, take, length, replicate, true, false, Bool, Option, Some, None}
 use Rattle.std.specs.Prelude.{if◌then◌else◌, map}
-use Rattle.spdm_grammar.specs.Message.RequestMessage.{ChunkSend}
+use Rattle.spdm_grammar.specs.Message.RequestMessage.{ChunkSend, GetMeasurements}
 use Rattle.spdm_grammar.specs.Requests.{canonical_request}
 use Rattle.spdm_grammar.specs.declared.error_code.ErrorCode.{ErrorCode}
 use Rattle.spdm_grammar.specs.declared.error_code.ErrorCode.TheVariants.{InvalidRequest, ResponseTooLarge, RequestTooLarge}
-use Rattle.spdm_grammar.specs.declared.phase.Phase.TheVariants.{Capable}
+use Rattle.spdm_grammar.specs.declared.phase.Phase.TheVariants.{Capable, Negotiated}
 use Rattle.transcript.specs.Transcripts.{Negotiation}
 use Rattle.spdm_grammar.specs.declared.names.capability.TheConstants.{CHUNK_CAP}
-use Rattle.responder_machine.proofs.Pinned.{computed, setup, free, IsTable, clear_with, negotiation_with, caps_with, offer, fresh, versioned, capable, opened, opened_with, get_version, get_capabilities, negotiate_algorithms, get_measurements, heartbeat}
+use Rattle.responder_machine.proofs.Pinned.{computed, setup, free, IsTable, clear_with, negotiation_with, caps_with, offer, fresh, versioned, capable, opened, opened_with, get_version, get_capabilities, negotiate_algorithms, get_measurements, heartbeat, chunk_get, took}
 use Rattle.responder_machine.specs.Answer.{Free}
 use Rattle.responder_machine.specs.Handling.{turn_of}
 use Rattle.responder_machine.specs.Place.{Place, inside, session_place}
@@ -197,6 +197,26 @@ answers_of_4097_bytes : AreAnswered in_session (get_measurements 0) (with_opaque
     ∷ [])
 unfolding computed
 answers_of_4097_bytes = refl
+
+-- Nor does an acknowledgement, with its six bytes round the answer.
+abbrev carried : SizeRow → Place
+carried s = inside (clear_with Negotiated [] (settled s))
+
+acknowledged_with_4096_bytes : AreAnswered carried (get_measurements 0) (with_opaque 4048) (row true 5000 5000 (whole 4090) ∷ [])
+unfolding computed
+acknowledged_with_4096_bytes = refl
+
+acknowledged_with_4097_bytes : AreAnswered carried (get_measurements 0) (with_opaque 4049) (row true 5000 5000 (by_handle 9) ∷ [])
+unfolding computed
+acknowledged_with_4097_bytes = refl
+
+-- Nor does a chunk: to a requester that tells 4,100 the first CHUNK_RESPONSE of a longer answer has 4,096 bytes.
+pending : SizeRow → Place
+pending s = clear_with Negotiated (took (GetMeasurements 0) (replicate 4091 0) (Some 9) ∷ []) (settled s)
+
+chunk_of_4096_bytes : AreAnswered pending (chunk_get 9 0) free (row true 4100 4100 (whole 4096) ∷ row true 4095 4100 (whole 4095) ∷ [])
+unfolding computed pending
+chunk_of_4096_bytes = refl
 
 -- ---- Before phase Capable no size of the requester is tested.
 

@@ -26,7 +26,7 @@ tests_are_false [] h n = refl
 tests_are_false (t ∷ ts) h zero = (both t.0 t.1 _ h).0
 tests_are_false (t ∷ ts) h (suc n) = tests_are_false ts (both t.0 t.1 _ h).1 n
 
-none_of_both : (a b : Option ErrorCode) → option_or a b ≡ None → (a ≡ None) × (b ≡ None)
+pub none_of_both : (a b : Option ErrorCode) → option_or a b ≡ None → (a ≡ None) × (b ≡ None)
 none_of_both (Some e) b h = absurd (none-some e (sym h))
 none_of_both None b h = (refl, h)
 

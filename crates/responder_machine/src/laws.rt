@@ -114,13 +114,13 @@ pub fn made_is_staged()
     ensures { MadeIsStaged }
 {}
 
-/// The next number of each direction of a session is the count of the records under its present purpose.
+/// The next number of each direction of a session is the count of its own records under its present purpose.
 pub fn next_numbers_are_counts()
     ensures { NextNumbersAreCounts }
 {}
 
-/// The number of an answer is the count of the records that were sealed under its purpose before it, so
-/// that no number comes twice under one purpose.
+/// The number of an answer is the count of the session's own records that were sealed under its purpose
+/// before it, so that a session seals no two answers under one purpose and number.
 pub fn reply_number_is_count()
     ensures { ReplyNumberIsCount }
 {}

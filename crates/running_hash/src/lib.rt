@@ -39,7 +39,8 @@ impl RunningHash {
     /// Adds bytes at the end of what was given.
     pub fn push(&mut self, bytes: &[u8])
         ensures function { function_of self.new ≡ function_of self.old }
-        ensures given { (given : List ℕ) → Holds self.old given → Holds self.new (given ++ bytes.now) }
+        ensures given { (given : List ℕ) → Holds self.old given
+            → Holds self.new (given ++ bytes.now) }
     {
         match self {
             RunningHash::Small(hasher) => hasher.update(bytes),
@@ -49,7 +50,8 @@ impl RunningHash {
 
     /// The hash of all that was given.
     pub fn finish(self) -> HashBytes
-        ensures value { (given : List ℕ) → Holds self given → result ≡ (hash_of (function_of self)).digest given }
+        ensures value { (given : List ℕ) → Holds self given
+            → result ≡ (hash_of (function_of self)).digest given }
         ensures size { length result ≡ hash_size (function_of self) }
     {
         match self {

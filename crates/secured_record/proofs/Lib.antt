@@ -3,3 +3,4 @@ pub mod Written
 pub mod Pieces
 pub mod Records
 pub mod Outcomes
+pub mod Told

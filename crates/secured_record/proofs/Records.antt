@@ -21,7 +21,7 @@ none_of_header : (a b c d e : Bool) → a ≡ false → b ≡ true → c ≡ tru
     first_of_tests ((a, Short) ∷ (not b, WrongId) ∷ (not c, WrongNumber) ∷ (not d || e, WrongLength) ∷ []) ≡ None
 none_of_header a b c d e p q r s t = rw (p, q, r, s, t) refl
 
-header_of_none : (a b c d e : Bool) → first_of_tests ((a, Short) ∷ (not b, WrongId) ∷ (not c, WrongNumber) ∷ (not d || e, WrongLength) ∷ []) ≡ None →
+pub header_of_none : (a b c d e : Bool) → first_of_tests ((a, Short) ∷ (not b, WrongId) ∷ (not c, WrongNumber) ∷ (not d || e, WrongLength) ∷ []) ≡ None →
     (a ≡ false) × (b ≡ true) × (c ≡ true) × (d ≡ true) × (e ≡ false)
 header_of_none true b c d e h = absurd (cc)
 header_of_none false false c d e h = absurd (cc)
@@ -77,7 +77,7 @@ text_part-record key iv req rsp number inner pad =
     let c = crypt key n t in
     text_part-append c (tag_of key n (header id number (length t + 16)) c) (length-tag_of key n (header id number (length t + 16)) c)
 
-opened_text-record : (key iv : List ℕ) (req rsp number : ℕ) (inner pad : List ℕ)
+pub opened_text-record : (key iv : List ℕ) (req rsp number : ℕ) (inner pad : List ℕ)
     → opened_text key iv number (record_of key iv (session_id_bytes req rsp) number inner pad) ≡ plain_text inner pad
 unfolding opened_text
 opened_text-record key iv req rsp number inner pad =

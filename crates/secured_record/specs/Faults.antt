@@ -1,5 +1,5 @@
 -- What bytes are not a record for, and what a record holds. The order of the tests is this project's own.
-use Rattle.std.specs.Prelude.{ℕ, ◌-◌, Bool, true, false, ◌==◌, ◌&&◌, ◌||◌, not, nat_lt, if◌then◌else◌, List, [], ◌∷◌, length, take, drop, Option, Some, None}
+use Rattle.std.specs.Prelude.{ℕ, ◌-◌, Bool, true, false, ◌==◌, ◌&&◌, ◌||◌, not, nat_lt, List, [], ◌∷◌, length, take, drop, Option, Some, None}
 use Rattle.spdm_basis.specs.Tests.{first_of_tests}
 use Rattle.byteorder.specs.Endian.{little_bytes, little_number}
 use Rattle.aes_gcm.specs.Gcm.{crypt, tag_of}

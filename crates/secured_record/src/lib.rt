@@ -5,8 +5,10 @@
 mod aead;
 mod format;
 mod opening;
+mod record_key;
 mod sealing;
 
 pub use opening::open;
+pub use record_key::RecordKey;
 pub use sealing::{TooLong, seal};
 pub use spdm_basis::RecordFault;

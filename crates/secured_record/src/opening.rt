@@ -16,7 +16,7 @@ use aes_gcm::BadTag;
 use arrayvec::ArrayVec;
 use byteorder::{ByteOrder, LittleEndian};
 use key_schedule::DirectionKey;
-use spdm_basis::{AeadAlg, RecordFrame, SessionId};
+use spdm_basis::{RecordFrame, SessionId};
 
 // The least and the most bytes of a record.
 const LEAST: usize = 26;
@@ -115,7 +115,8 @@ fn inner_length(text: &[u8]) -> u16
 fn decrypt_rest(cipher: &RecordCipher, iv: &[u8; 12], bytes: &mut [u8])
     requires first { 14 ≤ length bytes.old }
     requires most { length bytes.old ≤ 4160 }
-    ensures { bytes.new ≡ take 14 bytes.old ++ crypt_behind 1 (cipher_key cipher.now) iv.now (drop 14 bytes.old) }
+    ensures { bytes.new ≡ take 14 bytes.old ++ crypt_behind 1 (cipher_key cipher.now) iv.now
+        (drop 14 bytes.old) }
 {
     let rest = bytes.split_at_mut(14).1;
     cipher.crypt_behind(iv, 1, rest);
@@ -192,10 +193,17 @@ fn open_text(
     requires least { 2 ≤ length text.now }
     requires most { length text.now ≤ 4136 }
     ensures fault { MatchResult result
-        (λ _. nat_lt (length text.now - 2) (little_number 2 (crypt (cipher_key cipher.now) iv.now text.now)) ≡ false)
-        (λ e. (e ≡ RecordFault.BadInnerLength) × (nat_lt (length text.now - 2) (little_number 2 (crypt (cipher_key cipher.now) iv.now text.now)) ≡ true)) }
-    ensures inner { OnOk result (out.new ≡ take (little_number 2 (crypt (cipher_key cipher.now) iv.now text.now)) (drop 2 (crypt (cipher_key cipher.now) iv.now text.now))) }
-    ensures bytes { OnOk result (little_bytes 2 (little_number 2 (crypt (cipher_key cipher.now) iv.now text.now)) ≡ take 2 (crypt (cipher_key cipher.now) iv.now text.now)) }
+        (λ _. nat_lt (length text.now - 2)
+        (little_number 2 (crypt (cipher_key cipher.now) iv.now text.now)) ≡ false)
+        (λ e. (e ≡ RecordFault.BadInnerLength)
+        × (nat_lt (length text.now - 2)
+        (little_number 2 (crypt (cipher_key cipher.now) iv.now text.now)) ≡ true)) }
+    ensures inner { OnOk result (out.new
+        ≡ take (little_number 2 (crypt (cipher_key cipher.now) iv.now text.now))
+        (drop 2 (crypt (cipher_key cipher.now) iv.now text.now))) }
+    ensures bytes { OnOk result
+        (little_bytes 2 (little_number 2 (crypt (cipher_key cipher.now) iv.now text.now))
+        ≡ take 2 (crypt (cipher_key cipher.now) iv.now text.now)) }
     ensures unchanged { OnErr result (out.new ≡ out.old) }
 {
     let first = first_block(cipher, iv, text);
@@ -207,55 +215,63 @@ fn open_text(
     Ok(())
 }
 
-// Opens a record under the AEAD of a key.
+// Opens a record under a cipher.
 #[tactic(auto, unfolding(crate::specs::Faults::fault_of, crate::specs::Faults::inner_of, crate::specs::Faults::opened_text))]
 fn open_record(
-    aead: AeadAlg,
-    key: &[u8],
+    cipher: &RecordCipher,
     iv: &[u8; 12],
     id: &[u8; 4],
     number: u16,
     sealed: &[u8],
     out: &mut RecordFrame,
 ) -> Result<(), RecordFault>
-    requires { length key.now ≡ key_size aead }
-    ensures fault { MatchResult result (λ _. fault_of key.now iv.now id.now number sealed.now ≡ None) (λ e. fault_of key.now iv.now id.now number sealed.now ≡ Some e) }
-    ensures inner { OnOk result (out.new ≡ inner_of key.now iv.now number sealed.now) }
-    ensures bytes { OnOk result (little_bytes 2 (little_number 2 (opened_text key.now iv.now number sealed.now)) ≡ take 2 (opened_text key.now iv.now number sealed.now)) }
+    ensures fault { MatchResult result
+        (λ _. fault_of (cipher_key cipher.now) iv.now id.now number sealed.now ≡ None)
+        (λ e. fault_of (cipher_key cipher.now) iv.now id.now number sealed.now ≡ Some e) }
+    ensures inner { OnOk result (out.new
+        ≡ inner_of (cipher_key cipher.now) iv.now number sealed.now) }
+    ensures bytes { OnOk result
+        (little_bytes 2 (little_number 2
+        (opened_text (cipher_key cipher.now) iv.now number sealed.now))
+        ≡ take 2 (opened_text (cipher_key cipher.now) iv.now number sealed.now)) }
     ensures unchanged { OnErr result (out.new ≡ out.old) }
 {
     if let Some(fault) = header_fault(id, number, sealed) {
         return Err(fault);
     }
-    let cipher = RecordCipher::new(aead, key);
-    if verify_record(&cipher, iv, number, sealed).is_err() {
+    if verify_record(cipher, iv, number, sealed).is_err() {
         return Err(RecordFault::BadTag);
     }
-    open_text(&cipher, &nonce(iv, number), text_part(sealed), out)
+    open_text(cipher, &nonce(iv, number), text_part(sealed), out)
 }
 
 // The same, with what it means for records.
-fn open_by(
-    aead: AeadAlg,
-    key: &[u8],
+pub fn open_by(
+    cipher: &RecordCipher,
     iv: &[u8; 12],
     id: SessionId,
     number: u16,
     sealed: &[u8],
     out: &mut RecordFrame,
 ) -> Result<(), RecordFault>
-    requires { length key.now ≡ key_size aead }
     ensures fault { MatchResult result
-        (λ _. fault_of key.now iv.now (session_id_bytes id.req id.rsp) number sealed.now ≡ None)
-        (λ e. fault_of key.now iv.now (session_id_bytes id.req id.rsp) number sealed.now ≡ Some e) }
-    ensures inner { OnOk result (out.new ≡ inner_of key.now iv.now number sealed.now) }
+        (λ _. fault_of (cipher_key cipher.now) iv.now
+        (session_id_bytes id.req id.rsp) number sealed.now ≡ None)
+        (λ e. fault_of (cipher_key cipher.now) iv.now
+        (session_id_bytes id.req id.rsp) number sealed.now ≡ Some e) }
+    ensures inner { OnOk result (out.new
+        ≡ inner_of (cipher_key cipher.now) iv.now number sealed.now) }
     ensures unchanged { OnErr result (out.new ≡ out.old) }
     ensures not_spent { IfErr result (λ e. e ≢ RecordFault.KeySpent) }
-    ensures record { OnOk result (IsRecordOf key.now iv.now (session_id_bytes id.req id.rsp) number sealed.now out.new) }
-    ensures opens { (inner pad : List ℕ) → sealed.now ≡ record_of key.now iv.now (session_id_bytes id.req id.rsp) number inner pad
+    ensures record { OnOk result
+        (IsRecordOf (cipher_key cipher.now) iv.now
+        (session_id_bytes id.req id.rsp) number sealed.now out.new) }
+    ensures opens { (inner pad : List ℕ)
+        → sealed.now ≡ record_of (cipher_key cipher.now) iv.now
+        (session_id_bytes id.req id.rsp) number inner pad
         → length sealed.now ≤ 4160 → IsOk result × (out.new ≡ inner) }
 {
-    open_record(aead, key, iv, &id.bytes(), number, sealed, out)
+    open_record(cipher, iv, &id.bytes(), number, sealed, out)
 }
 
 /// Opens a record under the key of a direction, a session id and a number, and writes its inner message
@@ -269,16 +285,24 @@ pub fn open(
     out: &mut RecordFrame,
 ) -> Result<(), RecordFault>
     ensures fault { MatchResult result
-        (λ _. fault_of (key_of key.now) (iv_of key.now) (session_id_bytes id.req id.rsp) number sealed.now ≡ None)
-        (λ e. fault_of (key_of key.now) (iv_of key.now) (session_id_bytes id.req id.rsp) number sealed.now ≡ Some e) }
-    ensures inner { OnOk result (out.new ≡ inner_of (key_of key.now) (iv_of key.now) number sealed.now) }
+        (λ _. fault_of (key_of key.now) (iv_of key.now)
+        (session_id_bytes id.req id.rsp) number sealed.now ≡ None)
+        (λ e. fault_of (key_of key.now) (iv_of key.now)
+        (session_id_bytes id.req id.rsp) number sealed.now ≡ Some e) }
+    ensures inner { OnOk result (out.new
+        ≡ inner_of (key_of key.now) (iv_of key.now) number sealed.now) }
     ensures unchanged { OnErr result (out.new ≡ out.old) }
     ensures not_spent { IfErr result (λ e. e ≢ RecordFault.KeySpent) }
 
     // What opens is a record of its inner message, and each record of at most 4,160 bytes opens.
-    ensures record { OnOk result (IsRecordOf (key_of key.now) (iv_of key.now) (session_id_bytes id.req id.rsp) number sealed.now out.new) }
-    ensures opens { (inner pad : List ℕ) → sealed.now ≡ record_of (key_of key.now) (iv_of key.now) (session_id_bytes id.req id.rsp) number inner pad
+    ensures record { OnOk result
+        (IsRecordOf (key_of key.now) (iv_of key.now)
+        (session_id_bytes id.req id.rsp) number sealed.now out.new) }
+    ensures opens { (inner pad : List ℕ)
+        → sealed.now ≡ record_of (key_of key.now) (iv_of key.now)
+        (session_id_bytes id.req id.rsp) number inner pad
         → length sealed.now ≤ 4160 → IsOk result × (out.new ≡ inner) }
 {
-    open_by(key.aead(), key.key(), key.iv(), id, number, sealed, out)
+    let cipher = RecordCipher::new(key.aead(), key.key());
+    open_by(&cipher, key.iv(), id, number, sealed, out)
 }

@@ -8,7 +8,7 @@ ghost use Rattle.secured_record.specs.Format.{plain_text, record_of, sealed_text
 use crate::aead::RecordCipher;
 use crate::format::{header, nonce, two_bytes};
 use key_schedule::DirectionKey;
-use spdm_basis::{AeadAlg, RecordFrame, SessionId};
+use spdm_basis::{RecordFrame, SessionId};
 use thiserror::Error;
 
 /// The record would have more than 4,160 bytes.
@@ -36,8 +36,10 @@ fn write_plain(out: &mut RecordFrame, header: &[u8; 8], inner: &[u8], pad: &[u8]
 fn seal_behind_header(cipher: &RecordCipher, iv: &[u8; 12], bytes: &mut [u8]) -> [u8; 16]
     requires header { 8 ≤ length bytes.old }
     requires most { length bytes.old ≤ 4160 }
-    ensures text { bytes.new ≡ take 8 bytes.old ++ crypt (cipher_key cipher.now) iv.now (drop 8 bytes.old) }
-    ensures tag { result ≡ tag_of (cipher_key cipher.now) iv.now (take 8 bytes.old) (crypt (cipher_key cipher.now) iv.now (drop 8 bytes.old)) }
+    ensures text { bytes.new
+        ≡ take 8 bytes.old ++ crypt (cipher_key cipher.now) iv.now (drop 8 bytes.old) }
+    ensures tag { result ≡ tag_of (cipher_key cipher.now) iv.now (take 8 bytes.old)
+        (crypt (cipher_key cipher.now) iv.now (drop 8 bytes.old)) }
 {
     let (header, text) = bytes.split_at_mut(8);
     cipher.seal(iv, header, text)
@@ -54,7 +56,8 @@ fn seal_by(
     out: &mut RecordFrame,
 )
     requires { length inner.now + length pad.now ≤ 4134 }
-    ensures { out.new ≡ sealed_text (cipher_key cipher.now) iv.now id.now number (plain_text inner.now pad.now) }
+    ensures { out.new ≡ sealed_text (cipher_key cipher.now) iv.now id.now number
+        (plain_text inner.now pad.now) }
 {
     let header = header(id, number, (inner.len() + pad.len() + 18) as u16);
     let nonce = nonce(iv, number);
@@ -63,10 +66,33 @@ fn seal_by(
     let _ = out.extend(&tag);
 }
 
+// Writes the record of an inner message and padding under a cipher, where it has at most 4,160 bytes.
+#[tactic(auto, unfolding(crate::specs::Format::record_of))]
+pub fn seal_within(
+    cipher: &RecordCipher,
+    iv: &[u8; 12],
+    id: SessionId,
+    number: u16,
+    inner: &[u8],
+    pad: &[u8],
+    out: &mut RecordFrame,
+) -> Result<(), TooLong>
+    ensures fits { IsOk result ↔ (length inner.now + length pad.now + 26 ≤ 4160) }
+    ensures record { OnOk result (out.new
+        ≡ record_of (cipher_key cipher.now) iv.now
+        (session_id_bytes id.req id.rsp) number inner.now pad.now) }
+    ensures unchanged { OnErr result (out.new ≡ out.old) }
+{
+    if inner.len() > CONTENT_LIMIT || pad.len() > CONTENT_LIMIT - inner.len() {
+        return Err(TooLong);
+    }
+    seal_by(cipher, iv, &id.bytes(), number, inner, pad, out);
+    Ok(())
+}
+
 /// Writes the record of an inner message and padding, under the key of a direction, a session id and a
 /// number (DSP0277, "Secured Message format"). `TooLong` comes exactly where the record would have more
 /// than 4,160 bytes, and leaves `out` as it was. A number serves once under a key.
-#[tactic(auto, unfolding(crate::specs::Format::record_of))]
 pub fn seal(
     key: &DirectionKey,
     id: SessionId,
@@ -76,13 +102,11 @@ pub fn seal(
     out: &mut RecordFrame,
 ) -> Result<(), TooLong>
     ensures fits { IsOk result ↔ (length inner.now + length pad.now + 26 ≤ 4160) }
-    ensures record { OnOk result (out.new ≡ record_of (key_of key.now) (iv_of key.now) (session_id_bytes id.req id.rsp) number inner.now pad.now) }
+    ensures record { OnOk result (out.new
+        ≡ record_of (key_of key.now) (iv_of key.now)
+        (session_id_bytes id.req id.rsp) number inner.now pad.now) }
     ensures unchanged { OnErr result (out.new ≡ out.old) }
 {
-    if inner.len() > CONTENT_LIMIT || pad.len() > CONTENT_LIMIT - inner.len() {
-        return Err(TooLong);
-    }
     let cipher = RecordCipher::new(key.aead(), key.key());
-    seal_by(&cipher, key.iv(), &id.bytes(), number, inner, pad, out);
-    Ok(())
+    seal_within(&cipher, key.iv(), id, number, inner, pad, out)
 }

@@ -12,6 +12,6 @@
 mod laws;
 
 pub use laws::{
-    agreement, data_prefix, delivered, fresh_sessions, hashes_agree, matched, matched_sessions, one_record,
-    one_transcript, scripts_are_configured, scripts_hold, sealed_once,
+    agreement, data_prefix, delivered, fresh_sessions, hashes_agree, matched, matched_sessions,
+    one_record, one_transcript, scripts_are_configured, scripts_hold, sealed_once,
 };

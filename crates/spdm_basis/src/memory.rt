@@ -102,7 +102,8 @@ impl Source for MemSource {
     fn read(&mut self, into: &mut [u8]) -> Result<usize, Failed>
         requires { 0 < length into.old }
         ensures count { IfOk result (λ n. n ≡ min (length self.old.left) (length into.old)) }
-        ensures gives { IfOk result (λ n. Gives (Some self.old.left) (take n into.new) (Some self.new.left)) }
+        ensures gives { IfOk result (λ n. Gives (Some self.old.left) (take n into.new)
+            (Some self.new.left)) }
         ensures end { IfOk result (λ n. n ≡ 0 → IsAtEnd (Some self.old.left)) }
         ensures later { self.old.calls.faults ≤ self.new.calls.faults }
         ensures fault { OnErr result (HasFault self.old.calls.faults self.new.calls.faults) }
@@ -177,13 +178,16 @@ impl Sink for MemSink {
     fn write(&mut self, from: &[u8]) -> Result<usize, Failed>
         requires { 0 < length from.now }
         ensures some { IfOk result (λ n. 0 < n) }
-        ensures count { IfOk result (λ n. n ≡ min (length from.now) (self.old.limit - length self.old.held)) }
-        ensures takes { IfOk result (λ n. Takes (Some self.old.held) (take n from.now) (Some self.new.held)) }
+        ensures count { IfOk result (λ n. n
+            ≡ min (length from.now) (self.old.limit - length self.old.held)) }
+        ensures takes { IfOk result (λ n. Takes (Some self.old.held) (take n from.now)
+            (Some self.new.held)) }
         ensures later { self.old.calls.faults ≤ self.new.calls.faults }
         ensures fault { OnErr result (HasFault self.old.calls.faults self.new.calls.faults) }
         ensures same { OnErr result (self.new.held ≡ self.old.held) }
 
-        ensures fails { is_err result ≡ (fails_next self.old.calls || length self.old.held == self.old.limit) }
+        ensures fails { is_err result ≡
+            (fails_next self.old.calls || length self.old.held == self.old.limit) }
         ensures made { self.new.calls.made ≡ one_more self.old.calls.made }
         ensures failing { self.new.calls.failing ≡ self.old.calls.failing }
         ensures counted { OnErr result (self.new.calls.faults ≡ one_more self.old.calls.faults) }

@@ -21,7 +21,8 @@ pub trait Source {
     fn read(&mut self, into: &mut [u8]) -> Result<usize, Failed>
         requires { 0 < length into.old }
         ensures count { IfOk result (λ n. n ≤ length into.old) }
-        ensures gives { IfOk result (λ n. Gives (remaining self.old) (take n into.new) (remaining self.new)) }
+        ensures gives { IfOk result (λ n. Gives (remaining self.old) (take n into.new)
+            (remaining self.new)) }
         ensures end { IfOk result (λ n. n ≡ 0 → IsAtEnd (remaining self.old)) }
         ensures later { faults self.old ≤ faults self.new }
         ensures fault { OnErr result (HasFault (faults self.old) (faults self.new)) }
@@ -42,7 +43,8 @@ pub trait Sink {
         requires { 0 < length from.now }
         ensures some { IfOk result (λ n. 0 < n) }
         ensures count { IfOk result (λ n. n ≤ length from.now) }
-        ensures takes { IfOk result (λ n. Takes (contents self.old) (take n from.now) (contents self.new)) }
+        ensures takes { IfOk result (λ n. Takes (contents self.old) (take n from.now)
+            (contents self.new)) }
         ensures later { faults self.old ≤ faults self.new }
         ensures fault { OnErr result (HasFault (faults self.old) (faults self.new)) }
         ensures same { OnErr result (contents self.new ≡ contents self.old) };

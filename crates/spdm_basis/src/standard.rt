@@ -33,7 +33,8 @@ impl<R: Read + Drop> Source for StdinSource<R> {
     // What it gives is what the reader gave, and none is the end of the reader.
     fn read(&mut self, into: &mut [u8]) -> Result<usize, Failed>
         ensures count { IfOk result (λ n. n ≤ length into.old) }
-        ensures bytes { ReadConsumes (R.remaining self.old.reader) (R.remaining self.new.reader) result into.new }
+        ensures bytes { ReadConsumes (R.remaining self.old.reader)
+            (R.remaining self.new.reader) result into.new }
         ensures later { self.old.faults ≤ self.new.faults }
         ensures fault { OnErr result (HasFault self.old.faults self.new.faults) }
 
@@ -79,8 +80,10 @@ impl<W: Write + Drop> Sink for StdoutSink<W> {
     fn write(&mut self, from: &[u8]) -> Result<usize, Failed>
         ensures some { IfOk result (λ n. 0 < n) }
         ensures count { IfOk result (λ n. n ≤ length from.now) }
-        ensures bytes { IfOk result (λ n. Appends (W.contents self.old.writer) (W.contents self.new.writer) (take n from.now)) }
-        ensures kept { OnErr result (Keeps (W.contents self.old.writer) (W.contents self.new.writer)) }
+        ensures bytes { IfOk result (λ n. Appends (W.contents self.old.writer)
+            (W.contents self.new.writer) (take n from.now)) }
+        ensures kept { OnErr result (Keeps (W.contents self.old.writer)
+            (W.contents self.new.writer)) }
         ensures later { self.old.faults ≤ self.new.faults }
         ensures fault { OnErr result (HasFault self.old.faults self.new.faults) }
 

@@ -32,11 +32,14 @@ const PIECE: usize = 4096;
 pub fn read_all<S: Source>(alloc: Global, source: &mut S, limit: usize) -> Result<Bytes, InFault>
     // Ok: the bytes are all that the source had left, and it has nothing left.
     ensures whole { IfOk result (λ bytes. Gives (S.remaining source.old) bytes (Some [])) }
-    ensures end { OnOk result ((left : List ℕ) → S.remaining source.old ≡ Some left → S.remaining source.new ≡ Some []) }
+    ensures end { OnOk result ((left : List ℕ) → S.remaining source.old ≡ Some left
+        → S.remaining source.new ≡ Some []) }
     ensures within { IfOk result (λ bytes. length bytes ≤ limit) }
 
-    ensures read_fault { IsErrOf result InFault.ReadFault → HasFault (S.faults source.old) (S.faults source.new) }
-    ensures too_long { IsErrOf result InFault.TooLong → (left : List ℕ) → S.remaining source.old ≡ Some left → limit < length left }
+    ensures read_fault { IsErrOf result InFault.ReadFault
+        → HasFault (S.faults source.old) (S.faults source.new) }
+    ensures too_long { IsErrOf result InFault.TooLong → (left : List ℕ)
+        → S.remaining source.old ≡ Some left → limit < length left }
     ensures gone { OnErr result (GivesSome (S.remaining source.old) (S.remaining source.new)) }
     ensures later { S.faults source.old ≤ S.faults source.new }
 {
@@ -60,7 +63,8 @@ pub fn read_all<S: Source>(alloc: Global, source: &mut S, limit: usize) -> Resul
 /// text was written. It takes no memory.
 pub fn write_all<K: Sink>(sink: &mut K, text: &[u8]) -> Result<(), OutFault>
     ensures whole { OnOk result (Takes (K.contents sink.old) text.now (K.contents sink.new)) }
-    ensures prefix { OnErr result (TakesPrefix (K.contents sink.old) text.now (K.contents sink.new)) }
+    ensures prefix { OnErr result (TakesPrefix (K.contents sink.old) text.now
+        (K.contents sink.new)) }
     ensures fault { OnErr result (HasFault (K.faults sink.old) (K.faults sink.new)) }
     ensures later { K.faults sink.old ≤ K.faults sink.new }
 {

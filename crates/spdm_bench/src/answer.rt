@@ -10,7 +10,8 @@ use std::alloc::Global;
 /// is the one before it sealed. A message has at most 65,535 bytes.
 pub fn last_tag(alloc: Global, size: usize, count: u64) -> Result<String, BenchError>
     requires { size ≤ 65535 }
-    ensures { IfOk result (λ text. string_bytes text ≡ encode_lower (last_tag (replicate size 0) count)) }
+    ensures { IfOk result (λ text. string_bytes text
+        ≡ encode_lower (last_tag (replicate size 0) count)) }
 {
     let mut text = vec![in alloc; 0u8; size]?;
     let tag = seal_all(text.as_mut_slice(), count);

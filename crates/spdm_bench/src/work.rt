@@ -36,7 +36,8 @@ impl Work {
     /// The work of the words `gcm SIZE COUNT` or `hmac SIZE COUNT`, with a size of at most 65,535 and both
     /// numbers in decimal, and `None` for others.
     pub fn of(words: &[String]) -> Option<Work>
-        ensures kind { IfSome result (λ work. kind_named (slice_index_or (map string_bytes words.now) 0 []) ≡ Some work.kind) }
+        ensures kind { IfSome result (λ work. kind_named (slice_index_or
+            (map string_bytes words.now) 0 []) ≡ Some work.kind) }
     {
         let [kind, size, count] = words else {
             return None;

@@ -40,7 +40,8 @@ pub fn send(message: &[u8], unit: usize, route: Route, out: &mut Packets) -> Res
     requires few { length message.now ≤ 4096 }
     requires low { 64 ≤ unit }
     requires high { unit ≤ 1024 }
-    ensures { OnOk result (out.new ≡ out.old ++ packets_of (route_of route) unit (body_of message.now)) }
+    ensures { OnOk result (out.new
+        ≡ out.old ++ packets_of (route_of route) unit (body_of message.now)) }
 {
     let mut body = Buffer::<4097>::new();
     let _ = body.extend(&[SPDM]);

@@ -40,7 +40,8 @@ impl Link {
 
     /// Whether no packet waits.
     pub fn is_idle(&self) -> bool
-        ensures idle { (sent : List SentPacket) → IsLink self.now sent → result ≡ is_none (first_waiting sent) }
+        ensures idle { (sent : List SentPacket) → IsLink self.now sent
+            → result ≡ is_none (first_waiting sent) }
         ensures busy { IsTrue (not result) → self.now.next < length self.now.packets }
     {
         self.next == self.packets.len()
@@ -49,14 +50,16 @@ impl Link {
     /// The waiting packet with the least number.
     pub fn front(&self) -> &[u8]
         requires { self.now.next < length self.now.packets }
-        ensures { (sent : List SentPacket) → IsLink self.now sent → first_waiting sent ≡ Some result.now }
+        ensures { (sent : List SentPacket) → IsLink self.now sent
+            → first_waiting sent ≡ Some result.now }
     {
         self.packets.as_slice()[self.next].as_slice()
     }
 
     /// The waiting packet with the least number, if there is one, waits no longer.
     pub fn advance(&mut self)
-        ensures { (sent : List SentPacket) → IsLink self.old sent → IsLink self.new (without_first_waiting sent) }
+        ensures { (sent : List SentPacket) → IsLink self.old sent
+            → IsLink self.new (without_first_waiting sent) }
     {
         let count = self.packets.len();
         if self.next < count {
@@ -66,8 +69,10 @@ impl Link {
 
     /// Packets are sent: they wait from now on, and their lines are added at the end of a text.
     pub fn send(&mut self, packets: Packets, text: &mut Bytes) -> Result<(), OutOfMemory>
-        ensures lines { OnOk result ((sent : List SentPacket) → IsLink self.old sent → text.new ≡ text.old ++ packet_lines (length sent) packets) }
-        ensures sent { OnOk result ((sent : List SentPacket) → IsLink self.old sent → IsLink self.new (with_sent sent packets)) }
+        ensures lines { OnOk result ((sent : List SentPacket) → IsLink self.old sent
+            → text.new ≡ text.old ++ packet_lines (length sent) packets) }
+        ensures sent { OnOk result ((sent : List SentPacket) → IsLink self.old sent
+            → IsLink self.new (with_sent sent packets)) }
     {
         push_packets(text, self.packets.len(), &packets)?;
         self.packets.append(packets)?;

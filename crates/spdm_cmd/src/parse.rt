@@ -64,7 +64,8 @@ pub fn parse_script(alloc: Global, text: &[u8]) -> Result<Events, ScriptFault>
     requires { length text.now ≤ TEXT_LIMIT }
     ensures events { IfOk result (λ events. events ≡ entries_of text.now) }
     ensures valid { OnOk result (first_bad_line text.now ≡ None) }
-    ensures bad { (line : ℕ) (fault : LineFault) → IsErrOf result (ScriptFault.Line line fault) → first_bad_line text.now ≡ Some line }
+    ensures bad { (line : ℕ) (fault : LineFault) → IsErrOf result (ScriptFault.Line line fault)
+        → first_bad_line text.now ≡ Some line }
 {
     let mut reader = Reader::new(alloc);
     let mut rest = text;
@@ -99,8 +100,13 @@ impl Reader {
     // Takes the next line. It is bad where it breaks the rules behind those before it.
     fn take(&mut self, line: &[u8]) -> Result<(), ScriptFault>
         requires { self.old.lines < 2 ^ 32 - 1 }
-        ensures taken { (before : List (List ℕ)) → StandsForLines self.old.lines self.old.connected self.old.events before → IsTakenBehind before line.now result }
-        ensures stands { OnOk result ((before : List (List ℕ)) → StandsForLines self.old.lines self.old.connected self.old.events before → StandsForLines self.new.lines self.new.connected self.new.events (before ++ line.now ∷ [])) }
+        ensures taken { (before : List (List ℕ))
+            → StandsForLines self.old.lines self.old.connected self.old.events before
+            → IsTakenBehind before line.now result }
+        ensures stands { OnOk result ((before : List (List ℕ))
+            → StandsForLines self.old.lines self.old.connected self.old.events before
+            → StandsForLines self.new.lines self.new.connected self.new.events
+            (before ++ line.now ∷ [])) }
     {
         let number = self.lines + 1;
         let unknown = ScriptFault::Line(number, LineFault::Unknown);
@@ -134,7 +140,9 @@ impl Reader {
     fn finish(self) -> Result<Events, ScriptFault>
         requires { self.lines < 2 ^ 32 - 1 }
         ensures events { IfOk result (λ events. (events ≡ self.events) × (4 ≤ self.lines)) }
-        ensures bad { (line : ℕ) (fault : LineFault) → IsErrOf result (ScriptFault.Line line fault) → (self.lines < 4) × (line ≡ self.lines + 1) }
+        ensures bad { (line : ℕ) (fault : LineFault)
+            → IsErrOf result (ScriptFault.Line line fault)
+            → (self.lines < 4) × (line ≡ self.lines + 1) }
     {
         if self.lines < CONFIGURATION_LINES {
             return Err(ScriptFault::Line(self.lines + 1, LineFault::Unknown));

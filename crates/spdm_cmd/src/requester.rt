@@ -64,8 +64,10 @@ impl Requester {
     /// Begins to connect: GET_VERSION is sent, by packets at the end of `out`. Where memory runs out, the
     /// requester is not used again.
     pub fn connect(&mut self, out: &mut Packets) -> Result<(), OutOfMemory>
-        ensures sent { OnOk result ((h : List RequesterEntry) → IsRequester self.old h → out.new ≡ out.old ++ (requester_connects self.old.setup h).sent) }
-        ensures stands { OnOk result ((h : List RequesterEntry) → IsRequester self.old h → IsRequester self.new (requester_connects self.old.setup h).history) }
+        ensures sent { OnOk result ((h : List RequesterEntry) → IsRequester self.old h
+            → out.new ≡ out.old ++ (requester_connects self.old.setup h).sent) }
+        ensures stands { OnOk result ((h : List RequesterEntry) → IsRequester self.old h
+            → IsRequester self.new (requester_connects self.old.setup h).history) }
         ensures setup { self.new.setup ≡ self.old.setup }
     {
         let tag = self.next_tag;
@@ -86,8 +88,10 @@ impl Requester {
 
     /// Takes a packet.
     pub fn on_packet(&mut self, packet: &[u8]) -> Event
-        ensures event { (h : List RequesterEntry) → IsRequester self.old h → result ≡ (requester_hears self.old.setup h packet.now).event }
-        ensures stands { (h : List RequesterEntry) → IsRequester self.old h → IsRequester self.new (requester_hears self.old.setup h packet.now).history }
+        ensures event { (h : List RequesterEntry) → IsRequester self.old h
+            → result ≡ (requester_hears self.old.setup h packet.now).event }
+        ensures stands { (h : List RequesterEntry) → IsRequester self.old h
+            → IsRequester self.new (requester_hears self.old.setup h packet.now).history }
         ensures setup { self.new.setup ≡ self.old.setup }
     {
         let setup = self.setup;

@@ -6,8 +6,6 @@ ghost use Rattle.spdm_cmd.specs.Refusal.{refusal, error_reply, error_version, er
 ghost use Rattle.spdm_cmd.specs.Responder.{version_reply, responder_does, responder_hears, with_taken};
 ghost use Rattle.spdm_cmd.specs.StandsFor.{IsResponder};
 
-use spdm_grammar::names::request_code::GET_VERSION;
-use spdm_grammar::names::spdm_version::{V1_0, V1_2};
 use crate::body::{clear_in, send};
 use crate::ends::{Heard, Phase};
 use crate::packets::Packets;
@@ -15,6 +13,8 @@ use crate::setup::Setup;
 use mctp_framing::Route;
 use spdm_basis::{Frame, OutOfMemory};
 use spdm_codec::{read_request, write_response};
+use spdm_grammar::names::request_code::GET_VERSION;
+use spdm_grammar::names::spdm_version::{V1_0, V1_2};
 use spdm_grammar::{ErrorCode, Request, Response};
 use std::marker::Model;
 
@@ -66,9 +66,12 @@ impl Responder {
     /// Takes a packet, and adds the packets that it sends at the end of `out`. Where memory runs out, the
     /// responder is not used again.
     pub fn on_packet(&mut self, packet: &[u8], out: &mut Packets) -> Result<Heard, OutOfMemory>
-        ensures heard { IfOk result (λ heard. (h : List ResponderEntry) → IsResponder self.old h → heard ≡ (responder_hears self.old.setup h packet.now).heard) }
-        ensures sent { OnOk result ((h : List ResponderEntry) → IsResponder self.old h → out.new ≡ out.old ++ (responder_hears self.old.setup h packet.now).sent) }
-        ensures stands { OnOk result ((h : List ResponderEntry) → IsResponder self.old h → IsResponder self.new (responder_hears self.old.setup h packet.now).history) }
+        ensures heard { IfOk result (λ heard. (h : List ResponderEntry) → IsResponder self.old h
+            → heard ≡ (responder_hears self.old.setup h packet.now).heard) }
+        ensures sent { OnOk result ((h : List ResponderEntry) → IsResponder self.old h
+            → out.new ≡ out.old ++ (responder_hears self.old.setup h packet.now).sent) }
+        ensures stands { OnOk result ((h : List ResponderEntry) → IsResponder self.old h
+            → IsResponder self.new (responder_hears self.old.setup h packet.now).history) }
         ensures setup { self.new.setup ≡ self.old.setup }
     {
         let setup = self.setup;
@@ -89,9 +92,13 @@ impl Responder {
 
     // Answers a clear message with VERSION or ERROR.
     fn answer(&mut self, message: &[u8], reply: &mut Frame) -> Heard
-        ensures heard { (h : List ResponderEntry) → IsResponder self.old h → result ≡ (responder_does self.old.setup h message.now).heard }
-        ensures reply { (h : List ResponderEntry) → IsResponder self.old h → reply.new ≡ (responder_does self.old.setup h message.now).reply }
-        ensures stands { (tag : ℕ) (h : List ResponderEntry) → IsResponder self.old h → IsResponder self.new (with_taken tag message.now (responder_does self.old.setup h message.now) h) }
+        ensures heard { (h : List ResponderEntry) → IsResponder self.old h
+            → result ≡ (responder_does self.old.setup h message.now).heard }
+        ensures reply { (h : List ResponderEntry) → IsResponder self.old h
+            → reply.new ≡ (responder_does self.old.setup h message.now).reply }
+        ensures stands { (tag : ℕ) (h : List ResponderEntry) → IsResponder self.old h
+            → IsResponder self.new (with_taken tag message.now
+            (responder_does self.old.setup h message.now) h) }
         ensures setup { self.new.setup ≡ self.old.setup }
     {
         match refusal(self.setup.transfer, message) {

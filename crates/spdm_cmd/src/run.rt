@@ -24,29 +24,42 @@ pub fn spdm<S: Source, K: Sink>(
     sink: &mut K,
 ) -> Outcome
     // Done: the source was read to its end, and the sink holds what it held and then the trace.
-    ensures read_to_end { result ≡ Outcome.Done → (text : List ℕ) → S.remaining source.old ≡ Some text → S.remaining source.new ≡ Some [] }
-    ensures whole_trace { result ≡ Outcome.Done → (text : List ℕ) → S.remaining source.old ≡ Some text → Takes (K.contents sink.old) (trace text) (K.contents sink.new) }
+    ensures read_to_end { result ≡ Outcome.Done → (text : List ℕ)
+        → S.remaining source.old ≡ Some text → S.remaining source.new ≡ Some [] }
+    ensures whole_trace { result ≡ Outcome.Done → (text : List ℕ)
+        → S.remaining source.old ≡ Some text
+        → Takes (K.contents sink.old) (trace text) (K.contents sink.new) }
 
     // With any answer the sink holds what it held and a prefix of the trace, and with some of them nothing more.
-    ensures prefix { (text : List ℕ) → S.remaining source.old ≡ Some text → TakesPrefix (K.contents sink.old) (trace text) (K.contents sink.new) }
+    ensures prefix { (text : List ℕ) → S.remaining source.old ≡ Some text
+        → TakesPrefix (K.contents sink.old) (trace text) (K.contents sink.new) }
     ensures nothing_written { writes_nothing result ≡ true → sink.new ≡ sink.old }
 
     // Each answer comes at its cause.
     ensures usage { (result ≡ Outcome.Usage) ↔ (is_run (map string_bytes words.now) ≡ false) }
     ensures nothing_read { result ≡ Outcome.Usage → source.new ≡ source.old }
-    ensures bad_script { (line : ℕ) (fault : LineFault) → result ≡ Outcome.BadScript line fault → (text : List ℕ) → S.remaining source.old ≡ Some text → (length text ≤ text_limit) × (first_bad_line text ≡ Some line) }
-    ensures script { ran result ≡ true → (text : List ℕ) → S.remaining source.old ≡ Some text → (length text ≤ text_limit) × (first_bad_line text ≡ None) }
-    ensures too_long { result ≡ Outcome.TooLong → (text : List ℕ) → S.remaining source.old ≡ Some text → text_limit < length text }
-    ensures read_fault { result ≡ Outcome.ReadFault → HasFault (S.faults source.old) (S.faults source.new) }
-    ensures write_fault { result ≡ Outcome.WriteFault → HasFault (K.faults sink.old) (K.faults sink.new) }
+    ensures bad_script { (line : ℕ) (fault : LineFault) → result ≡ Outcome.BadScript line fault
+        → (text : List ℕ) → S.remaining source.old ≡ Some text
+        → (length text ≤ text_limit) × (first_bad_line text ≡ Some line) }
+    ensures script { ran result ≡ true → (text : List ℕ) → S.remaining source.old ≡ Some text
+        → (length text ≤ text_limit) × (first_bad_line text ≡ None) }
+    ensures too_long { result ≡ Outcome.TooLong → (text : List ℕ)
+        → S.remaining source.old ≡ Some text → text_limit < length text }
+    ensures read_fault { result ≡ Outcome.ReadFault
+        → HasFault (S.faults source.old) (S.faults source.new) }
+    ensures write_fault { result ≡ Outcome.WriteFault
+        → HasFault (K.faults sink.old) (K.faults sink.new) }
 
     // Where nothing fails, the answer is that to the words and the text, unless memory runs out.
     ensures exact { (text : List ℕ) → S.remaining source.old ≡ Some text
-        → IsQuiet (S.faults source.old) (S.faults source.new) → IsQuiet (K.faults sink.old) (K.faults sink.new)
+        → IsQuiet (S.faults source.old) (S.faults source.new)
+        → IsQuiet (K.faults sink.old) (K.faults sink.new)
         → (result ≡ Outcome.OutOfMemory) ⊎ (result ≡ answer_to (map string_bytes words.now) text) }
     ensures complete { (text : List ℕ) → S.remaining source.old ≡ Some text
-        → IsQuiet (S.faults source.old) (S.faults source.new) → IsQuiet (K.faults sink.old) (K.faults sink.new)
-        → is_run (map string_bytes words.now) ≡ true → length text ≤ text_limit → first_bad_line text ≡ None
+        → IsQuiet (S.faults source.old) (S.faults source.new)
+        → IsQuiet (K.faults sink.old) (K.faults sink.new)
+        → is_run (map string_bytes words.now) ≡ true → length text ≤ text_limit
+        → first_bad_line text ≡ None
         → (result ≡ Outcome.Done) ⊎ (result ≡ Outcome.OutOfMemory) }
 {
     if !is_run(words) {
@@ -72,9 +85,12 @@ pub fn spdm<S: Source, K: Sink>(
 
 // Writes the trace of the events of a script.
 fn write_trace<K: Sink>(alloc: Global, entries: &[Entry], sink: &mut K) -> Result<(), StepFault>
-    ensures whole { OnOk result (Takes (K.contents sink.old) (trace_of configured entries.now) (K.contents sink.new)) }
-    ensures prefix { OnErr result (TakesPrefix (K.contents sink.old) (trace_of configured entries.now) (K.contents sink.new)) }
-    ensures write_fault { IsErrOf result StepFault.WriteFault → HasFault (K.faults sink.old) (K.faults sink.new) }
+    ensures whole { OnOk result (Takes (K.contents sink.old) (trace_of configured entries.now)
+        (K.contents sink.new)) }
+    ensures prefix { OnErr result (TakesPrefix (K.contents sink.old)
+        (trace_of configured entries.now) (K.contents sink.new)) }
+    ensures write_fault { IsErrOf result StepFault.WriteFault
+        → HasFault (K.faults sink.old) (K.faults sink.new) }
     ensures later { K.faults sink.old ≤ K.faults sink.new }
 {
     let mut world = World::new(alloc, &Setup::configured());

@@ -93,7 +93,8 @@ pub fn push_event(text: &mut Bytes, event: Event) -> Result<(), OutOfMemory>
 
 // The line of a command that is done.
 fn push_done(text: &mut Bytes, finished: Finished) -> Result<(), OutOfMemory>
-    ensures { OnOk result (text.new ≡ text.old ++ codes "to q1 done " ++ finished_words finished ++ 10 ∷ []) }
+    ensures { OnOk result (text.new
+        ≡ text.old ++ codes "to q1 done " ++ finished_words finished ++ 10 ∷ []) }
 {
     match finished {
         Finished::Connected => text.extend(b"to q1 done connected\n"),

@@ -70,9 +70,12 @@ impl World {
 
     /// Writes the phases of both ends.
     pub fn start<K: Sink>(&self, sink: &mut K) -> Result<(), StepFault>
-        ensures written { OnOk result ((state : LinkState) → StandsFor self.now state → Takes (K.contents sink.old) (phases_text state) (K.contents sink.new)) }
-        ensures prefix { OnErr result ((state : LinkState) → StandsFor self.now state → TakesPrefix (K.contents sink.old) (phases_text state) (K.contents sink.new)) }
-        ensures write_fault { IsErrOf result StepFault.WriteFault → HasFault (K.faults sink.old) (K.faults sink.new) }
+        ensures written { OnOk result ((state : LinkState) → StandsFor self.now state
+            → Takes (K.contents sink.old) (phases_text state) (K.contents sink.new)) }
+        ensures prefix { OnErr result ((state : LinkState) → StandsFor self.now state
+            → TakesPrefix (K.contents sink.old) (phases_text state) (K.contents sink.new)) }
+        ensures write_fault { IsErrOf result StepFault.WriteFault
+            → HasFault (K.faults sink.old) (K.faults sink.new) }
         ensures later { K.faults sink.old ≤ K.faults sink.new }
     {
         let mut text = Bytes::new(self.alloc);
@@ -84,10 +87,16 @@ impl World {
 
     /// Takes an event, with the number of its line, and writes its lines.
     pub fn step<K: Sink>(&mut self, entry: &Entry, sink: &mut K) -> Result<(), StepFault>
-        ensures written { OnOk result ((state : LinkState) → StandsFor self.old state → Takes (K.contents sink.old) (entry_step self.old.setup state entry.now).text (K.contents sink.new)) }
-        ensures stands { OnOk result ((state : LinkState) → StandsFor self.old state → StandsFor self.new (entry_step self.old.setup state entry.now).after) }
-        ensures prefix { OnErr result ((state : LinkState) → StandsFor self.old state → TakesPrefix (K.contents sink.old) (entry_step self.old.setup state entry.now).text (K.contents sink.new)) }
-        ensures write_fault { IsErrOf result StepFault.WriteFault → HasFault (K.faults sink.old) (K.faults sink.new) }
+        ensures written { OnOk result ((state : LinkState) → StandsFor self.old state
+            → Takes (K.contents sink.old) (entry_step self.old.setup state entry.now).text
+            (K.contents sink.new)) }
+        ensures stands { OnOk result ((state : LinkState) → StandsFor self.old state
+            → StandsFor self.new (entry_step self.old.setup state entry.now).after) }
+        ensures prefix { OnErr result ((state : LinkState) → StandsFor self.old state
+            → TakesPrefix (K.contents sink.old) (entry_step self.old.setup state entry.now).text
+            (K.contents sink.new)) }
+        ensures write_fault { IsErrOf result StepFault.WriteFault
+            → HasFault (K.faults sink.old) (K.faults sink.new) }
         ensures later { K.faults sink.old ≤ K.faults sink.new }
         ensures setup { self.new.setup ≡ self.old.setup }
     {
@@ -102,8 +111,10 @@ impl World {
 
     // Takes an event, and adds its lines at the end of a text.
     fn entry_lines(&mut self, entry: &Entry, text: &mut Bytes) -> Result<(), OutOfMemory>
-        ensures lines { OnOk result ((state : LinkState) → StandsFor self.old state → text.new ≡ text.old ++ (entry_step self.old.setup state entry.now).text) }
-        ensures stands { OnOk result ((state : LinkState) → StandsFor self.old state → StandsFor self.new (entry_step self.old.setup state entry.now).after) }
+        ensures lines { OnOk result ((state : LinkState) → StandsFor self.old state
+            → text.new ≡ text.old ++ (entry_step self.old.setup state entry.now).text) }
+        ensures stands { OnOk result ((state : LinkState) → StandsFor self.old state
+            → StandsFor self.new (entry_step self.old.setup state entry.now).after) }
         ensures setup { self.new.setup ≡ self.old.setup }
     {
         push_at(text, entry.line)?;
@@ -115,8 +126,10 @@ impl World {
 
     // Tells the requester to connect.
     fn connect(&mut self, text: &mut Bytes) -> Result<(), OutOfMemory>
-        ensures lines { OnOk result ((state : LinkState) → StandsFor self.old state → text.new ≡ text.old ++ (connects self.old.setup state).text) }
-        ensures stands { OnOk result ((state : LinkState) → StandsFor self.old state → StandsFor self.new (connects self.old.setup state).after) }
+        ensures lines { OnOk result ((state : LinkState) → StandsFor self.old state
+            → text.new ≡ text.old ++ (connects self.old.setup state).text) }
+        ensures stands { OnOk result ((state : LinkState) → StandsFor self.old state
+            → StandsFor self.new (connects self.old.setup state).after) }
         ensures setup { self.new.setup ≡ self.old.setup }
     {
         let mut sent = Packets::new(self.alloc);
@@ -127,8 +140,10 @@ impl World {
 
     // Gives waiting packets to their ends, that with the least number first, up to `count` times.
     fn pump(&mut self, count: u32, text: &mut Bytes) -> Result<(), OutOfMemory>
-        ensures lines { OnOk result ((state : LinkState) → StandsFor self.old state → text.new ≡ text.old ++ (pumps self.old.setup count state).text) }
-        ensures stands { OnOk result ((state : LinkState) → StandsFor self.old state → StandsFor self.new (pumps self.old.setup count state).after) }
+        ensures lines { OnOk result ((state : LinkState) → StandsFor self.old state
+            → text.new ≡ text.old ++ (pumps self.old.setup count state).text) }
+        ensures stands { OnOk result ((state : LinkState) → StandsFor self.old state
+            → StandsFor self.new (pumps self.old.setup count state).after) }
         ensures setup { self.new.setup ≡ self.old.setup }
     {
         for _ in 0..count {
@@ -142,7 +157,8 @@ impl World {
 
     // Whether no packet waits.
     fn is_idle(&self) -> bool
-        ensures idle { (state : LinkState) → StandsFor self.now state → result ≡ is_none (first_waiting state.sent) }
+        ensures idle { (state : LinkState) → StandsFor self.now state
+            → result ≡ is_none (first_waiting state.sent) }
         ensures busy { IsTrue (not result) → self.now.link.next < length self.now.link.packets }
     {
         self.link.is_idle()
@@ -151,10 +167,14 @@ impl World {
     // Gives the waiting packet with the least number to its end.
     fn give_next(&mut self, text: &mut Bytes) -> Result<(), OutOfMemory>
         requires { self.old.link.next < length self.old.link.packets }
-        ensures lines { OnOk result ((state : LinkState) (packet : List ℕ) → StandsFor self.old state → first_waiting state.sent ≡ Some packet
-            → text.new ≡ text.old ++ (given self.old.setup (record state { sent = without_first_waiting state.sent }) packet).text) }
-        ensures stands { OnOk result ((state : LinkState) (packet : List ℕ) → StandsFor self.old state → first_waiting state.sent ≡ Some packet
-            → StandsFor self.new (given self.old.setup (record state { sent = without_first_waiting state.sent }) packet).after) }
+        ensures lines { OnOk result ((state : LinkState) (packet : List ℕ)
+            → StandsFor self.old state → first_waiting state.sent ≡ Some packet
+            → text.new ≡ text.old ++ (given self.old.setup
+            (record state { sent = without_first_waiting state.sent }) packet).text) }
+        ensures stands { OnOk result ((state : LinkState) (packet : List ℕ)
+            → StandsFor self.old state → first_waiting state.sent ≡ Some packet
+            → StandsFor self.new (given self.old.setup
+            (record state { sent = without_first_waiting state.sent }) packet).after) }
         ensures setup { self.new.setup ≡ self.old.setup }
     {
         let to = destination(self.link.front());
@@ -171,10 +191,14 @@ impl World {
     // Gives that packet to the responder.
     fn to_responder(&mut self, text: &mut Bytes) -> Result<(), OutOfMemory>
         requires { self.old.link.next < length self.old.link.packets }
-        ensures lines { OnOk result ((state : LinkState) (packet : List ℕ) → StandsFor self.old state → first_waiting state.sent ≡ Some packet
-            → text.new ≡ text.old ++ (to_responder self.old.setup (record state { sent = without_first_waiting state.sent }) packet).text) }
-        ensures stands { OnOk result ((state : LinkState) (packet : List ℕ) → StandsFor self.old state → first_waiting state.sent ≡ Some packet
-            → StandsFor self.new (to_responder self.old.setup (record state { sent = without_first_waiting state.sent }) packet).after) }
+        ensures lines { OnOk result ((state : LinkState) (packet : List ℕ)
+            → StandsFor self.old state → first_waiting state.sent ≡ Some packet
+            → text.new ≡ text.old ++ (to_responder self.old.setup
+            (record state { sent = without_first_waiting state.sent }) packet).text) }
+        ensures stands { OnOk result ((state : LinkState) (packet : List ℕ)
+            → StandsFor self.old state → first_waiting state.sent ≡ Some packet
+            → StandsFor self.new (to_responder self.old.setup
+            (record state { sent = without_first_waiting state.sent }) packet).after) }
         ensures setup { self.new.setup ≡ self.old.setup }
     {
         let mut sent = Packets::new(self.alloc);
@@ -187,10 +211,14 @@ impl World {
     // Gives that packet to the requester.
     fn to_requester(&mut self, text: &mut Bytes) -> Result<(), OutOfMemory>
         requires { self.old.link.next < length self.old.link.packets }
-        ensures lines { OnOk result ((state : LinkState) (packet : List ℕ) → StandsFor self.old state → first_waiting state.sent ≡ Some packet
-            → text.new ≡ text.old ++ (to_requester self.old.setup (record state { sent = without_first_waiting state.sent }) packet).text) }
-        ensures stands { OnOk result ((state : LinkState) (packet : List ℕ) → StandsFor self.old state → first_waiting state.sent ≡ Some packet
-            → StandsFor self.new (to_requester self.old.setup (record state { sent = without_first_waiting state.sent }) packet).after) }
+        ensures lines { OnOk result ((state : LinkState) (packet : List ℕ)
+            → StandsFor self.old state → first_waiting state.sent ≡ Some packet
+            → text.new ≡ text.old ++ (to_requester self.old.setup
+            (record state { sent = without_first_waiting state.sent }) packet).text) }
+        ensures stands { OnOk result ((state : LinkState) (packet : List ℕ)
+            → StandsFor self.old state → first_waiting state.sent ≡ Some packet
+            → StandsFor self.new (to_requester self.old.setup
+            (record state { sent = without_first_waiting state.sent }) packet).after) }
         ensures setup { self.new.setup ≡ self.old.setup }
     {
         let event = self.requester.on_packet(self.link.front());

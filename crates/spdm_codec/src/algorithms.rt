@@ -84,10 +84,13 @@ pub fn read_algorithms<'a>(cursor: &mut Cursor<'a>) -> Result<Response<'a>, Malf
 pub fn write_negotiate_algorithms(offer: &AlgOffer<'_>, out: &mut Frame) -> Result<(), TooLong>
     requires ext_asym { length offer.now.ext_asym.now ≤ 1020 }
     requires ext_hash { length offer.now.ext_hash.now ≤ 1020 }
-    requires told { 32 + length offer.now.ext_asym.now + length offer.now.ext_hash.now + length offer.now.tables.now < 2 ^ 16 }
-    ensures ok { OnOk result (out.new ≡ V1_2 ∷ NEGOTIATE_ALGORITHMS ∷ offer_bytes (offer_message offer.now)) }
+    requires told { 32 + length offer.now.ext_asym.now + length offer.now.ext_hash.now
+        + length offer.now.tables.now < 2 ^ 16 }
+    ensures ok { OnOk result (out.new
+        ≡ V1_2 ∷ NEGOTIATE_ALGORITHMS ∷ offer_bytes (offer_message offer.now)) }
     ensures fits { OnOk result (length out.new ≤ MAX_MESSAGE_SIZE) }
-    ensures err { OnErr result (MAX_MESSAGE_SIZE < length (V1_2 ∷ NEGOTIATE_ALGORITHMS ∷ offer_bytes (offer_message offer.now))) }
+    ensures err { OnErr result (MAX_MESSAGE_SIZE < length
+        (V1_2 ∷ NEGOTIATE_ALGORITHMS ∷ offer_bytes (offer_message offer.now))) }
 {
     out.clear();
     put(out, &[V1_2, NEGOTIATE_ALGORITHMS, offer.count, 0])?;
@@ -117,10 +120,12 @@ pub fn write_negotiate_algorithms(offer: &AlgOffer<'_>, out: &mut Frame) -> Resu
 pub fn write_algorithms(reply: &AlgReply<'_>, out: &mut Frame) -> Result<(), TooLong>
     requires ext_asym { length reply.now.ext_asym.now ≤ 1020 }
     requires ext_hash { length reply.now.ext_hash.now ≤ 1020 }
-    requires told { 36 + length reply.now.ext_asym.now + length reply.now.ext_hash.now + length reply.now.tables.now < 2 ^ 16 }
+    requires told { 36 + length reply.now.ext_asym.now + length reply.now.ext_hash.now
+        + length reply.now.tables.now < 2 ^ 16 }
     ensures ok { OnOk result (out.new ≡ V1_2 ∷ ALGORITHMS ∷ reply_bytes (reply_message reply.now)) }
     ensures fits { OnOk result (length out.new ≤ MAX_MESSAGE_SIZE) }
-    ensures err { OnErr result (MAX_MESSAGE_SIZE < length (V1_2 ∷ ALGORITHMS ∷ reply_bytes (reply_message reply.now))) }
+    ensures err { OnErr result (MAX_MESSAGE_SIZE < length (V1_2 ∷ ALGORITHMS ∷ reply_bytes
+        (reply_message reply.now))) }
 {
     out.clear();
     put(out, &[V1_2, ALGORITHMS, reply.count, 0])?;

@@ -18,8 +18,10 @@ use spdm_grammar::{ChunkView, Malformed, Request, Response};
 /// CHUNK_SEND or CHUNK_RESPONSE behind its code.
 #[tactic(auto, unfolding(spdm_grammar::specs::Requests::chunk_send_layout, spdm_grammar::specs::Responses::chunk_response_layout))]
 pub fn read_chunk<'a>(cursor: &mut Cursor<'a>) -> Result<ChunkView<'a>, Malformed>
-    ensures request { Gives (λ chunk. ChunkSend (chunk_message chunk)) result (read chunk_send_layout cursor.old) }
-    ensures response { Gives (λ chunk. ChunkResponse (chunk_message chunk)) result (read chunk_response_layout cursor.old) }
+    ensures request { Gives (λ chunk. ChunkSend (chunk_message chunk)) result
+        (read chunk_send_layout cursor.old) }
+    ensures response { Gives (λ chunk. ChunkResponse (chunk_message chunk)) result
+        (read chunk_response_layout cursor.old) }
 {
     let attributes = cursor.byte()?;
     let handle = cursor.byte()?;
@@ -71,7 +73,8 @@ pub fn write_chunk(code: u8, chunk: &ChunkView<'_>, out: &mut Frame) -> Result<(
     requires { length chunk.now.chunk.now < 2 ^ 32 }
     ensures ok { OnOk result (out.new ≡ V1_2 ∷ code ∷ chunk_bytes (chunk_message chunk.now)) }
     ensures fits { OnOk result (length out.new ≤ MAX_MESSAGE_SIZE) }
-    ensures err { OnErr result (MAX_MESSAGE_SIZE < length (V1_2 ∷ code ∷ chunk_bytes (chunk_message chunk.now))) }
+    ensures err { OnErr result (MAX_MESSAGE_SIZE < length (V1_2 ∷ code ∷ chunk_bytes
+        (chunk_message chunk.now))) }
 {
     out.clear();
     put(out, &[V1_2, code, u8::from(chunk.last), chunk.handle])?;

@@ -56,9 +56,11 @@ pub fn write_psk_exchange(exchange: &Exchange<'_>, out: &mut Frame) -> Result<()
     requires hint { length exchange.now.hint.now < 2 ^ 16 }
     requires context { length exchange.now.context.now < 2 ^ 16 }
     requires opaque { length exchange.now.opaque.now ≤ 1024 }
-    ensures ok { OnOk result (out.new ≡ V1_2 ∷ PSK_EXCHANGE ∷ exchange_bytes (exchange_message exchange.now)) }
+    ensures ok { OnOk result (out.new
+        ≡ V1_2 ∷ PSK_EXCHANGE ∷ exchange_bytes (exchange_message exchange.now)) }
     ensures fits { OnOk result (length out.new ≤ MAX_MESSAGE_SIZE) }
-    ensures err { OnErr result (MAX_MESSAGE_SIZE < length (V1_2 ∷ PSK_EXCHANGE ∷ exchange_bytes (exchange_message exchange.now))) }
+    ensures err { OnErr result (MAX_MESSAGE_SIZE < length (V1_2 ∷ PSK_EXCHANGE ∷ exchange_bytes
+        (exchange_message exchange.now))) }
 {
     out.clear();
     put(out, &[V1_2, PSK_EXCHANGE, exchange.summary, 0])?;

@@ -19,7 +19,8 @@ pub fn read_psk_exchange_rsp<'a>(
     hash_len: usize,
     has_summary: bool,
 ) -> Result<Response<'a>, Malformed>
-    ensures { Gives response_message result (read (psk_exchange_rsp_layout hash_len has_summary) cursor.old) }
+    ensures { Gives response_message result (read
+        (psk_exchange_rsp_layout hash_len has_summary) cursor.old) }
 {
     let heartbeat = cursor.byte()?;
     cursor.field(1)?;
@@ -61,9 +62,11 @@ fn summary_len(hash_len: usize, has_summary: bool) -> usize
 pub fn write_psk_exchange_rsp(exchange: &ExchangeRsp<'_>, out: &mut Frame) -> Result<(), TooLong>
     requires context { length exchange.now.context.now < 2 ^ 16 }
     requires opaque { length exchange.now.opaque.now ≤ 1024 }
-    ensures ok { OnOk result (out.new ≡ V1_2 ∷ PSK_EXCHANGE_RSP ∷ exchange_rsp_bytes (exchange_rsp_message exchange.now)) }
+    ensures ok { OnOk result (out.new
+        ≡ V1_2 ∷ PSK_EXCHANGE_RSP ∷ exchange_rsp_bytes (exchange_rsp_message exchange.now)) }
     ensures fits { OnOk result (length out.new ≤ MAX_MESSAGE_SIZE) }
-    ensures err { OnErr result (MAX_MESSAGE_SIZE < length (V1_2 ∷ PSK_EXCHANGE_RSP ∷ exchange_rsp_bytes (exchange_rsp_message exchange.now))) }
+    ensures err { OnErr result (MAX_MESSAGE_SIZE < length
+        (V1_2 ∷ PSK_EXCHANGE_RSP ∷ exchange_rsp_bytes (exchange_rsp_message exchange.now))) }
 {
     out.clear();
     put(out, &[V1_2, PSK_EXCHANGE_RSP, exchange.heartbeat, 0])?;

@@ -58,10 +58,12 @@ impl Feed {
     /// `Bad` exactly where fewer would and they have another fault than that they end too early. A
     /// refused piece changes nothing.
     pub fn push(&mut self, piece: &[u8]) -> Result<(), FeedFault>
-        ensures ok { OnOk result (self.new ≡ record { expect = self.old.expect; bytes = self.old.bytes ++ piece.now }) }
+        ensures ok { OnOk result (self.new
+            ≡ record { expect = self.old.expect; bytes = self.old.bytes ++ piece.now }) }
         ensures err { OnErr result (self.new ≡ self.old) }
 
-        ensures too_long { (result ≡ Err FeedFault.TooLong) ↔ (MAX_MESSAGE_SIZE < length self.old.bytes + length piece.now) }
+        ensures too_long { (result ≡ Err FeedFault.TooLong) ↔
+            (MAX_MESSAGE_SIZE < length self.old.bytes + length piece.now) }
         ensures bad { (fault : Malformed) → (result ≡ Err (FeedFault.Bad fault)) ↔
             ((length self.old.bytes + length piece.now ≤ MAX_MESSAGE_SIZE)
             × (fault_in self.old.expect (self.old.bytes ++ piece.now) ≡ Some fault)
@@ -98,9 +100,12 @@ impl Feed {
     /// The response that the pieces spell, as `read_response` answers.
     pub fn finish_response(&self) -> Result<Response<'_>, Malformed>
         requires { AwaitsResponse self.now.expect }
-        ensures value { (hash_len : ℕ) (summary : Bool) → self.now.expect ≡ Expect.Response hash_len summary →
-            option_map response_message (result_ok result) ≡ response_in hash_len summary self.now.bytes }
-        ensures fault { (hash_len : ℕ) (summary : Bool) → self.now.expect ≡ Expect.Response hash_len summary →
+        ensures value { (hash_len : ℕ) (summary : Bool)
+            → self.now.expect ≡ Expect.Response hash_len summary →
+            option_map response_message (result_ok result)
+            ≡ response_in hash_len summary self.now.bytes }
+        ensures fault { (hash_len : ℕ) (summary : Bool)
+            → self.now.expect ≡ Expect.Response hash_len summary →
             result_err result ≡ response_fault hash_len summary self.now.bytes }
     {
         match self.expect {
@@ -126,5 +131,6 @@ fn fault_of(expect: Expect, bytes: &[u8]) -> Option<Malformed>
 /// changes the answer.
 pub fn feed_fault_stays()
     ensures { (expect : Expect) (bytes more : List ℕ) (fault : Malformed) →
-        fault_in expect bytes ≡ Some fault → fault.what ≢ End → fault_in expect (bytes ++ more) ≡ Some fault }
+        fault_in expect bytes ≡ Some fault → fault.what ≢ End
+        → fault_in expect (bytes ++ more) ≡ Some fault }
 {}

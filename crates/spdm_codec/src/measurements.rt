@@ -61,9 +61,11 @@ pub fn read_measurements<'a>(cursor: &mut Cursor<'a>) -> Result<Response<'a>, Ma
 pub fn write_measurements(measured: &Measured<'_>, out: &mut Frame) -> Result<(), TooLong>
     requires block_bytes { length measured.now.block_bytes.now < 2 ^ 24 }
     requires opaque { length measured.now.opaque.now ≤ 1024 }
-    ensures ok { OnOk result (out.new ≡ V1_2 ∷ MEASUREMENTS ∷ measured_bytes (measured_message measured.now)) }
+    ensures ok { OnOk result (out.new
+        ≡ V1_2 ∷ MEASUREMENTS ∷ measured_bytes (measured_message measured.now)) }
     ensures fits { OnOk result (length out.new ≤ MAX_MESSAGE_SIZE) }
-    ensures err { OnErr result (MAX_MESSAGE_SIZE < length (V1_2 ∷ MEASUREMENTS ∷ measured_bytes (measured_message measured.now))) }
+    ensures err { OnErr result (MAX_MESSAGE_SIZE < length (V1_2 ∷ MEASUREMENTS ∷ measured_bytes
+        (measured_message measured.now))) }
 {
     out.clear();
     put(

@@ -88,7 +88,8 @@ pub fn read_request(bytes: &[u8], hash_len: usize) -> Result<Request<'_>, Malfor
     ensures fault { result_err result ≡ request_fault hash_len bytes.now }
 
     // What is read is spelled, and what is spelled is read.
-    ensures found { IfOk result (λ request. IsRequestSpelling hash_len (request_message request) bytes.now) }
+    ensures found { IfOk result (λ request. IsRequestSpelling hash_len
+        (request_message request) bytes.now) }
     ensures only { (message : RequestMessage) → IsRequestSpelling hash_len message bytes.now →
         IsOkAnd result (λ request. request_message request ≡ message) }
 {
@@ -101,7 +102,8 @@ pub fn write_request(message: &Request<'_>, hash_len: usize, out: &mut Frame) ->
     requires { IsSoundRequest hash_len (request_message message.now) }
     ensures ok { OnOk result (out.new ≡ canonical_request (request_message message.now)) }
     ensures fits { OnOk result (length out.new ≤ MAX_MESSAGE_SIZE) }
-    ensures err { OnErr result (MAX_MESSAGE_SIZE < length (canonical_request (request_message message.now))) }
+    ensures err { OnErr result (MAX_MESSAGE_SIZE < length (canonical_request
+        (request_message message.now))) }
 {
     out.clear();
     match message {

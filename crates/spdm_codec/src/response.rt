@@ -55,7 +55,8 @@ fn read_body<'a>(
     code: u8,
     lengths: Lengths,
 ) -> Result<Response<'a>, Malformed>
-    ensures { Gives response_message result (read (response_body lengths.hash_len lengths.has_summary version code) cursor.old) }
+    ensures { Gives response_message result (read
+        (response_body lengths.hash_len lengths.has_summary version code) cursor.old) }
 {
     match code {
         VERSION => read_version(cursor),
@@ -75,7 +76,8 @@ fn read_body<'a>(
 
 // The response that the bytes spell, or their first fault.
 fn read_whole(bytes: &[u8], lengths: Lengths) -> Result<Response<'_>, Malformed>
-    ensures { Gives response_message result (response_reading lengths.hash_len lengths.has_summary bytes.now) }
+    ensures { Gives response_message result
+        (response_reading lengths.hash_len lengths.has_summary bytes.now) }
 {
     let mut cursor = Cursor::new(bytes);
     let version = cursor.byte()?;
@@ -99,12 +101,15 @@ pub fn read_response(
     summary: bool,
 ) -> Result<Response<'_>, Malformed>
     // The response that the bytes spell, and their first fault, as functions of the bytes.
-    ensures value { option_map response_message (result_ok result) ≡ response_in hash_len summary bytes.now }
+    ensures value { option_map response_message (result_ok result)
+        ≡ response_in hash_len summary bytes.now }
     ensures fault { result_err result ≡ response_fault hash_len summary bytes.now }
 
     // What is read is spelled, and what is spelled is read.
-    ensures found { IfOk result (λ response. IsResponseSpelling hash_len summary (response_message response) bytes.now) }
-    ensures only { (message : ResponseMessage) → IsResponseSpelling hash_len summary message bytes.now →
+    ensures found { IfOk result (λ response. IsResponseSpelling hash_len summary
+        (response_message response) bytes.now) }
+    ensures only { (message : ResponseMessage)
+        → IsResponseSpelling hash_len summary message bytes.now →
         IsOkAnd result (λ response. response_message response ≡ message) }
 {
     read_whole(
@@ -128,7 +133,8 @@ pub fn write_response(
     requires { IsSoundResponse hash_len summary (response_message message.now) }
     ensures ok { OnOk result (out.new ≡ canonical_response (response_message message.now)) }
     ensures fits { OnOk result (length out.new ≤ MAX_MESSAGE_SIZE) }
-    ensures err { OnErr result (MAX_MESSAGE_SIZE < length (canonical_response (response_message message.now))) }
+    ensures err { OnErr result (MAX_MESSAGE_SIZE < length (canonical_response
+        (response_message message.now))) }
 {
     out.clear();
     match message {

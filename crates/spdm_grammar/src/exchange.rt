@@ -55,7 +55,8 @@ impl ExchangeRsp<'_> {
     /// Whether the answer has a spelling, where a hash has `hash_len` bytes and `summary` says
     /// whether a measurement summary hash was asked for.
     pub fn is_sound(&self, hash_len: usize, summary: bool) -> bool
-        ensures { IsTrue result ↔ IsSoundExchangeRsp hash_len summary (exchange_rsp_message self.now) }
+        ensures { IsTrue result ↔ IsSoundExchangeRsp hash_len summary
+            (exchange_rsp_message self.now) }
     {
         let summary_len = if summary { hash_len } else { 0 };
         self.summary.len() == summary_len

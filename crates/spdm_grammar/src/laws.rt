@@ -17,7 +17,8 @@ pub fn request_in_is_spelled()
 /// The function on bytes answers a response exactly where they spell it.
 pub fn response_in_is_spelled()
     ensures { (hash_len : ℕ) (summary : Bool) (message : ResponseMessage) (bytes : List ℕ) →
-        (response_in hash_len summary bytes ≡ Some message) ↔ IsResponseSpelling hash_len summary message bytes }
+        (response_in hash_len summary bytes
+        ≡ Some message) ↔ IsResponseSpelling hash_len summary message bytes }
 {}
 
 /// Bytes spell one request at most.
@@ -29,57 +30,71 @@ pub fn one_request()
 /// Bytes spell one response at most.
 pub fn one_response()
     ensures { (hash_len : ℕ) (summary : Bool) (m n : ResponseMessage) (bytes : List ℕ) →
-        IsResponseSpelling hash_len summary m bytes → IsResponseSpelling hash_len summary n bytes → m ≡ n }
+        IsResponseSpelling hash_len summary m bytes → IsResponseSpelling hash_len summary n bytes
+        → m ≡ n }
 {}
 
 /// The canonical spelling of a sound request spells it, and so is read as that request.
 pub fn canonical_request_is_read()
-    ensures spelled { (hash_len : ℕ) (message : RequestMessage) → FitsRequest message → IsSoundRequest hash_len message →
+    ensures spelled { (hash_len : ℕ) (message : RequestMessage) → FitsRequest message
+        → IsSoundRequest hash_len message →
         IsRequestSpelling hash_len message (canonical_request message) }
-    ensures read { (hash_len : ℕ) (message : RequestMessage) → FitsRequest message → IsSoundRequest hash_len message →
+    ensures read { (hash_len : ℕ) (message : RequestMessage) → FitsRequest message
+        → IsSoundRequest hash_len message →
         request_in hash_len (canonical_request message) ≡ Some message }
 {}
 
 /// The canonical spelling of a sound response spells it, and so is read as that response.
 pub fn canonical_response_is_read()
-    ensures spelled { (hash_len : ℕ) (summary : Bool) (message : ResponseMessage) → FitsResponse message → IsSoundResponse hash_len summary message →
+    ensures spelled { (hash_len : ℕ) (summary : Bool) (message : ResponseMessage)
+        → FitsResponse message → IsSoundResponse hash_len summary message →
         IsResponseSpelling hash_len summary message (canonical_response message) }
-    ensures read { (hash_len : ℕ) (summary : Bool) (message : ResponseMessage) → FitsResponse message → IsSoundResponse hash_len summary message →
+    ensures read { (hash_len : ℕ) (summary : Bool) (message : ResponseMessage)
+        → FitsResponse message → IsSoundResponse hash_len summary message →
         response_in hash_len summary (canonical_response message) ≡ Some message }
 {}
 
 /// No spelling of a request is a proper prefix of another.
 pub fn no_request_prefix()
     ensures { (hash_len : ℕ) (m n : RequestMessage) (bytes more : List ℕ) →
-        IsRequestSpelling hash_len m bytes → IsRequestSpelling hash_len n (bytes ++ more) → more ≡ [] }
+        IsRequestSpelling hash_len m bytes → IsRequestSpelling hash_len n (bytes ++ more)
+        → more ≡ [] }
 {}
 
 /// No spelling of a response other than CHUNK_SEND_ACK and ERROR is a proper prefix of another.
 pub fn no_response_prefix()
-    ensures { (hash_len : ℕ) (summary : Bool) (m n : ResponseMessage) (bytes more : List ℕ) → EndsByItself m →
-        IsResponseSpelling hash_len summary m bytes → IsResponseSpelling hash_len summary n (bytes ++ more) → more ≡ [] }
+    ensures { (hash_len : ℕ) (summary : Bool) (m n : ResponseMessage) (bytes more : List ℕ)
+        → EndsByItself m →
+        IsResponseSpelling hash_len summary m bytes
+        → IsResponseSpelling hash_len summary n (bytes ++ more) → more ≡ [] }
 {}
 
 /// A fault of a request other than `End` stays when more bytes come.
 pub fn request_fault_stays()
     ensures { (hash_len : ℕ) (bytes more : List ℕ) (fault : Malformed) →
-        request_fault hash_len bytes ≡ Some fault → fault.what ≢ End → request_fault hash_len (bytes ++ more) ≡ Some fault }
+        request_fault hash_len bytes ≡ Some fault → fault.what ≢ End
+        → request_fault hash_len (bytes ++ more) ≡ Some fault }
 {}
 
 /// A fault of a response other than `End` stays when more bytes come.
 pub fn response_fault_stays()
     ensures { (hash_len : ℕ) (summary : Bool) (bytes more : List ℕ) (fault : Malformed) →
-        response_fault hash_len summary bytes ≡ Some fault → fault.what ≢ End → response_fault hash_len summary (bytes ++ more) ≡ Some fault }
+        response_fault hash_len summary bytes ≡ Some fault → fault.what ≢ End
+        → response_fault hash_len summary (bytes ++ more) ≡ Some fault }
 {}
 
 /// What bytes spell is a request whose numbers fit their fields and that is sound.
 pub fn spelled_request_is_sound()
-    ensures { (hash_len : ℕ) (message : RequestMessage) (bytes : List ℕ) → ((i : ℕ) → slice_index bytes i < 256) →
-        IsRequestSpelling hash_len message bytes → FitsRequest message × IsSoundRequest hash_len message }
+    ensures { (hash_len : ℕ) (message : RequestMessage) (bytes : List ℕ) → ((i : ℕ)
+        → slice_index bytes i < 256) →
+        IsRequestSpelling hash_len message bytes
+        → FitsRequest message × IsSoundRequest hash_len message }
 {}
 
 /// What bytes spell is a response whose numbers fit their fields and that is sound.
 pub fn spelled_response_is_sound()
-    ensures { (hash_len : ℕ) (summary : Bool) (message : ResponseMessage) (bytes : List ℕ) → ((i : ℕ) → slice_index bytes i < 256) →
-        IsResponseSpelling hash_len summary message bytes → FitsResponse message × IsSoundResponse hash_len summary message }
+    ensures { (hash_len : ℕ) (summary : Bool) (message : ResponseMessage) (bytes : List ℕ)
+        → ((i : ℕ) → slice_index bytes i < 256) →
+        IsResponseSpelling hash_len summary message bytes
+        → FitsResponse message × IsSoundResponse hash_len summary message }
 {}

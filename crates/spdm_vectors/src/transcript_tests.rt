@@ -51,7 +51,8 @@ fn lane_hashes_what_was_pushed(rt: HostRuntime) -> Result<(), Fail> {
 
 // The hash of what was pushed so far. The lane stays.
 fn hash_so_far(lane: &Lane) -> HashBytes
-    ensures { (pushed : List ℕ) → StandsFor lane.now pushed → result ≡ (hash_of (lane_hash lane.now)).digest pushed }
+    ensures { (pushed : List ℕ) → StandsFor lane.now pushed
+        → result ≡ (hash_of (lane_hash lane.now)).digest pushed }
 {
     lane.clone().unwrap().finish()
 }

@@ -27,14 +27,16 @@ impl Lane {
     /// Adds bytes at the end of what was pushed.
     pub fn push(&mut self, bytes: &[u8])
         ensures hash { lane_hash self.new ≡ lane_hash self.old }
-        ensures pushed { (pushed : List ℕ) → StandsFor self.old pushed → StandsFor self.new (pushed ++ bytes.now) }
+        ensures pushed { (pushed : List ℕ) → StandsFor self.old pushed
+            → StandsFor self.new (pushed ++ bytes.now) }
     {
         self.running.push(bytes);
     }
 
     /// The hash of all that was pushed.
     pub fn finish(self) -> HashBytes
-        ensures value { (pushed : List ℕ) → StandsFor self pushed → result ≡ (hash_of (lane_hash self)).digest pushed }
+        ensures value { (pushed : List ℕ) → StandsFor self pushed
+            → result ≡ (hash_of (lane_hash self)).digest pushed }
         ensures size { length result ≡ hash_size (lane_hash self) }
     {
         self.running.finish()

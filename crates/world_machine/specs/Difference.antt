@@ -246,3 +246,11 @@ IsReason w older packet why = IsOtherwiseWrong w older packet why
 pub record IsDifference (w : Configuration) (packets : List (List ℕ)) (number : ℕ) (why : Why) : Type 0 where
   pub first : IsFirstDifference w packets number
   pub reason : IsReason w (reverse (take (number - 1) packets)) (slice_index_or packets (number - 1) []) why
+
+-- ---- Laws.
+
+-- A first difference has a reason: not each of them is refuted. Nothing here decides whether some body that might
+-- stand there instead differs in its verify data alone, so which reason it is may stay open.
+abbrev pub FirstHasReason : Type 0
+FirstHasReason = (w : Configuration) (packets : List (List ℕ)) (number : ℕ)
+    → IsFirstDifference w packets number → ((why : Why) → IsDifference w packets number why → ⊥) → ⊥

@@ -1,6 +1,7 @@
 //! What holds of captures, each law as the contract of a function that does nothing.
 
 ghost use Rattle.world_machine.specs.Capture.{BeginningConforms, OneIsFirst};
+ghost use Rattle.world_machine.specs.Difference.{FirstHasReason};
 ghost use Rattle.world_machine.specs.SessionTable.{ConformingHasTable};
 
 /// The beginning of a conforming capture conforms, so there is a first packet that does not.
@@ -16,4 +17,11 @@ pub fn conforming_has_table()
 /// No capture has two packets of which each is the first that does not conform.
 pub fn one_is_first()
     ensures { OneIsFirst }
+{}
+
+/// The first packet that does not conform has one of the seven reasons: they are not all refuted. Which
+/// of them it is need not be decided, since whether verify data alone are wrong is told by what might
+/// stand there instead.
+pub fn first_has_reason()
+    ensures { FirstHasReason }
 {}

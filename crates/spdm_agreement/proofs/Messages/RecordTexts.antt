@@ -21,6 +21,7 @@ use Rattle.spdm_machine.specs.TagLog.{record_input}
 use Rattle.spdm_agreement.specs.Reading.{First}
 use Rattle.spdm_agreement.specs.Story.{text_of}
 use Rattle.spdm_agreement.proofs.Messages.Beginnings.{first_terms, first_id, sealed_of}
+use Rattle.secured_record.proofs.Records.{header_of_none}
 
 -- A record that an end seals.
 pub made_input : (t : First) (p : Purpose) (number : ℕ) (inner pad : List ℕ)
@@ -35,14 +36,6 @@ made_input t p number inner pad =
     let tag = tag_of key iv front c in
     let size : length (front ++ c ++ tag) - 16 ≡ length (front ++ c) = omega (arith, length-append (front ++ c) tag, length-tag_of key iv front c) in
     ap (λ (l : List ℕ). number ∷ l) (ap (λ (n : ℕ). take n (front ++ c ++ tag)) size ∙ take-append_seam (front ++ c) tag)
-
-header_of_none : (a b c d e : Bool) → first_of_tests ((a, Short) ∷ (not b, WrongId) ∷ (not c, WrongNumber) ∷ (not d || e, WrongLength) ∷ []) ≡ None →
-    (a ≡ false) × (b ≡ true) × (c ≡ true) × (d ≡ true)
-header_of_none true b c d e h = absurd (cc)
-header_of_none false false c d e h = absurd (cc)
-header_of_none false true false d e h = absurd (cc)
-header_of_none false true true false e h = absurd (cc)
-header_of_none false true true true e h = (refl, refl, refl, refl)
 
 -- A record that came, and whose header has no fault.
 pub checked_input : (t : First) (p : Purpose) (number : ℕ) (s : List ℕ) → header_fault (first_id t) number s ≡ None

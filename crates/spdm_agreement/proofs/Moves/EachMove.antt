@@ -16,7 +16,8 @@ use Rattle.spdm_agreement.specs.Moves.{IsPassed, request_shake, response_shake, 
 use Rattle.spdm_agreement.specs.Reading.{First, Reading, covered}
 use Rattle.spdm_agreement.proofs.Moves.Earlier.{IsEarlier, earlier_if, same_place, same_count, longer, not_same_place}
 use Rattle.spdm_agreement.proofs.Moves.Invariant.{Linked, IsRequest, IsReply, IsBackedAs, IsBacked, Invariant, IsAhead, WasSaid}
-use Rattle.spdm_agreement.proofs.Moves.MarkEffects.{some_same, none_some, at_key, own_key, asks_accept, asks_start, asks_open, asks_say, asks_hear, serves_begin, serves_finish, serves_refuse, serves_take}
+use Rattle.spdm_agreement.proofs.Moves.MarkEffects.{at_key, own_key, asks_accept, asks_start, asks_open, asks_say, asks_hear, serves_begin, serves_finish, serves_refuse, serves_take}
+use Rattle.spdm_machine.proofs.Members.{none_some, some_same}
 
 -- ---- Without chance, what passed was made for just this.
 

@@ -6,15 +6,10 @@ use Rattle.spdm_agreement.specs.Marks.Asked.{Started, Accepted, Opened, Sealed, 
 use Rattle.spdm_agreement.specs.Marks.Served.{Began, Finished, Refused, Took}
 use Rattle.spdm_agreement.specs.Reading.{First, Reading}
 use Rattle.spdm_agreement.proofs.Moves.Invariant.{AskedWell, ServedWell, Talks}
+use Rattle.spdm_machine.proofs.Members.{none_some, some_same}
 
 pub differ : (a b : ℕ) → (a == b) ≡ false → a ≡ b → ⊥
 differ a b f e = true≢false (sym (eq-eqb a b e) ∙ f)
-
-pub some_same : {A : Type 0} (x y : A) → Some x ≡ Some y → x ≡ y
-some_same x y e = cc
-
-pub none_some : {A : Type 0} (y : A) → None ≡ Some y → ⊥
-none_some y e = cc
 
 -- What is kept by T2: one case for the T2 that a mark names, and one for the others.
 pub at_key : (P : List ℕ → Bool → Type 0) (k : List ℕ) → P k true → ((u : List ℕ) → P u false) → (u : List ℕ) → P u (bytes_eq k u)
@@ -91,8 +86,11 @@ asks_open r h t u f right i = record {
   waits = i.waits;
   once = i.once;
   apart = i.apart;
-  seconds = (λ s o. (let was = i.opened s u o in
-      (i.finishes t f).2 u (subst (λ (z : First). IsOpened h z u) (r.second_tells s t (i.well s was.0) (i.well t (i.finishes t f).0) (sym was.1 ∙ right)) o)), i.seconds);
+  seconds = (
+    λ s o. (let was = i.opened s u o in
+        (i.finishes t f).2 u (subst (λ (z : First). IsOpened h z u) (r.second_tells s t (i.well s was.0) (i.well t (i.finishes t f).0) (sym was.1 ∙ right)) o)),
+    i.seconds,
+  );
   well = i.well;
   finishes = λ y e. absurd (none_some _ e);
   opens = λ id y e. open_opens r _ h t u id y i f refl e;

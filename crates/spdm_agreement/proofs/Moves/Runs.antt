@@ -14,8 +14,8 @@ use Rattle.spdm_agreement.specs.Moves.Move.{Start, Begin, Accept, Finish, Refuse
 use Rattle.spdm_agreement.specs.Reading.{First, Reading, covered}
 use Rattle.spdm_agreement.proofs.Moves.Earlier.{IsEarlier, earlier_self, earlier_tail, same_place, same_length, same_count, longer}
 use Rattle.spdm_agreement.proofs.Moves.Invariant.{IsBacked, IsBackedAs, Invariant, Talks, IsAhead, WasSaid}
-use Rattle.spdm_agreement.proofs.Moves.MarkEffects.{none_some, some_same}
 use Rattle.spdm_agreement.proofs.Moves.EachMove.{passed_made, same_number, same_text, check_keeps, start_keeps, begin_keeps, accept_keeps, finish_keeps, refuse_keeps, open_keeps, say_keeps, take_keeps, hear_keeps}
+use Rattle.spdm_machine.proofs.Members.{none_some, some_same}
 
 -- A record, so that antt finds the state that a lemma speaks of.
 pub record IsGood (r : Reading) (s : State) : Type 0 where

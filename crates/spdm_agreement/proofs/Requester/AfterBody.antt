@@ -33,9 +33,9 @@ use Rattle.spdm_agreement.proofs.Requester.Counts.{HeldWell}
 use Rattle.spdm_agreement.proofs.Requester.HistoryInvariant.{AskedKept, IsFinishing, WaitingKept, AimKept, waiting_text, is_held, kept_record, kept_finish, record_kept, apart}
 use Rattle.spdm_agreement.proofs.Requester.Waiting.{waited_for, is_finish}
 use Rattle.spdm_agreement.proofs.Requester.RecordLeads.{RecordLed, NextRecord}
-use Rattle.spdm_agreement.proofs.Requester.RecordsTaken.{aimed, waits_aimed, was_kept, own_waits, other_waits, past_marks, asks_past, held_at, finish_is}
+use Rattle.spdm_agreement.proofs.Requester.RecordsTaken.{aimed, waits_aimed, was_kept, own_waits, other_waits, past_marks, held_at, finish_is}
 use Rattle.spdm_agreement.proofs.Requester.AfterRecord.{behind, past_held, finish_held}
-use Rattle.spdm_agreement.proofs.Requester.RecordMoves.{came_at, shaken, next_tells, next_is_no_finish}
+use Rattle.spdm_agreement.proofs.Requester.RecordMoves.{came_at, shaken, next_tells, next_is_no_finish, asks_past}
 use Rattle.spdm_agreement.proofs.Requester.BodyMoves.{clear_step, took_leads}
 use Rattle.spdm_agreement.proofs.Requester.SealAndHear.{at}
 use Rattle.spdm_agreement.proofs.Worlds.EndSteps.{AskedStep, AskedReady, HearsWell, AskedStarts, AskedSteady}

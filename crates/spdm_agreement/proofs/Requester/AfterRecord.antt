@@ -22,7 +22,8 @@ use Rattle.spdm_agreement.proofs.Requester.HistoryInvariant.{waiting_in, waiting
 use Rattle.spdm_agreement.proofs.Requester.Waiting.{is_finish, finishes_only}
 use Rattle.spdm_agreement.proofs.Requester.RecordLeads.{RecordLed, NextRecord}
 use Rattle.spdm_agreement.proofs.Requester.RecordsTaken.{answered_finish}
-use Rattle.spdm_agreement.proofs.Requester.RecordMoves.{came_at, replied_held, same_second, shaken, finish_effect, next_is_no_finish}
+use Rattle.spdm_agreement.proofs.Requester.RecordMoves.{came_at, replied_held, shaken, finish_effect, next_is_no_finish}
+use Rattle.spdm_agreement.proofs.Requester.OpenSessions.{same_second}
 
 -- The session to which the record came.
 own_next : (q : ReqSetup) (h : History) (f : Free) (of id : ℕ) (s : Steps) (m : List marks.Asked) (ask : Ask) (sealed inner : List ℕ) (effect : Effect) (next : Option Sent) → (of == id) ≡ true → NextRecord q h f (came_at q of s ask sealed) effect ask next

@@ -27,11 +27,12 @@ use Rattle.spdm_agreement.proofs.Requester.ClearMoves.{aside_leads, aside_kept, 
 use Rattle.spdm_agreement.proofs.Requester.Entries.{IsTookClear, IsTookRecord}
 use Rattle.spdm_agreement.proofs.Requester.HistoryInvariant.{AskedKept, ClearKept, held_open}
 use Rattle.spdm_agreement.proofs.Requester.Waiting.{waited_for}
-use Rattle.spdm_agreement.proofs.Requester.RecordsTaken.{waits_aimed, record_leads, held_at, asks_past}
+use Rattle.spdm_agreement.proofs.Requester.RecordsTaken.{waits_aimed, record_leads, held_at}
 use Rattle.spdm_agreement.proofs.Requester.SealAndHear.{at}
 use Rattle.spdm_agreement.proofs.Worlds.EndSteps.{OwnLeads, AskedStep, AskedReady}
 use Rattle.spdm_agreement.proofs.Messages.Beginnings.{reading_of}
 use Rattle.requester_machine.proofs.Steps.{asked_stage}
+use Rattle.spdm_agreement.proofs.Requester.RecordMoves.{asks_past}
 
 no_pad : (q : ReqSetup) (h : History) (d : Draw) → (body_chosen q h d).pad ≡ []
 unfolding chosen

@@ -38,7 +38,8 @@ use Rattle.spdm_agreement.proofs.Requester.RecordLeads.{NextRecord}
 use Rattle.spdm_agreement.proofs.Requester.RecordsTaken.{waits_aimed, own_waits, held_at}
 use Rattle.spdm_agreement.proofs.Delivery.Data.{is_data_text, verifying, AskedOpenly, AsksOpenly}
 use Rattle.spdm_agreement.proofs.Delivery.InnerText.{message_no_data}
-use Rattle.spdm_agreement.proofs.Moves.MarkEffects.{at_key, some_same, none_some}
+use Rattle.spdm_agreement.proofs.Moves.MarkEffects.{at_key}
+use Rattle.spdm_machine.proofs.Members.{none_some, some_same}
 
 -- ---- Marks.
 

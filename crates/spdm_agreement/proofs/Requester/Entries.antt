@@ -33,6 +33,7 @@ use Rattle.spdm_agreement.proofs.Requester.RecordLeads.{RecordLed, record_shape}
 use Rattle.spdm_agreement.proofs.Messages.Beginnings.{is_message, is_update_of, operation_in}
 use Rattle.spdm_grammar.specs.declared.names.response_code.TheConstants.{KEY_UPDATE_ACK}
 use Rattle.spdm_basis.proofs.Bools.{and_rest}
+use Rattle.std.proofs.lemmas.Bool.{not-false}
 
 -- ---- Texts of requests.
 
@@ -118,18 +119,14 @@ CommandOutcome q h f (Adds (TookClear tag m led d)) = ⊥
 CommandOutcome q h f (Adds (TookRecord tag id sealed inner led d)) = ⊥
 CommandOutcome q h f _ = Unit {0}
 
-not_false : (b : Bool) → not b ≡ false → b ≡ true
-not_false true e = refl
-not_false false e = absurd (cc)
-
 free : (worn : Bool) (q : ReqSetup) (h : History) (c : Command) (f : Free) → command_fault worn q h c f ≡ None → needs_connection c ≡ true → is_some (outstanding h) ≡ false
 free worn q h c f none needs = and_rest (needs_connection c) (is_some (outstanding h)) (test_is_false worn q h c f none 1) needs
 
 somewhere : (worn : Bool) (q : ReqSetup) (h : History) (c : Command) (f : Free) (id : ℕ) → command_fault worn q h c f ≡ None → session_in c ≡ Some id → is_live (session_of id h) ≡ true
-somewhere worn q h c f id none named = not_false _ (sym (ap (is_nowhere h) named) ∙ test_is_false worn q h c f none 3)
+somewhere worn q h c f id none named = not-false _ (sym (ap (is_nowhere h) named) ∙ test_is_false worn q h c f none 3)
 
 connected : (worn : Bool) (q : ReqSetup) (h : History) (c : Command) (f : Free) → command_fault worn q h c f ≡ None → needs_connection c ≡ true → is_negotiated (phase_of h) ≡ true
-connected worn q h c f none needs = not_false _ (and_rest (needs_connection c) (not (is_negotiated (phase_of h))) (test_is_false worn q h c f none 2) needs)
+connected worn q h c f none needs = not-false _ (and_rest (needs_connection c) (not (is_negotiated (phase_of h))) (test_is_false worn q h c f none 2) needs)
 
 begun : (q : ReqSetup) (h : History) (f : Free) (summary : ℕ) → is_some (outstanding h) ≡ false → is_negotiated (phase_of h) ≡ true → is_summary summary ≡ true → IsBegun q h f summary (request_sent (connection_terms h).common h (exchange_for q f summary))
 begun q h f summary quiet ready kind =
@@ -147,7 +144,7 @@ resent_shape q h f (Some x) = tt
 
 done_shape : (worn : Bool) (q : ReqSetup) (h : History) (c : Command) (f : Free) (d : Draw) → command_fault worn q h c f ≡ None → CommandOutcome q h f (done q h c f d)
 done_shape worn q h Connect f d none = record { content = tt; aim = tt; other = tt; plain = tt }
-done_shape worn q h (Open summary) f d none = begun q h f summary (free worn q h (Open summary) f none refl) (connected worn q h (Open summary) f none refl) (not_false (is_summary summary) (test_is_false worn q h (Open summary) f none 6))
+done_shape worn q h (Open summary) f d none = begun q h f summary (free worn q h (Open summary) f none refl) (connected worn q h (Open summary) f none refl) (not-false (is_summary summary) (test_is_false worn q h (Open summary) f none 6))
 done_shape worn q h (Send id bytes) f d none = record { id = id; ask = AskData; inner = inner_data bytes; is = refl; live = somewhere worn q h (Send id bytes) f id none refl; stage = refl; tells = data_tells bytes f.pad; free = free worn q h (Send id bytes) f none refl }
 done_shape worn q h (Beat id) f d none = record { id = id; ask = AskBeat; inner = inner_request Heartbeat; is = refl; live = somewhere worn q h (Beat id) f id none refl; stage = refl; tells = beat_tells f.pad; free = free worn q h (Beat id) f none refl }
 done_shape worn q h (Update id all) f d none = record { id = id; ask = AskUpdate all; inner = inner_request (key_update (session_of id h) (operation_of all)); is = refl; live = somewhere worn q h (Update id all) f id none refl; stage = refl; tells = update_tells (session_of id h) all f.pad; free = free worn q h (Update id all) f none refl }

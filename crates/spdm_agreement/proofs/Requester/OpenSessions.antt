@@ -238,7 +238,7 @@ opened_by psk id x s sealed inner effect m true own only = record {
 }
 opened_by psk id x s sealed inner effect m false own only = record { own = λ l. own; told = λ l. absurd (true≢false (sym (only l))) }
 
-same_second : (s : Steps) (sealed inner : List ℕ) (effect : Effect) → finishes effect ≡ false → t2_of s ≡ t2_of (Took sealed inner effect ∷ s)
+pub same_second : (s : Steps) (sealed inner : List ℕ) (effect : Effect) → finishes effect ≡ false → t2_of s ≡ t2_of (Took sealed inner effect ∷ s)
 same_second s sealed inner effect other =
     sym (ap (λ (b : Bool). transcript.t2_of (session_vca s) (exchange_of s) (exchange_answer s) (finish_of s) (cond b (answer_in effect) (finish_answer s))) other)
 

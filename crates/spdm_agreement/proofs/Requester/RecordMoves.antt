@@ -32,12 +32,9 @@ use Rattle.spdm_agreement.proofs.Requester.SealAndHear.{at, says, hears, inner_a
 use Rattle.spdm_agreement.proofs.Worlds.EndSteps.{OwnLeads}
 use Rattle.spdm_agreement.proofs.Messages.Beginnings.{reading_of, finish_reply}
 use Rattle.spdm_grammar.specs.declared.names.response_code.TheConstants.{PSK_EXCHANGE_RSP, PSK_FINISH_RSP}
+use Rattle.spdm_agreement.proofs.Requester.OpenSessions.{same_second}
 
 -- ---- A reply.
-
-pub same_second : (s : Steps) (sealed inner : List ℕ) (effect : Effect) → finishes effect ≡ false → t2_of s ≡ t2_of (Took sealed inner effect ∷ s)
-same_second s sealed inner effect other =
-    sym (ap (λ (b : Bool). transcript.t2_of (session_vca s) (exchange_of s) (exchange_answer s) (finish_of s) (cond b (answer_in effect) (finish_answer s))) other)
 
 abbrev pub came_at : ReqSetup → ℕ → Steps → Ask → List ℕ → Came
 came_at q id s ask sealed = record { id = id; steps = s; sealed = sealed; inner = answer_inner q.psk s ask sealed }
@@ -52,7 +49,7 @@ replied_held q s m ask b sealed effect k t brings other tells =
     subst (λ (u : List ℕ). HeldAt q.psk u (Took sealed inner effect ∷ s) (marks.Asked.Heard (t2_of s) b text ∷ m) None) (same_second s sealed inner effect other)
     (held_heard q.psk (t2_of s) s m b text sealed inner effect k other told.0 told.1 told.2)
 
-asks_past : (ask : Ask) → is_finish ask ≡ false → is_past_handshake (stage_for ask) ≡ true
+pub asks_past : (ask : Ask) → is_finish ask ≡ false → is_past_handshake (stage_for ask) ≡ true
 asks_past AskFinish e = absurd (cc)
 asks_past AskVerify e = refl
 asks_past _ e = refl

@@ -26,7 +26,7 @@ use Rattle.spdm_agreement.proofs.Requester.Counts.{HeldWell}
 use Rattle.spdm_agreement.proofs.Requester.HistoryInvariant.{AskedKept, IsFinishing, WaitingKept, RecordKept, waiting_text, kept_record, kept_finish}
 use Rattle.spdm_agreement.proofs.Requester.Waiting.{is_finish, finishes_only}
 use Rattle.spdm_agreement.proofs.Requester.RecordLeads.{RecordLed, IsAnswered, NextRecord}
-use Rattle.spdm_agreement.proofs.Requester.RecordMoves.{came_at, replies, opens_by, shaken}
+use Rattle.spdm_agreement.proofs.Requester.RecordMoves.{came_at, replies, opens_by, shaken, asks_past}
 use Rattle.spdm_agreement.proofs.Requester.SealAndHear.{at}
 use Rattle.spdm_agreement.proofs.Worlds.EndSteps.{OwnLeads}
 use Rattle.spdm_agreement.proofs.Messages.Beginnings.{reading_of}
@@ -55,11 +55,6 @@ pub past_marks : (g : Stage) (q : ReqSetup) (s : Steps) (x : Sent) (id : ℕ) (a
 past_marks stage.Handshake q s x id ask sealed inner led past = absurd (cc)
 past_marks stage.Open q s x id ask sealed inner led past = refl
 past_marks stage.Verifying q s x id ask sealed inner led past = refl
-
-pub asks_past : (ask : Ask) → is_finish ask ≡ false → is_past_handshake (stage_for ask) ≡ true
-asks_past AskFinish e = absurd (cc)
-asks_past AskVerify e = refl
-asks_past _ e = refl
 
 pub past_leads : (q : ReqSetup) (h : History) (f : Free) (id : ℕ) (s : Steps) (m : List marks.Asked) (served : List Served) (log : Log) (x : Sent) (ask : Ask) (sealed : List ℕ) (led : Led) → is_live s ≡ true
     → is_finish ask ≡ false → stage_of s ≡ stage_for ask → asked_open (reading_of q.psk) id m ≡ Some (asked_first s, t2_of s) → HeldWell q.psk s m (Some (sent_text x.content)) → RequestTells ask (sent_text x.content)

@@ -20,6 +20,8 @@ use Rattle.spdm_grammar.specs.Codes.{code_for}
 use Rattle.responder_machine.specs.Turn.Effect.{NoEffect, Took}
 use Rattle.transcript.specs.Transcripts.{Negotiation}
 use Rattle.spdm_agreement.proofs.Messages.RequestCodes.{code_read}
+use Rattle.std.proofs.lemmas.Bool.{not-false}
+use Rattle.responder_machine.proofs.Tests.{none_of_both}
 
 -- A request that took effect, at a place of this negotiation and phase, or inside a large request there.
 pub record TakesClear (r : RspSetup) (n : Negotiation) (phase : Phase) (f : Free) (e : Effect) : Type 0 where
@@ -46,21 +48,13 @@ pub all_fail : (ts : List (Bool × ErrorCode)) → first_of_tests ts ≡ None �
 all_fail [] e = tt
 all_fail (t ∷ ts) e = let l = test_fails t.0 t.1 (first_of_tests ts) e in (l.0, all_fail ts l.1)
 
-or_both : (a b : Option ErrorCode) → option_or a b ≡ None → (a ≡ None) × (b ≡ None)
-or_both None b e = (refl, e)
-or_both (Some x) b e = absurd (cc)
-
 both_of : (r : RspSetup) (p : Place) (m : List ℕ) (f : Free) → refusal r p m f ≡ None → (refused_form r p m ≡ None) × (refused_contents r p m f ≡ None)
 unfolding refusal
-both_of r p m f e = or_both (refused_form r p m) (refused_contents r p m f) e
-
-not_false : (b : Bool) → not b ≡ false → b ≡ true
-not_false true e = refl
-not_false false e = absurd (cc)
+both_of r p m f e = none_of_both (refused_form r p m) (refused_contents r p m f) e
 
 form_allows : (r : RspSetup) (p : Place) (m : List ℕ) → refused_form r p m ≡ None → is_allowed p.at p (code_of m) ≡ true
 unfolding refused_form
-form_allows r p m e = let l = all_fail (tests_of_form r p m) e in not_false (is_allowed p.at p (code_of m)) l.1.1.1.1.1.1.0
+form_allows r p m e = let l = all_fail (tests_of_form r p m) e in not-false (is_allowed p.at p (code_of m)) l.1.1.1.1.1.1.0
 
 -- ---- By places.
 

@@ -35,6 +35,7 @@ use Rattle.responder_machine.specs.Turn.Effect.{NoEffect, Took, TookData}
 use Rattle.spdm_agreement.proofs.Messages.RequestCodes.{code_read}
 use Rattle.spdm_agreement.proofs.Responder.OpenSessions.{EndsByFinish, IsSteady}
 use Rattle.spdm_grammar.specs.declared.names.request_code.TheConstants.{GET_VERSION, CHUNK_SEND, GET_CAPABILITIES, NEGOTIATE_ALGORITHMS, PSK_EXCHANGE, PSK_FINISH}
+use Rattle.std.proofs.lemmas.Bool.{not-false}
 
 -- ---- What was not refused for its form.
 
@@ -50,10 +51,6 @@ seven false false false false false true g h i n = absurd (cc)
 seven false false false false false false true h i n = absurd (cc)
 seven false false false false false false false h i n = (refl, refl)
 
-not_false : (b : Bool) → not b ≡ false → b ≡ true
-not_false true e = refl
-not_false false e = absurd (cc)
-
 -- It is no chunk, and the stage allows its code.
 pub sound_form : (r : RspSetup) (s : Events) (m : List ℕ) → refused_form r (session_place s) m ≡ None
     → ((code_of m == CHUNK_SEND) ≡ false) × (stage_allows (stage_of s) (has_pending (session_place s)) (code_of m) ≡ true)
@@ -62,7 +59,7 @@ sound_form r s m e =
     let c = code_of m in
     let t = seven (nat_lt (length m) 4) (nat_lt r.transfer (length m)) (not (is_known c)) false (c == CHUNK_SEND) (is_one_of (GET_VERSION ∷ GET_CAPABILITIES ∷ NEGOTIATE_ALGORITHMS ∷ PSK_EXCHANGE ∷ []) c)
     (not (stage_allows (stage_of s) (has_pending (session_place s)) c)) (not (slice_index m 0 == version_for c)) (is_none (request_at (session_place s) m)) e in
-    (t.0, not_false _ t.1)
+    (t.0, not-false _ t.1)
 
 -- ---- What a turn takes.
 

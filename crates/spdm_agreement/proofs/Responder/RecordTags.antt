@@ -30,6 +30,7 @@ use Rattle.spdm_agreement.specs.Story.{served_first, taken_text, reply_text}
 use Rattle.spdm_agreement.proofs.Responder.Comparisons.{AreChecks}
 use Rattle.spdm_agreement.proofs.Messages.Beginnings.{sealed_of}
 use Rattle.spdm_agreement.proofs.Messages.RecordTexts.{made_input, checked_input, inner_text}
+use Rattle.std.proofs.lemmas.Bool.{not-false}
 
 -- ---- Only comparisons.
 
@@ -69,13 +70,9 @@ two : (a b : Bool) → first_of_tests ((a, BadTag) ∷ (b, BadInnerLength) ∷ [
 two true b e = absurd (cc)
 two false b e = refl
 
-not_false : (b : Bool) → not b ≡ false → b ≡ true
-not_false true e = refl
-not_false false e = absurd (cc)
-
 behind_none : (o : Option RecordFault) (key iv : List ℕ) (number : ℕ) (sealed : List ℕ) → fault_behind o key iv number sealed ≡ None → (o ≡ None) × (is_authentic key iv number sealed ≡ true)
 behind_none (Some fault) key iv number sealed e = absurd (cc)
-behind_none None key iv number sealed e = (refl, not_false _ (two _ _ e))
+behind_none None key iv number sealed e = (refl, not-false _ (two _ _ e))
 
 no_fault : (choice : Choice) (p : Purpose) (number : ℕ) (id sealed : List ℕ) → record_fault choice p number id sealed ≡ None
     → (header_fault id number sealed ≡ None) × (record_tag choice p number sealed ≡ tag_part sealed)

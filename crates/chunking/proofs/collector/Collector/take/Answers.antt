@@ -1,4 +1,4 @@
-use Rattle.std.proofs.Common.{◌≡◌, ◌∙◌, ◌≤◌, List, length, refl, ap, sym, subst, arith}
+use Rattle.std.proofs.Common.{◌≡◌, ◌∙◌, length, refl, ap, sym, subst, arith}
 use Rattle.spdm_grammar.specs.Message.{ChunkMessage, chunk_message}
 use Rattle.chunking.specs.Collecting.{Collection, accepted_with}
 use Rattle.chunking.specs.Collecting.Collection.{Whole}

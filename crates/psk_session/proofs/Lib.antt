@@ -1,0 +1,5 @@
+pub mod Purposes
+pub mod Finishes
+pub mod Judged
+pub mod Past
+pub mod AskCommands

@@ -1,0 +1,42 @@
+use Rattle.std.proofs.Common.{◌≡◌, ◌++◌, sym, ap, subst, refl, ◌∙◌, ℕ, List, drop}
+use Rattle.key_schedule.specs.Keys.{DirectionSecret}
+use Rattle.key_schedule.specs.Purpose.{application_record}
+use Rattle.key_schedule.specs.declared.direction.Direction.TheVariants.{Request, Response}
+use Rattle.requester_machine.specs.Session.{t2_of}
+use Rattle.running_hash.specs.Hash.{hash_of}
+use Rattle.spdm_basis.specs.declared.hash_alg.HashAlg.{HashAlg}
+use Rattle.spdm_grammar.specs.declared.choice.Choice.{Choice}
+use Rattle.spdm_machine.specs.Terms.{terms_of}
+use Rattle.transcript.specs.Transcripts.{vca_of}
+use Rattle.psk_session.specs.Finished.{finished_by}
+use Rattle.psk_session.specs.Finishing.{Seen, StandsFor, finish_message}
+use Rattle.psk_session.specs.Keys.{IsKeyOf}
+use Rattle.psk_session.specs.Opening.{finishing}
+use Rattle.psk_session.proofs.finishing.Finishing.finish.Goals as goal
+
+pub returns : goal.returns
+returns c = λ psk n exchange answer pad sealed stands held.
+    let inside = subst (λ (x : Seen). StandsFor x psk n exchange answer pad) (sym c.self.view_is) stands in
+    let t2 = t2_of (finished_by psk (finishing psk n exchange answer pad) sealed) in
+    let before = vca_of n ++ exchange ++ answer ++ finish_message psk n exchange answer in
+    let th2 : c.finish-th2.result ≡ (hash_of (terms_of n).choice.hash).digest t2 =
+    c.finish-th2.ensures.value (before ++ c.behind_type.result.now) (c.push.ensures.pushed before inside.pushed)
+    ∙ ap (λ (h : HashAlg). (hash_of h).digest (before ++ c.behind_type.result.now)) (c.push.ensures.hash ∙ c.self.invariant.0 ∙ ap (λ (x : Choice). x.hash) inside.terms.choice)
+    ∙ ap (λ (m : List ℕ). (hash_of (terms_of n).choice.hash).digest (before ++ m)) (c.behind_type.ensures ∙ ap (λ (m : List ℕ). drop 1 m) held) in
+    record {
+      stage = refl;
+      keeps = record {
+        past = refl;
+        choice = inside.terms.choice;
+        common = inside.terms.common;
+        id = inside.id;
+        request = subst (λ (k : DirectionSecret). IsKeyOf k (terms_of n).choice (application_record psk t2 Request 0)) (sym c.new.ensures)
+            (c.app_keys-keys.ensures.request psk n exchange answer t2 inside.handshake th2);
+        response = subst (λ (k : DirectionSecret). IsKeyOf k (terms_of n).choice (application_record psk t2 Response 0)) (sym c.new-2.ensures)
+            (c.app_keys-keys.ensures.response psk n exchange answer t2 inside.handshake th2);
+        request_next = refl;
+        response_next = refl;
+        taken = refl;
+        th2 = th2;
+      };
+    }

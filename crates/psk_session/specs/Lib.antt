@@ -1,0 +1,15 @@
+pub mod Keys
+pub mod Opening
+pub mod Handshake
+pub mod Finishing
+pub mod Opened
+pub mod Inner
+pub mod Held
+pub mod Kept
+pub mod ReqOpen
+pub mod Asking
+pub mod Waiting
+pub mod AskTook
+pub mod AskLaws
+pub mod Finished
+pub mod Answers

@@ -1,0 +1,205 @@
+ghost use Rattle.std.specs.Prelude.{◌≡◌, ◌≤◌, ◌++◌, ℕ, List, None, Some, OnOk, MatchResult, length};
+ghost use Rattle.requester_machine.specs.Message.Ask.{AskFinish};
+ghost use Rattle.requester_machine.specs.Records.{answer_fault, answer_inner};
+ghost use Rattle.requester_machine.specs.Setup.{ReqSetup};
+ghost use Rattle.spdm_basis.specs.Sizes.{hash_size};
+ghost use Rattle.psk_session.specs.Finished.{IsFinishTook, finish_fault, finished_by};
+ghost use Rattle.psk_session.specs.Inner.{contents_of};
+ghost use Rattle.spdm_machine.specs.Sessions.{id_in_exchange};
+ghost use Rattle.transcript.specs.Lane as lanes;
+ghost use Rattle.transcript.specs.Lane.{lane_hash};
+ghost use Rattle.transcript.specs.Transcripts.{Negotiation, vca_of};
+ghost use Rattle.psk_session.specs.Finishing.{StandsFor};
+ghost use Rattle.psk_session.specs.ReqOpen as open_state;
+ghost use Rattle.psk_session.specs.Handshake.{IsHandshakeOf};
+ghost use Rattle.psk_session.specs.Opening.{AreTermsOf, finishing};
+ghost use Rattle.requester_machine.specs.Shown.{view_of};
+
+use crate::handshake::Handshake;
+use crate::inner::{Inner, behind_type, read_inner};
+use crate::kept::Kept;
+use crate::keys::open_record;
+use crate::requests::write_finish;
+use crate::{Closed, FinishTook, ReqOpen, SessionTerms};
+use secured_record::{RecordFault, RecordKey};
+use spdm_basis::{Buffer, Frame, RecordFrame, SessionId};
+use spdm_grammar::{BadReply, Response, SessionView, Stage};
+use std::marker::Model;
+use transcript::Lane;
+
+/// A session at the requester that awaits PSK_FINISH_RSP.
+#[derive(Drop)]
+pub struct Finishing {
+    pub(crate) lane: Lane,
+    pub(crate) handshake: Handshake,
+    pub(crate) response: RecordKey,
+    pub(crate) id: SessionId,
+    pub(crate) sent: Buffer<96>,
+    pub(crate) terms: SessionTerms,
+}
+
+impl Model for Finishing {
+    ghost use Rattle.std.specs.Prelude.{◌≡◌};
+    ghost use Rattle.transcript.specs.Lane.{lane_hash};
+    ghost use Rattle.psk_session.specs.Finishing.{Seen};
+
+    ghost Value = { Seen };
+
+    ghost view = { λ f. record {
+      lane = f.lane;
+      handshake = f.handshake;
+      response = f.response;
+      id = f.id;
+      sent = f.sent;
+      terms = f.terms;
+    } };
+
+    ghost invariant = { λ f. (lane_hash f.lane ≡ f.terms.choice.hash)
+        × (f.handshake.keys.hash ≡ f.terms.choice.hash) };
+}
+
+impl Finishing {
+    // The session whose PSK_EXCHANGE_RSP told this RspSessionID, with this padding for PSK_FINISH. The lane was
+    // given the transcript up to PSK_EXCHANGE_RSP.
+    pub(crate) fn new(
+        mut lane: Lane,
+        handshake: Handshake,
+        terms: SessionTerms,
+        rsp_id: u16,
+        pad: &[u8],
+    ) -> Finishing
+        requires lane { lane_hash lane ≡ terms.choice.hash }
+        requires keys { handshake.keys.hash ≡ terms.choice.hash }
+        requires pad { length pad.now ≤ 16 }
+        ensures { (psk : List ℕ) (n : Negotiation) (exchange answer : List ℕ)
+            → AreTermsOf terms n exchange
+            → IsHandshakeOf handshake psk n exchange answer
+            → lanes.StandsFor lane (vca_of n ++ exchange ++ answer)
+            → rsp_id ≡ id_in_exchange answer → StandsFor result psk n exchange answer pad.now }
+    {
+        let id = SessionId {
+            req: terms.req_id,
+            rsp: rsp_id,
+        };
+        let mut message = Frame::new();
+        write_finish(handshake.requester_verify(&lane).as_slice(), &mut message);
+        lane.push(message.as_slice());
+        let sent = handshake.seal_finish(id, message.as_slice(), pad);
+        let response = handshake.response_key();
+        Finishing {
+            lane,
+            handshake,
+            response,
+            id,
+            sent,
+            terms,
+        }
+    }
+
+    /// The session as it is shown.
+    #[tactic(auto, unfolding(requester_machine::specs::Shown::view_of))]
+    pub fn view(&self) -> SessionView
+        ensures { (psk : List ℕ) (n : Negotiation) (exchange answer pad : List ℕ)
+            → StandsFor self.now psk n exchange answer pad
+            → result ≡ view_of (finishing psk n exchange answer pad) }
+    {
+        SessionView {
+            id: self.id,
+            stage: Stage::Handshake,
+            request_epoch: 0,
+            response_epoch: 0,
+            request_next: 1,
+            response_next: 0,
+            taken: 0,
+            hash: self.handshake.th1.clone().unwrap(),
+            choice: self.terms.choice,
+        }
+    }
+
+    /// The record of PSK_FINISH.
+    pub fn again(&self) -> &[u8]
+        ensures { result.now ≡ self.now.sent }
+    {
+        self.sent.as_slice()
+    }
+
+    /// A record of the responder. Only PSK_FINISH_RSP opens the session; anything else that opens ends it.
+    pub fn take(self, sealed: &[u8]) -> FinishTook
+        ensures { (psk : List ℕ) (n : Negotiation) (exchange answer pad : List ℕ)
+            → StandsFor self psk n exchange answer pad
+            → IsFinishTook self psk (finishing psk n exchange answer pad) sealed.now result }
+    {
+        let mut inner = RecordFrame::new();
+        if let Err(fault) = self.open_answer(sealed, &mut inner) {
+            return FinishTook::Stay(self, fault);
+        }
+        match self.fault(inner.as_slice()) {
+            Some(fault) => FinishTook::Bad(Closed, fault),
+            None => FinishTook::Open(self.finish(inner.as_slice())),
+        }
+    }
+
+    // Opens the record that answers, and writes its inner message.
+    fn open_answer(&self, sealed: &[u8], out: &mut RecordFrame) -> Result<(), RecordFault>
+        ensures fault { (psk : List ℕ) (n : Negotiation) (exchange answer pad : List ℕ)
+            → StandsFor self.now psk n exchange answer pad
+            → MatchResult result
+            (λ _. answer_fault psk (finishing psk n exchange answer pad) AskFinish sealed.now
+            ≡ None)
+            (λ e. answer_fault psk (finishing psk n exchange answer pad) AskFinish sealed.now
+            ≡ Some e) }
+        ensures inner { (psk : List ℕ) (n : Negotiation) (exchange answer pad : List ℕ)
+            → StandsFor self.now psk n exchange answer pad
+            → OnOk result (out.new
+            ≡ answer_inner psk (finishing psk n exchange answer pad) AskFinish sealed.now) }
+    {
+        open_record(&self.response, self.id, 0, sealed, out)
+    }
+
+    // The fault of the inner message of an answer.
+    fn fault(&self, inner: &[u8]) -> Option<BadReply>
+        ensures { (q : ReqSetup) → q.transfer ≡ self.now.terms.common.to_requester.transfer
+            → result ≡ finish_fault
+            (contents_of q (hash_size self.now.terms.choice.hash) inner.now) }
+    {
+        let transfer = self.terms.common.to_requester.transfer;
+        match read_inner(transfer, self.terms.choice.hash.size(), inner) {
+            Err(fault) => Some(fault),
+            Ok(Inner::Message(Response::PskFinishRsp)) => None,
+            Ok(Inner::Message(Response::Error { code, .. })) => Some(BadReply::Refused(code)),
+            Ok(_) => Some(BadReply::WrongKind),
+        }
+    }
+
+    // The open session, with the inner message that holds PSK_FINISH_RSP.
+    fn finish(self, inner: &[u8]) -> ReqOpen
+        ensures { (psk : List ℕ) (n : Negotiation) (exchange answer pad sealed : List ℕ)
+            → StandsFor self psk n exchange answer pad
+            → inner.now ≡ answer_inner psk (finishing psk n exchange answer pad) AskFinish sealed
+            → open_state.StandsFor result psk
+            (finished_by psk (finishing psk n exchange answer pad) sealed) }
+    {
+        let Finishing {
+            mut lane,
+            handshake,
+            response: _,
+            id,
+            sent: _,
+            terms,
+        } = self;
+        lane.push(behind_type(inner));
+        let th2 = lane.finish();
+        let keys = handshake.app_keys(&th2);
+        let kept = Kept {
+            request: RecordKey::new(keys.request),
+            response: RecordKey::new(keys.response),
+            request_next: 0,
+            response_next: 0,
+            taken: 0,
+            th2,
+            id,
+            terms,
+        };
+        ReqOpen { kept }
+    }
+}

@@ -1,0 +1,38 @@
+//! A session under a pre-shared key, at each of its two ends (DSP0274, "Session"; DSP0277), as states that a
+//! call takes and gives back: what may not be done in a state is no call of it. No call takes memory.
+#![tactic(auto)]
+
+mod answers;
+mod ask;
+mod ask_fault;
+mod closed;
+mod finish_took;
+mod finishing;
+mod handshake;
+mod inner;
+mod kept;
+mod keys;
+mod laws;
+mod open_fault;
+mod opening;
+mod req_open;
+mod requests;
+mod terms;
+mod waiting;
+
+pub use ask::Ask;
+pub use ask_fault::AskFault;
+pub use closed::Closed;
+pub use finish_took::FinishTook;
+pub use finishing::Finishing;
+pub use laws::ask_is_command;
+pub use open_fault::OpenFault;
+pub use opening::Opening;
+pub use req_open::ReqOpen;
+pub use terms::SessionTerms;
+pub use waiting::Waiting;
+
+#[cfg(test)]
+mod suites;
+#[cfg(test)]
+mod tests;

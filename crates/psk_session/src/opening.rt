@@ -1,0 +1,149 @@
+ghost use Rattle.std.specs.Prelude.{◌≡◌, ◌≤◌, ◌++◌, [], ℕ, List, length};
+ghost use Rattle.running_hash.specs.Hash.{hash_of};
+ghost use Rattle.spdm_basis.specs.Sizes.{hash_size};
+ghost use Rattle.transcript.specs.Transcripts.{Negotiation, vca_of, without_verify};
+ghost use Rattle.transcript.specs.Lane as lane;
+ghost use Rattle.psk_session.specs.Opening.{AreTermsOf, StandsFor, open_fault};
+ghost use Rattle.psk_session.specs.Finishing as finishing;
+ghost use Rattle.psk_session.specs.Handshake.{IsHandshakeOf};
+ghost use Rattle.psk_session.specs.Opened.{IsTaken};
+
+use crate::answers::{read_exchange_rsp, same_bytes, told_id};
+use crate::handshake::Handshake;
+use crate::{Finishing, OpenFault, SessionTerms};
+use spdm_basis::{HashAlg, HashBytes, Psk};
+use std::marker::Model;
+use transcript::{Lane, Vca};
+
+/// A session at the requester that awaits PSK_EXCHANGE_RSP.
+#[derive(Drop)]
+pub struct Opening {
+    lane: Lane,
+    psk: Psk,
+    terms: SessionTerms,
+}
+
+impl Model for Opening {
+    ghost use Rattle.std.specs.Prelude.{◌≡◌};
+    ghost use Rattle.transcript.specs.Lane.{lane_hash};
+    ghost use Rattle.psk_session.specs.Opening.{Seen};
+
+    ghost Value = { Seen };
+
+    ghost view = { λ o. record { lane = o.lane; psk = o.psk; terms = o.terms } };
+
+    ghost invariant = { λ o. lane_hash o.lane ≡ o.terms.choice.hash };
+}
+
+// A message without its verify data.
+fn without_verify(hash: HashAlg, message: &[u8]) -> &[u8]
+    ensures { result.now ≡ without_verify (hash_of hash) message.now }
+{
+    message
+        .split_at(message.len().saturating_sub(hash.size()))
+        .0
+}
+
+impl Opening {
+    /// The session that a PSK_EXCHANGE begins, after the messages of a negotiation and under its terms.
+    pub fn start(vca: &Vca, psk: &Psk, exchange: &[u8], terms: SessionTerms) -> Opening
+        ensures terms { result.terms ≡ terms }
+        ensures stands { (n : Negotiation) → vca.now ≡ vca_of n → AreTermsOf terms n exchange.now
+            → StandsFor result psk.now n exchange.now }
+    {
+        let mut lane = Lane::new(terms.choice.hash);
+        lane.push(vca.as_slice());
+        lane.push(exchange);
+        Opening {
+            lane,
+            psk: psk.clone().unwrap(),
+            terms,
+        }
+    }
+
+    // The hash of the transcript with an answer, without the verify data of the answer.
+    fn hash_with(&self, answer: &[u8]) -> HashBytes
+        ensures value { (given : List ℕ) → lane.StandsFor self.now.lane given
+            → result ≡ (hash_of self.now.terms.choice.hash).digest
+            (given ++ without_verify (hash_of self.now.terms.choice.hash) answer.now) }
+        ensures size { length result ≡ hash_size self.now.terms.choice.hash }
+    {
+        let mut lane = self.lane.clone().unwrap();
+        lane.push(without_verify(self.terms.choice.hash, answer));
+        lane.finish()
+    }
+
+    // The handshake that an answer fixes.
+    fn handshake_with(&self, answer: &[u8]) -> Handshake
+        ensures hash { result.keys.hash ≡ self.now.terms.choice.hash }
+        ensures value { (psk : List ℕ) (n : Negotiation) (exchange : List ℕ)
+            → StandsFor self.now psk n exchange → IsHandshakeOf result psk n exchange answer.now }
+    {
+        let choice = self.terms.choice;
+        Handshake::new(choice.hash, choice.aead, &self.psk, self.hash_with(answer))
+    }
+
+    // The fault of an answer, whose handshake this is.
+    fn fault(&self, answer: &[u8], handshake: &Handshake) -> Option<OpenFault>
+        ensures { (psk : List ℕ) (n : Negotiation) (exchange : List ℕ)
+            → StandsFor self.now psk n exchange
+            → IsHandshakeOf handshake.now psk n exchange answer.now
+            → result ≡ open_fault psk n exchange self.now.terms.summary answer.now }
+    {
+        match read_exchange_rsp(answer, self.terms.choice.hash.size(), self.terms.summary) {
+            Err(at) => Some(OpenFault::Malformed(at)),
+            Ok(rsp) => {
+                if same_bytes(rsp.verify, handshake.responder_verify().as_slice()) {
+                    None
+                } else {
+                    Some(OpenFault::BadVerify)
+                }
+            }
+        }
+    }
+
+    /// The answer to PSK_EXCHANGE. Where its verify data are right, PSK_FINISH is made, without padding;
+    /// a refused answer changes nothing.
+    pub fn take_response(self, answer: &[u8]) -> Result<Finishing, (Opening, OpenFault)>
+        ensures { (psk : List ℕ) (n : Negotiation) (exchange : List ℕ)
+            → StandsFor self psk n exchange → IsTaken self psk n exchange answer.now [] result }
+    {
+        self.take_response_with(answer, &[])
+    }
+
+    /// The same, with this padding for the record of PSK_FINISH, of at most 16 bytes.
+    pub fn take_response_with(
+        self,
+        answer: &[u8],
+        pad: &[u8],
+    ) -> Result<Finishing, (Opening, OpenFault)>
+        requires { length pad.now ≤ 16 }
+        ensures { (psk : List ℕ) (n : Negotiation) (exchange : List ℕ)
+            → StandsFor self psk n exchange
+            → IsTaken self psk n exchange answer.now pad.now result }
+    {
+        let handshake = self.handshake_with(answer);
+        match self.fault(answer, &handshake) {
+            Some(fault) => Err((self, fault)),
+            None => Ok(self.accept(answer, handshake, pad)),
+        }
+    }
+
+    // The session with its sound answer, whose handshake this is.
+    fn accept(self, answer: &[u8], handshake: Handshake, pad: &[u8]) -> Finishing
+        requires hash { handshake.keys.hash ≡ self.terms.choice.hash }
+        requires pad { length pad.now ≤ 16 }
+        ensures { (psk : List ℕ) (n : Negotiation) (exchange : List ℕ)
+            → StandsFor self psk n exchange
+            → IsHandshakeOf handshake psk n exchange answer.now
+            → finishing.StandsFor result psk n exchange answer.now pad.now }
+    {
+        let Opening {
+            mut lane,
+            psk: _,
+            terms,
+        } = self;
+        lane.push(answer);
+        Finishing::new(lane, handshake, terms, told_id(answer), pad)
+    }
+}

@@ -1,0 +1,44 @@
+ghost use Rattle.std.specs.Prelude.{◌≡◌, ◌≤◌, ◌+◌, length};
+ghost use Rattle.spdm_grammar.specs.Message.RequestMessage.{PskFinish};
+ghost use Rattle.spdm_grammar.specs.Message.{request_message};
+ghost use Rattle.spdm_grammar.specs.Requests.{canonical_request, IsSoundRequest};
+ghost use Rattle.requester_machine.specs.Sending.{inner_request, inner_data};
+
+use crate::inner::{APP_DATA, SPDM_MESSAGE};
+use spdm_basis::{Frame, RecordFrame};
+use spdm_codec::write_request;
+use spdm_grammar::Request;
+
+// PSK_FINISH with these verify data, in place of what `out` holds.
+pub fn write_finish(verify: &[u8], out: &mut Frame)
+    requires { length verify.now ≤ 48 }
+    ensures value { out.new ≡ canonical_request (PskFinish verify.now) }
+    ensures size { length out.new ≡ length verify.now + 4 }
+{
+    let _ = write_request(&Request::PskFinish { verify }, verify.len(), out);
+}
+
+// The inner message of a request of four or six bytes, in place of what `out` holds.
+pub fn write_inner_request(request: &Request<'_>, out: &mut RecordFrame)
+    requires sound { IsSoundRequest 0 (request_message request.now) }
+    requires short { length (canonical_request (request_message request.now)) ≤ 6 }
+    ensures value { out.new ≡ inner_request (request_message request.now) }
+    ensures size { length out.new ≤ 7 }
+{
+    let mut message = Frame::new();
+    let _ = write_request(request, 0, &mut message);
+    out.clear();
+    let _ = out.extend(&[SPDM_MESSAGE]);
+    let _ = out.extend(message.as_slice());
+}
+
+// The inner message of application data, in place of what `out` holds.
+pub fn write_inner_data(bytes: &[u8], out: &mut RecordFrame)
+    requires { length bytes.now ≤ 1024 }
+    ensures value { out.new ≡ inner_data bytes.now }
+    ensures size { length out.new ≤ 1025 }
+{
+    out.clear();
+    let _ = out.extend(&[APP_DATA]);
+    let _ = out.extend(bytes);
+}

@@ -1,0 +1,49 @@
+-- How many bytes a word is.
+use Rattle.std.proofs.Common.{◌≡◌, ℕ, ◌<◌, ◌*◌, ◌/◌, ◌%◌, List, [], length, refl, sym, ap, ◌∙◌, true, ◌&&◌, arith, Result, Ok, Err}
+use Rattle.std.specs.Prelude.{MatchResult}
+use Rattle.std.specs.Prelude.{not, ◌==◌, codes}
+use Rattle.std.specs.List.{list_all, AllPass}
+use Rattle.std.specs.Result.{result_unwrap_or}
+use Rattle.std.proofs.lemmas.Bool.{and_parts, eqb-true}
+use Rattle.std.proofs.lemmas.List.Sums.{AllPass-from_list_all}
+use Rattle.std.proofs.lemmas.Slice.Eq.{bytes_eq-Decides}
+use Rattle.hex.specs.Hex.{decode_of, decode_sized, is_hex_digit}
+use Rattle.hex.specs.declared.error.FromHexError.{FromHexError}
+use Rattle.hex.proofs.HexLemmas.{decode_of-even, decode_of-ok, decode_sized-twice, decode_pairs-ok, decode_pairs-digits}
+use Rattle.script_text.specs.HexWords.{bytes_of, is_pairs, is_none_word}
+
+all_pass : (word : List ℕ) → list_all is_hex_digit word ≡ true → AllPass is_hex_digit word
+all_pass word h = AllPass-from_list_all is_hex_digit word h
+
+pub length-bytes_of-pairs : (word : List ℕ) → is_pairs word ≡ true → length word / 2 ≡ length (bytes_of word)
+unfolding is_pairs bytes_of
+length-bytes_of-pairs word h =
+    let parts = and_parts (not (length word == 0) && length word % 2 == 0) (list_all is_hex_digit word) h in
+    let even : length word % 2 ≡ 0 = eqb-true _ _ ((and_parts (not (length word == 0)) (length word % 2 == 0) parts.0).1) in
+    let some = decode_pairs-digits 0 word even (all_pass word parts.1) in
+    let bytes = some.0 in
+    let told = decode_pairs-ok 0 word bytes some.1 in
+    let is : decode_of word ≡ Ok bytes = decode_of-even word even ∙ some.1 in
+    let long : length word ≡ 2 * length bytes = told.1 in
+    let half : length word / 2 ≡ length bytes = omega arith in
+    half ∙ ap (λ (r : Result (List ℕ) FromHexError). length (result_unwrap_or r [])) (sym is)
+
+-- a word of one byte is no pairs
+pub length-bytes_of-none : (word : List ℕ) → is_none_word word ≡ true → 0 ≡ length (bytes_of word)
+unfolding bytes_of
+length-bytes_of-none word h = let e : word ≡ codes "-" = (bytes_eq-Decides word (codes "-")).0 h in rw e refl
+
+-- what room for as many bytes holds after a word of pairs was decoded
+decoded_in_room : (word out : List ℕ) (n : ℕ) (answer : Result (Unit {0}) FromHexError) (r : Result (List ℕ) FromHexError) → decode_of word ≡ r → length (result_unwrap_or r []) ≡ n → 0 < n →
+    MatchResult (decode_sized word n) (λ bytes. (answer ≡ Ok tt) × (out ≡ bytes)) (λ e. answer ≡ Err e) → out ≡ result_unwrap_or r []
+decoded_in_room word out n answer (Ok bytes) e long some told =
+    let ok = decode_of-ok word bytes e in
+    let size : length word ≡ 2 * n = omega (arith, ok.2, long) in
+    let sized : decode_sized word n ≡ Ok bytes = decode_sized-twice word n size ∙ e in
+    (rw sized at told).1
+decoded_in_room word out n answer (Err x) e long some told = absurd (omega (arith, long))
+
+pub decoded_is : (word out : List ℕ) (n : ℕ) (answer : Result (Unit {0}) FromHexError) → length (bytes_of word) ≡ n → 0 < n →
+    MatchResult (decode_sized word n) (λ bytes. (answer ≡ Ok tt) × (out ≡ bytes)) (λ e. answer ≡ Err e) → out ≡ bytes_of word
+unfolding bytes_of
+decoded_is word out n answer long some told = decoded_in_room word out n answer (decode_of word) refl long some told

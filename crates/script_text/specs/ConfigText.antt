@@ -1,0 +1,30 @@
+-- The text of a configuration: lines up to `end`, behind which only comments and empty lines stand. This project's own.
+use Rattle.std.specs.Prelude.{ℕ, List, if◌then◌else◌, Bool, false, Option, Some, None, Result}
+use Rattle.script_text.specs.Configuring.{config_kind, config_fault, after_config, config_of, nothing_given}
+use Rattle.script_text.specs.Lines.{lines_of, word}
+use Rattle.script_text.specs.Reading.{read_lines}
+use Rattle.script_text.specs.declared.config.ScriptConfig.{ScriptConfig}
+use Rattle.script_text.specs.declared.config_kind.ConfigKind.{ConfigKind}
+use Rattle.script_text.specs.declared.faults.LineFault.{LineFault}
+use Rattle.script_text.specs.declared.faults.LineFault.TheVariants.{Unknown, Order}
+use Rattle.script_text.specs.declared.faults.ScriptFault.{ScriptFault}
+use Rattle.script_text.specs.declared.given.Given.{Given}
+
+abbrev pub kind_fault : Bool → Given → Option ConfigKind → List ℕ → Option LineFault
+kind_fault needs_seed given None line = Some Unknown
+kind_fault needs_seed given (Some kind) line = config_fault needs_seed given kind line
+
+-- A line behind `end` stands there whatever its words.
+abbrev pub config_text_fault : Given → List ℕ → Option LineFault
+config_text_fault given line = if given.ended then Some Order else kind_fault false given (config_kind (word 0 line)) line
+
+abbrev pub after_kind : Given → Option ConfigKind → List ℕ → Given
+after_kind given None line = given
+after_kind given (Some kind) line = after_config given kind line
+
+abbrev pub after_config_text : Given → ℕ → List ℕ → Given
+after_config_text given number line = after_kind given (config_kind (word 0 line)) line
+
+-- The configuration that a text is, or its first bad line.
+unfoldable pub config_in : List ℕ → Result ScriptConfig ScriptFault
+config_in text = read_lines config_text_fault after_config_text config_of 1 nothing_given (lines_of text)

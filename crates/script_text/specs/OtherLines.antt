@@ -1,0 +1,120 @@
+-- The other lines that the program prints: of restarts, of captures, of messages and of generated scripts. This
+-- project's own.
+use Rattle.std.specs.Prelude.{ℕ, List, [], ◌∷◌, codes, Option, Some, None}
+use Rattle.std.specs.Fmt.{decimal}
+use Rattle.script_text.specs.Spelling.{spelled, hex_word, id_word, requester_word}
+use Rattle.script_text.specs.TraceWords.{stage_word}
+use Rattle.script_text.specs.declared.why.Why.{Why}
+use Rattle.script_text.specs.declared.why.Why.TheVariants as why
+use Rattle.spdm_basis.specs.declared.session_id.SessionId.{SessionId}
+use Rattle.spdm_grammar.specs.declared.malformed.Malformed.{Malformed}
+use Rattle.spdm_grammar.specs.declared.malformed.Part.{Part}
+use Rattle.spdm_grammar.specs.declared.malformed.Part.TheVariants as part
+use Rattle.spdm_grammar.specs.declared.phase.Stage.{Stage}
+use Rattle.spdm_grammar.specs.declared.request.Request.{Request}
+use Rattle.spdm_grammar.specs.declared.request.Request.TheVariants as request
+use Rattle.spdm_grammar.specs.declared.response.Response.{Response}
+use Rattle.spdm_grammar.specs.declared.response.Response.TheVariants as response
+
+-- All ends start again, with this boot number.
+unfoldable pub cycle_text : (boot : ℕ) → List ℕ
+cycle_text boot = spelled (codes "cycle" ∷ decimal boot ∷ [])
+
+-- ---- Captures.
+
+-- The capture conforms.
+unfoldable pub conforms_text : List ℕ
+conforms_text = spelled (codes "conforms" ∷ [])
+
+-- The stage of a session in the table of a capture; none is that of an ended session.
+abbrev pub seen_stage_word : Option Stage → List ℕ
+seen_stage_word None = codes "ended"
+seen_stage_word (Some stage) = stage_word stage
+
+-- A session that a capture shows: its requester, its id and stage, its hash, and how many records of it were sent in
+-- requests and in answers.
+unfoldable pub seen_text : (n : ℕ) → SessionId → Option Stage → (hash : List ℕ) → (sent answered : ℕ) → List ℕ
+seen_text n id stage hash sent answered = spelled (
+    codes "session"
+    ∷ requester_word n
+    ∷ id_word id
+    ∷ seen_stage_word stage
+    ∷ hex_word hash
+    ∷ decimal sent
+    ∷ decimal answered
+    ∷ [])
+
+-- Why a packet is the first that differs.
+abbrev pub why_word : Why → List ℕ
+why_word why.BadPacket = codes "bad-packet"
+why_word why.UnknownEnd = codes "unknown-end"
+why_word why.WrongTurn = codes "wrong-turn"
+why_word why.BadRequest = codes "bad-request"
+why_word why.BadReply = codes "bad-reply"
+why_word why.BadVerify = codes "bad-verify"
+why_word why.BadRecord = codes "bad-record"
+
+-- The first packet that differs.
+unfoldable pub differs_text : (packet : ℕ) → Why → List ℕ
+differs_text packet why = spelled (codes "differs" ∷ decimal packet ∷ why_word why ∷ [])
+
+-- ---- Messages.
+
+-- The names of messages (DSP0274, "SPDM request codes" and "SPDM response codes").
+abbrev pub request_name : Request → List ℕ
+request_name request.GetVersion = codes "GET_VERSION"
+request_name (request.GetCapabilities caps) = codes "GET_CAPABILITIES"
+request_name (request.NegotiateAlgorithms offer) = codes "NEGOTIATE_ALGORITHMS"
+request_name (request.GetMeasurements op) = codes "GET_MEASUREMENTS"
+request_name (request.PskExchange exchange) = codes "PSK_EXCHANGE"
+request_name (request.PskFinish verify) = codes "PSK_FINISH"
+request_name request.Heartbeat = codes "HEARTBEAT"
+request_name (request.KeyUpdate op tag) = codes "KEY_UPDATE"
+request_name request.EndSession = codes "END_SESSION"
+request_name (request.ChunkSend chunk) = codes "CHUNK_SEND"
+request_name (request.ChunkGet handle number) = codes "CHUNK_GET"
+
+abbrev pub response_name : Response → List ℕ
+response_name (response.Version entries) = codes "VERSION"
+response_name (response.Capabilities caps) = codes "CAPABILITIES"
+response_name (response.Algorithms reply) = codes "ALGORITHMS"
+response_name (response.Measurements measured) = codes "MEASUREMENTS"
+response_name (response.PskExchangeRsp exchange) = codes "PSK_EXCHANGE_RSP"
+response_name response.PskFinishRsp = codes "PSK_FINISH_RSP"
+response_name response.HeartbeatAck = codes "HEARTBEAT_ACK"
+response_name (response.KeyUpdateAck op tag) = codes "KEY_UPDATE_ACK"
+response_name response.EndSessionAck = codes "END_SESSION_ACK"
+response_name (response.ChunkSendAck early handle number answer) = codes "CHUNK_SEND_ACK"
+response_name (response.ChunkResponse chunk) = codes "CHUNK_RESPONSE"
+response_name (response.Error version code detail extended) = codes "ERROR"
+
+-- A message of this name and length.
+unfoldable pub message_text : (name : List ℕ) → (count : ℕ) → List ℕ
+message_text name count = spelled (name ∷ decimal count ∷ [])
+
+-- The part of a message that is at fault.
+abbrev pub part_word : Part → List ℕ
+part_word part.End = codes "end"
+part_word part.Field = codes "field"
+part_word part.Length = codes "length"
+part_word part.Rest = codes "rest"
+
+-- Where bytes that spell no message are at fault.
+unfoldable pub malformed_text : Malformed → List ℕ
+malformed_text m = spelled (codes "malformed" ∷ decimal m.at ∷ part_word m.what ∷ [])
+
+-- ---- Generated scripts: their seed and count, the packets that were sent, the application messages that were
+-- taken, and the sessions that are open.
+
+unfoldable pub summary_text : (seed count packets taken live : ℕ) → List ℕ
+summary_text seed count packets taken live = spelled (
+    codes "gen"
+    ∷ decimal seed
+    ∷ decimal count
+    ∷ codes "packets"
+    ∷ decimal packets
+    ∷ codes "taken"
+    ∷ decimal taken
+    ∷ codes "open"
+    ∷ decimal live
+    ∷ [])

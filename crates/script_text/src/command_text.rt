@@ -1,0 +1,48 @@
+ghost use Rattle.std.specs.Prelude.{◌≡◌, length};
+ghost use Rattle.script_text.specs.CommandText.{command_in, command_of_kind};
+ghost use Rattle.script_text.specs.Reading.{IsReading};
+ghost use Rattle.script_text.specs.declared.event_kind.EventKind.{EventKind};
+
+use crate::command::command;
+use crate::config::ScriptConfig;
+use crate::event::LinkEvent;
+use crate::event_kind::{EventKind, event_kind};
+use crate::faults::{LineError, LineFault, ScriptFault};
+use crate::lines::is_too_long;
+use std::alloc::Global;
+
+/// The command that a line is, for a requester of this configuration. The fault is the first that the line
+/// has, and is told of line 1; a line that is no command is unknown.
+#[tactic(auto, unfolding(crate::specs::CommandText::command_in))]
+pub fn parse_command(
+    alloc: Global,
+    config: &ScriptConfig,
+    line: &[u8],
+) -> Result<LinkEvent, ScriptFault>
+    ensures { IsReading (command_in (length config.now.requesters) line.now) result }
+{
+    if is_too_long(line) {
+        return Err(ScriptFault::Line(1, LineFault::LineTooLong));
+    }
+    let requesters = config.requesters.as_slice().len();
+    command_of_kind(alloc, requesters, event_kind(line), line)
+}
+
+// The command of a line of this kind.
+fn command_of_kind(
+    alloc: Global,
+    requesters: usize,
+    kind: Option<EventKind>,
+    line: &[u8],
+) -> Result<LinkEvent, ScriptFault>
+    ensures { IsReading (command_of_kind requesters kind line.now) result }
+{
+    let Some(EventKind::Command(q, kind)) = kind else {
+        return Err(ScriptFault::Line(1, LineFault::Unknown));
+    };
+    match command(alloc, requesters, q, kind, line) {
+        Ok(event) => Ok(event),
+        Err(LineError::Fault(fault)) => Err(ScriptFault::Line(1, fault)),
+        Err(LineError::NoMemory) => Err(ScriptFault::OutOfMemory),
+    }
+}

@@ -1,0 +1,27 @@
+use thiserror::Error;
+
+/// Why a packet is the first of a capture that differs.
+#[derive(Clone, Copy, Debug, PartialEq, Eq, Error)]
+pub enum Why {
+    /// It is no packet, is dropped, or completes a body of another type.
+    #[error("a bad packet")]
+    BadPacket,
+    /// It does not go between the responder and a configured requester.
+    #[error("an unknown end")]
+    UnknownEnd,
+    /// It stands where no message of its direction may stand.
+    #[error("out of turn")]
+    WrongTurn,
+    /// The requester may not send this message.
+    #[error("a bad request")]
+    BadRequest,
+    /// The responder may not answer so.
+    #[error("a bad reply")]
+    BadReply,
+    /// The verify data alone differ.
+    #[error("bad verify data")]
+    BadVerify,
+    /// The record does not open.
+    #[error("a bad record")]
+    BadRecord,
+}

@@ -1,0 +1,129 @@
+ghost use Rattle.std.specs.Prelude.{◌≡◌, ◌≢◌, ◌<◌, ◌≤◌, ◌+◌, ◌-◌, ◌^◌, ◌↔◌, ℕ, List, None, Some, IsOk, OnOk, OnErr, IfErr, MatchResult, length};
+ghost use Rattle.spdm_basis.specs.SessionIdBytes.{session_id_bytes};
+ghost use Rattle.running_hash.specs.Hash.{hash_of};
+ghost use Rattle.key_schedule.specs.Schedule.{updated_secret};
+ghost use Rattle.key_schedule.specs.Purpose.{Purpose, IsSecretOf};
+ghost use Rattle.secured_record.specs.Format.{key_of, iv_of, record_of};
+ghost use Rattle.secured_record.specs.Contents.{IsRecordOf};
+ghost use Rattle.secured_record.specs.Faults.{fault_of, inner_of};
+
+use crate::aead::RecordCipher;
+use crate::opening::open_by;
+use crate::sealing::seal_within;
+use crate::{RecordFault, TooLong};
+use key_schedule::DirectionKey;
+use spdm_basis::{RecordFrame, SessionId};
+use std::marker::Model;
+
+/// The key of a direction with its cipher set up once, for many records. Contracts see what they see of
+/// the key of the direction.
+#[derive(Drop)]
+pub struct RecordKey {
+    direction: DirectionKey,
+    cipher: RecordCipher,
+}
+
+impl Model for RecordKey {
+    ghost use Rattle.std.specs.Prelude.{◌≡◌};
+    ghost use Rattle.key_schedule.specs.Keys.{DirectionSecret};
+    ghost use Rattle.secured_record.specs.Ciphers.{cipher_key};
+    ghost use Rattle.secured_record.specs.Format.{key_of};
+
+    ghost Value = { DirectionSecret };
+
+    ghost view = { λ k. k.direction };
+
+    ghost invariant = { λ k. cipher_key k.cipher ≡ key_of k.direction };
+}
+
+impl RecordKey {
+    /// The key of a direction, with its cipher.
+    pub fn new(direction: DirectionKey) -> RecordKey
+        ensures { result ≡ direction }
+    {
+        let cipher = RecordCipher::new(direction.aead(), direction.key());
+        RecordKey { direction, cipher }
+    }
+
+    /// The key that follows by a key update (DSP0274, "KEY_UPDATE"), with the next epoch. The caller's
+    /// epoch is below 2^64 - 1.
+    pub fn next(self) -> RecordKey
+        requires { self.epoch < 2 ^ 64 - 1 }
+        ensures value { result
+            ≡ record self {
+              secret = updated_secret (hash_of self.hash) self.secret;
+              epoch = self.epoch + 1;
+            } }
+        ensures purpose { (p : Purpose) → IsSecretOf self p
+            → IsSecretOf result (record p { epoch = p.epoch + 1 }) }
+    {
+        let RecordKey {
+            direction,
+            cipher: _,
+        } = self;
+        RecordKey::new(direction.next())
+    }
+
+    /// How many key updates led to this key.
+    pub fn epoch(&self) -> u64
+        ensures { result ≡ self.now.epoch }
+    {
+        self.direction.epoch()
+    }
+
+    /// Writes the record of an inner message and padding, as `seal` does under this key.
+    pub fn seal(
+        &self,
+        id: SessionId,
+        number: u16,
+        inner: &[u8],
+        pad: &[u8],
+        out: &mut RecordFrame,
+    ) -> Result<(), TooLong>
+        ensures fits { IsOk result ↔ (length inner.now + length pad.now + 26 ≤ 4160) }
+        ensures record { OnOk result (out.new
+            ≡ record_of (key_of self.now) (iv_of self.now)
+            (session_id_bytes id.req id.rsp) number inner.now pad.now) }
+        ensures unchanged { OnErr result (out.new ≡ out.old) }
+    {
+        seal_within(
+            &self.cipher,
+            self.direction.iv(),
+            id,
+            number,
+            inner,
+            pad,
+            out,
+        )
+    }
+
+    /// Opens a record and writes its inner message, as `open` does under this key.
+    pub fn open(
+        &self,
+        id: SessionId,
+        number: u16,
+        sealed: &[u8],
+        out: &mut RecordFrame,
+    ) -> Result<(), RecordFault>
+        ensures fault { MatchResult result
+            (λ _. fault_of (key_of self.now) (iv_of self.now)
+            (session_id_bytes id.req id.rsp) number sealed.now ≡ None)
+            (λ e. fault_of (key_of self.now) (iv_of self.now)
+            (session_id_bytes id.req id.rsp) number sealed.now ≡ Some e) }
+        ensures inner { OnOk result (out.new
+            ≡ inner_of (key_of self.now) (iv_of self.now) number sealed.now) }
+        ensures unchanged { OnErr result (out.new ≡ out.old) }
+        ensures not_spent { IfErr result (λ e. e ≢ RecordFault.KeySpent) }
+
+        // What opens is a record of its inner message, and each record of at most 4,160 bytes opens.
+        ensures record { OnOk result
+            (IsRecordOf (key_of self.now) (iv_of self.now)
+            (session_id_bytes id.req id.rsp) number sealed.now out.new) }
+        ensures opens { (inner pad : List ℕ)
+            → sealed.now ≡ record_of (key_of self.now) (iv_of self.now)
+            (session_id_bytes id.req id.rsp) number inner pad
+            → length sealed.now ≤ 4160 → IsOk result × (out.new ≡ inner) }
+    {
+        open_by(&self.cipher, self.direction.iv(), id, number, sealed, out)
+    }
+}
