@@ -32,7 +32,7 @@ mapped_by eid change d others true e next = rw e refl
 mapped_by eid change d others false e next = rw e next
 
 -- A change of all histories changes that of this end point.
-pub mapped : (eid : ℕ) (change : History → History) (cs : List Connection) → connection_of eid (map (changed change) cs) ≡ option_map (changed change) (connection_of eid cs)
+mapped : (eid : ℕ) (change : History → History) (cs : List Connection) → connection_of eid (map (changed change) cs) ≡ option_map (changed change) (connection_of eid cs)
 mapped eid change [] = refl
 mapped eid change (d ∷ others) = mapped_by eid change d others (d.setup.peer == eid) refl (mapped eid change others)
 

@@ -22,3 +22,4 @@ pub mod Told
 pub mod Measured
 pub mod AfterConnect
 pub mod Connected
+mod Example

@@ -78,7 +78,7 @@ algorithms_alike len = refl
 
 -- ---- The answers are read again.
 
-pub answer_read : (len : ℕ) (v : ResponseMessage) → FitsResponse v → IsSoundResponse len false v → response_in len false (canonical_response v) ≡ Some v
+answer_read : (len : ℕ) (v : ResponseMessage) → FitsResponse v → IsSoundResponse len false v → response_in len false (canonical_response v) ≡ Some v
 answer_read len v fits sound = (read_iff (response_layout len false) v (canonical_response v)).1 (response_spelled len false v fits sound).is
 
 flag_most : (b : Bool) (n : ℕ) → cond b n 0 ≤ n

@@ -7,7 +7,7 @@ use Rattle.responder_machine.specs.Setup.{RspPart, Known, towards}
 use Rattle.world_machine.specs.Setup.{Configuration, known_of}
 use Rattle.spdm_agreement.specs.Configured.{IsConfiguration, IsRequester, IsResponder}
 
-abbrev requester : ReqSetup
+abbrev pub requester : ReqSetup
 requester = record {
   eid = 9;
   responder = 8;
@@ -22,7 +22,7 @@ requester = record {
   suites = record { hash = Small; aead = Small };
 }
 
-abbrev part : RspPart
+abbrev pub part : RspPart
 part = record {
   eid = 8;
   transfer = 1024;
