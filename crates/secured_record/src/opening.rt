@@ -194,10 +194,10 @@ fn open_text(
     requires most { length text.now ≤ 4136 }
     ensures fault { MatchResult result
         (λ _. nat_lt (length text.now - 2)
-            (little_number 2 (crypt (cipher_key cipher.now) iv.now text.now)) ≡ false)
+        (little_number 2 (crypt (cipher_key cipher.now) iv.now text.now)) ≡ false)
         (λ e. (e ≡ RecordFault.BadInnerLength)
-            × (nat_lt (length text.now - 2)
-            (little_number 2 (crypt (cipher_key cipher.now) iv.now text.now)) ≡ true)) }
+        × (nat_lt (length text.now - 2)
+        (little_number 2 (crypt (cipher_key cipher.now) iv.now text.now)) ≡ true)) }
     ensures inner { OnOk result (out.new
         ≡ take (little_number 2 (crypt (cipher_key cipher.now) iv.now text.now))
         (drop 2 (crypt (cipher_key cipher.now) iv.now text.now))) }
@@ -256,9 +256,9 @@ pub fn open_by(
 ) -> Result<(), RecordFault>
     ensures fault { MatchResult result
         (λ _. fault_of (cipher_key cipher.now) iv.now
-            (session_id_bytes id.req id.rsp) number sealed.now ≡ None)
+        (session_id_bytes id.req id.rsp) number sealed.now ≡ None)
         (λ e. fault_of (cipher_key cipher.now) iv.now
-            (session_id_bytes id.req id.rsp) number sealed.now ≡ Some e) }
+        (session_id_bytes id.req id.rsp) number sealed.now ≡ Some e) }
     ensures inner { OnOk result (out.new
         ≡ inner_of (cipher_key cipher.now) iv.now number sealed.now) }
     ensures unchanged { OnErr result (out.new ≡ out.old) }
@@ -286,9 +286,9 @@ pub fn open(
 ) -> Result<(), RecordFault>
     ensures fault { MatchResult result
         (λ _. fault_of (key_of key.now) (iv_of key.now)
-            (session_id_bytes id.req id.rsp) number sealed.now ≡ None)
+        (session_id_bytes id.req id.rsp) number sealed.now ≡ None)
         (λ e. fault_of (key_of key.now) (iv_of key.now)
-            (session_id_bytes id.req id.rsp) number sealed.now ≡ Some e) }
+        (session_id_bytes id.req id.rsp) number sealed.now ≡ Some e) }
     ensures inner { OnOk result (out.new
         ≡ inner_of (key_of key.now) (iv_of key.now) number sealed.now) }
     ensures unchanged { OnErr result (out.new ≡ out.old) }

@@ -50,8 +50,10 @@ impl RecordKey {
     pub fn next(self) -> RecordKey
         requires { self.epoch < 2 ^ 64 - 1 }
         ensures value { result
-            ≡ record self { secret = updated_secret (hash_of self.hash) self.secret;
-            epoch = self.epoch + 1 } }
+            ≡ record self {
+              secret = updated_secret (hash_of self.hash) self.secret;
+              epoch = self.epoch + 1;
+            } }
         ensures purpose { (p : Purpose) → IsSecretOf self p
             → IsSecretOf result (record p { epoch = p.epoch + 1 }) }
     {
@@ -105,9 +107,9 @@ impl RecordKey {
     ) -> Result<(), RecordFault>
         ensures fault { MatchResult result
             (λ _. fault_of (key_of self.now) (iv_of self.now)
-                (session_id_bytes id.req id.rsp) number sealed.now ≡ None)
+            (session_id_bytes id.req id.rsp) number sealed.now ≡ None)
             (λ e. fault_of (key_of self.now) (iv_of self.now)
-                (session_id_bytes id.req id.rsp) number sealed.now ≡ Some e) }
+            (session_id_bytes id.req id.rsp) number sealed.now ≡ Some e) }
         ensures inner { OnOk result (out.new
             ≡ inner_of (key_of self.now) (iv_of self.now) number sealed.now) }
         ensures unchanged { OnErr result (out.new ≡ out.old) }
