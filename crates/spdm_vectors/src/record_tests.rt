@@ -1,5 +1,5 @@
 use key_schedule::{DirectionKey, HandshakeKeys};
-use secured_record::{RecordFault, TooLong, open, seal};
+use secured_record::{RecordFault, RecordKey, TooLong, open, seal};
 use spdm_basis::{AeadAlg, HashAlg, Psk, RecordFrame, SessionId};
 use std::process::Abort;
 use std::test::Fail;
@@ -35,11 +35,13 @@ fn inner_of(key: &DirectionKey, sealed: &[u8]) -> Result<RecordFrame, RecordFaul
     Ok(inner)
 }
 
-// A suite, and its record of the inner message 05 10 e8 00 00 with the padding 01 02 03, in hexadecimal.
+// A suite, and its record of the inner message 05 10 e8 00 00 with the padding 01 02 03, in hexadecimal, also
+// after a key update.
 struct Suite {
     hash: HashAlg,
     aead: AeadAlg,
     record: &'static str,
+    updated: &'static str,
 }
 
 // Computed by the modules hmac and hashlib and the package cryptography of Python 3.
@@ -48,11 +50,13 @@ const SUITES: [Suite; 2] = [
         hash: HashAlg::Sha256,
         aead: AeadAlg::Aes128Gcm,
         record: "0201040302011a001d67c13b8289a70f01b1b71bcc4c547130523b227ef6bfa15caf",
+        updated: "0201040302011a0061fd40b37a1c9f6d977c6ac2411d296ee9da143c7d497a830499",
     },
     Suite {
         hash: HashAlg::Sha384,
         aead: AeadAlg::Aes256Gcm,
         record: "0201040302011a000ffb4d9e3efb7dd4cf269ce21ca9c3d7cb202e465f764ef535a8",
+        updated: "0201040302011a006a8464e2dcae11a92233100032d334b7cfb4a3511c0ae38b0fd1",
     },
 ];
 
@@ -77,6 +81,30 @@ fn record_of_each_suite(rt: HostRuntime) -> Result<(), Fail> {
     for suite in &SUITES {
         let key = request_key(suite.hash, suite.aead)?;
         expect_record(&rt, &key, &[5, 0x10, 0xe8, 0, 0], &[1, 2, 3], suite.record)?;
+    }
+    Ok(())
+}
+
+// That a key that is set up once seals that inner message and padding so, in hexadecimal, and opens it.
+fn expect_ready(rt: &(impl Abort + Alloc), key: &RecordKey, want: &str) -> Result<(), Fail> {
+    let inner = [5, 0x10, 0xe8, 0, 0];
+    let mut sealed = RecordFrame::new();
+    key.seal(ID, NUMBER, &inner, &[1, 2, 3], &mut sealed)?;
+    let text = hex::encode(rt.alloc(), sealed.as_slice())?;
+    assert_eq!(rt; text.as_str(), want);
+    let mut opened = RecordFrame::new();
+    key.open(ID, NUMBER, sealed.as_slice(), &mut opened)?;
+    assert_eq!(rt; opened.as_slice(), inner.as_slice());
+    Ok(())
+}
+
+#[test]
+fn ready_key_of_each_suite(rt: HostRuntime) -> Result<(), Fail> {
+    for suite in &SUITES {
+        let key = RecordKey::new(request_key(suite.hash, suite.aead)?);
+        expect_ready(&rt, &key, suite.record)?;
+        assert!(rt; key.epoch() == 0);
+        expect_ready(&rt, &key.next(), suite.updated)?;
     }
     Ok(())
 }
