@@ -38,8 +38,6 @@ mod seed_line;
 mod shown;
 mod shown_text;
 mod suite_line;
-#[cfg(test)]
-mod tests;
 mod text_words;
 mod trace_lines;
 mod trace_words;

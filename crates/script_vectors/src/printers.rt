@@ -1,4 +1,4 @@
-use crate::{
+use script_text::{
     Why, line_at, line_command, line_conforms, line_cycle, line_data, line_differs, line_event,
     line_heard, line_malformed, line_no_packet, line_nobody, line_packet, line_record, line_reply,
     line_request, line_response, line_seen, line_session, line_state, line_summary,

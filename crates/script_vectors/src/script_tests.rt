@@ -1,17 +1,13 @@
-mod printers;
-mod scripts;
-mod texts;
-
-use crate::{
+use crate::scripts::{FOUR, PRINTED, SCRIPT, SIXTY};
+use crate::texts::TEXTS;
+use script_text::{
     Rule, ScriptFault, TEXT_LIMIT, generate, parse_capture, parse_command, parse_config,
     parse_lives, parse_policy, parse_script, print_script,
 };
-use scripts::{FOUR, PRINTED, SCRIPT, SIXTY};
 use spdm_basis::Bytes;
 use std::alloc::{AllocError, Global};
 use std::process::Abort;
 use std::test::Fail;
-use texts::TEXTS;
 
 // A responder, a requester and a second one.
 const RESPONDER: &str = "responder 8 1024 4096 64 30 mhkc";
