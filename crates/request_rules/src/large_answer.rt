@@ -1,0 +1,130 @@
+ghost use Rattle.std.specs.Prelude.{◌≡◌, ◌≤◌, ◌<◌, ◌+◌, ◌∷◌, [], ℕ, List, Some, None, true, false, drop, is_some, length, unwrap_or};
+ghost use Rattle.chunking.specs.Answers.{chunk_given};
+ghost use Rattle.responder_machine.specs.LargeMessages.{next_handle, pending_of};
+ghost use Rattle.responder_machine.specs.Place as places;
+ghost use Rattle.responder_machine.specs.Place.{place_terms};
+ghost use Rattle.responder_machine.specs.Refusal.{has_pending};
+ghost use Rattle.responder_machine.specs.Turn.{Turn, handle_in, is_taken, large_in, takes};
+ghost use Rattle.spdm_grammar.specs.declared.names.TheConstants.{MAX_MESSAGE_SIZE, MIN_DATA_TRANSFER_SIZE};
+ghost use Rattle.spdm_grammar.specs.declared.names.request_code.TheConstants.{CHUNK_GET};
+ghost use Rattle.std.specs.List.{slice_get};
+ghost use Rattle.request_rules.specs.LargeAnswer.{IsAsked, StandsFor};
+
+use chunking::Splitter;
+use spdm_grammar::ChunkView;
+use std::marker::Model;
+
+/// The large answer of a place that is still to be given by CHUNK_GET, and the count of handles there
+/// (DSP0274, "CHUNK_GET request message format").
+#[derive(Drop)]
+pub struct LargeAnswer {
+    splitter: Option<Splitter>,
+    next: u8,
+}
+
+impl Model for LargeAnswer {
+    ghost use Rattle.std.specs.Prelude.{[], unwrap_or};
+    ghost use Rattle.request_rules.specs.LargeAnswer.{Seen};
+
+    ghost Value = { Seen };
+
+    ghost view = { λ a. record { left = unwrap_or a.splitter []; next = a.next } };
+}
+
+impl LargeAnswer {
+    /// Where no request came yet.
+    pub fn new() -> LargeAnswer
+        ensures { (transfer : ℕ) → StandsFor result transfer [] }
+    {
+        LargeAnswer {
+            splitter: None,
+            next: 0,
+        }
+    }
+
+    // The chunk that is to be given next.
+    fn current(&self) -> Option<ChunkView<'_>>
+        ensures { chunk_given result ≡ slice_get self.now.left 0 }
+    {
+        match &self.splitter {
+            Some(splitter) => splitter.current(),
+            None => None,
+        }
+    }
+
+    /// Whether a chunk is still to be given.
+    pub fn is_pending(&self) -> bool
+        ensures { (transfer : ℕ) (turns : List Turn) → StandsFor self.now transfer turns
+            → result ≡ is_some (pending_of transfer turns) }
+    {
+        self.current().is_some()
+    }
+
+    /// The handle of the next large answer: they count modulo 256 from 0.
+    pub fn next_handle(&self) -> u8
+        ensures { (transfer : ℕ) (turns : List Turn) → StandsFor self.now transfer turns
+            → result ≡ next_handle turns }
+    {
+        self.next
+    }
+
+    #[tactic(auto, using(crate::proofs::Left::next_given, crate::proofs::Left::none_is_left))]
+    /// The chunk that a CHUNK_GET asks for where one is pending; none where its handle is not that of the
+    /// answer, or its number not the next.
+    pub fn asked(&self, handle: u8, number: u16) -> Option<ChunkView<'_>>
+        ensures { (p : places.Place)
+            → StandsFor self.now (place_terms p).common.to_requester.transfer p.turns
+            → has_pending p ≡ true → IsAsked p handle number result }
+    {
+        match self.current() {
+            None => None,
+            Some(chunk) => {
+                if chunk.handle == handle && chunk.number == number {
+                    Some(chunk)
+                } else {
+                    None
+                }
+            }
+        }
+    }
+
+    /// A CHUNK_GET was taken.
+    pub fn advance(&mut self)
+        ensures { (transfer : ℕ) (turns : List Turn) (t : Turn)
+            → StandsFor self.old transfer turns → is_taken t ≡ true → takes CHUNK_GET t ≡ true
+            → handle_in t.effect ≡ None → StandsFor self.new transfer (t ∷ turns) }
+    {
+        advance(&mut self.splitter);
+    }
+
+    /// An answer goes by LargeResponse with this handle, in chunks of this transfer size.
+    pub fn begin(&mut self, answer: &[u8], transfer: u32, handle: u8)
+        requires { length answer.now ≤ MAX_MESSAGE_SIZE }
+        ensures { (turns : List Turn) (t : Turn) → MIN_DATA_TRANSFER_SIZE ≤ transfer
+            → transfer < length answer.now + 16
+            → StandsFor self.old transfer turns → is_taken t ≡ true → takes CHUNK_GET t ≡ false
+            → handle_in t.effect ≡ Some handle → large_in t.effect ≡ Some answer.now
+            → StandsFor self.new transfer (t ∷ turns) }
+    {
+        self.splitter = Splitter::new(answer, transfer, handle).ok();
+        self.next = self.next.wrapping_add(1);
+    }
+
+    /// Another request was taken, whose answer does not go by chunks, or application data.
+    pub fn clear(&mut self)
+        ensures { (transfer : ℕ) (turns : List Turn) (t : Turn)
+            → StandsFor self.old transfer turns → is_taken t ≡ true → takes CHUNK_GET t ≡ false
+            → handle_in t.effect ≡ None → StandsFor self.new transfer (t ∷ turns) }
+    {
+        self.splitter = None;
+    }
+}
+
+// Goes on to the next chunk, if there is one.
+fn advance(splitter: &mut Option<Splitter>)
+    ensures { unwrap_or splitter.new [] ≡ drop 1 (unwrap_or splitter.old []) }
+{
+    if let Some(splitter) = splitter {
+        splitter.advance();
+    }
+}

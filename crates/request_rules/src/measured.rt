@@ -1,0 +1,47 @@
+ghost use Rattle.std.specs.Prelude.{◌≡◌, ◌≤◌, false, length};
+ghost use Rattle.measurements.specs.Records.{is_missing};
+ghost use Rattle.responder_machine.specs.Answer.{Free, measurements_answer};
+ghost use Rattle.responder_machine.specs.Setup.{RspSetup, inventory_of};
+ghost use Rattle.spdm_grammar.specs.Responses.{canonical_response};
+ghost use Rattle.spdm_grammar.specs.declared.names.TheConstants.{MAX_MESSAGE_SIZE};
+
+use measurements::Inventory;
+use spdm_basis::Frame;
+use spdm_codec::write_response;
+use spdm_grammar::{Measured, Response};
+
+// What stands in MEASUREMENTS beside the record and the opaque data.
+const FIELDS_LEN: usize = 42;
+
+/// Writes the MEASUREMENTS that answer an operation, with this nonce of 32 bytes and these opaque data of at
+/// most 1,024, in place of what `out` holds, and tells their length. Where that is above 4,096 they are not
+/// whole in `out`.
+pub fn write_measurements(
+    inventory: &Inventory,
+    op: u8,
+    nonce: &[u8],
+    opaque: &[u8],
+    out: &mut Frame,
+) -> u32
+    requires nonce { length nonce.now ≡ 32 }
+    requires opaque { length opaque.now ≤ 1024 }
+    requires found { is_missing op inventory.now ≡ false }
+    ensures size { (r : RspSetup) (f : Free) → inventory_of r ≡ inventory.now
+        → f.nonce ≡ nonce.now → f.measured_opaque ≡ opaque.now
+        → result ≡ length (canonical_response (measurements_answer r f op)) }
+    ensures value { (r : RspSetup) (f : Free) → inventory_of r ≡ inventory.now
+        → f.nonce ≡ nonce.now → f.measured_opaque ≡ opaque.now → result ≤ MAX_MESSAGE_SIZE
+        → out.new ≡ canonical_response (measurements_answer r f op) }
+{
+    let mut record = Frame::new();
+    let blocks = inventory.record(op, &mut record).unwrap_or(0);
+    let measured = Measured {
+        total: if op == 0 { inventory.total() } else { 0 },
+        blocks,
+        block_bytes: record.as_slice(),
+        nonce,
+        opaque,
+    };
+    let _ = write_response(&Response::Measurements(measured), 0, false, out);
+    (FIELDS_LEN + record.as_slice().len() + opaque.len()) as u32
+}
