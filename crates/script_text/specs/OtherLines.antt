@@ -7,14 +7,13 @@ use Rattle.script_text.specs.TraceWords.{stage_word}
 use Rattle.script_text.specs.declared.why.Why.{Why}
 use Rattle.script_text.specs.declared.why.Why.TheVariants as why
 use Rattle.spdm_basis.specs.declared.session_id.SessionId.{SessionId}
+use Rattle.spdm_grammar.specs.Message.{RequestMessage, ResponseMessage}
+use Rattle.spdm_grammar.specs.Message.RequestMessage.{GetVersion, GetCapabilities, NegotiateAlgorithms, GetMeasurements, PskExchange, PskFinish, Heartbeat, KeyUpdate, EndSession, ChunkSend, ChunkGet}
+use Rattle.spdm_grammar.specs.Message.ResponseMessage.{Version, Capabilities, Algorithms, Measurements, PskExchangeRsp, PskFinishRsp, HeartbeatAck, KeyUpdateAck, EndSessionAck, ChunkSendAck, ChunkResponse, Error}
 use Rattle.spdm_grammar.specs.declared.malformed.Malformed.{Malformed}
 use Rattle.spdm_grammar.specs.declared.malformed.Part.{Part}
 use Rattle.spdm_grammar.specs.declared.malformed.Part.TheVariants as part
 use Rattle.spdm_grammar.specs.declared.phase.Stage.{Stage}
-use Rattle.spdm_grammar.specs.declared.request.Request.{Request}
-use Rattle.spdm_grammar.specs.declared.request.Request.TheVariants as request
-use Rattle.spdm_grammar.specs.declared.response.Response.{Response}
-use Rattle.spdm_grammar.specs.declared.response.Response.TheVariants as response
 
 -- All ends start again, with this boot number.
 unfoldable pub cycle_text : (boot : ℕ) → List ℕ
@@ -61,32 +60,32 @@ differs_text packet why = spelled (codes "differs" ∷ decimal packet ∷ why_wo
 -- ---- Messages.
 
 -- The names of messages (DSP0274, "SPDM request codes" and "SPDM response codes").
-abbrev pub request_name : Request → List ℕ
-request_name request.GetVersion = codes "GET_VERSION"
-request_name (request.GetCapabilities caps) = codes "GET_CAPABILITIES"
-request_name (request.NegotiateAlgorithms offer) = codes "NEGOTIATE_ALGORITHMS"
-request_name (request.GetMeasurements op) = codes "GET_MEASUREMENTS"
-request_name (request.PskExchange exchange) = codes "PSK_EXCHANGE"
-request_name (request.PskFinish verify) = codes "PSK_FINISH"
-request_name request.Heartbeat = codes "HEARTBEAT"
-request_name (request.KeyUpdate op tag) = codes "KEY_UPDATE"
-request_name request.EndSession = codes "END_SESSION"
-request_name (request.ChunkSend chunk) = codes "CHUNK_SEND"
-request_name (request.ChunkGet handle number) = codes "CHUNK_GET"
+abbrev pub request_name : RequestMessage → List ℕ
+request_name GetVersion = codes "GET_VERSION"
+request_name (GetCapabilities caps) = codes "GET_CAPABILITIES"
+request_name (NegotiateAlgorithms offer) = codes "NEGOTIATE_ALGORITHMS"
+request_name (GetMeasurements op) = codes "GET_MEASUREMENTS"
+request_name (PskExchange exchange) = codes "PSK_EXCHANGE"
+request_name (PskFinish verify) = codes "PSK_FINISH"
+request_name Heartbeat = codes "HEARTBEAT"
+request_name (KeyUpdate op tag) = codes "KEY_UPDATE"
+request_name EndSession = codes "END_SESSION"
+request_name (ChunkSend chunk) = codes "CHUNK_SEND"
+request_name (ChunkGet handle number) = codes "CHUNK_GET"
 
-abbrev pub response_name : Response → List ℕ
-response_name (response.Version entries) = codes "VERSION"
-response_name (response.Capabilities caps) = codes "CAPABILITIES"
-response_name (response.Algorithms reply) = codes "ALGORITHMS"
-response_name (response.Measurements measured) = codes "MEASUREMENTS"
-response_name (response.PskExchangeRsp exchange) = codes "PSK_EXCHANGE_RSP"
-response_name response.PskFinishRsp = codes "PSK_FINISH_RSP"
-response_name response.HeartbeatAck = codes "HEARTBEAT_ACK"
-response_name (response.KeyUpdateAck op tag) = codes "KEY_UPDATE_ACK"
-response_name response.EndSessionAck = codes "END_SESSION_ACK"
-response_name (response.ChunkSendAck early handle number answer) = codes "CHUNK_SEND_ACK"
-response_name (response.ChunkResponse chunk) = codes "CHUNK_RESPONSE"
-response_name (response.Error version code detail extended) = codes "ERROR"
+abbrev pub response_name : ResponseMessage → List ℕ
+response_name (Version entries) = codes "VERSION"
+response_name (Capabilities caps) = codes "CAPABILITIES"
+response_name (Algorithms reply) = codes "ALGORITHMS"
+response_name (Measurements measured) = codes "MEASUREMENTS"
+response_name (PskExchangeRsp exchange) = codes "PSK_EXCHANGE_RSP"
+response_name PskFinishRsp = codes "PSK_FINISH_RSP"
+response_name HeartbeatAck = codes "HEARTBEAT_ACK"
+response_name (KeyUpdateAck op tag) = codes "KEY_UPDATE_ACK"
+response_name EndSessionAck = codes "END_SESSION_ACK"
+response_name (ChunkSendAck early handle number answer) = codes "CHUNK_SEND_ACK"
+response_name (ChunkResponse chunk) = codes "CHUNK_RESPONSE"
+response_name (Error version code detail extended) = codes "ERROR"
 
 -- A message of this name and length.
 unfoldable pub message_text : (name : List ℕ) → (count : ℕ) → List ℕ

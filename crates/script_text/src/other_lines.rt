@@ -1,3 +1,4 @@
+ghost use Rattle.spdm_grammar.specs.Message.{request_message, response_message};
 ghost use Rattle.std.specs.Prelude.{◌≡◌, ◌≤◌, length};
 ghost use Rattle.script_text.specs.OtherLines.{cycle_text, conforms_text, seen_stage_word, seen_text, why_word, differs_text, request_name, response_name, message_text, part_word, malformed_text, summary_text};
 
@@ -89,7 +90,7 @@ pub fn line_differs(packet: u32, why: Why, out: &mut Line)
 
 // The name of a request.
 fn request_name(request: &Request<'_>) -> &'static [u8]
-    ensures name { result.now ≡ request_name request.now }
+    ensures name { result.now ≡ request_name (request_message request.now) }
     ensures short { length result.now ≤ 20 }
 {
     match request {
@@ -109,7 +110,7 @@ fn request_name(request: &Request<'_>) -> &'static [u8]
 
 // The name of a response.
 fn response_name(response: &Response<'_>) -> &'static [u8]
-    ensures name { result.now ≡ response_name response.now }
+    ensures name { result.now ≡ response_name (response_message response.now) }
     ensures short { length result.now ≤ 20 }
 {
     match response {
@@ -131,7 +132,7 @@ fn response_name(response: &Response<'_>) -> &'static [u8]
 /// A request of `count` bytes by its name.
 #[tactic(auto, unfolding(crate::specs::OtherLines::message_text))]
 pub fn line_request(request: &Request<'_>, count: usize, out: &mut Line)
-    ensures { out.new ≡ message_text (request_name request.now) count }
+    ensures { out.new ≡ message_text (request_name (request_message request.now)) count }
 {
     begin(request_name(request), out);
     push_number(count as u64, out);
@@ -141,7 +142,7 @@ pub fn line_request(request: &Request<'_>, count: usize, out: &mut Line)
 /// A response of `count` bytes by its name.
 #[tactic(auto, unfolding(crate::specs::OtherLines::message_text))]
 pub fn line_response(response: &Response<'_>, count: usize, out: &mut Line)
-    ensures { out.new ≡ message_text (response_name response.now) count }
+    ensures { out.new ≡ message_text (response_name (response_message response.now)) count }
 {
     begin(response_name(response), out);
     push_number(count as u64, out);
