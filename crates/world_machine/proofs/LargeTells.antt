@@ -56,7 +56,7 @@ not_gone : (r : RspSetup) (tag : ℕ) (sealed : List ℕ) (f : Free) (b : Bool) 
 not_gone r tag sealed f true kept phase e is = absurd (cc)
 not_gone r tag sealed f false kept phase e is = absurd (cc)
 
-adds_here : (r : RspSetup) (h : History) (ids : List ℕ) (tag : ℕ) (body : List ℕ) (e : Entry) → RecordLed r (with_dropped h ids) tag body (Adds e) → RecordLed r h tag body (Adds e)
+pub adds_here : (r : RspSetup) (h : History) (ids : List ℕ) (tag : ℕ) (body : List ℕ) (e : Entry) → RecordLed r (with_dropped h ids) tag body (Adds e) → RecordLed r h tag body (Adds e)
 unfolding on_record
 adds_here r h ids tag body e led = elim (session_stays (id_in_record (drop 1 body)) ids h) [
   | inl same ↦ record {
@@ -97,12 +97,12 @@ not_true true e = sym e
 not_true false e = refl
 
 -- No LargeResponse is an answer that goes whole.
-outcome_apart : (h : History) (o : Outcome) (f : Entry) → OutcomesAlike o (Adds f) → is_plain h o ≡ true → is_large f ≡ true → ⊥
+pub outcome_apart : (h : History) (o : Outcome) (f : Entry) → OutcomesAlike o (Adds f) → is_plain h o ≡ true → is_large f ≡ true → ⊥
 outcome_apart h (Same b) f alike plain large = alike
 outcome_apart h (Unopened b) f alike plain large = alike
 outcome_apart h (Adds e) f alike plain large = false≢true (sym (not_true _ (and_first _ _ plain)) ∙ (entries_erased e f alike).1 ∙ large)
 
-sealed_sent : (r : RspSetup) (h : History) (tag : ℕ) (sealed b : List ℕ) (f : Entry) → RecordForm r h tag sealed (Adds f) → clear_body b ≡ sent_by f → ⊥
+pub sealed_sent : (r : RspSetup) (h : History) (tag : ℕ) (sealed b : List ℕ) (f : Entry) → RecordForm r h tag sealed (Adds f) → clear_body b ≡ sent_by f → ⊥
 sealed_sent r h tag sealed b f (inl kept) same = let e = kept.1 in absurd (cc)
 sealed_sent r h tag sealed b f (inr (inl none)) same = let e = none.1 in absurd (cc)
 sealed_sent r h tag sealed b f (inr (inr added)) same =

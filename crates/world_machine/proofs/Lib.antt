@@ -32,5 +32,7 @@ pub mod EventsAlike
 pub mod FetchedRecords
 pub mod FetchedOutcomes
 pub mod FetchedSessions
+pub mod GetTells
+pub mod ChunksGiven
 pub mod Rest
 mod CaptureRows

@@ -68,7 +68,7 @@ record_alike r h tag body o q one two same =
 
 -- ---- Whole answers.
 
-unopened_alike : (o q : Outcome) (b c : List ℕ) → o ≡ Unopened b → q ≡ Unopened c → body_of o ≡ body_of q → OutcomesAlike o q
+pub unopened_alike : (o q : Outcome) (b c : List ℕ) → o ≡ Unopened b → q ≡ Unopened c → body_of o ≡ body_of q → OutcomesAlike o q
 unopened_alike o q b c is are same =
     let P : Outcome → Type 0 = λ x. OutcomesAlike x q in
     let Q : Outcome → Type 0 = λ x. OutcomesAlike (Unopened b) x in

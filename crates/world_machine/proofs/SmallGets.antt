@@ -114,7 +114,7 @@ not_or true e = refl
 not_or false e = sym e
 
 -- Chunks are in common where CHUNK_GET is not refused.
-get_chunks : (r : RspSetup) (p : Place) (m : List ℕ) (f : Free) (handle number : ℕ) → refusal r p m f ≡ None → request_at p m ≡ Some (ChunkGet handle number) → (place_terms p).common.chunk ≡ true
+pub get_chunks : (r : RspSetup) (p : Place) (m : List ℕ) (f : Free) (handle number : ℕ) → refusal r p m f ≡ None → request_at p m ≡ Some (ChunkGet handle number) → (place_terms p).common.chunk ≡ true
 get_chunks r p m f handle number none is =
     let code : CHUNK_GET ≡ code_of m = asked-code p m (ChunkGet handle number) is in
     let lacks : lacks_flag (place_terms p) CHUNK_GET ≡ false = ap (lacks_flag (place_terms p)) code ∙ contents_shown r p m f none 0 in
@@ -137,7 +137,7 @@ get_small r p m f handle number none is round =
     and_false false = refl
 
 -- CHUNK_GET does not come by chunks.
-not_carried : (r : RspSetup) (p : Place) (text : List ℕ) (f : Free) (q : RequestMessage) → refusal r (inside p) text f ≡ None → request_at (inside p) text ≡ Some q → (code_for q == CHUNK_GET) ≡ true → ⊥
+pub not_carried : (r : RspSetup) (p : Place) (text : List ℕ) (f : Free) (q : RequestMessage) → refusal r (inside p) text f ≡ None → request_at (inside p) text ≡ Some q → (code_for q == CHUNK_GET) ≡ true → ⊥
 not_carried r p text f q none is code =
     let at : CHUNK_GET ≡ code_of text = sym (same (code_for q) CHUNK_GET code) ∙ asked-code (inside p) text q is in
     false≢true (sym (form_shown r (inside p) text f none 5) ∙ ap (is_misplaced InChunks) (sym at))
@@ -187,7 +187,7 @@ session_whole_by r s inner f None = by_type (slice_index inner 0 == 5)
     by_type true = turn_of_whole r (session_place s) (drop 1 inner) f refl
     by_type false = λ code. absurd (false≢true code)
 
-session_whole : (r : RspSetup) (s : Events) (inner : List ℕ) (f : Free) → IsWhole (session_turn r s inner f).effect
+pub session_whole : (r : RspSetup) (s : Events) (inner : List ℕ) (f : Free) → IsWhole (session_turn r s inner f).effect
 unfolding session_turn
 session_whole r s inner f = session_whole_by r s inner f (inner_refusal (stage_of s) inner)
 
