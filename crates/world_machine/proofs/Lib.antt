@@ -34,5 +34,9 @@ pub mod FetchedOutcomes
 pub mod FetchedSessions
 pub mod GetTells
 pub mod ChunksGiven
+pub mod RecordAdds
+pub mod PlacesServed
+pub mod FinishSmall
+pub mod FetchedAnswers
 pub mod Rest
 mod CaptureRows
