@@ -80,7 +80,7 @@ large_idle t ts not_taken = ap (λ (b : Bool). cond (not b || takes CHUNK_GET t)
 given_idle : (t : Turn) (ts : List Turn) → is_taken t ≡ false → given_of (t ∷ ts) ≡ given_of ts
 given_idle t ts not_taken = ap (λ (b : Bool). cond (not b) (given_of ts) (cond (takes CHUNK_GET t) (given_of ts + 1) 0)) not_taken
 
-large_other : (t : Turn) (ts : List Turn) → is_taken t ≡ true → takes CHUNK_GET t ≡ false → large_of (t ∷ ts) ≡ large_in t.effect
+pub large_other : (t : Turn) (ts : List Turn) → is_taken t ≡ true → takes CHUNK_GET t ≡ false → large_of (t ∷ ts) ≡ large_in t.effect
 large_other t ts taken other =
     ap (λ (b : Bool). cond (not b || takes CHUNK_GET t) (large_of ts) (large_in t.effect)) taken ∙ ap (λ (b : Bool). cond b (large_of ts) (large_in t.effect)) other
 

@@ -79,9 +79,21 @@ clear_shows r h g tag body f o id reads is = elim (clear_form r g tag (drop 1 bo
   | inr adds ↦ ap (shows r h body id) adds ∙ not_exchange _ _ (λ takes_it. reads.no_exchange (turn_code r (clear_place g) (drop 1 body) f PSK_EXCHANGE refl reads.no_chunk takes_it))
 ]
 
-repeated : (r : RspSetup) (h : History) (w ids : List ℕ) (tag : ℕ) (body : List ℕ) (o : Outcome) → is_repeat (kept_of h) tag (drop 1 body) ≡ true → ClearLed r (with_dropped (with_large w h) ids) tag body o
+pub repeated : (r : RspSetup) (h : History) (w ids : List ℕ) (tag : ℕ) (body : List ℕ) (o : Outcome) → is_repeat (kept_of h) tag (drop 1 body) ≡ true → ClearLed r (with_dropped (with_large w h) ids) tag body o
     → o ≡ Same (clear_body (kept_reply (kept_of h)))
 repeated r h w ids tag body o again led = sym led.leads ∙ repeat_same r h w ids tag (drop 1 body) led.free again
+
+-- Nothing that is shown was dropped.
+pub always_none : (r : RspSetup) (h : History) (ids : List ℕ) (tag : ℕ) (body : List ℕ) (o : Outcome) → (slice_index body 0 == 5) ≡ true → ReadsAlways (drop 1 body) → MayLeadAfter r h ids tag body o → AreShown r h body o ids → ids ≡ []
+always_none r h ids tag body o type reads may shown =
+    let a = led_clear r (with_dropped h ids) tag body o type may.1 in
+    none_shown r h body o ids (λ id. clear_shows r h (with_dropped h ids) tag body a.free o id reads a.leads) shown
+
+pub again_none : (r : RspSetup) (h : History) (w ids : List ℕ) (tag : ℕ) (body : List ℕ) (o : Outcome) → (slice_index body 0 == 5) ≡ true → is_repeat (kept_of h) tag (drop 1 body) ≡ true
+    → MayLeadAfter r (with_large w h) ids tag body o → AreShown r (with_large w h) body o ids → ids ≡ []
+again_none r h w ids tag body o type again may shown =
+    let a = led_clear r (with_dropped (with_large w h) ids) tag body o type may.1 in
+    none_shown r (with_large w h) body o ids (λ id. ap (shows r (with_large w h) body id) (repeated r h w ids tag body o again a)) shown
 
 -- ---- In a session.
 
@@ -142,14 +154,12 @@ module _ (r : RspSetup) (h : History) (w v : List ℕ) (tag : ℕ) (body : List 
   plain_fetched ids others o q (Always type reads) one two shown show same =
       let a = led_clear r (with_dropped (with_large w h) ids) tag body o type one.1 in
       let b = led_clear r (with_dropped (with_large v h) others) tag body q type two.1 in
-      (none_shown r (with_large w h) body o ids (λ id. clear_shows r (with_large w h) (with_dropped (with_large w h) ids) tag body a.free o id reads a.leads) shown
-      ∙ sym (none_shown r (with_large v h) body q others (λ id. clear_shows r (with_large v h) (with_dropped (with_large v h) others) tag body b.free q id reads b.leads) show),
+      (always_none r (with_large w h) ids tag body o type reads one shown ∙ sym (always_none r (with_large v h) others tag body q type reads two show),
       clear_told ids others o q reads a b same)
   plain_fetched ids others o q (Again type again) one two shown show same =
       let a = led_clear r (with_dropped (with_large w h) ids) tag body o type one.1 in
       let b = led_clear r (with_dropped (with_large v h) others) tag body q type two.1 in
-      (none_shown r (with_large w h) body o ids (λ id. ap (shows r (with_large w h) body id) (repeated r h w ids tag body o again a)) shown
-      ∙ sym (none_shown r (with_large v h) body q others (λ id. ap (shows r (with_large v h) body id) (repeated r h v others tag body q again b)) show),
+      (again_none r h w ids tag body o type again one shown ∙ sym (again_none r h v others tag body q type again two show),
       both_repeated ids others o q again a b)
   plain_fetched ids others o q (Within type within) one two shown show same =
       record_plain ids others o q within one.0 two.0 (led_record r (with_dropped (with_large w h) ids) tag body o type one.1) (led_record r (with_dropped (with_large v h) others) tag body q type two.1) shown show same

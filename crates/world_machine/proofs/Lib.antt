@@ -38,5 +38,6 @@ pub mod RecordAdds
 pub mod PlacesServed
 pub mod FinishSmall
 pub mod FetchedAnswers
+pub mod FetchStates
 pub mod Rest
 mod CaptureRows

@@ -146,7 +146,7 @@ module _ (r : RspSetup) (h k : History) (w : List ℕ) (tag : ℕ) (sealed reply
 
 -- ---- By the type of the body.
 
-place_type : (h : History) (body : List ℕ) (b : Bool) → (slice_index body 0 == 5) ≡ b → place_for h body ≡ cond b (clear_place h) (session_place (session_of (id_in_record (drop 1 body)) h))
+pub place_type : (h : History) (body : List ℕ) (b : Bool) → (slice_index body 0 == 5) ≡ b → place_for h body ≡ cond b (clear_place h) (session_place (session_of (id_in_record (drop 1 body)) h))
 place_type h body b is = ap (λ (x : Bool). cond x (clear_place h) (session_place (session_of (id_in_record (drop 1 body)) h))) is
 
 pub clear_served : (r : RspSetup) (h k : History) (w : List ℕ) (tag : ℕ) (body : List ℕ) (e : Entry) → (slice_index body 0 == 5) ≡ true → ClearLed r h tag body (Adds e) → Chunked (place_for h body) w k → Served h k w body e
