@@ -39,5 +39,6 @@ pub mod PlacesServed
 pub mod FinishSmall
 pub mod FetchedAnswers
 pub mod FetchStates
+pub mod FetchedTold
 pub mod Rest
 mod CaptureRows

@@ -77,7 +77,7 @@ pub record Told (next other : History) (fetching fetches : Option (List ℕ)) : 
   pub history : next ≡ other
   pub fetched : FetchesAlike fetching fetches
 
-into_fetched : (a b x y : Option (List ℕ)) → a ≡ x → b ≡ y → FetchesAlike x y → FetchesAlike a b
+pub into_fetched : (a b x y : Option (List ℕ)) → a ≡ x → b ≡ y → FetchesAlike x y → FetchesAlike a b
 into_fetched a b x y is are alike =
     let P : Option (List ℕ) → Type 0 = λ o. FetchesAlike o b in
     let Q : Option (List ℕ) → Type 0 = λ o. FetchesAlike x o in
@@ -131,20 +131,11 @@ none_fetched : (o p : Option (List ℕ)) → FetchesAlike o p → o ≡ None →
 none_fetched _ _ NoneFetched none = refl
 none_fetched _ _ (BothFetched w v) none = absurd (none-some w (sym none))
 
-pub replied : (w : Configuration) (d e : Dialogue) (tag : ℕ) (answer : List ℕ) (next other : Dialogue) → Alike d e → d.fetching ≡ None → GetsAreSmall (towards w.responder (known_of d.setup)) d.responder
-    → Replies w d tag answer next → Replies w e tag answer other → Alike next other
-replied w d e tag answer next other a none gets c k =
+-- Where the answer is told, dialogues stay alike.
+pub replied_by : (w : Configuration) (d e : Dialogue) (tag : ℕ) (answer : List ℕ) (next other : Dialogue) (a : Alike d e) (c : Replies w d tag answer next) (k : Replies w e tag answer other)
+    → c.0 ≡ k.0 → Told c.4.0 k.4.0 c.4.1 k.4.1 → Alike next other
+replied_by w d e tag answer next other a c k one told =
     let rd : Round = c.0 in
-    let one : rd ≡ k.0 = same_Some rd k.0 (sym c.1 ∙ a.round ∙ k.1) in
-    let r : RspSetup = towards w.responder (known_of d.setup) in
-    let F : Option (List ℕ) → Type 0 = λ o. Answers r (dial d.setup d.requester d.responder d.round d.sending o) rd answer c.4.0 c.4.1 in
-    let mine : Answers r (dial d.setup d.requester d.responder d.round d.sending None) rd answer c.4.0 c.4.1 = subst F none c.4.2 in
-    let S : ReqSetup → Type 0 = λ q. Answers (towards w.responder (known_of q)) (dial e.setup e.requester e.responder e.round e.sending e.fetching) k.0 answer k.4.0 k.4.1 in
-    let H : History → Type 0 = λ h. Answers r (dial e.setup e.requester h e.round e.sending e.fetching) k.0 answer k.4.0 k.4.1 in
-    let G : Option (List ℕ) → Type 0 = λ o. Answers r (dial e.setup e.requester d.responder e.round e.sending o) k.0 answer k.4.0 k.4.1 in
-    let R : Round → Type 0 = λ x. Answers r (dial e.setup e.requester d.responder e.round e.sending None) x answer k.4.0 k.4.1 in
-    let yours = subst R (sym one) (subst G (none_fetched d.fetching e.fetching a.fetches none) (subst H (sym a.responder) (subst S (sym a.setup) k.4.2))) in
-    let told = answers_told r d.responder d.setup e.setup d.requester e.requester d.round e.round d.sending e.sending rd answer c.4.0 k.4.0 c.4.1 k.4.1 gets mine yours in
     let T : Option Round → Type 0 = λ o. Hears (dial d.setup d.requester d.responder o d.sending d.fetching) tag answer c.4.3.0 in
     let U : ReqSetup → Type 0 = λ q. Hears (dial q e.requester e.responder e.round e.sending e.fetching) tag answer k.4.3.0 in
     let V : Option Round → Type 0 = λ o. Hears (dial d.setup e.requester e.responder o e.sending e.fetching) tag answer k.4.3.0 in
@@ -163,6 +154,30 @@ replied w d e tag answer next other a none gets c k =
     let P : Dialogue → Type 0 = λ x. Alike x other in
     let Q : Dialogue → Type 0 = λ x. Alike (record d { requester = c.4.3.0; responder = c.4.0; fetching = while_fetched c.4.3.0 c.4.1; round = Some after }) x in
     subst P (sym c.4.3.2) (subst Q (sym k.4.3.2) end)
+
+-- The answer in the other dialogue, as one in this dialogue's round and history.
+pub answer_moved : (w : Configuration) (d e : Dialogue) (rd other : Round) (answer : List ℕ) (next : History) (fetching o : Option (List ℕ)) → Alike d e → rd ≡ other → e.fetching ≡ o
+    → Answers (towards w.responder (known_of e.setup)) e other answer next fetching
+    → Answers (towards w.responder (known_of d.setup)) (dial e.setup e.requester d.responder e.round e.sending o) rd answer next fetching
+answer_moved w d e rd other answer next fetching o a one is answers =
+    let S : ReqSetup → Type 0 = λ q. Answers (towards w.responder (known_of q)) (dial e.setup e.requester e.responder e.round e.sending e.fetching) other answer next fetching in
+    let H : History → Type 0 = λ h. Answers (towards w.responder (known_of d.setup)) (dial e.setup e.requester h e.round e.sending e.fetching) other answer next fetching in
+    let G : Option (List ℕ) → Type 0 = λ x. Answers (towards w.responder (known_of d.setup)) (dial e.setup e.requester d.responder e.round e.sending x) other answer next fetching in
+    let R : Round → Type 0 = λ x. Answers (towards w.responder (known_of d.setup)) (dial e.setup e.requester d.responder e.round e.sending o) x answer next fetching in
+    subst R (sym one) (subst G is (subst H (sym a.responder) (subst S (sym a.setup) answers)))
+
+pub same_rounds : (w : Configuration) (d e : Dialogue) (tag : ℕ) (answer : List ℕ) (next other : Dialogue) → Alike d e → (c : Replies w d tag answer next) (k : Replies w e tag answer other) → c.0 ≡ k.0
+same_rounds w d e tag answer next other a c k = same_Some c.0 k.0 (sym c.1 ∙ a.round ∙ k.1)
+
+pub replied : (w : Configuration) (d e : Dialogue) (tag : ℕ) (answer : List ℕ) (next other : Dialogue) → Alike d e → d.fetching ≡ None → GetsAreSmall (towards w.responder (known_of d.setup)) d.responder
+    → Replies w d tag answer next → Replies w e tag answer other → Alike next other
+replied w d e tag answer next other a none gets c k =
+    let one = same_rounds w d e tag answer next other a c k in
+    let r : RspSetup = towards w.responder (known_of d.setup) in
+    let F : Option (List ℕ) → Type 0 = λ o. Answers r (dial d.setup d.requester d.responder d.round d.sending o) c.0 answer c.4.0 c.4.1 in
+    let yours = answer_moved w d e c.0 k.0 answer k.4.0 k.4.1 None a one (none_fetched d.fetching e.fetching a.fetches none) k.4.2 in
+    replied_by w d e tag answer next other a c k one
+    (answers_told r d.responder d.setup e.setup d.requester e.requester d.round e.round d.sending e.sending c.0 answer c.4.0 k.4.0 c.4.1 k.4.1 gets (subst F none c.4.2) yours)
 
 pub replies_alike : (w : Configuration) (d e : Dialogue) (g : Gathered) (next other : Dialogue) → Alike d e → d.fetching ≡ None → GetsAreSmall (towards w.responder (known_of d.setup)) d.responder
     → RepliesBy w d g next → RepliesBy w e g other → Alike next other
