@@ -40,5 +40,6 @@ pub mod FinishSmall
 pub mod FetchedAnswers
 pub mod FetchStates
 pub mod FetchedTold
+pub mod AskersAim
 pub mod Rest
 mod CaptureRows
