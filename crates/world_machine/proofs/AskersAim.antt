@@ -311,14 +311,20 @@ pub heard_next : (q : ReqSetup) (h : History) (f : Free) (tag : ℕ) (answer bod
     → (s : Sent) × (outstanding h ≡ Some s) × AreNext (entry ∷ h) body s.aim (sent_in entry)
 heard_next q h f tag answer body entry asker adds = elim (heard q h false tag answer f no_draw entry adds) [
   | inl taken ↦
-      let type = clear_type h body taken.sent.aim taken.asked taken.asks (asker taken.sent taken.waits).here in
-      (taken.sent, taken.waits, subst (λ (e : Entry). AreNext (e ∷ h) body taken.sent.aim (sent_in e)) (sym taken.is)
-      (clear_next q h (TookClear tag (drop 1 answer) taken.led no_draw ∷ h) f body taken.sent.aim (drop 1 answer) taken.asked taken.led taken.asks type (clear_leads q h f taken.sent.aim (drop 1 answer) taken.asked taken.led taken.asks taken.leads)))
+      let type = clear_type h body taken.sent.aim taken.asked taken.asks (asker taken.sent taken.waits).here in (
+        taken.sent,
+        taken.waits,
+        subst (λ (e : Entry). AreNext (e ∷ h) body taken.sent.aim (sent_in e)) (sym taken.is)
+            (clear_next q h (TookClear tag (drop 1 answer) taken.led no_draw ∷ h) f body taken.sent.aim (drop 1 answer) taken.asked taken.led taken.asks type (clear_leads q h f taken.sent.aim (drop 1 answer) taken.asked taken.led taken.asks taken.leads)),
+      )
   | inr opened ↦
       let o = opened.1 in
-      let came : Came = came_to q h o.id o.ask (drop 1 answer) in
-      (o.sent, o.waits, subst (λ (e : Entry). AreNext (e ∷ h) body o.sent.aim (sent_in e)) (sym o.is)
-      (record_next q h f body tag o.id (drop 1 answer) came.inner o.ask _ o.sent.aim o.aims (subst (IsAt h body) o.aims (asker o.sent o.waits).here) (record_leads q h f came o.ask)))
+      let came : Came = came_to q h o.id o.ask (drop 1 answer) in (
+        o.sent,
+        o.waits,
+        subst (λ (e : Entry). AreNext (e ∷ h) body o.sent.aim (sent_in e)) (sym o.is)
+            (record_next q h f body tag o.id (drop 1 answer) came.inner o.ask _ o.sent.aim o.aims (subst (IsAt h body) o.aims (asker o.sent o.waits).here) (record_leads q h f came o.ask)),
+      )
 ]
 
 -- ---- All that an answer leads to.
@@ -361,7 +367,7 @@ NoneFetched h = is_fetching (outstanding h) ≡ true → ⊥
 version_waits : (h : History) (s : Sent) → outstanding h ≡ Some s → s.aim ≡ Plain GetVersion → NoneFetched h
 version_waits h s waits is gets = false≢true (sym (ap is_fetching waits ∙ ap is_for_chunk is) ∙ gets)
 
-some_fetched : (o : Option Sent) → is_fetching o ≡ true → (s : Sent) × (o ≡ Some s) × (is_for_chunk s.aim ≡ true)
+pub some_fetched : (o : Option Sent) → is_fetching o ≡ true → (s : Sent) × (o ≡ Some s) × (is_for_chunk s.aim ≡ true)
 some_fetched None gets = absurd (false≢true gets)
 some_fetched (Some s) gets = (s, refl, gets)
 

@@ -153,14 +153,16 @@ module _ (r : RspSetup) (h : History) (w v : List ℕ) (tag : ℕ) (body : List 
       → AreShown r (with_large w h) body o ids → AreShown r (with_large v h) body q others → body_of o ≡ body_of q → (ids ≡ others) × OutcomesAlike o q
   plain_fetched ids others o q (Always type reads) one two shown show same =
       let a = led_clear r (with_dropped (with_large w h) ids) tag body o type one.1 in
-      let b = led_clear r (with_dropped (with_large v h) others) tag body q type two.1 in
-      (always_none r (with_large w h) ids tag body o type reads one shown ∙ sym (always_none r (with_large v h) others tag body q type reads two show),
-      clear_told ids others o q reads a b same)
+      let b = led_clear r (with_dropped (with_large v h) others) tag body q type two.1 in (
+        always_none r (with_large w h) ids tag body o type reads one shown ∙ sym (always_none r (with_large v h) others tag body q type reads two show),
+        clear_told ids others o q reads a b same,
+      )
   plain_fetched ids others o q (Again type again) one two shown show same =
       let a = led_clear r (with_dropped (with_large w h) ids) tag body o type one.1 in
-      let b = led_clear r (with_dropped (with_large v h) others) tag body q type two.1 in
-      (again_none r h w ids tag body o type again one shown ∙ sym (again_none r h v others tag body q type again two show),
-      both_repeated ids others o q again a b)
+      let b = led_clear r (with_dropped (with_large v h) others) tag body q type two.1 in (
+        again_none r h w ids tag body o type again one shown ∙ sym (again_none r h v others tag body q type again two show),
+        both_repeated ids others o q again a b,
+      )
   plain_fetched ids others o q (Within type within) one two shown show same =
       record_plain ids others o q within one.0 two.0 (led_record r (with_dropped (with_large w h) ids) tag body o type one.1) (led_record r (with_dropped (with_large v h) others) tag body q type two.1) shown show same
 

@@ -41,5 +41,6 @@ pub mod FetchedAnswers
 pub mod FetchStates
 pub mod FetchedTold
 pub mod AskersAim
-pub mod Rest
+pub mod Fetching
+pub mod WalksAlike
 mod CaptureRows

@@ -178,12 +178,3 @@ replied w d e tag answer next other a none gets c k =
     let yours = answer_moved w d e c.0 k.0 answer k.4.0 k.4.1 None a one (none_fetched d.fetching e.fetching a.fetches none) k.4.2 in
     replied_by w d e tag answer next other a c k one
     (answers_told r d.responder d.setup e.setup d.requester e.requester d.round e.round d.sending e.sending c.0 answer c.4.0 k.4.0 c.4.1 k.4.1 gets (subst F none c.4.2) yours)
-
-pub replies_alike : (w : Configuration) (d e : Dialogue) (g : Gathered) (next other : Dialogue) → Alike d e → d.fetching ≡ None → GetsAreSmall (towards w.responder (known_of d.setup)) d.responder
-    → RepliesBy w d g next → RepliesBy w e g other → Alike next other
-replies_alike w d e (Whole route body) next other a none gets c k = replied w d e route.tag body next other a none gets c.2 k.2
-replies_alike w d e More next other a none gets c k =
-    let P : Dialogue → Type 0 = λ x. Alike x other in
-    let Q : Dialogue → Type 0 = λ x. Alike d x in
-    subst P (sym c) (subst Q (sym k) a)
-replies_alike w d e (Dropped cause) next other a none gets c k = absurd c
