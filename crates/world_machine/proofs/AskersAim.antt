@@ -1,16 +1,15 @@
 -- What the outstanding message of a requester asks for stands in the capture: it is of the type of the last round's
 -- request, and where it asks for a large answer of a session, a record of that session.
-use Rattle.std.proofs.Common.{◌≡◌, ◌+◌, ◌==◌, ◌⊎◌, ℕ, List, [], ◌∷◌, refl, sym, ap, ◌∙◌, subst, drop, Bool, true, false, Option, Some, None, cond, inl, inr, eq-eqb}
+use Rattle.std.proofs.Common.{◌≡◌, ◌+◌, ◌==◌, ℕ, List, [], ◌∷◌, refl, sym, ap, ◌∙◌, subst, drop, Bool, true, false, Option, Some, None, cond, inl, inr, eq-eqb}
 use Rattle.std.specs.Prelude.{slice_index}
 use Rattle.std.proofs.lemmas.Bool.{false≢true}
 use Rattle.std.proofs.lemmas.Option.{none-some, same_Some}
 use Rattle.spdm_grammar.specs.Message.{RequestMessage, ChunkMessage}
 use Rattle.spdm_grammar.specs.Message.RequestMessage.{GetVersion, GetMeasurements, NegotiateAlgorithms, ChunkGet}
 use Rattle.spdm_grammar.specs.Requests.{canonical_request}
-use Rattle.spdm_machine.specs.Bodies.{clear_body, record_body}
-use Rattle.spdm_machine.specs.Keys.{Draw, sealed_of}
+use Rattle.spdm_machine.specs.Bodies.{clear_body}
+use Rattle.spdm_machine.specs.Keys.{sealed_of}
 use Rattle.secured_record.specs.Format.{record_of}
-use Rattle.negotiate.specs.declared.shared.Common.{Common}
 use Rattle.requester_machine.specs.Answers.{may_be_large}
 use Rattle.requester_machine.specs.Asking.{Outcome, asks}
 use Rattle.requester_machine.specs.Asking.Outcome.{Fails, Ignores, Warns, Resends, Adds}
@@ -20,11 +19,10 @@ use Rattle.requester_machine.specs.Hearing.{hears, came_to}
 use Rattle.requester_machine.specs.History.{History, Entry, Effect, Led, sent_in, outstanding, begins_large, next_handle}
 use Rattle.requester_machine.specs.History.Effect.{Nothing}
 use Rattle.requester_machine.specs.History.Entry.{Told, TookClear, TookRecord}
-use Rattle.requester_machine.specs.InnerMessages.{Came, with_record}
-use Rattle.requester_machine.specs.May.{MayHear}
+use Rattle.requester_machine.specs.InnerMessages.{Came}
 use Rattle.requester_machine.specs.Message.{Command, Ask, Aim, Sent, body_of, asked_in}
 use Rattle.requester_machine.specs.Message.Aim.{Plain, ByChunks, ForChunk, InSession}
-use Rattle.requester_machine.specs.Message.Ask.{AskFinish, AskData, AskBeat, AskUpdate, AskVerify, AskMeasure, AskChunk, AskEnd}
+use Rattle.requester_machine.specs.Message.Ask.{AskMeasure, AskChunk}
 use Rattle.requester_machine.specs.Message.Command.{Connect, Open, Send, Beat, Update, Measure, End, Retry}
 use Rattle.requester_machine.specs.Records.{sealed_next}
 use Rattle.requester_machine.specs.Sending.{plain_sent, piece_sent, record_sent}
@@ -36,16 +34,17 @@ use Rattle.requester_machine.proofs.ClearLeads.{ClearLeads, clear_leads}
 use Rattle.requester_machine.proofs.ClearLeads.ClearLeads.{ByRefusal, ByLarge, BySend, ByGet, ByStop, ByVersion, ByCaps, ByChoice, ByMeasured, ByExchange}
 use Rattle.requester_machine.proofs.Entries.{asked}
 use Rattle.requester_machine.proofs.Heard.{heard}
-use Rattle.requester_machine.proofs.RecordLeads.{RecordLeads, Follows, record_leads}
+use Rattle.requester_machine.proofs.RecordLeads.{RecordLeads, record_leads}
 use Rattle.requester_machine.proofs.RecordLeads.Follows.{ToAsk, ToWhole}
 use Rattle.requester_machine.proofs.RecordLeads.RecordLeads.{ByEnd, ByAnswer, ByUpdate, ByFirst, ByChunk}
 use Rattle.responder_machine.specs.Session.{id_in_record}
 use Rattle.world_machine.specs.CapturedAnswers.{Hears, HearsWhile}
 use Rattle.world_machine.specs.CapturedRequests.{Sends, Tells, is_later, with_next, without_owed}
 use Rattle.world_machine.specs.LargeAnswers.{is_for_chunk, is_fetching}
-use Rattle.world_machine.specs.LargeRequests.{first_piece, with_ack, with_ack_to, with_next_piece}
+use Rattle.world_machine.specs.LargeRequests.{first_piece, with_ack_to, with_next_piece}
 use Rattle.world_machine.specs.Rounds.{Dialogue, Round, no_draw}
 use Rattle.world_machine.proofs.AskTells.{sent_by_kind}
+use Rattle.world_machine.proofs.HeardNext.{none_next, some_next, either_next}
 
 -- ---- What a body is.
 
@@ -211,22 +210,12 @@ clear_type h body (ForChunk asked handle number before) a asks at = at
 clear_type h body (InSession id ask) a asks at = absurd (none-some a asks)
 
 -- What follows a message: it is asked for, and a chunk is not asked for behind GET_VERSION.
-pub record IsNext (h : History) (body : List ℕ) (aim : Aim) (s : Sent) : Type 0 where
+pub record IsLedTo (h : History) (body : List ℕ) (aim : Aim) (s : Sent) : Type 0 where
   pub asked : IsAsked h body s
   pub fetches : is_for_chunk s.aim ≡ true → aim ≡ Plain GetVersion → ⊥
 
-abbrev AreNext : History → List ℕ → Aim → Option Sent → Type 0
-AreNext h body aim o = (s : Sent) → o ≡ Some s → IsNext h body aim s
-
-none_next : (h : History) (body : List ℕ) (aim : Aim) (o : Option Sent) → o ≡ None → AreNext h body aim o
-none_next h body aim o none s is = absurd (none-some s (sym none ∙ is))
-
-some_next : (h : History) (body : List ℕ) (aim : Aim) (o : Option Sent) (x : Sent) → o ≡ Some x → IsNext h body aim x → AreNext h body aim o
-some_next h body aim o x one next s is = subst (IsNext h body aim) (same_Some x s (sym one ∙ is)) next
-
-either_next : (h : History) (body : List ℕ) (aim : Aim) (b : Bool) (x y : Sent) → IsNext h body aim x → IsNext h body aim y → IsNext h body aim (cond b x y)
-either_next h body aim true x y p q = p
-either_next h body aim false x y p q = q
+abbrev AreLedTo : History → List ℕ → Aim → Option Sent → Type 0
+AreLedTo h body aim o = (s : Sent) → o ≡ Some s → IsLedTo h body aim s
 
 version_small : (aim : Aim) (a : RequestMessage) → asked_in aim ≡ Some a → may_be_large a ≡ true → aim ≡ Plain GetVersion → ⊥
 version_small aim a asks large is =
@@ -236,26 +225,26 @@ version_small aim a asks large is =
 chunk_apart : (aim : Aim) (a : RequestMessage) (handle number : ℕ) (before : List ChunkMessage) → aim ≡ ForChunk a handle number before → aim ≡ Plain GetVersion → ⊥
 chunk_apart aim a handle number before is version = absurd (let x = sym is ∙ version in cc)
 
-clear_next : (q : ReqSetup) (h g : History) (f : Free) (body : List ℕ) (aim : Aim) (m : List ℕ) (a : RequestMessage) (led : Led) → asked_in aim ≡ Some a → (slice_index body 0 == 5) ≡ true → ClearLeads q h f aim m a led → AreNext g body aim led.next
-clear_next q h g f body aim m a led asks type (ByRefusal code is) = none_next g body aim led.next (ap (λ (l : Led). l.next) is)
+clear_next : (q : ReqSetup) (h g : History) (f : Free) (body : List ℕ) (aim : Aim) (m : List ℕ) (a : RequestMessage) (led : Led) → asked_in aim ≡ Some a → (slice_index body 0 == 5) ≡ true → ClearLeads q h f aim m a led → AreLedTo g body aim led.next
+clear_next q h g f body aim m a led asks type (ByRefusal code is) = none_next (IsLedTo g body aim) led.next (ap (λ (l : Led). l.next) is)
 clear_next q h g f body aim m a led asks type (ByLarge handle may is) =
-    some_next g body aim led.next _ (ap (λ (l : Led). l.next) is) (record { asked = record { own = refl; here = type; spelled = refl }; fetches = λ gets. version_small aim a asks may })
+    some_next (IsLedTo g body aim) led.next _ (ap (λ (l : Led). l.next) is) (record { asked = record { own = refl; here = type; spelled = refl }; fetches = λ gets. version_small aim a asks may })
 clear_next q h g f body aim m a led asks type (BySend handle number aims last is) =
-    some_next g body aim led.next _ (ap (λ (l : Led). l.next) is) (record { asked = record { own = refl; here = type; spelled = tt }; fetches = λ gets. absurd (false≢true gets) })
+    some_next (IsLedTo g body aim) led.next _ (ap (λ (l : Led). l.next) is) (record { asked = record { own = refl; here = type; spelled = tt }; fetches = λ gets. absurd (false≢true gets) })
 clear_next q h g f body aim m a led asks type (ByGet handle number before c aims none last is) =
-    some_next g body aim led.next _ (ap (λ (l : Led). l.next) is) (record { asked = record { own = refl; here = type; spelled = refl }; fetches = λ gets. chunk_apart aim a handle number before aims })
-clear_next q h g f body aim m a led asks type (ByStop why may is) = none_next g body aim led.next (ap (λ (l : Led). l.next) is)
+    some_next (IsLedTo g body aim) led.next _ (ap (λ (l : Led). l.next) is) (record { asked = record { own = refl; here = type; spelled = refl }; fetches = λ gets. chunk_apart aim a handle number before aims })
+clear_next q h g f body aim m a led asks type (ByStop why may is) = none_next (IsLedTo g body aim) led.next (ap (λ (l : Led). l.next) is)
 clear_next q h g f body aim m a led asks type (ByVersion answer was is) =
-    some_next g body aim led.next _ (ap (λ (l : Led). l.next) is) (record { asked = record { own = refl; here = type; spelled = tt }; fetches = λ gets. absurd (false≢true gets) })
+    some_next (IsLedTo g body aim) led.next _ (ap (λ (l : Led). l.next) is) (record { asked = record { own = refl; here = type; spelled = tt }; fetches = λ gets. absurd (false≢true gets) })
 clear_next q h g f body aim m a led asks type (ByCaps caps theirs answer common offer was read settled offers short is) =
-    some_next g body aim led.next _ (ap (λ (l : Led). l.next) is)
-    (either_next g body aim _ (piece_sent common h (NegotiateAlgorithms offer) (next_handle h) 0) (plain_sent h (NegotiateAlgorithms offer))
+    some_next (IsLedTo g body aim) led.next _ (ap (λ (l : Led). l.next) is)
+    (either_next (IsLedTo g body aim) _ (piece_sent common h (NegotiateAlgorithms offer) (next_handle h) 0) (plain_sent h (NegotiateAlgorithms offer))
     (record { asked = record { own = refl; here = type; spelled = tt }; fetches = λ gets. absurd (false≢true gets) })
     (record { asked = record { own = refl; here = type; spelled = tt }; fetches = λ gets. absurd (false≢true gets) }))
-clear_next q h g f body aim m a led asks type (ByChoice offer answer was is) = none_next g body aim led.next (ap (λ (l : Led). l.next) is)
-clear_next q h g f body aim m a led asks type (ByMeasured op answer finish was is) = none_next g body aim led.next (ap (λ (l : Led). l.next) is)
+clear_next q h g f body aim m a led asks type (ByChoice offer answer was is) = none_next (IsLedTo g body aim) led.next (ap (λ (l : Led). l.next) is)
+clear_next q h g f body aim m a led asks type (ByMeasured op answer finish was is) = none_next (IsLedTo g body aim) led.next (ap (λ (l : Led). l.next) is)
 clear_next q h g f body aim m a led asks type (ByExchange exchange answer rsp was read right is) =
-    some_next g body aim led.next _ (ap (λ (l : Led). l.next) is) (record { asked = record { own = tt; here = tt; spelled = tt }; fetches = λ gets. absurd (false≢true gets) })
+    some_next (IsLedTo g body aim) led.next _ (ap (λ (l : Led). l.next) is) (record { asked = record { own = tt; here = tt; spelled = tt }; fetches = λ gets. absurd (false≢true gets) })
 
 session_apart : (aim : Aim) (id : ℕ) (ask : Ask) → aim ≡ InSession id ask → aim ≡ Plain GetVersion → ⊥
 session_apart aim id ask is version = absurd (let x = sym is ∙ version in cc)
@@ -280,11 +269,11 @@ module _ (q : ReqSetup) (h : History) (f : Free) (body : List ℕ) (tag id : ℕ
       ∙ keeps steps
 
   chunk_next : (op handle number : ℕ) (before : List ChunkMessage) (text : List ℕ) (aim : Aim) → aim ≡ InSession id ask → led.effect ≡ Nothing → led.next ≡ Some (record_sent q h id steps (AskChunk op handle number before) text f.pad)
-      → AreNext (took ∷ h) body aim led.next
+      → AreLedTo (took ∷ h) body aim led.next
   chunk_next op handle number before text aim aims effect next =
       let x : Sent = record_sent q h id steps (AskChunk op handle number before) text f.pad in
       let named : named_by (session_of id (took ∷ h)) ≡ named_by steps = took_named x effect next (λ u. sent_named q h id steps u (AskChunk op handle number before) text f.pad) in
-      some_next (took ∷ h) body aim led.next x next (record {
+      some_next (IsLedTo (took ∷ h) body aim) led.next x next (record {
         asked = record {
           own = record { sealed = refl; named = sealed_named q.psk steps text f.pad ∙ sym named };
           here = record { sealed = of.sealed; named = of.named ∙ sym steps_named ∙ sym named };
@@ -294,11 +283,11 @@ module _ (q : ReqSetup) (h : History) (f : Free) (body : List ℕ) (tag id : ℕ
       })
 
 record_next : (q : ReqSetup) (h : History) (f : Free) (body : List ℕ) (tag id : ℕ) (sealed inner : List ℕ) (ask : Ask) (led : Led) (aim : Aim) → aim ≡ InSession id ask → IsWhere h body id ask
-    → RecordLeads q h f (record { id = id; steps = session_of id h; sealed = sealed; inner = inner }) ask led → AreNext (TookRecord tag id sealed inner led no_draw ∷ h) body aim led.next
-record_next q h f body tag id sealed inner ask led aim aims at (ByEnd ends none) = none_next _ body aim led.next none
-record_next q h f body tag id sealed inner ask led aim aims at (ByAnswer ends updates brings none) = none_next _ body aim led.next none
+    → RecordLeads q h f (record { id = id; steps = session_of id h; sealed = sealed; inner = inner }) ask led → AreLedTo (TookRecord tag id sealed inner led no_draw ∷ h) body aim led.next
+record_next q h f body tag id sealed inner ask led aim aims at (ByEnd ends none) = none_next (IsLedTo (TookRecord tag id sealed inner led no_draw ∷ h) body aim) led.next none
+record_next q h f body tag id sealed inner ask led aim aims at (ByAnswer ends updates brings none) = none_next (IsLedTo (TookRecord tag id sealed inner led no_draw ∷ h) body aim) led.next none
 record_next q h f body tag id sealed inner ask led aim aims at (ByUpdate all was is) =
-    some_next _ body aim led.next _ (ap (λ (l : Led). l.next) is) (record { asked = record { own = tt; here = tt; spelled = tt }; fetches = λ gets. absurd (false≢true gets) })
+    some_next (IsLedTo (TookRecord tag id sealed inner led no_draw ∷ h) body aim) led.next _ (ap (λ (l : Led). l.next) is) (record { asked = record { own = tt; here = tt; spelled = tt }; fetches = λ gets. absurd (false≢true gets) })
 record_next q h f body tag id sealed inner ask led aim aims at (ByFirst op handle (ToAsk was) is) =
     chunk_next q h f body tag id sealed inner ask led (subst (IsWhere h body id) was at) op handle 0 [] _ aim aims (ap (λ (l : Led). l.effect) is) (ap (λ (l : Led). l.next) is)
 record_next q h f body tag id sealed inner ask led aim aims at (ByFirst op handle (ToWhole old number before was below) is) =
@@ -307,14 +296,14 @@ record_next q h f body tag id sealed inner ask led aim aims at (ByChunk op handl
     chunk_next q h f body tag id sealed inner ask led (subst (IsWhere h body id) was at) op c.handle (c.number + 1) (c ∷ before) _ aim aims (ap (λ (l : Led). l.effect) is) (ap (λ (l : Led). l.next) is)
 
 -- An entry of what was heard.
-pub heard_next : (q : ReqSetup) (h : History) (f : Free) (tag : ℕ) (answer body : List ℕ) (entry : Entry) → Asker h body → hears q h false tag answer f no_draw ≡ Adds entry
-    → (s : Sent) × (outstanding h ≡ Some s) × AreNext (entry ∷ h) body s.aim (sent_in entry)
-heard_next q h f tag answer body entry asker adds = elim (heard q h false tag answer f no_draw entry adds) [
+pub heard_asked : (q : ReqSetup) (h : History) (f : Free) (tag : ℕ) (answer body : List ℕ) (entry : Entry) → Asker h body → hears q h false tag answer f no_draw ≡ Adds entry
+    → (s : Sent) × (outstanding h ≡ Some s) × AreLedTo (entry ∷ h) body s.aim (sent_in entry)
+heard_asked q h f tag answer body entry asker adds = elim (heard q h false tag answer f no_draw entry adds) [
   | inl taken ↦
       let type = clear_type h body taken.sent.aim taken.asked taken.asks (asker taken.sent taken.waits).here in (
         taken.sent,
         taken.waits,
-        subst (λ (e : Entry). AreNext (e ∷ h) body taken.sent.aim (sent_in e)) (sym taken.is)
+        subst (λ (e : Entry). AreLedTo (e ∷ h) body taken.sent.aim (sent_in e)) (sym taken.is)
             (clear_next q h (TookClear tag (drop 1 answer) taken.led no_draw ∷ h) f body taken.sent.aim (drop 1 answer) taken.asked taken.led taken.asks type (clear_leads q h f taken.sent.aim (drop 1 answer) taken.asked taken.led taken.asks taken.leads)),
       )
   | inr opened ↦
@@ -322,7 +311,7 @@ heard_next q h f tag answer body entry asker adds = elim (heard q h false tag an
       let came : Came = came_to q h o.id o.ask (drop 1 answer) in (
         o.sent,
         o.waits,
-        subst (λ (e : Entry). AreNext (e ∷ h) body o.sent.aim (sent_in e)) (sym o.is)
+        subst (λ (e : Entry). AreLedTo (e ∷ h) body o.sent.aim (sent_in e)) (sym o.is)
             (record_next q h f body tag o.id (drop 1 answer) came.inner o.ask _ o.sent.aim o.aims (subst (IsAt h body) o.aims (asker o.sent o.waits).here) (record_leads q h f came o.ask)),
       )
 ]
@@ -330,7 +319,7 @@ heard_next q h f tag answer body entry asker adds = elim (heard q h false tag an
 -- ---- All that an answer leads to.
 
 outcome_asker : (q : ReqSetup) (h : History) (f : Free) (tag : ℕ) (answer body : List ℕ) (o : Outcome) → Asker h body → hears q h false tag answer f no_draw ≡ o → Asker (after h o) body
-outcome_asker q h f tag answer body (Adds entry) asker is = λ s waits. ((heard_next q h f tag answer body entry asker is).2 s waits).asked
+outcome_asker q h f tag answer body (Adds entry) asker is = λ s waits. ((heard_asked q h f tag answer body entry asker is).2 s waits).asked
 outcome_asker q h f tag answer body (Fails fault) asker is = asker
 outcome_asker q h f tag answer body (Ignores cause) asker is = asker
 outcome_asker q h f tag answer body (Warns code) asker is = asker
@@ -373,7 +362,7 @@ some_fetched (Some s) gets = (s, refl, gets)
 
 outcome_version : (q : ReqSetup) (h : History) (f : Free) (tag : ℕ) (answer body : List ℕ) (s : Sent) (o : Outcome) → Asker h body → outstanding h ≡ Some s → s.aim ≡ Plain GetVersion → hears q h false tag answer f no_draw ≡ o → NoneFetched (after h o)
 outcome_version q h f tag answer body s (Adds entry) asker waits version is = λ gets.
-    let next = heard_next q h f tag answer body entry asker is in
+    let next = heard_asked q h f tag answer body entry asker is in
     let some = some_fetched (sent_in entry) gets in
     let same : s ≡ next.0 = same_Some s next.0 (sym waits ∙ next.1) in
     (next.2 some.0 some.1).fetches some.2 (ap (λ (x : Sent). x.aim) (sym same) ∙ version)

@@ -1,5 +1,5 @@
 -- The chunks of a large request tell it.
-use Rattle.std.proofs.Common.{◌≡◌, ◌+◌, ◌-◌, ◌*◌, ◌/◌, ◌%◌, ◌<◌, ◌≤◌, ℕ, zero, suc, List, ◌++◌, refl, sym, ap, ◌∙◌, subst, length, take, drop, min, Bool, true, false, Some, None, cond, arith, inl, inr}
+use Rattle.std.proofs.Common.{◌≡◌, ◌+◌, ◌-◌, ◌*◌, ◌/◌, ◌%◌, ◌<◌, ◌≤◌, ℕ, zero, suc, List, ◌++◌, refl, sym, ap, ◌∙◌, subst, length, drop, min, Bool, true, false, Some, None, cond, arith, inl, inr}
 use Rattle.std.specs.Prelude.{slice_index}
 use Rattle.std.proofs.Math.Nat.{div-zero}
 use Rattle.std.proofs.lemmas.Grind.{div_ceil_times}

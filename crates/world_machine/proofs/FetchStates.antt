@@ -1,7 +1,7 @@
 -- A large answer under way at the responder: how it begins, and what each answer leaves of it.
-use Rattle.std.proofs.Common.{◌≡◌, ◌+◌, ◌==◌, ◌&&◌, ◌||◌, ℕ, List, [], ◌∷◌, ◌++◌, refl, sym, ap, ◌∙◌, subst, drop, Bool, true, false, Option, Some, None, is_some, cond, inl, inr, eq-eqb}
+use Rattle.std.proofs.Common.{◌≡◌, ◌+◌, ◌==◌, ◌&&◌, ℕ, List, [], ◌∷◌, ◌++◌, refl, sym, ap, ◌∙◌, subst, drop, Bool, true, false, Some, None, is_some, cond, inl, inr, eq-eqb}
 use Rattle.std.specs.Prelude.{not, slice_index, MatchBool, bytes_eq}
-use Rattle.std.proofs.lemmas.Bool.{false≢true, not-false}
+use Rattle.std.proofs.lemmas.Bool.{false≢true, not-true}
 use Rattle.std.proofs.lemmas.Slice.Eq.{bytes_eq-Decides}
 use Rattle.spdm_basis.proofs.Bools.{and_first}
 use Rattle.chunking.specs.Collecting.{joined}
@@ -10,15 +10,14 @@ use Rattle.spdm_grammar.specs.Message.RequestMessage.{ChunkGet}
 use Rattle.spdm_grammar.specs.Requests.{canonical_request}
 use Rattle.spdm_grammar.specs.declared.names.request_code.TheConstants.{CHUNK_GET, END_SESSION, PSK_FINISH}
 use Rattle.spdm_machine.specs.Bodies.{clear_body}
-use Rattle.responder_machine.specs.Answer.{Free}
 use Rattle.responder_machine.specs.Handling.{turn_of}
-use Rattle.responder_machine.specs.History.{History, Entry, Kept, kept_of, clear_turns}
+use Rattle.responder_machine.specs.History.{History, Entry, kept_of, clear_turns}
 use Rattle.responder_machine.specs.History.Entry.{Clear, Sealed, Dropped}
 use Rattle.responder_machine.specs.LargeMessages.{large_of, given_of}
 use Rattle.responder_machine.specs.May.{with_dropped, place_for}
 use Rattle.responder_machine.specs.Place.{Place, clear_place, session_place}
 use Rattle.responder_machine.specs.Records.{opened, reply_record}
-use Rattle.responder_machine.specs.Responder.{Outcome, after, is_repeat, session_turn, inner_reply, repeats}
+use Rattle.responder_machine.specs.Responder.{Outcome, after, is_repeat, session_turn, inner_reply}
 use Rattle.responder_machine.specs.Responder.Outcome.{Same, Unopened, Adds}
 use Rattle.responder_machine.specs.Session.{Events, session_of, turns_of, id_in_record, after_record, when_live}
 use Rattle.responder_machine.specs.Session.Event.{Heard}
@@ -40,7 +39,7 @@ use Rattle.world_machine.proofs.FinishSmall.{finish_whole}
 use Rattle.world_machine.proofs.GetTells.{IsIdle, transfer_of, turn_idle, session_idle}
 use Rattle.world_machine.proofs.PlacesServed.{Served, place_type, clear_served, record_served}
 use Rattle.world_machine.proofs.PlainTells.{ClearLed, RecordLed, led_clear, led_record, form_of}
-use Rattle.world_machine.proofs.RecordAdds.{entry_in, record_added}
+use Rattle.world_machine.proofs.RecordAdds.{record_added}
 use Rattle.world_machine.proofs.SmallGets.{turn_of_whole, session_whole}
 
 -- The last request asks for a chunk in the clear, is a repeat of the clear request whose answer is large, or is a record,
@@ -94,15 +93,11 @@ module _ (r : RspSetup) (h : History) (w : List ℕ) (tag : ℕ) (body : List �
   none_kept (Same b) fetch may plain = fetch
   none_kept (Unopened b) fetch may plain = fetch
   none_kept (Adds e) fetch may plain =
-      let small : is_large e ≡ false = by_not (is_large e) (and_first _ _ plain) in
+      let small : is_large e ≡ false = not-true (is_large e) (and_first _ _ plain) in
       record {
         how = how_next e small fetch.how may;
         chunked = subst (λ (l : History). Chunked (place_for l body) w (e ∷ h)) (sym (large_stays w e h small)) ((served r h w tag body e fetch may).chunked small);
       }
-    where
-      by_not : (b : Bool) → not b ≡ true → b ≡ false
-      by_not true is = sym is
-      by_not false is = refl
 
   passes : (p : Place) (id : ℕ) → Chunked p w h → Chunked p w (Dropped id ∷ h)
   passes p id (Gone none) = Gone none

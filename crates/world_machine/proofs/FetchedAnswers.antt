@@ -1,10 +1,8 @@
 -- While a large answer is fetched, an answer tells what it led to and which session was dropped before it, whatever
 -- bytes stand for the large one.
-use Rattle.std.proofs.Common.{◌≡◌, ◌≢◌, ◌≤◌, ◌==◌, ◌&&◌, ◌||◌, ◌⊎◌, ℕ, List, [], ◌∷◌, refl, sym, ap, ◌∙◌, subst, drop, Bool, true, false, Option, Some, None, is_none, cond, inl, inr, eqb-true}
+use Rattle.std.proofs.Common.{◌≡◌, ◌≢◌, ◌==◌, ◌&&◌, ◌||◌, ℕ, List, [], ◌∷◌, refl, sym, ap, ◌∙◌, subst, drop, Bool, true, false, Option, Some, None, is_none, inl, inr, eqb-true}
 use Rattle.std.specs.Prelude.{slice_index}
 use Rattle.std.proofs.lemmas.Bool.{false≢true}
-use Rattle.spdm_basis.proofs.Bools.{and_first}
-use Rattle.chunking.specs.Collecting.{under_way, joined_with}
 use Rattle.spdm_basis.specs.declared.record_fault.RecordFault.{RecordFault}
 use Rattle.spdm_grammar.specs.Codes.{code_for}
 use Rattle.spdm_grammar.specs.Message.{RequestMessage, ChunkMessage}
@@ -15,16 +13,16 @@ use Rattle.spdm_machine.specs.Bodies.{clear_body}
 use Rattle.responder_machine.specs.Answer.{Free, answer_bytes, request_at}
 use Rattle.responder_machine.specs.Handling.{turn_of, turn_by, chunk_in, effect_of, handle_for}
 use Rattle.responder_machine.specs.History.{History, Entry, kept_of}
-use Rattle.responder_machine.specs.History.Entry.{Clear, Dropped}
+use Rattle.responder_machine.specs.History.Entry.{Dropped}
 use Rattle.responder_machine.specs.May.{MayDrop, with_dropped}
 use Rattle.responder_machine.specs.Place.{Place, clear_place}
 use Rattle.responder_machine.specs.Records.{opening_fault}
 use Rattle.responder_machine.specs.Refusal.{refusal, code_of}
 use Rattle.responder_machine.specs.Responder.{Outcome, on_clear, on_record, is_repeat, kept_reply, repeats, body_of, sent_by}
-use Rattle.responder_machine.specs.Responder.Outcome.{Same, Unopened, Adds}
-use Rattle.responder_machine.specs.Session.{Events, session_of, id_in_record, is_live, last_of}
+use Rattle.responder_machine.specs.Responder.Outcome.{Same, Adds}
+use Rattle.responder_machine.specs.Session.{Events, session_of, id_in_record, last_of}
 use Rattle.responder_machine.specs.Setup.{RspSetup}
-use Rattle.responder_machine.specs.Turn.{Turn, takes, code_in}
+use Rattle.responder_machine.specs.Turn.{takes, code_in}
 use Rattle.responder_machine.proofs.Codes.{asked-code}
 use Rattle.world_machine.specs.CapturedAnswers.{MayLeadAfter, AreShown, shows, belongs_to, is_plain}
 use Rattle.world_machine.specs.LargeAnswers.{is_large, with_large}

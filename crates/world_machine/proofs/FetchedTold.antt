@@ -1,8 +1,8 @@
 -- An answer while a large answer is fetched leads to one history at the responder, whatever bytes stand for the large
 -- one; its last chunk tells them.
-use Rattle.std.proofs.Common.{◌≡◌, ◌==◌, ◌&&◌, ◌⊎◌, ℕ, List, [], ◌∷◌, refl, sym, ap, ◌∙◌, subst, drop, Bool, true, false, Option, Some, None, inl, inr, arith}
+use Rattle.std.proofs.Common.{◌≡◌, ◌==◌, ◌⊎◌, ℕ, List, [], ◌∷◌, refl, sym, ap, ◌∙◌, subst, drop, true, Option, Some, None, inl, inr, arith}
 use Rattle.std.specs.Prelude.{not, slice_index}
-use Rattle.std.proofs.lemmas.Bool.{false≢true}
+use Rattle.std.proofs.lemmas.Bool.{false≢true, not-true}
 use Rattle.spdm_basis.proofs.Bools.{and_first, and_second}
 use Rattle.spdm_grammar.specs.Message.RequestMessage.{GetVersion}
 use Rattle.spdm_grammar.specs.Requests.{canonical_request}
@@ -16,13 +16,12 @@ use Rattle.responder_machine.specs.History.Entry.{Clear}
 use Rattle.responder_machine.specs.May.{with_dropped}
 use Rattle.responder_machine.specs.Place.{clear_place}
 use Rattle.responder_machine.specs.Refusal.{code_of}
-use Rattle.responder_machine.specs.Responder.{Outcome, body_of}
+use Rattle.responder_machine.specs.Responder.{Outcome}
 use Rattle.responder_machine.specs.Responder.Outcome.{Same, Unopened, Adds}
 use Rattle.responder_machine.specs.Setup.{RspSetup}
-use Rattle.world_machine.specs.CapturedAnswers.{Answers, MayLeadTo, MayLeadAfter, MayHaveLed, is_plain}
+use Rattle.world_machine.specs.CapturedAnswers.{Answers, MayLeadTo, MayHaveLed, is_plain}
 use Rattle.world_machine.specs.LargeAnswers.{is_large, takes_get, gives_last, with_large, dropped_before_large}
 use Rattle.world_machine.specs.Rounds.{Round, no_draw}
-use Rattle.world_machine.proofs.Alike.{FetchesAlike}
 use Rattle.world_machine.proofs.Alike.FetchesAlike.{NoneFetched, BothFetched}
 use Rattle.world_machine.proofs.AskersBegin.{dial}
 use Rattle.world_machine.proofs.ChunksGiven.{answer_by, parts_of}
@@ -32,7 +31,7 @@ use Rattle.world_machine.proofs.FetchedAnswers.{Asking, turn_code, plain_fetched
 use Rattle.world_machine.proofs.FetchedAnswers.Asking.{Always}
 use Rattle.world_machine.proofs.FetchedTells.{ReadsAlways, version_reads}
 use Rattle.world_machine.proofs.LargeTells.{led_drops}
-use Rattle.world_machine.proofs.PlainTells.{ClearLed, led_clear, plain_next, entries_same, entries_erased}
+use Rattle.world_machine.proofs.PlainTells.{led_clear, plain_next, entries_same, entries_erased}
 use Rattle.world_machine.proofs.RepliesAlike.{Told, into_fetched}
 use Rattle.world_machine.proofs.RepliesTell.{OutcomesAlike}
 use Rattle.world_machine.proofs.SmallGets.{gets_are_small}
@@ -66,10 +65,6 @@ fetched_by : (r : RspSetup) (h k : History) (w : List ℕ) (tag : ℕ) (body : L
 fetched_by r h k w tag body e (inl is) may gets = absurd (version_apart r k tag body e is may gets)
 fetched_by r h k w tag body e (inr fetch) may gets = fetch
 
-not_true : (b : Bool) → not b ≡ true → b ≡ false
-not_true true e = sym e
-not_true false e = refl
-
 module _ (r : RspSetup) (h : History) (w v : List ℕ) (tag : ℕ) (body : List ℕ) (one : Stands h w tag body) (other : Stands h v tag body) where
   -- Both sides tell alike whether a chunk is the last one.
   lasts : (e f : Entry) → e ≡ f → MayLeadTo r (with_large w h) tag body (Adds e) → MayLeadTo r (with_large v h) tag body (Adds f) → takes_get f ≡ true → gives_last (with_large w h) e ≡ gives_last (with_large v h) f
@@ -84,9 +79,9 @@ module _ (r : RspSetup) (h : History) (w v : List ℕ) (tag : ℕ) (body : List 
   last_apart ids (Same b) f none alike may plain might last = alike
   last_apart ids (Unopened b) f none alike may plain might last = alike
   last_apart ids (Adds e) f none alike may plain might last =
-      let same = entries_same e f alike (not_true _ (and_first _ _ plain)) in
+      let same = entries_same e f alike (not-true _ (and_first _ _ plain)) in
       let leads = subst (λ (l : List ℕ). MayLeadTo r (with_dropped (with_large w h) l) tag body (Adds e)) none may in
-      false≢true (sym (not_true _ (and_second (not (is_large e)) _ plain)) ∙ lasts e f same leads might (and_first _ _ last) ∙ last)
+      false≢true (sym (not-true _ (and_second (not (is_large e)) _ plain)) ∙ lasts e f same leads might (and_first _ _ last) ∙ last)
 
   -- The last chunk tells all of the answer.
   whole_told : (e f : Entry) → e ≡ f → MayLeadTo r (with_large w h) tag body (Adds e) → MayLeadTo r (with_large v h) tag body (Adds f) → gives_last (with_large w h) e ≡ true → gives_last (with_large v h) f ≡ true → w ≡ v
@@ -114,7 +109,7 @@ fetched_told r h w v q k m n s t u x round answer next other fetching fetches on
     }
 fetched_told r h w v q k m n s t u x round answer next other fetching fetches one two (inr (inr a)) (inr (inr b)) =
     let alike = adds_fetched r h w v round.tag round.body [] [] a.0.1 b.0.1 (asking_of h w round.tag round.body one) (tt, a.0.2) (tt, b.0.2) (a.0.5 ∙ sym b.0.5) in
-    let same = entries_same a.0.1 b.0.1 alike ((gets_are_small r (with_large w h)).small round.tag round.body a.0.1 a.0.2 (and_first _ _ a.0.3)) in
+    let same = entries_same a.0.1 b.0.1 alike (gets_are_small r (with_large w h) round.tag round.body a.0.1 a.0.2 (and_first _ _ a.0.3)) in
     let bytes = whole_told r h w v round.tag round.body one two a.0.1 b.0.1 same a.0.2 b.0.2 a.0.3 b.0.3 in
     let drops = led_drops r a.0.0 b.0.0 (with_large w h) a.0.4 (subst (λ (l : List ℕ). MayHaveLed r b.0.0 (with_large l h)) (sym bytes) b.0.4) in
     record {
@@ -135,9 +130,9 @@ fetched_told r h w v q k m n s t u x round answer next other fetching fetches on
     absurd (last_apart r h v w round.tag round.body two one b.0.0 b.0.1 a.0.1 told.0 told.1 b.0.2.1 b.0.4 a.0.2 a.0.3)
 fetched_told r h w v q k m n s t u x round answer next other fetching fetches one two (inr (inl a)) (inr (inr b)) =
     let alike = adds_fetched r h w v round.tag round.body a.1.0 [] a.1.1 b.0.1 (asking_of h w round.tag round.body one) a.1.2 (tt, b.0.2) (a.1.5 ∙ sym b.0.5) in
-    let small = (gets_are_small r (with_large v h)).small round.tag round.body b.0.1 b.0.2 (and_first _ _ b.0.3) in
+    let small = gets_are_small r (with_large v h) round.tag round.body b.0.1 b.0.2 (and_first _ _ b.0.3) in
     absurd (false≢true (sym small ∙ sym (entries_erased a.1.1 b.0.1 alike).1 ∙ a.1.3))
 fetched_told r h w v q k m n s t u x round answer next other fetching fetches one two (inr (inr a)) (inr (inl b)) =
     let alike = adds_fetched r h v w round.tag round.body b.1.0 [] b.1.1 a.0.1 (asking_of h w round.tag round.body one) b.1.2 (tt, a.0.2) (b.1.5 ∙ sym a.0.5) in
-    let small = (gets_are_small r (with_large w h)).small round.tag round.body a.0.1 a.0.2 (and_first _ _ a.0.3) in
+    let small = gets_are_small r (with_large w h) round.tag round.body a.0.1 a.0.2 (and_first _ _ a.0.3) in
     absurd (false≢true (sym small ∙ sym (entries_erased b.1.1 a.0.1 alike).1 ∙ b.1.3))

@@ -1,6 +1,6 @@
 -- What holds of a dialogue while a large answer is fetched: its requester awaits a chunk or GET_VERSION, and the
 -- responder's history stands so. Each step keeps it.
-use Rattle.std.proofs.Common.{◌≡◌, ◌+◌, ◌-◌, ◌==◌, ◌⊎◌, ℕ, List, [], ◌∷◌, refl, sym, ap, ◌∙◌, subst, drop, Bool, true, false, Option, Some, None, cond, inl, inr}
+use Rattle.std.proofs.Common.{◌≡◌, ◌+◌, ◌-◌, ◌==◌, ◌⊎◌, ℕ, List, [], ◌∷◌, refl, sym, ap, ◌∙◌, subst, Bool, true, false, Option, Some, None, cond, inl, inr}
 use Rattle.std.specs.Prelude.{slice_index}
 use Rattle.std.proofs.lemmas.Bool.{false≢true}
 use Rattle.std.proofs.lemmas.Option.{none-some, same_Some}
@@ -19,16 +19,15 @@ use Rattle.requester_machine.specs.Message.Command.{Connect}
 use Rattle.requester_machine.specs.Sending.{plain_sent}
 use Rattle.requester_machine.specs.Setup.{ReqSetup}
 use Rattle.requester_machine.proofs.Entries.{asked}
-use Rattle.responder_machine.specs.History.{History, Entry}
+use Rattle.responder_machine.specs.History.{History}
 use Rattle.responder_machine.specs.May.{with_dropped, place_for}
 use Rattle.responder_machine.specs.Place.{Place, session_place}
-use Rattle.responder_machine.specs.Responder.{after}
 use Rattle.responder_machine.specs.Session.{session_of}
 use Rattle.responder_machine.specs.Setup.{RspSetup, towards}
 use Rattle.world_machine.specs.Capture.{AsksBy, RepliesBy, Copies, Begins, Replies}
 use Rattle.world_machine.specs.CapturedAnswers.{Answers, MayLeadAfter, AreShown, is_plain}
 use Rattle.world_machine.specs.CapturedRequests.{Sends, Tells, GoesOn, without_owed}
-use Rattle.world_machine.specs.LargeAnswers.{is_for_chunk, is_fetching, while_fetched, judging, with_large, entry_with}
+use Rattle.world_machine.specs.LargeAnswers.{is_for_chunk, is_fetching, judging, with_large, entry_with}
 use Rattle.world_machine.specs.Rounds.{Dialogue, Round, new_dialogue, new_round, no_draw}
 use Rattle.world_machine.specs.Setup.{Configuration, known_of}
 use Rattle.world_machine.proofs.AskersAim.{Asker, IsAt, IsOf, IsSpelled, sends_asker, hears_asker, hears_version, some_fetched}

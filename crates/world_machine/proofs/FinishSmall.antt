@@ -1,9 +1,8 @@
 -- No answer to PSK_FINISH goes by LargeResponse.
-use Rattle.std.proofs.Common.{◌≡◌, ◌≤◌, ◌<◌, ◌+◌, ◌==◌, ◌&&◌, ◌||◌, ℕ, List, [], ◌∷◌, refl, sym, ap, ◌∙◌, drop, length, Bool, true, false, Option, Some, None, is_some, cond, arith}
+use Rattle.std.proofs.Common.{◌≡◌, ◌≤◌, ◌==◌, ◌&&◌, ◌||◌, ℕ, List, refl, sym, ap, ◌∙◌, drop, Bool, true, false, Option, Some, None, is_some, cond, arith}
 use Rattle.std.specs.Prelude.{not, nat_lt, slice_index}
 use Rattle.std.proofs.lemmas.Bool.{false≢true}
 use Rattle.std.proofs.lemmas.Bool.Decides.{nat_tests}
-use Rattle.spdm_grammar.specs.Codes.{code_for}
 use Rattle.spdm_grammar.specs.Message.{RequestMessage, ChunkMessage}
 use Rattle.spdm_grammar.specs.Message.RequestMessage.{PskFinish}
 use Rattle.spdm_grammar.specs.Message.ResponseMessage.{PskFinishRsp}
@@ -13,7 +12,7 @@ use Rattle.spdm_grammar.specs.declared.names.TheConstants.{MIN_DATA_TRANSFER_SIZ
 use Rattle.spdm_grammar.specs.declared.names.request_code.TheConstants.{PSK_FINISH}
 use Rattle.responder_machine.specs.Answer.{Free, answer_bytes, answer_to, request_at}
 use Rattle.responder_machine.specs.Handling.{turn_of, turn_by, chunk_in, effect_of, handle_for}
-use Rattle.responder_machine.specs.Place.{Place, place_terms, session_place}
+use Rattle.responder_machine.specs.Place.{place_terms, session_place}
 use Rattle.responder_machine.specs.Refusal.{refusal, is_answer_too_long}
 use Rattle.responder_machine.specs.Responder.{session_turn, session_turn_by, inner_refusal, data_turn}
 use Rattle.responder_machine.specs.Session.{Events, stage_of, session_negotiation}

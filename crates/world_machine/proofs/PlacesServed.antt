@@ -1,7 +1,6 @@
 -- What an entry at the place of a large answer under way leaves of it.
-use Rattle.std.proofs.Common.{◌≡◌, ◌≢◌, ◌+◌, ◌==◌, ◌&&◌, ℕ, List, [], ◌∷◌, refl, sym, ap, ◌∙◌, subst, drop, Bool, true, false, Option, Some, None, is_some, cond, inl, inr, eq-eqb, eqb-true}
+use Rattle.std.proofs.Common.{◌≡◌, ◌==◌, ◌&&◌, ℕ, List, [], ◌∷◌, refl, sym, ap, ◌∙◌, subst, drop, Bool, true, false, None, is_some, cond, inl, inr, eq-eqb, eqb-true}
 use Rattle.std.specs.Prelude.{not, slice_index}
-use Rattle.std.proofs.lemmas.Bool.{false≢true}
 use Rattle.std.proofs.lemmas.Option.{none-some}
 use Rattle.spdm_basis.proofs.Bools.{and_first}
 use Rattle.spdm_grammar.specs.declared.names.request_code.TheConstants.{GET_VERSION, GET_CAPABILITIES, NEGOTIATE_ALGORITHMS, CHUNK_GET, END_SESSION}
@@ -17,17 +16,17 @@ use Rattle.responder_machine.specs.Place.{Place, clear_place, session_place, ins
 use Rattle.responder_machine.specs.Records.{opened, reply_record}
 use Rattle.responder_machine.specs.Refusal.{has_pending}
 use Rattle.responder_machine.specs.Responder.{session_turn, inner_reply}
-use Rattle.responder_machine.specs.Responder.Outcome.{Same, Adds}
+use Rattle.responder_machine.specs.Responder.Outcome.{Adds}
 use Rattle.responder_machine.specs.Session.{Events, session_of, id_in_record, after_record, when_live}
 use Rattle.responder_machine.specs.Session.Event.{Heard}
 use Rattle.responder_machine.specs.Setup.{RspSetup}
-use Rattle.responder_machine.specs.Turn.{Turn, Effect, is_taken, takes, code_in, request_in, answer_in, handle_in}
+use Rattle.responder_machine.specs.Turn.{Turn, Effect, is_taken, takes, code_in, request_in, answer_in}
 use Rattle.world_machine.specs.LargeAnswers.{is_large, takes_get, gives_last}
 use Rattle.world_machine.specs.Rounds.{no_draw}
-use Rattle.world_machine.proofs.ChunksGiven.{Chunked, IsTurnOf, answer_by, parts_of, chunked_next, last_joins}
+use Rattle.world_machine.proofs.ChunksGiven.{Chunked, answer_by, parts_of, chunked_next, last_joins}
 use Rattle.world_machine.proofs.ChunksGiven.Chunked.{Gone}
 use Rattle.world_machine.proofs.DropsTell.{clear_form}
-use Rattle.world_machine.proofs.GetTells.{IsGet, IsIdle, IsBehind, transfer_of, turn_get, turn_idle, session_get, session_idle, get_last}
+use Rattle.world_machine.proofs.GetTells.{IsGet, IsIdle, IsBehind, turn_get, turn_idle, session_get, session_idle, get_last}
 use Rattle.world_machine.proofs.PlainTells.{ClearLed, RecordLed}
 use Rattle.world_machine.proofs.RecordAdds.{record_added}
 use Rattle.world_machine.proofs.SmallGets.{turn_of_whole, session_whole}

@@ -1,13 +1,12 @@
 -- Dialogues of two walks over one capture stay alike, so a capture has one table, and a first difference one reason.
-use Rattle.std.proofs.Common.{◌≡◌, ◌-◌, ◌⊎◌, ℕ, List, [], refl, sym, ap, ◌∙◌, subst, reverse, take, Option, Some, None, inl, inr}
+use Rattle.std.proofs.Common.{◌≡◌, ◌-◌, ◌⊎◌, ℕ, List, [], refl, sym, ◌∙◌, subst, reverse, take, Option, Some, None, inl, inr}
 use Rattle.std.specs.Prelude.{slice_index_or}
 use Rattle.std.proofs.lemmas.Option.{none-some, same_Some}
 use Rattle.mctp_framing.specs.Gathering.{Gathered}
 use Rattle.mctp_framing.specs.Gathering.Gathered.{Whole, More, Dropped}
-use Rattle.requester_machine.specs.Setup.{ReqSetup}
 use Rattle.responder_machine.specs.History.{History}
 use Rattle.responder_machine.specs.Setup.{RspSetup, towards}
-use Rattle.world_machine.specs.Capture.{AsksBy, RepliesBy, Replies}
+use Rattle.world_machine.specs.Capture.{RepliesBy, Replies}
 use Rattle.world_machine.specs.CapturedAnswers.{Answers}
 use Rattle.world_machine.specs.Difference.{Why, IsReason, IsVerifyApart, IsOtherwiseWrong, OneReason}
 use Rattle.world_machine.specs.Difference.Why.{BadPacket, UnknownEnd, WrongTurn, BadRequest, BadReply, BadVerify, BadRecord}
@@ -21,7 +20,6 @@ use Rattle.world_machine.proofs.Captures.{one_is_first}
 use Rattle.world_machine.proofs.FetchedTold.{Stands, fetched_told}
 use Rattle.world_machine.proofs.Fetching.{IsSound, begins_sound, asks_sound, replies_sound, stands_of}
 use Rattle.world_machine.proofs.RepliesAlike.{replied, replied_by, answer_moved, same_rounds}
-use Rattle.world_machine.proofs.SmallGets.{gets_are_small}
 use Rattle.world_machine.proofs.Walks.{IsKept, one_table_by, one_reason_by}
 
 -- The dialogues are alike, and each is sound by itself.
@@ -58,7 +56,7 @@ both_fetched _ _ x (BothFetched w v) is = (v, refl)
 -- ---- An answer.
 
 one_replied : (w : Configuration) (d e : Dialogue) (tag : ℕ) (answer : List ℕ) (next other : Dialogue) (o : Option (List ℕ)) → BothAlike d e → d.fetching ≡ o → Replies w d tag answer next → Replies w e tag answer other → Alike next other
-one_replied w d e tag answer next other None both is c k = replied w d e tag answer next other both.alike is (gets_are_small (towards w.responder (known_of d.setup)) d.responder) c k
+one_replied w d e tag answer next other None both is c k = replied w d e tag answer next other both.alike is c k
 one_replied w d e tag answer next other (Some x) both is c k =
     let others = both_fetched d.fetching e.fetching x both.alike.fetches is in
     fetched_replied w d e tag answer next other x others.0 both is others.1 c k
