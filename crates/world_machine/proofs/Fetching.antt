@@ -30,7 +30,8 @@ use Rattle.world_machine.specs.CapturedRequests.{Sends, Tells, GoesOn, without_o
 use Rattle.world_machine.specs.LargeAnswers.{is_for_chunk, is_fetching, judging, with_large, entry_with}
 use Rattle.world_machine.specs.Rounds.{Dialogue, Round, new_dialogue, new_round, no_draw}
 use Rattle.world_machine.specs.Setup.{Configuration, known_of}
-use Rattle.world_machine.proofs.AskersAim.{Asker, IsAt, IsOf, IsSpelled, sends_asker, hears_asker, hears_version, some_fetched}
+use Rattle.world_machine.proofs.AskersAim.{Asker, IsAt, IsOf, IsSpelled, sends_asker}
+use Rattle.world_machine.proofs.AimsHeard.{hears_asker, hears_version, some_fetched}
 use Rattle.world_machine.proofs.AskersStep.{connect_body}
 use Rattle.world_machine.proofs.AskTells.{sent_by_kind}
 use Rattle.world_machine.proofs.ChunksGiven.{Chunked}

@@ -41,6 +41,7 @@ pub mod FetchedAnswers
 pub mod FetchStates
 pub mod FetchedTold
 pub mod AskersAim
+pub mod AimsHeard
 pub mod Fetching
 pub mod WalksAlike
 mod CaptureRows
