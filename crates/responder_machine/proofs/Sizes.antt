@@ -24,7 +24,7 @@ use Rattle.responder_machine.specs.SettledLaws.{SizesAreKnown}
 use Rattle.responder_machine.specs.Setup.{RspSetup, responder_caps}
 use Rattle.responder_machine.specs.SizeLaws.{HasSizes, SizesAreSetUp, SessionSizesAreSetUp}
 
-abbrev IsSized : Common → Type 0
+abbrev pub IsSized : Common → Type 0
 IsSized common = (MIN_DATA_TRANSFER_SIZE ≤ common.to_requester.transfer) × (common.to_requester.transfer ≤ common.to_requester.max)
 
 -- Capabilities that go together have passed the tests of sizes.
@@ -43,7 +43,7 @@ not_less a b rest h = grind (arith, nat_tests)
 min_rises : (a b most : ℕ) → a ≤ b → min a most ≤ min b most
 min_rises a b most h = (let less = min-le_left a most in le-min (omega arith) (min-le_right a most))
 
-common_sized : (caps told : Caps) (common : Common) → result_ok (common_of caps told) ≡ Some common → IsSized common
+pub common_sized : (caps told : Caps) (common : Common) → result_ok (common_of caps told) ≡ Some common → IsSized common
 common_sized caps told common is =
     let passed = both_passed (nat_lt caps.transfer MIN_DATA_TRANSFER_SIZE || nat_lt told.transfer MIN_DATA_TRANSFER_SIZE) (nat_lt caps.max caps.transfer || nat_lt told.max told.transfer) (not (psk_is PSK_CAP caps.flags && psk_is PSK_CAP_WITH_CONTEXT told.flags)) (not (protects caps.flags && protects told.flags)) (shared caps told) common is in
     let least = not_less caps.transfer MIN_DATA_TRANSFER_SIZE (nat_lt told.transfer MIN_DATA_TRANSFER_SIZE) passed.0 in

@@ -1,7 +1,6 @@
 -- Histories of a requester that differ in nothing that counts for what it does next, and what keeps them so.
-use Rattle.std.proofs.Common.{◌≡◌, ◌≤◌, ◌+◌, ◌==◌, ℕ, List, [], ◌∷◌, refl, ap, ◌∙◌, length, Bool, true, false, Option, Some, None, is_some, cond, arith, suc}
+use Rattle.std.proofs.Common.{◌≡◌, ◌≤◌, ◌+◌, ◌==◌, ℕ, List, [], ◌∷◌, refl, ap, ◌∙◌, length, Bool, true, false, Option, Some, None, is_some, cond, arith, suc, eqb-true}
 use Rattle.std.proofs.lemmas.Bool.{false≢true}
-use Rattle.std.proofs.lemmas.Bool.Decides.{nat_tests}
 use Rattle.spdm_grammar.specs.Message.{RequestMessage, ExchangeMessage}
 use Rattle.spdm_grammar.specs.Message.RequestMessage.{GetVersion, GetCapabilities, NegotiateAlgorithms, GetMeasurements, PskExchange, PskFinish, Heartbeat, KeyUpdate, EndSession, ChunkSend, ChunkGet}
 use Rattle.spdm_grammar.specs.Requests.{canonical_request}
@@ -69,11 +68,8 @@ sent_id id (Some sent) s p = aim_id id sent.aim sent.content s p
 no_id : (id : ℕ) → HasId id []
 no_id id live = absurd (false≢true live)
 
-nat_same : (a b : ℕ) → (a == b) ≡ true → a ≡ b
-nat_same a b is = grind (arith, nat_tests)
-
 own_id : (id : ℕ) (n : Negotiation) (x : ExchangeMessage) → x.req_id ≤ 4 → (x.req_id == id) ≡ true → HasId id (Started n (canonical_request (PskExchange x)) ∷ [])
-own_id id n x small is live = let same : x.req_id ≡ id = nat_same x.req_id id is in omega arith
+own_id id n x small is live = let same : x.req_id ≡ id = eqb-true x.req_id id is in omega arith
 
 exchange_id : (id : ℕ) (n : Negotiation) (x : ExchangeMessage) (s : Steps) → x.req_id ≤ 4 → HasId id s → HasId id (begun id n (Some (PskExchange x)) s)
 exchange_id id n x s small p = by_id (x.req_id == id) refl

@@ -1,5 +1,5 @@
 -- A command begins a round of one body: from requesters whose histories agree it leads to requesters that are alike.
-use Rattle.std.proofs.Common.{◌≡◌, ◌≢◌, ◌<◌, ◌%◌, ◌+◌, ◌==◌, ◌⊎◌, ℕ, List, [], ◌∷◌, refl, sym, ap, ◌∙◌, subst, length, Bool, true, false, Option, Some, None, is_some, arith, cond, inl, inr}
+use Rattle.std.proofs.Common.{◌≡◌, ◌≢◌, ◌<◌, ◌%◌, ◌+◌, ◌==◌, ◌⊎◌, ℕ, List, [], ◌∷◌, refl, sym, ap, ◌∙◌, subst, length, Bool, true, false, Option, Some, None, is_some, arith, cond, inl, inr, eqb-true}
 use Rattle.std.specs.Prelude.{not}
 use Rattle.std.proofs.lemmas.Bool.{false≢true}
 use Rattle.std.proofs.lemmas.Bool.Decides.{nat_tests}
@@ -92,9 +92,6 @@ dead (x ∷ s) e = absurd (false≢true (sym e))
 not_four : (n : ℕ) → (n == 4) ≡ false → n ≢ 4
 not_four n is = grind (arith, nat_tests)
 
-nat_same : (a b : ℕ) → (a == b) ≡ true → a ≡ b
-nat_same a b is = grind (arith, nat_tests)
-
 begun_stays : (id : ℕ) (n : Negotiation) (x : ExchangeMessage) (s : Steps) (b : Bool) → (b ≡ true → is_live s ≡ false) → StaysOr (cond b (Started n (canonical_request (PskExchange x)) ∷ []) s) s
 begun_stays id n x s true free = inr (refl, dead s (free refl))
 begun_stays id n x s false free = inl refl
@@ -103,7 +100,7 @@ open_stays : (q : ReqSetup) (h : History) (f : Free) (summary id : ℕ) (a : Req
     → StaysOr (begun id (negotiation_of h) (Some a) (session_of id h)) (session_of id h)
 open_stays q h f summary id a s fits adds is =
     let room : live_count h ≢ 4 = not_four (live_count h) (test_is_false false q h (Open summary) f (asked false q h (Open summary) f no_draw (Told (Open summary) s no_draw) adds).0 4) in
-    let free : (f.id == id) ≡ true → is_live (session_of id h) ≡ false = λ same. subst (λ (n : ℕ). is_live (session_of n h) ≡ false) (nat_same f.id id same) (fits.unused room) in
+    let free : (f.id == id) ≡ true → is_live (session_of id h) ≡ false = λ same. subst (λ (n : ℕ). is_live (session_of n h) ≡ false) (eqb-true f.id id same) (fits.unused room) in
     let P : RequestMessage → Type 0 = λ x. StaysOr (begun id (negotiation_of h) (Some x) (session_of id h)) (session_of id h) in
     subst P is (begun_stays id (negotiation_of h) _ (session_of id h) (f.id == id) free)
 

@@ -1,9 +1,8 @@
 -- The chunks of a large request one after another, and a request of one body from any requesters that are alike.
-use Rattle.std.proofs.Common.{◌≡◌, ◌<◌, ◌+◌, ◌%◌, ◌==◌, ◌⊎◌, ℕ, List, refl, sym, ap, ◌∙◌, subst, length, Bool, true, false, Option, Some, None, arith, cond, inl, inr}
+use Rattle.std.proofs.Common.{◌≡◌, ◌<◌, ◌+◌, ◌%◌, ◌==◌, ◌⊎◌, ℕ, List, refl, sym, ap, ◌∙◌, subst, length, Bool, true, false, Option, Some, None, arith, cond, inl, inr, eqb-true}
 use Rattle.std.specs.Prelude.{not, slice_index}
 use Rattle.std.specs.Bool.{OnTrue}
 use Rattle.std.proofs.lemmas.Bool.{false≢true}
-use Rattle.std.proofs.lemmas.Bool.Decides.{nat_tests}
 use Rattle.std.proofs.lemmas.Option.{none-some, same_Some}
 use Rattle.chunking.specs.Cutting.{nth_chunk, chunk_count}
 use Rattle.std.specs.Int.{div_ceil}
@@ -56,11 +55,8 @@ shown_step q h g s t r x round sd se fd fe tag body next other sending sends cou
 
 -- ---- The next chunk is owed.
 
-nat_same : (a b : ℕ) → (a == b) ≡ true → a ≡ b
-nat_same a b is = grind (arith, nat_tests)
-
 not_first : (number : ℕ) → (number + 1 == 0) ≡ true → ⊥
-not_first number is = let e = nat_same (number + 1) 0 is in omega arith
+not_first number is = let e = eqb-true (number + 1) 0 is in omega arith
 
 at_true : (b : Bool) (P : Type 0) → b ≡ true → OnTrue b P → P
 at_true true P is on = on
@@ -108,7 +104,7 @@ module _ (q : ReqSetup) (tag0 : ℕ) (m : List ℕ) (h g : History) (w v : List 
   by_last true true is are same here judged judge after behind under over =
       let asks = at_true _ _ is judged in
       let ask = at_true _ _ are judge in
-      let agree = last_settles tag0 m h g w v a b handle number u here (nat_same _ _ is) asks.0 ask.0 in
+      let agree = last_settles tag0 m h g w v a b handle number u here (eqb-true _ _ is) asks.0 ask.0 in
       let P : History → Type 0 = λ l. Agree l yours in
       let Q : History → Type 0 = λ l. Agree next l in
       into _ next other sending sends None None under over

@@ -28,7 +28,7 @@ use Rattle.world_machine.proofs.AskersAlike.AskersAlike.{Settled, Owing, Shown, 
 use Rattle.world_machine.proofs.AskersBegin.{dial}
 use Rattle.world_machine.proofs.AskersStep.{owed_sends, settled_step, owing_step, took_small}
 use Rattle.world_machine.proofs.AskersGo.{shown_step, due_step}
-use Rattle.std.proofs.lemmas.Bool.{not-false}
+use Rattle.std.proofs.lemmas.Bool.{not-false, not-true}
 
 -- ---- Tags.
 
@@ -143,10 +143,6 @@ hears_none : (q : ReqSetup) (h : History) (s : Sent) (tag : ℕ) (body : List �
 hears_none q h s tag body next waits not heard =
     heard.2 ∙ ap (after h) (sym heard.1.2) ∙ other_tag q h s heard.1.0 tag body no_draw waits not
 
-not_true : (b : Bool) → not b ≡ true → b ≡ false
-not_true true e = sym e
-not_true false e = refl
-
 ack_none : (w : List ℕ) (tag : ℕ) (m : List ℕ) (h : History) (s : Sent) → outstanding h ≡ Some s → has_tag (Some s) tag ≡ false → with_ack w tag m h ≡ h
 ack_none w tag m h s waits not = ap (λ (o : Option Sent). cond (has_tag o tag) (with_ack_to w tag m h o) h) waits ∙ ap (λ (b : Bool). cond b (with_ack_to w tag m h (Some s)) h) not
 
@@ -166,7 +162,7 @@ hears_step q rd _ _ _ _ r x fd fe tag body next other (Settled h g agree not at)
     let Q : History → Type 0 = λ l. AskersAlike (Some rd) next l None None in
     subst Q (sym two.2) (subst P (sym one.2) (settled_hears q rd h g one.1.0 tag body one.0 two.0 agree not at one.1.2 alike))
 hears_step q rd _ _ _ _ r x fd fe tag body next other (Owing e f h g s t agree alike out sent like tagged else later at) is one two =
-    let apart : has_tag (Some s) tag ≡ false = ap (λ (n : ℕ). s.tag == n) (sym is) ∙ not_true (s.tag == rd.tag) later in
+    let apart : has_tag (Some s) tag ≡ false = ap (λ (n : ℕ). s.tag == n) (sym is) ∙ not-true (s.tag == rd.tag) later in
     let parts : has_tag (Some t) tag ≡ false = ap (λ (n : ℕ). n == tag) (sym (alike_tag s t like)) ∙ apart in
     let P : History → Type 0 = λ l. AskersAlike (Some rd) l (f ∷ g) None None in
     let Q : History → Type 0 = λ l. AskersAlike (Some rd) next l None None in
@@ -186,7 +182,7 @@ hears_step q rd _ _ _ _ r x fd fe tag body next other (Due tag0 m h g w v a b ha
     let tags : p.tag ≡ o.tag = ap (λ (n : ℕ). n % 8) u.counted.sent in
     let mine : History = acked tag0 m a w handle (number + 1) h in
     let yours : History = acked tag0 m b v handle (number + 1) g in
-    let apart : has_tag (Some p) tag ≡ false = ap (λ (n : ℕ). p.tag == n) (sym is) ∙ not_true (p.tag == rd.tag) later in
+    let apart : has_tag (Some p) tag ≡ false = ap (λ (n : ℕ). p.tag == n) (sym is) ∙ not-true (p.tag == rd.tag) later in
     let parts : has_tag (Some o) tag ≡ false = ap (λ (n : ℕ). n == tag) (sym tags) ∙ apart in
     let P : History → Type 0 = λ l. AskersAlike (Some rd) l yours (Some w) (Some v) in
     let Q : History → Type 0 = λ l. AskersAlike (Some rd) next l (Some w) (Some v) in

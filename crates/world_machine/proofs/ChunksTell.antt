@@ -1,5 +1,5 @@
 -- The chunks of a large request tell it.
-use Rattle.std.proofs.Common.{◌≡◌, ◌+◌, ◌-◌, ◌*◌, ◌/◌, ◌%◌, ◌<◌, ◌≤◌, ℕ, zero, suc, List, ◌++◌, refl, sym, ap, ◌∙◌, subst, length, take, drop, min, Bool, true, false, Some, None, cond, arith, inl, inr}
+use Rattle.std.proofs.Common.{◌≡◌, ◌+◌, ◌-◌, ◌*◌, ◌/◌, ◌%◌, ◌<◌, ◌≤◌, ℕ, zero, suc, List, ◌++◌, refl, sym, ap, ◌∙◌, subst, length, drop, min, Bool, true, false, Some, None, cond, arith, inl, inr}
 use Rattle.std.specs.Prelude.{slice_index}
 use Rattle.std.proofs.Math.Nat.{div-zero}
 use Rattle.std.proofs.lemmas.Grind.{div_ceil_times}
@@ -45,6 +45,11 @@ some_bytes transfer w two = elim (cases_order transfer 12) [
         let at : 2 ≤ (length w + 4) / 0 + min 1 ((length w + 4) % 0) = subst P is two in
         omega (arith, zero_div (length w + 4))
 
+-- The chunks of a whole message join to it.
+pub all_joined : (transfer handle : ℕ) (w : List ℕ) (count : ℕ) → 12 < transfer → length w + 4 ≤ count * unit_of transfer → joined (chunks_before transfer handle w count) ≡ w
+all_joined transfer handle w count some enough =
+    joined-before transfer handle w some count ∙ take_all (count * unit_of transfer - 4) w (omega arith)
+
 module _ (transfer handle : ℕ) (w v : List ℕ) where
   -- The chunks of all numbers below this one hold the same bytes.
   abbrev pub SameBelow : ℕ → Type 0
@@ -61,6 +66,4 @@ module _ (transfer handle : ℕ) (w v : List ℕ) where
       let count = chunk_count transfer w in
       let some : 12 < transfer = some_bytes transfer w two in
       let around = div_ceil_times (length w + 4) (unit_of transfer) (omega arith) in
-      let one : take (count * unit_of transfer - 4) w ≡ w = take_all (count * unit_of transfer - 4) w (omega (arith, around.0)) in
-      let other : take (count * unit_of transfer - 4) v ≡ v = take_all (count * unit_of transfer - 4) v (omega (arith, around.0)) in
-      sym one ∙ sym (joined-before transfer handle w some count) ∙ joins count same ∙ joined-before transfer handle v some count ∙ other
+      sym (all_joined transfer handle w count some (omega (arith, around.0))) ∙ joins count same ∙ all_joined transfer handle v count some (omega (arith, around.0))

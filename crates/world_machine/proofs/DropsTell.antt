@@ -1,8 +1,7 @@
 -- An answer tells whether a session was dropped before it, and what it led to.
-use Rattle.std.proofs.Common.{◌≡◌, ◌==◌, ◌&&◌, ◌||◌, ◌⊎◌, ℕ, List, [], ◌∷◌, refl, sym, ap, ◌∙◌, subst, drop, Bool, true, false, Option, Some, None, is_some, is_none, cond, inl, inr, arith, eq-eqb}
+use Rattle.std.proofs.Common.{◌≡◌, ◌&&◌, ◌||◌, ◌⊎◌, ℕ, List, [], ◌∷◌, refl, sym, ap, ◌∙◌, subst, drop, Bool, true, false, Option, Some, None, is_some, is_none, cond, inl, inr, arith, eq-eqb, eqb-true}
 use Rattle.std.specs.Prelude.{slice_index, not}
-use Rattle.std.proofs.lemmas.Bool.{false≢true}
-use Rattle.std.proofs.lemmas.Bool.Decides.{nat_tests}
+use Rattle.std.proofs.lemmas.Bool.{false≢true, not-true}
 use Rattle.spdm_basis.specs.declared.record_fault.RecordFault.{RecordFault}
 use Rattle.spdm_grammar.specs.declared.phase.Phase.{Phase}
 use Rattle.spdm_grammar.specs.declared.names.request_code.TheConstants.{PSK_EXCHANGE}
@@ -57,9 +56,6 @@ clear_drops r h ids others tag m f k same =
 
 -- ---- What shows a drop.
 
-nat_same : (a b : ℕ) → (a == b) ≡ true → a ≡ b
-nat_same a b is = grind (arith, nat_tests)
-
 -- A dropped session was held.
 pub held_before : (h : History) (id : ℕ) → MayDrop h (id ∷ []) → is_held h id ≡ true
 held_before h id may =
@@ -86,10 +82,6 @@ same_not_shown r h body b id (Same c) alike shown = false≢true shown
 same_not_shown r h body b id (Unopened c) alike shown = alike
 same_not_shown r h body b id (Adds e) alike shown = alike
 
-not_true : (b : Bool) → not b ≡ true → b ≡ false
-not_true true e = sym e
-not_true false e = refl
-
 -- A turn that is no repeat, where nothing was dropped before it, shows no drop.
 turn_not_shown : (r : RspSetup) (h : History) (tag : ℕ) (m body : List ℕ) (f : Free) (p : Place) (id : ℕ) (q : Outcome) → IsAllowed h p f → MayDrop h (id ∷ [])
     → OutcomesAlike (Adds (Clear tag (turn_of r (clear_place h) m f) no_draw)) q → is_plain h q ≡ true → shows r h body id q ≡ true → ⊥
@@ -97,10 +89,10 @@ turn_not_shown r h tag m body f p id (Same c) fits may alike plain shown = alike
 turn_not_shown r h tag m body f p id (Unopened c) fits may alike plain shown = alike
 turn_not_shown r h tag m body f p id (Adds (Clear tag' u d)) fits may alike plain shown =
     let t = turn_of r (clear_place h) m f in
-    let small : is_some (handle_in u.effect) ≡ false = not_true _ (and_first _ _ plain) in
+    let small : is_some (handle_in u.effect) ≡ false = not-true _ (and_first _ _ plain) in
     let same : t ≡ u = turns_same t u alike.1 (turns_large t u alike.1 ∙ small) in
     let takes_it : takes PSK_EXCHANGE t ≡ true = ap (takes PSK_EXCHANGE) same ∙ and_first _ _ shown in
-    let at : id_in_exchange (answer_in t.effect) ≡ id = ap (λ (x : Turn). id_in_exchange (answer_in x.effect)) same ∙ nat_same (id_in_exchange (answer_in u.effect)) id (and_second (takes PSK_EXCHANGE u) _ shown) in
+    let at : id_in_exchange (answer_in t.effect) ≡ id = ap (λ (x : Turn). id_in_exchange (answer_in x.effect)) same ∙ eqb-true (id_in_exchange (answer_in u.effect)) id (and_second (takes PSK_EXCHANGE u) _ shown) in
     false≢true (sym (fresh_id r h m f p fits takes_it) ∙ ap (is_held h) at ∙ held_before h id may)
 turn_not_shown r h tag m body f p id (Adds (Sealed tag' n u reply d)) fits may alike plain shown = alike
 turn_not_shown r h tag m body f p id (Adds (Queued bytes)) fits may alike plain shown = alike
@@ -117,13 +109,13 @@ no_clear_drop r h tag m body f p id o q fits may is alike plain shown = elim (cl
 -- Two outcomes that are alike show one drop.
 pub one_drop : (r : RspSetup) (h : History) (body : List ℕ) (id other : ℕ) (o q : Outcome) → OutcomesAlike o q → is_plain h o ≡ true → shows r h body id o ≡ true → shows r h body other q ≡ true → id ≡ other
 one_drop r h body id other (Same b) q alike plain one two = absurd (false≢true one)
-one_drop r h body id other (Unopened b) (Unopened c) alike plain one two = sym (nat_same (id_in_record (drop 1 body)) id (and_first _ _ one)) ∙ nat_same (id_in_record (drop 1 body)) other (and_first _ _ two)
+one_drop r h body id other (Unopened b) (Unopened c) alike plain one two = sym (eqb-true (id_in_record (drop 1 body)) id (and_first _ _ one)) ∙ eqb-true (id_in_record (drop 1 body)) other (and_first _ _ two)
 one_drop r h body id other (Unopened b) (Same c) alike plain one two = absurd alike
 one_drop r h body id other (Unopened b) (Adds e) alike plain one two = absurd alike
 one_drop r h body id other (Adds (Clear tag t d)) (Adds (Clear tag' u d')) alike plain one two =
-    let same : t ≡ u = turns_same t u alike.1 (not_true _ (and_first _ _ plain)) in
-    sym (nat_same (id_in_exchange (answer_in t.effect)) id (and_second (takes PSK_EXCHANGE t) _ one)) ∙ ap (λ (x : Turn). id_in_exchange (answer_in x.effect)) same
-    ∙ nat_same (id_in_exchange (answer_in u.effect)) other (and_second (takes PSK_EXCHANGE u) _ two)
+    let same : t ≡ u = turns_same t u alike.1 (not-true _ (and_first _ _ plain)) in
+    sym (eqb-true (id_in_exchange (answer_in t.effect)) id (and_second (takes PSK_EXCHANGE t) _ one)) ∙ ap (λ (x : Turn). id_in_exchange (answer_in x.effect)) same
+    ∙ eqb-true (id_in_exchange (answer_in u.effect)) other (and_second (takes PSK_EXCHANGE u) _ two)
 one_drop r h body id other (Adds (Clear tag t d)) (Same c) alike plain one two = absurd alike
 one_drop r h body id other (Adds (Clear tag t d)) (Unopened c) alike plain one two = absurd alike
 one_drop r h body id other (Adds (Clear tag t d)) (Adds (Sealed tag' n u reply d')) alike plain one two = absurd alike
@@ -180,7 +172,7 @@ pub record_shown : (r : RspSetup) (h g : History) (tag : ℕ) (body : List ℕ) 
 record_shown r h g tag body id q (inl same) shown = absurd (false≢true (ap (shows r h body id) (sym same.1) ∙ shown))
 record_shown r h g tag body id q (inr (inl none)) shown =
     let at = ap (shows r h body id) (sym none.1) ∙ shown in
-    ((none.0, none.1), nat_same (id_in_record (drop 1 body)) id (and_first _ _ at), and_second _ _ at)
+    ((none.0, none.1), eqb-true (id_in_record (drop 1 body)) id (and_first _ _ at), and_second _ _ at)
 record_shown r h g tag body id q (inr (inr added)) shown = absurd (false≢true (ap (shows r h body id) (sym added.2) ∙ shown))
 
 -- Where nothing was dropped, a record is not answered by such a DecryptError.

@@ -23,7 +23,7 @@ pub data EventsAlike : Events → Events → Type 0 where
   Here : (sealed : List ℕ) → (t : Turn) → (a : RequestMessage) → (m : List ℕ) → (large : Option ℕ) → (w v reply : List ℕ) → (s u : Events) → (code_for a == PSK_FINISH) ≡ false → EventsAlike s u
       → EventsAlike (Heard sealed (answered t a m large w) reply ∷ s) (Heard sealed (answered t a m large v) reply ∷ u)
 
-live_alike : (s u : Events) → EventsAlike s u → is_live s ≡ is_live u
+pub live_alike : (s u : Events) → EventsAlike s u → is_live s ≡ is_live u
 live_alike _ _ NoEvent = refl
 live_alike _ _ (Behind e s u a) = refl
 live_alike _ _ (Here sealed t x m large w v reply s u not a) = refl

@@ -29,7 +29,7 @@ use Rattle.responder_machine.specs.Turn.{Turn, updates}
 use Rattle.responder_machine.proofs.Codes.{asked-code}
 use Rattle.world_machine.proofs.EventsAlike.{EventsAlike, negotiation_alike, exchange_alike, answer_alike, stage_alike, response_epoch_alike, response_number_alike, finish_alike, finish_answer_alike, chunks_alike}
 use Rattle.world_machine.proofs.TurnsAlike.{TurnsAlike, ReadAlike, turn_told}
-use Rattle.world_machine.proofs.RepliesTell.{by_updates, asks_update}
+use Rattle.world_machine.proofs.RepliesTell.{by_updates, asks_update, no_and}
 use Rattle.world_machine.proofs.RecordsTell.{record_at, session_short}
 
 -- ---- What a place in the session reads.
@@ -111,12 +111,6 @@ update_refusal r s u m f k op tag a is =
     ∙ ap first_of_tests (update_tests r s u m op tag answer a)
     ∙ sym (contents_with r (session_place u) m k (Some (KeyUpdate op tag)) answer are (update_answer r (session_place u) m k op tag are)) in
     ap (λ (x : Option ErrorCode). option_or x (refused_contents r (session_place s) m f)) (form_same r s u m a code) ∙ ap (option_or (refused_form r (session_place u) m)) contents
-
-no_and : (b c : Bool) → (b && false) ≡ (c && false)
-no_and true true = refl
-no_and true false = refl
-no_and false true = refl
-no_and false false = refl
 
 refusals : (r : RspSetup) (s u : Events) (m : List ℕ) (f k : Free) (q : Option RequestMessage) → EventsAlike s u → request_at (session_place s) m ≡ q
     → (is_none (refusal r (session_place s) m f) && asks_update q) ≡ (is_none (refusal r (session_place u) m k) && asks_update q)

@@ -45,7 +45,7 @@ code_with w NoEffect = refl
 code_with w (Took a m x large) = refl
 code_with w (TookData x y) = refl
 
-takes_with : (w : List ℕ) (code : ℕ) (t : Turn) → takes code (turn_with w t) ≡ takes code t
+pub takes_with : (w : List ℕ) (code : ℕ) (t : Turn) → takes code (turn_with w t) ≡ takes code t
 takes_with w code t = ap (λ (n : ℕ). n == code) (code_with w t.effect)
 
 turns_by : (w : List ℕ) (e : Entry) (h : History) (b : Bool) → MatchBool b (IsOfSession e) (InSession h) → (InSession h → clear_turns (with_large w h) ≡ clear_turns h)

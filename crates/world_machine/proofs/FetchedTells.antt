@@ -4,7 +4,7 @@ use Rattle.std.proofs.Common.{◌≡◌, ◌≢◌, ℕ, List, [], ◌∷◌, re
 use Rattle.spdm_grammar.specs.Message.RequestMessage.{GetVersion, ChunkSend, ChunkGet}
 use Rattle.spdm_grammar.specs.Reading.{field_at, number_at}
 use Rattle.spdm_grammar.specs.Requests.{canonical_request, request_in, request_body, get_version_layout, chunk_get_layout}
-use Rattle.spdm_grammar.specs.declared.names.request_code.TheConstants.{CHUNK_SEND}
+use Rattle.spdm_grammar.specs.declared.names.request_code.TheConstants.{CHUNK_SEND, PSK_EXCHANGE}
 use Rattle.spdm_machine.specs.Bodies.{clear_body}
 use Rattle.spdm_machine.specs.Terms.{hash_len}
 use Rattle.responder_machine.specs.Answer.{Free}
@@ -55,14 +55,15 @@ kept_large w (e ∷ h) = kept_by w e h (is_large e) (kept_large w h)
 pub record ReadsAlways (m : List ℕ) : Type 0 where
   pub reads : (n k : ℕ) → request_in n m ≡ request_in k m
   pub no_chunk : code_of m ≢ CHUNK_SEND
+  pub no_exchange : code_of m ≢ PSK_EXCHANGE
 
 pub version_reads : ReadsAlways (canonical_request GetVersion)
 unfolding field_at number_at request_body get_version_layout
-version_reads = record { reads = λ n k. refl; no_chunk = λ e. absurd (omega (arith, e)) }
+version_reads = record { reads = λ n k. refl; no_chunk = λ e. absurd (omega (arith, e)); no_exchange = λ e. absurd (omega (arith, e)) }
 
 pub get_reads : (handle number : ℕ) → ReadsAlways (canonical_request (ChunkGet handle number))
 unfolding field_at number_at request_body chunk_get_layout
-get_reads handle number = record { reads = λ n k. refl; no_chunk = λ e. absurd (omega (arith, e)) }
+get_reads handle number = record { reads = λ n k. refl; no_chunk = λ e. absurd (omega (arith, e)); no_exchange = λ e. absurd (omega (arith, e)) }
 
 read_always : (p o : Place) (m : List ℕ) → ReadsAlways m → ReadAlike p o m
 read_always p o m reads = record {

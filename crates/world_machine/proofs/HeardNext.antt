@@ -32,42 +32,40 @@ IsOther s = body_of s.content ≢ clear_body (canonical_request GetVersion)
 abbrev pub IsNext : History → Sent → Type 0
 IsNext h s = (s.tag ≡ next_tag h) × IsOther s
 
-AreNext : History → Option Sent → Type 0
-AreNext h o = (s : Sent) → o ≡ Some s → IsNext h s
+-- What holds of the message that is sent, if one is.
+pub none_next : (P : Sent → Type 0) (o : Option Sent) → o ≡ None → (s : Sent) → o ≡ Some s → P s
+none_next P o none s is = absurd (none-some s (sym none ∙ is))
 
-none_next : (h : History) (o : Option Sent) → o ≡ None → (s : Sent) → o ≡ Some s → IsNext h s
-none_next h o none s is = absurd (none-some s (sym none ∙ is))
+pub some_next : (P : Sent → Type 0) (o : Option Sent) (x : Sent) → o ≡ Some x → P x → (s : Sent) → o ≡ Some s → P s
+some_next P o x one next s is = subst P (same_Some x s (sym one ∙ is)) next
 
-some_next : (h : History) (o : Option Sent) (x : Sent) → o ≡ Some x → IsNext h x → (s : Sent) → o ≡ Some s → IsNext h s
-some_next h o x one next s is = subst (IsNext h) (same_Some x s (sym one ∙ is)) next
-
-either_next : (h : History) (b : Bool) (x y : Sent) → IsNext h x → IsNext h y → IsNext h (cond b x y)
-either_next h true x y p q = p
-either_next h false x y p q = q
+pub either_next : (P : Sent → Type 0) (b : Bool) (x y : Sent) → P x → P y → P (cond b x y)
+either_next P true x y p q = p
+either_next P false x y p q = q
 
 clear_next : (q : ReqSetup) (h : History) (f : Free) (aim : Aim) (m : List ℕ) (asked : RequestMessage) (led : Led) → ClearLeads q h f aim m asked led → (s : Sent) → led.next ≡ Some s → IsNext h s
-clear_next q h f aim m asked led (ByRefusal code is) = none_next h led.next (ap (λ (l : Led). l.next) is)
-clear_next q h f aim m asked led (ByLarge handle may is) = some_next h led.next _ (ap (λ (l : Led). l.next) is) (refl, λ e. absurd (let t = ap (λ (l : List ℕ). slice_index l 2) e in omega (arith, t)))
-clear_next q h f aim m asked led (BySend handle number aims last is) = some_next h led.next _ (ap (λ (l : Led). l.next) is) (refl, λ e. absurd (let t = ap (λ (l : List ℕ). slice_index l 2) e in omega (arith, t)))
-clear_next q h f aim m asked led (ByGet handle number before c aims none last is) = some_next h led.next _ (ap (λ (l : Led). l.next) is) (refl, λ e. absurd (let t = ap (λ (l : List ℕ). slice_index l 2) e in omega (arith, t)))
-clear_next q h f aim m asked led (ByStop why may is) = none_next h led.next (ap (λ (l : Led). l.next) is)
-clear_next q h f aim m asked led (ByVersion answer asks is) = some_next h led.next _ (ap (λ (l : Led). l.next) is) (refl, λ e. absurd (let t = ap (λ (l : List ℕ). slice_index l 2) e in omega (arith, t)))
+clear_next q h f aim m asked led (ByRefusal code is) = none_next (IsNext h) led.next (ap (λ (l : Led). l.next) is)
+clear_next q h f aim m asked led (ByLarge handle may is) = some_next (IsNext h) led.next _ (ap (λ (l : Led). l.next) is) (refl, λ e. absurd (let t = ap (λ (l : List ℕ). slice_index l 2) e in omega (arith, t)))
+clear_next q h f aim m asked led (BySend handle number aims last is) = some_next (IsNext h) led.next _ (ap (λ (l : Led). l.next) is) (refl, λ e. absurd (let t = ap (λ (l : List ℕ). slice_index l 2) e in omega (arith, t)))
+clear_next q h f aim m asked led (ByGet handle number before c aims none last is) = some_next (IsNext h) led.next _ (ap (λ (l : Led). l.next) is) (refl, λ e. absurd (let t = ap (λ (l : List ℕ). slice_index l 2) e in omega (arith, t)))
+clear_next q h f aim m asked led (ByStop why may is) = none_next (IsNext h) led.next (ap (λ (l : Led). l.next) is)
+clear_next q h f aim m asked led (ByVersion answer asks is) = some_next (IsNext h) led.next _ (ap (λ (l : Led). l.next) is) (refl, λ e. absurd (let t = ap (λ (l : List ℕ). slice_index l 2) e in omega (arith, t)))
 clear_next q h f aim m asked led (ByCaps caps theirs answer common offer asks read settled offers short is) =
-    some_next h led.next (request_sent common h (NegotiateAlgorithms offer)) (ap (λ (l : Led). l.next) is)
-    (either_next h _ (piece_sent common h (NegotiateAlgorithms offer) (next_handle h) 0) (plain_sent h (NegotiateAlgorithms offer))
+    some_next (IsNext h) led.next (request_sent common h (NegotiateAlgorithms offer)) (ap (λ (l : Led). l.next) is)
+    (either_next (IsNext h) _ (piece_sent common h (NegotiateAlgorithms offer) (next_handle h) 0) (plain_sent h (NegotiateAlgorithms offer))
     (refl, λ e. absurd (let t = ap (λ (l : List ℕ). slice_index l 2) e in omega (arith, t)))
     (refl, λ e. absurd (let t = ap (λ (l : List ℕ). slice_index l 2) e in omega (arith, t))))
-clear_next q h f aim m asked led (ByChoice offer answer asks is) = none_next h led.next (ap (λ (l : Led). l.next) is)
-clear_next q h f aim m asked led (ByMeasured op answer finish asks is) = none_next h led.next (ap (λ (l : Led). l.next) is)
+clear_next q h f aim m asked led (ByChoice offer answer asks is) = none_next (IsNext h) led.next (ap (λ (l : Led). l.next) is)
+clear_next q h f aim m asked led (ByMeasured op answer finish asks is) = none_next (IsNext h) led.next (ap (λ (l : Led). l.next) is)
 clear_next q h f aim m asked led (ByExchange exchange answer rsp asks read right is) =
-    some_next h led.next _ (ap (λ (l : Led). l.next) is) (refl, λ e. absurd (let t = ap (λ (l : List ℕ). slice_index l 0) e in omega (arith, t)))
+    some_next (IsNext h) led.next _ (ap (λ (l : Led). l.next) is) (refl, λ e. absurd (let t = ap (λ (l : List ℕ). slice_index l 0) e in omega (arith, t)))
 
 record_next : (q : ReqSetup) (h : History) (f : Free) (came : Came) (ask : Ask) (led : Led) → RecordLeads q h f came ask led → (s : Sent) → led.next ≡ Some s → IsNext h s
-record_next q h f came ask led (ByEnd ends none) = none_next h led.next none
-record_next q h f came ask led (ByAnswer ends updates brings none) = none_next h led.next none
-record_next q h f came ask led (ByUpdate all asks is) = some_next h led.next _ (ap (λ (l : Led). l.next) is) (refl, λ e. absurd (let t = ap (λ (l : List ℕ). slice_index l 0) e in omega (arith, t)))
-record_next q h f came ask led (ByFirst op handle follows is) = some_next h led.next _ (ap (λ (l : Led). l.next) is) (refl, λ e. absurd (let t = ap (λ (l : List ℕ). slice_index l 0) e in omega (arith, t)))
-record_next q h f came ask led (ByChunk op handle number before c asks none last is) = some_next h led.next _ (ap (λ (l : Led). l.next) is) (refl, λ e. absurd (let t = ap (λ (l : List ℕ). slice_index l 0) e in omega (arith, t)))
+record_next q h f came ask led (ByEnd ends none) = none_next (IsNext h) led.next none
+record_next q h f came ask led (ByAnswer ends updates brings none) = none_next (IsNext h) led.next none
+record_next q h f came ask led (ByUpdate all asks is) = some_next (IsNext h) led.next _ (ap (λ (l : Led). l.next) is) (refl, λ e. absurd (let t = ap (λ (l : List ℕ). slice_index l 0) e in omega (arith, t)))
+record_next q h f came ask led (ByFirst op handle follows is) = some_next (IsNext h) led.next _ (ap (λ (l : Led). l.next) is) (refl, λ e. absurd (let t = ap (λ (l : List ℕ). slice_index l 0) e in omega (arith, t)))
+record_next q h f came ask led (ByChunk op handle number before c asks none last is) = some_next (IsNext h) led.next _ (ap (λ (l : Led). l.next) is) (refl, λ e. absurd (let t = ap (λ (l : List ℕ). slice_index l 0) e in omega (arith, t)))
 
 pub heard_next : (q : ReqSetup) (h : History) (owner : Bool) (tag : ℕ) (body : List ℕ) (f : Free) (d : Draw) (entry : Entry) → hears q h owner tag body f d ≡ Adds entry → (s : Sent) → sent_in entry ≡ Some s → IsNext h s
 heard_next q h owner tag body f d entry adds s is = elim (heard q h owner tag body f d entry adds) [

@@ -1,9 +1,8 @@
 -- A LargeResponse, and the last chunk of a large answer, tell what they lead to at the responder, where no answer is
 -- being fetched.
-use Rattle.std.proofs.Common.{◌≡◌, ◌≤◌, ◌==◌, ◌&&◌, ◌⊎◌, ℕ, List, [], ◌∷◌, refl, sym, ap, ◌∙◌, subst, length, drop, Bool, true, false, cond, inl, inr, arith}
-use Rattle.std.specs.Prelude.{slice_index, not, MatchBool}
-use Rattle.std.proofs.lemmas.Bool.{false≢true}
-use Rattle.std.proofs.lemmas.Bool.Decides.{nat_tests}
+use Rattle.std.proofs.Common.{◌≡◌, ◌≤◌, ◌==◌, ◌⊎◌, ℕ, List, [], ◌∷◌, refl, sym, ap, ◌∙◌, subst, length, drop, Bool, true, false, cond, inl, inr, arith, eqb-true}
+use Rattle.std.specs.Prelude.{slice_index, MatchBool}
+use Rattle.std.proofs.lemmas.Bool.{false≢true, not-true}
 use Rattle.spdm_grammar.specs.declared.phase.Phase.{Phase}
 use Rattle.spdm_grammar.specs.declared.names.TheConstants.{MAX_MESSAGE_SIZE}
 use Rattle.spdm_grammar.specs.declared.names.request_code.TheConstants.{PSK_EXCHANGE}
@@ -56,7 +55,7 @@ not_gone : (r : RspSetup) (tag : ℕ) (sealed : List ℕ) (f : Free) (b : Bool) 
 not_gone r tag sealed f true kept phase e is = absurd (cc)
 not_gone r tag sealed f false kept phase e is = absurd (cc)
 
-adds_here : (r : RspSetup) (h : History) (ids : List ℕ) (tag : ℕ) (body : List ℕ) (e : Entry) → RecordLed r (with_dropped h ids) tag body (Adds e) → RecordLed r h tag body (Adds e)
+pub adds_here : (r : RspSetup) (h : History) (ids : List ℕ) (tag : ℕ) (body : List ℕ) (e : Entry) → RecordLed r (with_dropped h ids) tag body (Adds e) → RecordLed r h tag body (Adds e)
 unfolding on_record
 adds_here r h ids tag body e led = elim (session_stays (id_in_record (drop 1 body)) ids h) [
   | inl same ↦ record {
@@ -89,20 +88,13 @@ pub large_next : (r : RspSetup) (h : History) (ids others : List ℕ) (tag : ℕ
     → entry_with [] e ∷ h ≡ entry_with [] f ∷ h
 large_next r h ids others tag body e f one two same = ap (λ x. x ∷ h) (entries_erased e f (adds_alike r h ids others tag body e f one two same)).0
 
-nat_same : (a b : ℕ) → (a == b) ≡ true → a ≡ b
-nat_same a b is = grind (arith, nat_tests)
-
-not_true : (b : Bool) → not b ≡ true → b ≡ false
-not_true true e = sym e
-not_true false e = refl
-
 -- No LargeResponse is an answer that goes whole.
-outcome_apart : (h : History) (o : Outcome) (f : Entry) → OutcomesAlike o (Adds f) → is_plain h o ≡ true → is_large f ≡ true → ⊥
+pub outcome_apart : (h : History) (o : Outcome) (f : Entry) → OutcomesAlike o (Adds f) → is_plain h o ≡ true → is_large f ≡ true → ⊥
 outcome_apart h (Same b) f alike plain large = alike
 outcome_apart h (Unopened b) f alike plain large = alike
-outcome_apart h (Adds e) f alike plain large = false≢true (sym (not_true _ (and_first _ _ plain)) ∙ (entries_erased e f alike).1 ∙ large)
+outcome_apart h (Adds e) f alike plain large = false≢true (sym (not-true _ (and_first _ _ plain)) ∙ (entries_erased e f alike).1 ∙ large)
 
-sealed_sent : (r : RspSetup) (h : History) (tag : ℕ) (sealed b : List ℕ) (f : Entry) → RecordForm r h tag sealed (Adds f) → clear_body b ≡ sent_by f → ⊥
+pub sealed_sent : (r : RspSetup) (h : History) (tag : ℕ) (sealed b : List ℕ) (f : Entry) → RecordForm r h tag sealed (Adds f) → clear_body b ≡ sent_by f → ⊥
 sealed_sent r h tag sealed b f (inl kept) same = let e = kept.1 in absurd (cc)
 sealed_sent r h tag sealed b f (inr (inl none)) same = let e = none.1 in absurd (cc)
 sealed_sent r h tag sealed b f (inr (inr added)) same =
@@ -136,7 +128,7 @@ no_shown r h tag body id e may one two shown = by_type (slice_index body 0 == 5)
     clear o is =
         let t = turn_of r (clear_place h) (drop 1 body) o.free in
         let at : shows r h body id (Adds (Clear tag t no_draw)) ≡ true = ap (λ x. shows r h body id (Adds x)) (sym is) ∙ shown in
-        let same : id_in_exchange (answer_in t.effect) ≡ id = nat_same _ id (and_second (takes PSK_EXCHANGE t) _ at) in
+        let same : id_in_exchange (answer_in t.effect) ≡ id = eqb-true _ id (and_second (takes PSK_EXCHANGE t) _ at) in
         false≢true (sym (fresh_id r h (drop 1 body) o.free (place_for h body) o.allowed (and_first _ _ at)) ∙ ap (is_held h) same ∙ held_before h id may)
 
     form : (o : ClearLed r h tag body (Adds e)) → ((b : List ℕ) × (Adds e ≡ Same b)) ⊎ (Adds e ≡ Adds (Clear tag (turn_of r (clear_place h) (drop 1 body) o.free) no_draw)) → ⊥
@@ -153,7 +145,7 @@ no_shown r h tag body id e may one two shown = by_type (slice_index body 0 == 5)
 -- Which of two shown ones it is, the entry tells.
 one_shown : (r : RspSetup) (h : History) (body : List ℕ) (id other : ℕ) (e : Entry) → shows r h body id (Adds e) ≡ true → shows r h body other (Adds e) ≡ true → id ≡ other
 one_shown r h body id other (Clear tag t d) one two =
-    sym (nat_same (id_in_exchange (answer_in t.effect)) id (and_second (takes PSK_EXCHANGE t) _ one)) ∙ nat_same (id_in_exchange (answer_in t.effect)) other (and_second (takes PSK_EXCHANGE t) _ two)
+    sym (eqb-true (id_in_exchange (answer_in t.effect)) id (and_second (takes PSK_EXCHANGE t) _ one)) ∙ eqb-true (id_in_exchange (answer_in t.effect)) other (and_second (takes PSK_EXCHANGE t) _ two)
 one_shown r h body id other (Sealed tag m t reply d) one two = absurd (false≢true one)
 one_shown r h body id other (Queued bytes) one two = absurd (false≢true one)
 one_shown r h body id other (Ticked seconds) one two = absurd (false≢true one)

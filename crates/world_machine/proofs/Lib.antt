@@ -32,5 +32,16 @@ pub mod EventsAlike
 pub mod FetchedRecords
 pub mod FetchedOutcomes
 pub mod FetchedSessions
-pub mod Rest
+pub mod GetTells
+pub mod ChunksGiven
+pub mod RecordAdds
+pub mod PlacesServed
+pub mod FinishSmall
+pub mod FetchedAnswers
+pub mod FetchStates
+pub mod FetchedTold
+pub mod AskersAim
+pub mod AimsHeard
+pub mod Fetching
+pub mod WalksAlike
 mod CaptureRows

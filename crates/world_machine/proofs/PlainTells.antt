@@ -1,6 +1,7 @@
 -- An answer that goes whole, and a LargeResponse, tell what they lead to at the responder.
-use Rattle.std.proofs.Common.{◌≡◌, ◌≤◌, ◌==◌, ◌&&◌, ℕ, List, [], ◌∷◌, refl, sym, ap, ◌∙◌, subst, length, drop, Bool, true, false, cond}
-use Rattle.std.specs.Prelude.{slice_index, not}
+use Rattle.std.proofs.lemmas.Bool.{not-true}
+use Rattle.std.proofs.Common.{◌≡◌, ◌≤◌, ◌==◌, ℕ, List, [], ◌∷◌, refl, sym, ap, ◌∙◌, subst, length, drop, Bool, true, false, cond}
+use Rattle.std.specs.Prelude.{slice_index}
 use Rattle.spdm_grammar.specs.declared.names.TheConstants.{MAX_MESSAGE_SIZE}
 use Rattle.responder_machine.specs.Answer.{Free, answer_bytes}
 use Rattle.responder_machine.specs.History.{History, Entry}
@@ -68,7 +69,7 @@ record_alike r h tag body o q one two same =
 
 -- ---- Whole answers.
 
-unopened_alike : (o q : Outcome) (b c : List ℕ) → o ≡ Unopened b → q ≡ Unopened c → body_of o ≡ body_of q → OutcomesAlike o q
+pub unopened_alike : (o q : Outcome) (b c : List ℕ) → o ≡ Unopened b → q ≡ Unopened c → body_of o ≡ body_of q → OutcomesAlike o q
 unopened_alike o q b c is are same =
     let P : Outcome → Type 0 = λ x. OutcomesAlike x q in
     let Q : Outcome → Type 0 = λ x. OutcomesAlike (Unopened b) x in
@@ -115,10 +116,6 @@ plain_told r h ids others tag body o q one two shown show plain plane same = by_
 
 -- ---- Entries.
 
-not_true : (b : Bool) → not b ≡ true → b ≡ false
-not_true true e = sym e
-not_true false e = refl
-
 -- An entry whose answer goes whole is told.
 pub entries_same : (e f : Entry) → EntriesAlike e f → is_large e ≡ false → e ≡ f
 entries_same (Clear tag t d) (Clear tag' u d') alike small = let a = alike.0 in let b = turns_same t u alike.1 small in let c = alike.2 in cc
@@ -156,7 +153,7 @@ pub plain_next : (h next : History) (ids others : List ℕ) (o q : Outcome) → 
 plain_next h next ids others (Same b) (Same c) is alike plain = ap (with_dropped next) is
 plain_next h next ids others (Unopened b) (Unopened c) is alike plain = ap (with_dropped next) is
 plain_next h next ids others (Adds e) (Adds f) is alike plain =
-    let same : e ≡ f = entries_same e f alike (not_true _ (and_first _ _ plain)) in
+    let same : e ≡ f = entries_same e f alike (not-true _ (and_first _ _ plain)) in
     ap (λ l. e ∷ with_dropped next l) is ∙ ap (λ x. x ∷ with_dropped next others) same
 plain_next h next ids others (Same b) (Unopened c) is alike plain = absurd alike
 plain_next h next ids others (Same b) (Adds f) is alike plain = absurd alike

@@ -1,6 +1,6 @@
 -- The record of a command tells the session, the command and the padding.
 use Rattle.std.proofs.Common.{◌≡◌, ◌<◌, ◌≤◌, ◌%◌, ◌/◌, ℕ, List, [], ◌∷◌, refl, sym, ap, ◌∙◌, subst, length, drop, Bool, true, false, Some, None, arith}
-use Rattle.std.specs.Prelude.{not, slice_index}
+use Rattle.std.specs.Prelude.{slice_index}
 use Rattle.std.proofs.lemmas.Bool.{ltb-false, not-false}
 use Rattle.secured_record.specs.Format.{record_of}
 use Rattle.secured_record.proofs.Told.{record_tells, padding_told}

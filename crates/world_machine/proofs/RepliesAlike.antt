@@ -1,11 +1,9 @@
 -- An answer of one body leads from dialogues that are alike to dialogues that are alike, while no large answer is
 -- fetched.
-use Rattle.std.proofs.Common.{◌≡◌, ◌-◌, ◌==◌, ◌&&◌, ℕ, List, [], ◌∷◌, refl, sym, ap, ◌∙◌, subst, drop, Bool, true, false, Option, Some, None, cond, inl, inr}
+use Rattle.std.proofs.Common.{◌≡◌, ◌-◌, ◌==◌, ℕ, List, [], ◌∷◌, refl, sym, ap, ◌∙◌, subst, drop, Bool, true, false, Option, Some, None, cond, inl, inr}
 use Rattle.std.specs.Prelude.{slice_index, not}
-use Rattle.std.proofs.lemmas.Bool.{false≢true}
+use Rattle.std.proofs.lemmas.Bool.{false≢true, not-true}
 use Rattle.std.proofs.lemmas.Option.{none-some, same_Some}
-use Rattle.mctp_framing.specs.Gathering.{Gathered}
-use Rattle.mctp_framing.specs.Gathering.Gathered.{Whole, More, Dropped}
 use Rattle.requester_machine.specs.History as requester_history
 use Rattle.requester_machine.specs.Setup.{ReqSetup}
 use Rattle.responder_machine.specs.History.{History, Entry}
@@ -13,14 +11,15 @@ use Rattle.responder_machine.specs.May.{MayDrop, with_dropped, place_for}
 use Rattle.responder_machine.specs.Responder.{Outcome, body_of}
 use Rattle.responder_machine.specs.Responder.Outcome.{Same, Unopened, Adds}
 use Rattle.responder_machine.specs.Setup.{RspSetup, towards}
-use Rattle.world_machine.specs.Capture.{Replies, RepliesBy}
+use Rattle.world_machine.specs.Capture.{Replies}
 use Rattle.world_machine.specs.CapturedAnswers.{Answers, Hears, MayLeadTo, MayLeadAfter, AreShown, is_plain}
-use Rattle.world_machine.specs.LargeAnswers.{is_large, gives_last, takes_get, while_fetched, dropped_before_large}
+use Rattle.world_machine.specs.LargeAnswers.{is_large, gives_last, while_fetched, dropped_before_large}
 use Rattle.world_machine.specs.Rounds.{Dialogue, Round}
 use Rattle.world_machine.specs.Setup.{Configuration, known_of}
 use Rattle.world_machine.proofs.RepliesTell.{OutcomesAlike}
 use Rattle.world_machine.proofs.DropsTell.{no_clear_drop, no_record_drop}
 use Rattle.world_machine.proofs.PlainTells.{ClearLed, RecordLed, led_clear, led_record, clear_alike, record_alike, form_of, plain_told, plain_next, entries_same, entries_erased}
+use Rattle.world_machine.proofs.SmallGets.{gets_are_small}
 use Rattle.world_machine.proofs.LargeTells.{adds_alike, large_next, large_apart, led_drops}
 use Rattle.world_machine.proofs.AskersAlike.{AskersAlike}
 use Rattle.world_machine.proofs.AskersBegin.{dial}
@@ -29,10 +28,6 @@ use Rattle.world_machine.proofs.ShownAlike.{fetching_alike}
 use Rattle.world_machine.proofs.Alike.{Alike, FetchesAlike}
 use Rattle.world_machine.proofs.Alike.FetchesAlike.{NoneFetched, BothFetched}
 use Rattle.spdm_basis.proofs.Bools.{and_first, and_second}
-
--- No answer to CHUNK_GET goes by LargeResponse.
-pub record GetsAreSmall (r : RspSetup) (h : History) : Type 0 where
-  pub small : (tag : ℕ) (body : List ℕ) (e : Entry) → MayLeadTo r h tag body (Adds e) → takes_get e ≡ true → is_large e ≡ false
 
 -- ---- An answer that goes whole, beside one before which nothing was dropped.
 
@@ -58,17 +53,13 @@ nil_told r h ids tag body o q one two shown plain same = by_type (slice_index bo
     by_type true is = clear_nil r h ids tag body o q one.0 (led_clear r (with_dropped h ids) tag body o is one.1) (led_clear r h tag body q is two) shown plain same
     by_type false is = record_nil r h ids tag body o q one.0 (led_record r (with_dropped h ids) tag body o is one.1) (led_record r h tag body q is two) shown same
 
-not_true : (b : Bool) → not b ≡ true → b ≡ false
-not_true true e = sym e
-not_true false e = refl
-
 -- It is not the last chunk.
 last_apart : (h : History) (o : Outcome) (f : Entry) → OutcomesAlike o (Adds f) → is_plain h o ≡ true → gives_last h f ≡ true → ⊥
 last_apart h (Same b) f alike plain last = alike
 last_apart h (Unopened b) f alike plain last = alike
 last_apart h (Adds e) f alike plain last =
-    let same = entries_same e f alike (not_true _ (and_first _ _ plain)) in
-    false≢true (sym (not_true _ (and_second (not (is_large e)) _ plain)) ∙ ap (gives_last h) same ∙ last)
+    let same = entries_same e f alike (not-true _ (and_first _ _ plain)) in
+    false≢true (sym (not-true _ (and_second (not (is_large e)) _ plain)) ∙ ap (gives_last h) same ∙ last)
 
 -- ---- The responder's side.
 
@@ -77,45 +68,45 @@ pub record Told (next other : History) (fetching fetches : Option (List ℕ)) : 
   pub history : next ≡ other
   pub fetched : FetchesAlike fetching fetches
 
-into_fetched : (a b x y : Option (List ℕ)) → a ≡ x → b ≡ y → FetchesAlike x y → FetchesAlike a b
+pub into_fetched : (a b x y : Option (List ℕ)) → a ≡ x → b ≡ y → FetchesAlike x y → FetchesAlike a b
 into_fetched a b x y is are alike =
     let P : Option (List ℕ) → Type 0 = λ o. FetchesAlike o b in
     let Q : Option (List ℕ) → Type 0 = λ o. FetchesAlike x o in
     subst P (sym is) (subst Q (sym are) alike)
 
 pub answers_told : (r : RspSetup) (h : History) (q k : ReqSetup) (m n : requester_history.History) (s t : Option Round) (u v : Option (List ℕ)) (round : Round) (answer : List ℕ) (next other : History) (fetching fetches : Option (List ℕ))
-    → GetsAreSmall r h → Answers r (dial q m h s u None) round answer next fetching → Answers r (dial k n h t v None) round answer other fetches → Told next other fetching fetches
+    → Answers r (dial q m h s u None) round answer next fetching → Answers r (dial k n h t v None) round answer other fetches → Told next other fetching fetches
 unfolding Answers
-answers_told r h q k m n s t u v round answer next other fetching fetches gets (inl a) (inl b) =
+answers_told r h q k m n s t u v round answer next other fetching fetches (inl a) (inl b) =
     let told = plain_told r h a.0.0 b.0.0 round.tag round.body a.0.1 b.0.1 a.0.2 b.0.2 a.0.3 b.0.3 a.0.4 b.0.4 (a.0.5 ∙ sym b.0.5) in
     record { history = a.0.6 ∙ plain_next h h a.0.0 b.0.0 a.0.1 b.0.1 told.0 told.1 a.0.4 ∙ sym b.0.6; fetched = into_fetched fetching fetches None None a.1 b.1 NoneFetched }
-answers_told r h q k m n s t u v round answer next other fetching fetches gets (inr (inl a)) (inr (inl b)) =
+answers_told r h q k m n s t u v round answer next other fetching fetches (inr (inl a)) (inr (inl b)) =
     record {
       history = a.1.6 ∙ large_next r h a.1.0 b.1.0 round.tag round.body a.1.1 b.1.1 a.1.2 b.1.2 (a.1.5 ∙ sym b.1.5) ∙ sym b.1.6;
       fetched = into_fetched fetching fetches (Some a.0) (Some b.0) a.2 b.2 (BothFetched a.0 b.0);
     }
-answers_told r h q k m n s t u v round answer next other fetching fetches gets (inr (inr a)) (inr (inr b)) =
-    let small = gets.small round.tag round.body a.0.1 a.0.2 (and_first _ _ a.0.3) in
+answers_told r h q k m n s t u v round answer next other fetching fetches (inr (inr a)) (inr (inr b)) =
+    let small = gets_are_small r h round.tag round.body a.0.1 a.0.2 (and_first _ _ a.0.3) in
     let same = entries_same a.0.1 b.0.1 (adds_alike r h [] [] round.tag round.body a.0.1 b.0.1 (tt, a.0.2) (tt, b.0.2) (a.0.5 ∙ sym b.0.5)) small in
     let drops = led_drops r a.0.0 b.0.0 h a.0.4 b.0.4 in
     record {
       history = a.0.6 ∙ ap (λ (e : Entry). e ∷ dropped_before_large a.0.0 h) same ∙ ap (λ (ids : List ℕ). b.0.1 ∷ dropped_before_large ids h) drops ∙ sym b.0.6;
       fetched = into_fetched fetching fetches None None a.1 b.1 NoneFetched;
     }
-answers_told r h q k m n s t u v round answer next other fetching fetches gets (inl a) (inr (inl b)) =
+answers_told r h q k m n s t u v round answer next other fetching fetches (inl a) (inr (inl b)) =
     absurd (large_apart r h a.0.0 b.1.0 round.tag round.body a.0.1 b.1.1 a.0.2 b.1.2 a.0.3 a.0.4 b.1.3 (a.0.5 ∙ sym b.1.5))
-answers_told r h q k m n s t u v round answer next other fetching fetches gets (inr (inl a)) (inl b) =
+answers_told r h q k m n s t u v round answer next other fetching fetches (inr (inl a)) (inl b) =
     absurd (large_apart r h b.0.0 a.1.0 round.tag round.body b.0.1 a.1.1 b.0.2 a.1.2 b.0.3 b.0.4 a.1.3 (b.0.5 ∙ sym a.1.5))
-answers_told r h q k m n s t u v round answer next other fetching fetches gets (inl a) (inr (inr b)) =
+answers_told r h q k m n s t u v round answer next other fetching fetches (inl a) (inr (inr b)) =
     absurd (last_apart h a.0.1 b.0.1 (nil_told r h a.0.0 round.tag round.body a.0.1 (Adds b.0.1) a.0.2 b.0.2 a.0.3 a.0.4 (a.0.5 ∙ sym b.0.5)) a.0.4 b.0.3)
-answers_told r h q k m n s t u v round answer next other fetching fetches gets (inr (inr a)) (inl b) =
+answers_told r h q k m n s t u v round answer next other fetching fetches (inr (inr a)) (inl b) =
     absurd (last_apart h b.0.1 a.0.1 (nil_told r h b.0.0 round.tag round.body b.0.1 (Adds a.0.1) b.0.2 a.0.2 b.0.3 b.0.4 (b.0.5 ∙ sym a.0.5)) b.0.4 a.0.3)
-answers_told r h q k m n s t u v round answer next other fetching fetches gets (inr (inl a)) (inr (inr b)) =
-    let small = gets.small round.tag round.body b.0.1 b.0.2 (and_first _ _ b.0.3) in
+answers_told r h q k m n s t u v round answer next other fetching fetches (inr (inl a)) (inr (inr b)) =
+    let small = gets_are_small r h round.tag round.body b.0.1 b.0.2 (and_first _ _ b.0.3) in
     let alike = adds_alike r h a.1.0 [] round.tag round.body a.1.1 b.0.1 a.1.2 (tt, b.0.2) (a.1.5 ∙ sym b.0.5) in
     absurd (false≢true (sym small ∙ sym (entries_erased a.1.1 b.0.1 alike).1 ∙ a.1.3))
-answers_told r h q k m n s t u v round answer next other fetching fetches gets (inr (inr a)) (inr (inl b)) =
-    let small = gets.small round.tag round.body a.0.1 a.0.2 (and_first _ _ a.0.3) in
+answers_told r h q k m n s t u v round answer next other fetching fetches (inr (inr a)) (inr (inl b)) =
+    let small = gets_are_small r h round.tag round.body a.0.1 a.0.2 (and_first _ _ a.0.3) in
     let alike = adds_alike r h b.1.0 [] round.tag round.body b.1.1 a.0.1 b.1.2 (tt, a.0.2) (b.1.5 ∙ sym a.0.5) in
     absurd (false≢true (sym small ∙ sym (entries_erased b.1.1 a.0.1 alike).1 ∙ b.1.3))
 
@@ -131,20 +122,11 @@ none_fetched : (o p : Option (List ℕ)) → FetchesAlike o p → o ≡ None →
 none_fetched _ _ NoneFetched none = refl
 none_fetched _ _ (BothFetched w v) none = absurd (none-some w (sym none))
 
-pub replied : (w : Configuration) (d e : Dialogue) (tag : ℕ) (answer : List ℕ) (next other : Dialogue) → Alike d e → d.fetching ≡ None → GetsAreSmall (towards w.responder (known_of d.setup)) d.responder
-    → Replies w d tag answer next → Replies w e tag answer other → Alike next other
-replied w d e tag answer next other a none gets c k =
+-- Where the answer is told, dialogues stay alike.
+pub replied_by : (w : Configuration) (d e : Dialogue) (tag : ℕ) (answer : List ℕ) (next other : Dialogue) (a : Alike d e) (c : Replies w d tag answer next) (k : Replies w e tag answer other)
+    → c.0 ≡ k.0 → Told c.4.0 k.4.0 c.4.1 k.4.1 → Alike next other
+replied_by w d e tag answer next other a c k one told =
     let rd : Round = c.0 in
-    let one : rd ≡ k.0 = same_Some rd k.0 (sym c.1 ∙ a.round ∙ k.1) in
-    let r : RspSetup = towards w.responder (known_of d.setup) in
-    let F : Option (List ℕ) → Type 0 = λ o. Answers r (dial d.setup d.requester d.responder d.round d.sending o) rd answer c.4.0 c.4.1 in
-    let mine : Answers r (dial d.setup d.requester d.responder d.round d.sending None) rd answer c.4.0 c.4.1 = subst F none c.4.2 in
-    let S : ReqSetup → Type 0 = λ q. Answers (towards w.responder (known_of q)) (dial e.setup e.requester e.responder e.round e.sending e.fetching) k.0 answer k.4.0 k.4.1 in
-    let H : History → Type 0 = λ h. Answers r (dial e.setup e.requester h e.round e.sending e.fetching) k.0 answer k.4.0 k.4.1 in
-    let G : Option (List ℕ) → Type 0 = λ o. Answers r (dial e.setup e.requester d.responder e.round e.sending o) k.0 answer k.4.0 k.4.1 in
-    let R : Round → Type 0 = λ x. Answers r (dial e.setup e.requester d.responder e.round e.sending None) x answer k.4.0 k.4.1 in
-    let yours = subst R (sym one) (subst G (none_fetched d.fetching e.fetching a.fetches none) (subst H (sym a.responder) (subst S (sym a.setup) k.4.2))) in
-    let told = answers_told r d.responder d.setup e.setup d.requester e.requester d.round e.round d.sending e.sending rd answer c.4.0 k.4.0 c.4.1 k.4.1 gets mine yours in
     let T : Option Round → Type 0 = λ o. Hears (dial d.setup d.requester d.responder o d.sending d.fetching) tag answer c.4.3.0 in
     let U : ReqSetup → Type 0 = λ q. Hears (dial q e.requester e.responder e.round e.sending e.fetching) tag answer k.4.3.0 in
     let V : Option Round → Type 0 = λ o. Hears (dial d.setup e.requester e.responder o e.sending e.fetching) tag answer k.4.3.0 in
@@ -164,11 +146,26 @@ replied w d e tag answer next other a none gets c k =
     let Q : Dialogue → Type 0 = λ x. Alike (record d { requester = c.4.3.0; responder = c.4.0; fetching = while_fetched c.4.3.0 c.4.1; round = Some after }) x in
     subst P (sym c.4.3.2) (subst Q (sym k.4.3.2) end)
 
-pub replies_alike : (w : Configuration) (d e : Dialogue) (g : Gathered) (next other : Dialogue) → Alike d e → d.fetching ≡ None → GetsAreSmall (towards w.responder (known_of d.setup)) d.responder
-    → RepliesBy w d g next → RepliesBy w e g other → Alike next other
-replies_alike w d e (Whole route body) next other a none gets c k = replied w d e route.tag body next other a none gets c.2 k.2
-replies_alike w d e More next other a none gets c k =
-    let P : Dialogue → Type 0 = λ x. Alike x other in
-    let Q : Dialogue → Type 0 = λ x. Alike d x in
-    subst P (sym c) (subst Q (sym k) a)
-replies_alike w d e (Dropped cause) next other a none gets c k = absurd c
+-- The answer in the other dialogue, as one in this dialogue's round and history.
+pub answer_moved : (w : Configuration) (d e : Dialogue) (rd other : Round) (answer : List ℕ) (next : History) (fetching o : Option (List ℕ)) → Alike d e → rd ≡ other → e.fetching ≡ o
+    → Answers (towards w.responder (known_of e.setup)) e other answer next fetching
+    → Answers (towards w.responder (known_of d.setup)) (dial e.setup e.requester d.responder e.round e.sending o) rd answer next fetching
+answer_moved w d e rd other answer next fetching o a one is answers =
+    let S : ReqSetup → Type 0 = λ q. Answers (towards w.responder (known_of q)) (dial e.setup e.requester e.responder e.round e.sending e.fetching) other answer next fetching in
+    let H : History → Type 0 = λ h. Answers (towards w.responder (known_of d.setup)) (dial e.setup e.requester h e.round e.sending e.fetching) other answer next fetching in
+    let G : Option (List ℕ) → Type 0 = λ x. Answers (towards w.responder (known_of d.setup)) (dial e.setup e.requester d.responder e.round e.sending x) other answer next fetching in
+    let R : Round → Type 0 = λ x. Answers (towards w.responder (known_of d.setup)) (dial e.setup e.requester d.responder e.round e.sending o) x answer next fetching in
+    subst R (sym one) (subst G is (subst H (sym a.responder) (subst S (sym a.setup) answers)))
+
+pub same_rounds : (w : Configuration) (d e : Dialogue) (tag : ℕ) (answer : List ℕ) (next other : Dialogue) → Alike d e → (c : Replies w d tag answer next) (k : Replies w e tag answer other) → c.0 ≡ k.0
+same_rounds w d e tag answer next other a c k = same_Some c.0 k.0 (sym c.1 ∙ a.round ∙ k.1)
+
+pub replied : (w : Configuration) (d e : Dialogue) (tag : ℕ) (answer : List ℕ) (next other : Dialogue) → Alike d e → d.fetching ≡ None
+    → Replies w d tag answer next → Replies w e tag answer other → Alike next other
+replied w d e tag answer next other a none c k =
+    let one = same_rounds w d e tag answer next other a c k in
+    let r : RspSetup = towards w.responder (known_of d.setup) in
+    let F : Option (List ℕ) → Type 0 = λ o. Answers r (dial d.setup d.requester d.responder d.round d.sending o) c.0 answer c.4.0 c.4.1 in
+    let yours = answer_moved w d e c.0 k.0 answer k.4.0 k.4.1 None a one (none_fetched d.fetching e.fetching a.fetches none) k.4.2 in
+    replied_by w d e tag answer next other a c k one
+    (answers_told r d.responder d.setup e.setup d.requester e.requester d.round e.round d.sending e.sending c.0 answer c.4.0 k.4.0 c.4.1 k.4.1 (subst F none c.4.2) yours)

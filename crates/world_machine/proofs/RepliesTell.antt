@@ -1,7 +1,8 @@
 -- The body that a responder answers tells what the request led to, but for the bytes of an answer that goes by
 -- LargeResponse.
-use Rattle.std.proofs.Common.{◌≡◌, ◌≢◌, ◌==◌, ◌&&◌, ℕ, List, [], refl, sym, ap, ◌∙◌, subst, drop, Bool, true, false, Option, Some, None, is_none, cond, arith}
-use Rattle.std.proofs.lemmas.Bool.Decides.{nat_tests}
+use Rattle.std.proofs.Math.Bool.{and-false}
+use Rattle.std.proofs.lemmas.Bool.{eqb-false}
+use Rattle.std.proofs.Common.{◌≡◌, ◌≢◌, ◌==◌, ◌&&◌, ℕ, List, [], refl, sym, ap, ◌∙◌, subst, drop, Bool, true, false, Option, Some, None, is_none, cond}
 use Rattle.spdm_grammar.specs.Message.{RequestMessage, ChunkMessage}
 use Rattle.spdm_grammar.specs.Message.RequestMessage.{GetVersion, GetCapabilities, NegotiateAlgorithms, GetMeasurements, PskExchange, PskFinish, Heartbeat, KeyUpdate, EndSession, ChunkSend, ChunkGet}
 use Rattle.spdm_grammar.specs.declared.error_code.ErrorCode.{ErrorCode}
@@ -63,16 +64,10 @@ update_refusal : (r : RspSetup) (p : Place) (m : List ℕ) (f k : Free) → answ
 unfolding refusal refused_contents
 update_refusal r p m f k same = rw same refl
 
-nat_same : (a b : ℕ) → (a == b) ≡ true → a ≡ b
-nat_same a b is = grind (arith, nat_tests)
-
-nat_apart : (a b : ℕ) → (a == b) ≡ false → a ≢ b
-nat_apart a b is = grind (arith, nat_tests)
-
 -- CHUNK_SEND is refused in a session.
 pub no_chunk : (r : RspSetup) (s : Events) (m : List ℕ) (f : Free) (c : ChunkMessage) → request_at (session_place s) m ≡ Some (ChunkSend c) → refusal r (session_place s) m f ≢ None
 no_chunk r s m f c is none =
-    nat_apart _ CHUNK_SEND (form_shown r (session_place s) m f none 4) (sym (asked-code (session_place s) m (ChunkSend c) is))
+    eqb-false _ CHUNK_SEND (form_shown r (session_place s) m f none 4) (sym (asked-code (session_place s) m (ChunkSend c) is))
 
 abbrev pub asks_update : Option RequestMessage → Bool
 asks_update (Some (KeyUpdate op tag)) = op == 2
@@ -96,11 +91,8 @@ by_updates r s m f (Some (KeyUpdate op tag)) None asks is = ap (λ (o : Option R
 by_updates r s m f (Some EndSession) None asks is = ap (λ (o : Option RequestMessage). updates 2 (record { message = m; refused = None; chunk = None; effect = effect_of o m (answer_bytes r (session_place s) m f) (handle_for (session_place s) f (answer_bytes r (session_place s) m f)); reply = [] })) asks
 by_updates r s m f (Some (ChunkGet handle number)) None asks is = ap (λ (o : Option RequestMessage). updates 2 (record { message = m; refused = None; chunk = None; effect = effect_of o m (answer_bytes r (session_place s) m f) (handle_for (session_place s) f (answer_bytes r (session_place s) m f)); reply = [] })) asks
 
-no_and : (b c : Bool) → (b && false) ≡ (c && false)
-no_and true true = refl
-no_and true false = refl
-no_and false true = refl
-no_and false false = refl
+pub no_and : (b c : Bool) → (b && false) ≡ (c && false)
+no_and b c = and-false b ∙ sym (and-false c)
 
 refusals : (r : RspSetup) (p : Place) (m : List ℕ) (f k : Free) (q : Option RequestMessage) → request_at p m ≡ q → (is_none (refusal r p m f) && asks_update q) ≡ (is_none (refusal r p m k) && asks_update q)
 refusals r p m f k (Some (KeyUpdate op tag)) is = ap (λ (x : Option ErrorCode). is_none x && (op == 2)) (update_refusal r p m f k (update_answer r p m f k op tag is))

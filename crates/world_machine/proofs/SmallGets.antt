@@ -1,21 +1,23 @@
 -- No answer to CHUNK_GET goes by LargeResponse.
-use Rattle.world_machine.proofs.RepliesAlike.{GetsAreSmall}
+use Rattle.std.proofs.Math.Bool.{and-false}
+use Rattle.world_machine.proofs.DropsTell.{clear_form}
+use Rattle.world_machine.proofs.PlainTells.{ClearLed, led_clear, led_record}
+use Rattle.world_machine.proofs.RecordAdds.{record_added}
 use Rattle.world_machine.specs.Rounds.{no_draw}
 use Rattle.world_machine.specs.LargeAnswers.{is_large, takes_get}
 use Rattle.world_machine.specs.CapturedAnswers.{MayLeadTo}
-use Rattle.spdm_grammar.specs.declared.phase.Phase.{Phase}
-use Rattle.spdm_basis.specs.declared.record_fault.RecordFault.{RecordFault}
-use Rattle.responder_machine.specs.Responder.Outcome.{Same, Adds}
-use Rattle.responder_machine.specs.Records.{opening_fault, opened}
+use Rattle.responder_machine.specs.Responder.Outcome.{Adds}
+use Rattle.responder_machine.specs.Records.{opened}
 use Rattle.responder_machine.specs.History.Entry.{Clear}
-use Rattle.responder_machine.specs.History.{History, Entry, ended_of, clear_turns, phase_of}
+use Rattle.responder_machine.specs.History.{History, Entry}
 use Rattle.responder_machine.proofs.Tests.{form_shown, contents_shown}
 use Rattle.responder_machine.proofs.Codes.{asked-code}
+use Rattle.responder_machine.proofs.Sizes.{IsSized, common_sized}
 use Rattle.responder_machine.specs.Turn.Effect.{NoEffect}
 use Rattle.responder_machine.specs.Turn.{Effect, code_in, handle_in}
 use Rattle.responder_machine.specs.Setup.{RspSetup}
-use Rattle.responder_machine.specs.Session.{Events, stage_of, session_of, id_in_record, last_of}
-use Rattle.responder_machine.specs.Responder.{session_turn, session_turn_by, inner_refusal, data_turn, on_clear, on_record, to_session, in_session, in_session_by, sealed_entry, repeats}
+use Rattle.responder_machine.specs.Session.{Events, stage_of, session_of, id_in_record}
+use Rattle.responder_machine.specs.Responder.{session_turn, session_turn_by, inner_refusal, data_turn}
 use Rattle.responder_machine.specs.Refusal.{refusal, code_of, lacks_flag, bytes_round, sizes_are_known, is_misplaced}
 use Rattle.responder_machine.specs.Place.Where.{InChunks}
 use Rattle.responder_machine.specs.Place.{Place, place_terms, session_place, inside, clear_place}
@@ -27,49 +29,25 @@ use Rattle.spdm_grammar.specs.declared.error_code.ErrorCode.{ErrorCode}
 use Rattle.spdm_grammar.specs.Codes.{code_for}
 use Rattle.spdm_grammar.specs.Fields.{zeros, large_bytes}
 use Rattle.byteorder.specs.Endian.{little_bytes}
-use Rattle.std.proofs.Common.{◌≡◌, ◌≤◌, ◌+◌, ◌-◌, ◌==◌, ◌&&◌, ◌||◌, ℕ, List, [], ◌∷◌, ◌++◌, refl, sym, ap, ◌∙◌, subst, length, drop, Bool, true, false, Option, Some, None, Ok, Err, is_some, cond, arith}
+use Rattle.std.proofs.Common.{◌≡◌, ◌≤◌, ◌+◌, ◌-◌, ◌==◌, ◌&&◌, ◌||◌, ℕ, List, [], ◌∷◌, ◌++◌, refl, sym, ap, ◌∙◌, subst, length, drop, Bool, true, false, Option, Some, None, is_some, cond, arith, eqb-true, inl, inr}
 use Rattle.std.specs.Prelude.{not, nat_lt, slice_index, unwrap_or}
 use Rattle.std.specs.Result.{result_ok}
 use Rattle.std.proofs.lemmas.Bool.{false≢true, le-ltb}
-use Rattle.std.proofs.lemmas.Bool.Decides.{nat_tests}
-use Rattle.std.proofs.lemmas.Option.{none-some, same_Some}
-use Rattle.std.proofs.Math.Nat.{le-min}
 use Rattle.chunking.specs.Cutting.{nth_chunk}
 use Rattle.chunking.proofs.ChunkSteps.{size_is}
-use Rattle.negotiate.specs.Capabilities.{common_of, shared, psk_is, protects}
+use Rattle.negotiate.specs.Capabilities.{common_of}
 use Rattle.negotiate.specs.declared.shared.Common.{Common}
 use Rattle.spdm_grammar.specs.Message.{RequestMessage, ChunkMessage}
 use Rattle.spdm_grammar.specs.Message.RequestMessage.{ChunkGet}
 use Rattle.spdm_grammar.specs.Message.ResponseMessage.{ChunkResponse}
 use Rattle.spdm_grammar.specs.Responses.{canonical_response}
 use Rattle.spdm_grammar.specs.declared.capabilities.Caps.{Caps}
-use Rattle.spdm_grammar.specs.declared.part_faults.CapsFault.TheVariants.{SizeTooSmall, SizesCrossed, NoPsk, NoProtection}
 use Rattle.spdm_grammar.specs.declared.names.TheConstants.{MIN_DATA_TRANSFER_SIZE}
-use Rattle.spdm_grammar.specs.declared.names.capability.TheConstants.{PSK_CAP, PSK_CAP_WITH_CONTEXT}
 use Rattle.spdm_grammar.specs.declared.names.request_code.TheConstants.{CHUNK_GET}
 use Rattle.spdm_machine.specs.Terms.{terms_of, common_from, no_common, asked_caps, told_caps, request_value, response_value}
 use Rattle.transcript.specs.Transcripts.{Negotiation}
 
 -- ---- Chunks are in common only where the sizes are large enough.
-
-both_passed : (a b c d : Bool) (s common : Common) → result_ok (cond a (Err SizeTooSmall) (cond b (Err SizesCrossed) (cond c (Err NoPsk) (cond d (Err NoProtection) (Ok s))))) ≡ Some common → (a ≡ false) × (s ≡ common)
-both_passed true b c d s common h = absurd (none-some common h)
-both_passed false true c d s common h = absurd (none-some common h)
-both_passed false false true d s common h = absurd (none-some common h)
-both_passed false false false true s common h = absurd (none-some common h)
-both_passed false false false false s common h = (refl, same_Some s common h)
-
-not_less : (a b : ℕ) (rest : Bool) → (nat_lt a b || rest) ≡ false → b ≤ a
-not_less a b rest h = grind (arith, nat_tests)
-
-abbrev IsSized : Common → Type 0
-IsSized common = MIN_DATA_TRANSFER_SIZE ≤ common.to_requester.transfer
-
-common_sized : (caps told : Caps) (common : Common) → result_ok (common_of caps told) ≡ Some common → IsSized common
-common_sized caps told common is =
-    let passed = both_passed (nat_lt caps.transfer MIN_DATA_TRANSFER_SIZE || nat_lt told.transfer MIN_DATA_TRANSFER_SIZE) (nat_lt caps.max caps.transfer || nat_lt told.max told.transfer) (not (psk_is PSK_CAP caps.flags && psk_is PSK_CAP_WITH_CONTEXT told.flags)) (not (protects caps.flags && protects told.flags)) (shared caps told) common is in
-    let least = not_less caps.transfer MIN_DATA_TRANSFER_SIZE (nat_lt told.transfer MIN_DATA_TRANSFER_SIZE) passed.0 in
-    subst IsSized passed.1 (le-min least (omega arith))
 
 settled_sized : (o : Option Common) → ((common : Common) → o ≡ Some common → IsSized common) → (unwrap_or o no_common).chunk ≡ true → IsSized (unwrap_or o no_common)
 settled_sized None all is = absurd (false≢true is)
@@ -82,7 +60,7 @@ from_sized None b is = absurd (false≢true is)
 
 pub chunk_sized : (n : Negotiation) → (terms_of n).common.chunk ≡ true → MIN_DATA_TRANSFER_SIZE ≤ (terms_of n).common.to_requester.transfer
 unfolding terms_of
-chunk_sized n is = from_sized (asked_caps (request_value n.get_capabilities)) (told_caps (response_value n.capabilities)) is
+chunk_sized n is = (from_sized (asked_caps (request_value n.get_capabilities)) (told_caps (response_value n.capabilities)) is).0
 
 -- ---- A chunk of a large answer fits the transfer size.
 
@@ -93,12 +71,9 @@ chunk_fits false last handle number size count unit chunk told less four = omega
 
 piece_fits : (b : Bool) (transfer handle number : ℕ) (whole : List ℕ) → MIN_DATA_TRANSFER_SIZE ≤ transfer → (number == 0) ≡ b → length (nth_chunk transfer handle whole number).chunk ≤ cond b (transfer - 12 - 4) (transfer - 12)
 piece_fits true transfer handle number whole low is =
-    let zero_is : number ≡ 0 = nat_same number 0 is in
+    let zero_is : number ≡ 0 = eqb-true number 0 is in
     let P : ℕ → Type 0 = λ n. length (nth_chunk transfer handle whole n).chunk ≤ transfer - 12 - 4 in
     subst P (sym zero_is) (omega (arith, size_is transfer handle whole (omega arith) 0))
-  where
-    nat_same : (a b : ℕ) → (a == b) ≡ true → a ≡ b
-    nat_same a b is = grind (arith, nat_tests)
 piece_fits false transfer handle number whole low is = omega (arith, size_is transfer handle whole (omega arith) number)
 
 get_fits : (transfer handle number : ℕ) (whole : List ℕ) → MIN_DATA_TRANSFER_SIZE ≤ transfer → length (canonical_response (ChunkResponse (nth_chunk transfer handle whole number))) ≤ transfer
@@ -114,7 +89,7 @@ not_or true e = refl
 not_or false e = sym e
 
 -- Chunks are in common where CHUNK_GET is not refused.
-get_chunks : (r : RspSetup) (p : Place) (m : List ℕ) (f : Free) (handle number : ℕ) → refusal r p m f ≡ None → request_at p m ≡ Some (ChunkGet handle number) → (place_terms p).common.chunk ≡ true
+pub get_chunks : (r : RspSetup) (p : Place) (m : List ℕ) (f : Free) (handle number : ℕ) → refusal r p m f ≡ None → request_at p m ≡ Some (ChunkGet handle number) → (place_terms p).common.chunk ≡ true
 get_chunks r p m f handle number none is =
     let code : CHUNK_GET ≡ code_of m = asked-code p m (ChunkGet handle number) is in
     let lacks : lacks_flag (place_terms p) CHUNK_GET ≡ false = ap (lacks_flag (place_terms p)) code ∙ contents_shown r p m f none 0 in
@@ -129,21 +104,14 @@ get_small r p m f handle number none is round =
     let fits = get_fits transfer handle number whole low in
     let answer : List ℕ = canonical_response (ChunkResponse (nth_chunk transfer handle whole number)) in
     let small : nat_lt transfer (bytes_round p.at + length answer) ≡ false = le-ltb transfer (bytes_round p.at + length answer) (omega (arith, fits)) in
-    let large : goes_large p answer ≡ false = ap (λ (b : Bool). sizes_are_known p.phase && b) small ∙ and_false (sizes_are_known p.phase) in
+    let large : goes_large p answer ≡ false = ap (λ (b : Bool). sizes_are_known p.phase && b) small ∙ and-false (sizes_are_known p.phase) in
     ap (λ (o : Option RequestMessage). is_some (handle_for p f (answer_to r p m f o))) is ∙ ap (λ (b : Bool). is_some (cond b (Some f.handle) None)) large
-  where
-    and_false : (b : Bool) → (b && false) ≡ false
-    and_false true = refl
-    and_false false = refl
 
 -- CHUNK_GET does not come by chunks.
-not_carried : (r : RspSetup) (p : Place) (text : List ℕ) (f : Free) (q : RequestMessage) → refusal r (inside p) text f ≡ None → request_at (inside p) text ≡ Some q → (code_for q == CHUNK_GET) ≡ true → ⊥
+pub not_carried : (r : RspSetup) (p : Place) (text : List ℕ) (f : Free) (q : RequestMessage) → refusal r (inside p) text f ≡ None → request_at (inside p) text ≡ Some q → (code_for q == CHUNK_GET) ≡ true → ⊥
 not_carried r p text f q none is code =
-    let at : CHUNK_GET ≡ code_of text = sym (same (code_for q) CHUNK_GET code) ∙ asked-code (inside p) text q is in
+    let at : CHUNK_GET ≡ code_of text = sym (eqb-true (code_for q) CHUNK_GET code) ∙ asked-code (inside p) text q is in
     false≢true (sym (form_shown r (inside p) text f none 5) ∙ ap (is_misplaced InChunks) (sym at))
-  where
-    same : (a b : ℕ) → (a == b) ≡ true → a ≡ b
-    same a b is = grind (arith, nat_tests)
 
 -- What takes effect as CHUNK_GET is answered whole.
 abbrev IsWhole : Effect → Type 0
@@ -187,45 +155,28 @@ session_whole_by r s inner f None = by_type (slice_index inner 0 == 5)
     by_type true = turn_of_whole r (session_place s) (drop 1 inner) f refl
     by_type false = λ code. absurd (false≢true code)
 
-session_whole : (r : RspSetup) (s : Events) (inner : List ℕ) (f : Free) → IsWhole (session_turn r s inner f).effect
+pub session_whole : (r : RspSetup) (s : Events) (inner : List ℕ) (f : Free) → IsWhole (session_turn r s inner f).effect
 unfolding session_turn
 session_whole r s inner f = session_whole_by r s inner f (inner_refusal (stage_of s) inner)
 
 -- ---- An entry.
 
-clear_small : (r : RspSetup) (h : History) (tag : ℕ) (m : List ℕ) (f : Free) (b : Bool) (kept : List ℕ) (e : Entry) → cond b (Same kept) (Adds (Clear tag (turn_of r (clear_place h) m f) no_draw)) ≡ Adds e → takes_get e ≡ true → is_large e ≡ false
-clear_small r h tag m f true kept e is gets = absurd (cc)
-clear_small r h tag m f false kept e is gets =
-    let same : Clear tag (turn_of r (clear_place h) m f) no_draw ≡ e = cc in
-    ap is_large (sym same) ∙ turn_of_whole r (clear_place h) m f refl (ap takes_get same ∙ gets)
+-- What CHUNK_GET leads to goes whole.
+pub gets_are_small : (r : RspSetup) (h : History) (tag : ℕ) (body : List ℕ) (e : Entry) → MayLeadTo r h tag body (Adds e) → takes_get e ≡ true → is_large e ≡ false
+gets_are_small r h tag body e may gets = by_type (slice_index body 0 == 5) refl
+  where
+    clear : (led : ClearLed r h tag body (Adds e)) → is_large e ≡ false
+    clear led = elim (clear_form r h tag (drop 1 body) led.free (Adds e) led.leads) [
+      | inl same ↦ absurd (let x = same.1 in cc)
+      | inr adds ↦
+          let same : Clear tag (turn_of r (clear_place h) (drop 1 body) led.free) no_draw ≡ e = cc (sym adds) in
+          ap is_large (sym same) ∙ turn_of_whole r (clear_place h) (drop 1 body) led.free refl (ap takes_get same ∙ gets)
+    ]
 
-in_small : (r : RspSetup) (phase : Phase) (s : Events) (f : Free) (tag : ℕ) (sealed : List ℕ) (x : Option RecordFault) (e : Entry) → in_session_by r phase s f tag sealed no_draw x ≡ Adds e → takes_get e ≡ true → is_large e ≡ false
-in_small r phase s f tag sealed (Some fault) e is gets = absurd (cc)
-in_small r phase s f tag sealed None e is gets =
-    let same : sealed_entry r s f tag sealed no_draw (session_turn r s (opened r.psk s sealed) f) ≡ e = cc in
-    ap is_large (sym same) ∙ session_whole r s (opened r.psk s sealed) f (ap takes_get same ∙ gets)
-
-repeat_small : (r : RspSetup) (phase : Phase) (s : Events) (f : Free) (tag : ℕ) (sealed kept : List ℕ) (b : Bool) (e : Entry) → cond b (Same kept) (in_session r phase s f tag sealed no_draw) ≡ Adds e → takes_get e ≡ true → is_large e ≡ false
-unfolding in_session
-repeat_small r phase s f tag sealed kept true e is gets = absurd (cc)
-repeat_small r phase s f tag sealed kept false e is gets = in_small r phase s f tag sealed (opening_fault r.psk s sealed) e is gets
-
-to_small : (r : RspSetup) (phase : Phase) (s : Events) (f : Free) (tag : ℕ) (sealed : List ℕ) (e : Entry) → to_session r phase s f tag sealed no_draw ≡ Adds e → takes_get e ≡ true → is_large e ≡ false
-to_small r phase [] f tag sealed e is gets = absurd (cc)
-to_small r phase (x ∷ s) f tag sealed e is gets = repeat_small r phase (x ∷ s) f tag sealed _ (repeats (last_of (x ∷ s)) sealed) e is gets
-
-ended_small : (r : RspSetup) (phase : Phase) (s : Events) (f : Free) (tag : ℕ) (sealed kept : List ℕ) (b : Bool) (e : Entry) → cond b (Same kept) (to_session r phase s f tag sealed no_draw) ≡ Adds e → takes_get e ≡ true → is_large e ≡ false
-ended_small r phase s f tag sealed kept true e is gets = absurd (cc)
-ended_small r phase s f tag sealed kept false e is gets = to_small r phase s f tag sealed e is gets
-
-body_small : (r : RspSetup) (h : History) (tag : ℕ) (body : List ℕ) (f : Free) (b : Bool) (e : Entry) → cond b (on_clear r h tag (drop 1 body) f no_draw) (on_record r h tag (drop 1 body) f no_draw) ≡ Adds e → takes_get e ≡ true → is_large e ≡ false
-unfolding on_clear on_record
-body_small r h tag body f true e is gets = clear_small r h tag (drop 1 body) f _ _ e is gets
-body_small r h tag body f false e is gets = ended_small r (phase_of (clear_turns h)) (session_of (id_in_record (drop 1 body)) h) f tag (drop 1 body) _ (repeats (ended_of h) (drop 1 body)) e is gets
-
-led_small : (r : RspSetup) (h : History) (tag : ℕ) (body : List ℕ) (e : Entry) → MayLeadTo r h tag body (Adds e) → takes_get e ≡ true → is_large e ≡ false
-unfolding MayLeadTo
-led_small r h tag body e may gets = body_small r h tag body may.0 (slice_index body 0 == 5) e may.3 gets
-
-pub gets_are_small : (r : RspSetup) (h : History) → GetsAreSmall r h
-gets_are_small r h = record { small = led_small r h }
+    by_type : (b : Bool) → (slice_index body 0 == 5) ≡ b → is_large e ≡ false
+    by_type true is = clear (led_clear r h tag body (Adds e) is may)
+    by_type false is =
+        let led = led_record r h tag body (Adds e) is may in
+        let s : Events = session_of (id_in_record (drop 1 body)) h in
+        let same = record_added r led.free tag (drop 1 body) e h led.leads in
+        ap is_large (sym same) ∙ session_whole r s (opened r.psk s (drop 1 body)) led.free (ap takes_get same ∙ gets)

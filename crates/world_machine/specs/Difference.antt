@@ -254,3 +254,8 @@ pub record IsDifference (w : Configuration) (packets : List (List ℕ)) (number 
 abbrev pub FirstHasReason : Type 0
 FirstHasReason = (w : Configuration) (packets : List (List ℕ)) (number : ℕ)
     → IsFirstDifference w packets number → ((why : Why) → IsDifference w packets number why → ⊥) → ⊥
+
+-- No capture has two first differences, and none has two reasons.
+abbrev pub OneReason : Type 0
+OneReason = (w : Configuration) (packets : List (List ℕ)) (number other : ℕ) (why because : Why)
+    → IsDifference w packets number why → IsDifference w packets other because → (number ≡ other) × (why ≡ because)

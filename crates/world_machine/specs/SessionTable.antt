@@ -226,3 +226,7 @@ abbrev pub ConformingHasTable : Type 0
 ConformingHasTable = (w : Configuration) (packets : List (List ℕ))
     → (Conforms w packets → (table : List Seen) × HasTable w packets table)
     × ((table : List Seen) → HasTable w packets table → Conforms w packets)
+
+-- No capture has two tables.
+abbrev pub OneTable : Type 0
+OneTable = (w : Configuration) (packets : List (List ℕ)) (one other : List Seen) → HasTable w packets one → HasTable w packets other → one ≡ other

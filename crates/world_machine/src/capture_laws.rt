@@ -1,8 +1,8 @@
 //! What holds of captures, each law as the contract of a function that does nothing.
 
 ghost use Rattle.world_machine.specs.Capture.{BeginningConforms, OneIsFirst};
-ghost use Rattle.world_machine.specs.Difference.{FirstHasReason};
-ghost use Rattle.world_machine.specs.SessionTable.{ConformingHasTable};
+ghost use Rattle.world_machine.specs.Difference.{FirstHasReason, OneReason};
+ghost use Rattle.world_machine.specs.SessionTable.{ConformingHasTable, OneTable};
 
 /// The beginning of a conforming capture conforms, so there is a first packet that does not.
 pub fn beginning_conforms()
@@ -12,6 +12,11 @@ pub fn beginning_conforms()
 /// A capture conforms where it has a table of its sessions, and nowhere else.
 pub fn conforming_has_table()
     ensures { ConformingHasTable }
+{}
+
+/// A capture has one table of its sessions, whichever values its ends chose where nothing shows them.
+pub fn one_table()
+    ensures { OneTable }
 {}
 
 /// No capture has two packets of which each is the first that does not conform.
@@ -24,4 +29,9 @@ pub fn one_is_first()
 /// stand there instead.
 pub fn first_has_reason()
     ensures { FirstHasReason }
+{}
+
+/// No capture has two first packets that do not conform, and none has two of the seven reasons.
+pub fn one_reason()
+    ensures { OneReason }
 {}

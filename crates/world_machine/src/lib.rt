@@ -6,5 +6,7 @@
 mod capture_laws;
 mod laws;
 
-pub use capture_laws::{beginning_conforms, conforming_has_table, first_has_reason, one_is_first};
+pub use capture_laws::{
+    beginning_conforms, conforming_has_table, first_has_reason, one_is_first, one_reason, one_table,
+};
 pub use laws::chance_stays;
