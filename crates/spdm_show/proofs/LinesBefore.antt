@@ -14,15 +14,22 @@ pub lines_through : (shown : List Shown) (i : ℕ) (d : Shown) → i < length sh
 lines_through [] i d h = absurd (omega (arith, h))
 lines_through (s ∷ others) zero d h = refl
 lines_through (s ∷ others) (suc i) d h =
-    ap (λ (t : List ℕ). line_of s ++ t) (lines_through others i d (omega (arith, h)))
+    let below : i < length others = omega (arith, h) in
+    let next : suc i + 1 ≡ suc (i + 1) = omega arith in
+    let rest : drop (suc i + 1) (s ∷ others) ≡ drop (i + 1) others = ap (λ (n : ℕ). drop n (s ∷ others)) next in
+    ap (λ (t : List ℕ). line_of s ++ t) (lines_through others i d below)
     ∙ sym (append_assoc (line_of s) (lines_before others i) (line_of (get_or others i d) ++ lines_of (drop (i + 1) others)))
+    ∙ ap (λ (l : List Shown). lines_before (s ∷ others) (suc i) ++ (line_of (get_or others i d) ++ lines_of l)) (sym rest)
 
 -- One message more.
 pub lines_before_more : (shown : List Shown) (i : ℕ) (d : Shown) → i < length shown → lines_before shown (i + 1) ≡ lines_before shown i ++ line_of (get_or shown i d)
 lines_before_more [] i d h = absurd (omega (arith, h))
 lines_before_more (s ∷ others) zero d h = append-nil (line_of s)
 lines_before_more (s ∷ others) (suc i) d h =
-    ap (λ (t : List ℕ). line_of s ++ t) (lines_before_more others i d (omega (arith, h)))
+    let below : i < length others = omega (arith, h) in
+    let next : suc i + 1 ≡ suc (i + 1) = omega arith in
+    ap (λ (n : ℕ). lines_before (s ∷ others) n) next
+    ∙ ap (λ (t : List ℕ). line_of s ++ t) (lines_before_more others i d below)
     ∙ sym (append_assoc (line_of s) (lines_before others i) (line_of (get_or others i d)))
 
 -- One text behind another.

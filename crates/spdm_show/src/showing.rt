@@ -63,8 +63,8 @@ pub fn show<K: Sink>(alloc: Global, text: &[u8], sink: &mut K) -> Result<(), Sho
 fn write_lines<K: Sink>(shown: &[Shown], sink: &mut K) -> Result<(), OutFault>
     ensures whole { OnOk result (Takes (K.contents sink.old) (lines_of shown.now)
         (K.contents sink.new)) }
-    ensures prefix { OnErr result (TakesPrefix (K.contents sink.old) (lines_of shown.now)
-        (K.contents sink.new)) }
+    ensures prefix { TakesPrefix (K.contents sink.old) (lines_of shown.now)
+        (K.contents sink.new) }
     ensures fault { OnErr result (HasFault (K.faults sink.old) (K.faults sink.new)) }
     ensures later { K.faults sink.old ≤ K.faults sink.new }
 {

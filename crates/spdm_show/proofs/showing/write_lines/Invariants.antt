@@ -1,4 +1,4 @@
-use Rattle.std.proofs.Common.{◌≡◌, ◌≤◌}
+use Rattle.std.proofs.Common.{◌≤◌}
 use Rattle.spdm_basis.specs.Stream.{Takes}
 use Rattle.spdm_show.proofs.LinesBefore.{lines_before}
 use Rattle.spdm_show.proofs.showing.write_lines.Given as goal
