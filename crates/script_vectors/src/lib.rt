@@ -1,12 +1,16 @@
-//! Texts and printed lines, with the answers of another implementation, for `script_text`. There is nothing here
+//! Texts and printed lines, with the answers of another implementation, for `script_text` and `spdm_show`. There is nothing here
 //! but tests: the readers are proved once, and not again beside their tests.
 #![tactic(auto)]
 
+#[cfg(test)]
+mod messages;
 #[cfg(test)]
 mod printers;
 #[cfg(test)]
 mod script_tests;
 #[cfg(test)]
 mod scripts;
+#[cfg(test)]
+mod show_tests;
 #[cfg(test)]
 mod texts;
