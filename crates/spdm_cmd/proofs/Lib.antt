@@ -7,4 +7,5 @@ pub mod Pumping
 pub mod Written
 pub mod EventTexts
 pub mod TopCall
+pub mod ToldFaults
 mod EndPoints

@@ -1,6 +1,6 @@
 -- Which clear requests are refused, with which code: tests in order, of which the first that holds decides (DSP0274, "ERROR"; the
 -- order is this project's own). GET_VERSION is the only request that is built, and every phase allows it.
-use Rattle.std.specs.Prelude.{◌==◌, not, nat_lt, ℕ, List, [], ◌∷◌, length, slice_index, if◌then◌else◌, Bool, true, false, Option, Some, None}
+use Rattle.std.specs.Prelude.{◌==◌, not, nat_lt, ℕ, List, [], ◌∷◌, length, slice_index, Bool, true, false, Option, Some}
 use Rattle.spdm_basis.specs.Tests.{first_of_tests}
 use Rattle.spdm_grammar.specs.Requests.{request_in}
 use Rattle.spdm_grammar.specs.ErrorNumber.{error_number}

@@ -7,6 +7,7 @@ mod lines;
 mod link;
 mod numbers;
 mod outcome;
+mod output;
 mod packets;
 mod parse;
 mod requester;

@@ -1,6 +1,6 @@
 ghost use Rattle.std.specs.Prelude.{◌≡◌};
 
-use crate::script::LineFault;
+use script_text::LineFault;
 
 /// What a command came to.
 #[derive(Clone, Copy, Debug, PartialEq, Eq)]

@@ -2,11 +2,12 @@ ghost use Rattle.std.specs.Prelude.{◌≡◌, ◌<◌, ◌≤◌, ◌+◌, ◌+
 ghost use Rattle.spdm_cmd.specs.Script.{first_bad_line, entries_of, event_in, is_connect, pump_in, configuration_line};
 ghost use Rattle.std.specs.Str.{bytes_eq};
 ghost use Rattle.spdm_cmd.specs.Reading.{StandsForLines, IsTakenBehind};
-ghost use Rattle.spdm_cmd.specs.declared.script.LineFault.{LineFault};
+ghost use Rattle.script_text.specs.declared.faults.LineFault.{LineFault};
 
 use crate::lines::next_line;
 use crate::numbers::number;
-use crate::script::{Entry, Events, LineFault, LinkEvent, ScriptFault};
+use crate::script::{Entry, Events, LinkEvent, ScriptFault};
+use script_text::LineFault;
 use std::alloc::Global;
 
 // How many lines the configuration has.

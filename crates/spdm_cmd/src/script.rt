@@ -1,5 +1,6 @@
 ghost use Rattle.std.specs.Prelude.{◌≡◌, [], ◌∷◌, ◌++◌, OnOk, OnErr};
 
+use script_text::LineFault;
 use spdm_basis::OutOfMemory;
 use std::alloc::Global;
 use std::marker::Model;
@@ -60,14 +61,6 @@ impl Events {
     {
         self.items.as_slice()
     }
-}
-
-/// Why a line is bad.
-#[derive(Clone, Copy, Debug, PartialEq, Eq, Error)]
-pub enum LineFault {
-    /// The line is none that may stand there.
-    #[error("the line is none that may stand here")]
-    Unknown,
 }
 
 /// Why a text is not taken as a script.

@@ -1,6 +1,6 @@
 use crate::outcome::Outcome;
 use crate::run::spdm;
-use crate::script::LineFault;
+use script_text::LineFault;
 use spdm_basis::{MemSink, MemSource};
 use std::test::Fail;
 
@@ -104,6 +104,22 @@ fn words_that_are_no_command(rt: HostRuntime) -> Result<(), Fail> {
         assert_eq!(rt; outcome.status(), 2);
         assert_eq!(rt; written.len(), 0);
     }
+    Ok(())
+}
+
+#[test]
+fn show_two_lines(rt: HostRuntime) -> Result<(), Fail> {
+    let (outcome, written) = run_text(&rt, &["show"], "q 10840000\nq 1284\n", (&[], &[]))?;
+    assert_eq!(rt; outcome, Outcome::Done);
+    assert_eq!(rt;
+        written.as_slice(),
+        b"GET_VERSION 4\nmalformed 1 field\n".as_slice()
+    );
+
+    let (outcome, written) = run_text(&rt, &["show"], "q 10840000\nr\n", (&[], &[]))?;
+    let (line, fault) = (2, LineFault::Words);
+    assert_eq!(rt; outcome, Outcome::BadScript { line, fault });
+    assert_eq!(rt; written.len(), 0);
     Ok(())
 }
 

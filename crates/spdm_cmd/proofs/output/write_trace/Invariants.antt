@@ -3,7 +3,7 @@ use Rattle.spdm_basis.specs.Stream.{Takes}
 use Rattle.spdm_cmd.specs.StandsFor.{StandsFor}
 use Rattle.spdm_cmd.specs.Trace.{configured}
 use Rattle.spdm_cmd.proofs.EventTexts.{text_before, state_before}
-use Rattle.spdm_cmd.proofs.run.write_trace.Given as goal
+use Rattle.spdm_cmd.proofs.output.write_trace.Given as goal
 
 -- the lines of the events so far were written, and the world stands for the state behind them
 abbrev pub invariant-loop-entry : goal.invariant-loop-entry

@@ -9,7 +9,7 @@ use Rattle.spdm_cmd.specs.declared.script.LinkEvent.TheVariants.{Connect}
 use Rattle.spdm_cmd.specs.declared.setup.Setup.{Setup}
 use Rattle.spdm_cmd.specs.Trace.{configured, phases_text, events_text}
 use Rattle.spdm_cmd.proofs.EventTexts.{text_before, state_before, text_before_more, state_before_more, trace_through, get_or_any, takes_both, takes_then_prefix, prefix_of_more}
-use Rattle.spdm_cmd.proofs.run.write_trace.Goals as goal
+use Rattle.spdm_cmd.proofs.output.write_trace.Goals as goal
 
 pub returns-in_err-start-clause-prefix : goal.returns-in_err-start-clause-prefix
 returns-in_err-start-clause-prefix g c =
