@@ -3,3 +3,6 @@ pub mod Finishes
 pub mod Judged
 pub mod Past
 pub mod AskCommands
+pub mod AskFew
+pub mod Blocks
+pub mod Replies
