@@ -6,3 +6,7 @@ pub mod AskCommands
 pub mod AskFew
 pub mod Blocks
 pub mod Replies
+pub mod Meanings
+pub mod Courses
+pub mod Chunks
+pub mod Taking

@@ -9,7 +9,7 @@ use Rattle.requester_machine.specs.History.Effect.{Nothing, Grants}
 use Rattle.requester_machine.specs.InnerMessages.{op_in}
 use Rattle.requester_machine.specs.Message.{Ask}
 use Rattle.requester_machine.specs.Message.Ask.{AskFinish, AskData, AskBeat, AskUpdate, AskVerify, AskMeasure, AskChunk, AskEnd}
-use Rattle.requester_machine.specs.Order.{may_bring}
+use Rattle.requester_machine.specs.Order.{may_bring, stage_for}
 use Rattle.requester_machine.specs.Records.{asks_all}
 use Rattle.requester_machine.specs.Sending.{inner_request, key_update, operation_of}
 use Rattle.requester_machine.specs.Session.{Steps, session_terms, request_next, response_next}
@@ -23,6 +23,7 @@ use Rattle.spdm_grammar.specs.declared.event.BadReply.TheVariants as bad
 use Rattle.spdm_grammar.specs.declared.malformed.Malformed.{Malformed}
 use Rattle.spdm_grammar.specs.declared.names.error_number.TheConstants.{LARGE_RESPONSE}
 use Rattle.spdm_grammar.specs.declared.part_faults.ChunkFault.TheVariants as chunk
+use Rattle.spdm_grammar.specs.declared.phase.Stage.TheVariants as stage
 use Rattle.psk_session.specs.Course.{Course, with_taken}
 use Rattle.psk_session.specs.Course as courses
 use Rattle.psk_session.specs.Data.{data_in}
@@ -142,4 +143,4 @@ Fits s a answer Ended = ⊤
 Fits s a answer (Answered reply bytes) =
     (may_bring (effect_of answer (op_in a) reply) a ≡ true) × (asks_all a ≡ false) × (data_in (effect_of answer (op_in a) reply) ≡ bytes) × (length bytes ≤ 4160)
 Fits s a answer (Updated all) = a ≡ AskUpdate all
-Fits s a answer (Large op handle) = (asks_all a ≡ false) × (op_in a ≡ op) × (request_next s ≤ 65300) × (response_next s ≤ 65299)
+Fits s a answer (Large op handle) = (asks_all a ≡ false) × (stage_for a ≡ stage.Open) × (request_next s ≤ 65300) × (response_next s ≤ 65299)
