@@ -10,3 +10,4 @@ pub mod Meanings
 pub mod Courses
 pub mod Chunks
 pub mod Taking
+pub mod Entries

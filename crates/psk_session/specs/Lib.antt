@@ -17,3 +17,4 @@ pub mod Held
 pub mod Took
 pub mod Finished
 pub mod Answers
+pub mod TookLaws

@@ -30,7 +30,10 @@ pub use ask_fault::AskFault;
 pub use closed::Closed;
 pub use finish_took::FinishTook;
 pub use finishing::Finishing;
-pub use laws::ask_is_command;
+pub use laws::{
+    ask_is_command, course_is_entry, data_are_last, finish_is_entry, opening_is_answer,
+    unopened_is_ignored,
+};
 pub use open_fault::OpenFault;
 pub use opening::Opening;
 pub use reply::Reply;
