@@ -62,9 +62,11 @@ impl Kept {
 
     // The session as it is shown, in its stage and in this epoch of responses.
     pub fn view(&self, stage: Stage, shown: u64) -> SessionView
-        ensures { (psk : List ℕ) (s : Steps) (epoch : ℕ) → Keeps self.now psk s epoch
+        ensures value { (psk : List ℕ) (s : Steps) (epoch : ℕ) → Keeps self.now psk s epoch
             → stage ≡ stage_of s → shown ≡ response_epoch s → taken_of s < 2 ^ 64
             → result ≡ view_of s }
+        ensures request_epoch { result.request_epoch ≡ self.now.request.epoch }
+        ensures response_epoch { result.response_epoch ≡ shown }
     {
         SessionView {
             id: self.id,

@@ -41,8 +41,3 @@ pub use req_open::ReqOpen;
 pub use terms::SessionTerms;
 pub use took::Took;
 pub use waiting::Waiting;
-
-#[cfg(test)]
-mod suites;
-#[cfg(test)]
-mod tests;

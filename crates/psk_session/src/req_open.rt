@@ -30,8 +30,9 @@ impl Model for ReqOpen {
 impl ReqOpen {
     /// The session as it is shown. Its count of application messages has 64 bits.
     pub fn view(&self) -> SessionView
-        ensures { (psk : List ℕ) (s : Steps) → StandsFor self.now psk s → taken_of s < 2 ^ 64
-            → result ≡ view_of s }
+        ensures value { (psk : List ℕ) (s : Steps) → StandsFor self.now psk s
+            → taken_of s < 2 ^ 64 → result ≡ view_of s }
+        ensures response_epoch { result.response_epoch ≡ self.now.kept.response.epoch }
     {
         self.kept.view(Stage::Open, self.kept.response.epoch())
     }

@@ -56,8 +56,9 @@ impl Waiting {
 
     /// The session as it is shown. Its count of application messages has 64 bits.
     pub fn view(&self) -> SessionView
-        ensures { (psk : List ℕ) (s : Steps) (a : Ask) → StandsFor self.now psk s a
+        ensures value { (psk : List ℕ) (s : Steps) (a : Ask) → StandsFor self.now psk s a
             → taken_of s < 2 ^ 64 → result ≡ view_of s }
+        ensures request_epoch { result.request_epoch ≡ self.now.kept.request.epoch }
     {
         self.kept.view(self.awaited.stage(), self.response_epoch())
     }

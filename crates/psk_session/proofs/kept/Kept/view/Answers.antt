@@ -4,9 +4,9 @@ use Rattle.requester_machine.specs.Shown.{view_of}
 use Rattle.psk_session.proofs.Past.{past_transcript}
 use Rattle.psk_session.proofs.kept.Kept.view.Goals as goal
 
-pub returns : goal.returns
+pub returns-clause-value : goal.returns-clause-value
 unfolding view_of
-returns c = λ psk s epoch keeps stage shown fits. λ i. record {
+returns-clause-value c = λ psk s epoch keeps stage shown fits. λ i. record {
   id = keeps.id i;
   stage = stage i;
   request_epoch = (c.epoch.ensures ∙ keeps.request.secret.epoch) i;
