@@ -1,5 +1,5 @@
 -- A session at the requester while PSK_EXCHANGE_RSP is awaited (DSP0274, "PSK_EXCHANGE", "PSK_EXCHANGE_RSP"), and the session that the answer makes of it.
-use Rattle.std.specs.Prelude.{◌≡◌, ℕ, List, [], ◌∷◌, ◌++◌, if◌then◌else◌, Bool, Option, Some, None, Result, Ok, Err, bytes_eq}
+use Rattle.std.specs.Prelude.{◌≡◌, ℕ, List, [], ◌∷◌, ◌++◌, ◌==◌, not, slice_index, if◌then◌else◌, Bool, Option, Some, None, Result, Ok, Err, bytes_eq}
 use Rattle.spdm_grammar.specs.Message.{ResponseMessage}
 use Rattle.spdm_grammar.specs.Message.ResponseMessage.{PskExchangeRsp}
 use Rattle.spdm_grammar.specs.Message.RequestMessage.{PskFinish}
@@ -51,10 +51,15 @@ pub record Seen : Type 0 where
   pub psk : List ℕ
   pub terms : SessionTerms
 
--- The terms of a session are those of its negotiation, and its ReqSessionID is that of its PSK_EXCHANGE.
+-- PSK_EXCHANGE asks for a measurement summary: Param1 is not 0.
+abbrev pub asks_summary : List ℕ → Bool
+asks_summary exchange = not (slice_index exchange 2 == 0)
+
+-- The terms of a session are those of its negotiation, and its ReqSessionID and whether it asks for a summary are those of its PSK_EXCHANGE.
 pub record AreTermsOf (terms : SessionTerms) (n : Negotiation) (exchange : List ℕ) : Type 0 where
   pub choice : terms.choice ≡ (terms_of n).choice
   pub common : terms.common ≡ (terms_of n).common
+  pub summary : terms.summary ≡ asks_summary exchange
   pub req_id : terms.req_id ≡ id_in_exchange exchange
 
 -- The state stands for the session that this PSK_EXCHANGE began under this negotiation, with this pre-shared key.
@@ -71,5 +76,5 @@ fault_by psk n exchange answer (Err at) = Some (fault.Malformed at.at)
 fault_by psk n exchange answer (Ok (PskExchangeRsp rsp)) = if bytes_eq rsp.verify (answer_verify psk (accepted n exchange answer)) then None else Some fault.BadVerify
 fault_by psk n exchange answer (Ok _) = Some (fault.Malformed 1)
 
-abbrev pub open_fault : (psk : List ℕ) → Negotiation → (exchange : List ℕ) → (summary : Bool) → (answer : List ℕ) → Option OpenFault
-open_fault psk n exchange summary answer = fault_by psk n exchange answer (response_reading (hash_len (terms_of n)) summary answer)
+abbrev pub open_fault : (psk : List ℕ) → Negotiation → (exchange answer : List ℕ) → Option OpenFault
+open_fault psk n exchange answer = fault_by psk n exchange answer (response_reading (hash_len (terms_of n)) (asks_summary exchange) answer)

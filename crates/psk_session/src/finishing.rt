@@ -200,6 +200,9 @@ impl Finishing {
             id,
             terms,
         };
-        ReqOpen { kept }
+        ReqOpen {
+            kept,
+            brought: RecordFrame::new(),
+        }
     }
 }

@@ -88,7 +88,7 @@ impl Opening {
         ensures { (psk : List ℕ) (n : Negotiation) (exchange : List ℕ)
             → StandsFor self.now psk n exchange
             → IsHandshakeOf handshake.now psk n exchange answer.now
-            → result ≡ open_fault psk n exchange self.now.terms.summary answer.now }
+            → result ≡ open_fault psk n exchange answer.now }
     {
         match read_exchange_rsp(answer, self.terms.choice.hash.size(), self.terms.summary) {
             Err(at) => Some(OpenFault::Malformed(at)),

@@ -1,4 +1,4 @@
-use Rattle.std.proofs.Common.{◌≡◌, ◌++◌, sym, ap, subst, refl, ◌∙◌, ℕ, List, drop}
+use Rattle.std.proofs.Common.{◌≡◌, ◌++◌, sym, ap, subst, refl, ◌∙◌, ℕ, List, drop, arith}
 use Rattle.key_schedule.specs.Keys.{DirectionSecret}
 use Rattle.key_schedule.specs.Purpose.{application_record}
 use Rattle.key_schedule.specs.declared.direction.Direction.TheVariants.{Request, Response}
@@ -36,7 +36,9 @@ returns c = λ psk n exchange answer pad sealed stands held.
             (c.app_keys-keys.ensures.response psk n exchange answer t2 inside.handshake th2);
         request_next = refl;
         response_next = refl;
-        taken = refl;
+        taken = λ _. refl;
         th2 = th2;
       };
+      few = (omega arith, omega arith);
+      brought = c.new-3.ensures;
     }

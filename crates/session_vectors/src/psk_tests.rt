@@ -1,6 +1,10 @@
-use crate::suites::{SUITES, Suite};
-use crate::{Ask, AskFault, FinishTook, Finishing, OpenFault, Opening, ReqOpen, SessionTerms};
+use crate::psk_suites::{SUITES, Suite};
+use crate::psk_talks::{HELLO, LARGE, NO_ANSWERS, REFUSED_CHUNKS, TALKS, Turn, UNOPENED};
 use negotiate::{Common, Sizes};
+use psk_session::{
+    Ask, AskFault, FinishTook, Finishing, OpenFault, Opening, ReqOpen, Reply, SessionTerms, Took,
+    Waiting,
+};
 use secured_record::RecordFault;
 use spdm_basis::{Psk, SessionId};
 use spdm_grammar::{BadReply, Choice, Stage};
@@ -197,6 +201,27 @@ fn opened(rt: &impl Alloc, suite: &Suite) -> Result<ReqOpen, Fail> {
     open(finishing(rt, suite)?, sealed.as_slice())
 }
 
+// The state that awaits the answer to an ask, with this padding of its record.
+fn ask(
+    rt: &impl Abort,
+    state: ReqOpen,
+    ask: Ask<'_>,
+    pad: &[u8],
+) -> Result<Waiting, Fail> {
+    assert!(rt; pad.len() <= 16 && state.view().response_epoch < u64::MAX);
+    match state.ask(ask, pad) {
+        Ok(state) => Ok(state),
+        Err(_) => Err(Fail::from("refused")),
+    }
+}
+
+// What comes of a record.
+fn take(rt: &(impl Abort + Alloc), state: Waiting, sealed: &str) -> Result<Took, Fail> {
+    let sealed = hex::decode(rt.alloc(), sealed)?;
+    assert!(rt; state.view().request_epoch < u64::MAX);
+    Ok(state.take(sealed.as_slice()))
+}
+
 // That an ask of a new session makes this record.
 fn expect_asked(
     rt: &(impl Abort + Alloc),
@@ -204,14 +229,9 @@ fn expect_asked(
     asked: Asked,
     want: &str,
 ) -> Result<(), Fail> {
-    assert!(rt; asked.pad.len() <= 16);
-    match opened(rt, suite)?.ask(asked.ask, asked.pad) {
-        Ok(state) => {
-            assert!(rt; state.view().request_next == 1);
-            expect_bytes(rt, state.again(), want)
-        }
-        Err(_) => Err(Fail::from("refused")),
-    }
+    let state = ask(rt, opened(rt, suite)?, asked.ask, asked.pad)?;
+    assert!(rt; state.view().request_next == 1);
+    expect_bytes(rt, state.again(), want)
 }
 
 #[test]
@@ -226,7 +246,9 @@ fn first_record_of_each_ask(rt: HostRuntime) -> Result<(), Fail> {
 
 #[test]
 fn long_data_is_refused(rt: HostRuntime) -> Result<(), Fail> {
-    match opened(&rt, &SUITES[0])?.ask(Ask::Data(&[7; 1025]), &[]) {
+    let state = opened(&rt, &SUITES[0])?;
+    assert!(rt; state.view().response_epoch < u64::MAX);
+    match state.ask(Ask::Data(&[7; 1025]), &[]) {
         Err((state, fault)) => {
             assert_eq!(rt; fault, AskFault::TooLong);
             assert!(rt; state.view().request_next == 0);
@@ -234,4 +256,162 @@ fn long_data_is_refused(rt: HostRuntime) -> Result<(), Fail> {
         }
         Ok(_) => Err(Fail::from("asked")),
     }
+}
+
+// An ask, with the reply to it and what the reply brings, in hexadecimal.
+#[derive(Clone, Copy)]
+struct Talk {
+    ask: Ask<'static>,
+    reply: Reply,
+    brought: &'static str,
+}
+
+// What is said in an open session before its end.
+const SAID: [Talk; 8] = [
+    Talk {
+        ask: Ask::Data(b"hi"),
+        reply: Reply::Data,
+        brought: "68656c6c6f",
+    },
+    Talk {
+        ask: Ask::Beat,
+        reply: Reply::Alive,
+        brought: "",
+    },
+    Talk {
+        ask: Ask::UpdateKey,
+        reply: Reply::Updated,
+        brought: "",
+    },
+    Talk {
+        ask: Ask::UpdateAll,
+        reply: Reply::Updated,
+        brought: "",
+    },
+    Talk {
+        ask: Ask::Measure { op: 255 },
+        reply: Reply::Measured(2),
+        brought: "01010700010400626f6f74020105000102006f73",
+    },
+    Talk {
+        ask: Ask::Measure { op: 255 },
+        reply: Reply::Measured(2),
+        brought: "01012200011f0061206c6f6e6765722076616c7565206f66206120666972737420626c6f636b07010e00010b00616e6f74686572206f6e65",
+    },
+    Talk {
+        ask: Ask::Measure { op: 0 },
+        reply: Reply::Measured(2),
+        brought: "",
+    },
+    Talk {
+        ask: Ask::Data(b"more"),
+        reply: Reply::Refused(5),
+        brought: "",
+    },
+];
+
+// The open session behind a talk of these turns.
+fn behind(
+    rt: &(impl Abort + Alloc),
+    state: ReqOpen,
+    talk: &Talk,
+    turns: &[Turn],
+) -> Result<ReqOpen, Fail> {
+    let mut state = ask(rt, state, talk.ask, &[])?;
+    for turn in turns {
+        expect_bytes(rt, state.again(), turn.sent)?;
+        match take(rt, state, turn.answer)? {
+            Took::Next(next) => state = next,
+            Took::Answer(open, reply) => {
+                assert_eq!(rt; reply, talk.reply);
+                expect_bytes(rt, open.data(), talk.brought)?;
+                return Ok(open);
+            }
+            _ => return Err(Fail::from("no answer")),
+        }
+    }
+    Err(Fail::from("more awaited"))
+}
+
+// That a session is shown so behind all that is said, and then ends.
+fn expect_end(rt: &(impl Abort + Alloc), state: ReqOpen, turns: &[Turn]) -> Result<(), Fail> {
+    let shown = state.view();
+    assert!(rt; shown.stage == Stage::Open && shown.taken == 1);
+    assert!(rt; shown.request_epoch == 2 && shown.response_epoch == 1);
+    assert!(rt; shown.request_next == 7 && shown.response_next == 8);
+    let state = ask(rt, state, Ask::End, &[])?;
+    let turn = turns.first().ok_or("no turn")?;
+    expect_bytes(rt, state.again(), turn.sent)?;
+    match take(rt, state, turn.answer)? {
+        Took::Ended(_) => Ok(()),
+        _ => Err(Fail::from("not ended")),
+    }
+}
+
+#[test]
+fn sessions_from_first_to_last(rt: HostRuntime) -> Result<(), Fail> {
+    for (suite, talks) in SUITES.iter().zip(TALKS) {
+        let mut state = opened(&rt, suite)?;
+        for (talk, turns) in SAID.iter().zip(talks) {
+            state = behind(&rt, state, talk, turns)?;
+        }
+        expect_end(&rt, state, talks[8])?;
+    }
+    Ok(())
+}
+
+#[test]
+fn unopened_answers_change_nothing(rt: HostRuntime) -> Result<(), Fail> {
+    let mut state = ask(&rt, opened(&rt, &SUITES[0])?, Ask::Data(b"hi"), &[])?;
+    for (sealed, want) in &UNOPENED {
+        match take(&rt, state, sealed)? {
+            Took::Stay(same, fault) => {
+                assert_eq!(rt; fault, *want);
+                state = same;
+            }
+            _ => return Err(Fail::from("opened")),
+        }
+    }
+    match take(&rt, state, HELLO)? {
+        Took::Answer(open, _) => expect_bytes(&rt, open.data(), "68656c6c6f"),
+        _ => Err(Fail::from("no answer")),
+    }
+}
+
+// That a record loses a session with this fault.
+fn expect_lost(
+    rt: &(impl Abort + Alloc),
+    state: Waiting,
+    sealed: &str,
+    want: BadReply,
+) -> Result<(), Fail> {
+    match take(rt, state, sealed)? {
+        Took::Bad(_, fault) => {
+            assert_eq!(rt; fault, want);
+            Ok(())
+        }
+        _ => Err(Fail::from("not lost")),
+    }
+}
+
+#[test]
+fn other_answers_lose_session(rt: HostRuntime) -> Result<(), Fail> {
+    for (asked, sealed, want) in &NO_ANSWERS {
+        let state = ask(&rt, opened(&rt, &SUITES[0])?, *asked, &[])?;
+        expect_lost(&rt, state, sealed, *want)?;
+    }
+    Ok(())
+}
+
+#[test]
+fn refused_chunks_lose_session(rt: HostRuntime) -> Result<(), Fail> {
+    for (sealed, fault) in &REFUSED_CHUNKS {
+        let open = opened(&rt, &SUITES[0])?;
+        let state = ask(&rt, open, Ask::Measure { op: 255 }, &[])?;
+        match take(&rt, state, LARGE)? {
+            Took::Next(state) => expect_lost(&rt, state, sealed, BadReply::Chunk(*fault))?,
+            _ => return Err(Fail::from("not followed")),
+        }
+    }
+    Ok(())
 }
