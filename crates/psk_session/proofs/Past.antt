@@ -12,7 +12,7 @@ use Rattle.spdm_grammar.specs.declared.phase.Stage.TheVariants.{Handshake, Open,
 use Rattle.spdm_machine.specs.Keys.{sealed_of}
 use Rattle.spdm_machine.specs.Sessions.{is_past_handshake, transcript_in, purpose_in}
 use Rattle.psk_session.specs.Asking.{asked}
-use Rattle.psk_session.specs.Keys.{IsKeyOf}
+use Rattle.session_keys.specs.Keys.{IsKeyOf}
 use Rattle.psk_session.specs.Kept.{Keeps}
 use Rattle.psk_session.specs.declared.ask.Ask.{Ask}
 use Rattle.psk_session.specs.declared.ask.Ask.TheVariants.{Data, Beat, UpdateKey, UpdateAll, Measure, End}

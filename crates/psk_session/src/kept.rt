@@ -1,9 +1,9 @@
 use crate::SessionTerms;
 use crate::ask::Ask;
 use crate::ask_fault::AskFault;
-use crate::keys::seal_inner;
 use crate::requests::{write_inner_data, write_inner_request};
 use secured_record::RecordKey;
+use session_keys::seal_inner;
 use spdm_basis::{Buffer, HashBytes, RecordFrame, SessionId};
 use spdm_grammar::{Request, SessionView, Stage};
 

@@ -6,18 +6,16 @@ mod answers;
 mod ask;
 mod ask_fault;
 mod closed;
+mod finish_record;
 mod finish_took;
 mod finishing;
-mod handshake;
 mod inner;
 mod kept;
-mod keys;
 mod laws;
 mod open_fault;
 mod opening;
 mod req_open;
 mod requests;
-mod terms;
 mod waiting;
 
 pub use ask::Ask;
@@ -29,7 +27,7 @@ pub use laws::ask_is_command;
 pub use open_fault::OpenFault;
 pub use opening::Opening;
 pub use req_open::ReqOpen;
-pub use terms::SessionTerms;
+pub use session_keys::SessionTerms;
 pub use waiting::Waiting;
 
 #[cfg(test)]

@@ -1,15 +1,15 @@
-ghost use Rattle.std.specs.Prelude.{◌≡◌, ◌≤◌, ◌+◌, ◌++◌, ◌∷◌, None, Some, OnOk, MatchResult, length};
+ghost use Rattle.std.specs.Prelude.{◌≡◌, ◌≤◌, ◌+◌, None, Some, OnOk, MatchResult, length};
 ghost use Rattle.key_schedule.specs.Purpose.{Purpose};
 ghost use Rattle.spdm_basis.specs.SessionIdBytes.{session_id_bytes};
 ghost use Rattle.spdm_grammar.specs.declared.choice.Choice.{Choice};
 ghost use Rattle.spdm_machine.specs.Keys.{sealed_of, record_fault, inner_message};
-ghost use Rattle.psk_session.specs.Keys.{IsKeyOf};
+ghost use Rattle.session_keys.specs.Keys.{IsKeyOf};
 
-use crate::inner::SPDM_MESSAGE;
 use secured_record::{RecordFault, RecordKey};
 use spdm_basis::{Buffer, RecordFrame, SessionId};
 
-// Writes the record of an inner message and padding under the key of a purpose.
+/// Writes the record of an inner message and padding under the key of a purpose, in place of what `out` holds.
+/// Together they have at most 4,134 bytes.
 pub fn seal_record(
     key: &RecordKey,
     id: SessionId,
@@ -26,7 +26,7 @@ pub fn seal_record(
     let _ = key.seal(id, number, inner, pad, out);
 }
 
-// Opens a record under the key of a purpose, and writes its inner message.
+/// Opens a record under the key of a purpose, and writes its inner message in place of what `out` holds.
 pub fn open_record(
     key: &RecordKey,
     id: SessionId,
@@ -39,35 +39,13 @@ pub fn open_record(
         (λ e. record_fault choice p number (session_id_bytes id.req id.rsp) sealed.now ≡ Some e) }
     ensures inner { (choice : Choice) (p : Purpose) → IsKeyOf key.now choice p
         → OnOk result (out.new ≡ inner_message choice p number sealed.now) }
+    ensures fits { OnOk result (length sealed.now ≤ 4160) }
 {
     key.open(id, number, sealed, out)
 }
 
-// The record of an SPDM message of at most 52 bytes, under the key of a purpose.
-pub fn seal_short(
-    key: &RecordKey,
-    id: SessionId,
-    number: u16,
-    message: &[u8],
-    pad: &[u8],
-) -> Buffer<96>
-    requires message { length message.now ≤ 52 }
-    requires pad { length pad.now ≤ 16 }
-    ensures { (choice : Choice) (p : Purpose) → IsKeyOf key.now choice p
-        → result ≡ sealed_of choice p number (session_id_bytes id.req id.rsp)
-        (5 ∷ message.now) pad.now }
-{
-    let mut inner = Buffer::<64>::new();
-    let _ = inner.extend(&[SPDM_MESSAGE]);
-    let _ = inner.extend(message);
-    let mut record = RecordFrame::new();
-    seal_record(key, id, number, inner.as_slice(), pad, &mut record);
-    let mut short = Buffer::<96>::new();
-    let _ = short.extend(record.as_slice());
-    short
-}
-
-// The record of an inner message of at most 1,025 bytes, under the key of a purpose.
+/// The record of an inner message of at most 1,025 bytes, with at most 16 bytes of padding, under the key of a
+/// purpose.
 pub fn seal_inner(
     key: &RecordKey,
     id: SessionId,

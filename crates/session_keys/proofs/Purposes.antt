@@ -1,16 +1,20 @@
 -- The key of a purpose in the program is that of the definitions.
-use Rattle.std.proofs.Common.{◌≡◌, ◌∙◌, ap, sym, subst, refl, ℕ, ◌+◌, List, Bool, length, length-append, arith}
-use Rattle.std.specs.Prelude.{if◌then◌else◌, Result, Ok, Err, None, Some, MatchResult, OnOk, IsOk}
+use Rattle.std.proofs.Common.{◌≡◌, ◌≤◌, ◌∙◌, ap, sym, subst, refl, ℕ, ◌+◌, ◌-◌, List, Bool, length, length-append, take, drop, arith}
+use Rattle.std.proofs.lemmas.Bool.Decides.{nat_tests}
+use Rattle.std.proofs.lemmas.Option.{none-some}
+use Rattle.std.specs.Prelude.{if◌then◌else◌, nat_lt, Option, Result, Ok, Err, None, Some, MatchResult, OnOk, IsOk}
+use Rattle.byteorder.specs.Endian.{little_bytes}
 use Rattle.key_schedule.specs.Keys.{DirectionSecret}
 use Rattle.key_schedule.specs.Purpose as purpose
 use Rattle.hmac_hkdf.specs.Hmac.{hmac}
-use Rattle.key_schedule.specs.Purpose.{Purpose, IsSecretOf, is_record, secret_of, verify}
+use Rattle.key_schedule.specs.Purpose.{Purpose, IsSecretOf, AreSecretsOf, is_record, secret_of, verify, handshake_record}
 use Rattle.key_schedule.specs.declared.direction.Direction.{Direction}
 use Rattle.key_schedule.specs.Schedule.{record_key, record_iv, finished_key}
 use Rattle.running_hash.specs.Hash.{hash_of}
-use Rattle.secured_record.specs.Faults.{fault_of, inner_of}
+use Rattle.secured_record.specs.Faults.{fault_of, header_fault, fault_behind, inner_of, same_bytes}
 use Rattle.secured_record.specs.Format as format
 use Rattle.secured_record.specs.Format.{record_of, plain_text}
+use Rattle.secured_record.proofs.Records.{header_of_none}
 use Rattle.secured_record.proofs.Written.{length-sealed_text}
 use Rattle.spdm_basis.specs.SessionIdBytes.{session_id_bytes}
 use Rattle.spdm_basis.specs.declared.aead_alg.AeadAlg.{AeadAlg}
@@ -18,7 +22,9 @@ use Rattle.spdm_basis.specs.declared.hash_alg.HashAlg.{HashAlg}
 use Rattle.spdm_basis.specs.declared.record_fault.RecordFault.{RecordFault}
 use Rattle.spdm_grammar.specs.declared.choice.Choice.{Choice}
 use Rattle.spdm_machine.specs.Keys.{sealed_of, record_fault, inner_message, verify_data}
-use Rattle.psk_session.specs.Keys.{IsKeyOf}
+use Rattle.session_keys.specs.Handshake.{IsHandshakeOf}
+use Rattle.session_keys.specs.Keys.{IsKeyOf}
+use Rattle.session_keys.specs.declared.handshake.Handshake.{Handshake}
 
 secret_at_choice : (k : DirectionSecret) (choice : Choice) (p : Purpose) → IsKeyOf k choice p → k.secret ≡ secret_of choice.hash p
 secret_at_choice k choice p is = is.secret.secret ∙ ap (λ (h : HashAlg). secret_of h p) is.hash
@@ -79,3 +85,27 @@ verify_at hash aead choice psk t1 transcript direction th out h a t e =
     e ∙ ap (λ (x : HashAlg). hmac (hash_of x) (purpose.key_of x aead (verify psk t1 direction)) th) h
     ∙ ap (λ (x : AeadAlg). hmac (hash_of choice.hash) (purpose.key_of choice.hash x (verify psk t1 direction)) th) a
     ∙ ap (λ (x : List ℕ). hmac (hash_of choice.hash) (purpose.key_of choice.hash choice.aead (verify psk t1 direction)) x) t
+
+-- The key of a direction of a handshake is that of its records.
+pub handshake_key : (seen : Handshake) (choice : Choice) (psk t1 : List ℕ) (k : DirectionSecret) (direction : Direction)
+    → IsHandshakeOf seen choice psk t1 → k.hash ≡ seen.keys.hash → k.aead ≡ seen.keys.aead
+    → ((psk t1 : List ℕ) → AreSecretsOf seen.keys psk t1 → IsSecretOf k (handshake_record psk t1 direction))
+    → IsKeyOf k choice (handshake_record psk t1 direction)
+handshake_key seen choice psk t1 k direction is h a p = record { hash = h ∙ is.hash; aead = a ∙ is.aead; secret = p psk t1 is.secrets }
+
+-- What opens has at most 4,160 bytes.
+no_header_fault : (f : Option RecordFault) (key iv : List ℕ) (number : ℕ) (sealed : List ℕ) → fault_behind f key iv number sealed ≡ None → f ≡ None
+no_header_fault None key iv number sealed h = refl
+no_header_fault (Some fault) key iv number sealed h = absurd (none-some fault (sym h))
+
+header_fits : (id : List ℕ) (number : ℕ) (sealed : List ℕ) → header_fault id number sealed ≡ None → length sealed ≤ 4160
+unfolding header_fault
+header_fits id number sealed h =
+    let long = (header_of_none (nat_lt (length sealed) 26) (same_bytes (take 4 sealed) id) (same_bytes (take 2 (drop 4 sealed)) (little_bytes 2 number)) (same_bytes (take 2 (drop 6 sealed)) (little_bytes 2 (length sealed - 8))) (nat_lt 4160 (length sealed)) h).4 in
+    grind (arith, nat_tests)
+
+pub opened_fits : {U : Type 0} (r : Result U RecordFault) (key iv id : List ℕ) (number : ℕ) (sealed : List ℕ)
+    → MatchResult r (λ _. fault_of key iv id number sealed ≡ None) (λ e. fault_of key iv id number sealed ≡ Some e) → OnOk r (length sealed ≤ 4160)
+unfolding fault_of
+opened_fits (Ok u) key iv id number sealed m = header_fits id number sealed (no_header_fault (header_fault id number sealed) key iv number sealed m)
+opened_fits (Err e) key iv id number sealed m = tt

@@ -1,7 +1,7 @@
 use Rattle.spdm_basis.specs.SessionIdBytes.{session_id_bytes}
 use Rattle.secured_record.specs.Format.{key_of, iv_of}
-use Rattle.psk_session.proofs.Purposes.{of_ok, sealed_at, size_of}
-use Rattle.psk_session.proofs.keys.seal_record.Goals as goal
+use Rattle.session_keys.proofs.Purposes.{of_ok, sealed_at, size_of}
+use Rattle.session_keys.proofs.keys.seal_record.Goals as goal
 
 pub returns-clause-value : goal.returns-clause-value
 returns-clause-value c = λ choice p is.
