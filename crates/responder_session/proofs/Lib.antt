@@ -1,0 +1,5 @@
+pub mod KeptRecords
+pub mod Forms
+pub mod Moves
+pub mod Contents
+pub mod Finish
