@@ -5,8 +5,16 @@ use Rattle.key_schedule.specs.Keys.{DirectionSecret}
 use Rattle.key_schedule.specs.Purpose.{Purpose}
 use Rattle.key_schedule.specs.declared.direction.Direction.{Direction}
 use Rattle.key_schedule.specs.declared.direction.Direction.TheVariants.{Request, Response}
-use Rattle.responder_machine.specs.Handling.{extended_of}
+use Rattle.responder_machine.specs.Answer.{Free, answer_bytes}
+use Rattle.responder_machine.specs.Handling.{detail_of, error_bytes, extended_of}
 use Rattle.responder_machine.specs.History.{KeptRecord}
+use Rattle.responder_machine.specs.Place.{session_place}
+use Rattle.responder_machine.specs.Refusal.{code_of}
+use Rattle.responder_machine.specs.Setup.{RspSetup}
+use Rattle.spdm_grammar.specs.ErrorNumber.{error_number}
+use Rattle.spdm_grammar.specs.Message.ResponseMessage.{Error}
+use Rattle.spdm_grammar.specs.Responses.{canonical_response}
+use Rattle.spdm_grammar.specs.declared.names.spdm_version.TheConstants.{V1_2}
 use Rattle.responder_machine.specs.Records.{request_purpose, response_purpose, reply_purpose, reply_number, reply_record}
 use Rattle.responder_machine.specs.Responder.{inner_reply}
 use Rattle.responder_machine.specs.Session.{Events, stage_of, session_hash, session_terms, id_bytes, t1_of, t2_of, finish_of, finish_answer, request_epoch, response_epoch, request_next, response_next, taken_of, last_of}
@@ -28,7 +36,7 @@ use Rattle.responder_session.specs.declared.kept.Kept.{Kept}
 use Rattle.responder_session.specs.declared.kept.LastRecord.{LastRecord}
 
 -- An ERROR that tells no length tells nothing more.
-pub error_short : (code : ErrorCode) (answer : List ℕ) → tells_length code ≡ false → extended_of code answer ≡ []
+error_short : (code : ErrorCode) (answer : List ℕ) → tells_length code ≡ false → extended_of code answer ≡ []
 error_short ResponseTooLarge answer h = absurd (cc)
 error_short InvalidRequest answer h = refl
 error_short UnexpectedRequest answer h = refl
@@ -120,3 +128,11 @@ pub kept_plain : (old new : Kept) (psk : List ℕ) (s : Events) (m : List ℕ) (
     → kept_record new.last ≡ Some (record { sealed = m; reply = reply }) → KeepsKeys t → Keeps old psk s → Keeps new psk (Heard m t reply ∷ s)
 kept_plain old new psk s m t reply is other last k keeps =
     kept_by old new psk s m t reply old.taken is (keeps.taken ∙ ap (λ (n : ℕ). n % 2 ^ 64) (sym (if_no (is_data t.effect) (taken_of s + 1) (taken_of s) other))) last k keeps
+
+-- ---- ERROR.
+
+-- The ERROR that answers a refused message tells the code, and for a request that is not supported the code of the message.
+pub error_is : (r : RspSetup) (s : Events) (m : List ℕ) (f : Free) (code : ErrorCode) → tells_length code ≡ false
+    → error_bytes r (session_place s) m f code ≡ canonical_response (Error V1_2 (error_number code) (detail_of code (code_of m)) [])
+error_is r s m f code short =
+    ap (λ (x : List ℕ). canonical_response (Error V1_2 (error_number code) (detail_of code (code_of m)) x)) (error_short code (answer_bytes r (session_place s) m f) short)

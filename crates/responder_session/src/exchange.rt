@@ -38,6 +38,17 @@ pub fn write_answer(
     let _ = write_response(&response, terms.choice.hash.size(), terms.summary, out);
 }
 
+// A lane that was given what this lane was, and more.
+pub fn lane_with(lane: &Lane, more: &[u8]) -> Lane
+    ensures hash { lane_hash result ≡ lane_hash lane.now }
+    ensures pushed { (given : List ℕ) → lanes.StandsFor lane.now given
+        → lanes.StandsFor result (given ++ more.now) }
+{
+    let mut lane = lane.clone().unwrap();
+    lane.push(more);
+    lane
+}
+
 // What stands for verify data of which only the length matters.
 fn blank(hash: HashAlg) -> HashBytes
     ensures { length result ≡ hash_size hash }
@@ -65,7 +76,6 @@ pub fn handshake_with(
     let choice = terms.choice;
     let mut answer = Frame::new();
     write_answer(parts, terms, &blank(choice.hash), &mut answer);
-    let mut lane = lane.clone().unwrap();
-    lane.push(without_verify(choice.hash, answer.as_slice()));
+    let lane = lane_with(lane, without_verify(choice.hash, answer.as_slice()));
     Handshake::new(choice.hash, choice.aead, psk, lane.finish())
 }

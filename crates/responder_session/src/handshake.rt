@@ -1,9 +1,12 @@
-ghost use Rattle.std.specs.Prelude.{◌≡◌};
+ghost use Rattle.std.specs.Prelude.{◌≡◌, false, MatchOption};
+ghost use Rattle.spdm_grammar.specs.Message.{request_message};
+ghost use Rattle.spdm_grammar.specs.Message.RequestMessage.{PskFinish};
+ghost use Rattle.responder_session.specs.Judged.{is_finish};
 ghost use Rattle.spdm_grammar.specs.Message.ResponseMessage.{PskFinishRsp};
 ghost use Rattle.spdm_grammar.specs.Responses.{canonical_response};
 
 use crate::error::write_error;
-use crate::exchange::{handshake_with, write_answer};
+use crate::exchange::{handshake_with, lane_with, write_answer};
 use crate::form::inner_refusal;
 use crate::kept::Kept;
 use crate::{ExchangeParts, RspAct, RspOpen, RspState, RspTook};
@@ -46,6 +49,17 @@ fn write_finish_answer(out: &mut Frame)
     let _ = write_response(&Response::PskFinishRsp, 0, false, out);
 }
 
+// The verify data of PSK_FINISH; none of any other request.
+fn verify_of<'a>(request: &Request<'a>) -> Option<&'a [u8]>
+    ensures { MatchOption result (is_finish (request_message request.now) ≡ false)
+        (λ verify. request_message request.now ≡ PskFinish verify.now) }
+{
+    match request {
+        Request::PskFinish { verify } => Some(verify),
+        _ => None,
+    }
+}
+
 impl RspHandshake {
     ghost use Rattle.std.specs.Prelude.{◌≡◌, ◌≤◌, ◌<◌, [], ℕ, List, false, length, IfSome, bytes_eq};
     ghost use Rattle.responder_machine.specs.Answer.{Free};
@@ -53,11 +67,12 @@ impl RspHandshake {
     ghost use Rattle.responder_machine.specs.Session.{Events, session_terms};
     ghost use Rattle.responder_machine.specs.Setup.{RspSetup};
     ghost use Rattle.responder_machine.specs.SizeLaws.{HasSizes};
+    ghost use Rattle.spdm_grammar.specs.Message.{request_message};
     ghost use Rattle.session_keys.specs.Terms.{AreTermsOf};
     ghost use Rattle.transcript.specs.Transcripts.{Negotiation, vca_of};
     ghost use Rattle.responder_session.specs.Exchange.{AreParts, answer_for, begun};
     ghost use Rattle.responder_session.specs.Handshake.{StandsFor};
-    ghost use Rattle.responder_session.specs.Judged.{IsFinishJudged, IsRefused, IsFinished, right_verify};
+    ghost use Rattle.responder_session.specs.Judged.{IsFinishJudged, IsVerified, IsRefused, IsFinished, right_verify};
     ghost use Rattle.responder_session.specs.Took.{IsTook};
     ghost use Rattle.responder_session.specs.Turns.{tells_length};
 
@@ -137,8 +152,8 @@ impl RspHandshake {
         ensures { (r : RspSetup) (s : Events) → StandsFor self.now r.psk s
             → result ≡ bytes_eq verify.now (right_verify r s message.now) }
     {
-        let mut lane = self.lane.clone().unwrap();
-        lane.push(without_verify(self.kept.terms.choice.hash, message));
+        let hash = self.kept.terms.choice.hash;
+        let lane = lane_with(&self.lane, without_verify(hash, message));
         same_bytes(verify, self.handshake.requester_verify(lane).as_slice())
     }
 
@@ -154,14 +169,20 @@ impl RspHandshake {
         let message = behind_type(inner);
         match self.kept.place(Stage::Handshake, false).read(message) {
             Err(code) => Some(code),
-            Ok(Request::PskFinish { verify }) => {
-                if self.is_verified(message, verify) {
-                    None
-                } else {
-                    Some(ErrorCode::DecryptError)
-                }
-            }
-            Ok(_) => Some(ErrorCode::UnexpectedRequest),
+            Ok(request) => self.refusal_of(message, &request),
+        }
+    }
+
+    // The code with which a request is refused that the handshake allows.
+    fn refusal_of(&self, message: &[u8], request: &Request<'_>) -> Option<ErrorCode>
+        ensures value { (r : RspSetup) (s : Events) → StandsFor self.now r.psk s
+            → IsVerified (right_verify r s message.now) (request_message request.now) result }
+        ensures short { IfSome result (λ code. tells_length code ≡ false) }
+    {
+        match verify_of(request) {
+            Some(verify) if self.is_verified(message, verify) => None,
+            Some(_) => Some(ErrorCode::DecryptError),
+            None => Some(ErrorCode::UnexpectedRequest),
         }
     }
 

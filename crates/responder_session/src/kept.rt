@@ -60,6 +60,13 @@ impl LastRecord {
     }
 }
 
+// The same hash.
+fn copy_of(hash: &HashBytes) -> HashBytes
+    ensures { result ≡ hash.now }
+{
+    hash.clone().unwrap()
+}
+
 // The record of a message behind its type.
 fn seal_reply(
     key: &RecordKey,
@@ -125,7 +132,7 @@ impl Kept {
             request_next: 0,
             response_next: 0,
             taken: 0,
-            hash: handshake.th1.clone().unwrap(),
+            hash: copy_of(&handshake.th1),
             id: SessionId {
                 req: terms.req_id,
                 rsp: rsp_id,
@@ -266,13 +273,6 @@ impl Kept {
         }
     }
 
-    // The hash of the transcript.
-    fn hash(&self) -> HashBytes
-        ensures { result ≡ self.now.hash }
-    {
-        self.hash.clone().unwrap()
-    }
-
     // The session as it is shown, in its stage.
     pub fn view(&self, stage: Stage) -> SessionView
         ensures { (psk : List ℕ) (s : Events) → Keeps self.now psk s → stage ≡ stage_of s
@@ -286,7 +286,7 @@ impl Kept {
             request_next: self.request_next,
             response_next: self.response_next,
             taken: self.taken,
-            hash: self.hash(),
+            hash: copy_of(&self.hash),
             choice: self.terms.choice,
         }
     }

@@ -16,6 +16,6 @@ returns c = λ psk s keeps stage few.
       request_next = keeps.request_next i;
       response_next = keeps.response_next i;
       taken = (keeps.taken ∙ taken) i;
-      hash = (c.hash.ensures ∙ keeps.hash) i;
+      hash = (c.copy_of.ensures ∙ keeps.hash) i;
       choice = keeps.choice i;
     }
