@@ -9,3 +9,5 @@ pub mod Ended
 pub mod Turns
 pub mod Judged
 pub mod Took
+pub mod EndedTook
+pub mod Queue

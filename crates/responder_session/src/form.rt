@@ -1,4 +1,7 @@
-ghost use Rattle.std.specs.Prelude.{◌≡◌, false, IfSome, IfErr};
+ghost use Rattle.std.specs.Prelude.{◌≡◌, false, IfSome, IfOk, IfErr};
+ghost use Rattle.spdm_basis.specs.Sizes.{hash_size};
+ghost use Rattle.spdm_grammar.specs.Message.{request_message};
+ghost use Rattle.spdm_grammar.specs.Requests.{IsSoundRequest};
 ghost use Rattle.responder_machine.specs.Place.Where.{InSession};
 ghost use Rattle.responder_machine.specs.Refusal.{is_known, is_misplaced, version_for, stage_allows};
 ghost use Rattle.responder_machine.specs.Responder.{inner_refusal};
@@ -125,6 +128,8 @@ impl Place {
     pub fn read<'a>(&self, message: &'a [u8]) -> Result<Request<'a>, ErrorCode>
         ensures value { (r : RspSetup) (s : Events) → IsPlaceOf self.now r s
             → IsRead r s message.now result }
+        ensures sound { IfOk result (λ request. IsSoundRequest (hash_size self.now.hash)
+            (request_message request)) }
         ensures short { IfErr result (λ code. tells_length code ≡ false) }
     {
         if let Some(code) = self.misfit(message) {

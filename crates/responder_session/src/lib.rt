@@ -10,6 +10,7 @@ mod handshake;
 mod kept;
 mod open;
 mod parts;
+mod queue;
 mod took;
 mod verifying;
 
@@ -17,5 +18,6 @@ pub use ended::RspEnded;
 pub use handshake::RspHandshake;
 pub use open::RspOpen;
 pub use parts::ExchangeParts;
+pub use queue::{AppQueue, QueueFault};
 pub use took::{RspAct, RspState, RspTook};
 pub use verifying::RspVerifying;
