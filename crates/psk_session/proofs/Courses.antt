@@ -193,8 +193,7 @@ pub piece_takes : (psk : List ℕ) (s : Steps) (sealed : List ℕ) (op handle nu
 piece_takes psk [] sealed op handle number before c waits whole takes = absurd (none-some (AskChunk op handle number before) waits)
 piece_takes psk (y ∷ older) sealed op handle number before c waits whole takes =
     let s = y ∷ older in
-    let most = (session_terms s).common.to_requester.max in
-    (
+    let most = (session_terms s).common.to_requester.max in (
       takes.0,
       λ q h f id transfer max.
           takes.1 q h f id transfer max handle number before refl

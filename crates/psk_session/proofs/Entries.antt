@@ -38,7 +38,8 @@ use Rattle.transcript.specs.Transcripts.{Negotiation}
 use Rattle.psk_session.specs.Course.{Course, TakesCourse, led_of, with_taken, with_asked}
 use Rattle.psk_session.specs.Course.Course.{Lost, Ended, Answered, GoesOn}
 use Rattle.psk_session.specs.Finished.{IsJudged, finish_led, finished_by}
-use Rattle.psk_session.specs.Opening.{accepted, asks_summary, fault_by, finishing, started}
+use Rattle.psk_session.specs.Opening.{accepted, fault_by, finishing, started}
+use Rattle.session_keys.specs.Terms.{asks_summary}
 use Rattle.psk_session.specs.declared.open_fault.OpenFault.TheVariants.{BadVerify}
 use Rattle.psk_session.specs.TookLaws.{UnopenedIsIgnored, CourseIsEntry, FinishIsEntry, DataAreLast, OpeningIsAnswer, IsEntry, Outlives, IsNoError, AnswersExchange, steps_by, finished_steps}
 

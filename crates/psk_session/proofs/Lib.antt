@@ -1,4 +1,3 @@
-pub mod Purposes
 pub mod Finishes
 pub mod Judged
 pub mod Past

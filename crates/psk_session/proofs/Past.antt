@@ -20,7 +20,7 @@ use Rattle.spdm_grammar.specs.declared.phase.Stage.TheVariants.{Handshake, Open,
 use Rattle.spdm_machine.specs.Keys.{sealed_of, record_fault, inner_message}
 use Rattle.spdm_machine.specs.Sessions.{is_past_handshake, transcript_in, purpose_in}
 use Rattle.transcript.specs.Transcripts as transcript
-use Rattle.psk_session.specs.Keys.{IsKeyOf}
+use Rattle.session_keys.specs.Keys.{IsKeyOf}
 use Rattle.psk_session.specs.Kept.{Keeps}
 use Rattle.psk_session.specs.Waiting.{awaited_by, awaited_epoch}
 use Rattle.psk_session.specs.declared.ask.Awaited.{Awaited}

@@ -36,9 +36,16 @@ took_by old psk s a sealed pad (took.Stay state fault) course takes follows = ab
 -- Some requester of a transfer size.
 abbrev some_setup : ℕ → ReqSetup
 some_setup transfer = record {
-  eid = 0; responder = 0; transfer = transfer; max = 0; unit = 0; pad = 0;
+  eid = 0;
+  responder = 0;
+  transfer = transfer;
+  max = 0;
+  unit = 0;
+  pad = 0;
   flags = record { measure = false; heartbeat = false; key_update = false; chunk = false };
-  hint = []; psk = []; opaque = [];
+  hint = [];
+  psk = [];
+  opaque = [];
   suites = record { hash = Small; aead = Small };
 }
 

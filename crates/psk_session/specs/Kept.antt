@@ -4,7 +4,7 @@ use Rattle.key_schedule.specs.Purpose.{application_record}
 use Rattle.key_schedule.specs.declared.direction.Direction.TheVariants.{Request, Response}
 use Rattle.requester_machine.specs.Session.{Steps, stage_of, session_id, session_hash, session_terms, t2_of, request_epoch, request_next, response_next, taken_of}
 use Rattle.spdm_machine.specs.Sessions.{is_past_handshake}
-use Rattle.psk_session.specs.Keys.{IsKeyOf}
+use Rattle.session_keys.specs.Keys.{IsKeyOf}
 use Rattle.psk_session.specs.declared.kept.Kept.{Kept}
 
 -- It is kept of a session of these steps, past its handshake, with this pre-shared key. The key of responses is that of this epoch. The count of application messages is kept as far as it goes into 64 bits.

@@ -5,7 +5,6 @@ use Rattle.spdm_grammar.specs.Message.ResponseMessage.{PskExchangeRsp}
 use Rattle.spdm_grammar.specs.Message.RequestMessage.{PskFinish}
 use Rattle.spdm_grammar.specs.Responses.{response_reading}
 use Rattle.spdm_grammar.specs.declared.malformed.Malformed.{Malformed}
-use Rattle.spdm_machine.specs.Sessions.{id_in_exchange}
 use Rattle.spdm_machine.specs.Terms.{terms_of, hash_len}
 use Rattle.requester_machine.specs.Answers.{answer_verify}
 use Rattle.requester_machine.specs.Message.Ask.{AskFinish}
@@ -16,7 +15,8 @@ use Rattle.requester_machine.specs.Session.Step.{Started, Accepted, Asked}
 use Rattle.transcript.specs.Lane as lane
 use Rattle.transcript.specs.Transcripts.{Negotiation, vca_of}
 use Rattle.transcript.specs.declared.lane.Lane.{Lane}
-use Rattle.psk_session.specs.declared.terms.SessionTerms.{SessionTerms}
+use Rattle.session_keys.specs.Terms.{AreTermsOf, asks_summary}
+use Rattle.session_keys.specs.declared.terms.SessionTerms.{SessionTerms}
 use Rattle.psk_session.specs.declared.open_fault.OpenFault.{OpenFault}
 use Rattle.psk_session.specs.declared.open_fault.OpenFault.TheVariants as fault
 
@@ -50,17 +50,6 @@ pub record Seen : Type 0 where
   pub lane : Lane
   pub psk : List ℕ
   pub terms : SessionTerms
-
--- PSK_EXCHANGE asks for a measurement summary: Param1 is not 0.
-abbrev pub asks_summary : List ℕ → Bool
-asks_summary exchange = not (slice_index exchange 2 == 0)
-
--- The terms of a session are those of its negotiation, and its ReqSessionID and whether it asks for a summary are those of its PSK_EXCHANGE.
-pub record AreTermsOf (terms : SessionTerms) (n : Negotiation) (exchange : List ℕ) : Type 0 where
-  pub choice : terms.choice ≡ (terms_of n).choice
-  pub common : terms.common ≡ (terms_of n).common
-  pub summary : terms.summary ≡ asks_summary exchange
-  pub req_id : terms.req_id ≡ id_in_exchange exchange
 
 -- The state stands for the session that this PSK_EXCHANGE began under this negotiation, with this pre-shared key.
 pub record StandsFor (seen : Seen) (psk : List ℕ) (n : Negotiation) (exchange : List ℕ) : Type 0 where

@@ -1,4 +1,4 @@
-use crate::inner::MOST_DATA;
+use session_keys::MOST_DATA;
 use spdm_grammar::Stage;
 
 /// What is asked of an open session.

@@ -1,13 +1,13 @@
 ghost use Rattle.std.specs.Prelude.{◌≡◌, ◌<◌};
 
+use crate::Waiting;
 use crate::ask::{Ask, Awaited};
 use crate::ask_fault::AskFault;
-use crate::keys::seal_inner;
 use crate::requests::{operation_of, write_inner_data, write_inner_request};
 use crate::updates::next_key;
-use crate::{SessionTerms, Waiting};
 use chunking::Collector;
 use secured_record::RecordKey;
+use session_keys::{SessionTerms, seal_inner};
 use spdm_basis::{HashBytes, RecordFrame, SessionId};
 use spdm_grammar::{Request, SessionView, Stage};
 

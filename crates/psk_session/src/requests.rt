@@ -4,7 +4,7 @@ ghost use Rattle.spdm_grammar.specs.Message.{request_message};
 ghost use Rattle.spdm_grammar.specs.Requests.{canonical_request, IsSoundRequest};
 ghost use Rattle.requester_machine.specs.Sending.{inner_request, inner_data, operation_of};
 
-use crate::inner::{APP_DATA, SPDM_MESSAGE};
+use session_keys::{APP_DATA, SPDM_MESSAGE};
 use spdm_basis::{Frame, RecordFrame};
 use spdm_codec::write_request;
 use spdm_grammar::Request;

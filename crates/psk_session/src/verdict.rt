@@ -6,9 +6,10 @@ ghost use Rattle.psk_session.specs.Verdict.{ack_verdict, beat_verdict, chunk_mea
 ghost use Rattle.psk_session.specs.Waiting.{awaited_by};
 
 use crate::Reply;
-use crate::answers::{byte_at, read_answer};
+use crate::answers::read_answer;
 use crate::ask::Awaited;
 use crate::requests::{VERIFY_NEW_KEY, operation_of};
+use session_keys::byte_at;
 use spdm_grammar::names::error_number::LARGE_RESPONSE;
 use spdm_grammar::{BadReply, ChunkFault, ChunkView, Measured, Response};
 

@@ -16,10 +16,10 @@ use crate::Took;
 use crate::ask::Awaited;
 use crate::inner::{Inner, read_inner};
 use crate::kept::{Kept, record_number};
-use crate::keys::open_record;
 use crate::verdict::{Meaning, Verdict};
 use chunking::Collector;
 use secured_record::RecordFault;
+use session_keys::open_record;
 use spdm_basis::{Buffer, RecordFrame};
 use spdm_grammar::SessionView;
 use std::marker::Model;
@@ -131,7 +131,13 @@ impl Waiting {
         ensures inner { (psk : List ℕ) (s : Steps) (a : Ask) → StandsFor self.now psk s a
             → OnOk result (out.new ≡ answer_inner psk s a sealed.now) }
     {
-        open_record(&self.kept.response, self.kept.id, self.number(), sealed, out)
+        open_record(
+            &self.kept.response,
+            self.kept.id,
+            self.number(),
+            sealed,
+            out,
+        )
     }
 
     // What an inner message is to what is awaited.

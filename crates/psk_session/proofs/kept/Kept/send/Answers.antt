@@ -16,8 +16,8 @@ returns c = λ psk s a keeps stage few next awaits.
       newest = (
         refl,
         sym (sealed_kept c.args.self psk s (awaited_epoch s a) c.record_number-number.result c.args.inner.now c.args.pad.now c.seal_inner-sent.result keeps
-        (c.record_number-number.ensures small ∙ keeps.request_next)
-        (c.seal_inner-sent.ensures (session_terms s).choice (application_record psk (t2_of s) Request (request_epoch s)) keeps.request)),
+            (c.record_number-number.ensures small ∙ keeps.request_next)
+            (c.seal_inner-sent.ensures (session_terms s).choice (application_record psk (t2_of s) Request (request_epoch s)) keeps.request)),
       );
       awaits = awaits;
       few = next;
