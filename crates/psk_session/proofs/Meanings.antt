@@ -2,7 +2,8 @@
 use Rattle.std.proofs.Common.{◌≡◌, ◌≤◌, ◌+◌, ap, sym, refl, ℕ, List, [], Bool, true, false, not, length, arith, eq-eqb}
 use Rattle.std.specs.Prelude.{⊤, ◌==◌, ◌&&◌, drop, slice_index, if◌then◌else◌, Option, Some, None, unwrap_or, Result, Ok, Err}
 use Rattle.std.specs.Option.{option_or}
-use Rattle.requester_machine.proofs.Few.{FewFor, unreached}
+use Rattle.requester_machine.proofs.Few.{unreached}
+use Rattle.requester_machine.specs.SpentLaws.{FewFor}
 use Rattle.requester_machine.specs.Commands.{has_reached}
 use Rattle.requester_machine.specs.Message.{Ask}
 use Rattle.requester_machine.specs.Message.Ask.{AskFinish, AskData, AskBeat, AskUpdate, AskVerify, AskMeasure, AskChunk, AskEnd}

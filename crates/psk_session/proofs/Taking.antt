@@ -1,7 +1,7 @@
 -- A record that opened takes a course, and what comes back follows it.
 use Rattle.std.proofs.Common.{◌≡◌, ◌∙◌, ◌≤◌, ◌+◌, ap, sym, subst, refl, ℕ, List, [], ◌∷◌, drop, length, length-drop, true, false, arith}
 use Rattle.std.specs.Prelude.{◌==◌, slice_index, Option, Some, None}
-use Rattle.requester_machine.proofs.Few.{FewFor}
+use Rattle.requester_machine.specs.SpentLaws.{FewFor}
 use Rattle.requester_machine.specs.InnerMessages.{inner_fault}
 use Rattle.requester_machine.specs.Message.{Ask}
 use Rattle.requester_machine.specs.Order.{waiting_ask}

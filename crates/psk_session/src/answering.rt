@@ -15,7 +15,7 @@ impl Kept {
     ghost use Rattle.std.specs.Prelude.{◌≡◌, ◌≤◌, ◌<◌, ◌+◌, ◌-◌, ◌^◌, ◌∷◌, ◌==◌, [], ℕ, List, Some, true, length};
     ghost use Rattle.chunking.specs.Collecting.{collected};
     ghost use Rattle.chunking.specs.Keeping as keeping;
-    ghost use Rattle.requester_machine.proofs.Few.{FewFor};
+    ghost use Rattle.requester_machine.specs.SpentLaws.{FewFor};
     ghost use Rattle.requester_machine.specs.Message as message;
     ghost use Rattle.requester_machine.specs.Message.Ask.{AskChunk, AskVerify};
     ghost use Rattle.requester_machine.specs.Order.{stage_for, waiting_ask};

@@ -36,7 +36,7 @@ pub fn record_number(next: u32) -> u16
 impl Kept {
     ghost use Rattle.std.specs.Prelude.{◌≡◌, ◌≤◌, ◌<◌, ◌+◌, ◌-◌, ◌^◌, ◌∷◌, ℕ, List, Bool, None, true, false, length};
     ghost use Rattle.chunking.specs.Keeping as keeping;
-    ghost use Rattle.requester_machine.proofs.Few.{FewFor};
+    ghost use Rattle.requester_machine.specs.SpentLaws.{FewFor};
     ghost use Rattle.requester_machine.specs.Commands.{has_reached, is_spent, lacks};
     ghost use Rattle.requester_machine.specs.History.{Effect};
     ghost use Rattle.requester_machine.specs.History.Effect.{Grants};

@@ -2,7 +2,8 @@ use Rattle.std.proofs.Common.{◌≡◌, ◌∙◌, ◌+◌, ap, sym, subst, ref
 use Rattle.chunking.specs.Collecting.{Collection, accepted_with, collected}
 use Rattle.chunking.specs.Collecting.Collection.{Whole, More}
 use Rattle.chunking.specs.Keeping as keeping
-use Rattle.requester_machine.proofs.Few.{FewFor, chunk_few}
+use Rattle.requester_machine.proofs.Few.{chunk_few}
+use Rattle.requester_machine.specs.SpentLaws.{FewFor}
 use Rattle.requester_machine.specs.Commands.{has_reached}
 use Rattle.requester_machine.specs.History.Effect.{Nothing}
 use Rattle.requester_machine.specs.Message.Ask.{AskChunk}

@@ -1,7 +1,8 @@
 use Rattle.std.proofs.Common.{◌≡◌, ◌∙◌, ap, sym, subst, refl, ℕ, ◌≤◌, [], Bool, true, false, Some, arith}
 use Rattle.negotiate.specs.declared.shared.Common.{Common}
 use Rattle.requester_machine.proofs.Collected.{none_yet}
-use Rattle.requester_machine.proofs.Few.{FewFor, first_few, updated_few}
+use Rattle.requester_machine.proofs.Few.{first_few, updated_few}
+use Rattle.requester_machine.specs.SpentLaws.{FewFor}
 use Rattle.requester_machine.specs.History.Effect.{Nothing, Grants}
 use Rattle.requester_machine.specs.InnerMessages.{op_in}
 use Rattle.requester_machine.specs.Message.{Ask}
