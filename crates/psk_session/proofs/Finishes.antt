@@ -1,8 +1,6 @@
 -- The record of PSK_FINISH is the next one of the accepted session.
 use Rattle.std.proofs.Common.{◌≡◌, ◌∙◌, ap, ℕ, List, ◌∷◌}
-use Rattle.key_schedule.specs.Keys.{DirectionSecret}
-use Rattle.key_schedule.specs.Purpose.{IsSecretOf, AreSecretsOf, handshake_record}
-use Rattle.key_schedule.specs.declared.direction.Direction.{Direction}
+use Rattle.key_schedule.specs.Purpose.{handshake_record}
 use Rattle.key_schedule.specs.declared.direction.Direction.TheVariants.{Request}
 use Rattle.requester_machine.specs.Records.{sealed_next}
 use Rattle.requester_machine.specs.Session.{t1_of, session_id}
@@ -12,21 +10,7 @@ use Rattle.spdm_machine.specs.Keys.{sealed_of}
 use Rattle.spdm_machine.specs.Terms.{terms_of}
 use Rattle.transcript.specs.Transcripts.{Negotiation}
 use Rattle.psk_session.specs.Finishing.{finish_message}
-use Rattle.psk_session.specs.Handshake.{IsHandshakeOf}
-use Rattle.psk_session.specs.Keys.{IsKeyOf}
 use Rattle.psk_session.specs.Opening.{accepted, finish_record}
-use Rattle.psk_session.specs.declared.handshake.Handshake.{Handshake}
-
--- The key of a direction of a handshake is that of its records.
-pub handshake_key : (seen : Handshake) (psk : List ℕ) (n : Negotiation) (exchange answer : List ℕ) (k : DirectionSecret) (direction : Direction)
-    → IsHandshakeOf seen psk n exchange answer → k.hash ≡ seen.keys.hash → k.aead ≡ seen.keys.aead
-    → ((psk t1 : List ℕ) → AreSecretsOf seen.keys psk t1 → IsSecretOf k (handshake_record psk t1 direction))
-    → IsKeyOf k (terms_of n).choice (handshake_record psk (t1_of (accepted n exchange answer)) direction)
-handshake_key seen psk n exchange answer k direction is h a p = record {
-  hash = h ∙ is.hash;
-  aead = a ∙ is.aead;
-  secret = p psk (t1_of (accepted n exchange answer)) is.secrets;
-}
 
 pub finish_sealed : (psk : List ℕ) (n : Negotiation) (exchange answer : List ℕ) (id : SessionId) (message pad out : List ℕ)
     → id ≡ session_id (accepted n exchange answer) → message ≡ finish_message psk n exchange answer

@@ -17,7 +17,8 @@ use Rattle.spdm_grammar.specs.Responses.{response_reading}
 use Rattle.spdm_grammar.specs.declared.event.BadReply.{BadReply}
 use Rattle.spdm_grammar.specs.declared.malformed.Malformed.{Malformed}
 use Rattle.spdm_machine.specs.Terms.{hash_len}
-use Rattle.psk_session.specs.Finished.{finish_fault, finish_led, came_to}
+use Rattle.psk_session.specs.Course.{came_to}
+use Rattle.psk_session.specs.Finished.{finish_fault, finish_led}
 use Rattle.psk_session.specs.Inner.{Contents, contents_by, contents_of}
 use Rattle.psk_session.specs.Inner.Contents.{Spoken, AppData}
 
@@ -64,9 +65,9 @@ finish_led_is q h f came (Ok (Spoken (Error version code detail extended))) = re
 -- The verdict on an inner message of these bytes is that of the definitions on the record that held them.
 pub judged : (psk : List ℕ) (s : Steps) (sealed inner : List ℕ) (hash : HashAlg) (verdict : Option BadReply) (q : ReqSetup) (h : History) (f : Free) (id : ℕ)
     → inner ≡ answer_inner psk s AskFinish sealed → hash ≡ (session_terms s).choice.hash → verdict ≡ finish_fault (contents_of q (hash_size hash) inner)
-    → inner_led q h f (came_to psk id s sealed) AskFinish ≡ finish_led (came_to psk id s sealed) verdict
+    → inner_led q h f (came_to psk id s AskFinish sealed) AskFinish ≡ finish_led (came_to psk id s AskFinish sealed) verdict
 judged psk s sealed inner hash verdict q h f id same alike is =
-    let came = came_to psk id s sealed in
+    let came = came_to psk id s AskFinish sealed in
     inner_led_is q h f came AskFinish
     ∙ finish_led_is q h f came (contents_of q (hash_len (session_terms s)) (answer_inner psk s AskFinish sealed))
     ∙ sym (ap (finish_led came) (is ∙ ap (λ (x : HashAlg). finish_fault (contents_of q (hash_size x) inner)) alike ∙ ap (λ (x : List ℕ). finish_fault (contents_of q (hash_len (session_terms s)) x)) same))

@@ -1,5 +1,12 @@
-pub mod Purposes
 pub mod Finishes
 pub mod Judged
 pub mod Past
 pub mod AskCommands
+pub mod AskFew
+pub mod Blocks
+pub mod Replies
+pub mod Meanings
+pub mod Courses
+pub mod Chunks
+pub mod Taking
+pub mod Entries

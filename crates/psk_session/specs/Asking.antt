@@ -4,17 +4,14 @@ use Rattle.spdm_basis.specs.Tests.{first_of_tests}
 use Rattle.requester_machine.specs.Commands.{lacks, is_spent}
 use Rattle.requester_machine.specs.Message as message
 use Rattle.requester_machine.specs.Message.{Command}
-use Rattle.requester_machine.specs.Message.Ask.{AskData, AskBeat, AskUpdate, AskVerify, AskMeasure, AskEnd}
+use Rattle.requester_machine.specs.Message.Ask.{AskData, AskBeat, AskUpdate, AskMeasure, AskEnd}
 use Rattle.requester_machine.specs.Message.Command.{Send, Beat, Update, Measure, End}
-use Rattle.requester_machine.specs.Records.{sealed_next}
 use Rattle.requester_machine.specs.Sending.{inner_data, inner_request, key_update, operation_of}
 use Rattle.requester_machine.specs.Session.{Steps, session_terms}
-use Rattle.requester_machine.specs.Session.Step.{Asked}
 use Rattle.spdm_grammar.specs.Message.RequestMessage.{Heartbeat, GetMeasurements, EndSession}
+use Rattle.psk_session.specs.Course.{with_asked}
 use Rattle.psk_session.specs.declared.ask.Ask.{Ask}
 use Rattle.psk_session.specs.declared.ask.Ask.TheVariants as ask
-use Rattle.psk_session.specs.declared.ask.Awaited.{Awaited}
-use Rattle.psk_session.specs.declared.ask.Awaited.TheVariants as awaited
 use Rattle.psk_session.specs.declared.ask_fault.AskFault.{AskFault}
 use Rattle.psk_session.specs.declared.ask_fault.AskFault.TheVariants.{NotNegotiated, KeySpent, TooLong}
 
@@ -26,14 +23,6 @@ asked_of ask.UpdateKey = AskUpdate false
 asked_of ask.UpdateAll = AskUpdate true
 asked_of (ask.Measure op) = AskMeasure op
 asked_of ask.End = AskEnd
-
--- What is awaited, as a step of the session.
-abbrev pub awaited_ask : Awaited → message.Ask
-awaited_ask awaited.Data = AskData
-awaited_ask awaited.Beat = AskBeat
-awaited_ask (awaited.Update all) = AskUpdate all
-awaited_ask (awaited.Measure op) = AskMeasure op
-awaited_ask awaited.End = AskEnd
 
 -- The command that asks it of a session, whose id does not matter here.
 abbrev pub command_of : Ask → Command
@@ -68,4 +57,4 @@ inner_for s ask.End = inner_request EndSession
 
 -- The session with the record that asks it.
 abbrev pub asked : (psk : List ℕ) → Steps → Ask → (pad : List ℕ) → Steps
-asked psk s a pad = Asked (asked_of a) (inner_for s a) (sealed_next psk s (inner_for s a) pad) ∷ s
+asked psk s a pad = with_asked psk s (asked_of a) (inner_for s a) pad

@@ -1,5 +1,5 @@
 -- What comes of a record while PSK_FINISH_RSP is awaited. The answers are those of the definitions of a requester.
-use Rattle.std.specs.Prelude.{◌≡◌, ℕ, List, ◌∷◌, drop, Option, Some, None, Result, Ok, Err}
+use Rattle.std.specs.Prelude.{◌≡◌, ℕ, List, drop, Option, Some, None, Result, Ok, Err}
 use Rattle.requester_machine.specs.Answers.{is_done}
 use Rattle.requester_machine.specs.Commands.{Free}
 use Rattle.requester_machine.specs.History.{History, Led}
@@ -8,12 +8,12 @@ use Rattle.requester_machine.specs.InnerMessages.{Came, inner_led, message_in}
 use Rattle.requester_machine.specs.Message.Ask.{AskFinish}
 use Rattle.requester_machine.specs.Records.{answer_fault, answer_inner}
 use Rattle.requester_machine.specs.Session.{Steps, session_id, session_terms}
-use Rattle.requester_machine.specs.Session.Step.{Took}
 use Rattle.requester_machine.specs.Setup.{ReqSetup}
 use Rattle.spdm_grammar.specs.Message.ResponseMessage.{PskFinishRsp, Error}
 use Rattle.spdm_grammar.specs.declared.event.BadReply.{BadReply}
 use Rattle.spdm_grammar.specs.declared.event.BadReply.TheVariants as bad
 use Rattle.spdm_grammar.specs.declared.event.Finished.TheVariants as finished
+use Rattle.psk_session.specs.Course.{came_to, with_taken}
 use Rattle.psk_session.specs.Finishing as finishing
 use Rattle.psk_session.specs.Inner.{Contents}
 use Rattle.psk_session.specs.Inner.Contents.{Spoken, AppData}
@@ -38,20 +38,16 @@ finish_led came None = Ok (is_done (finished.Opened (session_id came.steps)) (Gr
 
 -- ---- The record.
 
--- A record as it came to a session that awaits PSK_FINISH_RSP.
-abbrev pub came_to : (psk : List ℕ) → (id : ℕ) → Steps → (sealed : List ℕ) → Came
-came_to psk id s sealed = record { id = id; steps = s; sealed = sealed; inner = answer_inner psk s AskFinish sealed }
-
 -- The record is taken with this verdict on its inner message, by each requester whose transfer size is that of the session's terms.
 abbrev pub IsJudged : (psk : List ℕ) → Steps → (sealed : List ℕ) → Option BadReply → Type 0
 IsJudged psk s sealed verdict =
     (answer_fault psk s AskFinish sealed ≡ None)
     × ((q : ReqSetup) (h : History) (f : Free) (id : ℕ) → q.transfer ≡ (session_terms s).common.to_requester.transfer
-    → inner_led q h f (came_to psk id s sealed) AskFinish ≡ finish_led (came_to psk id s sealed) verdict)
+    → inner_led q h f (came_to psk id s AskFinish sealed) AskFinish ≡ finish_led (came_to psk id s AskFinish sealed) verdict)
 
 -- The session with PSK_FINISH_RSP.
 abbrev pub finished_by : (psk : List ℕ) → Steps → (sealed : List ℕ) → Steps
-finished_by psk s sealed = Took sealed (answer_inner psk s AskFinish sealed) (Grants AskFinish (drop 1 (answer_inner psk s AskFinish sealed))) ∷ s
+finished_by psk s sealed = with_taken psk s AskFinish sealed (Grants AskFinish (drop 1 (answer_inner psk s AskFinish sealed)))
 
 -- What came of a record: the session is open; it is lost; or the record did not open, with its fault, and the state is the same.
 abbrev pub IsFinishTook : finishing.Seen → (psk : List ℕ) → Steps → (sealed : List ℕ) → FinishTook → Type 0

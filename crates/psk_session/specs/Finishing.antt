@@ -12,11 +12,12 @@ use Rattle.spdm_machine.specs.Terms.{terms_of}
 use Rattle.transcript.specs.Lane as lane
 use Rattle.transcript.specs.Transcripts.{Negotiation, vca_of}
 use Rattle.transcript.specs.declared.lane.Lane.{Lane}
-use Rattle.psk_session.specs.Handshake.{IsHandshakeOf}
-use Rattle.psk_session.specs.Keys.{IsKeyOf}
-use Rattle.psk_session.specs.Opening.{AreTermsOf, accepted, finish_record}
-use Rattle.psk_session.specs.declared.handshake.Handshake.{Handshake}
-use Rattle.psk_session.specs.declared.terms.SessionTerms.{SessionTerms}
+use Rattle.session_keys.specs.Handshake.{IsHandshakeOf}
+use Rattle.session_keys.specs.Keys.{IsKeyOf}
+use Rattle.session_keys.specs.Terms.{AreTermsOf}
+use Rattle.session_keys.specs.declared.handshake.Handshake.{Handshake}
+use Rattle.session_keys.specs.declared.terms.SessionTerms.{SessionTerms}
+use Rattle.psk_session.specs.Opening.{accepted, finish_record}
 
 -- The state as contracts see it: the running hash of the transcript so far, what the handshake fixed, the key of the responder's records, the id, the record of PSK_FINISH and the terms.
 pub record Seen : Type 0 where
@@ -34,7 +35,7 @@ finish_message psk n exchange answer = canonical_request (PskFinish (finish_veri
 -- The state stands for the session that this PSK_EXCHANGE began under this negotiation, that this answer accepted, and whose PSK_FINISH was sent with this padding.
 pub record StandsFor (seen : Seen) (psk : List ℕ) (n : Negotiation) (exchange answer pad : List ℕ) : Type 0 where
   pub terms : AreTermsOf seen.terms n exchange
-  pub handshake : IsHandshakeOf seen.handshake psk n exchange answer
+  pub handshake : IsHandshakeOf seen.handshake (terms_of n).choice psk (t1_of (accepted n exchange answer))
   pub pushed : lane.StandsFor seen.lane (vca_of n ++ exchange ++ answer ++ finish_message psk n exchange answer)
   pub response : IsKeyOf seen.response (terms_of n).choice (handshake_record psk (t1_of (accepted n exchange answer)) Response)
   pub id : seen.id ≡ session_id (accepted n exchange answer)

@@ -1,11 +1,10 @@
 -- A session at the requester while PSK_EXCHANGE_RSP is awaited (DSP0274, "PSK_EXCHANGE", "PSK_EXCHANGE_RSP"), and the session that the answer makes of it.
-use Rattle.std.specs.Prelude.{◌≡◌, ℕ, List, [], ◌∷◌, ◌++◌, if◌then◌else◌, Bool, Option, Some, None, Result, Ok, Err, bytes_eq}
+use Rattle.std.specs.Prelude.{◌≡◌, ℕ, List, [], ◌∷◌, ◌++◌, ◌==◌, not, slice_index, if◌then◌else◌, Bool, Option, Some, None, Result, Ok, Err, bytes_eq}
 use Rattle.spdm_grammar.specs.Message.{ResponseMessage}
 use Rattle.spdm_grammar.specs.Message.ResponseMessage.{PskExchangeRsp}
 use Rattle.spdm_grammar.specs.Message.RequestMessage.{PskFinish}
 use Rattle.spdm_grammar.specs.Responses.{response_reading}
 use Rattle.spdm_grammar.specs.declared.malformed.Malformed.{Malformed}
-use Rattle.spdm_machine.specs.Sessions.{id_in_exchange}
 use Rattle.spdm_machine.specs.Terms.{terms_of, hash_len}
 use Rattle.requester_machine.specs.Answers.{answer_verify}
 use Rattle.requester_machine.specs.Message.Ask.{AskFinish}
@@ -16,7 +15,8 @@ use Rattle.requester_machine.specs.Session.Step.{Started, Accepted, Asked}
 use Rattle.transcript.specs.Lane as lane
 use Rattle.transcript.specs.Transcripts.{Negotiation, vca_of}
 use Rattle.transcript.specs.declared.lane.Lane.{Lane}
-use Rattle.psk_session.specs.declared.terms.SessionTerms.{SessionTerms}
+use Rattle.session_keys.specs.Terms.{AreTermsOf, asks_summary}
+use Rattle.session_keys.specs.declared.terms.SessionTerms.{SessionTerms}
 use Rattle.psk_session.specs.declared.open_fault.OpenFault.{OpenFault}
 use Rattle.psk_session.specs.declared.open_fault.OpenFault.TheVariants as fault
 
@@ -51,12 +51,6 @@ pub record Seen : Type 0 where
   pub psk : List ℕ
   pub terms : SessionTerms
 
--- The terms of a session are those of its negotiation, and its ReqSessionID is that of its PSK_EXCHANGE.
-pub record AreTermsOf (terms : SessionTerms) (n : Negotiation) (exchange : List ℕ) : Type 0 where
-  pub choice : terms.choice ≡ (terms_of n).choice
-  pub common : terms.common ≡ (terms_of n).common
-  pub req_id : terms.req_id ≡ id_in_exchange exchange
-
 -- The state stands for the session that this PSK_EXCHANGE began under this negotiation, with this pre-shared key.
 pub record StandsFor (seen : Seen) (psk : List ℕ) (n : Negotiation) (exchange : List ℕ) : Type 0 where
   pub terms : AreTermsOf seen.terms n exchange
@@ -71,5 +65,5 @@ fault_by psk n exchange answer (Err at) = Some (fault.Malformed at.at)
 fault_by psk n exchange answer (Ok (PskExchangeRsp rsp)) = if bytes_eq rsp.verify (answer_verify psk (accepted n exchange answer)) then None else Some fault.BadVerify
 fault_by psk n exchange answer (Ok _) = Some (fault.Malformed 1)
 
-abbrev pub open_fault : (psk : List ℕ) → Negotiation → (exchange : List ℕ) → (summary : Bool) → (answer : List ℕ) → Option OpenFault
-open_fault psk n exchange summary answer = fault_by psk n exchange answer (response_reading (hash_len (terms_of n)) summary answer)
+abbrev pub open_fault : (psk : List ℕ) → Negotiation → (exchange answer : List ℕ) → Option OpenFault
+open_fault psk n exchange answer = fault_by psk n exchange answer (response_reading (hash_len (terms_of n)) (asks_summary exchange) answer)

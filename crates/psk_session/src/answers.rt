@@ -7,6 +7,7 @@ ghost use Rattle.spdm_codec.specs.Answer.{Gives};
 ghost use Rattle.spdm_machine.specs.Sessions.{id_in_exchange};
 ghost use Rattle.psk_session.specs.Answers.{no_exchange_rsp};
 
+use session_keys::byte_at;
 use spdm_codec::read_response;
 use spdm_grammar::{ExchangeRsp, Malformed, Response};
 
@@ -39,23 +40,9 @@ pub fn read_exchange_rsp(
     }
 }
 
-// The byte at a place, and 0 behind the end.
-pub fn byte_at(message: &[u8], at: usize) -> u8
-    ensures { result ≡ slice_index message.now at }
-{
-    message.get(at).copied().unwrap_or(0)
-}
-
 // The half of a session id that PSK_EXCHANGE or PSK_EXCHANGE_RSP tells.
 pub fn told_id(message: &[u8]) -> u16
     ensures { result ≡ id_in_exchange message.now }
 {
     byte_at(message, 4) as u16 + 256 * byte_at(message, 5) as u16
-}
-
-// Whether bytes are the same.
-pub fn same_bytes(a: &[u8], b: &[u8]) -> bool
-    ensures { result ≡ bytes_eq a.now b.now }
-{
-    a == b
 }

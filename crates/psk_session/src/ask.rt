@@ -1,4 +1,5 @@
-use crate::inner::MOST_DATA;
+use session_keys::MOST_DATA;
+use spdm_grammar::Stage;
 
 /// What is asked of an open session.
 #[derive(Clone, Copy)]
@@ -22,18 +23,53 @@ pub enum Ask<'a> {
 pub enum Awaited {
     Data,
     Beat,
+    // The answer to an update, of the request key or of all keys.
     Update { all: bool },
+    // The answer to VerifyNewKey.
+    Verify,
     Measure { op: u8 },
+    // The chunk of this number of the large answer to an operation.
+    Chunk { op: u8, handle: u8, number: u16 },
     End,
 }
 
+impl Awaited {
+    ghost use Rattle.std.specs.Prelude.{◌≡◌, List};
+    ghost use Rattle.requester_machine.specs.Order.{stage_for};
+    ghost use Rattle.requester_machine.specs.Records.{asks_all};
+    ghost use Rattle.spdm_grammar.specs.Message.{ChunkMessage};
+    ghost use Rattle.psk_session.specs.Waiting.{awaited_by};
+
+    // The stage in which it is awaited.
+    pub fn stage(self) -> Stage
+        ensures { (before : List ChunkMessage) → result ≡ stage_for (awaited_by self before) }
+    {
+        match self {
+            Awaited::Verify => Stage::Verifying,
+            _ => Stage::Open,
+        }
+    }
+
+    // Whether it is the answer to an update of all keys.
+    pub fn is_of_all(self) -> bool
+        ensures { (before : List ChunkMessage) → result ≡ asks_all (awaited_by self before) }
+    {
+        match self {
+            Awaited::Update { all } => all,
+            _ => false,
+        }
+    }
+}
+
 impl Ask<'_> {
-    ghost use Rattle.std.specs.Prelude.{◌≡◌, ◌≤◌, length, nat_lt};
-    ghost use Rattle.psk_session.specs.Asking.{asked_of, awaited_ask, is_long};
+    ghost use Rattle.std.specs.Prelude.{◌≡◌, ◌≤◌, [], ℕ, length, nat_lt};
+    ghost use Rattle.psk_session.specs.Asking.{asked_of, is_long};
+    ghost use Rattle.psk_session.specs.Waiting.{IsBehind, awaited_by};
 
     // What is awaited once it was asked.
     pub(crate) fn awaited(&self) -> Awaited
-        ensures { awaited_ask result ≡ asked_of self.now }
+        ensures is { awaited_by result [] ≡ asked_of self.now }
+        ensures behind { (max : ℕ) → IsBehind max result [] }
     {
         match self {
             Ask::Data(_) => Awaited::Data,

@@ -11,17 +11,20 @@ ghost use Rattle.transcript.specs.Lane.{lane_hash};
 ghost use Rattle.transcript.specs.Transcripts.{Negotiation, vca_of};
 ghost use Rattle.psk_session.specs.Finishing.{StandsFor};
 ghost use Rattle.psk_session.specs.ReqOpen as open_state;
-ghost use Rattle.psk_session.specs.Handshake.{IsHandshakeOf};
-ghost use Rattle.psk_session.specs.Opening.{AreTermsOf, finishing};
+ghost use Rattle.session_keys.specs.Handshake.{IsHandshakeOf};
+ghost use Rattle.session_keys.specs.Terms.{AreTermsOf};
+ghost use Rattle.requester_machine.specs.Session.{t1_of};
+ghost use Rattle.spdm_machine.specs.Terms.{terms_of};
+ghost use Rattle.psk_session.specs.Opening.{accepted, finishing};
 ghost use Rattle.requester_machine.specs.Shown.{view_of};
 
-use crate::handshake::Handshake;
-use crate::inner::{Inner, behind_type, read_inner};
+use crate::finish_record::{seal_finish, verify_of_finish};
+use crate::inner::{Inner, read_inner};
 use crate::kept::Kept;
-use crate::keys::open_record;
 use crate::requests::write_finish;
 use crate::{Closed, FinishTook, ReqOpen, SessionTerms};
 use secured_record::{RecordFault, RecordKey};
+use session_keys::{Handshake, behind_type, open_record};
 use spdm_basis::{Buffer, Frame, RecordFrame, SessionId};
 use spdm_grammar::{BadReply, Response, SessionView, Stage};
 use std::marker::Model;
@@ -73,7 +76,8 @@ impl Finishing {
         requires pad { length pad.now ≤ 16 }
         ensures { (psk : List ℕ) (n : Negotiation) (exchange answer : List ℕ)
             → AreTermsOf terms n exchange
-            → IsHandshakeOf handshake psk n exchange answer
+            → IsHandshakeOf handshake (terms_of n).choice psk
+            (t1_of (accepted n exchange answer))
             → lanes.StandsFor lane (vca_of n ++ exchange ++ answer)
             → rsp_id ≡ id_in_exchange answer → StandsFor result psk n exchange answer pad.now }
     {
@@ -82,9 +86,9 @@ impl Finishing {
             rsp: rsp_id,
         };
         let mut message = Frame::new();
-        write_finish(handshake.requester_verify(&lane).as_slice(), &mut message);
+        write_finish(verify_of_finish(&handshake, &lane).as_slice(), &mut message);
         lane.push(message.as_slice());
-        let sent = handshake.seal_finish(id, message.as_slice(), pad);
+        let sent = seal_finish(&handshake, id, message.as_slice(), pad);
         let response = handshake.response_key();
         Finishing {
             lane,
@@ -200,6 +204,9 @@ impl Finishing {
             id,
             terms,
         };
-        ReqOpen { kept }
+        ReqOpen {
+            kept,
+            brought: RecordFrame::new(),
+        }
     }
 }

@@ -5,33 +5,15 @@ ghost use Rattle.requester_machine.specs.Setup.{ReqSetup};
 ghost use Rattle.psk_session.specs.Held.{Reads};
 ghost use Rattle.psk_session.specs.Inner.{contents_of};
 
-use crate::answers::{byte_at, read_answer};
+use crate::answers::read_answer;
+use session_keys::{APP_DATA, MOST_DATA, SPDM_MESSAGE, behind_type, byte_at};
 use spdm_grammar::{BadReply, Response};
-
-// The type in front of an SPDM message in a record (DSP0275), and in front of application data (DSP0277).
-pub const SPDM_MESSAGE: u8 = 5;
-
-pub const APP_DATA: u8 = 1;
-
-// The most bytes of application data.
-pub const MOST_DATA: usize = 1024;
 
 // What an inner message holds: a response, or application data.
 #[derive(Clone, Copy)]
 pub enum Inner<'a> {
     Message(Response<'a>),
     Data(&'a [u8]),
-}
-
-// What stands behind the type.
-pub fn behind_type(inner: &[u8]) -> &[u8]
-    ensures { result.now ≡ drop 1 inner.now }
-{
-    if inner.is_empty() {
-        inner
-    } else {
-        inner.split_at(1).1
-    }
 }
 
 // The fault of an inner message before it is read, at an end of this transfer size.

@@ -2,22 +2,25 @@
 //! call takes and gives back: what may not be done in a state is no call of it. No call takes memory.
 #![tactic(auto)]
 
+mod answering;
 mod answers;
 mod ask;
 mod ask_fault;
 mod closed;
+mod finish_record;
 mod finish_took;
 mod finishing;
-mod handshake;
 mod inner;
 mod kept;
-mod keys;
 mod laws;
 mod open_fault;
 mod opening;
+mod reply;
 mod req_open;
 mod requests;
-mod terms;
+mod took;
+mod updates;
+mod verdict;
 mod waiting;
 
 pub use ask::Ask;
@@ -25,14 +28,14 @@ pub use ask_fault::AskFault;
 pub use closed::Closed;
 pub use finish_took::FinishTook;
 pub use finishing::Finishing;
-pub use laws::ask_is_command;
+pub use laws::{
+    ask_is_command, course_is_entry, data_are_last, finish_is_entry, opening_is_answer,
+    unopened_is_ignored,
+};
 pub use open_fault::OpenFault;
 pub use opening::Opening;
+pub use reply::Reply;
 pub use req_open::ReqOpen;
-pub use terms::SessionTerms;
+pub use session_keys::SessionTerms;
+pub use took::Took;
 pub use waiting::Waiting;
-
-#[cfg(test)]
-mod suites;
-#[cfg(test)]
-mod tests;

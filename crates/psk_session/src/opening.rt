@@ -2,16 +2,19 @@ ghost use Rattle.std.specs.Prelude.{◌≡◌, ◌≤◌, ◌++◌, [], ℕ, Lis
 ghost use Rattle.running_hash.specs.Hash.{hash_of};
 ghost use Rattle.spdm_basis.specs.Sizes.{hash_size};
 ghost use Rattle.transcript.specs.Transcripts.{Negotiation, vca_of, without_verify};
+ghost use Rattle.requester_machine.specs.Session.{t1_of};
+ghost use Rattle.spdm_machine.specs.Terms.{terms_of};
 ghost use Rattle.transcript.specs.Lane as lane;
-ghost use Rattle.psk_session.specs.Opening.{AreTermsOf, StandsFor, open_fault};
+ghost use Rattle.session_keys.specs.Terms.{AreTermsOf};
+ghost use Rattle.psk_session.specs.Opening.{StandsFor, accepted, open_fault};
 ghost use Rattle.psk_session.specs.Finishing as finishing;
-ghost use Rattle.psk_session.specs.Handshake.{IsHandshakeOf};
+ghost use Rattle.session_keys.specs.Handshake.{IsHandshakeOf};
 ghost use Rattle.psk_session.specs.Opened.{IsTaken};
 
-use crate::answers::{read_exchange_rsp, same_bytes, told_id};
-use crate::handshake::Handshake;
+use crate::answers::{read_exchange_rsp, told_id};
 use crate::{Finishing, OpenFault, SessionTerms};
-use spdm_basis::{HashAlg, HashBytes, Psk};
+use session_keys::{Handshake, same_bytes, without_verify};
+use spdm_basis::{HashBytes, Psk};
 use std::marker::Model;
 use transcript::{Lane, Vca};
 
@@ -33,15 +36,6 @@ impl Model for Opening {
     ghost view = { λ o. record { lane = o.lane; psk = o.psk; terms = o.terms } };
 
     ghost invariant = { λ o. lane_hash o.lane ≡ o.terms.choice.hash };
-}
-
-// A message without its verify data.
-fn without_verify(hash: HashAlg, message: &[u8]) -> &[u8]
-    ensures { result.now ≡ without_verify (hash_of hash) message.now }
-{
-    message
-        .split_at(message.len().saturating_sub(hash.size()))
-        .0
 }
 
 impl Opening {
@@ -77,7 +71,8 @@ impl Opening {
     fn handshake_with(&self, answer: &[u8]) -> Handshake
         ensures hash { result.keys.hash ≡ self.now.terms.choice.hash }
         ensures value { (psk : List ℕ) (n : Negotiation) (exchange : List ℕ)
-            → StandsFor self.now psk n exchange → IsHandshakeOf result psk n exchange answer.now }
+            → StandsFor self.now psk n exchange → IsHandshakeOf result (terms_of n).choice psk
+            (t1_of (accepted n exchange answer.now)) }
     {
         let choice = self.terms.choice;
         Handshake::new(choice.hash, choice.aead, &self.psk, self.hash_with(answer))
@@ -87,8 +82,9 @@ impl Opening {
     fn fault(&self, answer: &[u8], handshake: &Handshake) -> Option<OpenFault>
         ensures { (psk : List ℕ) (n : Negotiation) (exchange : List ℕ)
             → StandsFor self.now psk n exchange
-            → IsHandshakeOf handshake.now psk n exchange answer.now
-            → result ≡ open_fault psk n exchange self.now.terms.summary answer.now }
+            → IsHandshakeOf handshake.now (terms_of n).choice psk
+            (t1_of (accepted n exchange answer.now))
+            → result ≡ open_fault psk n exchange answer.now }
     {
         match read_exchange_rsp(answer, self.terms.choice.hash.size(), self.terms.summary) {
             Err(at) => Some(OpenFault::Malformed(at)),
@@ -135,7 +131,8 @@ impl Opening {
         requires pad { length pad.now ≤ 16 }
         ensures { (psk : List ℕ) (n : Negotiation) (exchange : List ℕ)
             → StandsFor self psk n exchange
-            → IsHandshakeOf handshake psk n exchange answer.now
+            → IsHandshakeOf handshake (terms_of n).choice psk
+            (t1_of (accepted n exchange answer.now))
             → finishing.StandsFor result psk n exchange answer.now pad.now }
     {
         let Opening {

@@ -2,12 +2,26 @@ ghost use Rattle.std.specs.Prelude.{◌≡◌, ◌≤◌, ◌+◌, length};
 ghost use Rattle.spdm_grammar.specs.Message.RequestMessage.{PskFinish};
 ghost use Rattle.spdm_grammar.specs.Message.{request_message};
 ghost use Rattle.spdm_grammar.specs.Requests.{canonical_request, IsSoundRequest};
-ghost use Rattle.requester_machine.specs.Sending.{inner_request, inner_data};
+ghost use Rattle.requester_machine.specs.Sending.{inner_request, inner_data, operation_of};
 
-use crate::inner::{APP_DATA, SPDM_MESSAGE};
+use session_keys::{APP_DATA, SPDM_MESSAGE};
 use spdm_basis::{Frame, RecordFrame};
 use spdm_codec::write_request;
 use spdm_grammar::Request;
+
+// The operations of KEY_UPDATE (DSP0274, "KEY_UPDATE request message format").
+const UPDATE_KEY: u8 = 1;
+
+const UPDATE_ALL_KEYS: u8 = 2;
+
+pub const VERIFY_NEW_KEY: u8 = 3;
+
+// The operation that updates the request key, or all keys.
+pub fn operation_of(all: bool) -> u8
+    ensures { result ≡ operation_of all }
+{
+    if all { UPDATE_ALL_KEYS } else { UPDATE_KEY }
+}
 
 // PSK_FINISH with these verify data, in place of what `out` holds.
 pub fn write_finish(verify: &[u8], out: &mut Frame)

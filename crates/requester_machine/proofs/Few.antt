@@ -15,19 +15,7 @@ use Rattle.requester_machine.specs.Order.Waits.{Rests, ForExchange, ForRecord}
 use Rattle.requester_machine.specs.Records.{answer_number, asks_all}
 use Rattle.requester_machine.specs.Session.{Steps, Step, request_next, response_next, is_live, when_live, after_record, ends, finishes, updates, updates_all}
 use Rattle.requester_machine.specs.Session.Step.{Accepted, Asked, Took}
-use Rattle.requester_machine.specs.SpentLaws.{AreNumbersFew, number_for}
-
--- What bounds the next numbers while something is asked. Each chunk of a large answer adds one to both.
-abbrev pub FewFor : Ask → (request response : ℕ) → Type 0
-FewFor AskFinish request response = (request ≤ 65535) × (response ≤ 65534)
-FewFor AskData request response = (request ≤ 65535) × (response ≤ 65534)
-FewFor AskBeat request response = (request ≤ 65535) × (response ≤ 65534)
-FewFor (AskUpdate true) request response = (request ≤ 65536) × (response ≤ 65535)
-FewFor (AskUpdate false) request response = (request ≤ 65535) × (response ≤ 65533)
-FewFor AskVerify request response = (request ≤ 65535) × (response ≤ 65534)
-FewFor (AskMeasure op) request response = (request ≤ 65300) × (response ≤ 65299)
-FewFor (AskChunk op handle number before) request response = (request ≤ 65301 + number) × (response ≤ 65300 + number) × (number ≤ 157)
-FewFor AskEnd request response = (request ≤ 65536) × (response ≤ 65535)
+use Rattle.requester_machine.specs.SpentLaws.{AreNumbersFew, FewFor, number_for}
 
 -- What bounds them by what the session waits for.
 abbrev pub FewBy : Waits → Steps → Type 0

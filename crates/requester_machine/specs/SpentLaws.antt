@@ -1,12 +1,13 @@
 -- How many records the keys of a session seal and take at a requester. A number has two bytes (DSP0277, "Sequence
 -- number"), and the next one is counted up to 65,536; the laws are this project's own.
-use Rattle.std.specs.Prelude.{⊤, ◌≡◌, ◌≤◌, ℕ, [], ◌∷◌, Option, Some, None}
+use Rattle.std.specs.Prelude.{⊤, ◌≡◌, ◌≤◌, ◌+◌, ℕ, [], ◌∷◌, Option, Some, None, true, false}
 use Rattle.key_schedule.specs.Purpose.{Purpose}
 use Rattle.requester_machine.specs.Setup.{ReqSetup}
 use Rattle.requester_machine.specs.Does.{IsMade}
 use Rattle.requester_machine.specs.History.{History, outstanding}
 use Rattle.requester_machine.specs.Laws.{sealed_under}
 use Rattle.requester_machine.specs.Message.{Ask, Sent}
+use Rattle.requester_machine.specs.Message.Ask.{AskFinish, AskData, AskBeat, AskUpdate, AskVerify, AskMeasure, AskChunk, AskEnd}
 use Rattle.requester_machine.specs.Message.Aim.{InSession}
 use Rattle.requester_machine.specs.Order.{waiting_ask}
 use Rattle.requester_machine.specs.Records.{answer_number}
@@ -18,6 +19,18 @@ use Rattle.requester_machine.specs.Session.Step.{Asked, Took}
 abbrev pub number_for : Steps → Option Ask → ℕ
 number_for s None = 0
 number_for s (Some ask) = answer_number s ask
+
+-- What bounds the next numbers while something is asked. Each chunk of a large answer adds one to both.
+abbrev pub FewFor : Ask → (request response : ℕ) → Type 0
+FewFor AskFinish request response = (request ≤ 65535) × (response ≤ 65534)
+FewFor AskData request response = (request ≤ 65535) × (response ≤ 65534)
+FewFor AskBeat request response = (request ≤ 65535) × (response ≤ 65534)
+FewFor (AskUpdate true) request response = (request ≤ 65536) × (response ≤ 65535)
+FewFor (AskUpdate false) request response = (request ≤ 65535) × (response ≤ 65533)
+FewFor AskVerify request response = (request ≤ 65535) × (response ≤ 65534)
+FewFor (AskMeasure op) request response = (request ≤ 65300) × (response ≤ 65299)
+FewFor (AskChunk op handle number before) request response = (request ≤ 65301 + number) × (response ≤ 65300 + number) × (number ≤ 157)
+FewFor AskEnd request response = (request ≤ 65536) × (response ≤ 65535)
 
 -- Each record was sealed under a number of at most 65,535, and each one that the session outlived was taken under a
 -- number of at most 65,534.

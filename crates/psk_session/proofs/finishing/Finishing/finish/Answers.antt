@@ -1,8 +1,8 @@
-use Rattle.std.proofs.Common.{◌≡◌, ◌++◌, sym, ap, subst, refl, ◌∙◌, ℕ, List, drop}
+use Rattle.std.proofs.Common.{◌≡◌, ◌++◌, sym, ap, subst, refl, ◌∙◌, ℕ, List, drop, arith}
 use Rattle.key_schedule.specs.Keys.{DirectionSecret}
 use Rattle.key_schedule.specs.Purpose.{application_record}
 use Rattle.key_schedule.specs.declared.direction.Direction.TheVariants.{Request, Response}
-use Rattle.requester_machine.specs.Session.{t2_of}
+use Rattle.requester_machine.specs.Session.{t1_of, t2_of}
 use Rattle.running_hash.specs.Hash.{hash_of}
 use Rattle.spdm_basis.specs.declared.hash_alg.HashAlg.{HashAlg}
 use Rattle.spdm_grammar.specs.declared.choice.Choice.{Choice}
@@ -10,13 +10,14 @@ use Rattle.spdm_machine.specs.Terms.{terms_of}
 use Rattle.transcript.specs.Transcripts.{vca_of}
 use Rattle.psk_session.specs.Finished.{finished_by}
 use Rattle.psk_session.specs.Finishing.{Seen, StandsFor, finish_message}
-use Rattle.psk_session.specs.Keys.{IsKeyOf}
-use Rattle.psk_session.specs.Opening.{finishing}
+use Rattle.session_keys.specs.Keys.{IsKeyOf}
+use Rattle.psk_session.specs.Opening.{accepted, finishing}
 use Rattle.psk_session.proofs.finishing.Finishing.finish.Goals as goal
 
 pub returns : goal.returns
 returns c = λ psk n exchange answer pad sealed stands held.
     let inside = subst (λ (x : Seen). StandsFor x psk n exchange answer pad) (sym c.self.view_is) stands in
+    let t1 = t1_of (accepted n exchange answer) in
     let t2 = t2_of (finished_by psk (finishing psk n exchange answer pad) sealed) in
     let before = vca_of n ++ exchange ++ answer ++ finish_message psk n exchange answer in
     let th2 : c.finish-th2.result ≡ (hash_of (terms_of n).choice.hash).digest t2 =
@@ -31,12 +32,14 @@ returns c = λ psk n exchange answer pad sealed stands held.
         common = inside.terms.common;
         id = inside.id;
         request = subst (λ (k : DirectionSecret). IsKeyOf k (terms_of n).choice (application_record psk t2 Request 0)) (sym c.new.ensures)
-            (c.app_keys-keys.ensures.request psk n exchange answer t2 inside.handshake th2);
+            (c.app_keys-keys.ensures.request (terms_of n).choice psk t1 t2 inside.handshake th2);
         response = subst (λ (k : DirectionSecret). IsKeyOf k (terms_of n).choice (application_record psk t2 Response 0)) (sym c.new-2.ensures)
-            (c.app_keys-keys.ensures.response psk n exchange answer t2 inside.handshake th2);
+            (c.app_keys-keys.ensures.response (terms_of n).choice psk t1 t2 inside.handshake th2);
         request_next = refl;
         response_next = refl;
-        taken = refl;
+        taken = λ _. refl;
         th2 = th2;
       };
+      few = (omega arith, omega arith);
+      brought = c.new-3.ensures;
     }

@@ -1,0 +1,15 @@
+ghost use Rattle.std.specs.Prelude.{◌≡◌, ◌<◌, ◌+◌, ◌-◌, ◌^◌};
+ghost use Rattle.key_schedule.specs.Purpose.{Purpose};
+ghost use Rattle.spdm_grammar.specs.declared.choice.Choice.{Choice};
+ghost use Rattle.session_keys.specs.Keys.{IsKeyOf};
+
+use secured_record::RecordKey;
+
+// The key behind a key update, which is that of the next epoch.
+pub fn next_key(key: RecordKey) -> RecordKey
+    requires { key.epoch < 2 ^ 64 - 1 }
+    ensures { (choice : Choice) (p : Purpose) → IsKeyOf key choice p
+        → IsKeyOf result choice (record p { epoch = p.epoch + 1 }) }
+{
+    key.next()
+}

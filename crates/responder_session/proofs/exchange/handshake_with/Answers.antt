@@ -1,0 +1,21 @@
+use Rattle.std.proofs.Common.{◌≡◌, ◌++◌, ◌∙◌, ap, ℕ, List}
+use Rattle.running_hash.specs.Hash.{hash_of}
+use Rattle.spdm_basis.specs.declared.hash_alg.HashAlg.{HashAlg}
+use Rattle.spdm_grammar.specs.declared.choice.Choice.{Choice}
+use Rattle.spdm_machine.specs.Terms.{terms_of}
+use Rattle.transcript.specs.Transcripts.{vca_of, without_verify}
+use Rattle.responder_session.specs.Exchange.{t1_with}
+use Rattle.responder_session.proofs.Answered.{unverified}
+use Rattle.responder_session.proofs.exchange.handshake_with.Goals as goal
+
+pub returns-clause-value : goal.returns-clause-value
+returns-clause-value c = λ n exchange terms pushed.
+    let hash = c.args.terms.choice.hash in
+    let given = vca_of n ++ exchange in
+    let cut = c.without_verify.ensures
+    ∙ ap (λ (x : List ℕ). without_verify (hash_of hash) x) (c.as_slice.ensures.value ∙ c.write_answer.ensures)
+    ∙ unverified hash c.args.parts.now c.blank.result c.blank.ensures in
+    c.new.ensures.stands (terms_of n).choice (t1_with n exchange c.args.parts.now) (ap (λ (x : Choice). x.hash) terms.choice) (ap (λ (x : Choice). x.aead) terms.choice)
+    (c.finish.ensures.value (given ++ c.without_verify.result.now) (c.lane_with-lane.ensures.pushed given pushed)
+    ∙ ap (λ (h : HashAlg). (hash_of h).digest (given ++ c.without_verify.result.now)) (c.lane_with-lane.ensures.hash ∙ c.requires.lane)
+    ∙ ap (λ (x : List ℕ). (hash_of hash).digest (given ++ x)) cut)

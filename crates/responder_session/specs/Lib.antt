@@ -1,0 +1,13 @@
+pub mod Kept
+pub mod Data
+pub mod Form
+pub mod Exchange
+pub mod Handshake
+pub mod Open
+pub mod Verifying
+pub mod Ended
+pub mod Turns
+pub mod Judged
+pub mod Took
+pub mod EndedTook
+pub mod Queue

@@ -1,0 +1,62 @@
+-- What comes of a record in a session. The answers are those of the definitions of a responder.
+use Rattle.std.specs.Prelude.{◌≡◌, ℕ, List, ◌∷◌, if◌then◌else◌, true, false, Option, Some, None}
+use Rattle.responder_machine.specs.Answer.{Free}
+use Rattle.responder_machine.specs.Records.{opening_fault, opened, reply_record, ended_fault}
+use Rattle.responder_machine.specs.Refusal.{code_of}
+use Rattle.responder_machine.specs.Responder.{session_turn, inner_reply, repeats}
+use Rattle.responder_machine.specs.Session.{Events, id_bytes, last_of}
+use Rattle.responder_machine.specs.Session.Event.{Heard}
+use Rattle.responder_machine.specs.Setup.{RspSetup}
+use Rattle.responder_machine.specs.Turn.{Turn, is_data, takes}
+use Rattle.spdm_basis.specs.declared.record_fault.RecordFault.{RecordFault}
+use Rattle.spdm_grammar.specs.ErrorNumber.{error_number}
+use Rattle.spdm_grammar.specs.declared.error_code.ErrorCode.{ErrorCode}
+use Rattle.spdm_grammar.specs.declared.names.request_code.TheConstants.{END_SESSION}
+use Rattle.responder_session.specs.Handshake as handshake
+use Rattle.responder_session.specs.Open as opens
+use Rattle.responder_session.specs.Verifying as verifying
+use Rattle.responder_session.specs.Ended as ended
+use Rattle.responder_session.specs.declared.took.RspAct.{RspAct}
+use Rattle.responder_session.specs.declared.took.RspAct.TheVariants.{Answered, Data, Refused}
+use Rattle.responder_session.specs.declared.took.RspState.{RspState}
+use Rattle.responder_session.specs.declared.took.RspState.TheVariants as state
+use Rattle.responder_session.specs.declared.took.RspTook.{RspTook}
+use Rattle.responder_session.specs.declared.took.RspTook.TheVariants.{Moved, Same, Unopened}
+
+-- A state of a live session stands for its events.
+abbrev pub IsStateOf : RspState → (psk : List ℕ) → Events → Type 0
+IsStateOf (state.Handshake h) psk s = handshake.StandsFor h psk s
+IsStateOf (state.Open o) psk s = opens.StandsFor o psk s
+IsStateOf (state.Verifying v) psk s = verifying.StandsFor v psk s
+IsStateOf (state.Ended e) psk s = ⊥
+
+-- The session with a record, its turn and its reply; where END_SESSION took effect, it is ended.
+abbrev pub IsAfter : RspState → (psk : List ℕ) → Events → (sealed : List ℕ) → Turn → (reply : List ℕ) → Type 0
+IsAfter (state.Handshake h) psk s sealed t reply = (takes END_SESSION t ≡ false) × handshake.StandsFor h psk (Heard sealed t reply ∷ s)
+IsAfter (state.Open o) psk s sealed t reply = (takes END_SESSION t ≡ false) × opens.StandsFor o psk (Heard sealed t reply ∷ s)
+IsAfter (state.Verifying v) psk s sealed t reply = (takes END_SESSION t ≡ false) × verifying.StandsFor v psk (Heard sealed t reply ∷ s)
+IsAfter (state.Ended e) psk s sealed t reply = (takes END_SESSION t ≡ true) × ended.StandsFor e (id_bytes s) sealed reply
+
+-- A turn is told by the number of the error code with which it was refused, as data taken, or by the code of its message.
+abbrev pub act_by : Turn → Option ErrorCode → RspAct
+act_by t (Some code) = Refused (error_number code)
+act_by t None = if is_data t.effect then Data else Answered (code_of t.message)
+
+abbrev pub act_of : Turn → RspAct
+act_of t = act_by t t.refused
+
+-- The turn of a record that opens, and the record that answers it.
+abbrev pub turn_in : RspSetup → Events → Free → (sealed : List ℕ) → Turn
+turn_in r s f sealed = session_turn r s (opened r.psk s sealed) f
+
+abbrev pub reply_in : RspSetup → Events → Free → (sealed : List ℕ) → List ℕ
+reply_in r s f sealed = reply_record r.psk s (turn_in r s f sealed) (inner_reply (turn_in r s f sealed)) f.pad
+
+-- What came of a record: it opened, the session took it, and this is told of its turn; it is the last record that was taken, and nothing changed; or it did not open, with its fault, and nothing changed.
+abbrev pub IsTook : RspSetup → Events → Free → (sealed : List ℕ) → RspTook → Type 0
+IsTook r s f sealed (Moved after act) =
+    (repeats (last_of s) sealed ≡ false) × (opening_fault r.psk s sealed ≡ None)
+    × IsAfter after r.psk s sealed (turn_in r s f sealed) (reply_in r s f sealed)
+    × (act ≡ act_of (turn_in r s f sealed))
+IsTook r s f sealed (Same same) = (repeats (last_of s) sealed ≡ true) × IsStateOf same r.psk s
+IsTook r s f sealed (Unopened same fault) = (repeats (last_of s) sealed ≡ false) × (opening_fault r.psk s sealed ≡ Some fault) × IsStateOf same r.psk s

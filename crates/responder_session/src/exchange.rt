@@ -1,0 +1,81 @@
+ghost use Rattle.std.specs.Prelude.{◌≡◌, ◌++◌, ℕ, List, length};
+ghost use Rattle.session_keys.specs.Handshake.{IsHandshakeOf};
+ghost use Rattle.session_keys.specs.Terms.{AreTermsOf};
+ghost use Rattle.spdm_basis.specs.Sizes.{hash_size};
+ghost use Rattle.spdm_machine.specs.Terms.{terms_of};
+ghost use Rattle.transcript.specs.Lane as lanes;
+ghost use Rattle.transcript.specs.Lane.{lane_hash};
+ghost use Rattle.transcript.specs.Transcripts.{Negotiation, vca_of};
+ghost use Rattle.responder_session.specs.Exchange.{AreParts, answer_with, t1_with};
+
+use crate::ExchangeParts;
+use session_keys::{Handshake, SessionTerms, without_verify};
+use spdm_basis::{Frame, HashAlg, HashBytes, Psk};
+use spdm_codec::write_response;
+use spdm_grammar::{ExchangeRsp, Response};
+use transcript::Lane;
+
+// Writes PSK_EXCHANGE_RSP with these verify data, in place of what `out` holds.
+pub fn write_answer(
+    parts: &ExchangeParts<'_>,
+    terms: SessionTerms,
+    verify: &HashBytes,
+    out: &mut Frame,
+)
+    requires parts { AreParts terms parts.now }
+    requires verify { length verify.now ≡ hash_size terms.choice.hash }
+    ensures { out.new ≡ answer_with parts.now verify.now }
+{
+    let answer = ExchangeRsp {
+        heartbeat: parts.heartbeat,
+        rsp_id: parts.rsp_id,
+        summary: parts.summary,
+        context: parts.context,
+        opaque: parts.opaque,
+        verify: verify.as_slice(),
+    };
+    let response = Response::PskExchangeRsp(answer);
+    let _ = write_response(&response, terms.choice.hash.size(), terms.summary, out);
+}
+
+// A lane that was given what this lane was, and more.
+pub fn lane_with(lane: &Lane, more: &[u8]) -> Lane
+    ensures hash { lane_hash result ≡ lane_hash lane.now }
+    ensures pushed { (given : List ℕ) → lanes.StandsFor lane.now given
+        → lanes.StandsFor result (given ++ more.now) }
+{
+    let mut lane = lane.clone().unwrap();
+    lane.push(more);
+    lane
+}
+
+// What stands for verify data of which only the length matters.
+fn blank(hash: HashAlg) -> HashBytes
+    ensures { length result ≡ hash_size hash }
+{
+    match hash {
+        HashAlg::Sha256 => HashBytes::from([0u8; 32]),
+        HashAlg::Sha384 => HashBytes::from([0u8; 48]),
+    }
+}
+
+// The handshake that PSK_EXCHANGE and the parts of its answer fix; the lane was given VCA and PSK_EXCHANGE.
+pub fn handshake_with(
+    lane: &Lane,
+    psk: &Psk,
+    terms: SessionTerms,
+    parts: &ExchangeParts<'_>,
+) -> Handshake
+    requires lane { lane_hash lane.now ≡ terms.choice.hash }
+    requires parts { AreParts terms parts.now }
+    ensures hash { result.keys.hash ≡ terms.choice.hash }
+    ensures value { (n : Negotiation) (exchange : List ℕ) → AreTermsOf terms n exchange
+        → lanes.StandsFor lane.now (vca_of n ++ exchange)
+        → IsHandshakeOf result (terms_of n).choice psk.now (t1_with n exchange parts.now) }
+{
+    let choice = terms.choice;
+    let mut answer = Frame::new();
+    write_answer(parts, terms, &blank(choice.hash), &mut answer);
+    let lane = lane_with(lane, without_verify(choice.hash, answer.as_slice()));
+    Handshake::new(choice.hash, choice.aead, psk, lane.finish())
+}

@@ -1,0 +1,115 @@
+ghost use Rattle.std.specs.Prelude.{◌≡◌, []};
+
+use arrayvec::ArrayVec;
+use session_keys::MOST_DATA;
+use spdm_basis::Buffer;
+use std::marker::Model;
+use thiserror::Error;
+
+/// Why application data is not queued, in the order in which it is tested.
+#[derive(Clone, Copy, Debug, PartialEq, Eq, Error)]
+pub enum QueueFault {
+    /// There are more than 1,024 bytes.
+    #[error("more than 1,024 bytes")]
+    TooLong,
+    /// 16 messages wait.
+    #[error("16 messages wait")]
+    Full,
+}
+
+// As many messages may wait.
+const MOST_WAITING: usize = 16;
+
+// Application data that waits.
+#[derive(Drop)]
+struct Reply {
+    bytes: Buffer<1024>,
+}
+
+impl Default for Reply {
+    ghost is_default = { λ reply. reply.bytes ≡ [] };
+
+    fn default() -> Reply {
+        Reply {
+            bytes: Buffer::new(),
+        }
+    }
+}
+
+impl Reply {
+    ghost use Rattle.std.specs.Prelude.{◌≡◌, ◌≤◌, length};
+
+    // A copy of application data.
+    fn of(bytes: &[u8]) -> Reply
+        requires { length bytes.now ≤ 1024 }
+        ensures { result.bytes ≡ bytes.now }
+    {
+        let mut reply = Reply::default();
+        let _ = reply.bytes.extend(bytes);
+        reply
+    }
+}
+
+/// The application data that waits to be sent in answer, the oldest first: up to 16 messages of up to 1,024 bytes,
+/// kept in place. Contracts see it as the list of the messages.
+#[derive(Drop)]
+pub struct AppQueue {
+    replies: ArrayVec<Reply, 16>,
+}
+
+impl Model for AppQueue {
+    ghost use Rattle.std.specs.Prelude.{ℕ, List, map};
+
+    ghost Value = { List (List ℕ) };
+
+    ghost view = { λ q. map (λ r. r.bytes) q.replies.items };
+}
+
+impl AppQueue {
+    ghost use Rattle.std.specs.Prelude.{◌≡◌, ◌++◌, ◌∷◌, [], None, Some, MatchResult, OnErr, drop};
+    ghost use Rattle.responder_machine.specs.Does.{first_queued};
+    ghost use Rattle.responder_session.specs.Queue.{queue_fault};
+
+    /// No application data.
+    pub fn new() -> AppQueue
+        ensures { result ≡ [] }
+    {
+        AppQueue {
+            replies: ArrayVec::new(),
+        }
+    }
+
+    /// Adds application data behind what waits. A refusal changes nothing.
+    pub fn push(&mut self, bytes: &[u8]) -> Result<(), QueueFault>
+        ensures fault { MatchResult result (λ _. queue_fault self.old bytes.now ≡ None)
+            (λ fault. queue_fault self.old bytes.now ≡ Some fault) }
+        ensures ok { MatchResult result (λ _. self.new ≡ self.old ++ bytes.now ∷ [])
+            (λ _. self.new ≡ self.old) }
+    {
+        if bytes.len() > MOST_DATA {
+            return Err(QueueFault::TooLong);
+        }
+        if self.replies.len() >= MOST_WAITING {
+            return Err(QueueFault::Full);
+        }
+        self.replies.push(Reply::of(bytes));
+        Ok(())
+    }
+
+    // What waits first, and no bytes where nothing waits.
+    pub(crate) fn first(&self) -> &[u8]
+        ensures { result.now ≡ first_queued self.now }
+    {
+        match self.replies.first() {
+            Some(reply) => reply.bytes.as_slice(),
+            None => &[],
+        }
+    }
+
+    // Takes out what waits first.
+    pub(crate) fn advance(&mut self)
+        ensures { self.new ≡ drop 1 self.old }
+    {
+        let _ = self.replies.pop_at(0);
+    }
+}

@@ -1,0 +1,37 @@
+use crate::{RspEnded, RspHandshake, RspOpen, RspVerifying};
+use secured_record::RecordFault;
+
+/// A session at the responder.
+#[derive(Drop)]
+pub enum RspState {
+    /// PSK_FINISH is awaited.
+    Handshake(RspHandshake),
+    /// It is open.
+    Open(RspOpen),
+    /// Keys were updated, and VerifyNewKey is awaited.
+    Verifying(RspVerifying),
+    /// It is ended.
+    Ended(RspEnded),
+}
+
+/// What a record did that a session took.
+#[derive(Clone, Copy, Debug, PartialEq, Eq)]
+pub enum RspAct {
+    /// A request was answered; this is its code.
+    Answered(u8),
+    /// Application data was taken.
+    Data,
+    /// A request was refused with the error code of this number (DSP0274, "Error code and error data").
+    Refused(u8),
+}
+
+/// What came of a record.
+#[derive(Drop)]
+pub enum RspTook {
+    /// The session took it.
+    Moved(RspState, RspAct),
+    /// It is the record that was taken last: its reply goes out again, and nothing changed.
+    Same(RspState),
+    /// It did not open, and nothing changed.
+    Unopened(RspState, RecordFault),
+}

@@ -1,0 +1,3 @@
+pub mod Keys
+pub mod Handshake
+pub mod Terms

@@ -1,0 +1,66 @@
+ghost use Rattle.std.specs.Prelude.{◌≡◌, ◌≤◌, ◌+◌, None, Some, OnOk, MatchResult, length};
+ghost use Rattle.key_schedule.specs.Purpose.{Purpose};
+ghost use Rattle.spdm_basis.specs.SessionIdBytes.{session_id_bytes};
+ghost use Rattle.spdm_grammar.specs.declared.choice.Choice.{Choice};
+ghost use Rattle.spdm_machine.specs.Keys.{sealed_of, record_fault, inner_message};
+ghost use Rattle.session_keys.specs.Keys.{IsKeyOf};
+
+use secured_record::{RecordFault, RecordKey};
+use spdm_basis::{Buffer, RecordFrame, SessionId};
+
+/// Writes the record of an inner message and padding under the key of a purpose, in place of what `out` holds.
+/// Together they have at most 4,134 bytes.
+pub fn seal_record(
+    key: &RecordKey,
+    id: SessionId,
+    number: u16,
+    inner: &[u8],
+    pad: &[u8],
+    out: &mut RecordFrame,
+)
+    requires { length inner.now + length pad.now + 26 ≤ 4160 }
+    ensures value { (choice : Choice) (p : Purpose) → IsKeyOf key.now choice p
+        → out.new ≡ sealed_of choice p number (session_id_bytes id.req id.rsp) inner.now pad.now }
+    ensures size { length out.new ≡ length inner.now + length pad.now + 26 }
+{
+    let _ = key.seal(id, number, inner, pad, out);
+}
+
+/// Opens a record under the key of a purpose, and writes its inner message in place of what `out` holds.
+pub fn open_record(
+    key: &RecordKey,
+    id: SessionId,
+    number: u16,
+    sealed: &[u8],
+    out: &mut RecordFrame,
+) -> Result<(), RecordFault>
+    ensures fault { (choice : Choice) (p : Purpose) → IsKeyOf key.now choice p → MatchResult result
+        (λ _. record_fault choice p number (session_id_bytes id.req id.rsp) sealed.now ≡ None)
+        (λ e. record_fault choice p number (session_id_bytes id.req id.rsp) sealed.now ≡ Some e) }
+    ensures inner { (choice : Choice) (p : Purpose) → IsKeyOf key.now choice p
+        → OnOk result (out.new ≡ inner_message choice p number sealed.now) }
+    ensures fits { OnOk result (length sealed.now ≤ 4160) }
+{
+    key.open(id, number, sealed, out)
+}
+
+/// The record of an inner message of at most 1,025 bytes, with at most 16 bytes of padding, under the key of a
+/// purpose.
+pub fn seal_inner(
+    key: &RecordKey,
+    id: SessionId,
+    number: u16,
+    inner: &[u8],
+    pad: &[u8],
+) -> Buffer<1088>
+    requires inner { length inner.now ≤ 1025 }
+    requires pad { length pad.now ≤ 16 }
+    ensures { (choice : Choice) (p : Purpose) → IsKeyOf key.now choice p
+        → result ≡ sealed_of choice p number (session_id_bytes id.req id.rsp) inner.now pad.now }
+{
+    let mut record = RecordFrame::new();
+    seal_record(key, id, number, inner, pad, &mut record);
+    let mut sent = Buffer::<1088>::new();
+    let _ = sent.extend(record.as_slice());
+    sent
+}

@@ -1,0 +1,13 @@
+//! What both ends of a session under a pre-shared key do alike (DSP0274, "Session" and "Key schedule"; DSP0277):
+//! the keys of its handshake and behind it, its verify data, and its records. No call takes memory.
+#![tactic(auto)]
+
+mod handshake;
+mod inner;
+mod keys;
+mod terms;
+
+pub use handshake::{Handshake, without_verify};
+pub use inner::{APP_DATA, MOST_DATA, SPDM_MESSAGE, behind_type, byte_at, same_bytes};
+pub use keys::{open_record, seal_inner, seal_record};
+pub use terms::SessionTerms;
