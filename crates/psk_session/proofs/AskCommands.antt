@@ -2,6 +2,7 @@
 use Rattle.std.proofs.Common.{◌≡◌, ◌∙◌, ap, refl, ℕ, [], ◌∷◌, Bool, true, false, not, ◌==◌, eq-eqb}
 use Rattle.std.specs.Prelude.{if◌then◌else◌, Option, Some, None, is_some}
 use Rattle.std.specs.Option.{option_map}
+use Rattle.requester_machine.proofs.Few.{live_first}
 use Rattle.requester_machine.specs.Asking.{asks, asks_by, done, asked_sent}
 use Rattle.requester_machine.specs.Asking.Outcome.{Adds}
 use Rattle.requester_machine.specs.Commands.{Free, command_fault, is_negotiated, lacks, is_spent}
@@ -20,12 +21,8 @@ use Rattle.psk_session.specs.declared.ask.Ask.TheVariants.{Data, Beat, UpdateKey
 use Rattle.psk_session.specs.declared.ask_fault.AskFault.{AskFault}
 use Rattle.psk_session.specs.declared.ask_fault.AskFault.TheVariants.{NotNegotiated, KeySpent, TooLong}
 
-when_live_is : (s : Steps) (step : Step) → is_live s ≡ true → when_live s step ≡ step ∷ s
-when_live_is [] step live = absurd (cc)
-when_live_is (x ∷ s) step live = refl
-
 own_step : (id : ℕ) (s : Steps) (step : Step) → is_live s ≡ true → (if id == id then when_live s step else s) ≡ step ∷ s
-own_step id s step live = rw (eq-eqb id id refl) (when_live_is s step live)
+own_step id s step live = rw (eq-eqb id id refl) (live_first s step live)
 
 -- The tests of a command that hold of no such requester fall away.
 tests : (busy away dead x y z : Bool) → busy ≡ false → away ≡ false → dead ≡ false

@@ -3,6 +3,7 @@ use Rattle.std.proofs.Common.{◌≡◌, ◌<◌, ◌≤◌, ◌+◌, ℕ, [], �
 use Rattle.std.specs.Prelude.{◌||◌, nat_le, None}
 use Rattle.std.proofs.lemmas.Bool.{or_parts}
 use Rattle.std.proofs.lemmas.Bool.Decides.{nat_tests}
+use Rattle.requester_machine.proofs.FewEntries.{less, room_for_large, room_for_one}
 use Rattle.requester_machine.proofs.Few.{FewBy, unreached}
 use Rattle.requester_machine.specs.SpentLaws.{FewFor}
 use Rattle.requester_machine.specs.Commands.{has_reached, lacks, is_spent}
@@ -23,20 +24,11 @@ unspent : (s : Steps) (a : Ask) → ask_fault s a ≡ None → is_spent s (comma
 unfolding ask_fault
 unspent s a none = second_fails (lacks (session_terms s) (command_of a)) (is_spent s (command_of a)) (is_long a) none
 
-room_for_one : (s : Steps) → has_reached 65535 s ≡ false → (request_next s + 1 ≤ 65535) × (response_next s ≤ 65534)
-room_for_one s is = (let u = unreached 65535 s is in let r = u.0 in let p = u.1 in (omega (arith, r), omega (arith, p)))
-
-less : (n m : ℕ) → nat_le m n ≡ false → n < m
-less n m is = grind (arith, nat_tests)
-
 room_for_update : (s : Steps) → (has_reached 65535 s || nat_le 65534 (response_next s)) ≡ false → (request_next s + 1 ≤ 65535) × (response_next s ≤ 65533)
 room_for_update s is =
     let e = or_parts (has_reached 65535 s) (nat_le 65534 (response_next s)) is in
     let p = less (response_next s) 65534 e.1 in
     ((room_for_one s e.0).0, omega (arith, p))
-
-room_for_large : (s : Steps) → has_reached 65300 s ≡ false → (request_next s + 1 ≤ 65300) × (response_next s ≤ 65299)
-room_for_large s is = (let u = unreached 65300 s is in let r = u.0 in let p = u.1 in (omega (arith, r), omega (arith, p)))
 
 room_for_any : (r p : ℕ) → r ≤ 65535 → p ≤ 65535 → (r + 1 ≤ 65536) × (p ≤ 65535)
 room_for_any r p a b = (omega arith, b)

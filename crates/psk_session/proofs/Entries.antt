@@ -3,6 +3,7 @@ use Rattle.std.proofs.Common.{◌≡◌, ◌∙◌, ◌+◌, ap, sym, subst, ref
 use Rattle.std.specs.Prelude.{◌==◌, if◌then◌else◌, Option, Some, None, is_some, unwrap_or, Result, Ok, Err, bytes_eq}
 use Rattle.std.specs.Option.{option_or}
 use Rattle.std.proofs.lemmas.Bool.{false≢true}
+use Rattle.requester_machine.proofs.Few.{live_first}
 use Rattle.requester_machine.specs.Answers.{answer_verify, goes_on, with_answer}
 use Rattle.requester_machine.specs.Asking.{Outcome}
 use Rattle.requester_machine.specs.Asking.Outcome.{Adds}
@@ -49,10 +50,6 @@ unopened_is_ignored q h f tag id a sealed d fault is = ap (record_outcome q h f 
 
 -- ---- Records that opened.
 
-when_live_is : (s : Steps) (step : Step) → is_live s ≡ true → when_live s step ≡ step ∷ s
-when_live_is [] step live = absurd (false≢true live)
-when_live_is (x ∷ s) step live = refl
-
 added : (q : ReqSetup) (h : History) (f : Free) (tag id : ℕ) (a : Ask) (sealed : List ℕ) (d : Draw) (r : Result Led BadReply)
     → answer_fault q.psk (session_of id h) a sealed ≡ None → inner_led q h f (came_to q h id a sealed) a ≡ r
     → on_record q h f tag id a sealed d ≡ Adds (TookRecord tag id sealed (answer_inner q.psk (session_of id h) a sealed) (or_lost (came_to q h id a sealed) r) d)
@@ -68,7 +65,7 @@ unfolding session_of
 session_after h tag id sealed inner led d = rw (eq-eqb id id refl) refl
 
 outlived : (s : Steps) (sealed inner : List ℕ) (effect : Effect) → is_live s ≡ true → ends effect ≡ false → after_record sealed inner effect s ≡ Took sealed inner effect ∷ s
-outlived s sealed inner effect live stays = ap (λ (b : Bool). if b then [] else when_live s (Took sealed inner effect)) stays ∙ when_live_is s (Took sealed inner effect) live
+outlived s sealed inner effect live stays = ap (λ (b : Bool). if b then [] else when_live s (Took sealed inner effect)) stays ∙ live_first s (Took sealed inner effect) live
 
 own_asked : (id : ℕ) (x : Step) (s : Steps) (step : Step) → (if id == id then when_live (x ∷ s) step else x ∷ s) ≡ step ∷ x ∷ s
 own_asked id x s step = rw (eq-eqb id id refl) refl
@@ -88,7 +85,7 @@ course_steps q h f tag id a sealed d (GoesOn effect ask inner) live stays =
     session_after h tag id sealed came.inner (or_lost came led) d
     ∙ ap (with_sent id (or_lost came led).next) (outlived (session_of id h) sealed came.inner effect live stays)
     ∙ own_asked id (Took sealed came.inner effect) (session_of id h) _
-    ∙ ap (λ (x : Steps). Asked ask inner (sealed_next q.psk x inner f.pad) ∷ Took sealed came.inner effect ∷ session_of id h) (when_live_is (session_of id h) (Took sealed came.inner effect) live)
+    ∙ ap (λ (x : Steps). Asked ask inner (sealed_next q.psk x inner f.pad) ∷ Took sealed came.inner effect ∷ session_of id h) (live_first (session_of id h) (Took sealed came.inner effect) live)
 
 pub course_is_entry : CourseIsEntry
 course_is_entry q h f tag id a sealed d course live transfer max takes stays = (

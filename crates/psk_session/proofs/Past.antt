@@ -4,6 +4,7 @@ use Rattle.std.specs.Prelude.{◌||◌, min, if◌then◌else◌}
 use Rattle.key_schedule.specs.Purpose.{Purpose, application_record}
 use Rattle.key_schedule.specs.declared.direction.Direction.{Direction}
 use Rattle.key_schedule.specs.declared.direction.Direction.TheVariants.{Request, Response}
+use Rattle.requester_machine.proofs.Few.{no_update_all}
 use Rattle.requester_machine.specs.History.{Effect}
 use Rattle.requester_machine.specs.History.Effect.{Grants}
 use Rattle.requester_machine.specs.Message.{Ask}
@@ -82,10 +83,6 @@ keeps_asked a w before inner sealed kept new psk s epoch asks is few k =
     })
 
 -- ---- Records taken.
-
-no_update_all : (effect : Effect) → updates effect ≡ false → updates_all effect ≡ false
-no_update_all (Grants (AskUpdate all) answer) other = absurd (cc)
-no_update_all _ other = refl
 
 past_taken : (opened updated : Bool) (stage : Stage) → is_past_handshake stage ≡ true → is_past_handshake (if opened then Open else (if updated then Verifying else stage)) ≡ true
 past_taken true updated stage past = refl

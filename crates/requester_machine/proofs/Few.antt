@@ -151,7 +151,7 @@ has_room effect (AskChunk op handle number before) request response may other fe
 has_room effect (AskUpdate all) request response may other few = no_update effect all may other
 has_room effect AskEnd request response may other few = no_end effect may
 
-no_update_all : (effect : Effect) → updates effect ≡ false → updates_all effect ≡ false
+pub no_update_all : (effect : Effect) → updates effect ≡ false → updates_all effect ≡ false
 no_update_all (Grants (AskUpdate all) answer) other = absurd (false≢true (sym other))
 no_update_all _ other = refl
 

@@ -42,10 +42,10 @@ use Rattle.requester_machine.proofs.MadeOrder.{rests}
 -- ---- Commands.
 
 -- What room is left for each command.
-room_for_one : (s : Steps) → has_reached 65535 s ≡ false → (request_next s + 1 ≤ 65535) × (response_next s ≤ 65534)
+pub room_for_one : (s : Steps) → has_reached 65535 s ≡ false → (request_next s + 1 ≤ 65535) × (response_next s ≤ 65534)
 room_for_one s is = (let u = unreached 65535 s is in let r = u.0 in let p = u.1 in (omega (arith, r), omega (arith, p)))
 
-less : (n m : ℕ) → nat_le m n ≡ false → n < m
+pub less : (n m : ℕ) → nat_le m n ≡ false → n < m
 less n m is = grind (arith, nat_tests)
 
 room_for_update : (s : Steps) (all : Bool) → (not all && (has_reached 65535 s || nat_le 65534 (response_next s))) ≡ false → FewBy Rests s → FewFor (AskUpdate all) (request_next s + 1) (response_next s)
@@ -56,7 +56,7 @@ room_for_update s false is few =
     let p = less (response_next s) 65534 e.1 in
     (one.0, omega (arith, p))
 
-room_for_large : (s : Steps) → has_reached 65300 s ≡ false → (request_next s + 1 ≤ 65300) × (response_next s ≤ 65299)
+pub room_for_large : (s : Steps) → has_reached 65300 s ≡ false → (request_next s + 1 ≤ 65300) × (response_next s ≤ 65299)
 room_for_large s is = (let u = unreached 65300 s is in let r = u.0 in let p = u.1 in (omega (arith, r), omega (arith, p)))
 
 room_for_end : (s : Steps) → FewBy Rests s → FewFor AskEnd (request_next s + 1) (response_next s)
