@@ -2,7 +2,7 @@ use crate::ask::Awaited;
 use crate::kept::Kept;
 use crate::requests::{VERIFY_NEW_KEY, write_inner_request};
 use crate::verdict::{Verdict, whole_verdict};
-use crate::{Closed, ReqOpen, Reply, Took, Waiting};
+use crate::{Closed, Reply, ReqOpen, Took, Waiting};
 use chunking::{Collected, Collector};
 use spdm_basis::RecordFrame;
 use spdm_grammar::{BadReply, ChunkView, Request};
@@ -125,13 +125,7 @@ impl Kept {
     }
 
     // What the chunk of a large answer leads to that is awaited behind what was gathered.
-    pub fn gather(
-        self,
-        mut gathered: Collector,
-        op: u8,
-        chunk: ChunkView<'_>,
-        pad: &[u8],
-    ) -> Took
+    pub fn gather(self, mut gathered: Collector, op: u8, chunk: ChunkView<'_>, pad: &[u8]) -> Took
         requires epoch { self.request.epoch < 2 ^ 64 - 1 }
         requires pad { length pad.now ≤ 16 }
         ensures { (psk : List ℕ) (s : Steps) (sealed : List ℕ) (handle number : ℕ)

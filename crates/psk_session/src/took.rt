@@ -1,4 +1,4 @@
-use crate::{Closed, ReqOpen, Reply, Waiting};
+use crate::{Closed, Reply, ReqOpen, Waiting};
 use secured_record::RecordFault;
 use spdm_grammar::BadReply;
 

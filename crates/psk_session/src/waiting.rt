@@ -131,7 +131,13 @@ impl Waiting {
         ensures inner { (psk : List ℕ) (s : Steps) (a : Ask) → StandsFor self.now psk s a
             → OnOk result (out.new ≡ answer_inner psk s a sealed.now) }
     {
-        open_record(&self.kept.response, self.kept.id, self.number(), sealed, out)
+        open_record(
+            &self.kept.response,
+            self.kept.id,
+            self.number(),
+            sealed,
+            out,
+        )
     }
 
     // What an inner message is to what is awaited.

@@ -61,16 +61,18 @@ returns-in-More c = λ psk s sealed handle number before keeps stage waits few u
     let response = few.1 in
     let small = few.2 in
     let room = chunk_few sealed inner op handle number op piece.handle (piece.number + 1) before (piece ∷ before) s waits (ap (λ (n : ℕ). n + 1) next.counted) next.under.few few in
-    let rests = c.take.follows.holds-at-none in
-    (
-      Nothing, AskChunk op piece.handle (piece.number + 1) (piece ∷ before), inner_request (ChunkGet piece.handle (piece.number + 1)),
-      ap (λ (x : Collection). chunk_course psk s op handle number before sealed piece x) (sym came), refl,
+    let rests = c.take.follows.holds-at-none in (
+      Nothing,
+      AskChunk op piece.handle (piece.number + 1) (piece ∷ before),
+      inner_request (ChunkGet piece.handle (piece.number + 1)),
+      ap (λ (x : Collection). chunk_course psk s op handle number before sealed piece x) (sym came),
+      refl,
       subst (λ (n : ℕ). waiting.StandsFor c.fetch.result psk (with_asked psk after (AskChunk op piece.handle n (piece ∷ before)) (inner_request (ChunkGet piece.handle n)) c.args.pad.now) (AskChunk op piece.handle n (piece ∷ before))) counted
-      (c.fetch.ensures psk after (piece ∷ before)
-      (c.took-next.ensures psk s (response_epoch s) sealed inner Nothing keeps refl refl refl (omega (arith, response, small)))
-      stage room.1
-      (subst (λ (n : ℕ). FewFor (AskChunk op piece.handle n (piece ∷ before)) (request_next after + 1) (response_next after)) (sym counted) room.2)
-      (subst (λ (n : ℕ). AreUnderWay most piece.handle n (piece ∷ before)) (sym counted) next.under)
-      (subst (λ (x : List ChunkMessage). keeping.StandsFor c.take.follows.lender-at-none x) (ap (λ (n : ℕ). accepted_with n before piece) max ∙ next.accepted) (rests.stands before gathered))
-      (rests.max ∙ max)),
+          (c.fetch.ensures psk after (piece ∷ before)
+          (c.took-next.ensures psk s (response_epoch s) sealed inner Nothing keeps refl refl refl (omega (arith, response, small)))
+          stage room.1
+          (subst (λ (n : ℕ). FewFor (AskChunk op piece.handle n (piece ∷ before)) (request_next after + 1) (response_next after)) (sym counted) room.2)
+          (subst (λ (n : ℕ). AreUnderWay most piece.handle n (piece ∷ before)) (sym counted) next.under)
+          (subst (λ (x : List ChunkMessage). keeping.StandsFor c.take.follows.lender-at-none x) (ap (λ (n : ℕ). accepted_with n before piece) max ∙ next.accepted) (rests.stands before gathered))
+          (rests.max ∙ max)),
     )

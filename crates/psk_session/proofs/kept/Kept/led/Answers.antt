@@ -1,4 +1,4 @@
-use Rattle.std.proofs.Common.{◌≡◌, ◌∙◌, ap, sym, subst, refl, ℕ, ◌≤◌, [], Bool, true, false, Some, arith}
+use Rattle.std.proofs.Common.{◌≡◌, ◌∙◌, ap, subst, refl, ℕ, ◌≤◌, [], Bool, true, false, Some, arith}
 use Rattle.negotiate.specs.declared.shared.Common.{Common}
 use Rattle.requester_machine.proofs.Collected.{none_yet}
 use Rattle.requester_machine.proofs.Few.{FewFor, first_few, updated_few}
@@ -24,13 +24,12 @@ returns-in-Answered c = λ psk s a sealed answer keeps stage waits few fits.
     let reply = c.in-Answered.reply in
     let e : verdict_of c.args.verdict ≡ verdicts.Verdict.Answered reply c.in-Answered.bytes.now = ap verdict_of c.in-Answered.is in
     let f = subst (λ (v : verdicts.Verdict). Fits s a answer v) e fits in
-    let room = has_room psk s a sealed answer (op_in a) reply f.0 f.1 waits few in
-    (
+    let room = has_room psk s a sealed answer (op_in a) reply f.0 f.1 waits few in (
       effect_of answer (op_in a) reply,
       ap (course_of psk s a sealed answer) e,
       (calm answer (op_in a) reply).ended,
       c.answered.ensures psk s a sealed answer (op_in a) (subst (λ (n : ℕ). Keeps c.args.self psk s n) (present_epoch s a f.1) keeps) room.request room.response
-      (stays_open reply a answer (op_in a) (stage_of s) f.0 stage) f.2 f.3,
+          (stays_open reply a answer (op_in a) (stage_of s) f.0 stage) f.2 f.3,
     )
 
 update_most : (all : Bool) (request response : ℕ) → FewFor (AskUpdate all) request response → response ≤ 65535
@@ -45,12 +44,15 @@ returns-in-Updated c = λ psk s a sealed answer keeps stage waits few fits.
     let effect = Grants (AskUpdate all) answer in
     let after = with_taken psk s a sealed effect in
     let room = subst (λ (x : Ask). FewFor x (request_next s) (response_next s)) same few in
-    let next = updated_few sealed (answer_inner psk s a sealed) answer all s (waits ∙ ap (λ (x : Ask). Some x) same) room in
-    (
-      effect, AskVerify, inner_request (key_update after 3), ap (course_of psk s a sealed answer) e, refl,
+    let next = updated_few sealed (answer_inner psk s a sealed) answer all s (waits ∙ ap (λ (x : Ask). Some x) same) room in (
+      effect,
+      AskVerify,
+      inner_request (key_update after 3),
+      ap (course_of psk s a sealed answer) e,
+      refl,
       c.verify.ensures psk after
-      (c.updated.ensures psk s sealed (answer_inner psk s a sealed) answer (subst (λ (x : Ask). Keeps c.args.self psk s (awaited_epoch s x)) same keeps) (update_most all (request_next s) (response_next s) room))
-      refl next.1 next.2,
+          (c.updated.ensures psk s sealed (answer_inner psk s a sealed) answer (subst (λ (x : Ask). Keeps c.args.self psk s (awaited_epoch s x)) same keeps) (update_most all (request_next s) (response_next s) room))
+          refl next.1 next.2,
     )
 
 pub returns-in-Large : goal.returns-in-Large
@@ -62,10 +64,13 @@ returns-in-Large c = λ psk s a sealed answer keeps stage waits few fits.
     let response = f.3 in
     let after = with_taken psk s a sealed Nothing in
     let next = first_few sealed (answer_inner psk s a sealed) a op handle s f.0 waits f.2 f.3 in
-    let most = (session_terms s).common.to_requester.max in
-    (
-      Nothing, AskChunk op handle 0 [], inner_request (ChunkGet handle 0), ap (course_of psk s a sealed answer) e, refl,
+    let most = (session_terms s).common.to_requester.max in (
+      Nothing,
+      AskChunk op handle 0 [],
+      inner_request (ChunkGet handle 0),
+      ap (course_of psk s a sealed answer) e,
+      refl,
       c.fetch.ensures psk after []
-      (c.took.ensures psk s (response_epoch s) sealed (answer_inner psk s a sealed) Nothing (subst (λ (n : ℕ). Keeps c.args.self psk s n) (present_epoch s a f.0) keeps) refl refl refl (omega (arith, response)))
-      (stage ∙ f.1) next.1 next.2 (none_yet most handle) c.collector-gathered.ensures.stands (c.collector-gathered.ensures.max ∙ ap (λ (x : Common). x.to_requester.max) keeps.common),
+          (c.took.ensures psk s (response_epoch s) sealed (answer_inner psk s a sealed) Nothing (subst (λ (n : ℕ). Keeps c.args.self psk s n) (present_epoch s a f.0) keeps) refl refl refl (omega (arith, response)))
+          (stage ∙ f.1) next.1 next.2 (none_yet most handle) c.collector-gathered.ensures.stands (c.collector-gathered.ensures.max ∙ ap (λ (x : Common). x.to_requester.max) keeps.common),
     )

@@ -1,7 +1,7 @@
-use Rattle.std.proofs.Common.{◌≡◌, ◌∙◌, ◌<◌, ap, sym, refl, ℕ, arith}
+use Rattle.std.proofs.Common.{◌∙◌, ◌<◌, sym, refl, arith}
 use Rattle.key_schedule.specs.Purpose.{application_record}
 use Rattle.key_schedule.specs.declared.direction.Direction.TheVariants.{Request}
-use Rattle.requester_machine.specs.Session.{session_terms, t2_of, request_epoch, request_next}
+use Rattle.requester_machine.specs.Session.{session_terms, t2_of, request_epoch}
 use Rattle.psk_session.specs.Waiting.{awaited_epoch}
 use Rattle.psk_session.proofs.Past.{keeps_asked, sealed_kept}
 use Rattle.psk_session.proofs.kept.Kept.send.Goals as goal
@@ -16,8 +16,8 @@ returns c = λ psk s a keeps stage few next awaits.
       newest = (
         refl,
         sym (sealed_kept c.args.self psk s (awaited_epoch s a) c.record_number-number.result c.args.inner.now c.args.pad.now c.seal_inner-sent.result keeps
-        (c.record_number-number.ensures small ∙ keeps.request_next)
-        (c.seal_inner-sent.ensures (session_terms s).choice (application_record psk (t2_of s) Request (request_epoch s)) keeps.request)),
+            (c.record_number-number.ensures small ∙ keeps.request_next)
+            (c.seal_inner-sent.ensures (session_terms s).choice (application_record psk (t2_of s) Request (request_epoch s)) keeps.request)),
       );
       awaits = awaits;
       few = next;
