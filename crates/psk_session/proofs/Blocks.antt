@@ -1,6 +1,6 @@
 -- Measurements are spelled alike for every hash, and their record is no longer than their message.
 use Rattle.std.proofs.Common.{◌≡◌, ◌∙◌, ◌≤◌, ◌+◌, ap, sym, subst, refl, ℕ, List, ◌++◌, Bool, true, false, cond, length, length-append, arith, eqb-true}
-use Rattle.std.specs.Prelude.{⊤, ◌==◌, Option, Some, None, Result, Ok}
+use Rattle.std.specs.Prelude.{⊤, ◌==◌, Option, Some, None, Ok}
 use Rattle.std.specs.Result.{result_ok}
 use Rattle.byteorder.specs.Endian.{little_number}
 use Rattle.spdm_grammar.specs.Layout.{Layout, IsSpelling}

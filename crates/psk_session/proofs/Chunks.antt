@@ -1,11 +1,10 @@
 -- One more chunk of a large answer in a session.
 use Rattle.std.proofs.Common.{◌≡◌, ◌∙◌, ◌≤◌, ◌+◌, ◌-◌, ◌^◌, ap, sym, subst, refl, ℕ, List, ◌∷◌, Bool, true, false, not, arith, eqb-true}
 use Rattle.std.specs.Prelude.{◌==◌, if◌then◌else◌, min, Option, Some, None}
-use Rattle.chunking.specs.Collecting.{Collection, accepted_unless, accepted_with, answer_from, broken_rule, collected, joined_with, under_way}
+use Rattle.chunking.specs.Collecting.{accepted_unless, accepted_with, answer_from, broken_rule, collected, joined_with, under_way}
 use Rattle.chunking.specs.Collecting.Collection.{Whole, More}
 use Rattle.requester_machine.proofs.Collected.{one_more}
 use Rattle.requester_machine.specs.ClearAnswers.{get_fault}
-use Rattle.requester_machine.specs.Message.{Ask}
 use Rattle.requester_machine.specs.Message.Ask.{AskChunk}
 use Rattle.requester_machine.specs.UnderWay.{AreUnderWay}
 use Rattle.spdm_grammar.specs.Message.{ChunkMessage}

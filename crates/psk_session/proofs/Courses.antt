@@ -1,27 +1,26 @@
 -- The course of a record is that of the definitions.
-use Rattle.std.proofs.Common.{◌≡◌, ◌∙◌, ◌+◌, ap, sym, subst, refl, ℕ, List, [], ◌∷◌, Bool, true, false, not, drop}
+use Rattle.std.proofs.Common.{◌≡◌, ◌∙◌, ap, sym, subst, refl, ℕ, List, [], ◌∷◌, Bool, true, false, not, drop}
 use Rattle.std.specs.Prelude.{◌==◌, ◌&&◌, if◌then◌else◌, slice_index, Option, Some, None, Result, Ok, Err}
 use Rattle.std.proofs.lemmas.Bool.{false≢true}
 use Rattle.std.proofs.lemmas.Option.{none-some}
-use Rattle.chunking.specs.Collecting.{Collection, answer_from, broken_rule, collected, joined_with, under_way}
+use Rattle.chunking.specs.Collecting.{answer_from, broken_rule, collected, joined_with, under_way}
 use Rattle.requester_machine.specs.Commands.{Free, has_reached}
 use Rattle.requester_machine.specs.History.{History, Led}
-use Rattle.requester_machine.specs.History.Effect.{Nothing, Grants}
-use Rattle.requester_machine.specs.InnerMessages.{Came, inner_led, message_in, message_led, error_led, update_led, verified_led, data_led, chunk_led, whole_led, first_get, with_record}
-use Rattle.requester_machine.specs.Answers.{goes_on, is_done, is_refused}
+use Rattle.requester_machine.specs.History.Effect.{Nothing}
+use Rattle.requester_machine.specs.InnerMessages.{inner_led, message_in, message_led, error_led, update_led, verified_led, data_led, chunk_led, whole_led, first_get}
+use Rattle.requester_machine.specs.Answers.{is_refused}
 use Rattle.requester_machine.specs.Message.{Ask}
 use Rattle.requester_machine.specs.Message.Ask.{AskFinish, AskData, AskBeat, AskUpdate, AskVerify, AskMeasure, AskChunk, AskEnd}
 use Rattle.requester_machine.specs.Order.{stage_for, waiting_ask}
 use Rattle.requester_machine.specs.Records.{answer_fault, answer_inner}
-use Rattle.requester_machine.specs.Sending.{operation_of, update_tag, verify_sent}
-use Rattle.requester_machine.specs.Session.{Steps, Step, session_id, session_terms}
+use Rattle.requester_machine.specs.Sending.{operation_of, update_tag}
+use Rattle.requester_machine.specs.Session.{Steps, Step, session_terms}
 use Rattle.requester_machine.specs.Setup.{ReqSetup}
 use Rattle.spdm_grammar.specs.Message.{ResponseMessage, ChunkMessage}
-use Rattle.spdm_grammar.specs.Message.ResponseMessage.{Measurements, PskFinishRsp, HeartbeatAck, KeyUpdateAck, EndSessionAck, ChunkResponse, Error}
+use Rattle.spdm_grammar.specs.Message.ResponseMessage.{Measurements, KeyUpdateAck, ChunkResponse, Error}
 use Rattle.spdm_grammar.specs.Responses.{response_reading}
 use Rattle.spdm_grammar.specs.declared.event.BadReply.{BadReply}
 use Rattle.spdm_grammar.specs.declared.event.BadReply.TheVariants as bad
-use Rattle.spdm_grammar.specs.declared.event.Finished.TheVariants as finished
 use Rattle.spdm_grammar.specs.declared.malformed.Malformed.{Malformed}
 use Rattle.spdm_grammar.specs.declared.names.error_number.TheConstants.{LARGE_RESPONSE}
 use Rattle.spdm_grammar.specs.declared.part_faults.ChunkFault.{ChunkFault}

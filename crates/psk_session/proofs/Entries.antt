@@ -1,48 +1,45 @@
 -- What comes of an answer in a session is an entry of the history of its requester.
-use Rattle.std.proofs.Common.{◌≡◌, ◌∙◌, ◌+◌, ap, sym, subst, refl, ℕ, List, [], ◌∷◌, Bool, true, false, drop, eq-eqb, zero-add}
+use Rattle.std.proofs.Common.{◌≡◌, ◌∙◌, ap, subst, refl, ℕ, List, [], ◌∷◌, Bool, true, false, drop, eq-eqb, zero-add}
 use Rattle.std.specs.Prelude.{◌==◌, if◌then◌else◌, Option, Some, None, is_some, unwrap_or, Result, Ok, Err, bytes_eq}
 use Rattle.std.specs.Option.{option_or}
 use Rattle.std.proofs.lemmas.Bool.{false≢true}
 use Rattle.requester_machine.proofs.Few.{live_first}
-use Rattle.requester_machine.specs.Answers.{answer_verify, goes_on, with_answer}
-use Rattle.requester_machine.specs.Asking.{Outcome}
+use Rattle.requester_machine.specs.Answers.{answer_verify, goes_on}
 use Rattle.requester_machine.specs.Asking.Outcome.{Adds}
 use Rattle.requester_machine.specs.ClearAnswers.{clear_led, carried_by, read_led, reading_of}
 use Rattle.requester_machine.specs.Commands.{Free}
 use Rattle.requester_machine.specs.Hearing.{on_record, record_outcome, came_to}
-use Rattle.requester_machine.specs.History.{History, Led, Effect, connection_terms}
+use Rattle.requester_machine.specs.History.{History, Led, Effect}
 use Rattle.requester_machine.specs.History.Effect.{Answers, Grants}
 use Rattle.requester_machine.specs.History.Entry.{TookClear, TookRecord}
 use Rattle.requester_machine.specs.InnerMessages.{inner_led, or_lost}
-use Rattle.requester_machine.specs.Message.{Ask, Sent}
+use Rattle.requester_machine.specs.Message.{Ask}
 use Rattle.requester_machine.specs.Message.Ask.{AskFinish}
 use Rattle.requester_machine.specs.Records.{answer_fault, answer_inner, sealed_next}
 use Rattle.requester_machine.specs.Sending.{finish_sent}
-use Rattle.requester_machine.specs.Session.{Steps, Step, after_record, after_clear, ends, is_live, session_of, session_terms, when_live, with_sent}
+use Rattle.requester_machine.specs.Session.{Steps, Step, after_record, ends, is_live, session_of, when_live, with_sent}
 use Rattle.requester_machine.specs.Session.Step.{Accepted, Asked, Took}
 use Rattle.requester_machine.specs.Setup.{ReqSetup}
 use Rattle.requester_machine.specs.Message.Aim.{Plain}
 use Rattle.requester_machine.specs.Shown.{bytes_in, blocks_in, last_data}
-use Rattle.spdm_basis.specs.declared.record_fault.RecordFault.{RecordFault}
-use Rattle.spdm_grammar.specs.Message.{ResponseMessage, ExchangeMessage, ExchangeRspMessage}
+use Rattle.spdm_grammar.specs.Message.{ResponseMessage, ExchangeMessage}
 use Rattle.spdm_grammar.specs.Message.RequestMessage.{PskExchange}
 use Rattle.spdm_grammar.specs.Message.ResponseMessage.{PskExchangeRsp, Error}
 use Rattle.spdm_grammar.specs.Requests.{canonical_request}
 use Rattle.spdm_grammar.specs.Responses.{response_reading}
 use Rattle.spdm_grammar.specs.declared.event.BadReply.{BadReply}
-use Rattle.spdm_grammar.specs.declared.event.ReqIgnored.{ReqIgnored}
 use Rattle.spdm_grammar.specs.declared.event.ReqIgnored.TheVariants as ignored
 use Rattle.spdm_grammar.specs.declared.malformed.Malformed.{Malformed}
 use Rattle.spdm_machine.specs.Keys.{Draw}
-use Rattle.spdm_machine.specs.Terms.{Terms, terms_of, hash_len}
+use Rattle.spdm_machine.specs.Terms.{Terms, hash_len}
 use Rattle.transcript.specs.Transcripts.{Negotiation}
-use Rattle.psk_session.specs.Course.{Course, TakesCourse, led_of, with_taken, with_asked}
+use Rattle.psk_session.specs.Course.{Course, led_of}
 use Rattle.psk_session.specs.Course.Course.{Lost, Ended, Answered, GoesOn}
-use Rattle.psk_session.specs.Finished.{IsJudged, finish_led, finished_by}
+use Rattle.psk_session.specs.Finished.{finish_led}
 use Rattle.psk_session.specs.Opening.{accepted, fault_by, finishing, started}
 use Rattle.session_keys.specs.Terms.{asks_summary}
 use Rattle.psk_session.specs.declared.open_fault.OpenFault.TheVariants.{BadVerify}
-use Rattle.psk_session.specs.TookLaws.{UnopenedIsIgnored, CourseIsEntry, FinishIsEntry, DataAreLast, OpeningIsAnswer, IsEntry, Outlives, IsNoError, AnswersExchange, steps_by, finished_steps}
+use Rattle.psk_session.specs.TookLaws.{UnopenedIsIgnored, CourseIsEntry, FinishIsEntry, DataAreLast, OpeningIsAnswer, Outlives, IsNoError, AnswersExchange, steps_by, finished_steps}
 
 pub unopened_is_ignored : UnopenedIsIgnored
 unfolding on_record

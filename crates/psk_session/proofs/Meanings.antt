@@ -1,6 +1,6 @@
 -- What an inner message is goes with what was asked.
-use Rattle.std.proofs.Common.{◌≡◌, ◌≤◌, ◌+◌, ap, sym, refl, ℕ, List, [], Bool, true, false, not, length, arith, eq-eqb}
-use Rattle.std.specs.Prelude.{⊤, ◌==◌, ◌&&◌, drop, slice_index, if◌then◌else◌, Option, Some, None, unwrap_or, Result, Ok, Err}
+use Rattle.std.proofs.Common.{◌≡◌, ◌≤◌, ap, sym, refl, ℕ, List, [], Bool, true, false, not, length, arith, eq-eqb}
+use Rattle.std.specs.Prelude.{⊤, ◌==◌, ◌&&◌, slice_index, if◌then◌else◌, Option, Some, None, unwrap_or, Result, Ok, Err}
 use Rattle.std.specs.Option.{option_or}
 use Rattle.requester_machine.proofs.Few.{unreached}
 use Rattle.requester_machine.specs.SpentLaws.{FewFor}
@@ -21,7 +21,7 @@ use Rattle.spdm_grammar.specs.declared.part_faults.ChunkFault.TheVariants as chu
 use Rattle.spdm_machine.specs.Terms.{response_value}
 use Rattle.psk_session.specs.Inner.{Contents, contents_by}
 use Rattle.psk_session.specs.Inner.Contents.{Spoken, AppData}
-use Rattle.psk_session.specs.Verdict.{Verdict, Meaning, Fits, wrong_kind, error_verdict, ack_verdict, beat_verdict, end_verdict, data_verdict, measured_by, measured_verdict, chunk_meaning, message_meaning, meaning_of, whole_verdict}
+use Rattle.psk_session.specs.Verdict.{Meaning, Fits, wrong_kind, error_verdict, ack_verdict, beat_verdict, end_verdict, data_verdict, measured_verdict, chunk_meaning, message_meaning, meaning_of, whole_verdict}
 use Rattle.psk_session.specs.Verdict.Meaning.{Done, Piece}
 use Rattle.psk_session.specs.Verdict.Verdict.{Bad, Answered, Updated, Large}
 use Rattle.psk_session.specs.declared.reply.Reply.TheVariants as reply

@@ -1,15 +1,15 @@
 -- What an answer leaves of its session.
-use Rattle.std.proofs.Common.{◌≡◌, ◌∙◌, ◌≤◌, ◌<◌, ◌+◌, ap, sym, subst, refl, ℕ, List, [], ◌∷◌, ◌++◌, Bool, true, false, length, arith}
-use Rattle.std.specs.Prelude.{◌||◌, ◌==◌, if◌then◌else◌, Some, Result, Ok, Err, OnOk, OnErr}
+use Rattle.std.proofs.Common.{◌≡◌, ◌∙◌, ◌≤◌, ◌<◌, ◌+◌, ap, sym, subst, refl, ℕ, List, [], ◌++◌, Bool, true, false, length, arith}
+use Rattle.std.specs.Prelude.{◌||◌, if◌then◌else◌, Some, Result, Ok, Err, OnOk, OnErr}
 use Rattle.std.proofs.lemmas.Bool.{false≢true}
 use Rattle.requester_machine.proofs.Few.{FewBy, answered_few}
 use Rattle.requester_machine.specs.SpentLaws.{FewFor}
 use Rattle.requester_machine.specs.Message.{Ask}
-use Rattle.requester_machine.specs.Message.Ask.{AskData, AskBeat, AskVerify, AskMeasure, AskChunk}
+use Rattle.requester_machine.specs.Message.Ask.{AskData, AskBeat, AskMeasure, AskChunk}
 use Rattle.requester_machine.specs.Order.{may_bring, stage_for, waiting_ask}
 use Rattle.requester_machine.specs.Order.Waits.{Rests}
-use Rattle.requester_machine.specs.Records.{answer_inner, answer_number, asks_all}
-use Rattle.requester_machine.specs.Session.{Steps, ends, finishes, verifies, updates, updates_all, request_next, response_next, response_epoch, stage_of}
+use Rattle.requester_machine.specs.Records.{answer_inner, asks_all}
+use Rattle.requester_machine.specs.Session.{Steps, ends, finishes, verifies, updates, updates_all, request_next, response_next, response_epoch}
 use Rattle.spdm_grammar.specs.declared.phase.Stage.{Stage}
 use Rattle.spdm_grammar.specs.declared.phase.Stage.TheVariants.{Open, Verifying}
 use Rattle.psk_session.specs.Course.{with_taken}

@@ -1,11 +1,10 @@
 -- A record that opened takes a course, and what comes back follows it.
-use Rattle.std.proofs.Common.{◌≡◌, ◌∙◌, ◌≤◌, ◌+◌, ap, sym, subst, refl, ℕ, List, [], ◌∷◌, drop, length, length-drop, true, false, arith}
-use Rattle.std.specs.Prelude.{◌==◌, slice_index, Option, Some, None}
+use Rattle.std.proofs.Common.{◌≡◌, ◌≤◌, ap, sym, subst, refl, ℕ, List, [], ◌∷◌, drop, length, length-drop, false, arith}
+use Rattle.std.specs.Prelude.{◌==◌, slice_index, Some}
 use Rattle.requester_machine.specs.SpentLaws.{FewFor}
 use Rattle.requester_machine.specs.InnerMessages.{inner_fault}
 use Rattle.requester_machine.specs.Message.{Ask}
 use Rattle.requester_machine.specs.Order.{waiting_ask}
-use Rattle.requester_machine.specs.Records.{answer_inner}
 use Rattle.requester_machine.specs.Sending.{update_tag}
 use Rattle.requester_machine.specs.Session.{Steps, session_terms, request_next, response_next}
 use Rattle.requester_machine.specs.Session.Step.{Asked}

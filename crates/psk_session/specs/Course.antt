@@ -1,6 +1,6 @@
 -- What a record that opened leads to, as far as its session alone goes.
-use Rattle.std.specs.Prelude.{◌≡◌, ◌∷◌, ℕ, List, Some, None, Result, Ok, Err}
-use Rattle.requester_machine.specs.Answers.{goes_on, is_done, is_refused}
+use Rattle.std.specs.Prelude.{◌≡◌, ◌∷◌, ℕ, List, None, Result, Ok, Err}
+use Rattle.requester_machine.specs.Answers.{goes_on, is_done}
 use Rattle.requester_machine.specs.Commands.{Free}
 use Rattle.requester_machine.specs.History.{History, Effect, Led}
 use Rattle.requester_machine.specs.History.Effect.{Grants}

@@ -1,5 +1,5 @@
 -- What comes of a record while the answer to an ask is awaited. The answers are those of the definitions of a requester.
-use Rattle.std.specs.Prelude.{◌≡◌, ℕ, List, false, None, Some}
+use Rattle.std.specs.Prelude.{◌≡◌, ℕ, List, false, Some}
 use Rattle.requester_machine.specs.History.{Effect}
 use Rattle.requester_machine.specs.Message.{Ask}
 use Rattle.requester_machine.specs.Records.{answer_fault}

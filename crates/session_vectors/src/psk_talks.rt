@@ -16,18 +16,14 @@ pub struct Turn {
 // hashlib and the package cryptography.
 pub const TALKS: [[&[Turn]; 9]; 4] = [
     [
-        &[
-            Turn {
-                sent: "01000100000015007da9fe145f6a1136b8edf8603081a3cddecc00d6fc",
-                answer: "0100010000001a00f15aef13e83db87849c6f408717f218268c81c628c6c556fc3b6",
-            },
-        ],
-        &[
-            Turn {
-                sent: "01000100010017009643a1f85b0fc97d1285e494948666466b302cf218bf5b",
-                answer: "01000100010017005baefb72a980fcba82c3fbedfe30929fc6507ff87d1164",
-            },
-        ],
+        &[Turn {
+            sent: "01000100000015007da9fe145f6a1136b8edf8603081a3cddecc00d6fc",
+            answer: "0100010000001a00f15aef13e83db87849c6f408717f218268c81c628c6c556fc3b6",
+        }],
+        &[Turn {
+            sent: "01000100010017009643a1f85b0fc97d1285e494948666466b302cf218bf5b",
+            answer: "01000100010017005baefb72a980fcba82c3fbedfe30929fc6507ff87d1164",
+        }],
         &[
             Turn {
                 sent: "010001000200170075baaf7ba5ee2c47bdf5fefe5d3855b6dc393dc28d5e89",
@@ -48,12 +44,10 @@ pub const TALKS: [[&[Turn]; 9]; 4] = [
                 answer: "0100010001001700627be598bd47d8c9d4cdb583362844bb2ab71eb05ede4f",
             },
         ],
-        &[
-            Turn {
-                sent: "0100010001001700dcb300346807c4c20a98864ba55ac43df58d789cdec5da",
-                answer: "0100010002005100b2a8efbf0af27a99267b0f5239103f352f4d95f0d116137819feed175242454e0b24a0cefb9c161f1994e43f2a5b20140c25111d9df01c9cf5446579af977602d8402dcacadc1112f5da701ca9e046ad0f",
-            },
-        ],
+        &[Turn {
+            sent: "0100010001001700dcb300346807c4c20a98864ba55ac43df58d789cdec5da",
+            answer: "0100010002005100b2a8efbf0af27a99267b0f5239103f352f4d95f0d116137819feed175242454e0b24a0cefb9c161f1994e43f2a5b20140c25111d9df01c9cf5446579af977602d8402dcacadc1112f5da701ca9e046ad0f",
+        }],
         &[
             Turn {
                 sent: "01000100020017001712ad28d728c8b4eac077b097db5b51138dbdce9033b3",
@@ -68,38 +62,28 @@ pub const TALKS: [[&[Turn]; 9]; 4] = [
                 answer: "0100010005004500b2dccdea3adc0a57123c0f2c4071cd0d57fbbe5a9091348becfa54f07c1c1cf2a82758aa4bf4e6e8e9de6422959dc3feb25fb660bacb6f737dbe681671a1333c100760b0f3",
             },
         ],
-        &[
-            Turn {
-                sent: "01000100050017000f92e5b5d3ec59eac836d83d84b006fa7720c06366e878",
-                answer: "0100010006003d0067f4a2df0c1715f7b1461350b5c6091c6cdf7a37fee35d7f2f678ee7e9de36893849ffbcb78b47404dec7e23bf3569d338da7b6b16bef36e86c7bb3a57",
-            },
-        ],
-        &[
-            Turn {
-                sent: "010001000600170088b63d3ac5c1692ffef6741253e25f3f760ccbea682fd4",
-                answer: "0100010007001700464c03c825e0956966e18b15540952556c40a9eabca106",
-            },
-        ],
-        &[
-            Turn {
-                sent: "0100010007001700ad1779c6384d8d9f942225651862e3320c45d0f329b036",
-                answer: "01000100080017007b913d8da30e2ceeca15415c3b0da498554f6c391f9662",
-            },
-        ],
+        &[Turn {
+            sent: "01000100050017000f92e5b5d3ec59eac836d83d84b006fa7720c06366e878",
+            answer: "0100010006003d0067f4a2df0c1715f7b1461350b5c6091c6cdf7a37fee35d7f2f678ee7e9de36893849ffbcb78b47404dec7e23bf3569d338da7b6b16bef36e86c7bb3a57",
+        }],
+        &[Turn {
+            sent: "010001000600170088b63d3ac5c1692ffef6741253e25f3f760ccbea682fd4",
+            answer: "0100010007001700464c03c825e0956966e18b15540952556c40a9eabca106",
+        }],
+        &[Turn {
+            sent: "0100010007001700ad1779c6384d8d9f942225651862e3320c45d0f329b036",
+            answer: "01000100080017007b913d8da30e2ceeca15415c3b0da498554f6c391f9662",
+        }],
     ],
     [
-        &[
-            Turn {
-                sent: "010001000000150045b512d3661fbdcf053d3d6139fa967e2e0b999b9e",
-                answer: "0100010000001a00125e6b82350db9cdb06d4c9b74fbd496ca9b6a8c7c38c66e3aa7",
-            },
-        ],
-        &[
-            Turn {
-                sent: "0100010001001700d2db23d1bb41e28146a04216c1a006ff0cc193cf07d2a1",
-                answer: "0100010001001700ebd47f1a5158b6cc3ee95d62339b20c79abf4f0e081864",
-            },
-        ],
+        &[Turn {
+            sent: "010001000000150045b512d3661fbdcf053d3d6139fa967e2e0b999b9e",
+            answer: "0100010000001a00125e6b82350db9cdb06d4c9b74fbd496ca9b6a8c7c38c66e3aa7",
+        }],
+        &[Turn {
+            sent: "0100010001001700d2db23d1bb41e28146a04216c1a006ff0cc193cf07d2a1",
+            answer: "0100010001001700ebd47f1a5158b6cc3ee95d62339b20c79abf4f0e081864",
+        }],
         &[
             Turn {
                 sent: "010001000200170043cc9b3510d8ff0872ecc9bd56d8d58c2d9de46306e346",
@@ -120,12 +104,10 @@ pub const TALKS: [[&[Turn]; 9]; 4] = [
                 answer: "010001000100170049adeb50bd3e8404128680ada5820aee1a0d2929b4c4d7",
             },
         ],
-        &[
-            Turn {
-                sent: "010001000100170002af72938d385639bd283e07688483730cc0d2d3d58be6",
-                answer: "0100010002005100415c9e89d67fba183e03e6ed570bb6cd5b33cd5ed40925323a1dea36cc1d1eb6ba7e773e2fcc663a12954e4573232eadf6f6a6bfe9c8cd2df6570f9c0abc84a30ade4a4576669fd9b98096e0a060345d4c",
-            },
-        ],
+        &[Turn {
+            sent: "010001000100170002af72938d385639bd283e07688483730cc0d2d3d58be6",
+            answer: "0100010002005100415c9e89d67fba183e03e6ed570bb6cd5b33cd5ed40925323a1dea36cc1d1eb6ba7e773e2fcc663a12954e4573232eadf6f6a6bfe9c8cd2df6570f9c0abc84a30ade4a4576669fd9b98096e0a060345d4c",
+        }],
         &[
             Turn {
                 sent: "0100010002001700bb10ee0d3cfabc48f8eff293f7f2883f97e9b794341382",
@@ -140,38 +122,28 @@ pub const TALKS: [[&[Turn]; 9]; 4] = [
                 answer: "01000100050045009db425df55d3bc3854af3f515480124fe20a47d49b606312f2b8062536cbd71b7e7ac70e9fcbe2ac6195bf231dcc5dcb271be4f39408c8cda68381c1ad7f0cea69ad1386e3",
             },
         ],
-        &[
-            Turn {
-                sent: "0100010005001700ff2e64b175fd6c0164323d347701056ea5267e1d47a8c6",
-                answer: "0100010006003d00611d6a1b95ac5f5bdbc2d18e146deaf833e42559618912899cef0f51f77d59b97f227f7c44b54157532225a30a43ad3b105149b89866410427ebebc350",
-            },
-        ],
-        &[
-            Turn {
-                sent: "0100010006001700ea2dd5d219c4b280ce940735cda41fc2c6a0fb50645a22",
-                answer: "0100010007001700a1eb046aa6b02d104177c92bbe9feaee4a2bcb6bc2febf",
-            },
-        ],
-        &[
-            Turn {
-                sent: "0100010007001700e51571e1f5f13fcfa8609c6667517e809c0144f83c81e5",
-                answer: "01000100080017007386c6ea395b653a283fce2e1e05449c9b41073aabfd95",
-            },
-        ],
+        &[Turn {
+            sent: "0100010005001700ff2e64b175fd6c0164323d347701056ea5267e1d47a8c6",
+            answer: "0100010006003d00611d6a1b95ac5f5bdbc2d18e146deaf833e42559618912899cef0f51f77d59b97f227f7c44b54157532225a30a43ad3b105149b89866410427ebebc350",
+        }],
+        &[Turn {
+            sent: "0100010006001700ea2dd5d219c4b280ce940735cda41fc2c6a0fb50645a22",
+            answer: "0100010007001700a1eb046aa6b02d104177c92bbe9feaee4a2bcb6bc2febf",
+        }],
+        &[Turn {
+            sent: "0100010007001700e51571e1f5f13fcfa8609c6667517e809c0144f83c81e5",
+            answer: "01000100080017007386c6ea395b653a283fce2e1e05449c9b41073aabfd95",
+        }],
     ],
     [
-        &[
-            Turn {
-                sent: "0100010000001500fe02269b65a02d22d44a8d62b5df7414cd7a782b8a",
-                answer: "0100010000001a00a4c113bb3317c7c7d0543067a5384cf85806e634701655df889f",
-            },
-        ],
-        &[
-            Turn {
-                sent: "010001000100170064192e7e2888f64062684f097bbe5a2184ea8f550f0417",
-                answer: "0100010001001700d697a79eb17fa40741f5b5ca885a37e98e5d33c8aef3be",
-            },
-        ],
+        &[Turn {
+            sent: "0100010000001500fe02269b65a02d22d44a8d62b5df7414cd7a782b8a",
+            answer: "0100010000001a00a4c113bb3317c7c7d0543067a5384cf85806e634701655df889f",
+        }],
+        &[Turn {
+            sent: "010001000100170064192e7e2888f64062684f097bbe5a2184ea8f550f0417",
+            answer: "0100010001001700d697a79eb17fa40741f5b5ca885a37e98e5d33c8aef3be",
+        }],
         &[
             Turn {
                 sent: "01000100020017001c5ca6245f727d9c37cd8f08dfefa0b6d3e15757b76b95",
@@ -192,12 +164,10 @@ pub const TALKS: [[&[Turn]; 9]; 4] = [
                 answer: "01000100010017009148f92999eb9b6edef7b55afb5681924e6503d1da1cfd",
             },
         ],
-        &[
-            Turn {
-                sent: "010001000100170089323f484c10c5516f18ef2781876ef7b4d7d0120f10bd",
-                answer: "01000100020051001a60f3970ec3c26d0e50454cf71305fa788db9dd2ec18248003cd779f14c5a1d87b6d344fc9559808f9974a4340400d7ceb690d02c1bbfb412001ee11712c94111cd6c4f411621d39aeaa6e54491dee2d0",
-            },
-        ],
+        &[Turn {
+            sent: "010001000100170089323f484c10c5516f18ef2781876ef7b4d7d0120f10bd",
+            answer: "01000100020051001a60f3970ec3c26d0e50454cf71305fa788db9dd2ec18248003cd779f14c5a1d87b6d344fc9559808f9974a4340400d7ceb690d02c1bbfb412001ee11712c94111cd6c4f411621d39aeaa6e54491dee2d0",
+        }],
         &[
             Turn {
                 sent: "010001000200170029929e305b9f212af33c4bcee9519a8c899c5a0b3e6902",
@@ -212,38 +182,28 @@ pub const TALKS: [[&[Turn]; 9]; 4] = [
                 answer: "0100010005004500d26fb2e9597235635f6f44fd709a555ec2166a83b24057607eb20e934d67666f6ae00b446e9487f6c8117511a9f2707d27701d8981df0a851c085253ff1e9995d8b71589cd",
             },
         ],
-        &[
-            Turn {
-                sent: "010001000500170038076b43bfd699055ad0cd53337237c9d4902752d2d461",
-                answer: "0100010006003d00243860b7618d4fd9d41f791a88227843015d5ee1e48d6562489d1a42e9969fb23aa77e482a7c13005e9a5faaa2f757fe50a925cc70f0112ad8b32abd3d",
-            },
-        ],
-        &[
-            Turn {
-                sent: "010001000600170095ea104f81f33c40120cb9cd07ee0d8c1e2b8a48c31d3a",
-                answer: "010001000700170019e04e9227174eb72985f2a74050bab679bd9f6afd8e18",
-            },
-        ],
-        &[
-            Turn {
-                sent: "0100010007001700dcff0fa0c47504c664c60c103870db1f96e00c1187ff28",
-                answer: "0100010008001700e6c4b4ec5173da38b024286c218e79bbade17009263e40",
-            },
-        ],
+        &[Turn {
+            sent: "010001000500170038076b43bfd699055ad0cd53337237c9d4902752d2d461",
+            answer: "0100010006003d00243860b7618d4fd9d41f791a88227843015d5ee1e48d6562489d1a42e9969fb23aa77e482a7c13005e9a5faaa2f757fe50a925cc70f0112ad8b32abd3d",
+        }],
+        &[Turn {
+            sent: "010001000600170095ea104f81f33c40120cb9cd07ee0d8c1e2b8a48c31d3a",
+            answer: "010001000700170019e04e9227174eb72985f2a74050bab679bd9f6afd8e18",
+        }],
+        &[Turn {
+            sent: "0100010007001700dcff0fa0c47504c664c60c103870db1f96e00c1187ff28",
+            answer: "0100010008001700e6c4b4ec5173da38b024286c218e79bbade17009263e40",
+        }],
     ],
     [
-        &[
-            Turn {
-                sent: "0100010000001500115a21962f07de89ea02958399d2e0f422d5b8d6de",
-                answer: "0100010000001a0029e85cb5f78fcd8a25f4cc66b647bdf377d05bc0208b65babc6f",
-            },
-        ],
-        &[
-            Turn {
-                sent: "01000100010017006b49672049dda945c7b8903268efa407b8912c52616b0c",
-                answer: "0100010001001700d40735000460ca10f764645ca765f45dd615fed0808c8c",
-            },
-        ],
+        &[Turn {
+            sent: "0100010000001500115a21962f07de89ea02958399d2e0f422d5b8d6de",
+            answer: "0100010000001a0029e85cb5f78fcd8a25f4cc66b647bdf377d05bc0208b65babc6f",
+        }],
+        &[Turn {
+            sent: "01000100010017006b49672049dda945c7b8903268efa407b8912c52616b0c",
+            answer: "0100010001001700d40735000460ca10f764645ca765f45dd615fed0808c8c",
+        }],
         &[
             Turn {
                 sent: "0100010002001700e4bf563394c946d68d3120ed134839c58e29c812e0478f",
@@ -264,12 +224,10 @@ pub const TALKS: [[&[Turn]; 9]; 4] = [
                 answer: "0100010001001700ea5fe99649961964de5080c8ad6f1a950fc1e058572378",
             },
         ],
-        &[
-            Turn {
-                sent: "0100010001001700c518426a066ccf0c2a88bb1cf4e9dd6d7b3b49680cc532",
-                answer: "0100010002005100373a7fc58231b698bd9b4d61527744a196cdd78d776d47e43a4c5c3473f54fb2df1f26b78f2f4fd29168deb0bbc2a7295c8afdd5eb0775379c8bc4c44826f2eadf9a7dfd0358a00237f9e540d339a62838",
-            },
-        ],
+        &[Turn {
+            sent: "0100010001001700c518426a066ccf0c2a88bb1cf4e9dd6d7b3b49680cc532",
+            answer: "0100010002005100373a7fc58231b698bd9b4d61527744a196cdd78d776d47e43a4c5c3473f54fb2df1f26b78f2f4fd29168deb0bbc2a7295c8afdd5eb0775379c8bc4c44826f2eadf9a7dfd0358a00237f9e540d339a62838",
+        }],
         &[
             Turn {
                 sent: "01000100020017001328795485eaffc94cf85dfae2d294a5399c3e5a82b5bd",
@@ -284,24 +242,18 @@ pub const TALKS: [[&[Turn]; 9]; 4] = [
                 answer: "01000100050045004d49217d093b8a9f1406df843e25ddea557f5819c01d5a7a2de8db3e6f7c46bf8f872f259127fc9a91464959624cf96a731e8142470654788a04a690ef04bad6bc1c905aa5",
             },
         ],
-        &[
-            Turn {
-                sent: "0100010005001700ff0815b416822249f3e2b25597509d120edde17f19d9d0",
-                answer: "0100010006003d0024f2ff7c99ff3c76aea1f5fa3b1e693cf8e4de998e1f0e8543f47a063070b260c87ae659c7ca565ded2ad457cd840cc0ffa7a6fc24a4dc62d0eba008e5",
-            },
-        ],
-        &[
-            Turn {
-                sent: "0100010006001700d0506666484ae956b3cdfcf0acbd0fb63fcb9bdde7d817",
-                answer: "01000100070017006659c77384208bf911a49f40813ade7fa5df7fb72a971a",
-            },
-        ],
-        &[
-            Turn {
-                sent: "0100010007001700b63c07083b73f3a74872b301419d9363cdbd9299fe79c6",
-                answer: "0100010008001700a4b34e01674eda02ef15dc3ac216f9563ae1469748ec14",
-            },
-        ],
+        &[Turn {
+            sent: "0100010005001700ff0815b416822249f3e2b25597509d120edde17f19d9d0",
+            answer: "0100010006003d0024f2ff7c99ff3c76aea1f5fa3b1e693cf8e4de998e1f0e8543f47a063070b260c87ae659c7ca565ded2ad457cd840cc0ffa7a6fc24a4dc62d0eba008e5",
+        }],
+        &[Turn {
+            sent: "0100010006001700d0506666484ae956b3cdfcf0acbd0fb63fcb9bdde7d817",
+            answer: "01000100070017006659c77384208bf911a49f40813ade7fa5df7fb72a971a",
+        }],
+        &[Turn {
+            sent: "0100010007001700b63c07083b73f3a74872b301419d9363cdbd9299fe79c6",
+            answer: "0100010008001700a4b34e01674eda02ef15dc3ac216f9563ae1469748ec14",
+        }],
     ],
 ];
 

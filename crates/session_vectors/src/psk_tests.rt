@@ -2,7 +2,7 @@ use crate::psk_suites::{SUITES, Suite};
 use crate::psk_talks::{HELLO, LARGE, NO_ANSWERS, REFUSED_CHUNKS, TALKS, Turn, UNOPENED};
 use negotiate::{Common, Sizes};
 use psk_session::{
-    Ask, AskFault, FinishTook, Finishing, OpenFault, Opening, ReqOpen, Reply, SessionTerms, Took,
+    Ask, AskFault, FinishTook, Finishing, OpenFault, Opening, Reply, ReqOpen, SessionTerms, Took,
     Waiting,
 };
 use secured_record::RecordFault;
@@ -202,12 +202,7 @@ fn opened(rt: &impl Alloc, suite: &Suite) -> Result<ReqOpen, Fail> {
 }
 
 // The state that awaits the answer to an ask, with this padding of its record.
-fn ask(
-    rt: &impl Abort,
-    state: ReqOpen,
-    ask: Ask<'_>,
-    pad: &[u8],
-) -> Result<Waiting, Fail> {
+fn ask(rt: &impl Abort, state: ReqOpen, ask: Ask<'_>, pad: &[u8]) -> Result<Waiting, Fail> {
     assert!(rt; pad.len() <= 16 && state.view().response_epoch < u64::MAX);
     match state.ask(ask, pad) {
         Ok(state) => Ok(state),

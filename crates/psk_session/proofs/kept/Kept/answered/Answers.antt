@@ -1,4 +1,4 @@
-use Rattle.std.proofs.Common.{◌≤◌, ap, subst, ℕ, arith}
+use Rattle.std.proofs.Common.{◌≤◌, subst, ℕ, arith}
 use Rattle.requester_machine.specs.Records.{answer_inner}
 use Rattle.requester_machine.specs.Session.{response_epoch, response_next}
 use Rattle.psk_session.specs.Course.{with_taken}

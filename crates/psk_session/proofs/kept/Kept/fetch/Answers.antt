@@ -1,4 +1,4 @@
-use Rattle.std.proofs.Common.{◌≡◌, ◌∙◌, subst, refl, ℕ, List}
+use Rattle.std.proofs.Common.{◌∙◌, subst, refl, ℕ, List}
 use Rattle.requester_machine.specs.Message.Ask.{AskChunk}
 use Rattle.requester_machine.specs.Session.{session_terms}
 use Rattle.psk_session.specs.Course.{with_asked}

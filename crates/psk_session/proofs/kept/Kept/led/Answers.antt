@@ -1,4 +1,4 @@
-use Rattle.std.proofs.Common.{◌≡◌, ◌∙◌, ap, sym, subst, refl, ℕ, ◌≤◌, [], Bool, true, false, Some, arith}
+use Rattle.std.proofs.Common.{◌≡◌, ◌∙◌, ap, subst, refl, ℕ, ◌≤◌, [], Bool, true, false, Some, arith}
 use Rattle.negotiate.specs.declared.shared.Common.{Common}
 use Rattle.requester_machine.proofs.Collected.{none_yet}
 use Rattle.requester_machine.proofs.Few.{first_few, updated_few}

@@ -1,7 +1,7 @@
-use Rattle.std.proofs.Common.{◌≡◌, ◌∙◌, ◌<◌, ap, sym, refl, ℕ, arith}
+use Rattle.std.proofs.Common.{◌∙◌, ◌<◌, sym, refl, arith}
 use Rattle.key_schedule.specs.Purpose.{application_record}
 use Rattle.key_schedule.specs.declared.direction.Direction.TheVariants.{Request}
-use Rattle.requester_machine.specs.Session.{session_terms, t2_of, request_epoch, request_next}
+use Rattle.requester_machine.specs.Session.{session_terms, t2_of, request_epoch}
 use Rattle.psk_session.specs.Waiting.{awaited_epoch}
 use Rattle.psk_session.proofs.Past.{keeps_asked, sealed_kept}
 use Rattle.psk_session.proofs.kept.Kept.send.Goals as goal

@@ -1,6 +1,4 @@
-use Rattle.std.proofs.Common.{◌≡◌, ◌∙◌, ap, sym, subst, refl, ℕ, ◌+◌, ◌-◌, ◌^◌, Bool, true, false}
-use Rattle.std.specs.Prelude.{min, if◌then◌else◌}
-use Rattle.psk_session.specs.declared.kept.Kept.{Kept}
+use Rattle.std.proofs.Common.{◌∙◌, sym, true, false}
 use Rattle.psk_session.proofs.Past.{keeps_taken}
 use Rattle.psk_session.proofs.kept.Kept.took.Goals as goal
 

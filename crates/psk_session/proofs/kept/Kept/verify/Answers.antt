@@ -1,7 +1,7 @@
-use Rattle.std.proofs.Common.{◌≡◌, ◌∙◌, ap, subst, refl, [], ℕ, List}
+use Rattle.std.proofs.Common.{◌∙◌, ap, subst, refl, [], ℕ, List}
 use Rattle.negotiate.specs.declared.shared.Common.{Common}
 use Rattle.requester_machine.specs.Message.Ask.{AskVerify}
-use Rattle.requester_machine.specs.Sending.{inner_request, update_tag}
+use Rattle.requester_machine.specs.Sending.{inner_request}
 use Rattle.requester_machine.specs.Session.{session_terms, response_epoch}
 use Rattle.spdm_grammar.specs.Message.RequestMessage.{KeyUpdate}
 use Rattle.psk_session.specs.Course.{with_asked}

@@ -3,7 +3,7 @@ use Rattle.negotiate.specs.declared.shared.Common.{Common}
 use Rattle.requester_machine.specs.Message.{Ask}
 use Rattle.requester_machine.specs.Order.{stage_for}
 use Rattle.requester_machine.specs.Session.{session_terms, response_epoch}
-use Rattle.psk_session.specs.Asking.{asked_of, inner_for}
+use Rattle.psk_session.specs.Asking.{asked_of}
 use Rattle.psk_session.specs.Course.{with_asked}
 use Rattle.psk_session.specs.Kept.{Keeps}
 use Rattle.psk_session.specs.ReqOpen.{Seen, StandsFor}

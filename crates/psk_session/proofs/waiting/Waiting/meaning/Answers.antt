@@ -1,4 +1,4 @@
-use Rattle.std.proofs.Common.{◌≡◌, ◌∙◌, ap, sym, subst, ℕ, Bool}
+use Rattle.std.proofs.Common.{◌≡◌, ◌∙◌, ap, sym, subst, ℕ}
 use Rattle.std.specs.Prelude.{Result, Ok}
 use Rattle.negotiate.specs.declared.shared.Common.{Common}
 use Rattle.requester_machine.specs.Message.{Ask}
@@ -8,11 +8,10 @@ use Rattle.spdm_basis.specs.Sizes.{hash_size}
 use Rattle.spdm_grammar.specs.Message.{response_message}
 use Rattle.spdm_grammar.specs.declared.choice.Choice.{Choice}
 use Rattle.spdm_grammar.specs.declared.event.BadReply.{BadReply}
-use Rattle.spdm_machine.specs.Terms.{hash_len}
 use Rattle.psk_session.specs.Inner.{Contents, contents_of}
 use Rattle.psk_session.specs.Inner.Contents.{Spoken}
 use Rattle.psk_session.specs.Verdict.{meaning_of, message_meaning}
-use Rattle.psk_session.specs.Waiting.{Seen, StandsFor, awaited_by}
+use Rattle.psk_session.specs.Waiting.{Seen, StandsFor}
 use Rattle.psk_session.proofs.waiting.Waiting.meaning.Goals as goal
 
 pub returns-in-Ok-Message : goal.returns-in-Ok-Message

@@ -1,9 +1,8 @@
-use Rattle.std.proofs.Common.{◌≡◌, ◌∙◌, ◌≤◌, ap, sym, subst, refl, ℕ, List, drop, length, true, arith}
+use Rattle.std.proofs.Common.{◌≡◌, ◌∙◌, ◌≤◌, ap, sym, subst, ℕ, List, drop, length, arith}
 use Rattle.chunking.specs.Collecting.{collected}
 use Rattle.chunking.specs.Keeping as keeping
 use Rattle.requester_machine.specs.Message.{Ask}
 use Rattle.requester_machine.specs.Message.Ask.{AskChunk}
-use Rattle.requester_machine.specs.Order.{stage_for}
 use Rattle.requester_machine.specs.Records.{answer_inner}
 use Rattle.requester_machine.specs.Session.{session_terms}
 use Rattle.spdm_grammar.specs.Message.{ChunkMessage, chunk_message}

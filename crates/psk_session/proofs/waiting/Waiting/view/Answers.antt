@@ -1,5 +1,4 @@
 use Rattle.std.proofs.Common.{◌∙◌, ap, sym, subst}
-use Rattle.requester_machine.specs.Message.{Ask}
 use Rattle.requester_machine.specs.Order.{stage_for}
 use Rattle.psk_session.specs.Waiting.{Seen, StandsFor}
 use Rattle.psk_session.proofs.waiting.Waiting.view.Goals as goal
