@@ -14,6 +14,9 @@ pub mod SetUps
 pub mod ClearKept
 pub mod Between
 pub mod ManyPackets
+pub mod StillKept
+pub mod Views
+pub mod Talk
 pub mod ComingSteps
 pub mod UnderWay
 pub mod MeasureStages

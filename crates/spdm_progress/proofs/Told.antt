@@ -1,7 +1,6 @@
 -- A requester of a world and the responder's connection with it: how they are set up, and where they stand.
 use Rattle.std.proofs.Common.{find, ◌≡◌, ◌≢◌, ◌∙◌, ◌==◌, ℕ, List, [], ◌∷◌, map, Some, Contains, sym, subst, inl, inr}
 use Rattle.std.proofs.lemmas.List.Elements.{Contains-append_left, Contains-append_right, Contains-push}
-use Rattle.spdm_grammar.specs.Lines.{Line}
 use Rattle.spdm_machine.proofs.Members.{IsIn, in_map, all_in, found_in}
 use Rattle.requester_machine.specs.Requesting.{Requesting}
 use Rattle.requester_machine.specs.Setup.{ReqSetup}
@@ -83,8 +82,8 @@ are_placed w before n a c configured chance is connected =
       own = placed.own_is ∙ sym (placed.ends c c_in);
     }
 
--- A line stands among others.
-pub contained : (lines : List Line) (x : Line) → IsIn lines x → Contains lines x
+-- What is in a list is contained in it.
+pub contained : {A : Type 0} (xs : List A) (x : A) → IsIn xs x → Contains xs x
 contained [] x m = absurd m
 contained (y ∷ others) x m = elim m [
   | inl e ↦ subst (Contains (y ∷ others)) (sym e) (Contains-append_left (y ∷ []) others y (Contains-push [] y))
