@@ -17,6 +17,8 @@ pub mod ManyPackets
 pub mod StillKept
 pub mod Views
 pub mod Talk
+pub mod RecordsBetween
+pub mod AlikeSessions
 pub mod ComingSteps
 pub mod UnderWay
 pub mod MeasureStages

@@ -1,3 +1,4 @@
 pub mod Honest
 pub mod Connecting
 pub mod Measuring
+pub mod InStep
