@@ -26,7 +26,7 @@ in_left : (xs ys : List Line) (x : Line) → IsIn xs x → IsIn (xs ++ ys) x
 in_left [] ys x m = absurd m
 in_left (y ∷ xs) ys x m = elim m [ inl e ↦ inl e | inr k ↦ inr (in_left xs ys x k) ]
 
-in_right : (xs ys : List Line) (x : Line) → IsIn ys x → IsIn (xs ++ ys) x
+pub in_right : {A : Type 0} (xs ys : List A) (x : A) → IsIn ys x → IsIn (xs ++ ys) x
 in_right [] ys x m = m
 in_right (y ∷ xs) ys x m = inr (in_right xs ys x m)
 

@@ -19,6 +19,9 @@ pub mod Views
 pub mod Talk
 pub mod RecordsBetween
 pub mod AlikeSessions
+pub mod RecordServed
+pub mod RecordHeard
+pub mod RecordRounds
 pub mod ComingSteps
 pub mod UnderWay
 pub mod MeasureStages

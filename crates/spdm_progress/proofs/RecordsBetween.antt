@@ -14,11 +14,12 @@ use Rattle.spdm_grammar.specs.declared.choice.Choice.{Choice}
 use Rattle.spdm_machine.specs.Keys.{inner_message, record_fault, sealed_of}
 use Rattle.spdm_machine.specs.TagLog.{Act, Log, made_record, record_input, record_tag}
 use Rattle.spdm_machine.specs.TagLog.Act.{Made, Checked}
-use Rattle.spdm_machine.proofs.Members.{IsIn}
+use Rattle.spdm_machine.proofs.Members.{IsIn, in_contained}
 use Rattle.requester_machine.specs.Records.{request_purpose}
 use Rattle.requester_machine.specs.Session.{Steps, request_next}
 use Rattle.responder_machine.specs.Session.{id_in_record}
 use Rattle.spdm_agreement.proofs.Requester.SealAndHear.{opened_as}
+use Rattle.spdm_progress.specs.InStep.{WasSealed}
 use Rattle.world_machine.specs.Chance.{AreAlike, NoChance}
 
 module _ (choice : Choice) (p : Purpose) (number req rsp : ℕ) (inner pad : List ℕ) where
@@ -52,13 +53,6 @@ module _ (choice : Choice) (p : Purpose) (number req rsp : ℕ) (inner pad : Lis
 
 -- ---- No copy.
 
--- These bytes were sealed under another purpose or number than those of the next record of a session.
-pub record WasSealed (psk : List ℕ) (log : Log) (s : Steps) (sealed : List ℕ) : Type 0 where
-  pub purpose : Purpose
-  pub number : ℕ
-  pub made : IsIn log (Made purpose (record_input number sealed) (tag_part sealed))
-  pub other : purpose ≡ request_purpose psk s → number ≡ request_next s → ⊥
-
 alike_in : (p q : Purpose) (i j v u : List ℕ) (log : Log) → AreAlike p i v log → IsIn log (Made q j u) → u ≡ v → (p ≡ q) × (i ≡ j)
 alike_in p q i j v u [] alike m same = absurd m
 alike_in p q i j v u (Made a b w ∷ older) alike (inl is) same =
@@ -78,5 +72,5 @@ first_same a b xs ys e = cc
 pub no_copy : (psk : List ℕ) (log : Log) (s : Steps) (choice : Choice) (sealed kept : List ℕ) → NoChance (made_record choice (request_purpose psk s) (request_next s) sealed ∷ log) → record_tag choice (request_purpose psk s) (request_next s) sealed ≡ tag_part sealed
     → WasSealed psk log s kept → kept ≡ sealed → ⊥
 no_copy psk log s choice sealed kept chance tag was same =
-    let k = alike_in (request_purpose psk s) was.purpose (record_input (request_next s) sealed) (record_input was.number kept) (record_tag choice (request_purpose psk s) (request_next s) sealed) (tag_part kept) log chance.0 was.made (ap tag_part same ∙ sym tag) in
+    let k = alike_in (request_purpose psk s) was.purpose (record_input (request_next s) sealed) (record_input was.number kept) (record_tag choice (request_purpose psk s) (request_next s) sealed) (tag_part kept) log chance.0 (in_contained log _ was.made) (ap tag_part same ∙ sym tag) in
     was.other (sym k.0) (sym (first_same _ _ _ _ k.1))

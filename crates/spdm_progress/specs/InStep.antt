@@ -1,13 +1,23 @@
--- A session that both ends hold alike, so that what one seals next the other opens. This project's own.
-use Rattle.std.specs.Prelude.{◌≡◌, ◌<◌, ℕ, true}
+-- A session that both ends hold alike, so that what one seals next the other opens; and two ends at rest. This project's
+-- own.
+use Rattle.std.specs.Prelude.{◌≡◌, ◌≢◌, ◌<◌, ℕ, List, true, Some, None, Contains}
+use Rattle.key_schedule.specs.Purpose.{Purpose}
+use Rattle.requester_machine.specs.Does as asking_does
 use Rattle.requester_machine.specs.History as asked
+use Rattle.requester_machine.specs.Records.{request_purpose}
 use Rattle.requester_machine.specs.Session as asking
 use Rattle.requester_machine.specs.Session.{Steps}
+use Rattle.requester_machine.specs.Setup.{ReqSetup}
+use Rattle.responder_machine.specs.Does as serving_does
 use Rattle.responder_machine.specs.History as served
 use Rattle.responder_machine.specs.Session as serving
 use Rattle.responder_machine.specs.Session.{Events}
+use Rattle.responder_machine.specs.Setup.{RspSetup}
+use Rattle.secured_record.specs.Faults.{tag_part}
 use Rattle.spdm_grammar.specs.declared.phase.Stage.TheVariants.{Open}
 use Rattle.spdm_machine.specs.Sessions.{id_in_exchange}
+use Rattle.spdm_machine.specs.TagLog.{Log, record_input}
+use Rattle.spdm_machine.specs.TagLog.Act.{Made}
 
 -- The own history of a session at the requester and that at the responder: each has begun; they have the same
 -- negotiation, PSK_EXCHANGE with its answer and PSK_FINISH with its answer, so the same hash, session id, T1 and T2; and
@@ -30,9 +40,35 @@ pub record AreInStep (s : Steps) (e : Events) : Type 0 where
 abbrev pub rsp_id : Steps → ℕ
 rsp_id s = id_in_exchange (asking.exchange_answer s)
 
--- The session with this ReqSessionID is open at both ends, in step: at the responder it is the one of its RspSessionID, a
--- number of two bytes.
-pub record IsOpenAtBoth (h : asked.History) (g : served.History) (id : ℕ) : Type 0 where
-  pub in_step : AreInStep (asking.session_of id h) (serving.session_of (rsp_id (asking.session_of id h)) g)
-  pub is_open : asking.stage_of (asking.session_of id h) ≡ Open
-  pub two_bytes : rsp_id (asking.session_of id h) < 65536
+-- These bytes are a record that was sealed under another purpose or number than the next record of the session: the log
+-- has its tag.
+pub record WasSealed (psk : List ℕ) (log : Log) (s : Steps) (sealed : List ℕ) : Type 0 where
+  pub purpose : Purpose
+  pub number : ℕ
+  pub made : Contains log (Made purpose (record_input number sealed) (tag_part sealed))
+  pub other : purpose ≡ request_purpose psk s → number ≡ asking.request_next s → ⊥
+
+-- A session is open at both ends, in step, and at rest: its RspSessionID has two bytes, and the record that the responder
+-- took last, which it answers again where it comes again, is not the next one.
+pub record AreResting (psk : List ℕ) (log : Log) (s : Steps) (e : Events) : Type 0 where
+  pub in_step : AreInStep s e
+  pub stage : asking.stage_of s ≡ Open
+  pub two_bytes : rsp_id s < 65536
+  pub last : (k : served.KeptRecord) → serving.last_of e ≡ Some k → WasSealed psk log s k.sealed
+
+-- The session with this ReqSessionID rests at both ends: at the responder it is the one of its RspSessionID.
+abbrev pub IsResting : List ℕ → Log → asked.History → served.History → ℕ → Type 0
+IsResting psk log h g id = AreResting psk log (asking.session_of id h) (serving.session_of (rsp_id (asking.session_of id h)) g)
+
+-- A requester and the responder's connection with it are quiet: nothing is outstanding; they are in the same phase, with
+-- the same negotiation; and each session of the requester rests at both ends, each with a RspSessionID of its own. Each of
+-- the two histories is one that its end made.
+pub record AreQuiet (q : ReqSetup) (r : RspSetup) (log : Log) (h : asked.History) (g : served.History) : Type 0 where
+  pub made : asking_does.IsMade q h
+  pub made_there : serving_does.IsMade r g
+  pub none : asked.outstanding h ≡ None
+  pub phase : asked.phase_of h ≡ served.phase_of (served.clear_turns g)
+  pub negotiation : asked.negotiation_of h ≡ served.negotiation_of (served.clear_turns g)
+  pub sessions : (id : ℕ) → asking.is_live (asking.session_of id h) ≡ true → IsResting q.psk log h g id
+  pub apart : (i j : ℕ) → i ≢ j → asking.is_live (asking.session_of i h) ≡ true → asking.is_live (asking.session_of j h) ≡ true
+      → rsp_id (asking.session_of i h) ≢ rsp_id (asking.session_of j h)
