@@ -22,6 +22,7 @@ pub mod AlikeSessions
 pub mod RecordServed
 pub mod RecordHeard
 pub mod RecordRounds
+pub mod RecordStages
 pub mod ComingSteps
 pub mod UnderWay
 pub mod MeasureStages
