@@ -23,6 +23,7 @@ pub mod RecordServed
 pub mod RecordHeard
 pub mod RecordRounds
 pub mod RecordStages
+pub mod SessionRounds
 pub mod ComingSteps
 pub mod UnderWay
 pub mod MeasureStages

@@ -1,6 +1,6 @@
 -- A round in a session: a record that asks something of it is on its way to the responder, and then the record that
 -- answers it is on its way back.
-use Rattle.std.proofs.Common.{◌≡◌, ◌≢◌, ◌⊎◌, ◌∙◌, ℕ, ◌<◌, ◌≤◌, ◌+◌, ◌==◌, List, [], ◌∷◌, ◌++◌, length, drop, Bool, true, false, Option, Some, None, Result, Ok, Contains, refl, sym, ap, ap₂, subst, inl, inr, arith, eq-eqb}
+use Rattle.std.proofs.Common.{◌≡◌, ◌≢◌, ◌⊎◌, ◌∙◌, ℕ, ◌<◌, ◌≤◌, ◌+◌, ◌==◌, List, [], ◌∷◌, ◌++◌, length, drop, Bool, true, false, Option, Some, None, Result, Ok, Contains, refl, sym, ap, ap₂, subst, inl, inr, arith, eq-eqb, eqb-true}
 use Rattle.std.specs.Prelude.{bytes_eq, if◌then◌else◌}
 use Rattle.std.proofs.lemmas.Bool.{false≢true, ne_eqb}
 use Rattle.std.proofs.lemmas.List.Elements.{Contains-append_right}
@@ -152,3 +152,39 @@ moves_on AskVerify psk inner sealed reply reply_inner answer s kept at purpose n
 moves_on (AskMeasure op) psk inner sealed reply reply_inner answer s kept at purpose number = one_more (steps.request_next s) number
 moves_on (AskChunk op handle n before) psk inner sealed reply reply_inner answer s kept at purpose number = one_more (steps.request_next s) number
 moves_on AskEnd psk inner sealed reply reply_inner answer s kept at purpose number = absurd (false≢true kept)
+
+-- ---- Quiet again.
+
+resting_of : (q : ReqSetup) (r : RspSetup) (id rid : ℕ) (log : Log) (h : asked.History) (g : served.History) → Beside q r id rid log h g → (steps.is_live (steps.session_of id h) ≡ true → IsResting q.psk log h g id) → (j : ℕ) → (b : Bool) → (j == id) ≡ b
+    → steps.is_live (steps.session_of j h) ≡ true → IsResting q.psk log h g j
+resting_of q r id rid log h g k own j true same live =
+    let e = eqb-true j id same in
+    subst (IsResting q.psk log h g) (sym e) (own (ap (λ (i : ℕ). steps.is_live (steps.session_of i h)) (sym e) ∙ live))
+resting_of q r id rid log h g k own j false other live = k.sessions j (λ e. false≢true (sym other ∙ eq-eqb j id e)) live
+
+apart_of : (q : ReqSetup) (r : RspSetup) (id rid : ℕ) (log : Log) (h : asked.History) (g : served.History) → Beside q r id rid log h g → (steps.is_live (steps.session_of id h) ≡ true → rsp_id (steps.session_of id h) ≡ rid) → (i j : ℕ) → (a b : Bool) → (i == id) ≡ a → (j == id) ≡ b → i ≢ j
+    → steps.is_live (steps.session_of i h) ≡ true → steps.is_live (steps.session_of j h) ≡ true → rsp_id (steps.session_of i h) ≢ rsp_id (steps.session_of j h)
+apart_of q r id rid log h g k own i j true true e f differ live_i live_j = absurd (differ (eqb-true i id e ∙ sym (eqb-true j id f)))
+apart_of q r id rid log h g k own i j true false e f differ live_i live_j = λ same.
+    let is = eqb-true i id e in
+    let mine : rsp_id (steps.session_of i h) ≡ rid = ap (λ (n : ℕ). rsp_id (steps.session_of n h)) is ∙ own (ap (λ (n : ℕ). steps.is_live (steps.session_of n h)) (sym is) ∙ live_i) in
+    k.own j (λ z. false≢true (sym f ∙ eq-eqb j id z)) live_j (sym same ∙ mine)
+apart_of q r id rid log h g k own i j false true e f differ live_i live_j = λ same.
+    let is = eqb-true j id f in
+    let mine : rsp_id (steps.session_of j h) ≡ rid = ap (λ (n : ℕ). rsp_id (steps.session_of n h)) is ∙ own (ap (λ (n : ℕ). steps.is_live (steps.session_of n h)) (sym is) ∙ live_j) in
+    k.own i (λ z. false≢true (sym e ∙ eq-eqb i id z)) live_i (same ∙ mine)
+apart_of q r id rid log h g k own i j false false e f differ live_i live_j =
+    k.apart i j differ (λ z. false≢true (sym e ∙ eq-eqb i id z)) (λ z. false≢true (sym f ∙ eq-eqb j id z)) live_i live_j
+
+-- Where nothing is outstanding, and the session of this id is gone or rests at both ends too.
+pub quiet_from : (q : ReqSetup) (r : RspSetup) (id rid : ℕ) (log : Log) (h : asked.History) (g : served.History) → Beside q r id rid log h g → outstanding h ≡ None
+    → (steps.is_live (steps.session_of id h) ≡ true → (rsp_id (steps.session_of id h) ≡ rid) × IsResting q.psk log h g id) → AreQuiet q r log h g
+quiet_from q r id rid log h g k none own = record {
+  made = k.made;
+  made_there = k.made_there;
+  none = none;
+  phase = k.phase;
+  negotiation = k.negotiation;
+  sessions = λ j live. resting_of q r id rid log h g k (λ l. (own l).1) j (j == id) refl live;
+  apart = λ i j differ live_i live_j. apart_of q r id rid log h g k (λ l. (own l).0) i j (i == id) (j == id) refl refl differ live_i live_j;
+}

@@ -77,11 +77,18 @@ not_spent a b x y = rw (ne_eqb a 65536 (λ e. omega (arith, e, x)), ne_eqb b 655
 unspent_fault : (b : Bool) (o : Option RecordFault) → b ≡ false → o ≡ None → (if b then Some KeySpent else o) ≡ None
 unspent_fault b o e f = rw e f
 
+-- The purpose and the number of an answer, of all keys or not, by the requester's session as it stood before it asked.
+abbrev pub answer_under : List ℕ → Steps → Bool → Purpose
+answer_under psk s all = if all then record (response_purpose psk s) { epoch = steps.response_epoch s + 1 } else response_purpose psk s
+
+abbrev pub answer_count : Steps → Bool → ℕ
+answer_count s all = if all then 0 else steps.response_next s
+
 module _ (psk : List ℕ) (s : Steps) (e : Events) (k : AreInStep s e) where
-  abbrev Opens : Choice → Purpose → ℕ → List ℕ → List ℕ → List ℕ → Type 0
+  abbrev pub Opens : Choice → Purpose → ℕ → List ℕ → List ℕ → List ℕ → Type 0
   Opens choice p number id sealed inner = (record_fault choice p number id sealed ≡ None) × (inner_message choice p number sealed ≡ inner)
 
-  own_opens : (inner pad : List ℕ) → length inner + length pad ≤ 4134 → Opens (steps.session_terms s).choice (request_purpose psk s) (steps.request_next s) (steps.id_bytes s) (sealed_next psk s inner pad) inner
+  pub own_opens : (inner pad : List ℕ) → length inner + length pad ≤ 4134 → Opens (steps.session_terms s).choice (request_purpose psk s) (steps.request_next s) (steps.id_bytes s) (sealed_next psk s inner pad) inner
   unfolding sealed_next
   own_opens inner pad short = opens (steps.session_terms s).choice (request_purpose psk s) (steps.request_next s) (id_in_exchange (steps.exchange_of s)) (rsp_id s) inner pad short
 
@@ -102,23 +109,16 @@ module _ (psk : List ℕ) (s : Steps) (e : Events) (k : AreInStep s e) where
 
   -- ---- The answer is sealed as the requester awaits it.
 
-  -- The answer to a turn, under the purpose and number of the requester's session as it stood before it asked.
-  abbrev pub answer_under : Bool → Purpose
-  answer_under all = if all then record (response_purpose psk s) { epoch = steps.response_epoch s + 1 } else response_purpose psk s
-
-  abbrev pub answer_count : Bool → ℕ
-  answer_count all = if all then 0 else steps.response_next s
-
-  pub replies_so : (t : Turn) (all : Bool) (inner pad : List ℕ) → updates 2 t ≡ all → reply_record psk e t inner pad ≡ sealed_of (steps.session_terms s).choice (answer_under all) (answer_count all) (steps.id_bytes s) inner pad
+  pub replies_so : (t : Turn) (all : Bool) (inner pad : List ℕ) → updates 2 t ≡ all → reply_record psk e t inner pad ≡ sealed_of (steps.session_terms s).choice (answer_under psk s all) (answer_count s all) (steps.id_bytes s) inner pad
   unfolding reply_record
   replies_so t all inner pad is =
       ap (λ (b : Bool). sealed_of (events.session_terms e).choice (if b then record (serving.response_purpose psk e) { epoch = events.response_epoch e + 1 } else serving.response_purpose psk e) (if b then 0 else events.response_next e) (events.id_bytes e) inner pad) is
       ∙ ap (λ (x : Terms). sealed_of x.choice (if all then record (serving.response_purpose psk e) { epoch = events.response_epoch e + 1 } else serving.response_purpose psk e) (if all then 0 else events.response_next e) (events.id_bytes e) inner pad) (sym (same_terms s e k))
       ∙ ap₂ (λ (p : Purpose) (n : ℕ). sealed_of (steps.session_terms s).choice (if all then record p { epoch = n + 1 } else p) (if all then 0 else events.response_next e) (events.id_bytes e) inner pad) (sym (same_responses s e k psk)) (sym k.response_epoch)
-      ∙ ap₂ (λ (n : ℕ) (id : List ℕ). sealed_of (steps.session_terms s).choice (answer_under all) (if all then 0 else n) id inner pad) (sym k.response_next) (sym (same_id s e k))
+      ∙ ap₂ (λ (n : ℕ) (id : List ℕ). sealed_of (steps.session_terms s).choice (answer_under psk s all) (if all then 0 else n) id inner pad) (sym k.response_next) (sym (same_id s e k))
 
 -- The requester awaits it so, since PSK_FINISH alone changes T2, and its answer is under T1.
-awaited_under : (psk : List ℕ) (ask : Ask) (inner sealed : List ℕ) (s : Steps) → steps.stage_of s ≡ stage_for ask → response_purpose psk (Asked ask inner sealed ∷ s) ≡ response_purpose psk s
+pub awaited_under : (psk : List ℕ) (ask : Ask) (inner sealed : List ℕ) (s : Steps) → steps.stage_of s ≡ stage_for ask → response_purpose psk (Asked ask inner sealed ∷ s) ≡ response_purpose psk s
 awaited_under psk AskFinish inner sealed s at =
     ap (λ (g : Stage). purpose_in g psk (steps.t1_of s) (steps.t2_of (Asked AskFinish inner sealed ∷ s)) Response (steps.response_epoch s)) at
     ∙ ap (λ (g : Stage). purpose_in g psk (steps.t1_of s) (steps.t2_of s) Response (steps.response_epoch s)) (sym at)
@@ -135,7 +135,7 @@ awaited_under psk AskEnd inner sealed s at = refl
 of_effect : (P : Effect → Bool) (t : Turn) (effect : Effect) (b : Bool) → t.effect ≡ effect → P effect ≡ b → P t.effect ≡ b
 of_effect P t effect b is holds = ap P is ∙ holds
 
-updates_all : (ask : Ask) (inner : List ℕ) (t : Turn) → IsAnswerTo ask inner t → updates 2 t ≡ asks_all ask
+pub updates_all : (ask : Ask) (inner : List ℕ) (t : Turn) → IsAnswerTo ask inner t → updates 2 t ≡ asks_all ask
 updates_all AskFinish inner t is = ap (λ (e : Effect). updates 2 (record t { effect = e })) is.1
 updates_all AskData inner t is = ap (λ (e : Effect). updates 2 (record t { effect = e })) is
 updates_all AskBeat inner t is = ap (λ (e : Effect). updates 2 (record t { effect = e })) is
@@ -146,7 +146,7 @@ updates_all (AskMeasure op) inner t is = ap (λ (e : Effect). updates 2 (record 
 updates_all (AskChunk op handle number before) inner t is = absurd is
 updates_all AskEnd inner t is = ap (λ (e : Effect). updates 2 (record t { effect = e })) is
 
-not_end : (ask : Ask) (inner : List ℕ) (t : Turn) → is_kept ask ≡ true → IsAnswerTo ask inner t → takes END_SESSION t ≡ false
+pub not_end : (ask : Ask) (inner : List ℕ) (t : Turn) → is_kept ask ≡ true → IsAnswerTo ask inner t → takes END_SESSION t ≡ false
 not_end AskFinish inner t kept is = ap (λ (e : Effect). takes END_SESSION (record t { effect = e })) is.1
 not_end AskData inner t kept is = ap (λ (e : Effect). takes END_SESSION (record t { effect = e })) is
 not_end AskBeat inner t kept is = ap (λ (e : Effect). takes END_SESSION (record t { effect = e })) is
@@ -156,7 +156,7 @@ not_end (AskMeasure op) inner t kept is = ap (λ (e : Effect). takes END_SESSION
 not_end (AskChunk op handle number before) inner t kept is = absurd is
 not_end AskEnd inner t kept is = absurd (false≢true kept)
 
-an_end : (ask : Ask) (inner : List ℕ) (t : Turn) → is_kept ask ≡ false → IsAnswerTo ask inner t → takes END_SESSION t ≡ true
+pub an_end : (ask : Ask) (inner : List ℕ) (t : Turn) → is_kept ask ≡ false → IsAnswerTo ask inner t → takes END_SESSION t ≡ true
 an_end AskEnd inner t ends is = ap (λ (e : Effect). takes END_SESSION (record t { effect = e })) is
 an_end AskFinish inner t ends is = absurd (false≢true (sym ends))
 an_end AskData inner t ends is = absurd (false≢true (sym ends))
@@ -168,22 +168,22 @@ an_end (AskChunk op handle number before) inner t ends is = absurd (false≢true
 
 -- ---- Sessions behind an entry.
 
-live_heard : (e : Events) (sealed reply : List ℕ) (t : Turn) → events.is_live e ≡ true → takes END_SESSION t ≡ false → after_record e sealed t reply ≡ Heard sealed t reply ∷ e
+pub live_heard : (e : Events) (sealed reply : List ℕ) (t : Turn) → events.is_live e ≡ true → takes END_SESSION t ≡ false → after_record e sealed t reply ≡ Heard sealed t reply ∷ e
 live_heard [] sealed reply t live other = absurd (false≢true live)
 live_heard (x ∷ e) sealed reply t live other = rw other refl
 
-ended_heard : (e : Events) (sealed reply : List ℕ) (t : Turn) → takes END_SESSION t ≡ true → after_record e sealed t reply ≡ []
+pub ended_heard : (e : Events) (sealed reply : List ℕ) (t : Turn) → takes END_SESSION t ≡ true → after_record e sealed t reply ≡ []
 ended_heard e sealed reply t ends = rw ends refl
 
 -- The responder's session that a record names, and another one.
-sealed_here : (id tag : ℕ) (sealed : List ℕ) (t : Turn) (reply : List ℕ) (d : Draw) (g : served.History) → id_in_record sealed ≡ id → events.session_of id (WasSealedThere tag sealed t reply d ∷ g) ≡ after_record (events.session_of id g) sealed t reply
+pub sealed_here : (id tag : ℕ) (sealed : List ℕ) (t : Turn) (reply : List ℕ) (d : Draw) (g : served.History) → id_in_record sealed ≡ id → events.session_of id (WasSealedThere tag sealed t reply d ∷ g) ≡ after_record (events.session_of id g) sealed t reply
 unfolding events.session_of
 sealed_here id tag sealed t reply d g is = ap (λ (b : Bool). if b then after_record (events.session_of id g) sealed t reply else events.session_of id g) (eq-eqb (id_in_record sealed) id is)
 
-sealed_elsewhere : (id tag : ℕ) (sealed : List ℕ) (t : Turn) (reply : List ℕ) (d : Draw) (g : served.History) → id_in_record sealed ≢ id → events.session_of id (WasSealedThere tag sealed t reply d ∷ g) ≡ events.session_of id g
+pub sealed_elsewhere : (id tag : ℕ) (sealed : List ℕ) (t : Turn) (reply : List ℕ) (d : Draw) (g : served.History) → id_in_record sealed ≢ id → events.session_of id (WasSealedThere tag sealed t reply d ∷ g) ≡ events.session_of id g
 unfolding events.session_of
 sealed_elsewhere id tag sealed t reply d g other = ap (λ (b : Bool). if b then after_record (events.session_of id g) sealed t reply else events.session_of id g) (ne_eqb (id_in_record sealed) id other)
 
-no_pad : (r : RspSetup) (g : served.History) (sealed : List ℕ) (d : Draw) → (record_chosen r g sealed d).pad ≡ []
+pub no_pad : (r : RspSetup) (g : served.History) (sealed : List ℕ) (d : Draw) → (record_chosen r g sealed d).pad ≡ []
 unfolding chosen
 no_pad r g sealed d = refl
