@@ -24,6 +24,9 @@ pub mod RecordHeard
 pub mod RecordRounds
 pub mod RecordStages
 pub mod SessionRounds
+pub mod SessionTurns
+pub mod SessionBegins
+pub mod SingleRound
 pub mod ComingSteps
 pub mod UnderWay
 pub mod MeasureStages

@@ -144,7 +144,7 @@ serves_on r n tag op old new same s = record { phase_is = same.phase ∙ s.phase
 pub served_on : (n : Negotiation) (old new : served.History) → SameClear old new → Served n old → Served n new
 served_on n old new same s = record { phase_is = same.phase ∙ s.phase_is; negotiation = same.negotiation ∙ s.negotiation }
 
-measures_flag : (terms : Terms) → terms.choice.measure ≡ true → lacks_flag terms GET_MEASUREMENTS ≡ false
+pub measures_flag : (terms : Terms) → terms.choice.measure ≡ true → lacks_flag terms GET_MEASUREMENTS ≡ false
 measures_flag terms e = rw e refl
 
 -- The answer as the responder makes it.

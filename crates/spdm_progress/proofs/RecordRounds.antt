@@ -188,3 +188,15 @@ quiet_from q r id rid log h g k none own = record {
   sessions = λ j live. resting_of q r id rid log h g k (λ l. (own l).1) j (j == id) refl live;
   apart = λ i j differ live_i live_j. apart_of q r id rid log h g k (λ l. (own l).0) i j (i == id) (j == id) refl refl differ live_i live_j;
 }
+
+-- Queued data and time leave two quiet ends so.
+pub quiet_still : (q : ReqSetup) (r : RspSetup) (log : Log) (h : asked.History) (g later : served.History) → AreAlike r g later → AreQuiet q r log h g → AreQuiet q r log h later
+quiet_still q r log h g later alike k = record {
+  made = k.made;
+  made_there = alike.made k.made_there;
+  none = k.none;
+  phase = k.phase ∙ sym alike.clear.phase;
+  negotiation = k.negotiation ∙ sym alike.clear.negotiation;
+  sessions = λ id live. resting_on q.psk [] log (steps.session_of id h) _ _ (alike.sessions (rsp_id (steps.session_of id h))) (k.sessions id live);
+  apart = k.apart;
+}

@@ -119,7 +119,7 @@ answers_by r h tag m d t P is holds = record {
 
 -- ---- An answer that is short enough.
 
-both_short : (known chunk : Bool) (max transfer n : ℕ) → (known ≡ true → (n ≤ max) × (n ≤ transfer)) → (known && (nat_lt max n || (not chunk && nat_lt transfer n))) ≡ false
+pub both_short : (known chunk : Bool) (max transfer n : ℕ) → (known ≡ true → (n ≤ max) × (n ≤ transfer)) → (known && (nat_lt max n || (not chunk && nat_lt transfer n))) ≡ false
 both_short false chunk max transfer n k = refl
 both_short true true max transfer n k = rw (not_longer max n (k refl).0) refl
 both_short true false max transfer n k = rw (not_longer max n (k refl).0, not_longer transfer n (k refl).1) refl

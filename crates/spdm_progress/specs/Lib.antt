@@ -2,3 +2,4 @@ pub mod Honest
 pub mod Connecting
 pub mod Measuring
 pub mod InStep
+pub mod SessionCommands
