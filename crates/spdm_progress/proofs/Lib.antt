@@ -27,8 +27,10 @@ pub mod SessionRounds
 pub mod SessionTurns
 pub mod SessionBegins
 pub mod SingleRound
+pub mod AskedOnce
 pub mod ComingSteps
 pub mod UnderWay
+pub mod Accepted
 pub mod MeasureStages
 pub mod MeasureUnderWay
 pub mod Told

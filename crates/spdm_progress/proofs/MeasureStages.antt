@@ -73,6 +73,7 @@ use Rattle.spdm_progress.proofs.Drawn.{AreDrawn}
 use Rattle.spdm_progress.proofs.ResponderTurns.{taken_somehow, turn_with}
 use Rattle.transcript.specs.Transcripts.{Negotiation}
 use Rattle.spdm_progress.specs.Measuring.{record_for, number_for, measurements_size}
+use Rattle.spdm_progress.proofs.Accepted.{not_worn_told, told_done}
 use Rattle.spdm_progress.proofs.AtRequester.{led_plain}
 use Rattle.spdm_progress.proofs.OnePacket.{not_longer}
 use Rattle.spdm_progress.proofs.RequesterStages.{Asks, Hears, hears_as, hears_by, reads}
@@ -307,16 +308,16 @@ total_few : (b : Bool) (n : ℕ) → n ≤ 254 → (if b then n else 0) ≤ 254
 total_few true n x = x
 total_few false n x = omega arith
 
-measured_fits : (r : RspSetup) (op : ℕ) (nonce : List ℕ) → FitsResponse (Measurements (measured r op nonce))
+pub measured_fits : (r : RspSetup) (op : ℕ) (nonce : List ℕ) → FitsResponse (Measurements (measured r op nonce))
 measured_fits r op nonce =
     let total = total_few (op == 0) (length (inventory_of r)) (inventory_few r) in
     let blocks = asked_few (op == 0) (op == 255) (inventory_of r) (at_most_one (block_of op (inventory_of r))) (inventory_few r) (one_few (block_of op (inventory_of r))) in
     ((omega arith), (omega arith))
 
-measured_sound : (q : ReqSetup) (r : RspSetup) (op len : ℕ) (n : Negotiation) (nonce : List ℕ) → length nonce ≡ 32 → CanServe q r op n → IsSoundResponse len false (Measurements (measured r op nonce))
-measured_sound q r op len n nonce whole can = record { block_bytes = (let fits = can.fits_own in let most = can.most in omega arith); nonce = whole; opaque = omega arith }
+pub measured_sound : (r : RspSetup) (op len : ℕ) (nonce : List ℕ) → length nonce ≡ 32 → measurements_size r op ≤ 4138 → IsSoundResponse len false (Measurements (measured r op nonce))
+measured_sound r op len nonce whole fits = record { block_bytes = omega arith; nonce = whole; opaque = omega arith }
 
-told_number : (b : Bool) (n k : ℕ) → (if b then (if b then n else 0) else k) ≡ (if b then n else k)
+pub told_number : (b : Bool) (n k : ℕ) → (if b then (if b then n else 0) else k) ≡ (if b then n else k)
 told_number true n k = refl
 told_number false n k = refl
 
@@ -332,30 +333,19 @@ measure_heard q r h tag op n nonce d whole can asks =
     let answer = measurements r op nonce in
     let led = is_done (finished.Measured (number_for r op)) (Answers asked_it answer) in
     let fits = can.fits_own in
+    let most = can.most in
+    let within : measurements_size r op ≤ 4138 = omega arith in
     let size = measurements_are r op nonce whole in
     hears_by q h tag answer d led (IsMeasuredBy r op)
     (hears_as q h tag asked_it (get_measurements op) n answer d led asks (omega (arith, size, fits))
-    (led_plain q h (body_chosen q h d) asked_it answer (Measurements (measured r op nonce)) (reads h (Measurements (measured r op nonce)) (hash_len (connection_terms h)) (measured_fits r op nonce) (measured_sound q r op (hash_len (connection_terms h)) n nonce whole can))
+    (led_plain q h (body_chosen q h d) asked_it answer (Measurements (measured r op nonce)) (reads h (Measurements (measured r op nonce)) (hash_len (connection_terms h)) (measured_fits r op nonce) (measured_sound r op (hash_len (connection_terms h)) nonce whole within))
     ∙ ap (λ (k : ℕ). let x : Result Led ReqIgnored = Ok (is_done (finished.Measured k) (Answers asked_it answer)) in x) (told_number (op == 0) (length (inventory_of r)) (length (blocks_asked op (inventory_of r))))))
     (record {
       none = refl;
-      taken = ap (λ (o : Option ResponseMessage). unwrap_or (option_or None (blocks_of o)) (last_data h)) (ap result_ok (reads h (Measurements (measured r op nonce)) 32 (measured_fits r op nonce) (measured_sound q r op 32 n nonce whole can)));
+      taken = ap (λ (o : Option ResponseMessage). unwrap_or (option_or None (blocks_of o)) (last_data h)) (ap result_ok (reads h (Measurements (measured r op nonce)) 32 (measured_fits r op nonce) (measured_sound r op 32 nonce whole within)));
     })
 
 -- ---- The command.
-
-fault_none : (q : ReqSetup) (h : asked.History) (command : Command) (f : Free) (d : Draw) (o : Option CommandFault) → fault_of (asks_by q h command f d o) ≡ None → o ≡ None
-fault_none q h command f d None e = refl
-fault_none q h command f d (Some x) e = absurd (none_some x (sym e))
-
-told_done : (q : ReqSetup) (h : asked.History) (command : Command) (d : Draw) → fault_of (requester_asks false q h command d) ≡ None → requester_asks false q h command d ≡ done q h command (command_chosen q h d) d
-unfolding asks
-told_done q h command d e =
-    ap (asks_by q h command (command_chosen q h d) d) (fault_none q h command (command_chosen q h d) d (command_fault false q h command (command_chosen q h d)) e)
-
-not_worn_told : (a : Requesting) (command : Command) → is_worn a ≡ false → requester_told a command ≡ commanded_by a (requester_asks false a.setup a.history command (next_draw a))
-unfolding requester_told
-not_worn_told a command fresh = rw fresh refl
 
 sent_whole : (common : Common) (h : asked.History) (op : ℕ) → 4 ≤ common.to_responder.transfer → request_sent common h (GetMeasurements op) ≡ plain_sent h (GetMeasurements op)
 sent_whole common h op room = rw (not_longer common.to_responder.transfer 4 room) refl

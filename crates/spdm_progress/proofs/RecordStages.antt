@@ -132,9 +132,6 @@ awaited_under psk AskEnd inner sealed s at = refl
 
 -- ---- What a turn is, by what was asked.
 
-of_effect : (P : Effect → Bool) (t : Turn) (effect : Effect) (b : Bool) → t.effect ≡ effect → P effect ≡ b → P t.effect ≡ b
-of_effect P t effect b is holds = ap P is ∙ holds
-
 pub updates_all : (ask : Ask) (inner : List ℕ) (t : Turn) → IsAnswerTo ask inner t → updates 2 t ≡ asks_all ask
 updates_all AskFinish inner t is = ap (λ (e : Effect). updates 2 (record t { effect = e })) is.1
 updates_all AskData inner t is = ap (λ (e : Effect). updates 2 (record t { effect = e })) is

@@ -223,7 +223,7 @@ module _ (q : ReqSetup) (r : RspSetup) (id : ℕ) (x : Asking) where
 
   -- What the responder makes of the record: a turn that answers it, of which this is known.
   pub record AreAnswered (Fit : Steps → Type 0) (Good : Steps → Turn → Type 0) : Type 0 where
-    pub turns : (g : served.History) (s : Steps) (e : Events) (f : Free) (sealed : List ℕ) (d : Draw) → Fit s → AreInStep s e → serving_does.IsMade r g → length d.bytes ≡ 32 → events.session_of (id_in_record sealed) g ≡ e → f ≡ record_chosen r g sealed d
+    pub turns : (g : served.History) (s : Steps) (e : Events) (f : Free) (sealed : List ℕ) (d : Draw) → Fit s → steps.stage_of s ≡ stage_for x.ask → AreInStep s e → serving_does.IsMade r g → length d.bytes ≡ 32 → events.session_of (id_in_record sealed) g ≡ e → f ≡ record_chosen r g sealed d
         → IsAnswerTo x.ask (x.inner s) (session_turn r e (x.inner s) f) × Good s (session_turn r e (x.inner s) f) × (length (session_turn r e (x.inner s) f).reply ≤ 4133)
 
   names : (s : Steps) (pad : List ℕ) → rsp_id s < 65536 → id_in_record (sealed_for s pad) ≡ rsp_id s
@@ -279,7 +279,7 @@ module _ (q : ReqSetup) (r : RspSetup) (id : ℕ) (x : Asking) where
 
       reply_is : reply_record r.psk e t (inner_reply t) f.pad ≡ answer_for s t
       reply_is =
-          let a = answers.turns g s e f sealed d y.fit y.in_step y.beside.made_there drawn here refl in
+          let a = answers.turns g s e f sealed d y.fit y.at y.in_step y.beside.made_there drawn here refl in
           ap (reply_record r.psk e t (inner_reply t)) (no_pad r g sealed d)
           ∙ ap (λ (psk : List ℕ). reply_record psk e t (inner_reply t) []) (sym same_key)
           ∙ replies_so q.psk s e y.in_step t (asks_all x.ask) (inner_reply t) [] (updates_all x.ask (x.inner s) t a.0)
@@ -314,7 +314,7 @@ module _ (q : ReqSetup) (r : RspSetup) (id : ℕ) (x : Asking) where
 
       heard_is : is_kept x.ask ≡ true → events.session_of (rsp_id s) new ≡ Heard sealed t (answer_for s t) ∷ e
       heard_is kept =
-          let a = answers.turns g s e f sealed d y.fit y.in_step y.beside.made_there drawn here refl in
+          let a = answers.turns g s e f sealed d y.fit y.at y.in_step y.beside.made_there drawn here refl in
           session_new ∙ live_heard e sealed (answer_for s t) t y.in_step.live (not_end x.ask (x.inner s) t kept a.0)
 
       own_made : (acts : Log) → Contains (acts ++ log) (Made (request_purpose q.psk s) (record_input (steps.request_next s) sealed) (tag_part sealed))
@@ -326,7 +326,7 @@ module _ (q : ReqSetup) (r : RspSetup) (id : ℕ) (x : Asking) where
 
       after_here : After tag h g log sealed (AddsThere (WasSealedThere tag sealed t (answer_for s t) d))
       after_here =
-          let a = answers.turns g s e f sealed d y.fit y.in_step y.beside.made_there drawn here refl in record {
+          let a = answers.turns g s e f sealed d y.fit y.at y.in_step y.beside.made_there drawn here refl in record {
             s = s;
             pad = y.pad;
             t = t;
