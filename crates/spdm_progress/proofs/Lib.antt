@@ -28,6 +28,8 @@ pub mod SessionTurns
 pub mod SessionBegins
 pub mod SingleRound
 pub mod AskedOnce
+pub mod TwoRounds
+pub mod FurtherRound
 pub mod ComingSteps
 pub mod UnderWay
 pub mod Accepted
