@@ -100,16 +100,16 @@ module _ (p : Pair) (same_key : p.requester.psk ≡ p.responder.psk) (id : ℕ) 
       let crossed = sizes.crossed in
       record { max = omega arith; transfer = fits }
 
-  small_takes : (g : served.History) (e : Events) (rid : ℕ) → events.session_of rid g ≡ e → serving_does.IsMade r g → events.is_live e ≡ true → TakesInSession e 4
+  pub small_takes : (g : served.History) (e : Events) (rid : ℕ) → events.session_of rid g ≡ e → serving_does.IsMade r g → events.is_live e ≡ true → TakesInSession e 4
   small_takes g e rid here made live =
       let sizes = subst (λ (z : Events). HasSizes r (events.session_terms z).common) here (session_sizes_set_up r g rid made server.sizes.ordered server.sizes.most (ap events.is_live here ∙ live)) in
       let least = sizes.least in
       takes g e 4 rid here made live (omega arith)
 
-  room : 42 ≤ r.transfer
+  pub room : 42 ≤ r.transfer
   room = server.sizes.least
 
-  abbrev IsGood : Asking → (Steps → Turn → Type 0) → Steps → Turn → Type 0
+  abbrev pub IsGood : Asking → (Steps → Turn → Type 0) → Steps → Turn → Type 0
   IsGood x Good s t = IsAnswerTo x.ask (x.inner s) t × Good s t × (length t.reply ≤ 4133)
 
   -- ---- HEARTBEAT.

@@ -30,6 +30,7 @@ pub mod SingleRound
 pub mod AskedOnce
 pub mod TwoRounds
 pub mod FurtherRound
+pub mod UpdateRounds
 pub mod ComingSteps
 pub mod UnderWay
 pub mod Accepted
