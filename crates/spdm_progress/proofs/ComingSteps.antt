@@ -20,7 +20,7 @@ use Rattle.responder_machine.specs.History as served
 use Rattle.world_machine.specs.World.{World, WorldStep, packet_of, is_at, number_at, given, given_to, given_to_requester, without_waiting, delivers}
 use Rattle.spdm_progress.proofs.ManyPackets.{Came, FirstWaits, clear_is_body, first_waits, waits_idle, waiting_in, one_came, last_gathers, more_gathers, nth, nth_read, number}
 use Rattle.spdm_progress.proofs.OnePacket.{not_longer, route_to}
-use Rattle.spdm_progress.proofs.PacketSteps.{Pair, AreEnds, At, AtNext, IsShort, asker, answer_packets, heard_at, next_of, not_worn}
+use Rattle.spdm_progress.proofs.PacketSteps.{Pair, AreEnds, At, AtNext, IsShort, asker, answer_packets, either_last, heard_at, next_of, not_worn}
 use Rattle.spdm_progress.proofs.Places.{found_new, number_new, of_new, of_same}
 use Rattle.spdm_progress.proofs.RequesterStages.{Hears}
 use Rattle.spdm_progress.proofs.Waiting.{none_more}
@@ -34,9 +34,6 @@ gathers_as a f peer g fresh read from is =
     ∙ ap (λ (r : Result PacketFields PacketFault). hears_packet a (spelled_packet f) r) read
     ∙ ap (λ (eid : ℕ). hears_gathered a (spelled_packet f) (gathered_from a.setup.eid eid a.given f)) from
     ∙ ap (hears_gathered a (spelled_packet f)) is
-
-either_last : (b c : Bool) (x y z : WorldStep) → b ≡ false → c ≡ false → (if b then x else (if c then y else z)) ≡ z
-either_last b c x y z e f = rw (e, f) refl
 
 -- A packet for a requester is given to it.
 pub to_requester : (world : World) (f : PacketFields) (a : Requesting) → f.to ≢ world.responder.part.eid → find (is_at f.to) world.requesters ≡ Some a

@@ -31,6 +31,7 @@ pub mod AskedOnce
 pub mod TwoRounds
 pub mod FurtherRound
 pub mod UpdateRounds
+pub mod SessionCompletes
 pub mod ComingSteps
 pub mod UnderWay
 pub mod Accepted

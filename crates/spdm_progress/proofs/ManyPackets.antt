@@ -17,6 +17,7 @@ use Rattle.spdm_machine.specs.Bodies.{clear_body}
 use Rattle.spdm_machine.specs.Packets.{gathered_from, fields_in, fields_with, body_limit}
 use Rattle.world_machine.specs.World.{SentPacket, first_waiting, next_number, packet_at, stopped_at, with_sent}
 use Rattle.spdm_progress.proofs.OnePacket.{route_to}
+use Rattle.spdm_progress.proofs.Waiting.{one_more}
 
 -- ---- The packets that wait, in order.
 
@@ -63,9 +64,6 @@ pub record FirstWaits (packet : List ℕ) (rest : List (List ℕ)) (sent : List 
   pub first : first_waiting sent ≡ Some (suc place)
   pub is : packet_at place sent ≡ Some packet
   pub behind : waiting_in (stopped_at place sent) ≡ rest
-
-one_more : (place : ℕ) → suc place + 1 ≡ suc (suc place)
-one_more place = omega arith
 
 first_by : (bytes : List ℕ) (others : List SentPacket) (packet : List ℕ) (rest : List (List ℕ)) (b : Bool) → (if b then bytes ∷ waiting_in others else waiting_in others) ≡ packet ∷ rest → (waiting_in others ≡ packet ∷ rest → FirstWaits packet rest others)
     → FirstWaits packet rest (record { bytes = bytes; waits = b } ∷ others)

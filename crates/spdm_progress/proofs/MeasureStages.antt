@@ -4,6 +4,7 @@ use Rattle.std.specs.Prelude.{if◌then◌else◌}
 use Rattle.measurements.proofs.Lengths.{few}
 use Rattle.measurements.specs.Blocks.{block_of, at_most_one}
 use Rattle.measurements.specs.Records.{asked as blocks_asked, is_missing}
+use Rattle.spdm_basis.proofs.Bools.{and_second}
 use Rattle.spdm_grammar.specs.declared.block_spec.BlockSpec.{BlockSpec}
 use Rattle.spdm_grammar.specs.Message.{MeasuredMessage, ResponseMessage}
 use Rattle.spdm_grammar.specs.Message.RequestMessage.{GetMeasurements}
@@ -77,7 +78,7 @@ use Rattle.spdm_progress.proofs.Accepted.{not_worn_told, told_done}
 use Rattle.spdm_progress.proofs.AtRequester.{led_plain}
 use Rattle.spdm_progress.proofs.OnePacket.{not_longer}
 use Rattle.spdm_progress.proofs.RequesterStages.{Asks, Hears, hears_as, hears_by, reads}
-use Rattle.spdm_progress.proofs.ResponderBegins.{SameClear}
+use Rattle.spdm_progress.proofs.ResponderBegins.{SameClear, is_none_none, refused_with}
 use Rattle.spdm_progress.proofs.ResponderStages.{Answered, Takes, adds, answers_by, not_large, not_too_long}
 use Rattle.spdm_progress.proofs.ResponderTurns.{read_at, taken_at, taken_turn}
 
@@ -202,14 +203,10 @@ same_by : (r : RspSetup) (h : served.History) (tag op : ℕ) (d : Draw) (k : ser
 unfolding on_clear
 same_by r h tag op d k is repeats = rw repeats (ap (λ (o : Option served.Kept). Same (clear_body (kept_reply o))) is)
 
-and_last : (a b : Bool) → (a && b) ≡ true → b ≡ true
-and_last true b e = e
-and_last false b e = absurd (false≢true e)
-
 from_memory : (q : ReqSetup) (r : RspSetup) (h : served.History) (d : Draw) (tag op : ℕ) (n : Negotiation) → Serves r n tag op h → (o : Option served.Kept) → served.kept_of h ≡ o → is_repeat o tag (get_measurements op) ≡ true → IsAnswered r h tag op n d
 from_memory q r h d tag op n has None is repeats = absurd (false≢true repeats)
 from_memory q r h d tag op n has (Some k) is repeats =
-    let found = has.again k is ((bytes_eq-Decides k.message (get_measurements op)).0 (and_last (k.tag == tag) (bytes_eq k.message (get_measurements op)) repeats)) in
+    let found = has.again k is ((bytes_eq-Decides k.message (get_measurements op)).0 (and_second (k.tag == tag) (bytes_eq k.message (get_measurements op)) repeats)) in
     let same = same_by r h tag op d k is (ap (λ (o : Option served.Kept). is_repeat o tag (get_measurements op)) is ∙ repeats) in (
       found.0,
       found.1,
@@ -256,14 +253,6 @@ taken_so : (r : RspSetup) (h : served.History) (d : Draw) (op : ℕ) (o : Option
 taken_so r h d op (Some e) byte refused taken =
     absurd (false≢true (sym (ap is_taken (turn_of-refused r (clear_place h) (get_measurements op) (clear_chosen r h d) e refused)) ∙ taken))
 taken_so r h d op None byte refused taken = taken_somehow r (clear_place h) (get_measurements op) (clear_chosen r h d) (GetMeasurements op) (read_at (clear_place h) (GetMeasurements op) byte tt) refl refused
-
-is_none_none : (o : Option ErrorCode) → is_none o ≡ true → o ≡ None
-is_none_none None e = refl
-is_none_none (Some x) e = absurd (false≢true e)
-
-refused_with : (o : Option ErrorCode) → is_none o ≡ false → (e : ErrorCode) × (o ≡ Some e)
-refused_with None refused = absurd (false≢true (sym refused))
-refused_with (Some e) refused = (e, refl)
 
 module _ (q : ReqSetup) (r : RspSetup) (op : ℕ) (n : Negotiation) (can : CanServe q r op n) where
   entry_again : (older : served.History) (tag : ℕ) (t : Turn) (d : Draw) → turn_of r (clear_place older) t.message (clear_chosen r older d) ≡ t → length d.bytes ≡ 32 → served.negotiation_of (t ∷ served.clear_turns older) ≡ n

@@ -92,7 +92,7 @@ hears_as r c to from tag m fresh small short own is e f =
 pub either_first : (b c : Bool) (x y z : WorldStep) → b ≡ false → c ≡ true → (if b then x else (if c then y else z)) ≡ y
 either_first b c x y z e f = rw (e, f) refl
 
-either_last : (b c : Bool) (x y z : WorldStep) → b ≡ false → c ≡ false → (if b then x else (if c then y else z)) ≡ z
+pub either_last : (b c : Bool) (x y z : WorldStep) → b ≡ false → c ≡ false → (if b then x else (if c then y else z)) ≡ z
 either_last b c x y z e f = rw (e, f) refl
 
 four_bytes : (to from : ℕ) (owner : Bool) (tag : ℕ) (m : List ℕ) → nat_lt (length (packet_to to from owner tag m)) 2 ≡ false

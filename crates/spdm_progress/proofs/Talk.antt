@@ -40,7 +40,7 @@ pub record IsSendable (tag : ℕ) (body : List ℕ) : Type 0 where
   pub typed : (body_type body == 5 || body_type body == 6) ≡ true
 
 -- Nothing agreed by chance in an earlier world.
-no_chance_earlier : IsOfEarlier (λ world. NoChance world.log)
+pub no_chance_earlier : IsOfEarlier (λ world. NoChance world.log)
 no_chance_earlier world event chance = (let e = happens_extends world event in no_chance_before e.0 world.log (subst NoChance e.1 chance))
 
 -- What holds of the two ends while a body is on its way: how many rounds follow, the tag and the body, the tags so far

@@ -2,6 +2,7 @@
 
 ghost use Rattle.spdm_progress.specs.Connecting.{ConnectCompletes, EachIsConnected, SixPacketsAreEnough};
 ghost use Rattle.spdm_progress.specs.Measuring.{ConnectedCanMeasure, MeasureCompletes};
+ghost use Rattle.spdm_progress.specs.SessionCommands.{SessionCommandsComplete};
 
 /// A connect that is told where no packet waits is done once no packet waits again, whatever an
 /// honest script says in between: the requester is told so, and both ends hold one negotiation. It
@@ -32,4 +33,11 @@ pub fn measure_completes()
 /// names is configured, and that the answer fits the transfer size of the requester's set-up.
 pub fn connected_can_measure()
     ensures { ConnectedCanMeasure }
+{}
+
+/// Each command that asks something of an open session (application data, HEARTBEAT, KEY_UPDATE of either kind,
+/// GET_MEASUREMENTS whose answer needs no chunks, END_SESSION), told where no packet waits and the two ends are quiet, comes
+/// to its result once no packet waits again, and leaves the two ends quiet.
+pub fn session_commands_complete()
+    ensures { SessionCommandsComplete }
 {}
