@@ -83,7 +83,7 @@ waited_in_step s e seconds k = record {
 
 pub still_in_step : (s : Steps) (old new : Events) → IsSameSession old new → AreInStep s old → AreInStep s new
 still_in_step s old new (inl same) k = subst (AreInStep s) (sym same) k
-still_in_step s old new (inr x) k = subst (AreInStep s) (sym x.1) (waited_in_step s old x.0 k)
+still_in_step s old new (inr x) k = subst (AreInStep s) (sym x.2) (waited_in_step s old x.0 k)
 
 -- ---- An exchange that both took.
 

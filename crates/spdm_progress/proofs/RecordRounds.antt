@@ -15,7 +15,7 @@ use Rattle.spdm_grammar.specs.declared.phase.Stage.{Stage}
 use Rattle.spdm_grammar.specs.declared.phase.Stage.TheVariants as stage
 use Rattle.spdm_machine.specs.Bodies.{record_body}
 use Rattle.spdm_machine.specs.Keys.{Draw, record_fault, sealed_of}
-use Rattle.spdm_machine.specs.Sessions.{id_in_exchange, purpose_in}
+use Rattle.spdm_machine.specs.Sessions.{is_past_handshake, purpose_in}
 use Rattle.spdm_machine.specs.TagLog.{Log, made_record, record_input, record_tag}
 use Rattle.spdm_machine.specs.TagLog.Act.{Made}
 use Rattle.requester_machine.specs.Does as asking_does
@@ -61,9 +61,9 @@ use Rattle.spdm_progress.proofs.StillKept.{AreAlike, IsSameSession}
 pub was_sealed_on : (psk : List ℕ) (acts log : Log) (s : Steps) (sealed : List ℕ) → WasSealed psk log s sealed → WasSealed psk (acts ++ log) s sealed
 was_sealed_on psk acts log s sealed w = record { purpose = w.purpose; number = w.number; made = Contains-append_right acts log _ w.made; other = w.other }
 
-last_waited : (old new : Events) → IsSameSession old new → events.last_of new ≡ events.last_of old
+pub last_waited : (old new : Events) → IsSameSession old new → events.last_of new ≡ events.last_of old
 last_waited old new (inl same) = ap events.last_of same
-last_waited old new (inr x) = ap events.last_of x.1
+last_waited old new (inr x) = ap events.last_of x.2
 
 pub resting_on : (psk : List ℕ) (acts log : Log) (s : Steps) (old new : Events) → IsSameSession old new → AreResting psk log s old → AreResting psk (acts ++ log) s new
 resting_on psk acts log s old new same k = record {
@@ -97,7 +97,12 @@ beside_quiet q r id log h g k live = record {
   apart = λ i j differ i_other j_other live_i live_j. k.apart i j differ live_i live_j;
 }
 
--- What leaves the other sessions so: they are the same at the requester, and at the responder but for time.
+-- A session that rests is past its handshake at the responder.
+pub resting_past : (psk : List ℕ) (log : Log) (s : Steps) (e : Events) → AreResting psk log s e → is_past_handshake (events.stage_of e) ≡ true
+resting_past psk log s e k = ap is_past_handshake (sym k.in_step.stage ∙ k.stage)
+
+-- What leaves the other sessions so: they are the same at the requester, and, past their handshake, at the responder but
+-- for time.
 pub record KeepsBeside (q : ReqSetup) (r : RspSetup) (id rid : ℕ) (h h' : asked.History) (g g' : served.History) : Type 0 where
   pub made : asking_does.IsMade q h'
   pub made_there : serving_does.IsMade r g'
@@ -106,7 +111,7 @@ pub record KeepsBeside (q : ReqSetup) (r : RspSetup) (id rid : ℕ) (h h' : aske
   pub negotiation : asked.negotiation_of h' ≡ asked.negotiation_of h
   pub negotiation_there : served.negotiation_of (served.clear_turns g') ≡ served.negotiation_of (served.clear_turns g)
   pub same : (j : ℕ) → j ≢ id → steps.session_of j h' ≡ steps.session_of j h
-  pub same_there : (j : ℕ) → j ≢ rid → IsSameSession (events.session_of j g) (events.session_of j g')
+  pub same_there : (j : ℕ) → j ≢ rid → is_past_handshake (events.stage_of (events.session_of j g)) ≡ true → IsSameSession (events.session_of j g) (events.session_of j g')
 
 live_before : (q : ReqSetup) (r : RspSetup) (id rid : ℕ) (h h' : asked.History) (g g' : served.History) → KeepsBeside q r id rid h h' g g' → (j : ℕ) → j ≢ id → steps.is_live (steps.session_of j h') ≡ true → steps.is_live (steps.session_of j h) ≡ true
 live_before q r id rid h h' g g' keeps j other live = sym (ap steps.is_live (keeps.same j other)) ∙ live
@@ -120,7 +125,7 @@ beside_on q r id rid acts log h h' g g' keeps k = record {
   sessions = λ j other live.
       subst (λ (s : Steps). AreResting q.psk (acts ++ log) s (events.session_of (rsp_id s) g')) (sym (keeps.same j other))
       (resting_on q.psk acts log (steps.session_of j h) (events.session_of (rsp_id (steps.session_of j h)) g) (events.session_of (rsp_id (steps.session_of j h)) g')
-      (keeps.same_there (rsp_id (steps.session_of j h)) (k.own j other (live_before q r id rid h h' g g' keeps j other live))) (k.sessions j other (live_before q r id rid h h' g g' keeps j other live)));
+      (keeps.same_there (rsp_id (steps.session_of j h)) (k.own j other (live_before q r id rid h h' g g' keeps j other live)) (resting_past _ _ _ _ (k.sessions j other (live_before q r id rid h h' g g' keeps j other live)))) (k.sessions j other (live_before q r id rid h h' g g' keeps j other live)));
   own = λ j other live. subst (λ (s : Steps). rsp_id s ≢ rid) (sym (keeps.same j other)) (k.own j other (live_before q r id rid h h' g g' keeps j other live));
   apart = λ i j differ i_other j_other live_i live_j.
       subst (λ (s : Steps). rsp_id s ≢ rsp_id (steps.session_of j h')) (sym (keeps.same i i_other))

@@ -159,6 +159,6 @@ module _ (q : ReqSetup) (r : RspSetup) (id : ℕ) (x : Asking) (Fit : Steps → 
           negotiation = same.1;
           negotiation_there = refl;
           same = elsewhere;
-          same_there = λ j other. inl refl;
+          same_there = λ j other past. inl refl;
         }) (beside_quiet q r id log h g quiet live);
       }

@@ -14,7 +14,7 @@ use Rattle.spdm_machine.specs.Packets.{wear_limit}
 use Rattle.spdm_machine.specs.TagLog.{Log}
 use Rattle.spdm_grammar.specs.Message.ResponseMessage.{EndSessionAck, HeartbeatAck}
 use Rattle.spdm_grammar.specs.Responses.{canonical_response}
-use Rattle.spdm_machine.proofs.Members.{IsIn, found_in}
+use Rattle.spdm_machine.proofs.Members.{IsIn, some_same}
 use Rattle.requester_machine.specs.Asking.{done}
 use Rattle.requester_machine.specs.Asking.Outcome.{Adds}
 use Rattle.requester_machine.specs.Commands.{command_fault, command_tests, session_in}
@@ -30,14 +30,13 @@ use Rattle.requester_machine.specs.Session as steps
 use Rattle.requester_machine.specs.Session.{Steps}
 use Rattle.requester_machine.specs.Setup.{ReqSetup}
 use Rattle.requester_machine.proofs.Entries.{test_at, test_is_false}
+use Rattle.requester_machine.proofs.HoldsMade.{session_sizes}
 use Rattle.requester_machine.proofs.HoldsTold.{somewhere}
 use Rattle.responder_machine.specs.History as served
 use Rattle.responder_machine.specs.Responding.{Connection, connection_of}
 use Rattle.responder_machine.specs.Turn.{Turn}
-use Rattle.spdm_agreement.proofs.Worlds.AllEvents.{requester_in}
-use Rattle.spdm_agreement.proofs.Worlds.Fits.{same_key}
 use Rattle.spdm_basis.specs.declared.session_id.SessionId.{SessionId}
-use Rattle.spdm_progress.specs.Measuring.{number_for}
+use Rattle.spdm_progress.specs.Measuring.{measurements_size, number_for}
 use Rattle.transcript.specs.Transcripts.{Negotiation}
 use Rattle.world_machine.specs.Chance.{NoChance}
 use Rattle.world_machine.specs.Happenings.{Entry}
@@ -47,17 +46,18 @@ use Rattle.world_machine.specs.Trace.{lines_from, world_after, world_from}
 use Rattle.world_machine.specs.World.{World, WorldStep, entry_step, happens, told_by}
 use Rattle.spdm_progress.specs.Honest.{AreHonest, HaveNoCommand, NothingWaits}
 use Rattle.spdm_progress.specs.InStep.{AreQuiet}
-use Rattle.spdm_progress.specs.SessionCommands.{CanAsk, CompletesQuietly, IsDoneQuietly, IsToldQuietly, SessionCommandsComplete, commanding, result_of, session_at}
+use Rattle.spdm_progress.specs.SessionCommands.{CanAsk, CompletesQuietly, IsDoneQuietly, IsToldQuietly, SessionCommandsComplete, commanding, goes_on, result_of, session_at}
+use Rattle.spdm_progress.proofs.AlikeSessions.{is_kept}
 use Rattle.spdm_progress.proofs.Accepted.{not_worn_told, told_so}
 use Rattle.spdm_progress.proofs.AskedOnce.{CanBeat, CanMeasure, CanSend, IsData, IsMeasured, IsNamed, IsSpdm, beat_asking, beat_last, data_asking, data_last, end_asking, end_last, measure_asking, measure_last}
 use Rattle.spdm_progress.proofs.PacketSteps.{Pair, asker, not_worn, server}
 use Rattle.spdm_progress.proofs.SessionBegins.{AsksOfSession, asked_now, sends, sent_for, shows_at, shows_told, told_is, told_view, view_of}
 use Rattle.spdm_progress.proofs.SessionRounds.{Asking, IsAsked}
-use Rattle.spdm_progress.proofs.SingleRound.{AnswersOnce, AsksOnce, IsLast, once_talk}
+use Rattle.spdm_progress.proofs.SingleRound.{AnswersOnce, AsksOnce, IsLast, Quiet, once_talk}
 use Rattle.spdm_progress.proofs.Talk as talk
 use Rattle.spdm_progress.proofs.Talk.{IsTalk, Stage, begins, no_chance_earlier, talk_ends}
-use Rattle.spdm_progress.proofs.Told.{ArePlaced, are_placed, contained, fits_always, pair_of}
-use Rattle.spdm_progress.proofs.UpdateRounds.{CanUpdate, UpdateTalkAnswers, UpdateTalkAsks, update_asking, update_talk}
+use Rattle.spdm_progress.proofs.Told.{ArePlaced, are_placed, contained, pair_of}
+use Rattle.spdm_progress.proofs.UpdateRounds.{CanUpdate, UpdateDone, UpdateTalkAnswers, UpdateTalkAsks, update_asking, update_talk}
 use Rattle.spdm_progress.proofs.Views.{Shows, View}
 
 -- Nothing agreed by chance at the beginning of what an honest script says.
@@ -79,13 +79,7 @@ module _ (w : WorldSetup) (before : List Entry) (n : ℕ) (a : Requesting) (c : 
   placed = are_placed w before n a c is_told.configured chance_now is_told.is_requester is_told.is_connection
 
   pub one_key : a.setup.psk ≡ c.setup.psk
-  one_key =
-      let fits = fits_always w is_told.configured before chance_now in
-      sym (same_key world.requesters world.responder.connections fits.apart a c (record {
-        requester = requester_in n world a is_told.is_requester;
-        connection = (found_in (λ (d : Connection). d.setup.peer == a.setup.eid) world.responder.connections c is_told.is_connection).0;
-        peer = placed.ends.peer;
-      }))
+  one_key = placed.key
 
   pub fresh : asking.is_worn a ≡ false
   fresh = (let life = is_told.life.requester in not_worn (length a.given + a.commands) wear_limit (omega arith))
@@ -93,11 +87,9 @@ module _ (w : WorldSetup) (before : List Entry) (n : ℕ) (a : Requesting) (c : 
   abbrev p : Pair
   p = pair_of n a c
 
-  abbrev Done : Log → asked.History → served.History → Type 0
-  Done log h g = AreQuiet a.setup c.setup log h g
-
-  finished_so : (result : Finished) (world : World) (lines : List Line) → (v : View) → Shows p v [] world → AreQuiet a.setup c.setup v.log v.asked v.served → IsIn lines (Line.ToRequester n (event.Done result)) → IsDoneQuietly n a.setup c.setup result world lines
-  finished_so result world lines v s quiet told = record {
+  finished_so : (result : Finished) (id : ℕ) (left : Bool) (later : World) (lines : List Line) → (v : View) → Shows p v [] later → AreQuiet a.setup c.setup v.log v.asked v.served → steps.is_live (steps.session_of id v.asked) ≡ left → IsIn lines (Line.ToRequester n (event.Done result))
+      → IsDoneQuietly n a.setup c.setup result id left later lines
+  finished_so result id left later lines v s quiet live told = record {
     told = contained lines _ told;
     requester = asker p v.given v.commands v.asked;
     is_requester = s.is_requester;
@@ -106,20 +98,23 @@ module _ (w : WorldSetup) (before : List Entry) (n : ℕ) (a : Requesting) (c : 
     requester_setup = refl;
     responder_setup = refl;
     quiet = subst (λ (log : Log). AreQuiet a.setup c.setup log v.asked v.served) (sym s.log) quiet;
+    session = live;
   }
 
   -- The talk that the message of the command begins.
-  pub completes_by : (Asks Answers : Stage) (result : Finished) → IsTalk p Asks Answers Done (event.Done result) → (more : ℕ) → more ≤ 1 → (sent : Sent) → requester_told a command ≡ sends a command sent
+  pub completes_by : (Asks Answers : Stage) (Done : Log → asked.History → served.History → Type 0) (result : Finished) (id : ℕ) (left : Bool) → ((log : Log) (h : asked.History) (g : served.History) → Done log h g → AreQuiet a.setup c.setup log h g × (steps.is_live (steps.session_of id h) ≡ left))
+      → IsTalk p Asks Answers Done (event.Done result) → (more : ℕ) → more ≤ 1 → (sent : Sent) → requester_told a command ≡ sends a command sent
       → Asks more sent.tag (body_of sent.content) (told_view world a c command sent).log (told_view world a c command sent).asked c.history
-      → IsDoneQuietly n a.setup c.setup result (world_from (commanding world line n command) behind) (lines_from (commanding world line n command) behind)
-  completes_by Asks Answers result is_talk more few sent step asks =
+      → IsDoneQuietly n a.setup c.setup result id left (world_from (commanding world line n command) behind) (lines_from (commanding world line n command) behind)
+  completes_by Asks Answers Done result id left means is_talk more few sent step asks =
       let life = is_told.life.requester in
       let responder_life = is_told.life.responder in
       let shown = shows_told world n a c command sent (shows_at world n a c placed is_told.is_requester is_told.is_connection is_told.idle) in
       let begun = begins p placed.ends Asks Answers Done (event.Done result) is_talk more sent (told_view world a c command sent) (told_by world n (sends a command sent)).after shown asks (omega arith) (omega arith) in
       let asking_now = subst (λ (s : WorldStep). talk.Asking p placed.ends Asks Answers Done (event.Done result) is_talk s.after) (sym (told_is world n a command sent is_told.is_requester step)) begun in
       let e = talk_ends p placed.ends Asks Answers Done (event.Done result) is_talk (commanding world line n command) behind none honest chance asking_now still in
-      finished_so result (world_from (commanding world line n command) behind) (lines_from (commanding world line n command) behind) e.0.view e.0.shows e.0.done e.1
+      let d = means e.0.view.log e.0.view.asked e.0.view.served e.0.done in
+      finished_so result id left (world_from (commanding world line n command) behind) (lines_from (commanding world line n command) behind) e.0.view e.0.shows d.0 d.1 e.1
 
   -- ---- What is asked of a session.
 
@@ -150,9 +145,9 @@ module _ (w : WorldSetup) (before : List Entry) (n : ℕ) (a : Requesting) (c : 
 
     -- It takes one round.
     pub once_completes : (Fit : Steps → Type 0) (Good : Steps → Turn → Type 0) (result : Finished) → IsLast p one_key id x Fit Good (event.Done result) → Fit (session_at a id)
-        → IsDoneQuietly n a.setup c.setup result (world_from (commanding world line n command) behind) (lines_from (commanding world line n command) behind)
+        → IsDoneQuietly n a.setup c.setup result id (is_kept x.ask) (world_from (commanding world line n command) behind) (lines_from (commanding world line n command) behind)
     once_completes Fit Good result last fit =
-        completes_by (AsksOnce p one_key id x Fit Good (event.Done result)) (AnswersOnce p one_key id x Fit Good (event.Done result)) result (once_talk p one_key id x Fit Good (event.Done result) last) 0 (omega arith) sent step_so
+        completes_by (AsksOnce p one_key id x Fit Good (event.Done result)) (AnswersOnce p one_key id x Fit Good (event.Done result)) (Quiet p one_key id x Fit Good (event.Done result)) result id (is_kept x.ask) (λ log h g z. (z.quiet, z.session)) (once_talk p one_key id x Fit Good (event.Done result) last) 0 (omega arith) sent step_so
         (record { is = is_asked Fit fit })
 
 -- ---- Each command.
@@ -172,8 +167,8 @@ module _ (w : WorldSetup) (before : List Entry) (n : ℕ) (a : Requesting) (c : 
     still : NothingWaits (world_from (After command) behind)
     chance : NoChance (world_from (After command) behind).log
 
-  abbrev Result : Command → Type 0
-  Result command = IsDoneQuietly n a.setup c.setup (result_of a c command) (world_from (After command) behind) (lines_from (After command) behind)
+  abbrev Result : Command → ℕ → Type 0
+  Result command id = IsDoneQuietly n a.setup c.setup (result_of a c command) id (goes_on command) (world_from (After command) behind) (lines_from (After command) behind)
 
   no_fault : (command : Command) → IsOver command → command_fault false a.setup a.history command (command_chosen a.setup a.history (asking.next_draw a)) ≡ None
   no_fault command o = (told_so a command (fresh w before n a c command o.told line behind none o.honest o.still o.chance) o.told.accepted).0
@@ -184,7 +179,7 @@ module _ (w : WorldSetup) (before : List Entry) (n : ℕ) (a : Requesting) (c : 
   abbrev pair : Pair
   pair = pair_of n a c
 
-  sent_data : (id : ℕ) (bytes : List ℕ) → IsOver (Send id bytes) → Result (Send id bytes)
+  sent_data : (id : ℕ) (bytes : List ℕ) → IsOver (Send id bytes) → Result (Send id bytes) id
   sent_data id bytes o =
       let command = Send id bytes in
       let here = placed w before n a c command o.told line behind none o.honest o.still o.chance in
@@ -194,7 +189,7 @@ module _ (w : WorldSetup) (before : List Entry) (n : ℕ) (a : Requesting) (c : 
       once_completes w before n a c command o.told line behind none o.honest o.still o.chance id (data_asking bytes) (of_session command (λ j n sent s. refl) refl) refl refl (omega arith) refl
       (CanSend pair key id sid here.requester here.responder bytes) (IsData pair key id sid here.requester here.responder) (finished.Answered sid) (data_last pair key id sid here.requester here.responder bytes) (record { named = refl; short = short })
 
-  sent_beat : (id : ℕ) → IsOver (Beat id) → Result (Beat id)
+  sent_beat : (id : ℕ) → IsOver (Beat id) → Result (Beat id) id
   sent_beat id o =
       let command = Beat id in
       let here = placed w before n a c command o.told line behind none o.honest o.still o.chance in
@@ -204,7 +199,7 @@ module _ (w : WorldSetup) (before : List Entry) (n : ℕ) (a : Requesting) (c : 
       (CanBeat pair key id sid here.requester here.responder) (IsSpdm pair key id sid here.requester here.responder (canonical_response HeartbeatAck)) (finished.Alive sid) (beat_last pair key id sid here.requester here.responder)
       (record { named = refl; flag = not-false _ (passed command o 5) })
 
-  sent_end : (id : ℕ) → IsOver (End id) → Result (End id)
+  sent_end : (id : ℕ) → IsOver (End id) → Result (End id) id
   sent_end id o =
       let command = End id in
       let here = placed w before n a c command o.told line behind none o.honest o.still o.chance in
@@ -213,24 +208,26 @@ module _ (w : WorldSetup) (before : List Entry) (n : ℕ) (a : Requesting) (c : 
       once_completes w before n a c command o.told line behind none o.honest o.still o.chance id end_asking (of_session command (λ j n sent s. refl) refl) refl refl (omega arith) refl
       (IsNamed pair key id sid here.requester here.responder) (IsSpdm pair key id sid here.requester here.responder (canonical_response EndSessionAck)) (finished.Ended sid) (end_last pair key id sid here.requester here.responder) (record { named = refl })
 
-  sent_measure : (id op : ℕ) → CanAsk a c (Measure (Some id) op) → IsOver (Measure (Some id) op) → Result (Measure (Some id) op)
+  sent_measure : (id op : ℕ) → CanAsk a c (Measure (Some id) op) → IsOver (Measure (Some id) op) → Result (Measure (Some id) op) id
   sent_measure id op can o =
       let command = Measure (Some id) op in
+      let live = somewhere a.setup a.history command (command_chosen a.setup a.history (asking.next_draw a)) id (no_fault command o) refl in
       let here = placed w before n a c command o.told line behind none o.honest o.still o.chance in
       let key = one_key w before n a c command o.told line behind none o.honest o.still o.chance in
       let sid = steps.session_id (session_at a id) in
+      let sizes = session_sizes a.setup a.history id (record { transfer = (let most = here.requester.sizes.most in let ordered = here.requester.sizes.ordered in omega arith); max = here.requester.sizes.most }) o.told.quiet.made live in
       once_completes w before n a c command o.told line behind none o.honest o.still o.chance id (measure_asking op) (of_session command (λ j n sent s. refl) refl) refl refl (omega arith) refl
       (CanMeasure pair key id sid here.requester here.responder op) (IsMeasured pair key id sid here.requester here.responder op) (finished.Measured (number_for c.setup op)) (measure_last pair key id sid here.requester here.responder op)
-      (record { byte = can.0; block = can.1; chosen = and_second _ _ (not-false _ (passed command o 5)); fits = can.2; fits_own = can.3 })
+      (record { byte = can.0; block = can.1; chosen = and_second _ _ (not-false _ (passed command o 5)); fits = can.2; fits_own = subst (λ (size : ℕ). measurements_size c.setup op ≤ size) sizes.transfer can.2 })
 
-  sent_update : (id : ℕ) (all : Bool) → IsOver (Update id all) → Result (Update id all)
+  sent_update : (id : ℕ) (all : Bool) → IsOver (Update id all) → Result (Update id all) id
   sent_update id all o =
       let command = Update id all in
       let here = placed w before n a c command o.told line behind none o.honest o.still o.chance in
       let key = one_key w before n a c command o.told line behind none o.honest o.still o.chance in
       let sid = steps.session_id (session_at a id) in
       let one = of_session command (λ j n sent s. refl) refl in
-      completes_by w before n a c command o.told line behind none o.honest o.still o.chance (UpdateTalkAsks pair key id sid here.requester here.responder all) (UpdateTalkAnswers pair key id sid here.requester here.responder all) (finished.Updated sid)
+      completes_by w before n a c command o.told line behind none o.honest o.still o.chance (UpdateTalkAsks pair key id sid here.requester here.responder all) (UpdateTalkAnswers pair key id sid here.requester here.responder all) (UpdateDone pair key id sid here.requester here.responder all) (finished.Updated sid) id true (λ log h g z. (z.quiet, z.session))
       (update_talk pair key id sid here.requester here.responder all) 1 (omega arith) _ (step_so w before n a c command o.told line behind none o.honest o.still o.chance id (update_asking all) one refl refl (omega arith) refl)
       (inl (
         refl,
@@ -238,16 +235,16 @@ module _ (w : WorldSetup) (before : List Entry) (n : ℕ) (a : Requesting) (c : 
             (record { named = refl; flag = not-false _ (passed command o 5) }),
       ))
 
-  each : (command : Command) → CanAsk a c command → IsOver command → Result command
-  each (Send id bytes) can o = sent_data id bytes o
-  each (Beat id) can o = sent_beat id o
-  each (Update id all) can o = sent_update id all o
-  each (Measure (Some id) op) can o = sent_measure id op can o
-  each (End id) can o = sent_end id o
-  each (Measure None op) can o = absurd can
-  each Connect can o = absurd can
-  each (Open summary) can o = absurd can
-  each Retry can o = absurd can
+  each : (command : Command) (id : ℕ) → CanAsk a c command → session_in command ≡ Some id → IsOver command → Result command id
+  each (Send i bytes) id can named o = subst (Result (Send i bytes)) (some_same i id named) (sent_data i bytes o)
+  each (Beat i) id can named o = subst (Result (Beat i)) (some_same i id named) (sent_beat i o)
+  each (Update i all) id can named o = subst (Result (Update i all)) (some_same i id named) (sent_update i all o)
+  each (Measure (Some i) op) id can named o = subst (Result (Measure (Some i) op)) (some_same i id named) (sent_measure i op can o)
+  each (End i) id can named o = subst (Result (End i)) (some_same i id named) (sent_end i o)
+  each (Measure None op) id can named o = absurd can
+  each Connect id can named o = absurd can
+  each (Open summary) id can named o = absurd can
+  each Retry id can named o = absurd can
 
 pub session_commands_complete : SessionCommandsComplete
-session_commands_complete w before n a c command told can line behind none honest still chance = each w before n a c line behind none command can (record { told = told; honest = honest; still = still; chance = chance })
+session_commands_complete w before n a c command id told can named line behind none honest still chance = each w before n a c line behind none command id can named (record { told = told; honest = honest; still = still; chance = chance })

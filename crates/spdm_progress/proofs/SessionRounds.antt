@@ -68,7 +68,7 @@ use Rattle.spdm_progress.specs.InStep.{AreInStep, AreQuiet, AreResting, WasSeale
 use Rattle.spdm_progress.proofs.AlikeSessions.{IsAnswerTo, behind, is_kept, same_id, same_requests, same_responses, same_terms, still_in_step}
 use Rattle.spdm_progress.proofs.ManyPackets.{IsBody}
 use Rattle.spdm_progress.proofs.RecordHeard.{asking_in, came_as, heard}
-use Rattle.spdm_progress.proofs.RecordRounds.{Beside, KeepsBeside, beside_on, moves_on, quiet_from}
+use Rattle.spdm_progress.proofs.RecordRounds.{Beside, KeepsBeside, beside_on, last_waited, moves_on, quiet_from}
 use Rattle.spdm_progress.proofs.RecordServed.{served as taken}
 use Rattle.spdm_progress.proofs.RecordsBetween.{names_session, no_copy, opens, record_length, tag_is, the_record}
 use Rattle.spdm_progress.proofs.StillKept.{AreAlike, IsSameSession, alike_itself}
@@ -171,12 +171,8 @@ module _ (q : ReqSetup) (r : RspSetup) (id : ℕ) (x : Asking) where
     negotiation = refl;
     negotiation_there = alike.clear.negotiation;
     same = λ j other. refl;
-    same_there = λ j other. alike.sessions j;
+    same_there = λ j other past. alike.sessions j;
   }) k
-
-  last_still : (old new : Events) → IsSameSession old new → events.last_of new ≡ events.last_of old
-  last_still old new (inl same) = ap events.last_of same
-  last_still old new (inr y) = ap events.last_of y.1
 
   pub asked_still : (Fit : Steps → Type 0) (tag : ℕ) (body : List ℕ) (log : Log) (h : asked.History) (g later : served.History) → AreAlike r g later → IsAsked Fit tag body log h g → IsAsked Fit tag body log h later
   asked_still Fit tag body log h g later alike y = record {
@@ -193,7 +189,7 @@ module _ (q : ReqSetup) (r : RspSetup) (id : ℕ) (x : Asking) where
     two_bytes = y.two_bytes;
     older = y.older;
     log_is = y.log_is;
-    last = λ k is. y.last k (sym (last_still _ _ (alike.sessions (rsp_id y.s))) ∙ is);
+    last = λ k is. y.last k (sym (last_waited _ _ (alike.sessions (rsp_id y.s))) ∙ is);
     beside = still_beside log h g later (rsp_id y.s) alike y.beside;
   }
 
@@ -214,7 +210,7 @@ module _ (q : ReqSetup) (r : RspSetup) (id : ℕ) (x : Asking) where
     accepted = y.accepted;
     two_bytes = y.two_bytes;
     kept = λ kept. still_in_step _ _ _ (alike.sessions (rsp_id y.s)) (y.kept kept);
-    last = λ kept k is. y.last kept k (sym (last_still _ _ (alike.sessions (rsp_id y.s))) ∙ is);
+    last = λ kept k is. y.last kept k (sym (last_waited _ _ (alike.sessions (rsp_id y.s))) ∙ is);
     made = y.made;
     beside = still_beside log h g later (rsp_id y.s) alike y.beside;
   }
@@ -309,7 +305,7 @@ module _ (q : ReqSetup) (r : RspSetup) (id : ℕ) (x : Asking) where
         negotiation = refl;
         negotiation_there = refl;
         same = λ j other. refl;
-        same_there = λ j other. inl (sealed_elsewhere j tag sealed t (answer_for s t) d g (λ same. other (sym same ∙ named)));
+        same_there = λ j other past. inl (sealed_elsewhere j tag sealed t (answer_for s t) d g (λ same. other (sym same ∙ named)));
       }
 
       heard_is : is_kept x.ask ≡ true → events.session_of (rsp_id s) new ≡ Heard sealed t (answer_for s t) ∷ e
@@ -433,7 +429,7 @@ module _ (q : ReqSetup) (r : RspSetup) (id : ℕ) (x : Asking) where
         negotiation = refl;
         negotiation_there = refl;
         same = elsewhere;
-        same_there = λ j other. inl refl;
+        same_there = λ j other past. inl refl;
       }) y.beside
 
       -- What the responder took last is not the next record.
@@ -466,3 +462,8 @@ module _ (q : ReqSetup) (r : RspSetup) (id : ℕ) (x : Asking) where
       pub quiet_gone : (acts : Log) → next ≡ None → is_kept x.ask ≡ false → AreQuiet q r (acts ++ log) behind_it g
       quiet_gone acts last ends =
           quiet_from q r id (rsp_id y.s) (acts ++ log) behind_it g (beside_then acts) last (λ live. absurd (false≢true (sym (ap steps.is_live (gone_is ends last)) ∙ live)))
+
+      -- The session goes on unless it is ended.
+      pub live_then : (k : Bool) → is_kept x.ask ≡ k → next ≡ None → steps.is_live (steps.session_of id behind_it) ≡ is_kept x.ask
+      live_then true kept last = ap steps.is_live (took_is kept ∙ ap (λ (o : Option Sent). steps.with_sent id o (took_steps y.s y.pad y.t)) last) ∙ sym kept
+      live_then false ends last = ap steps.is_live (gone_is ends last) ∙ sym ends

@@ -30,7 +30,7 @@ use Rattle.spdm_progress.proofs.AlikeSessions.{is_kept}
 use Rattle.spdm_progress.proofs.PacketSteps.{Pair}
 use Rattle.spdm_progress.proofs.RecordHeard.{came_as}
 use Rattle.spdm_progress.proofs.RecordRounds.{quiet_still}
-use Rattle.spdm_progress.proofs.SessionRounds.{AreAnswered, Asking, IsAnswered, IsAsked, answer_for, answered_sent, answered_still, asked_sent, asked_steps, asked_still, entry, hears_so, quiet_gone, quiet_then, serves_so, took_steps}
+use Rattle.spdm_progress.proofs.SessionRounds.{AreAnswered, Asking, IsAnswered, IsAsked, answer_for, answered_sent, answered_still, asked_sent, asked_steps, asked_still, entry, hears_so, live_then, quiet_gone, quiet_then, serves_so, took_steps}
 use Rattle.spdm_progress.proofs.Talk.{IsTalk, Leads, Over, Stage}
 
 module _ (p : Pair) (same_key : p.requester.psk ≡ p.responder.psk) (id : ℕ) (x : Asking) (Fit : Steps → Type 0) (Good : Steps → Turn → Type 0) (told : Event) where
@@ -41,8 +41,10 @@ module _ (p : Pair) (same_key : p.requester.psk ≡ p.responder.psk) (id : ℕ) 
   pub record AnswersOnce (more tag : ℕ) (body : List ℕ) (log : Log) (h : asked.History) (g : served.History) : Type 0 where
     pub is : IsAnswered p.requester p.responder id x Fit Good tag body log h g
 
-  abbrev pub Quiet : Log → asked.History → served.History → Type 0
-  Quiet log h g = AreQuiet p.requester p.responder log h g
+  -- The two ends are quiet, and the session goes on unless it is ended.
+  pub record Quiet (log : Log) (h : asked.History) (g : served.History) : Type 0 where
+    pub quiet : AreQuiet p.requester p.responder log h g
+    pub session : steps.is_live (steps.session_of id h) ≡ is_kept x.ask
 
   -- The responder's answer is the one that the command waits for, and behind it the session is open or ended.
   pub record IsLast : Type 0 where
@@ -64,7 +66,10 @@ module _ (p : Pair) (same_key : p.requester.psk ≡ p.responder.psk) (id : ℕ) 
       let e = entry p.requester p.responder id x Fit Good tag log h g d body z.is told None in
       subst (λ (o : Outcome). Leads p AsksOnce Quiet told more o (asked_log.acts_of p.requester h body o ++ log) h g)
       (sym (hears_so p.requester p.responder id x Fit Good tag log h g d body z.is told None (last.leads h d z.is.s z.is.pad z.is.t z.is.fit z.is.good z.is.steps_are)))
-      (Over refl refl (quiet_behind (is_kept x.ask) refl last more tag body log h g d z.is (asked_log.acts_of p.requester h body (Adds e))))
+      (Over refl refl (record {
+        quiet = quiet_behind (is_kept x.ask) refl last more tag body log h g d z.is (asked_log.acts_of p.requester h body (Adds e));
+        session = live_then p.requester p.responder id x Fit Good tag log h g d body z.is told None (last.leads h d z.is.s z.is.pad z.is.t z.is.fit z.is.good z.is.steps_are) (is_kept x.ask) refl refl;
+      }))
 
   pub once_talk : IsLast → IsTalk p AsksOnce AnswersOnce Quiet told
   once_talk last = record {
@@ -74,5 +79,5 @@ module _ (p : Pair) (same_key : p.requester.psk ≡ p.responder.psk) (id : ℕ) 
     hears = λ more tag body log h g d chance z. once_heard last more tag body log h g d z;
     asks_still = λ more tag body log h g later alike z. record { is = asked_still p.requester p.responder id x Fit tag body log h g later alike z.is };
     answers_still = λ more tag body log h g later alike z. record { is = answered_still p.requester p.responder id x Fit Good tag body log h g later alike z.is };
-    done_still = λ log h g later alike z. quiet_still p.requester p.responder log h g later alike z;
+    done_still = λ log h g later alike z. record { quiet = quiet_still p.requester p.responder log h g later alike z.quiet; session = z.session };
   }

@@ -21,9 +21,9 @@ use Rattle.spdm_progress.proofs.PacketSteps.{Pair, AreEnds, server}
 use Rattle.spdm_progress.proofs.ResponderBegins.{SameClear, queued_same, ticked_same}
 use Rattle.spdm_progress.proofs.Told.{contained}
 
--- A session as it was, or with seconds waited behind it.
+-- A session as it was, or a live one with seconds waited behind it.
 abbrev pub IsSameSession : Events → Events → Type 0
-IsSameSession old new = (new ≡ old) ⊎ ((seconds : ℕ) × (new ≡ Waited seconds ∷ old))
+IsSameSession old new = (new ≡ old) ⊎ ((seconds : ℕ) × (is_live old ≡ true) × (new ≡ Waited seconds ∷ old))
 
 -- Two histories of one connection between which nothing came but queued data and time that ended no session.
 pub record AreAlike (r : RspSetup) (old new : served.History) : Type 0 where
@@ -53,15 +53,15 @@ queued_alike r h bytes short room = record { clear = queued_same h bytes; made =
 
 -- ---- Time.
 
-ticked_by : (timed gone : Bool) (s : Events) (seconds : ℕ) → is_live (if not timed then s else (if gone then [] else Waited seconds ∷ s)) ≡ true
+ticked_by : (timed gone : Bool) (s : Events) (seconds : ℕ) → is_live s ≡ true → is_live (if not timed then s else (if gone then [] else Waited seconds ∷ s)) ≡ true
     → IsSameSession s (if not timed then s else (if gone then [] else Waited seconds ∷ s))
-ticked_by false gone s seconds live = inl refl
-ticked_by true true s seconds live = absurd (false≢true live)
-ticked_by true false s seconds live = inr (seconds, refl)
+ticked_by false gone s seconds was live = inl refl
+ticked_by true true s seconds was live = absurd (false≢true live)
+ticked_by true false s seconds was live = inr (seconds, was, refl)
 
 ticked_session : (s : Events) (seconds : ℕ) → (is_live s ≡ true → is_live (after_tick s seconds) ≡ true) → IsSameSession s (after_tick s seconds)
 ticked_session [] seconds lives = inl refl
-ticked_session (e ∷ s) seconds lives = ticked_by (is_timed (e ∷ s)) (nat_le (2 * period_of (e ∷ s)) (idle_of (e ∷ s) + seconds)) (e ∷ s) seconds (lives refl)
+ticked_session (e ∷ s) seconds lives = ticked_by (is_timed (e ∷ s)) (nat_le (2 * period_of (e ∷ s)) (idle_of (e ∷ s) + seconds)) (e ∷ s) seconds refl (lives refl)
 
 ticked_alike : (r : RspSetup) (h : served.History) (seconds : ℕ) → ((id : ℕ) → is_live (session_of id h) ≡ true → is_live (after_tick (session_of id h) seconds) ≡ true) → AreAlike r h (Ticked seconds ∷ h)
 unfolding session_of

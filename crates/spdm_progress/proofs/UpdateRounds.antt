@@ -180,6 +180,9 @@ module _ (p : Pair) (same_key : p.requester.psk ≡ p.responder.psk) (id : ℕ) 
   abbrev pub UpdateTalkAnswers : ℕ → ℕ → List ℕ → Log → asked.History → served.History → Type 0
   UpdateTalkAnswers = Answers p UpdateAsks UpdateAnswers (AsksOnce p same_key id verify_asking CanUpdate (IsAcknowledged 3) told) (AnswersOnce p same_key id verify_asking CanUpdate (IsAcknowledged 3) told) (Quiet p same_key id verify_asking CanUpdate (IsAcknowledged 3) told) told
 
-  pub update_talk : IsTalk p UpdateTalkAsks UpdateTalkAnswers (Quiet p same_key id verify_asking CanUpdate (IsAcknowledged 3) told) told
+  abbrev pub UpdateDone : Log → asked.History → served.History → Type 0
+  UpdateDone = Quiet p same_key id verify_asking CanUpdate (IsAcknowledged 3) told
+
+  pub update_talk : IsTalk p UpdateTalkAsks UpdateTalkAnswers UpdateDone told
   update_talk = two_talk p UpdateAsks UpdateAnswers (AsksOnce p same_key id verify_asking CanUpdate (IsAcknowledged 3) told) (AnswersOnce p same_key id verify_asking CanUpdate (IsAcknowledged 3) told) (Quiet p same_key id verify_asking CanUpdate (IsAcknowledged 3) told) told
       update_first (once_talk p same_key id verify_asking CanUpdate (IsAcknowledged 3) told verify_last)

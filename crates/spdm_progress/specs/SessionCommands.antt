@@ -1,11 +1,12 @@
 -- What is asked of an open session where its messages are delivered honestly: each command comes to its result. This
 -- project's own.
-use Rattle.std.specs.Prelude.{◌≡◌, ◌<◌, ◌≤◌, ◌+◌, ℕ, List, length, Bool, false, Some, None, Contains}
+use Rattle.std.specs.Prelude.{◌≡◌, ◌<◌, ◌≤◌, ◌+◌, ℕ, List, length, Bool, true, false, Some, None, Contains}
 use Rattle.measurements.specs.Records.{is_missing}
 use Rattle.requester_machine.specs.Message.{Command}
 use Rattle.requester_machine.specs.Message.Command.{Beat, Connect, End, Measure, Open, Retry, Send, Update}
 use Rattle.requester_machine.specs.Requesting.{Requesting, requester_told}
-use Rattle.requester_machine.specs.Session.{Steps, session_id, session_of, session_terms}
+use Rattle.requester_machine.specs.Commands.{session_in}
+use Rattle.requester_machine.specs.Session.{Steps, is_live, session_id, session_of, session_terms}
 use Rattle.requester_machine.specs.Setup.{ReqSetup}
 use Rattle.responder_machine.specs.Responding.{Connection, Responding, connection_of}
 use Rattle.responder_machine.specs.Setup.{RspSetup, inventory_of}
@@ -30,14 +31,15 @@ abbrev pub session_at : Requesting → ℕ → Steps
 session_at a id = session_of id a.history
 
 -- What a command asks of a session needs no more than that it is answered `ok`; but for measurements a block that the
--- operation, a byte, names has to be configured, and the answer has to fit the transfer sizes: then it needs no chunks.
+-- operation, a byte, names has to be configured, and the answer has to fit the requester's transfer size: then it needs no
+-- chunks.
 abbrev pub CanAsk : Requesting → Connection → Command → Type 0
 CanAsk a c (Send id bytes) = Unit {0}
 CanAsk a c (Beat id) = Unit {0}
 CanAsk a c (Update id all) = Unit {0}
 CanAsk a c (Measure (Some id) op) =
     (op < 256) × (is_missing op (inventory_of c.setup) ≡ false)
-    × (measurements_size c.setup op ≤ (session_terms (session_at a id)).common.to_requester.transfer) × (measurements_size c.setup op ≤ a.setup.transfer)
+    × (measurements_size c.setup op ≤ (session_terms (session_at a id)).common.to_requester.transfer)
 CanAsk a c (End id) = Unit {0}
 CanAsk a c (Measure None op) = ⊥
 CanAsk a c Connect = ⊥
@@ -72,9 +74,14 @@ pub record IsToldQuietly (w : WorldSetup) (before : List Entry) (n : ℕ) (a : R
   pub accepted : (requester_told a command).fault ≡ None
   pub life : LivesToAnswer a (world_after w before).responder
 
--- The command of requester n is done: it is told this result in these lines, and is quiet again with the responder's
--- connection.
-pub record IsDoneQuietly (n : ℕ) (q : ReqSetup) (r : RspSetup) (result : Finished) (world : World) (lines : List Line) : Type 0 where
+-- The session that a command names goes on behind it, unless it is ended.
+abbrev pub goes_on : Command → Bool
+goes_on (End id) = false
+goes_on _ = true
+
+-- The command of requester n is done: it is told this result in these lines; it is quiet again with the responder's
+-- connection; and this session goes on, open at both ends, or is ended.
+pub record IsDoneQuietly (n : ℕ) (q : ReqSetup) (r : RspSetup) (result : Finished) (id : ℕ) (open_still : Bool) (world : World) (lines : List Line) : Type 0 where
   pub told : Contains lines (Line.ToRequester n (event.Done result))
   pub requester : Requesting
   pub is_requester : requester_of n world ≡ Some requester
@@ -83,6 +90,7 @@ pub record IsDoneQuietly (n : ℕ) (q : ReqSetup) (r : RspSetup) (result : Finis
   pub requester_setup : requester.setup ≡ q
   pub responder_setup : connection.setup ≡ r
   pub quiet : AreQuiet q r world.log requester.history connection.history
+  pub session : is_live (session_at requester id) ≡ open_still
 
 -- The world in which requester n was told a command.
 abbrev pub commanding : World → (line n : ℕ) → Command → World
@@ -90,14 +98,14 @@ commanding world line n command = (entry_step world (record { line = line; happe
 
 -- Whatever stands between this command and the next one of an honest script: once no packet waits any more, and nothing
 -- agreed by chance until then, the command is done.
-abbrev pub CompletesQuietly : WorldSetup → List Entry → (n : ℕ) → Requesting → Connection → Command → Finished → Type 0
-CompletesQuietly w before n a c command result =
+abbrev pub CompletesQuietly : WorldSetup → List Entry → (n : ℕ) → Requesting → Connection → Command → Finished → (id : ℕ) → (open_still : Bool) → Type 0
+CompletesQuietly w before n a c command result id open_still =
     (line : ℕ) (behind : List Entry) → HaveNoCommand behind → AreHonest (commanding (world_after w before) line n command) behind
     → NothingWaits (world_from (commanding (world_after w before) line n command) behind) → NoChance (world_from (commanding (world_after w before) line n command) behind).log
-    → IsDoneQuietly n a.setup c.setup result (world_from (commanding (world_after w before) line n command) behind) (lines_from (commanding (world_after w before) line n command) behind)
+    → IsDoneQuietly n a.setup c.setup result id open_still (world_from (commanding (world_after w before) line n command) behind) (lines_from (commanding (world_after w before) line n command) behind)
 
 -- Each command that asks something of an open session comes to its result.
 abbrev pub SessionCommandsComplete : Type 0
 SessionCommandsComplete =
-    (w : WorldSetup) (before : List Entry) (n : ℕ) (a : Requesting) (c : Connection) (command : Command) → IsToldQuietly w before n a c command → CanAsk a c command
-    → CompletesQuietly w before n a c command (result_of a c command)
+    (w : WorldSetup) (before : List Entry) (n : ℕ) (a : Requesting) (c : Connection) (command : Command) (id : ℕ) → IsToldQuietly w before n a c command → CanAsk a c command → session_in command ≡ Some id
+    → CompletesQuietly w before n a c command (result_of a c command) id (goes_on command)
