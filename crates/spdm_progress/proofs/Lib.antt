@@ -32,6 +32,7 @@ pub mod TwoRounds
 pub mod FurtherRound
 pub mod UpdateRounds
 pub mod SessionCompletes
+pub mod FinishRound
 pub mod ComingSteps
 pub mod UnderWay
 pub mod Accepted

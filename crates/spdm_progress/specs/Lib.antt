@@ -3,3 +3,4 @@ pub mod Connecting
 pub mod Measuring
 pub mod InStep
 pub mod SessionCommands
+pub mod Opening
