@@ -33,6 +33,7 @@ pub mod FurtherRound
 pub mod UpdateRounds
 pub mod SessionCompletes
 pub mod FinishRound
+pub mod ExchangeStages
 pub mod ComingSteps
 pub mod UnderWay
 pub mod Accepted
