@@ -46,7 +46,7 @@ use Rattle.spdm_progress.proofs.OnePacket.{not_longer}
 use Rattle.spdm_progress.proofs.ResponderStages.{Takes, adds, not_large, not_too_long}
 use Rattle.spdm_progress.proofs.ResponderTurns.{read_at, taken_at, taken_turn}
 
-hash_few : (hash : HashAlg) → (32 ≤ hash_size hash) × (hash_size hash ≤ 48)
+pub hash_few : (hash : HashAlg) → (32 ≤ hash_size hash) × (hash_size hash ≤ 48)
 hash_few Sha256 = ((omega arith), (omega arith))
 hash_few Sha384 = ((omega arith), (omega arith))
 

@@ -34,6 +34,7 @@ pub mod UpdateRounds
 pub mod SessionCompletes
 pub mod FinishRound
 pub mod ExchangeStages
+pub mod OpenRounds
 pub mod ComingSteps
 pub mod UnderWay
 pub mod Accepted

@@ -162,7 +162,7 @@ module _ (q : ReqSetup) (r : RspSetup) (id : ℕ) (x : Asking) where
 
   -- ---- Queued data and time leave both.
 
-  still_beside : (log : Log) (h : asked.History) (g later : served.History) (rid : ℕ) → AreAlike r g later → Beside q r id rid log h g → Beside q r id rid log h later
+  pub still_beside : (log : Log) (h : asked.History) (g later : served.History) (rid : ℕ) → AreAlike r g later → Beside q r id rid log h g → Beside q r id rid log h later
   still_beside log h g later rid alike k = beside_on q r id rid [] log h h g later (record {
     made = k.made;
     made_there = alike.made k.made_there;
