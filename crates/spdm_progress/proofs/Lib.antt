@@ -35,6 +35,7 @@ pub mod SessionCompletes
 pub mod FinishRound
 pub mod ExchangeStages
 pub mod OpenRounds
+pub mod Opened
 pub mod ComingSteps
 pub mod UnderWay
 pub mod Accepted

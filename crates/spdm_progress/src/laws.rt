@@ -2,6 +2,7 @@
 
 ghost use Rattle.spdm_progress.specs.Connecting.{ConnectCompletes, EachIsConnected, SixPacketsAreEnough};
 ghost use Rattle.spdm_progress.specs.Measuring.{ConnectedCanMeasure, MeasureCompletes};
+ghost use Rattle.spdm_progress.specs.Opening.{OpenCompletes};
 ghost use Rattle.spdm_progress.specs.SessionCommands.{SessionCommandsComplete};
 
 /// A connect that is told where no packet waits is done once no packet waits again, whatever an
@@ -40,4 +41,11 @@ pub fn connected_can_measure()
 /// to its result once no packet waits again, and leaves the two ends quiet.
 pub fn session_commands_complete()
     ensures { SessionCommandsComplete }
+{}
+
+/// An open, told where no packet waits and the two ends are quiet, is done once no packet waits again: the requester is
+/// told the id of a session that is open at both ends, in step, and the two ends are quiet. It speaks of messages that need
+/// no chunks.
+pub fn open_completes()
+    ensures { OpenCompletes }
 {}

@@ -5,6 +5,6 @@
 mod laws;
 
 pub use laws::{
-    connect_completes, connected_can_measure, each_is_connected, measure_completes,
+    connect_completes, connected_can_measure, each_is_connected, measure_completes, open_completes,
     session_commands_complete, six_packets_are_enough,
 };
