@@ -114,7 +114,7 @@ module _ (p : Pair) (same_key : p.requester.psk ≡ p.responder.psk) (id : ℕ) 
 
   -- ---- HEARTBEAT.
 
-  beat_answered : AreAnswered p.requester r id beat_asking CanBeat (IsSpdm (canonical_response HeartbeatAck))
+  beat_answered : AreAnswered p.requester r p.first id beat_asking CanBeat (IsSpdm (canonical_response HeartbeatAck))
   beat_answered = record {
     turns = λ g s e f sealed d fit at k made drawn here is.
         subst (IsGood beat_asking (IsSpdm (canonical_response HeartbeatAck)) s)
@@ -127,14 +127,14 @@ module _ (p : Pair) (same_key : p.requester.psk ≡ p.responder.psk) (id : ℕ) 
     answers = beat_answered;
     leads = λ h d s pad t fit good is.
         let own = asker.sizes.least in
-        answer_read p.requester h (body_chosen p.requester h d) (came_as h id (answer_for p.requester r id beat_asking s t) (inner_reply t)) AskBeat (canonical_response HeartbeatAck) HeartbeatAck good.inner (omega arith) (reads h HeartbeatAck (hash_len (steps.session_terms (steps.session_of id h))) tt tt)
+        answer_read p.requester h (body_chosen p.requester h d) (came_as h id (answer_for p.requester r p.first id beat_asking s t) (inner_reply t)) AskBeat (canonical_response HeartbeatAck) HeartbeatAck good.inner (omega arith) (reads h HeartbeatAck (hash_len (steps.session_terms (steps.session_of id h))) tt tt)
         ∙ ap (λ (n : SessionId). let l : Result Led BadReply = Ok (is_done (finished.Alive n) (Grants AskBeat t.reply)) in l) (ap steps.session_id is ∙ fit.named);
     at_end = λ s pad t at kept. at;
   }
 
   -- ---- END_SESSION.
 
-  end_answered : AreAnswered p.requester r id end_asking IsNamed (IsSpdm (canonical_response EndSessionAck))
+  end_answered : AreAnswered p.requester r p.first id end_asking IsNamed (IsSpdm (canonical_response EndSessionAck))
   end_answered = record {
     turns = λ g s e f sealed d fit at k made drawn here is.
         subst (IsGood end_asking (IsSpdm (canonical_response EndSessionAck)) s) (sym (end_turn r e f room (sym k.stage ∙ at) (small_takes g e (id_in_record sealed) here made k.live))) (refl, record { inner = refl }, (omega arith));
@@ -145,7 +145,7 @@ module _ (p : Pair) (same_key : p.requester.psk ≡ p.responder.psk) (id : ℕ) 
     answers = end_answered;
     leads = λ h d s pad t fit good is.
         let own = asker.sizes.least in
-        answer_read p.requester h (body_chosen p.requester h d) (came_as h id (answer_for p.requester r id end_asking s t) (inner_reply t)) AskEnd (canonical_response EndSessionAck) EndSessionAck good.inner (omega arith) (reads h EndSessionAck (hash_len (steps.session_terms (steps.session_of id h))) tt tt)
+        answer_read p.requester h (body_chosen p.requester h d) (came_as h id (answer_for p.requester r p.first id end_asking s t) (inner_reply t)) AskEnd (canonical_response EndSessionAck) EndSessionAck good.inner (omega arith) (reads h EndSessionAck (hash_len (steps.session_terms (steps.session_of id h))) tt tt)
         ∙ ap (λ (n : SessionId). let l : Result Led BadReply = Ok (is_done (finished.Ended n) (Grants AskEnd t.reply)) in l) (ap steps.session_id is ∙ fit.named);
     at_end = λ s pad t at kept. absurd (false≢true kept);
   }
@@ -156,7 +156,7 @@ module _ (p : Pair) (same_key : p.requester.psk ≡ p.responder.psk) (id : ℕ) 
     pub named : steps.session_id s ≡ sid
     pub short : length bytes ≤ 1024
 
-  data_answered : (bytes : List ℕ) → AreAnswered p.requester r id (data_asking bytes) (CanSend bytes) IsData
+  data_answered : (bytes : List ℕ) → AreAnswered p.requester r p.first id (data_asking bytes) (CanSend bytes) IsData
   data_answered bytes = record {
     turns = λ g s e f sealed d fit at k made drawn here is.
         let short : length f.reply ≤ 1024 = subst (λ (z : Free). length z.reply ≤ 1024) (sym is) (chosen_short r g sealed d made) in
@@ -167,7 +167,7 @@ module _ (p : Pair) (same_key : p.requester.psk ≡ p.responder.psk) (id : ℕ) 
   data_last bytes = record {
     answers = data_answered bytes;
     leads = λ h d s pad t fit good is.
-        data_read p.requester h (body_chosen p.requester h d) (came_as h id (answer_for p.requester r id (data_asking bytes) s t) (inner_reply t)) AskData t.reply good.inner good.short
+        data_read p.requester h (body_chosen p.requester h d) (came_as h id (answer_for p.requester r p.first id (data_asking bytes) s t) (inner_reply t)) AskData t.reply good.inner good.short
         ∙ ap (λ (n : SessionId). let l : Result Led BadReply = Ok (is_done (finished.Answered n) (Grants AskData t.reply)) in l) (ap steps.session_id is ∙ fit.named);
     at_end = λ s pad t at kept. at;
   }
@@ -187,7 +187,7 @@ module _ (p : Pair) (same_key : p.requester.psk ≡ p.responder.psk) (id : ℕ) 
       let ordered = asker.sizes.ordered in
       (refl, record { nonce = d.bytes; whole = drawn; inner = ap (λ (m : List ℕ). 5 ∷ m) answer }, (omega (arith, size)))
 
-  measure_answered : (op : ℕ) → AreAnswered p.requester r id (measure_asking op) (CanMeasure op) (IsMeasured op)
+  measure_answered : (op : ℕ) → AreAnswered p.requester r p.first id (measure_asking op) (CanMeasure op) (IsMeasured op)
   measure_answered op = record {
     turns = λ g s e f sealed d fit at k made drawn here is.
         let answer = ap (λ (z : Free). canonical_response (answer_of r (session_place e) (canonical_request (GetMeasurements op)) z (GetMeasurements op))) is ∙ answer_is g e sealed d op in
@@ -207,7 +207,7 @@ module _ (p : Pair) (same_key : p.requester.psk ≡ p.responder.psk) (id : ℕ) 
         let most = asker.sizes.most in
         let ordered = asker.sizes.ordered in
         let size = measurements_are r op good.nonce good.whole in
-        answer_read p.requester h (body_chosen p.requester h d) (came_as h id (answer_for p.requester r id (measure_asking op) s t) (inner_reply t)) (AskMeasure op) (measurements r op good.nonce) (Measurements (measured r op good.nonce)) good.inner (omega (arith, size))
+        answer_read p.requester h (body_chosen p.requester h d) (came_as h id (answer_for p.requester r p.first id (measure_asking op) s t) (inner_reply t)) (AskMeasure op) (measurements r op good.nonce) (Measurements (measured r op good.nonce)) good.inner (omega (arith, size))
         (reads h (Measurements (measured r op good.nonce)) (hash_len (steps.session_terms (steps.session_of id h))) (measured_fits r op good.nonce) (measured_sound r op (hash_len (steps.session_terms (steps.session_of id h))) good.nonce good.whole (omega arith)))
         ∙ ap (λ (n : ℕ). let l : Result Led BadReply = Ok (is_done (finished.Measured n) (Grants (AskMeasure op) t.reply)) in l) (told_number (op == 0) (length (inventory_of r)) (length (blocks_asked op (inventory_of r))));
     at_end = λ s pad t at kept. at;

@@ -117,7 +117,7 @@ module _ (p : Pair) (same_key : p.requester.psk ≡ p.responder.psk) (id : ℕ) 
   abbrev x : Asking
   x = finish_asking p.requester.psk
 
-  finish_answered : AreAnswered p.requester p.responder id x CanFinish (IsSpdm p same_key id sid asker server (canonical_response PskFinishRsp))
+  finish_answered : AreAnswered p.requester p.responder p.first id x CanFinish (IsSpdm p same_key id sid asker server (canonical_response PskFinishRsp))
   finish_answered = record {
     turns = λ g s e f sealed d fit at k made drawn here is.
         let verify = finish_verify p.requester.psk s in
@@ -135,7 +135,7 @@ module _ (p : Pair) (same_key : p.requester.psk ≡ p.responder.psk) (id : ℕ) 
     answers = finish_answered;
     leads = λ h d s pad t fit good is.
         let own = asker.sizes.least in
-        answer_read p.requester h (body_chosen p.requester h d) (came_as h id (answer_for p.requester p.responder id x s t) (inner_reply t)) AskFinish (canonical_response PskFinishRsp) PskFinishRsp good.inner (omega arith) (reads h PskFinishRsp (hash_len (steps.session_terms (steps.session_of id h))) tt tt)
+        answer_read p.requester h (body_chosen p.requester h d) (came_as h id (answer_for p.requester p.responder p.first id x s t) (inner_reply t)) AskFinish (canonical_response PskFinishRsp) PskFinishRsp good.inner (omega arith) (reads h PskFinishRsp (hash_len (steps.session_terms (steps.session_of id h))) tt tt)
         ∙ ap (λ (n : SessionId). let l : Result Led BadReply = Ok (is_done (finished.Opened n) (Grants AskFinish t.reply)) in l) (ap steps.session_id is ∙ fit.named);
     at_end = λ s pad t at kept. refl;
   }

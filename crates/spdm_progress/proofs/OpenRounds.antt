@@ -1,5 +1,5 @@
 -- An open takes two rounds: PSK_EXCHANGE in the clear, and then PSK_FINISH in the session that it begins.
-use Rattle.std.proofs.Common.{◌≡◌, ◌≢◌, ◌∙◌, ℕ, suc, ◌<◌, ◌≤◌, ◌+◌, ◌==◌, ◌&&◌, List, [], ◌∷◌, ◌++◌, length, Bool, true, false, cond, not, Option, Some, None, Result, Ok, Err, refl, sym, ap, ap₂, subst, inl, inr, arith, eq-eqb}
+use Rattle.std.proofs.Common.{◌≡◌, ◌≢◌, ◌∙◌, ℕ, suc, ◌<◌, ◌≤◌, ◌+◌, ◌^◌, ◌==◌, ◌&&◌, List, [], ◌∷◌, ◌++◌, length, Bool, true, false, cond, not, Option, Some, None, Result, Ok, Err, refl, sym, ap, ap₂, subst, inl, inr, arith, eq-eqb}
 use Rattle.std.specs.Prelude.{bytes_eq, if◌then◌else◌}
 use Rattle.std.proofs.lemmas.Bool.{false≢true, ne_eqb}
 use Rattle.std.proofs.lemmas.Slice.Eq.{bytes_eq-Decides}
@@ -44,12 +44,15 @@ use Rattle.responder_machine.specs.Setup.{RspSetup}
 use Rattle.responder_machine.specs.Turn.{Turn}
 use Rattle.running_hash.specs.Hash.{hash_of}
 use Rattle.spdm_agreement.specs.Configured.{IsRequester, IsResponder}
+use Rattle.spdm_agreement.proofs.Messages.Beginnings.{context_number}
+use Rattle.spdm_agreement.proofs.Requester.ExchangeMoves.{context_told, exchange_read}
 use Rattle.spdm_basis.specs.Sizes.{hash_size}
 use Rattle.spdm_basis.specs.declared.session_id.SessionId.{SessionId}
-use Rattle.spdm_grammar.specs.Message.{ExchangeMessage, ExchangeRspMessage}
+use Rattle.spdm_grammar.specs.Message.{ExchangeMessage, ExchangeRspMessage, RequestMessage}
 use Rattle.spdm_grammar.specs.Message.RequestMessage.{PskExchange, PskFinish}
 use Rattle.spdm_grammar.specs.Message.ResponseMessage.{PskExchangeRsp, PskFinishRsp}
 use Rattle.spdm_grammar.specs.Responses.{canonical_response}
+use Rattle.spdm_grammar.specs.Requests.{canonical_request, request_in}
 use Rattle.spdm_grammar.specs.Responses.{response_reading}
 use Rattle.spdm_grammar.specs.declared.event.Event.{Event}
 use Rattle.spdm_grammar.specs.declared.event.Event.TheVariants as event
@@ -58,23 +61,23 @@ use Rattle.spdm_grammar.specs.declared.event.ReqIgnored.{ReqIgnored}
 use Rattle.spdm_grammar.specs.declared.event.ReqIgnored.TheVariants as ignored
 use Rattle.spdm_grammar.specs.declared.phase.Phase.TheVariants.{Negotiated}
 use Rattle.spdm_machine.specs.Bodies.{clear_body, record_body}
-use Rattle.spdm_machine.specs.Keys.{Draw, verify_data}
-use Rattle.spdm_machine.proofs.Members.{none_some}
+use Rattle.spdm_machine.specs.Keys.{Draw, context_of, verify_data}
+use Rattle.spdm_machine.proofs.Members.{none_some, some_same}
 use Rattle.spdm_machine.specs.Sessions.{id_in_exchange, is_past_handshake}
 use Rattle.spdm_machine.specs.TagLog.{Log, made_record}
 use Rattle.spdm_machine.specs.Terms.{Terms, hash_len, terms_of}
 use Rattle.transcript.specs.Transcripts.{Negotiation, vca_of, without_verify}
 use Rattle.world_machine.specs.Chance.{NoChance}
-use Rattle.spdm_progress.specs.InStep.{AreInStep, AreQuiet, AreResting, rsp_id}
+use Rattle.spdm_progress.specs.InStep.{AreInStep, AreQuiet, AreResting, TookEarlier, rsp_id}
 use Rattle.spdm_progress.specs.Opening.{exchange_rsp_size}
 use Rattle.spdm_progress.proofs.AskedOnce.{IsSpdm}
 use Rattle.spdm_progress.proofs.AtRequester.{asking, heard_plain, led_plain}
 use Rattle.spdm_progress.proofs.ExchangeStages as exchange
-use Rattle.spdm_progress.proofs.ExchangeStages.{IsExchange, answer, answer_id, answer_length, answer_reads, exchange_bytes, exchange_length, exchange_taken, hash_few, id_small, request_id, rsp, turn, verify_is}
+use Rattle.spdm_progress.proofs.ExchangeStages.{IsExchange, answer, answer_id, answer_length, answer_reads, exchange_bytes, exchange_fits, exchange_length, exchange_taken, hash_few, id_small, request_id, rsp, turn, verify_is}
 use Rattle.spdm_progress.proofs.FinishRound.{CanFinish, finish_asking, finish_last}
 use Rattle.spdm_progress.proofs.ManyPackets.{clear_is_body}
 use Rattle.spdm_progress.proofs.PacketSteps.{Pair}
-use Rattle.spdm_progress.proofs.RecordRounds.{Beside, KeepsBeside, beside_on, last_waited, quiet_still, resting_past}
+use Rattle.spdm_progress.proofs.RecordRounds.{Beside, KeepsBeside, beside_on, earlier_on, last_waited, quiet_still, resting_past}
 use Rattle.spdm_progress.proofs.RequesterStages.{next_small}
 use Rattle.spdm_progress.proofs.ResponderStages.{Takes}
 use Rattle.spdm_progress.proofs.SessionRounds.{Asking, IsAsked, still_beside}
@@ -105,10 +108,17 @@ module _ (r : RspSetup) (g later : served.History) (alike : AreAlike r g later) 
 resting_held : (psk : List ℕ) (log : Log) (s : Steps) (g : served.History) → AreResting psk log s (events.session_of (rsp_id s) g) → is_held g (rsp_id s) ≡ true
 resting_held psk log s g k = ap₂ (λ (a b : Bool). a && b) k.in_step.live (resting_past psk log s (events.session_of (rsp_id s) g) k)
 
+same_context : (x y : ExchangeMessage) → PskExchange x ≡ PskExchange y → x.context ≡ y.context
+same_context x y e = ap context_in e
+  where
+    context_in : RequestMessage → List ℕ
+    context_in (PskExchange z) = z.context
+    context_in _ = []
+
 -- ---- What an open begins with.
 
 -- A requester that was told to open, with this history and this draw.
-pub record CanExchange (q : ReqSetup) (r : RspSetup) (summary : ℕ) (h : asked.History) (d : Draw) (x : ExchangeMessage) : Type 0 where
+pub record CanExchange (q : ReqSetup) (r : RspSetup) (first summary : ℕ) (h : asked.History) (d : Draw) (x : ExchangeMessage) : Type 0 where
   pub is_x : exchange_for q (command_chosen q h d) summary ≡ PskExchange x
   pub phase : asked.phase_of h ≡ Negotiated
   pub sound : IsExchange (asked.connection_terms h).choice.hash x
@@ -120,13 +130,20 @@ pub record CanExchange (q : ReqSetup) (r : RspSetup) (summary : ℕ) (h : asked.
   pub finish_fits : 4 + hash_size (asked.connection_terms h).choice.hash ≤ r.transfer
   pub asks : requester_asks false q h (Open summary) d ≡ Adds (Told (Open summary) (plain_sent h (PskExchange x)) d)
   pub free : steps.is_live (steps.session_of x.req_id h) ≡ false
+  pub context : x.context ≡ context_of (asked.connection_terms h).choice.hash d
+  pub drawn : length d.bytes ≡ 32
+  pub number : d.number ≡ first + asked.draws_of q h
+  pub small : d.number < 2 ^ 64
 
-module _ (p : Pair) (same_key : p.requester.psk ≡ p.responder.psk) (asker : IsRequester p.requester) (server : IsResponder p.responder) (summary : ℕ) (h0 : asked.History) (d0 : Draw) (x : ExchangeMessage) (rid : ℕ) (can : CanExchange p.requester p.responder summary h0 d0 x) where
+module _ (p : Pair) (same_key : p.requester.psk ≡ p.responder.psk) (asker : IsRequester p.requester) (server : IsResponder p.responder) (summary : ℕ) (h0 : asked.History) (d0 : Draw) (x : ExchangeMessage) (rid : ℕ) (can : CanExchange p.requester p.responder p.first summary h0 d0 x) where
   abbrev q : ReqSetup
   q = p.requester
 
   abbrev r : RspSetup
   r = p.responder
+
+  abbrev first : ℕ
+  first = p.first
 
   abbrev id : ℕ
   id = x.req_id
@@ -159,10 +176,9 @@ module _ (p : Pair) (same_key : p.requester.psk ≡ p.responder.psk) (asker : Is
     pub h_is : h ≡ h1
     pub tag_is : tag ≡ asked.next_tag h0
     pub body_is : body ≡ clear_body m
-    pub quiet : AreQuiet q r log h0 g
+    pub quiet : AreQuiet q r first log h0 g
     pub id_is : free_id g ≡ rid
     pub limit : (held_of g == 4) ≡ false
-    pub new : (k : served.Kept) → served.kept_of g ≡ Some k → k.message ≢ m
 
   -- Its answer is on its way.
   pub record OpenAnswered (tag : ℕ) (body : List ℕ) (log : Log) (h : asked.History) (g : served.History) : Type 0 where
@@ -178,7 +194,7 @@ module _ (p : Pair) (same_key : p.requester.psk ≡ p.responder.psk) (asker : Is
     pub small : rid ≤ 4
     pub in_step : AreInStep (Accepted reply ∷ Started n m ∷ []) (events.session_of rid g)
     pub last : events.last_of (events.session_of rid g) ≡ None
-    pub beside : Beside q r id rid log h1 g
+    pub beside : Beside q r first id rid log h1 g
 
   exchange_short : length m < 4161
   exchange_short =
@@ -203,10 +219,9 @@ module _ (p : Pair) (same_key : p.requester.psk ≡ p.responder.psk) (asker : Is
     h_is = y.h_is;
     tag_is = y.tag_is;
     body_is = y.body_is;
-    quiet = quiet_still q r log h0 g later alike y.quiet;
+    quiet = quiet_still q r first log h0 g later alike y.quiet;
     id_is = free_still r g later alike ∙ y.id_is;
     limit = ap (λ (k : ℕ). k == 4) (count_still r g later alike) ∙ y.limit;
-    new = λ k is. y.new k (sym alike.clear.kept ∙ is);
   }
 
   answered_still : (tag : ℕ) (body : List ℕ) (log : Log) (h : asked.History) (g later : served.History) → AreAlike r g later → OpenAnswered tag body log h g → OpenAnswered tag body log h later
@@ -223,12 +238,12 @@ module _ (p : Pair) (same_key : p.requester.psk ≡ p.responder.psk) (asker : Is
     small = y.small;
     in_step = still_in_step _ _ _ (alike.sessions rid) y.in_step;
     last = last_waited _ _ (alike.sessions rid) ∙ y.last;
-    beside = still_beside q r id (finish_asking q.psk) log h1 g later rid alike y.beside;
+    beside = still_beside q r first id (finish_asking q.psk) log h1 g later rid alike y.beside;
   }
 
   -- ---- The responder's turn.
 
-  module _ (tag : ℕ) (log : Log) (g : served.History) (d : Draw) (drawn : length d.bytes ≡ 32) (quiet : AreQuiet q r log h0 g) (id_is : free_id g ≡ rid) (limit : (held_of g == 4) ≡ false) (new : (k : served.Kept) → served.kept_of g ≡ Some k → k.message ≢ m) where
+  module _ (tag : ℕ) (log : Log) (g : served.History) (d : Draw) (drawn : length d.bytes ≡ 32) (quiet : AreQuiet q r first log h0 g) (id_is : free_id g ≡ rid) (limit : (held_of g == 4) ≡ false) where
     phase_there : served.phase_of (served.clear_turns g) ≡ Negotiated
     phase_there = sym quiet.phase ∙ can.phase
 
@@ -250,6 +265,12 @@ module _ (p : Pair) (same_key : p.requester.psk ≡ p.responder.psk) (asker : Is
           subst (λ (t : Terms). length (answer r g d x) ≤ t.common.to_requester.transfer) (sym same_terms) (subst (λ (k : ℕ). k ≤ terms.common.to_requester.transfer) (sym size) can.answer_fits) in
           ((omega arith), fits));
     }
+
+    new : (k : served.Kept) → served.kept_of g ≡ Some k → k.message ≢ m
+    new k is =
+        let spelled = exchange_fits terms.choice.hash x can.sound in
+        let number = can.number in
+        quiet.earlier.kept k is x d0 spelled.0 spelled.1 can.context can.drawn (omega arith) can.small
 
     does : clear_does r g tag m d ≡ AddsThere (Clear tag (turn r g d x server drawn sound) d)
     does =
@@ -295,25 +316,42 @@ module _ (p : Pair) (same_key : p.requester.psk ≡ p.responder.psk) (asker : Is
     unheld : (j : ℕ) → steps.is_live (steps.session_of j h0) ≡ true → rsp_id (steps.session_of j h0) ≢ rid
     unheld j live = λ same. false≢true (sym (free_id-unheld g limit) ∙ ap (is_held g) (id_is ∙ sym same) ∙ resting_held q.psk log (steps.session_of j h0) g (quiet.sessions j live))
 
-    beside_now : Beside q r id rid log h0 g
+    beside_now : Beside q r first id rid log h0 g
     beside_now = record {
       made = quiet.made;
       made_there = quiet.made_there;
       phase = quiet.phase;
       negotiation = quiet.negotiation;
+      earlier = quiet.earlier;
       sessions = λ j other live. quiet.sessions j live;
       own = λ j other live. unheld j live;
       apart = λ i j differ i_other j_other live_i live_j. quiet.apart i j differ live_i live_j;
     }
 
-    beside_later : (acts : Log) → Beside q r id rid (acts ++ log) h1 later
-    beside_later acts = beside_on q r id rid acts log h0 h1 g later (record {
+    -- The exchange that was just taken has the number of a draw that was just taken.
+    taken_earlier : TookEarlier q first h1 later
+    taken_earlier = record {
+      kept = λ k is y e fits told context whole above below message.
+          (let same : m ≡ canonical_request (PskExchange y) = ap (λ (z : served.Kept). z.message) (some_same _ k is) ∙ message in
+          let spelled = exchange_fits terms.choice.hash x can.sound in
+          let read : request_in (hash_len terms) m ≡ Some (PskExchange x) = exchange_read (hash_len terms) (PskExchange x) spelled.0 spelled.1 in
+          let read_y : request_in (hash_len terms) m ≡ Some (PskExchange y) = ap (request_in (hash_len terms)) same ∙ exchange_read (hash_len terms) (PskExchange y) fits told in
+          let contexts : x.context ≡ y.context = same_context x y (some_same (PskExchange x) (PskExchange y) (sym read ∙ read_y)) in
+          let numbers : d0.number ≡ e.number =
+          sym (context_told terms.choice.hash d0 can.small can.drawn) ∙ ap (context_number terms.choice.hash) (sym can.context ∙ contexts ∙ context) ∙ context_told terms.choice.hash e below whole in
+          let number = can.number in
+          omega arith);
+    }
+
+    beside_later : (acts : Log) → Beside q r first id rid (acts ++ log) h1 later
+    beside_later acts = beside_on q r first id rid acts log h0 h1 g later (record {
       made = (can.asks, quiet.made);
       made_there = (does, quiet.made_there);
       phase = refl;
       phase_there = refl;
       negotiation = refl;
       negotiation_there = refl;
+      earlier = λ e. taken_earlier;
       same = others_same;
       same_there = λ j other past. inl (others_there j other past);
     }) beside_now
@@ -347,7 +385,7 @@ module _ (p : Pair) (same_key : p.requester.psk ≡ p.responder.psk) (asker : Is
   serves tag body log h g d drawn chance y =
       subst (λ (h : asked.History). OpenAnswered tag (answering.body_of (responder_does r g tag body d)) (served_log.acts_of r g body (responder_does r g tag body d) ++ log) h (answering.after g (responder_does r g tag body d))) (sym y.h_is)
       (subst (λ (b : List ℕ). OpenAnswered tag (answering.body_of (responder_does r g tag b d)) (served_log.acts_of r g b (responder_does r g tag b d) ++ log) h1 (answering.after g (responder_does r g tag b d))) (sym y.body_is)
-      (serves_here tag log g d drawn y.quiet y.id_is y.limit y.new y.tag_is))
+      (serves_here tag log g d drawn y.quiet y.id_is y.limit y.tag_is))
 
   -- ---- The requester takes the answer.
 
@@ -426,7 +464,7 @@ module _ (p : Pair) (same_key : p.requester.psk ≡ p.responder.psk) (asker : Is
     named : steps.session_id (accepted reply) ≡ sid
     named = ap₂ (λ (a b : ℕ). let s : SessionId = record { req = a; rsp = b } in s) (request_id x can.sound.req_id) y.id_told
 
-    asked_two : IsAsked q r id finish_x (CanFinish p same_key id sid asker server) (asked.next_tag h1) (record_body sealed) (acts ++ log) h2 g
+    asked_two : IsAsked q r first id finish_x (CanFinish p same_key id sid asker server) (asked.next_tag h1) (record_body sealed) (acts ++ log) h2 g
     asked_two =
         let small = y.small in
         let few = hash_few terms.choice.hash in
@@ -445,21 +483,22 @@ module _ (p : Pair) (same_key : p.requester.psk ≡ p.responder.psk) (asker : Is
           older = behind_made ++ log;
           log_is = acts_are;
           last = λ k is. absurd (none_some k (sym y.last ∙ ap (λ (i : ℕ). events.last_of (events.session_of i g)) (sym y.id_told) ∙ is));
-          beside = subst (λ (k : ℕ). Beside q r id k (acts ++ log) h2 g) (sym y.id_told) (beside_on q r id rid acts log h1 h2 g g (record {
+          beside = subst (λ (k : ℕ). Beside q r first id k (acts ++ log) h2 g) (sym y.id_told) (beside_on q r first id rid acts log h1 h2 g g (record {
             made = (hears_reply, y.beside.made);
             made_there = y.beside.made_there;
             phase = refl;
             phase_there = refl;
             negotiation = refl;
             negotiation_there = refl;
+            earlier = earlier_on q first h1 h2 g g refl refl (omega arith);
             same = others_two;
             same_there = λ j other past. inl refl;
           }) y.beside);
         }
 
-    leads_two : LeadsTo (IsAsked q r id finish_x (CanFinish p same_key id sid asker server)) (requester_hears q h1 false tag (clear_body reply) d) (asked_log.acts_of q h1 (clear_body reply) (requester_hears q h1 false tag (clear_body reply) d) ++ log) h1 g
+    leads_two : LeadsTo (IsAsked q r first id finish_x (CanFinish p same_key id sid asker server)) (requester_hears q h1 false tag (clear_body reply) d) (asked_log.acts_of q h1 (clear_body reply) (requester_hears q h1 false tag (clear_body reply) d) ++ log) h1 g
     leads_two =
-        subst (λ (o : Outcome). LeadsTo (IsAsked q r id finish_x (CanFinish p same_key id sid asker server)) o (asked_log.acts_of q h1 (clear_body reply) o ++ log) h1 g) (sym hears_reply)
+        subst (λ (o : Outcome). LeadsTo (IsAsked q r first id finish_x (CanFinish p same_key id sid asker server)) o (asked_log.acts_of q h1 (clear_body reply) o ++ log) h1 g) (sym hears_reply)
         (record { next = next reply; sends = refl; asks = asked_two })
 
   -- ---- Both rounds.
@@ -479,7 +518,7 @@ module _ (p : Pair) (same_key : p.requester.psk ≡ p.responder.psk) (asker : Is
   abbrev pub OpenDone : Log → asked.History → served.History → Type 0
   OpenDone = Quiet p same_key id finish_x (CanFinish p same_key id sid asker server) FinishGood told
 
-  as_once : (o : Outcome) (log : Log) (h : asked.History) (g : served.History) → LeadsTo (IsAsked q r id finish_x (CanFinish p same_key id sid asker server)) o log h g → LeadsTo (FinishAsks 0) o log h g
+  as_once : (o : Outcome) (log : Log) (h : asked.History) (g : served.History) → LeadsTo (IsAsked q r first id finish_x (CanFinish p same_key id sid asker server)) o log h g → LeadsTo (FinishAsks 0) o log h g
   as_once o log h g k = record { next = k.next; sends = k.sends; asks = record { is = k.asks } }
 
   open_hears : (tag : ℕ) (body : List ℕ) (log : Log) (h : asked.History) (g : served.History) (d : Draw) → NoChance log → OpenAnswered tag body log h g

@@ -1,5 +1,5 @@
 -- An open that is told to a quiet requester ends with an open session.
-use Rattle.std.proofs.Common.{◌≡◌, ◌≢◌, ◌∙◌, ℕ, ◌<◌, ◌≤◌, ◌+◌, ◌==◌, ◌&&◌, List, [], ◌∷◌, ◌++◌, length, Bool, true, false, nat_lt, not, Some, None, refl, sym, ap, subst, inl, arith, eq-eqb}
+use Rattle.std.proofs.Common.{◌≡◌, ◌≢◌, ◌∙◌, ℕ, ◌<◌, ◌≤◌, ◌+◌, ◌^◌, ◌==◌, ◌&&◌, List, [], ◌∷◌, ◌++◌, length, Bool, true, false, nat_lt, not, Some, None, refl, sym, ap, subst, inl, arith, eq-eqb}
 use Rattle.std.specs.Prelude.{if◌then◌else◌}
 use Rattle.std.proofs.lemmas.Bool.{false≢true, not-false}
 use Rattle.negotiate.specs.declared.shared.Sizes.{Sizes}
@@ -13,7 +13,7 @@ use Rattle.spdm_grammar.specs.declared.event.Finished.TheVariants as finished
 use Rattle.spdm_grammar.specs.declared.phase.Phase.{Phase}
 use Rattle.spdm_grammar.specs.declared.phase.Phase.TheVariants.{Negotiated}
 use Rattle.spdm_machine.specs.Bodies.{clear_body}
-use Rattle.spdm_machine.specs.Keys.{Draw}
+use Rattle.spdm_machine.specs.Keys.{Draw, context_of}
 use Rattle.spdm_machine.specs.TagLog.{Log}
 use Rattle.spdm_machine.specs.Terms.{Terms, terms_of}
 use Rattle.transcript.specs.Transcripts.{Negotiation}
@@ -39,9 +39,11 @@ use Rattle.responder_machine.specs.History as served
 use Rattle.responder_machine.specs.Place as serving
 use Rattle.responder_machine.specs.Refusal.{sizes_are_known}
 use Rattle.responder_machine.specs.Responding.{Connection}
+use Rattle.spdm_agreement.proofs.Worlds.AllEvents.{requester_in}
 use Rattle.spdm_agreement.proofs.Worlds.Happens.{draw_length}
 use Rattle.world_machine.specs.Chance.{NoChance}
 use Rattle.world_machine.specs.Happenings.{Entry}
+use Rattle.world_machine.specs.Happenings.Happening.{Told}
 use Rattle.world_machine.specs.Setup.{WorldSetup}
 use Rattle.world_machine.specs.Trace.{lines_from, world_after, world_from}
 use Rattle.spdm_progress.specs.Honest.{AreHonest, HaveNoCommand, NothingWaits}
@@ -53,8 +55,8 @@ use Rattle.spdm_progress.proofs.OnePacket.{not_longer}
 use Rattle.spdm_progress.proofs.OpenRounds.{CanExchange, OpenDone, OpenTalkAnswers, OpenTalkAsks, open_talk}
 use Rattle.spdm_progress.proofs.PacketSteps.{Pair}
 use Rattle.spdm_progress.proofs.SessionBegins.{sends}
-use Rattle.spdm_progress.proofs.SessionCompletes.{completes_by, fresh, placed}
-use Rattle.spdm_progress.proofs.Told.{ArePlaced, pair_of}
+use Rattle.spdm_progress.proofs.SessionCompletes.{completes_by, fresh, no_chance_from, placed}
+use Rattle.spdm_progress.proofs.Told.{ArePlaced, fits_always, pair_of}
 
 -- The draw that stands next has 32 bytes.
 draws_next : (a : Requesting) → length (asking.next_draw a).bytes ≡ 32
@@ -128,7 +130,23 @@ module _ (w : WorldSetup) (before : List Entry) (n : ℕ) (a : Requesting) (c : 
       ∙ ap (λ (b : Bool). Adds (WasTold (Open summary) (if b then piece_sent (asked.connection_terms a.history).common a.history (PskExchange x) (asked.next_handle a.history) 0 else plain_sent a.history (PskExchange x)) d))
       (not_longer (asked.connection_terms a.history).common.to_responder.transfer (length (canonical_request (PskExchange x))) can.request_fits)
 
-  ready : CanExchange a.setup c.setup summary a.history d x
+  own_context : f.context ≡ context_of (asked.connection_terms a.history).choice.hash d
+  unfolding chosen
+  own_context = refl
+
+  own_number : d.number ≡ a.first + asked.draws_of a.setup a.history
+  unfolding asking.next_draw
+  own_number = refl
+
+  few_draws : d.number < 2 ^ 64
+  few_draws =
+      let fits = (fits_always w is_told.configured before (no_chance_from (world_after w before) (record { line = line; happening = Told n (Open summary) } ∷ behind) chance)).asks a (requester_in n (world_after w before) a is_told.is_requester) in
+      let draws = fits.draws in
+      let wear = fits.wear in
+      let life = is_told.life.requester in
+      omega (arith, own_number)
+
+  ready : CanExchange a.setup c.setup a.first summary a.history d x
   ready = record {
     is_x = refl;
     phase = phase;
@@ -147,6 +165,10 @@ module _ (w : WorldSetup) (before : List Entry) (n : ℕ) (a : Requesting) (c : 
     finish_fits = subst (λ (k : ℕ). 4 + hash_size (asked.connection_terms a.history).choice.hash ≤ k) there can.finish_fits;
     asks = asks;
     free = ap (λ (i : ℕ). steps.is_live (steps.session_of i a.history)) own_id ∙ free_id-free a.history room;
+    context = own_context;
+    drawn = draws_next a;
+    number = own_number;
+    small = few_draws;
   }
 
   abbrev rid : ℕ
@@ -169,7 +191,6 @@ module _ (w : WorldSetup) (before : List Entry) (n : ℕ) (a : Requesting) (c : 
           quiet = is_told.quiet;
           id_is = refl;
           limit = not_four (serving.held_of c.history) can.limit;
-          new = can.new;
         },
       ))
 

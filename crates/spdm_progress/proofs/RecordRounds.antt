@@ -13,9 +13,12 @@ use Rattle.spdm_basis.specs.SessionIdBytes.{session_id_bytes}
 use Rattle.spdm_grammar.specs.declared.event.Event.{Event}
 use Rattle.spdm_grammar.specs.declared.phase.Stage.{Stage}
 use Rattle.spdm_grammar.specs.declared.phase.Stage.TheVariants as stage
+use Rattle.spdm_grammar.specs.Message.RequestMessage.{PskExchange}
+use Rattle.spdm_grammar.specs.Requests.{IsSoundRequest}
 use Rattle.spdm_machine.specs.Bodies.{record_body}
-use Rattle.spdm_machine.specs.Keys.{Draw, record_fault, sealed_of}
+use Rattle.spdm_machine.specs.Keys.{Draw, context_of, record_fault, sealed_of}
 use Rattle.spdm_machine.specs.Sessions.{is_past_handshake, purpose_in}
+use Rattle.spdm_machine.specs.Terms.{Terms, hash_len, terms_of}
 use Rattle.spdm_machine.specs.TagLog.{Log, made_record, record_input, record_tag}
 use Rattle.spdm_machine.specs.TagLog.Act.{Made}
 use Rattle.requester_machine.specs.Does as asking_does
@@ -48,7 +51,7 @@ use Rattle.responder_machine.specs.Session.{Events, id_in_record}
 use Rattle.responder_machine.specs.Setup.{RspSetup}
 use Rattle.responder_machine.specs.Turn.{Turn}
 use Rattle.world_machine.specs.Chance.{NoChance}
-use Rattle.spdm_progress.specs.InStep.{AreInStep, AreQuiet, AreResting, IsResting, WasSealed, rsp_id}
+use Rattle.spdm_progress.specs.InStep.{AreInStep, AreQuiet, AreResting, IsResting, TookEarlier, WasSealed, rsp_id}
 use Rattle.spdm_progress.proofs.AlikeSessions.{IsAnswerTo, behind, is_kept, same_id, same_requests, same_responses, same_terms, still_in_step}
 use Rattle.spdm_progress.proofs.RecordHeard.{asking_in, came_as, heard}
 use Rattle.spdm_progress.proofs.RecordServed.{served as taken}
@@ -73,25 +76,37 @@ resting_on psk acts log s old new same k = record {
   last = λ kept is. was_sealed_on psk acts log s kept.sealed (k.last kept (sym (last_waited old new same) ∙ is));
 }
 
+-- ---- Requests that were taken before.
+
+-- Where neither the responder took another clear request, nor the requester settled anything anew.
+pub earlier_on : (q : ReqSetup) (first : ℕ) (h h' : asked.History) (g g' : served.History) → served.kept_of g' ≡ served.kept_of g → asked.negotiation_of h' ≡ asked.negotiation_of h → asked.draws_of q h ≤ asked.draws_of q h' → TookEarlier q first h g → TookEarlier q first h' g'
+earlier_on q first h h' g g' kept same more e = record {
+  kept = λ k is x d fits sound context whole above below.
+      (let terms : asked.connection_terms h' ≡ asked.connection_terms h = ap terms_of same in
+      e.kept k (sym kept ∙ is) x d fits (subst (λ (t : Terms). IsSoundRequest (hash_len t) (PskExchange x)) terms sound) (context ∙ ap (λ (t : Terms). context_of t.choice.hash d) terms) whole (omega arith) below);
+}
+
 -- ---- The other sessions of a pair.
 
 -- What holds beside the session of this id, whose RspSessionID is this one.
-pub record Beside (q : ReqSetup) (r : RspSetup) (id rid : ℕ) (log : Log) (h : asked.History) (g : served.History) : Type 0 where
+pub record Beside (q : ReqSetup) (r : RspSetup) (first id rid : ℕ) (log : Log) (h : asked.History) (g : served.History) : Type 0 where
   pub made : asking_does.IsMade q h
   pub made_there : serving_does.IsMade r g
   pub phase : asked.phase_of h ≡ served.phase_of (served.clear_turns g)
   pub negotiation : asked.negotiation_of h ≡ served.negotiation_of (served.clear_turns g)
+  pub earlier : TookEarlier q first h g
   pub sessions : (j : ℕ) → j ≢ id → steps.is_live (steps.session_of j h) ≡ true → IsResting q.psk log h g j
   pub own : (j : ℕ) → j ≢ id → steps.is_live (steps.session_of j h) ≡ true → rsp_id (steps.session_of j h) ≢ rid
   pub apart : (i j : ℕ) → i ≢ j → i ≢ id → j ≢ id → steps.is_live (steps.session_of i h) ≡ true → steps.is_live (steps.session_of j h) ≡ true → rsp_id (steps.session_of i h) ≢ rsp_id (steps.session_of j h)
 
 -- Of two quiet ends.
-pub beside_quiet : (q : ReqSetup) (r : RspSetup) (id : ℕ) (log : Log) (h : asked.History) (g : served.History) → AreQuiet q r log h g → steps.is_live (steps.session_of id h) ≡ true → Beside q r id (rsp_id (steps.session_of id h)) log h g
-beside_quiet q r id log h g k live = record {
+pub beside_quiet : (q : ReqSetup) (r : RspSetup) (first id : ℕ) (log : Log) (h : asked.History) (g : served.History) → AreQuiet q r first log h g → steps.is_live (steps.session_of id h) ≡ true → Beside q r first id (rsp_id (steps.session_of id h)) log h g
+beside_quiet q r first id log h g k live = record {
   made = k.made;
   made_there = k.made_there;
   phase = k.phase;
   negotiation = k.negotiation;
+  earlier = k.earlier;
   sessions = λ j other live_j. k.sessions j live_j;
   own = λ j other live_j. k.apart j id other live_j live;
   apart = λ i j differ i_other j_other live_i live_j. k.apart i j differ live_i live_j;
@@ -103,33 +118,35 @@ resting_past psk log s e k = ap is_past_handshake (sym k.in_step.stage ∙ k.sta
 
 -- What leaves the other sessions so: they are the same at the requester, and, past their handshake, at the responder but
 -- for time.
-pub record KeepsBeside (q : ReqSetup) (r : RspSetup) (id rid : ℕ) (h h' : asked.History) (g g' : served.History) : Type 0 where
+pub record KeepsBeside (q : ReqSetup) (r : RspSetup) (first id rid : ℕ) (h h' : asked.History) (g g' : served.History) : Type 0 where
   pub made : asking_does.IsMade q h'
   pub made_there : serving_does.IsMade r g'
   pub phase : asked.phase_of h' ≡ asked.phase_of h
   pub phase_there : served.phase_of (served.clear_turns g') ≡ served.phase_of (served.clear_turns g)
   pub negotiation : asked.negotiation_of h' ≡ asked.negotiation_of h
   pub negotiation_there : served.negotiation_of (served.clear_turns g') ≡ served.negotiation_of (served.clear_turns g)
+  pub earlier : TookEarlier q first h g → TookEarlier q first h' g'
   pub same : (j : ℕ) → j ≢ id → steps.session_of j h' ≡ steps.session_of j h
   pub same_there : (j : ℕ) → j ≢ rid → is_past_handshake (events.stage_of (events.session_of j g)) ≡ true → IsSameSession (events.session_of j g) (events.session_of j g')
 
-live_before : (q : ReqSetup) (r : RspSetup) (id rid : ℕ) (h h' : asked.History) (g g' : served.History) → KeepsBeside q r id rid h h' g g' → (j : ℕ) → j ≢ id → steps.is_live (steps.session_of j h') ≡ true → steps.is_live (steps.session_of j h) ≡ true
-live_before q r id rid h h' g g' keeps j other live = sym (ap steps.is_live (keeps.same j other)) ∙ live
+live_before : (q : ReqSetup) (r : RspSetup) (first id rid : ℕ) (h h' : asked.History) (g g' : served.History) → KeepsBeside q r first id rid h h' g g' → (j : ℕ) → j ≢ id → steps.is_live (steps.session_of j h') ≡ true → steps.is_live (steps.session_of j h) ≡ true
+live_before q r first id rid h h' g g' keeps j other live = sym (ap steps.is_live (keeps.same j other)) ∙ live
 
-pub beside_on : (q : ReqSetup) (r : RspSetup) (id rid : ℕ) (acts log : Log) (h h' : asked.History) (g g' : served.History) → KeepsBeside q r id rid h h' g g' → Beside q r id rid log h g → Beside q r id rid (acts ++ log) h' g'
-beside_on q r id rid acts log h h' g g' keeps k = record {
+pub beside_on : (q : ReqSetup) (r : RspSetup) (first id rid : ℕ) (acts log : Log) (h h' : asked.History) (g g' : served.History) → KeepsBeside q r first id rid h h' g g' → Beside q r first id rid log h g → Beside q r first id rid (acts ++ log) h' g'
+beside_on q r first id rid acts log h h' g g' keeps k = record {
   made = keeps.made;
   made_there = keeps.made_there;
   phase = keeps.phase ∙ k.phase ∙ sym keeps.phase_there;
   negotiation = keeps.negotiation ∙ k.negotiation ∙ sym keeps.negotiation_there;
+  earlier = keeps.earlier k.earlier;
   sessions = λ j other live.
       subst (λ (s : Steps). AreResting q.psk (acts ++ log) s (events.session_of (rsp_id s) g')) (sym (keeps.same j other))
       (resting_on q.psk acts log (steps.session_of j h) (events.session_of (rsp_id (steps.session_of j h)) g) (events.session_of (rsp_id (steps.session_of j h)) g')
-      (keeps.same_there (rsp_id (steps.session_of j h)) (k.own j other (live_before q r id rid h h' g g' keeps j other live)) (resting_past _ _ _ _ (k.sessions j other (live_before q r id rid h h' g g' keeps j other live)))) (k.sessions j other (live_before q r id rid h h' g g' keeps j other live)));
-  own = λ j other live. subst (λ (s : Steps). rsp_id s ≢ rid) (sym (keeps.same j other)) (k.own j other (live_before q r id rid h h' g g' keeps j other live));
+      (keeps.same_there (rsp_id (steps.session_of j h)) (k.own j other (live_before q r first id rid h h' g g' keeps j other live)) (resting_past _ _ _ _ (k.sessions j other (live_before q r first id rid h h' g g' keeps j other live)))) (k.sessions j other (live_before q r first id rid h h' g g' keeps j other live)));
+  own = λ j other live. subst (λ (s : Steps). rsp_id s ≢ rid) (sym (keeps.same j other)) (k.own j other (live_before q r first id rid h h' g g' keeps j other live));
   apart = λ i j differ i_other j_other live_i live_j.
       subst (λ (s : Steps). rsp_id s ≢ rsp_id (steps.session_of j h')) (sym (keeps.same i i_other))
-      (subst (λ (s : Steps). rsp_id (steps.session_of i h) ≢ rsp_id s) (sym (keeps.same j j_other)) (k.apart i j differ i_other j_other (live_before q r id rid h h' g g' keeps i i_other live_i) (live_before q r id rid h h' g g' keeps j j_other live_j)));
+      (subst (λ (s : Steps). rsp_id (steps.session_of i h) ≢ rsp_id s) (sym (keeps.same j j_other)) (k.apart i j differ i_other j_other (live_before q r first id rid h h' g g' keeps i i_other live_i) (live_before q r first id rid h h' g g' keeps j j_other live_j)));
 }
 
 -- ---- The next record is under another purpose or number than one that was just taken.
@@ -160,48 +177,50 @@ moves_on AskEnd psk inner sealed reply reply_inner answer s kept at purpose numb
 
 -- ---- Quiet again.
 
-resting_of : (q : ReqSetup) (r : RspSetup) (id rid : ℕ) (log : Log) (h : asked.History) (g : served.History) → Beside q r id rid log h g → (steps.is_live (steps.session_of id h) ≡ true → IsResting q.psk log h g id) → (j : ℕ) → (b : Bool) → (j == id) ≡ b
+resting_of : (q : ReqSetup) (r : RspSetup) (first id rid : ℕ) (log : Log) (h : asked.History) (g : served.History) → Beside q r first id rid log h g → (steps.is_live (steps.session_of id h) ≡ true → IsResting q.psk log h g id) → (j : ℕ) → (b : Bool) → (j == id) ≡ b
     → steps.is_live (steps.session_of j h) ≡ true → IsResting q.psk log h g j
-resting_of q r id rid log h g k own j true same live =
+resting_of q r first id rid log h g k own j true same live =
     let e = eqb-true j id same in
     subst (IsResting q.psk log h g) (sym e) (own (ap (λ (i : ℕ). steps.is_live (steps.session_of i h)) (sym e) ∙ live))
-resting_of q r id rid log h g k own j false other live = k.sessions j (λ e. false≢true (sym other ∙ eq-eqb j id e)) live
+resting_of q r first id rid log h g k own j false other live = k.sessions j (λ e. false≢true (sym other ∙ eq-eqb j id e)) live
 
-apart_of : (q : ReqSetup) (r : RspSetup) (id rid : ℕ) (log : Log) (h : asked.History) (g : served.History) → Beside q r id rid log h g → (steps.is_live (steps.session_of id h) ≡ true → rsp_id (steps.session_of id h) ≡ rid) → (i j : ℕ) → (a b : Bool) → (i == id) ≡ a → (j == id) ≡ b → i ≢ j
+apart_of : (q : ReqSetup) (r : RspSetup) (first id rid : ℕ) (log : Log) (h : asked.History) (g : served.History) → Beside q r first id rid log h g → (steps.is_live (steps.session_of id h) ≡ true → rsp_id (steps.session_of id h) ≡ rid) → (i j : ℕ) → (a b : Bool) → (i == id) ≡ a → (j == id) ≡ b → i ≢ j
     → steps.is_live (steps.session_of i h) ≡ true → steps.is_live (steps.session_of j h) ≡ true → rsp_id (steps.session_of i h) ≢ rsp_id (steps.session_of j h)
-apart_of q r id rid log h g k own i j true true e f differ live_i live_j = absurd (differ (eqb-true i id e ∙ sym (eqb-true j id f)))
-apart_of q r id rid log h g k own i j true false e f differ live_i live_j = λ same.
+apart_of q r first id rid log h g k own i j true true e f differ live_i live_j = absurd (differ (eqb-true i id e ∙ sym (eqb-true j id f)))
+apart_of q r first id rid log h g k own i j true false e f differ live_i live_j = λ same.
     let is = eqb-true i id e in
     let mine : rsp_id (steps.session_of i h) ≡ rid = ap (λ (n : ℕ). rsp_id (steps.session_of n h)) is ∙ own (ap (λ (n : ℕ). steps.is_live (steps.session_of n h)) (sym is) ∙ live_i) in
     k.own j (λ z. false≢true (sym f ∙ eq-eqb j id z)) live_j (sym same ∙ mine)
-apart_of q r id rid log h g k own i j false true e f differ live_i live_j = λ same.
+apart_of q r first id rid log h g k own i j false true e f differ live_i live_j = λ same.
     let is = eqb-true j id f in
     let mine : rsp_id (steps.session_of j h) ≡ rid = ap (λ (n : ℕ). rsp_id (steps.session_of n h)) is ∙ own (ap (λ (n : ℕ). steps.is_live (steps.session_of n h)) (sym is) ∙ live_j) in
     k.own i (λ z. false≢true (sym e ∙ eq-eqb i id z)) live_i (same ∙ mine)
-apart_of q r id rid log h g k own i j false false e f differ live_i live_j =
+apart_of q r first id rid log h g k own i j false false e f differ live_i live_j =
     k.apart i j differ (λ z. false≢true (sym e ∙ eq-eqb i id z)) (λ z. false≢true (sym f ∙ eq-eqb j id z)) live_i live_j
 
 -- Where nothing is outstanding, and the session of this id is gone or rests at both ends too.
-pub quiet_from : (q : ReqSetup) (r : RspSetup) (id rid : ℕ) (log : Log) (h : asked.History) (g : served.History) → Beside q r id rid log h g → outstanding h ≡ None
-    → (steps.is_live (steps.session_of id h) ≡ true → (rsp_id (steps.session_of id h) ≡ rid) × IsResting q.psk log h g id) → AreQuiet q r log h g
-quiet_from q r id rid log h g k none own = record {
+pub quiet_from : (q : ReqSetup) (r : RspSetup) (first id rid : ℕ) (log : Log) (h : asked.History) (g : served.History) → Beside q r first id rid log h g → outstanding h ≡ None
+    → (steps.is_live (steps.session_of id h) ≡ true → (rsp_id (steps.session_of id h) ≡ rid) × IsResting q.psk log h g id) → AreQuiet q r first log h g
+quiet_from q r first id rid log h g k none own = record {
   made = k.made;
   made_there = k.made_there;
   none = none;
   phase = k.phase;
   negotiation = k.negotiation;
-  sessions = λ j live. resting_of q r id rid log h g k (λ l. (own l).1) j (j == id) refl live;
-  apart = λ i j differ live_i live_j. apart_of q r id rid log h g k (λ l. (own l).0) i j (i == id) (j == id) refl refl differ live_i live_j;
+  earlier = k.earlier;
+  sessions = λ j live. resting_of q r first id rid log h g k (λ l. (own l).1) j (j == id) refl live;
+  apart = λ i j differ live_i live_j. apart_of q r first id rid log h g k (λ l. (own l).0) i j (i == id) (j == id) refl refl differ live_i live_j;
 }
 
 -- Queued data and time leave two quiet ends so.
-pub quiet_still : (q : ReqSetup) (r : RspSetup) (log : Log) (h : asked.History) (g later : served.History) → AreAlike r g later → AreQuiet q r log h g → AreQuiet q r log h later
-quiet_still q r log h g later alike k = record {
+pub quiet_still : (q : ReqSetup) (r : RspSetup) (first : ℕ) (log : Log) (h : asked.History) (g later : served.History) → AreAlike r g later → AreQuiet q r first log h g → AreQuiet q r first log h later
+quiet_still q r first log h g later alike k = record {
   made = k.made;
   made_there = alike.made k.made_there;
   none = k.none;
   phase = k.phase ∙ sym alike.clear.phase;
   negotiation = k.negotiation ∙ sym alike.clear.negotiation;
+  earlier = earlier_on q first h h g later alike.clear.kept refl (omega arith) k.earlier;
   sessions = λ id live. resting_on q.psk [] log (steps.session_of id h) _ _ (alike.sessions (rsp_id (steps.session_of id h))) (k.sessions id live);
   apart = k.apart;
 }

@@ -35,7 +35,7 @@ use Rattle.spdm_progress.specs.InStep.{AreQuiet, rsp_id}
 use Rattle.spdm_progress.proofs.ManyPackets.{idle_waits, sent_waits, waiting_in}
 use Rattle.spdm_progress.proofs.PacketSteps.{Pair, asker}
 use Rattle.spdm_progress.proofs.Places.{found_new, number_new, of_new}
-use Rattle.spdm_progress.proofs.RecordRounds.{Beside, KeepsBeside, beside_on, beside_quiet}
+use Rattle.spdm_progress.proofs.RecordRounds.{Beside, KeepsBeside, beside_on, beside_quiet, earlier_on}
 use Rattle.spdm_progress.proofs.RequesterStages.{next_small}
 use Rattle.spdm_progress.proofs.SessionRounds.{Asking, IsAsked, asked_steps, made_for, sealed_for}
 use Rattle.spdm_progress.proofs.Told.{ArePlaced, pair_of}
@@ -100,13 +100,17 @@ told_is world n a command sent is step = ap (told world n command) is ∙ ap (to
 abbrev pub sent_for : ReqSetup → asked.History → ℕ → Asking → List ℕ → Sent
 sent_for q h id x pad = record_sent q h id (steps.session_of id h) x.ask (x.inner (steps.session_of id h)) pad
 
+pub draws_on : (b : Bool) (n : ℕ) → n ≤ (if b then n + 1 else n)
+draws_on true n = omega arith
+draws_on false n = omega arith
+
 -- A command that asks something of a session, for all that its message says: no Connect and no Open.
 pub record AsksOfSession (command : Command) : Type 0 where
   pub steps_by : (j : ℕ) (n : Negotiation) (sent : Sent) (s : Steps) → steps.after_command j n command sent s ≡ steps.with_sent j (Some sent) s
   pub no_connect : asked.is_connect command ≡ false
 
-module _ (q : ReqSetup) (r : RspSetup) (id : ℕ) (x : Asking) (Fit : Steps → Type 0) (command : Command) (one : AsksOfSession command) (log : Log) (h : asked.History) (g : served.History) (d : Draw) (pad : List ℕ)
-    (quiet : AreQuiet q r log h g) (live : steps.is_live (steps.session_of id h) ≡ true) (plain : stage_for x.ask ≡ stage.Open) (fit : Fit (steps.session_of id h)) (short : length (x.inner (steps.session_of id h)) + length pad ≤ 4134)
+module _ (q : ReqSetup) (r : RspSetup) (first id : ℕ) (x : Asking) (Fit : Steps → Type 0) (command : Command) (one : AsksOfSession command) (log : Log) (h : asked.History) (g : served.History) (d : Draw) (pad : List ℕ)
+    (quiet : AreQuiet q r first log h g) (live : steps.is_live (steps.session_of id h) ≡ true) (plain : stage_for x.ask ≡ stage.Open) (fit : Fit (steps.session_of id h)) (short : length (x.inner (steps.session_of id h)) + length pad ≤ 4134)
     (asks : requester_asks false q h command d ≡ Adds (WasTold command (sent_for q h id x pad) d)) where
   abbrev s : Steps
   s = steps.session_of id h
@@ -117,23 +121,23 @@ module _ (q : ReqSetup) (r : RspSetup) (id : ℕ) (x : Asking) (Fit : Steps → 
   abbrev new : asked.History
   new = WasTold command sent d ∷ h
 
-  session_new : steps.session_of id new ≡ asked_steps q r id x s pad
+  session_new : steps.session_of id new ≡ asked_steps q r first id x s pad
   unfolding steps.session_of
   session_new =
       one.steps_by id (asked.negotiation_of h) sent (steps.session_of id h)
-      ∙ ap (λ (b : Bool). if b then steps.when_live (steps.session_of id h) (Asked x.ask (x.inner (steps.session_of id h)) (sealed_for q r id x (steps.session_of id h) pad)) else steps.session_of id h) (eq-eqb id id refl)
-      ∙ live_first (steps.session_of id h) (Asked x.ask (x.inner (steps.session_of id h)) (sealed_for q r id x (steps.session_of id h) pad)) live
+      ∙ ap (λ (b : Bool). if b then steps.when_live (steps.session_of id h) (Asked x.ask (x.inner (steps.session_of id h)) (sealed_for q r first id x (steps.session_of id h) pad)) else steps.session_of id h) (eq-eqb id id refl)
+      ∙ live_first (steps.session_of id h) (Asked x.ask (x.inner (steps.session_of id h)) (sealed_for q r first id x (steps.session_of id h) pad)) live
 
   elsewhere : (j : ℕ) → j ≢ id → steps.session_of j new ≡ steps.session_of j h
   unfolding steps.session_of
   elsewhere j other =
       one.steps_by j (asked.negotiation_of h) sent (steps.session_of j h)
-      ∙ ap (λ (b : Bool). if b then steps.when_live (steps.session_of j h) (Asked x.ask (x.inner (steps.session_of id h)) (sealed_for q r id x (steps.session_of id h) pad)) else steps.session_of j h) (ne_eqb id j (λ same. other (sym same)))
+      ∙ ap (λ (b : Bool). if b then steps.when_live (steps.session_of j h) (Asked x.ask (x.inner (steps.session_of id h)) (sealed_for q r first id x (steps.session_of id h) pad)) else steps.session_of j h) (ne_eqb id j (λ same. other (sym same)))
 
   unconnected : (asked.phase_of new ≡ asked.phase_of h) × (asked.negotiation_of new ≡ asked.negotiation_of h)
   unconnected = (rw one.no_connect refl, rw one.no_connect refl)
 
-  pub asked_now : IsAsked q r id x Fit (asked.next_tag h) (record_body (sealed_for q r id x s pad)) (made_for q r id x s pad log) new g
+  pub asked_now : IsAsked q r first id x Fit (asked.next_tag h) (record_body (sealed_for q r first id x s pad)) (made_for q r first id x s pad log) new g
   asked_now =
       let resting = quiet.sessions id live in
       let same = unconnected in record {
@@ -151,14 +155,15 @@ module _ (q : ReqSetup) (r : RspSetup) (id : ℕ) (x : Asking) (Fit : Steps → 
         older = log;
         log_is = refl;
         last = resting.last;
-        beside = beside_on q r id (rsp_id s) (made_for q r id x s pad []) log h new g g (record {
+        beside = beside_on q r first id (rsp_id s) (made_for q r first id x s pad []) log h new g g (record {
           made = (asks, quiet.made);
           made_there = quiet.made_there;
           phase = same.0;
           phase_there = refl;
           negotiation = same.1;
           negotiation_there = refl;
+          earlier = earlier_on q first h new g g refl same.1 (draws_on (asked.takes_draw q command) (asked.draws_of q h));
           same = elsewhere;
           same_there = λ j other past. inl refl;
-        }) (beside_quiet q r id log h g quiet live);
+        }) (beside_quiet q r first id log h g quiet live);
       }

@@ -87,7 +87,7 @@ module _ (w : WorldSetup) (before : List Entry) (n : ℕ) (a : Requesting) (c : 
   abbrev p : Pair
   p = pair_of n a c
 
-  finished_so : (result : Finished) (id : ℕ) (left : Bool) (later : World) (lines : List Line) → (v : View) → Shows p v [] later → AreQuiet a.setup c.setup v.log v.asked v.served → steps.is_live (steps.session_of id v.asked) ≡ left → IsIn lines (Line.ToRequester n (event.Done result))
+  finished_so : (result : Finished) (id : ℕ) (left : Bool) (later : World) (lines : List Line) → (v : View) → Shows p v [] later → AreQuiet a.setup c.setup a.first v.log v.asked v.served → steps.is_live (steps.session_of id v.asked) ≡ left → IsIn lines (Line.ToRequester n (event.Done result))
       → IsDoneQuietly n a.setup c.setup result id left later lines
   finished_so result id left later lines v s quiet live told = record {
     told = contained lines _ told;
@@ -97,12 +97,12 @@ module _ (w : WorldSetup) (before : List Entry) (n : ℕ) (a : Requesting) (c : 
     is_connection = s.is_connection;
     requester_setup = refl;
     responder_setup = refl;
-    quiet = subst (λ (log : Log). AreQuiet a.setup c.setup log v.asked v.served) (sym s.log) quiet;
+    quiet = subst (λ (log : Log). AreQuiet a.setup c.setup a.first log v.asked v.served) (sym s.log) quiet;
     session = live;
   }
 
   -- The talk that the message of the command begins.
-  pub completes_by : (Asks Answers : Stage) (Done : Log → asked.History → served.History → Type 0) (result : Finished) (id : ℕ) (left : Bool) → ((log : Log) (h : asked.History) (g : served.History) → Done log h g → AreQuiet a.setup c.setup log h g × (steps.is_live (steps.session_of id h) ≡ left))
+  pub completes_by : (Asks Answers : Stage) (Done : Log → asked.History → served.History → Type 0) (result : Finished) (id : ℕ) (left : Bool) → ((log : Log) (h : asked.History) (g : served.History) → Done log h g → AreQuiet a.setup c.setup a.first log h g × (steps.is_live (steps.session_of id h) ≡ left))
       → IsTalk p Asks Answers Done (event.Done result) → (more : ℕ) → more ≤ 1 → (sent : Sent) → requester_told a command ≡ sends a command sent
       → Asks more sent.tag (body_of sent.content) (told_view world a c command sent).log (told_view world a c command sent).asked c.history
       → IsDoneQuietly n a.setup c.setup result id left (world_from (commanding world line n command) behind) (lines_from (commanding world line n command) behind)
@@ -139,9 +139,9 @@ module _ (w : WorldSetup) (before : List Entry) (n : ℕ) (a : Requesting) (c : 
     pub live_so : steps.is_live (session_at a id) ≡ true
     live_so = somewhere a.setup a.history command (command_chosen a.setup a.history (asking.next_draw a)) id (told_so a command fresh is_told.accepted).0 named
 
-    pub is_asked : (Fit : Steps → Type 0) → Fit (session_at a id) → IsAsked a.setup c.setup id x Fit sent.tag (body_of sent.content) (told_view world a c command sent).log (told_view world a c command sent).asked c.history
+    pub is_asked : (Fit : Steps → Type 0) → Fit (session_at a id) → IsAsked a.setup c.setup a.first id x Fit sent.tag (body_of sent.content) (told_view world a c command sent).log (told_view world a c command sent).asked c.history
     is_asked Fit fit =
-        asked_now a.setup c.setup id x Fit command one world.log a.history c.history (asking.next_draw a) (command_chosen a.setup a.history (asking.next_draw a)).pad is_told.quiet live_so plain fit (omega (arith, pad_short, small)) asks_so
+        asked_now a.setup c.setup a.first id x Fit command one world.log a.history c.history (asking.next_draw a) (command_chosen a.setup a.history (asking.next_draw a)).pad is_told.quiet live_so plain fit (omega (arith, pad_short, small)) asks_so
 
     -- It takes one round.
     pub once_completes : (Fit : Steps → Type 0) (Good : Steps → Turn → Type 0) (result : Finished) → IsLast p one_key id x Fit Good (event.Done result) → Fit (session_at a id)

@@ -68,7 +68,7 @@ use Rattle.spdm_progress.specs.InStep.{AreInStep, AreQuiet, AreResting, WasSeale
 use Rattle.spdm_progress.proofs.AlikeSessions.{IsAnswerTo, behind, is_kept, same_id, same_requests, same_responses, same_terms, still_in_step}
 use Rattle.spdm_progress.proofs.ManyPackets.{IsBody}
 use Rattle.spdm_progress.proofs.RecordHeard.{asking_in, came_as, heard}
-use Rattle.spdm_progress.proofs.RecordRounds.{Beside, KeepsBeside, beside_on, last_waited, moves_on, quiet_from}
+use Rattle.spdm_progress.proofs.RecordRounds.{Beside, KeepsBeside, beside_on, earlier_on, last_waited, moves_on, quiet_from}
 use Rattle.spdm_progress.proofs.RecordServed.{served as taken}
 use Rattle.spdm_progress.proofs.RecordsBetween.{names_session, no_copy, opens, record_length, tag_is, the_record}
 use Rattle.spdm_progress.proofs.StillKept.{AreAlike, IsSameSession, alike_itself}
@@ -80,7 +80,7 @@ pub record Asking : Type 0 where
   pub ask : Ask
   pub inner : Steps → List ℕ
 
-module _ (q : ReqSetup) (r : RspSetup) (id : ℕ) (x : Asking) where
+module _ (q : ReqSetup) (r : RspSetup) (first id : ℕ) (x : Asking) where
   abbrev pub sealed_for : Steps → List ℕ → List ℕ
   sealed_for s pad = sealed_next q.psk s (x.inner s) pad
 
@@ -115,7 +115,7 @@ module _ (q : ReqSetup) (r : RspSetup) (id : ℕ) (x : Asking) where
     pub older : Log
     pub log_is : log ≡ made_for s pad older
     pub last : (k : KeptRecord) → events.last_of (events.session_of (rsp_id s) g) ≡ Some k → WasSealed q.psk older s k.sealed
-    pub beside : Beside q r id (rsp_id s) log h g
+    pub beside : Beside q r first id (rsp_id s) log h g
 
   -- Its answer is on its way: a turn of which this is known.
   pub record IsAnswered (Fit : Steps → Type 0) (Good : Steps → Turn → Type 0) (tag : ℕ) (body : List ℕ) (log : Log) (h : asked.History) (g : served.History) : Type 0 where
@@ -136,7 +136,7 @@ module _ (q : ReqSetup) (r : RspSetup) (id : ℕ) (x : Asking) where
     pub kept : is_kept x.ask ≡ true → AreInStep (took_steps s pad t) (events.session_of (rsp_id s) g)
     pub last : is_kept x.ask ≡ true → (k : KeptRecord) → events.last_of (events.session_of (rsp_id s) g) ≡ Some k → k.sealed ≡ sealed_for s pad
     pub made : Contains log (Made (request_purpose q.psk s) (record_input (steps.request_next s) (sealed_for s pad)) (tag_part (sealed_for s pad)))
-    pub beside : Beside q r id (rsp_id s) log h g
+    pub beside : Beside q r first id (rsp_id s) log h g
 
   -- ---- Both can be sent.
 
@@ -162,14 +162,15 @@ module _ (q : ReqSetup) (r : RspSetup) (id : ℕ) (x : Asking) where
 
   -- ---- Queued data and time leave both.
 
-  pub still_beside : (log : Log) (h : asked.History) (g later : served.History) (rid : ℕ) → AreAlike r g later → Beside q r id rid log h g → Beside q r id rid log h later
-  still_beside log h g later rid alike k = beside_on q r id rid [] log h h g later (record {
+  pub still_beside : (log : Log) (h : asked.History) (g later : served.History) (rid : ℕ) → AreAlike r g later → Beside q r first id rid log h g → Beside q r first id rid log h later
+  still_beside log h g later rid alike k = beside_on q r first id rid [] log h h g later (record {
     made = k.made;
     made_there = alike.made k.made_there;
     phase = refl;
     phase_there = alike.clear.phase;
     negotiation = refl;
     negotiation_there = alike.clear.negotiation;
+    earlier = earlier_on q first h h g later alike.clear.kept refl (omega arith);
     same = λ j other. refl;
     same_there = λ j other past. alike.sessions j;
   }) k
@@ -296,7 +297,7 @@ module _ (q : ReqSetup) (r : RspSetup) (id : ℕ) (x : Asking) where
       session_new : events.session_of (rsp_id s) new ≡ after_record e sealed t (answer_for s t)
       session_new = sealed_here (rsp_id s) tag sealed t (answer_for s t) d g named
 
-      keeps_beside : KeepsBeside q r id (rsp_id s) h h g new
+      keeps_beside : KeepsBeside q r first id (rsp_id s) h h g new
       keeps_beside = record {
         made = y.beside.made;
         made_there = (does, y.beside.made_there);
@@ -304,6 +305,7 @@ module _ (q : ReqSetup) (r : RspSetup) (id : ℕ) (x : Asking) where
         phase_there = refl;
         negotiation = refl;
         negotiation_there = refl;
+        earlier = earlier_on q first h h g new refl refl (omega arith);
         same = λ j other. refl;
         same_there = λ j other past. inl (sealed_elsewhere j tag sealed t (answer_for s t) d g (λ same. other (sym same ∙ named)));
       }
@@ -340,7 +342,7 @@ module _ (q : ReqSetup) (r : RspSetup) (id : ℕ) (x : Asking) where
             kept = λ kept. subst (AreInStep (took_steps s y.pad t)) (sym (heard_is kept)) (behind (x.inner s) sealed (answer_for s t) t s e y.in_step x.ask kept a.0);
             last = λ kept k is. sym (ap (λ (z : KeptRecord). z.sealed) (some_same _ k (sym (ap events.last_of (heard_is kept)) ∙ is)));
             made = own_made acts;
-            beside = beside_on q r id (rsp_id s) acts log h h g new keeps_beside y.beside;
+            beside = beside_on q r first id (rsp_id s) acts log h h g new keeps_beside y.beside;
           }
 
       pub serves_so : IsAnswered Fit Good tag (answering.body_of (responder_does r g tag body d)) (served_log.acts_of r g body (responder_does r g tag body d) ++ log) h (answering.after g (responder_does r g tag body d))
@@ -420,14 +422,15 @@ module _ (q : ReqSetup) (r : RspSetup) (id : ℕ) (x : Asking) where
       unfolding steps.session_of
       elsewhere j other = ap (λ (b : Bool). if b then steps.with_sent j next (steps.after_record reply (inner_reply y.t) (Grants x.ask y.t.reply) (steps.session_of j h)) else steps.session_of j h) (ne_eqb id j (λ same. other (sym same)))
 
-      pub beside_then : (acts : Log) → Beside q r id (rsp_id y.s) (acts ++ log) behind_it g
-      beside_then acts = beside_on q r id (rsp_id y.s) acts log h behind_it g g (record {
+      pub beside_then : (acts : Log) → Beside q r first id (rsp_id y.s) (acts ++ log) behind_it g
+      beside_then acts = beside_on q r first id (rsp_id y.s) acts log h behind_it g g (record {
         made = (hears, y.beside.made);
         made_there = y.beside.made_there;
         phase = refl;
         phase_there = refl;
         negotiation = refl;
         negotiation_there = refl;
+        earlier = earlier_on q first h behind_it g g refl refl (omega arith);
         same = elsewhere;
         same_there = λ j other past. inl refl;
       }) y.beside
@@ -443,10 +446,10 @@ module _ (q : ReqSetup) (r : RspSetup) (id : ℕ) (x : Asking) where
 
       -- ---- Nothing follows.
 
-      pub quiet_then : (acts : Log) → next ≡ None → is_kept x.ask ≡ true → steps.stage_of (took_steps y.s y.pad y.t) ≡ stage.Open → AreQuiet q r (acts ++ log) behind_it g
+      pub quiet_then : (acts : Log) → next ≡ None → is_kept x.ask ≡ true → steps.stage_of (took_steps y.s y.pad y.t) ≡ stage.Open → AreQuiet q r first (acts ++ log) behind_it g
       quiet_then acts last kept at_end =
           let is : steps.session_of id behind_it ≡ took_steps y.s y.pad y.t = took_is kept ∙ ap (λ (o : Option Sent). steps.with_sent id o (took_steps y.s y.pad y.t)) last in
-          quiet_from q r id (rsp_id y.s) (acts ++ log) behind_it g (beside_then acts) last
+          quiet_from q r first id (rsp_id y.s) (acts ++ log) behind_it g (beside_then acts) last
           (λ live. (
             ap rsp_id is,
             subst (λ (z : Steps). AreResting q.psk (acts ++ log) z (events.session_of (rsp_id z) g)) (sym is)
@@ -459,9 +462,9 @@ module _ (q : ReqSetup) (r : RspSetup) (id : ℕ) (x : Asking) where
           ∙ ap (λ (o : Option Sent). steps.with_sent id o (steps.after_record reply (inner_reply y.t) (Grants x.ask y.t.reply) (steps.session_of id h))) last
           ∙ ap (λ (b : Bool). if b then [] else steps.when_live (steps.session_of id h) (TookAnswer reply (inner_reply y.t) (Grants x.ask y.t.reply))) (ends_so x.ask y.t.reply ends)
 
-      pub quiet_gone : (acts : Log) → next ≡ None → is_kept x.ask ≡ false → AreQuiet q r (acts ++ log) behind_it g
+      pub quiet_gone : (acts : Log) → next ≡ None → is_kept x.ask ≡ false → AreQuiet q r first (acts ++ log) behind_it g
       quiet_gone acts last ends =
-          quiet_from q r id (rsp_id y.s) (acts ++ log) behind_it g (beside_then acts) last (λ live. absurd (false≢true (sym (ap steps.is_live (gone_is ends last)) ∙ live)))
+          quiet_from q r first id (rsp_id y.s) (acts ++ log) behind_it g (beside_then acts) last (λ live. absurd (false≢true (sym (ap steps.is_live (gone_is ends last)) ∙ live)))
 
       -- The session goes on unless it is ended.
       pub live_then : (k : Bool) → is_kept x.ask ≡ k → next ≡ None → steps.is_live (steps.session_of id behind_it) ≡ is_kept x.ask

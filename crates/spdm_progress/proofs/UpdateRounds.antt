@@ -90,7 +90,7 @@ module _ (p : Pair) (same_key : p.requester.psk ≡ p.responder.psk) (id : ℕ) 
 
   -- ---- The update.
 
-  update_answered : AreAnswered p.requester r id (update_asking all) CanUpdate (IsAcknowledged (operation_of all))
+  update_answered : AreAnswered p.requester r p.first id (update_asking all) CanUpdate (IsAcknowledged (operation_of all))
   update_answered = record {
     turns = λ g s e f sealed d fit at k made drawn here is.
         let ops = operations all in
@@ -111,22 +111,22 @@ module _ (p : Pair) (same_key : p.requester.psk ≡ p.responder.psk) (id : ℕ) 
   echoed : (s : Steps) (op : ℕ) → (op == op && update_tag s == update_tag s) ≡ true
   echoed s op = both_same op (update_tag s)
 
-  update_leads : (h : asked.History) (d : Draw) (s : Steps) (pad : List ℕ) (t : Turn) → IsAcknowledged (operation_of all) s t → steps.session_of id h ≡ asked_steps p.requester r id (update_asking all) s pad
-      → inner_led p.requester h (body_chosen p.requester h d) (came_as h id (answer_for p.requester r id (update_asking all) s t) (inner_reply t)) (AskUpdate all) ≡ next_led h t (took_steps p.requester r id (update_asking all) s pad t) []
+  update_leads : (h : asked.History) (d : Draw) (s : Steps) (pad : List ℕ) (t : Turn) → IsAcknowledged (operation_of all) s t → steps.session_of id h ≡ asked_steps p.requester r p.first id (update_asking all) s pad
+      → inner_led p.requester h (body_chosen p.requester h d) (came_as h id (answer_for p.requester r p.first id (update_asking all) s t) (inner_reply t)) (AskUpdate all) ≡ next_led h t (took_steps p.requester r p.first id (update_asking all) s pad t) []
   update_leads h d s pad t good is =
       let own = asker.sizes.least in
       let f = body_chosen p.requester h d in
-      let reply = answer_for p.requester r id (update_asking all) s t in
+      let reply = answer_for p.requester r p.first id (update_asking all) s t in
       let op = operation_of all in
       answer_read p.requester h f (came_as h id reply (inner_reply t)) (AskUpdate all) (canonical_response (KeyUpdateAck op (update_tag s))) (KeyUpdateAck op (update_tag s)) good.inner (omega arith)
       (reads h (KeyUpdateAck op (update_tag s)) (hash_len (steps.session_terms (steps.session_of id h))) ((operation_small all), (omega arith)) ((operations all).0, (operations all).1))
       ∙ ap (update_led p.requester h f (came_as h id reply (inner_reply t)) all) (ap (λ (z : Steps). op == op && update_tag s == update_tag z) is ∙ echoed s op)
       ∙ ap (λ (z : Steps). next_led h t (steps.when_live z (TookAnswer reply (inner_reply t) (Grants (AskUpdate all) t.reply))) f.pad) is
-      ∙ ap (next_led h t (took_steps p.requester r id (update_asking all) s pad t)) (no_pad h d)
+      ∙ ap (next_led h t (took_steps p.requester r p.first id (update_asking all) s pad t)) (no_pad h d)
 
   -- ---- VerifyNewKey.
 
-  verify_answered : AreAnswered p.requester r id verify_asking CanUpdate (IsAcknowledged 3)
+  verify_answered : AreAnswered p.requester r p.first id verify_asking CanUpdate (IsAcknowledged 3)
   verify_answered = record {
     turns = λ g s e f sealed d fit at k made drawn here is.
         let there = sym k.stage ∙ at in
@@ -142,7 +142,7 @@ module _ (p : Pair) (same_key : p.requester.psk ≡ p.responder.psk) (id : ℕ) 
     leads = λ h d s pad t fit good is.
         let own = asker.sizes.least in
         let f = body_chosen p.requester h d in
-        let reply = answer_for p.requester r id verify_asking s t in
+        let reply = answer_for p.requester r p.first id verify_asking s t in
         answer_read p.requester h f (came_as h id reply (inner_reply t)) AskVerify (canonical_response (KeyUpdateAck 3 (update_tag s))) (KeyUpdateAck 3 (update_tag s)) good.inner (omega arith)
         (reads h (KeyUpdateAck 3 (update_tag s)) (hash_len (steps.session_terms (steps.session_of id h))) ((omega arith), (omega arith)) ((omega arith), (omega arith)))
         ∙ ap (verified_led (came_as h id reply (inner_reply t))) (ap (λ (z : Steps). 3 == 3 && update_tag s == update_tag z) is ∙ echoed s 3)
@@ -153,25 +153,25 @@ module _ (p : Pair) (same_key : p.requester.psk ≡ p.responder.psk) (id : ℕ) 
   -- ---- Both.
 
   abbrev pub UpdateAsks : OneStage
-  UpdateAsks tag body log h g = IsAsked p.requester r id (update_asking all) CanUpdate tag body log h g
+  UpdateAsks tag body log h g = IsAsked p.requester r p.first id (update_asking all) CanUpdate tag body log h g
 
   abbrev UpdateAnswers : OneStage
-  UpdateAnswers tag body log h g = IsAnswered p.requester r id (update_asking all) CanUpdate (IsAcknowledged (operation_of all)) tag body log h g
+  UpdateAnswers tag body log h g = IsAnswered p.requester r p.first id (update_asking all) CanUpdate (IsAcknowledged (operation_of all)) tag body log h g
 
   abbrev told : Event
   told = event.Done (finished.Updated sid)
 
   update_first : IsFirst p UpdateAsks UpdateAnswers (AsksOnce p same_key id verify_asking CanUpdate (IsAcknowledged 3) told 0)
   update_first = record {
-    asks_sent = λ tag body log h g z. asked_sent p.requester r id (update_asking all) CanUpdate tag body log h g z;
-    answers_sent = λ tag body log h g z. answered_sent p.requester r id (update_asking all) CanUpdate (IsAcknowledged (operation_of all)) tag body log h g z;
-    serves = λ tag body log h g d drawn chance z. serves_so p.requester r id (update_asking all) same_key CanUpdate (IsAcknowledged (operation_of all)) update_answered tag log h g d drawn body z chance;
+    asks_sent = λ tag body log h g z. asked_sent p.requester r p.first id (update_asking all) CanUpdate tag body log h g z;
+    answers_sent = λ tag body log h g z. answered_sent p.requester r p.first id (update_asking all) CanUpdate (IsAcknowledged (operation_of all)) tag body log h g z;
+    serves = λ tag body log h g d drawn chance z. serves_so p.requester r p.first id (update_asking all) same_key CanUpdate (IsAcknowledged (operation_of all)) update_answered tag log h g d drawn body z chance;
     hears = λ tag body log h g d chance z.
-        let on = follows p.requester r id (update_asking all) verify_asking CanUpdate CanUpdate (IsAcknowledged (operation_of all)) tag log h g d body z event.Progress (update_leads h d z.s z.pad z.t z.good z.steps_are) refl
+        let on = follows p.requester r p.first id (update_asking all) verify_asking CanUpdate CanUpdate (IsAcknowledged (operation_of all)) tag log h g d body z event.Progress (update_leads h d z.s z.pad z.t z.good z.steps_are) refl
         (record { named = z.fit.named; flag = z.fit.flag }) refl (omega arith) in
         record { next = on.next; sends = on.sends; asks = record { is = on.asks } };
-    asks_still = λ tag body log h g later alike z. asked_still p.requester r id (update_asking all) CanUpdate tag body log h g later alike z;
-    answers_still = λ tag body log h g later alike z. answered_still p.requester r id (update_asking all) CanUpdate (IsAcknowledged (operation_of all)) tag body log h g later alike z;
+    asks_still = λ tag body log h g later alike z. asked_still p.requester r p.first id (update_asking all) CanUpdate tag body log h g later alike z;
+    answers_still = λ tag body log h g later alike z. answered_still p.requester r p.first id (update_asking all) CanUpdate (IsAcknowledged (operation_of all)) tag body log h g later alike z;
   }
 
   abbrev pub UpdateTalkAsks : ℕ → ℕ → List ℕ → Log → asked.History → served.History → Type 0

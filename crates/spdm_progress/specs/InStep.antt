@@ -1,6 +1,6 @@
 -- A session that both ends hold alike, so that what one seals next the other opens; and two ends at rest. This project's
 -- own.
-use Rattle.std.specs.Prelude.{◌≡◌, ◌≢◌, ◌<◌, ℕ, List, true, Some, None, Contains}
+use Rattle.std.specs.Prelude.{◌≡◌, ◌≢◌, ◌<◌, ◌≤◌, ◌+◌, ◌^◌, ℕ, List, length, true, Some, None, Contains}
 use Rattle.key_schedule.specs.Purpose.{Purpose}
 use Rattle.requester_machine.specs.Does as asking_does
 use Rattle.requester_machine.specs.History as asked
@@ -14,9 +14,14 @@ use Rattle.responder_machine.specs.Session as serving
 use Rattle.responder_machine.specs.Session.{Events}
 use Rattle.responder_machine.specs.Setup.{RspSetup}
 use Rattle.secured_record.specs.Faults.{tag_part}
+use Rattle.spdm_grammar.specs.Message.{ExchangeMessage}
+use Rattle.spdm_grammar.specs.Message.RequestMessage.{PskExchange}
+use Rattle.spdm_grammar.specs.Requests.{canonical_request, FitsRequest, IsSoundRequest}
 use Rattle.spdm_grammar.specs.declared.phase.Stage.TheVariants.{Open}
+use Rattle.spdm_machine.specs.Keys.{Draw, context_of}
 use Rattle.spdm_machine.specs.Sessions.{id_in_exchange}
 use Rattle.spdm_machine.specs.TagLog.{Log, record_input}
+use Rattle.spdm_machine.specs.Terms.{hash_len}
 use Rattle.spdm_machine.specs.TagLog.Act.{Made}
 
 -- The own history of a session at the requester and that at the responder: each has begun; they have the same
@@ -60,15 +65,22 @@ pub record AreResting (psk : List ℕ) (log : Log) (s : Steps) (e : Events) : Ty
 abbrev pub IsResting : List ℕ → Log → asked.History → served.History → ℕ → Type 0
 IsResting psk log h g id = AreResting psk log (asking.session_of id h) (serving.session_of (rsp_id (asking.session_of id h)) g)
 
+-- The last clear request that the responder took, which it answers from memory where it comes again, is no PSK_EXCHANGE
+-- whose context holds the number of a draw that the requester is yet to take. Its draws are numbered from this first one.
+pub record TookEarlier (q : ReqSetup) (first : ℕ) (h : asked.History) (g : served.History) : Type 0 where
+  pub kept : (k : served.Kept) → served.kept_of g ≡ Some k → (x : ExchangeMessage) (d : Draw) → FitsRequest (PskExchange x) → IsSoundRequest (hash_len (asked.connection_terms h)) (PskExchange x)
+      → x.context ≡ context_of (asked.connection_terms h).choice.hash d → length d.bytes ≡ 32 → first + asked.draws_of q h ≤ d.number → d.number < 2 ^ 64 → k.message ≢ canonical_request (PskExchange x)
+
 -- A requester and the responder's connection with it are quiet: nothing is outstanding; they are in the same phase, with
--- the same negotiation; and each session of the requester rests at both ends, each with a RspSessionID of its own. Each of
--- the two histories is one that its end made.
-pub record AreQuiet (q : ReqSetup) (r : RspSetup) (log : Log) (h : asked.History) (g : served.History) : Type 0 where
+-- the same negotiation; each session of the requester rests at both ends, each with a RspSessionID of its own; and the
+-- next PSK_EXCHANGE is none that the responder answers from memory. Each of the two histories is one that its end made.
+pub record AreQuiet (q : ReqSetup) (r : RspSetup) (first : ℕ) (log : Log) (h : asked.History) (g : served.History) : Type 0 where
   pub made : asking_does.IsMade q h
   pub made_there : serving_does.IsMade r g
   pub none : asked.outstanding h ≡ None
   pub phase : asked.phase_of h ≡ served.phase_of (served.clear_turns g)
   pub negotiation : asked.negotiation_of h ≡ served.negotiation_of (served.clear_turns g)
+  pub earlier : TookEarlier q first h g
   pub sessions : (id : ℕ) → asking.is_live (asking.session_of id h) ≡ true → IsResting q.psk log h g id
   pub apart : (i j : ℕ) → i ≢ j → asking.is_live (asking.session_of i h) ≡ true → asking.is_live (asking.session_of j h) ≡ true
       → rsp_id (asking.session_of i h) ≢ rsp_id (asking.session_of j h)

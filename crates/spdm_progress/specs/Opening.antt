@@ -1,12 +1,11 @@
 -- What an open comes to where its messages are delivered honestly. This project's own.
-use Rattle.std.specs.Prelude.{◌≡◌, ◌≢◌, ◌≤◌, ◌+◌, ◌==◌, ◌*◌, ℕ, List, length, Bool, true, false, if◌then◌else◌, Some}
+use Rattle.std.specs.Prelude.{◌≡◌, ◌≢◌, ◌≤◌, ◌+◌, ◌==◌, ◌*◌, ℕ, List, length, Bool, true, false, if◌then◌else◌}
 use Rattle.requester_machine.specs.Commands.{exchange_for}
 use Rattle.requester_machine.specs.Does as asking
 use Rattle.requester_machine.specs.Does.{command_chosen}
 use Rattle.requester_machine.specs.History as asked
 use Rattle.requester_machine.specs.Message.Command.{Open}
 use Rattle.requester_machine.specs.Requesting.{Requesting, next_draw}
-use Rattle.responder_machine.specs.History as served
 use Rattle.responder_machine.specs.Place as serving
 use Rattle.responder_machine.specs.Responding.{Connection}
 use Rattle.responder_machine.specs.Setup.{RspSetup}
@@ -35,14 +34,12 @@ exchange_rsp_size r terms summary =
     12 + (if summary == 0 then 0 else hash_size terms.choice.hash) + hash_size terms.choice.hash + length r.opaque + hash_size terms.choice.hash
 
 -- What an open needs. PSK_EXCHANGE, its answer and PSK_FINISH, of 4 bytes and the verify data, fit the transfer sizes of
--- their receivers, so that they need no chunks; the responder holds fewer sessions than four; and its last clear request
--- was another one than this PSK_EXCHANGE.
+-- their receivers, so that they need no chunks; and the responder holds fewer sessions than four.
 pub record CanOpen (a : Requesting) (c : Connection) (summary : ℕ) : Type 0 where
   pub request_fits : length (canonical_request (exchange_now a summary)) ≤ (terms_now a).common.to_responder.transfer
   pub answer_fits : exchange_rsp_size c.setup (terms_now a) summary ≤ (terms_now a).common.to_requester.transfer
   pub finish_fits : 4 + hash_size (terms_now a).choice.hash ≤ (terms_now a).common.to_responder.transfer
   pub limit : serving.held_of c.history ≢ 4
-  pub new : (k : served.Kept) → served.kept_of c.history ≡ Some k → k.message ≢ canonical_request (exchange_now a summary)
 
 -- The session that is opened has the least free id of either end.
 abbrev pub opened_id : Requesting → Connection → SessionId

@@ -70,7 +70,7 @@ pub record IsToldQuietly (w : WorldSetup) (before : List Entry) (n : ℕ) (a : R
   pub idle : NothingWaits (world_after w before)
   pub is_requester : requester_of n (world_after w before) ≡ Some a
   pub is_connection : connection_of a.setup.eid (world_after w before).responder.connections ≡ Some c
-  pub quiet : AreQuiet a.setup c.setup (world_after w before).log a.history c.history
+  pub quiet : AreQuiet a.setup c.setup a.first (world_after w before).log a.history c.history
   pub accepted : (requester_told a command).fault ≡ None
   pub life : LivesToAnswer a (world_after w before).responder
 
@@ -89,7 +89,7 @@ pub record IsDoneQuietly (n : ℕ) (q : ReqSetup) (r : RspSetup) (result : Finis
   pub is_connection : connection_of q.eid world.responder.connections ≡ Some connection
   pub requester_setup : requester.setup ≡ q
   pub responder_setup : connection.setup ≡ r
-  pub quiet : AreQuiet q r world.log requester.history connection.history
+  pub quiet : AreQuiet q r requester.first world.log requester.history connection.history
   pub session : is_live (session_at requester id) ≡ open_still
 
 -- The world in which requester n was told a command.
