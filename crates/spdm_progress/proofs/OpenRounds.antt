@@ -540,10 +540,10 @@ module _ (p : Pair) (same_key : p.requester.psk ≡ p.responder.psk) (asker : Is
   }
 
   abbrev pub OpenTalkAsks : Stage
-  OpenTalkAsks = Asks p OpenAsked OpenAnswered FinishAsks FinishAnswers OpenDone told
+  OpenTalkAsks = Asks p 0 OpenAsked OpenAnswered FinishAsks FinishAnswers OpenDone told
 
   abbrev pub OpenTalkAnswers : Stage
-  OpenTalkAnswers = Answering p OpenAsked OpenAnswered FinishAsks FinishAnswers OpenDone told
+  OpenTalkAnswers = Answering p 0 OpenAsked OpenAnswered FinishAsks FinishAnswers OpenDone told
 
   pub open_talk : IsTalk p OpenTalkAsks OpenTalkAnswers OpenDone told
-  open_talk = two_talk p OpenAsked OpenAnswered FinishAsks FinishAnswers OpenDone told open_first (once_talk p same_key id finish_x (CanFinish p same_key id sid asker server) FinishGood told (finish_last p same_key id sid asker server))
+  open_talk = two_talk p 0 OpenAsked OpenAnswered FinishAsks FinishAnswers OpenDone told open_first (once_talk p same_key id finish_x (CanFinish p same_key id sid asker server) FinishGood told (finish_last p same_key id sid asker server))

@@ -86,10 +86,10 @@ module _ (w : WorldSetup) (before : List Entry) (n : ℕ) (a : Requesting) (c : 
   p = pair_of n a c
 
   here : ArePlaced (world_after w before) n a c
-  here = placed w before n a c (Open summary) is_told line behind none honest still chance
+  here = placed w before n a c (Open summary) is_told.now line behind none honest still chance
 
   accepted : (command_fault false a.setup a.history (Open summary) f ≡ None) × (requester_asks false a.setup a.history (Open summary) d ≡ Adds (WasTold (Open summary) (request_sent (asked.connection_terms a.history).common a.history (PskExchange x)) d))
-  accepted = told_so a (Open summary) (fresh w before n a c (Open summary) is_told line behind none honest still chance) is_told.accepted
+  accepted = told_so a (Open summary) (fresh w before n a c (Open summary) is_told.now line behind none honest still chance) is_told.accepted
 
   passed : (k : ℕ) → test_at k (command_tests a.setup a.history (Open summary) f) ≡ false
   passed k = test_is_false false a.setup a.history (Open summary) f accepted.0 k
@@ -140,10 +140,10 @@ module _ (w : WorldSetup) (before : List Entry) (n : ℕ) (a : Requesting) (c : 
 
   few_draws : d.number < 2 ^ 64
   few_draws =
-      let fits = (fits_always w is_told.configured before (no_chance_from (world_after w before) (record { line = line; happening = Told n (Open summary) } ∷ behind) chance)).asks a (requester_in n (world_after w before) a is_told.is_requester) in
+      let fits = (fits_always w is_told.now.configured before (no_chance_from (world_after w before) (record { line = line; happening = Told n (Open summary) } ∷ behind) chance)).asks a (requester_in n (world_after w before) a is_told.now.is_requester) in
       let draws = fits.draws in
       let wear = fits.wear in
-      let life = is_told.life.requester in
+      let life = is_told.now.life.requester in
       omega (arith, own_number)
 
   ready : CanExchange a.setup c.setup a.first summary a.history d x
@@ -179,9 +179,9 @@ module _ (w : WorldSetup) (before : List Entry) (n : ℕ) (a : Requesting) (c : 
 
   done_with : Result f.id
   done_with =
-      completes_by w before n a c (Open summary) is_told line behind none honest still chance (OpenTalkAsks p here.key here.requester here.responder summary a.history d x rid ready) (OpenTalkAnswers p here.key here.requester here.responder summary a.history d x rid ready)
+      completes_by w before n a c (Open summary) is_told.now line behind none honest still chance (OpenTalkAsks p here.key here.requester here.responder summary a.history d x rid ready) (OpenTalkAnswers p here.key here.requester here.responder summary a.history d x rid ready)
       (OpenDone p here.key here.requester here.responder summary a.history d x rid ready) (finished.Opened (record { req = f.id; rsp = rid })) f.id true (λ log h g z. (z.quiet, z.session)) (open_talk p here.key here.requester here.responder summary a.history d x rid ready) 1 (omega arith)
-      (plain_sent a.history (PskExchange x)) (not_worn_told a (Open summary) (fresh w before n a c (Open summary) is_told line behind none honest still chance) ∙ ap (commanded_by a) asks)
+      (plain_sent a.history (PskExchange x)) (not_worn_told a (Open summary) (fresh w before n a c (Open summary) is_told.now line behind none honest still chance) ∙ ap (commanded_by a) asks)
       (inl (
         refl,
         record {

@@ -46,7 +46,7 @@ use Rattle.world_machine.specs.Trace.{lines_from, world_after, world_from}
 use Rattle.world_machine.specs.World.{World, WorldStep, entry_step, happens, told_by}
 use Rattle.spdm_progress.specs.Honest.{AreHonest, HaveNoCommand, NothingWaits}
 use Rattle.spdm_progress.specs.InStep.{AreQuiet}
-use Rattle.spdm_progress.specs.SessionCommands.{CanAsk, CompletesQuietly, IsDoneQuietly, IsToldQuietly, SessionCommandsComplete, commanding, goes_on, result_of, session_at}
+use Rattle.spdm_progress.specs.SessionCommands.{CanAsk, CompletesQuietly, IsDoneQuietly, IsTold, IsToldQuietly, SessionCommandsComplete, commanding, goes_on, result_of, session_at}
 use Rattle.spdm_progress.proofs.AlikeSessions.{is_kept}
 use Rattle.spdm_progress.proofs.Accepted.{not_worn_told, told_so}
 use Rattle.spdm_progress.proofs.AskedOnce.{CanBeat, CanMeasure, CanSend, IsData, IsMeasured, IsNamed, IsSpdm, beat_asking, beat_last, data_asking, data_last, end_asking, end_last, measure_asking, measure_last}
@@ -67,7 +67,7 @@ no_chance_from world (entry ∷ entries) chance = no_chance_earlier world entry.
 
 -- ---- A talk that a command begins.
 
-module _ (w : WorldSetup) (before : List Entry) (n : ℕ) (a : Requesting) (c : Connection) (command : Command) (is_told : IsToldQuietly w before n a c command) (line : ℕ) (behind : List Entry) (none : HaveNoCommand behind)
+module _ (w : WorldSetup) (before : List Entry) (n : ℕ) (a : Requesting) (c : Connection) (command : Command) (is_told : IsTold w before n a c) (line : ℕ) (behind : List Entry) (none : HaveNoCommand behind)
     (honest : AreHonest (commanding (world_after w before) line n command) behind) (still : NothingWaits (world_from (commanding (world_after w before) line n command) behind)) (chance : NoChance (world_from (commanding (world_after w before) line n command) behind).log) where
   abbrev world : World
   world = world_after w before
@@ -118,37 +118,38 @@ module _ (w : WorldSetup) (before : List Entry) (n : ℕ) (a : Requesting) (c : 
 
   -- ---- What is asked of a session.
 
-  pad_short : length (command_chosen a.setup a.history (asking.next_draw a)).pad ≤ 16
-  unfolding chosen
-  pad_short =
-      let short = min-le_left a.setup.pad (length (asking.next_draw a).bytes) in
-      let most = placed.requester.pad in
-      omega (arith, length-take a.setup.pad (asking.next_draw a).bytes, short)
+  module _ (quietly : IsToldQuietly w before n a c command) where
+    pad_short : length (command_chosen a.setup a.history (asking.next_draw a)).pad ≤ 16
+    unfolding chosen
+    pad_short =
+        let short = min-le_left a.setup.pad (length (asking.next_draw a).bytes) in
+        let most = placed.requester.pad in
+        omega (arith, length-take a.setup.pad (asking.next_draw a).bytes, short)
 
-  module _ (id : ℕ) (x : Asking) (one : AsksOfSession command) (named : session_in command ≡ Some id) (plain : stage_for x.ask ≡ stage.Open) (small : length (x.inner (session_at a id)) ≤ 1025)
-      (asks : done a.setup a.history command (command_chosen a.setup a.history (asking.next_draw a)) (asking.next_draw a) ≡ Adds (WasTold command (sent_for a.setup a.history id x (command_chosen a.setup a.history (asking.next_draw a)).pad) (asking.next_draw a))) where
-    abbrev sent : Sent
-    sent = sent_for a.setup a.history id x (command_chosen a.setup a.history (asking.next_draw a)).pad
+    module _ (id : ℕ) (x : Asking) (one : AsksOfSession command) (named : session_in command ≡ Some id) (plain : stage_for x.ask ≡ stage.Open) (small : length (x.inner (session_at a id)) ≤ 1025)
+        (asks : done a.setup a.history command (command_chosen a.setup a.history (asking.next_draw a)) (asking.next_draw a) ≡ Adds (WasTold command (sent_for a.setup a.history id x (command_chosen a.setup a.history (asking.next_draw a)).pad) (asking.next_draw a))) where
+      abbrev sent : Sent
+      sent = sent_for a.setup a.history id x (command_chosen a.setup a.history (asking.next_draw a)).pad
 
-    asks_so : requester_asks false a.setup a.history command (asking.next_draw a) ≡ Adds (WasTold command sent (asking.next_draw a))
-    asks_so = (told_so a command fresh is_told.accepted).1 ∙ asks
+      asks_so : requester_asks false a.setup a.history command (asking.next_draw a) ≡ Adds (WasTold command sent (asking.next_draw a))
+      asks_so = (told_so a command fresh quietly.accepted).1 ∙ asks
 
-    pub step_so : requester_told a command ≡ sends a command sent
-    step_so = not_worn_told a command fresh ∙ ap (commanded_by a) asks_so
+      pub step_so : requester_told a command ≡ sends a command sent
+      step_so = not_worn_told a command fresh ∙ ap (commanded_by a) asks_so
 
-    pub live_so : steps.is_live (session_at a id) ≡ true
-    live_so = somewhere a.setup a.history command (command_chosen a.setup a.history (asking.next_draw a)) id (told_so a command fresh is_told.accepted).0 named
+      pub live_so : steps.is_live (session_at a id) ≡ true
+      live_so = somewhere a.setup a.history command (command_chosen a.setup a.history (asking.next_draw a)) id (told_so a command fresh quietly.accepted).0 named
 
-    pub is_asked : (Fit : Steps → Type 0) → Fit (session_at a id) → IsAsked a.setup c.setup a.first id x Fit sent.tag (body_of sent.content) (told_view world a c command sent).log (told_view world a c command sent).asked c.history
-    is_asked Fit fit =
-        asked_now a.setup c.setup a.first id x Fit command one world.log a.history c.history (asking.next_draw a) (command_chosen a.setup a.history (asking.next_draw a)).pad is_told.quiet live_so plain fit (omega (arith, pad_short, small)) asks_so
+      pub is_asked : (Fit : Steps → Type 0) → Fit (session_at a id) → IsAsked a.setup c.setup a.first id x Fit sent.tag (body_of sent.content) (told_view world a c command sent).log (told_view world a c command sent).asked c.history
+      is_asked Fit fit =
+          asked_now a.setup c.setup a.first id x Fit command one world.log a.history c.history (asking.next_draw a) (command_chosen a.setup a.history (asking.next_draw a)).pad quietly.quiet live_so plain fit (omega (arith, pad_short, small)) asks_so
 
-    -- It takes one round.
-    pub once_completes : (Fit : Steps → Type 0) (Good : Steps → Turn → Type 0) (result : Finished) → IsLast p one_key id x Fit Good (event.Done result) → Fit (session_at a id)
-        → IsDoneQuietly n a.setup c.setup result id (is_kept x.ask) (world_from (commanding world line n command) behind) (lines_from (commanding world line n command) behind)
-    once_completes Fit Good result last fit =
-        completes_by (AsksOnce p one_key id x Fit Good (event.Done result)) (AnswersOnce p one_key id x Fit Good (event.Done result)) (Quiet p one_key id x Fit Good (event.Done result)) result id (is_kept x.ask) (λ log h g z. (z.quiet, z.session)) (once_talk p one_key id x Fit Good (event.Done result) last) 0 (omega arith) sent step_so
-        (record { is = is_asked Fit fit })
+      -- It takes one round.
+      pub once_completes : (Fit : Steps → Type 0) (Good : Steps → Turn → Type 0) (result : Finished) → IsLast p one_key id x Fit Good (event.Done result) → Fit (session_at a id)
+          → IsDoneQuietly n a.setup c.setup result id (is_kept x.ask) (world_from (commanding world line n command) behind) (lines_from (commanding world line n command) behind)
+      once_completes Fit Good result last fit =
+          completes_by (AsksOnce p one_key id x Fit Good (event.Done result)) (AnswersOnce p one_key id x Fit Good (event.Done result)) (Quiet p one_key id x Fit Good (event.Done result)) result id (is_kept x.ask) (λ log h g z. (z.quiet, z.session)) (once_talk p one_key id x Fit Good (event.Done result) last) 0 (omega arith) sent step_so
+          (record { is = is_asked Fit fit })
 
 -- ---- Each command.
 
@@ -171,7 +172,7 @@ module _ (w : WorldSetup) (before : List Entry) (n : ℕ) (a : Requesting) (c : 
   Result command id = IsDoneQuietly n a.setup c.setup (result_of a c command) id (goes_on command) (world_from (After command) behind) (lines_from (After command) behind)
 
   no_fault : (command : Command) → IsOver command → command_fault false a.setup a.history command (command_chosen a.setup a.history (asking.next_draw a)) ≡ None
-  no_fault command o = (told_so a command (fresh w before n a c command o.told line behind none o.honest o.still o.chance) o.told.accepted).0
+  no_fault command o = (told_so a command (fresh w before n a c command o.told.now line behind none o.honest o.still o.chance) o.told.accepted).0
 
   passed : (command : Command) → IsOver command → (k : ℕ) → test_at k (command_tests a.setup a.history command (command_chosen a.setup a.history (asking.next_draw a))) ≡ false
   passed command o k = test_is_false false a.setup a.history command (command_chosen a.setup a.history (asking.next_draw a)) (no_fault command o) k
@@ -182,56 +183,56 @@ module _ (w : WorldSetup) (before : List Entry) (n : ℕ) (a : Requesting) (c : 
   sent_data : (id : ℕ) (bytes : List ℕ) → IsOver (Send id bytes) → Result (Send id bytes) id
   sent_data id bytes o =
       let command = Send id bytes in
-      let here = placed w before n a c command o.told line behind none o.honest o.still o.chance in
-      let key = one_key w before n a c command o.told line behind none o.honest o.still o.chance in
+      let here = placed w before n a c command o.told.now line behind none o.honest o.still o.chance in
+      let key = one_key w before n a c command o.told.now line behind none o.honest o.still o.chance in
       let short = ltb-false 1024 (length bytes) (passed command o 8) in
       let sid = steps.session_id (session_at a id) in
-      once_completes w before n a c command o.told line behind none o.honest o.still o.chance id (data_asking bytes) (of_session command (λ j n sent s. refl) refl) refl refl (omega arith) refl
+      once_completes w before n a c command o.told.now line behind none o.honest o.still o.chance o.told id (data_asking bytes) (of_session command (λ j n sent s. refl) refl) refl refl (omega arith) refl
       (CanSend pair key id sid here.requester here.responder bytes) (IsData pair key id sid here.requester here.responder) (finished.Answered sid) (data_last pair key id sid here.requester here.responder bytes) (record { named = refl; short = short })
 
   sent_beat : (id : ℕ) → IsOver (Beat id) → Result (Beat id) id
   sent_beat id o =
       let command = Beat id in
-      let here = placed w before n a c command o.told line behind none o.honest o.still o.chance in
-      let key = one_key w before n a c command o.told line behind none o.honest o.still o.chance in
+      let here = placed w before n a c command o.told.now line behind none o.honest o.still o.chance in
+      let key = one_key w before n a c command o.told.now line behind none o.honest o.still o.chance in
       let sid = steps.session_id (session_at a id) in
-      once_completes w before n a c command o.told line behind none o.honest o.still o.chance id beat_asking (of_session command (λ j n sent s. refl) refl) refl refl (omega arith) refl
+      once_completes w before n a c command o.told.now line behind none o.honest o.still o.chance o.told id beat_asking (of_session command (λ j n sent s. refl) refl) refl refl (omega arith) refl
       (CanBeat pair key id sid here.requester here.responder) (IsSpdm pair key id sid here.requester here.responder (canonical_response HeartbeatAck)) (finished.Alive sid) (beat_last pair key id sid here.requester here.responder)
       (record { named = refl; flag = not-false _ (passed command o 5) })
 
   sent_end : (id : ℕ) → IsOver (End id) → Result (End id) id
   sent_end id o =
       let command = End id in
-      let here = placed w before n a c command o.told line behind none o.honest o.still o.chance in
-      let key = one_key w before n a c command o.told line behind none o.honest o.still o.chance in
+      let here = placed w before n a c command o.told.now line behind none o.honest o.still o.chance in
+      let key = one_key w before n a c command o.told.now line behind none o.honest o.still o.chance in
       let sid = steps.session_id (session_at a id) in
-      once_completes w before n a c command o.told line behind none o.honest o.still o.chance id end_asking (of_session command (λ j n sent s. refl) refl) refl refl (omega arith) refl
+      once_completes w before n a c command o.told.now line behind none o.honest o.still o.chance o.told id end_asking (of_session command (λ j n sent s. refl) refl) refl refl (omega arith) refl
       (IsNamed pair key id sid here.requester here.responder) (IsSpdm pair key id sid here.requester here.responder (canonical_response EndSessionAck)) (finished.Ended sid) (end_last pair key id sid here.requester here.responder) (record { named = refl })
 
   sent_measure : (id op : ℕ) → CanAsk a c (Measure (Some id) op) → IsOver (Measure (Some id) op) → Result (Measure (Some id) op) id
   sent_measure id op can o =
       let command = Measure (Some id) op in
       let live = somewhere a.setup a.history command (command_chosen a.setup a.history (asking.next_draw a)) id (no_fault command o) refl in
-      let here = placed w before n a c command o.told line behind none o.honest o.still o.chance in
-      let key = one_key w before n a c command o.told line behind none o.honest o.still o.chance in
+      let here = placed w before n a c command o.told.now line behind none o.honest o.still o.chance in
+      let key = one_key w before n a c command o.told.now line behind none o.honest o.still o.chance in
       let sid = steps.session_id (session_at a id) in
       let sizes = session_sizes a.setup a.history id (record { transfer = (let most = here.requester.sizes.most in let ordered = here.requester.sizes.ordered in omega arith); max = here.requester.sizes.most }) o.told.quiet.made live in
-      once_completes w before n a c command o.told line behind none o.honest o.still o.chance id (measure_asking op) (of_session command (λ j n sent s. refl) refl) refl refl (omega arith) refl
+      once_completes w before n a c command o.told.now line behind none o.honest o.still o.chance o.told id (measure_asking op) (of_session command (λ j n sent s. refl) refl) refl refl (omega arith) refl
       (CanMeasure pair key id sid here.requester here.responder op) (IsMeasured pair key id sid here.requester here.responder op) (finished.Measured (number_for c.setup op)) (measure_last pair key id sid here.requester here.responder op)
       (record { byte = can.0; block = can.1; chosen = and_second _ _ (not-false _ (passed command o 5)); fits = can.2; fits_own = subst (λ (size : ℕ). measurements_size c.setup op ≤ size) sizes.transfer can.2 })
 
   sent_update : (id : ℕ) (all : Bool) → IsOver (Update id all) → Result (Update id all) id
   sent_update id all o =
       let command = Update id all in
-      let here = placed w before n a c command o.told line behind none o.honest o.still o.chance in
-      let key = one_key w before n a c command o.told line behind none o.honest o.still o.chance in
+      let here = placed w before n a c command o.told.now line behind none o.honest o.still o.chance in
+      let key = one_key w before n a c command o.told.now line behind none o.honest o.still o.chance in
       let sid = steps.session_id (session_at a id) in
       let one = of_session command (λ j n sent s. refl) refl in
-      completes_by w before n a c command o.told line behind none o.honest o.still o.chance (UpdateTalkAsks pair key id sid here.requester here.responder all) (UpdateTalkAnswers pair key id sid here.requester here.responder all) (UpdateDone pair key id sid here.requester here.responder all) (finished.Updated sid) id true (λ log h g z. (z.quiet, z.session))
-      (update_talk pair key id sid here.requester here.responder all) 1 (omega arith) _ (step_so w before n a c command o.told line behind none o.honest o.still o.chance id (update_asking all) one refl refl (omega arith) refl)
+      completes_by w before n a c command o.told.now line behind none o.honest o.still o.chance (UpdateTalkAsks pair key id sid here.requester here.responder all) (UpdateTalkAnswers pair key id sid here.requester here.responder all) (UpdateDone pair key id sid here.requester here.responder all) (finished.Updated sid) id true (λ log h g z. (z.quiet, z.session))
+      (update_talk pair key id sid here.requester here.responder all) 1 (omega arith) _ (step_so w before n a c command o.told.now line behind none o.honest o.still o.chance o.told id (update_asking all) one refl refl (omega arith) refl)
       (inl (
         refl,
-        is_asked w before n a c command o.told line behind none o.honest o.still o.chance id (update_asking all) one refl refl (omega arith) refl (CanUpdate pair key id sid here.requester here.responder all)
+        is_asked w before n a c command o.told.now line behind none o.honest o.still o.chance o.told id (update_asking all) one refl refl (omega arith) refl (CanUpdate pair key id sid here.requester here.responder all)
             (record { named = refl; flag = not-false _ (passed command o 5) }),
       ))
 

@@ -1,4 +1,4 @@
--- A talk of two rounds: a first one, whose answer leads to the request of a talk of one.
+-- A talk of one round more: a first one, whose answer leads to the request of a talk.
 use Rattle.std.proofs.Common.{◌≡◌, ◌⊎◌, ◌∙◌, ℕ, zero, suc, List, ◌++◌, length, false, Option, Some, None, refl, sym, ap, subst, inl, inr}
 use Rattle.spdm_grammar.specs.declared.event.Event.{Event}
 use Rattle.spdm_machine.specs.Keys.{Draw}
@@ -38,22 +38,22 @@ pub record IsFirst (p : Pair) (Asks Answers Then : OneStage) : Type 0 where
   pub asks_still : (tag : ℕ) (body : List ℕ) (log : Log) (h : asked.History) (g later : served.History) → AreAlike p.responder g later → Asks tag body log h g → Asks tag body log h later
   pub answers_still : (tag : ℕ) (body : List ℕ) (log : Log) (h : asked.History) (g later : served.History) → AreAlike p.responder g later → Answers tag body log h g → Answers tag body log h later
 
-module _ (p : Pair) (First FirstAnswer : OneStage) (Second SecondAnswer : Stage) (Done : Log → asked.History → served.History → Type 0) (told : Event) where
-  -- The first round, with one to follow; or the second.
+module _ (p : Pair) (count : ℕ) (First FirstAnswer : OneStage) (Second SecondAnswer : Stage) (Done : Log → asked.History → served.History → Type 0) (told : Event) where
+  -- The first round, with so many to follow; or one of these.
   abbrev pub Asks : Stage
-  Asks more tag body log h g = ((more ≡ 1) × First tag body log h g) ⊎ Second more tag body log h g
+  Asks more tag body log h g = ((more ≡ suc count) × First tag body log h g) ⊎ Second more tag body log h g
 
   abbrev pub Answers : Stage
-  Answers more tag body log h g = ((more ≡ 1) × FirstAnswer tag body log h g) ⊎ SecondAnswer more tag body log h g
+  Answers more tag body log h g = ((more ≡ suc count) × FirstAnswer tag body log h g) ⊎ SecondAnswer more tag body log h g
 
   wider : (more : ℕ) (o : Outcome) (log : Log) (h : asked.History) (g : served.History) → Leads p Second Done told more o log h g → Leads p Asks Done told more o log h g
   wider more o log h g (Further next fewer one_less sends asks) = Further next fewer one_less sends (inr asks)
   wider more o log h g (Over sends tells done) = Over sends tells done
 
-  leads_on : (more : ℕ) (o : Outcome) (log : Log) (h : asked.History) (g : served.History) → more ≡ 1 → LeadsTo (Second 0) o log h g → Leads p Asks Done told more o log h g
-  leads_on more o log h g one x = Further x.next 0 one x.sends (inr x.asks)
+  leads_on : (more : ℕ) (o : Outcome) (log : Log) (h : asked.History) (g : served.History) → more ≡ suc count → LeadsTo (Second count) o log h g → Leads p Asks Done told more o log h g
+  leads_on more o log h g one x = Further x.next count one x.sends (inr x.asks)
 
-  module _ (first : IsFirst p First FirstAnswer (Second 0)) (second : IsTalk p Second SecondAnswer Done told) where
+  module _ (first : IsFirst p First FirstAnswer (Second count)) (second : IsTalk p Second SecondAnswer Done told) where
     sent_so : (more tag : ℕ) (body : List ℕ) (log : Log) (h : asked.History) (g : served.History) → Asks more tag body log h g → IsSendable tag body
     sent_so more tag body log h g (inl x) = first.asks_sent tag body log h g x.1
     sent_so more tag body log h g (inr x) = second.asks_sent more tag body log h g x

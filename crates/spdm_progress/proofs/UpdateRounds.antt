@@ -175,14 +175,14 @@ module _ (p : Pair) (same_key : p.requester.psk ≡ p.responder.psk) (id : ℕ) 
   }
 
   abbrev pub UpdateTalkAsks : ℕ → ℕ → List ℕ → Log → asked.History → served.History → Type 0
-  UpdateTalkAsks = Asks p UpdateAsks UpdateAnswers (AsksOnce p same_key id verify_asking CanUpdate (IsAcknowledged 3) told) (AnswersOnce p same_key id verify_asking CanUpdate (IsAcknowledged 3) told) (Quiet p same_key id verify_asking CanUpdate (IsAcknowledged 3) told) told
+  UpdateTalkAsks = Asks p 0 UpdateAsks UpdateAnswers (AsksOnce p same_key id verify_asking CanUpdate (IsAcknowledged 3) told) (AnswersOnce p same_key id verify_asking CanUpdate (IsAcknowledged 3) told) (Quiet p same_key id verify_asking CanUpdate (IsAcknowledged 3) told) told
 
   abbrev pub UpdateTalkAnswers : ℕ → ℕ → List ℕ → Log → asked.History → served.History → Type 0
-  UpdateTalkAnswers = Answers p UpdateAsks UpdateAnswers (AsksOnce p same_key id verify_asking CanUpdate (IsAcknowledged 3) told) (AnswersOnce p same_key id verify_asking CanUpdate (IsAcknowledged 3) told) (Quiet p same_key id verify_asking CanUpdate (IsAcknowledged 3) told) told
+  UpdateTalkAnswers = Answers p 0 UpdateAsks UpdateAnswers (AsksOnce p same_key id verify_asking CanUpdate (IsAcknowledged 3) told) (AnswersOnce p same_key id verify_asking CanUpdate (IsAcknowledged 3) told) (Quiet p same_key id verify_asking CanUpdate (IsAcknowledged 3) told) told
 
   abbrev pub UpdateDone : Log → asked.History → served.History → Type 0
   UpdateDone = Quiet p same_key id verify_asking CanUpdate (IsAcknowledged 3) told
 
   pub update_talk : IsTalk p UpdateTalkAsks UpdateTalkAnswers UpdateDone told
-  update_talk = two_talk p UpdateAsks UpdateAnswers (AsksOnce p same_key id verify_asking CanUpdate (IsAcknowledged 3) told) (AnswersOnce p same_key id verify_asking CanUpdate (IsAcknowledged 3) told) (Quiet p same_key id verify_asking CanUpdate (IsAcknowledged 3) told) told
+  update_talk = two_talk p 0 UpdateAsks UpdateAnswers (AsksOnce p same_key id verify_asking CanUpdate (IsAcknowledged 3) told) (AnswersOnce p same_key id verify_asking CanUpdate (IsAcknowledged 3) told) (Quiet p same_key id verify_asking CanUpdate (IsAcknowledged 3) told) told
       update_first (once_talk p same_key id verify_asking CanUpdate (IsAcknowledged 3) told verify_last)

@@ -58,21 +58,25 @@ result_of a c Connect = finished.Connected
 result_of a c (Open summary) = finished.Connected
 result_of a c Retry = finished.Connected
 
--- Neither end is worn out before it is over: each takes up to 132 packets, and the requester the command.
+-- Neither end is worn out before it is over: each takes up to 198 packets, and the requester the command.
 pub record LivesToAnswer (a : Requesting) (r : Responding) : Type 0 where
-  pub requester : length a.given + a.commands + 133 ≤ wear_limit
-  pub responder : length r.given + 132 ≤ wear_limit
+  pub requester : length a.given + a.commands + 199 ≤ wear_limit
+  pub responder : length r.given + 198 ≤ wear_limit
 
--- A command is told to requester n of a world that a set-up and any events lead to, and answered `ok`, where no packet
--- waits and the requester and the responder's connection with it are quiet.
-pub record IsToldQuietly (w : WorldSetup) (before : List Entry) (n : ℕ) (a : Requesting) (c : Connection) (command : Command) : Type 0 where
+-- Requester n, of a world that a set-up and any events lead to, is told a command where no packet waits. The responder has
+-- this connection with it.
+pub record IsTold (w : WorldSetup) (before : List Entry) (n : ℕ) (a : Requesting) (c : Connection) : Type 0 where
   pub configured : IsConfigured w
   pub idle : NothingWaits (world_after w before)
   pub is_requester : requester_of n (world_after w before) ≡ Some a
   pub is_connection : connection_of a.setup.eid (world_after w before).responder.connections ≡ Some c
+  pub life : LivesToAnswer a (world_after w before).responder
+
+-- The command is answered `ok` where the requester and the responder's connection with it are quiet.
+pub record IsToldQuietly (w : WorldSetup) (before : List Entry) (n : ℕ) (a : Requesting) (c : Connection) (command : Command) : Type 0 where
+  pub now : IsTold w before n a c
   pub quiet : AreQuiet a.setup c.setup a.first (world_after w before).log a.history c.history
   pub accepted : (requester_told a command).fault ≡ None
-  pub life : LivesToAnswer a (world_after w before).responder
 
 -- The session that a command names goes on behind it, unless it is ended.
 abbrev pub goes_on : Command → Bool
