@@ -36,6 +36,7 @@ pub mod FinishRound
 pub mod ExchangeStages
 pub mod OpenRounds
 pub mod Opened
+pub mod ClearRounds
 pub mod ComingSteps
 pub mod UnderWay
 pub mod Accepted
