@@ -37,6 +37,7 @@ pub mod ExchangeStages
 pub mod OpenRounds
 pub mod Opened
 pub mod ClearRounds
+pub mod ConnectRounds
 pub mod ComingSteps
 pub mod UnderWay
 pub mod Accepted

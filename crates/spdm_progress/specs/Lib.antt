@@ -4,3 +4,4 @@ pub mod Measuring
 pub mod InStep
 pub mod SessionCommands
 pub mod Opening
+pub mod Scripts
