@@ -38,6 +38,7 @@ pub mod OpenRounds
 pub mod Opened
 pub mod ClearRounds
 pub mod ConnectRounds
+pub mod MeasureRound
 pub mod ComingSteps
 pub mod UnderWay
 pub mod Accepted

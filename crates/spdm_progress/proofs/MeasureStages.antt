@@ -19,7 +19,7 @@ use Rattle.spdm_grammar.specs.declared.names.request_code.TheConstants.{GET_MEAS
 use Rattle.spdm_machine.specs.Keys.{Draw}
 use Rattle.spdm_machine.specs.Terms.{Terms, hash_len, terms_of}
 use Rattle.requester_machine.specs.Answers.{is_done}
-use Rattle.requester_machine.specs.Does.{body_chosen}
+use Rattle.requester_machine.specs.Does.{body_chosen, requester_hears}
 use Rattle.requester_machine.specs.History as asked
 use Rattle.requester_machine.specs.History.{Led, outstanding, negotiation_of}
 use Rattle.requester_machine.specs.History.Effect.{Answers}
@@ -45,7 +45,7 @@ use Rattle.requester_machine.specs.Asking.Outcome.{Adds}
 use Rattle.requester_machine.specs.Commands.{Free, command_fault}
 use Rattle.requester_machine.specs.Does.{requester_asks, command_chosen}
 use Rattle.requester_machine.specs.History.{connection_terms, next_tag}
-use Rattle.requester_machine.specs.History.Entry.{Told}
+use Rattle.requester_machine.specs.History.Entry.{Told, TookClear}
 use Rattle.requester_machine.specs.Message.{Command, Sent}
 use Rattle.requester_machine.specs.Message.Command.{Measure}
 use Rattle.requester_machine.specs.Requesting.{Requesting, CommandStep, requester_told, commanded_by, is_worn, next_draw}
@@ -164,7 +164,7 @@ takes_under q r h d op n drawn can under =
           (subst (λ (k : ℕ). k ≤ (terms_of n).common.to_requester.max) (sym size) can.fits_max, subst (λ (k : ℕ). k ≤ (terms_of n).common.to_requester.transfer) (sym size) can.fits);
     }
 
-measure_turn : (q : ReqSetup) (r : RspSetup) (h : served.History) (d : Draw) (tag op : ℕ) (n : Negotiation) → length d.bytes ≡ 32 → CanServe q r op n → Serves r n tag op h
+pub measure_turn : (q : ReqSetup) (r : RspSetup) (h : served.History) (d : Draw) (tag op : ℕ) (n : Negotiation) → length d.bytes ≡ 32 → CanServe q r op n → Serves r n tag op h
     → turn_of r (clear_place h) (get_measurements op) (clear_chosen r h d) ≡ taken_turn r (clear_place h) (get_measurements op) (clear_chosen r h d) (GetMeasurements op)
 measure_turn q r h d tag op n drawn can has =
     let takes = takes_under q r h d op n drawn can has.negotiation in
@@ -315,20 +315,29 @@ pub record IsMeasuredBy (r : RspSetup) (op : ℕ) (h : asked.History) : Type 0 w
   pub none : outstanding h ≡ None
   pub taken : last_data h ≡ record_for r op
 
-pub measure_heard : (q : ReqSetup) (r : RspSetup) (h : asked.History) (tag op : ℕ) (n : Negotiation) (nonce : List ℕ) (d : Draw) → length nonce ≡ 32 → CanServe q r op n → Asks q tag (GetMeasurements op) (get_measurements op) n h
-    → Hears q h tag (measurements r op nonce) d (event.Done (finished.Measured (number_for r op))) None (IsMeasuredBy r op)
-measure_heard q r h tag op n nonce d whole can asks =
+abbrev pub measured_led : RspSetup → ℕ → List ℕ → Led
+measured_led r op nonce = is_done (finished.Measured (number_for r op)) (Answers (GetMeasurements op) (measurements r op nonce))
+
+pub measure_outcome : (q : ReqSetup) (r : RspSetup) (h : asked.History) (tag op : ℕ) (n : Negotiation) (nonce : List ℕ) (d : Draw) → length nonce ≡ 32 → CanServe q r op n → Asks q tag (GetMeasurements op) (get_measurements op) n h
+    → requester_hears q h false tag (clear_body (measurements r op nonce)) d ≡ Adds (TookClear tag (measurements r op nonce) (measured_led r op nonce) d)
+measure_outcome q r h tag op n nonce d whole can asks =
     let asked_it = GetMeasurements op in
     let answer = measurements r op nonce in
-    let led = is_done (finished.Measured (number_for r op)) (Answers asked_it answer) in
     let fits = can.fits_own in
     let most = can.most in
     let within : measurements_size r op ≤ 4138 = omega arith in
     let size = measurements_are r op nonce whole in
-    hears_by q h tag answer d led (IsMeasuredBy r op)
-    (hears_as q h tag asked_it (get_measurements op) n answer d led asks (omega (arith, size, fits))
+    hears_as q h tag asked_it (get_measurements op) n answer d (measured_led r op nonce) asks (omega (arith, size, fits))
     (led_plain q h (body_chosen q h d) asked_it answer (Measurements (measured r op nonce)) (reads h (Measurements (measured r op nonce)) (hash_len (connection_terms h)) (measured_fits r op nonce) (measured_sound r op (hash_len (connection_terms h)) nonce whole within))
-    ∙ ap (λ (k : ℕ). let x : Result Led ReqIgnored = Ok (is_done (finished.Measured k) (Answers asked_it answer)) in x) (told_number (op == 0) (length (inventory_of r)) (length (blocks_asked op (inventory_of r))))))
+    ∙ ap (λ (k : ℕ). let x : Result Led ReqIgnored = Ok (is_done (finished.Measured k) (Answers asked_it answer)) in x) (told_number (op == 0) (length (inventory_of r)) (length (blocks_asked op (inventory_of r)))))
+
+pub measure_heard : (q : ReqSetup) (r : RspSetup) (h : asked.History) (tag op : ℕ) (n : Negotiation) (nonce : List ℕ) (d : Draw) → length nonce ≡ 32 → CanServe q r op n → Asks q tag (GetMeasurements op) (get_measurements op) n h
+    → Hears q h tag (measurements r op nonce) d (event.Done (finished.Measured (number_for r op))) None (IsMeasuredBy r op)
+measure_heard q r h tag op n nonce d whole can asks =
+    let fits = can.fits_own in
+    let most = can.most in
+    let within : measurements_size r op ≤ 4138 = omega arith in
+    hears_by q h tag (measurements r op nonce) d (measured_led r op nonce) (IsMeasuredBy r op) (measure_outcome q r h tag op n nonce d whole can asks)
     (record {
       none = refl;
       taken = ap (λ (o : Option ResponseMessage). unwrap_or (option_or None (blocks_of o)) (last_data h)) (ap result_ok (reads h (Measurements (measured r op nonce)) 32 (measured_fits r op nonce) (measured_sound r op 32 nonce whole within)));

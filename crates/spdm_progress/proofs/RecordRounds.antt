@@ -224,3 +224,38 @@ quiet_still q r first log h g later alike k = record {
   sessions = λ id live. resting_on q.psk [] log (steps.session_of id h) _ _ (alike.sessions (rsp_id (steps.session_of id h))) (k.sessions id live);
   apart = k.apart;
 }
+
+-- A requester that moved on, but not in its sessions nor in what it settled, is quiet with the same connection.
+pub quiet_moved : (q : ReqSetup) (r : RspSetup) (first : ℕ) (acts log : Log) (h h' : asked.History) (g : served.History) → asking_does.IsMade q h' → outstanding h' ≡ None → asked.phase_of h' ≡ asked.phase_of h → asked.negotiation_of h' ≡ asked.negotiation_of h
+    → asked.draws_of q h ≤ asked.draws_of q h' → ((j : ℕ) → steps.session_of j h' ≡ steps.session_of j h) → AreQuiet q r first log h g → AreQuiet q r first (acts ++ log) h' g
+quiet_moved q r first acts log h h' g made none phase negotiation draws same k = record {
+  made = made;
+  made_there = k.made_there;
+  none = none;
+  phase = phase ∙ k.phase;
+  negotiation = negotiation ∙ k.negotiation;
+  earlier = earlier_on q first h h' g g refl negotiation draws k.earlier;
+  sessions = λ j live.
+      subst (λ (s : Steps). AreResting q.psk (acts ++ log) s (events.session_of (rsp_id s) g)) (sym (same j))
+      (resting_on q.psk acts log (steps.session_of j h) (events.session_of (rsp_id (steps.session_of j h)) g) (events.session_of (rsp_id (steps.session_of j h)) g) (inl refl) (k.sessions j (sym (ap steps.is_live (same j)) ∙ live)));
+  apart = λ i j differ live_i live_j.
+      subst (λ (s : Steps). rsp_id s ≢ rsp_id (steps.session_of j h')) (sym (same i)) (subst (λ (s : Steps). rsp_id (steps.session_of i h) ≢ rsp_id s) (sym (same j)) (k.apart i j differ (sym (ap steps.is_live (same i)) ∙ live_i) (sym (ap steps.is_live (same j)) ∙ live_j)));
+}
+
+-- A responder that took a clear request which neither begins a session nor settles anything is quiet with the requester.
+pub quiet_there : (q : ReqSetup) (r : RspSetup) (first : ℕ) (acts log : Log) (h : asked.History) (g g' : served.History) → serving_does.IsMade r g' → served.phase_of (served.clear_turns g') ≡ served.phase_of (served.clear_turns g)
+    → served.negotiation_of (served.clear_turns g') ≡ served.negotiation_of (served.clear_turns g) → TookEarlier q first h g' → ((j : ℕ) → events.session_of j g' ≡ events.session_of j g) → AreQuiet q r first log h g → AreQuiet q r first (acts ++ log) h g'
+quiet_there q r first acts log h g g' made phase negotiation earlier same k = record {
+  made = k.made;
+  made_there = made;
+  none = k.none;
+  phase = k.phase ∙ sym phase;
+  negotiation = k.negotiation ∙ sym negotiation;
+  earlier = earlier;
+  sessions = λ j live. resting_on q.psk acts log (steps.session_of j h) (events.session_of (rsp_id (steps.session_of j h)) g) (events.session_of (rsp_id (steps.session_of j h)) g') (inl (same (rsp_id (steps.session_of j h)))) (k.sessions j live);
+  apart = k.apart;
+}
+
+-- A longer log changes nothing.
+pub quiet_longer : (q : ReqSetup) (r : RspSetup) (first : ℕ) (acts log : Log) (h : asked.History) (g : served.History) → AreQuiet q r first log h g → AreQuiet q r first (acts ++ log) h g
+quiet_longer q r first acts log h g k = quiet_there q r first acts log h g g k.made_there refl refl k.earlier (λ j. refl) k
