@@ -39,6 +39,7 @@ pub mod Opened
 pub mod ClearRounds
 pub mod ConnectRounds
 pub mod MeasureRound
+pub mod Aside
 pub mod ComingSteps
 pub mod UnderWay
 pub mod Accepted

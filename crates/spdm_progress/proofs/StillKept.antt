@@ -17,7 +17,7 @@ use Rattle.world_machine.specs.World.{World}
 use Rattle.spdm_progress.specs.Honest.{EndsNone}
 use Rattle.spdm_progress.proofs.Between.{IsStill}
 use Rattle.spdm_progress.proofs.ClearKept.{found_mapped, same_clear}
-use Rattle.spdm_progress.proofs.PacketSteps.{Pair, AreEnds, server}
+use Rattle.spdm_progress.proofs.PacketSteps.{Pair, server}
 use Rattle.spdm_progress.proofs.ResponderBegins.{SameClear, queued_same, ticked_same}
 use Rattle.spdm_progress.proofs.Told.{contained}
 
@@ -78,29 +78,29 @@ pub record KeepsAlike (p : Pair) (old new : Responding) : Type 0 where
 abbrev Moved : Pair → List Connection → served.History → Type 0
 Moved p connections h = (g : served.History) × AreAlike p.responder h g × (connection_of p.requester.eid connections ≡ Some (server p g))
 
-queued_moved : (p : Pair) → AreEnds p → (r : Responding) (eid : ℕ) (bytes : List ℕ) (h : served.History) → connection_of p.requester.eid r.connections ≡ Some (server p h) → reply_fault_of (connection_of eid r.connections) bytes ≡ None
+queued_moved : (p : Pair) → p.responder.peer ≡ p.requester.eid → (r : Responding) (eid : ℕ) (bytes : List ℕ) (h : served.History) → connection_of p.requester.eid r.connections ≡ Some (server p h) → reply_fault_of (connection_of eid r.connections) bytes ≡ None
     → (b : Bool) → (p.responder.peer == eid) ≡ b → (g : served.History) × AreAlike p.responder h g × (cond b (changed (λ x. Queued bytes ∷ x) (server p h)) (server p h) ≡ server p g)
-queued_moved p ends r eid bytes h is fine true same =
-    let here : connection_of eid r.connections ≡ Some (server p h) = ap (λ (e : ℕ). connection_of e r.connections) (sym (eqb-true p.responder.peer eid same) ∙ ends.peer) ∙ is in
+queued_moved p peer r eid bytes h is fine true same =
+    let here : connection_of eid r.connections ≡ Some (server p h) = ap (λ (e : ℕ). connection_of e r.connections) (sym (eqb-true p.responder.peer eid same) ∙ peer) ∙ is in
     let within = queued_within (server p h) bytes (sym (ap (λ (o : Option Connection). reply_fault_of o bytes) here) ∙ fine) in
     (Queued bytes ∷ h, queued_alike p.responder h bytes within.0 within.1, refl)
-queued_moved p ends r eid bytes h is fine false other = (h, alike_itself p.responder h, refl)
+queued_moved p peer r eid bytes h is fine false other = (h, alike_itself p.responder h, refl)
 
-queues_by : (p : Pair) → AreEnds p → (r : Responding) (eid : ℕ) (bytes : List ℕ) (fault : Option ReplyFault) → reply_fault_of (connection_of eid r.connections) bytes ≡ fault → KeepsAlike p r (queues fault r eid bytes)
-queues_by p ends r eid bytes (Some fault) is = record { part = refl; given = refl; connection = λ h here. (h, alike_itself p.responder h, here) }
-queues_by p ends r eid bytes None is = record {
+queues_by : (p : Pair) → p.responder.peer ≡ p.requester.eid → (r : Responding) (eid : ℕ) (bytes : List ℕ) (fault : Option ReplyFault) → reply_fault_of (connection_of eid r.connections) bytes ≡ fault → KeepsAlike p r (queues fault r eid bytes)
+queues_by p peer r eid bytes (Some fault) is = record { part = refl; given = refl; connection = λ h here. (h, alike_itself p.responder h, here) }
+queues_by p peer r eid bytes None is = record {
   part = refl;
   given = refl;
-  connection = λ h here. (let x = queued_moved p ends r eid bytes h here is (p.responder.peer == eid) refl in (
+  connection = λ h here. (let x = queued_moved p peer r eid bytes h here is (p.responder.peer == eid) refl in (
     x.0,
     x.1,
     found_mapped p.requester.eid (changed_if eid (λ g. Queued bytes ∷ g)) (changed_keeps eid (λ g. Queued bytes ∷ g)) r.connections (server p h) here ∙ ap (λ (c : Connection). let o : Option Connection = Some c in o) x.2,
   ));
 }
 
-pub still_alike : (p : Pair) → AreEnds p → (world : World) (r : Responding) → IsStill world r → KeepsAlike p world.responder r
-still_alike p ends world r (inl x) = subst (KeepsAlike p world.responder) (sym x.2) (queues_by p ends world.responder x.0 x.1 (reply_fault_of (connection_of x.0 world.responder.connections) x.1) refl)
-still_alike p ends world r (inr x) = subst (KeepsAlike p world.responder) (sym x.2) (record {
+pub still_alike : (p : Pair) → p.responder.peer ≡ p.requester.eid → (world : World) (r : Responding) → IsStill world r → KeepsAlike p world.responder r
+still_alike p peer world r (inl x) = subst (KeepsAlike p world.responder) (sym x.2) (queues_by p peer world.responder x.0 x.1 (reply_fault_of (connection_of x.0 world.responder.connections) x.1) refl)
+still_alike p peer world r (inr x) = subst (KeepsAlike p world.responder) (sym x.2) (record {
   part = refl;
   given = refl;
   connection = λ h here. (

@@ -245,7 +245,7 @@ module _ (p : Pair) (ends : AreEnds p) (Asks Answers : Stage) (Done : Log → as
 
   under_way_still : (world : World) (r : Responding) → IsStill world r → IsUnderWay world → IsUnderWay (record world { responder = r })
   under_way_still world r still (inl x) =
-      let keeps = still_alike p ends world r still in
+      let keeps = still_alike p ends.peer world r still in
       let s = x.comes.shows in
       let moved = keeps.connection x.view.served s.is_connection in inl (record {
         more = x.more;
@@ -261,7 +261,7 @@ module _ (p : Pair) (ends : AreEnds p) (Asks Answers : Stage) (Done : Log → as
         responder_life = x.responder_life;
       })
   under_way_still world r still (inr x) =
-      let keeps = still_alike p ends world r still in
+      let keeps = still_alike p ends.peer world r still in
       let s = x.comes.shows in
       let moved = keeps.connection x.view.served s.is_connection in inr (record {
         more = x.more;
@@ -279,7 +279,7 @@ module _ (p : Pair) (ends : AreEnds p) (Asks Answers : Stage) (Done : Log → as
 
   done_still : (world : World) (r : Responding) → IsStill world r → IsDone world → IsDone (record world { responder = r })
   done_still world r still x =
-      let keeps = still_alike p ends world r still in
+      let keeps = still_alike p ends.peer world r still in
       let moved = keeps.connection x.view.served x.shows.is_connection in record {
         view = record x.view { served = moved.0 };
         shows = shows_still p x.view _ world r moved.0 keeps.part keeps.given moved.2 x.shows;
