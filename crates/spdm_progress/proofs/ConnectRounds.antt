@@ -40,6 +40,7 @@ use Rattle.world_machine.specs.Happenings.Happening.{Told}
 use Rattle.world_machine.specs.Setup.{WorldSetup}
 use Rattle.world_machine.specs.Trace.{lines_from, world_after, world_from}
 use Rattle.spdm_progress.specs.Connecting.{CanConnect}
+use Rattle.world_machine.specs.World.{World}
 use Rattle.spdm_progress.specs.Honest.{AreHonest, HaveNoCommand, NothingWaits}
 use Rattle.spdm_progress.specs.InStep.{AreQuiet, TookEarlier}
 use Rattle.spdm_progress.specs.Scripts.{ConnectsQuietly}
@@ -54,6 +55,7 @@ use Rattle.spdm_progress.proofs.SessionBegins.{sends}
 use Rattle.spdm_progress.proofs.SessionCompletes.{completes_by, fresh, no_chance_from, placed}
 use Rattle.spdm_progress.proofs.SetUps.{CanTalk, algorithms_size, can_talk, common_for, takes_answer}
 use Rattle.spdm_progress.proofs.Talk.{IsTalk, Stage}
+use Rattle.spdm_progress.proofs.Aside.{IsAside, nothing_aside}
 use Rattle.spdm_progress.proofs.Told.{ArePlaced, fits_always, pair_of}
 use Rattle.spdm_progress.proofs.TwoRounds.{Answers, Asks, IsFirst, LeadsTo, OneStage, two_talk}
 
@@ -198,9 +200,10 @@ module _ (p : Pair) (offer : OfferMessage) (choice : Choice) (can : CanTalk p.re
 
 module _ (w : WorldSetup) (before : List Entry) (n : ℕ) (a : Requesting) (c : Connection) (is_told : IsTold w before n a c) (can : CanConnect a c) (line : ℕ) (behind : List Entry) (none : HaveNoCommand behind)
     (honest : AreHonest (commanding (world_after w before) line n Connect) behind) (still : NothingWaits (world_from (commanding (world_after w before) line n Connect) behind))
-    (chance : NoChance (world_from (commanding (world_after w before) line n Connect) behind).log) where
+    (chance : NoChance (world_from (commanding (world_after w before) line n Connect) behind).log)
+    (Aside : World → Type 0) (aside : IsAside (pair_of n a c) Aside) (beside : Aside (world_after w before)) where
   here : ArePlaced (world_after w before) n a c
-  here = placed w before n a c Connect is_told line behind none honest still chance
+  here = placed w before n a c Connect is_told line behind none honest still chance Aside aside beside
 
   abbrev pair : Pair
   pair = pair_of n a c
@@ -215,11 +218,12 @@ module _ (w : WorldSetup) (before : List Entry) (n : ℕ) (a : Requesting) (c : 
   made : asking_does.IsMade a.setup a.history
   made = ((fits_always w is_told.configured before (no_chance_from (world_after w before) (record { line = line; happening = Told n Connect } ∷ behind) chance)).asks a (requester_in n (world_after w before) a is_told.is_requester)).made
 
-  connected : (id : ℕ) → IsDoneQuietly n a.setup c.setup finished.Connected id false (world_from (commanding (world_after w before) line n Connect) behind) (lines_from (commanding (world_after w before) line n Connect) behind)
+  pub connected : (id : ℕ) → IsDoneQuietly n a.setup c.setup finished.Connected id false (world_from (commanding (world_after w before) line n Connect) behind) (lines_from (commanding (world_after w before) line n Connect) behind)
+      × Aside (world_from (commanding (world_after w before) line n Connect) behind)
   unfolding steps.session_of
   connected id =
-      completes_by w before n a c Connect is_told line behind none honest still chance (ConnectAsks pair can.offer can.choice talks) (ConnectAnswers pair can.offer can.choice talks) (ConnectDone pair can.offer can.choice talks) finished.Connected id false
-      (λ log h g z. connected_quiet pair can.offer can.choice talks log h g z id) (connect_talk pair can.offer can.choice talks) 2 (omega arith) (plain_sent a.history GetVersion) (told_connect a (fresh w before n a c Connect is_told line behind none honest still chance))
+      completes_by w before n a c Connect is_told line behind none honest still chance Aside aside beside (ConnectAsks pair can.offer can.choice talks) (ConnectAnswers pair can.offer can.choice talks) (ConnectDone pair can.offer can.choice talks) finished.Connected id false
+      (λ log h g z. connected_quiet pair can.offer can.choice talks log h g z id) (connect_talk pair can.offer can.choice talks) 2 (omega arith) (plain_sent a.history GetVersion) (told_connect a (fresh w before n a c Connect is_told line behind none honest still chance Aside aside beside))
       (inl (
         refl,
         record {
@@ -234,4 +238,4 @@ module _ (w : WorldSetup) (before : List Entry) (n : ℕ) (a : Requesting) (c : 
       ))
 
 pub connects_quietly : ConnectsQuietly
-connects_quietly w before n a c told can id line behind none honest still chance = connected w before n a c told can line behind none honest still chance id
+connects_quietly w before n a c told can id line behind none honest still chance = (connected w before n a c told can line behind none honest still chance (λ later. Unit {0}) (nothing_aside (pair_of n a c)) tt id).0

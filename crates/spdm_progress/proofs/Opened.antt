@@ -46,6 +46,7 @@ use Rattle.world_machine.specs.Happenings.{Entry}
 use Rattle.world_machine.specs.Happenings.Happening.{Told}
 use Rattle.world_machine.specs.Setup.{WorldSetup}
 use Rattle.world_machine.specs.Trace.{lines_from, world_after, world_from}
+use Rattle.world_machine.specs.World.{World}
 use Rattle.spdm_progress.specs.Honest.{AreHonest, HaveNoCommand, NothingWaits}
 use Rattle.spdm_progress.specs.Opening.{CanOpen, OpenCompletes, exchange_rsp_size}
 use Rattle.spdm_progress.specs.SessionCommands.{IsDoneQuietly, IsToldQuietly, commanding}
@@ -56,6 +57,7 @@ use Rattle.spdm_progress.proofs.OpenRounds.{CanExchange, OpenDone, OpenTalkAnswe
 use Rattle.spdm_progress.proofs.PacketSteps.{Pair}
 use Rattle.spdm_progress.proofs.SessionBegins.{sends}
 use Rattle.spdm_progress.proofs.SessionCompletes.{completes_by, fresh, no_chance_from, placed}
+use Rattle.spdm_progress.proofs.Aside.{IsAside, nothing_aside}
 use Rattle.spdm_progress.proofs.Told.{ArePlaced, fits_always, pair_of}
 
 -- The draw that stands next has 32 bytes.
@@ -72,7 +74,8 @@ needs_choice false false false fine = fine
 
 module _ (w : WorldSetup) (before : List Entry) (n : ℕ) (a : Requesting) (c : Connection) (summary : ℕ) (is_told : IsToldQuietly w before n a c (Open summary)) (can : CanOpen a c summary) (line : ℕ) (behind : List Entry) (none : HaveNoCommand behind)
     (honest : AreHonest (commanding (world_after w before) line n (Open summary)) behind) (still : NothingWaits (world_from (commanding (world_after w before) line n (Open summary)) behind))
-    (chance : NoChance (world_from (commanding (world_after w before) line n (Open summary)) behind).log) where
+    (chance : NoChance (world_from (commanding (world_after w before) line n (Open summary)) behind).log)
+    (Aside : World → Type 0) (aside : IsAside (pair_of n a c) Aside) (beside : Aside (world_after w before)) where
   abbrev d : Draw
   d = asking.next_draw a
 
@@ -86,10 +89,10 @@ module _ (w : WorldSetup) (before : List Entry) (n : ℕ) (a : Requesting) (c : 
   p = pair_of n a c
 
   here : ArePlaced (world_after w before) n a c
-  here = placed w before n a c (Open summary) is_told.now line behind none honest still chance
+  here = placed w before n a c (Open summary) is_told.now line behind none honest still chance Aside aside beside
 
   accepted : (command_fault false a.setup a.history (Open summary) f ≡ None) × (requester_asks false a.setup a.history (Open summary) d ≡ Adds (WasTold (Open summary) (request_sent (asked.connection_terms a.history).common a.history (PskExchange x)) d))
-  accepted = told_so a (Open summary) (fresh w before n a c (Open summary) is_told.now line behind none honest still chance) is_told.accepted
+  accepted = told_so a (Open summary) (fresh w before n a c (Open summary) is_told.now line behind none honest still chance Aside aside beside) is_told.accepted
 
   passed : (k : ℕ) → test_at k (command_tests a.setup a.history (Open summary) f) ≡ false
   passed k = test_is_false false a.setup a.history (Open summary) f accepted.0 k
@@ -176,12 +179,13 @@ module _ (w : WorldSetup) (before : List Entry) (n : ℕ) (a : Requesting) (c : 
 
   abbrev Result : ℕ → Type 0
   Result id = IsDoneQuietly n a.setup c.setup (finished.Opened (record { req = id; rsp = rid })) id true (world_from (commanding (world_after w before) line n (Open summary)) behind) (lines_from (commanding (world_after w before) line n (Open summary)) behind)
+      × Aside (world_from (commanding (world_after w before) line n (Open summary)) behind)
 
   done_with : Result f.id
   done_with =
-      completes_by w before n a c (Open summary) is_told.now line behind none honest still chance (OpenTalkAsks p here.key here.requester here.responder summary a.history d x rid ready) (OpenTalkAnswers p here.key here.requester here.responder summary a.history d x rid ready)
+      completes_by w before n a c (Open summary) is_told.now line behind none honest still chance Aside aside beside (OpenTalkAsks p here.key here.requester here.responder summary a.history d x rid ready) (OpenTalkAnswers p here.key here.requester here.responder summary a.history d x rid ready)
       (OpenDone p here.key here.requester here.responder summary a.history d x rid ready) (finished.Opened (record { req = f.id; rsp = rid })) f.id true (λ log h g z. (z.quiet, z.session)) (open_talk p here.key here.requester here.responder summary a.history d x rid ready) 1 (omega arith)
-      (plain_sent a.history (PskExchange x)) (not_worn_told a (Open summary) (fresh w before n a c (Open summary) is_told.now line behind none honest still chance) ∙ ap (commanded_by a) asks)
+      (plain_sent a.history (PskExchange x)) (not_worn_told a (Open summary) (fresh w before n a c (Open summary) is_told.now line behind none honest still chance Aside aside beside) ∙ ap (commanded_by a) asks)
       (inl (
         refl,
         record {
@@ -198,4 +202,4 @@ module _ (w : WorldSetup) (before : List Entry) (n : ℕ) (a : Requesting) (c : 
   opened = subst Result own_id done_with
 
 pub open_completes : OpenCompletes
-open_completes w before n a c summary told can line behind none honest still chance = opened w before n a c summary told can line behind none honest still chance
+open_completes w before n a c summary told can line behind none honest still chance = (opened w before n a c summary told can line behind none honest still chance (λ later. Unit {0}) (nothing_aside (pair_of n a c)) tt).0

@@ -32,6 +32,7 @@ use Rattle.transcript.specs.Transcripts.{Negotiation}
 use Rattle.world_machine.specs.Happenings.Happening.{Told}
 use Rattle.world_machine.specs.World.{World, WorldStep, first_waiting, happens, requester_of, told, told_by, with_sent}
 use Rattle.spdm_progress.specs.InStep.{AreQuiet, rsp_id}
+use Rattle.spdm_progress.proofs.Aside.{IsAside}
 use Rattle.spdm_progress.proofs.ManyPackets.{idle_waits, sent_waits, waiting_in}
 use Rattle.spdm_progress.proofs.PacketSteps.{Pair, asker}
 use Rattle.spdm_progress.proofs.Places.{found_new, number_new, of_new}
@@ -47,9 +48,9 @@ use Rattle.spdm_progress.proofs.Views.{View, Shows}
 abbrev pub view_of : World → Requesting → Connection → View
 view_of world a c = record { given = a.given; commands = a.commands; asked = a.history; served = c.history; received = world.responder.given; log = world.log }
 
-pub shows_at : (world : World) (n : ℕ) (a : Requesting) (c : Connection) → ArePlaced world n a c → requester_of n world ≡ Some a → connection_of a.setup.eid world.responder.connections ≡ Some c → first_waiting world.sent ≡ None
-    → Shows (pair_of n a c) (view_of world a c) [] world
-shows_at world n a c placed is connected idle = record {
+pub shows_at : (Aside : World → Type 0) (world : World) (n : ℕ) (a : Requesting) (c : Connection) → ArePlaced world n a c → requester_of n world ≡ Some a → connection_of a.setup.eid world.responder.connections ≡ Some c → first_waiting world.sent ≡ None → Aside world
+    → Shows (pair_of n a c) Aside (view_of world a c) [] world
+shows_at Aside world n a c placed is connected idle beside = record {
   is_requester = is;
   found = placed.found;
   number_is = placed.number_is;
@@ -58,6 +59,7 @@ shows_at world n a c placed is connected idle = record {
   received = refl;
   log = refl;
   waits = idle_waits world.sent idle;
+  aside = beside;
 }
 
 -- A command that sends a message.
@@ -75,9 +77,9 @@ told_view world a c command sent = record {
   log = asked_log.acts_of a.setup a.history [] (Adds (WasTold command sent (asking.next_draw a))) ++ world.log;
 }
 
-pub shows_told : (world : World) (n : ℕ) (a : Requesting) (c : Connection) (command : Command) (sent : Sent) → Shows (pair_of n a c) (view_of world a c) [] world
-    → Shows (pair_of n a c) (told_view world a c command sent) (packets_of_sent a.setup (Some sent)) (told_by world n (sends a command sent)).after
-shows_told world n a c command sent s =
+pub shows_told : (Aside : World → Type 0) (world : World) (n : ℕ) (a : Requesting) (c : Connection) → IsAside (pair_of n a c) Aside → (command : Command) (sent : Sent) → Shows (pair_of n a c) Aside (view_of world a c) [] world
+    → Shows (pair_of n a c) Aside (told_view world a c command sent) (packets_of_sent a.setup (Some sent)) (told_by world n (sends a command sent)).after
+shows_told Aside world n a c aside command sent s =
     let new = asker (pair_of n a c) a.given (a.commands + 1) (WasTold command sent (asking.next_draw a) ∷ a.history) in
     let packets = packets_of_sent a.setup (Some sent) in record {
       is_requester = of_new n new world (told_by world n (sends a command sent)).after a refl s.is_requester refl;
@@ -88,6 +90,7 @@ shows_told world n a c command sent s =
       received = refl;
       log = refl;
       waits = sent_waits world.sent packets ∙ ap (λ (w : List (List ℕ)). w ++ packets) s.waits;
+      aside = aside.requester world new (with_sent world.sent packets) (asked_log.acts_of a.setup a.history [] (Adds (WasTold command sent (asking.next_draw a)))) refl s.aside;
     }
 
 pub told_is : (world : World) (n : ℕ) (a : Requesting) (command : Command) (sent : Sent) → requester_of n world ≡ Some a → requester_told a command ≡ sends a command sent → happens world (Told n command) ≡ told_by world n (sends a command sent)

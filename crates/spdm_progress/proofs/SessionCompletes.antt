@@ -49,6 +49,7 @@ use Rattle.spdm_progress.specs.InStep.{AreQuiet}
 use Rattle.spdm_progress.specs.SessionCommands.{CanAsk, CompletesQuietly, IsDoneQuietly, IsTold, IsToldQuietly, SessionCommandsComplete, commanding, goes_on, result_of, session_at}
 use Rattle.spdm_progress.proofs.AlikeSessions.{is_kept}
 use Rattle.spdm_progress.proofs.Accepted.{not_worn_told, told_so}
+use Rattle.spdm_progress.proofs.Aside.{IsAside, nothing_aside}
 use Rattle.spdm_progress.proofs.AskedOnce.{CanBeat, CanMeasure, CanSend, IsData, IsMeasured, IsNamed, IsSpdm, beat_asking, beat_last, data_asking, data_last, end_asking, end_last, measure_asking, measure_last}
 use Rattle.spdm_progress.proofs.PacketSteps.{Pair, asker, not_worn, server}
 use Rattle.spdm_progress.proofs.SessionBegins.{AsksOfSession, asked_now, sends, sent_for, shows_at, shows_told, told_is, told_view, view_of}
@@ -68,7 +69,8 @@ no_chance_from world (entry ∷ entries) chance = no_chance_earlier world entry.
 -- ---- A talk that a command begins.
 
 module _ (w : WorldSetup) (before : List Entry) (n : ℕ) (a : Requesting) (c : Connection) (command : Command) (is_told : IsTold w before n a c) (line : ℕ) (behind : List Entry) (none : HaveNoCommand behind)
-    (honest : AreHonest (commanding (world_after w before) line n command) behind) (still : NothingWaits (world_from (commanding (world_after w before) line n command) behind)) (chance : NoChance (world_from (commanding (world_after w before) line n command) behind).log) where
+    (honest : AreHonest (commanding (world_after w before) line n command) behind) (still : NothingWaits (world_from (commanding (world_after w before) line n command) behind)) (chance : NoChance (world_from (commanding (world_after w before) line n command) behind).log)
+    (Aside : World → Type 0) (aside : IsAside (pair_of n a c) Aside) (beside : Aside (world_after w before)) where
   abbrev world : World
   world = world_after w before
 
@@ -87,9 +89,9 @@ module _ (w : WorldSetup) (before : List Entry) (n : ℕ) (a : Requesting) (c : 
   abbrev p : Pair
   p = pair_of n a c
 
-  finished_so : (result : Finished) (id : ℕ) (left : Bool) (later : World) (lines : List Line) → (v : View) → Shows p v [] later → AreQuiet a.setup c.setup a.first v.log v.asked v.served → steps.is_live (steps.session_of id v.asked) ≡ left → IsIn lines (Line.ToRequester n (event.Done result))
-      → IsDoneQuietly n a.setup c.setup result id left later lines
-  finished_so result id left later lines v s quiet live told = record {
+  finished_so : (result : Finished) (id : ℕ) (left : Bool) (later : World) (lines : List Line) → (v : View) → Shows p Aside v [] later → AreQuiet a.setup c.setup a.first v.log v.asked v.served → steps.is_live (steps.session_of id v.asked) ≡ left → IsIn lines (Line.ToRequester n (event.Done result))
+      → IsDoneQuietly n a.setup c.setup result id left later lines × Aside later
+  finished_so result id left later lines v s quiet live told = (record {
     told = contained lines _ told;
     requester = asker p v.given v.commands v.asked;
     is_requester = s.is_requester;
@@ -99,20 +101,20 @@ module _ (w : WorldSetup) (before : List Entry) (n : ℕ) (a : Requesting) (c : 
     responder_setup = refl;
     quiet = subst (λ (log : Log). AreQuiet a.setup c.setup a.first log v.asked v.served) (sym s.log) quiet;
     session = live;
-  }
+  }, s.aside)
 
   -- The talk that the message of the command begins.
   pub completes_by : (Asks Answers : Stage) (Done : Log → asked.History → served.History → Type 0) (result : Finished) (id : ℕ) (left : Bool) → ((log : Log) (h : asked.History) (g : served.History) → Done log h g → AreQuiet a.setup c.setup a.first log h g × (steps.is_live (steps.session_of id h) ≡ left))
       → IsTalk p Asks Answers Done (event.Done result) → (more : ℕ) → more ≤ 2 → (sent : Sent) → requester_told a command ≡ sends a command sent
       → Asks more sent.tag (body_of sent.content) (told_view world a c command sent).log (told_view world a c command sent).asked c.history
-      → IsDoneQuietly n a.setup c.setup result id left (world_from (commanding world line n command) behind) (lines_from (commanding world line n command) behind)
+      → IsDoneQuietly n a.setup c.setup result id left (world_from (commanding world line n command) behind) (lines_from (commanding world line n command) behind) × Aside (world_from (commanding world line n command) behind)
   completes_by Asks Answers Done result id left means is_talk more few sent step asks =
       let life = is_told.life.requester in
       let responder_life = is_told.life.responder in
-      let shown = shows_told world n a c command sent (shows_at world n a c placed is_told.is_requester is_told.is_connection is_told.idle) in
-      let begun = begins p placed.ends Asks Answers Done (event.Done result) is_talk more sent (told_view world a c command sent) (told_by world n (sends a command sent)).after shown asks (omega arith) (omega arith) in
-      let asking_now = subst (λ (s : WorldStep). talk.Asking p placed.ends Asks Answers Done (event.Done result) is_talk s.after) (sym (told_is world n a command sent is_told.is_requester step)) begun in
-      let e = talk_ends p placed.ends Asks Answers Done (event.Done result) is_talk (commanding world line n command) behind none honest chance asking_now still in
+      let shown = shows_told Aside world n a c aside command sent (shows_at Aside world n a c placed is_told.is_requester is_told.is_connection is_told.idle beside) in
+      let begun = begins p placed.ends Aside aside Asks Answers Done (event.Done result) is_talk more sent (told_view world a c command sent) (told_by world n (sends a command sent)).after shown asks (omega arith) (omega arith) in
+      let asking_now = subst (λ (s : WorldStep). talk.Asking p placed.ends Aside aside Asks Answers Done (event.Done result) is_talk s.after) (sym (told_is world n a command sent is_told.is_requester step)) begun in
+      let e = talk_ends p placed.ends Aside aside Asks Answers Done (event.Done result) is_talk (commanding world line n command) behind none honest chance asking_now still in
       let d = means e.0.view.log e.0.view.asked e.0.view.served e.0.done in
       finished_so result id left (world_from (commanding world line n command) behind) (lines_from (commanding world line n command) behind) e.0.view e.0.shows d.0 d.1 e.1
 
@@ -146,7 +148,7 @@ module _ (w : WorldSetup) (before : List Entry) (n : ℕ) (a : Requesting) (c : 
 
       -- It takes one round.
       pub once_completes : (Fit : Steps → Type 0) (Good : Steps → Turn → Type 0) (result : Finished) → IsLast p one_key id x Fit Good (event.Done result) → Fit (session_at a id)
-          → IsDoneQuietly n a.setup c.setup result id (is_kept x.ask) (world_from (commanding world line n command) behind) (lines_from (commanding world line n command) behind)
+          → IsDoneQuietly n a.setup c.setup result id (is_kept x.ask) (world_from (commanding world line n command) behind) (lines_from (commanding world line n command) behind) × Aside (world_from (commanding world line n command) behind)
       once_completes Fit Good result last fit =
           completes_by (AsksOnce p one_key id x Fit Good (event.Done result)) (AnswersOnce p one_key id x Fit Good (event.Done result)) (Quiet p one_key id x Fit Good (event.Done result)) result id (is_kept x.ask) (λ log h g z. (z.quiet, z.session)) (once_talk p one_key id x Fit Good (event.Done result) last) 0 (omega arith) sent step_so
           (record { is = is_asked Fit fit })
@@ -157,22 +159,22 @@ module _ (w : WorldSetup) (before : List Entry) (n : ℕ) (a : Requesting) (c : 
 of_session : (command : Command) → ((j : ℕ) (n : Negotiation) (sent : Sent) (s : Steps) → steps.after_command j n command sent s ≡ steps.with_sent j (Some sent) s) → asked.is_connect command ≡ false → AsksOfSession command
 of_session command by other = record { steps_by = by; no_connect = other }
 
-module _ (w : WorldSetup) (before : List Entry) (n : ℕ) (a : Requesting) (c : Connection) (line : ℕ) (behind : List Entry) (none : HaveNoCommand behind) where
-  abbrev After : Command → World
+module _ (w : WorldSetup) (before : List Entry) (n : ℕ) (a : Requesting) (c : Connection) (line : ℕ) (behind : List Entry) (none : HaveNoCommand behind) (Aside : World → Type 0) (aside : IsAside (pair_of n a c) Aside) (beside : Aside (world_after w before)) where
+  abbrev pub After : Command → World
   After command = commanding (world_after w before) line n command
 
   -- What is known of what stands behind the command.
-  record IsOver (command : Command) : Type 0 where
-    told : IsToldQuietly w before n a c command
-    honest : AreHonest (After command) behind
-    still : NothingWaits (world_from (After command) behind)
-    chance : NoChance (world_from (After command) behind).log
+  pub record IsOver (command : Command) : Type 0 where
+    pub told : IsToldQuietly w before n a c command
+    pub honest : AreHonest (After command) behind
+    pub still : NothingWaits (world_from (After command) behind)
+    pub chance : NoChance (world_from (After command) behind).log
 
-  abbrev Result : Command → ℕ → Type 0
-  Result command id = IsDoneQuietly n a.setup c.setup (result_of a c command) id (goes_on command) (world_from (After command) behind) (lines_from (After command) behind)
+  abbrev pub Result : Command → ℕ → Type 0
+  Result command id = IsDoneQuietly n a.setup c.setup (result_of a c command) id (goes_on command) (world_from (After command) behind) (lines_from (After command) behind) × Aside (world_from (After command) behind)
 
   no_fault : (command : Command) → IsOver command → command_fault false a.setup a.history command (command_chosen a.setup a.history (asking.next_draw a)) ≡ None
-  no_fault command o = (told_so a command (fresh w before n a c command o.told.now line behind none o.honest o.still o.chance) o.told.accepted).0
+  no_fault command o = (told_so a command (fresh w before n a c command o.told.now line behind none o.honest o.still o.chance Aside aside beside) o.told.accepted).0
 
   passed : (command : Command) → IsOver command → (k : ℕ) → test_at k (command_tests a.setup a.history command (command_chosen a.setup a.history (asking.next_draw a))) ≡ false
   passed command o k = test_is_false false a.setup a.history command (command_chosen a.setup a.history (asking.next_draw a)) (no_fault command o) k
@@ -183,60 +185,60 @@ module _ (w : WorldSetup) (before : List Entry) (n : ℕ) (a : Requesting) (c : 
   sent_data : (id : ℕ) (bytes : List ℕ) → IsOver (Send id bytes) → Result (Send id bytes) id
   sent_data id bytes o =
       let command = Send id bytes in
-      let here = placed w before n a c command o.told.now line behind none o.honest o.still o.chance in
-      let key = one_key w before n a c command o.told.now line behind none o.honest o.still o.chance in
+      let here = placed w before n a c command o.told.now line behind none o.honest o.still o.chance Aside aside beside in
+      let key = one_key w before n a c command o.told.now line behind none o.honest o.still o.chance Aside aside beside in
       let short = ltb-false 1024 (length bytes) (passed command o 8) in
       let sid = steps.session_id (session_at a id) in
-      once_completes w before n a c command o.told.now line behind none o.honest o.still o.chance o.told id (data_asking bytes) (of_session command (λ j n sent s. refl) refl) refl refl (omega arith) refl
+      once_completes w before n a c command o.told.now line behind none o.honest o.still o.chance Aside aside beside o.told id (data_asking bytes) (of_session command (λ j n sent s. refl) refl) refl refl (omega arith) refl
       (CanSend pair key id sid here.requester here.responder bytes) (IsData pair key id sid here.requester here.responder) (finished.Answered sid) (data_last pair key id sid here.requester here.responder bytes) (record { named = refl; short = short })
 
   sent_beat : (id : ℕ) → IsOver (Beat id) → Result (Beat id) id
   sent_beat id o =
       let command = Beat id in
-      let here = placed w before n a c command o.told.now line behind none o.honest o.still o.chance in
-      let key = one_key w before n a c command o.told.now line behind none o.honest o.still o.chance in
+      let here = placed w before n a c command o.told.now line behind none o.honest o.still o.chance Aside aside beside in
+      let key = one_key w before n a c command o.told.now line behind none o.honest o.still o.chance Aside aside beside in
       let sid = steps.session_id (session_at a id) in
-      once_completes w before n a c command o.told.now line behind none o.honest o.still o.chance o.told id beat_asking (of_session command (λ j n sent s. refl) refl) refl refl (omega arith) refl
+      once_completes w before n a c command o.told.now line behind none o.honest o.still o.chance Aside aside beside o.told id beat_asking (of_session command (λ j n sent s. refl) refl) refl refl (omega arith) refl
       (CanBeat pair key id sid here.requester here.responder) (IsSpdm pair key id sid here.requester here.responder (canonical_response HeartbeatAck)) (finished.Alive sid) (beat_last pair key id sid here.requester here.responder)
       (record { named = refl; flag = not-false _ (passed command o 5) })
 
   sent_end : (id : ℕ) → IsOver (End id) → Result (End id) id
   sent_end id o =
       let command = End id in
-      let here = placed w before n a c command o.told.now line behind none o.honest o.still o.chance in
-      let key = one_key w before n a c command o.told.now line behind none o.honest o.still o.chance in
+      let here = placed w before n a c command o.told.now line behind none o.honest o.still o.chance Aside aside beside in
+      let key = one_key w before n a c command o.told.now line behind none o.honest o.still o.chance Aside aside beside in
       let sid = steps.session_id (session_at a id) in
-      once_completes w before n a c command o.told.now line behind none o.honest o.still o.chance o.told id end_asking (of_session command (λ j n sent s. refl) refl) refl refl (omega arith) refl
+      once_completes w before n a c command o.told.now line behind none o.honest o.still o.chance Aside aside beside o.told id end_asking (of_session command (λ j n sent s. refl) refl) refl refl (omega arith) refl
       (IsNamed pair key id sid here.requester here.responder) (IsSpdm pair key id sid here.requester here.responder (canonical_response EndSessionAck)) (finished.Ended sid) (end_last pair key id sid here.requester here.responder) (record { named = refl })
 
   sent_measure : (id op : ℕ) → CanAsk a c (Measure (Some id) op) → IsOver (Measure (Some id) op) → Result (Measure (Some id) op) id
   sent_measure id op can o =
       let command = Measure (Some id) op in
       let live = somewhere a.setup a.history command (command_chosen a.setup a.history (asking.next_draw a)) id (no_fault command o) refl in
-      let here = placed w before n a c command o.told.now line behind none o.honest o.still o.chance in
-      let key = one_key w before n a c command o.told.now line behind none o.honest o.still o.chance in
+      let here = placed w before n a c command o.told.now line behind none o.honest o.still o.chance Aside aside beside in
+      let key = one_key w before n a c command o.told.now line behind none o.honest o.still o.chance Aside aside beside in
       let sid = steps.session_id (session_at a id) in
       let sizes = session_sizes a.setup a.history id (record { transfer = (let most = here.requester.sizes.most in let ordered = here.requester.sizes.ordered in omega arith); max = here.requester.sizes.most }) o.told.quiet.made live in
-      once_completes w before n a c command o.told.now line behind none o.honest o.still o.chance o.told id (measure_asking op) (of_session command (λ j n sent s. refl) refl) refl refl (omega arith) refl
+      once_completes w before n a c command o.told.now line behind none o.honest o.still o.chance Aside aside beside o.told id (measure_asking op) (of_session command (λ j n sent s. refl) refl) refl refl (omega arith) refl
       (CanMeasure pair key id sid here.requester here.responder op) (IsMeasured pair key id sid here.requester here.responder op) (finished.Measured (number_for c.setup op)) (measure_last pair key id sid here.requester here.responder op)
       (record { byte = can.0; block = can.1; chosen = and_second _ _ (not-false _ (passed command o 5)); fits = can.2; fits_own = subst (λ (size : ℕ). measurements_size c.setup op ≤ size) sizes.transfer can.2 })
 
   sent_update : (id : ℕ) (all : Bool) → IsOver (Update id all) → Result (Update id all) id
   sent_update id all o =
       let command = Update id all in
-      let here = placed w before n a c command o.told.now line behind none o.honest o.still o.chance in
-      let key = one_key w before n a c command o.told.now line behind none o.honest o.still o.chance in
+      let here = placed w before n a c command o.told.now line behind none o.honest o.still o.chance Aside aside beside in
+      let key = one_key w before n a c command o.told.now line behind none o.honest o.still o.chance Aside aside beside in
       let sid = steps.session_id (session_at a id) in
       let one = of_session command (λ j n sent s. refl) refl in
-      completes_by w before n a c command o.told.now line behind none o.honest o.still o.chance (UpdateTalkAsks pair key id sid here.requester here.responder all) (UpdateTalkAnswers pair key id sid here.requester here.responder all) (UpdateDone pair key id sid here.requester here.responder all) (finished.Updated sid) id true (λ log h g z. (z.quiet, z.session))
-      (update_talk pair key id sid here.requester here.responder all) 1 (omega arith) _ (step_so w before n a c command o.told.now line behind none o.honest o.still o.chance o.told id (update_asking all) one refl refl (omega arith) refl)
+      completes_by w before n a c command o.told.now line behind none o.honest o.still o.chance Aside aside beside (UpdateTalkAsks pair key id sid here.requester here.responder all) (UpdateTalkAnswers pair key id sid here.requester here.responder all) (UpdateDone pair key id sid here.requester here.responder all) (finished.Updated sid) id true (λ log h g z. (z.quiet, z.session))
+      (update_talk pair key id sid here.requester here.responder all) 1 (omega arith) _ (step_so w before n a c command o.told.now line behind none o.honest o.still o.chance Aside aside beside o.told id (update_asking all) one refl refl (omega arith) refl)
       (inl (
         refl,
-        is_asked w before n a c command o.told.now line behind none o.honest o.still o.chance o.told id (update_asking all) one refl refl (omega arith) refl (CanUpdate pair key id sid here.requester here.responder all)
+        is_asked w before n a c command o.told.now line behind none o.honest o.still o.chance Aside aside beside o.told id (update_asking all) one refl refl (omega arith) refl (CanUpdate pair key id sid here.requester here.responder all)
             (record { named = refl; flag = not-false _ (passed command o 5) }),
       ))
 
-  each : (command : Command) (id : ℕ) → CanAsk a c command → session_in command ≡ Some id → IsOver command → Result command id
+  pub each : (command : Command) (id : ℕ) → CanAsk a c command → session_in command ≡ Some id → IsOver command → Result command id
   each (Send i bytes) id can named o = subst (Result (Send i bytes)) (some_same i id named) (sent_data i bytes o)
   each (Beat i) id can named o = subst (Result (Beat i)) (some_same i id named) (sent_beat i o)
   each (Update i all) id can named o = subst (Result (Update i all)) (some_same i id named) (sent_update i all o)
@@ -248,4 +250,4 @@ module _ (w : WorldSetup) (before : List Entry) (n : ℕ) (a : Requesting) (c : 
   each Retry id can named o = absurd can
 
 pub session_commands_complete : SessionCommandsComplete
-session_commands_complete w before n a c command id told can named line behind none honest still chance = each w before n a c line behind none command id can named (record { told = told; honest = honest; still = still; chance = chance })
+session_commands_complete w before n a c command id told can named line behind none honest still chance = (each w before n a c line behind none (λ later. Unit {0}) (nothing_aside (pair_of n a c)) tt command id can named (record { told = told; honest = honest; still = still; chance = chance })).0

@@ -27,6 +27,7 @@ use Rattle.world_machine.specs.Happenings.{Entry}
 use Rattle.world_machine.specs.Trace.{world_from, lines_from}
 use Rattle.world_machine.specs.World.{World, WorldStep, first_waiting, packet_of, delivers}
 use Rattle.spdm_progress.specs.Honest.{NothingWaits, AreHonest, HaveNoCommand}
+use Rattle.spdm_progress.proofs.Aside.{IsAside}
 use Rattle.spdm_progress.proofs.Between.{Goes, GoesOn, Ends, IsGiven, IsOfEarlier, IsStill, ended}
 use Rattle.spdm_progress.proofs.ManyPackets.{IsBody, before_it, few_packets, none_came, waits_idle}
 use Rattle.spdm_progress.proofs.PacketSteps.{Pair, AreEnds}
@@ -66,7 +67,7 @@ pub record IsTalk (p : Pair) (Asks Answers : Stage) (Done : Log → asked.Histor
   pub answers_still : (more tag : ℕ) (body : List ℕ) (log : Log) (h : asked.History) (g later : served.History) → AreAlike p.responder g later → Answers more tag body log h g → Answers more tag body log h later
   pub done_still : (log : Log) (h : asked.History) (g later : served.History) → AreAlike p.responder g later → Done log h g → Done log h later
 
-module _ (p : Pair) (ends : AreEnds p) (Asks Answers : Stage) (Done : Log → asked.History → served.History → Type 0) (told : Event) (talk : IsTalk p Asks Answers Done told) where
+module _ (p : Pair) (ends : AreEnds p) (Aside : World → Type 0) (aside : IsAside p Aside) (Asks Answers : Stage) (Done : Log → asked.History → served.History → Type 0) (told : Event) (talk : IsTalk p Asks Answers Done told) where
   -- A body has at most 66 packets, so each end takes as many in a round.
   abbrev round : ℕ
   round = 66
@@ -81,7 +82,7 @@ module _ (p : Pair) (ends : AreEnds p) (Asks Answers : Stage) (Done : Log → as
     pub asks : Asks more tag body view.log view.asked view.served
     pub done : ℕ
     pub left : ℕ
-    pub comes : RequestComes p ends tag body sent.small sent.whole done left view world
+    pub comes : RequestComes p ends Aside aside tag body sent.small sent.whole done left view world
     pub life : length view.given + view.commands + round * suc more ≤ wear_limit
     pub responder_life : length view.received + suc left + round * more ≤ wear_limit
 
@@ -94,7 +95,7 @@ module _ (p : Pair) (ends : AreEnds p) (Asks Answers : Stage) (Done : Log → as
     pub answers : Answers more tag body view.log view.asked view.served
     pub done : ℕ
     pub left : ℕ
-    pub comes : AnswerComes p ends tag body sent.small sent.whole done left view world
+    pub comes : AnswerComes p ends Aside aside tag body sent.small sent.whole done left view world
     pub life : length view.given + view.commands + suc left + round * more ≤ wear_limit
     pub responder_life : length view.received + round * more ≤ wear_limit
 
@@ -103,7 +104,7 @@ module _ (p : Pair) (ends : AreEnds p) (Asks Answers : Stage) (Done : Log → as
 
   pub record IsDone (world : World) : Type 0 where
     pub view : View
-    pub shows : Shows p view [] world
+    pub shows : Shows p Aside view [] world
     pub done : Done view.log view.asked view.served
 
   abbrev pub done_line : Line
@@ -118,7 +119,7 @@ module _ (p : Pair) (ends : AreEnds p) (Asks Answers : Stage) (Done : Log → as
       let left = before_it (packet_count unit body) count.0 in
       (left.0, left.1, count.1)
 
-  pub begins : (more : ℕ) (next : Sent) (v : View) (world : World) → Shows p v (packets_of_sent p.requester (Some next)) world → Asks more next.tag (body_of next.content) v.log v.asked v.served
+  pub begins : (more : ℕ) (next : Sent) (v : View) (world : World) → Shows p Aside v (packets_of_sent p.requester (Some next)) world → Asks more next.tag (body_of next.content) v.log v.asked v.served
       → length v.given + v.commands + round * suc more ≤ wear_limit → length v.received + round * suc more ≤ wear_limit → Asking world
   begins more next v world s asks life responder_life =
       let body = body_of next.content in
@@ -134,7 +135,7 @@ module _ (p : Pair) (ends : AreEnds p) (Asks Answers : Stage) (Done : Log → as
         left = left.0;
         comes = record {
           sum = omega (arith, left.1);
-          shows = subst (λ (to : ℕ). Shows p v (packets_to to p.requester.eid true next.tag p.requester.unit body) world) ends.to s;
+          shows = subst (λ (to : ℕ). Shows p Aside v (packets_to to p.requester.eid true next.tag p.requester.unit body) world) ends.to s;
           came = none_came p.responder.eid p.requester.eid true next.tag p.requester.unit body sendable.small _ sendable.whole v.received;
         };
         life = life;
@@ -142,7 +143,7 @@ module _ (p : Pair) (ends : AreEnds p) (Asks Answers : Stage) (Done : Log → as
       }
 
   answered : (world : World) (more tag : ℕ) (body : List ℕ) (sent : IsSendable tag body) (v : View) (done : ℕ) → NoChance v.log → Asks more tag body v.log v.asked v.served → length v.given + v.commands + round * suc more ≤ wear_limit
-      → length v.received + 1 + round * more ≤ wear_limit → IsServed p ends tag body sent.small sent.whole done v world → Answering world
+      → length v.received + 1 + round * more ≤ wear_limit → IsServed p ends Aside aside tag body sent.small sent.whole done v world → Answering world
   answered world more tag body sent v done chance asks life responder_life x =
       let o = responder_does p.responder v.served tag body x.drawn in
       let reply = answering.body_of o in
@@ -171,27 +172,27 @@ module _ (p : Pair) (ends : AreEnds p) (Asks Answers : Stage) (Done : Log → as
   TalkGoes s = Goes IsUnderWay IsDone done_line s
 
   heard : (s : WorldStep) (more tag : ℕ) (body : List ℕ) (sent : IsSendable tag body) (v : View) (done : ℕ) → length v.given + v.commands + 1 + round * more ≤ wear_limit → length v.received + round * more ≤ wear_limit
-      → (x : IsHeard p ends tag body sent.small sent.whole done v s)
+      → (x : IsHeard p ends Aside aside tag body sent.small sent.whole done v s)
       → Leads p Asks Done told more (requester_hears p.requester v.asked false tag body x.drawn) (asked_log.acts_of p.requester v.asked body (requester_hears p.requester v.asked false tag body x.drawn) ++ v.log) v.asked v.served
       → TalkGoes s
   heard s more tag body sent v done life responder_life x (Further next fewer one_less sends asks) =
-      GoesOn (inl (begins fewer next (heard_view p ends tag body sent.small sent.whole done v x.drawn) s.after (subst (λ (o : Option Sent). Shows p (heard_view p ends tag body sent.small sent.whole done v x.drawn) (packets_of_sent p.requester o) s.after) sends x.shows) asks (omega arith) (omega arith)))
+      GoesOn (inl (begins fewer next (heard_view p ends Aside aside tag body sent.small sent.whole done v x.drawn) s.after (subst (λ (o : Option Sent). Shows p Aside (heard_view p ends Aside aside tag body sent.small sent.whole done v x.drawn) (packets_of_sent p.requester o) s.after) sends x.shows) asks (omega arith) (omega arith)))
   heard s more tag body sent v done life responder_life x (Over sends tells finished) =
-      Ends (record { view = (heard_view p ends tag body sent.small sent.whole done v x.drawn); shows = subst (λ (o : Option Sent). Shows p (heard_view p ends tag body sent.small sent.whole done v x.drawn) (packets_of_sent p.requester o) s.after) sends x.shows; done = finished })
+      Ends (record { view = (heard_view p ends Aside aside tag body sent.small sent.whole done v x.drawn); shows = subst (λ (o : Option Sent). Shows p Aside (heard_view p ends Aside aside tag body sent.small sent.whole done v x.drawn) (packets_of_sent p.requester o) s.after) sends x.shows; done = finished })
       (subst (λ (o : Option Event). IsIn s.lines (Line.ToRequester p.number (unwrap_or o event.More))) tells x.writes)
 
   -- ---- One packet is given.
 
   asked_given : (world : World) (more tag : ℕ) (body : List ℕ) (sent : IsSendable tag body) (v : View) (done left : ℕ) → NoChance v.log → Asks more tag body v.log v.asked v.served → length v.given + v.commands + round * suc more ≤ wear_limit
-      → length v.received + suc left + round * more ≤ wear_limit → RequestComes p ends tag body sent.small sent.whole done left v world → IsGiven IsUnderWay IsDone done_line world
+      → length v.received + suc left + round * more ≤ wear_limit → RequestComes p ends Aside aside tag body sent.small sent.whole done left v world → IsGiven IsUnderWay IsDone done_line world
   asked_given world more tag body sent v done zero chance asks life responder_life x =
-      let w = first_request p ends tag body sent.small sent.whole done 0 v world x in record {
+      let w = first_request p ends Aside aside tag body sent.small sent.whole done 0 v world x in record {
         place = w.place;
         first = w.first;
-        goes = GoesOn (inr (answered _ more tag body sent v done chance asks life responder_life (request_ends p ends tag body sent.small sent.whole done v world sent.typed (omega arith) x w)));
+        goes = GoesOn (inr (answered _ more tag body sent v done chance asks life responder_life (request_ends p ends Aside aside tag body sent.small sent.whole done v world sent.typed (omega arith) x w)));
       }
   asked_given world more tag body sent v done (suc left) chance asks life responder_life x =
-      let w = first_request p ends tag body sent.small sent.whole done (suc left) v world x in record {
+      let w = first_request p ends Aside aside tag body sent.small sent.whole done (suc left) v world x in record {
         place = w.place;
         first = w.first;
         goes = GoesOn (inl (record {
@@ -203,23 +204,23 @@ module _ (p : Pair) (ends : AreEnds p) (Asks Answers : Stage) (Done : Log → as
           asks = asks;
           done = suc done;
           left = left;
-          comes = request_goes_on p ends tag body sent.small sent.whole done left v world (omega arith) x w;
+          comes = request_goes_on p ends Aside aside tag body sent.small sent.whole done left v world (omega arith) x w;
           life = life;
           responder_life = omega arith;
         }));
       }
 
   answer_given : (world : World) (more tag : ℕ) (body : List ℕ) (sent : IsSendable tag body) (v : View) (done left : ℕ) → NoChance v.log → Answers more tag body v.log v.asked v.served → length v.given + v.commands + suc left + round * more ≤ wear_limit
-      → length v.received + round * more ≤ wear_limit → AnswerComes p ends tag body sent.small sent.whole done left v world → IsGiven IsUnderWay IsDone done_line world
+      → length v.received + round * more ≤ wear_limit → AnswerComes p ends Aside aside tag body sent.small sent.whole done left v world → IsGiven IsUnderWay IsDone done_line world
   answer_given world more tag body sent v done zero chance answers life responder_life x =
-      let w = first_answer p ends tag body sent.small sent.whole done 0 v world x in
-      let e = answer_ends p ends tag body sent.small sent.whole done v world (omega arith) x w in record {
+      let w = first_answer p ends Aside aside tag body sent.small sent.whole done 0 v world x in
+      let e = answer_ends p ends Aside aside tag body sent.small sent.whole done v world (omega arith) x w in record {
         place = w.place;
         first = w.first;
         goes = heard _ more tag body sent v done life responder_life e (talk.hears more tag body v.log v.asked v.served e.drawn chance answers);
       }
   answer_given world more tag body sent v done (suc left) chance answers life responder_life x =
-      let w = first_answer p ends tag body sent.small sent.whole done (suc left) v world x in record {
+      let w = first_answer p ends Aside aside tag body sent.small sent.whole done (suc left) v world x in record {
         place = w.place;
         first = w.first;
         goes = GoesOn (inr (record {
@@ -231,7 +232,7 @@ module _ (p : Pair) (ends : AreEnds p) (Asks Answers : Stage) (Done : Log → as
           answers = answers;
           done = suc done;
           left = left;
-          comes = answer_goes_on p ends tag body sent.small sent.whole done left v world (omega arith) x w;
+          comes = answer_goes_on p ends Aside aside tag body sent.small sent.whole done left v world (omega arith) x w;
           life = omega arith;
           responder_life = responder_life;
         }));
@@ -256,7 +257,7 @@ module _ (p : Pair) (ends : AreEnds p) (Asks Answers : Stage) (Done : Log → as
         asks = talk.asks_still x.more x.tag x.body x.view.log x.view.asked x.view.served moved.0 moved.1 x.asks;
         done = x.done;
         left = x.left;
-        comes = record { sum = x.comes.sum; shows = shows_still p x.view _ world r moved.0 keeps.part keeps.given moved.2 s; came = x.comes.came };
+        comes = record { sum = x.comes.sum; shows = shows_still p Aside aside x.view _ world r still moved.0 keeps.part keeps.given moved.2 s; came = x.comes.came };
         life = x.life;
         responder_life = x.responder_life;
       })
@@ -272,7 +273,7 @@ module _ (p : Pair) (ends : AreEnds p) (Asks Answers : Stage) (Done : Log → as
         answers = talk.answers_still x.more x.tag x.body x.view.log x.view.asked x.view.served moved.0 moved.1 x.answers;
         done = x.done;
         left = x.left;
-        comes = record { sum = x.comes.sum; shows = shows_still p x.view _ world r moved.0 keeps.part keeps.given moved.2 s; came = x.comes.came };
+        comes = record { sum = x.comes.sum; shows = shows_still p Aside aside x.view _ world r still moved.0 keeps.part keeps.given moved.2 s; came = x.comes.came };
         life = x.life;
         responder_life = x.responder_life;
       })
@@ -282,7 +283,7 @@ module _ (p : Pair) (ends : AreEnds p) (Asks Answers : Stage) (Done : Log → as
       let keeps = still_alike p ends.peer world r still in
       let moved = keeps.connection x.view.served x.shows.is_connection in record {
         view = record x.view { served = moved.0 };
-        shows = shows_still p x.view _ world r moved.0 keeps.part keeps.given moved.2 x.shows;
+        shows = shows_still p Aside aside x.view _ world r still moved.0 keeps.part keeps.given moved.2 x.shows;
         done = talk.done_still x.view.log x.view.asked x.view.served moved.0 moved.1 x.done;
       }
 

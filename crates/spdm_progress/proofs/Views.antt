@@ -33,6 +33,8 @@ use Rattle.responder_machine.specs.Responding as serving
 use Rattle.responder_machine.specs.Responding.{Connection, Responding, RspStep, answers, connection_of, responder_hears}
 use Rattle.responder_machine.specs.Setup.{RspPart}
 use Rattle.world_machine.specs.World.{World, WorldStep, first_waiting, is_at, number_at, packet_of, requester_of, given, given_to_requester, given_to_responder, with_sent, without_waiting, delivers}
+use Rattle.spdm_progress.proofs.Aside.{IsAside}
+use Rattle.spdm_progress.proofs.Between.{IsStill}
 use Rattle.spdm_progress.proofs.ComingSteps.{gathers_as, to_requester}
 use Rattle.spdm_progress.proofs.Drawn.{draws_whole}
 use Rattle.spdm_progress.proofs.ManyPackets.{Came, FirstWaits, IsBody, first_waits, last_gathers, more_gathers, nth, nth_read, one_came, sent_waits, waiting_in}
@@ -51,8 +53,8 @@ pub record View : Type 0 where
   pub received : List (List ℕ)
   pub log : Log
 
--- A world shows it, and these packets wait, in order.
-pub record Shows (p : Pair) (v : View) (waiting : List (List ℕ)) (world : World) : Type 0 where
+-- A world shows it, these packets wait, in order, and this holds of what stands aside.
+pub record Shows (p : Pair) (Aside : World → Type 0) (v : View) (waiting : List (List ℕ)) (world : World) : Type 0 where
   pub is_requester : requester_of p.number world ≡ Some (asker p v.given v.commands v.asked)
   pub found : find (is_at p.requester.eid) world.requesters ≡ Some (asker p v.given v.commands v.asked)
   pub number_is : number_at p.requester.eid world ≡ p.number
@@ -61,11 +63,12 @@ pub record Shows (p : Pair) (v : View) (waiting : List (List ℕ)) (world : Worl
   pub received : world.responder.given ≡ v.received
   pub log : world.log ≡ v.log
   pub waits : waiting_in world.sent ≡ waiting
+  pub aside : Aside world
 
 -- What the responder took besides is as before, where the connection is alike.
-pub shows_still : (p : Pair) (v : View) (waiting : List (List ℕ)) (world : World) (r : Responding) (h : served.History) → r.part ≡ world.responder.part → r.given ≡ world.responder.given → connection_of p.requester.eid r.connections ≡ Some (server p h)
-    → Shows p v waiting world → Shows p (record v { served = h }) waiting (record world { responder = r })
-shows_still p v waiting world r h part given is s = record {
+pub shows_still : (p : Pair) (Aside : World → Type 0) → IsAside p Aside → (v : View) (waiting : List (List ℕ)) (world : World) (r : Responding) → IsStill world r → (h : served.History) → r.part ≡ world.responder.part → r.given ≡ world.responder.given → connection_of p.requester.eid r.connections ≡ Some (server p h)
+    → Shows p Aside v waiting world → Shows p Aside (record v { served = h }) waiting (record world { responder = r })
+shows_still p Aside aside v waiting world r still h part given is s = record {
   is_requester = of_same p.number world _ _ refl s.is_requester;
   found = s.found;
   number_is = s.number_is;
@@ -74,11 +77,12 @@ shows_still p v waiting world r h part given is s = record {
   received = given ∙ s.received;
   log = s.log;
   waits = s.waits;
+  aside = aside.still world r still s.aside;
 }
 
 -- The world in which a packet waits no longer.
-stopped : (p : Pair) (v : View) (waiting rest : List (List ℕ)) (place : ℕ) (world : World) → waiting_in (without_waiting (suc place) world).sent ≡ rest → Shows p v waiting world → Shows p v rest (without_waiting (suc place) world)
-stopped p v waiting rest place world behind s = record {
+stopped : (p : Pair) (Aside : World → Type 0) → IsAside p Aside → (v : View) (waiting rest : List (List ℕ)) (place : ℕ) (world : World) → waiting_in (without_waiting (suc place) world).sent ≡ rest → Shows p Aside v waiting world → Shows p Aside v rest (without_waiting (suc place) world)
+stopped p Aside aside v waiting rest place world behind s = record {
   is_requester = of_same p.number world _ _ refl s.is_requester;
   found = s.found;
   number_is = s.number_is;
@@ -87,6 +91,7 @@ stopped p v waiting rest place world behind s = record {
   received = s.received;
   log = s.log;
   waits = behind;
+  aside = aside.packets world world.responder (without_waiting (suc place) world).sent refl s.aside;
 }
 
 -- ---- A packet to the responder.
@@ -118,7 +123,7 @@ to_responder world f own =
 next_done : (done : ℕ) → done + 1 ≡ suc done
 next_done done = omega arith
 
-module _ (p : Pair) (ends : AreEnds p) (tag : ℕ) (body : List ℕ) (small : tag < 8) (whole : IsBody body) where
+module _ (p : Pair) (ends : AreEnds p) (Aside : World → Type 0) (aside : IsAside p Aside) (tag : ℕ) (body : List ℕ) (small : tag < 8) (whole : IsBody body) where
   -- ---- The packets of a request.
 
   pub requester_some : 0 < p.requester.unit
@@ -136,7 +141,7 @@ module _ (p : Pair) (ends : AreEnds p) (tag : ℕ) (body : List ℕ) (small : ta
   -- So many packets of a request were given; this one and so many more wait.
   pub record RequestComes (done left : ℕ) (v : View) (world : World) : Type 0 where
     pub sum : done + suc left ≡ packet_count p.requester.unit body
-    pub shows : Shows p v (drop done request_packets) world
+    pub shows : Shows p Aside v (drop done request_packets) world
     pub came : RequestCame done v.received
 
   pub first_request : (done left : ℕ) (v : View) (world : World) → RequestComes done left v world → FirstWaits (spelled_packet (request_nth done)) (drop (done + 1) request_packets) world.sent
@@ -145,7 +150,7 @@ module _ (p : Pair) (ends : AreEnds p) (tag : ℕ) (body : List ℕ) (small : ta
       first_waits world.sent (spelled_packet (request_nth done)) (drop (done + 1) request_packets)
       (x.shows.waits ∙ packets_from (route_to p.responder.eid p.requester.eid true tag) p.requester.unit body done (omega arith))
 
-  reaches_responder : (done : ℕ) (v : View) (waiting : List (List ℕ)) (world : World) (g : Gathered) → length v.received < wear_limit → Shows p v waiting world → gathered_from p.responder.eid p.requester.eid v.received (request_nth done) ≡ g
+  reaches_responder : (done : ℕ) (v : View) (waiting : List (List ℕ)) (world : World) (g : Gathered) → length v.received < wear_limit → Shows p Aside v waiting world → gathered_from p.responder.eid p.requester.eid v.received (request_nth done) ≡ g
       → given world (spelled_packet (request_nth done)) ≡ given_to_responder world (spelled_packet (request_nth done)) (serving.hears_gathered world.responder (serving.next_draw world.responder) (server p v.served) (spelled_packet (request_nth done)) g)
   reaches_responder done v waiting world g life s is =
       to_responder world (request_nth done) (sym s.own)
@@ -159,8 +164,8 @@ module _ (p : Pair) (ends : AreEnds p) (tag : ℕ) (body : List ℕ) (small : ta
   abbrev request_given : ℕ → View → View
   request_given done v = record v { received = spelled_packet (request_nth done) ∷ v.received }
 
-  more_at : (done : ℕ) (v : View) (rest : List (List ℕ)) (world : World) → Shows p v rest world
-      → Shows p (request_given done v) rest (given_to_responder world (spelled_packet (request_nth done)) (serving.ignores world.responder (spelled_packet (request_nth done)) heard.More)).after
+  more_at : (done : ℕ) (v : View) (rest : List (List ℕ)) (world : World) → Shows p Aside v rest world
+      → Shows p Aside (request_given done v) rest (given_to_responder world (spelled_packet (request_nth done)) (serving.ignores world.responder (spelled_packet (request_nth done)) heard.More)).after
   more_at done v rest world s = record {
     is_requester = of_same p.number world _ _ refl s.is_requester;
     found = s.found;
@@ -170,16 +175,17 @@ module _ (p : Pair) (ends : AreEnds p) (tag : ℕ) (body : List ℕ) (small : ta
     received = ap (λ (given : List (List ℕ)). spelled_packet (request_nth done) ∷ given) s.received;
     log = s.log;
     waits = ap waiting_in (none_more world.sent) ∙ s.waits;
+    aside = aside.packets world (serving.ignores world.responder (spelled_packet (request_nth done)) heard.More).after (with_sent world.sent []) refl s.aside;
   }
 
-  more_given : (done left : ℕ) (v : View) (world : World) → done + suc (suc left) ≡ packet_count p.requester.unit body → length v.received < wear_limit → Shows p v (drop (done + 1) request_packets) world → RequestCame done v.received
+  more_given : (done left : ℕ) (v : View) (world : World) → done + suc (suc left) ≡ packet_count p.requester.unit body → length v.received < wear_limit → Shows p Aside v (drop (done + 1) request_packets) world → RequestCame done v.received
       → RequestComes (suc done) left (request_given done v) (given world (spelled_packet (request_nth done))).after
   more_given done left v world sum life s came =
       subst (λ (x : WorldStep). RequestComes (suc done) left (request_given done v) x.after)
       (sym (reaches_responder done v _ world More life s (more_gathers p.responder.eid p.requester.eid true tag p.requester.unit body small requester_some whole done left v.received came sum)))
       (record {
         sum = omega (arith, sum);
-        shows = more_at done v (drop (suc done) request_packets) world (subst (λ (n : ℕ). Shows p v (drop n request_packets) world) (next_done done) s);
+        shows = more_at done v (drop (suc done) request_packets) world (subst (λ (n : ℕ). Shows p Aside v (drop n request_packets) world) (next_done done) s);
         came = one_came p.responder.eid p.requester.eid true tag p.requester.unit body small requester_some whole done v.received came;
       })
 
@@ -188,7 +194,7 @@ module _ (p : Pair) (ends : AreEnds p) (tag : ℕ) (body : List ℕ) (small : ta
       → RequestComes (suc done) left (request_given done v) (delivers world (suc w.place) (packet_of (suc w.place) world.sent)).after
   request_goes_on done left v world life x w =
       subst (λ (o : Option (List ℕ)). RequestComes (suc done) left (request_given done v) (delivers world (suc w.place) o).after) (sym w.is)
-      (more_given done left v (without_waiting (suc w.place) world) x.sum life (stopped p v _ _ w.place world w.behind x.shows) x.came)
+      (more_given done left v (without_waiting (suc w.place) world) x.sum life (stopped p Aside aside v _ _ w.place world w.behind x.shows) x.came)
 
   -- The pair behind a request that was taken whole, by the draw that stood next.
   abbrev pub served_view : ℕ → View → Draw → View
@@ -201,9 +207,9 @@ module _ (p : Pair) (ends : AreEnds p) (tag : ℕ) (body : List ℕ) (small : ta
   pub record IsServed (done : ℕ) (v : View) (world : World) : Type 0 where
     pub drawn : Draw
     pub draws : length drawn.bytes ≡ 32
-    pub shows : Shows p (served_view done v drawn) (packets_to p.requester.eid p.responder.eid false tag p.responder.unit (body_of (responder_does p.responder v.served tag body drawn))) world
+    pub shows : Shows p Aside (served_view done v drawn) (packets_to p.requester.eid p.responder.eid false tag p.responder.unit (body_of (responder_does p.responder v.served tag body drawn))) world
 
-  answered_at : (done : ℕ) (v : View) (world : World) → Shows p v [] world
+  answered_at : (done : ℕ) (v : View) (world : World) → Shows p Aside v [] world
       → IsServed done v (given_to_responder world (spelled_packet (request_nth done)) (answers world.responder (server p v.served) (spelled_packet (request_nth done)) (route_to p.responder.eid p.requester.eid true tag) body
       (responder_does p.responder v.served tag body (serving.next_draw world.responder)))).after
   answered_at done v world s =
@@ -221,14 +227,15 @@ module _ (p : Pair) (ends : AreEnds p) (tag : ℕ) (body : List ℕ) (small : ta
           received = ap (λ (given : List (List ℕ)). spelled_packet (request_nth done) ∷ given) s.received;
           log = ap (λ (log : Log). served_log.acts_of p.responder v.served body o ++ log) s.log;
           waits = sent_waits world.sent (packets p.responder.peer) ∙ ap (λ (w : List (List ℕ)). w ++ packets p.responder.peer) s.waits ∙ ap packets ends.peer;
+          aside = aside.responder world (answers world.responder (server p v.served) (spelled_packet (request_nth done)) (route_to p.responder.eid p.requester.eid true tag) body o).after (with_sent world.sent (packets p.responder.peer)) (served_log.acts_of p.responder v.served body o) (λ h. after h o) refl s.aside;
         };
       }
 
-  last_given : (done : ℕ) (v : View) (world : World) → done + 1 ≡ packet_count p.requester.unit body → (body_type body == 5 || body_type body == 6) ≡ true → length v.received < wear_limit → Shows p v (drop (done + 1) request_packets) world → RequestCame done v.received
+  last_given : (done : ℕ) (v : View) (world : World) → done + 1 ≡ packet_count p.requester.unit body → (body_type body == 5 || body_type body == 6) ≡ true → length v.received < wear_limit → Shows p Aside v (drop (done + 1) request_packets) world → RequestCame done v.received
       → IsServed done v (given world (spelled_packet (request_nth done))).after
   last_given done v world sum typed life s came =
       let route = route_to p.responder.eid p.requester.eid true tag in
-      let s' = subst (λ (rest : List (List ℕ)). Shows p v rest world) (no_packets_from route p.requester.unit body (done + 1) sum) s in
+      let s' = subst (λ (rest : List (List ℕ)). Shows p Aside v rest world) (no_packets_from route p.requester.unit body (done + 1) sum) s in
       subst (λ (x : WorldStep). IsServed done v x.after)
       (sym (reaches_responder done v _ world (Whole route body) life s (last_gathers p.responder.eid p.requester.eid true tag p.requester.unit body small requester_some whole done v.received came sum)
       ∙ ap (given_to_responder world (spelled_packet (request_nth done))) (typed_answers world.responder (server p v.served) (spelled_packet (request_nth done)) route body refl typed)))
@@ -239,7 +246,7 @@ module _ (p : Pair) (ends : AreEnds p) (tag : ℕ) (body : List ℕ) (small : ta
       → IsServed done v (delivers world (suc w.place) (packet_of (suc w.place) world.sent)).after
   request_ends done v world typed life x w =
       subst (λ (o : Option (List ℕ)). IsServed done v (delivers world (suc w.place) o).after) (sym w.is)
-      (last_given done v (without_waiting (suc w.place) world) x.sum typed life (stopped p v _ _ w.place world w.behind x.shows) x.came)
+      (last_given done v (without_waiting (suc w.place) world) x.sum typed life (stopped p Aside aside v _ _ w.place world w.behind x.shows) x.came)
 
   -- ---- The packets of an answer.
 
@@ -258,7 +265,7 @@ module _ (p : Pair) (ends : AreEnds p) (tag : ℕ) (body : List ℕ) (small : ta
   -- So many packets of an answer were given; this one and so many more wait.
   pub record AnswerComes (done left : ℕ) (v : View) (world : World) : Type 0 where
     pub sum : done + suc left ≡ packet_count p.responder.unit body
-    pub shows : Shows p v (drop done answer_packets) world
+    pub shows : Shows p Aside v (drop done answer_packets) world
     pub came : AnswerCame done v.given
 
   pub first_answer : (done left : ℕ) (v : View) (world : World) → AnswerComes done left v world → FirstWaits (spelled_packet (answer_nth done)) (drop (done + 1) answer_packets) world.sent
@@ -267,7 +274,7 @@ module _ (p : Pair) (ends : AreEnds p) (tag : ℕ) (body : List ℕ) (small : ta
       first_waits world.sent (spelled_packet (answer_nth done)) (drop (done + 1) answer_packets)
       (x.shows.waits ∙ packets_from (route_to p.requester.eid p.responder.eid false tag) p.responder.unit body done (omega arith))
 
-  reaches_requester : (done : ℕ) (v : View) (waiting : List (List ℕ)) (world : World) (g : Gathered) → length v.given + v.commands < wear_limit → Shows p v waiting world → gathered_from p.requester.eid p.responder.eid v.given (answer_nth done) ≡ g
+  reaches_requester : (done : ℕ) (v : View) (waiting : List (List ℕ)) (world : World) (g : Gathered) → length v.given + v.commands < wear_limit → Shows p Aside v waiting world → gathered_from p.requester.eid p.responder.eid v.given (answer_nth done) ≡ g
       → given world (spelled_packet (answer_nth done)) ≡ given_to_requester world p.number (asking.hears_gathered (asker p v.given v.commands v.asked) (spelled_packet (answer_nth done)) g)
   reaches_requester done v waiting world g life s is =
       let a = asker p v.given v.commands v.asked in
@@ -279,8 +286,8 @@ module _ (p : Pair) (ends : AreEnds p) (tag : ℕ) (body : List ℕ) (small : ta
   abbrev answer_given : ℕ → View → View
   answer_given done v = record v { given = spelled_packet (answer_nth done) ∷ v.given }
 
-  awaits_at : (done : ℕ) (v : View) (rest : List (List ℕ)) (world : World) → Shows p v rest world
-      → Shows p (answer_given done v) rest (given_to_requester world p.number (asking.ignores (asker p v.given v.commands v.asked) (spelled_packet (answer_nth done)) event.More)).after
+  awaits_at : (done : ℕ) (v : View) (rest : List (List ℕ)) (world : World) → Shows p Aside v rest world
+      → Shows p Aside (answer_given done v) rest (given_to_requester world p.number (asking.ignores (asker p v.given v.commands v.asked) (spelled_packet (answer_nth done)) event.More)).after
   awaits_at done v rest world s =
       let a = asker p v.given v.commands v.asked in
       let new = asker p (spelled_packet (answer_nth done) ∷ v.given) v.commands v.asked in
@@ -293,16 +300,17 @@ module _ (p : Pair) (ends : AreEnds p) (tag : ℕ) (body : List ℕ) (small : ta
         received = s.received;
         log = s.log;
         waits = ap waiting_in (none_more world.sent) ∙ s.waits;
+        aside = aside.requester world new (with_sent world.sent []) [] refl s.aside;
       }
 
-  awaits_given : (done left : ℕ) (v : View) (world : World) → done + suc (suc left) ≡ packet_count p.responder.unit body → length v.given + v.commands < wear_limit → Shows p v (drop (done + 1) answer_packets) world → AnswerCame done v.given
+  awaits_given : (done left : ℕ) (v : View) (world : World) → done + suc (suc left) ≡ packet_count p.responder.unit body → length v.given + v.commands < wear_limit → Shows p Aside v (drop (done + 1) answer_packets) world → AnswerCame done v.given
       → AnswerComes (suc done) left (answer_given done v) (given world (spelled_packet (answer_nth done))).after
   awaits_given done left v world sum life s came =
       subst (λ (x : WorldStep). AnswerComes (suc done) left (answer_given done v) x.after)
       (sym (reaches_requester done v _ world More life s (more_gathers p.requester.eid p.responder.eid false tag p.responder.unit body small responder_some whole done left v.given came sum)))
       (record {
         sum = omega (arith, sum);
-        shows = awaits_at done v (drop (suc done) answer_packets) world (subst (λ (n : ℕ). Shows p v (drop n answer_packets) world) (next_done done) s);
+        shows = awaits_at done v (drop (suc done) answer_packets) world (subst (λ (n : ℕ). Shows p Aside v (drop n answer_packets) world) (next_done done) s);
         came = one_came p.requester.eid p.responder.eid false tag p.responder.unit body small responder_some whole done v.given came;
       })
 
@@ -310,7 +318,7 @@ module _ (p : Pair) (ends : AreEnds p) (tag : ℕ) (body : List ℕ) (small : ta
       → AnswerComes (suc done) left (answer_given done v) (delivers world (suc w.place) (packet_of (suc w.place) world.sent)).after
   answer_goes_on done left v world life x w =
       subst (λ (o : Option (List ℕ)). AnswerComes (suc done) left (answer_given done v) (delivers world (suc w.place) o).after) (sym w.is)
-      (awaits_given done left v (without_waiting (suc w.place) world) x.sum life (stopped p v _ _ w.place world w.behind x.shows) x.came)
+      (awaits_given done left v (without_waiting (suc w.place) world) x.sum life (stopped p Aside aside v _ _ w.place world w.behind x.shows) x.came)
 
   -- The pair behind an answer that was heard whole, by the draw that stood next.
   abbrev pub heard_view : ℕ → View → Draw → View
@@ -322,10 +330,10 @@ module _ (p : Pair) (ends : AreEnds p) (tag : ℕ) (body : List ℕ) (small : ta
 
   pub record IsHeard (done : ℕ) (v : View) (s : WorldStep) : Type 0 where
     pub drawn : Draw
-    pub shows : Shows p (heard_view done v drawn) (packets_of_sent p.requester (shown.sent_by (requester_hears p.requester v.asked false tag body drawn))) s.after
+    pub shows : Shows p Aside (heard_view done v drawn) (packets_of_sent p.requester (shown.sent_by (requester_hears p.requester v.asked false tag body drawn))) s.after
     pub writes : IsIn s.lines (Line.ToRequester p.number (unwrap_or (shown.event_of (requester_hears p.requester v.asked false tag body drawn)) event.More))
 
-  heard_at : (done : ℕ) (v : View) (world : World) → Shows p v [] world
+  heard_at : (done : ℕ) (v : View) (world : World) → Shows p Aside v [] world
       → IsHeard done v (given_to_requester world p.number (asking.heard_by (asker p v.given v.commands v.asked) (spelled_packet (answer_nth done)) body (requester_hears p.requester v.asked false tag body (asking.next_draw (asker p v.given v.commands v.asked)))))
   heard_at done v world s =
       let a = asker p v.given v.commands v.asked in
@@ -344,15 +352,16 @@ module _ (p : Pair) (ends : AreEnds p) (tag : ℕ) (body : List ℕ) (small : ta
           received = s.received;
           log = ap (λ (log : Log). asked_log.acts_of p.requester v.asked body o ++ log) s.log;
           waits = sent_waits world.sent packets ∙ ap (λ (w : List (List ℕ)). w ++ packets) s.waits;
+          aside = aside.requester world new (with_sent world.sent packets) (asked_log.acts_of p.requester v.asked body o) refl s.aside;
         };
         writes = inl refl;
       }
 
-  last_heard : (done : ℕ) (v : View) (world : World) → done + 1 ≡ packet_count p.responder.unit body → length v.given + v.commands < wear_limit → Shows p v (drop (done + 1) answer_packets) world → AnswerCame done v.given
+  last_heard : (done : ℕ) (v : View) (world : World) → done + 1 ≡ packet_count p.responder.unit body → length v.given + v.commands < wear_limit → Shows p Aside v (drop (done + 1) answer_packets) world → AnswerCame done v.given
       → IsHeard done v (given world (spelled_packet (answer_nth done)))
   last_heard done v world sum life s came =
       let route = route_to p.requester.eid p.responder.eid false tag in
-      let s' = subst (λ (rest : List (List ℕ)). Shows p v rest world) (no_packets_from route p.responder.unit body (done + 1) sum) s in
+      let s' = subst (λ (rest : List (List ℕ)). Shows p Aside v rest world) (no_packets_from route p.responder.unit body (done + 1) sum) s in
       subst (IsHeard done v)
       (sym (reaches_requester done v _ world (Whole route body) life s (last_gathers p.requester.eid p.responder.eid false tag p.responder.unit body small responder_some whole done v.given came sum)))
       (heard_at done v world s')
@@ -362,4 +371,4 @@ module _ (p : Pair) (ends : AreEnds p) (tag : ℕ) (body : List ℕ) (small : ta
       → IsHeard done v (delivers world (suc w.place) (packet_of (suc w.place) world.sent))
   answer_ends done v world life x w =
       subst (λ (o : Option (List ℕ)). IsHeard done v (delivers world (suc w.place) o)) (sym w.is)
-      (last_heard done v (without_waiting (suc w.place) world) x.sum life (stopped p v _ _ w.place world w.behind x.shows) x.came)
+      (last_heard done v (without_waiting (suc w.place) world) x.sum life (stopped p Aside aside v _ _ w.place world w.behind x.shows) x.came)
