@@ -40,6 +40,7 @@ pub mod ClearRounds
 pub mod ConnectRounds
 pub mod MeasureRound
 pub mod Aside
+pub mod QuietCommands
 pub mod ComingSteps
 pub mod UnderWay
 pub mod Accepted

@@ -1,17 +1,136 @@
 -- Each command of an honest script comes to its result. This project's own.
-use Rattle.std.specs.Prelude.{◌≡◌, ℕ, List, false}
-use Rattle.requester_machine.specs.Message.Command.{Connect}
-use Rattle.requester_machine.specs.Requesting.{Requesting}
-use Rattle.responder_machine.specs.Responding.{Connection}
+use Rattle.std.specs.Prelude.{◌≡◌, ◌<◌, ◌≤◌, ℕ, List, [], ◌∷◌, false, Some, None, Contains}
+use Rattle.measurements.specs.Records.{is_missing}
+use Rattle.requester_machine.specs.Message.{Command}
+use Rattle.requester_machine.specs.Message.Command.{Beat, Connect, End, Measure, Open, Retry, Send, Update}
+use Rattle.requester_machine.specs.Requesting.{Requesting, requester_told}
+use Rattle.requester_machine.specs.Setup.{ReqSetup}
+use Rattle.responder_machine.specs.Responding.{Connection, connection_of}
+use Rattle.responder_machine.specs.Setup.{RspSetup, inventory_of}
+use Rattle.spdm_agreement.specs.Configured.{IsConfigured}
+use Rattle.spdm_grammar.specs.Lines.{Line}
+use Rattle.spdm_grammar.specs.declared.event.Event.TheVariants as event
+use Rattle.spdm_grammar.specs.declared.event.Finished.{Finished}
 use Rattle.spdm_grammar.specs.declared.event.Finished.TheVariants as finished
 use Rattle.world_machine.specs.Chance.{NoChance}
 use Rattle.world_machine.specs.Happenings.{Entry}
 use Rattle.world_machine.specs.Setup.{WorldSetup}
+use Rattle.world_machine.specs.Trace.{lines_from, world_after, world_from}
+use Rattle.world_machine.specs.World.{World, new_world, requester_of}
 use Rattle.spdm_progress.specs.Connecting.{CanConnect}
-use Rattle.spdm_progress.specs.SessionCommands.{CompletesQuietly, IsTold}
+use Rattle.spdm_progress.specs.Honest.{AreHonest, HaveNoCommand, NothingWaits}
+use Rattle.spdm_progress.specs.InStep.{AreQuiet}
+use Rattle.spdm_progress.specs.Measuring.{measurements_size}
+use Rattle.spdm_progress.specs.Opening.{CanOpen, opened_id, terms_now}
+use Rattle.spdm_progress.specs.SessionCommands.{CanAsk, CompletesQuietly, IsTold, IsToldQuietly, LivesToAnswer, commanding, result_of}
+
+-- ---- Each command.
 
 -- Whatever came before, a connect leaves two quiet ends, and no session at the requester.
 abbrev pub ConnectsQuietly : Type 0
 ConnectsQuietly =
     (w : WorldSetup) (before : List Entry) (n : ℕ) (a : Requesting) (c : Connection) → IsTold w before n a c → CanConnect a c
     → (id : ℕ) → CompletesQuietly w before n a c Connect finished.Connected id false
+
+-- What a command needs beside that it is answered `ok`, so that its messages need no chunks and none is refused: what a
+-- connect and an open need; of measurements that a block which the operation, a byte, names is configured, and that the
+-- answer fits the requester's transfer size.
+abbrev pub CanDo : Requesting → Connection → Command → Type 0
+CanDo a c Connect = CanConnect a c
+CanDo a c (Open summary) = CanOpen a c summary
+CanDo a c (Send id bytes) = CanAsk a c (Send id bytes)
+CanDo a c (Beat id) = CanAsk a c (Beat id)
+CanDo a c (Update id all) = CanAsk a c (Update id all)
+CanDo a c (Measure None op) = (op < 256) × (is_missing op (inventory_of c.setup) ≡ false) × (measurements_size c.setup op ≤ (terms_now a).common.to_requester.transfer)
+CanDo a c (Measure (Some id) op) = CanAsk a c (Measure (Some id) op)
+CanDo a c (End id) = CanAsk a c (End id)
+CanDo a c Retry = Unit {0}
+
+-- What it comes to.
+abbrev pub result_for : Requesting → Connection → Command → Finished
+result_for a c Connect = finished.Connected
+result_for a c (Open summary) = finished.Opened (opened_id a c)
+result_for a c (Send id bytes) = result_of a c (Send id bytes)
+result_for a c (Beat id) = result_of a c (Beat id)
+result_for a c (Update id all) = result_of a c (Update id all)
+result_for a c (Measure id op) = result_of a c (Measure id op)
+result_for a c (End id) = result_of a c (End id)
+result_for a c Retry = finished.Connected
+
+-- The command of requester n is done: it is told this result in these lines, and is quiet again with the responder's
+-- connection.
+pub record IsDone (n : ℕ) (q : ReqSetup) (r : RspSetup) (result : Finished) (world : World) (lines : List Line) : Type 0 where
+  pub told : Contains lines (Line.ToRequester n (event.Done result))
+  pub requester : Requesting
+  pub is_requester : requester_of n world ≡ Some requester
+  pub connection : Connection
+  pub is_connection : connection_of q.eid world.responder.connections ≡ Some connection
+  pub requester_setup : requester.setup ≡ q
+  pub responder_setup : connection.setup ≡ r
+  pub quiet : AreQuiet q r requester.first world.log requester.history connection.history
+
+-- Each command that quiet ends answer `ok` comes to its result. No retry is among them, since nothing is outstanding.
+abbrev pub QuietCommandsComplete : Type 0
+QuietCommandsComplete =
+    (w : WorldSetup) (before : List Entry) (n : ℕ) (a : Requesting) (c : Connection) (command : Command) → IsToldQuietly w before n a c command → CanDo a c command
+    → (line : ℕ) (behind : List Entry) → HaveNoCommand behind → AreHonest (commanding (world_after w before) line n command) behind
+    → NothingWaits (world_from (commanding (world_after w before) line n command) behind) → NoChance (world_from (commanding (world_after w before) line n command) behind).log
+    → IsDone n a.setup c.setup (result_for a c command) (world_from (commanding (world_after w before) line n command) behind) (lines_from (commanding (world_after w before) line n command) behind)
+
+-- ---- Whole scripts.
+
+-- A world is quiet: no packet waits, and each requester is quiet with the responder's connection with it.
+pub record IsQuietWorld (world : World) : Type 0 where
+  pub idle : NothingWaits world
+  pub quiet : (n : ℕ) (a : Requesting) (c : Connection) → requester_of n world ≡ Some a → connection_of a.setup.eid world.responder.connections ≡ Some c → AreQuiet a.setup c.setup a.first world.log a.history c.history
+
+-- A command for requester n, with the number of its line, and what stands behind it up to the next command.
+pub record Paragraph : Type 0 where
+  pub line : ℕ
+  pub n : ℕ
+  pub command : Command
+  pub behind : List Entry
+
+-- The world in which the command was told, the world behind the paragraph, and the lines between.
+abbrev pub told_in : World → Paragraph → World
+told_in world p = commanding world p.line p.n p.command
+
+abbrev pub world_behind : World → Paragraph → World
+world_behind world p = world_from (told_in world p) p.behind
+
+abbrev pub lines_behind : World → Paragraph → List Line
+lines_behind world p = lines_from (told_in world p) p.behind
+
+-- The world behind all paragraphs.
+abbrev pub world_behind_all : World → List Paragraph → World
+world_behind_all world [] = world
+world_behind_all world (p ∷ others) = world_behind_all (world_behind world p) others
+
+-- The paragraphs are honest: what stands behind each command is honest, and leaves no packet that waits.
+abbrev pub AreHonestParagraphs : World → List Paragraph → Type 0
+AreHonestParagraphs world [] = Unit {0}
+AreHonestParagraphs world (p ∷ others) =
+    HaveNoCommand p.behind × AreHonest (told_in world p) p.behind × NothingWaits (world_behind world p) × AreHonestParagraphs (world_behind world p) others
+
+-- Each command that is answered `ok` has what it needs, and neither end is worn out before it is over.
+abbrev pub AllCanBeDone : World → List Paragraph → Type 0
+AllCanBeDone world [] = Unit {0}
+AllCanBeDone world (p ∷ others) =
+    ((a : Requesting) (c : Connection) → requester_of p.n world ≡ Some a → connection_of a.setup.eid world.responder.connections ≡ Some c → (requester_told a p.command).fault ≡ None
+    → CanDo a c p.command × LivesToAnswer a world.responder) × AllCanBeDone (world_behind world p) others
+
+-- Each command that is answered `ok` is done behind its paragraph.
+abbrev pub AllAreDone : World → List Paragraph → Type 0
+AllAreDone world [] = Unit {0}
+AllAreDone world (p ∷ others) =
+    ((a : Requesting) (c : Connection) → requester_of p.n world ≡ Some a → connection_of a.setup.eid world.responder.connections ≡ Some c → (requester_told a p.command).fault ≡ None
+    → IsDone p.n a.setup c.setup (result_for a c p.command) (world_behind world p) (lines_behind world p)) × AllAreDone (world_behind world p) others
+
+-- From the first moment on: a script that says something honest, and then honest paragraphs in which each command that is
+-- answered `ok` has what it needs. Where nothing agrees by chance, all these commands are done, and the world is quiet.
+abbrev pub HonestScriptsComplete : Type 0
+HonestScriptsComplete =
+    (w : WorldSetup) → IsConfigured w → (beginning : List Entry) → HaveNoCommand beginning → AreHonest (new_world w) beginning
+    → (paragraphs : List Paragraph) → AreHonestParagraphs (world_after w beginning) paragraphs → AllCanBeDone (world_after w beginning) paragraphs
+    → NoChance (world_behind_all (world_after w beginning) paragraphs).log
+    → AllAreDone (world_after w beginning) paragraphs × IsQuietWorld (world_behind_all (world_after w beginning) paragraphs)
