@@ -41,6 +41,8 @@ pub mod ConnectRounds
 pub mod MeasureRound
 pub mod Aside
 pub mod QuietCommands
+pub mod QuietWorlds
+pub mod ScriptsComplete
 pub mod ComingSteps
 pub mod UnderWay
 pub mod Accepted

@@ -29,7 +29,7 @@ pub fits_always : (w : WorldSetup) → IsConfigured w → (entries : List Entry)
 fits_always w c entries chance =
     (after_good asks.IsKept serves.IsKept asks.starts asks.asks_well asks.hears_well bodies.steady serves.served_starts serves.does_well serves.waits w c entries).fits chance
 
-differ_all : (qs : List ReqSetup) → AreApart qs → AllDiffer (map (λ (q : ReqSetup). q.eid) qs)
+pub differ_all : (qs : List ReqSetup) → AreApart qs → AllDiffer (map (λ (q : ReqSetup). q.eid) qs)
 differ_all [] apart = tt
 differ_all (q ∷ others) apart = (
   λ o m. (let x = in_map (λ (s : ReqSetup). s.eid) others o m in
