@@ -1,5 +1,5 @@
 -- Each command of an honest script comes to its result. This project's own.
-use Rattle.std.specs.Prelude.{◌≡◌, ◌<◌, ◌≤◌, ℕ, List, [], ◌∷◌, false, Some, None, Contains}
+use Rattle.std.specs.Prelude.{◌≡◌, ◌<◌, ◌≤◌, ℕ, List, [], ◌∷◌, if◌then◌else◌, false, Some, None, Contains}
 use Rattle.measurements.specs.Records.{is_missing}
 use Rattle.requester_machine.specs.Message.{Command}
 use Rattle.requester_machine.specs.Message.Command.{Beat, Connect, End, Measure, Open, Retry, Send, Update}
@@ -13,12 +13,13 @@ use Rattle.spdm_grammar.specs.declared.event.Event.TheVariants as event
 use Rattle.spdm_grammar.specs.declared.event.Finished.{Finished}
 use Rattle.spdm_grammar.specs.declared.event.Finished.TheVariants as finished
 use Rattle.world_machine.specs.Chance.{NoChance}
-use Rattle.world_machine.specs.Happenings.{Entry}
+use Rattle.world_machine.specs.Happenings.{Entry, Happening}
+use Rattle.world_machine.specs.Happenings.Happening.{Told}
 use Rattle.world_machine.specs.Setup.{WorldSetup}
 use Rattle.world_machine.specs.Trace.{lines_from, world_after, world_from}
-use Rattle.world_machine.specs.World.{World, new_world, requester_of}
+use Rattle.world_machine.specs.World.{World, entry_step, new_world, requester_of}
 use Rattle.spdm_progress.specs.Connecting.{CanConnect}
-use Rattle.spdm_progress.specs.Honest.{AreHonest, HaveNoCommand, NothingWaits}
+use Rattle.spdm_progress.specs.Honest.{AreHonest, HaveNoCommand, NothingWaits, is_command}
 use Rattle.spdm_progress.specs.InStep.{AreQuiet}
 use Rattle.spdm_progress.specs.Measuring.{measurements_size}
 use Rattle.spdm_progress.specs.Opening.{CanOpen, opened_id, terms_now}
@@ -126,11 +127,45 @@ AllAreDone world (p ∷ others) =
     ((a : Requesting) (c : Connection) → requester_of p.n world ≡ Some a → connection_of a.setup.eid world.responder.connections ≡ Some c → (requester_told a p.command).fault ≡ None
     → IsDone p.n a.setup c.setup (result_for a c p.command) (world_behind world p) (lines_behind world p)) × AllAreDone (world_behind world p) others
 
--- From the first moment on: a script that says something honest, and then honest paragraphs in which each command that is
--- answered `ok` has what it needs. Where nothing agrees by chance, all these commands are done, and the world is quiet.
+-- Honest paragraphs, from a quiet world on. Where nothing agrees by chance, each command that is answered `ok` is done, and
+-- the world is quiet behind them.
+abbrev pub HonestParagraphsComplete : Type 0
+HonestParagraphsComplete =
+    (w : WorldSetup) → IsConfigured w → (before : List Entry) → IsQuietWorld (world_after w before)
+    → (paragraphs : List Paragraph) → AreHonestParagraphs (world_after w before) paragraphs → AllCanBeDone (world_after w before) paragraphs → NoChance (world_behind_all (world_after w before) paragraphs).log
+    → AllAreDone (world_after w before) paragraphs × IsQuietWorld (world_behind_all (world_after w before) paragraphs)
+
+-- ---- The entries of a script.
+
+-- The entries up to the next command.
+abbrev pub up_to_command : List Entry → List Entry
+up_to_command [] = []
+up_to_command (entry ∷ entries) = if is_command entry.happening then [] else entry ∷ up_to_command entries
+
+-- What holds of each command in the world in which it stands, with what stands behind it.
+abbrev pub OfEachCommand : (World → (line n : ℕ) → Command → (behind : List Entry) → Type 0) → World → List Entry → Type 0
+OfEachCommand Holds world [] = Unit {0}
+OfEachCommand Holds world (entry ∷ entries) = OfCommand Holds world entry.line entry.happening entries × OfEachCommand Holds (entry_step world entry).after entries
+  where
+    OfCommand : (World → (line n : ℕ) → Command → (behind : List Entry) → Type 0) → World → (line : ℕ) → Happening → List Entry → Type 0
+    OfCommand Holds world line (Told n command) entries = Holds world line n command (up_to_command entries)
+    OfCommand Holds world line _ entries = Unit {0}
+
+-- A command that is answered `ok` has what it needs, and neither end is worn out before it is over.
+abbrev pub CanBeDone : World → (line n : ℕ) → Command → List Entry → Type 0
+CanBeDone world line n command behind =
+    (a : Requesting) (c : Connection) → requester_of n world ≡ Some a → connection_of a.setup.eid world.responder.connections ≡ Some c → (requester_told a command).fault ≡ None
+    → CanDo a c command × LivesToAnswer a world.responder
+
+-- A command that is answered `ok` is done before the next one.
+abbrev pub WillBeDone : World → (line n : ℕ) → Command → List Entry → Type 0
+WillBeDone world line n command behind =
+    (a : Requesting) (c : Connection) → requester_of n world ≡ Some a → connection_of a.setup.eid world.responder.connections ≡ Some c → (requester_told a command).fault ≡ None
+    → IsDone n a.setup c.setup (result_for a c command) (world_from (commanding world line n command) behind) (lines_from (commanding world line n command) behind)
+
+-- An honest script, of a configured world, in which nothing agrees by chance and each command that is answered `ok` has what
+-- it needs: where no packet waits at its end, each of these commands is done before the next one, and the world is quiet.
 abbrev pub HonestScriptsComplete : Type 0
 HonestScriptsComplete =
-    (w : WorldSetup) → IsConfigured w → (beginning : List Entry) → HaveNoCommand beginning → AreHonest (new_world w) beginning
-    → (paragraphs : List Paragraph) → AreHonestParagraphs (world_after w beginning) paragraphs → AllCanBeDone (world_after w beginning) paragraphs
-    → NoChance (world_behind_all (world_after w beginning) paragraphs).log
-    → AllAreDone (world_after w beginning) paragraphs × IsQuietWorld (world_behind_all (world_after w beginning) paragraphs)
+    (w : WorldSetup) → IsConfigured w → (entries : List Entry) → AreHonest (new_world w) entries → NothingWaits (world_after w entries) → NoChance (world_after w entries).log
+    → OfEachCommand CanBeDone (new_world w) entries → OfEachCommand WillBeDone (new_world w) entries × IsQuietWorld (world_after w entries)
