@@ -42,6 +42,7 @@ pub mod MeasureRound
 pub mod Aside
 pub mod QuietCommands
 pub mod QuietWorlds
+pub mod Paragraphs
 pub mod ScriptsComplete
 pub mod ComingSteps
 pub mod UnderWay

@@ -85,58 +85,6 @@ pub record IsQuietWorld (world : World) : Type 0 where
   pub idle : NothingWaits world
   pub quiet : (n : ℕ) (a : Requesting) (c : Connection) → requester_of n world ≡ Some a → connection_of a.setup.eid world.responder.connections ≡ Some c → AreQuiet a.setup c.setup a.first world.log a.history c.history
 
--- A command for requester n, with the number of its line, and what stands behind it up to the next command.
-pub record Paragraph : Type 0 where
-  pub line : ℕ
-  pub n : ℕ
-  pub command : Command
-  pub behind : List Entry
-
--- The world in which the command was told, the world behind the paragraph, and the lines between.
-abbrev pub told_in : World → Paragraph → World
-told_in world p = commanding world p.line p.n p.command
-
-abbrev pub world_behind : World → Paragraph → World
-world_behind world p = world_from (told_in world p) p.behind
-
-abbrev pub lines_behind : World → Paragraph → List Line
-lines_behind world p = lines_from (told_in world p) p.behind
-
--- The world behind all paragraphs.
-abbrev pub world_behind_all : World → List Paragraph → World
-world_behind_all world [] = world
-world_behind_all world (p ∷ others) = world_behind_all (world_behind world p) others
-
--- The paragraphs are honest: what stands behind each command is honest, and leaves no packet that waits.
-abbrev pub AreHonestParagraphs : World → List Paragraph → Type 0
-AreHonestParagraphs world [] = Unit {0}
-AreHonestParagraphs world (p ∷ others) =
-    HaveNoCommand p.behind × AreHonest (told_in world p) p.behind × NothingWaits (world_behind world p) × AreHonestParagraphs (world_behind world p) others
-
--- Each command that is answered `ok` has what it needs, and neither end is worn out before it is over.
-abbrev pub AllCanBeDone : World → List Paragraph → Type 0
-AllCanBeDone world [] = Unit {0}
-AllCanBeDone world (p ∷ others) =
-    ((a : Requesting) (c : Connection) → requester_of p.n world ≡ Some a → connection_of a.setup.eid world.responder.connections ≡ Some c → (requester_told a p.command).fault ≡ None
-    → CanDo a c p.command × LivesToAnswer a world.responder) × AllCanBeDone (world_behind world p) others
-
--- Each command that is answered `ok` is done behind its paragraph.
-abbrev pub AllAreDone : World → List Paragraph → Type 0
-AllAreDone world [] = Unit {0}
-AllAreDone world (p ∷ others) =
-    ((a : Requesting) (c : Connection) → requester_of p.n world ≡ Some a → connection_of a.setup.eid world.responder.connections ≡ Some c → (requester_told a p.command).fault ≡ None
-    → IsDone p.n a.setup c.setup (result_for a c p.command) (world_behind world p) (lines_behind world p)) × AllAreDone (world_behind world p) others
-
--- Honest paragraphs, from a quiet world on. Where nothing agrees by chance, each command that is answered `ok` is done, and
--- the world is quiet behind them.
-abbrev pub HonestParagraphsComplete : Type 0
-HonestParagraphsComplete =
-    (w : WorldSetup) → IsConfigured w → (before : List Entry) → IsQuietWorld (world_after w before)
-    → (paragraphs : List Paragraph) → AreHonestParagraphs (world_after w before) paragraphs → AllCanBeDone (world_after w before) paragraphs → NoChance (world_behind_all (world_after w before) paragraphs).log
-    → AllAreDone (world_after w before) paragraphs × IsQuietWorld (world_behind_all (world_after w before) paragraphs)
-
--- ---- The entries of a script.
-
 -- The entries up to the next command.
 abbrev pub up_to_command : List Entry → List Entry
 up_to_command [] = []
@@ -163,8 +111,15 @@ WillBeDone world line n command behind =
     (a : Requesting) (c : Connection) → requester_of n world ≡ Some a → connection_of a.setup.eid world.responder.connections ≡ Some c → (requester_told a command).fault ≡ None
     → IsDone n a.setup c.setup (result_for a c command) (world_from (commanding world line n command) behind) (lines_from (commanding world line n command) behind)
 
--- An honest script, of a configured world, in which nothing agrees by chance and each command that is answered `ok` has what
--- it needs: where no packet waits at its end, each of these commands is done before the next one, and the world is quiet.
+-- From any quiet world on, whatever led to it: where nothing agrees by chance, and each command that is answered `ok` has
+-- what it needs, and no packet waits at the end, each of these commands is done before the next one, and the world is quiet.
+abbrev pub QuietWorldsComplete : Type 0
+QuietWorldsComplete =
+    (w : WorldSetup) → IsConfigured w → (before : List Entry) → IsQuietWorld (world_after w before)
+    → (entries : List Entry) → AreHonest (world_after w before) entries → NothingWaits (world_from (world_after w before) entries) → NoChance (world_from (world_after w before) entries).log
+    → OfEachCommand CanBeDone (world_after w before) entries → OfEachCommand WillBeDone (world_after w before) entries × IsQuietWorld (world_from (world_after w before) entries)
+
+-- So it is with each honest script, since a new world is quiet.
 abbrev pub HonestScriptsComplete : Type 0
 HonestScriptsComplete =
     (w : WorldSetup) → IsConfigured w → (entries : List Entry) → AreHonest (new_world w) entries → NothingWaits (world_after w entries) → NoChance (world_after w entries).log

@@ -3,6 +3,9 @@
 ghost use Rattle.spdm_progress.specs.Connecting.{ConnectCompletes, EachIsConnected, SixPacketsAreEnough};
 ghost use Rattle.spdm_progress.specs.Measuring.{ConnectedCanMeasure, MeasureCompletes};
 ghost use Rattle.spdm_progress.specs.Opening.{OpenCompletes};
+ghost use Rattle.spdm_progress.specs.Scripts.{
+    ConnectsQuietly, HonestScriptsComplete, QuietCommandsComplete, QuietWorldsComplete,
+};
 ghost use Rattle.spdm_progress.specs.SessionCommands.{SessionCommandsComplete};
 
 /// A connect that is told where no packet waits is done once no packet waits again, whatever an
@@ -36,16 +39,38 @@ pub fn connected_can_measure()
     ensures { ConnectedCanMeasure }
 {}
 
-/// Each command that asks something of an open session (application data, HEARTBEAT, KEY_UPDATE of either kind,
-/// GET_MEASUREMENTS whose answer needs no chunks, END_SESSION), told where no packet waits and the two ends are quiet, comes
-/// to its result once no packet waits again, and leaves the two ends quiet.
+/// A connect leaves the two ends quiet, whatever came before.
+pub fn connects_quietly()
+    ensures { ConnectsQuietly }
+{}
+
+/// An open, told where no packet waits and the two ends are quiet, is done once no packet waits
+/// again: the requester is told the id of a session that is open at both ends, in step, and the two
+/// ends are quiet. It speaks of messages that need no chunks.
+pub fn open_completes()
+    ensures { OpenCompletes }
+{}
+
+/// Each command that asks something of an open session (application data, HEARTBEAT, KEY_UPDATE of
+/// either kind, GET_MEASUREMENTS whose answer needs no chunks, END_SESSION), told where no packet
+/// waits and the two ends are quiet, comes to its result once no packet waits again, and leaves the
+/// two ends quiet.
 pub fn session_commands_complete()
     ensures { SessionCommandsComplete }
 {}
 
-/// An open, told where no packet waits and the two ends are quiet, is done once no packet waits again: the requester is
-/// told the id of a session that is open at both ends, in step, and the two ends are quiet. It speaks of messages that need
-/// no chunks.
-pub fn open_completes()
-    ensures { OpenCompletes }
+/// The same of every command that quiet ends answer `ok`, in the clear or in a session.
+pub fn quiet_commands_complete()
+    ensures { QuietCommandsComplete }
+{}
+
+/// From a quiet world on, each command of an honest script that is answered `ok` and has what it
+/// needs is done before the next one, and the world behind them is quiet.
+pub fn quiet_worlds_complete()
+    ensures { QuietWorldsComplete }
+{}
+
+/// So it is with each honest script from its beginning on.
+pub fn honest_scripts_complete()
+    ensures { HonestScriptsComplete }
 {}
