@@ -52,7 +52,7 @@ use Rattle.spdm_progress.proofs.RequesterStages.{Asks as AsksRequest, IsOver, al
 use Rattle.spdm_progress.proofs.ResponderBegins.{awaits_on, awaits_version, stands_on}
 use Rattle.spdm_progress.proofs.ResponderStages.{AwaitsVersion, HasAlgorithms, HasCapabilities, HasVersion, algorithms, algorithms_answered, capabilities, capabilities_answered, first_pair, get_capabilities, get_version, negotiate_algorithms, three_pairs, two_pairs, version, version_answered}
 use Rattle.spdm_progress.proofs.SessionBegins.{sends}
-use Rattle.spdm_progress.proofs.SessionCompletes.{completes_by, fresh, no_chance_from, placed}
+use Rattle.spdm_progress.proofs.SessionCompletes.{Idle, Rests, completes_by, fresh, no_chance_from, placed}
 use Rattle.spdm_progress.proofs.SetUps.{CanTalk, algorithms_size, can_talk, common_for, takes_answer}
 use Rattle.spdm_progress.proofs.Talk.{IsTalk, Stage}
 use Rattle.spdm_progress.proofs.Aside.{IsAside, nothing_aside}
@@ -199,7 +199,7 @@ module _ (p : Pair) (offer : OfferMessage) (choice : Choice) (can : CanTalk p.re
 -- ---- The command.
 
 module _ (w : WorldSetup) (before : List Entry) (n : ℕ) (a : Requesting) (c : Connection) (is_told : IsTold w before n a c) (can : CanConnect a c) (line : ℕ) (behind : List Entry) (none : HaveNoCommand behind)
-    (honest : AreHonest (commanding (world_after w before) line n Connect) behind) (still : NothingWaits (world_from (commanding (world_after w before) line n Connect) behind))
+    (honest : AreHonest (commanding (world_after w before) line n Connect) behind) (still : Rests (commanding (world_after w before) line n Connect) behind)
     (chance : NoChance (world_from (commanding (world_after w before) line n Connect) behind).log)
     (Aside : World → Type 0) (aside : IsAside (pair_of n a c) Aside) (beside : Aside (world_after w before)) where
   here : ArePlaced (world_after w before) n a c
@@ -219,7 +219,7 @@ module _ (w : WorldSetup) (before : List Entry) (n : ℕ) (a : Requesting) (c : 
   made = ((fits_always w is_told.configured before (no_chance_from (world_after w before) (record { line = line; happening = Told n Connect } ∷ behind) chance)).asks a (requester_in n (world_after w before) a is_told.is_requester)).made
 
   pub connected : (id : ℕ) → IsDoneQuietly n a.setup c.setup finished.Connected id false (world_from (commanding (world_after w before) line n Connect) behind) (lines_from (commanding (world_after w before) line n Connect) behind)
-      × Aside (world_from (commanding (world_after w before) line n Connect) behind)
+      × Idle Aside (world_from (commanding (world_after w before) line n Connect) behind)
   unfolding steps.session_of
   connected id =
       completes_by w before n a c Connect is_told line behind none honest still chance Aside aside beside (ConnectAsks pair can.offer can.choice talks) (ConnectAnswers pair can.offer can.choice talks) (ConnectDone pair can.offer can.choice talks) finished.Connected id false
@@ -238,4 +238,4 @@ module _ (w : WorldSetup) (before : List Entry) (n : ℕ) (a : Requesting) (c : 
       ))
 
 pub connects_quietly : ConnectsQuietly
-connects_quietly w before n a c told can id line behind none honest still chance = (connected w before n a c told can line behind none honest still chance (λ later. Unit {0}) (nothing_aside (pair_of n a c)) tt id).0
+connects_quietly w before n a c told can id line behind none honest still chance = (connected w before n a c told can line behind none honest (inl still) chance (λ later. Unit {0}) (nothing_aside (pair_of n a c)) tt id).0

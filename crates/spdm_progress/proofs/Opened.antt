@@ -56,7 +56,7 @@ use Rattle.spdm_progress.proofs.OnePacket.{not_longer}
 use Rattle.spdm_progress.proofs.OpenRounds.{CanExchange, OpenDone, OpenTalkAnswers, OpenTalkAsks, open_talk}
 use Rattle.spdm_progress.proofs.PacketSteps.{Pair}
 use Rattle.spdm_progress.proofs.SessionBegins.{sends}
-use Rattle.spdm_progress.proofs.SessionCompletes.{completes_by, fresh, no_chance_from, placed}
+use Rattle.spdm_progress.proofs.SessionCompletes.{Idle, Rests, completes_by, fresh, no_chance_from, placed}
 use Rattle.spdm_progress.proofs.Aside.{IsAside, nothing_aside}
 use Rattle.spdm_progress.proofs.Told.{ArePlaced, fits_always, pair_of}
 
@@ -73,7 +73,7 @@ needs_choice false false true fine = refl
 needs_choice false false false fine = fine
 
 module _ (w : WorldSetup) (before : List Entry) (n : ℕ) (a : Requesting) (c : Connection) (summary : ℕ) (is_told : IsToldQuietly w before n a c (Open summary)) (can : CanOpen a c summary) (line : ℕ) (behind : List Entry) (none : HaveNoCommand behind)
-    (honest : AreHonest (commanding (world_after w before) line n (Open summary)) behind) (still : NothingWaits (world_from (commanding (world_after w before) line n (Open summary)) behind))
+    (honest : AreHonest (commanding (world_after w before) line n (Open summary)) behind) (still : Rests (commanding (world_after w before) line n (Open summary)) behind)
     (chance : NoChance (world_from (commanding (world_after w before) line n (Open summary)) behind).log)
     (Aside : World → Type 0) (aside : IsAside (pair_of n a c) Aside) (beside : Aside (world_after w before)) where
   abbrev d : Draw
@@ -179,7 +179,7 @@ module _ (w : WorldSetup) (before : List Entry) (n : ℕ) (a : Requesting) (c : 
 
   abbrev Result : ℕ → Type 0
   Result id = IsDoneQuietly n a.setup c.setup (finished.Opened (record { req = id; rsp = rid })) id true (world_from (commanding (world_after w before) line n (Open summary)) behind) (lines_from (commanding (world_after w before) line n (Open summary)) behind)
-      × Aside (world_from (commanding (world_after w before) line n (Open summary)) behind)
+      × Idle Aside (world_from (commanding (world_after w before) line n (Open summary)) behind)
 
   done_with : Result f.id
   done_with =
@@ -202,4 +202,4 @@ module _ (w : WorldSetup) (before : List Entry) (n : ℕ) (a : Requesting) (c : 
   opened = subst Result own_id done_with
 
 pub open_completes : OpenCompletes
-open_completes w before n a c summary told can line behind none honest still chance = (opened w before n a c summary told can line behind none honest still chance (λ later. Unit {0}) (nothing_aside (pair_of n a c)) tt).0
+open_completes w before n a c summary told can line behind none honest still chance = (opened w before n a c summary told can line behind none honest (inl still) chance (λ later. Unit {0}) (nothing_aside (pair_of n a c)) tt).0

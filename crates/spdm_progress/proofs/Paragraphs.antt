@@ -1,5 +1,5 @@
 -- A paragraph: a command that is told in a quiet world, and what stands behind it up to the next one.
-use Rattle.std.proofs.Common.{◌≡◌, ◌∙◌, ◌==◌, ℕ, List, [], ◌∷◌, ◌++◌, map, true, false, Option, Some, None, refl, sym, ap, subst}
+use Rattle.std.proofs.Common.{◌≡◌, ◌∙◌, ◌==◌, ℕ, List, [], ◌∷◌, ◌++◌, map, true, false, Option, Some, None, refl, sym, ap, subst, inl}
 use Rattle.std.proofs.lemmas.Bool.{false≢true}
 use Rattle.spdm_grammar.specs.declared.command_fault.CommandFault.{CommandFault}
 use Rattle.spdm_grammar.specs.Lines.{Line}
@@ -27,7 +27,7 @@ use Rattle.spdm_agreement.proofs.Worlds.AllEvents.{requester_in}
 use Rattle.spdm_progress.proofs.Places.{AllDiffer}
 use Rattle.spdm_progress.proofs.QuietCommands as commands
 use Rattle.spdm_progress.proofs.QuietWorlds.{always_differ, behind_quiet, from_both, others_of, quiet_with, refused_quiet, refused_step}
-use Rattle.spdm_progress.proofs.SessionCompletes.{no_chance_from}
+use Rattle.spdm_progress.proofs.SessionCompletes.{Idle, no_chance_from}
 use Rattle.spdm_progress.proofs.Told.{are_placed, pair_of}
 
 -- A command for requester n, with the number of its line, and what stands behind it up to the next command.
@@ -63,7 +63,7 @@ module _ (w : WorldSetup) (configured : IsConfigured w) (before : List Entry) (p
   Done a c = IsDone p.n a.setup c.setup (result_for a c p.command) (world_behind world p) (lines_behind world p)
 
   accepted : (a : Requesting) (c : Connection) → requester_of p.n world ≡ Some a → connection_of a.setup.eid world.responder.connections ≡ Some c → (requester_told a p.command).fault ≡ None → CanDo a c p.command → LivesToAnswer a world.responder
-      → Done a c × OthersAreQuiet a.setup.eid (world_behind world p)
+      → Done a c × Idle (OthersAreQuiet a.setup.eid) (world_behind world p)
   accepted a c is connected ok can life =
       let placed = are_placed w before p.n a c configured (no_chance_from world (entries_of p) chance) is connected in
       commands.each w before p.n a c p.line p.behind none (OthersAreQuiet a.setup.eid) (others_aside (pair_of p.n a c) placed.ends.peer) (others_of a.setup.eid world quiet) p.command can (record {
@@ -73,11 +73,11 @@ module _ (w : WorldSetup) (configured : IsConfigured w) (before : List Entry) (p
           accepted = ok;
         };
         honest = honest;
-        still = still;
+        still = inl still;
         chance = chance;
       })
 
-  done_quiet : (a : Requesting) (c : Connection) → Done a c × OthersAreQuiet a.setup.eid (world_behind world p) → IsQuietWorld (world_behind world p)
+  done_quiet : (a : Requesting) (c : Connection) → Done a c × Idle (OthersAreQuiet a.setup.eid) (world_behind world p) → IsQuietWorld (world_behind world p)
   done_quiet a c x =
       let d = x.0 in
       let b = d.requester in
@@ -87,7 +87,7 @@ module _ (w : WorldSetup) (configured : IsConfigured w) (before : List Entry) (p
       (ap (λ (k : ℕ). connection_of k (world_behind world p).responder.connections) eid ∙ d.is_connection)
       (subst (λ (r : RspSetup). AreQuiet b.setup r b.first (world_behind world p).log b.history e.history) (sym d.responder_setup)
       (subst (λ (q : ReqSetup). AreQuiet q c.setup b.first (world_behind world p).log b.history e.history) (sym d.requester_setup) d.quiet))
-      (subst (λ (k : ℕ). OthersAreQuiet k (world_behind world p)) (sym eid) x.1)
+      (subst (λ (k : ℕ). OthersAreQuiet k (world_behind world p)) (sym eid) x.1.1)
 
   -- ---- Where it is refused, or is for nobody.
 

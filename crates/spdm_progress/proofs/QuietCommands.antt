@@ -1,5 +1,5 @@
 -- Each command of two quiet ends comes to its result, and leaves the others quiet.
-use Rattle.std.proofs.Common.{◌≡◌, ◌∙◌, ℕ, ◌<◌, ◌≤◌, ◌+◌, List, [], ◌∷◌, ◌++◌, length, Bool, true, false, is_none, Some, None, refl, sym, ap, subst, inl, arith}
+use Rattle.std.proofs.Common.{◌≡◌, ◌∙◌, ℕ, ◌<◌, ◌≤◌, ◌+◌, List, [], ◌∷◌, ◌++◌, length, Bool, true, false, is_none, Some, None, refl, sym, ap, subst, inl, inr, arith}
 use Rattle.std.specs.Prelude.{if◌then◌else◌}
 use Rattle.std.proofs.lemmas.Bool.{false≢true, not-false}
 use Rattle.measurements.specs.Records.{is_missing}
@@ -37,13 +37,14 @@ use Rattle.responder_machine.specs.Refusal.{sizes_are_known}
 use Rattle.responder_machine.specs.Responding.{Connection}
 use Rattle.world_machine.specs.Chance.{NoChance}
 use Rattle.world_machine.specs.Happenings.{Entry}
+use Rattle.world_machine.specs.Happenings.Happening.{Pump}
 use Rattle.world_machine.specs.Setup.{WorldSetup}
 use Rattle.world_machine.specs.Trace.{lines_from, world_after, world_from}
-use Rattle.world_machine.specs.World.{World}
+use Rattle.world_machine.specs.World.{World, happens}
 use Rattle.spdm_progress.specs.Honest.{AreHonest, HaveNoCommand, NothingWaits}
 use Rattle.spdm_progress.specs.InStep.{AreQuiet}
 use Rattle.spdm_progress.specs.Measuring.{measurements_size, number_for}
-use Rattle.spdm_progress.specs.Scripts.{CanDo, IsDone, QuietCommandsComplete, result_for}
+use Rattle.spdm_progress.specs.Scripts.{CanDo, IsDone, PumpsAreEnough, QuietCommandsComplete, result_for}
 use Rattle.spdm_progress.specs.SessionCommands.{CanAsk, IsDoneQuietly, IsToldQuietly, commanding, goes_on, result_of}
 use Rattle.spdm_progress.specs.Opening.{opened_id}
 use Rattle.spdm_progress.proofs.Accepted.{not_worn_told, told_so}
@@ -55,7 +56,7 @@ use Rattle.spdm_progress.proofs.OnePacket.{not_longer}
 use Rattle.spdm_progress.proofs.Opened as opens
 use Rattle.spdm_progress.proofs.PacketSteps.{Pair}
 use Rattle.spdm_progress.proofs.SessionCompletes as sessions
-use Rattle.spdm_progress.proofs.SessionCompletes.{completes_by, fresh, placed}
+use Rattle.spdm_progress.proofs.SessionCompletes.{Idle, Rests, completes_by, fresh, placed}
 use Rattle.spdm_progress.proofs.Told.{ArePlaced, pair_of}
 
 module _ (w : WorldSetup) (before : List Entry) (n : ℕ) (a : Requesting) (c : Connection) (line : ℕ) (behind : List Entry) (none : HaveNoCommand behind) (Aside : World → Type 0) (aside : IsAside (pair_of n a c) Aside) (beside : Aside (world_after w before)) where
@@ -63,13 +64,13 @@ module _ (w : WorldSetup) (before : List Entry) (n : ℕ) (a : Requesting) (c : 
   After command = commanding (world_after w before) line n command
 
   abbrev pub Result : Command → Type 0
-  Result command = IsDone n a.setup c.setup (result_for a c command) (world_from (After command) behind) (lines_from (After command) behind) × Aside (world_from (After command) behind)
+  Result command = IsDone n a.setup c.setup (result_for a c command) (world_from (After command) behind) (lines_from (After command) behind) × Idle Aside (world_from (After command) behind)
 
   -- What is told of a session is among it.
   plainly : (command : Command) (result : Finished) (id : ℕ) (left : Bool) → result ≡ result_for a c command
-      → IsDoneQuietly n a.setup c.setup result id left (world_from (After command) behind) (lines_from (After command) behind) × Aside (world_from (After command) behind) → Result command
+      → IsDoneQuietly n a.setup c.setup result id left (world_from (After command) behind) (lines_from (After command) behind) × Idle Aside (world_from (After command) behind) → Result command
   plainly command result id left same x =
-      subst (λ (f : Finished). IsDone n a.setup c.setup f (world_from (After command) behind) (lines_from (After command) behind) × Aside (world_from (After command) behind)) same
+      subst (λ (f : Finished). IsDone n a.setup c.setup f (world_from (After command) behind) (lines_from (After command) behind) × Idle Aside (world_from (After command) behind)) same
       ((record {
         told = x.0.told;
         requester = x.0.requester;
@@ -85,7 +86,7 @@ module _ (w : WorldSetup) (before : List Entry) (n : ℕ) (a : Requesting) (c : 
   pub record IsOver (command : Command) : Type 0 where
     pub told : IsToldQuietly w before n a c command
     pub honest : AreHonest (After command) behind
-    pub still : NothingWaits (world_from (After command) behind)
+    pub still : Rests (After command) behind
     pub chance : NoChance (world_from (After command) behind).log
 
   in_session : (command : Command) (id : ℕ) → CanAsk a c command → session_in command ≡ Some id → result_of a c command ≡ result_for a c command → IsOver command → Result command
@@ -200,4 +201,9 @@ module _ (w : WorldSetup) (before : List Entry) (n : ℕ) (a : Requesting) (c : 
 
 pub quiet_commands_complete : QuietCommandsComplete
 quiet_commands_complete w before n a c command told can line behind none honest still chance =
-    (each w before n a c line behind none (λ later. Unit {0}) (nothing_aside (pair_of n a c)) tt command can (record { told = told; honest = honest; still = still; chance = chance })).0
+    (each w before n a c line behind none (λ later. Unit {0}) (nothing_aside (pair_of n a c)) tt command can (record { told = told; honest = honest; still = inl still; chance = chance })).0
+
+pub pumps_are_enough : PumpsAreEnough
+unfolding happens
+pumps_are_enough w before n a c command told can line count most chance =
+    (each w before n a c line (record { line = line; happening = Pump count } ∷ []) (refl, tt) (λ later. Unit {0}) (nothing_aside (pair_of n a c)) tt command can (record { told = told; honest = (tt, tt); still = inr (line, count, most, refl); chance = chance })).1.0

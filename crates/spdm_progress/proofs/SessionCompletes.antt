@@ -1,5 +1,5 @@
 -- Each command that asks something of an open session comes to its result.
-use Rattle.std.proofs.Common.{◌≡◌, ◌∙◌, ℕ, suc, ◌<◌, ◌≤◌, ◌+◌, ◌*◌, ◌==◌, List, [], ◌∷◌, ◌++◌, length, take, Bool, true, false, nat_lt, not, Option, Some, None, refl, sym, ap, subst, inl, inr, arith}
+use Rattle.std.proofs.Common.{◌≡◌, ◌⊎◌, ◌∙◌, ℕ, suc, ◌<◌, ◌≤◌, ◌+◌, ◌*◌, ◌==◌, List, [], ◌∷◌, ◌++◌, length, take, Bool, true, false, nat_lt, not, Option, Some, None, refl, sym, ap, subst, inl, inr, arith}
 use Rattle.std.proofs.Math.Nat.{min-le_left}
 use Rattle.std.proofs.lemmas.Bool.{ltb-false, not-false}
 use Rattle.std.proofs.lemmas.List.{length-take}
@@ -40,10 +40,10 @@ use Rattle.spdm_progress.specs.Measuring.{measurements_size, number_for}
 use Rattle.transcript.specs.Transcripts.{Negotiation}
 use Rattle.world_machine.specs.Chance.{NoChance}
 use Rattle.world_machine.specs.Happenings.{Entry}
-use Rattle.world_machine.specs.Happenings.Happening.{Told}
+use Rattle.world_machine.specs.Happenings.Happening.{Pump, Told}
 use Rattle.world_machine.specs.Setup.{WorldSetup}
 use Rattle.world_machine.specs.Trace.{lines_from, world_after, world_from}
-use Rattle.world_machine.specs.World.{World, WorldStep, entry_step, happens, told_by}
+use Rattle.world_machine.specs.World.{World, WorldStep, entry_step, happens, pumps, told_by}
 use Rattle.spdm_progress.specs.Honest.{AreHonest, HaveNoCommand, NothingWaits}
 use Rattle.spdm_progress.specs.InStep.{AreQuiet}
 use Rattle.spdm_progress.specs.SessionCommands.{CanAsk, CompletesQuietly, IsDoneQuietly, IsTold, IsToldQuietly, SessionCommandsComplete, commanding, goes_on, result_of, session_at}
@@ -51,12 +51,13 @@ use Rattle.spdm_progress.proofs.AlikeSessions.{is_kept}
 use Rattle.spdm_progress.proofs.Accepted.{not_worn_told, told_so}
 use Rattle.spdm_progress.proofs.Aside.{IsAside, nothing_aside}
 use Rattle.spdm_progress.proofs.AskedOnce.{CanBeat, CanMeasure, CanSend, IsData, IsMeasured, IsNamed, IsSpdm, beat_asking, beat_last, data_asking, data_last, end_asking, end_last, measure_asking, measure_last}
+use Rattle.spdm_progress.proofs.ManyPackets.{waits_idle}
 use Rattle.spdm_progress.proofs.PacketSteps.{Pair, asker, not_worn, server}
 use Rattle.spdm_progress.proofs.SessionBegins.{AsksOfSession, asked_now, sends, sent_for, shows_at, shows_told, told_is, told_view, view_of}
 use Rattle.spdm_progress.proofs.SessionRounds.{Asking, IsAsked}
 use Rattle.spdm_progress.proofs.SingleRound.{AnswersOnce, AsksOnce, IsLast, Quiet, once_talk}
 use Rattle.spdm_progress.proofs.Talk as talk
-use Rattle.spdm_progress.proofs.Talk.{IsTalk, Stage, begins, no_chance_earlier, talk_ends}
+use Rattle.spdm_progress.proofs.Talk.{IsTalk, Stage, begins, begins_with, enough, no_chance_earlier, talk_ends}
 use Rattle.spdm_progress.proofs.Told.{ArePlaced, are_placed, contained, pair_of}
 use Rattle.spdm_progress.proofs.UpdateRounds.{CanUpdate, UpdateDone, UpdateTalkAnswers, UpdateTalkAsks, update_asking, update_talk}
 use Rattle.spdm_progress.proofs.Views.{Shows, View}
@@ -68,8 +69,20 @@ no_chance_from world (entry ∷ entries) chance = no_chance_earlier world entry.
 
 -- ---- A talk that a command begins.
 
+-- A pump of 396 packets or more, and nothing else.
+abbrev pub IsLongPump : List Entry → Type 0
+IsLongPump behind = (line : ℕ) × (count : ℕ) × (396 ≤ count) × (behind ≡ record { line = line; happening = Pump count } ∷ [])
+
+-- No packet waits behind these entries, or there was a pump long enough.
+abbrev pub Rests : World → List Entry → Type 0
+Rests world behind = NothingWaits (world_from world behind) ⊎ IsLongPump behind
+
+-- No packet waits, and what stands aside holds.
+abbrev pub Idle : (World → Type 0) → World → Type 0
+Idle Aside world = NothingWaits world × Aside world
+
 module _ (w : WorldSetup) (before : List Entry) (n : ℕ) (a : Requesting) (c : Connection) (command : Command) (is_told : IsTold w before n a c) (line : ℕ) (behind : List Entry) (none : HaveNoCommand behind)
-    (honest : AreHonest (commanding (world_after w before) line n command) behind) (still : NothingWaits (world_from (commanding (world_after w before) line n command) behind)) (chance : NoChance (world_from (commanding (world_after w before) line n command) behind).log)
+    (honest : AreHonest (commanding (world_after w before) line n command) behind) (still : Rests (commanding (world_after w before) line n command) behind) (chance : NoChance (world_from (commanding (world_after w before) line n command) behind).log)
     (Aside : World → Type 0) (aside : IsAside (pair_of n a c) Aside) (beside : Aside (world_after w before)) where
   abbrev world : World
   world = world_after w before
@@ -90,7 +103,7 @@ module _ (w : WorldSetup) (before : List Entry) (n : ℕ) (a : Requesting) (c : 
   p = pair_of n a c
 
   finished_so : (result : Finished) (id : ℕ) (left : Bool) (later : World) (lines : List Line) → (v : View) → Shows p Aside v [] later → AreQuiet a.setup c.setup a.first v.log v.asked v.served → steps.is_live (steps.session_of id v.asked) ≡ left → IsIn lines (Line.ToRequester n (event.Done result))
-      → IsDoneQuietly n a.setup c.setup result id left later lines × Aside later
+      → IsDoneQuietly n a.setup c.setup result id left later lines × Idle Aside later
   finished_so result id left later lines v s quiet live told = (record {
     told = contained lines _ told;
     requester = asker p v.given v.commands v.asked;
@@ -101,20 +114,36 @@ module _ (w : WorldSetup) (before : List Entry) (n : ℕ) (a : Requesting) (c : 
     responder_setup = refl;
     quiet = subst (λ (log : Log). AreQuiet a.setup c.setup a.first log v.asked v.served) (sym s.log) quiet;
     session = live;
-  }, s.aside)
+  }, (waits_idle later.sent s.waits, s.aside))
+
+  at_rest : (Asks Answers : Stage) (Done : Log → asked.History → served.History → Type 0) (result : Finished) (is_talk : IsTalk p Asks Answers Done (event.Done result)) (sent : Sent) → requester_told a command ≡ sends a command sent
+      → (begun : talk.Asking p placed.ends Aside aside Asks Answers Done (event.Done result) is_talk (told_by world n (sends a command sent)).after) → begun.more ≤ 2 → Rests (commanding world line n command) behind → NothingWaits (world_from (commanding world line n command) behind)
+  unfolding happens
+  at_rest Asks Answers Done result is_talk sent step begun few (inl idle) = idle
+  at_rest Asks Answers Done result is_talk sent step begun few (inr pump) =
+      let same = told_is world n a command sent is_told.is_requester step in
+      let later = commanding world line n command in
+      let count = pump.1 in
+      subst (λ (entries : List Entry). NothingWaits (world_from later entries)) (sym pump.3)
+      (subst (λ (s : WorldStep). NothingWaits (pumps count s.after).after) (sym same)
+      (enough p placed.ends Aside aside Asks Answers Done (event.Done result) is_talk count (told_by world n (sends a command sent)).after begun few pump.2
+      (subst (λ (s : WorldStep). NoChance (pumps count s.after).after.log) same (subst (λ (entries : List Entry). NoChance (world_from later entries).log) pump.3 chance))))
 
   -- The talk that the message of the command begins.
   pub completes_by : (Asks Answers : Stage) (Done : Log → asked.History → served.History → Type 0) (result : Finished) (id : ℕ) (left : Bool) → ((log : Log) (h : asked.History) (g : served.History) → Done log h g → AreQuiet a.setup c.setup a.first log h g × (steps.is_live (steps.session_of id h) ≡ left))
       → IsTalk p Asks Answers Done (event.Done result) → (more : ℕ) → more ≤ 2 → (sent : Sent) → requester_told a command ≡ sends a command sent
       → Asks more sent.tag (body_of sent.content) (told_view world a c command sent).log (told_view world a c command sent).asked c.history
-      → IsDoneQuietly n a.setup c.setup result id left (world_from (commanding world line n command) behind) (lines_from (commanding world line n command) behind) × Aside (world_from (commanding world line n command) behind)
+      → IsDoneQuietly n a.setup c.setup result id left (world_from (commanding world line n command) behind) (lines_from (commanding world line n command) behind) × Idle Aside (world_from (commanding world line n command) behind)
   completes_by Asks Answers Done result id left means is_talk more few sent step asks =
       let life = is_told.life.requester in
       let responder_life = is_told.life.responder in
       let shown = shows_told Aside world n a c aside command sent (shows_at Aside world n a c placed is_told.is_requester is_told.is_connection is_told.idle beside) in
-      let begun = begins p placed.ends Aside aside Asks Answers Done (event.Done result) is_talk more sent (told_view world a c command sent) (told_by world n (sends a command sent)).after shown asks (omega arith) (omega arith) in
+      let own_life : length (told_view world a c command sent).given + (told_view world a c command sent).commands + 66 * suc more ≤ wear_limit = omega arith in
+      let other_life : length (told_view world a c command sent).received + 66 * suc more ≤ wear_limit = omega arith in
+      let begun = begins p placed.ends Aside aside Asks Answers Done (event.Done result) is_talk more sent (told_view world a c command sent) (told_by world n (sends a command sent)).after shown asks own_life other_life in
+      let rounds = begins_with p placed.ends Aside aside Asks Answers Done (event.Done result) is_talk more sent (told_view world a c command sent) (told_by world n (sends a command sent)).after shown asks own_life other_life in
       let asking_now = subst (λ (s : WorldStep). talk.Asking p placed.ends Aside aside Asks Answers Done (event.Done result) is_talk s.after) (sym (told_is world n a command sent is_told.is_requester step)) begun in
-      let e = talk_ends p placed.ends Aside aside Asks Answers Done (event.Done result) is_talk (commanding world line n command) behind none honest chance asking_now still in
+      let e = talk_ends p placed.ends Aside aside Asks Answers Done (event.Done result) is_talk (commanding world line n command) behind none honest chance asking_now (at_rest Asks Answers Done result is_talk sent step begun (omega (arith, rounds, few)) still) in
       let d = means e.0.view.log e.0.view.asked e.0.view.served e.0.done in
       finished_so result id left (world_from (commanding world line n command) behind) (lines_from (commanding world line n command) behind) e.0.view e.0.shows d.0 d.1 e.1
 
@@ -148,7 +177,7 @@ module _ (w : WorldSetup) (before : List Entry) (n : ℕ) (a : Requesting) (c : 
 
       -- It takes one round.
       pub once_completes : (Fit : Steps → Type 0) (Good : Steps → Turn → Type 0) (result : Finished) → IsLast p one_key id x Fit Good (event.Done result) → Fit (session_at a id)
-          → IsDoneQuietly n a.setup c.setup result id (is_kept x.ask) (world_from (commanding world line n command) behind) (lines_from (commanding world line n command) behind) × Aside (world_from (commanding world line n command) behind)
+          → IsDoneQuietly n a.setup c.setup result id (is_kept x.ask) (world_from (commanding world line n command) behind) (lines_from (commanding world line n command) behind) × Idle Aside (world_from (commanding world line n command) behind)
       once_completes Fit Good result last fit =
           completes_by (AsksOnce p one_key id x Fit Good (event.Done result)) (AnswersOnce p one_key id x Fit Good (event.Done result)) (Quiet p one_key id x Fit Good (event.Done result)) result id (is_kept x.ask) (λ log h g z. (z.quiet, z.session)) (once_talk p one_key id x Fit Good (event.Done result) last) 0 (omega arith) sent step_so
           (record { is = is_asked Fit fit })
@@ -167,11 +196,11 @@ module _ (w : WorldSetup) (before : List Entry) (n : ℕ) (a : Requesting) (c : 
   pub record IsOver (command : Command) : Type 0 where
     pub told : IsToldQuietly w before n a c command
     pub honest : AreHonest (After command) behind
-    pub still : NothingWaits (world_from (After command) behind)
+    pub still : Rests (After command) behind
     pub chance : NoChance (world_from (After command) behind).log
 
   abbrev pub Result : Command → ℕ → Type 0
-  Result command id = IsDoneQuietly n a.setup c.setup (result_of a c command) id (goes_on command) (world_from (After command) behind) (lines_from (After command) behind) × Aside (world_from (After command) behind)
+  Result command id = IsDoneQuietly n a.setup c.setup (result_of a c command) id (goes_on command) (world_from (After command) behind) (lines_from (After command) behind) × Idle Aside (world_from (After command) behind)
 
   no_fault : (command : Command) → IsOver command → command_fault false a.setup a.history command (command_chosen a.setup a.history (asking.next_draw a)) ≡ None
   no_fault command o = (told_so a command (fresh w before n a c command o.told.now line behind none o.honest o.still o.chance Aside aside beside) o.told.accepted).0
@@ -250,4 +279,4 @@ module _ (w : WorldSetup) (before : List Entry) (n : ℕ) (a : Requesting) (c : 
   each Retry id can named o = absurd can
 
 pub session_commands_complete : SessionCommandsComplete
-session_commands_complete w before n a c command id told can named line behind none honest still chance = (each w before n a c line behind none (λ later. Unit {0}) (nothing_aside (pair_of n a c)) tt command id can named (record { told = told; honest = honest; still = still; chance = chance })).0
+session_commands_complete w before n a c command id told can named line behind none honest still chance = (each w before n a c line behind none (λ later. Unit {0}) (nothing_aside (pair_of n a c)) tt command id can named (record { told = told; honest = honest; still = inl still; chance = chance })).0

@@ -146,6 +146,11 @@ module _ (p : Pair) (ends : AreEnds p) (Aside : World → Type 0) (aside : IsAsi
         responder_life = omega (arith, left.1, left.2);
       }
 
+  pub begins_with : (more : ℕ) (next : Sent) (v : View) (world : World) (shows : Shows p Aside v (packets_of_sent p.requester (Some next)) world) (asks : Asks more next.tag (body_of next.content) v.log v.asked v.served)
+      (life : length v.given + v.commands + round * suc more ≤ wear_limit) (responder_life : length v.received + round * suc more ≤ wear_limit) → (begins more next v world shows asks life responder_life).more ≡ more
+  unfolding begins
+  begins_with more next v world shows asks life responder_life = refl
+
   answered : (world : World) (more tag : ℕ) (body : List ℕ) (sent : IsSendable tag body) (v : View) (done : ℕ) → NoChance v.log → Asks more tag body v.log v.asked v.served → length v.given + v.commands + round * suc more ≤ wear_limit
       → length v.received + 1 + round * more ≤ wear_limit → IsServed p ends Aside aside tag body sent.small sent.whole done v world → Answering world
   answered world more tag body sent v done chance asks life responder_life x =

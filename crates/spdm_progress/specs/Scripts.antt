@@ -14,10 +14,10 @@ use Rattle.spdm_grammar.specs.declared.event.Finished.{Finished}
 use Rattle.spdm_grammar.specs.declared.event.Finished.TheVariants as finished
 use Rattle.world_machine.specs.Chance.{NoChance}
 use Rattle.world_machine.specs.Happenings.{Entry, Happening}
-use Rattle.world_machine.specs.Happenings.Happening.{Told}
+use Rattle.world_machine.specs.Happenings.Happening.{Pump, Told}
 use Rattle.world_machine.specs.Setup.{WorldSetup}
 use Rattle.world_machine.specs.Trace.{lines_from, world_after, world_from}
-use Rattle.world_machine.specs.World.{World, entry_step, new_world, requester_of}
+use Rattle.world_machine.specs.World.{World, entry_step, happens, new_world, requester_of}
 use Rattle.spdm_progress.specs.Connecting.{CanConnect}
 use Rattle.spdm_progress.specs.Honest.{AreHonest, HaveNoCommand, NothingWaits, is_command}
 use Rattle.spdm_progress.specs.InStep.{AreQuiet}
@@ -77,6 +77,13 @@ QuietCommandsComplete =
     → (line : ℕ) (behind : List Entry) → HaveNoCommand behind → AreHonest (commanding (world_after w before) line n command) behind
     → NothingWaits (world_from (commanding (world_after w before) line n command) behind) → NoChance (world_from (commanding (world_after w before) line n command) behind).log
     → IsDone n a.setup c.setup (result_for a c command) (world_from (commanding (world_after w before) line n command) behind) (lines_from (commanding (world_after w before) line n command) behind)
+
+-- A pump of 396 packets or more behind such a command leaves none that waits, so an honest script can always go on. (A
+-- command begins three rounds at most, and a message has at most 66 packets.)
+abbrev pub PumpsAreEnough : Type 0
+PumpsAreEnough =
+    (w : WorldSetup) (before : List Entry) (n : ℕ) (a : Requesting) (c : Connection) (command : Command) → IsToldQuietly w before n a c command → CanDo a c command
+    → (line count : ℕ) → 396 ≤ count → NoChance (happens (commanding (world_after w before) line n command) (Pump count)).after.log → NothingWaits (happens (commanding (world_after w before) line n command) (Pump count)).after
 
 -- ---- Whole scripts.
 

@@ -4,7 +4,8 @@ ghost use Rattle.spdm_progress.specs.Connecting.{ConnectCompletes, EachIsConnect
 ghost use Rattle.spdm_progress.specs.Measuring.{ConnectedCanMeasure, MeasureCompletes};
 ghost use Rattle.spdm_progress.specs.Opening.{OpenCompletes};
 ghost use Rattle.spdm_progress.specs.Scripts.{
-    ConnectsQuietly, HonestScriptsComplete, QuietCommandsComplete, QuietWorldsComplete,
+    ConnectsQuietly, HonestScriptsComplete, PumpsAreEnough, QuietCommandsComplete,
+    QuietWorldsComplete,
 };
 ghost use Rattle.spdm_progress.specs.SessionCommands.{SessionCommandsComplete};
 
@@ -62,6 +63,11 @@ pub fn session_commands_complete()
 /// The same of every command that quiet ends answer `ok`, in the clear or in a session.
 pub fn quiet_commands_complete()
     ensures { QuietCommandsComplete }
+{}
+
+/// No packet of such a command waits after a pump of 396.
+pub fn pumps_are_enough()
+    ensures { PumpsAreEnough }
 {}
 
 /// From a quiet world on, each command of an honest script that is answered `ok` and has what it
