@@ -18,15 +18,15 @@ use Rattle.requester_machine.specs.Requesting as asking
 use Rattle.requester_machine.specs.Requesting.{Requesting, PacketStep, requester_given, hears_packet, hears_gathered, heard_by, ignores, worn_step}
 use Rattle.responder_machine.specs.History as served
 use Rattle.world_machine.specs.World.{World, WorldStep, packet_of, is_at, number_at, given, given_to, given_to_requester, without_waiting, delivers}
-use Rattle.spdm_progress.proofs.ManyPackets.{Came, FirstWaits, first_waits, waits_idle, waiting_in, one_came, last_gathers, more_gathers, nth, nth_read, number}
+use Rattle.spdm_progress.proofs.ManyPackets.{Came, FirstWaits, clear_is_body, first_waits, waits_idle, waiting_in, one_came, last_gathers, more_gathers, nth, nth_read, number}
 use Rattle.spdm_progress.proofs.OnePacket.{not_longer, route_to}
-use Rattle.spdm_progress.proofs.PacketSteps.{Pair, AreEnds, At, AtNext, IsShort, asker, answer_packets, heard_at, next_of, not_worn}
+use Rattle.spdm_progress.proofs.PacketSteps.{Pair, AreEnds, At, AtNext, IsShort, asker, answer_packets, either_last, heard_at, next_of, not_worn}
 use Rattle.spdm_progress.proofs.Places.{found_new, number_new, of_new, of_same}
 use Rattle.spdm_progress.proofs.RequesterStages.{Hears}
 use Rattle.spdm_progress.proofs.Waiting.{none_more}
 
 -- A requester that gathers a packet does what that leads to.
-gathers_as : (a : Requesting) (f : PacketFields) (peer : ℕ) (g : Gathered) → asking.is_worn a ≡ false → parsed (spelled_packet f) ≡ Ok f → a.setup.responder ≡ peer → gathered_from a.setup.eid peer a.given f ≡ g
+pub gathers_as : (a : Requesting) (f : PacketFields) (peer : ℕ) (g : Gathered) → asking.is_worn a ≡ false → parsed (spelled_packet f) ≡ Ok f → a.setup.responder ≡ peer → gathered_from a.setup.eid peer a.given f ≡ g
     → requester_given a (spelled_packet f) ≡ hears_gathered a (spelled_packet f) g
 unfolding requester_given
 gathers_as a f peer g fresh read from is =
@@ -35,11 +35,8 @@ gathers_as a f peer g fresh read from is =
     ∙ ap (λ (eid : ℕ). hears_gathered a (spelled_packet f) (gathered_from a.setup.eid eid a.given f)) from
     ∙ ap (hears_gathered a (spelled_packet f)) is
 
-either_last : (b c : Bool) (x y z : WorldStep) → b ≡ false → c ≡ false → (if b then x else (if c then y else z)) ≡ z
-either_last b c x y z e f = rw (e, f) refl
-
 -- A packet for a requester is given to it.
-to_requester : (world : World) (f : PacketFields) (a : Requesting) → f.to ≢ world.responder.part.eid → find (is_at f.to) world.requesters ≡ Some a
+pub to_requester : (world : World) (f : PacketFields) (a : Requesting) → f.to ≢ world.responder.part.eid → find (is_at f.to) world.requesters ≡ Some a
     → given world (spelled_packet f) ≡ given_to_requester world (number_at a.setup.eid world) (requester_given a (spelled_packet f))
 to_requester world f a other found =
     either_last _ (f.to == world.responder.part.eid) _ _ _ (not_longer (length (spelled_packet f)) 2 (omega arith)) (ne_eqb f.to world.responder.part.eid other)
@@ -49,13 +46,13 @@ module _ (p : Pair) (ends : AreEnds p) (k l : ℕ) (Asked : asked.History → Ty
     (small : tag < 8) (fits : length m < 4161) (some : 0 < p.responder.unit) (next_short : (h : asked.History) → IsShort p ends (next h))
     (hears_it : (h : asked.History) (d : Draw) → Asked h → Hears p.requester h tag m d told (next_of p ends (next h)) (Then h)) where
   abbrev nth_of : ℕ → PacketFields
-  nth_of j = nth p.requester.eid p.responder.eid tag p.responder.unit m small some fits j
+  nth_of j = nth p.requester.eid p.responder.eid false tag p.responder.unit (clear_body m) small some (clear_is_body m fits) j
 
   abbrev pub count : ℕ
-  count = number p.requester.eid p.responder.eid tag p.responder.unit m small some fits
+  count = number p.requester.eid p.responder.eid false tag p.responder.unit (clear_body m) small some (clear_is_body m fits)
 
   abbrev CameTo : ℕ → List (List ℕ) → Type 0
-  CameTo j given = Came p.requester.eid p.responder.eid tag p.responder.unit m small some fits j given
+  CameTo j given = Came p.requester.eid p.responder.eid false tag p.responder.unit (clear_body m) small some (clear_is_body m fits) j given
 
   -- So many packets of the answer were given; this one and so many more wait.
   pub record Coming (done left : ℕ) (world : World) : Type 0 where
@@ -79,7 +76,7 @@ module _ (p : Pair) (ends : AreEnds p) (k l : ℕ) (Asked : asked.History → Ty
       to_requester world (nth_of done) a (λ e. ends.apart (e ∙ at.own)) at.found
       ∙ ap (λ (n : ℕ). given_to_requester world n (requester_given a (spelled_packet (nth_of done)))) at.number_is
       ∙ ap (given_to_requester world p.number)
-      (gathers_as a (nth_of done) p.responder.eid g (not_worn (length at.given + at.commands) wear_limit (omega arith)) (nth_read p.requester.eid p.responder.eid tag p.responder.unit m small some fits done) ends.to is)
+      (gathers_as a (nth_of done) p.responder.eid g (not_worn (length at.given + at.commands) wear_limit (omega arith)) (nth_read p.requester.eid p.responder.eid false tag p.responder.unit (clear_body m) small some (clear_is_body m fits) done) ends.to is)
 
   next_done : (done : ℕ) → done + 1 ≡ suc done
   next_done done = omega arith
@@ -110,14 +107,14 @@ module _ (p : Pair) (ends : AreEnds p) (k l : ℕ) (Asked : asked.History → Ty
           life = omega arith;
           responder_life = at.responder_life;
         };
-        came = one_came p.requester.eid p.responder.eid tag p.responder.unit m small some fits done at.given came;
+        came = one_came p.requester.eid p.responder.eid false tag p.responder.unit (clear_body m) small some (clear_is_body m fits) done at.given came;
       }
 
   more_given : (done left : ℕ) (world : World) → done + suc (suc left) ≡ count → waiting_in world.sent ≡ drop (done + 1) (answer_packets p ends tag m) → (at : At p (k + suc (suc left)) l Asked Served world) → CameTo done at.given
       → Coming (suc done) left (given world (spelled_packet (nth_of done))).after
   more_given done left world sum waits at came =
       subst (λ (s : WorldStep). Coming (suc done) left s.after)
-      (sym (reached done (suc left) world at More (more_gathers p.requester.eid p.responder.eid tag p.responder.unit m small some fits done left at.given came sum)))
+      (sym (reached done (suc left) world at More (more_gathers p.requester.eid p.responder.eid false tag p.responder.unit (clear_body m) small some (clear_is_body m fits) done left at.given came sum)))
       (more_at done left world sum waits at came)
 
   -- The world in which a packet waits no longer.
@@ -150,7 +147,7 @@ module _ (p : Pair) (ends : AreEnds p) (k l : ℕ) (Asked : asked.History → Ty
       → AtNext p ends k l Asked Then Served tag m told next small next_short hears_it at.asked (given world (spelled_packet (nth_of done)))
   last_given done world sum waits at came =
       subst (AtNext p ends k l Asked Then Served tag m told next small next_short hears_it at.asked)
-      (sym (reached done 0 world at (Whole (route_to p.requester.eid p.responder.eid false tag) (clear_body m)) (last_gathers p.requester.eid p.responder.eid tag p.responder.unit m small some fits done at.given came sum)))
+      (sym (reached done 0 world at (Whole (route_to p.requester.eid p.responder.eid false tag) (clear_body m)) (last_gathers p.requester.eid p.responder.eid false tag p.responder.unit (clear_body m) small some (clear_is_body m fits) done at.given came sum)))
       (heard_at p ends k l Asked Then Served tag m told next small next_short hears_it (spelled_packet (nth_of done)) world
       (waits_idle world.sent (waits ∙ no_packets_from (route_to p.requester.eid p.responder.eid false tag) p.responder.unit (clear_body m) (done + 1) sum)) at)
 

@@ -131,9 +131,10 @@ module _ (w : WorldSetup) (before : List Entry) (n : ℕ) (a : Requesting) (c : 
   pub completes : (line : ℕ) (behind : List Entry) → HaveNoCommand behind → AreHonest (connecting world line n) behind → NothingWaits (world_from (connecting world line n) behind)
       → IsConnected n a.setup c.setup is_told.can.choice (world_from (connecting world line n) behind) (lines_from (connecting world line n) behind)
   completes line behind none honest over =
-      let e = ended p IsUnderWay IsDone (under_way.done_line p placed.ends is_told.can.offer is_told.can.choice talks) (under_way.one_given p placed.ends is_told.can.offer is_told.can.choice talks)
+      let e = ended IsUnderWay IsDone (λ later_world. Unit {0}) (under_way.done_line p placed.ends is_told.can.offer is_told.can.choice talks) (λ later_world event sound. tt)
+      (λ later_world sound going. under_way.one_given p placed.ends is_told.can.offer is_told.can.choice talks later_world going)
       (under_way.done_idle p placed.ends is_told.can.offer is_told.can.choice talks) (under_way.under_way_kept p placed.ends is_told.can.offer is_told.can.choice talks) (under_way.done_kept p placed.ends is_told.can.offer is_told.can.choice talks)
-      (connecting world line n) behind none honest (inl (asked.next_tag a.history, begun line)) over in
+      (connecting world line n) behind none honest tt (inl (asked.next_tag a.history, begun line)) over in
       result (record { lines = lines_from (connecting world line n) behind; after = world_from (connecting world line n) behind }) e.done e.line_is
 
   six_on : (count : ℕ) → 6 ≤ count → suc (suc (suc (suc (suc (suc (count - 6)))))) ≡ count

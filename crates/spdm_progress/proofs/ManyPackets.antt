@@ -1,8 +1,10 @@
--- A long clear answer comes packet by packet: each but the last leads to nothing but that more is awaited, and the last
+-- A long body comes packet by packet: each but the last leads to nothing but that more is awaited, and the last
 -- one completes it.
-use Rattle.std.proofs.Common.{◌≡◌, ◌∙◌, ℕ, suc, ◌<◌, ◌+◌, List, [], ◌∷◌, ◌++◌, length, Bool, true, false, nat_eq, Option, Some, None, Result, Ok, refl, ap, arith, eq-eqb}
-use Rattle.std.specs.Prelude.{if◌then◌else◌}
-use Rattle.std.proofs.lemmas.Bool.{ne_eqb}
+use Rattle.std.proofs.Common.{◌≡◌, ◌∙◌, ℕ, zero, suc, ◌<◌, ◌≤◌, ◌+◌, ◌*◌, nat_le, List, [], ◌∷◌, ◌++◌, length, Bool, true, false, nat_eq, Option, Some, None, Result, Ok, refl, ap, arith, eq-eqb}
+use Rattle.std.specs.Prelude.{if◌then◌else◌, slice_index}
+use Rattle.std.proofs.lemmas.Bool.{leb-false, leb-true, ne_eqb}
+use Rattle.std.proofs.lemmas.Grind.{div_ceil_times}
+use Rattle.std.proofs.lemmas.Nat.{mul-le}
 use Rattle.mctp_framing.proofs.CutAndGathered.{gathered-nth}
 use Rattle.mctp_framing.proofs.Spelled.{parsed-spelled_packet}
 use Rattle.mctp_framing.specs.CutAndGather.{IsGatherable}
@@ -15,6 +17,7 @@ use Rattle.spdm_machine.specs.Bodies.{clear_body}
 use Rattle.spdm_machine.specs.Packets.{gathered_from, fields_in, fields_with, body_limit}
 use Rattle.world_machine.specs.World.{SentPacket, first_waiting, next_number, packet_at, stopped_at, with_sent}
 use Rattle.spdm_progress.proofs.OnePacket.{route_to}
+use Rattle.spdm_progress.proofs.Waiting.{one_more}
 
 -- ---- The packets that wait, in order.
 
@@ -62,9 +65,6 @@ pub record FirstWaits (packet : List ℕ) (rest : List (List ℕ)) (sent : List 
   pub is : packet_at place sent ≡ Some packet
   pub behind : waiting_in (stopped_at place sent) ≡ rest
 
-one_more : (place : ℕ) → suc place + 1 ≡ suc (suc place)
-one_more place = omega arith
-
 first_by : (bytes : List ℕ) (others : List SentPacket) (packet : List ℕ) (rest : List (List ℕ)) (b : Bool) → (if b then bytes ∷ waiting_in others else waiting_in others) ≡ packet ∷ rest → (waiting_in others ≡ packet ∷ rest → FirstWaits packet rest others)
     → FirstWaits packet rest (record { bytes = bytes; waits = b } ∷ others)
 first_by bytes others packet rest true e next =
@@ -89,26 +89,35 @@ first_waits (s ∷ others) packet rest e = first_by s.bytes others packet rest s
 
 -- ---- One packet of a body at its receiver.
 
-module _ (own peer tag unit : ℕ) (m : List ℕ) (small : tag < 8) (some : 0 < unit) (fits : length m < 4161) where
+-- A body that is gathered whole: it has a byte, its first byte has no integrity check bit, and it is within the limit.
+pub record IsBody (body : List ℕ) : Type 0 where
+  pub filled : 0 < length body
+  pub plain : slice_index body 0 < 128
+  pub fits : length body ≤ body_limit
+
+pub clear_is_body : (m : List ℕ) → length m < 4161 → IsBody (clear_body m)
+clear_is_body m fits = record { filled = omega arith; plain = omega arith; fits = omega arith }
+
+module _ (own peer : ℕ) (owner : Bool) (tag unit : ℕ) (body : List ℕ) (small : tag < 8) (some : 0 < unit) (whole : IsBody body) where
   abbrev pub route : RouteFields
-  route = route_to own peer false tag
+  route = route_to own peer owner tag
 
   abbrev pub number : ℕ
-  number = packet_count unit (clear_body m)
+  number = packet_count unit body
 
   abbrev pub nth : ℕ → PacketFields
-  nth k = nth_packet route unit (clear_body m) k
+  nth k = nth_packet route unit body k
 
   pub nth_read : (k : ℕ) → parsed (spelled_packet (nth k)) ≡ Ok (nth k)
   nth_read k = parsed-spelled_packet (nth k) (omega arith) small
 
-  sound : IsGatherable (record { own = own; peer = peer; limit = body_limit }) route unit (clear_body m)
-  sound = record { to_is = refl; from_is = refl; filled = omega arith; plain = omega arith; fits = omega arith; some = some }
+  sound : IsGatherable (record { own = own; peer = peer; limit = body_limit }) route unit body
+  sound = record { to_is = refl; from_is = refl; filled = whole.filled; plain = whole.plain; fits = whole.fits; some = some }
 
   -- The packets before this one were given behind some others.
   pub record Came (k : ℕ) (given : List (List ℕ)) : Type 0 where
     pub earlier : List PacketFields
-    pub fields : fields_in given ≡ packets_before route unit (clear_body m) k ++ earlier
+    pub fields : fields_in given ≡ packets_before route unit body k ++ earlier
 
   pub none_came : (given : List (List ℕ)) → Came 0 given
   none_came given = record { earlier = fields_in given; fields = refl }
@@ -119,15 +128,34 @@ module _ (own peer tag unit : ℕ) (m : List ℕ) (small : tag < 8) (some : 0 < 
     fields = ap (λ (r : Result PacketFields PacketFault). fields_with r (fields_in given)) (nth_read k) ∙ ap (λ (x : List PacketFields). nth k ∷ x) came.fields;
   }
 
-  gathers : (k : ℕ) (given : List (List ℕ)) → Came k given → k < number → gathered_from own peer given (nth k) ≡ (if nat_eq (k + 1) number then Whole route (clear_body m) else More)
+  gathers : (k : ℕ) (given : List (List ℕ)) → Came k given → k < number → gathered_from own peer given (nth k) ≡ (if nat_eq (k + 1) number then Whole route body else More)
   unfolding gathered_from
   gathers k given came within =
       ap (λ (x : List PacketFields). gathered (record { own = own; peer = peer; limit = body_limit }) x (nth k)) came.fields
-      ∙ gathered-nth (record { own = own; peer = peer; limit = body_limit }) route unit (clear_body m) sound came.earlier k within
+      ∙ gathered-nth (record { own = own; peer = peer; limit = body_limit }) route unit body sound came.earlier k within
 
   -- The last one completes the body, any other awaits more.
-  pub last_gathers : (k : ℕ) (given : List (List ℕ)) → Came k given → k + 1 ≡ number → gathered_from own peer given (nth k) ≡ Whole route (clear_body m)
-  last_gathers k given came last = gathers k given came (omega arith) ∙ ap (λ (b : Bool). if b then Whole route (clear_body m) else More) (eq-eqb (k + 1) number last)
+  pub last_gathers : (k : ℕ) (given : List (List ℕ)) → Came k given → k + 1 ≡ number → gathered_from own peer given (nth k) ≡ Whole route body
+  last_gathers k given came last = gathers k given came (omega arith) ∙ ap (λ (b : Bool). if b then Whole route body else More) (eq-eqb (k + 1) number last)
 
   pub more_gathers : (k left : ℕ) (given : List (List ℕ)) → Came k given → k + suc (suc left) ≡ number → gathered_from own peer given (nth k) ≡ More
-  more_gathers k left given came sum = gathers k given came (omega arith) ∙ ap (λ (b : Bool). if b then Whole route (clear_body m) else More) (ne_eqb (k + 1) number (λ e. omega (arith, e, sum)))
+  more_gathers k left given came sum = gathers k given came (omega arith) ∙ ap (λ (b : Bool). if b then Whole route body else More) (ne_eqb (k + 1) number (λ e. omega (arith, e, sum)))
+
+-- ---- How many packets a body has.
+
+some_packets : (q unit n : ℕ) → n ≤ q * unit → 0 < n → 0 < q
+some_packets zero unit n holds filled = absurd (omega arith)
+some_packets (suc q) unit n holds filled = omega arith
+
+few_by : (q unit n : ℕ) (b : Bool) → nat_le 67 q ≡ b → q * unit < n + unit → 64 ≤ unit → n ≤ 4162 → q ≤ 66
+few_by q unit n true many spare wide fits = (let most : 67 * unit ≤ q * unit = mul-le 67 unit q unit (leb-true 67 q many) (omega arith) in absurd (omega arith))
+few_by q unit n false few spare wide fits = (let less = leb-false 67 q few in omega arith)
+
+pub few_packets : (unit : ℕ) (body : List ℕ) → 64 ≤ unit → 0 < length body → length body ≤ 4162 → (0 < packet_count unit body) × (packet_count unit body ≤ 66)
+few_packets unit body wide filled fits =
+    let around = div_ceil_times (length body) unit (omega arith) in
+    (some_packets (packet_count unit body) unit (length body) around.0 filled, few_by (packet_count unit body) unit (length body) (nat_le 67 (packet_count unit body)) refl around.1 wide fits)
+
+pub before_it : (n : ℕ) → 0 < n → (k : ℕ) × (suc k ≡ n)
+before_it zero some = absurd (omega arith)
+before_it (suc n) some = (n, refl)

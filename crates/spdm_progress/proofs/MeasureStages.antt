@@ -4,6 +4,7 @@ use Rattle.std.specs.Prelude.{if◌then◌else◌}
 use Rattle.measurements.proofs.Lengths.{few}
 use Rattle.measurements.specs.Blocks.{block_of, at_most_one}
 use Rattle.measurements.specs.Records.{asked as blocks_asked, is_missing}
+use Rattle.spdm_basis.proofs.Bools.{and_second}
 use Rattle.spdm_grammar.specs.declared.block_spec.BlockSpec.{BlockSpec}
 use Rattle.spdm_grammar.specs.Message.{MeasuredMessage, ResponseMessage}
 use Rattle.spdm_grammar.specs.Message.RequestMessage.{GetMeasurements}
@@ -18,7 +19,7 @@ use Rattle.spdm_grammar.specs.declared.names.request_code.TheConstants.{GET_MEAS
 use Rattle.spdm_machine.specs.Keys.{Draw}
 use Rattle.spdm_machine.specs.Terms.{Terms, hash_len, terms_of}
 use Rattle.requester_machine.specs.Answers.{is_done}
-use Rattle.requester_machine.specs.Does.{body_chosen}
+use Rattle.requester_machine.specs.Does.{body_chosen, requester_hears}
 use Rattle.requester_machine.specs.History as asked
 use Rattle.requester_machine.specs.History.{Led, outstanding, negotiation_of}
 use Rattle.requester_machine.specs.History.Effect.{Answers}
@@ -44,7 +45,7 @@ use Rattle.requester_machine.specs.Asking.Outcome.{Adds}
 use Rattle.requester_machine.specs.Commands.{Free, command_fault}
 use Rattle.requester_machine.specs.Does.{requester_asks, command_chosen}
 use Rattle.requester_machine.specs.History.{connection_terms, next_tag}
-use Rattle.requester_machine.specs.History.Entry.{Told}
+use Rattle.requester_machine.specs.History.Entry.{Told, TookClear}
 use Rattle.requester_machine.specs.Message.{Command, Sent}
 use Rattle.requester_machine.specs.Message.Command.{Measure}
 use Rattle.requester_machine.specs.Requesting.{Requesting, CommandStep, requester_told, commanded_by, is_worn, next_draw}
@@ -73,10 +74,11 @@ use Rattle.spdm_progress.proofs.Drawn.{AreDrawn}
 use Rattle.spdm_progress.proofs.ResponderTurns.{taken_somehow, turn_with}
 use Rattle.transcript.specs.Transcripts.{Negotiation}
 use Rattle.spdm_progress.specs.Measuring.{record_for, number_for, measurements_size}
+use Rattle.spdm_progress.proofs.Accepted.{not_worn_told, told_done}
 use Rattle.spdm_progress.proofs.AtRequester.{led_plain}
 use Rattle.spdm_progress.proofs.OnePacket.{not_longer}
 use Rattle.spdm_progress.proofs.RequesterStages.{Asks, Hears, hears_as, hears_by, reads}
-use Rattle.spdm_progress.proofs.ResponderBegins.{SameClear}
+use Rattle.spdm_progress.proofs.ResponderBegins.{SameClear, is_none_none, refused_with}
 use Rattle.spdm_progress.proofs.ResponderStages.{Answered, Takes, adds, answers_by, not_large, not_too_long}
 use Rattle.spdm_progress.proofs.ResponderTurns.{read_at, taken_at, taken_turn}
 
@@ -144,7 +146,7 @@ serves_on r n tag op old new same s = record { phase_is = same.phase ∙ s.phase
 pub served_on : (n : Negotiation) (old new : served.History) → SameClear old new → Served n old → Served n new
 served_on n old new same s = record { phase_is = same.phase ∙ s.phase_is; negotiation = same.negotiation ∙ s.negotiation }
 
-measures_flag : (terms : Terms) → terms.choice.measure ≡ true → lacks_flag terms GET_MEASUREMENTS ≡ false
+pub measures_flag : (terms : Terms) → terms.choice.measure ≡ true → lacks_flag terms GET_MEASUREMENTS ≡ false
 measures_flag terms e = rw e refl
 
 -- The answer as the responder makes it.
@@ -162,7 +164,7 @@ takes_under q r h d op n drawn can under =
           (subst (λ (k : ℕ). k ≤ (terms_of n).common.to_requester.max) (sym size) can.fits_max, subst (λ (k : ℕ). k ≤ (terms_of n).common.to_requester.transfer) (sym size) can.fits);
     }
 
-measure_turn : (q : ReqSetup) (r : RspSetup) (h : served.History) (d : Draw) (tag op : ℕ) (n : Negotiation) → length d.bytes ≡ 32 → CanServe q r op n → Serves r n tag op h
+pub measure_turn : (q : ReqSetup) (r : RspSetup) (h : served.History) (d : Draw) (tag op : ℕ) (n : Negotiation) → length d.bytes ≡ 32 → CanServe q r op n → Serves r n tag op h
     → turn_of r (clear_place h) (get_measurements op) (clear_chosen r h d) ≡ taken_turn r (clear_place h) (get_measurements op) (clear_chosen r h d) (GetMeasurements op)
 measure_turn q r h d tag op n drawn can has =
     let takes = takes_under q r h d op n drawn can has.negotiation in
@@ -201,14 +203,10 @@ same_by : (r : RspSetup) (h : served.History) (tag op : ℕ) (d : Draw) (k : ser
 unfolding on_clear
 same_by r h tag op d k is repeats = rw repeats (ap (λ (o : Option served.Kept). Same (clear_body (kept_reply o))) is)
 
-and_last : (a b : Bool) → (a && b) ≡ true → b ≡ true
-and_last true b e = e
-and_last false b e = absurd (false≢true e)
-
 from_memory : (q : ReqSetup) (r : RspSetup) (h : served.History) (d : Draw) (tag op : ℕ) (n : Negotiation) → Serves r n tag op h → (o : Option served.Kept) → served.kept_of h ≡ o → is_repeat o tag (get_measurements op) ≡ true → IsAnswered r h tag op n d
 from_memory q r h d tag op n has None is repeats = absurd (false≢true repeats)
 from_memory q r h d tag op n has (Some k) is repeats =
-    let found = has.again k is ((bytes_eq-Decides k.message (get_measurements op)).0 (and_last (k.tag == tag) (bytes_eq k.message (get_measurements op)) repeats)) in
+    let found = has.again k is ((bytes_eq-Decides k.message (get_measurements op)).0 (and_second (k.tag == tag) (bytes_eq k.message (get_measurements op)) repeats)) in
     let same = same_by r h tag op d k is (ap (λ (o : Option served.Kept). is_repeat o tag (get_measurements op)) is ∙ repeats) in (
       found.0,
       found.1,
@@ -256,14 +254,6 @@ taken_so r h d op (Some e) byte refused taken =
     absurd (false≢true (sym (ap is_taken (turn_of-refused r (clear_place h) (get_measurements op) (clear_chosen r h d) e refused)) ∙ taken))
 taken_so r h d op None byte refused taken = taken_somehow r (clear_place h) (get_measurements op) (clear_chosen r h d) (GetMeasurements op) (read_at (clear_place h) (GetMeasurements op) byte tt) refl refused
 
-is_none_none : (o : Option ErrorCode) → is_none o ≡ true → o ≡ None
-is_none_none None e = refl
-is_none_none (Some x) e = absurd (false≢true e)
-
-refused_with : (o : Option ErrorCode) → is_none o ≡ false → (e : ErrorCode) × (o ≡ Some e)
-refused_with None refused = absurd (false≢true (sym refused))
-refused_with (Some e) refused = (e, refl)
-
 module _ (q : ReqSetup) (r : RspSetup) (op : ℕ) (n : Negotiation) (can : CanServe q r op n) where
   entry_again : (older : served.History) (tag : ℕ) (t : Turn) (d : Draw) → turn_of r (clear_place older) t.message (clear_chosen r older d) ≡ t → length d.bytes ≡ 32 → served.negotiation_of (t ∷ served.clear_turns older) ≡ n
       → (served.negotiation_of (served.clear_turns older) ≡ n → Again r op older) → (b : Bool) → is_taken t ≡ b → Again r op (Clear tag t d ∷ older)
@@ -307,16 +297,16 @@ total_few : (b : Bool) (n : ℕ) → n ≤ 254 → (if b then n else 0) ≤ 254
 total_few true n x = x
 total_few false n x = omega arith
 
-measured_fits : (r : RspSetup) (op : ℕ) (nonce : List ℕ) → FitsResponse (Measurements (measured r op nonce))
+pub measured_fits : (r : RspSetup) (op : ℕ) (nonce : List ℕ) → FitsResponse (Measurements (measured r op nonce))
 measured_fits r op nonce =
     let total = total_few (op == 0) (length (inventory_of r)) (inventory_few r) in
     let blocks = asked_few (op == 0) (op == 255) (inventory_of r) (at_most_one (block_of op (inventory_of r))) (inventory_few r) (one_few (block_of op (inventory_of r))) in
     ((omega arith), (omega arith))
 
-measured_sound : (q : ReqSetup) (r : RspSetup) (op len : ℕ) (n : Negotiation) (nonce : List ℕ) → length nonce ≡ 32 → CanServe q r op n → IsSoundResponse len false (Measurements (measured r op nonce))
-measured_sound q r op len n nonce whole can = record { block_bytes = (let fits = can.fits_own in let most = can.most in omega arith); nonce = whole; opaque = omega arith }
+pub measured_sound : (r : RspSetup) (op len : ℕ) (nonce : List ℕ) → length nonce ≡ 32 → measurements_size r op ≤ 4138 → IsSoundResponse len false (Measurements (measured r op nonce))
+measured_sound r op len nonce whole fits = record { block_bytes = omega arith; nonce = whole; opaque = omega arith }
 
-told_number : (b : Bool) (n k : ℕ) → (if b then (if b then n else 0) else k) ≡ (if b then n else k)
+pub told_number : (b : Bool) (n k : ℕ) → (if b then (if b then n else 0) else k) ≡ (if b then n else k)
 told_number true n k = refl
 told_number false n k = refl
 
@@ -325,37 +315,35 @@ pub record IsMeasuredBy (r : RspSetup) (op : ℕ) (h : asked.History) : Type 0 w
   pub none : outstanding h ≡ None
   pub taken : last_data h ≡ record_for r op
 
+abbrev pub measured_led : RspSetup → ℕ → List ℕ → Led
+measured_led r op nonce = is_done (finished.Measured (number_for r op)) (Answers (GetMeasurements op) (measurements r op nonce))
+
+pub measure_outcome : (q : ReqSetup) (r : RspSetup) (h : asked.History) (tag op : ℕ) (n : Negotiation) (nonce : List ℕ) (d : Draw) → length nonce ≡ 32 → CanServe q r op n → Asks q tag (GetMeasurements op) (get_measurements op) n h
+    → requester_hears q h false tag (clear_body (measurements r op nonce)) d ≡ Adds (TookClear tag (measurements r op nonce) (measured_led r op nonce) d)
+measure_outcome q r h tag op n nonce d whole can asks =
+    let asked_it = GetMeasurements op in
+    let answer = measurements r op nonce in
+    let fits = can.fits_own in
+    let most = can.most in
+    let within : measurements_size r op ≤ 4138 = omega arith in
+    let size = measurements_are r op nonce whole in
+    hears_as q h tag asked_it (get_measurements op) n answer d (measured_led r op nonce) asks (omega (arith, size, fits))
+    (led_plain q h (body_chosen q h d) asked_it answer (Measurements (measured r op nonce)) (reads h (Measurements (measured r op nonce)) (hash_len (connection_terms h)) (measured_fits r op nonce) (measured_sound r op (hash_len (connection_terms h)) nonce whole within))
+    ∙ ap (λ (k : ℕ). let x : Result Led ReqIgnored = Ok (is_done (finished.Measured k) (Answers asked_it answer)) in x) (told_number (op == 0) (length (inventory_of r)) (length (blocks_asked op (inventory_of r)))))
+
 pub measure_heard : (q : ReqSetup) (r : RspSetup) (h : asked.History) (tag op : ℕ) (n : Negotiation) (nonce : List ℕ) (d : Draw) → length nonce ≡ 32 → CanServe q r op n → Asks q tag (GetMeasurements op) (get_measurements op) n h
     → Hears q h tag (measurements r op nonce) d (event.Done (finished.Measured (number_for r op))) None (IsMeasuredBy r op)
 measure_heard q r h tag op n nonce d whole can asks =
-    let asked_it = GetMeasurements op in
-    let answer = measurements r op nonce in
-    let led = is_done (finished.Measured (number_for r op)) (Answers asked_it answer) in
     let fits = can.fits_own in
-    let size = measurements_are r op nonce whole in
-    hears_by q h tag answer d led (IsMeasuredBy r op)
-    (hears_as q h tag asked_it (get_measurements op) n answer d led asks (omega (arith, size, fits))
-    (led_plain q h (body_chosen q h d) asked_it answer (Measurements (measured r op nonce)) (reads h (Measurements (measured r op nonce)) (hash_len (connection_terms h)) (measured_fits r op nonce) (measured_sound q r op (hash_len (connection_terms h)) n nonce whole can))
-    ∙ ap (λ (k : ℕ). let x : Result Led ReqIgnored = Ok (is_done (finished.Measured k) (Answers asked_it answer)) in x) (told_number (op == 0) (length (inventory_of r)) (length (blocks_asked op (inventory_of r))))))
+    let most = can.most in
+    let within : measurements_size r op ≤ 4138 = omega arith in
+    hears_by q h tag (measurements r op nonce) d (measured_led r op nonce) (IsMeasuredBy r op) (measure_outcome q r h tag op n nonce d whole can asks)
     (record {
       none = refl;
-      taken = ap (λ (o : Option ResponseMessage). unwrap_or (option_or None (blocks_of o)) (last_data h)) (ap result_ok (reads h (Measurements (measured r op nonce)) 32 (measured_fits r op nonce) (measured_sound q r op 32 n nonce whole can)));
+      taken = ap (λ (o : Option ResponseMessage). unwrap_or (option_or None (blocks_of o)) (last_data h)) (ap result_ok (reads h (Measurements (measured r op nonce)) 32 (measured_fits r op nonce) (measured_sound r op 32 nonce whole within)));
     })
 
 -- ---- The command.
-
-fault_none : (q : ReqSetup) (h : asked.History) (command : Command) (f : Free) (d : Draw) (o : Option CommandFault) → fault_of (asks_by q h command f d o) ≡ None → o ≡ None
-fault_none q h command f d None e = refl
-fault_none q h command f d (Some x) e = absurd (none_some x (sym e))
-
-told_done : (q : ReqSetup) (h : asked.History) (command : Command) (d : Draw) → fault_of (requester_asks false q h command d) ≡ None → requester_asks false q h command d ≡ done q h command (command_chosen q h d) d
-unfolding asks
-told_done q h command d e =
-    ap (asks_by q h command (command_chosen q h d) d) (fault_none q h command (command_chosen q h d) d (command_fault false q h command (command_chosen q h d)) e)
-
-not_worn_told : (a : Requesting) (command : Command) → is_worn a ≡ false → requester_told a command ≡ commanded_by a (requester_asks false a.setup a.history command (next_draw a))
-unfolding requester_told
-not_worn_told a command fresh = rw fresh refl
 
 sent_whole : (common : Common) (h : asked.History) (op : ℕ) → 4 ≤ common.to_responder.transfer → request_sent common h (GetMeasurements op) ≡ plain_sent h (GetMeasurements op)
 sent_whole common h op room = rw (not_longer common.to_responder.transfer 4 room) refl

@@ -1,8 +1,5 @@
 -- A clear measure under way: its request waits, or so many packets of its answer were given.
 use Rattle.std.proofs.Common.{◌≡◌, ◌⊎◌, ◌∙◌, ℕ, zero, suc, ◌<◌, ◌≤◌, ◌+◌, ◌*◌, List, ◌++◌, length, Bool, true, false, nat_le, None, refl, ap, inl, inr, arith}
-use Rattle.std.proofs.lemmas.Bool.{leb-false, leb-true}
-use Rattle.std.proofs.lemmas.Grind.{div_ceil_times}
-use Rattle.std.proofs.lemmas.Nat.{mul-le}
 use Rattle.mctp_framing.specs.Cutting.{packet_count}
 use Rattle.spdm_grammar.specs.Lines.{Line}
 use Rattle.spdm_grammar.specs.Message.RequestMessage.{GetMeasurements}
@@ -17,32 +14,13 @@ use Rattle.responder_machine.specs.Responding.{Responding}
 use Rattle.transcript.specs.Transcripts.{Negotiation}
 use Rattle.world_machine.specs.World.{World, SentPacket, first_waiting, with_sent}
 use Rattle.spdm_progress.specs.Measuring.{number_for}
-use Rattle.spdm_progress.proofs.Between.{GoesOn, Ends, IsGiven}
-use Rattle.spdm_progress.proofs.ClearKept.{KeepsClear, at_moved}
+use Rattle.spdm_progress.proofs.Between.{GoesOn, Ends, IsGiven, IsStill}
+use Rattle.spdm_progress.proofs.ClearKept.{at_moved, still_clear}
 use Rattle.spdm_progress.proofs.ComingSteps.{Coming, first_coming, last_comes, more_comes}
-use Rattle.spdm_progress.proofs.ManyPackets.{idle_waits, none_came, sent_waits, waiting_in}
+use Rattle.spdm_progress.proofs.ManyPackets.{before_it, clear_is_body, few_packets, idle_waits, none_came, sent_waits, waiting_in}
 use Rattle.spdm_progress.proofs.MeasureStages.{CanServe, IsMeasuredBy, Served, Serves, get_measurements, measure_answered, measure_heard, measurements, measurements_are, served_on, serves_on}
 use Rattle.spdm_progress.proofs.PacketSteps.{Pair, AreEnds, At, RequestWaits, answer_packets, request_given}
 use Rattle.spdm_progress.proofs.RequesterStages.{Asks, Hears}
-
--- ---- How many packets an answer has.
-
-some_packets : (q unit n : ℕ) → n ≤ q * unit → 0 < n → 0 < q
-some_packets zero unit n holds filled = absurd (omega arith)
-some_packets (suc q) unit n holds filled = omega arith
-
-few_by : (q unit n : ℕ) (b : Bool) → nat_le 67 q ≡ b → q * unit < n + unit → 64 ≤ unit → n ≤ 4162 → q ≤ 66
-few_by q unit n true many spare wide fits = (let most : 67 * unit ≤ q * unit = mul-le 67 unit q unit (leb-true 67 q many) (omega arith) in absurd (omega arith))
-few_by q unit n false few spare wide fits = (let less = leb-false 67 q few in omega arith)
-
-few_packets : (unit : ℕ) (body : List ℕ) → 64 ≤ unit → 0 < length body → length body ≤ 4162 → (0 < packet_count unit body) × (packet_count unit body ≤ 66)
-few_packets unit body wide filled fits =
-    let around = div_ceil_times (length body) unit (omega arith) in
-    (some_packets (packet_count unit body) unit (length body) around.0 filled, few_by (packet_count unit body) unit (length body) (nat_le 67 (packet_count unit body)) refl around.1 wide fits)
-
-before_it : (n : ℕ) → 0 < n → (k : ℕ) × (suc k ≡ n)
-before_it zero some = absurd (omega arith)
-before_it (suc n) some = (n, refl)
 
 -- An end that takes so many packets takes fewer.
 at_less : (p : Pair) (more less l : ℕ) (Asked : asked.History → Type 0) (Served : served.History → Type 0) (world : World) → less ≤ more → At p more l Asked Served world → At p less l Asked Served world
@@ -124,7 +102,7 @@ module _ (p : Pair) (ends : AreEnds p) (op : ℕ) (n : Negotiation) (can : CanSe
           sum = omega (arith, left.1);
           waits = ap waiting_in sends ∙ sent_waits before (answer_packets p ends tag answer) ∙ ap (λ (w : List (List ℕ)). w ++ answer_packets p ends tag answer) (idle_waits before idle);
           pair = fewer;
-          came = none_came p.requester.eid p.responder.eid tag p.responder.unit answer small some (fits nonce whole) fewer.given;
+          came = none_came p.requester.eid p.responder.eid false tag p.responder.unit (clear_body answer) small some (clear_is_body answer (fits nonce whole)) fewer.given;
         };
       }
 
@@ -153,17 +131,17 @@ module _ (p : Pair) (ends : AreEnds p) (op : ℕ) (n : Negotiation) (can : CanSe
   pub done_idle : (world : World) → IsDone world → first_waiting world.sent ≡ None
   done_idle world d = d.idle
 
-  pub under_way_kept : (world : World) (r : Responding) → KeepsClear p world.responder r → IsUnderWay world → IsUnderWay (record world { responder = r })
-  under_way_kept world r keeps (inl x) = inl (record { tag = x.tag; small = x.small; waits = x.waits; pair = at_moved p 66 1 _ _ world r keeps (serves_on p.responder n x.tag op) x.pair })
-  under_way_kept world r keeps (inr x) = inr (record {
+  pub under_way_kept : (world : World) (r : Responding) → IsStill world r → IsUnderWay world → IsUnderWay (record world { responder = r })
+  under_way_kept world r still (inl x) = inl (record { tag = x.tag; small = x.small; waits = x.waits; pair = at_moved p 66 1 _ _ world r (still_clear p world r still) (serves_on p.responder n x.tag op) x.pair })
+  under_way_kept world r still (inr x) = inr (record {
     tag = x.tag;
     small = x.small;
     nonce = x.nonce;
     whole = x.whole;
     done = x.done;
     left = x.left;
-    coming = record { sum = x.coming.sum; waits = x.coming.waits; pair = at_moved p (0 + suc x.left) 0 _ _ world r keeps (served_on n) x.coming.pair; came = x.coming.came };
+    coming = record { sum = x.coming.sum; waits = x.coming.waits; pair = at_moved p (0 + suc x.left) 0 _ _ world r (still_clear p world r still) (served_on n) x.coming.pair; came = x.coming.came };
   })
 
-  pub done_kept : (world : World) (r : Responding) → KeepsClear p world.responder r → IsDone world → IsDone (record world { responder = r })
-  done_kept world r keeps d = record { idle = d.idle; pair = at_moved p 0 0 _ _ world r keeps (served_on n) d.pair }
+  pub done_kept : (world : World) (r : Responding) → IsStill world r → IsDone world → IsDone (record world { responder = r })
+  done_kept world r still d = record { idle = d.idle; pair = at_moved p 0 0 _ _ world r (still_clear p world r still) (served_on n) d.pair }

@@ -126,8 +126,8 @@ module _ (w : WorldSetup) (before : List Entry) (n : ℕ) (a : Requesting) (c : 
   pub completes : (line : ℕ) (behind : List Entry) → HaveNoCommand behind → AreHonest (measuring world line n op) behind → NothingWaits (world_from (measuring world line n op) behind)
       → IsMeasured n c.setup op (world_from (measuring world line n op) behind) (lines_from (measuring world line n op) behind)
   completes line behind none honest over =
-      let e = ended p IsUnderWay IsDone done_line (under_way_measure.one_given p placed.ends op negotiation can) (under_way_measure.done_idle p placed.ends op negotiation can)
-      (under_way_measure.under_way_kept p placed.ends op negotiation can) (under_way_measure.done_kept p placed.ends op negotiation can) (measuring world line n op) behind none honest (inl (begun line)) over in
+      let e = ended IsUnderWay IsDone (λ later_world. Unit {0}) done_line (λ later_world event sound. tt) (λ later_world sound going. under_way_measure.one_given p placed.ends op negotiation can later_world going) (under_way_measure.done_idle p placed.ends op negotiation can)
+      (under_way_measure.under_way_kept p placed.ends op negotiation can) (under_way_measure.done_kept p placed.ends op negotiation can) (measuring world line n op) behind none honest tt (inl (begun line)) over in
       result (record { lines = lines_from (measuring world line n op) behind; after = world_from (measuring world line n op) behind }) e.done e.line_is
 
 pub measure_completes : MeasureCompletes

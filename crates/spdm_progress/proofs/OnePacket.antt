@@ -38,7 +38,7 @@ unbroken a b c d e f = rw (d, e, f) refl
 pub not_longer : (n m : ℕ) → m ≤ n → nat_lt n m ≡ false
 not_longer n m le = grind (arith, nat_tests)
 
-positive : (n : ℕ) → 0 < n → (n == 0) ≡ false
+pub positive : (n : ℕ) → 0 < n → (n == 0) ≡ false
 positive n some = grind (arith, nat_tests)
 
 -- It is gathered whole.

@@ -89,10 +89,10 @@ hears_as r c to from tag m fresh small short own is e f =
     (subst (λ (from : ℕ). responder_hears r (packet_to r.part.eid from true tag m) ≡ answers r c (packet_to r.part.eid from true tag m) (route_to r.part.eid from true tag) (clear_body m) (clear_does c.setup c.history tag m (serving.next_draw r))) f
     (hears_request r c tag m fresh small short own is))
 
-either_first : (b c : Bool) (x y z : WorldStep) → b ≡ false → c ≡ true → (if b then x else (if c then y else z)) ≡ y
+pub either_first : (b c : Bool) (x y z : WorldStep) → b ≡ false → c ≡ true → (if b then x else (if c then y else z)) ≡ y
 either_first b c x y z e f = rw (e, f) refl
 
-either_last : (b c : Bool) (x y z : WorldStep) → b ≡ false → c ≡ false → (if b then x else (if c then y else z)) ≡ z
+pub either_last : (b c : Bool) (x y z : WorldStep) → b ≡ false → c ≡ false → (if b then x else (if c then y else z)) ≡ z
 either_last b c x y z e f = rw (e, f) refl
 
 four_bytes : (to from : ℕ) (owner : Bool) (tag : ℕ) (m : List ℕ) → nat_lt (length (packet_to to from owner tag m)) 2 ≡ false

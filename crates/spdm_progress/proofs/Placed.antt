@@ -19,10 +19,10 @@ use Rattle.responder_machine.specs.History.{History}
 use Rattle.spdm_progress.proofs.Drawn.{AreDrawn, does_drawn, draws_whole}
 use Rattle.world_machine.specs.Happenings.{Happening, Entry}
 use Rattle.world_machine.specs.Happenings.Happening.{Told, Reply, Deliver, Lose, Inject, Pump, Tick, Show}
-use Rattle.world_machine.specs.Setup.{WorldSetup}
+use Rattle.world_machine.specs.Setup.{WorldSetup, known_of}
 use Rattle.world_machine.specs.Trace.{world_from, world_after}
 use Rattle.requester_machine.specs.Setup.{ReqSetup, ReqEnd}
-use Rattle.responder_machine.specs.Setup.{RspSetup, RspPart}
+use Rattle.responder_machine.specs.Setup.{Known, RspSetup, RspPart}
 use Rattle.spdm_agreement.specs.Configured.{IsConfigured, setups_of}
 use Rattle.spdm_agreement.proofs.Worlds.AllEvents.{requester_in}
 use Rattle.world_machine.specs.World.{new_world, World, WorldStep, told, given, given_to, given_to_responder, delivers, loses, without_waiting, packet_of, turn, pumps, first_waiting, replied, requester_of, is_at, happens, entry_step, with_requester, replaced}
@@ -113,11 +113,13 @@ ticks_ends r seconds = record { part = refl; ends = map_ends _ r.connections (λ
 
 -- ---- The world.
 
-pub record IsPlaced (eids : List ℕ) (own : ℕ) (requesters : List Requesting) (responder : Responding) : Type 0 where
+-- Its requesters have these end points, in order, and the responder this one. What holds of each set-up of a requester,
+-- and of each of a connection, goes on to hold, since set-ups stay.
+pub record IsPlaced (eids : List ℕ) (own : ℕ) (Theirs : ReqSetup → Type 0) (Ends : RspSetup → Type 0) (requesters : List Requesting) (responder : Responding) : Type 0 where
   pub eids_are : map (λ (a : Requesting). a.setup.eid) requesters ≡ eids
   pub own_is : responder.part.eid ≡ own
-  pub theirs : (a : Requesting) → IsIn requesters a → a.setup.responder ≡ own
-  pub ends : (c : Connection) → IsIn responder.connections c → c.setup.eid ≡ own
+  pub theirs : (a : Requesting) → IsIn requesters a → Theirs a.setup
+  pub ends : (c : Connection) → IsIn responder.connections c → Ends c.setup
   pub drawn : (c : Connection) → IsIn responder.connections c → AreDrawn c.history
 
 replaced_eid : (new old : Requesting) (b : Bool) → (old.setup.eid == new.setup.eid) ≡ b → (cond b new old).setup.eid ≡ old.setup.eid
@@ -130,45 +132,45 @@ eids_stay new (old ∷ others) =
     ap (λ (e : ℕ). e ∷ map (λ (a : Requesting). a.setup.eid) (with_requester new others)) (replaced_eid new old (old.setup.eid == new.setup.eid) refl)
     ∙ ap (λ (es : List ℕ). old.setup.eid ∷ es) (eids_stay new others)
 
-replaced_theirs : (own : ℕ) (new old : Requesting) (b : Bool) → new.setup.responder ≡ own → old.setup.responder ≡ own → (cond b new old).setup.responder ≡ own
-replaced_theirs own new old true e f = e
-replaced_theirs own new old false e f = f
+replaced_theirs : (Theirs : ReqSetup → Type 0) (new old : Requesting) (b : Bool) → Theirs new.setup → Theirs old.setup → Theirs (cond b new old).setup
+replaced_theirs Theirs new old true e f = e
+replaced_theirs Theirs new old false e f = f
 
-pub requester_placed : (eids : List ℕ) (own : ℕ) (rs : List Requesting) (r : Responding) → IsPlaced eids own rs r → (a new : Requesting) → IsIn rs a → new.setup ≡ a.setup → IsPlaced eids own (with_requester new rs) r
-requester_placed eids own rs r k a new m same = record {
+pub requester_placed : (eids : List ℕ) (own : ℕ) (Theirs : ReqSetup → Type 0) (Ends : RspSetup → Type 0) (rs : List Requesting) (r : Responding) → IsPlaced eids own Theirs Ends rs r → (a new : Requesting) → IsIn rs a → new.setup ≡ a.setup → IsPlaced eids own Theirs Ends (with_requester new rs) r
+requester_placed eids own Theirs Ends rs r k a new m same = record {
   eids_are = eids_stay new rs ∙ k.eids_are;
   own_is = k.own_is;
   theirs = λ x i. (let o = in_map (replaced new) rs x i in
-      ap (λ (y : Requesting). y.setup.responder) o.2 ∙ replaced_theirs own new o.0 (o.0.setup.eid == new.setup.eid) (ap (λ (q : ReqSetup). q.responder) same ∙ k.theirs a m) (k.theirs o.0 o.1));
+      subst (λ (y : Requesting). Theirs y.setup) (sym o.2) (replaced_theirs Theirs new o.0 (o.0.setup.eid == new.setup.eid) (subst Theirs (sym same) (k.theirs a m)) (k.theirs o.0 o.1)));
   ends = k.ends;
   drawn = k.drawn;
 }
 
-pub responder_placed : (eids : List ℕ) (own : ℕ) (rs : List Requesting) (r s : Responding) → IsPlaced eids own rs r → KeepsEnds r s → IsPlaced eids own rs s
-responder_placed eids own rs r s k keeps = record {
+pub responder_placed : (eids : List ℕ) (own : ℕ) (Theirs : ReqSetup → Type 0) (Ends : RspSetup → Type 0) (rs : List Requesting) (r s : Responding) → IsPlaced eids own Theirs Ends rs r → KeepsEnds r s → IsPlaced eids own Theirs Ends rs s
+responder_placed eids own Theirs Ends rs r s k keeps = record {
   eids_are = k.eids_are;
   own_is = ap (λ (p : RspPart). p.eid) keeps.part ∙ k.own_is;
   theirs = k.theirs;
-  ends = λ c m. (let d = keeps.ends c m in ap (λ (x : RspSetup). x.eid) d.2 ∙ k.ends d.0 d.1);
+  ends = λ c m. (let d = keeps.ends c m in subst Ends (sym d.2) (k.ends d.0 d.1));
   drawn = λ c m. (let d = keeps.ends c m in d.3 (k.drawn d.0 d.1));
 }
 
 -- ---- All events.
 
-module _ (eids : List ℕ) (own : ℕ) where
+module _ (eids : List ℕ) (own : ℕ) (Theirs : ReqSetup → Type 0) (Ends : RspSetup → Type 0) where
   pub record Fits (world : World) : Type 0 where
-    pub is : IsPlaced eids own world.requesters world.responder
+    pub is : IsPlaced eids own Theirs Ends world.requesters world.responder
 
   told_placed : (world : World) (command : Command) → Fits world → (o : Option Requesting) (n : ℕ) → requester_of n world ≡ o → Fits (told world n command o).after
   told_placed world command k None n is = k
-  told_placed world command k (Some a) n is = record { is = requester_placed eids own world.requesters world.responder k.is a (requester_told a command).after (requester_in n world a is) (told_setup a command) }
+  told_placed world command k (Some a) n is = record { is = requester_placed eids own Theirs Ends world.requesters world.responder k.is a (requester_told a command).after (requester_in n world a is) (told_setup a command) }
 
   to_requester : (world : World) (packet : List ℕ) → Fits world → (o : Option Requesting) (eid : ℕ) → find (is_at eid) world.requesters ≡ o → Fits (given_to world packet o).after
   to_requester world packet k None eid is = k
-  to_requester world packet k (Some a) eid is = record { is = requester_placed eids own world.requesters world.responder k.is a (requester_given a packet).after (found_in (is_at eid) world.requesters a is).0 (given_setup a packet) }
+  to_requester world packet k (Some a) eid is = record { is = requester_placed eids own Theirs Ends world.requesters world.responder k.is a (requester_given a packet).after (found_in (is_at eid) world.requesters a is).0 (given_setup a packet) }
 
   to_responder : (world : World) (packet : List ℕ) → Fits world → Fits (given_to_responder world packet (responder_hears world.responder packet)).after
-  to_responder world packet k = record { is = responder_placed eids own world.requesters world.responder (responder_hears world.responder packet).after k.is (hears_ends world.responder packet) }
+  to_responder world packet k = record { is = responder_placed eids own Theirs Ends world.requesters world.responder (responder_hears world.responder packet).after k.is (hears_ends world.responder packet) }
 
   either : (b : Bool) (x y : WorldStep) → Fits x.after → Fits y.after → Fits (cond b x y).after
   either true x y p q = p
@@ -203,7 +205,7 @@ module _ (eids : List ℕ) (own : ℕ) where
   replied_placed : (world : World) (bytes : List ℕ) → Fits world → (o : Option Requesting) → Fits (replied world bytes o).after
   replied_placed world bytes k None = k
   replied_placed world bytes k (Some a) = record {
-    is = responder_placed eids own world.requesters world.responder _ k.is (queues_ends world.responder a.setup.eid bytes (reply_fault_of (connection_of a.setup.eid world.responder.connections) bytes));
+    is = responder_placed eids own Theirs Ends world.requesters world.responder _ k.is (queues_ends world.responder a.setup.eid bytes (reply_fault_of (connection_of a.setup.eid world.responder.connections) bytes));
   }
 
   pub happens_placed : (world : World) (event : Happening) → Fits world → Fits (happens world event).after
@@ -214,7 +216,7 @@ module _ (eids : List ℕ) (own : ℕ) where
   happens_placed world (Lose number) k = loses_placed world number (packet_of number world.sent) k
   happens_placed world (Inject bytes) k = given_placed world bytes k
   happens_placed world (Pump count) k = pumps_placed count world k
-  happens_placed world (Tick seconds) k = record { is = responder_placed eids own world.requesters world.responder (ticks world.responder seconds) k.is (ticks_ends world.responder seconds) }
+  happens_placed world (Tick seconds) k = record { is = responder_placed eids own Theirs Ends world.requesters world.responder (ticks world.responder seconds) k.is (ticks_ends world.responder seconds) }
   happens_placed world Show k = k
 
   pub from_placed : (world : World) (entries : List Entry) → Fits world → Fits (world_from world entries)
@@ -227,14 +229,46 @@ new_eids : (es : List ReqEnd) → map (λ (a : Requesting). a.setup.eid) (map ne
 new_eids [] = refl
 new_eids (e ∷ others) = ap (λ (x : List ℕ). e.setup.eid ∷ x) (new_eids others)
 
-pub always_placed : (w : WorldSetup) → IsConfigured w → (entries : List Entry) → IsPlaced (map (λ (q : ReqSetup). q.eid) (setups_of w.requesters)) w.responder.part.eid (world_after w entries).requesters (world_after w entries).responder
-always_placed w c entries = (from_placed (map (λ (q : ReqSetup). q.eid) (setups_of w.requesters)) w.responder.part.eid (new_world w) entries (record {
-  is = record {
-    eids_are = new_eids w.requesters;
-    own_is = refl;
-    theirs = λ a m. (let o = in_map new_requesting w.requesters a m in
-        ap (λ (x : Requesting). x.setup.responder) o.2 ∙ all_in (λ (q : ReqSetup). q.responder ≡ w.responder.part.eid) (setups_of w.requesters) c.peers o.0.setup (map_in (λ (e : ReqEnd). e.setup) w.requesters o.0 o.1));
-    ends = λ x m. (let o = in_map (new_connection w.responder.part) w.responder.known x m in ap (λ (y : Connection). y.setup.eid) o.2);
-    drawn = λ x m. (let o = in_map (new_connection w.responder.part) w.responder.known x m in subst (λ (y : Connection). AreDrawn y.history) (sym o.2) tt);
-  };
-})).is
+-- The set-up of a requester is one of these, and it knows the responder.
+pub record IsOneOf (setups : List ReqSetup) (own : ℕ) (q : ReqSetup) : Type 0 where
+  pub setup : IsIn setups q
+  pub responder : q.responder ≡ own
+
+-- The set-up of a connection is the responder's towards one of these, whose hint it knows.
+pub record IsTowardsOne (setups : List ReqSetup) (own : ℕ) (r : RspSetup) : Type 0 where
+  pub requester : ReqSetup
+  pub setup : IsIn setups requester
+  pub peer : r.peer ≡ requester.eid
+  pub hint : r.hint ≡ requester.hint
+  pub eid : r.eid ≡ own
+
+-- One that is known stands for a set-up.
+known_setup : (qs : List ReqSetup) (known : List Known) → known ≡ map known_of qs → (k : Known) → IsIn known k → (q : ReqSetup) × IsIn qs q × (k ≡ known_of q)
+known_setup qs known is k m = in_map known_of qs k (subst (λ (l : List Known). IsIn l k) is m)
+
+towards_one : (qs : List ReqSetup) (part : RspPart) (known : List Known) → known ≡ map known_of qs → (x : Connection) → IsIn (map (new_connection part) known) x → IsTowardsOne qs part.eid x.setup
+towards_one qs part known is x m =
+    let o = in_map (new_connection part) known x m in
+    let q = known_setup qs known is o.0 o.1 in record {
+      requester = q.0;
+      setup = q.1;
+      peer = ap (λ (y : Connection). y.setup.peer) o.2 ∙ ap (λ (k : Known). k.eid) q.2;
+      hint = ap (λ (y : Connection). y.setup.hint) o.2 ∙ ap (λ (k : Known). k.hint) q.2;
+      eid = ap (λ (y : Connection). y.setup.eid) o.2;
+    }
+
+pub always_placed : (w : WorldSetup) → IsConfigured w → (entries : List Entry)
+    → IsPlaced (map (λ (q : ReqSetup). q.eid) (setups_of w.requesters)) w.responder.part.eid (IsOneOf (setups_of w.requesters) w.responder.part.eid) (IsTowardsOne (setups_of w.requesters) w.responder.part.eid) (world_after w entries).requesters (world_after w entries).responder
+always_placed w c entries =
+    (from_placed (map (λ (q : ReqSetup). q.eid) (setups_of w.requesters)) w.responder.part.eid (IsOneOf (setups_of w.requesters) w.responder.part.eid) (IsTowardsOne (setups_of w.requesters) w.responder.part.eid) (new_world w) entries (record {
+      is = record {
+        eids_are = new_eids w.requesters;
+        own_is = refl;
+        theirs = λ a m. (let o = in_map new_requesting w.requesters a m in
+            let setup = map_in (λ (e : ReqEnd). e.setup) w.requesters o.0 o.1 in
+            subst (λ (x : Requesting). IsOneOf (setups_of w.requesters) w.responder.part.eid x.setup) (sym o.2)
+            (record { setup = setup; responder = all_in (λ (q : ReqSetup). q.responder ≡ w.responder.part.eid) (setups_of w.requesters) c.peers o.0.setup setup }));
+        ends = λ x m. towards_one (setups_of w.requesters) w.responder.part w.responder.known c.known x m;
+        drawn = λ x m. (let o = in_map (new_connection w.responder.part) w.responder.known x m in subst (λ (y : Connection). AreDrawn y.history) (sym o.2) tt);
+      };
+    })).is

@@ -5,6 +5,7 @@ use Rattle.std.proofs.lemmas.Bool.{ne_eqb}
 use Rattle.spdm_machine.proofs.Members.{IsIn, some_same, none_some, map_in}
 use Rattle.requester_machine.specs.Requesting.{Requesting}
 use Rattle.world_machine.specs.World.{World, requester_of, requester_at, is_at, number_from, number_at, with_requester}
+use Rattle.spdm_agreement.proofs.Worlds.AllEvents.{found_at}
 use Rattle.spdm_progress.proofs.Placed.{eids_stay}
 
 -- ---- The requester of an end point.
@@ -55,11 +56,6 @@ abbrev pub AllDiffer : List ℕ → Type 0
 AllDiffer [] = Unit {0}
 AllDiffer (e ∷ others) = ((o : ℕ) → IsIn others o → e ≢ o) × AllDiffer others
 
-in_at : (place : ℕ) (rs : List Requesting) (a : Requesting) → requester_at place rs ≡ Some a → IsIn rs a
-in_at place [] a is = absurd (none_some a is)
-in_at zero (b ∷ others) a is = inl (sym (some_same b a is))
-in_at (suc place) (b ∷ others) a is = inr (in_at place others a is)
-
 counts_on : (place n : ℕ) → place + (n + 1) ≡ suc place + n
 counts_on place n = omega arith
 
@@ -72,7 +68,7 @@ number_place zero n (b ∷ others) a is differ =
     zero_plus k = omega arith
 number_place (suc place) n (b ∷ others) a is differ =
     ap (λ (t : Bool). if t then n else number_from (n + 1) a.setup.eid others)
-    (ne_eqb b.setup.eid a.setup.eid (differ.0 a.setup.eid (map_in (λ (x : Requesting). x.setup.eid) others a (in_at place others a is))))
+    (ne_eqb b.setup.eid a.setup.eid (differ.0 a.setup.eid (map_in (λ (x : Requesting). x.setup.eid) others a (found_at place others a is))))
     ∙ number_place place (n + 1) others a is differ.1 ∙ counts_on place n
 
 one_on : (place : ℕ) → place + 1 ≡ suc place
@@ -89,7 +85,7 @@ first_place zero (b ∷ others) a is differ =
     ap (λ (t : Bool). if t then Some b else find (is_at a.setup.eid) others) (eq-eqb b.setup.eid a.setup.eid (ap (λ (x : Requesting). x.setup.eid) (some_same b a is))) ∙ is
 first_place (suc place) (b ∷ others) a is differ =
     ap (λ (t : Bool). if t then Some b else find (is_at a.setup.eid) others)
-    (ne_eqb b.setup.eid a.setup.eid (differ.0 a.setup.eid (map_in (λ (x : Requesting). x.setup.eid) others a (in_at place others a is))))
+    (ne_eqb b.setup.eid a.setup.eid (differ.0 a.setup.eid (map_in (λ (x : Requesting). x.setup.eid) others a (found_at place others a is))))
     ∙ first_place place others a is differ.1
 
 pub first_is : (n : ℕ) (world : World) (a : Requesting) → requester_of n world ≡ Some a → AllDiffer (map (λ (x : Requesting). x.setup.eid) world.requesters) → find (is_at a.setup.eid) world.requesters ≡ Some a

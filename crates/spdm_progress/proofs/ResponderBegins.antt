@@ -69,7 +69,7 @@ takes_on n old new same takes = record {
 pub awaits_on : (old new : History) → SameClear old new → AwaitsVersion old → AwaitsVersion new
 awaits_on old new same awaits = record { sized = takes_on 8 old new same awaits.sized; again = again_on old new same awaits.again }
 
-is_none_none : (o : Option ErrorCode) → is_none o ≡ true → o ≡ None
+pub is_none_none : (o : Option ErrorCode) → is_none o ≡ true → o ≡ None
 is_none_none None e = refl
 is_none_none (Some x) e = absurd (false≢true e)
 
@@ -78,7 +78,7 @@ sized r h setup made = record {
   both = λ known. (let s = sizes_set_up r h made setup.sizes.ordered setup.sizes.most known in let a = s.least in let b = s.crossed in ((omega arith), (omega arith)));
 }
 
-refused_with : (o : Option ErrorCode) → is_none o ≡ false → (e : ErrorCode) × (o ≡ Some e)
+pub refused_with : (o : Option ErrorCode) → is_none o ≡ false → (e : ErrorCode) × (o ≡ Some e)
 refused_with None refused = absurd (false≢true (sym refused))
 refused_with (Some e) refused = (e, refl)
 

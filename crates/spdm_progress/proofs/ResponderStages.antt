@@ -7,6 +7,7 @@ use Rattle.std.proofs.lemmas.Slice.Eq.{bytes_eq-Decides}
 use Rattle.negotiate.specs.Capabilities.{common_of}
 use Rattle.negotiate.specs.Choosing.{selected}
 use Rattle.negotiate.specs.declared.shared.Common.{Common}
+use Rattle.spdm_basis.proofs.Bools.{and_second}
 use Rattle.spdm_grammar.specs.Message.{OfferMessage}
 use Rattle.spdm_grammar.specs.Message.RequestMessage.{GetVersion, GetCapabilities, NegotiateAlgorithms}
 use Rattle.spdm_grammar.specs.Message.ResponseMessage.{Capabilities}
@@ -119,7 +120,7 @@ answers_by r h tag m d t P is holds = record {
 
 -- ---- An answer that is short enough.
 
-both_short : (known chunk : Bool) (max transfer n : ℕ) → (known ≡ true → (n ≤ max) × (n ≤ transfer)) → (known && (nat_lt max n || (not chunk && nat_lt transfer n))) ≡ false
+pub both_short : (known chunk : Bool) (max transfer n : ℕ) → (known ≡ true → (n ≤ max) × (n ≤ transfer)) → (known && (nat_lt max n || (not chunk && nat_lt transfer n))) ≡ false
 both_short false chunk max transfer n k = refl
 both_short true true max transfer n k = rw (not_longer max n (k refl).0) refl
 both_short true false max transfer n k = rw (not_longer max n (k refl).0, not_longer transfer n (k refl).1) refl
@@ -249,14 +250,10 @@ same_by : (r : RspSetup) (h : History) (tag : ℕ) (d : Draw) (k : Kept) → kep
 unfolding on_clear
 same_by r h tag d k is repeats = rw repeats (ap (λ (o : Option Kept). Same (clear_body (kept_reply o))) is)
 
-and_parts : (a b : Bool) → (a && b) ≡ true → b ≡ true
-and_parts true b e = e
-and_parts false b e = absurd (false≢true e)
-
 repeated : (r : RspSetup) (h : History) (tag : ℕ) (d : Draw) → AwaitsVersion h → (o : Option Kept) → kept_of h ≡ o → is_repeat o tag get_version ≡ true → Answered r h tag get_version d version HasVersion
 repeated r h tag d awaits None is repeats = absurd (false≢true repeats)
 repeated r h tag d awaits (Some k) is repeats =
-    let found = awaits.again k is ((bytes_eq-Decides k.message get_version).0 (and_parts (k.tag == tag) (bytes_eq k.message get_version) repeats)) in
+    let found = awaits.again k is ((bytes_eq-Decides k.message get_version).0 (and_second (k.tag == tag) (bytes_eq k.message get_version) repeats)) in
     let same = same_by r h tag d k is (ap (λ (o : Option Kept). is_repeat o tag get_version) is ∙ repeats) in record {
       body = ap body_of same ∙ ap clear_body found.1;
       leaves = subst (λ (o : Outcome). HasVersion (after h o)) (sym same) found.0;

@@ -1,7 +1,6 @@
 -- A requester of a world and the responder's connection with it: how they are set up, and where they stand.
-use Rattle.std.proofs.Common.{find, ◌≡◌, ◌≢◌, ◌∙◌, ◌==◌, ℕ, List, [], ◌∷◌, map, Some, Contains, sym, subst, inl, inr}
+use Rattle.std.proofs.Common.{find, ◌≡◌, ◌≢◌, ◌∙◌, ◌==◌, ℕ, List, [], ◌∷◌, map, Some, Contains, sym, ap, subst, inl, inr}
 use Rattle.std.proofs.lemmas.List.Elements.{Contains-append_left, Contains-append_right, Contains-push}
-use Rattle.spdm_grammar.specs.Lines.{Line}
 use Rattle.spdm_machine.proofs.Members.{IsIn, in_map, all_in, found_in}
 use Rattle.requester_machine.specs.Requesting.{Requesting}
 use Rattle.requester_machine.specs.Setup.{ReqSetup}
@@ -16,7 +15,7 @@ use Rattle.spdm_agreement.proofs.Requester.AfterBody as bodies
 use Rattle.spdm_agreement.proofs.Requester.Whole as asks
 use Rattle.spdm_agreement.proofs.Responder.DataAnswered as serves
 use Rattle.spdm_agreement.proofs.Worlds.AllEvents.{after_good, requester_in}
-use Rattle.spdm_agreement.proofs.Worlds.Fits.{Fits}
+use Rattle.spdm_agreement.proofs.Worlds.Fits.{Fits, same_key}
 use Rattle.spdm_agreement.specs.Configured.{IsConfigured, IsRequester, IsResponder, AreApart, setups_of}
 use Rattle.spdm_progress.proofs.Drawn.{AreDrawn}
 use Rattle.spdm_progress.proofs.PacketSteps.{Pair, AreEnds}
@@ -30,13 +29,27 @@ pub fits_always : (w : WorldSetup) → IsConfigured w → (entries : List Entry)
 fits_always w c entries chance =
     (after_good asks.IsKept serves.IsKept asks.starts asks.asks_well asks.hears_well bodies.steady serves.served_starts serves.does_well serves.waits w c entries).fits chance
 
-differ_all : (qs : List ReqSetup) → AreApart qs → AllDiffer (map (λ (q : ReqSetup). q.eid) qs)
+pub differ_all : (qs : List ReqSetup) → AreApart qs → AllDiffer (map (λ (q : ReqSetup). q.eid) qs)
 differ_all [] apart = tt
 differ_all (q ∷ others) apart = (
   λ o m. (let x = in_map (λ (s : ReqSetup). s.eid) others o m in
       λ e. (all_in (λ (other : ReqSetup). (q.eid ≢ other.eid) × (q.psk ≢ other.psk)) others apart.0 x.0 x.1).0 (e ∙ x.2)),
   differ_all others apart.1,
 )
+
+-- Two set-ups of one end point are one.
+one_setup : (qs : List ReqSetup) → AreApart qs → (x y : ReqSetup) → IsIn qs x → IsIn qs y → x.eid ≡ y.eid → x ≡ y
+one_setup [] apart x y m k e = absurd m
+one_setup (q ∷ others) apart x y m k e = elim m [
+  | inl p ↦ elim k [
+    | inl o ↦ p ∙ sym o
+    | inr o ↦ absurd ((all_in (λ (other : ReqSetup). (q.eid ≢ other.eid) × (q.psk ≢ other.psk)) others apart.0 y o).0 (sym (ap (λ (z : ReqSetup). z.eid) p) ∙ e))
+  ]
+  | inr p ↦ elim k [
+    | inl o ↦ absurd ((all_in (λ (other : ReqSetup). (q.eid ≢ other.eid) × (q.psk ≢ other.psk)) others apart.0 x p).0 (sym (ap (λ (z : ReqSetup). z.eid) o) ∙ sym e))
+    | inr o ↦ one_setup others apart.1 x y p o e
+  ]
+]
 
 -- A requester, the responder's connection with it, and what they are called together.
 abbrev pub pair_of : ℕ → Requesting → Connection → Pair
@@ -53,6 +66,8 @@ pub record ArePlaced (world : World) (n : ℕ) (a : Requesting) (c : Connection)
   pub found : find (is_at a.setup.eid) world.requesters ≡ Some a
   pub number_is : number_at a.setup.eid world ≡ n
   pub own : world.responder.part.eid ≡ c.setup.eid
+  pub hint : c.setup.hint ≡ a.setup.hint
+  pub key : a.setup.psk ≡ c.setup.psk
 
 pub are_placed : (w : WorldSetup) (before : List Entry) (n : ℕ) (a : Requesting) (c : Connection) → IsConfigured w → NoChance (world_after w before).log → requester_of n (world_after w before) ≡ Some a
     → connection_of a.setup.eid (world_after w before).responder.connections ≡ Some c → ArePlaced (world_after w before) n a c
@@ -64,10 +79,13 @@ are_placed w before n a c configured chance is connected =
     let c_in = (found_in (λ (d : Connection). d.setup.peer == a.setup.eid) world.responder.connections c connected).0 in
     let a_setup = (fits.asks a a_in).setup in
     let c_setup = (fits.serves c c_in).setup in
-    let to = placed.theirs a a_in ∙ sym (placed.ends c c_in) in
+    let theirs = placed.theirs a a_in in
+    let towards = placed.ends c c_in in
+    let to = theirs.responder ∙ sym towards.eid in
+    let peer = found a.setup.eid world.responder.connections c connected in
     let differ = subst AllDiffer (sym placed.eids_are) (differ_all (setups_of w.requesters) configured.apart) in record {
       ends = record {
-        peer = found a.setup.eid world.responder.connections c connected;
+        peer = peer;
         to = to;
         apart = λ e. a_setup.other (e ∙ sym to);
         requester_unit = a_setup.sizes.payload;
@@ -80,11 +98,13 @@ are_placed w before n a c configured chance is connected =
       to = to;
       found = first_is n world a is differ;
       number_is = number_is n world a is differ;
-      own = placed.own_is ∙ sym (placed.ends c c_in);
+      own = placed.own_is ∙ sym towards.eid;
+      hint = towards.hint ∙ ap (λ (q : ReqSetup). q.hint) (one_setup (setups_of w.requesters) configured.apart towards.requester a.setup towards.setup theirs.setup (sym towards.peer ∙ peer));
+      key = sym (same_key world.requesters world.responder.connections fits.apart a c (record { requester = a_in; connection = c_in; peer = peer }));
     }
 
--- A line stands among others.
-pub contained : (lines : List Line) (x : Line) → IsIn lines x → Contains lines x
+-- What is in a list is contained in it.
+pub contained : {A : Type 0} (xs : List A) (x : A) → IsIn xs x → Contains xs x
 contained [] x m = absurd m
 contained (y ∷ others) x m = elim m [
   | inl e ↦ subst (Contains (y ∷ others)) (sym e) (Contains-append_left (y ∷ []) others y (Contains-push [] y))

@@ -14,8 +14,8 @@ use Rattle.requester_machine.specs.Setup.{requester_caps}
 use Rattle.responder_machine.specs.History as served
 use Rattle.world_machine.specs.World.{World, WorldStep, first_waiting, packet_of, delivers, turn, pumps}
 use Rattle.responder_machine.specs.Responding.{Responding}
-use Rattle.spdm_progress.proofs.Between.{Goes, GoesOn, Ends, IsGiven, pumps_done}
-use Rattle.spdm_progress.proofs.ClearKept.{KeepsClear, at_moved}
+use Rattle.spdm_progress.proofs.Between.{Goes, GoesOn, Ends, IsGiven, IsStill, pumps_done}
+use Rattle.spdm_progress.proofs.ClearKept.{at_moved, still_clear}
 use Rattle.spdm_progress.proofs.ResponderBegins.{awaits_on, stands_on}
 use Rattle.spdm_progress.proofs.PacketSteps.{Pair, AreEnds, At, RequestWaits, AnswerWaits, answer_waits, request_given, answer_given}
 use Rattle.spdm_progress.proofs.RequesterStages.{Asks, IsOver, version_heard, capabilities_heard, algorithms_heard}
@@ -134,16 +134,16 @@ module _ (p : Pair) (ends : AreEnds p) (offer : OfferMessage) (choice : Choice) 
   done_idle world d = d.idle
 
   -- Each stage stays so where the responder keeps what is clear.
-  pub under_way_kept : (world : World) (r : Responding) → KeepsClear p world.responder r → IsUnderWay world → IsUnderWay (record world { responder = r })
-  under_way_kept world r keeps (inl x) = inl (x.0, record { small = x.1.small; waits = x.1.waits; pair = at_moved p 3 3 _ _ world r keeps awaits_on x.1.pair })
-  under_way_kept world r keeps (inr (inl x)) = inr (inl (x.0, record { small = x.1.small; waits = x.1.waits; pair = at_moved p 3 2 _ _ world r keeps (stands_on _ _ _) x.1.pair }))
-  under_way_kept world r keeps (inr (inr (inl x))) = inr (inr (inl (x.0, record { small = x.1.small; waits = x.1.waits; pair = at_moved p 2 2 _ _ world r keeps (stands_on _ _ _) x.1.pair })))
-  under_way_kept world r keeps (inr (inr (inr (inl x)))) = inr (inr (inr (inl (x.0, record { small = x.1.small; waits = x.1.waits; pair = at_moved p 2 1 _ _ world r keeps (stands_on _ _ _) x.1.pair }))))
-  under_way_kept world r keeps (inr (inr (inr (inr (inl x))))) = inr (inr (inr (inr (inl (x.0, record { small = x.1.small; waits = x.1.waits; pair = at_moved p 1 1 _ _ world r keeps (stands_on _ _ _) x.1.pair })))))
-  under_way_kept world r keeps (inr (inr (inr (inr (inr x))))) = inr (inr (inr (inr (inr (x.0, record { small = x.1.small; waits = x.1.waits; pair = at_moved p 1 0 _ _ world r keeps (stands_on _ _ _) x.1.pair })))))
+  pub under_way_kept : (world : World) (r : Responding) → IsStill world r → IsUnderWay world → IsUnderWay (record world { responder = r })
+  under_way_kept world r still (inl x) = inl (x.0, record { small = x.1.small; waits = x.1.waits; pair = at_moved p 3 3 _ _ world r (still_clear p world r still) awaits_on x.1.pair })
+  under_way_kept world r still (inr (inl x)) = inr (inl (x.0, record { small = x.1.small; waits = x.1.waits; pair = at_moved p 3 2 _ _ world r (still_clear p world r still) (stands_on _ _ _) x.1.pair }))
+  under_way_kept world r still (inr (inr (inl x))) = inr (inr (inl (x.0, record { small = x.1.small; waits = x.1.waits; pair = at_moved p 2 2 _ _ world r (still_clear p world r still) (stands_on _ _ _) x.1.pair })))
+  under_way_kept world r still (inr (inr (inr (inl x)))) = inr (inr (inr (inl (x.0, record { small = x.1.small; waits = x.1.waits; pair = at_moved p 2 1 _ _ world r (still_clear p world r still) (stands_on _ _ _) x.1.pair }))))
+  under_way_kept world r still (inr (inr (inr (inr (inl x))))) = inr (inr (inr (inr (inl (x.0, record { small = x.1.small; waits = x.1.waits; pair = at_moved p 1 1 _ _ world r (still_clear p world r still) (stands_on _ _ _) x.1.pair })))))
+  under_way_kept world r still (inr (inr (inr (inr (inr x))))) = inr (inr (inr (inr (inr (x.0, record { small = x.1.small; waits = x.1.waits; pair = at_moved p 1 0 _ _ world r (still_clear p world r still) (stands_on _ _ _) x.1.pair })))))
 
-  pub done_kept : (world : World) (r : Responding) → KeepsClear p world.responder r → IsDone world → IsDone (record world { responder = r })
-  done_kept world r keeps d = record { idle = d.idle; pair = at_moved p 0 0 _ _ world r keeps (stands_on _ _ _) d.pair }
+  pub done_kept : (world : World) (r : Responding) → IsStill world r → IsDone world → IsDone (record world { responder = r })
+  done_kept world r still d = record { idle = d.idle; pair = at_moved p 0 0 _ _ world r (still_clear p world r still) (stands_on _ _ _) d.pair }
 
   -- ---- Six packets are enough.
 
@@ -153,7 +153,7 @@ module _ (p : Pair) (ends : AreEnds p) (offer : OfferMessage) (choice : Choice) 
   one_pumped count n world is d = subst (λ (o : Option ℕ). IsDone (turn world (pumps count) o).after) (sym is) d
 
   last_pumped : (count : ℕ) (world : World) (tag : ℕ) → Replied 1 0 tag (algorithms p.responder offer) (AsksAlgorithms tag) Agreed world → IsDone (pumps (suc count) world).after
-  last_pumped count world tag x = one_pumped count (suc x.waits.place) world x.waits.first (pumps_done p IsUnderWay IsDone done_line one_given done_idle under_way_kept done_kept count _ (algorithms_taken world tag x).0)
+  last_pumped count world tag x = one_pumped count (suc x.waits.place) world x.waits.first (pumps_done IsDone done_idle count _ (algorithms_taken world tag x).0)
 
   two_pumped : (count : ℕ) (world : World) (tag : ℕ) → Requested 1 1 tag (negotiate_algorithms offer) (AsksAlgorithms tag) Capable world → IsDone (pumps (suc (suc count)) world).after
   two_pumped count world tag x = one_pumped (suc count) (suc x.waits.place) world x.waits.first (last_pumped count _ tag (algorithms_given world tag x))

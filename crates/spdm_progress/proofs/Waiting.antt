@@ -14,7 +14,7 @@ next_none : (o : Option ℕ) → next_number o ≡ None → o ≡ None
 next_none None e = refl
 next_none (Some n) e = absurd (cc)
 
-one_more : (place : ℕ) → suc place + 1 ≡ suc (suc place)
+pub one_more : (place : ℕ) → suc place + 1 ≡ suc (suc place)
 one_more place = omega arith
 
 behind_idle : (b : Bool) (bytes packet : List ℕ) (others : List SentPacket) → (if b then Some 1 else next_number (first_waiting others)) ≡ None → (first_waiting others ≡ None → OneWaits packet (with_sent others (packet ∷ [])))

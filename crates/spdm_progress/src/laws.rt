@@ -2,6 +2,12 @@
 
 ghost use Rattle.spdm_progress.specs.Connecting.{ConnectCompletes, EachIsConnected, SixPacketsAreEnough};
 ghost use Rattle.spdm_progress.specs.Measuring.{ConnectedCanMeasure, MeasureCompletes};
+ghost use Rattle.spdm_progress.specs.Opening.{OpenCompletes};
+ghost use Rattle.spdm_progress.specs.Scripts.{
+    ConnectsQuietly, HonestScriptsComplete, PumpsAreEnough, QuietCommandsComplete,
+    QuietWorldsComplete,
+};
+ghost use Rattle.spdm_progress.specs.SessionCommands.{SessionCommandsComplete};
 
 /// A connect that is told where no packet waits is done once no packet waits again, whatever an
 /// honest script says in between: the requester is told so, and both ends hold one negotiation. It
@@ -32,4 +38,45 @@ pub fn measure_completes()
 /// names is configured, and that the answer fits the transfer size of the requester's set-up.
 pub fn connected_can_measure()
     ensures { ConnectedCanMeasure }
+{}
+
+/// A connect leaves the two ends quiet, whatever came before.
+pub fn connects_quietly()
+    ensures { ConnectsQuietly }
+{}
+
+/// An open, told where no packet waits and the two ends are quiet, is done once no packet waits
+/// again: the requester is told the id of a session that is open at both ends, in step, and the two
+/// ends are quiet. It speaks of messages that need no chunks.
+pub fn open_completes()
+    ensures { OpenCompletes }
+{}
+
+/// Each command that asks something of an open session (application data, HEARTBEAT, KEY_UPDATE of
+/// either kind, GET_MEASUREMENTS whose answer needs no chunks, END_SESSION), told where no packet
+/// waits and the two ends are quiet, comes to its result once no packet waits again, and leaves the
+/// two ends quiet.
+pub fn session_commands_complete()
+    ensures { SessionCommandsComplete }
+{}
+
+/// The same of every command that quiet ends answer `ok`, in the clear or in a session.
+pub fn quiet_commands_complete()
+    ensures { QuietCommandsComplete }
+{}
+
+/// No packet of such a command waits after a pump of 396.
+pub fn pumps_are_enough()
+    ensures { PumpsAreEnough }
+{}
+
+/// From a quiet world on, each command of an honest script that is answered `ok` and has what it
+/// needs is done before the next one, and the world behind them is quiet.
+pub fn quiet_worlds_complete()
+    ensures { QuietWorldsComplete }
+{}
+
+/// So it is with each honest script from its beginning on.
+pub fn honest_scripts_complete()
+    ensures { HonestScriptsComplete }
 {}

@@ -158,21 +158,21 @@ roomy s i l = let k = i.room l in omega arith
 
 -- ---- The answer: what stands before the verify data, and these.
 
-abbrev fields_of : RspSetup → Place → Free → ExchangeMessage → List ℕ
+abbrev pub fields_of : RspSetup → Place → Free → ExchangeMessage → List ℕ
 fields_of r p f exchange = summary_answer r p exchange.summary ++ f.context ++ f.exchange_opaque
 
-abbrev front_of : RspSetup → Place → Free → ExchangeMessage → List ℕ
+abbrev pub front_of : RspSetup → Place → Free → ExchangeMessage → List ℕ
 front_of r p f exchange = canonical_response (exchange_rsp r p f exchange [])
 
-abbrev own_verify : RspSetup → Place → List ℕ → Free → ExchangeMessage → List ℕ
+abbrev pub own_verify : RspSetup → Place → List ℕ → Free → ExchangeMessage → List ℕ
 own_verify r p m f exchange = verify_data (place_terms p).choice r.psk (t1_with r p m f exchange) Response (t1_with r p m f exchange)
 
-answer_parts : (r : RspSetup) (p : Place) (f : Free) (exchange : ExchangeMessage) (v : List ℕ) → canonical_response (exchange_rsp r p f exchange v) ≡ front_of r p f exchange ++ v
+pub answer_parts : (r : RspSetup) (p : Place) (f : Free) (exchange : ExchangeMessage) (v : List ℕ) → canonical_response (exchange_rsp r p f exchange v) ≡ front_of r p f exchange ++ v
 answer_parts r p f exchange v =
     let heartbeat = if (place_terms p).common.heartbeat then r.beat else 0 in
     ap (λ (l : List ℕ). (V1_2 ∷ PSK_EXCHANGE_RSP ∷ heartbeat ∷ 0 ∷ []) ++ little_bytes 2 f.id ++ (0 ∷ 0 ∷ []) ++ little_bytes 2 (length f.context) ++ little_bytes 2 (length f.exchange_opaque) ++ (l ++ v)) (sym (append-nil (fields_of r p f exchange)))
 
-before_verify : (hash : HashAlg) (front v : List ℕ) → length v ≡ hash_size hash → without_verify (hash_of hash) (front ++ v) ≡ front
+pub before_verify : (hash : HashAlg) (front v : List ℕ) → length v ≡ hash_size hash → without_verify (hash_of hash) (front ++ v) ≡ front
 before_verify hash front v long =
     let size : length (front ++ v) - hash_size hash ≡ length front = omega (arith, length-append front v) in
     ap (λ (n : ℕ). take n (front ++ v)) size ∙ take-append_seam front v
@@ -236,7 +236,7 @@ summary_read len m exchange e =
     let code : little_number 1 t.0 ≡ PSK_EXCHANGE = sym (second_byte m s.0 t.0 s.1 t.1 s.2 t.2 s.3 t.3) ∙ sym (code_read len m (PskExchange exchange) e) in
     summary_spelled len exchange t.1 (subst (λ (c : ℕ). IsSpelling (request_body len c) 2 (PskExchange exchange) t.1) code t.5)
 
-length_summary : (r : RspSetup) (p : Place) (m : List ℕ) (exchange : ExchangeMessage) → request_at p m ≡ Some (PskExchange exchange) → length (summary_answer r p exchange.summary) ≡ summary_size (hash_len (place_terms p)) (Some (PskExchange exchange))
+pub length_summary : (r : RspSetup) (p : Place) (m : List ℕ) (exchange : ExchangeMessage) → request_at p m ≡ Some (PskExchange exchange) → length (summary_answer r p exchange.summary) ≡ summary_size (hash_len (place_terms p)) (Some (PskExchange exchange))
 length_summary r p m exchange spelled =
     let k = exchange.summary in
     let hash = (place_terms p).choice.hash in

@@ -29,7 +29,7 @@ use Rattle.spdm_agreement.proofs.Worlds.Starts.{starts}
 use Rattle.spdm_agreement.proofs.Responder.FinishPlace.{made_steady}
 
 -- The requester of a number is one of the world's.
-found_at : (place : ℕ) (rs : List Requesting) (a : Requesting) → requester_at place rs ≡ Some a → IsIn rs a
+pub found_at : (place : ℕ) (rs : List Requesting) (a : Requesting) → requester_at place rs ≡ Some a → IsIn rs a
 found_at place [] a is = absurd (none_some a is)
 found_at zero (b ∷ others) a is = inl (sym (some_same b a is))
 found_at (suc place) (b ∷ others) a is = inr (found_at place others a is)

@@ -1,0 +1,241 @@
+-- A connect takes three rounds, and leaves two quiet ends.
+use Rattle.std.proofs.Common.{◌≡◌, ◌∙◌, ℕ, suc, ◌<◌, ◌≤◌, ◌+◌, List, [], ◌∷◌, ◌++◌, length, Bool, true, false, Some, None, refl, sym, ap, subst, inl, inr, arith}
+use Rattle.std.specs.Prelude.{slice_index}
+use Rattle.std.proofs.lemmas.Bool.{false≢true}
+use Rattle.spdm_grammar.specs.Message.{ExchangeMessage, OfferMessage}
+use Rattle.spdm_grammar.specs.Message.RequestMessage.{GetVersion, GetCapabilities, NegotiateAlgorithms, PskExchange}
+use Rattle.spdm_grammar.specs.Requests.{canonical_request}
+use Rattle.spdm_grammar.specs.declared.choice.Choice.{Choice}
+use Rattle.spdm_grammar.specs.declared.event.Event.{Event}
+use Rattle.spdm_grammar.specs.declared.event.Event.TheVariants as event
+use Rattle.spdm_grammar.specs.declared.event.Finished.TheVariants as finished
+use Rattle.spdm_machine.specs.Keys.{Draw}
+use Rattle.spdm_machine.specs.TagLog.{Log}
+use Rattle.spdm_machine.specs.Terms.{no_negotiation}
+use Rattle.spdm_machine.proofs.Members.{some_same}
+use Rattle.requester_machine.specs.History as asked
+use Rattle.requester_machine.specs.History.Entry.{Told as WasTold}
+use Rattle.requester_machine.specs.Message.{Sent}
+use Rattle.requester_machine.specs.Message.Command.{Connect}
+use Rattle.requester_machine.specs.Message.Content.{Clear}
+use Rattle.requester_machine.specs.Requesting as asking
+use Rattle.requester_machine.specs.Requesting.{Requesting}
+use Rattle.requester_machine.specs.Sending.{plain_sent}
+use Rattle.requester_machine.specs.Session as steps
+use Rattle.requester_machine.specs.Setup.{ReqSetup, requester_caps}
+use Rattle.requester_machine.specs.Does as asking_does
+use Rattle.requester_machine.specs.Does.{requester_asks}
+use Rattle.requester_machine.specs.Asking.{asks}
+use Rattle.requester_machine.specs.Asking.Outcome.{Adds}
+use Rattle.requester_machine.specs.Commands.{command_fault}
+use Rattle.responder_machine.specs.Does as serving_does
+use Rattle.responder_machine.specs.History as served
+use Rattle.responder_machine.specs.Responding.{Connection}
+use Rattle.responder_machine.specs.Setup.{RspSetup}
+use Rattle.spdm_agreement.proofs.Worlds.AllEvents.{requester_in}
+use Rattle.transcript.specs.Transcripts.{Negotiation}
+use Rattle.world_machine.specs.Chance.{NoChance}
+use Rattle.world_machine.specs.Happenings.{Entry}
+use Rattle.world_machine.specs.Happenings.Happening.{Told}
+use Rattle.world_machine.specs.Setup.{WorldSetup}
+use Rattle.world_machine.specs.Trace.{lines_from, world_after, world_from}
+use Rattle.spdm_progress.specs.Connecting.{CanConnect}
+use Rattle.world_machine.specs.World.{World}
+use Rattle.spdm_progress.specs.Honest.{AreHonest, HaveNoCommand, NothingWaits}
+use Rattle.spdm_progress.specs.InStep.{AreQuiet, TookEarlier}
+use Rattle.spdm_progress.specs.Scripts.{ConnectsQuietly}
+use Rattle.spdm_progress.specs.SessionCommands.{IsDoneQuietly, IsTold, commanding}
+use Rattle.spdm_progress.proofs.AtRequester.{asking as asks_for}
+use Rattle.spdm_progress.proofs.ClearRounds.{ClearWay, LastAnswer, LastWay, WayOver, last_talk, way_heard, way_sent, way_served, way_still}
+use Rattle.spdm_progress.proofs.PacketSteps.{Pair}
+use Rattle.spdm_progress.proofs.RequesterStages.{Asks as AsksRequest, IsOver, algorithms_heard, asks_version, capabilities_heard, next_small, told_connect, version_heard}
+use Rattle.spdm_progress.proofs.ResponderBegins.{awaits_on, awaits_version, stands_on}
+use Rattle.spdm_progress.proofs.ResponderStages.{AwaitsVersion, HasAlgorithms, HasCapabilities, HasVersion, algorithms, algorithms_answered, capabilities, capabilities_answered, first_pair, get_capabilities, get_version, negotiate_algorithms, three_pairs, two_pairs, version, version_answered}
+use Rattle.spdm_progress.proofs.SessionBegins.{sends}
+use Rattle.spdm_progress.proofs.SessionCompletes.{Idle, Rests, completes_by, fresh, no_chance_from, placed}
+use Rattle.spdm_progress.proofs.SetUps.{CanTalk, algorithms_size, can_talk, common_for, takes_answer}
+use Rattle.spdm_progress.proofs.Talk.{IsTalk, Stage}
+use Rattle.spdm_progress.proofs.Aside.{IsAside, nothing_aside}
+use Rattle.spdm_progress.proofs.Told.{ArePlaced, fits_always, pair_of}
+use Rattle.spdm_progress.proofs.TwoRounds.{Answers, Asks, IsFirst, LeadsTo, OneStage, two_talk}
+
+module _ (p : Pair) (offer : OfferMessage) (choice : Choice) (can : CanTalk p.requester p.responder offer choice) where
+  abbrev q : ReqSetup
+  q = p.requester
+
+  abbrev r : RspSetup
+  r = p.responder
+
+  abbrev told : Event
+  told = event.Done finished.Connected
+
+  -- ---- The three rounds.
+
+  abbrev AsksVersion : ℕ → asked.History → Type 0
+  AsksVersion tag h = AsksRequest q tag GetVersion get_version no_negotiation h
+
+  abbrev AsksCapabilities : ℕ → asked.History → Type 0
+  AsksCapabilities tag h = AsksRequest q tag (GetCapabilities (requester_caps q)) (get_capabilities q) first_pair h
+
+  abbrev AsksAlgorithms : ℕ → asked.History → Type 0
+  AsksAlgorithms tag h = AsksRequest q tag (NegotiateAlgorithms offer) (negotiate_algorithms offer) (two_pairs q r) h
+
+  abbrev Capable : served.History → Type 0
+  Capable g = HasCapabilities q r g
+
+  abbrev Agreed : served.History → Type 0
+  Agreed g = HasAlgorithms q r offer g
+
+  abbrev Ended : asked.History → Type 0
+  Ended h = IsOver (three_pairs q r offer) h
+
+  abbrev VersionAsked : OneStage
+  VersionAsked = ClearWay p get_version AsksVersion AwaitsVersion
+
+  abbrev VersionAnswered : OneStage
+  VersionAnswered = ClearWay p version AsksVersion HasVersion
+
+  abbrev CapabilitiesAsked : OneStage
+  CapabilitiesAsked = ClearWay p (get_capabilities q) AsksCapabilities HasVersion
+
+  abbrev CapabilitiesAnswered : OneStage
+  CapabilitiesAnswered = ClearWay p (capabilities r) AsksCapabilities Capable
+
+  neg_short : length (negotiate_algorithms offer) < 4161
+  neg_short = (let size = can.own.size in omega arith)
+
+  neg_long : 4 ≤ length (negotiate_algorithms offer)
+  neg_long = (let size = can.own.size in omega arith)
+
+  alg_short : length (algorithms r offer) < 4161
+  alg_short = (let size = algorithms_size r offer in omega arith)
+
+  abbrev AlgorithmsAsked : Stage
+  AlgorithmsAsked = LastWay p (negotiate_algorithms offer) (algorithms r offer) AsksAlgorithms Ended Capable Agreed told neg_short alg_short (stands_on _ _ _) (stands_on _ _ _)
+      (λ tag g d drawn made has. algorithms_answered q r g tag d offer choice neg_long can.request_fits can.own.fits can.own.sound can.chosen (takes_answer q r offer choice g can has) has)
+      (λ tag h d asks. algorithms_heard q r h tag d offer choice can.answer_fits can.chosen asks)
+
+  abbrev AlgorithmsAnswered : Stage
+  AlgorithmsAnswered = LastAnswer p (negotiate_algorithms offer) (algorithms r offer) AsksAlgorithms Ended Capable Agreed told neg_short alg_short (stands_on _ _ _) (stands_on _ _ _)
+      (λ tag g d drawn made has. algorithms_answered q r g tag d offer choice neg_long can.request_fits can.own.fits can.own.sound can.chosen (takes_answer q r offer choice g can has) has)
+      (λ tag h d asks. algorithms_heard q r h tag d offer choice can.answer_fits can.chosen asks)
+
+  abbrev ConnectDone : Log → asked.History → served.History → Type 0
+  ConnectDone = WayOver p (negotiate_algorithms offer) (algorithms r offer) AsksAlgorithms Ended Capable Agreed told neg_short alg_short (stands_on _ _ _) (stands_on _ _ _)
+      (λ tag g d drawn made has. algorithms_answered q r g tag d offer choice neg_long can.request_fits can.own.fits can.own.sound can.chosen (takes_answer q r offer choice g can has) has)
+      (λ tag h d asks. algorithms_heard q r h tag d offer choice can.answer_fits can.chosen asks)
+
+  third : IsTalk p AlgorithmsAsked AlgorithmsAnswered ConnectDone told
+  third = last_talk p (negotiate_algorithms offer) (algorithms r offer) AsksAlgorithms Ended Capable Agreed told neg_short alg_short (stands_on _ _ _) (stands_on _ _ _)
+      (λ tag g d drawn made has. algorithms_answered q r g tag d offer choice neg_long can.request_fits can.own.fits can.own.sound can.chosen (takes_answer q r offer choice g can has) has)
+      (λ tag h d asks. algorithms_heard q r h tag d offer choice can.answer_fits can.chosen asks)
+
+  second : IsFirst p CapabilitiesAsked CapabilitiesAnswered (AlgorithmsAsked 0)
+  second = record {
+    asks_sent = way_sent p (get_capabilities q) AsksCapabilities HasVersion (omega arith);
+    answers_sent = way_sent p (capabilities r) AsksCapabilities Capable (omega arith);
+    serves = way_served p (get_capabilities q) (capabilities r) AsksCapabilities HasVersion Capable
+        (λ tag g d drawn made has. capabilities_answered q r g tag d (common_for q r) can.responder_room can.own_caps can.together has);
+    hears = λ tag body log h g d chance y.
+        let on = way_heard p (capabilities r) (negotiate_algorithms offer) AsksCapabilities AsksAlgorithms Capable event.Progress (λ k. asks_for (asked.next_tag k) (Clear (negotiate_algorithms offer)) (NegotiateAlgorithms offer)) (λ k. (next_small k, refl))
+        (λ t k e asks. capabilities_heard q r k t e offer (common_for q r) can.requester_room can.their_caps can.offers asks) tag body log h g d chance y in
+        record { next = on.next; sends = on.sends; asks = record { is = on.asks } };
+    asks_still = way_still p (get_capabilities q) AsksCapabilities HasVersion (stands_on _ _ _);
+    answers_still = way_still p (capabilities r) AsksCapabilities Capable (stands_on _ _ _);
+  }
+
+  abbrev SecondAsks : Stage
+  SecondAsks = Asks p 0 CapabilitiesAsked CapabilitiesAnswered AlgorithmsAsked AlgorithmsAnswered ConnectDone told
+
+  abbrev SecondAnswers : Stage
+  SecondAnswers = Answers p 0 CapabilitiesAsked CapabilitiesAnswered AlgorithmsAsked AlgorithmsAnswered ConnectDone told
+
+  first_round : IsFirst p VersionAsked VersionAnswered (SecondAsks 1)
+  first_round = record {
+    asks_sent = way_sent p get_version AsksVersion AwaitsVersion (omega arith);
+    answers_sent = way_sent p version AsksVersion HasVersion (omega arith);
+    serves = way_served p get_version version AsksVersion AwaitsVersion HasVersion (λ tag g d drawn made awaits. version_answered r g tag d can.responder_room awaits);
+    hears = λ tag body log h g d chance y.
+        let on = way_heard p version (get_capabilities q) AsksVersion AsksCapabilities HasVersion event.Progress (λ k. asks_for (asked.next_tag k) (Clear (get_capabilities q)) (GetCapabilities (requester_caps q))) (λ k. (next_small k, refl))
+        (λ t k e asks. version_heard q k t e can.requester_room asks) tag body log h g d chance y in
+        record { next = on.next; sends = on.sends; asks = inl (refl, on.asks) };
+    asks_still = way_still p get_version AsksVersion AwaitsVersion awaits_on;
+    answers_still = way_still p version AsksVersion HasVersion (stands_on _ _ _);
+  }
+
+  abbrev ConnectAsks : Stage
+  ConnectAsks = Asks p 1 VersionAsked VersionAnswered SecondAsks SecondAnswers ConnectDone told
+
+  abbrev ConnectAnswers : Stage
+  ConnectAnswers = Answers p 1 VersionAsked VersionAnswered SecondAsks SecondAnswers ConnectDone told
+
+  connect_talk : IsTalk p ConnectAsks ConnectAnswers ConnectDone told
+  connect_talk = two_talk p 1 VersionAsked VersionAnswered SecondAsks SecondAnswers ConnectDone told first_round
+      (two_talk p 0 CapabilitiesAsked CapabilitiesAnswered AlgorithmsAsked AlgorithmsAnswered ConnectDone told second third)
+
+  -- ---- Quiet ends.
+
+  other_codes : (x : ExchangeMessage) → negotiate_algorithms offer ≡ canonical_request (PskExchange x) → ⊥
+  other_codes x e = (let code : slice_index (negotiate_algorithms offer) 1 ≡ slice_index (canonical_request (PskExchange x)) 1 = ap (λ (l : List ℕ). slice_index l 1) e in omega arith)
+
+  connected_quiet : (log : Log) (h : asked.History) (g : served.History) → ConnectDone log h g → (id : ℕ) → AreQuiet q r p.first log h g × (steps.is_live (steps.session_of id h) ≡ false)
+  connected_quiet log h g z id = (
+    record {
+      made = z.made;
+      made_there = z.made_there;
+      none = z.asks.none;
+      phase = z.asks.phase ∙ sym z.serves.phase_is;
+      negotiation = z.asks.negotiation ∙ sym z.serves.negotiation;
+      earlier = record {
+        kept = λ k is x d fits sound context whole above below same.
+            other_codes x (sym z.serves.last.message ∙ ap (λ (o : served.Kept). o.message) (some_same z.serves.last.kept k (sym z.serves.last.is ∙ is)) ∙ same);
+      };
+      sessions = λ j live. absurd (false≢true (sym (z.bare j) ∙ live));
+      apart = λ i j differ live_i live_j. absurd (false≢true (sym (z.bare i) ∙ live_i));
+    },
+    z.bare id,
+  )
+
+-- ---- The command.
+
+module _ (w : WorldSetup) (before : List Entry) (n : ℕ) (a : Requesting) (c : Connection) (is_told : IsTold w before n a c) (can : CanConnect a c) (line : ℕ) (behind : List Entry) (none : HaveNoCommand behind)
+    (honest : AreHonest (commanding (world_after w before) line n Connect) behind) (still : Rests (commanding (world_after w before) line n Connect) behind)
+    (chance : NoChance (world_from (commanding (world_after w before) line n Connect) behind).log)
+    (Aside : World → Type 0) (aside : IsAside (pair_of n a c) Aside) (beside : Aside (world_after w before)) where
+  here : ArePlaced (world_after w before) n a c
+  here = placed w before n a c Connect is_told line behind none honest still chance Aside aside beside
+
+  abbrev pair : Pair
+  pair = pair_of n a c
+
+  talks : CanTalk pair.requester pair.responder can.offer can.choice
+  talks = can_talk a.setup c.setup can.offer can.choice here.requester here.responder can.offered can.chosen can.request_fits can.answer_fits
+
+  asks_connect : requester_asks false a.setup a.history Connect (asking.next_draw a) ≡ Adds (WasTold Connect (plain_sent a.history GetVersion) (asking.next_draw a))
+  unfolding asks command_fault
+  asks_connect = refl
+
+  made : asking_does.IsMade a.setup a.history
+  made = ((fits_always w is_told.configured before (no_chance_from (world_after w before) (record { line = line; happening = Told n Connect } ∷ behind) chance)).asks a (requester_in n (world_after w before) a is_told.is_requester)).made
+
+  pub connected : (id : ℕ) → IsDoneQuietly n a.setup c.setup finished.Connected id false (world_from (commanding (world_after w before) line n Connect) behind) (lines_from (commanding (world_after w before) line n Connect) behind)
+      × Idle Aside (world_from (commanding (world_after w before) line n Connect) behind)
+  unfolding steps.session_of
+  connected id =
+      completes_by w before n a c Connect is_told line behind none honest still chance Aside aside beside (ConnectAsks pair can.offer can.choice talks) (ConnectAnswers pair can.offer can.choice talks) (ConnectDone pair can.offer can.choice talks) finished.Connected id false
+      (λ log h g z. connected_quiet pair can.offer can.choice talks log h g z id) (connect_talk pair can.offer can.choice talks) 2 (omega arith) (plain_sent a.history GetVersion) (told_connect a (fresh w before n a c Connect is_told line behind none honest still chance Aside aside beside))
+      (inl (
+        refl,
+        record {
+          small = next_small a.history;
+          body_is = refl;
+          asks = asks_version a.setup a.history (asking.next_draw a);
+          serves = awaits_version c.setup c.history here.responder here.made;
+          made = (asks_connect, made);
+          made_there = here.made;
+          bare = λ j. refl;
+        },
+      ))
+
+pub connects_quietly : ConnectsQuietly
+connects_quietly w before n a c told can id line behind none honest still chance = (connected w before n a c told can line behind none honest (inl still) chance (λ later. Unit {0}) (nothing_aside (pair_of n a c)) tt id).0

@@ -1,0 +1,205 @@
+-- An open that is told to a quiet requester ends with an open session.
+use Rattle.std.proofs.Common.{◌≡◌, ◌≢◌, ◌∙◌, ℕ, ◌<◌, ◌≤◌, ◌+◌, ◌^◌, ◌==◌, ◌&&◌, List, [], ◌∷◌, ◌++◌, length, Bool, true, false, nat_lt, not, Some, None, refl, sym, ap, subst, inl, arith, eq-eqb}
+use Rattle.std.specs.Prelude.{if◌then◌else◌}
+use Rattle.std.proofs.lemmas.Bool.{false≢true, not-false}
+use Rattle.negotiate.specs.declared.shared.Sizes.{Sizes}
+use Rattle.spdm_basis.specs.Sizes.{hash_size}
+use Rattle.spdm_basis.specs.declared.session_id.SessionId.{SessionId}
+use Rattle.spdm_grammar.specs.Message.{ExchangeMessage, RequestMessage}
+use Rattle.spdm_grammar.specs.Message.RequestMessage.{PskExchange}
+use Rattle.spdm_grammar.specs.Requests.{canonical_request}
+use Rattle.spdm_grammar.specs.declared.event.Event.TheVariants as event
+use Rattle.spdm_grammar.specs.declared.event.Finished.TheVariants as finished
+use Rattle.spdm_grammar.specs.declared.phase.Phase.{Phase}
+use Rattle.spdm_grammar.specs.declared.phase.Phase.TheVariants.{Negotiated}
+use Rattle.spdm_machine.specs.Bodies.{clear_body}
+use Rattle.spdm_machine.specs.Keys.{Draw, context_of}
+use Rattle.spdm_machine.specs.TagLog.{Log}
+use Rattle.spdm_machine.specs.Terms.{Terms, terms_of}
+use Rattle.transcript.specs.Transcripts.{Negotiation}
+use Rattle.requester_machine.proofs.Choosing.{context-length, free_id-free, free_id-in_range}
+use Rattle.requester_machine.proofs.Entries.{test_at, test_is_false}
+use Rattle.requester_machine.proofs.HoldsMade.{sizes}
+use Rattle.requester_machine.proofs.HoldsTold.{connected}
+use Rattle.requester_machine.specs.Asking.Outcome.{Adds}
+use Rattle.requester_machine.specs.Commands.{Free, command_fault, command_tests, live_count}
+use Rattle.requester_machine.specs.Does.{chosen, command_chosen, free_id, requester_asks}
+use Rattle.requester_machine.specs.History as asked
+use Rattle.requester_machine.specs.History.Entry.{Told as WasTold}
+use Rattle.requester_machine.specs.Message.{Command, Sent}
+use Rattle.requester_machine.specs.Message.Command.{Open}
+use Rattle.requester_machine.specs.Requesting as asking
+use Rattle.requester_machine.specs.Requesting.{Requesting, commanded_by, requester_told}
+use Rattle.requester_machine.specs.Sending.{piece_sent, plain_sent, request_sent}
+use Rattle.requester_machine.specs.Session as steps
+use Rattle.requester_machine.specs.UnderWay.{IsCommon, is_capable}
+use Rattle.responder_machine.proofs.Ids.{not_four}
+use Rattle.responder_machine.proofs.Sizes.{sizes_set_up}
+use Rattle.responder_machine.specs.History as served
+use Rattle.responder_machine.specs.Place as serving
+use Rattle.responder_machine.specs.Refusal.{sizes_are_known}
+use Rattle.responder_machine.specs.Responding.{Connection}
+use Rattle.spdm_agreement.proofs.Worlds.AllEvents.{requester_in}
+use Rattle.spdm_agreement.proofs.Worlds.Happens.{draw_length}
+use Rattle.world_machine.specs.Chance.{NoChance}
+use Rattle.world_machine.specs.Happenings.{Entry}
+use Rattle.world_machine.specs.Happenings.Happening.{Told}
+use Rattle.world_machine.specs.Setup.{WorldSetup}
+use Rattle.world_machine.specs.Trace.{lines_from, world_after, world_from}
+use Rattle.world_machine.specs.World.{World}
+use Rattle.spdm_progress.specs.Honest.{AreHonest, HaveNoCommand, NothingWaits}
+use Rattle.spdm_progress.specs.Opening.{CanOpen, OpenCompletes, exchange_rsp_size}
+use Rattle.spdm_progress.specs.SessionCommands.{IsDoneQuietly, IsToldQuietly, commanding}
+use Rattle.spdm_progress.proofs.Accepted.{not_worn_told, told_so}
+use Rattle.spdm_progress.proofs.ExchangeStages.{IsExchange}
+use Rattle.spdm_progress.proofs.OnePacket.{not_longer}
+use Rattle.spdm_progress.proofs.OpenRounds.{CanExchange, OpenDone, OpenTalkAnswers, OpenTalkAsks, open_talk}
+use Rattle.spdm_progress.proofs.PacketSteps.{Pair}
+use Rattle.spdm_progress.proofs.SessionBegins.{sends}
+use Rattle.spdm_progress.proofs.SessionCompletes.{Idle, Rests, completes_by, fresh, no_chance_from, placed}
+use Rattle.spdm_progress.proofs.Aside.{IsAside, nothing_aside}
+use Rattle.spdm_progress.proofs.Told.{ArePlaced, fits_always, pair_of}
+
+-- The draw that stands next has 32 bytes.
+draws_next : (a : Requesting) → length (asking.next_draw a).bytes ≡ 32
+unfolding asking.next_draw
+draws_next a = draw_length a.seed (a.first + asked.draws_of a.setup a.history)
+
+-- Where a summary that is asked for needs measurements, it needs that they were chosen.
+needs_choice : (none common chosen : Bool) → (not none && not (common && chosen)) ≡ false → (not none && not chosen) ≡ false
+needs_choice true common chosen fine = refl
+needs_choice false true chosen fine = fine
+needs_choice false false true fine = refl
+needs_choice false false false fine = fine
+
+module _ (w : WorldSetup) (before : List Entry) (n : ℕ) (a : Requesting) (c : Connection) (summary : ℕ) (is_told : IsToldQuietly w before n a c (Open summary)) (can : CanOpen a c summary) (line : ℕ) (behind : List Entry) (none : HaveNoCommand behind)
+    (honest : AreHonest (commanding (world_after w before) line n (Open summary)) behind) (still : Rests (commanding (world_after w before) line n (Open summary)) behind)
+    (chance : NoChance (world_from (commanding (world_after w before) line n (Open summary)) behind).log)
+    (Aside : World → Type 0) (aside : IsAside (pair_of n a c) Aside) (beside : Aside (world_after w before)) where
+  abbrev d : Draw
+  d = asking.next_draw a
+
+  abbrev f : Free
+  f = command_chosen a.setup a.history d
+
+  abbrev x : ExchangeMessage
+  x = record { summary = summary; req_id = f.id; hint = a.setup.hint; context = f.context; opaque = f.opaque }
+
+  abbrev p : Pair
+  p = pair_of n a c
+
+  here : ArePlaced (world_after w before) n a c
+  here = placed w before n a c (Open summary) is_told.now line behind none honest still chance Aside aside beside
+
+  accepted : (command_fault false a.setup a.history (Open summary) f ≡ None) × (requester_asks false a.setup a.history (Open summary) d ≡ Adds (WasTold (Open summary) (request_sent (asked.connection_terms a.history).common a.history (PskExchange x)) d))
+  accepted = told_so a (Open summary) (fresh w before n a c (Open summary) is_told.now line behind none honest still chance Aside aside beside) is_told.accepted
+
+  passed : (k : ℕ) → test_at k (command_tests a.setup a.history (Open summary) f) ≡ false
+  passed k = test_is_false false a.setup a.history (Open summary) f accepted.0 k
+
+  phase : asked.phase_of a.history ≡ Negotiated
+  phase = connected a.setup a.history (Open summary) f accepted.0 refl
+
+  own_id : f.id ≡ free_id a.history
+  unfolding chosen
+  own_id = refl
+
+  context_long : length f.context ≡ hash_size (asked.connection_terms a.history).choice.hash
+  unfolding chosen
+  context_long = context-length (asked.connection_terms a.history).choice.hash d (draws_next a)
+
+  own_opaque : f.opaque ≡ a.setup.opaque
+  unfolding chosen
+  own_opaque = refl
+
+  there : (asked.connection_terms a.history).common.to_responder.transfer ≡ c.setup.transfer
+  there =
+      let known : sizes_are_known (served.phase_of (served.clear_turns c.history)) ≡ true = ap sizes_are_known (sym is_told.quiet.phase ∙ phase) in
+      let s = sizes_set_up c.setup c.history is_told.quiet.made_there here.responder.sizes.ordered here.responder.sizes.most known in
+      ap (λ (k : Negotiation). (terms_of k).common.to_responder.transfer) is_told.quiet.negotiation ∙ ap (λ (z : Sizes). z.transfer) s.own
+
+  mine : (asked.connection_terms a.history).common.to_requester.transfer ≡ a.setup.transfer
+  mine =
+      let most = here.requester.sizes.most in
+      let ordered = here.requester.sizes.ordered in
+      (sizes a.setup a.history (record { transfer = omega arith; max = most }) is_told.quiet.made (ap is_capable phase)).transfer
+
+  room : live_count a.history ≢ 4
+  room = λ e. false≢true (sym (passed 4) ∙ eq-eqb (live_count a.history) 4 e)
+
+  asks : requester_asks false a.setup a.history (Open summary) d ≡ Adds (WasTold (Open summary) (plain_sent a.history (PskExchange x)) d)
+  asks =
+      accepted.1
+      ∙ ap (λ (b : Bool). Adds (WasTold (Open summary) (if b then piece_sent (asked.connection_terms a.history).common a.history (PskExchange x) (asked.next_handle a.history) 0 else plain_sent a.history (PskExchange x)) d))
+      (not_longer (asked.connection_terms a.history).common.to_responder.transfer (length (canonical_request (PskExchange x))) can.request_fits)
+
+  own_context : f.context ≡ context_of (asked.connection_terms a.history).choice.hash d
+  unfolding chosen
+  own_context = refl
+
+  own_number : d.number ≡ a.first + asked.draws_of a.setup a.history
+  unfolding asking.next_draw
+  own_number = refl
+
+  few_draws : d.number < 2 ^ 64
+  few_draws =
+      let fits = (fits_always w is_told.now.configured before (no_chance_from (world_after w before) (record { line = line; happening = Told n (Open summary) } ∷ behind) chance)).asks a (requester_in n (world_after w before) a is_told.now.is_requester) in
+      let draws = fits.draws in
+      let wear = fits.wear in
+      let life = is_told.now.life.requester in
+      omega (arith, own_number)
+
+  ready : CanExchange a.setup c.setup a.first summary a.history d x
+  ready = record {
+    is_x = refl;
+    phase = phase;
+    sound = record {
+      summary = not-false _ (passed 6);
+      req_id = subst (λ (k : ℕ). k ≤ 4) (sym own_id) (free_id-in_range a.history).1;
+      hint = here.requester.key.hint_most;
+      context = context_long;
+      opaque = subst (λ (o : List ℕ). length o ≤ 1024) (sym own_opaque) here.requester.opaque;
+    };
+    measures = needs_choice (summary == 0) (asked.connection_terms a.history).common.measure (asked.connection_terms a.history).choice.measure (passed 5);
+    hint = sym here.hint;
+    request_fits = subst (λ (k : ℕ). length (canonical_request (PskExchange x)) ≤ k) there can.request_fits;
+    answer_fits = can.answer_fits;
+    answer_own = subst (λ (k : ℕ). exchange_rsp_size c.setup (asked.connection_terms a.history) summary ≤ k) mine can.answer_fits;
+    finish_fits = subst (λ (k : ℕ). 4 + hash_size (asked.connection_terms a.history).choice.hash ≤ k) there can.finish_fits;
+    asks = asks;
+    free = ap (λ (i : ℕ). steps.is_live (steps.session_of i a.history)) own_id ∙ free_id-free a.history room;
+    context = own_context;
+    drawn = draws_next a;
+    number = own_number;
+    small = few_draws;
+  }
+
+  abbrev rid : ℕ
+  rid = serving.free_id c.history
+
+  abbrev Result : ℕ → Type 0
+  Result id = IsDoneQuietly n a.setup c.setup (finished.Opened (record { req = id; rsp = rid })) id true (world_from (commanding (world_after w before) line n (Open summary)) behind) (lines_from (commanding (world_after w before) line n (Open summary)) behind)
+      × Idle Aside (world_from (commanding (world_after w before) line n (Open summary)) behind)
+
+  done_with : Result f.id
+  done_with =
+      completes_by w before n a c (Open summary) is_told.now line behind none honest still chance Aside aside beside (OpenTalkAsks p here.key here.requester here.responder summary a.history d x rid ready) (OpenTalkAnswers p here.key here.requester here.responder summary a.history d x rid ready)
+      (OpenDone p here.key here.requester here.responder summary a.history d x rid ready) (finished.Opened (record { req = f.id; rsp = rid })) f.id true (λ log h g z. (z.quiet, z.session)) (open_talk p here.key here.requester here.responder summary a.history d x rid ready) 1 (omega arith)
+      (plain_sent a.history (PskExchange x)) (not_worn_told a (Open summary) (fresh w before n a c (Open summary) is_told.now line behind none honest still chance Aside aside beside) ∙ ap (commanded_by a) asks)
+      (inl (
+        refl,
+        record {
+          h_is = refl;
+          tag_is = refl;
+          body_is = refl;
+          quiet = is_told.quiet;
+          id_is = refl;
+          limit = not_four (serving.held_of c.history) can.limit;
+        },
+      ))
+
+  pub opened : Result (free_id a.history)
+  opened = subst Result own_id done_with
+
+pub open_completes : OpenCompletes
+open_completes w before n a c summary told can line behind none honest still chance = (opened w before n a c summary told can line behind none honest (inl still) chance (λ later. Unit {0}) (nothing_aside (pair_of n a c)) tt).0

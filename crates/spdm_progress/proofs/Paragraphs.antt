@@ -1,0 +1,156 @@
+-- A paragraph: a command that is told in a quiet world, and what stands behind it up to the next one.
+use Rattle.std.proofs.Common.{◌≡◌, ◌∙◌, ◌==◌, ℕ, List, [], ◌∷◌, ◌++◌, map, true, false, Option, Some, None, refl, sym, ap, subst, inl}
+use Rattle.std.proofs.lemmas.Bool.{false≢true}
+use Rattle.spdm_grammar.specs.declared.command_fault.CommandFault.{CommandFault}
+use Rattle.spdm_grammar.specs.Lines.{Line}
+use Rattle.spdm_machine.proofs.Members.{found_in, in_map, none_some}
+use Rattle.requester_machine.specs.Message.{Command}
+use Rattle.requester_machine.specs.Requesting.{Requesting, new_requesting, requester_told}
+use Rattle.requester_machine.specs.Session as asked_session
+use Rattle.requester_machine.specs.Setup.{ReqSetup}
+use Rattle.responder_machine.specs.Setup.{RspSetup}
+use Rattle.responder_machine.specs.Responding.{Connection, connection_of, new_connection}
+use Rattle.spdm_agreement.specs.Configured.{IsConfigured}
+use Rattle.world_machine.specs.Chance.{NoChance}
+use Rattle.world_machine.specs.Happenings.{Entry}
+use Rattle.world_machine.specs.Happenings.Happening.{Told}
+use Rattle.world_machine.specs.Setup.{WorldSetup}
+use Rattle.world_machine.specs.Trace.{lines_from, world_after, world_from}
+use Rattle.world_machine.specs.World.{World, happens, new_world, requester_of, told}
+use Rattle.spdm_progress.specs.Honest.{AreHonest, HaveNoCommand, NothingWaits}
+use Rattle.spdm_progress.specs.InStep.{AreQuiet}
+use Rattle.spdm_progress.specs.Scripts.{CanDo, IsDone, IsQuietWorld, result_for}
+use Rattle.spdm_progress.specs.SessionCommands.{LivesToAnswer, commanding}
+use Rattle.spdm_progress.proofs.Aside.{OthersAreQuiet, others_aside}
+use Rattle.spdm_progress.proofs.Connected.{each_is_connected}
+use Rattle.spdm_agreement.proofs.Worlds.AllEvents.{requester_in}
+use Rattle.spdm_progress.proofs.Places.{AllDiffer}
+use Rattle.spdm_progress.proofs.QuietCommands as commands
+use Rattle.spdm_progress.proofs.QuietWorlds.{always_differ, behind_quiet, from_both, others_of, quiet_with, refused_quiet, refused_step}
+use Rattle.spdm_progress.proofs.SessionCompletes.{Idle, no_chance_from}
+use Rattle.spdm_progress.proofs.Told.{are_placed, pair_of}
+
+-- A command for requester n, with the number of its line, and what stands behind it up to the next command.
+pub record Paragraph : Type 0 where
+  pub line : ℕ
+  pub n : ℕ
+  pub command : Command
+  pub behind : List Entry
+
+abbrev pub entries_of : Paragraph → List Entry
+entries_of p = record { line = p.line; happening = Told p.n p.command } ∷ p.behind
+
+-- The world in which the command was told, the world behind the paragraph, and the lines between.
+abbrev pub told_in : World → Paragraph → World
+told_in world p = commanding world p.line p.n p.command
+
+abbrev pub world_behind : World → Paragraph → World
+world_behind world p = world_from (told_in world p) p.behind
+
+abbrev pub lines_behind : World → Paragraph → List Line
+lines_behind world p = lines_from (told_in world p) p.behind
+
+module _ (w : WorldSetup) (configured : IsConfigured w) (before : List Entry) (p : Paragraph) (quiet : IsQuietWorld (world_after w before)) (none : HaveNoCommand p.behind) (honest : AreHonest (told_in (world_after w before) p) p.behind)
+    (still : NothingWaits (world_behind (world_after w before) p)) (chance : NoChance (world_behind (world_after w before) p).log) where
+  abbrev world : World
+  world = world_after w before
+
+  -- The world behind the paragraph is one that events lead to.
+  reached : world_after w (before ++ entries_of p) ≡ world_behind world p
+  reached = from_both (new_world w) before (entries_of p)
+
+  abbrev Done : Requesting → Connection → Type 0
+  Done a c = IsDone p.n a.setup c.setup (result_for a c p.command) (world_behind world p) (lines_behind world p)
+
+  accepted : (a : Requesting) (c : Connection) → requester_of p.n world ≡ Some a → connection_of a.setup.eid world.responder.connections ≡ Some c → (requester_told a p.command).fault ≡ None → CanDo a c p.command → LivesToAnswer a world.responder
+      → Done a c × Idle (OthersAreQuiet a.setup.eid) (world_behind world p)
+  accepted a c is connected ok can life =
+      let placed = are_placed w before p.n a c configured (no_chance_from world (entries_of p) chance) is connected in
+      commands.each w before p.n a c p.line p.behind none (OthersAreQuiet a.setup.eid) (others_aside (pair_of p.n a c) placed.ends.peer) (others_of a.setup.eid world quiet) p.command can (record {
+        told = record {
+          now = record { configured = configured; idle = quiet.idle; is_requester = is; is_connection = connected; life = life };
+          quiet = quiet.quiet p.n a c is connected;
+          accepted = ok;
+        };
+        honest = honest;
+        still = inl still;
+        chance = chance;
+      })
+
+  done_quiet : (a : Requesting) (c : Connection) → Done a c × Idle (OthersAreQuiet a.setup.eid) (world_behind world p) → IsQuietWorld (world_behind world p)
+  done_quiet a c x =
+      let d = x.0 in
+      let b = d.requester in
+      let e = d.connection in
+      let eid = ap (λ (q : ReqSetup). q.eid) d.requester_setup in
+      quiet_with (world_behind world p) p.n b e (subst (λ (z : World). AllDiffer (map (λ (x : Requesting). x.setup.eid) z.requesters)) reached (always_differ w configured (before ++ entries_of p))) still d.is_requester
+      (ap (λ (k : ℕ). connection_of k (world_behind world p).responder.connections) eid ∙ d.is_connection)
+      (subst (λ (r : RspSetup). AreQuiet b.setup r b.first (world_behind world p).log b.history e.history) (sym d.responder_setup)
+      (subst (λ (q : ReqSetup). AreQuiet q c.setup b.first (world_behind world p).log b.history e.history) (sym d.requester_setup) d.quiet))
+      (subst (λ (k : ℕ). OthersAreQuiet k (world_behind world p)) (sym eid) x.1.1)
+
+  -- ---- Where it is refused, or is for nobody.
+
+  told_so : (o : Option Requesting) → requester_of p.n world ≡ o → told_in world p ≡ (told world p.n p.command o).after
+  unfolding happens
+  told_so o is = ap (λ (o : Option Requesting). (told world p.n p.command o).after) is
+
+  differ_now : AllDiffer (map (λ (x : Requesting). x.setup.eid) (told_in world p).requesters)
+  differ_now =
+      subst (λ (z : World). AllDiffer (map (λ (x : Requesting). x.setup.eid) z.requesters)) (from_both (new_world w) before (record { line = p.line; happening = Told p.n p.command } ∷ []))
+      (always_differ w configured (before ++ record { line = p.line; happening = Told p.n p.command } ∷ []))
+
+  refused : (a : Requesting) (c : Connection) (f : CommandFault) → requester_of p.n world ≡ Some a → connection_of a.setup.eid world.responder.connections ≡ Some c → (requester_told a p.command).fault ≡ Some f → IsQuietWorld (world_behind world p)
+  refused a c f is connected fault =
+      let now = told_so (Some a) is in
+      behind_quiet (told_in world p) p.behind none honest
+      (subst IsQuietWorld (sym now) (refused_quiet world p.n a c (requester_told a p.command) (refused_step a p.command f fault) (subst (λ (z : World). AllDiffer (map (λ (x : Requesting). x.setup.eid) z.requesters)) now differ_now) quiet is connected))
+
+  nobody : requester_of p.n world ≡ None → IsQuietWorld (world_behind world p)
+  nobody is = behind_quiet (told_in world p) p.behind none honest (subst IsQuietWorld (sym (told_so None is)) quiet)
+
+  -- ---- One paragraph.
+
+  abbrev Can : Type 0
+  Can = (a : Requesting) (c : Connection) → requester_of p.n world ≡ Some a → connection_of a.setup.eid world.responder.connections ≡ Some c → (requester_told a p.command).fault ≡ None → CanDo a c p.command × LivesToAnswer a world.responder
+
+  by_fault : Can → (a : Requesting) (c : Connection) → requester_of p.n world ≡ Some a → connection_of a.setup.eid world.responder.connections ≡ Some c → (o : Option CommandFault) → (requester_told a p.command).fault ≡ o → IsQuietWorld (world_behind world p)
+  by_fault can a c is connected None ok = (let k = can a c is connected ok in done_quiet a c (accepted a c is connected ok k.0 k.1))
+  by_fault can a c is connected (Some f) fault = refused a c f is connected fault
+
+  by_requester : Can → (o : Option Requesting) → requester_of p.n world ≡ o → IsQuietWorld (world_behind world p)
+  by_requester can None is = nobody is
+  by_requester can (Some a) is =
+      let c = each_is_connected w configured before (no_chance_from world (entries_of p) chance) p.n a is in
+      by_fault can a c.0 is c.1 (requester_told a p.command).fault refl
+
+  pub paragraph_quiet : Can → IsQuietWorld (world_behind world p)
+  paragraph_quiet can = by_requester can (requester_of p.n world) refl
+
+  pub paragraph_done : Can → (a : Requesting) (c : Connection) → requester_of p.n world ≡ Some a → connection_of a.setup.eid world.responder.connections ≡ Some c → (requester_told a p.command).fault ≡ None → Done a c
+  paragraph_done can a c is connected ok = (let k = can a c is connected ok in (accepted a c is connected ok k.0 k.1).0)
+
+-- ---- The beginning.
+
+new_quiet : (q : ReqSetup) (r : RspSetup) (first : ℕ) → AreQuiet q r first [] [] []
+unfolding asked_session.session_of
+new_quiet q r first = record {
+  made = tt;
+  made_there = tt;
+  none = refl;
+  phase = refl;
+  negotiation = refl;
+  earlier = record { kept = λ k is x d fits sound context whole above below. absurd (none_some k is) };
+  sessions = λ id live. absurd (false≢true live);
+  apart = λ i j differ live_i live_j. absurd (false≢true live_i);
+}
+
+pub starts_quiet : (w : WorldSetup) → IsQuietWorld (new_world w)
+starts_quiet w = record {
+  idle = refl;
+  quiet = λ n a c is connected.
+      let o = in_map new_requesting w.requesters a (requester_in n (new_world w) a is) in
+      let m = in_map (new_connection w.responder.part) w.responder.known c (found_in (λ (d : Connection). d.setup.peer == a.setup.eid) (new_world w).responder.connections c connected).0 in
+      subst (λ (x : Connection). AreQuiet a.setup x.setup a.first [] a.history x.history) (sym m.2)
+      (subst (λ (x : Requesting). AreQuiet x.setup (new_connection w.responder.part m.0).setup x.first [] x.history []) (sym o.2) (new_quiet (new_requesting o.0).setup (new_connection w.responder.part m.0).setup (new_requesting o.0).first));
+}

@@ -1,0 +1,152 @@
+-- Every command of an honest script that is answered `ok`, and has what it needs, comes to its result.
+use Rattle.std.proofs.Common.{◌≡◌, ℕ, List, [], ◌∷◌, ◌++◌, Bool, true, false, if◌then◌else◌, refl, sym, subst}
+use Rattle.std.proofs.lemmas.Bool.{false≢true}
+use Rattle.requester_machine.specs.Message.{Command}
+use Rattle.spdm_agreement.specs.Configured.{IsConfigured}
+use Rattle.world_machine.specs.Chance.{NoChance}
+use Rattle.world_machine.specs.Happenings.{Entry, Happening}
+use Rattle.world_machine.specs.Happenings.Happening.{Told, Reply, Deliver, Lose, Inject, Pump, Tick, Show}
+use Rattle.world_machine.specs.Setup.{WorldSetup}
+use Rattle.world_machine.specs.Trace.{world_after, world_from}
+use Rattle.world_machine.specs.World.{World, entry_step, new_world}
+use Rattle.spdm_progress.specs.Honest.{AreHonest, HaveNoCommand, IsHonest, NothingWaits, is_command}
+use Rattle.spdm_progress.specs.Scripts.{CanBeDone, HonestScriptsComplete, IsQuietWorld, OfEachCommand, QuietWorldsComplete, WillBeDone, up_to_command}
+use Rattle.spdm_progress.proofs.QuietWorlds.{behind_quiet, from_both}
+use Rattle.spdm_progress.proofs.SessionCompletes.{no_chance_from}
+use Rattle.spdm_progress.proofs.Paragraphs.{Paragraph, paragraph_done, paragraph_quiet, starts_quiet}
+
+-- ---- The entries up to the next command.
+
+abbrev next_part : Bool → Entry → List Entry → List Entry
+next_part b entry entries = if b then [] else entry ∷ up_to_command entries
+
+none_by : (entry : Entry) (entries : List Entry) (b : Bool) → is_command entry.happening ≡ b → HaveNoCommand (up_to_command entries) → HaveNoCommand (next_part b entry entries)
+none_by entry entries true is none = tt
+none_by entry entries false is none = (is, none)
+
+none_yet : (entries : List Entry) → HaveNoCommand (up_to_command entries)
+none_yet [] = tt
+none_yet (entry ∷ entries) = none_by entry entries (is_command entry.happening) refl (none_yet entries)
+
+honest_by : (world : World) (entry : Entry) (entries : List Entry) (b : Bool) → IsHonest world entry.happening → AreHonest (entry_step world entry).after (up_to_command entries) → AreHonest world (next_part b entry entries)
+honest_by world entry entries true one others = tt
+honest_by world entry entries false one others = (one, others)
+
+honest_yet : (world : World) (entries : List Entry) → AreHonest world entries → AreHonest world (up_to_command entries)
+honest_yet world [] honest = tt
+honest_yet world (entry ∷ entries) honest = honest_by world entry entries (is_command entry.happening) honest.0 (honest_yet (entry_step world entry).after entries honest.1)
+
+-- A command comes where no packet waits.
+waits_none : (world : World) (event : Happening) → is_command event ≡ true → IsHonest world event → NothingWaits world
+waits_none world (Told n command) is honest = honest
+waits_none world (Reply n bytes) is honest = absurd (false≢true is)
+waits_none world (Deliver number) is honest = absurd honest
+waits_none world (Lose number) is honest = absurd honest
+waits_none world (Inject bytes) is honest = absurd honest
+waits_none world (Pump count) is honest = absurd (false≢true is)
+waits_none world (Tick seconds) is honest = absurd (false≢true is)
+waits_none world Show is honest = absurd (false≢true is)
+
+idle_by : (world : World) (entry : Entry) (entries : List Entry) (b : Bool) → is_command entry.happening ≡ b → IsHonest world entry.happening → NothingWaits (world_from (entry_step world entry).after (up_to_command entries)) → NothingWaits (world_from world (next_part b entry entries))
+idle_by world entry entries true is honest next = waits_none world entry.happening is honest
+idle_by world entry entries false is honest next = next
+
+-- No packet waits at the next command, or at the end.
+idle_next : (world : World) (entries : List Entry) → AreHonest world entries → NothingWaits (world_from world entries) → NothingWaits (world_from world (up_to_command entries))
+idle_next world [] honest idle = idle
+idle_next world (entry ∷ entries) honest idle = idle_by world entry entries (is_command entry.happening) refl honest.0 (idle_next (entry_step world entry).after entries honest.1 idle)
+
+chance_by : (world : World) (entry : Entry) (entries : List Entry) (b : Bool) → NoChance world.log → NoChance (world_from (entry_step world entry).after (up_to_command entries)).log → NoChance (world_from world (next_part b entry entries)).log
+chance_by world entry entries true now next = now
+chance_by world entry entries false now next = next
+
+chance_next : (world : World) (entries : List Entry) → NoChance (world_from world entries).log → NoChance (world_from world (up_to_command entries)).log
+chance_next world [] chance = chance
+chance_next world (entry ∷ entries) chance =
+    chance_by world entry entries (is_command entry.happening) (no_chance_from world (entry ∷ entries) chance) (chance_next (entry_step world entry).after entries chance)
+
+-- ---- Whole scripts.
+
+module _ (w : WorldSetup) (configured : IsConfigured w) where
+  abbrev Runs : World → List Entry → Type 0
+  Runs world entries = OfEachCommand WillBeDone world entries × IsQuietWorld (world_from world entries)
+
+  -- What is left of an honest script.
+  record AreLeft (before entries : List Entry) : Type 0 where
+    honest : AreHonest (world_after w before) entries
+    still : NothingWaits (world_from (world_after w before) entries)
+    chance : NoChance (world_from (world_after w before) entries).log
+    can : OfEachCommand CanBeDone (world_after w before) entries
+    next : IsQuietWorld (world_from (world_after w before) (up_to_command entries))
+
+  abbrev and_one : List Entry → Entry → List Entry
+  and_one before entry = before ++ entry ∷ []
+
+  abbrev later : List Entry → Entry → World
+  later before entry = (entry_step (world_after w before) entry).after
+
+  one_later : (before : List Entry) (entry : Entry) → world_after w (and_one before entry) ≡ later before entry
+  one_later before entry = from_both (new_world w) before (entry ∷ [])
+
+  left_behind : (before : List Entry) (entry : Entry) (entries : List Entry) → AreLeft before (entry ∷ entries) → IsQuietWorld (world_from (later before entry) (up_to_command entries)) → AreLeft (and_one before entry) entries
+  left_behind before entry entries l quiet =
+      let back = sym (one_later before entry) in
+      record {
+        honest = subst (λ (z : World). AreHonest z entries) back l.honest.1;
+        still = subst (λ (z : World). NothingWaits (world_from z entries)) back l.still;
+        chance = subst (λ (z : World). NoChance (world_from z entries).log) back l.chance;
+        can = subst (λ (z : World). OfEachCommand CanBeDone z entries) back l.can.1;
+        next = subst (λ (z : World). IsQuietWorld (world_from z (up_to_command entries))) back quiet;
+      }
+
+  behind_one : (before : List Entry) (entry : Entry) (entries : List Entry) → Runs (world_after w (and_one before entry)) entries → Runs (later before entry) entries
+  behind_one before entry entries runs = subst (λ (z : World). Runs z entries) (one_later before entry) runs
+
+  abbrev Others : List Entry → Entry → List Entry → Type 0
+  Others before entry entries = AreLeft (and_one before entry) entries → Runs (world_after w (and_one before entry)) entries
+
+  abbrev at_line : ℕ → Happening → Entry
+  at_line line event = record { line = line; happening = event }
+
+  command_runs : (before : List Entry) (line n : ℕ) (command : Command) (entries : List Entry) → Others before (at_line line (Told n command)) entries → AreLeft before (at_line line (Told n command) ∷ entries) → Runs (world_after w before) (at_line line (Told n command) ∷ entries)
+  command_runs before line n command entries others l =
+      let entry = at_line line (Told n command) in
+      let p : Paragraph = record { line = line; n = n; command = command; behind = up_to_command entries } in
+      let none = none_yet entries in
+      let honest = honest_yet (later before entry) entries l.honest.1 in
+      let still = idle_next (later before entry) entries l.honest.1 l.still in
+      let chance = chance_next (later before entry) entries l.chance in
+      let quiet = paragraph_quiet w configured before p l.next none honest still chance l.can.0 in
+      let rest = behind_one before entry entries (others (left_behind before entry entries l quiet)) in
+      ((paragraph_done w configured before p l.next none honest still chance l.can.0, rest.0), rest.1)
+
+  -- What comes behind an event that is no command.
+  other_runs : (before : List Entry) (entry : Entry) (entries : List Entry) → is_command entry.happening ≡ false → Others before entry entries → AreLeft before (entry ∷ entries) → Runs (later before entry) entries
+  other_runs before entry entries other others l =
+      behind_one before entry entries (others (left_behind before entry entries l (subst (λ (b : Bool). IsQuietWorld (world_from (world_after w before) (next_part b entry entries))) other l.next)))
+
+  one_runs : (before : List Entry) (line : ℕ) (event : Happening) (entries : List Entry) → Others before (at_line line event) entries → AreLeft before (at_line line event ∷ entries) → Runs (world_after w before) (at_line line event ∷ entries)
+  one_runs before line (Told n command) entries others l = command_runs before line n command entries others l
+  one_runs before line (Reply n bytes) entries others l = (let k = other_runs before (at_line line (Reply n bytes)) entries refl others l in ((tt, k.0), k.1))
+  one_runs before line (Deliver number) entries others l = (let k = other_runs before (at_line line (Deliver number)) entries refl others l in ((tt, k.0), k.1))
+  one_runs before line (Lose number) entries others l = (let k = other_runs before (at_line line (Lose number)) entries refl others l in ((tt, k.0), k.1))
+  one_runs before line (Inject bytes) entries others l = (let k = other_runs before (at_line line (Inject bytes)) entries refl others l in ((tt, k.0), k.1))
+  one_runs before line (Pump count) entries others l = (let k = other_runs before (at_line line (Pump count)) entries refl others l in ((tt, k.0), k.1))
+  one_runs before line (Tick seconds) entries others l = (let k = other_runs before (at_line line (Tick seconds)) entries refl others l in ((tt, k.0), k.1))
+  one_runs before line Show entries others l = (let k = other_runs before (at_line line Show) entries refl others l in ((tt, k.0), k.1))
+
+  all_run : (entries before : List Entry) → AreLeft before entries → Runs (world_after w before) entries
+  all_run [] before l = (tt, l.next)
+  all_run (entry ∷ entries) before l = one_runs before entry.line entry.happening entries (λ k. all_run entries (and_one before entry) k) l
+
+pub quiet_worlds_complete : QuietWorldsComplete
+quiet_worlds_complete w configured before quiet entries honest still chance can = all_run w configured entries before (record {
+  honest = honest;
+  still = still;
+  chance = chance;
+  can = can;
+  next = behind_quiet (world_after w before) (up_to_command entries) (none_yet entries) (honest_yet (world_after w before) entries honest) quiet;
+})
+
+pub honest_scripts_complete : HonestScriptsComplete
+honest_scripts_complete w configured entries honest still chance can = quiet_worlds_complete w configured [] (starts_quiet w) entries honest still chance can

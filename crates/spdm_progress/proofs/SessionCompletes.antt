@@ -1,0 +1,282 @@
+-- Each command that asks something of an open session comes to its result.
+use Rattle.std.proofs.Common.{◌≡◌, ◌⊎◌, ◌∙◌, ℕ, suc, ◌<◌, ◌≤◌, ◌+◌, ◌*◌, ◌==◌, List, [], ◌∷◌, ◌++◌, length, take, Bool, true, false, nat_lt, not, Option, Some, None, refl, sym, ap, subst, inl, inr, arith}
+use Rattle.std.proofs.Math.Nat.{min-le_left}
+use Rattle.std.proofs.lemmas.Bool.{ltb-false, not-false}
+use Rattle.std.proofs.lemmas.List.{length-take}
+use Rattle.spdm_basis.proofs.Bools.{and_second}
+use Rattle.spdm_grammar.specs.Lines.{Line}
+use Rattle.spdm_grammar.specs.declared.event.Event.{Event}
+use Rattle.spdm_grammar.specs.declared.event.Event.TheVariants as event
+use Rattle.spdm_grammar.specs.declared.event.Finished.{Finished}
+use Rattle.spdm_grammar.specs.declared.event.Finished.TheVariants as finished
+use Rattle.spdm_grammar.specs.declared.phase.Stage.TheVariants as stage
+use Rattle.spdm_machine.specs.Packets.{wear_limit}
+use Rattle.spdm_machine.specs.TagLog.{Log}
+use Rattle.spdm_grammar.specs.Message.ResponseMessage.{EndSessionAck, HeartbeatAck}
+use Rattle.spdm_grammar.specs.Responses.{canonical_response}
+use Rattle.spdm_machine.proofs.Members.{IsIn, some_same}
+use Rattle.requester_machine.specs.Asking.{done}
+use Rattle.requester_machine.specs.Asking.Outcome.{Adds}
+use Rattle.requester_machine.specs.Commands.{command_fault, command_tests, session_in}
+use Rattle.requester_machine.specs.Does.{chosen, command_chosen, requester_asks}
+use Rattle.requester_machine.specs.History as asked
+use Rattle.requester_machine.specs.History.Entry.{Told as WasTold}
+use Rattle.requester_machine.specs.Message.{Command, Sent, body_of}
+use Rattle.requester_machine.specs.Message.Command.{Beat, Connect, End, Measure, Open, Retry, Send, Update}
+use Rattle.requester_machine.specs.Order.{stage_for}
+use Rattle.requester_machine.specs.Requesting as asking
+use Rattle.requester_machine.specs.Requesting.{Requesting, commanded_by, requester_told}
+use Rattle.requester_machine.specs.Session as steps
+use Rattle.requester_machine.specs.Session.{Steps}
+use Rattle.requester_machine.specs.Setup.{ReqSetup}
+use Rattle.requester_machine.proofs.Entries.{test_at, test_is_false}
+use Rattle.requester_machine.proofs.HoldsMade.{session_sizes}
+use Rattle.requester_machine.proofs.HoldsTold.{somewhere}
+use Rattle.responder_machine.specs.History as served
+use Rattle.responder_machine.specs.Responding.{Connection, connection_of}
+use Rattle.responder_machine.specs.Turn.{Turn}
+use Rattle.spdm_basis.specs.declared.session_id.SessionId.{SessionId}
+use Rattle.spdm_progress.specs.Measuring.{measurements_size, number_for}
+use Rattle.transcript.specs.Transcripts.{Negotiation}
+use Rattle.world_machine.specs.Chance.{NoChance}
+use Rattle.world_machine.specs.Happenings.{Entry}
+use Rattle.world_machine.specs.Happenings.Happening.{Pump, Told}
+use Rattle.world_machine.specs.Setup.{WorldSetup}
+use Rattle.world_machine.specs.Trace.{lines_from, world_after, world_from}
+use Rattle.world_machine.specs.World.{World, WorldStep, entry_step, happens, pumps, told_by}
+use Rattle.spdm_progress.specs.Honest.{AreHonest, HaveNoCommand, NothingWaits}
+use Rattle.spdm_progress.specs.InStep.{AreQuiet}
+use Rattle.spdm_progress.specs.SessionCommands.{CanAsk, CompletesQuietly, IsDoneQuietly, IsTold, IsToldQuietly, SessionCommandsComplete, commanding, goes_on, result_of, session_at}
+use Rattle.spdm_progress.proofs.AlikeSessions.{is_kept}
+use Rattle.spdm_progress.proofs.Accepted.{not_worn_told, told_so}
+use Rattle.spdm_progress.proofs.Aside.{IsAside, nothing_aside}
+use Rattle.spdm_progress.proofs.AskedOnce.{CanBeat, CanMeasure, CanSend, IsData, IsMeasured, IsNamed, IsSpdm, beat_asking, beat_last, data_asking, data_last, end_asking, end_last, measure_asking, measure_last}
+use Rattle.spdm_progress.proofs.ManyPackets.{waits_idle}
+use Rattle.spdm_progress.proofs.PacketSteps.{Pair, asker, not_worn, server}
+use Rattle.spdm_progress.proofs.SessionBegins.{AsksOfSession, asked_now, sends, sent_for, shows_at, shows_told, told_is, told_view, view_of}
+use Rattle.spdm_progress.proofs.SessionRounds.{Asking, IsAsked}
+use Rattle.spdm_progress.proofs.SingleRound.{AnswersOnce, AsksOnce, IsLast, Quiet, once_talk}
+use Rattle.spdm_progress.proofs.Talk as talk
+use Rattle.spdm_progress.proofs.Talk.{IsTalk, Stage, begins, begins_with, enough, no_chance_earlier, talk_ends}
+use Rattle.spdm_progress.proofs.Told.{ArePlaced, are_placed, contained, pair_of}
+use Rattle.spdm_progress.proofs.UpdateRounds.{CanUpdate, UpdateDone, UpdateTalkAnswers, UpdateTalkAsks, update_asking, update_talk}
+use Rattle.spdm_progress.proofs.Views.{Shows, View}
+
+-- Nothing agreed by chance at the beginning of what an honest script says.
+pub no_chance_from : (world : World) (entries : List Entry) → NoChance (world_from world entries).log → NoChance world.log
+no_chance_from world [] chance = chance
+no_chance_from world (entry ∷ entries) chance = no_chance_earlier world entry.happening (no_chance_from (entry_step world entry).after entries chance)
+
+-- ---- A talk that a command begins.
+
+-- A pump of 396 packets or more, and nothing else.
+abbrev pub IsLongPump : List Entry → Type 0
+IsLongPump behind = (line : ℕ) × (count : ℕ) × (396 ≤ count) × (behind ≡ record { line = line; happening = Pump count } ∷ [])
+
+-- No packet waits behind these entries, or there was a pump long enough.
+abbrev pub Rests : World → List Entry → Type 0
+Rests world behind = NothingWaits (world_from world behind) ⊎ IsLongPump behind
+
+-- No packet waits, and what stands aside holds.
+abbrev pub Idle : (World → Type 0) → World → Type 0
+Idle Aside world = NothingWaits world × Aside world
+
+module _ (w : WorldSetup) (before : List Entry) (n : ℕ) (a : Requesting) (c : Connection) (command : Command) (is_told : IsTold w before n a c) (line : ℕ) (behind : List Entry) (none : HaveNoCommand behind)
+    (honest : AreHonest (commanding (world_after w before) line n command) behind) (still : Rests (commanding (world_after w before) line n command) behind) (chance : NoChance (world_from (commanding (world_after w before) line n command) behind).log)
+    (Aside : World → Type 0) (aside : IsAside (pair_of n a c) Aside) (beside : Aside (world_after w before)) where
+  abbrev world : World
+  world = world_after w before
+
+  chance_now : NoChance world.log
+  chance_now = no_chance_from world (record { line = line; happening = Told n command } ∷ behind) chance
+
+  pub placed : ArePlaced world n a c
+  placed = are_placed w before n a c is_told.configured chance_now is_told.is_requester is_told.is_connection
+
+  pub one_key : a.setup.psk ≡ c.setup.psk
+  one_key = placed.key
+
+  pub fresh : asking.is_worn a ≡ false
+  fresh = (let life = is_told.life.requester in not_worn (length a.given + a.commands) wear_limit (omega arith))
+
+  abbrev p : Pair
+  p = pair_of n a c
+
+  finished_so : (result : Finished) (id : ℕ) (left : Bool) (later : World) (lines : List Line) → (v : View) → Shows p Aside v [] later → AreQuiet a.setup c.setup a.first v.log v.asked v.served → steps.is_live (steps.session_of id v.asked) ≡ left → IsIn lines (Line.ToRequester n (event.Done result))
+      → IsDoneQuietly n a.setup c.setup result id left later lines × Idle Aside later
+  finished_so result id left later lines v s quiet live told = (record {
+    told = contained lines _ told;
+    requester = asker p v.given v.commands v.asked;
+    is_requester = s.is_requester;
+    connection = server p v.served;
+    is_connection = s.is_connection;
+    requester_setup = refl;
+    responder_setup = refl;
+    quiet = subst (λ (log : Log). AreQuiet a.setup c.setup a.first log v.asked v.served) (sym s.log) quiet;
+    session = live;
+  }, (waits_idle later.sent s.waits, s.aside))
+
+  at_rest : (Asks Answers : Stage) (Done : Log → asked.History → served.History → Type 0) (result : Finished) (is_talk : IsTalk p Asks Answers Done (event.Done result)) (sent : Sent) → requester_told a command ≡ sends a command sent
+      → (begun : talk.Asking p placed.ends Aside aside Asks Answers Done (event.Done result) is_talk (told_by world n (sends a command sent)).after) → begun.more ≤ 2 → Rests (commanding world line n command) behind → NothingWaits (world_from (commanding world line n command) behind)
+  unfolding happens
+  at_rest Asks Answers Done result is_talk sent step begun few (inl idle) = idle
+  at_rest Asks Answers Done result is_talk sent step begun few (inr pump) =
+      let same = told_is world n a command sent is_told.is_requester step in
+      let later = commanding world line n command in
+      let count = pump.1 in
+      subst (λ (entries : List Entry). NothingWaits (world_from later entries)) (sym pump.3)
+      (subst (λ (s : WorldStep). NothingWaits (pumps count s.after).after) (sym same)
+      (enough p placed.ends Aside aside Asks Answers Done (event.Done result) is_talk count (told_by world n (sends a command sent)).after begun few pump.2
+      (subst (λ (s : WorldStep). NoChance (pumps count s.after).after.log) same (subst (λ (entries : List Entry). NoChance (world_from later entries).log) pump.3 chance))))
+
+  -- The talk that the message of the command begins.
+  pub completes_by : (Asks Answers : Stage) (Done : Log → asked.History → served.History → Type 0) (result : Finished) (id : ℕ) (left : Bool) → ((log : Log) (h : asked.History) (g : served.History) → Done log h g → AreQuiet a.setup c.setup a.first log h g × (steps.is_live (steps.session_of id h) ≡ left))
+      → IsTalk p Asks Answers Done (event.Done result) → (more : ℕ) → more ≤ 2 → (sent : Sent) → requester_told a command ≡ sends a command sent
+      → Asks more sent.tag (body_of sent.content) (told_view world a c command sent).log (told_view world a c command sent).asked c.history
+      → IsDoneQuietly n a.setup c.setup result id left (world_from (commanding world line n command) behind) (lines_from (commanding world line n command) behind) × Idle Aside (world_from (commanding world line n command) behind)
+  completes_by Asks Answers Done result id left means is_talk more few sent step asks =
+      let life = is_told.life.requester in
+      let responder_life = is_told.life.responder in
+      let shown = shows_told Aside world n a c aside command sent (shows_at Aside world n a c placed is_told.is_requester is_told.is_connection is_told.idle beside) in
+      let own_life : length (told_view world a c command sent).given + (told_view world a c command sent).commands + 66 * suc more ≤ wear_limit = omega arith in
+      let other_life : length (told_view world a c command sent).received + 66 * suc more ≤ wear_limit = omega arith in
+      let begun = begins p placed.ends Aside aside Asks Answers Done (event.Done result) is_talk more sent (told_view world a c command sent) (told_by world n (sends a command sent)).after shown asks own_life other_life in
+      let rounds = begins_with p placed.ends Aside aside Asks Answers Done (event.Done result) is_talk more sent (told_view world a c command sent) (told_by world n (sends a command sent)).after shown asks own_life other_life in
+      let asking_now = subst (λ (s : WorldStep). talk.Asking p placed.ends Aside aside Asks Answers Done (event.Done result) is_talk s.after) (sym (told_is world n a command sent is_told.is_requester step)) begun in
+      let e = talk_ends p placed.ends Aside aside Asks Answers Done (event.Done result) is_talk (commanding world line n command) behind none honest chance asking_now (at_rest Asks Answers Done result is_talk sent step begun (omega (arith, rounds, few)) still) in
+      let d = means e.0.view.log e.0.view.asked e.0.view.served e.0.done in
+      finished_so result id left (world_from (commanding world line n command) behind) (lines_from (commanding world line n command) behind) e.0.view e.0.shows d.0 d.1 e.1
+
+  -- ---- What is asked of a session.
+
+  module _ (quietly : IsToldQuietly w before n a c command) where
+    pad_short : length (command_chosen a.setup a.history (asking.next_draw a)).pad ≤ 16
+    unfolding chosen
+    pad_short =
+        let short = min-le_left a.setup.pad (length (asking.next_draw a).bytes) in
+        let most = placed.requester.pad in
+        omega (arith, length-take a.setup.pad (asking.next_draw a).bytes, short)
+
+    module _ (id : ℕ) (x : Asking) (one : AsksOfSession command) (named : session_in command ≡ Some id) (plain : stage_for x.ask ≡ stage.Open) (small : length (x.inner (session_at a id)) ≤ 1025)
+        (asks : done a.setup a.history command (command_chosen a.setup a.history (asking.next_draw a)) (asking.next_draw a) ≡ Adds (WasTold command (sent_for a.setup a.history id x (command_chosen a.setup a.history (asking.next_draw a)).pad) (asking.next_draw a))) where
+      abbrev sent : Sent
+      sent = sent_for a.setup a.history id x (command_chosen a.setup a.history (asking.next_draw a)).pad
+
+      asks_so : requester_asks false a.setup a.history command (asking.next_draw a) ≡ Adds (WasTold command sent (asking.next_draw a))
+      asks_so = (told_so a command fresh quietly.accepted).1 ∙ asks
+
+      pub step_so : requester_told a command ≡ sends a command sent
+      step_so = not_worn_told a command fresh ∙ ap (commanded_by a) asks_so
+
+      pub live_so : steps.is_live (session_at a id) ≡ true
+      live_so = somewhere a.setup a.history command (command_chosen a.setup a.history (asking.next_draw a)) id (told_so a command fresh quietly.accepted).0 named
+
+      pub is_asked : (Fit : Steps → Type 0) → Fit (session_at a id) → IsAsked a.setup c.setup a.first id x Fit sent.tag (body_of sent.content) (told_view world a c command sent).log (told_view world a c command sent).asked c.history
+      is_asked Fit fit =
+          asked_now a.setup c.setup a.first id x Fit command one world.log a.history c.history (asking.next_draw a) (command_chosen a.setup a.history (asking.next_draw a)).pad quietly.quiet live_so plain fit (omega (arith, pad_short, small)) asks_so
+
+      -- It takes one round.
+      pub once_completes : (Fit : Steps → Type 0) (Good : Steps → Turn → Type 0) (result : Finished) → IsLast p one_key id x Fit Good (event.Done result) → Fit (session_at a id)
+          → IsDoneQuietly n a.setup c.setup result id (is_kept x.ask) (world_from (commanding world line n command) behind) (lines_from (commanding world line n command) behind) × Idle Aside (world_from (commanding world line n command) behind)
+      once_completes Fit Good result last fit =
+          completes_by (AsksOnce p one_key id x Fit Good (event.Done result)) (AnswersOnce p one_key id x Fit Good (event.Done result)) (Quiet p one_key id x Fit Good (event.Done result)) result id (is_kept x.ask) (λ log h g z. (z.quiet, z.session)) (once_talk p one_key id x Fit Good (event.Done result) last) 0 (omega arith) sent step_so
+          (record { is = is_asked Fit fit })
+
+-- ---- Each command.
+
+-- Such a command says nothing else of its session.
+of_session : (command : Command) → ((j : ℕ) (n : Negotiation) (sent : Sent) (s : Steps) → steps.after_command j n command sent s ≡ steps.with_sent j (Some sent) s) → asked.is_connect command ≡ false → AsksOfSession command
+of_session command by other = record { steps_by = by; no_connect = other }
+
+module _ (w : WorldSetup) (before : List Entry) (n : ℕ) (a : Requesting) (c : Connection) (line : ℕ) (behind : List Entry) (none : HaveNoCommand behind) (Aside : World → Type 0) (aside : IsAside (pair_of n a c) Aside) (beside : Aside (world_after w before)) where
+  abbrev pub After : Command → World
+  After command = commanding (world_after w before) line n command
+
+  -- What is known of what stands behind the command.
+  pub record IsOver (command : Command) : Type 0 where
+    pub told : IsToldQuietly w before n a c command
+    pub honest : AreHonest (After command) behind
+    pub still : Rests (After command) behind
+    pub chance : NoChance (world_from (After command) behind).log
+
+  abbrev pub Result : Command → ℕ → Type 0
+  Result command id = IsDoneQuietly n a.setup c.setup (result_of a c command) id (goes_on command) (world_from (After command) behind) (lines_from (After command) behind) × Idle Aside (world_from (After command) behind)
+
+  no_fault : (command : Command) → IsOver command → command_fault false a.setup a.history command (command_chosen a.setup a.history (asking.next_draw a)) ≡ None
+  no_fault command o = (told_so a command (fresh w before n a c command o.told.now line behind none o.honest o.still o.chance Aside aside beside) o.told.accepted).0
+
+  passed : (command : Command) → IsOver command → (k : ℕ) → test_at k (command_tests a.setup a.history command (command_chosen a.setup a.history (asking.next_draw a))) ≡ false
+  passed command o k = test_is_false false a.setup a.history command (command_chosen a.setup a.history (asking.next_draw a)) (no_fault command o) k
+
+  abbrev pair : Pair
+  pair = pair_of n a c
+
+  sent_data : (id : ℕ) (bytes : List ℕ) → IsOver (Send id bytes) → Result (Send id bytes) id
+  sent_data id bytes o =
+      let command = Send id bytes in
+      let here = placed w before n a c command o.told.now line behind none o.honest o.still o.chance Aside aside beside in
+      let key = one_key w before n a c command o.told.now line behind none o.honest o.still o.chance Aside aside beside in
+      let short = ltb-false 1024 (length bytes) (passed command o 8) in
+      let sid = steps.session_id (session_at a id) in
+      once_completes w before n a c command o.told.now line behind none o.honest o.still o.chance Aside aside beside o.told id (data_asking bytes) (of_session command (λ j n sent s. refl) refl) refl refl (omega arith) refl
+      (CanSend pair key id sid here.requester here.responder bytes) (IsData pair key id sid here.requester here.responder) (finished.Answered sid) (data_last pair key id sid here.requester here.responder bytes) (record { named = refl; short = short })
+
+  sent_beat : (id : ℕ) → IsOver (Beat id) → Result (Beat id) id
+  sent_beat id o =
+      let command = Beat id in
+      let here = placed w before n a c command o.told.now line behind none o.honest o.still o.chance Aside aside beside in
+      let key = one_key w before n a c command o.told.now line behind none o.honest o.still o.chance Aside aside beside in
+      let sid = steps.session_id (session_at a id) in
+      once_completes w before n a c command o.told.now line behind none o.honest o.still o.chance Aside aside beside o.told id beat_asking (of_session command (λ j n sent s. refl) refl) refl refl (omega arith) refl
+      (CanBeat pair key id sid here.requester here.responder) (IsSpdm pair key id sid here.requester here.responder (canonical_response HeartbeatAck)) (finished.Alive sid) (beat_last pair key id sid here.requester here.responder)
+      (record { named = refl; flag = not-false _ (passed command o 5) })
+
+  sent_end : (id : ℕ) → IsOver (End id) → Result (End id) id
+  sent_end id o =
+      let command = End id in
+      let here = placed w before n a c command o.told.now line behind none o.honest o.still o.chance Aside aside beside in
+      let key = one_key w before n a c command o.told.now line behind none o.honest o.still o.chance Aside aside beside in
+      let sid = steps.session_id (session_at a id) in
+      once_completes w before n a c command o.told.now line behind none o.honest o.still o.chance Aside aside beside o.told id end_asking (of_session command (λ j n sent s. refl) refl) refl refl (omega arith) refl
+      (IsNamed pair key id sid here.requester here.responder) (IsSpdm pair key id sid here.requester here.responder (canonical_response EndSessionAck)) (finished.Ended sid) (end_last pair key id sid here.requester here.responder) (record { named = refl })
+
+  sent_measure : (id op : ℕ) → CanAsk a c (Measure (Some id) op) → IsOver (Measure (Some id) op) → Result (Measure (Some id) op) id
+  sent_measure id op can o =
+      let command = Measure (Some id) op in
+      let live = somewhere a.setup a.history command (command_chosen a.setup a.history (asking.next_draw a)) id (no_fault command o) refl in
+      let here = placed w before n a c command o.told.now line behind none o.honest o.still o.chance Aside aside beside in
+      let key = one_key w before n a c command o.told.now line behind none o.honest o.still o.chance Aside aside beside in
+      let sid = steps.session_id (session_at a id) in
+      let sizes = session_sizes a.setup a.history id (record { transfer = (let most = here.requester.sizes.most in let ordered = here.requester.sizes.ordered in omega arith); max = here.requester.sizes.most }) o.told.quiet.made live in
+      once_completes w before n a c command o.told.now line behind none o.honest o.still o.chance Aside aside beside o.told id (measure_asking op) (of_session command (λ j n sent s. refl) refl) refl refl (omega arith) refl
+      (CanMeasure pair key id sid here.requester here.responder op) (IsMeasured pair key id sid here.requester here.responder op) (finished.Measured (number_for c.setup op)) (measure_last pair key id sid here.requester here.responder op)
+      (record { byte = can.0; block = can.1; chosen = and_second _ _ (not-false _ (passed command o 5)); fits = can.2; fits_own = subst (λ (size : ℕ). measurements_size c.setup op ≤ size) sizes.transfer can.2 })
+
+  sent_update : (id : ℕ) (all : Bool) → IsOver (Update id all) → Result (Update id all) id
+  sent_update id all o =
+      let command = Update id all in
+      let here = placed w before n a c command o.told.now line behind none o.honest o.still o.chance Aside aside beside in
+      let key = one_key w before n a c command o.told.now line behind none o.honest o.still o.chance Aside aside beside in
+      let sid = steps.session_id (session_at a id) in
+      let one = of_session command (λ j n sent s. refl) refl in
+      completes_by w before n a c command o.told.now line behind none o.honest o.still o.chance Aside aside beside (UpdateTalkAsks pair key id sid here.requester here.responder all) (UpdateTalkAnswers pair key id sid here.requester here.responder all) (UpdateDone pair key id sid here.requester here.responder all) (finished.Updated sid) id true (λ log h g z. (z.quiet, z.session))
+      (update_talk pair key id sid here.requester here.responder all) 1 (omega arith) _ (step_so w before n a c command o.told.now line behind none o.honest o.still o.chance Aside aside beside o.told id (update_asking all) one refl refl (omega arith) refl)
+      (inl (
+        refl,
+        is_asked w before n a c command o.told.now line behind none o.honest o.still o.chance Aside aside beside o.told id (update_asking all) one refl refl (omega arith) refl (CanUpdate pair key id sid here.requester here.responder all)
+            (record { named = refl; flag = not-false _ (passed command o 5) }),
+      ))
+
+  pub each : (command : Command) (id : ℕ) → CanAsk a c command → session_in command ≡ Some id → IsOver command → Result command id
+  each (Send i bytes) id can named o = subst (Result (Send i bytes)) (some_same i id named) (sent_data i bytes o)
+  each (Beat i) id can named o = subst (Result (Beat i)) (some_same i id named) (sent_beat i o)
+  each (Update i all) id can named o = subst (Result (Update i all)) (some_same i id named) (sent_update i all o)
+  each (Measure (Some i) op) id can named o = subst (Result (Measure (Some i) op)) (some_same i id named) (sent_measure i op can o)
+  each (End i) id can named o = subst (Result (End i)) (some_same i id named) (sent_end i o)
+  each (Measure None op) id can named o = absurd can
+  each Connect id can named o = absurd can
+  each (Open summary) id can named o = absurd can
+  each Retry id can named o = absurd can
+
+pub session_commands_complete : SessionCommandsComplete
+session_commands_complete w before n a c command id told can named line behind none honest still chance = (each w before n a c line behind none (λ later. Unit {0}) (nothing_aside (pair_of n a c)) tt command id can named (record { told = told; honest = honest; still = inl still; chance = chance })).0

@@ -1,0 +1,53 @@
+-- What an open comes to where its messages are delivered honestly. This project's own.
+use Rattle.std.specs.Prelude.{◌≡◌, ◌≢◌, ◌≤◌, ◌+◌, ◌==◌, ◌*◌, ℕ, List, length, Bool, true, false, if◌then◌else◌}
+use Rattle.requester_machine.specs.Commands.{exchange_for}
+use Rattle.requester_machine.specs.Does as asking
+use Rattle.requester_machine.specs.Does.{command_chosen}
+use Rattle.requester_machine.specs.History as asked
+use Rattle.requester_machine.specs.Message.Command.{Open}
+use Rattle.requester_machine.specs.Requesting.{Requesting, next_draw}
+use Rattle.responder_machine.specs.Place as serving
+use Rattle.responder_machine.specs.Responding.{Connection}
+use Rattle.responder_machine.specs.Setup.{RspSetup}
+use Rattle.spdm_basis.specs.Sizes.{hash_size}
+use Rattle.spdm_basis.specs.declared.session_id.SessionId.{SessionId}
+use Rattle.spdm_grammar.specs.Message.{RequestMessage}
+use Rattle.spdm_grammar.specs.Requests.{canonical_request}
+use Rattle.spdm_grammar.specs.declared.event.Finished.TheVariants as finished
+use Rattle.spdm_machine.specs.Terms.{Terms}
+use Rattle.world_machine.specs.Happenings.{Entry}
+use Rattle.world_machine.specs.Setup.{WorldSetup}
+use Rattle.spdm_progress.specs.SessionCommands.{CompletesQuietly, IsToldQuietly}
+
+-- The terms of the connection.
+abbrev pub terms_now : Requesting → Terms
+terms_now a = asked.connection_terms a.history
+
+-- The PSK_EXCHANGE that a requester sends next, for a summary of this kind.
+abbrev pub exchange_now : Requesting → (summary : ℕ) → RequestMessage
+exchange_now a summary = exchange_for a.setup (command_chosen a.setup a.history (next_draw a)) summary
+
+-- PSK_EXCHANGE_RSP has 12 bytes beside the summary, where one is asked for, the context, the opaque data and the verify
+-- data; the summary, the context and the verify data are as long as the hash.
+abbrev pub exchange_rsp_size : RspSetup → Terms → (summary : ℕ) → ℕ
+exchange_rsp_size r terms summary =
+    12 + (if summary == 0 then 0 else hash_size terms.choice.hash) + hash_size terms.choice.hash + length r.opaque + hash_size terms.choice.hash
+
+-- What an open needs. PSK_EXCHANGE, its answer and PSK_FINISH, of 4 bytes and the verify data, fit the transfer sizes of
+-- their receivers, so that they need no chunks; and the responder holds fewer sessions than four.
+pub record CanOpen (a : Requesting) (c : Connection) (summary : ℕ) : Type 0 where
+  pub request_fits : length (canonical_request (exchange_now a summary)) ≤ (terms_now a).common.to_responder.transfer
+  pub answer_fits : exchange_rsp_size c.setup (terms_now a) summary ≤ (terms_now a).common.to_requester.transfer
+  pub finish_fits : 4 + hash_size (terms_now a).choice.hash ≤ (terms_now a).common.to_responder.transfer
+  pub limit : serving.held_of c.history ≢ 4
+
+-- The session that is opened has the least free id of either end.
+abbrev pub opened_id : Requesting → Connection → SessionId
+opened_id a c = record { req = asking.free_id a.history; rsp = serving.free_id c.history }
+
+-- Whatever stands between this command and the next one of an honest script: once no packet waits any more, the session is
+-- open, with this id.
+abbrev pub OpenCompletes : Type 0
+OpenCompletes =
+    (w : WorldSetup) (before : List Entry) (n : ℕ) (a : Requesting) (c : Connection) (summary : ℕ) → IsToldQuietly w before n a c (Open summary) → CanOpen a c summary
+    → CompletesQuietly w before n a c (Open summary) (finished.Opened (opened_id a c)) (asking.free_id a.history) true

@@ -1,0 +1,133 @@
+-- Each command of an honest script comes to its result. This project's own.
+use Rattle.std.specs.Prelude.{◌≡◌, ◌<◌, ◌≤◌, ℕ, List, [], ◌∷◌, if◌then◌else◌, false, Some, None, Contains}
+use Rattle.measurements.specs.Records.{is_missing}
+use Rattle.requester_machine.specs.Message.{Command}
+use Rattle.requester_machine.specs.Message.Command.{Beat, Connect, End, Measure, Open, Retry, Send, Update}
+use Rattle.requester_machine.specs.Requesting.{Requesting, requester_told}
+use Rattle.requester_machine.specs.Setup.{ReqSetup}
+use Rattle.responder_machine.specs.Responding.{Connection, connection_of}
+use Rattle.responder_machine.specs.Setup.{RspSetup, inventory_of}
+use Rattle.spdm_agreement.specs.Configured.{IsConfigured}
+use Rattle.spdm_grammar.specs.Lines.{Line}
+use Rattle.spdm_grammar.specs.declared.event.Event.TheVariants as event
+use Rattle.spdm_grammar.specs.declared.event.Finished.{Finished}
+use Rattle.spdm_grammar.specs.declared.event.Finished.TheVariants as finished
+use Rattle.world_machine.specs.Chance.{NoChance}
+use Rattle.world_machine.specs.Happenings.{Entry, Happening}
+use Rattle.world_machine.specs.Happenings.Happening.{Pump, Told}
+use Rattle.world_machine.specs.Setup.{WorldSetup}
+use Rattle.world_machine.specs.Trace.{lines_from, world_after, world_from}
+use Rattle.world_machine.specs.World.{World, entry_step, happens, new_world, requester_of}
+use Rattle.spdm_progress.specs.Connecting.{CanConnect}
+use Rattle.spdm_progress.specs.Honest.{AreHonest, HaveNoCommand, NothingWaits, is_command}
+use Rattle.spdm_progress.specs.InStep.{AreQuiet}
+use Rattle.spdm_progress.specs.Measuring.{measurements_size}
+use Rattle.spdm_progress.specs.Opening.{CanOpen, opened_id, terms_now}
+use Rattle.spdm_progress.specs.SessionCommands.{CanAsk, CompletesQuietly, IsTold, IsToldQuietly, LivesToAnswer, commanding, result_of}
+
+-- ---- Each command.
+
+-- Whatever came before, a connect leaves two quiet ends, and no session at the requester.
+abbrev pub ConnectsQuietly : Type 0
+ConnectsQuietly =
+    (w : WorldSetup) (before : List Entry) (n : ℕ) (a : Requesting) (c : Connection) → IsTold w before n a c → CanConnect a c
+    → (id : ℕ) → CompletesQuietly w before n a c Connect finished.Connected id false
+
+-- What a command needs beside that it is answered `ok`, so that its messages need no chunks and none is refused: what a
+-- connect and an open need; of measurements that a block which the operation, a byte, names is configured, and that the
+-- answer fits the requester's transfer size.
+abbrev pub CanDo : Requesting → Connection → Command → Type 0
+CanDo a c Connect = CanConnect a c
+CanDo a c (Open summary) = CanOpen a c summary
+CanDo a c (Send id bytes) = CanAsk a c (Send id bytes)
+CanDo a c (Beat id) = CanAsk a c (Beat id)
+CanDo a c (Update id all) = CanAsk a c (Update id all)
+CanDo a c (Measure None op) = (op < 256) × (is_missing op (inventory_of c.setup) ≡ false) × (measurements_size c.setup op ≤ (terms_now a).common.to_requester.transfer)
+CanDo a c (Measure (Some id) op) = CanAsk a c (Measure (Some id) op)
+CanDo a c (End id) = CanAsk a c (End id)
+CanDo a c Retry = Unit {0}
+
+-- What it comes to.
+abbrev pub result_for : Requesting → Connection → Command → Finished
+result_for a c Connect = finished.Connected
+result_for a c (Open summary) = finished.Opened (opened_id a c)
+result_for a c (Send id bytes) = result_of a c (Send id bytes)
+result_for a c (Beat id) = result_of a c (Beat id)
+result_for a c (Update id all) = result_of a c (Update id all)
+result_for a c (Measure id op) = result_of a c (Measure id op)
+result_for a c (End id) = result_of a c (End id)
+result_for a c Retry = finished.Connected
+
+-- The command of requester n is done: it is told this result in these lines, and is quiet again with the responder's
+-- connection.
+pub record IsDone (n : ℕ) (q : ReqSetup) (r : RspSetup) (result : Finished) (world : World) (lines : List Line) : Type 0 where
+  pub told : Contains lines (Line.ToRequester n (event.Done result))
+  pub requester : Requesting
+  pub is_requester : requester_of n world ≡ Some requester
+  pub connection : Connection
+  pub is_connection : connection_of q.eid world.responder.connections ≡ Some connection
+  pub requester_setup : requester.setup ≡ q
+  pub responder_setup : connection.setup ≡ r
+  pub quiet : AreQuiet q r requester.first world.log requester.history connection.history
+
+-- Each command that quiet ends answer `ok` comes to its result. No retry is among them, since nothing is outstanding.
+abbrev pub QuietCommandsComplete : Type 0
+QuietCommandsComplete =
+    (w : WorldSetup) (before : List Entry) (n : ℕ) (a : Requesting) (c : Connection) (command : Command) → IsToldQuietly w before n a c command → CanDo a c command
+    → (line : ℕ) (behind : List Entry) → HaveNoCommand behind → AreHonest (commanding (world_after w before) line n command) behind
+    → NothingWaits (world_from (commanding (world_after w before) line n command) behind) → NoChance (world_from (commanding (world_after w before) line n command) behind).log
+    → IsDone n a.setup c.setup (result_for a c command) (world_from (commanding (world_after w before) line n command) behind) (lines_from (commanding (world_after w before) line n command) behind)
+
+-- A pump of 396 packets or more behind such a command leaves none that waits, so an honest script can always go on. (A
+-- command begins three rounds at most, and a message has at most 66 packets.)
+abbrev pub PumpsAreEnough : Type 0
+PumpsAreEnough =
+    (w : WorldSetup) (before : List Entry) (n : ℕ) (a : Requesting) (c : Connection) (command : Command) → IsToldQuietly w before n a c command → CanDo a c command
+    → (line count : ℕ) → 396 ≤ count → NoChance (happens (commanding (world_after w before) line n command) (Pump count)).after.log → NothingWaits (happens (commanding (world_after w before) line n command) (Pump count)).after
+
+-- ---- Whole scripts.
+
+-- A world is quiet: no packet waits, and each requester is quiet with the responder's connection with it.
+pub record IsQuietWorld (world : World) : Type 0 where
+  pub idle : NothingWaits world
+  pub quiet : (n : ℕ) (a : Requesting) (c : Connection) → requester_of n world ≡ Some a → connection_of a.setup.eid world.responder.connections ≡ Some c → AreQuiet a.setup c.setup a.first world.log a.history c.history
+
+-- The entries up to the next command.
+abbrev pub up_to_command : List Entry → List Entry
+up_to_command [] = []
+up_to_command (entry ∷ entries) = if is_command entry.happening then [] else entry ∷ up_to_command entries
+
+-- What holds of each command in the world in which it stands, with what stands behind it.
+abbrev pub OfEachCommand : (World → (line n : ℕ) → Command → (behind : List Entry) → Type 0) → World → List Entry → Type 0
+OfEachCommand Holds world [] = Unit {0}
+OfEachCommand Holds world (entry ∷ entries) = OfCommand Holds world entry.line entry.happening entries × OfEachCommand Holds (entry_step world entry).after entries
+  where
+    OfCommand : (World → (line n : ℕ) → Command → (behind : List Entry) → Type 0) → World → (line : ℕ) → Happening → List Entry → Type 0
+    OfCommand Holds world line (Told n command) entries = Holds world line n command (up_to_command entries)
+    OfCommand Holds world line _ entries = Unit {0}
+
+-- A command that is answered `ok` has what it needs, and neither end is worn out before it is over.
+abbrev pub CanBeDone : World → (line n : ℕ) → Command → List Entry → Type 0
+CanBeDone world line n command behind =
+    (a : Requesting) (c : Connection) → requester_of n world ≡ Some a → connection_of a.setup.eid world.responder.connections ≡ Some c → (requester_told a command).fault ≡ None
+    → CanDo a c command × LivesToAnswer a world.responder
+
+-- A command that is answered `ok` is done before the next one.
+abbrev pub WillBeDone : World → (line n : ℕ) → Command → List Entry → Type 0
+WillBeDone world line n command behind =
+    (a : Requesting) (c : Connection) → requester_of n world ≡ Some a → connection_of a.setup.eid world.responder.connections ≡ Some c → (requester_told a command).fault ≡ None
+    → IsDone n a.setup c.setup (result_for a c command) (world_from (commanding world line n command) behind) (lines_from (commanding world line n command) behind)
+
+-- From any quiet world on, whatever led to it: where nothing agrees by chance, and each command that is answered `ok` has
+-- what it needs, and no packet waits at the end, each of these commands is done before the next one, and the world is quiet.
+abbrev pub QuietWorldsComplete : Type 0
+QuietWorldsComplete =
+    (w : WorldSetup) → IsConfigured w → (before : List Entry) → IsQuietWorld (world_after w before)
+    → (entries : List Entry) → AreHonest (world_after w before) entries → NothingWaits (world_from (world_after w before) entries) → NoChance (world_from (world_after w before) entries).log
+    → OfEachCommand CanBeDone (world_after w before) entries → OfEachCommand WillBeDone (world_after w before) entries × IsQuietWorld (world_from (world_after w before) entries)
+
+-- So it is with each honest script, since a new world is quiet.
+abbrev pub HonestScriptsComplete : Type 0
+HonestScriptsComplete =
+    (w : WorldSetup) → IsConfigured w → (entries : List Entry) → AreHonest (new_world w) entries → NothingWaits (world_after w entries) → NoChance (world_after w entries).log
+    → OfEachCommand CanBeDone (new_world w) entries → OfEachCommand WillBeDone (new_world w) entries × IsQuietWorld (world_after w entries)
