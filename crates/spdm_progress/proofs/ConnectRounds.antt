@@ -219,7 +219,7 @@ module _ (w : WorldSetup) (before : List Entry) (n : ℕ) (a : Requesting) (c : 
   made = ((fits_always w is_told.configured before (no_chance_from (world_after w before) (record { line = line; happening = Told n Connect } ∷ behind) chance)).asks a (requester_in n (world_after w before) a is_told.is_requester)).made
 
   pub connected : (id : ℕ) → IsDoneQuietly n a.setup c.setup finished.Connected id false (world_from (commanding (world_after w before) line n Connect) behind) (lines_from (commanding (world_after w before) line n Connect) behind)
-      × Idle Aside (world_from (commanding (world_after w before) line n Connect) behind)
+      × Idle (world_after w before) n a Aside (world_from (commanding (world_after w before) line n Connect) behind)
   unfolding steps.session_of
   connected id =
       completes_by w before n a c Connect is_told line behind none honest still chance Aside aside beside (ConnectAsks pair can.offer can.choice talks) (ConnectAnswers pair can.offer can.choice talks) (ConnectDone pair can.offer can.choice talks) finished.Connected id false

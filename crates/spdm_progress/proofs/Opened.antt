@@ -179,7 +179,7 @@ module _ (w : WorldSetup) (before : List Entry) (n : ℕ) (a : Requesting) (c : 
 
   abbrev Result : ℕ → Type 0
   Result id = IsDoneQuietly n a.setup c.setup (finished.Opened (record { req = id; rsp = rid })) id true (world_from (commanding (world_after w before) line n (Open summary)) behind) (lines_from (commanding (world_after w before) line n (Open summary)) behind)
-      × Idle Aside (world_from (commanding (world_after w before) line n (Open summary)) behind)
+      × Idle (world_after w before) n a Aside (world_from (commanding (world_after w before) line n (Open summary)) behind)
 
   done_with : Result f.id
   done_with =

@@ -63,7 +63,7 @@ module _ (w : WorldSetup) (configured : IsConfigured w) (before : List Entry) (p
   Done a c = IsDone p.n a.setup c.setup (result_for a c p.command) (world_behind world p) (lines_behind world p)
 
   accepted : (a : Requesting) (c : Connection) → requester_of p.n world ≡ Some a → connection_of a.setup.eid world.responder.connections ≡ Some c → (requester_told a p.command).fault ≡ None → CanDo a c p.command → LivesToAnswer a world.responder
-      → Done a c × Idle (OthersAreQuiet a.setup.eid) (world_behind world p)
+      → Done a c × Idle world p.n a (OthersAreQuiet a.setup.eid) (world_behind world p)
   accepted a c is connected ok can life =
       let placed = are_placed w before p.n a c configured (no_chance_from world (entries_of p) chance) is connected in
       commands.each w before p.n a c p.line p.behind none (OthersAreQuiet a.setup.eid) (others_aside (pair_of p.n a c) placed.ends.peer) (others_of a.setup.eid world quiet) p.command can (record {
@@ -77,7 +77,7 @@ module _ (w : WorldSetup) (configured : IsConfigured w) (before : List Entry) (p
         chance = chance;
       })
 
-  done_quiet : (a : Requesting) (c : Connection) → Done a c × Idle (OthersAreQuiet a.setup.eid) (world_behind world p) → IsQuietWorld (world_behind world p)
+  done_quiet : (a : Requesting) (c : Connection) → Done a c × Idle world p.n a (OthersAreQuiet a.setup.eid) (world_behind world p) → IsQuietWorld (world_behind world p)
   done_quiet a c x =
       let d = x.0 in
       let b = d.requester in
@@ -87,7 +87,7 @@ module _ (w : WorldSetup) (configured : IsConfigured w) (before : List Entry) (p
       (ap (λ (k : ℕ). connection_of k (world_behind world p).responder.connections) eid ∙ d.is_connection)
       (subst (λ (r : RspSetup). AreQuiet b.setup r b.first (world_behind world p).log b.history e.history) (sym d.responder_setup)
       (subst (λ (q : ReqSetup). AreQuiet q c.setup b.first (world_behind world p).log b.history e.history) (sym d.requester_setup) d.quiet))
-      (subst (λ (k : ℕ). OthersAreQuiet k (world_behind world p)) (sym eid) x.1.1)
+      (subst (λ (k : ℕ). OthersAreQuiet k (world_behind world p)) (sym eid) x.1.aside)
 
   -- ---- Where it is refused, or is for nobody.
 

@@ -64,13 +64,13 @@ module _ (w : WorldSetup) (before : List Entry) (n : ℕ) (a : Requesting) (c : 
   After command = commanding (world_after w before) line n command
 
   abbrev pub Result : Command → Type 0
-  Result command = IsDone n a.setup c.setup (result_for a c command) (world_from (After command) behind) (lines_from (After command) behind) × Idle Aside (world_from (After command) behind)
+  Result command = IsDone n a.setup c.setup (result_for a c command) (world_from (After command) behind) (lines_from (After command) behind) × Idle (world_after w before) n a Aside (world_from (After command) behind)
 
   -- What is told of a session is among it.
   plainly : (command : Command) (result : Finished) (id : ℕ) (left : Bool) → result ≡ result_for a c command
-      → IsDoneQuietly n a.setup c.setup result id left (world_from (After command) behind) (lines_from (After command) behind) × Idle Aside (world_from (After command) behind) → Result command
+      → IsDoneQuietly n a.setup c.setup result id left (world_from (After command) behind) (lines_from (After command) behind) × Idle (world_after w before) n a Aside (world_from (After command) behind) → Result command
   plainly command result id left same x =
-      subst (λ (f : Finished). IsDone n a.setup c.setup f (world_from (After command) behind) (lines_from (After command) behind) × Idle Aside (world_from (After command) behind)) same
+      subst (λ (f : Finished). IsDone n a.setup c.setup f (world_from (After command) behind) (lines_from (After command) behind) × Idle (world_after w before) n a Aside (world_from (After command) behind)) same
       ((record {
         told = x.0.told;
         requester = x.0.requester;
@@ -206,4 +206,4 @@ quiet_commands_complete w before n a c command told can line behind none honest 
 pub pumps_are_enough : PumpsAreEnough
 unfolding happens
 pumps_are_enough w before n a c command told can line count most chance =
-    (each w before n a c line (record { line = line; happening = Pump count } ∷ []) (refl, tt) (λ later. Unit {0}) (nothing_aside (pair_of n a c)) tt command can (record { told = told; honest = (tt, tt); still = inr (line, count, most, refl); chance = chance })).1.0
+    (each w before n a c line (record { line = line; happening = Pump count } ∷ []) (refl, tt) (λ later. Unit {0}) (nothing_aside (pair_of n a c)) tt command can (record { told = told; honest = (tt, tt); still = inr (line, count, most, refl); chance = chance })).1.idle
