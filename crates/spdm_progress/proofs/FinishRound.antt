@@ -1,7 +1,5 @@
 -- PSK_FINISH and its answer, the first round in a session, which opens it.
-use Rattle.std.proofs.Common.{◌≡◌, ◌∙◌, ℕ, suc, ◌<◌, ◌≤◌, ◌+◌, ◌-◌, List, [], ◌∷◌, ◌++◌, length, take, Bool, true, false, not, None, Result, Ok, refl, sym, ap, ap₂, subst, arith, length-append}
-use Rattle.std.proofs.Math.Seq.{take-append_seam}
-use Rattle.std.specs.Prelude.{bytes_eq}
+use Rattle.std.proofs.Common.{◌≡◌, ◌∙◌, ℕ, suc, ◌≤◌, ◌+◌, List, [], ◌∷◌, ◌++◌, length, not, None, Result, Ok, refl, sym, ap, ap₂, subst, arith}
 use Rattle.std.proofs.lemmas.Slice.Eq.{bytes_eq-Decides}
 use Rattle.key_schedule.specs.declared.direction.Direction.TheVariants as direction
 use Rattle.requester_machine.specs.Answers.{is_done}
@@ -15,7 +13,7 @@ use Rattle.requester_machine.specs.Session.{Steps}
 use Rattle.responder_machine.proofs.VerifyLength.{length_verify}
 use Rattle.responder_machine.specs.Answer.{Free}
 use Rattle.responder_machine.specs.Place.{session_place}
-use Rattle.responder_machine.specs.Refusal.{has_pending, is_verify_wrong, stage_allows}
+use Rattle.responder_machine.specs.Refusal.{has_pending, stage_allows}
 use Rattle.responder_machine.specs.Responder.{inner_refusal, inner_reply, session_turn}
 use Rattle.responder_machine.specs.Session as events
 use Rattle.responder_machine.specs.Session.{Events, id_in_record}

@@ -1,5 +1,5 @@
 -- What the two ends make of the two messages of a clear measure.
-use Rattle.std.proofs.Common.{◌&&◌, ◌≡◌, ◌∙◌, ℕ, ◌<◌, ◌≤◌, ◌+◌, ◌==◌, List, [], ◌∷◌, ◌++◌, length, Bool, true, false, Option, Some, None, Result, Ok, refl, sym, ap, subst, arith, length-append}
+use Rattle.std.proofs.Common.{◌≡◌, ◌∙◌, ℕ, ◌<◌, ◌≤◌, ◌+◌, ◌==◌, List, [], ◌∷◌, ◌++◌, length, Bool, true, false, Option, Some, None, Result, Ok, refl, sym, ap, subst, arith, length-append}
 use Rattle.std.specs.Prelude.{if◌then◌else◌}
 use Rattle.measurements.proofs.Lengths.{few}
 use Rattle.measurements.specs.Blocks.{block_of, at_most_one}
@@ -38,21 +38,17 @@ use Rattle.std.specs.Option.{option_or}
 use Rattle.std.specs.Result.{result_ok}
 use Rattle.negotiate.specs.declared.shared.Common.{Common}
 use Rattle.spdm_grammar.specs.declared.event.ReqIgnored.{ReqIgnored}
-use Rattle.spdm_grammar.specs.declared.command_fault.CommandFault.{CommandFault}
 use Rattle.spdm_machine.proofs.Members.{none_some}
-use Rattle.requester_machine.specs.Asking.{asks, asks_by, done}
+use Rattle.requester_machine.specs.Asking.{asks}
 use Rattle.requester_machine.specs.Asking.Outcome.{Adds}
-use Rattle.requester_machine.specs.Commands.{Free, command_fault}
-use Rattle.requester_machine.specs.Does.{requester_asks, command_chosen}
 use Rattle.requester_machine.specs.History.{connection_terms, next_tag}
 use Rattle.requester_machine.specs.History.Entry.{Told, TookClear}
-use Rattle.requester_machine.specs.Message.{Command, Sent}
+use Rattle.requester_machine.specs.Message.{Sent}
 use Rattle.requester_machine.specs.Message.Command.{Measure}
 use Rattle.requester_machine.specs.Requesting.{Requesting, CommandStep, requester_told, commanded_by, is_worn, next_draw}
 use Rattle.requester_machine.specs.Sending.{plain_sent, request_sent}
-use Rattle.requester_machine.specs.Shown.{fault_of}
 use Rattle.spdm_progress.proofs.RequesterStages.{next_small}
-use Rattle.std.specs.Prelude.{bytes_eq, is_none}
+use Rattle.std.specs.Prelude.{bytes_eq}
 use Rattle.std.proofs.lemmas.Bool.{false≢true}
 use Rattle.std.proofs.lemmas.Slice.Eq.{bytes_eq-Decides}
 use Rattle.spdm_grammar.specs.declared.error_code.ErrorCode.{ErrorCode}

@@ -1,5 +1,5 @@
 -- Quiet worlds: what an honest script says between commands leaves them so, and so does a command that is refused.
-use Rattle.std.proofs.Common.{◌≡◌, ◌≢◌, ◌∙◌, ℕ, zero, suc, ◌+◌, ◌==◌, ◌≤◌, List, [], ◌∷◌, ◌++◌, map, find, length, Bool, true, false, cond, Option, Some, None, refl, sym, ap, subst, inl, inr, eq-eqb, eqb-true, arith}
+use Rattle.std.proofs.Common.{◌≡◌, ◌≢◌, ◌∙◌, ℕ, ◌+◌, ◌==◌, ◌≤◌, List, [], ◌∷◌, ◌++◌, map, find, length, Bool, true, false, cond, Option, Some, None, refl, sym, ap, subst, inl, inr, eq-eqb, eqb-true, arith}
 use Rattle.std.proofs.lemmas.Bool.{false≢true}
 use Rattle.spdm_grammar.specs.declared.command_fault.CommandFault.{CommandFault}
 use Rattle.spdm_grammar.specs.declared.heard.ReplyFault.{ReplyFault}
@@ -12,16 +12,13 @@ use Rattle.requester_machine.specs.History.Entry.{Told as WasTold, TookClear, To
 use Rattle.requester_machine.specs.Message.{Command}
 use Rattle.requester_machine.specs.Requesting as asking
 use Rattle.requester_machine.specs.Requesting.{Requesting, CommandStep, commanded_by, requester_told, worn_command}
-use Rattle.requester_machine.specs.Setup.{ReqSetup}
-use Rattle.requester_machine.specs.Shown.{fault_of}
 use Rattle.responder_machine.specs.Responding.{Connection, Responding, connection_of, queues, reply_fault_of, ticks}
-use Rattle.responder_machine.specs.Setup.{RspSetup}
 use Rattle.spdm_agreement.specs.Configured.{IsConfigured, setups_of}
 use Rattle.world_machine.specs.Happenings.{Entry, Happening}
 use Rattle.world_machine.specs.Happenings.Happening.{Told, Reply, Deliver, Lose, Inject, Pump, Tick, Show}
 use Rattle.world_machine.specs.Setup.{WorldSetup}
 use Rattle.world_machine.specs.Trace.{world_after, world_from}
-use Rattle.world_machine.specs.World.{World, entry_step, first_waiting, happens, is_at, replied, requester_of, told, told_by, with_requester, with_sent}
+use Rattle.world_machine.specs.World.{World, entry_step, first_waiting, happens, is_at, replied, requester_of, told_by, with_requester}
 use Rattle.spdm_progress.specs.Honest.{AreHonest, HaveNoCommand, IsHonest, NothingWaits, is_command}
 use Rattle.spdm_progress.specs.InStep.{AreQuiet}
 use Rattle.spdm_progress.specs.Scripts.{HaveTaken, IsQuietWorld}
@@ -210,9 +207,9 @@ told_refused world n a c count most fault few differ k is connected =
     let own = k.1.requesters n a is in
     let other = k.1.responder in (
       quiet_with later n (recounted a count) c differ (ap first_waiting (none_more world.sent) ∙ k.0.idle) now connected (k.0.quiet n a c is connected)
-      (record { quiet = λ m b d other is_b connected_b. k.0.quiet m b d (was_requester m (recounted a count) world later b refl other is_b) connected_b }),
+          (record { quiet = λ m b d other is_b connected_b. k.0.quiet m b d (was_requester m (recounted a count) world later b refl other is_b) connected_b }),
       taken_with later n (recounted a count) (most + 1) differ now (omega (arith, own, few))
-      (record { took = λ m b other is_b. (let least = k.1.requesters m b (was_requester m (recounted a count) world later b refl other is_b) in omega (arith, least)) }) (omega (arith, other)),
+          (record { took = λ m b other is_b. (let least = k.1.requesters m b (was_requester m (recounted a count) world later b refl other is_b) in omega (arith, least)) }) (omega (arith, other)),
     )
 
 pub refused_ready : (world : World) (n : ℕ) (a : Requesting) (c : Connection) (most : ℕ) (step : CommandStep) → IsRefusedStep a step → AllDiffer (map (λ (x : Requesting). x.setup.eid) (told_by world n step).after.requesters) → IsReady most world → requester_of n world ≡ Some a

@@ -1,11 +1,10 @@
 -- Each command that asks something of an open session comes to its result.
-use Rattle.std.proofs.Common.{◌≡◌, ◌⊎◌, ◌∙◌, ℕ, suc, ◌<◌, ◌≤◌, ◌+◌, ◌*◌, ◌==◌, List, [], ◌∷◌, ◌++◌, length, take, Bool, true, false, nat_lt, not, Option, Some, None, refl, sym, ap, subst, inl, inr, arith}
+use Rattle.std.proofs.Common.{◌≡◌, ◌⊎◌, ◌∙◌, ℕ, suc, ◌≤◌, ◌+◌, ◌*◌, List, [], ◌∷◌, length, Bool, true, false, Some, None, refl, sym, ap, subst, inl, inr, arith}
 use Rattle.std.proofs.Math.Nat.{min-le_left}
 use Rattle.std.proofs.lemmas.Bool.{ltb-false, not-false}
 use Rattle.std.proofs.lemmas.List.{length-take}
 use Rattle.spdm_basis.proofs.Bools.{and_second}
 use Rattle.spdm_grammar.specs.Lines.{Line}
-use Rattle.spdm_grammar.specs.declared.event.Event.{Event}
 use Rattle.spdm_grammar.specs.declared.event.Event.TheVariants as event
 use Rattle.spdm_grammar.specs.declared.event.Finished.{Finished}
 use Rattle.spdm_grammar.specs.declared.event.Finished.TheVariants as finished
@@ -28,14 +27,12 @@ use Rattle.requester_machine.specs.Requesting as asking
 use Rattle.requester_machine.specs.Requesting.{Requesting, commanded_by, requester_told}
 use Rattle.requester_machine.specs.Session as steps
 use Rattle.requester_machine.specs.Session.{Steps}
-use Rattle.requester_machine.specs.Setup.{ReqSetup}
 use Rattle.requester_machine.proofs.Entries.{test_at, test_is_false}
 use Rattle.requester_machine.proofs.HoldsMade.{session_sizes}
 use Rattle.requester_machine.proofs.HoldsTold.{somewhere}
 use Rattle.responder_machine.specs.History as served
-use Rattle.responder_machine.specs.Responding.{Connection, connection_of}
+use Rattle.responder_machine.specs.Responding.{Connection}
 use Rattle.responder_machine.specs.Turn.{Turn}
-use Rattle.spdm_basis.specs.declared.session_id.SessionId.{SessionId}
 use Rattle.spdm_progress.specs.Measuring.{measurements_size, number_for}
 use Rattle.transcript.specs.Transcripts.{Negotiation}
 use Rattle.world_machine.specs.Chance.{NoChance}
@@ -46,14 +43,14 @@ use Rattle.world_machine.specs.Trace.{lines_from, world_after, world_from}
 use Rattle.world_machine.specs.World.{World, WorldStep, entry_step, happens, pumps, requester_of, told_by}
 use Rattle.spdm_progress.specs.Honest.{AreHonest, HaveNoCommand, NothingWaits}
 use Rattle.spdm_progress.specs.InStep.{AreQuiet}
-use Rattle.spdm_progress.specs.SessionCommands.{CanAsk, CompletesQuietly, IsDoneQuietly, IsTold, IsToldQuietly, SessionCommandsComplete, commanding, goes_on, result_of, session_at}
+use Rattle.spdm_progress.specs.SessionCommands.{CanAsk, IsDoneQuietly, IsTold, IsToldQuietly, SessionCommandsComplete, commanding, goes_on, result_of, session_at}
 use Rattle.spdm_progress.proofs.AlikeSessions.{is_kept}
 use Rattle.spdm_progress.proofs.Accepted.{not_worn_told, told_so}
 use Rattle.spdm_progress.proofs.Aside.{IsAside, nothing_aside}
 use Rattle.spdm_progress.proofs.AskedOnce.{CanBeat, CanMeasure, CanSend, IsData, IsMeasured, IsNamed, IsSpdm, beat_asking, beat_last, data_asking, data_last, end_asking, end_last, measure_asking, measure_last}
 use Rattle.spdm_progress.proofs.ManyPackets.{waits_idle}
 use Rattle.spdm_progress.proofs.PacketSteps.{Pair, asker, not_worn, server}
-use Rattle.spdm_progress.proofs.SessionBegins.{AsksOfSession, asked_now, sends, sent_for, shows_at, shows_told, told_is, told_view, view_of}
+use Rattle.spdm_progress.proofs.SessionBegins.{AsksOfSession, asked_now, sends, sent_for, shows_at, shows_told, told_is, told_view}
 use Rattle.spdm_progress.proofs.SessionRounds.{Asking, IsAsked}
 use Rattle.spdm_progress.proofs.SingleRound.{AnswersOnce, AsksOnce, IsLast, Quiet, once_talk}
 use Rattle.spdm_progress.proofs.Talk as talk
@@ -114,17 +111,20 @@ module _ (w : WorldSetup) (before : List Entry) (n : ℕ) (a : Requesting) (c : 
 
   finished_so : (result : Finished) (id : ℕ) (left : Bool) (later : World) (lines : List Line) → (v : View) → Shows p Aside v [] later → AreQuiet a.setup c.setup a.first v.log v.asked v.served → steps.is_live (steps.session_of id v.asked) ≡ left → IsIn lines (Line.ToRequester n (event.Done result)) → TakeFew world n a later
       → IsDoneQuietly n a.setup c.setup result id left later lines × Idle world n a Aside later
-  finished_so result id left later lines v s quiet live told takes = (record {
-    told = contained lines _ told;
-    requester = asker p v.given v.commands v.asked;
-    is_requester = s.is_requester;
-    connection = server p v.served;
-    is_connection = s.is_connection;
-    requester_setup = refl;
-    responder_setup = refl;
-    quiet = subst (λ (log : Log). AreQuiet a.setup c.setup a.first log v.asked v.served) (sym s.log) quiet;
-    session = live;
-  }, record { idle = waits_idle later.sent s.waits; aside = s.aside; takes = takes })
+  finished_so result id left later lines v s quiet live told takes = (
+    record {
+      told = contained lines _ told;
+      requester = asker p v.given v.commands v.asked;
+      is_requester = s.is_requester;
+      connection = server p v.served;
+      is_connection = s.is_connection;
+      requester_setup = refl;
+      responder_setup = refl;
+      quiet = subst (λ (log : Log). AreQuiet a.setup c.setup a.first log v.asked v.served) (sym s.log) quiet;
+      session = live;
+    },
+    record { idle = waits_idle later.sent s.waits; aside = s.aside; takes = takes },
+  )
 
   at_rest : (most : ℕ) (within : most ≤ wear_limit) (Asks Answers : Stage) (Done : Log → asked.History → served.History → Type 0) (result : Finished) (is_talk : IsTalk p Asks Answers Done (event.Done result)) (sent : Sent) → requester_told a command ≡ sends a command sent
       → (begun : talk.Asking most within p placed.ends Aside aside Asks Answers Done (event.Done result) is_talk (told_by world n (sends a command sent)).after) → begun.more ≤ 2 → Rests (commanding world line n command) behind → NothingWaits (world_from (commanding world line n command) behind)
@@ -172,8 +172,8 @@ module _ (w : WorldSetup) (before : List Entry) (n : ℕ) (a : Requesting) (c : 
       let d = means e.0.view.log e.0.view.asked e.0.view.served e.0.done in
       finished_so result id left later (lines_from (commanding world line n command) behind) e.0.view e.0.shows d.0 d.1 e.1
       (λ most within own other.
-          let f = runs most within own other Asks Answers Done result is_talk more few sent step asks in
-          taken_so most later f.0.view f.0.shows f.0.life f.0.responder_life)
+      let f = runs most within own other Asks Answers Done result is_talk more few sent step asks in
+      taken_so most later f.0.view f.0.shows f.0.life f.0.responder_life)
 
   -- ---- What is asked of a session.
 

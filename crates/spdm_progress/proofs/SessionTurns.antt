@@ -1,45 +1,36 @@
 -- What a responder makes of each thing that is asked of an open session, and the requester of its answer.
-use Rattle.std.proofs.Common.{◌≡◌, ◌≢◌, ◌∙◌, ℕ, suc, ◌<◌, ◌≤◌, ◌+◌, ◌%◌, ◌==◌, ◌&&◌, ◌||◌, not, List, [], ◌∷◌, length, drop, Bool, true, false, nat_lt, Option, Some, None, Result, Ok, refl, sym, ap, ap₂, subst, arith, eq-eqb}
-use Rattle.std.specs.Prelude.{slice_index, if◌then◌else◌}
-use Rattle.spdm_basis.specs.Tests.{first_of_tests}
+use Rattle.std.proofs.Common.{◌≡◌, ◌≢◌, ◌∙◌, ℕ, suc, ◌<◌, ◌≤◌, ◌+◌, ◌&&◌, ◌||◌, not, List, ◌∷◌, length, Bool, true, false, nat_lt, None, Result, Ok, refl, sym, ap, subst, arith}
 use Rattle.spdm_grammar.specs.Message.{RequestMessage, ResponseMessage}
 use Rattle.spdm_grammar.specs.Message.RequestMessage.{EndSession, GetMeasurements, Heartbeat, KeyUpdate}
-use Rattle.spdm_grammar.specs.Message.ResponseMessage.{EndSessionAck, HeartbeatAck, KeyUpdateAck, Measurements}
-use Rattle.spdm_grammar.specs.Requests.{canonical_request, FitsRequest, IsSoundRequest}
-use Rattle.spdm_grammar.specs.Responses.{canonical_response, response_reading, FitsResponse, IsSoundResponse}
-use Rattle.spdm_grammar.specs.declared.error_code.ErrorCode.{ErrorCode}
-use Rattle.spdm_grammar.specs.declared.event.BadReply.{BadReply}
-use Rattle.spdm_grammar.specs.declared.event.Event.TheVariants as event
-use Rattle.spdm_grammar.specs.declared.event.Finished.TheVariants as finished
+use Rattle.spdm_grammar.specs.Message.ResponseMessage.{EndSessionAck, HeartbeatAck, KeyUpdateAck}
+use Rattle.spdm_grammar.specs.Requests.{canonical_request}
+use Rattle.spdm_grammar.specs.Responses.{canonical_response, response_reading}
 use Rattle.spdm_grammar.specs.declared.malformed.Malformed.{Malformed}
 use Rattle.spdm_grammar.specs.declared.names.request_code.TheConstants.{END_SESSION, GET_MEASUREMENTS, HEARTBEAT, KEY_UPDATE}
 use Rattle.spdm_grammar.specs.declared.phase.Stage.{Stage}
 use Rattle.spdm_grammar.specs.declared.phase.Stage.TheVariants as stage
 use Rattle.spdm_machine.specs.Terms.{Terms, hash_len}
-use Rattle.requester_machine.specs.Answers.{is_done}
 use Rattle.requester_machine.specs.Commands.{Free as AskerFree}
 use Rattle.requester_machine.specs.History as asked
 use Rattle.requester_machine.specs.History.{Led}
 use Rattle.requester_machine.specs.History.Effect.{Grants}
-use Rattle.requester_machine.specs.InnerMessages.{Came, data_led, echoes, inner_fault, inner_led, inner_led_by, message_in, message_led, read_led, update_led, verified_led}
+use Rattle.requester_machine.specs.InnerMessages.{Came, data_led, inner_fault, inner_led, inner_led_by, message_led, read_led}
 use Rattle.requester_machine.specs.Message.{Ask}
-use Rattle.requester_machine.specs.Message.Ask.{AskBeat, AskData, AskEnd, AskMeasure, AskUpdate, AskVerify}
-use Rattle.requester_machine.specs.Sending.{inner_data, inner_request, operation_of}
+use Rattle.requester_machine.specs.Sending.{inner_data, inner_request}
 use Rattle.requester_machine.specs.Session as steps
 use Rattle.requester_machine.specs.Setup.{ReqSetup}
 use Rattle.responder_machine.specs.Answer.{Free, answer_of}
 use Rattle.responder_machine.specs.Handling.{goes_large, turn_of}
-use Rattle.responder_machine.specs.Place.{Place, place_terms, session_place}
+use Rattle.responder_machine.specs.Place.{session_place}
 use Rattle.responder_machine.specs.Refusal.{fits_stage, has_pending, is_answer_too_long, lacks_flag, stage_allows}
-use Rattle.responder_machine.specs.Responder.{data_turn, inner_refusal, inner_reply, session_turn, session_turn_by}
+use Rattle.responder_machine.specs.Responder.{data_turn, inner_refusal, session_turn, session_turn_by}
 use Rattle.responder_machine.specs.Session as events
 use Rattle.responder_machine.specs.Session.{Events}
 use Rattle.responder_machine.specs.Setup.{RspSetup, inventory_of}
-use Rattle.responder_machine.specs.Turn.{Turn, is_data}
+use Rattle.responder_machine.specs.Turn.{Turn}
 use Rattle.measurements.specs.Records.{is_missing}
 use Rattle.spdm_progress.proofs.MeasureStages.{measures_flag}
 use Rattle.spdm_progress.proofs.OnePacket.{not_longer, positive}
-use Rattle.spdm_progress.proofs.RequesterStages.{reads}
 use Rattle.spdm_progress.proofs.ResponderStages.{both_short}
 use Rattle.spdm_progress.proofs.ResponderTurns.{read_at, taken_at, taken_turn}
 

@@ -1,7 +1,6 @@
 -- A pair of ends as a world shows it, and what one packet of a body of any length makes of it.
-use Rattle.std.proofs.Common.{◌≡◌, ◌≢◌, ◌∙◌, ℕ, suc, ◌<◌, ◌+◌, ◌==◌, ◌||◌, List, [], ◌∷◌, ◌++◌, length, drop, find, Bool, true, false, not, Option, Some, None, Result, Ok, unwrap_or, refl, sym, ap, subst, inl, arith, eq-eqb}
+use Rattle.std.proofs.Common.{◌≡◌, ◌∙◌, ℕ, suc, ◌<◌, ◌+◌, ◌==◌, ◌||◌, List, [], ◌∷◌, ◌++◌, length, drop, find, Bool, true, false, not, Option, Some, Result, Ok, unwrap_or, refl, sym, ap, subst, inl, arith, eq-eqb}
 use Rattle.std.specs.Prelude.{if◌then◌else◌}
-use Rattle.std.proofs.lemmas.Bool.{ne_eqb}
 use Rattle.mctp_framing.proofs.Packets.{packets_from, no_packets_from}
 use Rattle.mctp_framing.specs.Cutting.{RouteFields, packet_count}
 use Rattle.mctp_framing.specs.Gathering.{Gathered}
@@ -10,7 +9,6 @@ use Rattle.mctp_framing.specs.Packet.{PacketFields, spelled_packet, parsed}
 use Rattle.spdm_basis.specs.declared.PacketFault.{PacketFault}
 use Rattle.spdm_basis.specs.declared.DropCause.TheVariants.{NotOurs}
 use Rattle.spdm_grammar.specs.Lines.{Line}
-use Rattle.spdm_grammar.specs.declared.event.Event.{Event}
 use Rattle.spdm_grammar.specs.declared.event.Event.TheVariants as event
 use Rattle.spdm_grammar.specs.declared.heard.Heard.TheVariants as heard
 use Rattle.spdm_grammar.specs.declared.heard.RspIgnored.TheVariants as ignored
@@ -32,7 +30,7 @@ use Rattle.responder_machine.specs.ResponderLog as served_log
 use Rattle.responder_machine.specs.Responding as serving
 use Rattle.responder_machine.specs.Responding.{Connection, Responding, RspStep, answers, connection_of, responder_hears}
 use Rattle.responder_machine.specs.Setup.{RspPart}
-use Rattle.world_machine.specs.World.{World, WorldStep, first_waiting, is_at, number_at, packet_of, requester_of, given, given_to_requester, given_to_responder, with_sent, without_waiting, delivers}
+use Rattle.world_machine.specs.World.{World, WorldStep, is_at, number_at, packet_of, requester_of, given, given_to_requester, given_to_responder, with_sent, without_waiting, delivers}
 use Rattle.spdm_progress.proofs.Aside.{IsAside}
 use Rattle.spdm_progress.proofs.Between.{IsStill}
 use Rattle.spdm_progress.proofs.ComingSteps.{gathers_as, to_requester}
@@ -41,7 +39,6 @@ use Rattle.spdm_progress.proofs.ManyPackets.{Came, FirstWaits, IsBody, first_wai
 use Rattle.spdm_progress.proofs.OnePacket.{not_longer, route_to}
 use Rattle.spdm_progress.proofs.PacketSteps.{Pair, AreEnds, asker, either_first, not_worn, server}
 use Rattle.spdm_progress.proofs.Places.{found_new, number_new, of_new, of_same}
-use Rattle.spdm_progress.proofs.StillKept.{KeepsAlike}
 use Rattle.spdm_progress.proofs.Waiting.{none_more}
 
 -- What two ends were given and hold, and the tags that all ends computed and compared.

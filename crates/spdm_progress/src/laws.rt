@@ -4,8 +4,11 @@ ghost use Rattle.spdm_progress.specs.Connecting.{ConnectCompletes, EachIsConnect
 ghost use Rattle.spdm_progress.specs.Measuring.{ConnectedCanMeasure, MeasureCompletes};
 ghost use Rattle.spdm_progress.specs.Opening.{OpenCompletes};
 ghost use Rattle.spdm_progress.specs.Scripts.{
-    ConnectsQuietly, HonestScriptsComplete, PumpsAreEnough, QuietCommandsComplete,
-    QuietWorldsComplete,
+  ConnectsQuietly,
+  HonestScriptsComplete,
+  PumpsAreEnough,
+  QuietCommandsComplete,
+  QuietWorldsComplete,
 };
 ghost use Rattle.spdm_progress.specs.SessionCommands.{SessionCommandsComplete};
 
