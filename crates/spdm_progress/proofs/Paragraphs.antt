@@ -1,5 +1,5 @@
 -- A paragraph: a command that is told in a quiet world, and what stands behind it up to the next one.
-use Rattle.std.proofs.Common.{◌≡◌, ◌∙◌, ◌==◌, ◌≤◌, ◌+◌, ℕ, List, [], ◌∷◌, ◌++◌, map, length, Option, Some, None, refl, sym, ap, subst, inl, arith}
+use Rattle.std.proofs.Common.{◌≡◌, ◌∙◌, ◌==◌, ◌≤◌, ◌+◌, ℕ, List, [], ◌∷◌, ◌++◌, map, length, Option, Some, None, refl, sym, ap, subst, arith}
 use Rattle.std.proofs.lemmas.Bool.{false≢true}
 use Rattle.spdm_grammar.specs.declared.command_fault.CommandFault.{CommandFault}
 use Rattle.spdm_grammar.specs.Lines.{Line}
@@ -18,7 +18,7 @@ use Rattle.world_machine.specs.Happenings.Happening.{Told}
 use Rattle.world_machine.specs.Setup.{WorldSetup}
 use Rattle.world_machine.specs.Trace.{lines_from, world_after, world_from}
 use Rattle.world_machine.specs.World.{World, happens, new_world, requester_of, told}
-use Rattle.spdm_progress.specs.Honest.{AreHonest, HaveNoCommand, NothingWaits}
+use Rattle.spdm_progress.specs.Honest.{AreHonest, HaveNoCommand}
 use Rattle.spdm_progress.specs.InStep.{AreQuiet}
 use Rattle.spdm_progress.specs.Scripts.{CanDo, HaveTaken, IsDone, IsQuietWorld, result_for}
 use Rattle.spdm_progress.specs.SessionCommands.{LivesToAnswer, commanding}
@@ -28,7 +28,7 @@ use Rattle.spdm_agreement.proofs.Worlds.AllEvents.{requester_in}
 use Rattle.spdm_progress.proofs.Places.{AllDiffer}
 use Rattle.spdm_progress.proofs.QuietCommands as commands
 use Rattle.spdm_progress.proofs.QuietWorlds.{IsReady, OthersTook, always_differ, behind_ready, from_both, more_taken, others_of, others_took, quiet_with, refused_ready, refused_step, taken_with}
-use Rattle.spdm_progress.proofs.SessionCompletes.{Idle, no_chance_from}
+use Rattle.spdm_progress.proofs.SessionCompletes.{Idle, Rests, no_chance_from}
 use Rattle.spdm_progress.proofs.Told.{are_placed, pair_of}
 
 -- A command for requester n, with the number of its line, and what stands behind it up to the next command.
@@ -52,7 +52,7 @@ abbrev pub lines_behind : World → Paragraph → List Line
 lines_behind world p = lines_from (told_in world p) p.behind
 
 module _ (w : WorldSetup) (configured : IsConfigured w) (before : List Entry) (p : Paragraph) (most : ℕ) (room : most + 199 ≤ wear_limit) (ready : IsReady most (world_after w before)) (none : HaveNoCommand p.behind)
-    (honest : AreHonest (told_in (world_after w before) p) p.behind) (still : NothingWaits (world_behind (world_after w before) p)) (chance : NoChance (world_behind (world_after w before) p).log) where
+    (honest : AreHonest (told_in (world_after w before) p) p.behind) (still : Rests (told_in (world_after w before) p) p.behind) (chance : NoChance (world_behind (world_after w before) p).log) where
   abbrev world : World
   world = world_after w before
 
@@ -93,7 +93,7 @@ module _ (w : WorldSetup) (configured : IsConfigured w) (before : List Entry) (p
           accepted = ok;
         };
         honest = honest;
-        still = inl still;
+        still = still;
         chance = chance;
       })
 
@@ -103,7 +103,7 @@ module _ (w : WorldSetup) (configured : IsConfigured w) (before : List Entry) (p
       let b = d.requester in
       let e = d.connection in
       let eid = ap (λ (q : ReqSetup). q.eid) d.requester_setup in
-      quiet_with (world_behind world p) p.n b e differ_then still d.is_requester
+      quiet_with (world_behind world p) p.n b e differ_then x.1.idle d.is_requester
       (ap (λ (k : ℕ). connection_of k (world_behind world p).responder.connections) eid ∙ d.is_connection)
       (subst (λ (r : RspSetup). AreQuiet b.setup r b.first (world_behind world p).log b.history e.history) (sym d.responder_setup)
       (subst (λ (q : ReqSetup). AreQuiet q c.setup b.first (world_behind world p).log b.history e.history) (sym d.requester_setup) d.quiet))

@@ -1,5 +1,5 @@
 -- Every command of an honest script that is answered `ok`, and has what it needs, comes to its result.
-use Rattle.std.proofs.Common.{◌≡◌, ◌≤◌, ◌+◌, ◌*◌, ℕ, List, [], ◌∷◌, ◌++◌, length, Bool, true, false, if◌then◌else◌, refl, sym, subst, arith}
+use Rattle.std.proofs.Common.{◌≡◌, ◌≤◌, ◌+◌, ◌*◌, ℕ, List, [], ◌∷◌, ◌++◌, length, Bool, true, false, if◌then◌else◌, refl, sym, subst, inl, arith}
 use Rattle.std.proofs.lemmas.Bool.{false≢true}
 use Rattle.requester_machine.specs.Message.{Command}
 use Rattle.spdm_agreement.specs.Configured.{IsConfigured}
@@ -122,9 +122,9 @@ module _ (w : WorldSetup) (configured : IsConfigured w) where
       let chance = chance_next (later before entry) entries l.chance in
       let all = l.room in
       let room : most + 199 ≤ wear_limit = omega (arith, all) in
-      let ready = paragraph_ready w configured before p most room l.next none honest still chance l.can.0 in
+      let ready = paragraph_ready w configured before p most room l.next none honest (inl still) chance l.can.0 in
       let rest = behind_one before entry entries (others (most + 199) (left_behind most (most + 199) (omega arith) before entry entries l ready)) in
-      ((paragraph_done w configured before p most room l.next none honest still chance l.can.0, rest.0), rest.1)
+      ((paragraph_done w configured before p most room l.next none honest (inl still) chance l.can.0, rest.0), rest.1)
 
   -- What comes behind an event that is no command.
   other_runs : (most : ℕ) (before : List Entry) (entry : Entry) (entries : List Entry) → is_command entry.happening ≡ false → Others before entry entries → AreLeft most before (entry ∷ entries) → Runs (later before entry) entries

@@ -138,3 +138,24 @@ abbrev pub HonestScriptsComplete : Type 0
 HonestScriptsComplete =
     (w : WorldSetup) → IsConfigured w → (entries : List Entry) → length entries ≤ 2 ^ 32 → AreHonest (new_world w) entries → NothingWaits (world_after w entries) → NoChance (world_after w entries).log
     → OfEachCommand CanBeDone (new_world w) entries → OfEachCommand WillBeDone (new_world w) entries × IsQuietWorld (world_after w entries)
+
+-- ---- Scripts that are honest by their form.
+
+-- A command for requester n, and a pump behind it, each with the number of its line.
+pub record Order : Type 0 where
+  pub line : ℕ
+  pub n : ℕ
+  pub command : Command
+  pub pump_line : ℕ
+
+-- Each command has a pump of 396 packets behind it.
+abbrev pub with_pumps : List Order → List Entry
+with_pumps [] = []
+with_pumps (o ∷ orders) = record { line = o.line; happening = Told o.n o.command } ∷ record { line = o.pump_line; happening = Pump 396 } ∷ with_pumps orders
+
+-- Such a script is honest, and no packet waits at its end, where nothing agrees by chance and each command that is answered
+-- `ok` has what it needs. So there is an honest script for any such commands.
+abbrev pub PumpedScriptsAreHonest : Type 0
+PumpedScriptsAreHonest =
+    (w : WorldSetup) → IsConfigured w → (orders : List Order) → length orders ≤ 2 ^ 32 → NoChance (world_after w (with_pumps orders)).log
+    → OfEachCommand CanBeDone (new_world w) (with_pumps orders) → AreHonest (new_world w) (with_pumps orders) × NothingWaits (world_after w (with_pumps orders))

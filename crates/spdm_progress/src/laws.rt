@@ -6,6 +6,7 @@ ghost use Rattle.spdm_progress.specs.Opening.{OpenCompletes};
 ghost use Rattle.spdm_progress.specs.Scripts.{
   ConnectsQuietly,
   HonestScriptsComplete,
+  PumpedScriptsAreHonest,
   PumpsAreEnough,
   QuietCommandsComplete,
   QuietWorldsComplete,
@@ -82,4 +83,10 @@ pub fn quiet_worlds_complete()
 /// So it is with each honest script from its beginning on.
 pub fn honest_scripts_complete()
     ensures { HonestScriptsComplete }
+{}
+
+/// For any commands there is such a script: it is honest where each command has a pump of 396
+/// packets behind it.
+pub fn pumped_scripts_are_honest()
+    ensures { PumpedScriptsAreHonest }
 {}
