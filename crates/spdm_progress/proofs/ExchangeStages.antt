@@ -21,7 +21,7 @@ use Rattle.responder_machine.specs.Turn.{Turn}
 use Rattle.running_hash.specs.Hash.{hash_of}
 use Rattle.spdm_agreement.specs.Configured.{IsResponder}
 use Rattle.spdm_agreement.proofs.Responder.Exchange.{answer_parts, before_verify, front_of, length_summary, own_verify}
-use Rattle.spdm_basis.proofs.Bools.{and_second}
+use Rattle.spdm_basis.proofs.Bools.{and_second, lt_false}
 use Rattle.spdm_basis.specs.Sizes.{hash_size}
 use Rattle.spdm_basis.specs.declared.hash_alg.HashAlg.{HashAlg}
 use Rattle.spdm_basis.specs.declared.hash_alg.HashAlg.TheVariants.{Sha256, Sha384}
@@ -41,7 +41,6 @@ use Rattle.spdm_machine.specs.Sessions.{id_in_exchange}
 use Rattle.spdm_machine.specs.Terms.{Terms}
 use Rattle.transcript.specs.Transcripts.{vca_of, without_verify}
 use Rattle.spdm_progress.specs.Opening.{exchange_rsp_size}
-use Rattle.spdm_progress.proofs.OnePacket.{not_longer}
 use Rattle.spdm_progress.proofs.ResponderStages.{Takes, adds, not_large, not_too_long}
 use Rattle.spdm_progress.proofs.ResponderTurns.{read_at, taken_at, taken_turn}
 
@@ -198,8 +197,8 @@ module _ (r : RspSetup) (g : served.History) (d : Draw) (x : ExchangeMessage) wh
     taken phase fits hint summary takes limit =
         taken_at r (clear_place g) m f (PskExchange x) read refl
         (record {
-          long = not_longer (length m) 4 (omega (arith, exchange_length x));
-          short = not_longer r.transfer (length m) fits;
+          long = lt_false (length m) 4 (omega (arith, exchange_length x));
+          short = lt_false r.transfer (length m) fits;
           known = refl;
           outside = refl;
           whole = refl;

@@ -1,5 +1,6 @@
 -- An open that is told to a quiet requester ends with an open session.
 use Rattle.std.proofs.Common.{◌≡◌, ◌≢◌, ◌∙◌, ℕ, ◌<◌, ◌≤◌, ◌+◌, ◌^◌, ◌==◌, ◌&&◌, List, ◌∷◌, length, Bool, true, false, not, None, refl, sym, ap, subst, inl, arith, eq-eqb}
+use Rattle.spdm_basis.proofs.Bools.{lt_false}
 use Rattle.std.specs.Prelude.{if◌then◌else◌}
 use Rattle.std.proofs.lemmas.Bool.{false≢true, not-false}
 use Rattle.negotiate.specs.declared.shared.Sizes.{Sizes}
@@ -45,7 +46,6 @@ use Rattle.spdm_progress.specs.Honest.{AreHonest, HaveNoCommand}
 use Rattle.spdm_progress.specs.Opening.{CanOpen, OpenCompletes, exchange_rsp_size}
 use Rattle.spdm_progress.specs.SessionCommands.{IsDoneQuietly, IsToldQuietly, commanding}
 use Rattle.spdm_progress.proofs.Accepted.{not_worn_told, told_so}
-use Rattle.spdm_progress.proofs.OnePacket.{not_longer}
 use Rattle.spdm_progress.proofs.OpenRounds.{CanExchange, OpenDone, OpenTalkAnswers, OpenTalkAsks, open_talk}
 use Rattle.spdm_progress.proofs.PacketSteps.{Pair}
 use Rattle.spdm_progress.proofs.SessionCompletes.{Idle, Rests, completes_by, fresh, no_chance_from, placed}
@@ -123,7 +123,7 @@ module _ (w : WorldSetup) (before : List Entry) (n : ℕ) (a : Requesting) (c : 
   asks =
       accepted.1
       ∙ ap (λ (b : Bool). Adds (WasTold (Open summary) (if b then piece_sent (asked.connection_terms a.history).common a.history (PskExchange x) (asked.next_handle a.history) 0 else plain_sent a.history (PskExchange x)) d))
-      (not_longer (asked.connection_terms a.history).common.to_responder.transfer (length (canonical_request (PskExchange x))) can.request_fits)
+      (lt_false (asked.connection_terms a.history).common.to_responder.transfer (length (canonical_request (PskExchange x))) can.request_fits)
 
   own_context : f.context ≡ context_of (asked.connection_terms a.history).choice.hash d
   unfolding chosen

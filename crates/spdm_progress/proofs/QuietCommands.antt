@@ -3,7 +3,7 @@ use Rattle.std.proofs.Common.{◌≡◌, ◌∙◌, ℕ, ◌≤◌, List, [], �
 use Rattle.std.specs.Prelude.{if◌then◌else◌}
 use Rattle.std.proofs.lemmas.Bool.{false≢true, not-false}
 use Rattle.negotiate.specs.declared.shared.Sizes.{Sizes}
-use Rattle.spdm_basis.proofs.Bools.{and_second}
+use Rattle.spdm_basis.proofs.Bools.{and_second, lt_false}
 use Rattle.spdm_grammar.specs.Message.RequestMessage.{GetMeasurements}
 use Rattle.spdm_grammar.specs.declared.event.Finished.{Finished}
 use Rattle.spdm_grammar.specs.declared.event.Finished.TheVariants as finished
@@ -48,7 +48,6 @@ use Rattle.spdm_progress.proofs.Aside.{IsAside, nothing_aside}
 use Rattle.spdm_progress.proofs.ConnectRounds as connects
 use Rattle.spdm_progress.proofs.MeasureRound as measures
 use Rattle.spdm_progress.proofs.MeasureStages.{CanServe, made_again}
-use Rattle.spdm_progress.proofs.OnePacket.{not_longer}
 use Rattle.spdm_progress.proofs.Opened as opens
 use Rattle.spdm_progress.proofs.PacketSteps.{Pair}
 use Rattle.spdm_progress.proofs.SessionCompletes as sessions
@@ -155,7 +154,7 @@ module _ (w : WorldSetup) (before : List Entry) (n : ℕ) (a : Requesting) (c : 
         let room = there in
         accepted.1
         ∙ ap (λ (b : Bool). Adds (WasTold command (if b then piece_sent (asked.connection_terms a.history).common a.history (GetMeasurements op) (asked.next_handle a.history) 0 else plain_sent a.history (GetMeasurements op)) d))
-        (not_longer (asked.connection_terms a.history).common.to_responder.transfer 4 (omega arith))
+        (lt_false (asked.connection_terms a.history).common.to_responder.transfer 4 (omega arith))
 
     abbrev pair : Pair
     pair = pair_of n a c
