@@ -38,8 +38,8 @@ pub fn measure_completes()
     ensures { MeasureCompletes }
 {}
 
-/// Right behind a connect that chose measurements, a measure needs no more than that a block which it
-/// names is configured, and that the answer fits the transfer size of the requester's set-up.
+/// Right behind a connect that chose measurements, a measure needs no more than that a block which
+/// it names is configured, and that the answer fits the transfer size of the requester's set-up.
 pub fn connected_can_measure()
     ensures { ConnectedCanMeasure }
 {}
