@@ -1,7 +1,6 @@
 -- What stands aside while one pair of ends talks: the other requesters and their connections.
-use Rattle.std.proofs.Common.{◌≡◌, ◌≢◌, ◌∙◌, ℕ, zero, suc, ◌==◌, List, [], ◌∷◌, ◌++◌, map, Bool, true, false, cond, Option, Some, None, refl, sym, ap, subst, inl, inr, eq-eqb, eqb-true}
+use Rattle.std.proofs.Common.{◌≡◌, ◌≢◌, ◌∙◌, ℕ, zero, suc, ◌==◌, List, [], ◌∷◌, ◌++◌, map, Bool, true, false, cond, Option, Some, None, refl, sym, ap, subst, inl, inr}
 use Rattle.std.specs.Prelude.{if◌then◌else◌}
-use Rattle.std.proofs.lemmas.Bool.{false≢true}
 use Rattle.requester_machine.specs.Requesting.{Requesting}
 use Rattle.responder_machine.proofs.Connected.{KeepsSetup, changed_keeps}
 use Rattle.responder_machine.proofs.Others.{found, kept}
@@ -108,4 +107,13 @@ others_aside p peer = record {
     quiet = λ n a c other is connected.
         quiet_between world r still a c connected (λ d was. k.quiet n a d other (same_requester n world (record world { responder = r }) a refl is) was) (connection_of a.setup.eid world.responder.connections) refl;
   };
+}
+
+-- Two of these at once.
+pub both_aside : (p : Pair) (First Second : World → Type 0) → IsAside p First → IsAside p Second → IsAside p (λ world. First world × Second world)
+both_aside p First Second a b = record {
+  requester = λ world new sent acts same k. (a.requester world new sent acts same k.0, b.requester world new sent acts same k.1);
+  responder = λ world r sent acts change is k. (a.responder world r sent acts change is k.0, b.responder world r sent acts change is k.1);
+  packets = λ world r sent same k. (a.packets world r sent same k.0, b.packets world r sent same k.1);
+  still = λ world r s k. (a.still world r s k.0, b.still world r s k.1);
 }

@@ -1,13 +1,11 @@
 -- What takes one round in a session: application data, HEARTBEAT, GET_MEASUREMENTS and END_SESSION.
-use Rattle.std.proofs.Common.{◌≡◌, ◌∙◌, ℕ, ◌<◌, ◌≤◌, ◌==◌, List, ◌∷◌, length, Bool, true, false, None, Result, Ok, refl, sym, ap, ap₂, subst, arith}
+use Rattle.std.proofs.Common.{◌≡◌, ◌∙◌, ℕ, ◌<◌, ◌≤◌, ◌==◌, List, ◌∷◌, length, true, false, Result, Ok, refl, sym, ap, subst, arith}
 use Rattle.std.proofs.lemmas.Bool.{false≢true}
 use Rattle.measurements.specs.Records.{asked as blocks_asked, is_missing}
 use Rattle.requester_machine.specs.Does.{body_chosen}
-use Rattle.requester_machine.specs.History as asked
 use Rattle.requester_machine.specs.History.{Led}
 use Rattle.requester_machine.specs.History.Effect.{Grants}
 use Rattle.requester_machine.specs.Answers.{is_done}
-use Rattle.requester_machine.specs.InnerMessages.{inner_led}
 use Rattle.requester_machine.specs.Message.Ask.{AskBeat, AskData, AskEnd, AskMeasure}
 use Rattle.requester_machine.specs.Sending.{inner_data, inner_request}
 use Rattle.requester_machine.specs.Session as steps
@@ -17,7 +15,7 @@ use Rattle.responder_machine.specs.Does as serving_does
 use Rattle.responder_machine.specs.Does.{chosen, record_chosen}
 use Rattle.responder_machine.specs.History as served
 use Rattle.responder_machine.specs.Place.{session_place}
-use Rattle.responder_machine.specs.Responder.{data_turn, inner_reply}
+use Rattle.responder_machine.specs.Responder.{inner_reply}
 use Rattle.responder_machine.specs.Session as events
 use Rattle.responder_machine.specs.Session.{Events, id_in_record}
 use Rattle.responder_machine.specs.Setup.{RspSetup, inventory_of}
@@ -36,14 +34,13 @@ use Rattle.spdm_grammar.specs.declared.event.Event.TheVariants as event
 use Rattle.spdm_grammar.specs.declared.event.Finished.TheVariants as finished
 use Rattle.spdm_machine.specs.Keys.{Draw}
 use Rattle.spdm_machine.specs.Terms.{Terms, hash_len}
-use Rattle.spdm_progress.specs.InStep.{AreInStep}
 use Rattle.spdm_progress.specs.Measuring.{measurements_size, number_for}
-use Rattle.spdm_progress.proofs.AlikeSessions.{IsAnswerTo, is_kept, same_terms}
+use Rattle.spdm_progress.proofs.AlikeSessions.{IsAnswerTo, same_terms}
 use Rattle.spdm_progress.proofs.MeasureStages.{measured, measured_fits, measured_sound, measurements, measurements_are, told_number}
 use Rattle.spdm_progress.proofs.PacketSteps.{Pair}
 use Rattle.spdm_progress.proofs.RecordHeard.{came_as}
 use Rattle.spdm_progress.proofs.RequesterStages.{reads}
-use Rattle.spdm_progress.proofs.SessionRounds.{AreAnswered, Asking, answer_for, asked_steps}
+use Rattle.spdm_progress.proofs.SessionRounds.{AreAnswered, Asking, answer_for}
 use Rattle.spdm_progress.proofs.SessionTurns.{TakesInSession, answer_read, beat_turn, data_read, data_turn_in, end_turn, measure_turn_in, turn_in}
 use Rattle.spdm_progress.proofs.SingleRound.{IsLast}
 

@@ -1,5 +1,6 @@
 -- What a requester does with the packet of a short clear message, where a clear request is outstanding.
 use Rattle.std.proofs.Common.{◌≡◌, ◌∙◌, ℕ, ◌<◌, ◌≤◌, List, length, Bool, false, Option, Some, None, Result, Ok, refl, ap, eq-eqb}
+use Rattle.spdm_basis.proofs.Bools.{lt_false}
 use Rattle.std.specs.Prelude.{if◌then◌else◌}
 use Rattle.mctp_framing.specs.Gathering.{Gathered}
 use Rattle.mctp_framing.specs.Packet.{PacketFields, parsed}
@@ -20,7 +21,7 @@ use Rattle.requester_machine.specs.Message.{Sent, Content}
 use Rattle.requester_machine.specs.Message.Aim.{Plain}
 use Rattle.requester_machine.specs.Requesting.{Requesting, requester_given, hears_packet, hears_gathered, heard_by, is_worn, worn_step, next_draw}
 use Rattle.requester_machine.specs.Setup.{ReqSetup}
-use Rattle.spdm_progress.proofs.OnePacket.{packet_to, packet_read, packet_gathered, not_longer}
+use Rattle.spdm_progress.proofs.OnePacket.{packet_to, packet_read, packet_gathered}
 
 -- The packet of a short clear message is heard whole.
 pub given_whole : (a : Requesting) (tag : ℕ) (m : List ℕ) → is_worn a ≡ false → tag < 8 → length m < 4161
@@ -38,7 +39,7 @@ asking tag content asked = record { tag = tag; content = content; aim = Plain as
 
 no_fault : (q : ReqSetup) (tag : ℕ) (content : Content) (asked : RequestMessage) (m : List ℕ) → length m ≤ q.transfer → body_fault q (Some (asking tag content asked)) false tag (clear_body m) ≡ None
 unfolding body_fault
-no_fault q tag content asked m fits = rw (eq-eqb tag tag refl, not_longer q.transfer (length m) fits) refl
+no_fault q tag content asked m fits = rw (eq-eqb tag tag refl, lt_false q.transfer (length m) fits) refl
 
 -- A clear message with the tag of the outstanding request is read.
 pub heard_plain : (q : ReqSetup) (h : History) (f : Free) (tag : ℕ) (content : Content) (asked : RequestMessage) (m : List ℕ) (d : Draw) → outstanding h ≡ Some (asking tag content asked) → length m ≤ q.transfer

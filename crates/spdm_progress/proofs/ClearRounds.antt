@@ -1,5 +1,5 @@
 -- A round in the clear of messages that both ends know beforehand.
-use Rattle.std.proofs.Common.{◌≡◌, ◌⊎◌, ◌∙◌, ℕ, ◌<◌, ◌≤◌, ◌+◌, ◌==◌, List, [], ◌∷◌, ◌++◌, length, Bool, true, false, Option, Some, None, unwrap_or, refl, sym, ap, subst, inl, inr, arith}
+use Rattle.std.proofs.Common.{◌≡◌, ◌∙◌, ℕ, ◌<◌, ◌==◌, List, ◌++◌, length, Bool, true, false, Some, None, refl, sym, subst}
 use Rattle.std.proofs.lemmas.Bool.{false≢true}
 use Rattle.requester_machine.proofs.Keeps.{Keeps, behind_clear, behind_record}
 use Rattle.requester_machine.proofs.Making.{hears_made}
@@ -22,7 +22,6 @@ use Rattle.responder_machine.specs.Responder as answering
 use Rattle.responder_machine.specs.ResponderLog as served_log
 use Rattle.spdm_agreement.proofs.Requester.Entries.{no_command_heard}
 use Rattle.spdm_grammar.specs.declared.event.Event.{Event}
-use Rattle.spdm_grammar.specs.declared.event.Event.TheVariants as event
 use Rattle.spdm_machine.specs.Bodies.{clear_body}
 use Rattle.spdm_machine.specs.Keys.{Draw}
 use Rattle.spdm_machine.specs.TagLog.{Log}
@@ -33,8 +32,8 @@ use Rattle.spdm_progress.proofs.PacketSteps.{Pair}
 use Rattle.spdm_progress.proofs.RequesterStages.{Hears}
 use Rattle.spdm_progress.proofs.ResponderStages.{Answered}
 use Rattle.spdm_progress.proofs.StillKept.{AreAlike}
-use Rattle.spdm_progress.proofs.Talk.{IsSendable, IsTalk, Leads, Over, Stage}
-use Rattle.spdm_progress.proofs.TwoRounds.{IsFirst, LeadsTo, OneStage}
+use Rattle.spdm_progress.proofs.Talk.{IsSendable, IsTalk, Leads, Over}
+use Rattle.spdm_progress.proofs.TwoRounds.{LeadsTo}
 
 -- ---- No session is live.
 

@@ -1,5 +1,6 @@
 -- The packets of a clear answer of any length are given to the requester, one after the other.
 use Rattle.std.proofs.Common.{◌≡◌, ◌≢◌, ◌∙◌, ℕ, suc, ◌<◌, ◌+◌, ◌==◌, List, ◌∷◌, length, drop, find, Bool, false, Option, Some, Result, Ok, refl, sym, ap, subst, arith}
+use Rattle.spdm_basis.proofs.Bools.{lt_false}
 use Rattle.std.specs.Prelude.{if◌then◌else◌}
 use Rattle.std.proofs.lemmas.Bool.{ne_eqb}
 use Rattle.mctp_framing.proofs.Packets.{packets_from, no_packets_from}
@@ -19,7 +20,7 @@ use Rattle.requester_machine.specs.Requesting.{Requesting, PacketStep, requester
 use Rattle.responder_machine.specs.History as served
 use Rattle.world_machine.specs.World.{World, WorldStep, packet_of, is_at, number_at, given, given_to, given_to_requester, without_waiting, delivers}
 use Rattle.spdm_progress.proofs.ManyPackets.{Came, FirstWaits, clear_is_body, first_waits, waits_idle, waiting_in, one_came, last_gathers, more_gathers, nth, nth_read, number}
-use Rattle.spdm_progress.proofs.OnePacket.{not_longer, route_to}
+use Rattle.spdm_progress.proofs.OnePacket.{route_to}
 use Rattle.spdm_progress.proofs.PacketSteps.{Pair, AreEnds, At, AtNext, IsShort, asker, answer_packets, either_last, heard_at, next_of, not_worn}
 use Rattle.spdm_progress.proofs.Places.{found_new, number_new, of_new, of_same}
 use Rattle.spdm_progress.proofs.RequesterStages.{Hears}
@@ -39,7 +40,7 @@ gathers_as a f peer g fresh read from is =
 pub to_requester : (world : World) (f : PacketFields) (a : Requesting) → f.to ≢ world.responder.part.eid → find (is_at f.to) world.requesters ≡ Some a
     → given world (spelled_packet f) ≡ given_to_requester world (number_at a.setup.eid world) (requester_given a (spelled_packet f))
 to_requester world f a other found =
-    either_last _ (f.to == world.responder.part.eid) _ _ _ (not_longer (length (spelled_packet f)) 2 (omega arith)) (ne_eqb f.to world.responder.part.eid other)
+    either_last _ (f.to == world.responder.part.eid) _ _ _ (lt_false (length (spelled_packet f)) 2 (omega arith)) (ne_eqb f.to world.responder.part.eid other)
     ∙ ap (given_to world (spelled_packet f)) found
 
 module _ (p : Pair) (ends : AreEnds p) (k l : ℕ) (Asked : asked.History → Type 0) (Then : asked.History → asked.History → Type 0) (Served : served.History → Type 0) (tag : ℕ) (m : List ℕ) (told : Event) (next : asked.History → Option (ℕ × List ℕ × RequestMessage))

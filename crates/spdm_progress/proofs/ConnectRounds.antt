@@ -1,5 +1,5 @@
 -- A connect takes three rounds, and leaves two quiet ends.
-use Rattle.std.proofs.Common.{◌≡◌, ◌∙◌, ℕ, suc, ◌<◌, ◌≤◌, ◌+◌, List, [], ◌∷◌, ◌++◌, length, Bool, true, false, Some, None, refl, sym, ap, subst, inl, inr, arith}
+use Rattle.std.proofs.Common.{◌≡◌, ◌∙◌, ℕ, ◌<◌, ◌≤◌, List, ◌∷◌, length, false, refl, sym, ap, inl, arith}
 use Rattle.std.specs.Prelude.{slice_index}
 use Rattle.std.proofs.lemmas.Bool.{false≢true}
 use Rattle.spdm_grammar.specs.Message.{ExchangeMessage, OfferMessage}
@@ -9,13 +9,11 @@ use Rattle.spdm_grammar.specs.declared.choice.Choice.{Choice}
 use Rattle.spdm_grammar.specs.declared.event.Event.{Event}
 use Rattle.spdm_grammar.specs.declared.event.Event.TheVariants as event
 use Rattle.spdm_grammar.specs.declared.event.Finished.TheVariants as finished
-use Rattle.spdm_machine.specs.Keys.{Draw}
 use Rattle.spdm_machine.specs.TagLog.{Log}
 use Rattle.spdm_machine.specs.Terms.{no_negotiation}
 use Rattle.spdm_machine.proofs.Members.{some_same}
 use Rattle.requester_machine.specs.History as asked
 use Rattle.requester_machine.specs.History.Entry.{Told as WasTold}
-use Rattle.requester_machine.specs.Message.{Sent}
 use Rattle.requester_machine.specs.Message.Command.{Connect}
 use Rattle.requester_machine.specs.Message.Content.{Clear}
 use Rattle.requester_machine.specs.Requesting as asking
@@ -28,12 +26,10 @@ use Rattle.requester_machine.specs.Does.{requester_asks}
 use Rattle.requester_machine.specs.Asking.{asks}
 use Rattle.requester_machine.specs.Asking.Outcome.{Adds}
 use Rattle.requester_machine.specs.Commands.{command_fault}
-use Rattle.responder_machine.specs.Does as serving_does
 use Rattle.responder_machine.specs.History as served
 use Rattle.responder_machine.specs.Responding.{Connection}
 use Rattle.responder_machine.specs.Setup.{RspSetup}
 use Rattle.spdm_agreement.proofs.Worlds.AllEvents.{requester_in}
-use Rattle.transcript.specs.Transcripts.{Negotiation}
 use Rattle.world_machine.specs.Chance.{NoChance}
 use Rattle.world_machine.specs.Happenings.{Entry}
 use Rattle.world_machine.specs.Happenings.Happening.{Told}
@@ -41,8 +37,8 @@ use Rattle.world_machine.specs.Setup.{WorldSetup}
 use Rattle.world_machine.specs.Trace.{lines_from, world_after, world_from}
 use Rattle.spdm_progress.specs.Connecting.{CanConnect}
 use Rattle.world_machine.specs.World.{World}
-use Rattle.spdm_progress.specs.Honest.{AreHonest, HaveNoCommand, NothingWaits}
-use Rattle.spdm_progress.specs.InStep.{AreQuiet, TookEarlier}
+use Rattle.spdm_progress.specs.Honest.{AreHonest, HaveNoCommand}
+use Rattle.spdm_progress.specs.InStep.{AreQuiet}
 use Rattle.spdm_progress.specs.Scripts.{ConnectsQuietly}
 use Rattle.spdm_progress.specs.SessionCommands.{IsDoneQuietly, IsTold, commanding}
 use Rattle.spdm_progress.proofs.AtRequester.{asking as asks_for}
@@ -51,13 +47,12 @@ use Rattle.spdm_progress.proofs.PacketSteps.{Pair}
 use Rattle.spdm_progress.proofs.RequesterStages.{Asks as AsksRequest, IsOver, algorithms_heard, asks_version, capabilities_heard, next_small, told_connect, version_heard}
 use Rattle.spdm_progress.proofs.ResponderBegins.{awaits_on, awaits_version, stands_on}
 use Rattle.spdm_progress.proofs.ResponderStages.{AwaitsVersion, HasAlgorithms, HasCapabilities, HasVersion, algorithms, algorithms_answered, capabilities, capabilities_answered, first_pair, get_capabilities, get_version, negotiate_algorithms, three_pairs, two_pairs, version, version_answered}
-use Rattle.spdm_progress.proofs.SessionBegins.{sends}
 use Rattle.spdm_progress.proofs.SessionCompletes.{Idle, Rests, completes_by, fresh, no_chance_from, placed}
 use Rattle.spdm_progress.proofs.SetUps.{CanTalk, algorithms_size, can_talk, common_for, takes_answer}
 use Rattle.spdm_progress.proofs.Talk.{IsTalk, Stage}
 use Rattle.spdm_progress.proofs.Aside.{IsAside, nothing_aside}
 use Rattle.spdm_progress.proofs.Told.{ArePlaced, fits_always, pair_of}
-use Rattle.spdm_progress.proofs.TwoRounds.{Answers, Asks, IsFirst, LeadsTo, OneStage, two_talk}
+use Rattle.spdm_progress.proofs.TwoRounds.{Answers, Asks, IsFirst, OneStage, two_talk}
 
 module _ (p : Pair) (offer : OfferMessage) (choice : Choice) (can : CanTalk p.requester p.responder offer choice) where
   abbrev q : ReqSetup
@@ -219,7 +214,7 @@ module _ (w : WorldSetup) (before : List Entry) (n : ℕ) (a : Requesting) (c : 
   made = ((fits_always w is_told.configured before (no_chance_from (world_after w before) (record { line = line; happening = Told n Connect } ∷ behind) chance)).asks a (requester_in n (world_after w before) a is_told.is_requester)).made
 
   pub connected : (id : ℕ) → IsDoneQuietly n a.setup c.setup finished.Connected id false (world_from (commanding (world_after w before) line n Connect) behind) (lines_from (commanding (world_after w before) line n Connect) behind)
-      × Idle Aside (world_from (commanding (world_after w before) line n Connect) behind)
+      × Idle (world_after w before) n a Aside (world_from (commanding (world_after w before) line n Connect) behind)
   unfolding steps.session_of
   connected id =
       completes_by w before n a c Connect is_told line behind none honest still chance Aside aside beside (ConnectAsks pair can.offer can.choice talks) (ConnectAnswers pair can.offer can.choice talks) (ConnectDone pair can.offer can.choice talks) finished.Connected id false

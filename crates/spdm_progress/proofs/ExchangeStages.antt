@@ -1,15 +1,14 @@
 -- What the two ends make of the two messages of PSK_EXCHANGE in the clear.
-use Rattle.std.proofs.Common.{◌≡◌, ◌≢◌, ◌∙◌, ℕ, suc, ◌<◌, ◌≤◌, ◌+◌, ◌-◌, ◌^◌, ◌==◌, ◌&&◌, ◌||◌, List, [], ◌∷◌, ◌++◌, length, drop, Bool, true, false, not, Option, Some, None, Result, Ok, refl, sym, ap, ap₂, subst, arith, eqb-true, length-append}
+use Rattle.std.proofs.Common.{◌≡◌, ◌≢◌, ◌∙◌, ℕ, ◌<◌, ◌≤◌, ◌+◌, ◌==◌, ◌&&◌, ◌||◌, List, ◌++◌, length, Bool, true, false, not, Option, Some, None, Ok, refl, sym, ap, subst, arith, eqb-true, length-append}
 use Rattle.std.specs.Prelude.{bytes_eq, if◌then◌else◌}
 use Rattle.std.proofs.lemmas.Bool.{false≢true}
 use Rattle.std.proofs.lemmas.Slice.Eq.{bytes_eq-Decides}
-use Rattle.byteorder.specs.Endian.{little_bytes, little_number}
 use Rattle.key_schedule.specs.declared.direction.Direction.TheVariants as direction
 use Rattle.requester_machine.proofs.Choosing.{context-length}
 use Rattle.responder_machine.proofs.Ids.{free_id-range}
 use Rattle.responder_machine.proofs.VerifyLength.{length_verify}
 use Rattle.responder_machine.specs.Answer.{Free, request_at, summary_answer, t1_with}
-use Rattle.responder_machine.specs.Does.{IsMade, chosen, clear_chosen, clear_does}
+use Rattle.responder_machine.specs.Does.{chosen, clear_chosen, clear_does}
 use Rattle.responder_machine.specs.Handling.{turn_of}
 use Rattle.responder_machine.specs.History as served
 use Rattle.responder_machine.specs.History.Entry.{Clear}
@@ -20,9 +19,9 @@ use Rattle.responder_machine.specs.Responder.Outcome.{Adds}
 use Rattle.responder_machine.specs.Setup.{RspSetup}
 use Rattle.responder_machine.specs.Turn.{Turn}
 use Rattle.running_hash.specs.Hash.{hash_of}
-use Rattle.spdm_agreement.specs.Configured.{IsRequester, IsResponder}
+use Rattle.spdm_agreement.specs.Configured.{IsResponder}
 use Rattle.spdm_agreement.proofs.Responder.Exchange.{answer_parts, before_verify, front_of, length_summary, own_verify}
-use Rattle.spdm_basis.proofs.Bools.{and_second}
+use Rattle.spdm_basis.proofs.Bools.{and_second, lt_false}
 use Rattle.spdm_basis.specs.Sizes.{hash_size}
 use Rattle.spdm_basis.specs.declared.hash_alg.HashAlg.{HashAlg}
 use Rattle.spdm_basis.specs.declared.hash_alg.HashAlg.TheVariants.{Sha256, Sha384}
@@ -39,10 +38,9 @@ use Rattle.spdm_grammar.specs.declared.phase.Phase.{Phase}
 use Rattle.spdm_grammar.specs.declared.phase.Phase.TheVariants.{Negotiated}
 use Rattle.spdm_machine.specs.Keys.{Draw, context_of, verify_data}
 use Rattle.spdm_machine.specs.Sessions.{id_in_exchange}
-use Rattle.spdm_machine.specs.Terms.{Terms, hash_len, terms_of}
-use Rattle.transcript.specs.Transcripts.{Negotiation, vca_of, without_verify}
+use Rattle.spdm_machine.specs.Terms.{Terms}
+use Rattle.transcript.specs.Transcripts.{vca_of, without_verify}
 use Rattle.spdm_progress.specs.Opening.{exchange_rsp_size}
-use Rattle.spdm_progress.proofs.OnePacket.{not_longer}
 use Rattle.spdm_progress.proofs.ResponderStages.{Takes, adds, not_large, not_too_long}
 use Rattle.spdm_progress.proofs.ResponderTurns.{read_at, taken_at, taken_turn}
 
@@ -199,8 +197,8 @@ module _ (r : RspSetup) (g : served.History) (d : Draw) (x : ExchangeMessage) wh
     taken phase fits hint summary takes limit =
         taken_at r (clear_place g) m f (PskExchange x) read refl
         (record {
-          long = not_longer (length m) 4 (omega (arith, exchange_length x));
-          short = not_longer r.transfer (length m) fits;
+          long = lt_false (length m) 4 (omega (arith, exchange_length x));
+          short = lt_false r.transfer (length m) fits;
           known = refl;
           outside = refl;
           whole = refl;

@@ -1,7 +1,6 @@
 -- PSK_FINISH and its answer, the first round in a session, which opens it.
-use Rattle.std.proofs.Common.{◌≡◌, ◌∙◌, ℕ, suc, ◌<◌, ◌≤◌, ◌+◌, ◌-◌, List, [], ◌∷◌, ◌++◌, length, take, Bool, true, false, not, None, Result, Ok, refl, sym, ap, ap₂, subst, arith, length-append}
-use Rattle.std.proofs.Math.Seq.{take-append_seam}
-use Rattle.std.specs.Prelude.{bytes_eq}
+use Rattle.std.proofs.Common.{◌≡◌, ◌∙◌, ℕ, suc, ◌≤◌, ◌+◌, List, [], ◌∷◌, ◌++◌, length, not, None, Result, Ok, refl, sym, ap, ap₂, subst, arith}
+use Rattle.spdm_basis.proofs.Bools.{lt_false}
 use Rattle.std.proofs.lemmas.Slice.Eq.{bytes_eq-Decides}
 use Rattle.key_schedule.specs.declared.direction.Direction.TheVariants as direction
 use Rattle.requester_machine.specs.Answers.{is_done}
@@ -15,7 +14,7 @@ use Rattle.requester_machine.specs.Session.{Steps}
 use Rattle.responder_machine.proofs.VerifyLength.{length_verify}
 use Rattle.responder_machine.specs.Answer.{Free}
 use Rattle.responder_machine.specs.Place.{session_place}
-use Rattle.responder_machine.specs.Refusal.{has_pending, is_verify_wrong, stage_allows}
+use Rattle.responder_machine.specs.Refusal.{has_pending, stage_allows}
 use Rattle.responder_machine.specs.Responder.{inner_refusal, inner_reply, session_turn}
 use Rattle.responder_machine.specs.Session as events
 use Rattle.responder_machine.specs.Session.{Events, id_in_record}
@@ -41,7 +40,7 @@ use Rattle.transcript.specs.Transcripts.{without_verify}
 use Rattle.spdm_progress.specs.InStep.{AreInStep}
 use Rattle.spdm_progress.proofs.AlikeSessions.{same_t1, same_terms, same_vca}
 use Rattle.spdm_progress.proofs.AskedOnce.{IsGood, IsSpdm, small_takes}
-use Rattle.spdm_progress.proofs.OnePacket.{not_longer, positive}
+use Rattle.spdm_progress.proofs.OnePacket.{positive}
 use Rattle.spdm_progress.proofs.PacketSteps.{Pair}
 use Rattle.spdm_progress.proofs.RecordHeard.{came_as}
 use Rattle.spdm_progress.proofs.RequesterStages.{reads}
@@ -69,8 +68,8 @@ finish_turn r e f verify fits whole at right takes =
     read_inside r e m f (ap (λ (g : Stage). inner_refusal g (5 ∷ m)) at ∙ shakes_hand verify)
     ∙ taken_at r (session_place e) m f (PskFinish verify) (read_at (session_place e) (PskFinish verify) tt whole) refl
     (record {
-      long = not_longer (length m) 4 (omega (arith, finish_long verify));
-      short = not_longer r.transfer (length m) (omega (arith, finish_long verify));
+      long = lt_false (length m) 4 (omega (arith, finish_long verify));
+      short = lt_false r.transfer (length m) (omega (arith, finish_long verify));
       known = refl;
       outside = refl;
       whole = refl;

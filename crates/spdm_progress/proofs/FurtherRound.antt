@@ -1,7 +1,6 @@
 -- A further record follows the answer to a record, for the session as it stands behind it.
-use Rattle.std.proofs.Common.{◌≡◌, ◌∙◌, ℕ, ◌≤◌, ◌+◌, ◌==◌, List, [], ◌∷◌, ◌++◌, length, Bool, true, false, Option, Some, None, Result, Ok, refl, sym, ap, subst, arith, eq-eqb}
+use Rattle.std.proofs.Common.{◌≡◌, ◌∙◌, ℕ, ◌≤◌, ◌+◌, List, [], ◌∷◌, ◌++◌, length, Bool, true, false, Some, Ok, refl, sym, ap, subst, eq-eqb}
 use Rattle.std.specs.Prelude.{if◌then◌else◌}
-use Rattle.spdm_grammar.specs.declared.event.BadReply.{BadReply}
 use Rattle.spdm_grammar.specs.declared.event.Event.{Event}
 use Rattle.spdm_machine.specs.Bodies.{record_body}
 use Rattle.spdm_machine.specs.Keys.{Draw}
@@ -27,11 +26,10 @@ use Rattle.responder_machine.specs.Responder.{inner_reply}
 use Rattle.responder_machine.specs.Setup.{RspSetup}
 use Rattle.responder_machine.specs.Turn.{Turn}
 use Rattle.spdm_progress.proofs.AlikeSessions.{is_kept}
-use Rattle.spdm_progress.proofs.PacketSteps.{Pair}
 use Rattle.spdm_progress.proofs.RecordHeard.{came_as}
 use Rattle.spdm_progress.proofs.RequesterStages.{next_small}
-use Rattle.spdm_progress.proofs.SessionRounds.{AreAnswered, Asking, IsAnswered, IsAsked, answer_for, answered_sent, answered_still, asked_sent, asked_steps, asked_still, behind_it, beside_then, entry, hears_so, last_then, led, serves_so, took_is, took_steps}
-use Rattle.spdm_progress.proofs.TwoRounds.{IsFirst, LeadsTo}
+use Rattle.spdm_progress.proofs.SessionRounds.{Asking, IsAnswered, IsAsked, answer_for, asked_steps, beside_then, entry, hears_so, last_then, led, took_is, took_steps}
+use Rattle.spdm_progress.proofs.TwoRounds.{LeadsTo}
 
 module _ (q : ReqSetup) (r : RspSetup) (first id : ℕ) (x x' : Asking) (Fit Fit' : Steps → Type 0) (Good : Steps → Turn → Type 0) (tag : ℕ) (log : Log) (h : asked.History) (g : served.History) (d : Draw) (body : List ℕ) (y : IsAnswered q r first id x Fit Good tag body log h g) (event : Event) where
   abbrev s : Steps

@@ -44,6 +44,7 @@ pub mod QuietCommands
 pub mod QuietWorlds
 pub mod Paragraphs
 pub mod ScriptsComplete
+pub mod PumpedScripts
 pub mod ComingSteps
 pub mod UnderWay
 pub mod Accepted

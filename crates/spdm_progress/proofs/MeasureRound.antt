@@ -1,7 +1,6 @@
 -- A clear measure takes one round, and leaves quiet ends quiet.
-use Rattle.std.proofs.Common.{◌≡◌, ◌⊎◌, ◌∙◌, ℕ, ◌<◌, ◌≤◌, ◌+◌, List, [], ◌∷◌, ◌++◌, length, Bool, true, false, Option, Some, None, refl, sym, ap, subst, inl, inr, arith}
-use Rattle.std.specs.Prelude.{slice_index, if◌then◌else◌}
-use Rattle.std.proofs.lemmas.Bool.{false≢true}
+use Rattle.std.proofs.Common.{◌≡◌, ◌⊎◌, ◌∙◌, ℕ, List, ◌∷◌, ◌++◌, length, Bool, true, false, None, refl, sym, ap, subst, inl, inr, arith}
+use Rattle.std.specs.Prelude.{slice_index}
 use Rattle.spdm_grammar.specs.Message.{ExchangeMessage}
 use Rattle.spdm_grammar.specs.Message.RequestMessage.{GetMeasurements, PskExchange}
 use Rattle.spdm_grammar.specs.Requests.{canonical_request}
@@ -15,7 +14,6 @@ use Rattle.spdm_machine.specs.TagLog.{Log}
 use Rattle.spdm_machine.proofs.Members.{some_same}
 use Rattle.requester_machine.specs.Asking.{Outcome}
 use Rattle.requester_machine.specs.Asking.Outcome.{Adds}
-use Rattle.requester_machine.specs.Does as asking_does
 use Rattle.requester_machine.specs.Does.{requester_asks, requester_hears}
 use Rattle.requester_machine.specs.History as asked
 use Rattle.requester_machine.specs.History.Entry.{Told, TookClear}
@@ -24,9 +22,6 @@ use Rattle.requester_machine.specs.RequesterLog as asked_log
 use Rattle.requester_machine.specs.Sending.{plain_sent}
 use Rattle.requester_machine.specs.Session as steps
 use Rattle.requester_machine.specs.Setup.{ReqSetup}
-use Rattle.requester_machine.specs.Shown as shown
-use Rattle.responder_machine.proofs.Making.{does_made}
-use Rattle.responder_machine.specs.Does as serving_does
 use Rattle.responder_machine.specs.Does.{clear_chosen, clear_does, responder_does}
 use Rattle.responder_machine.specs.Handling.{turn_of}
 use Rattle.responder_machine.specs.History as served
@@ -44,13 +39,13 @@ use Rattle.world_machine.specs.Chance.{NoChance}
 use Rattle.spdm_progress.specs.InStep.{AreQuiet, TookEarlier}
 use Rattle.spdm_progress.specs.Measuring.{number_for}
 use Rattle.spdm_progress.proofs.ManyPackets.{clear_is_body}
-use Rattle.spdm_progress.proofs.MeasureStages.{Again, CanServe, asks_measure, get_measurements, made_again, measure_answered, measure_outcome, measure_turn, measured_led, measurements, measurements_are}
+use Rattle.spdm_progress.proofs.MeasureStages.{Again, CanServe, asks_measure, get_measurements, measure_answered, measure_outcome, measure_turn, measured_led, measurements, measurements_are}
 use Rattle.spdm_progress.proofs.PacketSteps.{Pair}
 use Rattle.spdm_progress.proofs.RecordRounds.{quiet_longer, quiet_moved, quiet_still, quiet_there}
 use Rattle.spdm_progress.proofs.RequesterStages.{Asks as AsksRequest, next_small}
 use Rattle.spdm_progress.proofs.ResponderTurns.{taken_turn}
 use Rattle.spdm_progress.proofs.StillKept.{AreAlike}
-use Rattle.spdm_progress.proofs.Talk.{IsSendable, IsTalk, Leads, Over, Stage}
+use Rattle.spdm_progress.proofs.Talk.{IsSendable, IsTalk, Leads, Over}
 
 module _ (p : Pair) (op : ℕ) (h0 : asked.History) (d0 : Draw) (can : CanServe p.requester p.responder op (asked.negotiation_of h0)) (phase : asked.phase_of h0 ≡ Negotiated)
     (asks : requester_asks false p.requester h0 (Measure None op) d0 ≡ Adds (Told (Measure None op) (plain_sent h0 (GetMeasurements op)) d0)) where

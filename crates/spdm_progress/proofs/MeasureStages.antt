@@ -1,10 +1,10 @@
 -- What the two ends make of the two messages of a clear measure.
-use Rattle.std.proofs.Common.{◌&&◌, ◌≡◌, ◌∙◌, ℕ, ◌<◌, ◌≤◌, ◌+◌, ◌==◌, List, [], ◌∷◌, ◌++◌, length, Bool, true, false, Option, Some, None, Result, Ok, refl, sym, ap, subst, arith, length-append}
+use Rattle.std.proofs.Common.{◌≡◌, ◌∙◌, ℕ, ◌<◌, ◌≤◌, ◌+◌, ◌==◌, List, [], ◌∷◌, ◌++◌, length, Bool, true, false, Option, Some, None, Result, Ok, refl, sym, ap, subst, arith, length-append}
 use Rattle.std.specs.Prelude.{if◌then◌else◌}
 use Rattle.measurements.proofs.Lengths.{few}
 use Rattle.measurements.specs.Blocks.{block_of, at_most_one}
 use Rattle.measurements.specs.Records.{asked as blocks_asked, is_missing}
-use Rattle.spdm_basis.proofs.Bools.{and_second}
+use Rattle.spdm_basis.proofs.Bools.{and_second, lt_false}
 use Rattle.spdm_grammar.specs.declared.block_spec.BlockSpec.{BlockSpec}
 use Rattle.spdm_grammar.specs.Message.{MeasuredMessage, ResponseMessage}
 use Rattle.spdm_grammar.specs.Message.RequestMessage.{GetMeasurements}
@@ -38,21 +38,17 @@ use Rattle.std.specs.Option.{option_or}
 use Rattle.std.specs.Result.{result_ok}
 use Rattle.negotiate.specs.declared.shared.Common.{Common}
 use Rattle.spdm_grammar.specs.declared.event.ReqIgnored.{ReqIgnored}
-use Rattle.spdm_grammar.specs.declared.command_fault.CommandFault.{CommandFault}
 use Rattle.spdm_machine.proofs.Members.{none_some}
-use Rattle.requester_machine.specs.Asking.{asks, asks_by, done}
+use Rattle.requester_machine.specs.Asking.{asks}
 use Rattle.requester_machine.specs.Asking.Outcome.{Adds}
-use Rattle.requester_machine.specs.Commands.{Free, command_fault}
-use Rattle.requester_machine.specs.Does.{requester_asks, command_chosen}
 use Rattle.requester_machine.specs.History.{connection_terms, next_tag}
 use Rattle.requester_machine.specs.History.Entry.{Told, TookClear}
-use Rattle.requester_machine.specs.Message.{Command, Sent}
+use Rattle.requester_machine.specs.Message.{Sent}
 use Rattle.requester_machine.specs.Message.Command.{Measure}
 use Rattle.requester_machine.specs.Requesting.{Requesting, CommandStep, requester_told, commanded_by, is_worn, next_draw}
 use Rattle.requester_machine.specs.Sending.{plain_sent, request_sent}
-use Rattle.requester_machine.specs.Shown.{fault_of}
 use Rattle.spdm_progress.proofs.RequesterStages.{next_small}
-use Rattle.std.specs.Prelude.{bytes_eq, is_none}
+use Rattle.std.specs.Prelude.{bytes_eq}
 use Rattle.std.proofs.lemmas.Bool.{false≢true}
 use Rattle.std.proofs.lemmas.Slice.Eq.{bytes_eq-Decides}
 use Rattle.spdm_grammar.specs.declared.error_code.ErrorCode.{ErrorCode}
@@ -76,7 +72,6 @@ use Rattle.transcript.specs.Transcripts.{Negotiation}
 use Rattle.spdm_progress.specs.Measuring.{record_for, number_for, measurements_size}
 use Rattle.spdm_progress.proofs.Accepted.{not_worn_told, told_done}
 use Rattle.spdm_progress.proofs.AtRequester.{led_plain}
-use Rattle.spdm_progress.proofs.OnePacket.{not_longer}
 use Rattle.spdm_progress.proofs.RequesterStages.{Asks, Hears, hears_as, hears_by, reads}
 use Rattle.spdm_progress.proofs.ResponderBegins.{SameClear, is_none_none, refused_with}
 use Rattle.spdm_progress.proofs.ResponderStages.{Answered, Takes, adds, answers_by, not_large, not_too_long}
@@ -172,7 +167,7 @@ measure_turn q r h d tag op n drawn can has =
     taken_at r (clear_place h) (get_measurements op) (clear_chosen r h d) (GetMeasurements op) (read_at (clear_place h) (GetMeasurements op) can.byte tt) refl
     (record {
       long = refl;
-      short = not_longer r.transfer 4 (omega arith);
+      short = lt_false r.transfer 4 (omega arith);
       known = refl;
       outside = refl;
       whole = refl;
@@ -346,7 +341,7 @@ measure_heard q r h tag op n nonce d whole can asks =
 -- ---- The command.
 
 sent_whole : (common : Common) (h : asked.History) (op : ℕ) → 4 ≤ common.to_responder.transfer → request_sent common h (GetMeasurements op) ≡ plain_sent h (GetMeasurements op)
-sent_whole common h op room = rw (not_longer common.to_responder.transfer 4 room) refl
+sent_whole common h op room = rw (lt_false common.to_responder.transfer 4 room) refl
 
 pub told_measure : (a : Requesting) (op : ℕ) → is_worn a ≡ false → (requester_told a (Measure None op)).fault ≡ None → 4 ≤ (connection_terms a.history).common.to_responder.transfer
     → requester_told a (Measure None op) ≡ commanded_by a (Adds (Told (Measure None op) (plain_sent a.history (GetMeasurements op)) (next_draw a)))

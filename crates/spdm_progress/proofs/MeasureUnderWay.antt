@@ -1,5 +1,5 @@
 -- A clear measure under way: its request waits, or so many packets of its answer were given.
-use Rattle.std.proofs.Common.{◌≡◌, ◌⊎◌, ◌∙◌, ℕ, zero, suc, ◌<◌, ◌≤◌, ◌+◌, ◌*◌, List, ◌++◌, length, Bool, true, false, nat_le, None, refl, ap, inl, inr, arith}
+use Rattle.std.proofs.Common.{◌≡◌, ◌⊎◌, ◌∙◌, ℕ, zero, suc, ◌<◌, ◌≤◌, ◌+◌, List, ◌++◌, length, false, None, ap, inl, inr, arith}
 use Rattle.mctp_framing.specs.Cutting.{packet_count}
 use Rattle.spdm_grammar.specs.Lines.{Line}
 use Rattle.spdm_grammar.specs.Message.RequestMessage.{GetMeasurements}

@@ -1,5 +1,6 @@
 -- A short clear message is one packet, which is gathered whole whatever came before it.
-use Rattle.std.proofs.Common.{◌≡◌, ◌∙◌, ℕ, ◌<◌, ◌≤◌, List, [], ◌∷◌, length, Bool, true, false, nat_lt, nat_le, Option, None, Ok, ◌==◌, ◌&&◌, not, refl, ap, arith, eq-eqb}
+use Rattle.std.proofs.Common.{◌≡◌, ◌∙◌, ℕ, ◌<◌, List, [], ◌∷◌, length, Bool, true, false, nat_lt, nat_le, Option, None, Ok, ◌==◌, ◌&&◌, not, refl, ap, arith, eq-eqb}
+use Rattle.spdm_basis.proofs.Bools.{lt_false}
 use Rattle.std.specs.Prelude.{if◌then◌else◌}
 use Rattle.std.proofs.lemmas.Bool.Decides.{nat_tests}
 use Rattle.mctp_framing.specs.Packet.{PacketFields, spelled_packet, parsed}
@@ -35,9 +36,6 @@ ours b c g h e f = rw (e, f) refl
 unbroken : (a b c : Bool) → a ≡ false → b ≡ false → c ≡ false → first_cause ((a, WrongSize) ∷ (b, IntegritySet) ∷ (c, TooLong) ∷ []) ≡ None
 unbroken a b c d e f = rw (d, e, f) refl
 
-pub not_longer : (n m : ℕ) → m ≤ n → nat_lt n m ≡ false
-not_longer n m le = grind (arith, nat_tests)
-
 pub positive : (n : ℕ) → 0 < n → (n == 0) ≡ false
 positive n some = grind (arith, nat_tests)
 
@@ -48,4 +46,4 @@ unfolding gathered_from
 packet_gathered own peer owner tag given m short =
     ours (own == own) (peer == peer) _ _ (eq-eqb own own refl) (eq-eqb peer peer refl)
     ∙ ap (λ (o : Option DropCause). answer_from o (fields_to own peer owner tag m) (clear_body m))
-    (unbroken (length (clear_body m) == 0) (nat_le 128 5) (nat_lt body_limit (length (clear_body m))) (positive (length (clear_body m)) (omega arith)) refl (not_longer body_limit (length (clear_body m)) (omega arith)))
+    (unbroken (length (clear_body m) == 0) (nat_le 128 5) (nat_lt body_limit (length (clear_body m))) (positive (length (clear_body m)) (omega arith)) refl (lt_false body_limit (length (clear_body m)) (omega arith)))

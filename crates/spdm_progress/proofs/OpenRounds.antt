@@ -1,10 +1,10 @@
 -- An open takes two rounds: PSK_EXCHANGE in the clear, and then PSK_FINISH in the session that it begins.
-use Rattle.std.proofs.Common.{◌≡◌, ◌≢◌, ◌∙◌, ℕ, suc, ◌<◌, ◌≤◌, ◌+◌, ◌^◌, ◌==◌, ◌&&◌, List, [], ◌∷◌, ◌++◌, length, Bool, true, false, cond, not, Option, Some, None, Result, Ok, Err, refl, sym, ap, ap₂, subst, inl, inr, arith, eq-eqb}
+use Rattle.std.proofs.Common.{◌≡◌, ◌≢◌, ◌∙◌, ℕ, ◌<◌, ◌≤◌, ◌+◌, ◌^◌, ◌==◌, ◌&&◌, List, [], ◌∷◌, ◌++◌, length, Bool, true, false, not, Option, Some, None, Result, Ok, Err, refl, sym, ap, ap₂, subst, inl, inr, arith, eq-eqb}
 use Rattle.std.specs.Prelude.{bytes_eq, if◌then◌else◌}
 use Rattle.std.proofs.lemmas.Bool.{false≢true, ne_eqb}
 use Rattle.std.proofs.lemmas.Slice.Eq.{bytes_eq-Decides}
 use Rattle.key_schedule.specs.declared.direction.Direction.TheVariants as direction
-use Rattle.requester_machine.specs.Answers.{exchange_led, goes_on, with_answer}
+use Rattle.requester_machine.specs.Answers.{goes_on, with_answer}
 use Rattle.requester_machine.specs.Asking.{Outcome}
 use Rattle.requester_machine.specs.Asking.Outcome.{Adds}
 use Rattle.requester_machine.specs.ClearAnswers.{clear_led}
@@ -29,7 +29,6 @@ use Rattle.requester_machine.specs.Setup.{ReqSetup}
 use Rattle.responder_machine.proofs.Ids.{free_id-range, free_id-unheld}
 use Rattle.responder_machine.proofs.Sizes.{sizes_set_up}
 use Rattle.responder_machine.proofs.VerifyLength.{length_verify}
-use Rattle.responder_machine.specs.Does as serving_does
 use Rattle.responder_machine.specs.Does.{clear_does, responder_does}
 use Rattle.responder_machine.specs.History as served
 use Rattle.responder_machine.specs.History.Entry.{Clear}
@@ -49,7 +48,7 @@ use Rattle.spdm_agreement.proofs.Requester.ExchangeMoves.{context_told, exchange
 use Rattle.spdm_basis.specs.Sizes.{hash_size}
 use Rattle.spdm_basis.specs.declared.session_id.SessionId.{SessionId}
 use Rattle.spdm_grammar.specs.Message.{ExchangeMessage, ExchangeRspMessage, RequestMessage}
-use Rattle.spdm_grammar.specs.Message.RequestMessage.{PskExchange, PskFinish}
+use Rattle.spdm_grammar.specs.Message.RequestMessage.{PskExchange}
 use Rattle.spdm_grammar.specs.Message.ResponseMessage.{PskExchangeRsp, PskFinishRsp}
 use Rattle.spdm_grammar.specs.Responses.{canonical_response}
 use Rattle.spdm_grammar.specs.Requests.{canonical_request, request_in}
@@ -77,7 +76,7 @@ use Rattle.spdm_progress.proofs.ExchangeStages.{IsExchange, answer, answer_id, a
 use Rattle.spdm_progress.proofs.FinishRound.{CanFinish, finish_asking, finish_last}
 use Rattle.spdm_progress.proofs.ManyPackets.{clear_is_body}
 use Rattle.spdm_progress.proofs.PacketSteps.{Pair}
-use Rattle.spdm_progress.proofs.RecordRounds.{Beside, KeepsBeside, beside_on, earlier_on, last_waited, quiet_still, resting_past}
+use Rattle.spdm_progress.proofs.RecordRounds.{Beside, beside_on, earlier_on, last_waited, quiet_still, resting_past}
 use Rattle.spdm_progress.proofs.RequesterStages.{next_small}
 use Rattle.spdm_progress.proofs.ResponderStages.{Takes}
 use Rattle.spdm_progress.proofs.SessionRounds.{Asking, IsAsked, still_beside}

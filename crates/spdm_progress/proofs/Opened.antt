@@ -1,21 +1,17 @@
 -- An open that is told to a quiet requester ends with an open session.
-use Rattle.std.proofs.Common.{◌≡◌, ◌≢◌, ◌∙◌, ℕ, ◌<◌, ◌≤◌, ◌+◌, ◌^◌, ◌==◌, ◌&&◌, List, [], ◌∷◌, ◌++◌, length, Bool, true, false, nat_lt, not, Some, None, refl, sym, ap, subst, inl, arith, eq-eqb}
+use Rattle.std.proofs.Common.{◌≡◌, ◌≢◌, ◌∙◌, ℕ, ◌<◌, ◌≤◌, ◌+◌, ◌^◌, ◌==◌, ◌&&◌, List, ◌∷◌, length, Bool, true, false, not, None, refl, sym, ap, subst, inl, arith, eq-eqb}
+use Rattle.spdm_basis.proofs.Bools.{lt_false}
 use Rattle.std.specs.Prelude.{if◌then◌else◌}
 use Rattle.std.proofs.lemmas.Bool.{false≢true, not-false}
 use Rattle.negotiate.specs.declared.shared.Sizes.{Sizes}
 use Rattle.spdm_basis.specs.Sizes.{hash_size}
-use Rattle.spdm_basis.specs.declared.session_id.SessionId.{SessionId}
-use Rattle.spdm_grammar.specs.Message.{ExchangeMessage, RequestMessage}
+use Rattle.spdm_grammar.specs.Message.{ExchangeMessage}
 use Rattle.spdm_grammar.specs.Message.RequestMessage.{PskExchange}
 use Rattle.spdm_grammar.specs.Requests.{canonical_request}
-use Rattle.spdm_grammar.specs.declared.event.Event.TheVariants as event
 use Rattle.spdm_grammar.specs.declared.event.Finished.TheVariants as finished
-use Rattle.spdm_grammar.specs.declared.phase.Phase.{Phase}
 use Rattle.spdm_grammar.specs.declared.phase.Phase.TheVariants.{Negotiated}
-use Rattle.spdm_machine.specs.Bodies.{clear_body}
 use Rattle.spdm_machine.specs.Keys.{Draw, context_of}
-use Rattle.spdm_machine.specs.TagLog.{Log}
-use Rattle.spdm_machine.specs.Terms.{Terms, terms_of}
+use Rattle.spdm_machine.specs.Terms.{terms_of}
 use Rattle.transcript.specs.Transcripts.{Negotiation}
 use Rattle.requester_machine.proofs.Choosing.{context-length, free_id-free, free_id-in_range}
 use Rattle.requester_machine.proofs.Entries.{test_at, test_is_false}
@@ -26,13 +22,12 @@ use Rattle.requester_machine.specs.Commands.{Free, command_fault, command_tests,
 use Rattle.requester_machine.specs.Does.{chosen, command_chosen, free_id, requester_asks}
 use Rattle.requester_machine.specs.History as asked
 use Rattle.requester_machine.specs.History.Entry.{Told as WasTold}
-use Rattle.requester_machine.specs.Message.{Command, Sent}
 use Rattle.requester_machine.specs.Message.Command.{Open}
 use Rattle.requester_machine.specs.Requesting as asking
 use Rattle.requester_machine.specs.Requesting.{Requesting, commanded_by, requester_told}
 use Rattle.requester_machine.specs.Sending.{piece_sent, plain_sent, request_sent}
 use Rattle.requester_machine.specs.Session as steps
-use Rattle.requester_machine.specs.UnderWay.{IsCommon, is_capable}
+use Rattle.requester_machine.specs.UnderWay.{is_capable}
 use Rattle.responder_machine.proofs.Ids.{not_four}
 use Rattle.responder_machine.proofs.Sizes.{sizes_set_up}
 use Rattle.responder_machine.specs.History as served
@@ -47,15 +42,12 @@ use Rattle.world_machine.specs.Happenings.Happening.{Told}
 use Rattle.world_machine.specs.Setup.{WorldSetup}
 use Rattle.world_machine.specs.Trace.{lines_from, world_after, world_from}
 use Rattle.world_machine.specs.World.{World}
-use Rattle.spdm_progress.specs.Honest.{AreHonest, HaveNoCommand, NothingWaits}
+use Rattle.spdm_progress.specs.Honest.{AreHonest, HaveNoCommand}
 use Rattle.spdm_progress.specs.Opening.{CanOpen, OpenCompletes, exchange_rsp_size}
 use Rattle.spdm_progress.specs.SessionCommands.{IsDoneQuietly, IsToldQuietly, commanding}
 use Rattle.spdm_progress.proofs.Accepted.{not_worn_told, told_so}
-use Rattle.spdm_progress.proofs.ExchangeStages.{IsExchange}
-use Rattle.spdm_progress.proofs.OnePacket.{not_longer}
 use Rattle.spdm_progress.proofs.OpenRounds.{CanExchange, OpenDone, OpenTalkAnswers, OpenTalkAsks, open_talk}
 use Rattle.spdm_progress.proofs.PacketSteps.{Pair}
-use Rattle.spdm_progress.proofs.SessionBegins.{sends}
 use Rattle.spdm_progress.proofs.SessionCompletes.{Idle, Rests, completes_by, fresh, no_chance_from, placed}
 use Rattle.spdm_progress.proofs.Aside.{IsAside, nothing_aside}
 use Rattle.spdm_progress.proofs.Told.{ArePlaced, fits_always, pair_of}
@@ -131,7 +123,7 @@ module _ (w : WorldSetup) (before : List Entry) (n : ℕ) (a : Requesting) (c : 
   asks =
       accepted.1
       ∙ ap (λ (b : Bool). Adds (WasTold (Open summary) (if b then piece_sent (asked.connection_terms a.history).common a.history (PskExchange x) (asked.next_handle a.history) 0 else plain_sent a.history (PskExchange x)) d))
-      (not_longer (asked.connection_terms a.history).common.to_responder.transfer (length (canonical_request (PskExchange x))) can.request_fits)
+      (lt_false (asked.connection_terms a.history).common.to_responder.transfer (length (canonical_request (PskExchange x))) can.request_fits)
 
   own_context : f.context ≡ context_of (asked.connection_terms a.history).choice.hash d
   unfolding chosen
@@ -179,7 +171,7 @@ module _ (w : WorldSetup) (before : List Entry) (n : ℕ) (a : Requesting) (c : 
 
   abbrev Result : ℕ → Type 0
   Result id = IsDoneQuietly n a.setup c.setup (finished.Opened (record { req = id; rsp = rid })) id true (world_from (commanding (world_after w before) line n (Open summary)) behind) (lines_from (commanding (world_after w before) line n (Open summary)) behind)
-      × Idle Aside (world_from (commanding (world_after w before) line n (Open summary)) behind)
+      × Idle (world_after w before) n a Aside (world_from (commanding (world_after w before) line n (Open summary)) behind)
 
   done_with : Result f.id
   done_with =

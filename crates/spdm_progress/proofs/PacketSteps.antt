@@ -1,5 +1,6 @@
 -- One packet of a clear exchange is given to its end, which answers it with one packet or with none.
 use Rattle.std.proofs.Common.{◌≡◌, ◌≢◌, ◌∙◌, ℕ, suc, ◌<◌, ◌≤◌, ◌+◌, ◌==◌, List, [], ◌∷◌, length, find, Bool, true, false, nat_lt, nat_le, Option, Some, None, unwrap_or, refl, sym, ap, subst, inl, arith, eq-eqb}
+use Rattle.spdm_basis.proofs.Bools.{lt_false}
 use Rattle.std.specs.Prelude.{if◌then◌else◌}
 use Rattle.std.proofs.lemmas.Bool.{ne_eqb}
 use Rattle.std.proofs.lemmas.Bool.Decides.{nat_tests}
@@ -30,7 +31,7 @@ use Rattle.world_machine.specs.World.{World, WorldStep, SentPacket, first_waitin
 use Rattle.spdm_progress.proofs.Drawn.{draws_whole}
 use Rattle.spdm_progress.proofs.AtRequester.{asking, given_whole}
 use Rattle.spdm_progress.proofs.AtResponder.{hears_request}
-use Rattle.spdm_progress.proofs.OnePacket.{route_to, packet_to, one_packet, not_longer}
+use Rattle.spdm_progress.proofs.OnePacket.{route_to, packet_to, one_packet}
 use Rattle.spdm_progress.proofs.Places.{found_new, of_new, of_same, number_new}
 use Rattle.spdm_progress.proofs.RequesterStages.{Hears}
 use Rattle.spdm_progress.proofs.ResponderStages.{Answered}
@@ -96,7 +97,7 @@ pub either_last : (b c : Bool) (x y z : WorldStep) → b ≡ false → c ≡ fal
 either_last b c x y z e f = rw (e, f) refl
 
 four_bytes : (to from : ℕ) (owner : Bool) (tag : ℕ) (m : List ℕ) → nat_lt (length (packet_to to from owner tag m)) 2 ≡ false
-four_bytes to from owner tag m = not_longer (length (packet_to to from owner tag m)) 2 (omega arith)
+four_bytes to from owner tag m = lt_false (length (packet_to to from owner tag m)) 2 (omega arith)
 
 to_responder : (world : World) (to from tag : ℕ) (m : List ℕ) → world.responder.part.eid ≡ to
     → given world (packet_to to from true tag m) ≡ given_to_responder world (packet_to to from true tag m) (responder_hears world.responder (packet_to to from true tag m))

@@ -1,5 +1,5 @@
 -- One requester of a world, and the responder's connection with it, found again after each change.
-use Rattle.std.proofs.Common.{◌≡◌, ◌≢◌, ◌∙◌, ℕ, zero, suc, ◌+◌, ◌==◌, List, [], ◌∷◌, map, find, Bool, true, false, cond, Option, Some, refl, sym, ap, inl, inr, arith, eq-eqb}
+use Rattle.std.proofs.Common.{◌≡◌, ◌≢◌, ◌∙◌, ℕ, zero, suc, ◌+◌, ◌==◌, List, [], ◌∷◌, map, find, Bool, true, false, cond, Option, Some, refl, sym, ap, arith, eq-eqb}
 use Rattle.std.specs.Prelude.{if◌then◌else◌}
 use Rattle.std.proofs.lemmas.Bool.{ne_eqb}
 use Rattle.spdm_machine.proofs.Members.{IsIn, some_same, none_some, map_in}

@@ -1,17 +1,14 @@
 -- Each command of two quiet ends comes to its result, and leaves the others quiet.
-use Rattle.std.proofs.Common.{◌≡◌, ◌∙◌, ℕ, ◌<◌, ◌≤◌, ◌+◌, List, [], ◌∷◌, ◌++◌, length, Bool, true, false, is_none, Some, None, refl, sym, ap, subst, inl, inr, arith}
+use Rattle.std.proofs.Common.{◌≡◌, ◌∙◌, ℕ, ◌≤◌, List, [], ◌∷◌, Bool, true, false, is_none, Some, None, refl, sym, ap, subst, inl, inr, arith}
 use Rattle.std.specs.Prelude.{if◌then◌else◌}
 use Rattle.std.proofs.lemmas.Bool.{false≢true, not-false}
-use Rattle.measurements.specs.Records.{is_missing}
 use Rattle.negotiate.specs.declared.shared.Sizes.{Sizes}
-use Rattle.spdm_basis.proofs.Bools.{and_second}
+use Rattle.spdm_basis.proofs.Bools.{and_second, lt_false}
 use Rattle.spdm_grammar.specs.Message.RequestMessage.{GetMeasurements}
-use Rattle.spdm_grammar.specs.declared.event.Event.TheVariants as event
 use Rattle.spdm_grammar.specs.declared.event.Finished.{Finished}
 use Rattle.spdm_grammar.specs.declared.event.Finished.TheVariants as finished
 use Rattle.spdm_grammar.specs.declared.phase.Phase.TheVariants.{Negotiated}
 use Rattle.spdm_machine.specs.Keys.{Draw}
-use Rattle.spdm_machine.specs.TagLog.{Log}
 use Rattle.spdm_machine.specs.Terms.{terms_of}
 use Rattle.transcript.specs.Transcripts.{Negotiation}
 use Rattle.requester_machine.proofs.Entries.{test_is_false}
@@ -41,8 +38,7 @@ use Rattle.world_machine.specs.Happenings.Happening.{Pump}
 use Rattle.world_machine.specs.Setup.{WorldSetup}
 use Rattle.world_machine.specs.Trace.{lines_from, world_after, world_from}
 use Rattle.world_machine.specs.World.{World, happens}
-use Rattle.spdm_progress.specs.Honest.{AreHonest, HaveNoCommand, NothingWaits}
-use Rattle.spdm_progress.specs.InStep.{AreQuiet}
+use Rattle.spdm_progress.specs.Honest.{AreHonest, HaveNoCommand}
 use Rattle.spdm_progress.specs.Measuring.{measurements_size, number_for}
 use Rattle.spdm_progress.specs.Scripts.{CanDo, IsDone, PumpsAreEnough, QuietCommandsComplete, result_for}
 use Rattle.spdm_progress.specs.SessionCommands.{CanAsk, IsDoneQuietly, IsToldQuietly, commanding, goes_on, result_of}
@@ -52,7 +48,6 @@ use Rattle.spdm_progress.proofs.Aside.{IsAside, nothing_aside}
 use Rattle.spdm_progress.proofs.ConnectRounds as connects
 use Rattle.spdm_progress.proofs.MeasureRound as measures
 use Rattle.spdm_progress.proofs.MeasureStages.{CanServe, made_again}
-use Rattle.spdm_progress.proofs.OnePacket.{not_longer}
 use Rattle.spdm_progress.proofs.Opened as opens
 use Rattle.spdm_progress.proofs.PacketSteps.{Pair}
 use Rattle.spdm_progress.proofs.SessionCompletes as sessions
@@ -64,23 +59,26 @@ module _ (w : WorldSetup) (before : List Entry) (n : ℕ) (a : Requesting) (c : 
   After command = commanding (world_after w before) line n command
 
   abbrev pub Result : Command → Type 0
-  Result command = IsDone n a.setup c.setup (result_for a c command) (world_from (After command) behind) (lines_from (After command) behind) × Idle Aside (world_from (After command) behind)
+  Result command = IsDone n a.setup c.setup (result_for a c command) (world_from (After command) behind) (lines_from (After command) behind) × Idle (world_after w before) n a Aside (world_from (After command) behind)
 
   -- What is told of a session is among it.
   plainly : (command : Command) (result : Finished) (id : ℕ) (left : Bool) → result ≡ result_for a c command
-      → IsDoneQuietly n a.setup c.setup result id left (world_from (After command) behind) (lines_from (After command) behind) × Idle Aside (world_from (After command) behind) → Result command
+      → IsDoneQuietly n a.setup c.setup result id left (world_from (After command) behind) (lines_from (After command) behind) × Idle (world_after w before) n a Aside (world_from (After command) behind) → Result command
   plainly command result id left same x =
-      subst (λ (f : Finished). IsDone n a.setup c.setup f (world_from (After command) behind) (lines_from (After command) behind) × Idle Aside (world_from (After command) behind)) same
-      ((record {
-        told = x.0.told;
-        requester = x.0.requester;
-        is_requester = x.0.is_requester;
-        connection = x.0.connection;
-        is_connection = x.0.is_connection;
-        requester_setup = x.0.requester_setup;
-        responder_setup = x.0.responder_setup;
-        quiet = x.0.quiet;
-      }, x.1))
+      subst (λ (f : Finished). IsDone n a.setup c.setup f (world_from (After command) behind) (lines_from (After command) behind) × Idle (world_after w before) n a Aside (world_from (After command) behind)) same
+      ((
+        record {
+          told = x.0.told;
+          requester = x.0.requester;
+          is_requester = x.0.is_requester;
+          connection = x.0.connection;
+          is_connection = x.0.is_connection;
+          requester_setup = x.0.requester_setup;
+          responder_setup = x.0.responder_setup;
+          quiet = x.0.quiet;
+        },
+        x.1,
+      ))
 
   -- What is known of what stands behind the command.
   pub record IsOver (command : Command) : Type 0 where
@@ -156,7 +154,7 @@ module _ (w : WorldSetup) (before : List Entry) (n : ℕ) (a : Requesting) (c : 
         let room = there in
         accepted.1
         ∙ ap (λ (b : Bool). Adds (WasTold command (if b then piece_sent (asked.connection_terms a.history).common a.history (GetMeasurements op) (asked.next_handle a.history) 0 else plain_sent a.history (GetMeasurements op)) d))
-        (not_longer (asked.connection_terms a.history).common.to_responder.transfer 4 (omega arith))
+        (lt_false (asked.connection_terms a.history).common.to_responder.transfer 4 (omega arith))
 
     abbrev pair : Pair
     pair = pair_of n a c
@@ -206,4 +204,4 @@ quiet_commands_complete w before n a c command told can line behind none honest 
 pub pumps_are_enough : PumpsAreEnough
 unfolding happens
 pumps_are_enough w before n a c command told can line count most chance =
-    (each w before n a c line (record { line = line; happening = Pump count } ∷ []) (refl, tt) (λ later. Unit {0}) (nothing_aside (pair_of n a c)) tt command can (record { told = told; honest = (tt, tt); still = inr (line, count, most, refl); chance = chance })).1.0
+    (each w before n a c line (record { line = line; happening = Pump count } ∷ []) (refl, tt) (λ later. Unit {0}) (nothing_aside (pair_of n a c)) tt command can (record { told = told; honest = (tt, tt); still = inr (line, count, most, refl); chance = chance })).1.idle

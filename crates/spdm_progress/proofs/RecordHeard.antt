@@ -1,15 +1,13 @@
 -- What a requester does with a record that answers what it asked of a session.
-use Rattle.std.proofs.Common.{◌≡◌, ◌∙◌, ℕ, List, ◌∷◌, Bool, false, Option, Some, None, Result, Ok, refl, ap, eq-eqb}
+use Rattle.std.proofs.Common.{◌≡◌, ◌∙◌, ℕ, List, false, Option, Some, None, refl, ap, eq-eqb}
 use Rattle.spdm_basis.specs.declared.record_fault.RecordFault.{RecordFault}
 use Rattle.spdm_grammar.specs.declared.event.ReqIgnored.{ReqIgnored}
 use Rattle.spdm_machine.specs.Bodies.{record_body}
 use Rattle.spdm_machine.specs.Keys.{Draw}
-use Rattle.requester_machine.specs.Asking.{Outcome}
 use Rattle.requester_machine.specs.Asking.Outcome.{Adds}
 use Rattle.requester_machine.specs.Bodies.{body_fault}
-use Rattle.requester_machine.specs.Commands.{Free}
 use Rattle.requester_machine.specs.Does.{body_chosen, requester_hears}
-use Rattle.requester_machine.specs.Hearing.{hears, hears_by, on_record, record_outcome, took}
+use Rattle.requester_machine.specs.Hearing.{hears, hears_by, on_record, record_outcome}
 use Rattle.requester_machine.specs.History.{History, outstanding}
 use Rattle.requester_machine.specs.History.Entry.{TookRecord}
 use Rattle.requester_machine.specs.InnerMessages.{Came, inner_led, or_lost}

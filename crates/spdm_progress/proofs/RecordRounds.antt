@@ -1,61 +1,41 @@
 -- A round in a session: a record that asks something of it is on its way to the responder, and then the record that
 -- answers it is on its way back.
-use Rattle.std.proofs.Common.{◌≡◌, ◌≢◌, ◌⊎◌, ◌∙◌, ℕ, ◌<◌, ◌≤◌, ◌+◌, ◌==◌, List, [], ◌∷◌, ◌++◌, length, drop, Bool, true, false, Option, Some, None, Result, Ok, Contains, refl, sym, ap, ap₂, subst, inl, inr, arith, eq-eqb, eqb-true}
-use Rattle.std.specs.Prelude.{bytes_eq, if◌then◌else◌}
-use Rattle.std.proofs.lemmas.Bool.{false≢true, ne_eqb}
+use Rattle.std.proofs.Common.{◌≡◌, ◌≢◌, ◌∙◌, ℕ, ◌≤◌, ◌+◌, ◌==◌, List, [], ◌∷◌, ◌++◌, Bool, true, false, None, refl, sym, ap, subst, inl, inr, arith, eq-eqb, eqb-true}
+use Rattle.std.proofs.lemmas.Bool.{false≢true}
 use Rattle.std.proofs.lemmas.List.Elements.{Contains-append_right}
-use Rattle.std.proofs.lemmas.Slice.Eq.{bytes_eq-Decides}
 use Rattle.key_schedule.specs.Purpose.{Purpose}
 use Rattle.key_schedule.specs.Purpose.Kind.{ApplicationRecord, HandshakeRecord}
-use Rattle.key_schedule.specs.declared.direction.Direction.TheVariants.{Request, Response}
-use Rattle.secured_record.specs.Faults.{tag_part}
-use Rattle.spdm_basis.specs.SessionIdBytes.{session_id_bytes}
-use Rattle.spdm_grammar.specs.declared.event.Event.{Event}
+use Rattle.key_schedule.specs.declared.direction.Direction.TheVariants.{Request}
 use Rattle.spdm_grammar.specs.declared.phase.Stage.{Stage}
 use Rattle.spdm_grammar.specs.declared.phase.Stage.TheVariants as stage
 use Rattle.spdm_grammar.specs.Message.RequestMessage.{PskExchange}
 use Rattle.spdm_grammar.specs.Requests.{IsSoundRequest}
-use Rattle.spdm_machine.specs.Bodies.{record_body}
-use Rattle.spdm_machine.specs.Keys.{Draw, context_of, record_fault, sealed_of}
+use Rattle.spdm_machine.specs.Keys.{context_of}
 use Rattle.spdm_machine.specs.Sessions.{is_past_handshake, purpose_in}
 use Rattle.spdm_machine.specs.Terms.{Terms, hash_len, terms_of}
-use Rattle.spdm_machine.specs.TagLog.{Log, made_record, record_input, record_tag}
-use Rattle.spdm_machine.specs.TagLog.Act.{Made}
+use Rattle.spdm_machine.specs.TagLog.{Log}
 use Rattle.requester_machine.specs.Does as asking_does
 use Rattle.requester_machine.specs.Does.{body_chosen, requester_hears}
-use Rattle.requester_machine.specs.Asking.Outcome.{Adds}
 use Rattle.requester_machine.specs.History as asked
 use Rattle.requester_machine.specs.History.{Led, outstanding}
 use Rattle.requester_machine.specs.History.Effect.{Grants}
 use Rattle.requester_machine.specs.History.Entry.{TookRecord}
-use Rattle.requester_machine.specs.InnerMessages.{Came, inner_led, or_lost, with_record}
-use Rattle.requester_machine.specs.Message.{Ask, Sent}
+use Rattle.requester_machine.specs.Message.{Ask}
 use Rattle.requester_machine.specs.Message.Ask.{AskBeat, AskChunk, AskData, AskEnd, AskFinish, AskMeasure, AskUpdate, AskVerify}
-use Rattle.requester_machine.specs.Message.Content.{Sealed}
 use Rattle.requester_machine.specs.Order.{stage_for}
-use Rattle.requester_machine.specs.Records as requests
-use Rattle.requester_machine.specs.Records.{answer_fault, answer_inner, answer_number, answer_purpose, request_purpose, sealed_next}
+use Rattle.requester_machine.specs.Records.{request_purpose}
 use Rattle.requester_machine.specs.Session as steps
 use Rattle.requester_machine.specs.Session.{Steps}
 use Rattle.requester_machine.specs.Session.Step.{Asked, Took as TookAnswer}
 use Rattle.requester_machine.specs.Setup.{ReqSetup}
-use Rattle.requester_machine.proofs.FewMade.{numbers_few}
 use Rattle.responder_machine.specs.Does as serving_does
 use Rattle.responder_machine.specs.Does.{record_chosen, record_does, responder_does}
 use Rattle.responder_machine.specs.History as served
-use Rattle.responder_machine.specs.Records as replies
-use Rattle.responder_machine.specs.Responder as answering
-use Rattle.responder_machine.specs.Responder.{inner_reply, repeats, sealed_entry, session_turn}
 use Rattle.responder_machine.specs.Session as events
 use Rattle.responder_machine.specs.Session.{Events, id_in_record}
 use Rattle.responder_machine.specs.Setup.{RspSetup}
-use Rattle.responder_machine.specs.Turn.{Turn}
-use Rattle.world_machine.specs.Chance.{NoChance}
-use Rattle.spdm_progress.specs.InStep.{AreInStep, AreQuiet, AreResting, IsResting, TookEarlier, WasSealed, rsp_id}
-use Rattle.spdm_progress.proofs.AlikeSessions.{IsAnswerTo, behind, is_kept, same_id, same_requests, same_responses, same_terms, still_in_step}
-use Rattle.spdm_progress.proofs.RecordHeard.{asking_in, came_as, heard}
-use Rattle.spdm_progress.proofs.RecordServed.{served as taken}
-use Rattle.spdm_progress.proofs.RecordsBetween.{names_session, no_copy, opens, record_length, tag_is, the_record}
+use Rattle.spdm_progress.specs.InStep.{AreQuiet, AreResting, IsResting, TookEarlier, WasSealed, rsp_id}
+use Rattle.spdm_progress.proofs.AlikeSessions.{is_kept, still_in_step}
 use Rattle.spdm_progress.proofs.StillKept.{AreAlike, IsSameSession}
 
 -- ---- Records that were sealed before.

@@ -1,6 +1,6 @@
 -- What a responder does with a record that opens in a live session and is no repeat.
-use Rattle.std.proofs.Common.{◌≡◌, ◌∙◌, ℕ, ◌==◌, ◌||◌, List, [], ◌∷◌, length, drop, Bool, true, false, cond, nat_le, not, Option, Some, None, refl, sym, ap, eq-eqb}
-use Rattle.std.specs.Prelude.{bytes_eq, if◌then◌else◌}
+use Rattle.std.proofs.Common.{◌≡◌, ◌∙◌, ℕ, ◌==◌, ◌||◌, List, [], ◌∷◌, Bool, true, false, cond, Option, Some, None, refl, sym, ap, eq-eqb}
+use Rattle.std.specs.Prelude.{if◌then◌else◌}
 use Rattle.std.proofs.lemmas.Bool.{false≢true}
 use Rattle.std.proofs.lemmas.Slice.Eq.{bytes_eq-Decides}
 use Rattle.spdm_basis.specs.declared.record_fault.RecordFault.{RecordFault}
@@ -8,11 +8,11 @@ use Rattle.spdm_grammar.specs.declared.names.request_code.TheConstants.{END_SESS
 use Rattle.spdm_machine.specs.Keys.{Draw}
 use Rattle.spdm_machine.proofs.Members.{none_some, some_same}
 use Rattle.responder_machine.specs.Answer.{Free}
-use Rattle.responder_machine.specs.Does.{IsMade, record_chosen, record_does}
+use Rattle.responder_machine.specs.Does.{record_chosen, record_does}
 use Rattle.responder_machine.specs.History.{History, KeptRecord, clear_turns, ended_of, negotiation_of, phase_of}
 use Rattle.responder_machine.specs.History.Entry.{Clear, Sealed, Queued, Ticked, Dropped}
 use Rattle.responder_machine.specs.Records.{opened, opening_fault}
-use Rattle.responder_machine.specs.Responder.{Outcome, in_session, in_session_by, kept_record, on_record, repeats, sealed_entry, session_turn, to_session}
+use Rattle.responder_machine.specs.Responder.{in_session, in_session_by, kept_record, on_record, repeats, sealed_entry, session_turn, to_session}
 use Rattle.responder_machine.specs.Responder.Outcome.{Adds, Same}
 use Rattle.responder_machine.specs.Session.{Event, Events, after_clear, after_record, after_tick, id_in_record, is_live, last_of, session_of, when_live}
 use Rattle.responder_machine.specs.Session.Event.{Heard}

@@ -1,73 +1,38 @@
 -- One round in a session: what the responder makes of the record that asks, and the requester of the one that answers.
-use Rattle.std.proofs.Common.{◌≡◌, ◌≢◌, ◌∙◌, ℕ, ◌<◌, ◌≤◌, ◌+◌, ◌==◌, ◌||◌, List, [], ◌∷◌, ◌++◌, length, drop, Bool, true, false, cond, Option, Some, None, Result, Ok, Contains, refl, sym, ap, ap₂, subst, inl, inr, arith, eq-eqb}
-use Rattle.std.specs.Prelude.{bytes_eq, if◌then◌else◌}
+use Rattle.std.proofs.Common.{◌≡◌, ◌≢◌, ◌∙◌, ℕ, ◌≤◌, ◌+◌, ◌==◌, ◌||◌, List, [], ◌∷◌, length, Bool, true, false, Option, Some, None, refl, sym, ap, ap₂, subst, arith, eq-eqb}
+use Rattle.std.specs.Prelude.{if◌then◌else◌}
 use Rattle.std.proofs.lemmas.Bool.{false≢true, ne_eqb}
-use Rattle.std.proofs.lemmas.List.Elements.{Contains-append_left, Contains-append_right, Contains-push}
-use Rattle.std.proofs.lemmas.Slice.Eq.{bytes_eq-Decides}
 use Rattle.key_schedule.specs.Purpose.{Purpose}
 use Rattle.key_schedule.specs.declared.direction.Direction.TheVariants.{Response}
-use Rattle.secured_record.specs.Faults.{tag_part}
-use Rattle.spdm_basis.specs.SessionIdBytes.{session_id_bytes}
 use Rattle.spdm_basis.specs.declared.record_fault.RecordFault.{RecordFault}
 use Rattle.spdm_basis.specs.declared.record_fault.RecordFault.TheVariants.{KeySpent}
 use Rattle.spdm_grammar.specs.declared.choice.Choice.{Choice}
 use Rattle.spdm_grammar.specs.declared.names.request_code.TheConstants.{END_SESSION}
 use Rattle.spdm_grammar.specs.declared.phase.Stage.{Stage}
-use Rattle.spdm_grammar.specs.declared.phase.Stage.TheVariants as stage
-use Rattle.spdm_machine.specs.Bodies.{record_body}
 use Rattle.spdm_machine.specs.Keys.{Draw, inner_message, record_fault, sealed_of}
 use Rattle.spdm_machine.specs.Sessions.{id_in_exchange, purpose_in}
 use Rattle.spdm_machine.specs.Terms.{Terms}
-use Rattle.spdm_machine.specs.TagLog.{Log, made_record, record_input, record_tag}
-use Rattle.spdm_machine.specs.TagLog.Act.{Made}
-use Rattle.spdm_machine.proofs.Members.{none_some, some_same}
-use Rattle.requester_machine.specs.Does as asking_does
-use Rattle.requester_machine.specs.Does.{body_chosen, requester_hears}
-use Rattle.requester_machine.specs.Asking.{Outcome}
-use Rattle.requester_machine.specs.Asking.Outcome.{Adds}
-use Rattle.requester_machine.specs.History as asked
-use Rattle.requester_machine.specs.History.{Led, outstanding}
-use Rattle.requester_machine.specs.History.Effect.{Grants}
-use Rattle.requester_machine.specs.History.Entry.{TookRecord}
-use Rattle.requester_machine.specs.InnerMessages.{inner_led, or_lost}
-use Rattle.requester_machine.specs.Message.{Ask, Content}
+use Rattle.requester_machine.specs.Message.{Ask}
 use Rattle.requester_machine.specs.Message.Ask.{AskBeat, AskChunk, AskData, AskEnd, AskFinish, AskMeasure, AskUpdate, AskVerify}
-use Rattle.requester_machine.specs.Message.Content.{Sealed}
 use Rattle.requester_machine.specs.Order.{stage_for}
-use Rattle.requester_machine.specs.Records as asking
-use Rattle.requester_machine.specs.Records.{answer_fault, answer_inner, answer_number, answer_purpose, asks_all, request_purpose, response_purpose, sealed_next}
-use Rattle.requester_machine.specs.RequesterLog as asked_log
+use Rattle.requester_machine.specs.Records.{asks_all, request_purpose, response_purpose, sealed_next}
 use Rattle.requester_machine.specs.Session as steps
 use Rattle.requester_machine.specs.Session.{Steps}
 use Rattle.requester_machine.specs.Session.Step.{Asked, Took as TookAnswer}
-use Rattle.requester_machine.specs.Setup.{ReqSetup}
-use Rattle.requester_machine.proofs.FewMade.{numbers_few}
-use Rattle.responder_machine.specs.Answer.{Free}
-use Rattle.responder_machine.specs.Does as serving_does
-use Rattle.responder_machine.specs.Does.{chosen, record_chosen, record_does, responder_does}
+use Rattle.responder_machine.specs.Does.{chosen, record_chosen}
 use Rattle.responder_machine.specs.History as served
 use Rattle.responder_machine.specs.History.{KeptRecord}
 use Rattle.responder_machine.specs.History.Entry.{Sealed as WasSealedThere}
 use Rattle.responder_machine.specs.Records as serving
 use Rattle.responder_machine.specs.Records.{opened, opening_fault, reply_number, reply_purpose, reply_record}
-use Rattle.responder_machine.specs.Responder as answering
-use Rattle.responder_machine.specs.Responder.{inner_reply, repeats, session_turn}
-use Rattle.responder_machine.specs.ResponderLog as served_log
 use Rattle.responder_machine.specs.Session as events
 use Rattle.responder_machine.specs.Session.{Events, after_record, id_in_record, when_live}
 use Rattle.responder_machine.specs.Session.Event.{Heard}
 use Rattle.responder_machine.specs.Setup.{RspSetup}
 use Rattle.responder_machine.specs.Turn.{Effect, Turn, takes, updates}
-use Rattle.world_machine.specs.Chance.{NoChance}
-use Rattle.spdm_progress.specs.InStep.{AreInStep, AreQuiet, AreResting, WasSealed, rsp_id}
-use Rattle.spdm_progress.proofs.AlikeSessions.{IsAnswerTo, behind, is_kept, same_id, same_requests, same_responses, same_terms, still_in_step}
-use Rattle.spdm_progress.proofs.ManyPackets.{IsBody}
-use Rattle.spdm_progress.proofs.RecordHeard.{asking_in, came_as, heard}
-use Rattle.spdm_progress.proofs.RecordRounds.{Beside, KeepsBeside, beside_on, moves_on}
-use Rattle.spdm_progress.proofs.RecordServed.{served as taken}
-use Rattle.spdm_progress.proofs.RecordsBetween.{names_session, no_copy, opens, record_length, tag_is, the_record}
-use Rattle.spdm_progress.proofs.StillKept.{AreAlike, IsSameSession, alike_itself}
-use Rattle.spdm_progress.proofs.Talk.{IsSendable}
+use Rattle.spdm_progress.specs.InStep.{AreInStep, rsp_id}
+use Rattle.spdm_progress.proofs.AlikeSessions.{IsAnswerTo, is_kept, same_id, same_requests, same_responses, same_terms}
+use Rattle.spdm_progress.proofs.RecordsBetween.{opens}
 
 -- ---- A record of the requester opens at the responder.
 

@@ -1,6 +1,6 @@
 -- What one end seals of a session that both hold alike, the other opens, and it is no copy of a record under another
 -- purpose or number.
-use Rattle.std.proofs.Common.{◌≡◌, ◌⊎◌, ◌∙◌, ℕ, ◌<◌, ◌≤◌, ◌+◌, List, [], ◌∷◌, ◌++◌, length, take, drop, Bool, true, false, Option, None, refl, sym, ap, subst, inl, inr, arith, length-append}
+use Rattle.std.proofs.Common.{◌≡◌, ◌∙◌, ℕ, ◌<◌, ◌≤◌, ◌+◌, List, [], ◌∷◌, length, None, sym, ap, inl, inr, arith, length-append}
 use Rattle.aes_gcm.specs.Gcm.{crypt, tag_of}
 use Rattle.aes_gcm.proofs.Tags.{length-tag_of}
 use Rattle.aes_gcm.proofs.Twice.{length-crypt}
@@ -9,10 +9,9 @@ use Rattle.secured_record.specs.Faults.{tag_part}
 use Rattle.secured_record.specs.Format.{record_of, plain_text, header, nonce}
 use Rattle.secured_record.proofs.Records.{record_opens}
 use Rattle.spdm_basis.specs.SessionIdBytes.{session_id_bytes}
-use Rattle.spdm_basis.specs.declared.record_fault.RecordFault.{RecordFault}
 use Rattle.spdm_grammar.specs.declared.choice.Choice.{Choice}
 use Rattle.spdm_machine.specs.Keys.{inner_message, record_fault, sealed_of}
-use Rattle.spdm_machine.specs.TagLog.{Act, Log, made_record, record_input, record_tag}
+use Rattle.spdm_machine.specs.TagLog.{Log, made_record, record_input, record_tag}
 use Rattle.spdm_machine.specs.TagLog.Act.{Made, Checked}
 use Rattle.spdm_machine.proofs.Members.{IsIn, in_contained}
 use Rattle.requester_machine.specs.Records.{request_purpose}

@@ -7,7 +7,7 @@ use Rattle.std.proofs.lemmas.Slice.Eq.{bytes_eq-Decides}
 use Rattle.negotiate.specs.Capabilities.{common_of}
 use Rattle.negotiate.specs.Choosing.{selected}
 use Rattle.negotiate.specs.declared.shared.Common.{Common}
-use Rattle.spdm_basis.proofs.Bools.{and_second}
+use Rattle.spdm_basis.proofs.Bools.{and_second, lt_false}
 use Rattle.spdm_grammar.specs.Message.{OfferMessage}
 use Rattle.spdm_grammar.specs.Message.RequestMessage.{GetVersion, GetCapabilities, NegotiateAlgorithms}
 use Rattle.spdm_grammar.specs.Message.ResponseMessage.{Capabilities}
@@ -34,7 +34,6 @@ use Rattle.responder_machine.specs.Setup.{RspSetup, responder_caps, policy_of}
 use Rattle.responder_machine.specs.Turn.{Turn}
 use Rattle.requester_machine.specs.Setup.{ReqSetup, requester_caps}
 use Rattle.transcript.specs.Transcripts.{Negotiation}
-use Rattle.spdm_progress.proofs.OnePacket.{not_longer}
 use Rattle.spdm_progress.proofs.ResponderTurns.{taken_turn, taken_at, read_at}
 
 -- ---- The six messages.
@@ -122,12 +121,12 @@ answers_by r h tag m d t P is holds = record {
 
 pub both_short : (known chunk : Bool) (max transfer n : ℕ) → (known ≡ true → (n ≤ max) × (n ≤ transfer)) → (known && (nat_lt max n || (not chunk && nat_lt transfer n))) ≡ false
 both_short false chunk max transfer n k = refl
-both_short true true max transfer n k = rw (not_longer max n (k refl).0) refl
-both_short true false max transfer n k = rw (not_longer max n (k refl).0, not_longer transfer n (k refl).1) refl
+both_short true true max transfer n k = rw (lt_false max n (k refl).0) refl
+both_short true false max transfer n k = rw (lt_false max n (k refl).0, lt_false transfer n (k refl).1) refl
 
 one_short : (known : Bool) (transfer n : ℕ) → (known ≡ true → n ≤ transfer) → (known && nat_lt transfer n) ≡ false
 one_short false transfer n k = refl
-one_short true transfer n k = not_longer transfer n (k refl)
+one_short true transfer n k = lt_false transfer n (k refl)
 
 zero_plus : (n : ℕ) → 0 + n ≡ n
 zero_plus n = omega arith
@@ -161,7 +160,7 @@ version_turn r h f room fits =
     taken_at r (clear_place h) get_version f GetVersion (read_at (clear_place h) GetVersion tt tt) refl
     (record {
       long = refl;
-      short = not_longer r.transfer 4 (omega arith);
+      short = lt_false r.transfer 4 (omega arith);
       known = refl;
       outside = refl;
       whole = refl;
@@ -181,7 +180,7 @@ capabilities_turn q r h f common room own go_together has =
     taken_at r (clear_place h) (get_capabilities q) f (GetCapabilities (requester_caps q)) (read_at (clear_place h) (GetCapabilities (requester_caps q)) own tt) refl
     (record {
       long = refl;
-      short = not_longer r.transfer 20 (omega arith);
+      short = lt_false r.transfer 20 (omega arith);
       known = refl;
       outside = refl;
       whole = refl;
@@ -212,8 +211,8 @@ pub algorithms_turn : (q : ReqSetup) (r : RspSetup) (h : History) (f : Free) (of
 algorithms_turn q r h f offer choice long room own sound chosen takes has =
     taken_at r (clear_place h) (negotiate_algorithms offer) f (NegotiateAlgorithms offer) (read_at (clear_place h) (NegotiateAlgorithms offer) own sound) refl
     (record {
-      long = not_longer (length (negotiate_algorithms offer)) 4 long;
-      short = not_longer r.transfer (length (negotiate_algorithms offer)) room;
+      long = lt_false (length (negotiate_algorithms offer)) 4 long;
+      short = lt_false r.transfer (length (negotiate_algorithms offer)) room;
       known = refl;
       outside = refl;
       whole = refl;

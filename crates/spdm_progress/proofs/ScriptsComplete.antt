@@ -1,8 +1,9 @@
 -- Every command of an honest script that is answered `ok`, and has what it needs, comes to its result.
-use Rattle.std.proofs.Common.{◌≡◌, ℕ, List, [], ◌∷◌, ◌++◌, Bool, true, false, if◌then◌else◌, refl, sym, subst}
+use Rattle.std.proofs.Common.{◌≡◌, ◌≤◌, ◌+◌, ◌*◌, ℕ, List, [], ◌∷◌, ◌++◌, length, Bool, true, false, if◌then◌else◌, refl, sym, subst, inl, arith}
 use Rattle.std.proofs.lemmas.Bool.{false≢true}
 use Rattle.requester_machine.specs.Message.{Command}
 use Rattle.spdm_agreement.specs.Configured.{IsConfigured}
+use Rattle.spdm_machine.specs.Packets.{wear_limit}
 use Rattle.world_machine.specs.Chance.{NoChance}
 use Rattle.world_machine.specs.Happenings.{Entry, Happening}
 use Rattle.world_machine.specs.Happenings.Happening.{Told, Reply, Deliver, Lose, Inject, Pump, Tick, Show}
@@ -11,9 +12,9 @@ use Rattle.world_machine.specs.Trace.{world_after, world_from}
 use Rattle.world_machine.specs.World.{World, entry_step, new_world}
 use Rattle.spdm_progress.specs.Honest.{AreHonest, HaveNoCommand, IsHonest, NothingWaits, is_command}
 use Rattle.spdm_progress.specs.Scripts.{CanBeDone, HonestScriptsComplete, IsQuietWorld, OfEachCommand, QuietWorldsComplete, WillBeDone, up_to_command}
-use Rattle.spdm_progress.proofs.QuietWorlds.{behind_quiet, from_both}
+use Rattle.spdm_progress.proofs.QuietWorlds.{IsReady, behind_ready, from_both}
 use Rattle.spdm_progress.proofs.SessionCompletes.{no_chance_from}
-use Rattle.spdm_progress.proofs.Paragraphs.{Paragraph, paragraph_done, paragraph_quiet, starts_quiet}
+use Rattle.spdm_progress.proofs.Paragraphs.{Paragraph, paragraph_done, paragraph_ready, starts_ready}
 
 -- ---- The entries up to the next command.
 
@@ -72,12 +73,13 @@ module _ (w : WorldSetup) (configured : IsConfigured w) where
   Runs world entries = OfEachCommand WillBeDone world entries × IsQuietWorld (world_from world entries)
 
   -- What is left of an honest script.
-  record AreLeft (before entries : List Entry) : Type 0 where
+  record AreLeft (most : ℕ) (before entries : List Entry) : Type 0 where
+    room : most + 199 * length entries ≤ wear_limit
     honest : AreHonest (world_after w before) entries
     still : NothingWaits (world_from (world_after w before) entries)
     chance : NoChance (world_from (world_after w before) entries).log
     can : OfEachCommand CanBeDone (world_after w before) entries
-    next : IsQuietWorld (world_from (world_after w before) (up_to_command entries))
+    next : IsReady most (world_from (world_after w before) (up_to_command entries))
 
   abbrev and_one : List Entry → Entry → List Entry
   and_one before entry = before ++ entry ∷ []
@@ -88,65 +90,70 @@ module _ (w : WorldSetup) (configured : IsConfigured w) where
   one_later : (before : List Entry) (entry : Entry) → world_after w (and_one before entry) ≡ later before entry
   one_later before entry = from_both (new_world w) before (entry ∷ [])
 
-  left_behind : (before : List Entry) (entry : Entry) (entries : List Entry) → AreLeft before (entry ∷ entries) → IsQuietWorld (world_from (later before entry) (up_to_command entries)) → AreLeft (and_one before entry) entries
-  left_behind before entry entries l quiet =
+  left_behind : (most more : ℕ) → more ≤ most + 199 → (before : List Entry) (entry : Entry) (entries : List Entry) → AreLeft most before (entry ∷ entries) → IsReady more (world_from (later before entry) (up_to_command entries)) → AreLeft more (and_one before entry) entries
+  left_behind most more up before entry entries l ready =
+      let room = l.room in
       let back = sym (one_later before entry) in
       record {
+        room = omega (arith, room, up);
         honest = subst (λ (z : World). AreHonest z entries) back l.honest.1;
         still = subst (λ (z : World). NothingWaits (world_from z entries)) back l.still;
         chance = subst (λ (z : World). NoChance (world_from z entries).log) back l.chance;
         can = subst (λ (z : World). OfEachCommand CanBeDone z entries) back l.can.1;
-        next = subst (λ (z : World). IsQuietWorld (world_from z (up_to_command entries))) back quiet;
+        next = subst (λ (z : World). IsReady more (world_from z (up_to_command entries))) back ready;
       }
 
   behind_one : (before : List Entry) (entry : Entry) (entries : List Entry) → Runs (world_after w (and_one before entry)) entries → Runs (later before entry) entries
   behind_one before entry entries runs = subst (λ (z : World). Runs z entries) (one_later before entry) runs
 
   abbrev Others : List Entry → Entry → List Entry → Type 0
-  Others before entry entries = AreLeft (and_one before entry) entries → Runs (world_after w (and_one before entry)) entries
+  Others before entry entries = (most : ℕ) → AreLeft most (and_one before entry) entries → Runs (world_after w (and_one before entry)) entries
 
   abbrev at_line : ℕ → Happening → Entry
   at_line line event = record { line = line; happening = event }
 
-  command_runs : (before : List Entry) (line n : ℕ) (command : Command) (entries : List Entry) → Others before (at_line line (Told n command)) entries → AreLeft before (at_line line (Told n command) ∷ entries) → Runs (world_after w before) (at_line line (Told n command) ∷ entries)
-  command_runs before line n command entries others l =
+  command_runs : (most : ℕ) (before : List Entry) (line n : ℕ) (command : Command) (entries : List Entry) → Others before (at_line line (Told n command)) entries → AreLeft most before (at_line line (Told n command) ∷ entries) → Runs (world_after w before) (at_line line (Told n command) ∷ entries)
+  command_runs most before line n command entries others l =
       let entry = at_line line (Told n command) in
       let p : Paragraph = record { line = line; n = n; command = command; behind = up_to_command entries } in
       let none = none_yet entries in
       let honest = honest_yet (later before entry) entries l.honest.1 in
       let still = idle_next (later before entry) entries l.honest.1 l.still in
       let chance = chance_next (later before entry) entries l.chance in
-      let quiet = paragraph_quiet w configured before p l.next none honest still chance l.can.0 in
-      let rest = behind_one before entry entries (others (left_behind before entry entries l quiet)) in
-      ((paragraph_done w configured before p l.next none honest still chance l.can.0, rest.0), rest.1)
+      let all = l.room in
+      let room : most + 199 ≤ wear_limit = omega (arith, all) in
+      let ready = paragraph_ready w configured before p most room l.next none honest (inl still) chance l.can.0 in
+      let rest = behind_one before entry entries (others (most + 199) (left_behind most (most + 199) (omega arith) before entry entries l ready)) in
+      ((paragraph_done w configured before p most room l.next none honest (inl still) chance l.can.0, rest.0), rest.1)
 
   -- What comes behind an event that is no command.
-  other_runs : (before : List Entry) (entry : Entry) (entries : List Entry) → is_command entry.happening ≡ false → Others before entry entries → AreLeft before (entry ∷ entries) → Runs (later before entry) entries
-  other_runs before entry entries other others l =
-      behind_one before entry entries (others (left_behind before entry entries l (subst (λ (b : Bool). IsQuietWorld (world_from (world_after w before) (next_part b entry entries))) other l.next)))
+  other_runs : (most : ℕ) (before : List Entry) (entry : Entry) (entries : List Entry) → is_command entry.happening ≡ false → Others before entry entries → AreLeft most before (entry ∷ entries) → Runs (later before entry) entries
+  other_runs most before entry entries other others l =
+      behind_one before entry entries (others most (left_behind most most (omega arith) before entry entries l (subst (λ (b : Bool). IsReady most (world_from (world_after w before) (next_part b entry entries))) other l.next)))
 
-  one_runs : (before : List Entry) (line : ℕ) (event : Happening) (entries : List Entry) → Others before (at_line line event) entries → AreLeft before (at_line line event ∷ entries) → Runs (world_after w before) (at_line line event ∷ entries)
-  one_runs before line (Told n command) entries others l = command_runs before line n command entries others l
-  one_runs before line (Reply n bytes) entries others l = (let k = other_runs before (at_line line (Reply n bytes)) entries refl others l in ((tt, k.0), k.1))
-  one_runs before line (Deliver number) entries others l = (let k = other_runs before (at_line line (Deliver number)) entries refl others l in ((tt, k.0), k.1))
-  one_runs before line (Lose number) entries others l = (let k = other_runs before (at_line line (Lose number)) entries refl others l in ((tt, k.0), k.1))
-  one_runs before line (Inject bytes) entries others l = (let k = other_runs before (at_line line (Inject bytes)) entries refl others l in ((tt, k.0), k.1))
-  one_runs before line (Pump count) entries others l = (let k = other_runs before (at_line line (Pump count)) entries refl others l in ((tt, k.0), k.1))
-  one_runs before line (Tick seconds) entries others l = (let k = other_runs before (at_line line (Tick seconds)) entries refl others l in ((tt, k.0), k.1))
-  one_runs before line Show entries others l = (let k = other_runs before (at_line line Show) entries refl others l in ((tt, k.0), k.1))
+  one_runs : (most : ℕ) (before : List Entry) (line : ℕ) (event : Happening) (entries : List Entry) → Others before (at_line line event) entries → AreLeft most before (at_line line event ∷ entries) → Runs (world_after w before) (at_line line event ∷ entries)
+  one_runs most before line (Told n command) entries others l = command_runs most before line n command entries others l
+  one_runs most before line (Reply n bytes) entries others l = (let k = other_runs most before (at_line line (Reply n bytes)) entries refl others l in ((tt, k.0), k.1))
+  one_runs most before line (Deliver number) entries others l = (let k = other_runs most before (at_line line (Deliver number)) entries refl others l in ((tt, k.0), k.1))
+  one_runs most before line (Lose number) entries others l = (let k = other_runs most before (at_line line (Lose number)) entries refl others l in ((tt, k.0), k.1))
+  one_runs most before line (Inject bytes) entries others l = (let k = other_runs most before (at_line line (Inject bytes)) entries refl others l in ((tt, k.0), k.1))
+  one_runs most before line (Pump count) entries others l = (let k = other_runs most before (at_line line (Pump count)) entries refl others l in ((tt, k.0), k.1))
+  one_runs most before line (Tick seconds) entries others l = (let k = other_runs most before (at_line line (Tick seconds)) entries refl others l in ((tt, k.0), k.1))
+  one_runs most before line Show entries others l = (let k = other_runs most before (at_line line Show) entries refl others l in ((tt, k.0), k.1))
 
-  all_run : (entries before : List Entry) → AreLeft before entries → Runs (world_after w before) entries
-  all_run [] before l = (tt, l.next)
-  all_run (entry ∷ entries) before l = one_runs before entry.line entry.happening entries (λ k. all_run entries (and_one before entry) k) l
+  all_run : (entries before : List Entry) (most : ℕ) → AreLeft most before entries → Runs (world_after w before) entries
+  all_run [] before most l = (tt, l.next.0)
+  all_run (entry ∷ entries) before most l = one_runs most before entry.line entry.happening entries (λ more k. all_run entries (and_one before entry) more k) l
 
 pub quiet_worlds_complete : QuietWorldsComplete
-quiet_worlds_complete w configured before quiet entries honest still chance can = all_run w configured entries before (record {
+quiet_worlds_complete w configured before quiet most taken entries room honest still chance can = all_run w configured entries before most (record {
+  room = room;
   honest = honest;
   still = still;
   chance = chance;
   can = can;
-  next = behind_quiet (world_after w before) (up_to_command entries) (none_yet entries) (honest_yet (world_after w before) entries honest) quiet;
+  next = behind_ready most (world_after w before) (up_to_command entries) (none_yet entries) (honest_yet (world_after w before) entries honest) (quiet, taken);
 })
 
 pub honest_scripts_complete : HonestScriptsComplete
-honest_scripts_complete w configured entries honest still chance can = quiet_worlds_complete w configured [] (starts_quiet w) entries honest still chance can
+honest_scripts_complete w configured entries few honest still chance can = (let r = starts_ready w in quiet_worlds_complete w configured [] r.0 0 r.1 entries (omega (arith, few)) honest still chance can)

@@ -1,14 +1,11 @@
 -- A command that is told to a quiet requester: what it sends is on its way.
-use Rattle.std.proofs.Common.{◌≡◌, ◌≢◌, ◌∙◌, ℕ, ◌<◌, ◌≤◌, ◌+◌, ◌==◌, List, [], ◌∷◌, ◌++◌, length, take, find, Bool, true, false, Option, Some, None, refl, sym, ap, subst, inl, inr, arith, eq-eqb}
+use Rattle.std.proofs.Common.{◌≡◌, ◌≢◌, ◌∙◌, ℕ, ◌≤◌, ◌+◌, List, [], ◌∷◌, ◌++◌, length, Bool, true, false, Some, None, refl, sym, ap, inl, arith, eq-eqb}
 use Rattle.std.specs.Prelude.{if◌then◌else◌}
-use Rattle.std.proofs.lemmas.Bool.{false≢true, ne_eqb}
-use Rattle.spdm_grammar.specs.Lines.{Line}
+use Rattle.std.proofs.lemmas.Bool.{ne_eqb}
 use Rattle.spdm_machine.specs.Bodies.{record_body}
 use Rattle.spdm_machine.specs.Keys.{Draw}
 use Rattle.spdm_machine.specs.TagLog.{Log}
-use Rattle.spdm_machine.proofs.Members.{IsIn}
 use Rattle.requester_machine.specs.Asking.Outcome.{Adds}
-use Rattle.requester_machine.specs.Does as asking_does
 use Rattle.requester_machine.specs.Does.{requester_asks}
 use Rattle.requester_machine.specs.History as asked
 use Rattle.requester_machine.specs.History.Entry.{Told as WasTold}
@@ -25,18 +22,17 @@ use Rattle.requester_machine.proofs.Few.{live_first}
 use Rattle.requester_machine.specs.Order.{stage_for}
 use Rattle.responder_machine.specs.History as served
 use Rattle.responder_machine.specs.Responding.{Connection, connection_of}
-use Rattle.responder_machine.specs.Session as events
 use Rattle.responder_machine.specs.Setup.{RspSetup}
 use Rattle.spdm_grammar.specs.declared.phase.Stage.TheVariants as stage
 use Rattle.transcript.specs.Transcripts.{Negotiation}
 use Rattle.world_machine.specs.Happenings.Happening.{Told}
-use Rattle.world_machine.specs.World.{World, WorldStep, first_waiting, happens, requester_of, told, told_by, with_sent}
+use Rattle.world_machine.specs.World.{World, first_waiting, happens, requester_of, told, told_by, with_sent}
 use Rattle.spdm_progress.specs.InStep.{AreQuiet, rsp_id}
 use Rattle.spdm_progress.proofs.Aside.{IsAside}
-use Rattle.spdm_progress.proofs.ManyPackets.{idle_waits, sent_waits, waiting_in}
-use Rattle.spdm_progress.proofs.PacketSteps.{Pair, asker}
+use Rattle.spdm_progress.proofs.ManyPackets.{idle_waits, sent_waits}
+use Rattle.spdm_progress.proofs.PacketSteps.{asker}
 use Rattle.spdm_progress.proofs.Places.{found_new, number_new, of_new}
-use Rattle.spdm_progress.proofs.RecordRounds.{Beside, KeepsBeside, beside_on, beside_quiet, earlier_on}
+use Rattle.spdm_progress.proofs.RecordRounds.{beside_on, beside_quiet, earlier_on}
 use Rattle.spdm_progress.proofs.RequesterStages.{next_small}
 use Rattle.spdm_progress.proofs.SessionRounds.{Asking, IsAsked, asked_steps, made_for, sealed_for}
 use Rattle.spdm_progress.proofs.Told.{ArePlaced, pair_of}

@@ -1,11 +1,10 @@
 -- Each command that asks something of an open session comes to its result.
-use Rattle.std.proofs.Common.{◌≡◌, ◌⊎◌, ◌∙◌, ℕ, suc, ◌<◌, ◌≤◌, ◌+◌, ◌*◌, ◌==◌, List, [], ◌∷◌, ◌++◌, length, take, Bool, true, false, nat_lt, not, Option, Some, None, refl, sym, ap, subst, inl, inr, arith}
+use Rattle.std.proofs.Common.{◌≡◌, ◌⊎◌, ◌∙◌, ℕ, suc, ◌≤◌, ◌+◌, ◌*◌, List, [], ◌∷◌, length, Bool, true, false, Some, None, refl, sym, ap, subst, inl, inr, arith}
 use Rattle.std.proofs.Math.Nat.{min-le_left}
 use Rattle.std.proofs.lemmas.Bool.{ltb-false, not-false}
 use Rattle.std.proofs.lemmas.List.{length-take}
 use Rattle.spdm_basis.proofs.Bools.{and_second}
 use Rattle.spdm_grammar.specs.Lines.{Line}
-use Rattle.spdm_grammar.specs.declared.event.Event.{Event}
 use Rattle.spdm_grammar.specs.declared.event.Event.TheVariants as event
 use Rattle.spdm_grammar.specs.declared.event.Finished.{Finished}
 use Rattle.spdm_grammar.specs.declared.event.Finished.TheVariants as finished
@@ -28,14 +27,12 @@ use Rattle.requester_machine.specs.Requesting as asking
 use Rattle.requester_machine.specs.Requesting.{Requesting, commanded_by, requester_told}
 use Rattle.requester_machine.specs.Session as steps
 use Rattle.requester_machine.specs.Session.{Steps}
-use Rattle.requester_machine.specs.Setup.{ReqSetup}
 use Rattle.requester_machine.proofs.Entries.{test_at, test_is_false}
 use Rattle.requester_machine.proofs.HoldsMade.{session_sizes}
 use Rattle.requester_machine.proofs.HoldsTold.{somewhere}
 use Rattle.responder_machine.specs.History as served
-use Rattle.responder_machine.specs.Responding.{Connection, connection_of}
+use Rattle.responder_machine.specs.Responding.{Connection}
 use Rattle.responder_machine.specs.Turn.{Turn}
-use Rattle.spdm_basis.specs.declared.session_id.SessionId.{SessionId}
 use Rattle.spdm_progress.specs.Measuring.{measurements_size, number_for}
 use Rattle.transcript.specs.Transcripts.{Negotiation}
 use Rattle.world_machine.specs.Chance.{NoChance}
@@ -43,17 +40,17 @@ use Rattle.world_machine.specs.Happenings.{Entry}
 use Rattle.world_machine.specs.Happenings.Happening.{Pump, Told}
 use Rattle.world_machine.specs.Setup.{WorldSetup}
 use Rattle.world_machine.specs.Trace.{lines_from, world_after, world_from}
-use Rattle.world_machine.specs.World.{World, WorldStep, entry_step, happens, pumps, told_by}
+use Rattle.world_machine.specs.World.{World, WorldStep, entry_step, happens, pumps, requester_of, told_by}
 use Rattle.spdm_progress.specs.Honest.{AreHonest, HaveNoCommand, NothingWaits}
 use Rattle.spdm_progress.specs.InStep.{AreQuiet}
-use Rattle.spdm_progress.specs.SessionCommands.{CanAsk, CompletesQuietly, IsDoneQuietly, IsTold, IsToldQuietly, SessionCommandsComplete, commanding, goes_on, result_of, session_at}
+use Rattle.spdm_progress.specs.SessionCommands.{CanAsk, IsDoneQuietly, IsTold, IsToldQuietly, SessionCommandsComplete, commanding, goes_on, result_of, session_at}
 use Rattle.spdm_progress.proofs.AlikeSessions.{is_kept}
 use Rattle.spdm_progress.proofs.Accepted.{not_worn_told, told_so}
 use Rattle.spdm_progress.proofs.Aside.{IsAside, nothing_aside}
 use Rattle.spdm_progress.proofs.AskedOnce.{CanBeat, CanMeasure, CanSend, IsData, IsMeasured, IsNamed, IsSpdm, beat_asking, beat_last, data_asking, data_last, end_asking, end_last, measure_asking, measure_last}
 use Rattle.spdm_progress.proofs.ManyPackets.{waits_idle}
 use Rattle.spdm_progress.proofs.PacketSteps.{Pair, asker, not_worn, server}
-use Rattle.spdm_progress.proofs.SessionBegins.{AsksOfSession, asked_now, sends, sent_for, shows_at, shows_told, told_is, told_view, view_of}
+use Rattle.spdm_progress.proofs.SessionBegins.{AsksOfSession, asked_now, sends, sent_for, shows_at, shows_told, told_is, told_view}
 use Rattle.spdm_progress.proofs.SessionRounds.{Asking, IsAsked}
 use Rattle.spdm_progress.proofs.SingleRound.{AnswersOnce, AsksOnce, IsLast, Quiet, once_talk}
 use Rattle.spdm_progress.proofs.Talk as talk
@@ -77,9 +74,19 @@ IsLongPump behind = (line : ℕ) × (count : ℕ) × (396 ≤ count) × (behind 
 abbrev pub Rests : World → List Entry → Type 0
 Rests world behind = NothingWaits (world_from world behind) ⊎ IsLongPump behind
 
--- No packet waits, and what stands aside holds.
-abbrev pub Idle : (World → Type 0) → World → Type 0
-Idle Aside world = NothingWaits world × Aside world
+-- Requester n and the responder took so many packets and commands at most.
+abbrev pub HaveTakenAt : ℕ → (most : ℕ) → World → Type 0
+HaveTakenAt n most world = ((b : Requesting) → requester_of n world ≡ Some b → length b.given + b.commands ≤ most) × (length world.responder.given ≤ most)
+
+-- Each takes 199 more at most.
+abbrev pub TakeFew : World → ℕ → Requesting → World → Type 0
+TakeFew world n a later = (most : ℕ) → most ≤ wear_limit → length a.given + a.commands + 199 ≤ most → length world.responder.given + 198 ≤ most → HaveTakenAt n most later
+
+-- No packet waits, what stands aside holds, and few packets were taken.
+pub record Idle (world : World) (n : ℕ) (a : Requesting) (Aside : World → Type 0) (later : World) : Type 0 where
+  pub idle : NothingWaits later
+  pub aside : Aside later
+  pub takes : TakeFew world n a later
 
 module _ (w : WorldSetup) (before : List Entry) (n : ℕ) (a : Requesting) (c : Connection) (command : Command) (is_told : IsTold w before n a c) (line : ℕ) (behind : List Entry) (none : HaveNoCommand behind)
     (honest : AreHonest (commanding (world_after w before) line n command) behind) (still : Rests (commanding (world_after w before) line n command) behind) (chance : NoChance (world_from (commanding (world_after w before) line n command) behind).log)
@@ -102,50 +109,71 @@ module _ (w : WorldSetup) (before : List Entry) (n : ℕ) (a : Requesting) (c : 
   abbrev p : Pair
   p = pair_of n a c
 
-  finished_so : (result : Finished) (id : ℕ) (left : Bool) (later : World) (lines : List Line) → (v : View) → Shows p Aside v [] later → AreQuiet a.setup c.setup a.first v.log v.asked v.served → steps.is_live (steps.session_of id v.asked) ≡ left → IsIn lines (Line.ToRequester n (event.Done result))
-      → IsDoneQuietly n a.setup c.setup result id left later lines × Idle Aside later
-  finished_so result id left later lines v s quiet live told = (record {
-    told = contained lines _ told;
-    requester = asker p v.given v.commands v.asked;
-    is_requester = s.is_requester;
-    connection = server p v.served;
-    is_connection = s.is_connection;
-    requester_setup = refl;
-    responder_setup = refl;
-    quiet = subst (λ (log : Log). AreQuiet a.setup c.setup a.first log v.asked v.served) (sym s.log) quiet;
-    session = live;
-  }, (waits_idle later.sent s.waits, s.aside))
+  finished_so : (result : Finished) (id : ℕ) (left : Bool) (later : World) (lines : List Line) → (v : View) → Shows p Aside v [] later → AreQuiet a.setup c.setup a.first v.log v.asked v.served → steps.is_live (steps.session_of id v.asked) ≡ left → IsIn lines (Line.ToRequester n (event.Done result)) → TakeFew world n a later
+      → IsDoneQuietly n a.setup c.setup result id left later lines × Idle world n a Aside later
+  finished_so result id left later lines v s quiet live told takes = (
+    record {
+      told = contained lines _ told;
+      requester = asker p v.given v.commands v.asked;
+      is_requester = s.is_requester;
+      connection = server p v.served;
+      is_connection = s.is_connection;
+      requester_setup = refl;
+      responder_setup = refl;
+      quiet = subst (λ (log : Log). AreQuiet a.setup c.setup a.first log v.asked v.served) (sym s.log) quiet;
+      session = live;
+    },
+    record { idle = waits_idle later.sent s.waits; aside = s.aside; takes = takes },
+  )
 
-  at_rest : (Asks Answers : Stage) (Done : Log → asked.History → served.History → Type 0) (result : Finished) (is_talk : IsTalk p Asks Answers Done (event.Done result)) (sent : Sent) → requester_told a command ≡ sends a command sent
-      → (begun : talk.Asking p placed.ends Aside aside Asks Answers Done (event.Done result) is_talk (told_by world n (sends a command sent)).after) → begun.more ≤ 2 → Rests (commanding world line n command) behind → NothingWaits (world_from (commanding world line n command) behind)
+  at_rest : (most : ℕ) (within : most ≤ wear_limit) (Asks Answers : Stage) (Done : Log → asked.History → served.History → Type 0) (result : Finished) (is_talk : IsTalk p Asks Answers Done (event.Done result)) (sent : Sent) → requester_told a command ≡ sends a command sent
+      → (begun : talk.Asking most within p placed.ends Aside aside Asks Answers Done (event.Done result) is_talk (told_by world n (sends a command sent)).after) → begun.more ≤ 2 → Rests (commanding world line n command) behind → NothingWaits (world_from (commanding world line n command) behind)
   unfolding happens
-  at_rest Asks Answers Done result is_talk sent step begun few (inl idle) = idle
-  at_rest Asks Answers Done result is_talk sent step begun few (inr pump) =
+  at_rest most within Asks Answers Done result is_talk sent step begun few (inl idle) = idle
+  at_rest most within Asks Answers Done result is_talk sent step begun few (inr pump) =
       let same = told_is world n a command sent is_told.is_requester step in
       let later = commanding world line n command in
       let count = pump.1 in
       subst (λ (entries : List Entry). NothingWaits (world_from later entries)) (sym pump.3)
       (subst (λ (s : WorldStep). NothingWaits (pumps count s.after).after) (sym same)
-      (enough p placed.ends Aside aside Asks Answers Done (event.Done result) is_talk count (told_by world n (sends a command sent)).after begun few pump.2
+      (enough most within p placed.ends Aside aside Asks Answers Done (event.Done result) is_talk count (told_by world n (sends a command sent)).after begun few pump.2
       (subst (λ (s : WorldStep). NoChance (pumps count s.after).after.log) same (subst (λ (entries : List Entry). NoChance (world_from later entries).log) pump.3 chance))))
 
-  -- The talk that the message of the command begins.
+  -- The talk that the message of the command begins, where no end takes more than so much.
+  runs : (most : ℕ) (within : most ≤ wear_limit) → length a.given + a.commands + 199 ≤ most → length world.responder.given + 198 ≤ most
+      → (Asks Answers : Stage) (Done : Log → asked.History → served.History → Type 0) (result : Finished) (is_talk : IsTalk p Asks Answers Done (event.Done result)) (more : ℕ) → more ≤ 2 → (sent : Sent) → requester_told a command ≡ sends a command sent
+      → Asks more sent.tag (body_of sent.content) (told_view world a c command sent).log (told_view world a c command sent).asked c.history
+      → talk.IsDone most within p placed.ends Aside aside Asks Answers Done (event.Done result) is_talk (world_from (commanding world line n command) behind) × IsIn (lines_from (commanding world line n command) behind) (Line.ToRequester n (event.Done result))
+  runs most within life responder_life Asks Answers Done result is_talk more few sent step asks =
+      let shown = shows_told Aside world n a c aside command sent (shows_at Aside world n a c placed is_told.is_requester is_told.is_connection is_told.idle beside) in
+      let own_life : length (told_view world a c command sent).given + (told_view world a c command sent).commands + 66 * suc more ≤ most = omega arith in
+      let other_life : length (told_view world a c command sent).received + 66 * suc more ≤ most = omega arith in
+      let begun = begins most within p placed.ends Aside aside Asks Answers Done (event.Done result) is_talk more sent (told_view world a c command sent) (told_by world n (sends a command sent)).after shown asks own_life other_life in
+      let rounds = begins_with most within p placed.ends Aside aside Asks Answers Done (event.Done result) is_talk more sent (told_view world a c command sent) (told_by world n (sends a command sent)).after shown asks own_life other_life in
+      let asking_now = subst (λ (s : WorldStep). talk.Asking most within p placed.ends Aside aside Asks Answers Done (event.Done result) is_talk s.after) (sym (told_is world n a command sent is_told.is_requester step)) begun in
+      talk_ends most within p placed.ends Aside aside Asks Answers Done (event.Done result) is_talk (commanding world line n command) behind none honest chance asking_now (at_rest most within Asks Answers Done result is_talk sent step begun (omega (arith, rounds, few)) still)
+
+  taken_so : (most : ℕ) (later : World) (v : View) → Shows p Aside v [] later → length v.given + v.commands ≤ most → length v.received ≤ most → HaveTakenAt n most later
+  taken_so most later v s own other = (
+    λ b is. subst (λ (x : Requesting). length x.given + x.commands ≤ most) (some_same _ b (sym s.is_requester ∙ is)) own,
+    subst (λ (given : List (List ℕ)). length given ≤ most) (sym s.received) other,
+  )
+
+  all_lives : wear_limit ≤ wear_limit
+  all_lives = omega arith
+
   pub completes_by : (Asks Answers : Stage) (Done : Log → asked.History → served.History → Type 0) (result : Finished) (id : ℕ) (left : Bool) → ((log : Log) (h : asked.History) (g : served.History) → Done log h g → AreQuiet a.setup c.setup a.first log h g × (steps.is_live (steps.session_of id h) ≡ left))
       → IsTalk p Asks Answers Done (event.Done result) → (more : ℕ) → more ≤ 2 → (sent : Sent) → requester_told a command ≡ sends a command sent
       → Asks more sent.tag (body_of sent.content) (told_view world a c command sent).log (told_view world a c command sent).asked c.history
-      → IsDoneQuietly n a.setup c.setup result id left (world_from (commanding world line n command) behind) (lines_from (commanding world line n command) behind) × Idle Aside (world_from (commanding world line n command) behind)
+      → IsDoneQuietly n a.setup c.setup result id left (world_from (commanding world line n command) behind) (lines_from (commanding world line n command) behind) × Idle world n a Aside (world_from (commanding world line n command) behind)
   completes_by Asks Answers Done result id left means is_talk more few sent step asks =
-      let life = is_told.life.requester in
-      let responder_life = is_told.life.responder in
-      let shown = shows_told Aside world n a c aside command sent (shows_at Aside world n a c placed is_told.is_requester is_told.is_connection is_told.idle beside) in
-      let own_life : length (told_view world a c command sent).given + (told_view world a c command sent).commands + 66 * suc more ≤ wear_limit = omega arith in
-      let other_life : length (told_view world a c command sent).received + 66 * suc more ≤ wear_limit = omega arith in
-      let begun = begins p placed.ends Aside aside Asks Answers Done (event.Done result) is_talk more sent (told_view world a c command sent) (told_by world n (sends a command sent)).after shown asks own_life other_life in
-      let rounds = begins_with p placed.ends Aside aside Asks Answers Done (event.Done result) is_talk more sent (told_view world a c command sent) (told_by world n (sends a command sent)).after shown asks own_life other_life in
-      let asking_now = subst (λ (s : WorldStep). talk.Asking p placed.ends Aside aside Asks Answers Done (event.Done result) is_talk s.after) (sym (told_is world n a command sent is_told.is_requester step)) begun in
-      let e = talk_ends p placed.ends Aside aside Asks Answers Done (event.Done result) is_talk (commanding world line n command) behind none honest chance asking_now (at_rest Asks Answers Done result is_talk sent step begun (omega (arith, rounds, few)) still) in
+      let later = world_from (commanding world line n command) behind in
+      let e = runs wear_limit all_lives is_told.life.requester is_told.life.responder Asks Answers Done result is_talk more few sent step asks in
       let d = means e.0.view.log e.0.view.asked e.0.view.served e.0.done in
-      finished_so result id left (world_from (commanding world line n command) behind) (lines_from (commanding world line n command) behind) e.0.view e.0.shows d.0 d.1 e.1
+      finished_so result id left later (lines_from (commanding world line n command) behind) e.0.view e.0.shows d.0 d.1 e.1
+      (λ most within own other.
+      let f = runs most within own other Asks Answers Done result is_talk more few sent step asks in
+      taken_so most later f.0.view f.0.shows f.0.life f.0.responder_life)
 
   -- ---- What is asked of a session.
 
@@ -177,7 +205,7 @@ module _ (w : WorldSetup) (before : List Entry) (n : ℕ) (a : Requesting) (c : 
 
       -- It takes one round.
       pub once_completes : (Fit : Steps → Type 0) (Good : Steps → Turn → Type 0) (result : Finished) → IsLast p one_key id x Fit Good (event.Done result) → Fit (session_at a id)
-          → IsDoneQuietly n a.setup c.setup result id (is_kept x.ask) (world_from (commanding world line n command) behind) (lines_from (commanding world line n command) behind) × Idle Aside (world_from (commanding world line n command) behind)
+          → IsDoneQuietly n a.setup c.setup result id (is_kept x.ask) (world_from (commanding world line n command) behind) (lines_from (commanding world line n command) behind) × Idle world n a Aside (world_from (commanding world line n command) behind)
       once_completes Fit Good result last fit =
           completes_by (AsksOnce p one_key id x Fit Good (event.Done result)) (AnswersOnce p one_key id x Fit Good (event.Done result)) (Quiet p one_key id x Fit Good (event.Done result)) result id (is_kept x.ask) (λ log h g z. (z.quiet, z.session)) (once_talk p one_key id x Fit Good (event.Done result) last) 0 (omega arith) sent step_so
           (record { is = is_asked Fit fit })
@@ -200,7 +228,7 @@ module _ (w : WorldSetup) (before : List Entry) (n : ℕ) (a : Requesting) (c : 
     pub chance : NoChance (world_from (After command) behind).log
 
   abbrev pub Result : Command → ℕ → Type 0
-  Result command id = IsDoneQuietly n a.setup c.setup (result_of a c command) id (goes_on command) (world_from (After command) behind) (lines_from (After command) behind) × Idle Aside (world_from (After command) behind)
+  Result command id = IsDoneQuietly n a.setup c.setup (result_of a c command) id (goes_on command) (world_from (After command) behind) (lines_from (After command) behind) × Idle (world_after w before) n a Aside (world_from (After command) behind)
 
   no_fault : (command : Command) → IsOver command → command_fault false a.setup a.history command (command_chosen a.setup a.history (asking.next_draw a)) ≡ None
   no_fault command o = (told_so a command (fresh w before n a c command o.told.now line behind none o.honest o.still o.chance Aside aside beside) o.told.accepted).0

@@ -1,32 +1,22 @@
 -- A round in a session: a record that asks something of it is on its way to the responder, and then the record that
 -- answers it is on its way back.
-use Rattle.std.proofs.Common.{◌≡◌, ◌≢◌, ◌∙◌, ℕ, ◌<◌, ◌≤◌, ◌+◌, ◌==◌, ◌||◌, List, [], ◌∷◌, ◌++◌, length, drop, Bool, true, false, cond, Option, Some, None, Result, Ok, Contains, refl, sym, ap, ap₂, subst, inl, inr, arith, eq-eqb}
-use Rattle.std.specs.Prelude.{bytes_eq, if◌then◌else◌}
+use Rattle.std.proofs.Common.{◌≡◌, ◌≢◌, ◌∙◌, ℕ, ◌<◌, ◌≤◌, ◌+◌, List, [], ◌∷◌, ◌++◌, length, Bool, true, false, Option, Some, None, Result, Ok, Contains, refl, sym, ap, subst, inl, arith, eq-eqb}
+use Rattle.std.specs.Prelude.{if◌then◌else◌}
 use Rattle.std.proofs.lemmas.Bool.{false≢true, ne_eqb}
 use Rattle.std.proofs.lemmas.List.Elements.{Contains-append_left, Contains-append_right, Contains-push}
 use Rattle.std.proofs.lemmas.Slice.Eq.{bytes_eq-Decides}
 use Rattle.key_schedule.specs.Purpose.{Purpose}
-use Rattle.key_schedule.specs.declared.direction.Direction.TheVariants.{Response}
 use Rattle.secured_record.specs.Faults.{tag_part}
-use Rattle.spdm_basis.specs.SessionIdBytes.{session_id_bytes}
-use Rattle.spdm_basis.specs.declared.record_fault.RecordFault.{RecordFault}
-use Rattle.spdm_basis.specs.declared.record_fault.RecordFault.TheVariants.{KeySpent}
 use Rattle.spdm_grammar.specs.declared.event.BadReply.{BadReply}
-use Rattle.spdm_grammar.specs.declared.choice.Choice.{Choice}
 use Rattle.spdm_grammar.specs.declared.event.Event.{Event}
-use Rattle.spdm_grammar.specs.declared.names.request_code.TheConstants.{END_SESSION}
-use Rattle.spdm_grammar.specs.declared.phase.Stage.{Stage}
 use Rattle.spdm_grammar.specs.declared.phase.Stage.TheVariants as stage
 use Rattle.spdm_machine.specs.Bodies.{record_body}
 use Rattle.spdm_machine.specs.Keys.{Draw, inner_message, record_fault, sealed_of}
-use Rattle.spdm_machine.specs.Sessions.{id_in_exchange, purpose_in}
-use Rattle.spdm_machine.specs.Terms.{Terms}
+use Rattle.spdm_machine.specs.Sessions.{id_in_exchange}
 use Rattle.spdm_machine.specs.TagLog.{Log, made_record, record_input, record_tag}
 use Rattle.spdm_machine.specs.TagLog.Act.{Made}
-use Rattle.spdm_machine.proofs.Members.{none_some, some_same}
-use Rattle.requester_machine.specs.Does as asking_does
+use Rattle.spdm_machine.proofs.Members.{some_same}
 use Rattle.requester_machine.specs.Does.{body_chosen, requester_hears}
-use Rattle.requester_machine.specs.Asking.{Outcome}
 use Rattle.requester_machine.specs.Asking.Outcome.{Adds}
 use Rattle.requester_machine.specs.History as asked
 use Rattle.requester_machine.specs.History.{Led, outstanding}
@@ -37,9 +27,7 @@ use Rattle.requester_machine.specs.Message.{Ask, Sent}
 use Rattle.requester_machine.specs.Message.Ask.{AskBeat, AskChunk, AskData, AskEnd, AskFinish, AskMeasure, AskUpdate, AskVerify}
 use Rattle.requester_machine.specs.Message.Content.{Sealed}
 use Rattle.requester_machine.specs.Order.{stage_for}
-use Rattle.requester_machine.specs.Records as asking
-use Rattle.requester_machine.specs.Records.{answer_fault, answer_inner, answer_number, answer_purpose, asks_all, request_purpose, response_purpose, sealed_next}
-use Rattle.requester_machine.specs.RequesterLog as asked_log
+use Rattle.requester_machine.specs.Records.{answer_fault, answer_inner, asks_all, request_purpose, sealed_next}
 use Rattle.requester_machine.specs.Session as steps
 use Rattle.requester_machine.specs.Session.{Steps}
 use Rattle.requester_machine.specs.Session.Step.{Asked, Took as TookAnswer}
@@ -52,8 +40,7 @@ use Rattle.responder_machine.specs.Does.{chosen, record_chosen, record_does, res
 use Rattle.responder_machine.specs.History as served
 use Rattle.responder_machine.specs.History.{KeptRecord}
 use Rattle.responder_machine.specs.History.Entry.{Sealed as WasSealedThere}
-use Rattle.responder_machine.specs.Records as serving
-use Rattle.responder_machine.specs.Records.{opened, opening_fault, reply_number, reply_purpose, reply_record}
+use Rattle.responder_machine.specs.Records.{opened, opening_fault, reply_record}
 use Rattle.responder_machine.specs.Responder as answering
 use Rattle.responder_machine.specs.Responder.Outcome.{Adds as AddsThere}
 use Rattle.responder_machine.specs.Responder.{inner_reply, repeats, session_turn}
@@ -62,18 +49,18 @@ use Rattle.responder_machine.specs.Session as events
 use Rattle.responder_machine.specs.Session.{Events, after_record, id_in_record, when_live}
 use Rattle.responder_machine.specs.Session.Event.{Heard}
 use Rattle.responder_machine.specs.Setup.{RspSetup}
-use Rattle.responder_machine.specs.Turn.{Effect, Turn, takes, updates}
+use Rattle.responder_machine.specs.Turn.{Turn}
 use Rattle.world_machine.specs.Chance.{NoChance}
 use Rattle.spdm_progress.specs.InStep.{AreInStep, AreQuiet, AreResting, WasSealed, rsp_id}
-use Rattle.spdm_progress.proofs.AlikeSessions.{IsAnswerTo, behind, is_kept, same_id, same_requests, same_responses, same_terms, still_in_step}
+use Rattle.spdm_progress.proofs.AlikeSessions.{IsAnswerTo, behind, is_kept, still_in_step}
 use Rattle.spdm_progress.proofs.ManyPackets.{IsBody}
 use Rattle.spdm_progress.proofs.RecordHeard.{asking_in, came_as, heard}
 use Rattle.spdm_progress.proofs.RecordRounds.{Beside, KeepsBeside, beside_on, earlier_on, last_waited, moves_on, quiet_from}
 use Rattle.spdm_progress.proofs.RecordServed.{served as taken}
-use Rattle.spdm_progress.proofs.RecordsBetween.{names_session, no_copy, opens, record_length, tag_is, the_record}
-use Rattle.spdm_progress.proofs.StillKept.{AreAlike, IsSameSession, alike_itself}
+use Rattle.spdm_progress.proofs.RecordsBetween.{names_session, no_copy, opens, record_length, tag_is}
+use Rattle.spdm_progress.proofs.StillKept.{AreAlike}
 use Rattle.spdm_progress.proofs.Talk.{IsSendable}
-use Rattle.spdm_progress.proofs.RecordStages.{Opens, an_end, answer_count, answer_under, awaited_under, ended_heard, live_heard, no_pad, not_end, opens_there, own_opens, replies_so, sealed_elsewhere, sealed_here, updates_all}
+use Rattle.spdm_progress.proofs.RecordStages.{answer_count, answer_under, awaited_under, live_heard, no_pad, not_end, opens_there, replies_so, sealed_elsewhere, sealed_here, updates_all}
 
 -- What is asked of a session: the ask and its inner message, by the session as it stands.
 pub record Asking : Type 0 where
@@ -453,7 +440,7 @@ module _ (q : ReqSetup) (r : RspSetup) (first id : ℕ) (x : Asking) where
           (λ live. (
             ap rsp_id is,
             subst (λ (z : Steps). AreResting q.psk (acts ++ log) z (events.session_of (rsp_id z) g)) (sym is)
-            (record { in_step = y.kept kept; stage = at_end; two_bytes = y.two_bytes; last = last_then acts kept }),
+                (record { in_step = y.kept kept; stage = at_end; two_bytes = y.two_bytes; last = last_then acts kept }),
           ))
 
       gone_is : is_kept x.ask ≡ false → next ≡ None → steps.session_of id behind_it ≡ []

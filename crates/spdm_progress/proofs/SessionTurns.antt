@@ -1,45 +1,37 @@
 -- What a responder makes of each thing that is asked of an open session, and the requester of its answer.
-use Rattle.std.proofs.Common.{◌≡◌, ◌≢◌, ◌∙◌, ℕ, suc, ◌<◌, ◌≤◌, ◌+◌, ◌%◌, ◌==◌, ◌&&◌, ◌||◌, not, List, [], ◌∷◌, length, drop, Bool, true, false, nat_lt, Option, Some, None, Result, Ok, refl, sym, ap, ap₂, subst, arith, eq-eqb}
-use Rattle.std.specs.Prelude.{slice_index, if◌then◌else◌}
-use Rattle.spdm_basis.specs.Tests.{first_of_tests}
+use Rattle.std.proofs.Common.{◌≡◌, ◌≢◌, ◌∙◌, ℕ, suc, ◌<◌, ◌≤◌, ◌+◌, ◌&&◌, ◌||◌, not, List, ◌∷◌, length, Bool, true, false, nat_lt, None, Result, Ok, refl, sym, ap, subst, arith}
+use Rattle.spdm_basis.proofs.Bools.{lt_false}
 use Rattle.spdm_grammar.specs.Message.{RequestMessage, ResponseMessage}
 use Rattle.spdm_grammar.specs.Message.RequestMessage.{EndSession, GetMeasurements, Heartbeat, KeyUpdate}
-use Rattle.spdm_grammar.specs.Message.ResponseMessage.{EndSessionAck, HeartbeatAck, KeyUpdateAck, Measurements}
-use Rattle.spdm_grammar.specs.Requests.{canonical_request, FitsRequest, IsSoundRequest}
-use Rattle.spdm_grammar.specs.Responses.{canonical_response, response_reading, FitsResponse, IsSoundResponse}
-use Rattle.spdm_grammar.specs.declared.error_code.ErrorCode.{ErrorCode}
-use Rattle.spdm_grammar.specs.declared.event.BadReply.{BadReply}
-use Rattle.spdm_grammar.specs.declared.event.Event.TheVariants as event
-use Rattle.spdm_grammar.specs.declared.event.Finished.TheVariants as finished
+use Rattle.spdm_grammar.specs.Message.ResponseMessage.{EndSessionAck, HeartbeatAck, KeyUpdateAck}
+use Rattle.spdm_grammar.specs.Requests.{canonical_request}
+use Rattle.spdm_grammar.specs.Responses.{canonical_response, response_reading}
 use Rattle.spdm_grammar.specs.declared.malformed.Malformed.{Malformed}
 use Rattle.spdm_grammar.specs.declared.names.request_code.TheConstants.{END_SESSION, GET_MEASUREMENTS, HEARTBEAT, KEY_UPDATE}
 use Rattle.spdm_grammar.specs.declared.phase.Stage.{Stage}
 use Rattle.spdm_grammar.specs.declared.phase.Stage.TheVariants as stage
 use Rattle.spdm_machine.specs.Terms.{Terms, hash_len}
-use Rattle.requester_machine.specs.Answers.{is_done}
 use Rattle.requester_machine.specs.Commands.{Free as AskerFree}
 use Rattle.requester_machine.specs.History as asked
 use Rattle.requester_machine.specs.History.{Led}
 use Rattle.requester_machine.specs.History.Effect.{Grants}
-use Rattle.requester_machine.specs.InnerMessages.{Came, data_led, echoes, inner_fault, inner_led, inner_led_by, message_in, message_led, read_led, update_led, verified_led}
+use Rattle.requester_machine.specs.InnerMessages.{Came, data_led, inner_fault, inner_led, inner_led_by, message_led, read_led}
 use Rattle.requester_machine.specs.Message.{Ask}
-use Rattle.requester_machine.specs.Message.Ask.{AskBeat, AskData, AskEnd, AskMeasure, AskUpdate, AskVerify}
-use Rattle.requester_machine.specs.Sending.{inner_data, inner_request, operation_of}
+use Rattle.requester_machine.specs.Sending.{inner_data, inner_request}
 use Rattle.requester_machine.specs.Session as steps
 use Rattle.requester_machine.specs.Setup.{ReqSetup}
 use Rattle.responder_machine.specs.Answer.{Free, answer_of}
 use Rattle.responder_machine.specs.Handling.{goes_large, turn_of}
-use Rattle.responder_machine.specs.Place.{Place, place_terms, session_place}
+use Rattle.responder_machine.specs.Place.{session_place}
 use Rattle.responder_machine.specs.Refusal.{fits_stage, has_pending, is_answer_too_long, lacks_flag, stage_allows}
-use Rattle.responder_machine.specs.Responder.{data_turn, inner_refusal, inner_reply, session_turn, session_turn_by}
+use Rattle.responder_machine.specs.Responder.{data_turn, inner_refusal, session_turn, session_turn_by}
 use Rattle.responder_machine.specs.Session as events
 use Rattle.responder_machine.specs.Session.{Events}
 use Rattle.responder_machine.specs.Setup.{RspSetup, inventory_of}
-use Rattle.responder_machine.specs.Turn.{Turn, is_data}
+use Rattle.responder_machine.specs.Turn.{Turn}
 use Rattle.measurements.specs.Records.{is_missing}
 use Rattle.spdm_progress.proofs.MeasureStages.{measures_flag}
-use Rattle.spdm_progress.proofs.OnePacket.{not_longer, positive}
-use Rattle.spdm_progress.proofs.RequesterStages.{reads}
+use Rattle.spdm_progress.proofs.OnePacket.{positive}
 use Rattle.spdm_progress.proofs.ResponderStages.{both_short}
 use Rattle.spdm_progress.proofs.ResponderTurns.{read_at, taken_at, taken_turn}
 
@@ -61,7 +53,7 @@ not_too_long_in e answer k =
 
 pub not_large_in : (e : Events) (answer : List ℕ) → TakesInSession e (length answer) → goes_large (session_place e) answer ≡ false
 not_large_in e answer k =
-    ap (λ (n : ℕ). nat_lt (events.session_terms e).common.to_requester.transfer n) (zero_plus (length answer)) ∙ not_longer (events.session_terms e).common.to_requester.transfer (length answer) k.transfer
+    ap (λ (n : ℕ). nat_lt (events.session_terms e).common.to_requester.transfer n) (zero_plus (length answer)) ∙ lt_false (events.session_terms e).common.to_requester.transfer (length answer) k.transfer
 
 -- A request in a session that is taken.
 abbrev pub turn_in : RspSetup → Events → Free → RequestMessage → Turn
@@ -78,7 +70,7 @@ beat_turn r e f room at flag takes =
     ∙ taken_at r (session_place e) (canonical_request Heartbeat) f Heartbeat (read_at (session_place e) Heartbeat tt tt) refl
     (record {
       long = refl;
-      short = not_longer r.transfer 4 (omega arith);
+      short = lt_false r.transfer 4 (omega arith);
       known = refl;
       outside = refl;
       whole = refl;
@@ -110,7 +102,7 @@ end_turn r e f room at takes =
     ∙ taken_at r (session_place e) (canonical_request EndSession) f EndSession (read_at (session_place e) EndSession tt tt) refl
     (record {
       long = refl;
-      short = not_longer r.transfer 4 (omega arith);
+      short = lt_false r.transfer 4 (omega arith);
       known = refl;
       outside = refl;
       whole = refl;
@@ -134,7 +126,7 @@ update_turn r e f op tag room least most byte past at flag takes =
     ∙ taken_at r (session_place e) (canonical_request (KeyUpdate op tag)) f (KeyUpdate op tag) (read_at (session_place e) (KeyUpdate op tag) ((omega arith), byte) (least, most)) refl
     (record {
       long = refl;
-      short = not_longer r.transfer 4 (omega arith);
+      short = lt_false r.transfer 4 (omega arith);
       known = refl;
       outside = refl;
       whole = refl;
@@ -169,7 +161,7 @@ measure_turn_in r e f op room byte at flag block takes =
     ∙ taken_at r (session_place e) (canonical_request (GetMeasurements op)) f (GetMeasurements op) (read_at (session_place e) (GetMeasurements op) byte tt) refl
     (record {
       long = refl;
-      short = not_longer r.transfer 4 (omega arith);
+      short = lt_false r.transfer 4 (omega arith);
       known = refl;
       outside = refl;
       whole = refl;
@@ -198,12 +190,12 @@ unfolding session_turn
 data_turn_in r e bytes f at short = ap (session_turn_by r e (1 ∷ bytes) f) (ap (λ (g : Stage). inner_refusal g (1 ∷ bytes)) at ∙ data_allowed)
   where
     data_allowed : inner_refusal stage.Open (1 ∷ bytes) ≡ None
-    data_allowed = rw (not_longer 1025 (length (1 ∷ bytes)) (omega arith), positive (suc (length bytes)) (omega arith)) refl
+    data_allowed = rw (lt_false 1025 (length (1 ∷ bytes)) (omega arith), positive (suc (length bytes)) (omega arith)) refl
 
 -- ---- The requester reads the answer.
 
 not_over : (q : ReqSetup) (m : List ℕ) → length m ≤ q.transfer → inner_fault q (5 ∷ m) ≡ None
-not_over q m fits = rw (not_longer q.transfer (length m) fits) refl
+not_over q m fits = rw (lt_false q.transfer (length m) fits) refl
 
 module _ (q : ReqSetup) (h : asked.History) (f : AskerFree) (came : Came) (ask : Ask) (m : List ℕ) (value : ResponseMessage) where
   abbrev with_inner : List ℕ → Came
@@ -219,7 +211,7 @@ module _ (q : ReqSetup) (h : asked.History) (f : AskerFree) (came : Came) (ask :
   answer_read is fits reads_so = subst (λ (inner : List ℕ). inner_led q h f (with_inner inner) ask ≡ message_led q h f (with_inner inner) ask value) (sym is) (spdm_led fits reads_so)
 
 not_over_data : (q : ReqSetup) (m : List ℕ) → length m ≤ 1024 → inner_fault q (1 ∷ m) ≡ None
-not_over_data q m fits = rw (not_longer 1024 (length m) fits) refl
+not_over_data q m fits = rw (lt_false 1024 (length m) fits) refl
 
 pub data_read : (q : ReqSetup) (h : asked.History) (f : AskerFree) (came : Came) (ask : Ask) (m : List ℕ) → came.inner ≡ 1 ∷ m → length m ≤ 1024 → inner_led q h f came ask ≡ data_led came ask
 unfolding inner_led

@@ -1,5 +1,6 @@
 -- What follows of two configured ends: their capabilities go together, and their messages have these lengths.
 use Rattle.std.proofs.Common.{◌≡◌, ◌∙◌, ℕ, ◌<◌, ◌≤◌, ◌+◌, ◌^◌, ◌==◌, ◌&&◌, ◌||◌, not, List, [], length, Bool, true, false, cond, nat_lt, Some, None, Result, Ok, Err, refl, sym, ap, subst, arith}
+use Rattle.spdm_basis.proofs.Bools.{lt_false}
 use Rattle.std.specs.Prelude.{if◌then◌else◌, min, unwrap_or}
 use Rattle.std.specs.Result.{result_ok}
 use Rattle.std.proofs.Math.Nat.{le-min, min-eq_left}
@@ -34,7 +35,6 @@ use Rattle.spdm_agreement.proofs.Requester.OwnRequests as own
 use Rattle.spdm_agreement.proofs.Requester.OwnRequests.{offer_with, are_four, at_most}
 use Rattle.spdm_agreement.proofs.Responder.Negotiation as served
 use Rattle.spdm_agreement.proofs.Responder.Negotiation.{answered}
-use Rattle.spdm_progress.proofs.OnePacket.{not_longer}
 use Rattle.spdm_progress.proofs.RequesterStages.{OffersWhole}
 use Rattle.spdm_progress.proofs.ResponderStages.{Takes, HasCapabilities, first_pair, two_pairs, three_pairs, get_capabilities, negotiate_algorithms, algorithms}
 use Rattle.spdm_progress.proofs.ResponderTurns.{read_at}
@@ -88,7 +88,7 @@ go_together q r a b =
     let serves = serves_by_key r.flags.measure r.flags.heartbeat r.flags.key_update r.flags.chunk in
     all_pass (nat_lt q.transfer MIN_DATA_TRANSFER_SIZE) (nat_lt r.transfer MIN_DATA_TRANSFER_SIZE) (nat_lt q.max q.transfer) (nat_lt r.max r.transfer)
     (psk_is PSK_CAP (requester_caps q).flags) (psk_is PSK_CAP_WITH_CONTEXT (responder_caps r).flags) (protects (requester_caps q).flags) (protects (responder_caps r).flags) (common_for q r)
-    (not_longer q.transfer MIN_DATA_TRANSFER_SIZE a.sizes.least) (not_longer r.transfer MIN_DATA_TRANSFER_SIZE b.sizes.least) (not_longer q.max q.transfer a.sizes.ordered) (not_longer r.max r.transfer b.sizes.ordered)
+    (lt_false q.transfer MIN_DATA_TRANSFER_SIZE a.sizes.least) (lt_false r.transfer MIN_DATA_TRANSFER_SIZE b.sizes.least) (lt_false q.max q.transfer a.sizes.ordered) (lt_false r.max r.transfer b.sizes.ordered)
     asks.0 serves.0 asks.1 serves.1
 
 -- ---- The offer.
@@ -152,9 +152,9 @@ whole_offer q r offer a b offered fits =
       shared = go_together q r a b;
       offered = ap (offer_of q.suites) same ∙ offered;
       short = no_overflow (nat_lt (min r.max MAX_MESSAGE_SIZE) (length (negotiate_algorithms offer))) (common_for q r).chunk (nat_lt (min r.transfer MAX_MESSAGE_SIZE) (length (negotiate_algorithms offer)))
-          (not_longer (min r.max MAX_MESSAGE_SIZE) (length (negotiate_algorithms offer)) (subst (λ (n : ℕ). length (negotiate_algorithms offer) ≤ n) (sym largest) (omega arith)))
-          (not_longer (min r.transfer MAX_MESSAGE_SIZE) (length (negotiate_algorithms offer)) (subst (λ (n : ℕ). length (negotiate_algorithms offer) ≤ n) (sym same) fits));
-      whole = not_longer (min r.transfer MAX_MESSAGE_SIZE) (length (negotiate_algorithms offer)) (subst (λ (n : ℕ). length (negotiate_algorithms offer) ≤ n) (sym same) fits);
+          (lt_false (min r.max MAX_MESSAGE_SIZE) (length (negotiate_algorithms offer)) (subst (λ (n : ℕ). length (negotiate_algorithms offer) ≤ n) (sym largest) (omega arith)))
+          (lt_false (min r.transfer MAX_MESSAGE_SIZE) (length (negotiate_algorithms offer)) (subst (λ (n : ℕ). length (negotiate_algorithms offer) ≤ n) (sym same) fits));
+      whole = lt_false (min r.transfer MAX_MESSAGE_SIZE) (length (negotiate_algorithms offer)) (subst (λ (n : ℕ). length (negotiate_algorithms offer) ≤ n) (sym same) fits);
     }
 
 -- The place at which nothing was said yet.

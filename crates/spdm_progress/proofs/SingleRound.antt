@@ -1,13 +1,7 @@
 -- A command that takes one round in a session, from when it is told to its result.
-use Rattle.std.proofs.Common.{◌≡◌, ◌∙◌, ℕ, zero, suc, ◌<◌, ◌≤◌, ◌+◌, List, [], ◌∷◌, ◌++◌, length, take, Bool, true, false, Option, Some, None, Result, Ok, refl, sym, ap, subst, inl, inr, arith}
-use Rattle.std.proofs.lemmas.Bool.{false≢true}
-use Rattle.std.proofs.lemmas.List.{length-take-le}
-use Rattle.spdm_grammar.specs.declared.event.BadReply.{BadReply}
+use Rattle.std.proofs.Common.{◌≡◌, ℕ, List, ◌∷◌, ◌++◌, Bool, true, false, None, Ok, refl, sym, subst}
 use Rattle.spdm_grammar.specs.declared.event.Event.{Event}
-use Rattle.spdm_grammar.specs.declared.event.Event.TheVariants as event
-use Rattle.spdm_grammar.specs.declared.event.Finished.{Finished}
 use Rattle.spdm_grammar.specs.declared.phase.Stage.TheVariants as stage
-use Rattle.spdm_machine.specs.Bodies.{record_body}
 use Rattle.spdm_machine.specs.Keys.{Draw}
 use Rattle.spdm_machine.specs.TagLog.{Log}
 use Rattle.requester_machine.specs.Asking.{Outcome}
@@ -21,7 +15,6 @@ use Rattle.requester_machine.specs.Order.{stage_for}
 use Rattle.requester_machine.specs.RequesterLog as asked_log
 use Rattle.requester_machine.specs.Session as steps
 use Rattle.requester_machine.specs.Session.{Steps}
-use Rattle.requester_machine.specs.Shown as shown
 use Rattle.responder_machine.specs.History as served
 use Rattle.responder_machine.specs.Responder.{inner_reply}
 use Rattle.responder_machine.specs.Turn.{Turn}
@@ -31,7 +24,7 @@ use Rattle.spdm_progress.proofs.PacketSteps.{Pair}
 use Rattle.spdm_progress.proofs.RecordHeard.{came_as}
 use Rattle.spdm_progress.proofs.RecordRounds.{quiet_still}
 use Rattle.spdm_progress.proofs.SessionRounds.{AreAnswered, Asking, IsAnswered, IsAsked, answer_for, answered_sent, answered_still, asked_sent, asked_steps, asked_still, entry, hears_so, live_then, quiet_gone, quiet_then, serves_so, took_steps}
-use Rattle.spdm_progress.proofs.Talk.{IsTalk, Leads, Over, Stage}
+use Rattle.spdm_progress.proofs.Talk.{IsTalk, Leads, Over}
 
 module _ (p : Pair) (same_key : p.requester.psk ≡ p.responder.psk) (id : ℕ) (x : Asking) (Fit : Steps → Type 0) (Good : Steps → Turn → Type 0) (told : Event) where
   -- The round alone.

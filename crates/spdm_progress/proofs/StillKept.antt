@@ -1,5 +1,5 @@
 -- Queued data and time that ends no session leave the sessions of a connection as they were, but for the seconds waited.
-use Rattle.std.proofs.Common.{◌≡◌, ◌⊎◌, ◌∙◌, ℕ, ◌<◌, ◌≤◌, ◌+◌, ◌*◌, ◌==◌, List, [], ◌∷◌, length, map, Bool, true, false, cond, nat_lt, nat_le, not, Option, Some, None, refl, sym, ap, subst, inl, inr, arith, eqb-true}
+use Rattle.std.proofs.Common.{◌≡◌, ◌⊎◌, ◌∙◌, ℕ, ◌<◌, ◌≤◌, ◌+◌, ◌*◌, ◌==◌, List, [], ◌∷◌, length, Bool, true, false, cond, nat_lt, nat_le, not, Option, Some, None, refl, sym, ap, subst, inl, inr, eqb-true}
 use Rattle.std.specs.Prelude.{if◌then◌else◌}
 use Rattle.std.proofs.lemmas.Bool.{false≢true, leb-false, ltb-false}
 use Rattle.spdm_grammar.specs.declared.heard.ReplyFault.{ReplyFault}
@@ -9,12 +9,11 @@ use Rattle.responder_machine.proofs.Connected.{changed_keeps}
 use Rattle.responder_machine.specs.Does.{IsMade}
 use Rattle.responder_machine.specs.History as served
 use Rattle.responder_machine.specs.History.Entry.{Queued, Ticked}
-use Rattle.responder_machine.specs.Responding.{Connection, Responding, connection_of, changed, changed_if, queues, reply_fault_of, ticks}
+use Rattle.responder_machine.specs.Responding.{Connection, Responding, connection_of, changed, changed_if, queues, reply_fault_of}
 use Rattle.responder_machine.specs.Session.{Events, session_of, is_live, is_timed, period_of, idle_of, after_tick}
 use Rattle.responder_machine.specs.Session.Event.{Waited}
-use Rattle.responder_machine.specs.Setup.{RspSetup, RspPart}
+use Rattle.responder_machine.specs.Setup.{RspSetup}
 use Rattle.world_machine.specs.World.{World}
-use Rattle.spdm_progress.specs.Honest.{EndsNone}
 use Rattle.spdm_progress.proofs.Between.{IsStill}
 use Rattle.spdm_progress.proofs.ClearKept.{found_mapped, same_clear}
 use Rattle.spdm_progress.proofs.PacketSteps.{Pair, server}

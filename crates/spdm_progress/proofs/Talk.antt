@@ -1,6 +1,6 @@
 -- Two ends talk in rounds: a request and its answer, each in packets that wait in order, until an answer after which
 -- nothing is sent. Honest delivery brings every such talk to its end.
-use Rattle.std.proofs.Common.{◌≡◌, ◌⊎◌, ◌∙◌, ℕ, zero, suc, ◌<◌, ◌≤◌, ◌+◌, ◌*◌, ◌==◌, ◌||◌, List, [], ◌++◌, length, Bool, true, false, Option, Some, None, unwrap_or, refl, sym, ap, subst, inl, inr, arith}
+use Rattle.std.proofs.Common.{◌≡◌, ◌⊎◌, ℕ, zero, suc, ◌<◌, ◌≤◌, ◌+◌, ◌*◌, ◌==◌, ◌||◌, List, [], ◌++◌, length, true, false, Option, Some, None, unwrap_or, refl, sym, subst, inl, inr, arith}
 use Rattle.mctp_framing.specs.Cutting.{packet_count}
 use Rattle.spdm_grammar.specs.Lines.{Line}
 use Rattle.spdm_grammar.specs.declared.event.Event.{Event}
@@ -68,7 +68,7 @@ pub record IsTalk (p : Pair) (Asks Answers : Stage) (Done : Log → asked.Histor
   pub answers_still : (more tag : ℕ) (body : List ℕ) (log : Log) (h : asked.History) (g later : served.History) → AreAlike p.responder g later → Answers more tag body log h g → Answers more tag body log h later
   pub done_still : (log : Log) (h : asked.History) (g later : served.History) → AreAlike p.responder g later → Done log h g → Done log h later
 
-module _ (p : Pair) (ends : AreEnds p) (Aside : World → Type 0) (aside : IsAside p Aside) (Asks Answers : Stage) (Done : Log → asked.History → served.History → Type 0) (told : Event) (talk : IsTalk p Asks Answers Done told) where
+module _ (limit : ℕ) (within : limit ≤ wear_limit) (p : Pair) (ends : AreEnds p) (Aside : World → Type 0) (aside : IsAside p Aside) (Asks Answers : Stage) (Done : Log → asked.History → served.History → Type 0) (told : Event) (talk : IsTalk p Asks Answers Done told) where
   -- A body has at most 66 packets, so each end takes as many in a round.
   abbrev round : ℕ
   round = 66
@@ -85,8 +85,8 @@ module _ (p : Pair) (ends : AreEnds p) (Aside : World → Type 0) (aside : IsAsi
     pub left : ℕ
     pub few : suc left ≤ round
     pub comes : RequestComes p ends Aside aside tag body sent.small sent.whole done left view world
-    pub life : length view.given + view.commands + round * suc more ≤ wear_limit
-    pub responder_life : length view.received + suc left + round * more ≤ wear_limit
+    pub life : length view.given + view.commands + round * suc more ≤ limit
+    pub responder_life : length view.received + suc left + round * more ≤ limit
 
   pub record Answering (world : World) : Type 0 where
     pub more : ℕ
@@ -99,8 +99,8 @@ module _ (p : Pair) (ends : AreEnds p) (Aside : World → Type 0) (aside : IsAsi
     pub left : ℕ
     pub few : suc left ≤ round
     pub comes : AnswerComes p ends Aside aside tag body sent.small sent.whole done left view world
-    pub life : length view.given + view.commands + suc left + round * more ≤ wear_limit
-    pub responder_life : length view.received + round * more ≤ wear_limit
+    pub life : length view.given + view.commands + suc left + round * more ≤ limit
+    pub responder_life : length view.received + round * more ≤ limit
 
   abbrev pub IsUnderWay : World → Type 0
   IsUnderWay world = Asking world ⊎ Answering world
@@ -109,6 +109,8 @@ module _ (p : Pair) (ends : AreEnds p) (Aside : World → Type 0) (aside : IsAsi
     pub view : View
     pub shows : Shows p Aside view [] world
     pub done : Done view.log view.asked view.served
+    pub life : length view.given + view.commands ≤ limit
+    pub responder_life : length view.received ≤ limit
 
   abbrev pub done_line : Line
   done_line = Line.ToRequester p.number told
@@ -123,7 +125,7 @@ module _ (p : Pair) (ends : AreEnds p) (Aside : World → Type 0) (aside : IsAsi
       (left.0, left.1, count.1)
 
   pub begins : (more : ℕ) (next : Sent) (v : View) (world : World) → Shows p Aside v (packets_of_sent p.requester (Some next)) world → Asks more next.tag (body_of next.content) v.log v.asked v.served
-      → length v.given + v.commands + round * suc more ≤ wear_limit → length v.received + round * suc more ≤ wear_limit → Asking world
+      → length v.given + v.commands + round * suc more ≤ limit → length v.received + round * suc more ≤ limit → Asking world
   begins more next v world s asks life responder_life =
       let body = body_of next.content in
       let sendable = talk.asks_sent more next.tag body v.log v.asked v.served asks in
@@ -147,12 +149,12 @@ module _ (p : Pair) (ends : AreEnds p) (Aside : World → Type 0) (aside : IsAsi
       }
 
   pub begins_with : (more : ℕ) (next : Sent) (v : View) (world : World) (shows : Shows p Aside v (packets_of_sent p.requester (Some next)) world) (asks : Asks more next.tag (body_of next.content) v.log v.asked v.served)
-      (life : length v.given + v.commands + round * suc more ≤ wear_limit) (responder_life : length v.received + round * suc more ≤ wear_limit) → (begins more next v world shows asks life responder_life).more ≡ more
+      (life : length v.given + v.commands + round * suc more ≤ limit) (responder_life : length v.received + round * suc more ≤ limit) → (begins more next v world shows asks life responder_life).more ≡ more
   unfolding begins
   begins_with more next v world shows asks life responder_life = refl
 
-  answered : (world : World) (more tag : ℕ) (body : List ℕ) (sent : IsSendable tag body) (v : View) (done : ℕ) → NoChance v.log → Asks more tag body v.log v.asked v.served → length v.given + v.commands + round * suc more ≤ wear_limit
-      → length v.received + 1 + round * more ≤ wear_limit → IsServed p ends Aside aside tag body sent.small sent.whole done v world → Answering world
+  answered : (world : World) (more tag : ℕ) (body : List ℕ) (sent : IsSendable tag body) (v : View) (done : ℕ) → NoChance v.log → Asks more tag body v.log v.asked v.served → length v.given + v.commands + round * suc more ≤ limit
+      → length v.received + 1 + round * more ≤ limit → IsServed p ends Aside aside tag body sent.small sent.whole done v world → Answering world
   answered world more tag body sent v done chance asks life responder_life x =
       let o = responder_does p.responder v.served tag body x.drawn in
       let reply = answering.body_of o in
@@ -182,30 +184,30 @@ module _ (p : Pair) (ends : AreEnds p) (Aside : World → Type 0) (aside : IsAsi
   TalkGoes s = Goes IsUnderWay IsDone done_line s
 
   -- A further request is on its way behind an answer.
-  further : (s : WorldStep) (more tag : ℕ) (body : List ℕ) (sent : IsSendable tag body) (v : View) (done : ℕ) → length v.given + v.commands + 1 + round * more ≤ wear_limit → length v.received + round * more ≤ wear_limit
+  further : (s : WorldStep) (more tag : ℕ) (body : List ℕ) (sent : IsSendable tag body) (v : View) (done : ℕ) → length v.given + v.commands + 1 + round * more ≤ limit → length v.received + round * more ≤ limit
       → (x : IsHeard p ends Aside aside tag body sent.small sent.whole done v s) (next : Sent) (fewer : ℕ) → more ≡ suc fewer → shown.sent_by (requester_hears p.requester v.asked false tag body x.drawn) ≡ Some next
       → Asks fewer next.tag (body_of next.content) (heard_view p ends Aside aside tag body sent.small sent.whole done v x.drawn).log (heard_view p ends Aside aside tag body sent.small sent.whole done v x.drawn).asked v.served → Asking s.after
   further s more tag body sent v done life responder_life x next fewer one_less sends asks =
       begins fewer next (heard_view p ends Aside aside tag body sent.small sent.whole done v x.drawn) s.after (subst (λ (o : Option Sent). Shows p Aside (heard_view p ends Aside aside tag body sent.small sent.whole done v x.drawn) (packets_of_sent p.requester o) s.after) sends x.shows) asks (omega arith) (omega arith)
 
-  heard : (s : WorldStep) (more tag : ℕ) (body : List ℕ) (sent : IsSendable tag body) (v : View) (done : ℕ) → length v.given + v.commands + 1 + round * more ≤ wear_limit → length v.received + round * more ≤ wear_limit
+  heard : (s : WorldStep) (more tag : ℕ) (body : List ℕ) (sent : IsSendable tag body) (v : View) (done : ℕ) → length v.given + v.commands + 1 + round * more ≤ limit → length v.received + round * more ≤ limit
       → (x : IsHeard p ends Aside aside tag body sent.small sent.whole done v s)
       → Leads p Asks Done told more (requester_hears p.requester v.asked false tag body x.drawn) (asked_log.acts_of p.requester v.asked body (requester_hears p.requester v.asked false tag body x.drawn) ++ v.log) v.asked v.served
       → TalkGoes s
   heard s more tag body sent v done life responder_life x (Further next fewer one_less sends asks) = GoesOn (inl (further s more tag body sent v done life responder_life x next fewer one_less sends asks))
   heard s more tag body sent v done life responder_life x (Over sends tells finished) =
-      Ends (record { view = (heard_view p ends Aside aside tag body sent.small sent.whole done v x.drawn); shows = subst (λ (o : Option Sent). Shows p Aside (heard_view p ends Aside aside tag body sent.small sent.whole done v x.drawn) (packets_of_sent p.requester o) s.after) sends x.shows; done = finished })
+      Ends (record { view = (heard_view p ends Aside aside tag body sent.small sent.whole done v x.drawn); shows = subst (λ (o : Option Sent). Shows p Aside (heard_view p ends Aside aside tag body sent.small sent.whole done v x.drawn) (packets_of_sent p.requester o) s.after) sends x.shows; done = finished; life = omega arith; responder_life = omega arith })
       (subst (λ (o : Option Event). IsIn s.lines (Line.ToRequester p.number (unwrap_or o event.More))) tells x.writes)
 
   -- ---- One packet is given.
 
-  asked_given : (world : World) (more tag : ℕ) (body : List ℕ) (sent : IsSendable tag body) (v : View) (done left : ℕ) → suc left ≤ round → NoChance v.log → Asks more tag body v.log v.asked v.served → length v.given + v.commands + round * suc more ≤ wear_limit
-      → length v.received + suc left + round * more ≤ wear_limit → RequestComes p ends Aside aside tag body sent.small sent.whole done left v world → IsGiven IsUnderWay IsDone done_line world
+  asked_given : (world : World) (more tag : ℕ) (body : List ℕ) (sent : IsSendable tag body) (v : View) (done left : ℕ) → suc left ≤ round → NoChance v.log → Asks more tag body v.log v.asked v.served → length v.given + v.commands + round * suc more ≤ limit
+      → length v.received + suc left + round * more ≤ limit → RequestComes p ends Aside aside tag body sent.small sent.whole done left v world → IsGiven IsUnderWay IsDone done_line world
   asked_given world more tag body sent v done zero few chance asks life responder_life x =
       let w = first_request p ends Aside aside tag body sent.small sent.whole done 0 v world x in record {
         place = w.place;
         first = w.first;
-        goes = GoesOn (inr (answered _ more tag body sent v done chance asks life responder_life (request_ends p ends Aside aside tag body sent.small sent.whole done v world sent.typed (omega arith) x w)));
+        goes = GoesOn (inr (answered _ more tag body sent v done chance asks life responder_life (request_ends p ends Aside aside tag body sent.small sent.whole done v world sent.typed (omega (arith, within)) x w)));
       }
   asked_given world more tag body sent v done (suc left) few chance asks life responder_life x =
       let w = first_request p ends Aside aside tag body sent.small sent.whole done (suc left) v world x in record {
@@ -221,17 +223,17 @@ module _ (p : Pair) (ends : AreEnds p) (Aside : World → Type 0) (aside : IsAsi
           done = suc done;
           left = left;
           few = omega arith;
-          comes = request_goes_on p ends Aside aside tag body sent.small sent.whole done left v world (omega arith) x w;
+          comes = request_goes_on p ends Aside aside tag body sent.small sent.whole done left v world (omega (arith, within)) x w;
           life = life;
           responder_life = omega arith;
         }));
       }
 
-  answer_given : (world : World) (more tag : ℕ) (body : List ℕ) (sent : IsSendable tag body) (v : View) (done left : ℕ) → suc left ≤ round → NoChance v.log → Answers more tag body v.log v.asked v.served → length v.given + v.commands + suc left + round * more ≤ wear_limit
-      → length v.received + round * more ≤ wear_limit → AnswerComes p ends Aside aside tag body sent.small sent.whole done left v world → IsGiven IsUnderWay IsDone done_line world
+  answer_given : (world : World) (more tag : ℕ) (body : List ℕ) (sent : IsSendable tag body) (v : View) (done left : ℕ) → suc left ≤ round → NoChance v.log → Answers more tag body v.log v.asked v.served → length v.given + v.commands + suc left + round * more ≤ limit
+      → length v.received + round * more ≤ limit → AnswerComes p ends Aside aside tag body sent.small sent.whole done left v world → IsGiven IsUnderWay IsDone done_line world
   answer_given world more tag body sent v done zero few chance answers life responder_life x =
       let w = first_answer p ends Aside aside tag body sent.small sent.whole done 0 v world x in
-      let e = answer_ends p ends Aside aside tag body sent.small sent.whole done v world (omega arith) x w in record {
+      let e = answer_ends p ends Aside aside tag body sent.small sent.whole done v world (omega (arith, within)) x w in record {
         place = w.place;
         first = w.first;
         goes = heard _ more tag body sent v done life responder_life e (talk.hears more tag body v.log v.asked v.served e.drawn chance answers);
@@ -250,7 +252,7 @@ module _ (p : Pair) (ends : AreEnds p) (Aside : World → Type 0) (aside : IsAsi
           done = suc done;
           left = left;
           few = omega arith;
-          comes = answer_goes_on p ends Aside aside tag body sent.small sent.whole done left v world (omega arith) x w;
+          comes = answer_goes_on p ends Aside aside tag body sent.small sent.whole done left v world (omega (arith, within)) x w;
           life = omega arith;
           responder_life = responder_life;
         }));
@@ -305,6 +307,8 @@ module _ (p : Pair) (ends : AreEnds p) (Aside : World → Type 0) (aside : IsAsi
         view = record x.view { served = moved.0 };
         shows = shows_still p Aside aside x.view _ world r still moved.0 keeps.part keeps.given moved.2 x.shows;
         done = talk.done_still x.view.log x.view.asked x.view.served moved.0 moved.1 x.done;
+        life = x.life;
+        responder_life = x.responder_life;
       }
 
   done_idle : (world : World) → IsDone world → first_waiting world.sent ≡ None
@@ -334,7 +338,7 @@ module _ (p : Pair) (ends : AreEnds p) (Aside : World → Type 0) (aside : IsAsi
   abbrev FallsGiven : ℕ → (world : World) → IsGiven IsUnderWay IsDone done_line world → Type 0
   FallsGiven before world g = Falls before (delivers world (suc g.place) (packet_of (suc g.place) world.sent)) g.goes
 
-  heard_falls : (s : WorldStep) (more tag : ℕ) (body : List ℕ) (sent : IsSendable tag body) (v : View) (done : ℕ) (life : length v.given + v.commands + 1 + round * more ≤ wear_limit) (responder_life : length v.received + round * more ≤ wear_limit)
+  heard_falls : (s : WorldStep) (more tag : ℕ) (body : List ℕ) (sent : IsSendable tag body) (v : View) (done : ℕ) (life : length v.given + v.commands + 1 + round * more ≤ limit) (responder_life : length v.received + round * more ≤ limit)
       (x : IsHeard p ends Aside aside tag body sent.small sent.whole done v s)
       (l : Leads p Asks Done told more (requester_hears p.requester v.asked false tag body x.drawn) (asked_log.acts_of p.requester v.asked body (requester_hears p.requester v.asked false tag body x.drawn) ++ v.log) v.asked v.served)
       → Falls (1 + 132 * more) s (heard s more tag body sent v done life responder_life x l)
@@ -344,23 +348,23 @@ module _ (p : Pair) (ends : AreEnds p) (Aside : World → Type 0) (aside : IsAsi
       omega (arith, few, one_less)
   heard_falls s more tag body sent v done life responder_life x (Over sends tells finished) = tt
 
-  asked_falls : (world : World) (more tag : ℕ) (body : List ℕ) (sent : IsSendable tag body) (v : View) (done left : ℕ) (few : suc left ≤ round) (chance : NoChance v.log) (asks : Asks more tag body v.log v.asked v.served) (life : length v.given + v.commands + round * suc more ≤ wear_limit)
-      (responder_life : length v.received + suc left + round * more ≤ wear_limit) (x : RequestComes p ends Aside aside tag body sent.small sent.whole done left v world)
+  asked_falls : (world : World) (more tag : ℕ) (body : List ℕ) (sent : IsSendable tag body) (v : View) (done left : ℕ) (few : suc left ≤ round) (chance : NoChance v.log) (asks : Asks more tag body v.log v.asked v.served) (life : length v.given + v.commands + round * suc more ≤ limit)
+      (responder_life : length v.received + suc left + round * more ≤ limit) (x : RequestComes p ends Aside aside tag body sent.small sent.whole done left v world)
       → FallsGiven (suc left + 66 + 132 * more) world (asked_given world more tag body sent v done left few chance asks life responder_life x)
   unfolding asked_given answered
   asked_falls world more tag body sent v done zero few chance asks life responder_life x =
       let w = first_request p ends Aside aside tag body sent.small sent.whole done 0 v world x in
-      let later = (answered _ more tag body sent v done chance asks life responder_life (request_ends p ends Aside aside tag body sent.small sent.whole done v world sent.typed (omega arith) x w)).few in
+      let later = (answered _ more tag body sent v done chance asks life responder_life (request_ends p ends Aside aside tag body sent.small sent.whole done v world sent.typed (omega (arith, within)) x w)).few in
       omega (arith, later)
   asked_falls world more tag body sent v done (suc left) few chance asks life responder_life x = omega arith
 
-  answer_falls : (world : World) (more tag : ℕ) (body : List ℕ) (sent : IsSendable tag body) (v : View) (done left : ℕ) (few : suc left ≤ round) (chance : NoChance v.log) (answers : Answers more tag body v.log v.asked v.served) (life : length v.given + v.commands + suc left + round * more ≤ wear_limit)
-      (responder_life : length v.received + round * more ≤ wear_limit) (x : AnswerComes p ends Aside aside tag body sent.small sent.whole done left v world)
+  answer_falls : (world : World) (more tag : ℕ) (body : List ℕ) (sent : IsSendable tag body) (v : View) (done left : ℕ) (few : suc left ≤ round) (chance : NoChance v.log) (answers : Answers more tag body v.log v.asked v.served) (life : length v.given + v.commands + suc left + round * more ≤ limit)
+      (responder_life : length v.received + round * more ≤ limit) (x : AnswerComes p ends Aside aside tag body sent.small sent.whole done left v world)
       → FallsGiven (suc left + 132 * more) world (answer_given world more tag body sent v done left few chance answers life responder_life x)
   unfolding answer_given
   answer_falls world more tag body sent v done zero few chance answers life responder_life x =
       let w = first_answer p ends Aside aside tag body sent.small sent.whole done 0 v world x in
-      let e = answer_ends p ends Aside aside tag body sent.small sent.whole done v world (omega arith) x w in
+      let e = answer_ends p ends Aside aside tag body sent.small sent.whole done v world (omega (arith, within)) x w in
       heard_falls _ more tag body sent v done life responder_life e (talk.hears more tag body v.log v.asked v.served e.drawn chance answers)
   answer_falls world more tag body sent v done (suc left) few chance answers life responder_life x = omega arith
 

@@ -1,5 +1,5 @@
 -- A talk of one round more: a first one, whose answer leads to the request of a talk.
-use Rattle.std.proofs.Common.{◌≡◌, ◌⊎◌, ◌∙◌, ℕ, zero, suc, List, ◌++◌, length, false, Option, Some, None, refl, sym, ap, subst, inl, inr}
+use Rattle.std.proofs.Common.{◌≡◌, ◌⊎◌, ℕ, suc, List, ◌++◌, length, false, Some, inl, inr}
 use Rattle.spdm_grammar.specs.declared.event.Event.{Event}
 use Rattle.spdm_machine.specs.Keys.{Draw}
 use Rattle.spdm_machine.specs.TagLog.{Log}

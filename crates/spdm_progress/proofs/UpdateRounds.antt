@@ -1,15 +1,13 @@
 -- An update of keys takes two rounds: KEY_UPDATE with the update, and then with VerifyNewKey.
-use Rattle.std.proofs.Common.{◌≡◌, ◌≢◌, ◌∙◌, ℕ, ◌<◌, ◌≤◌, ◌+◌, ◌==◌, ◌&&◌, List, [], ◌∷◌, ◌++◌, length, Bool, true, false, Some, None, Result, Ok, refl, sym, ap, subst, arith, eq-eqb}
-use Rattle.requester_machine.specs.Does.{body_chosen, chosen, requester_hears}
-use Rattle.requester_machine.specs.Asking.{Outcome}
+use Rattle.std.proofs.Common.{◌≡◌, ◌≢◌, ◌∙◌, ℕ, ◌<◌, ◌≤◌, ◌==◌, ◌&&◌, List, [], ◌∷◌, Bool, true, false, Result, Ok, refl, sym, ap, subst, arith, eq-eqb}
+use Rattle.requester_machine.specs.Does.{body_chosen, chosen}
 use Rattle.requester_machine.specs.Answers.{goes_on, is_done}
 use Rattle.requester_machine.specs.History as asked
 use Rattle.requester_machine.specs.History.{Led}
 use Rattle.requester_machine.specs.History.Effect.{Grants}
-use Rattle.requester_machine.specs.InnerMessages.{echoes, inner_led, update_led, verified_led}
+use Rattle.requester_machine.specs.InnerMessages.{inner_led, update_led, verified_led}
 use Rattle.requester_machine.specs.Message.Ask.{AskUpdate, AskVerify}
-use Rattle.requester_machine.specs.RequesterLog as asked_log
-use Rattle.requester_machine.specs.Sending.{inner_request, key_update, operation_of, record_sent, update_tag, verify_sent}
+use Rattle.requester_machine.specs.Sending.{inner_request, key_update, operation_of, update_tag, verify_sent}
 use Rattle.requester_machine.specs.Session as steps
 use Rattle.requester_machine.specs.Session.{Steps}
 use Rattle.requester_machine.specs.Session.Step.{Took as TookAnswer}
@@ -22,7 +20,6 @@ use Rattle.responder_machine.specs.Setup.{RspSetup}
 use Rattle.responder_machine.specs.Turn.{Turn}
 use Rattle.spdm_agreement.specs.Configured.{IsRequester, IsResponder}
 use Rattle.spdm_basis.specs.declared.session_id.SessionId.{SessionId}
-use Rattle.spdm_grammar.specs.Message.RequestMessage.{KeyUpdate}
 use Rattle.spdm_grammar.specs.Message.ResponseMessage.{KeyUpdateAck}
 use Rattle.spdm_grammar.specs.Responses.{canonical_response}
 use Rattle.spdm_grammar.specs.declared.event.BadReply.{BadReply}
@@ -36,7 +33,7 @@ use Rattle.spdm_machine.specs.TagLog.{Log}
 use Rattle.spdm_machine.specs.Terms.{Terms, hash_len}
 use Rattle.spdm_progress.specs.InStep.{AreInStep}
 use Rattle.spdm_progress.proofs.AlikeSessions.{same_terms}
-use Rattle.spdm_progress.proofs.AskedOnce.{IsGood, IsSpdm, room, small_takes}
+use Rattle.spdm_progress.proofs.AskedOnce.{IsGood, room, small_takes}
 use Rattle.spdm_progress.proofs.FurtherRound.{follows}
 use Rattle.spdm_progress.proofs.PacketSteps.{Pair}
 use Rattle.spdm_progress.proofs.RecordHeard.{came_as}
@@ -45,7 +42,7 @@ use Rattle.spdm_progress.proofs.SessionRounds.{AreAnswered, Asking, IsAnswered, 
 use Rattle.spdm_progress.proofs.SessionTurns.{answer_read, update_turn}
 use Rattle.spdm_progress.proofs.SingleRound.{AnswersOnce, AsksOnce, IsLast, Quiet, once_talk}
 use Rattle.spdm_progress.proofs.Talk.{IsTalk}
-use Rattle.spdm_progress.proofs.TwoRounds.{Answers, Asks, IsFirst, LeadsTo, OneStage, two_talk}
+use Rattle.spdm_progress.proofs.TwoRounds.{Answers, Asks, IsFirst, OneStage, two_talk}
 
 abbrev pub update_asking : Bool → Asking
 update_asking all = record { ask = AskUpdate all; inner = λ s. inner_request (key_update s (operation_of all)) }

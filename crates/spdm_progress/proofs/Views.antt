@@ -1,7 +1,7 @@
 -- A pair of ends as a world shows it, and what one packet of a body of any length makes of it.
-use Rattle.std.proofs.Common.{◌≡◌, ◌≢◌, ◌∙◌, ℕ, suc, ◌<◌, ◌+◌, ◌==◌, ◌||◌, List, [], ◌∷◌, ◌++◌, length, drop, find, Bool, true, false, not, Option, Some, None, Result, Ok, unwrap_or, refl, sym, ap, subst, inl, arith, eq-eqb}
+use Rattle.std.proofs.Common.{◌≡◌, ◌∙◌, ℕ, suc, ◌<◌, ◌+◌, ◌==◌, ◌||◌, List, [], ◌∷◌, ◌++◌, length, drop, find, Bool, true, false, not, Option, Some, Result, Ok, unwrap_or, refl, sym, ap, subst, inl, arith, eq-eqb}
+use Rattle.spdm_basis.proofs.Bools.{lt_false}
 use Rattle.std.specs.Prelude.{if◌then◌else◌}
-use Rattle.std.proofs.lemmas.Bool.{ne_eqb}
 use Rattle.mctp_framing.proofs.Packets.{packets_from, no_packets_from}
 use Rattle.mctp_framing.specs.Cutting.{RouteFields, packet_count}
 use Rattle.mctp_framing.specs.Gathering.{Gathered}
@@ -10,7 +10,6 @@ use Rattle.mctp_framing.specs.Packet.{PacketFields, spelled_packet, parsed}
 use Rattle.spdm_basis.specs.declared.PacketFault.{PacketFault}
 use Rattle.spdm_basis.specs.declared.DropCause.TheVariants.{NotOurs}
 use Rattle.spdm_grammar.specs.Lines.{Line}
-use Rattle.spdm_grammar.specs.declared.event.Event.{Event}
 use Rattle.spdm_grammar.specs.declared.event.Event.TheVariants as event
 use Rattle.spdm_grammar.specs.declared.heard.Heard.TheVariants as heard
 use Rattle.spdm_grammar.specs.declared.heard.RspIgnored.TheVariants as ignored
@@ -32,16 +31,15 @@ use Rattle.responder_machine.specs.ResponderLog as served_log
 use Rattle.responder_machine.specs.Responding as serving
 use Rattle.responder_machine.specs.Responding.{Connection, Responding, RspStep, answers, connection_of, responder_hears}
 use Rattle.responder_machine.specs.Setup.{RspPart}
-use Rattle.world_machine.specs.World.{World, WorldStep, first_waiting, is_at, number_at, packet_of, requester_of, given, given_to_requester, given_to_responder, with_sent, without_waiting, delivers}
+use Rattle.world_machine.specs.World.{World, WorldStep, is_at, number_at, packet_of, requester_of, given, given_to_requester, given_to_responder, with_sent, without_waiting, delivers}
 use Rattle.spdm_progress.proofs.Aside.{IsAside}
 use Rattle.spdm_progress.proofs.Between.{IsStill}
 use Rattle.spdm_progress.proofs.ComingSteps.{gathers_as, to_requester}
 use Rattle.spdm_progress.proofs.Drawn.{draws_whole}
 use Rattle.spdm_progress.proofs.ManyPackets.{Came, FirstWaits, IsBody, first_waits, last_gathers, more_gathers, nth, nth_read, one_came, sent_waits, waiting_in}
-use Rattle.spdm_progress.proofs.OnePacket.{not_longer, route_to}
+use Rattle.spdm_progress.proofs.OnePacket.{route_to}
 use Rattle.spdm_progress.proofs.PacketSteps.{Pair, AreEnds, asker, either_first, not_worn, server}
 use Rattle.spdm_progress.proofs.Places.{found_new, number_new, of_new, of_same}
-use Rattle.spdm_progress.proofs.StillKept.{KeepsAlike}
 use Rattle.spdm_progress.proofs.Waiting.{none_more}
 
 -- What two ends were given and hold, and the tags that all ends computed and compared.
@@ -118,7 +116,7 @@ typed_answers r c packet route body owner typed = rw (owner, typed) refl
 
 to_responder : (world : World) (f : PacketFields) → f.to ≡ world.responder.part.eid → given world (spelled_packet f) ≡ given_to_responder world (spelled_packet f) (responder_hears world.responder (spelled_packet f))
 to_responder world f own =
-    either_first _ (f.to == world.responder.part.eid) _ _ _ (not_longer (length (spelled_packet f)) 2 (omega arith)) (eq-eqb f.to world.responder.part.eid own)
+    either_first _ (f.to == world.responder.part.eid) _ _ _ (lt_false (length (spelled_packet f)) 2 (omega arith)) (eq-eqb f.to world.responder.part.eid own)
 
 next_done : (done : ℕ) → done + 1 ≡ suc done
 next_done done = omega arith

@@ -1,5 +1,5 @@
 -- What an open comes to where its messages are delivered honestly. This project's own.
-use Rattle.std.specs.Prelude.{◌≡◌, ◌≢◌, ◌≤◌, ◌+◌, ◌==◌, ◌*◌, ℕ, List, length, Bool, true, false, if◌then◌else◌}
+use Rattle.std.specs.Prelude.{◌≢◌, ◌≤◌, ◌+◌, ◌==◌, ℕ, List, length, true, if◌then◌else◌}
 use Rattle.requester_machine.specs.Commands.{exchange_for}
 use Rattle.requester_machine.specs.Does as asking
 use Rattle.requester_machine.specs.Does.{command_chosen}

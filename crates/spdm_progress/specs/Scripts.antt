@@ -1,5 +1,5 @@
 -- Each command of an honest script comes to its result. This project's own.
-use Rattle.std.specs.Prelude.{◌≡◌, ◌<◌, ◌≤◌, ℕ, List, [], ◌∷◌, if◌then◌else◌, false, Some, None, Contains}
+use Rattle.std.specs.Prelude.{◌≡◌, ◌<◌, ◌≤◌, ◌+◌, ◌*◌, ◌^◌, ℕ, List, [], ◌∷◌, length, if◌then◌else◌, false, Some, None, Contains}
 use Rattle.measurements.specs.Records.{is_missing}
 use Rattle.requester_machine.specs.Message.{Command}
 use Rattle.requester_machine.specs.Message.Command.{Beat, Connect, End, Measure, Open, Retry, Send, Update}
@@ -12,6 +12,7 @@ use Rattle.spdm_grammar.specs.Lines.{Line}
 use Rattle.spdm_grammar.specs.declared.event.Event.TheVariants as event
 use Rattle.spdm_grammar.specs.declared.event.Finished.{Finished}
 use Rattle.spdm_grammar.specs.declared.event.Finished.TheVariants as finished
+use Rattle.spdm_machine.specs.Packets.{wear_limit}
 use Rattle.world_machine.specs.Chance.{NoChance}
 use Rattle.world_machine.specs.Happenings.{Entry, Happening}
 use Rattle.world_machine.specs.Happenings.Happening.{Pump, Told}
@@ -23,7 +24,7 @@ use Rattle.spdm_progress.specs.Honest.{AreHonest, HaveNoCommand, NothingWaits, i
 use Rattle.spdm_progress.specs.InStep.{AreQuiet}
 use Rattle.spdm_progress.specs.Measuring.{measurements_size}
 use Rattle.spdm_progress.specs.Opening.{CanOpen, opened_id, terms_now}
-use Rattle.spdm_progress.specs.SessionCommands.{CanAsk, CompletesQuietly, IsTold, IsToldQuietly, LivesToAnswer, commanding, result_of}
+use Rattle.spdm_progress.specs.SessionCommands.{CanAsk, CompletesQuietly, IsTold, IsToldQuietly, commanding, result_of}
 
 -- ---- Each command.
 
@@ -106,11 +107,11 @@ OfEachCommand Holds world (entry ∷ entries) = OfCommand Holds world entry.line
     OfCommand Holds world line (Told n command) entries = Holds world line n command (up_to_command entries)
     OfCommand Holds world line _ entries = Unit {0}
 
--- A command that is answered `ok` has what it needs, and neither end is worn out before it is over.
+-- A command that is answered `ok` has what it needs.
 abbrev pub CanBeDone : World → (line n : ℕ) → Command → List Entry → Type 0
 CanBeDone world line n command behind =
     (a : Requesting) (c : Connection) → requester_of n world ≡ Some a → connection_of a.setup.eid world.responder.connections ≡ Some c → (requester_told a command).fault ≡ None
-    → CanDo a c command × LivesToAnswer a world.responder
+    → CanDo a c command
 
 -- A command that is answered `ok` is done before the next one.
 abbrev pub WillBeDone : World → (line n : ℕ) → Command → List Entry → Type 0
@@ -118,16 +119,43 @@ WillBeDone world line n command behind =
     (a : Requesting) (c : Connection) → requester_of n world ≡ Some a → connection_of a.setup.eid world.responder.connections ≡ Some c → (requester_told a command).fault ≡ None
     → IsDone n a.setup c.setup (result_for a c command) (world_from (commanding world line n command) behind) (lines_from (commanding world line n command) behind)
 
--- From any quiet world on, whatever led to it: where nothing agrees by chance, and each command that is answered `ok` has
--- what it needs, and no packet waits at the end, each of these commands is done before the next one, and the world is quiet.
+-- Each end has taken so many packets and commands at most. It takes 2^40.
+pub record HaveTaken (most : ℕ) (world : World) : Type 0 where
+  pub requesters : (n : ℕ) (a : Requesting) → requester_of n world ≡ Some a → length a.given + a.commands ≤ most
+  pub responder : length world.responder.given ≤ most
+
+-- From any quiet world on, whatever led to it: where nothing agrees by chance, each command that is answered `ok` has what it
+-- needs, no packet waits at the end, and neither end can be worn out by then, each of these commands is done before the next
+-- one, and the world is quiet.
 abbrev pub QuietWorldsComplete : Type 0
 QuietWorldsComplete =
-    (w : WorldSetup) → IsConfigured w → (before : List Entry) → IsQuietWorld (world_after w before)
-    → (entries : List Entry) → AreHonest (world_after w before) entries → NothingWaits (world_from (world_after w before) entries) → NoChance (world_from (world_after w before) entries).log
+    (w : WorldSetup) → IsConfigured w → (before : List Entry) → IsQuietWorld (world_after w before) → (most : ℕ) → HaveTaken most (world_after w before)
+    → (entries : List Entry) → most + 199 * length entries ≤ wear_limit → AreHonest (world_after w before) entries → NothingWaits (world_from (world_after w before) entries) → NoChance (world_from (world_after w before) entries).log
     → OfEachCommand CanBeDone (world_after w before) entries → OfEachCommand WillBeDone (world_after w before) entries × IsQuietWorld (world_from (world_after w before) entries)
 
--- So it is with each honest script, since a new world is quiet.
+-- So it is with each honest script of at most 2^32 events, since a new world is quiet.
 abbrev pub HonestScriptsComplete : Type 0
 HonestScriptsComplete =
-    (w : WorldSetup) → IsConfigured w → (entries : List Entry) → AreHonest (new_world w) entries → NothingWaits (world_after w entries) → NoChance (world_after w entries).log
+    (w : WorldSetup) → IsConfigured w → (entries : List Entry) → length entries ≤ 2 ^ 32 → AreHonest (new_world w) entries → NothingWaits (world_after w entries) → NoChance (world_after w entries).log
     → OfEachCommand CanBeDone (new_world w) entries → OfEachCommand WillBeDone (new_world w) entries × IsQuietWorld (world_after w entries)
+
+-- ---- Scripts that are honest by their form.
+
+-- A command for requester n, and a pump behind it, each with the number of its line.
+pub record Order : Type 0 where
+  pub line : ℕ
+  pub n : ℕ
+  pub command : Command
+  pub pump_line : ℕ
+
+-- Each command has a pump of 396 packets behind it.
+abbrev pub with_pumps : List Order → List Entry
+with_pumps [] = []
+with_pumps (o ∷ orders) = record { line = o.line; happening = Told o.n o.command } ∷ record { line = o.pump_line; happening = Pump 396 } ∷ with_pumps orders
+
+-- Such a script is honest, and no packet waits at its end, where nothing agrees by chance and each command that is answered
+-- `ok` has what it needs. So there is an honest script for any such commands.
+abbrev pub PumpedScriptsAreHonest : Type 0
+PumpedScriptsAreHonest =
+    (w : WorldSetup) → IsConfigured w → (orders : List Order) → length orders ≤ 2 ^ 32 → NoChance (world_after w (with_pumps orders)).log
+    → OfEachCommand CanBeDone (new_world w) (with_pumps orders) → AreHonest (new_world w) (with_pumps orders) × NothingWaits (world_after w (with_pumps orders))

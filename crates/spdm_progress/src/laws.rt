@@ -4,8 +4,12 @@ ghost use Rattle.spdm_progress.specs.Connecting.{ConnectCompletes, EachIsConnect
 ghost use Rattle.spdm_progress.specs.Measuring.{ConnectedCanMeasure, MeasureCompletes};
 ghost use Rattle.spdm_progress.specs.Opening.{OpenCompletes};
 ghost use Rattle.spdm_progress.specs.Scripts.{
-    ConnectsQuietly, HonestScriptsComplete, PumpsAreEnough, QuietCommandsComplete,
-    QuietWorldsComplete,
+  ConnectsQuietly,
+  HonestScriptsComplete,
+  PumpedScriptsAreHonest,
+  PumpsAreEnough,
+  QuietCommandsComplete,
+  QuietWorldsComplete,
 };
 ghost use Rattle.spdm_progress.specs.SessionCommands.{SessionCommandsComplete};
 
@@ -34,8 +38,8 @@ pub fn measure_completes()
     ensures { MeasureCompletes }
 {}
 
-/// Right behind a connect that chose measurements, a measure needs no more than that a block which it
-/// names is configured, and that the answer fits the transfer size of the requester's set-up.
+/// Right behind a connect that chose measurements, a measure needs no more than that a block which
+/// it names is configured, and that the answer fits the transfer size of the requester's set-up.
 pub fn connected_can_measure()
     ensures { ConnectedCanMeasure }
 {}
@@ -79,4 +83,10 @@ pub fn quiet_worlds_complete()
 /// So it is with each honest script from its beginning on.
 pub fn honest_scripts_complete()
     ensures { HonestScriptsComplete }
+{}
+
+/// For any commands there is such a script: it is honest where each command has a pump of 396
+/// packets behind it.
+pub fn pumped_scripts_are_honest()
+    ensures { PumpedScriptsAreHonest }
 {}
