@@ -56,7 +56,7 @@ finish-answered r s m f verify sizes form is h =
 
 -- ---- Which requests a stage allows.
 
-allowed_code : (r : RspSetup) (s : Events) (m : List ℕ) (asked : RequestMessage) (stage : Stage) → refused_form r (session_place s) m ≡ None → request_at (session_place s) m ≡ Some asked → stage_of s ≡ stage
+pub allowed_code : (r : RspSetup) (s : Events) (m : List ℕ) (asked : RequestMessage) (stage : Stage) → refused_form r (session_place s) m ≡ None → request_at (session_place s) m ≡ Some asked → stage_of s ≡ stage
     → not (stage_allows stage (has_pending (session_place s)) (code_for asked)) ≡ false
 unfolding refused_form
 allowed_code r s m asked stage form is at =

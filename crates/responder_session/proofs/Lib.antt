@@ -6,3 +6,4 @@ pub mod Finish
 pub mod Answered
 pub mod Taken
 pub mod Judging
+pub mod Updating

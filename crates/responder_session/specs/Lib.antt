@@ -11,3 +11,4 @@ pub mod Judged
 pub mod Took
 pub mod EndedTook
 pub mod Queue
+pub mod Updates

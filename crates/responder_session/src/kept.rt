@@ -5,11 +5,18 @@ ghost use Rattle.spdm_basis.specs.SessionIdBytes.{session_id_bytes};
 ghost use Rattle.spdm_grammar.specs.declared.choice.Choice.{Choice};
 ghost use Rattle.spdm_machine.specs.Keys.{sealed_of};
 
+use crate::error::write_error;
 use crate::form::Place;
 use secured_record::{RecordFault, RecordKey};
-use session_keys::{Handshake, SessionTerms, open_record, same_bytes, seal_record};
-use spdm_basis::{HashBytes, RecordFrame, SessionId};
-use spdm_grammar::{SessionView, Stage};
+use session_keys::{
+    Handshake, SPDM_MESSAGE, SessionTerms, byte_at, open_record, same_bytes, seal_record,
+};
+use spdm_basis::{Frame, HashBytes, RecordFrame, SessionId};
+use spdm_grammar::names::is_one_of;
+use spdm_grammar::names::request_code::{
+    CHUNK_GET, CHUNK_SEND, GET_MEASUREMENTS, HEARTBEAT, KEY_UPDATE,
+};
+use spdm_grammar::{ErrorCode, SessionView, Stage};
 
 // As many records as a key may seal.
 pub const MOST_RECORDS: u32 = 65536;
@@ -91,8 +98,12 @@ fn seal_reply(
 }
 
 impl Kept {
-    ghost use Rattle.std.specs.Prelude.{◌≡◌, ◌≤◌, ◌<◌, ◌+◌, ◌∷◌, ◌^◌, ◌==◌, ◌||◌, ℕ, List, None, Some, false, OnOk, MatchResult, length};
-    ghost use Rattle.key_schedule.specs.Purpose.{application_record};
+    ghost use Rattle.std.specs.Prelude.{◌≡◌, ◌≤◌, ◌<◌, ◌+◌, ◌-◌, ◌∷◌, ◌^◌, ◌==◌, ◌||◌, ℕ, List, None, Some, false, OnOk, MatchResult, length};
+    ghost use Rattle.key_schedule.specs.Purpose.{Purpose, application_record};
+    ghost use Rattle.responder_machine.specs.Answer.{Free};
+    ghost use Rattle.spdm_basis.specs.SessionIdBytes.{session_id_bytes};
+    ghost use Rattle.spdm_machine.specs.Keys.{sealed_of};
+    ghost use Rattle.responder_session.specs.Turns.{refused_by, tells_length};
     ghost use Rattle.key_schedule.specs.declared.direction.Direction.TheVariants.{Request, Response};
     ghost use Rattle.running_hash.specs.Hash.{hash_of};
     ghost use Rattle.session_keys.specs.Handshake.{IsHandshakeOf};
@@ -106,7 +117,7 @@ impl Kept {
     ghost use Rattle.responder_session.specs.Exchange.{begun};
     ghost use Rattle.responder_machine.specs.Heard.{view_of};
     ghost use Rattle.responder_machine.specs.Place.{session_place};
-    ghost use Rattle.responder_machine.specs.Refusal.{has_pending};
+    ghost use Rattle.responder_machine.specs.Refusal.{has_pending, lacks_flag};
     ghost use Rattle.responder_machine.specs.Setup.{RspSetup};
     ghost use Rattle.responder_machine.specs.SizeLaws.{HasSizes};
     ghost use Rattle.responder_session.specs.Form.{IsPlaceOf};
@@ -246,6 +257,13 @@ impl Kept {
         requires sealed { length sealed.now ≤ 4160 }
         requires message { length message.now ≤ 4096 }
         requires pad { length pad.now ≤ 16 }
+        ensures key { (choice : Choice) (p : Purpose) → IsKeyOf self.old.response choice p
+            → kept_record self.new.last ≡ Some (record {
+              sealed = sealed.now;
+              reply = sealed_of choice p self.old.response_next
+                  (session_id_bytes self.old.id.req self.old.id.rsp)
+                  (kind ∷ message.now) pad.now;
+            }) }
         ensures last { (psk : List ℕ) (s : Events) (t : Turn) → Keeps self.old psk s
             → updates 2 t ≡ false → inner_reply t ≡ kind ∷ message.now
             → kept_record self.new.last ≡ Some (record {
@@ -263,6 +281,101 @@ impl Kept {
         self.request_next += 1;
         self.response_next += 1;
         self.last = Some(LastRecord::new(sealed, reply));
+    }
+
+    // Answers a record whose message is refused with this code.
+    pub fn refuse(&mut self, sealed: &[u8], message: &[u8], code: ErrorCode, pad: &[u8])
+        requires request_few { self.old.request_next < 65536 }
+        requires response_few { self.old.response_next < 65536 }
+        requires sealed { length sealed.now ≤ 4160 }
+        requires short { tells_length code ≡ false }
+        requires pad { length pad.now ≤ 16 }
+        ensures keeps { (r : RspSetup) (s : Events) (f : Free) → Keeps self.old r.psk s
+            → Keeps self.new r.psk (refused_by r s f sealed.now message.now code pad.now) }
+        ensures rest { self.new ≡ record self.old {
+          request_next = self.old.request_next + 1;
+          response_next = self.old.response_next + 1;
+          last = self.new.last;
+        } }
+    {
+        let mut answer = Frame::new();
+        write_error(code, byte_at(message, 1), &mut answer);
+        self.reply(sealed, SPDM_MESSAGE, answer.as_slice(), pad);
+    }
+
+    // Whether a request with this code needs what was not negotiated.
+    pub fn lacks_flag(&self, code: u8) -> bool
+        ensures { (psk : List ℕ) (s : Events) → Keeps self.now psk s
+            → result ≡ lacks_flag (session_terms s) code }
+    {
+        let choice = self.terms.choice;
+        let common = self.terms.common;
+        (code == GET_MEASUREMENTS && !choice.measure)
+            || (is_one_of(&[CHUNK_SEND, CHUNK_GET], code) && !common.chunk)
+            || (code == HEARTBEAT && !common.heartbeat)
+            || (code == KEY_UPDATE && !common.key_update)
+    }
+
+    // What is kept under the next key of requests, whose numbers begin anew.
+    pub fn rekey_requests(self) -> Kept
+        requires { self.request.epoch < 2 ^ 64 - 1 }
+        ensures key { (choice : Choice) (p : Purpose) → IsKeyOf self.request choice p
+            → IsKeyOf result.request choice (record p { epoch = p.epoch + 1 }) }
+        ensures rest { result ≡ record self { request = result.request; request_next = 0 } }
+    {
+        let Kept {
+            request,
+            response,
+            request_next: _,
+            response_next,
+            taken,
+            hash,
+            id,
+            terms,
+            last,
+        } = self;
+        Kept {
+            request: request.next(),
+            response,
+            request_next: 0,
+            response_next,
+            taken,
+            hash,
+            id,
+            terms,
+            last,
+        }
+    }
+
+    // What is kept under the next key of responses, whose numbers begin anew.
+    pub fn rekey_responses(self) -> Kept
+        requires { self.response.epoch < 2 ^ 64 - 1 }
+        ensures key { (choice : Choice) (p : Purpose) → IsKeyOf self.response choice p
+            → IsKeyOf result.response choice (record p { epoch = p.epoch + 1 }) }
+        ensures rest { result ≡ record self { response = result.response; response_next = 0 } }
+    {
+        let Kept {
+            request,
+            response,
+            request_next,
+            response_next: _,
+            taken,
+            hash,
+            id,
+            terms,
+            last,
+        } = self;
+        Kept {
+            request,
+            response: response.next(),
+            request_next,
+            response_next: 0,
+            taken,
+            hash,
+            id,
+            terms,
+            last,
+        }
     }
 
     // The reply to the last record.
