@@ -12,3 +12,5 @@ pub mod Took
 pub mod EndedTook
 pub mod Queue
 pub mod Updates
+pub mod Deeds
+pub mod Chunks

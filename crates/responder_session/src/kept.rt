@@ -117,7 +117,8 @@ impl Kept {
     ghost use Rattle.responder_session.specs.Exchange.{begun};
     ghost use Rattle.responder_machine.specs.Heard.{view_of};
     ghost use Rattle.responder_machine.specs.Place.{session_place};
-    ghost use Rattle.responder_machine.specs.Refusal.{has_pending, lacks_flag};
+    ghost use Rattle.responder_machine.specs.Refusal.{has_pending, lacks_flag, is_answer_too_long};
+    ghost use Rattle.responder_machine.specs.Handling.{goes_large};
     ghost use Rattle.responder_machine.specs.Setup.{RspSetup};
     ghost use Rattle.responder_machine.specs.SizeLaws.{HasSizes};
     ghost use Rattle.responder_session.specs.Form.{IsPlaceOf};
@@ -238,7 +239,8 @@ impl Kept {
 
     // What the tests of a message's form look at, in a stage, with a large answer pending or not.
     pub fn place(&self, stage: Stage, pending: bool) -> Place
-        ensures { (r : RspSetup) (psk : List ℕ) (s : Events) → Keeps self.now psk s
+        ensures hash { result.hash ≡ self.now.terms.choice.hash }
+        ensures is { (r : RspSetup) (psk : List ℕ) (s : Events) → Keeps self.now psk s
             → HasSizes r (session_terms s).common → stage ≡ stage_of s
             → pending ≡ has_pending (session_place s) → IsPlaceOf result r s }
     {
@@ -314,6 +316,23 @@ impl Kept {
             || (is_one_of(&[CHUNK_SEND, CHUNK_GET], code) && !common.chunk)
             || (code == HEARTBEAT && !common.heartbeat)
             || (code == KEY_UPDATE && !common.key_update)
+    }
+
+    // Whether an answer of so many bytes is too long for the requester.
+    pub fn is_too_long(&self, long: u32) -> bool
+        ensures { (psk : List ℕ) (s : Events) (answer : List ℕ) → Keeps self.now psk s
+            → length answer ≡ long → result ≡ is_answer_too_long (session_place s) answer }
+    {
+        let common = self.terms.common;
+        common.to_requester.max < long || (!common.chunk && common.to_requester.transfer < long)
+    }
+
+    // Whether an answer of so many bytes goes by chunks, where it is not too long.
+    pub fn goes_large(&self, long: u32) -> bool
+        ensures { (psk : List ℕ) (s : Events) (answer : List ℕ) → Keeps self.now psk s
+            → length answer ≡ long → result ≡ goes_large (session_place s) answer }
+    {
+        self.terms.common.to_requester.transfer < long
     }
 
     // What is kept under the next key of requests, whose numbers begin anew.

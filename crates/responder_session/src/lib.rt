@@ -2,11 +2,14 @@
 //! and gives back: what may not be done in a state is no call of it. No call takes memory.
 #![tactic(auto)]
 
+mod answers;
+mod deed;
 mod ended;
 mod error;
 mod exchange;
 mod form;
 mod handshake;
+mod judging;
 mod kept;
 mod open;
 mod parts;
@@ -14,6 +17,7 @@ mod queue;
 mod took;
 mod verifying;
 
+pub use deed::RecordFree;
 pub use ended::RspEnded;
 pub use handshake::RspHandshake;
 pub use open::RspOpen;

@@ -34,7 +34,7 @@ impl Model for RspVerifying {
 }
 
 // The operation of KEY_UPDATE by which new keys are verified (DSP0274, "KEY_UPDATE operations").
-const VERIFY_NEW_KEY: u8 = 3;
+pub const VERIFY_NEW_KEY: u8 = 3;
 
 // The tag of VerifyNewKey; none of any other request.
 fn new_key_tag(request: &Request<'_>) -> Option<u8>
