@@ -12,3 +12,4 @@ pub mod Measured
 pub mod Pieces
 pub mod Given
 pub mod Opened
+pub mod Steps

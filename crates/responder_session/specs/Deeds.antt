@@ -1,12 +1,14 @@
 -- What a message does in an open session.
-use Rattle.std.specs.Prelude.{◌≡◌, ◌<◌, ℕ, List, if◌then◌else◌, length, not, Bool, true, false, Some, None}
+use Rattle.std.specs.Prelude.{◌≡◌, ◌<◌, ◌≤◌, ℕ, List, ◌∷◌, if◌then◌else◌, length, not, Bool, true, false, Some, None}
 use Rattle.responder_machine.specs.Answer.{Free, answer_bytes, request_at}
 use Rattle.responder_machine.specs.Handling.{refused_turn, turn_of, large_response}
 use Rattle.responder_machine.specs.LargeMessages.{pending_of}
 use Rattle.responder_machine.specs.Place.{session_place}
+use Rattle.responder_machine.specs.Records.{reply_record}
 use Rattle.responder_machine.specs.Refusal.{refused_form, lacks_flag, code_of}
-use Rattle.responder_machine.specs.Responder.{data_turn, session_turn}
+use Rattle.responder_machine.specs.Responder.{data_turn, session_turn, inner_reply}
 use Rattle.responder_machine.specs.Session.{Events, stage_of, session_terms, turns_of}
+use Rattle.responder_machine.specs.Session.Event.{Heard}
 use Rattle.responder_machine.specs.Setup.{RspSetup}
 use Rattle.responder_machine.specs.SizeLaws.{HasSizes}
 use Rattle.responder_machine.specs.Turn.{Turn}
@@ -47,8 +49,9 @@ turn_for r s f message answer (deed.Update all tag) = update_turn message (if al
 turn_for r s f message answer deed.Ended = answered_turn message EndSession answer
 turn_for r s f message answer (deed.Chunk handle number) = answered_turn message (ChunkGet handle number) answer
 
--- What else is known of it: how long the answer is that is too long; that a large one is longer than the requester's transfer size; which answer an update has; that a large answer is pending of which a chunk is given.
+-- What else is known of it: that application data has at most 1,024 bytes; how long the answer is that is too long; that a large one is longer than the requester's transfer size; which answer an update has; that a large answer is pending of which a chunk is given.
 abbrev pub IsFit : RspSetup → Events → Free → (message answer : List ℕ) → Deed → Type 0
+IsFit r s f message answer deed.Data = length message ≤ 1024
 IsFit r s f message answer (deed.TooLong long) = length (answer_bytes r (session_place s) message f) ≡ long
 IsFit r s f message answer (deed.Large op) = (session_terms s).common.to_requester.transfer < length answer
 IsFit r s f message answer (deed.Update all tag) = answer ≡ canonical_response (KeyUpdateAck (if all then 2 else 1) tag)
@@ -77,3 +80,13 @@ pub record IsAllowed (r : RspSetup) (s : Events) (m : List ℕ) (asked : Request
   pub form : refused_form r (session_place s) m ≡ None
   pub asks : request_at (session_place s) m ≡ Some asked
   pub flag : lacks_flag (session_terms s) (code_of m) ≡ false
+
+-- A request that leaves the keys and asks for no chunk.
+abbrev pub is_quiet : RequestMessage → Bool
+is_quiet Heartbeat = true
+is_quiet (GetMeasurements op) = true
+is_quiet _ = false
+
+-- The session with a record of this turn, answered with this padding.
+abbrev pub heard_by : (psk : List ℕ) → Events → (sealed : List ℕ) → Turn → (pad : List ℕ) → Events
+heard_by psk s sealed t pad = Heard sealed t (reply_record psk s t (inner_reply t) pad) ∷ s

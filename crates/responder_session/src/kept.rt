@@ -252,6 +252,19 @@ impl Kept {
         }
     }
 
+    // The record that answers the next one, under the standing key: the inner message of a type.
+    pub fn seal(&self, kind: u8, message: &[u8], pad: &[u8]) -> RecordFrame
+        requires response_few { self.now.response_next < 65536 }
+        requires message { length message.now ≤ 4096 }
+        requires pad { length pad.now ≤ 16 }
+        ensures { (psk : List ℕ) (s : Events) (t : Turn) → Keeps self.now psk s
+            → updates 2 t ≡ false → inner_reply t ≡ kind ∷ message.now
+            → result ≡ reply_record psk s t (inner_reply t) pad.now }
+    {
+        let number = self.response_next as u16;
+        seal_reply(&self.response, self.id, number, kind, message, pad)
+    }
+
     // Seals the inner message of a type that answers a record, under the standing key; both are counted and kept.
     pub fn reply(&mut self, sealed: &[u8], kind: u8, message: &[u8], pad: &[u8])
         requires request_few { self.old.request_next < 65536 }

@@ -11,6 +11,7 @@ mod form;
 mod handshake;
 mod judging;
 mod kept;
+mod moving;
 mod open;
 mod parts;
 mod queue;

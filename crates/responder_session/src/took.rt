@@ -35,3 +35,15 @@ pub enum RspTook {
     /// It did not open, and nothing changed.
     Unopened(RspState, RecordFault),
 }
+
+impl RspTook {
+    ghost use Rattle.std.specs.Prelude.{◌≡◌};
+    ghost use Rattle.responder_session.specs.Queue.{took_data};
+
+    // Whether application data was taken.
+    pub(crate) fn takes_data(&self) -> bool
+        ensures { result ≡ took_data self.now }
+    {
+        matches!(self, RspTook::Moved(_, RspAct::Data))
+    }
+}
