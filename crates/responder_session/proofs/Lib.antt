@@ -13,3 +13,4 @@ pub mod Pieces
 pub mod Given
 pub mod Opened
 pub mod Steps
+pub mod Records

@@ -14,3 +14,6 @@ pub mod Queue
 pub mod Updates
 pub mod Deeds
 pub mod Chunks
+pub mod Laws
+pub mod Reply
+pub mod Staged

@@ -98,7 +98,7 @@ fn seal_reply(
 }
 
 impl Kept {
-    ghost use Rattle.std.specs.Prelude.{◌≡◌, ◌≤◌, ◌<◌, ◌+◌, ◌-◌, ◌∷◌, ◌^◌, ◌==◌, ◌||◌, ℕ, List, None, Some, false, OnOk, MatchResult, length};
+    ghost use Rattle.std.specs.Prelude.{◌≡◌, ◌≤◌, ◌<◌, ◌+◌, ◌-◌, ◌∷◌, ◌^◌, ◌==◌, ◌||◌, ℕ, List, None, Some, false, OnOk, MatchOption, MatchResult, length};
     ghost use Rattle.key_schedule.specs.Purpose.{Purpose, application_record};
     ghost use Rattle.responder_machine.specs.Answer.{Free};
     ghost use Rattle.spdm_basis.specs.SessionIdBytes.{session_id_bytes};
@@ -127,6 +127,7 @@ impl Kept {
     ghost use Rattle.responder_machine.specs.Session.{Events, session_terms, stage_of, t1_of, taken_of};
     ghost use Rattle.responder_machine.specs.Turn.{Turn, updates};
     ghost use Rattle.responder_session.specs.Kept.{Keeps, kept_record};
+    ghost use Rattle.responder_session.specs.Reply.{last_reply};
 
     // What is kept of a session in its handshake, to which these halves of its id were given.
     pub fn begin(handshake: &Handshake, terms: SessionTerms, rsp_id: u16) -> Kept
@@ -411,7 +412,10 @@ impl Kept {
     }
 
     // The reply to the last record.
-    pub fn last_reply(&self) -> Option<&[u8]> {
+    pub fn last_reply(&self) -> Option<&[u8]>
+        ensures { MatchOption result (last_reply (kept_record self.now.last) ≡ None)
+            (λ reply. last_reply (kept_record self.now.last) ≡ Some reply.now) }
+    {
         match &self.last {
             Some(last) => Some(last.reply.as_slice()),
             None => None,
