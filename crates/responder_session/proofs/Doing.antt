@@ -48,7 +48,7 @@ alive_deed r s f m out a is =
       turn = turn-answered r (session_place s) m f Heartbeat a.form a.asks refl
           (answered_by _ (is_answer_too_long (session_place s) answer) (has_flag r s m Heartbeat a) (short_fits r s answer a.sizes (omega arith)))
           (short_is_small r s answer a.sizes (omega arith))
-      ∙ ap (answered_turn m Heartbeat) (sym is);
+          ∙ ap (answered_turn m Heartbeat) (sym is);
       fit = tt;
     }
 
@@ -59,7 +59,7 @@ ended_deed r s f m out a is =
       turn = turn-answered r (session_place s) m f EndSession a.form a.asks refl
           (answered_by (lacks_flag (session_terms s) (code_for EndSession)) (is_answer_too_long (session_place s) answer) (has_flag r s m EndSession a) (short_fits r s answer a.sizes (omega arith)))
           (short_is_small r s answer a.sizes (omega arith))
-      ∙ ap (answered_turn m EndSession) (sym is);
+          ∙ ap (answered_turn m EndSession) (sym is);
       fit = tt;
     }
 
@@ -82,7 +82,7 @@ pub update_deed : (r : RspSetup) (s : Events) (f : Free) (m out : List ℕ) (op 
 update_deed r s f m out op tag a low high other is =
     record {
       turn = update-answered r s m f op tag a.sizes a.form a.asks a.flag (open_fits op s false a.stage (not_three op other))
-      ∙ ap (λ (n : ℕ). update_turn m n tag) (operation op low high other);
+          ∙ ap (λ (n : ℕ). update_turn m n tag) (operation op low high other);
       fit = is ∙ ap (λ (n : ℕ). canonical_response (KeyUpdateAck n tag)) (operation op low high other);
     }
 
@@ -121,7 +121,7 @@ measured_deed r s f m out op a found fits small is =
     record {
       turn = turn-answered r (session_place s) m f (GetMeasurements op) a.form a.asks refl
           (measured_by _ (is_missing op (inventory_of r)) (is_answer_too_long (session_place s) (measured_answer r f op)) false false false (has_flag r s m (GetMeasurements op) a) found fits) small
-      ∙ ap (answered_turn m (GetMeasurements op)) (sym is);
+          ∙ ap (answered_turn m (GetMeasurements op)) (sym is);
       fit = tt;
     }
 
@@ -135,7 +135,7 @@ large_deed r s f m out op a found fits large is =
     record {
       turn = turn-large r (session_place s) m f (GetMeasurements op) a.form a.asks refl
           (measured_by _ (is_missing op (inventory_of r)) (is_answer_too_long (session_place s) (measured_answer r f op)) false false false (has_flag r s m (GetMeasurements op) a) found fits) large
-      ∙ ap (λ (x : List ℕ). large_turn m (GetMeasurements op) x f.handle) (sym is);
+          ∙ ap (λ (x : List ℕ). large_turn m (GetMeasurements op) x f.handle) (sym is);
       fit = subst (λ (x : List ℕ). (session_terms s).common.to_requester.transfer < length x) (sym is) (is_less (session_terms s).common.to_requester.transfer (length (measured_answer r f op)) large);
     }
 

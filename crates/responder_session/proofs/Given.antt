@@ -86,7 +86,7 @@ refused_deed r s f m out c handle number a next other =
     record {
       turn = turn-refused r (session_place s) m f (ChunkGet handle number) InvalidRequest a.form a.asks
           (measured_by _ (is_get_refused (session_place s) (Some (ChunkGet handle number))) (is_answer_too_long (session_place s) (canonical_response (chunk_answer (session_place s) handle number))) false true _
-              (has_flag r s m (ChunkGet handle number) a) (refused_get s c handle number next other) refl);
+          (has_flag r s m (ChunkGet handle number) a) (refused_get s c handle number next other) refl);
       fit = tt;
     }
 
@@ -124,9 +124,9 @@ given_deed r s f m out c handle number a next same_handle same_number written =
     record {
       turn = turn-answered r (session_place s) m f (ChunkGet handle number) a.form a.asks refl
           (measured_by _ (is_get_refused (session_place s) (Some (ChunkGet handle number))) (is_answer_too_long (session_place s) whole) false false false
-              (has_flag r s m (ChunkGet handle number) a) (same_both handle (handle_of turns) number (given_of turns) (sym at) (sym count))
-              (too_short (session_terms s).common.to_requester.max transfer (length whole) (session_terms s).common.chunk short crossed))
+          (has_flag r s m (ChunkGet handle number) a) (same_both handle (handle_of turns) number (given_of turns) (sym at) (sym count))
+          (too_short (session_terms s).common.to_requester.max transfer (length whole) (session_terms s).common.chunk short crossed))
           (not_less transfer (length whole) short)
-      ∙ ap (answered_turn m (ChunkGet handle number)) (same ∙ sym is);
+          ∙ ap (answered_turn m (ChunkGet handle number)) (same ∙ sym is);
       fit = (next.whole, next.pending);
     }

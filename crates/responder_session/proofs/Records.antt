@@ -69,8 +69,7 @@ pub took_is_record : TookIsRecord
 took_is_record r h tag sealed f d (took.Moved after told) live other (first, opens, stands, is) =
     let s = session_of (id_in_record sealed) h in
     let adds = on_live r h tag sealed f d live other ∙ chosen (repeats (last_of s) sealed) false (SendsAgain (record_body (kept_record (last_of s)))) _ first
-        ∙ ap (in_session_by r (phase_of (clear_turns h)) s f tag sealed d) opens in
-    (
+    ∙ ap (in_session_by r (phase_of (clear_turns h)) s f tag sealed d) opens in (
       adds,
       ap heard_of adds ∙ told_by (turn_in r s f sealed) (record_id sealed) (turn_in r s f sealed).refused ∙ ap (told_as (record_id sealed)) (sym is),
       own_record h tag sealed (turn_in r s f sealed) (reply_in r s f sealed) d,

@@ -26,8 +26,7 @@ pub taken : (r : RspSetup) (s : Events) (f : Free) (sealed inner pad : List ℕ)
     → repeats (last_of s) sealed ≡ false → opening_fault r.psk s sealed ≡ None → inner ≡ opened r.psk s sealed → session_turn r s inner f ≡ t → f.pad ≡ pad
     → IsAfter after r.psk s sealed t (reply_record r.psk s t (inner_reply t) pad) → act ≡ act_of t → IsTook r s f sealed (Moved after act)
 taken r s f sealed inner pad t after act other unfaulted is turn padded stands told =
-    let same : t ≡ session_turn r s (opened r.psk s sealed) f = sym turn ∙ ap (λ (x : List ℕ). session_turn r s x f) is in
-    (
+    let same : t ≡ session_turn r s (opened r.psk s sealed) f = sym turn ∙ ap (λ (x : List ℕ). session_turn r s x f) is in (
       other,
       unfaulted,
       subst (λ (u : Turn). IsAfter after r.psk s sealed u (reply_record r.psk s u (inner_reply u) f.pad)) same

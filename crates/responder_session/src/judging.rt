@@ -82,7 +82,11 @@ impl RspOpen {
         if byte_at(inner, 0) != SPDM_MESSAGE {
             return Deed::Data;
         }
-        match self.kept.place(Stage::Open, self.pending.is_some()).read(message) {
+        match self
+            .kept
+            .place(Stage::Open, self.pending.is_some())
+            .read(message)
+        {
             Err(code) => Deed::Refused(code),
             Ok(request) => self.judge_request(message, &request, inventory, free, out),
         }
@@ -127,13 +131,7 @@ impl RspOpen {
     }
 
     // What GET_MEASUREMENTS does.
-    fn measure(
-        &self,
-        op: u8,
-        inventory: &Inventory,
-        free: &RecordFree<'_>,
-        out: &mut Frame,
-    ) -> Deed
+    fn measure(&self, op: u8, inventory: &Inventory, free: &RecordFree<'_>, out: &mut Frame) -> Deed
         requires nonce { length free.now.nonce.now ≡ 32 }
         requires opaque { length free.now.opaque.now ≤ 1024 }
         ensures value { (r : RspSetup) (s : Events) (f : Free) (m : List ℕ)

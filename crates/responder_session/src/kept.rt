@@ -235,7 +235,13 @@ impl Kept {
         if self.is_spent() {
             return Err(RecordFault::KeySpent);
         }
-        open_record(&self.request, self.id, self.request_next as u16, sealed, out)
+        open_record(
+            &self.request,
+            self.id,
+            self.request_next as u16,
+            sealed,
+            out,
+        )
     }
 
     // What the tests of a message's form look at, in a stage, with a large answer pending or not.
@@ -424,7 +430,9 @@ impl Kept {
 
     // The session as it is shown, in its stage.
     pub fn view(&self, stage: Stage) -> SessionView
-        ensures { (psk : List ℕ) (s : Events) → Keeps self.now psk s → stage ≡ stage_of s
+        ensures request_epoch { result.request_epoch ≡ self.now.request.epoch }
+        ensures response_epoch { result.response_epoch ≡ self.now.response.epoch }
+        ensures shown { (psk : List ℕ) (s : Events) → Keeps self.now psk s → stage ≡ stage_of s
             → taken_of s < 2 ^ 64 → result ≡ view_of s }
     {
         SessionView {

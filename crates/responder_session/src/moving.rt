@@ -4,9 +4,9 @@ ghost use Rattle.chunking.specs.Cutting.{chunks_of};
 use crate::answers::write_large_response;
 use crate::deed::Deed;
 use crate::error::write_too_large;
+use crate::kept::LastRecord;
 use crate::open::rest;
 use crate::{RecordFree, RspAct, RspEnded, RspOpen, RspState, RspVerifying};
-use crate::kept::LastRecord;
 use chunking::Splitter;
 use session_keys::{APP_DATA, SPDM_MESSAGE, byte_at};
 use spdm_basis::{Buffer, Frame};
@@ -275,16 +275,25 @@ impl RspOpen {
                 RspAct::Data,
             ),
             Deed::Alive => (RspState::Open(self.answer(sealed, answer, pad)), answered),
-            Deed::Measured { op: _ } => (RspState::Open(self.answer(sealed, answer, pad)), answered),
+            Deed::Measured { op: _ } => (
+                RspState::Open(self.answer(sealed, answer, pad)),
+                answered,
+            ),
             Deed::Large { op: _ } => (
                 RspState::Open(self.answer_large(sealed, answer, free.handle, pad)),
                 answered,
             ),
             Deed::Update { all, tag: _ } => {
-                (RspState::Verifying(self.update(sealed, all, answer, pad)), answered)
+                (
+                    RspState::Verifying(self.update(sealed, all, answer, pad)),
+                    answered,
+                )
             }
             Deed::Ended => (RspState::Ended(self.end(sealed, answer, pad)), answered),
-            Deed::Chunk { .. } => (RspState::Open(self.give_chunk(sealed, answer, pad)), answered),
+            Deed::Chunk { .. } => (
+                RspState::Open(self.give_chunk(sealed, answer, pad)),
+                answered,
+            ),
         }
     }
 

@@ -78,20 +78,17 @@ impl RspOpen {
 
     /// The session as it is shown, where fewer than 2^64 application messages were taken.
     pub fn view(&self) -> SessionView
-        ensures { (psk : List ℕ) (s : Events) → StandsFor self.now psk s → taken_of s < 2 ^ 64
-            → result ≡ view_of s }
+        ensures request_epoch { result.request_epoch ≡ self.now.kept.request.epoch }
+        ensures response_epoch { result.response_epoch ≡ self.now.kept.response.epoch }
+        ensures shown { (psk : List ℕ) (s : Events) → StandsFor self.now psk s
+            → taken_of s < 2 ^ 64 → result ≡ view_of s }
     {
         self.kept.view(Stage::Open)
     }
 
     /// A record of the requester, whose answer has these free values. The caller's nonce has 32 bytes, the opaque
     /// data and the reply at most 1,024, and the padding at most 16; both epochs are below 2^64 - 1.
-    pub fn take_with(
-        self,
-        sealed: &[u8],
-        inventory: &Inventory,
-        free: &RecordFree<'_>,
-    ) -> RspTook
+    pub fn take_with(self, sealed: &[u8], inventory: &Inventory, free: &RecordFree<'_>) -> RspTook
         requires request_epoch { self.kept.request.epoch < 2 ^ 64 - 1 }
         requires response_epoch { self.kept.response.epoch < 2 ^ 64 - 1 }
         requires nonce { length free.now.nonce.now ≡ 32 }

@@ -43,10 +43,12 @@ returns-in-Measured c = λ r s f stands sizes free fit.
 pub returns-in-Large : goal.returns-in-Large
 returns-in-Large c = λ r s f stands sizes free fit.
     let fits = subst (λ (d : Deed). IsFit r s f c.args.message.now c.args.answer.now d) c.in-Large.is fit in
-    moved_by r s f c.args.message.now c.args.answer.now c.args.sealed.now c.args.free.now.pad.now c.args.deed _ (record { 0 = state.Open c.answer_large.result; 1 = Answered c.byte_at.result }) c.in-Large.is
-    (subst (λ (h : ℕ). IsAfter (state.Open c.answer_large.result) r.psk s c.args.sealed.now (large_turn c.args.message.now (GetMeasurements c.in-Large.op) c.args.answer.now h)
-        (reply_record r.psk s (large_turn c.args.message.now (GetMeasurements c.in-Large.op) c.args.answer.now h) (inner_reply (large_turn c.args.message.now (GetMeasurements c.in-Large.op) c.args.answer.now h)) c.args.free.now.pad.now))
-        (sym free.handle) (refl, c.answer_large.ensures r s c.args.message.now c.in-Large.op stands sizes fits), ap Answered c.byte_at.ensures)
+    moved_by r s f c.args.message.now c.args.answer.now c.args.sealed.now c.args.free.now.pad.now c.args.deed _ (record { 0 = state.Open c.answer_large.result; 1 = Answered c.byte_at.result }) c.in-Large.is (
+      subst (λ (h : ℕ). IsAfter (state.Open c.answer_large.result) r.psk s c.args.sealed.now (large_turn c.args.message.now (GetMeasurements c.in-Large.op) c.args.answer.now h)
+          (reply_record r.psk s (large_turn c.args.message.now (GetMeasurements c.in-Large.op) c.args.answer.now h) (inner_reply (large_turn c.args.message.now (GetMeasurements c.in-Large.op) c.args.answer.now h)) c.args.free.now.pad.now))
+          (sym free.handle) (refl, c.answer_large.ensures r s c.args.message.now c.in-Large.op stands sizes fits),
+      ap Answered c.byte_at.ensures,
+    )
 
 pub returns-in-Update : goal.returns-in-Update
 returns-in-Update c = λ r s f stands sizes free fit.

@@ -30,7 +30,7 @@ returns c = λ psk s message tag stands is.
     let kept : List ℕ → Option KeptRecord = λ reply. Some (record { sealed = c.args.sealed.now; reply = reply }) in
     let other = c.rekey_responses-kept.ensures.key choice responses (open_response old psk s inside.stage inside.keeps) in
     let key = subst (λ (k : DirectionSecret). IsKeyOf k choice requests) (sym (ap (λ (x : Kept). x.request) c.reply.ensures.rest ∙ ap (λ (x : Kept). x.request) c.rekey_responses-kept.ensures.rest))
-        (open_request old psk s inside.stage inside.keeps) in
+    (open_request old psk s inside.stage inside.keeps) in
     let sealed = c.reply.ensures.key choice (application_record psk (t2_of s) Response (response_epoch s + 1)) other
     ∙ ap (λ (x : Kept). kept (sealed_of choice (application_record psk (t2_of s) Response (response_epoch s + 1)) x.response_next (session_id_bytes x.id.req x.id.rsp) (5 ∷ c.args.answer.now) c.args.pad.now)) c.rekey_responses-kept.ensures.rest
     ∙ ap kept (all_sealed old psk s message c.args.answer.now c.args.pad.now tag inside.stage inside.keeps same) in
