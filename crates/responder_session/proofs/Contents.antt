@@ -8,7 +8,7 @@ use Rattle.negotiate.specs.declared.shared.Common.{Common}
 use Rattle.responder_machine.proofs.Codes.{asked-code}
 use Rattle.responder_machine.proofs.Turns.{turn_of-plain, plain_turn-asked}
 use Rattle.responder_machine.specs.Answer.{Free, answer_bytes, answer_of, answer_to, request_at}
-use Rattle.responder_machine.specs.Handling.{turn_of, turn_by, refused_turn, chunk_in, goes_large}
+use Rattle.responder_machine.specs.Handling.{turn_of, turn_by, refused_turn, chunk_in, goes_large, large_response}
 use Rattle.responder_machine.specs.Place.{Place, place_terms, session_place}
 use Rattle.responder_machine.specs.Refusal.{refusal, refused_form, refused_contents, lacks_flag, are_caps_refused, is_offer_refused, has_no_block, is_exchange_refused, is_verify_wrong, is_update_misplaced, is_too_large, chunk_fault, is_get_refused, is_answer_too_long}
 use Rattle.responder_machine.specs.Responder.{session_turn, session_turn_by, inner_refusal, is_open, data_turn}
@@ -26,6 +26,7 @@ use Rattle.spdm_grammar.specs.declared.error_code.ErrorCode.TheVariants.{Invalid
 use Rattle.spdm_grammar.specs.declared.names.TheConstants.{MIN_DATA_TRANSFER_SIZE}
 use Rattle.spdm_grammar.specs.declared.names.request_code.TheConstants.{PSK_EXCHANGE}
 use Rattle.spdm_grammar.specs.declared.phase.Stage.{Stage}
+use Rattle.responder_session.specs.Deeds.{large_turn}
 use Rattle.responder_session.specs.Turns.{answered_turn}
 
 -- ---- The tests of contents, by the code, the request and its answer.
@@ -69,7 +70,7 @@ pub turn-refused : (r : RspSetup) (p : Place) (m : List ℕ) (f : Free) (asked :
     → first_of_tests (contents_at r p m (code_for asked) (Some asked) (canonical_response (answer_of r p m f asked))) ≡ Some code → turn_of r p m f ≡ refused_turn r p m f code
 turn-refused r p m f asked code form is h = refused_by r p m f code (refusal_is r p m f form ∙ contents_asked r p m f asked is ∙ h)
 
-answer_asked : (r : RspSetup) (p : Place) (m : List ℕ) (f : Free) (asked : RequestMessage) → request_at p m ≡ Some asked → answer_bytes r p m f ≡ canonical_response (answer_of r p m f asked)
+pub answer_asked : (r : RspSetup) (p : Place) (m : List ℕ) (f : Free) (asked : RequestMessage) → request_at p m ≡ Some asked → answer_bytes r p m f ≡ canonical_response (answer_of r p m f asked)
 unfolding answer_bytes
 answer_asked r p m f asked is = ap (λ (q : Option RequestMessage). answer_to r p m f q) is
 
@@ -86,6 +87,20 @@ turn-answered r p m f asked form is plain h small =
     turn_of-plain r p m f asked (refusal_is r p m f form ∙ contents_asked r p m f asked is ∙ h) is plain
     ∙ plain_turn-asked r p m f asked is
     ∙ plain_answered p m f asked (goes_large p (answer_bytes r p m f)) (answer_bytes r p m f) _ _ same (ap (goes_large p) same ∙ small)
+
+large_answered : (p : Place) (m : List ℕ) (f : Free) (asked : RequestMessage) (large : Bool) (whole answer : List ℕ) → whole ≡ answer → large ≡ true
+    → record { message = m; refused = None; chunk = None; effect = Took asked m whole (if large then Some f.handle else None); reply = if large then large_response f.handle else whole } ≡ large_turn m asked answer f.handle
+large_answered p m f asked large whole answer is h = λ i. record { message = m; refused = None; chunk = None; effect = Took asked m (is i) (if h i then Some f.handle else None); reply = if h i then large_response f.handle else is i }
+
+pub turn-large : (r : RspSetup) (p : Place) (m : List ℕ) (f : Free) (asked : RequestMessage) → refused_form r p m ≡ None → request_at p m ≡ Some asked → chunk_in (Some asked) ≡ None
+    → first_of_tests (contents_at r p m (code_for asked) (Some asked) (canonical_response (answer_of r p m f asked))) ≡ None
+    → goes_large p (canonical_response (answer_of r p m f asked)) ≡ true
+    → turn_of r p m f ≡ large_turn m asked (canonical_response (answer_of r p m f asked)) f.handle
+turn-large r p m f asked form is plain h large =
+    let same = answer_asked r p m f asked is in
+    turn_of-plain r p m f asked (refusal_is r p m f form ∙ contents_asked r p m f asked is ∙ h) is plain
+    ∙ plain_turn-asked r p m f asked is
+    ∙ large_answered p m f asked (goes_large p (answer_bytes r p m f)) (answer_bytes r p m f) _ same (ap (goes_large p) same ∙ large)
 
 -- ---- Short answers.
 

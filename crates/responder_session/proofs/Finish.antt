@@ -56,7 +56,7 @@ finish-answered r s m f verify sizes form is h =
 
 -- ---- Which requests a stage allows.
 
-allowed_code : (r : RspSetup) (s : Events) (m : List ℕ) (asked : RequestMessage) (stage : Stage) → refused_form r (session_place s) m ≡ None → request_at (session_place s) m ≡ Some asked → stage_of s ≡ stage
+pub allowed_code : (r : RspSetup) (s : Events) (m : List ℕ) (asked : RequestMessage) (stage : Stage) → refused_form r (session_place s) m ≡ None → request_at (session_place s) m ≡ Some asked → stage_of s ≡ stage
     → not (stage_allows stage (has_pending (session_place s)) (code_for asked)) ≡ false
 unfolding refused_form
 allowed_code r s m asked stage form is at =
@@ -118,8 +118,7 @@ finish_by : (r : RspSetup) (s : Events) (inner m : List ℕ) (f : Free) (asked :
     → refused_form r (session_place s) m ≡ None → request_at (session_place s) m ≡ Some asked → session_turn r s inner f ≡ turn_of r (session_place s) m f
     → asked ≡ PskFinish verify → bytes_eq verify (right_verify r s m) ≡ true → IsFinishJudged r s inner f None
 finish_by r s inner m f asked verify sizes same form is turn named right =
-    let asks : request_at (session_place s) m ≡ Some (PskFinish verify) = is ∙ ap (λ (x : RequestMessage). Some x) named in
-    (
+    let asks : request_at (session_place s) m ≡ Some (PskFinish verify) = is ∙ ap (λ (x : RequestMessage). Some x) named in (
       verify,
       turn ∙ finish-answered r s m f verify sizes form asks right ∙ ap (λ (x : List ℕ). answered_turn x (PskFinish verify) (canonical_response PskFinishRsp)) same,
       ap code_of (sym same) ∙ sym (asked-code (session_place s) m (PskFinish verify) asks),

@@ -5,4 +5,12 @@ pub mod Contents
 pub mod Finish
 pub mod Answered
 pub mod Taken
-pub mod Judging
+pub mod Closed
+pub mod Updating
+pub mod Doing
+pub mod Measured
+pub mod Pieces
+pub mod Given
+pub mod Opened
+pub mod Steps
+pub mod Records

@@ -66,7 +66,7 @@ sealed_kept kept psk s t inner pad k other same =
 
 -- ---- A turn that leaves the keys.
 
-same_stage : (s : Events) (m : List ℕ) (t : Turn) (reply : List ℕ) → KeepsKeys t → stage_of (Heard m t reply ∷ s) ≡ stage_of s
+pub same_stage : (s : Events) (m : List ℕ) (t : Turn) (reply : List ℕ) → KeepsKeys t → stage_of (Heard m t reply ∷ s) ≡ stage_of s
 same_stage s m t reply k =
     if_no (takes PSK_FINISH t) Open (if updates 3 t then Open else (if takes KEY_UPDATE t then Verifying else stage_of s)) k.finish
     ∙ if_no (updates 3 t) Open (if takes KEY_UPDATE t then Verifying else stage_of s) k.verify
@@ -96,7 +96,7 @@ next_response s m t reply k =
 abbrev counted : (old new : Kept) → (taken : ℕ) → Type 0
 counted old new taken = new ≡ record old { request_next = old.request_next + 1; response_next = old.response_next + 1; taken = taken; last = new.last }
 
-kept_by : (old new : Kept) (psk : List ℕ) (s : Events) (m : List ℕ) (t : Turn) (reply : List ℕ) (taken : ℕ) → counted old new taken
+pub kept_by : (old new : Kept) (psk : List ℕ) (s : Events) (m : List ℕ) (t : Turn) (reply : List ℕ) (taken : ℕ) → counted old new taken
     → taken ≡ taken_of (Heard m t reply ∷ s) % 2 ^ 64
     → kept_record new.last ≡ Some (record { sealed = m; reply = reply }) → KeepsKeys t → Keeps old psk s → Keeps new psk (Heard m t reply ∷ s)
 kept_by old new psk s m t reply taken is count last k keeps =

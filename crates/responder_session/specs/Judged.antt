@@ -43,12 +43,6 @@ IsFinishJudged r s inner f None =
     (verify : List ℕ) × (session_turn r s inner f ≡ answered_turn (drop 1 inner) (PskFinish verify) (canonical_response PskFinishRsp))
     × (code_of (drop 1 inner) ≡ PSK_FINISH)
 
--- The handshake with a record whose message was refused with this code.
-abbrev pub IsRefused : RspSetup → Events → Free → (sealed message : List ℕ) → ErrorCode → (pad : List ℕ) → handshake.Seen → Type 0
-IsRefused r s f sealed message code pad state =
-    let t = refused_turn r (session_place s) message f code in
-    handshake.StandsFor state r.psk (Heard sealed t (reply_record r.psk s t (inner_reply t) pad) ∷ s)
-
 -- The session that a record of PSK_FINISH opened.
 abbrev pub IsFinished : (psk : List ℕ) → Events → (sealed message verify pad : List ℕ) → opens.Seen → Type 0
 IsFinished psk s sealed message verify pad state =

@@ -11,3 +11,9 @@ pub mod Judged
 pub mod Took
 pub mod EndedTook
 pub mod Queue
+pub mod Updates
+pub mod Deeds
+pub mod Chunks
+pub mod Laws
+pub mod Reply
+pub mod Staged

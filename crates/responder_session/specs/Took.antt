@@ -45,6 +45,10 @@ act_by t None = if is_data t.effect then Data else Answered (code_of t.message)
 abbrev pub act_of : Turn → RspAct
 act_of t = act_by t t.refused
 
+-- A state of the session with a record of this turn, and what is told of it.
+abbrev pub IsMoved : (psk : List ℕ) → Events → (sealed : List ℕ) → Turn → (pad : List ℕ) → RspState × RspAct → Type 0
+IsMoved psk s sealed t pad moved = IsAfter moved.0 psk s sealed t (reply_record psk s t (inner_reply t) pad) × (moved.1 ≡ act_of t)
+
 -- The turn of a record that opens, and the record that answers it.
 abbrev pub turn_in : RspSetup → Events → Free → (sealed : List ℕ) → Turn
 turn_in r s f sealed = session_turn r s (opened r.psk s sealed) f

@@ -10,17 +10,16 @@ ghost use Rattle.responder_machine.specs.Setup.{RspSetup};
 ghost use Rattle.responder_session.specs.Form.{IsPlaceOf, IsRead, misfit};
 ghost use Rattle.responder_session.specs.Turns.{tells_length};
 
+use session_keys::{APP_DATA, MOST_DATA, SPDM_MESSAGE, byte_at};
 use spdm_basis::HashAlg;
 use spdm_codec::read_request;
-use spdm_grammar::names::is_one_of;
 use spdm_grammar::names::request_code::{
     CHUNK_GET, CHUNK_SEND, END_SESSION, GET_CAPABILITIES, GET_MEASUREMENTS, GET_VERSION, HEARTBEAT,
     KEY_UPDATE, NEGOTIATE_ALGORITHMS, PSK_EXCHANGE, PSK_FINISH,
 };
 use spdm_grammar::names::spdm_version::{V1_0, V1_2};
-use spdm_grammar::names::REQUESTS_OF_V1_2;
+use spdm_grammar::names::{REQUESTS_OF_V1_2, is_one_of};
 use spdm_grammar::{ErrorCode, Request, Stage};
-use session_keys::{APP_DATA, MOST_DATA, SPDM_MESSAGE, byte_at};
 
 // What the tests of a message's form look at in a session: its stage, whether a large answer is pending, how long
 // a message may be, and the hash.
@@ -44,7 +43,12 @@ fn is_misplaced(code: u8) -> bool
     ensures { result ≡ is_misplaced InSession code }
 {
     is_one_of(
-        &[GET_VERSION, GET_CAPABILITIES, NEGOTIATE_ALGORITHMS, PSK_EXCHANGE],
+        &[
+            GET_VERSION,
+            GET_CAPABILITIES,
+            NEGOTIATE_ALGORITHMS,
+            PSK_EXCHANGE,
+        ],
         code,
     )
 }
@@ -63,8 +67,10 @@ fn stage_allows(stage: Stage, pending: bool, code: u8) -> bool
     match stage {
         Stage::Handshake => code == PSK_FINISH,
         Stage::Open => {
-            is_one_of(&[GET_MEASUREMENTS, HEARTBEAT, KEY_UPDATE, END_SESSION], code)
-                || (code == CHUNK_GET && pending)
+            is_one_of(
+                &[GET_MEASUREMENTS, HEARTBEAT, KEY_UPDATE, END_SESSION],
+                code,
+            ) || (code == CHUNK_GET && pending)
         }
         Stage::Verifying => code == KEY_UPDATE,
     }

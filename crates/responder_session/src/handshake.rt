@@ -5,13 +5,12 @@ ghost use Rattle.responder_session.specs.Judged.{is_finish};
 ghost use Rattle.spdm_grammar.specs.Message.ResponseMessage.{PskFinishRsp};
 ghost use Rattle.spdm_grammar.specs.Responses.{canonical_response};
 
-use crate::error::write_error;
 use crate::exchange::{handshake_with, lane_with, write_answer};
 use crate::form::inner_refusal;
 use crate::kept::Kept;
 use crate::{ExchangeParts, RspAct, RspOpen, RspState, RspTook};
 use session_keys::{
-    Handshake, SPDM_MESSAGE, SessionTerms, behind_type, byte_at, same_bytes, without_verify,
+    Handshake, SPDM_MESSAGE, SessionTerms, behind_type, same_bytes, without_verify,
 };
 use spdm_basis::{Buffer, Frame, Psk, RecordFrame};
 use spdm_codec::write_response;
@@ -72,9 +71,9 @@ impl RspHandshake {
     ghost use Rattle.transcript.specs.Transcripts.{Negotiation, vca_of};
     ghost use Rattle.responder_session.specs.Exchange.{AreParts, answer_for, begun};
     ghost use Rattle.responder_session.specs.Handshake.{StandsFor};
-    ghost use Rattle.responder_session.specs.Judged.{IsFinishJudged, IsVerified, IsRefused, IsFinished, right_verify};
+    ghost use Rattle.responder_session.specs.Judged.{IsFinishJudged, IsVerified, IsFinished, right_verify};
     ghost use Rattle.responder_session.specs.Took.{IsTook};
-    ghost use Rattle.responder_session.specs.Turns.{tells_length};
+    ghost use Rattle.responder_session.specs.Turns.{refused_by, tells_length};
 
     /// The session that a PSK_EXCHANGE begins, after the messages of a negotiation and under its terms; writes the
     /// whole PSK_EXCHANGE_RSP with these parts (DSP0274), in place of what `out` holds.
@@ -194,12 +193,9 @@ impl RspHandshake {
         requires short { tells_length code ≡ false }
         requires pad { length pad.now ≤ 16 }
         ensures { (r : RspSetup) (s : Events) (f : Free) → StandsFor self r.psk s
-            → IsRefused r s f sealed.now message.now code pad.now result }
+            → StandsFor result r.psk (refused_by r s f sealed.now message.now code pad.now) }
     {
-        let mut answer = Frame::new();
-        write_error(code, byte_at(message, 1), &mut answer);
-        self.kept
-            .reply(sealed, SPDM_MESSAGE, answer.as_slice(), pad);
+        self.kept.refuse(sealed, message, code, pad);
         self
     }
 

@@ -5,11 +5,18 @@ ghost use Rattle.spdm_basis.specs.SessionIdBytes.{session_id_bytes};
 ghost use Rattle.spdm_grammar.specs.declared.choice.Choice.{Choice};
 ghost use Rattle.spdm_machine.specs.Keys.{sealed_of};
 
+use crate::error::write_error;
 use crate::form::Place;
 use secured_record::{RecordFault, RecordKey};
-use session_keys::{Handshake, SessionTerms, open_record, same_bytes, seal_record};
-use spdm_basis::{HashBytes, RecordFrame, SessionId};
-use spdm_grammar::{SessionView, Stage};
+use session_keys::{
+    Handshake, SPDM_MESSAGE, SessionTerms, byte_at, open_record, same_bytes, seal_record,
+};
+use spdm_basis::{Frame, HashBytes, RecordFrame, SessionId};
+use spdm_grammar::names::is_one_of;
+use spdm_grammar::names::request_code::{
+    CHUNK_GET, CHUNK_SEND, GET_MEASUREMENTS, HEARTBEAT, KEY_UPDATE,
+};
+use spdm_grammar::{ErrorCode, SessionView, Stage};
 
 // As many records as a key may seal.
 pub const MOST_RECORDS: u32 = 65536;
@@ -91,8 +98,12 @@ fn seal_reply(
 }
 
 impl Kept {
-    ghost use Rattle.std.specs.Prelude.{◌≡◌, ◌≤◌, ◌<◌, ◌+◌, ◌∷◌, ◌^◌, ◌==◌, ◌||◌, ℕ, List, None, Some, false, OnOk, MatchResult, length};
-    ghost use Rattle.key_schedule.specs.Purpose.{application_record};
+    ghost use Rattle.std.specs.Prelude.{◌≡◌, ◌≤◌, ◌<◌, ◌+◌, ◌-◌, ◌∷◌, ◌^◌, ◌==◌, ◌||◌, ℕ, List, None, Some, false, OnOk, MatchOption, MatchResult, length};
+    ghost use Rattle.key_schedule.specs.Purpose.{Purpose, application_record};
+    ghost use Rattle.responder_machine.specs.Answer.{Free};
+    ghost use Rattle.spdm_basis.specs.SessionIdBytes.{session_id_bytes};
+    ghost use Rattle.spdm_machine.specs.Keys.{sealed_of};
+    ghost use Rattle.responder_session.specs.Turns.{refused_by, tells_length};
     ghost use Rattle.key_schedule.specs.declared.direction.Direction.TheVariants.{Request, Response};
     ghost use Rattle.running_hash.specs.Hash.{hash_of};
     ghost use Rattle.session_keys.specs.Handshake.{IsHandshakeOf};
@@ -106,7 +117,8 @@ impl Kept {
     ghost use Rattle.responder_session.specs.Exchange.{begun};
     ghost use Rattle.responder_machine.specs.Heard.{view_of};
     ghost use Rattle.responder_machine.specs.Place.{session_place};
-    ghost use Rattle.responder_machine.specs.Refusal.{has_pending};
+    ghost use Rattle.responder_machine.specs.Refusal.{has_pending, lacks_flag, is_answer_too_long};
+    ghost use Rattle.responder_machine.specs.Handling.{goes_large};
     ghost use Rattle.responder_machine.specs.Setup.{RspSetup};
     ghost use Rattle.responder_machine.specs.SizeLaws.{HasSizes};
     ghost use Rattle.responder_session.specs.Form.{IsPlaceOf};
@@ -115,6 +127,7 @@ impl Kept {
     ghost use Rattle.responder_machine.specs.Session.{Events, session_terms, stage_of, t1_of, taken_of};
     ghost use Rattle.responder_machine.specs.Turn.{Turn, updates};
     ghost use Rattle.responder_session.specs.Kept.{Keeps, kept_record};
+    ghost use Rattle.responder_session.specs.Reply.{last_reply};
 
     // What is kept of a session in its handshake, to which these halves of its id were given.
     pub fn begin(handshake: &Handshake, terms: SessionTerms, rsp_id: u16) -> Kept
@@ -222,12 +235,19 @@ impl Kept {
         if self.is_spent() {
             return Err(RecordFault::KeySpent);
         }
-        open_record(&self.request, self.id, self.request_next as u16, sealed, out)
+        open_record(
+            &self.request,
+            self.id,
+            self.request_next as u16,
+            sealed,
+            out,
+        )
     }
 
     // What the tests of a message's form look at, in a stage, with a large answer pending or not.
     pub fn place(&self, stage: Stage, pending: bool) -> Place
-        ensures { (r : RspSetup) (psk : List ℕ) (s : Events) → Keeps self.now psk s
+        ensures hash { result.hash ≡ self.now.terms.choice.hash }
+        ensures is { (r : RspSetup) (psk : List ℕ) (s : Events) → Keeps self.now psk s
             → HasSizes r (session_terms s).common → stage ≡ stage_of s
             → pending ≡ has_pending (session_place s) → IsPlaceOf result r s }
     {
@@ -239,6 +259,19 @@ impl Kept {
         }
     }
 
+    // The record that answers the next one, under the standing key: the inner message of a type.
+    pub fn seal(&self, kind: u8, message: &[u8], pad: &[u8]) -> RecordFrame
+        requires response_few { self.now.response_next < 65536 }
+        requires message { length message.now ≤ 4096 }
+        requires pad { length pad.now ≤ 16 }
+        ensures { (psk : List ℕ) (s : Events) (t : Turn) → Keeps self.now psk s
+            → updates 2 t ≡ false → inner_reply t ≡ kind ∷ message.now
+            → result ≡ reply_record psk s t (inner_reply t) pad.now }
+    {
+        let number = self.response_next as u16;
+        seal_reply(&self.response, self.id, number, kind, message, pad)
+    }
+
     // Seals the inner message of a type that answers a record, under the standing key; both are counted and kept.
     pub fn reply(&mut self, sealed: &[u8], kind: u8, message: &[u8], pad: &[u8])
         requires request_few { self.old.request_next < 65536 }
@@ -246,6 +279,13 @@ impl Kept {
         requires sealed { length sealed.now ≤ 4160 }
         requires message { length message.now ≤ 4096 }
         requires pad { length pad.now ≤ 16 }
+        ensures key { (choice : Choice) (p : Purpose) → IsKeyOf self.old.response choice p
+            → kept_record self.new.last ≡ Some (record {
+              sealed = sealed.now;
+              reply = sealed_of choice p self.old.response_next
+                  (session_id_bytes self.old.id.req self.old.id.rsp)
+                  (kind ∷ message.now) pad.now;
+            }) }
         ensures last { (psk : List ℕ) (s : Events) (t : Turn) → Keeps self.old psk s
             → updates 2 t ≡ false → inner_reply t ≡ kind ∷ message.now
             → kept_record self.new.last ≡ Some (record {
@@ -265,8 +305,123 @@ impl Kept {
         self.last = Some(LastRecord::new(sealed, reply));
     }
 
+    // Answers a record whose message is refused with this code.
+    pub fn refuse(&mut self, sealed: &[u8], message: &[u8], code: ErrorCode, pad: &[u8])
+        requires request_few { self.old.request_next < 65536 }
+        requires response_few { self.old.response_next < 65536 }
+        requires sealed { length sealed.now ≤ 4160 }
+        requires short { tells_length code ≡ false }
+        requires pad { length pad.now ≤ 16 }
+        ensures keeps { (r : RspSetup) (s : Events) (f : Free) → Keeps self.old r.psk s
+            → Keeps self.new r.psk (refused_by r s f sealed.now message.now code pad.now) }
+        ensures rest { self.new ≡ record self.old {
+          request_next = self.old.request_next + 1;
+          response_next = self.old.response_next + 1;
+          last = self.new.last;
+        } }
+    {
+        let mut answer = Frame::new();
+        write_error(code, byte_at(message, 1), &mut answer);
+        self.reply(sealed, SPDM_MESSAGE, answer.as_slice(), pad);
+    }
+
+    // Whether a request with this code needs what was not negotiated.
+    pub fn lacks_flag(&self, code: u8) -> bool
+        ensures { (psk : List ℕ) (s : Events) → Keeps self.now psk s
+            → result ≡ lacks_flag (session_terms s) code }
+    {
+        let choice = self.terms.choice;
+        let common = self.terms.common;
+        (code == GET_MEASUREMENTS && !choice.measure)
+            || (is_one_of(&[CHUNK_SEND, CHUNK_GET], code) && !common.chunk)
+            || (code == HEARTBEAT && !common.heartbeat)
+            || (code == KEY_UPDATE && !common.key_update)
+    }
+
+    // Whether an answer of so many bytes is too long for the requester.
+    pub fn is_too_long(&self, long: u32) -> bool
+        ensures { (psk : List ℕ) (s : Events) (answer : List ℕ) → Keeps self.now psk s
+            → length answer ≡ long → result ≡ is_answer_too_long (session_place s) answer }
+    {
+        let common = self.terms.common;
+        common.to_requester.max < long || (!common.chunk && common.to_requester.transfer < long)
+    }
+
+    // Whether an answer of so many bytes goes by chunks, where it is not too long.
+    pub fn goes_large(&self, long: u32) -> bool
+        ensures { (psk : List ℕ) (s : Events) (answer : List ℕ) → Keeps self.now psk s
+            → length answer ≡ long → result ≡ goes_large (session_place s) answer }
+    {
+        self.terms.common.to_requester.transfer < long
+    }
+
+    // What is kept under the next key of requests, whose numbers begin anew.
+    pub fn rekey_requests(self) -> Kept
+        requires { self.request.epoch < 2 ^ 64 - 1 }
+        ensures key { (choice : Choice) (p : Purpose) → IsKeyOf self.request choice p
+            → IsKeyOf result.request choice (record p { epoch = p.epoch + 1 }) }
+        ensures rest { result ≡ record self { request = result.request; request_next = 0 } }
+    {
+        let Kept {
+            request,
+            response,
+            request_next: _,
+            response_next,
+            taken,
+            hash,
+            id,
+            terms,
+            last,
+        } = self;
+        Kept {
+            request: request.next(),
+            response,
+            request_next: 0,
+            response_next,
+            taken,
+            hash,
+            id,
+            terms,
+            last,
+        }
+    }
+
+    // What is kept under the next key of responses, whose numbers begin anew.
+    pub fn rekey_responses(self) -> Kept
+        requires { self.response.epoch < 2 ^ 64 - 1 }
+        ensures key { (choice : Choice) (p : Purpose) → IsKeyOf self.response choice p
+            → IsKeyOf result.response choice (record p { epoch = p.epoch + 1 }) }
+        ensures rest { result ≡ record self { response = result.response; response_next = 0 } }
+    {
+        let Kept {
+            request,
+            response,
+            request_next,
+            response_next: _,
+            taken,
+            hash,
+            id,
+            terms,
+            last,
+        } = self;
+        Kept {
+            request,
+            response: response.next(),
+            request_next,
+            response_next: 0,
+            taken,
+            hash,
+            id,
+            terms,
+            last,
+        }
+    }
+
     // The reply to the last record.
-    pub fn last_reply(&self) -> Option<&[u8]> {
+    pub fn last_reply(&self) -> Option<&[u8]>
+        ensures { MatchOption result (last_reply (kept_record self.now.last) ≡ None)
+            (λ reply. last_reply (kept_record self.now.last) ≡ Some reply.now) }
+    {
         match &self.last {
             Some(last) => Some(last.reply.as_slice()),
             None => None,
@@ -275,7 +430,9 @@ impl Kept {
 
     // The session as it is shown, in its stage.
     pub fn view(&self, stage: Stage) -> SessionView
-        ensures { (psk : List ℕ) (s : Events) → Keeps self.now psk s → stage ≡ stage_of s
+        ensures request_epoch { result.request_epoch ≡ self.now.request.epoch }
+        ensures response_epoch { result.response_epoch ≡ self.now.response.epoch }
+        ensures shown { (psk : List ℕ) (s : Events) → Keeps self.now psk s → stage ≡ stage_of s
             → taken_of s < 2 ^ 64 → result ≡ view_of s }
     {
         SessionView {

@@ -66,7 +66,7 @@ impl Model for AppQueue {
 }
 
 impl AppQueue {
-    ghost use Rattle.std.specs.Prelude.{◌≡◌, ◌++◌, ◌∷◌, [], None, Some, MatchResult, OnErr, drop};
+    ghost use Rattle.std.specs.Prelude.{◌≡◌, ◌≤◌, ◌++◌, ◌∷◌, [], None, Some, MatchResult, drop, length};
     ghost use Rattle.responder_machine.specs.Does.{first_queued};
     ghost use Rattle.responder_session.specs.Queue.{queue_fault};
 
@@ -98,7 +98,8 @@ impl AppQueue {
 
     // What waits first, and no bytes where nothing waits.
     pub(crate) fn first(&self) -> &[u8]
-        ensures { result.now ≡ first_queued self.now }
+        ensures value { result.now ≡ first_queued self.now }
+        ensures fits { length result.now ≤ 1024 }
     {
         match self.replies.first() {
             Some(reply) => reply.bytes.as_slice(),

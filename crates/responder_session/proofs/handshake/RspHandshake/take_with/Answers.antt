@@ -11,7 +11,7 @@ use Rattle.responder_session.specs.Turns.{answered_turn}
 use Rattle.responder_session.specs.declared.took.RspAct.{RspAct}
 use Rattle.responder_session.specs.declared.took.RspAct.TheVariants.{Answered, Refused}
 use Rattle.responder_session.specs.declared.took.RspState.TheVariants as state
-use Rattle.responder_session.proofs.Judging.{refused_alike}
+use Rattle.responder_session.proofs.Closed.{refused_alike}
 use Rattle.responder_session.proofs.Taken.{repeats_kept, taken}
 use Rattle.responder_session.proofs.handshake.RspHandshake.take_with.Goals as goal
 

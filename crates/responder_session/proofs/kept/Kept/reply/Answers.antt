@@ -14,4 +14,4 @@ returns-clause-last c = λ psk s t keeps other same.
     let kept : List ℕ → Option KeptRecord = λ reply. Some (record { sealed = c.args.sealed.now; reply = reply }) in
     ap (λ (x : LastRecord). kept_record (Some x)) c.new.ensures
     ∙ ap kept (c.seal_reply-reply.ensures (session_terms s).choice (response_purpose psk s) keeps.response
-        ∙ sealed_kept c.args.self.now psk s t inner c.args.pad.now keeps other same)
+    ∙ sealed_kept c.args.self.now psk s t inner c.args.pad.now keeps other same)

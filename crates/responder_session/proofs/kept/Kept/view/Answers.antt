@@ -4,9 +4,9 @@ use Rattle.responder_machine.specs.Heard.{view_of}
 use Rattle.responder_machine.specs.Session.{taken_of}
 use Rattle.responder_session.proofs.kept.Kept.view.Goals as goal
 
-pub returns : goal.returns
+pub returns-clause-shown : goal.returns-clause-shown
 unfolding view_of
-returns c = λ psk s keeps stage few.
+returns-clause-shown c = λ psk s keeps stage few.
     let taken : taken_of s % 2 ^ 64 ≡ taken_of s = omega arith in
     λ i. record {
       id = keeps.id i;

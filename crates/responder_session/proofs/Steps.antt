@@ -1,0 +1,156 @@
+-- What an open session is after each turn.
+use Rattle.std.proofs.Common.{◌≡◌, ◌≤◌, ◌<◌, ◌∙◌, ap, sym, subst, refl, ℕ, ◌+◌, List, [], ◌∷◌, Bool, true, false, length, drop, arith}
+use Rattle.std.proofs.lemmas.Bool.Decides.{nat_tests}
+use Rattle.std.proofs.lemmas.Grind.{div_ceil_times}
+use Rattle.std.specs.Int.{div_ceil}
+use Rattle.std.specs.Prelude.{◌%◌, ◌^◌, ◌*◌, zero, suc, nat_lt, ◌==◌, ◌||◌, not, if◌then◌else◌, Option, Some, None}
+use Rattle.key_schedule.specs.Keys.{DirectionSecret}
+use Rattle.key_schedule.specs.Purpose.{Purpose, application_record}
+use Rattle.key_schedule.specs.declared.direction.Direction.TheVariants.{Request, Response}
+use Rattle.chunking.specs.Cutting.{chunk_count, chunks_of, unit_of}
+use Rattle.responder_machine.specs.Answer.{Free}
+use Rattle.responder_machine.specs.History.{KeptRecord}
+use Rattle.responder_machine.specs.LargeMessages.{still_pending, given_of, large_of, larges_of}
+use Rattle.responder_machine.specs.Records.{request_purpose, response_purpose, reply_record}
+use Rattle.responder_machine.specs.Responder.{inner_reply, data_turn}
+use Rattle.responder_machine.specs.Session.{Events, stage_of, session_hash, session_terms, id_bytes, t1_of, t2_of, request_epoch, response_epoch, taken_of, turns_of}
+use Rattle.responder_machine.specs.Session.Event.{Heard}
+use Rattle.responder_machine.specs.Turn.{Turn, takes}
+use Rattle.session_keys.specs.Keys.{IsKeyOf}
+use Rattle.spdm_basis.specs.SessionIdBytes.{session_id_bytes}
+use Rattle.spdm_grammar.specs.Message.{RequestMessage}
+use Rattle.spdm_grammar.specs.Message.RequestMessage.{GetMeasurements, Heartbeat}
+use Rattle.spdm_grammar.specs.declared.names.request_code.TheConstants.{CHUNK_GET}
+use Rattle.spdm_grammar.specs.declared.phase.Stage.{Stage}
+use Rattle.spdm_grammar.specs.declared.phase.Stage.TheVariants.{Open, Verifying}
+use Rattle.spdm_machine.specs.Keys.{sealed_of}
+use Rattle.spdm_machine.specs.Sessions.{purpose_in, transcript_in}
+use Rattle.responder_session.proofs.Moves.{kept_by}
+use Rattle.responder_session.proofs.Updating.{past_purpose, past_hash}
+use Rattle.responder_session.specs.Deeds.{is_quiet, large_turn}
+use Rattle.responder_session.specs.Kept.{Keeps, kept_record}
+use Rattle.responder_session.specs.Open.{IsPending}
+use Rattle.responder_session.specs.Turns.{KeepsKeys, answered_turn}
+use Rattle.responder_session.specs.Updates.{update_turn}
+use Rattle.responder_session.specs.declared.kept.Kept.{Kept}
+
+-- ---- A quiet request.
+
+pub quiet_keys : (message answer : List ℕ) (asked : RequestMessage) → is_quiet asked ≡ true → KeepsKeys (answered_turn message asked answer)
+quiet_keys message answer Heartbeat h = record { finish = refl; update = refl; key = refl; all = refl; verify = refl }
+quiet_keys message answer (GetMeasurements op) h = record { finish = refl; update = refl; key = refl; all = refl; verify = refl }
+quiet_keys message answer asked h = absurd (cc)
+
+no_chunk : (message answer : List ℕ) (asked : RequestMessage) → is_quiet asked ≡ true → takes CHUNK_GET (answered_turn message asked answer) ≡ false
+no_chunk message answer Heartbeat h = refl
+no_chunk message answer (GetMeasurements op) h = refl
+no_chunk message answer asked h = absurd (cc)
+
+-- It drops a pending large answer.
+pub quiet_pending : (transfer : ℕ) (turns : List Turn) (message answer : List ℕ) (asked : RequestMessage) → is_quiet asked ≡ true → IsPending None transfer (answered_turn message asked answer ∷ turns)
+quiet_pending transfer turns message answer asked h =
+    ap (λ (b : Bool). still_pending transfer (given_of (answered_turn message asked answer ∷ turns)) (if b then large_of turns else None)) (no_chunk message answer asked h)
+
+-- ---- Application data.
+
+counted_more : (n m : ℕ) → m ≡ n % 2 ^ 64 → (m + 1) % 2 ^ 64 ≡ (n + 1) % 2 ^ 64
+counted_more n m h = omega arith
+
+pub kept_data : (old mid : Kept) (taken : ℕ) (psk : List ℕ) (s : Events) (f : Free) (sealed bytes reply : List ℕ)
+    → mid ≡ record old { request_next = old.request_next + 1; response_next = old.response_next + 1; last = mid.last }
+    → taken ≡ (mid.taken + 1) % 2 ^ 64 → kept_record mid.last ≡ Some (record { sealed = sealed; reply = reply }) → Keeps old psk s
+    → Keeps (record mid { taken = taken }) psk (Heard sealed (data_turn f bytes) reply ∷ s)
+kept_data old mid taken psk s f sealed bytes reply is count last keeps =
+    kept_by old (record mid { taken = taken }) psk s sealed (data_turn f bytes) reply taken (ap (λ (x : Kept). record x { taken = taken }) is)
+    (count ∙ counted_more (taken_of s) mid.taken (ap (λ (x : Kept). x.taken) is ∙ keeps.taken)) last
+    (record { finish = refl; update = refl; key = refl; all = refl; verify = refl }) keeps
+
+-- ---- An answer by chunks.
+
+some_chunk : (n unit : ℕ) → 0 < unit → 0 < div_ceil (n + 4) unit
+some_chunk n unit h = (let around = div_ceil_times (n + 4) unit h in by_zero (div_ceil (n + 4) unit) n unit around.0)
+  where
+    by_zero : (k n unit : ℕ) → n + 4 ≤ k * unit → 0 < k
+    by_zero zero n unit h = absurd (omega (arith, h))
+    by_zero (suc k) n unit h = omega arith
+
+pub large_pending : (transfer : ℕ) (turns : List Turn) (message answer : List ℕ) (op handle : ℕ) → 42 ≤ transfer
+    → IsPending (Some (chunks_of transfer handle answer)) transfer (large_turn message (GetMeasurements op) answer handle ∷ turns)
+large_pending transfer turns message answer op handle low =
+    let some = some_chunk (length answer) (unit_of transfer) (omega arith) in
+    let test : nat_lt 0 (chunk_count transfer answer) ≡ true = grind (arith, nat_tests) in
+    (answer, ap (λ (b : Bool). if b then Some answer else None) test, refl, some)
+
+next_counted : (n m : ℕ) → m ≡ n % 256 → (m + 1) % 256 ≡ (n + 1) % 256
+next_counted n m h = omega arith
+
+pub large_next : (turns : List Turn) (message answer : List ℕ) (op handle next after : ℕ) → next ≡ larges_of turns % 256 → after ≡ (next + 1) % 256
+    → after ≡ larges_of (large_turn message (GetMeasurements op) answer handle ∷ turns) % 256
+large_next turns message answer op handle next after h k = k ∙ next_counted (larges_of turns) next h
+
+-- ---- Updates.
+
+-- The keys of an open session are those behind its handshake.
+pub open_request : (kept : Kept) (psk : List ℕ) (s : Events) → stage_of s ≡ Open → Keeps kept psk s → IsKeyOf kept.request (session_terms s).choice (application_record psk (t2_of s) Request (request_epoch s))
+open_request kept psk s at keeps = subst (λ (p : Purpose). IsKeyOf kept.request (session_terms s).choice p) (past_purpose s Open psk Request (request_epoch s) at refl) keeps.request
+
+pub open_response : (kept : Kept) (psk : List ℕ) (s : Events) → stage_of s ≡ Open → Keeps kept psk s → IsKeyOf kept.response (session_terms s).choice (application_record psk (t2_of s) Response (response_epoch s))
+open_response kept psk s at keeps = subst (λ (p : Purpose). IsKeyOf kept.response (session_terms s).choice p) (past_purpose s Open psk Response (response_epoch s) at refl) keeps.response
+
+pub kept_key : (old mid new : Kept) (psk : List ℕ) (s : Events) (sealed message reply : List ℕ) (tag : ℕ) → stage_of s ≡ Open
+    → mid ≡ record old { request_next = old.request_next + 1; response_next = old.response_next + 1; last = mid.last }
+    → new ≡ record mid { request = new.request; request_next = 0 }
+    → IsKeyOf new.request (session_terms s).choice (application_record psk (t2_of s) Request (request_epoch s + 1))
+    → kept_record mid.last ≡ Some (record { sealed = sealed; reply = reply }) → Keeps old psk s → Keeps new psk (Heard sealed (update_turn message 1 tag) reply ∷ s)
+kept_key old mid new psk s sealed message reply tag at first second key last keeps =
+    let choice = (session_terms s).choice in
+    let response : new.response ≡ old.response = ap (λ (x : Kept). x.response) second ∙ ap (λ (x : Kept). x.response) first in
+    record {
+      live = refl;
+      choice = ap (λ (x : Kept). x.terms.choice) second ∙ ap (λ (x : Kept). x.terms.choice) first ∙ keeps.choice;
+      common = ap (λ (x : Kept). x.terms.common) second ∙ ap (λ (x : Kept). x.terms.common) first ∙ keeps.common;
+      id = ap (λ (x : Kept). x.id) second ∙ ap (λ (x : Kept). x.id) first ∙ keeps.id;
+      request = key;
+      response = subst (λ (k : DirectionSecret). IsKeyOf k choice (application_record psk (t2_of s) Response (response_epoch s))) (sym response) (open_response old psk s at keeps);
+      request_epoch = key.secret.epoch;
+      response_epoch = ap (λ (k : DirectionSecret). k.epoch) response ∙ keeps.response_epoch;
+      request_next = ap (λ (x : Kept). x.request_next) second;
+      response_next = ap (λ (x : Kept). x.response_next) second ∙ ap (λ (x : Kept). x.response_next) first ∙ ap (λ (n : ℕ). n + 1) keeps.response_next;
+      taken = ap (λ (x : Kept). x.taken) second ∙ ap (λ (x : Kept). x.taken) first ∙ keeps.taken;
+      hash = ap (λ (x : Kept). x.hash) second ∙ ap (λ (x : Kept). x.hash) first ∙ keeps.hash ∙ ap (λ (x : List ℕ). (session_hash s).digest x) (past_hash s Open at refl);
+      last = ap (λ (x : Kept). kept_record x.last) second ∙ last;
+    }
+
+-- UpdateAllKeys is answered by record 0 under the new key.
+pub all_sealed : (old : Kept) (psk : List ℕ) (s : Events) (message answer pad : List ℕ) (tag : ℕ) → stage_of s ≡ Open → Keeps old psk s → inner_reply (update_turn message 2 tag) ≡ 5 ∷ answer
+    → sealed_of (session_terms s).choice (application_record psk (t2_of s) Response (response_epoch s + 1)) 0 (session_id_bytes old.id.req old.id.rsp) (5 ∷ answer) pad
+    ≡ reply_record psk s (update_turn message 2 tag) (inner_reply (update_turn message 2 tag)) pad
+unfolding reply_record
+all_sealed old psk s message answer pad tag at keeps same =
+    (λ i. sealed_of (session_terms s).choice (record (sym (past_purpose s Open psk Response (response_epoch s) at refl) i) { epoch = response_epoch s + 1 }) 0 (session_id_bytes (keeps.id i).req (keeps.id i).rsp) (sym same i) pad)
+
+pub kept_all : (old one mid new : Kept) (psk : List ℕ) (s : Events) (sealed message reply : List ℕ) (tag : ℕ) → stage_of s ≡ Open
+    → one ≡ record old { response = one.response; response_next = 0 }
+    → mid ≡ record one { request_next = one.request_next + 1; response_next = one.response_next + 1; last = mid.last }
+    → new ≡ record mid { request = new.request; request_next = 0 }
+    → IsKeyOf new.request (session_terms s).choice (application_record psk (t2_of s) Request (request_epoch s + 1))
+    → IsKeyOf one.response (session_terms s).choice (application_record psk (t2_of s) Response (response_epoch s + 1))
+    → kept_record mid.last ≡ Some (record { sealed = sealed; reply = reply }) → Keeps old psk s → Keeps new psk (Heard sealed (update_turn message 2 tag) reply ∷ s)
+kept_all old one mid new psk s sealed message reply tag at zeroth first second key other last keeps =
+    let choice = (session_terms s).choice in
+    let response : new.response ≡ one.response = ap (λ (x : Kept). x.response) second ∙ ap (λ (x : Kept). x.response) first in
+    record {
+      live = refl;
+      choice = ap (λ (x : Kept). x.terms.choice) second ∙ ap (λ (x : Kept). x.terms.choice) first ∙ ap (λ (x : Kept). x.terms.choice) zeroth ∙ keeps.choice;
+      common = ap (λ (x : Kept). x.terms.common) second ∙ ap (λ (x : Kept). x.terms.common) first ∙ ap (λ (x : Kept). x.terms.common) zeroth ∙ keeps.common;
+      id = ap (λ (x : Kept). x.id) second ∙ ap (λ (x : Kept). x.id) first ∙ ap (λ (x : Kept). x.id) zeroth ∙ keeps.id;
+      request = key;
+      response = subst (λ (k : DirectionSecret). IsKeyOf k choice (application_record psk (t2_of s) Response (response_epoch s + 1))) (sym response) other;
+      request_epoch = key.secret.epoch;
+      response_epoch = ap (λ (k : DirectionSecret). k.epoch) response ∙ other.secret.epoch;
+      request_next = ap (λ (x : Kept). x.request_next) second;
+      response_next = ap (λ (x : Kept). x.response_next) second ∙ ap (λ (x : Kept). x.response_next) first ∙ ap (λ (x : Kept). x.response_next + 1) zeroth;
+      taken = ap (λ (x : Kept). x.taken) second ∙ ap (λ (x : Kept). x.taken) first ∙ ap (λ (x : Kept). x.taken) zeroth ∙ keeps.taken;
+      hash = ap (λ (x : Kept). x.hash) second ∙ ap (λ (x : Kept). x.hash) first ∙ ap (λ (x : Kept). x.hash) zeroth ∙ keeps.hash ∙ ap (λ (x : List ℕ). (session_hash s).digest x) (past_hash s Open at refl);
+      last = ap (λ (x : Kept). kept_record x.last) second ∙ last;
+    }

@@ -1,0 +1,17 @@
+-- The reply that a session keeps.
+use Rattle.std.specs.Prelude.{ℕ, List, Option, Some, option_map}
+use Rattle.responder_machine.specs.History.{KeptRecord}
+use Rattle.responder_session.specs.Kept.{kept_record}
+use Rattle.responder_session.specs.declared.took.RspState.{RspState}
+use Rattle.responder_session.specs.declared.took.RspState.TheVariants as state
+
+-- The record that answered the last record taken; none before the first.
+abbrev pub last_reply : Option KeptRecord → Option (List ℕ)
+last_reply last = option_map (λ k. k.reply) last
+
+-- The reply that is kept in a state.
+abbrev pub reply_of : RspState → Option (List ℕ)
+reply_of (state.Handshake h) = last_reply (kept_record h.kept.last)
+reply_of (state.Open o) = last_reply (kept_record o.kept.last)
+reply_of (state.Verifying v) = last_reply (kept_record v.kept.last)
+reply_of (state.Ended e) = Some e.last.reply
