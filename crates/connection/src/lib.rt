@@ -1,0 +1,9 @@
+//! A responder's side of the connection with one requester (DSP0274, section 10), with every free value
+//! handed in: the clear part, which holds how far the negotiation has come and what was settled.
+#![tactic(auto)]
+
+mod negotiating;
+mod setup;
+
+pub use negotiating::Negotiating;
+pub use setup::Setup;
