@@ -1,2 +1,4 @@
 pub mod Setup
 pub mod Negotiating
+pub mod Contents
+pub mod Free

@@ -2,8 +2,11 @@
 //! handed in: the clear part, which holds how far the negotiation has come and what was settled.
 #![tactic(auto)]
 
+mod contents;
+mod free_values;
 mod negotiating;
 mod setup;
 
+pub use free_values::FreeValues;
 pub use negotiating::Negotiating;
 pub use setup::Setup;
