@@ -2,3 +2,5 @@ pub mod Setup
 pub mod Negotiating
 pub mod Contents
 pub mod Free
+pub mod Standing
+pub mod Answering

@@ -2,11 +2,16 @@
 //! handed in: the clear part, which holds how far the negotiation has come and what was settled.
 #![tactic(auto)]
 
+mod answering;
+mod answers;
 mod contents;
+mod exchange;
 mod free_values;
 mod negotiating;
 mod setup;
+mod standing;
 
 pub use free_values::FreeValues;
 pub use negotiating::Negotiating;
 pub use setup::Setup;
+pub use standing::Standing;

@@ -39,7 +39,7 @@ const NO_COMMON: Common = Common {
 };
 
 // The choice where nothing was settled.
-const NO_CHOICE: Choice = Choice {
+pub const NO_CHOICE: Choice = Choice {
     hash: HashAlg::Sha256,
     aead: AeadAlg::Aes128Gcm,
     measure: false,
