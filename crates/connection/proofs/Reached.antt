@@ -1,10 +1,10 @@
 -- What a negotiation has reached after each of its requests.
-use Rattle.std.proofs.Common.{refl, ◌∙◌, ◌≡◌, ◌≤◌, ◌+◌, ℕ, List, [], ◌∷◌, ◌++◌, true, false, Bool, Option, Some, None, length, ap, sym, subst, arith}
+use Rattle.std.proofs.Common.{refl, ◌∙◌, ◌≡◌, ◌≤◌, ◌+◌, ℕ, List, [], ◌∷◌, ◌++◌, true, false, Bool, Option, Some, None, Ok, Err, length, ap, sym, subst, arith}
 use Rattle.std.proofs.lemmas.Bool.{false≢true}
 use Rattle.std.proofs.lemmas.List.{append-nil, length-append}
-use Rattle.std.specs.Prelude.{if◌then◌else◌, ◌==◌, unwrap_or}
+use Rattle.std.specs.Prelude.{if◌then◌else◌, ◌==◌, ◌&&◌, ◌||◌, nat_lt, not, unwrap_or}
 use Rattle.std.specs.Result.{result_ok}
-use Rattle.negotiate.specs.Capabilities.{common_of}
+use Rattle.negotiate.specs.Capabilities.{common_of, protects, psk_is, shared}
 use Rattle.negotiate.specs.Choosing.{selected}
 use Rattle.negotiate.specs.Reply.{reply_of}
 use Rattle.negotiate.specs.declared.shared.Common.{Common}
@@ -25,14 +25,18 @@ use Rattle.spdm_grammar.specs.Message.RequestMessage.{GetCapabilities, GetVersio
 use Rattle.spdm_grammar.specs.Reading.{field_at, number_at}
 use Rattle.spdm_grammar.specs.declared.capabilities.Caps.{Caps}
 use Rattle.spdm_grammar.specs.declared.choice.Choice.{Choice}
-use Rattle.spdm_grammar.specs.declared.names.TheConstants.{MAX_MESSAGE_SIZE}
+use Rattle.spdm_grammar.specs.declared.names.TheConstants.{MAX_MESSAGE_SIZE, MIN_DATA_TRANSFER_SIZE}
+use Rattle.spdm_grammar.specs.declared.names.capability.TheConstants.{PSK_CAP, PSK_CAP_WITH_CONTEXT}
+use Rattle.spdm_grammar.specs.declared.part_faults.CapsFault.TheVariants.{NoProtection, NoPsk, SizeTooSmall, SizesCrossed}
+use Rattle.std.proofs.lemmas.Option.{none-some, same_Some}
+use Rattle.std.proofs.Math.Nat.{min-le_right}
 use Rattle.spdm_grammar.specs.declared.names.request_code.TheConstants.{GET_CAPABILITIES, GET_VERSION, NEGOTIATE_ALGORITHMS}
 use Rattle.spdm_grammar.specs.declared.phase.Phase.{Phase}
 use Rattle.spdm_grammar.specs.declared.phase.Phase.TheVariants.{Capable, Fresh, Negotiated, Versioned}
 use Rattle.spdm_machine.specs.Terms.{Terms, no_choice, no_common, no_negotiation, no_terms, terms_of}
 use Rattle.transcript.specs.Transcripts.{Negotiation, vca_of}
 use Rattle.connection.proofs.Lengths.{algorithms_long, answer_is, capabilities_long, version_long}
-use Rattle.connection.specs.Negotiating.{IsUpTo, Seen, StandsFor, most_in}
+use Rattle.connection.specs.Negotiating.{IsSettled, IsUpTo, Seen, StandsFor, most_in}
 
 -- Versions settle no terms.
 version_settles : (get_version version : List ℕ) → terms_of (record no_negotiation { get_version = get_version; version = version }) ≡ no_terms
@@ -47,8 +51,7 @@ nothing_reached = record {
   few = omega arith;
   common = ap (λ (t : Terms). t.common) (version_settles [] []);
   choice = ap (λ (t : Terms). t.choice) (version_settles [] []);
-  least = λ known. absurd (false≢true known);
-  crossed = λ known. absurd (false≢true known);
+  settled = refl;
 }
 
 -- What is kept after a turn depends on its effect alone.
@@ -73,8 +76,7 @@ versioned r p f request answer messages large turns t kept is answered effect =
       few = omega (arith, ap length said, length-append request answer);
       common = ap (λ (t : Terms). t.common) (version_settles request answer);
       choice = ap (λ (t : Terms). t.choice) (version_settles request answer);
-      least = λ known. absurd (false≢true known);
-      crossed = λ known. absurd (false≢true known);
+      settled = refl;
     })
 
 -- CAPABILITIES settle no choice, and ALGORITHMS nothing of what both ends can do.
@@ -108,6 +110,21 @@ upto_capabilities n request answer is = ap (λ (x : Negotiation). record n { get
 few_more : (messages request answer : List ℕ) (a b c most : ℕ) → length messages ≤ a → length request ≤ b → length answer ≤ c → a + b + c ≤ most → length (messages ++ request ++ answer) ≤ most
 few_more messages request answer a b c most x y z within = omega (arith, length-append (messages ++ request) answer, length-append messages request)
 
+-- No message to a requester passes 4,096 bytes.
+max_most : (caps told : Caps) (common : Common) → result_ok (common_of caps told) ≡ Some common → common.to_requester.max ≤ MAX_MESSAGE_SIZE
+max_most caps told common is =
+    of_chain (nat_lt caps.transfer MIN_DATA_TRANSFER_SIZE || nat_lt told.transfer MIN_DATA_TRANSFER_SIZE) (nat_lt caps.max caps.transfer || nat_lt told.max told.transfer)
+    (not (psk_is PSK_CAP caps.flags && psk_is PSK_CAP_WITH_CONTEXT told.flags)) (not (protects caps.flags && protects told.flags)) is
+  where
+    of_chain : (a b c d : Bool)
+        → result_ok (if a then Err SizeTooSmall else (if b then Err SizesCrossed else (if c then Err NoPsk else (if d then Err NoProtection else Ok (shared caps told))))) ≡ Some common
+        → common.to_requester.max ≤ MAX_MESSAGE_SIZE
+    of_chain true b c d h = absurd (none-some common h)
+    of_chain false true c d h = absurd (none-some common h)
+    of_chain false false true d h = absurd (none-some common h)
+    of_chain false false false true h = absurd (none-some common h)
+    of_chain false false false false h = subst (λ (x : Common). x.to_requester.max ≤ MAX_MESSAGE_SIZE) (same_Some (shared caps told) common h) (min-le_right caps.max MAX_MESSAGE_SIZE)
+
 pub capable : (r : RspSetup) (p : Place) (f : Free) (caps : Caps) (common : Common) (request answer messages : List ℕ) (large : Option ℕ) (seen : Seen) (turns : List Turn) (t : Turn)
     → IsKept seen.messages request answer messages → StandsFor seen turns → seen.phase ≡ Versioned → FitsCaps (responder_caps r)
     → request_at p request ≡ Some (GetCapabilities caps) → result_ok (common_of caps (responder_caps r)) ≡ Some common
@@ -128,8 +145,7 @@ capable r p f caps common request answer messages large seen turns t kept stands
       few = subst (λ (m : List ℕ). length m ≤ 52) (sym said) (few_more seen.messages request answer 12 20 20 52 few asked told (omega arith));
       common = ap (λ (a : List ℕ). (terms_of (record n { get_capabilities = request; capabilities = a })).common) answered ∙ common_settled r p request f caps common n fits is agreed;
       choice = capabilities_keep n request answer ∙ stands.choice;
-      least = λ known. sized.0;
-      crossed = λ known. sized.1;
+      settled = record { least = sized.0; crossed = sized.1; most = max_most caps (responder_caps r) common agreed };
     })
 
 pub negotiated : (r : RspSetup) (p : Place) (f : Free) (offer : OfferMessage) (choice : Choice) (request answer messages : List ℕ) (large : Option ℕ) (seen : Seen) (turns : List Turn) (t : Turn)
@@ -141,7 +157,6 @@ negotiated r p f offer choice request answer messages large seen turns t kept st
     let n = negotiation_of turns in
     let up_to : n ≡ record n { negotiate_algorithms = []; algorithms = [] } = subst (λ (x : Phase). IsUpTo x n) phase stands.up_to in
     let few : length seen.messages ≤ 52 = subst (λ (x : Phase). length seen.messages ≤ most_in x) phase stands.few in
-    let known : sizes_are_known seen.phase ≡ true = ap sizes_are_known phase in
     let told : length answer ≤ 52 = subst (λ (a : List ℕ). length a ≤ 52) (sym (answered ∙ answer_is r p request f (NegotiateAlgorithms offer) is)) (algorithms_long offer (unwrap_or (selected offer (policy_of r)) no_choice)) in
     let said : messages ≡ seen.messages ++ request ++ answer = kept (omega arith) in
     of_effect _ turns t (Took (NegotiateAlgorithms offer) request answer large) effect (record {
@@ -151,8 +166,7 @@ negotiated r p f offer choice request answer messages large seen turns t kept st
       few = subst (λ (m : List ℕ). length m ≤ 4200) (sym said) (few_more seen.messages request answer 52 4096 52 4200 few long told (omega arith));
       common = algorithms_keep n request answer ∙ stands.common;
       choice = ap (λ (a : List ℕ). (terms_of (record n { negotiate_algorithms = request; algorithms = a })).choice) answered ∙ choice_settled r p request f offer choice n is chosen;
-      least = λ _. stands.least known;
-      crossed = λ _. stands.crossed known;
+      settled = subst (λ (x : Phase). IsSettled x seen.common) phase stands.settled;
     })
 
 -- Any other turn leaves all as it was.
@@ -165,8 +179,7 @@ unmoved seen turns t stands version capabilities algorithms = record {
   few = stands.few;
   common = ap (λ (n : Negotiation). (terms_of n).common) same_negotiation ∙ stands.common;
   choice = ap (λ (n : Negotiation). (terms_of n).choice) same_negotiation ∙ stands.choice;
-  least = stands.least;
-  crossed = stands.crossed;
+  settled = stands.settled;
 }
   where
     none_of : {A : Type 0} (a b c : Bool) (x y z older : A) → a ≡ false → b ≡ false → c ≡ false → (if a then x else (if b then y else (if c then z else older))) ≡ older

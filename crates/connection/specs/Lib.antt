@@ -4,3 +4,4 @@ pub mod Contents
 pub mod Free
 pub mod Standing
 pub mod Answering
+pub mod Refused

@@ -6,6 +6,7 @@ ghost use Rattle.negotiate.specs.Choosing.{selected};
 ghost use Rattle.responder_machine.specs.Place as places;
 ghost use Rattle.responder_machine.specs.Refusal as refusal;
 ghost use Rattle.responder_machine.specs.Setup.{RspSetup, policy_of, responder_caps};
+ghost use Rattle.spdm_grammar.specs.Codes.{code_for};
 ghost use Rattle.spdm_grammar.specs.Message.{offer_message, request_message};
 ghost use Rattle.connection.specs.Contents.{asks_missing};
 ghost use Rattle.connection.specs.Setup.{IsSetUp};
@@ -17,6 +18,10 @@ use request_rules::Place;
 use spdm_basis::Frame;
 use spdm_grammar::names::capability::{
     CHUNK_CAP, ENCRYPT_CAP, HBEAT_CAP, KEY_UPD_CAP, MAC_CAP, MEAS_CAP, PSK_CAP_WITH_CONTEXT,
+};
+use spdm_grammar::names::request_code::{
+    CHUNK_GET, CHUNK_SEND, END_SESSION, GET_CAPABILITIES, GET_MEASUREMENTS, GET_VERSION, HEARTBEAT,
+    KEY_UPDATE, NEGOTIATE_ALGORITHMS, PSK_EXCHANGE, PSK_FINISH,
 };
 use spdm_grammar::{AlgOffer, Caps, Choice, Request};
 
@@ -114,5 +119,24 @@ pub fn is_exchange_refused(setup: &Setup<'_>, place: &Place, request: &Request<'
             exchange.hint != setup.hint || (exchange.summary != 0 && !place.choice.measure)
         }
         _ => false,
+    }
+}
+
+/// The code of a request.
+pub fn code_of(request: &Request<'_>) -> u8
+    ensures { result ≡ code_for (request_message request.now) }
+{
+    match request {
+        Request::GetVersion => GET_VERSION,
+        Request::GetCapabilities(_) => GET_CAPABILITIES,
+        Request::NegotiateAlgorithms(_) => NEGOTIATE_ALGORITHMS,
+        Request::GetMeasurements { .. } => GET_MEASUREMENTS,
+        Request::PskExchange(_) => PSK_EXCHANGE,
+        Request::PskFinish { .. } => PSK_FINISH,
+        Request::Heartbeat => HEARTBEAT,
+        Request::KeyUpdate { .. } => KEY_UPDATE,
+        Request::EndSession => END_SESSION,
+        Request::ChunkSend(_) => CHUNK_SEND,
+        Request::ChunkGet { .. } => CHUNK_GET,
     }
 }

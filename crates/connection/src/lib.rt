@@ -8,10 +8,13 @@ mod contents;
 mod exchange;
 mod free_values;
 mod negotiating;
+mod refused;
 mod setup;
 mod standing;
+mod tested;
 
 pub use free_values::FreeValues;
 pub use negotiating::Negotiating;
+pub use refused::Refused;
 pub use setup::Setup;
 pub use standing::Standing;
