@@ -1,3 +1,5 @@
 pub mod Lengths
 pub mod Reached
 pub mod AnswerLengths
+pub mod Table
+pub mod Passing

@@ -4,7 +4,7 @@ use Rattle.connection.specs.declared.refused.Refused.{Refused}
 use Rattle.responder_machine.specs.Answer.{Free, answer_bytes, request_at}
 use Rattle.responder_machine.specs.Place.{Place, Where, place_terms}
 use Rattle.responder_machine.specs.Place.Where.{InChunks, InClear, InSession}
-use Rattle.responder_machine.specs.Refusal.{are_caps_refused, chunk_fault, has_no_block, has_pending, is_answer_too_long, is_exchange_refused, is_get_refused, is_offer_refused, lacks_flag, refusal}
+use Rattle.responder_machine.specs.Refusal.{are_caps_refused, chunk_fault, has_no_block, has_pending, is_answer_too_long, is_exchange_refused, is_get_refused, is_offer_refused, lacks_flag, refusal, refused_form}
 use Rattle.responder_machine.specs.Setup.{RspSetup}
 use Rattle.spdm_grammar.specs.Codes.{code_for}
 use Rattle.spdm_grammar.specs.Message.{RequestMessage, request_message}
@@ -59,6 +59,7 @@ pub record IsRefused (r : RspSetup) (p : Place) (m : List ℕ) (f : Free) (seen 
 
 -- The message is this request, and is refused for no more than for the chunks that came before it.
 pub record IsPassed (r : RspSetup) (p : Place) (m : List ℕ) (f : Free) (asked : RequestMessage) : Type 0 where
+  pub form : refused_form r p m ≡ None
   pub asked_is : request_at p m ≡ Some asked
   pub refused : refusal r p m f ≡ chunk_refusal (chunk_fault r p (Some asked))
 

@@ -1,4 +1,4 @@
-ghost use Rattle.std.specs.Prelude.{◌≡◌, ◌≤◌, true, false, length, ℕ, List};
+ghost use Rattle.std.specs.Prelude.{◌≡◌, ◌≤◌, ◌<◌, ◌^◌, true, false, length, ℕ, List};
 ghost use Rattle.measurements.specs.Records.{is_missing};
 ghost use Rattle.responder_machine.specs.Answer.{Free, answer_of, chunk_answer, measurements_answer};
 ghost use Rattle.spdm_grammar.specs.Message.RequestMessage.{ChunkGet};
@@ -40,6 +40,7 @@ impl Standing {
     ) -> usize
         requires found { asks_missing setup.now.inventory.now (request_message request.now)
             ≡ false }
+        ensures most { result < 2 ^ 32 }
         ensures size { (r : RspSetup) (p : places.Place) (m : List ℕ) (f : Free)
             → IsSetUp setup.now r → IsPlace place.now p → IsFree free.now f
             → IsAnswerable self.now.large p (request_message request.now)
@@ -78,6 +79,7 @@ impl Standing {
 // MEASUREMENTS for an operation, with these values, and their length.
 fn write_measured(setup: &Setup<'_>, op: u8, free: &FreeValues<'_>, out: &mut Frame) -> usize
     requires { is_missing op setup.now.inventory.now ≡ false }
+    ensures most { result < 2 ^ 32 }
     ensures size { (r : RspSetup) (f : Free) → IsSetUp setup.now r → IsFree free.now f
         → result ≡ length (canonical_response (measurements_answer r f op)) }
     ensures value { (r : RspSetup) (f : Free) → IsSetUp setup.now r → IsFree free.now f
@@ -89,6 +91,7 @@ fn write_measured(setup: &Setup<'_>, op: u8, free: &FreeValues<'_>, out: &mut Fr
 
 // The chunk that a CHUNK_GET asks for, and its length.
 fn write_asked(large: &LargeAnswer, handle: u8, number: u16, out: &mut Frame) -> usize
+    ensures most { result ≤ 4112 }
     ensures size { (p : places.Place) → IsAnswerable large.now p (ChunkGet handle number)
         → result ≡ length (canonical_response (chunk_answer p handle number)) }
     ensures value { (p : places.Place) → IsAnswerable large.now p (ChunkGet handle number)

@@ -15,6 +15,7 @@ use crate::negotiating::NO_CHOICE;
 use negotiate::{Reply, reply_is_sound};
 use spdm_basis::Frame;
 use spdm_codec::write_response;
+use spdm_grammar::names::MAX_MESSAGE_SIZE;
 use spdm_grammar::names::spdm_version::V1_2;
 use spdm_grammar::{AlgOffer, ChunkView, Response};
 
@@ -56,18 +57,21 @@ pub fn write_algorithms(setup: &Setup<'_>, offer: &AlgOffer<'_>, out: &mut Frame
 const CHUNK_FIELDS_LEN: usize = 12;
 const LARGE_LEN: usize = 4;
 
-/// CHUNK_RESPONSE with a chunk that has a spelling, and its length. One that passes 4,096 bytes is not whole
-/// in `out`.
+/// CHUNK_RESPONSE with a chunk of at most 4,096 bytes that has a spelling, and its length. One that passes
+/// 4,096 bytes is not whole in `out`.
 pub fn write_chunk_response(chunk: ChunkView<'_>, out: &mut Frame) -> usize
-    ensures size { result
+    ensures size { length chunk.entry.chunk.now ≤ MAX_MESSAGE_SIZE → result
         ≡ length (canonical_response (ChunkResponse (chunk_message chunk.entry))) }
-    ensures value { IsSoundChunk (chunk_message chunk.entry) → result ≤ MAX_MESSAGE_SIZE
+    ensures most { result ≤ 4112 }
+    ensures value { IsSoundChunk (chunk_message chunk.entry)
+        → length chunk.entry.chunk.now ≤ MAX_MESSAGE_SIZE → result ≤ MAX_MESSAGE_SIZE
         → out.new ≡ canonical_response (ChunkResponse (chunk_message chunk.entry)) }
 {
     if chunk.is_sound() {
         let _ = write_response(&Response::ChunkResponse(chunk), 0, false, out);
     }
-    CHUNK_FIELDS_LEN + large_len(chunk.large) + chunk.chunk.len()
+    let len = chunk.chunk.len().min(MAX_MESSAGE_SIZE as usize);
+    CHUNK_FIELDS_LEN + large_len(chunk.large) + len
 }
 
 // The length of LargeMessageSize, where it is told.

@@ -1,4 +1,4 @@
-ghost use Rattle.std.specs.Prelude.{◌≡◌, ◌≤◌, ◌==◌, ◌||◌, if◌then◌else◌, ℕ, List, length};
+ghost use Rattle.std.specs.Prelude.{◌≡◌, ◌≤◌, ◌<◌, ◌^◌, ◌==◌, ◌||◌, if◌then◌else◌, ℕ, List, length};
 ghost use Rattle.responder_machine.specs.Answer.{Free, exchange_answer};
 ghost use Rattle.responder_machine.specs.Place as places;
 ghost use Rattle.responder_machine.specs.Setup.{RspSetup};
@@ -20,7 +20,8 @@ pub fn exchange_rsp_len(
     exchange: &Exchange<'_>,
     free: &FreeValues<'_>,
 ) -> usize
-    ensures { (r : RspSetup) (p : places.Place) (m : List ℕ) (f : Free) → IsPlace place.now p
+    ensures most { result < 2 ^ 32 }
+    ensures value { (r : RspSetup) (p : places.Place) (m : List ℕ) (f : Free) → IsPlace place.now p
         → IsFree free.now f → result ≡ length (canonical_response
         (exchange_answer r p m f (exchange_message exchange.now))) }
 {

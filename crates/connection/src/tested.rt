@@ -100,4 +100,46 @@ impl Standing {
         }
         None
     }
+
+    /// Tests a message at a place: the request that it is, or why it is refused. The answer to a request that
+    /// is not refused is written in place of what `answer` holds, but for PSK_EXCHANGE_RSP. A chunk is refused
+    /// for none of the chunks before it. `held` is the number of sessions past their handshake.
+    pub fn tested<'a>(
+        &self,
+        place: &Place,
+        setup: &Setup<'_>,
+        held: u8,
+        message: &'a [u8],
+        free: &FreeValues<'_>,
+        answer: &mut Frame,
+    ) -> Result<Request<'a>, Refused>
+        ensures tested { (r : RspSetup) (turns : List Turn) (f : Free) → IsSetUp setup.now r
+            → IsFree free.now f → StandsFor self.now turns
+            → IsPlace place.now (place_at (where_of place.now.at) turns held)
+            → IsClear (where_of place.now.at)
+            → IsTested r (place_at (where_of place.now.at) turns held) message.now f result }
+        ensures answer { (r : RspSetup) (turns : List Turn) (f : Free) → IsSetUp setup.now r
+            → IsFree free.now f → StandsFor self.now turns
+            → IsPlace place.now (place_at (where_of place.now.at) turns held)
+            → IsClear (where_of place.now.at)
+            → IfOk result (λ request. is_made_here (request_message request) ≡ true
+            → answer.new ≡ answer_bytes r (place_at (where_of place.now.at) turns held)
+            message.now f) }
+    {
+        let request = match place.read(limit_of(setup, place.at), message) {
+            Ok(request) => request,
+            Err(code) => return Err(Refused::with(code)),
+        };
+        if let Some(code) = self.contents_fault(place, setup, &request) {
+            return Err(Refused::with(code));
+        }
+        let len = self.write_answer(place, setup, &request, free, answer);
+        if let Some(code) = answer_fault(place, code_of(&request), len, held) {
+            return Err(Refused {
+                code,
+                answer_len: len as u32,
+            });
+        }
+        Ok(request)
+    }
 }

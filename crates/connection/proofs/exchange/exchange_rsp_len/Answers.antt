@@ -7,8 +7,8 @@ use Rattle.spdm_basis.specs.Sizes.{hash_size}
 use Rattle.spdm_grammar.specs.Message.{exchange_message}
 use Rattle.spdm_grammar.specs.declared.choice.Choice.{Choice}
 
-pub returns : goal.returns
-returns c = λ r p m f place free.
+pub returns-clause-value : goal.returns-clause-value
+returns-clause-value c = λ r p m f place free.
     let kind = c.args.exchange.now.summary in
     let hash : c.size-hash_len.result ≡ hash_size (place_terms p).choice.hash = c.size-hash_len.ensures ∙ ap (λ (x : Choice). hash_size x.hash) (sym place.choice) in
     let summary : c.summary_len-summary_len.result ≡ (if kind == 1 || kind == 255 then hash_size (place_terms p).choice.hash else 0) =
