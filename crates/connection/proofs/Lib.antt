@@ -3,3 +3,4 @@ pub mod Reached
 pub mod AnswerLengths
 pub mod Table
 pub mod Passing
+pub mod Taken

@@ -36,14 +36,10 @@ use Rattle.connection.specs.Answering.{IsAnswerable, is_made_here}
 use Rattle.connection.specs.Negotiating as negotiating
 use Rattle.connection.specs.Negotiating.{IsSettled, IsSized}
 use Rattle.connection.specs.Refused.{IsClear, IsPassed, IsPendingFor, IsRefused, chunk_refusal, tests_of_answer, tests_of_request}
-use Rattle.connection.specs.Standing.{Seen, StandsFor, place_at}
+use Rattle.connection.specs.Standing.{IsSettledAt, Seen, StandsFor, place_at}
 use Rattle.connection.specs.declared.refused.Refused.{Refused}
 
 -- ---- The sizes of the requester.
-
--- What both ends can do is settled at a place.
-pub record IsSettledAt (p : Place) : Type 0 where
-  pub settled : IsSettled p.phase (place_terms p).common
 
 pub settled_at : (seen : Seen) (at : Where) (turns : List Turn) (held : ℕ) → StandsFor seen turns → IsSettledAt (place_at at turns held)
 settled_at seen at turns held stands =

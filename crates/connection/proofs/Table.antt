@@ -26,6 +26,11 @@ use Rattle.connection.specs.Refused.{IsClear, IsPassed, IsPendingFor, IsRefused,
 
 -- ---- Lists of tests.
 
+-- No code came.
+pub none_there : {A : Type 0} (x : Option A) → ((a : A) → x ≡ Some a → ⊥) → x ≡ None
+none_there None h = refl
+none_there (Some a) h = absurd (h a refl)
+
 or_none : {A : Type 0} (x : Option A) → option_or x None ≡ x
 or_none None = refl
 or_none (Some a) = refl

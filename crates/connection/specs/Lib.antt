@@ -5,3 +5,4 @@ pub mod Free
 pub mod Standing
 pub mod Answering
 pub mod Refused
+pub mod Taking

@@ -3,7 +3,7 @@ use Rattle.std.specs.Prelude.{◌≡◌, ℕ, List, []}
 use Rattle.connection.specs.Negotiating as negotiating
 use Rattle.request_rules.specs.LargeAnswer as large_answer
 use Rattle.responder_machine.specs.History.{negotiation_of, phase_of}
-use Rattle.responder_machine.specs.Place.{Place, Where}
+use Rattle.responder_machine.specs.Place.{Place, Where, place_terms}
 use Rattle.responder_machine.specs.Turn.{Turn}
 
 -- A place in the clear of these turns, the newest first, beside so many sessions past their handshake.
@@ -26,3 +26,7 @@ pub record Seen : Type 0 where
 pub record StandsFor (seen : Seen) (turns : List Turn) : Type 0 where
   pub negotiating : negotiating.StandsFor seen.negotiating turns
   pub large : large_answer.StandsFor seen.large seen.negotiating.common.to_requester.transfer turns
+
+-- What both ends can do is settled at a place, as far as its phase says.
+pub record IsSettledAt (p : Place) : Type 0 where
+  pub settled : negotiating.IsSettled p.phase (place_terms p).common

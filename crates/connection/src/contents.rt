@@ -55,8 +55,9 @@ pub fn announced(setup: &Setup<'_>) -> Caps
 /// What a requester with these capabilities and the responder can do together; none where they do not go
 /// together.
 pub fn common_with(setup: &Setup<'_>, caps: &Caps) -> Option<Common>
-    ensures { (r : RspSetup) → IsSetUp setup.now r
+    ensures value { (r : RspSetup) → IsSetUp setup.now r
         → result ≡ result_ok (common_of caps.now (responder_caps r)) }
+    ensures fits { (r : RspSetup) → IsSetUp setup.now r → FitsCaps (responder_caps r) }
 {
     common(caps, &announced(setup)).ok()
 }

@@ -11,6 +11,7 @@ mod negotiating;
 mod refused;
 mod setup;
 mod standing;
+mod taking;
 mod tested;
 
 pub use free_values::FreeValues;

@@ -2,7 +2,7 @@ use Rattle.std.proofs.Common.{refl, ◌≡◌, ◌∙◌, ◌≤◌, ℕ, Option
 use Rattle.connection.proofs.AnswerLengths.{exchange_long}
 use Rattle.connection.proofs.Lengths.{answer_is}
 use Rattle.connection.proofs.Passing.{answer_fits, answerable, passed_all, refused_for_answer, large_at, not_too_long, refused_for_form, refused_for_request, settled_at}
-use Rattle.connection.proofs.Table.{pending_for}
+use Rattle.connection.proofs.Table.{none_there, pending_for}
 use Rattle.connection.proofs.standing.Standing.tested.Goals as goal
 use Rattle.connection.specs.Refused.{tests_of_answer}
 use Rattle.connection.specs.Standing.{place_at}
@@ -20,11 +20,6 @@ pub returns-in-Err-clause-tested : goal.returns-in-Err-clause-tested
 returns-in-Err-clause-tested c = λ r turns f setup free stands place clear.
     let p : Place = place_at (where_of c.args.place.now.at) turns c.args.held in
     refused_for_form r p c.args.message.now f c.with.result (c.in-Err.ensures r p place (c.limit_of.ensures r setup) ∙ ap (λ (e : ErrorCode). Some e) (sym c.with.ensures))
-
--- No code came.
-none_there : (x : Option ErrorCode) → ((code : ErrorCode) → x ≡ Some code → ⊥) → x ≡ None
-none_there None h = refl
-none_there (Some code) h = absurd (h code refl)
 
 pub returns-in-Some-clause-tested : goal.returns-in-Some-clause-tested
 returns-in-Some-clause-tested c = λ r turns f setup free stands place clear.

@@ -1,0 +1,149 @@
+-- What a request changes that is taken in the clear.
+use Rattle.std.proofs.Common.{refl, ◌∙◌, ◌≡◌, ◌≤◌, ◌<◌, ◌+◌, ℕ, List, [], ◌∷◌, ◌++◌, true, false, Bool, Option, Some, None, length, ap, sym, subst, arith}
+use Rattle.std.proofs.lemmas.Bool.{false≢true, ltb-true}
+use Rattle.std.proofs.lemmas.Bool.Decides.{nat_tests}
+use Rattle.std.proofs.lemmas.Option.{none-some, same_Some}
+use Rattle.std.specs.Prelude.{◌==◌, ◌&&◌, ◌||◌, if◌then◌else◌, is_none, nat_lt, not, unwrap_or}
+use Rattle.negotiate.specs.Capabilities.{common_of}
+use Rattle.negotiate.specs.Choosing.{selected}
+use Rattle.negotiate.specs.declared.shared.Common.{Common}
+use Rattle.request_rules.specs.LargeAnswer as large_answer
+use Rattle.responder_machine.proofs.Codes.{asked-code}
+use Rattle.responder_machine.proofs.Tests.{contents_shown, tests_are_false}
+use Rattle.responder_machine.specs.Answer.{Free, answer_bytes, request_at}
+use Rattle.responder_machine.specs.Handling.{goes_large, handle_for}
+use Rattle.responder_machine.specs.History.{negotiation_of, phase_of}
+use Rattle.responder_machine.specs.LargeMessages.{large_of, pending_of}
+use Rattle.responder_machine.specs.Place.{Place, Where, place_terms}
+use Rattle.responder_machine.specs.Place.Where.{InChunks, InClear, InSession}
+use Rattle.responder_machine.specs.Refusal.{are_caps_refused, bytes_round, code_of, has_pending, is_misplaced, is_offer_refused, phase_allows, refused_form, sizes_are_known, tests_of_form}
+use Rattle.responder_machine.specs.Setup.{RspSetup, policy_of, responder_caps}
+use Rattle.responder_machine.specs.Turn.{Effect, Turn, code_in, handle_in, is_taken, large_in, takes}
+use Rattle.std.specs.Result.{result_ok}
+use Rattle.spdm_grammar.specs.Codes.{code_for}
+use Rattle.spdm_grammar.specs.Message.{OfferMessage, RequestMessage}
+use Rattle.spdm_grammar.specs.Message.RequestMessage.{ChunkGet, GetCapabilities, GetVersion, NegotiateAlgorithms}
+use Rattle.spdm_grammar.specs.declared.capabilities.Caps.{Caps}
+use Rattle.spdm_grammar.specs.declared.choice.Choice.{Choice}
+use Rattle.spdm_grammar.specs.declared.names.request_code.TheConstants.{CHUNK_GET, GET_CAPABILITIES, NEGOTIATE_ALGORITHMS}
+use Rattle.spdm_grammar.specs.declared.phase.Phase.{Phase}
+use Rattle.spdm_grammar.specs.declared.phase.Phase.TheVariants.{Capable, Fresh, Negotiated, Versioned}
+use Rattle.connection.proofs.AnswerLengths.{chunk_fits}
+use Rattle.connection.proofs.Lengths.{answer_is}
+use Rattle.connection.proofs.Table.{pending_for, phase_allowed}
+use Rattle.connection.specs.Negotiating.{IsSettled, IsSized}
+use Rattle.connection.specs.Standing.{IsSettledAt}
+use Rattle.connection.specs.Taking.{IsTaking}
+
+-- ---- In which phase it comes.
+
+in_versioned : (phase : Phase) (pending : Bool) → phase_allows phase pending GET_CAPABILITIES ≡ true → phase ≡ Versioned
+in_versioned Fresh pending h = absurd (false≢true h)
+in_versioned Versioned pending h = refl
+in_versioned Capable pending h = absurd (false≢true h)
+in_versioned Negotiated pending h = absurd (false≢true h)
+
+in_capable : (phase : Phase) (pending : Bool) → phase_allows phase pending NEGOTIATE_ALGORITHMS ≡ true → phase ≡ Capable
+in_capable Fresh pending h = absurd (false≢true h)
+in_capable Versioned pending h = absurd (false≢true h)
+in_capable Capable pending h = refl
+in_capable Negotiated pending h = absurd (false≢true h)
+
+pub caps_phase : (r : RspSetup) (p : Place) (m : List ℕ) (f : Free) (caps : Caps) (answer : List ℕ) (t : Turn) → IsTaking r p m f (GetCapabilities caps) answer t → p.phase ≡ Versioned
+caps_phase r p m f caps answer t taking = in_versioned p.phase (has_pending p) (phase_allowed r p m (GetCapabilities caps) taking.clear taking.form taking.asked_is)
+
+pub offer_phase : (r : RspSetup) (p : Place) (m : List ℕ) (f : Free) (offer : OfferMessage) (answer : List ℕ) (t : Turn) → IsTaking r p m f (NegotiateAlgorithms offer) answer t → p.phase ≡ Capable
+offer_phase r p m f offer answer t taking = in_capable p.phase (has_pending p) (phase_allowed r p m (NegotiateAlgorithms offer) taking.clear taking.form taking.asked_is)
+
+-- ---- What it settles.
+
+there_is : {A : Type 0} (x : Option A) → is_none x ≡ false → x ≡ None → ⊥
+there_is None h e = false≢true (sym h)
+there_is (Some a) h e = none-some a (sym e)
+
+pub caps_agree : (r : RspSetup) (p : Place) (m : List ℕ) (f : Free) (caps : Caps) (answer : List ℕ) (t : Turn) → IsTaking r p m f (GetCapabilities caps) answer t → result_ok (common_of caps (responder_caps r)) ≡ None → ⊥
+caps_agree r p m f caps answer t taking =
+    there_is (result_ok (common_of caps (responder_caps r))) (sym (ap (are_caps_refused r) taking.asked_is) ∙ contents_shown r p m f taking.refused 1)
+
+pub offer_chosen : (r : RspSetup) (p : Place) (m : List ℕ) (f : Free) (offer : OfferMessage) (answer : List ℕ) (t : Turn) → IsTaking r p m f (NegotiateAlgorithms offer) answer t → selected offer (policy_of r) ≡ None → ⊥
+offer_chosen r p m f offer answer t taking =
+    there_is (selected offer (policy_of r)) (sym (ap (is_offer_refused r) taking.asked_is) ∙ contents_shown r p m f taking.refused 2)
+
+-- ---- The large answer.
+
+-- An answer that does not go by chunks has no handle.
+pub no_handle : (p : Place) (f : Free) (answer : List ℕ) → goes_large p answer ≡ false → handle_for p f answer ≡ None
+no_handle p f answer small = ap (λ (b : Bool). if b then Some f.handle else None) small
+
+pub a_handle : (p : Place) (f : Free) (answer : List ℕ) → goes_large p answer ≡ true → handle_for p f answer ≡ Some f.handle
+a_handle p f answer large = ap (λ (b : Bool). if b then Some f.handle else None) large
+
+-- CHUNK_GET comes in no large request.
+not_in_chunks : (at : Where) → is_misplaced at CHUNK_GET ≡ false → bytes_round at ≡ 0
+not_in_chunks InClear h = refl
+not_in_chunks InChunks h = absurd (false≢true (sym h))
+not_in_chunks InSession h = refl
+
+get_round : (r : RspSetup) (p : Place) (m : List ℕ) (handle number : ℕ) → refused_form r p m ≡ None → request_at p m ≡ Some (ChunkGet handle number) → bytes_round p.at ≡ 0
+unfolding refused_form
+get_round r p m handle number form is = not_in_chunks p.at (ap (is_misplaced p.at) (asked-code p m (ChunkGet handle number) is) ∙ tests_are_false (tests_of_form r p m) form 5)
+
+above : (a b : ℕ) → b ≤ a → nat_lt a b ≡ false
+above a b h = grind (arith, nat_tests)
+
+small_by : (known : Bool) (transfer round : ℕ) (n : ℕ) → (known ≡ true → round + n ≤ transfer) → (known && nat_lt transfer (round + n)) ≡ false
+small_by true transfer round n h = above transfer (round + n) (h refl)
+small_by false transfer round n h = refl
+
+known_sized : (phase : Phase) (common : Common) → IsSettled phase common → sizes_are_known phase ≡ true → IsSized common
+known_sized Fresh common settled known = absurd (false≢true known)
+known_sized Versioned common settled known = absurd (false≢true known)
+known_sized Capable common settled known = settled
+known_sized Negotiated common settled known = settled
+
+-- A chunk of a large answer does not go by chunks itself.
+pub get_small : (r : RspSetup) (p : Place) (m : List ℕ) (f : Free) (handle number : ℕ) (answer : List ℕ) (t : Turn) → IsSettledAt p → IsTaking r p m f (ChunkGet handle number) answer t → goes_large p answer ≡ false
+get_small r p m f handle number answer t settled taking =
+    small_by (sizes_are_known p.phase) transfer (bytes_round p.at) (length answer) (λ known.
+    let sized = known_sized p.phase (place_terms p).common settled.settled known in
+    let least = sized.least in
+    let fits = chunk_fits transfer handle (unwrap_or (pending_of transfer p.turns) []) number (omega arith) in
+    let round = get_round r p m handle number taking.form taking.asked_is in
+    let long = ap length (taking.answer_is ∙ answer_is r p m f (ChunkGet handle number) taking.asked_is) in
+    omega arith)
+  where
+    transfer : ℕ
+    transfer = (place_terms p).common.to_requester.transfer
+
+pub code_small : (r : RspSetup) (p : Place) (m : List ℕ) (f : Free) (asked : RequestMessage) (answer : List ℕ) (t : Turn) → code_for asked ≡ CHUNK_GET → IsSettledAt p → IsTaking r p m f asked answer t → goes_large p answer ≡ false
+code_small r p m f (ChunkGet handle number) answer t code settled taking = get_small r p m f handle number answer t settled taking
+code_small r p m f _ answer t code settled taking = absurd (omega arith)
+
+-- The turn takes a request of its code.
+pub takes_code : (r : RspSetup) (p : Place) (m : List ℕ) (f : Free) (asked : RequestMessage) (answer : List ℕ) (t : Turn) → IsTaking r p m f asked answer t → (code : ℕ) → takes code t ≡ (code_for asked == code)
+takes_code r p m f asked answer t taking code = ap (λ (e : Effect). code_in e == code) taking.effect
+
+pub handle_of_turn : (r : RspSetup) (p : Place) (m : List ℕ) (f : Free) (asked : RequestMessage) (answer : List ℕ) (t : Turn) → IsTaking r p m f asked answer t → goes_large p answer ≡ false → handle_in t.effect ≡ None
+handle_of_turn r p m f asked answer t taking small = ap handle_in taking.effect ∙ no_handle p f answer small
+
+-- Nor do VERSION and CAPABILITIES.
+round_few : (at : Where) → bytes_round at ≤ 6
+round_few InClear = omega arith
+round_few InChunks = omega arith
+round_few InSession = omega arith
+
+pub short_small : (p : Place) (answer : List ℕ) → IsSettledAt p → length answer ≤ 36 → goes_large p answer ≡ false
+short_small p answer settled short =
+    small_by (sizes_are_known p.phase) (place_terms p).common.to_requester.transfer (bytes_round p.at) (length answer) (λ known.
+    let sized = known_sized p.phase (place_terms p).common settled.settled known in
+    let least = sized.least in
+    let few = round_few p.at in
+    omega arith)
+
+pub version_small : (r : RspSetup) (p : Place) (m : List ℕ) (f : Free) (answer : List ℕ) (t : Turn) → IsSettledAt p → IsTaking r p m f GetVersion answer t → goes_large p answer ≡ false
+version_small r p m f answer t settled taking =
+    short_small p answer settled (subst (λ (a : List ℕ). length a ≤ 36) (sym (taking.answer_is ∙ answer_is r p m f GetVersion taking.asked_is)) (omega arith))
+
+pub caps_small : (r : RspSetup) (p : Place) (m : List ℕ) (f : Free) (caps : Caps) (answer : List ℕ) (t : Turn) → IsSettledAt p → IsTaking r p m f (GetCapabilities caps) answer t → goes_large p answer ≡ false
+caps_small r p m f caps answer t settled taking =
+    short_small p answer settled (subst (λ (a : List ℕ). length a ≤ 36) (sym (taking.answer_is ∙ answer_is r p m f (GetCapabilities caps) taking.asked_is)) (omega arith))

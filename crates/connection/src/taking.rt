@@ -1,0 +1,76 @@
+ghost use Rattle.std.specs.Prelude.{◌≡◌, ◌≤◌, ◌∷◌, ℕ, List, length};
+ghost use Rattle.responder_machine.specs.Answer.{Free};
+ghost use Rattle.responder_machine.specs.Place as places;
+ghost use Rattle.responder_machine.specs.Place.{place_terms};
+ghost use Rattle.responder_machine.specs.Setup.{RspSetup};
+ghost use Rattle.responder_machine.specs.Turn.{Turn};
+ghost use Rattle.request_rules.specs.LargeAnswer as large_answers;
+ghost use Rattle.request_rules.specs.Place.{IsPlace, where_of};
+ghost use Rattle.spdm_grammar.specs.Message.{request_message};
+ghost use Rattle.spdm_grammar.specs.declared.names.TheConstants.{MAX_MESSAGE_SIZE};
+ghost use Rattle.connection.specs.Negotiating as negotiations;
+ghost use Rattle.connection.specs.Setup.{IsSetUp};
+ghost use Rattle.connection.specs.Standing.{IsSettledAt, StandsFor, place_at};
+ghost use Rattle.connection.specs.Taking.{IsTaking};
+
+use crate::contents::{choice_of, code_of, common_with};
+use crate::{Negotiating, Setup, Standing};
+use request_rules::{LargeAnswer, Place};
+use spdm_grammar::Request;
+use spdm_grammar::names::request_code::CHUNK_GET;
+
+// A request was taken: the negotiation goes on where it is one of its three.
+fn settle(
+    negotiating: &mut Negotiating,
+    setup: &Setup<'_>,
+    request: &Request<'_>,
+    message: &[u8],
+    answer: &[u8],
+)
+    ensures { (r : RspSetup) (p : places.Place) (f : Free) (turns : List Turn) (t : Turn)
+        → IsSetUp setup.now r → negotiations.StandsFor negotiating.old turns
+        → p.phase ≡ negotiating.old.phase
+        → IsTaking r p message.now f (request_message request.now) answer.now t
+        → negotiations.StandsFor negotiating.new (t ∷ turns) }
+{
+    match request {
+        Request::GetVersion => negotiating.take_version(message, answer),
+        Request::GetCapabilities(caps) => {
+            if let Some(common) = common_with(setup, caps) {
+                negotiating.take_capabilities(message, answer, common);
+            }
+        }
+        Request::NegotiateAlgorithms(offer) => {
+            if let Some(choice) = choice_of(setup, offer) {
+                negotiating.take_algorithms(message, answer, choice);
+            }
+        }
+        _ => {}
+    }
+}
+
+// A request was taken: CHUNK_GET goes on in the large answer; any other drops it, and begins one where its own
+// answer goes by chunks.
+fn settle_large(
+    large: &mut LargeAnswer,
+    place: &Place,
+    request: &Request<'_>,
+    answer: &[u8],
+    handle: u8,
+)
+    requires { length answer.now ≤ MAX_MESSAGE_SIZE }
+    ensures { (r : RspSetup) (p : places.Place) (m : List ℕ) (f : Free) (t : Turn)
+        → IsPlace place.now p → f.handle ≡ handle → IsSettledAt p
+        → large_answers.StandsFor large.old (place_terms p).common.to_requester.transfer p.turns
+        → IsTaking r p m f (request_message request.now) answer.now t
+        → large_answers.StandsFor large.new (place_terms p).common.to_requester.transfer
+        (t ∷ p.turns) }
+{
+    if code_of(request) == CHUNK_GET {
+        large.advance();
+    } else if place.goes_large(answer.len()) {
+        large.begin(answer, place.common.to_requester.transfer, handle);
+    } else {
+        large.clear();
+    }
+}
