@@ -84,7 +84,7 @@ capabilities_keep : (n : Negotiation) (request answer : List ℕ) → (terms_of 
 unfolding terms_of
 capabilities_keep n request answer = refl
 
-algorithms_keep : (n : Negotiation) (request answer : List ℕ) → (terms_of (record n { negotiate_algorithms = request; algorithms = answer })).common ≡ (terms_of n).common
+pub algorithms_keep : (n : Negotiation) (request answer : List ℕ) → (terms_of (record n { negotiate_algorithms = request; algorithms = answer })).common ≡ (terms_of n).common
 unfolding terms_of
 algorithms_keep n request answer = refl
 

@@ -18,14 +18,20 @@ use Rattle.responder_machine.specs.Place.{Place, Where, place_terms}
 use Rattle.responder_machine.specs.Place.Where.{InChunks, InClear, InSession}
 use Rattle.responder_machine.specs.Refusal.{are_caps_refused, bytes_round, code_of, has_pending, is_misplaced, is_offer_refused, phase_allows, refused_form, sizes_are_known, tests_of_form}
 use Rattle.responder_machine.specs.Setup.{RspSetup, policy_of, responder_caps}
-use Rattle.responder_machine.specs.Turn.{Effect, Turn, code_in, handle_in, is_taken, large_in, takes}
+use Rattle.responder_machine.specs.Turn.{Effect, Turn, answer_in, code_in, handle_in, is_taken, large_in, request_in, takes}
+use Rattle.responder_machine.specs.Turn.Effect.{NoEffect}
+use Rattle.std.specs.Option.{option_map}
+use Rattle.spdm_machine.specs.Terms.{terms_of}
+use Rattle.transcript.specs.Transcripts.{Negotiation}
+use Rattle.connection.proofs.Reached.{algorithms_keep, unmoved}
+use Rattle.connection.specs.Negotiating as negotiating
 use Rattle.std.specs.Result.{result_ok}
 use Rattle.spdm_grammar.specs.Codes.{code_for}
 use Rattle.spdm_grammar.specs.Message.{OfferMessage, RequestMessage}
 use Rattle.spdm_grammar.specs.Message.RequestMessage.{ChunkGet, GetCapabilities, GetVersion, NegotiateAlgorithms}
 use Rattle.spdm_grammar.specs.declared.capabilities.Caps.{Caps}
 use Rattle.spdm_grammar.specs.declared.choice.Choice.{Choice}
-use Rattle.spdm_grammar.specs.declared.names.request_code.TheConstants.{CHUNK_GET, GET_CAPABILITIES, NEGOTIATE_ALGORITHMS}
+use Rattle.spdm_grammar.specs.declared.names.request_code.TheConstants.{CHUNK_GET, GET_CAPABILITIES, GET_VERSION, NEGOTIATE_ALGORITHMS}
 use Rattle.spdm_grammar.specs.declared.phase.Phase.{Phase}
 use Rattle.spdm_grammar.specs.declared.phase.Phase.TheVariants.{Capable, Fresh, Negotiated, Versioned}
 use Rattle.connection.proofs.AnswerLengths.{chunk_fits}
@@ -147,3 +153,61 @@ version_small r p m f answer t settled taking =
 pub caps_small : (r : RspSetup) (p : Place) (m : List ℕ) (f : Free) (caps : Caps) (answer : List ℕ) (t : Turn) → IsSettledAt p → IsTaking r p m f (GetCapabilities caps) answer t → goes_large p answer ≡ false
 caps_small r p m f caps answer t settled taking =
     short_small p answer settled (subst (λ (a : List ℕ). length a ≤ 36) (sym (taking.answer_is ∙ answer_is r p m f (GetCapabilities caps) taking.asked_is)) (omega arith))
+
+-- ---- Both parts.
+
+-- Where no answer went by chunks the transfer size does not matter.
+any_transfer : (large : large_answer.Seen) (a b : ℕ) (turns : List Turn) → large_of turns ≡ None → large_answer.StandsFor large a turns → large_answer.StandsFor large b turns
+any_transfer large a b turns none stands = record {
+  left = stands.left ∙ ap (large_answer.left_by a turns) none ∙ ap (large_answer.left_by b turns) (sym none);
+  next = stands.next;
+}
+
+either_none : {A : Type 0} (taken gets : Bool) (older own : Option A) → taken ≡ true → gets ≡ false → own ≡ None → (if not taken || gets then older else own) ≡ None
+either_none taken gets older own x y z = rw (x, y) z
+
+none_large : (turns : List Turn) (t : Turn) → is_taken t ≡ true → takes CHUNK_GET t ≡ false → large_in t.effect ≡ None → large_of (t ∷ turns) ≡ None
+none_large turns t taken other none = either_none (is_taken t) (takes CHUNK_GET t) (large_of turns) (large_in t.effect) taken other none
+
+-- What both ends can do stands but for two requests.
+common_kept : (turns : List Turn) (t : Turn) → takes GET_VERSION t ≡ false → takes GET_CAPABILITIES t ≡ false → (terms_of (negotiation_of (t ∷ turns))).common ≡ (terms_of (negotiation_of turns)).common
+common_kept turns t version capabilities = ap (λ (n : Negotiation). (terms_of n).common) (rest (takes GET_VERSION t) (takes GET_CAPABILITIES t) _ _ _ version capabilities) ∙ by_third (takes NEGOTIATE_ALGORITHMS t)
+  where
+    rest : {A : Type 0} (a b : Bool) (x y z : A) → a ≡ false → b ≡ false → (if a then x else (if b then y else z)) ≡ z
+    rest a b x y z e f = rw (e, f) refl
+
+    by_third : (c : Bool) → (terms_of (if c then record (negotiation_of turns) { negotiate_algorithms = request_in t.effect; algorithms = answer_in t.effect } else negotiation_of turns)).common ≡ (terms_of (negotiation_of turns)).common
+    by_third true = algorithms_keep (negotiation_of turns) (request_in t.effect) (answer_in t.effect)
+    by_third false = refl
+
+-- The large answer goes on in the transfer size that stands after the turn.
+abbrev pub IsMoved : (old new : negotiating.Seen) (large : large_answer.Seen) (turns : List Turn) (t : Turn) → Type 0
+IsMoved old new large turns t = negotiating.StandsFor old turns → negotiating.StandsFor new (t ∷ turns)
+    → large_answer.StandsFor large (terms_of (negotiation_of turns)).common.to_requester.transfer (t ∷ turns) → large_answer.StandsFor large new.common.to_requester.transfer (t ∷ turns)
+
+moved_same : (old new : negotiating.Seen) (large : large_answer.Seen) (turns : List Turn) (t : Turn) → takes GET_VERSION t ≡ false → takes GET_CAPABILITIES t ≡ false → IsMoved old new large turns t
+moved_same old new large turns t version capabilities stood stands goes =
+    subst (λ (c : Common). large_answer.StandsFor large c.to_requester.transfer (t ∷ turns)) (sym (common_kept turns t version capabilities) ∙ stands.common) goes
+
+moved_anew : (old new : negotiating.Seen) (large : large_answer.Seen) (turns : List Turn) (t : Turn) → large_of (t ∷ turns) ≡ None → IsMoved old new large turns t
+moved_anew old new large turns t none stood stands goes = any_transfer large (terms_of (negotiation_of turns)).common.to_requester.transfer new.common.to_requester.transfer (t ∷ turns) none goes
+
+pub moved : (r : RspSetup) (p : Place) (m : List ℕ) (f : Free) (asked : RequestMessage) (answer : List ℕ) (old new : negotiating.Seen) (large : large_answer.Seen) (turns : List Turn) (t : Turn)
+    → IsSettledAt p → IsTaking r p m f asked answer t → IsMoved old new large turns t
+moved r p m f GetVersion answer old new large turns t settled taking =
+    let small = no_handle p f answer (version_small r p m f answer t settled taking) in
+    moved_anew old new large turns t (none_large turns t taking.taken (takes_code r p m f GetVersion answer t taking CHUNK_GET) (ap large_in taking.effect ∙ ap (λ (o : Option ℕ). option_map (λ handle. answer) o) small))
+moved r p m f (GetCapabilities caps) answer old new large turns t settled taking =
+    let small = no_handle p f answer (caps_small r p m f caps answer t settled taking) in
+    moved_anew old new large turns t (none_large turns t taking.taken (takes_code r p m f (GetCapabilities caps) answer t taking CHUNK_GET) (ap large_in taking.effect ∙ ap (λ (o : Option ℕ). option_map (λ handle. answer) o) small))
+moved r p m f asked answer old new large turns t settled taking =
+    moved_same old new large turns t (takes_code r p m f asked answer t taking GET_VERSION) (takes_code r p m f asked answer t taking GET_CAPABILITIES)
+
+pub moved_nothing : (old : negotiating.Seen) (large : large_answer.Seen) (turns : List Turn) (t : Turn) → t.effect ≡ NoEffect → IsMoved old old large turns t
+moved_nothing old large turns t nothing =
+    moved_same old old large turns t (ap (λ (e : Effect). code_in e == GET_VERSION) nothing) (ap (λ (e : Effect). code_in e == GET_CAPABILITIES) nothing)
+
+-- A turn without effect leaves the negotiation as it was.
+pub nothing_unmoved : (seen : negotiating.Seen) (turns : List Turn) (t : Turn) → negotiating.StandsFor seen turns → t.effect ≡ NoEffect → negotiating.StandsFor seen (t ∷ turns)
+nothing_unmoved seen turns t stands nothing =
+    unmoved seen turns t stands (ap (λ (e : Effect). code_in e == GET_VERSION) nothing) (ap (λ (e : Effect). code_in e == GET_CAPABILITIES) nothing) (ap (λ (e : Effect). code_in e == NEGOTIATE_ALGORITHMS) nothing)

@@ -6,3 +6,4 @@ pub mod Standing
 pub mod Answering
 pub mod Refused
 pub mod Taking
+pub mod Gathering

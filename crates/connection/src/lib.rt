@@ -7,6 +7,7 @@ mod answers;
 mod contents;
 mod exchange;
 mod free_values;
+mod gathering;
 mod negotiating;
 mod refused;
 mod setup;

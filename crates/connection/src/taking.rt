@@ -1,9 +1,10 @@
-ghost use Rattle.std.specs.Prelude.{◌≡◌, ◌≤◌, ◌∷◌, ℕ, List, length};
+ghost use Rattle.std.specs.Prelude.{◌≡◌, ◌≤◌, ◌∷◌, true, ℕ, List, length};
 ghost use Rattle.responder_machine.specs.Answer.{Free};
 ghost use Rattle.responder_machine.specs.Place as places;
 ghost use Rattle.responder_machine.specs.Place.{place_terms};
 ghost use Rattle.responder_machine.specs.Setup.{RspSetup};
-ghost use Rattle.responder_machine.specs.Turn.{Turn};
+ghost use Rattle.responder_machine.specs.Turn.{Turn, is_taken};
+ghost use Rattle.responder_machine.specs.Turn.Effect.{NoEffect};
 ghost use Rattle.request_rules.specs.LargeAnswer as large_answers;
 ghost use Rattle.request_rules.specs.Place.{IsPlace, where_of};
 ghost use Rattle.spdm_grammar.specs.Message.{request_message};
@@ -72,5 +73,38 @@ fn settle_large(
         large.begin(answer, place.common.to_requester.transfer, handle);
     } else {
         large.clear();
+    }
+}
+
+impl Standing {
+    /// A request was taken at this place, with this whole answer of at most 4,096 bytes. Where that goes by
+    /// chunks it has this handle.
+    pub fn take(
+        &mut self,
+        place: &Place,
+        setup: &Setup<'_>,
+        request: &Request<'_>,
+        message: &[u8],
+        answer: &[u8],
+        handle: u8,
+    )
+        requires { length answer.now ≤ MAX_MESSAGE_SIZE }
+        ensures { (r : RspSetup) (turns : List Turn) (held : ℕ) (f : Free) (t : Turn)
+            → IsSetUp setup.now r → f.handle ≡ handle → StandsFor self.old turns
+            → IsPlace place.now (place_at (where_of place.now.at) turns held)
+            → IsTaking r (place_at (where_of place.now.at) turns held) message.now f
+            (request_message request.now) answer.now t
+            → StandsFor self.new (t ∷ turns) }
+    {
+        settle(&mut self.negotiating, setup, request, message, answer);
+        settle_large(&mut self.large, place, request, answer, handle);
+    }
+
+    /// A chunk of a large request was taken, and no request with it: it drops the pending large answer.
+    pub fn take_nothing(&mut self)
+        ensures { (turns : List Turn) (t : Turn) → StandsFor self.old turns → is_taken t ≡ true
+            → t.effect ≡ NoEffect → StandsFor self.new (t ∷ turns) }
+    {
+        self.large.clear();
     }
 }
