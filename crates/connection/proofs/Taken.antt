@@ -11,15 +11,15 @@ use Rattle.request_rules.specs.LargeAnswer as large_answer
 use Rattle.responder_machine.proofs.Codes.{asked-code}
 use Rattle.responder_machine.proofs.Tests.{contents_shown, tests_are_false}
 use Rattle.responder_machine.specs.Answer.{Free, answer_bytes, request_at}
-use Rattle.responder_machine.specs.Handling.{goes_large, handle_for}
+use Rattle.responder_machine.specs.Handling.{chunk_in, effect_of, goes_large, handle_for, request_effect}
 use Rattle.responder_machine.specs.History.{negotiation_of, phase_of}
 use Rattle.responder_machine.specs.LargeMessages.{large_of, pending_of}
 use Rattle.responder_machine.specs.Place.{Place, Where, place_terms}
 use Rattle.responder_machine.specs.Place.Where.{InChunks, InClear, InSession}
-use Rattle.responder_machine.specs.Refusal.{are_caps_refused, bytes_round, code_of, has_pending, is_misplaced, is_offer_refused, phase_allows, refused_form, sizes_are_known, tests_of_form}
+use Rattle.responder_machine.specs.Refusal.{are_caps_refused, bytes_round, chunk_fault, code_of, has_pending, is_misplaced, is_offer_refused, limit_of, phase_allows, refused_form, sizes_are_known, tests_of_form}
 use Rattle.responder_machine.specs.Setup.{RspSetup, policy_of, responder_caps}
 use Rattle.responder_machine.specs.Turn.{Effect, Turn, answer_in, code_in, handle_in, is_taken, large_in, request_in, takes}
-use Rattle.responder_machine.specs.Turn.Effect.{NoEffect}
+use Rattle.responder_machine.specs.Turn.Effect.{NoEffect, Took}
 use Rattle.std.specs.Option.{option_map}
 use Rattle.spdm_machine.specs.Terms.{terms_of}
 use Rattle.transcript.specs.Transcripts.{Negotiation}
@@ -27,7 +27,7 @@ use Rattle.connection.proofs.Reached.{algorithms_keep, unmoved}
 use Rattle.connection.specs.Negotiating as negotiating
 use Rattle.std.specs.Result.{result_ok}
 use Rattle.spdm_grammar.specs.Codes.{code_for}
-use Rattle.spdm_grammar.specs.Message.{OfferMessage, RequestMessage}
+use Rattle.spdm_grammar.specs.Message.{OfferMessage, RequestMessage, request_message}
 use Rattle.spdm_grammar.specs.Message.RequestMessage.{ChunkGet, GetCapabilities, GetVersion, NegotiateAlgorithms}
 use Rattle.spdm_grammar.specs.declared.capabilities.Caps.{Caps}
 use Rattle.spdm_grammar.specs.declared.choice.Choice.{Choice}
@@ -38,6 +38,13 @@ use Rattle.connection.proofs.AnswerLengths.{chunk_fits}
 use Rattle.connection.proofs.Lengths.{answer_is}
 use Rattle.connection.proofs.Table.{pending_for, phase_allowed}
 use Rattle.connection.specs.Negotiating.{IsSettled, IsSized}
+use Rattle.connection.specs.Answering.{is_made_here}
+use Rattle.connection.specs.Refused.{IsClear, chunk_refusal}
+use Rattle.spdm_grammar.specs.declared.ChunkView.{ChunkView}
+use Rattle.spdm_grammar.specs.declared.exchange.Exchange.{Exchange}
+use Rattle.spdm_grammar.specs.declared.request.Request.{Request}
+use Rattle.spdm_grammar.specs.declared.request.Request.TheVariants as asked
+use Rattle.spdm_grammar.specs.declared.names.TheConstants.{MAX_MESSAGE_SIZE}
 use Rattle.connection.specs.Standing.{IsSettledAt}
 use Rattle.connection.specs.Taking.{IsTaking}
 
@@ -211,3 +218,39 @@ moved_nothing old large turns t nothing =
 pub nothing_unmoved : (seen : negotiating.Seen) (turns : List Turn) (t : Turn) → negotiating.StandsFor seen turns → t.effect ≡ NoEffect → negotiating.StandsFor seen (t ∷ turns)
 nothing_unmoved seen turns t stands nothing =
     unmoved seen turns t stands (ap (λ (e : Effect). code_in e == GET_VERSION) nothing) (ap (λ (e : Effect). code_in e == GET_CAPABILITIES) nothing) (ap (λ (e : Effect). code_in e == NEGOTIATE_ALGORITHMS) nothing)
+
+-- ---- A request that is answered.
+
+-- A message is no longer than what its place takes.
+limit_few : (r : RspSetup) (at : Where) → IsClear at → r.transfer ≤ r.max → r.max ≤ MAX_MESSAGE_SIZE → limit_of r at ≤ MAX_MESSAGE_SIZE
+limit_few r InClear clear ordered most = omega arith
+limit_few r InChunks clear ordered most = omega arith
+limit_few r InSession clear ordered most = absurd clear
+
+not_longer : (a b : ℕ) → nat_lt a b ≡ false → b ≤ a
+not_longer a b h = grind (arith, nat_tests)
+
+pub message_short : (r : RspSetup) (p : Place) (m : List ℕ) → IsClear p.at → r.transfer ≤ r.max → r.max ≤ MAX_MESSAGE_SIZE → refused_form r p m ≡ None → length m ≤ MAX_MESSAGE_SIZE
+unfolding refused_form
+message_short r p m clear ordered most form =
+    let few = limit_few r p.at clear ordered most in
+    let within = not_longer (limit_of r p.at) (length m) (tests_are_false (tests_of_form r p m) form 1) in
+    omega arith
+
+-- The effect of a request with its answer.
+pub effect_is : (r : RspSetup) (p : Place) (m : List ℕ) (f : Free) (asked : RequestMessage) (answer : List ℕ) → request_at p m ≡ Some asked → answer ≡ answer_bytes r p m f
+    → request_effect r p m f ≡ Took asked m answer (handle_for p f answer)
+effect_is r p m f asked answer is answered =
+    ap (λ (q : Option RequestMessage). effect_of q m (answer_bytes r p m f) (handle_for p f (answer_bytes r p m f))) is
+    ∙ ap (λ (a : List ℕ). Took asked m a (handle_for p f a)) (sym answered)
+
+-- What holds of a request that is neither a chunk nor begins a session.
+pub record IsPlain (asked : RequestMessage) : Type 0 where
+  pub here : is_made_here asked ≡ true
+  pub no_chunk : chunk_in (Some asked) ≡ None
+  pub no_fault : (r : RspSetup) (p : Place) → chunk_refusal (chunk_fault r p (Some asked)) ≡ None
+
+pub plain_is : (request : Request) → ((chunk : ChunkView) → request ≡ asked.ChunkSend chunk → ⊥) → ((exchange : Exchange) → request ≡ asked.PskExchange exchange → ⊥) → IsPlain (request_message request)
+plain_is (asked.ChunkSend chunk) no_chunk no_exchange = absurd (no_chunk chunk refl)
+plain_is (asked.PskExchange exchange) no_chunk no_exchange = absurd (no_exchange exchange refl)
+plain_is _ no_chunk no_exchange = record { here = refl; no_chunk = refl; no_fault = λ r p. refl }

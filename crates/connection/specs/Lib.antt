@@ -7,3 +7,4 @@ pub mod Answering
 pub mod Refused
 pub mod Taking
 pub mod Gathering
+pub mod Handled

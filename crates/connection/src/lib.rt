@@ -8,6 +8,8 @@ mod contents;
 mod exchange;
 mod free_values;
 mod gathering;
+mod handled;
+mod handling;
 mod negotiating;
 mod refused;
 mod setup;
@@ -16,6 +18,7 @@ mod taking;
 mod tested;
 
 pub use free_values::FreeValues;
+pub use handled::Handled;
 pub use negotiating::Negotiating;
 pub use refused::Refused;
 pub use setup::Setup;
