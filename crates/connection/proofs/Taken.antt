@@ -44,7 +44,8 @@ use Rattle.spdm_grammar.specs.declared.ChunkView.{ChunkView}
 use Rattle.spdm_grammar.specs.declared.exchange.Exchange.{Exchange}
 use Rattle.spdm_grammar.specs.declared.request.Request.{Request}
 use Rattle.spdm_grammar.specs.declared.request.Request.TheVariants as asked
-use Rattle.spdm_grammar.specs.declared.names.TheConstants.{MAX_MESSAGE_SIZE}
+use Rattle.spdm_grammar.specs.declared.names.TheConstants.{MAX_MESSAGE_SIZE, MIN_DATA_TRANSFER_SIZE}
+use Rattle.spdm_basis.proofs.Bools.{and_first, and_second}
 use Rattle.connection.specs.Standing.{IsSettledAt}
 use Rattle.connection.specs.Taking.{IsTaking}
 
@@ -160,6 +161,15 @@ version_small r p m f answer t settled taking =
 pub caps_small : (r : RspSetup) (p : Place) (m : List ℕ) (f : Free) (caps : Caps) (answer : List ℕ) (t : Turn) → IsSettledAt p → IsTaking r p m f (GetCapabilities caps) answer t → goes_large p answer ≡ false
 caps_small r p m f caps answer t settled taking =
     short_small p answer settled (subst (λ (a : List ℕ). length a ≤ 36) (sym (taking.answer_is ∙ answer_is r p m f (GetCapabilities caps) taking.asked_is)) (omega arith))
+
+-- An answer that goes by chunks is long for a transfer size of 42 at least.
+pub large_sized : (p : Place) (answer : List ℕ) → IsSettledAt p → goes_large p answer ≡ true
+    → (MIN_DATA_TRANSFER_SIZE ≤ (place_terms p).common.to_requester.transfer) × ((place_terms p).common.to_requester.transfer < length answer + 16)
+large_sized p answer settled large =
+    let sized = known_sized p.phase (place_terms p).common settled.settled (and_first (sizes_are_known p.phase) _ large) in
+    let few = round_few p.at in
+    let long = ltb-true (place_terms p).common.to_requester.transfer (bytes_round p.at + length answer) (and_second (sizes_are_known p.phase) _ large) in
+    (sized.least, omega arith)
 
 -- ---- Both parts.
 

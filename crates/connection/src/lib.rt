@@ -10,6 +10,7 @@ mod free_values;
 mod gathering;
 mod handled;
 mod handling;
+mod kept;
 mod negotiating;
 mod refused;
 mod setup;
@@ -19,6 +20,7 @@ mod tested;
 
 pub use free_values::FreeValues;
 pub use handled::Handled;
+pub use kept::KeptReply;
 pub use negotiating::Negotiating;
 pub use refused::Refused;
 pub use setup::Setup;

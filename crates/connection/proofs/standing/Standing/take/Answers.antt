@@ -17,7 +17,7 @@ returns c = λ r turns held f t setup handle stands place taking.
     let stood = subst (λ (s : Seen). StandsFor s turns) same stands in
     let settled = settled_at before (where_of c.args.place.now.at) turns held stood in
     let negotiates = c.settle.ensures r p f turns t setup stood.negotiating stood.negotiating.phase taking in
-    let goes = c.settle_large.ensures r p m f t place handle settled (large_at before (where_of c.args.place.now.at) turns held stood) taking in
+    let goes = c.settle_large.ensures r p m f asked t place handle settled c.code_of.ensures (large_at before (where_of c.args.place.now.at) turns held stood) taking in
     record {
       negotiating = negotiates;
       large = moved r p m f asked c.args.answer.now before.negotiating c.settle.new.negotiating c.settle_large.new.large turns t settled taking stood.negotiating negotiates goes;
