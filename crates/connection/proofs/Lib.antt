@@ -4,3 +4,4 @@ pub mod AnswerLengths
 pub mod Table
 pub mod Passing
 pub mod Taken
+pub mod Chunked

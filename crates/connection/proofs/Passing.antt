@@ -61,7 +61,7 @@ pub record IsKnownAt (p : Place) : Type 0 where
   pub known : sizes_are_known p.phase ≡ true
   pub sized : IsSized (place_terms p).common
 
-chunk_send_known : (phase : Phase) (common : Common) (pending : Bool) → IsSettled phase common → phase_allows phase pending CHUNK_SEND ≡ true → (sizes_are_known phase ≡ true) × IsSized common
+pub chunk_send_known : (phase : Phase) (common : Common) (pending : Bool) → IsSettled phase common → phase_allows phase pending CHUNK_SEND ≡ true → (sizes_are_known phase ≡ true) × IsSized common
 chunk_send_known Fresh common pending settled allowed = absurd (false≢true allowed)
 chunk_send_known Versioned common pending settled allowed = absurd (false≢true allowed)
 chunk_send_known Capable common pending settled allowed = (refl, settled)

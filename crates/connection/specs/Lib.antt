@@ -8,3 +8,4 @@ pub mod Refused
 pub mod Taking
 pub mod Gathering
 pub mod Handled
+pub mod Coming

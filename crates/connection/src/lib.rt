@@ -4,6 +4,7 @@
 
 mod answering;
 mod answers;
+mod came;
 mod contents;
 mod exchange;
 mod free_values;
@@ -13,15 +14,18 @@ mod handling;
 mod kept;
 mod negotiating;
 mod refused;
+mod requests;
 mod setup;
 mod standing;
 mod taking;
 mod tested;
 
+pub use came::{Begun, Came};
 pub use free_values::FreeValues;
 pub use handled::Handled;
 pub use kept::KeptReply;
 pub use negotiating::Negotiating;
 pub use refused::Refused;
+pub use requests::Requests;
 pub use setup::Setup;
 pub use standing::Standing;
