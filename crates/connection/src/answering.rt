@@ -61,7 +61,7 @@ impl Standing {
             }
             Request::PskExchange(exchange) => return exchange_rsp_len(place, exchange, free),
             Request::ChunkSend(chunk) => {
-                write_acknowledgement(*chunk, &[], out);
+                write_acknowledgement(chunk.handle, chunk.number, &[], out);
                 return EMPTY_ACK_LEN;
             }
             Request::ChunkGet { handle, number } => {

@@ -1,10 +1,9 @@
 ghost use Rattle.std.specs.Prelude.{◌≡◌, ◌≤◌, ◌<◌, ◌+◌, ◌^◌, [], Some, false, length, ℕ, List};
 ghost use Rattle.responder_machine.specs.Answer.{algorithms_answer, version_answer};
-ghost use Rattle.responder_machine.specs.Handling.{acknowledged};
 ghost use Rattle.responder_machine.specs.Setup.{RspSetup, responder_caps};
 ghost use Rattle.spdm_grammar.specs.Fields.{IsSoundChunk, large_bytes};
 ghost use Rattle.spdm_grammar.specs.Message.{chunk_message, offer_message};
-ghost use Rattle.spdm_grammar.specs.Message.ResponseMessage.{Capabilities, ChunkResponse};
+ghost use Rattle.spdm_grammar.specs.Message.ResponseMessage.{Capabilities, ChunkResponse, ChunkSendAck};
 ghost use Rattle.spdm_grammar.specs.Responses.{canonical_response};
 ghost use Rattle.spdm_grammar.specs.declared.names.TheConstants.{MAX_MESSAGE_SIZE};
 ghost use Rattle.connection.specs.Setup.{IsSetUp};
@@ -85,15 +84,16 @@ fn large_len(large: Option<u32>) -> usize
     }
 }
 
-/// CHUNK_SEND_ACK to a chunk, with a response in it; one that passes 4,096 bytes is not whole in `out`.
-pub fn write_acknowledgement(chunk: ChunkView<'_>, response: &[u8], out: &mut Frame)
+/// CHUNK_SEND_ACK to the chunk of this handle and number, with a response in it; one that passes 4,096 bytes
+/// is not whole in `out`.
+pub fn write_acknowledgement(handle: u8, number: u16, response: &[u8], out: &mut Frame)
     ensures { length response.now + 6 ≤ MAX_MESSAGE_SIZE
-        → out.new ≡ acknowledged (chunk_message chunk.entry) response.now }
+        → out.new ≡ canonical_response (ChunkSendAck false handle number response.now) }
 {
     let answer = Response::ChunkSendAck {
         early: false,
-        handle: chunk.handle,
-        number: chunk.number,
+        handle,
+        number,
         response,
     };
     let _ = write_response(&answer, 0, false, out);

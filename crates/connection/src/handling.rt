@@ -5,7 +5,9 @@ ghost use Rattle.responder_machine.specs.Place as places;
 ghost use Rattle.responder_machine.specs.Setup.{RspSetup};
 ghost use Rattle.responder_machine.specs.Turn.{Turn, is_taken};
 ghost use Rattle.request_rules.specs.Place.{IsPlace, where_of};
-ghost use Rattle.spdm_grammar.specs.Message.{request_message};
+ghost use Rattle.spdm_grammar.specs.Message.{ExchangeMessage, request_message};
+ghost use Rattle.spdm_grammar.specs.Message.RequestMessage.{PskExchange};
+ghost use Rattle.spdm_grammar.specs.declared.names.TheConstants.{MAX_MESSAGE_SIZE};
 ghost use Rattle.connection.specs.Free.{IsFree};
 ghost use Rattle.connection.specs.Handled.{IsHandled};
 ghost use Rattle.connection.specs.Refused.{IsClear, IsPassed};
@@ -27,6 +29,15 @@ pub fn send(place: &Place, handle: u8, out: &mut Frame)
     if place.goes_large(out.as_slice().len()) {
         write_large_response(handle, out);
     }
+}
+
+/// Writes these bytes, of which there are at most 4,096, in place of what `out` holds.
+pub fn replace(out: &mut Frame, bytes: &[u8])
+    requires { length bytes.now ≤ MAX_MESSAGE_SIZE }
+    ensures { out.new ≡ bytes.now }
+{
+    out.clear();
+    let _ = out.extend(bytes);
 }
 
 impl Standing {
@@ -86,5 +97,23 @@ impl Standing {
                 Handled::Answered
             }
         }
+    }
+
+    /// PSK_EXCHANGE was taken at a place, with this whole answer of at most 4,096 bytes. What is sent for it is
+    /// written in place of what `out` holds, with this handle where it goes by chunks.
+    pub fn begin(&mut self, at: Where, answer: &[u8], handle: u8, out: &mut Frame)
+        requires { length answer.now ≤ MAX_MESSAGE_SIZE }
+        ensures stands { (r : RspSetup) (turns : List Turn) (held : ℕ) (m : List ℕ) (f : Free)
+            (exchange : ExchangeMessage) (t : Turn) → f.handle ≡ handle → StandsFor self.old turns
+            → IsTaking r (place_at (where_of at) turns held) m f (PskExchange exchange) answer.now t
+            → StandsFor self.new (t ∷ turns) }
+        ensures sent { (turns : List Turn) (held : ℕ) (f : Free) → f.handle ≡ handle
+            → StandsFor self.old turns
+            → out.new ≡ sent_for (place_at (where_of at) turns held) f answer.now }
+    {
+        let place = self.place(at);
+        self.take_exchange(&place, answer, handle);
+        replace(out, answer);
+        send(&place, handle, out);
     }
 }

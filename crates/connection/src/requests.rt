@@ -11,6 +11,7 @@ ghost use Rattle.responder_machine.specs.Turn.{Turn};
 ghost use Rattle.spdm_grammar.specs.Message.{chunk_message};
 ghost use Rattle.spdm_grammar.specs.Message.RequestMessage.{ChunkSend};
 ghost use Rattle.spdm_grammar.specs.declared.names.TheConstants.{MAX_MESSAGE_SIZE};
+ghost use Rattle.connection.specs.declared.came.Came.TheVariants.{Answered};
 ghost use Rattle.connection.specs.Coming.{Completes, IsBegun, IsCome, IsTurned, StandsFor, exchange_bytes, exchange_place};
 ghost use Rattle.connection.specs.Free.{IsFree};
 ghost use Rattle.connection.specs.Refused.{chunk_refusal};
@@ -103,11 +104,11 @@ impl Requests {
         match self.standing.handle(Where::InChunks, setup, held, whole, free, &mut response) {
             Handled::Refused(_) => {
                 self.standing.take_nothing();
-                write_acknowledgement(chunk, response.as_slice(), out);
+                write_acknowledgement(chunk.handle, chunk.number, response.as_slice(), out);
                 Came::Answered
             }
             Handled::Answered => {
-                write_acknowledgement(chunk, response.as_slice(), out);
+                write_acknowledgement(chunk.handle, chunk.number, response.as_slice(), out);
                 Came::Answered
             }
             Handled::Exchange(_) => Came::Begins(Begun::InChunks {
@@ -147,7 +148,7 @@ impl Requests {
             }
             Gathered::More => {
                 self.standing.take_nothing();
-                write_acknowledgement(chunk, &[], out);
+                write_acknowledgement(chunk.handle, chunk.number, &[], out);
                 Came::Answered
             }
             Gathered::Whole => self.on_whole(setup, held, chunk, free, out),
@@ -177,6 +178,30 @@ impl Requests {
             }
             Handled::Exchange(_) => Came::Begins(Begun::InClear),
             Handled::Chunk(chunk) => self.on_chunk(setup, held, chunk, message, free, out),
+        }
+    }
+
+    /// Ends the turn of a PSK_EXCHANGE that begins a session, with PSK_EXCHANGE_RSP whole: what is sent for it
+    /// is written in place of what `out` holds, with this handle where it goes by chunks.
+    pub fn begin(&mut self, begun: Begun, answer: &[u8], handle: u8, out: &mut Frame)
+        requires { length answer.now ≤ MAX_MESSAGE_SIZE }
+        ensures { (r : RspSetup) (turns : List Turn) (held : ℕ) (m : List ℕ) (f : Free)
+            → f.handle ≡ handle → r.transfer ≤ r.max → r.max ≤ MAX_MESSAGE_SIZE
+            → IsBegun r (place_at InClear turns held) m f begun self.old
+            → answer.now ≡ answer_bytes r (exchange_place begun (place_at InClear turns held))
+            (exchange_bytes begun m self.old) f
+            → IsCome r (place_at InClear turns held) m f Answered self.new out.new }
+    {
+        match begun {
+            Begun::InClear => {
+                self.standing.begin(Where::InClear, answer, handle, out);
+                self.collector.clear();
+            }
+            Begun::InChunks { handle: of_chunk, number } => {
+                let mut response = Frame::new();
+                self.standing.begin(Where::InChunks, answer, handle, &mut response);
+                write_acknowledgement(of_chunk, number, response.as_slice(), out);
+            }
         }
     }
 }
