@@ -5,3 +5,4 @@ pub mod Table
 pub mod Passing
 pub mod Taken
 pub mod Chunked
+pub mod Whole

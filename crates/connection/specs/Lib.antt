@@ -9,3 +9,4 @@ pub mod Taking
 pub mod Gathering
 pub mod Handled
 pub mod Coming
+pub mod ClearPart

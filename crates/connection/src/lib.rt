@@ -5,6 +5,7 @@
 mod answering;
 mod answers;
 mod came;
+mod clear_part;
 mod contents;
 mod exchange;
 mod free_values;
@@ -18,9 +19,11 @@ mod requests;
 mod setup;
 mod standing;
 mod taking;
+mod told;
 mod tested;
 
 pub use came::{Begun, Came};
+pub use clear_part::ClearPart;
 pub use free_values::FreeValues;
 pub use handled::Handled;
 pub use kept::KeptReply;
@@ -29,3 +32,4 @@ pub use refused::Refused;
 pub use requests::Requests;
 pub use setup::Setup;
 pub use standing::Standing;
+pub use told::Told;
