@@ -4,6 +4,7 @@
 
 mod answering;
 mod answers;
+mod beginning;
 mod came;
 mod clear_part;
 mod contents;
@@ -13,6 +14,7 @@ mod gathering;
 mod handled;
 mod handling;
 mod kept;
+mod laws;
 mod negotiating;
 mod refused;
 mod requests;
@@ -27,6 +29,7 @@ pub use clear_part::ClearPart;
 pub use free_values::FreeValues;
 pub use handled::Handled;
 pub use kept::KeptReply;
+pub use laws::others_keep_the_clear_part;
 pub use negotiating::Negotiating;
 pub use refused::Refused;
 pub use requests::Requests;
