@@ -1,0 +1,83 @@
+-- How long answers are, told without their bytes.
+use Rattle.std.proofs.Common.{refl, ◌∙◌, ◌≡◌, ◌≤◌, ◌+◌, ◌-◌, ◌*◌, ◌<◌, ◌^◌, ℕ, zero, suc, List, [], ◌∷◌, ◌++◌, true, false, Bool, Option, Some, None, length, min, slice_range, ap, sym, subst, arith}
+use Rattle.std.proofs.lemmas.Bool.Decides.{nat_tests}
+use Rattle.std.proofs.lemmas.List.{length-append, length-replicate, length-drop, length-take}
+use Rattle.std.specs.Prelude.{if◌then◌else◌, ◌==◌, ◌||◌, is_some, unwrap_or}
+use Rattle.chunking.specs.Cutting.{chunk_end, chunk_start, nth_chunk, unit_of}
+use Rattle.key_schedule.specs.declared.direction.Direction.TheVariants as direction
+use Rattle.measurements.specs.Summaries.{hash_of_blocks, summarized, summary_of}
+use Rattle.responder_machine.proofs.VerifyLength.{length_digest, length_verify}
+use Rattle.responder_machine.specs.Answer.{Free, exchange_answer, summary_answer, t1_with}
+use Rattle.responder_machine.specs.Place.{Place, place_terms}
+use Rattle.responder_machine.specs.Setup.{RspSetup, inventory_of}
+use Rattle.running_hash.specs.Hash.{hash_of}
+use Rattle.spdm_basis.specs.Sizes.{hash_size}
+use Rattle.spdm_basis.specs.declared.hash_alg.HashAlg.{HashAlg}
+use Rattle.spdm_grammar.specs.Fields.{IsSoundChunk, large_bytes}
+use Rattle.spdm_grammar.specs.Message.{ChunkMessage, ExchangeMessage}
+use Rattle.spdm_grammar.specs.Message.ResponseMessage.{ChunkResponse}
+use Rattle.spdm_grammar.specs.Responses.{canonical_response}
+use Rattle.spdm_grammar.specs.declared.block_spec.BlockSpec.{BlockSpec}
+
+-- A summary is as long as the hash.
+summary_long : (hash : HashAlg) (blocks : List BlockSpec) → length (hash_of_blocks (hash_of hash) blocks) ≡ hash_size hash
+summary_long hash [] = length-replicate (hash_size hash) 0
+summary_long hash (block ∷ others) = length_digest hash _
+
+summary_answer_long : (r : RspSetup) (p : Place) (kind : ℕ)
+    → length (summary_answer r p kind) ≡ (if kind == 1 || kind == 255 then hash_size (place_terms p).choice.hash else 0)
+summary_answer_long r p kind = by_kind (kind == 0) (kind == 1 || kind == 255) (λ none. not_zero kind none)
+  where
+    hash : HashAlg
+    hash = (place_terms p).choice.hash
+
+    not_zero : (kind : ℕ) → (kind == 0) ≡ true → (kind == 1 || kind == 255) ≡ false
+    not_zero kind none = grind (arith, nat_tests)
+
+    by_kind : (zero some : Bool) → (zero ≡ true → some ≡ false)
+        → length (if zero then [] else unwrap_or (if some then Some (hash_of_blocks (hash_of hash) (summarized kind (inventory_of r))) else None) []) ≡ (if some then hash_size hash else 0)
+    by_kind true true none = absurd (let h = none refl in cc)
+    by_kind true false none = refl
+    by_kind false true none = summary_long hash (summarized kind (inventory_of r))
+    by_kind false false none = refl
+
+pub exchange_long : (r : RspSetup) (p : Place) (m : List ℕ) (f : Free) (exchange : ExchangeMessage)
+    → length (canonical_response (exchange_answer r p m f exchange))
+    ≡ 12 + (if exchange.summary == 1 || exchange.summary == 255 then hash_size (place_terms p).choice.hash else 0) + length f.context + length f.exchange_opaque + hash_size (place_terms p).choice.hash
+exchange_long r p m f exchange =
+    let summary = summary_answer_long r p exchange.summary in
+    let verify = length_verify (place_terms p).choice r.psk (t1_with r p m f exchange) direction.Response (t1_with r p m f exchange) in
+    simp length-append (omega arith)
+
+-- A chunk of a large answer, with what stands round it, fits the transfer size.
+range_long : (message : List ℕ) (a b : ℕ) → length (slice_range message a b) ≤ b - a
+range_long message a b = simp (length-take, length-drop) (omega arith)
+
+-- The first chunk alone tells the length of the whole.
+told_first : (first : Bool) (n : ℕ) → is_some (if first then Some n else None) ≡ first
+told_first true n = refl
+told_first false n = refl
+
+not_first : (k : ℕ) → (suc k == 0) ≡ false
+not_first k = grind (arith, nat_tests)
+
+told_later : (k n : ℕ) → length (large_bytes (if suc k == 0 then Some n else None)) ≡ 0
+told_later k n = ap (λ (first : Bool). length (large_bytes (if first then Some n else None))) (not_first k)
+
+pub chunk_fits : (transfer handle : ℕ) (message : List ℕ) (k : ℕ) → 16 ≤ transfer → length (canonical_response (ChunkResponse (nth_chunk transfer handle message k))) ≤ transfer
+chunk_fits transfer handle message zero least =
+    let within = range_long message (chunk_start transfer 0) (chunk_end transfer 0) in
+    simp length-append (omega arith)
+chunk_fits transfer handle message (suc k) least =
+    let within = range_long message (chunk_start transfer (suc k)) (chunk_end transfer (suc k)) in
+    let told = told_later k (length message) in
+    simp length-append (omega arith)
+
+chunk_short : (transfer handle : ℕ) (message : List ℕ) (k : ℕ) → length (nth_chunk transfer handle message k).chunk ≤ transfer
+chunk_short transfer handle message k = (let within = range_long message (chunk_start transfer k) (chunk_end transfer k) in omega arith)
+
+pub chunk_sound : (transfer handle : ℕ) (message : List ℕ) (k : ℕ) → transfer < 2 ^ 32 → IsSoundChunk (nth_chunk transfer handle message k)
+chunk_sound transfer handle message k most = record {
+  first = told_first (k == 0) (length message);
+  size = (let short = chunk_short transfer handle message k in omega arith);
+}

@@ -1,0 +1,12 @@
+pub mod Setup
+pub mod Negotiating
+pub mod Contents
+pub mod Free
+pub mod Standing
+pub mod Answering
+pub mod Refused
+pub mod Taking
+pub mod Gathering
+pub mod Handled
+pub mod Coming
+pub mod ClearPart

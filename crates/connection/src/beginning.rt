@@ -1,0 +1,86 @@
+ghost use Rattle.std.specs.Prelude.{◌≡◌, [], if◌then◌else◌, ℕ, List, unwrap_or};
+ghost use Rattle.responder_machine.specs.Answer.{summary_answer};
+ghost use Rattle.responder_machine.specs.History.{History, clear_turns, negotiation_of, phase_of};
+ghost use Rattle.responder_machine.specs.LargeMessages.{next_handle};
+ghost use Rattle.responder_machine.specs.Place.{Where, place_terms};
+ghost use Rattle.responder_machine.specs.Setup.{RspSetup};
+ghost use Rattle.responder_machine.specs.Turn.{Turn};
+ghost use Rattle.transcript.specs.Transcripts.{vca_of};
+ghost use Rattle.connection.specs.ClearPart as clear_parts;
+ghost use Rattle.connection.specs.Coming.{exchange_bytes};
+ghost use Rattle.connection.specs.Setup.{IsSetUp};
+ghost use Rattle.connection.specs.Standing.{StandsFor, place_at};
+
+use crate::{Begun, ClearPart, Setup, Standing};
+use spdm_basis::HashBytes;
+use spdm_grammar::Phase;
+
+impl Standing {
+    /// The messages of the negotiation, one behind the other; VCA in phase Negotiated (DSP0274, "Transcript
+    /// hash").
+    pub fn vca(&self) -> &[u8]
+        ensures { (turns : List Turn) → StandsFor self.now turns
+            → result.now ≡ vca_of (negotiation_of turns) }
+    {
+        self.negotiating.messages()
+    }
+
+    /// HeartbeatPeriod of PSK_EXCHANGE_RSP, in seconds: the configured one where both ends have heartbeats,
+    /// else 0.
+    pub fn heartbeat(&self, setup: &Setup<'_>) -> u8
+        ensures { (r : RspSetup) (at : Where) (turns : List Turn) (held : ℕ) → IsSetUp setup.now r
+            → StandsFor self.now turns → result ≡ (if (place_terms
+            (place_at at turns held)).common.heartbeat then r.beat else 0) }
+    {
+        if self.negotiating.common().heartbeat {
+            setup.beat
+        } else {
+            0
+        }
+    }
+
+    /// MeasurementSummaryHash of PSK_EXCHANGE_RSP, where a PSK_EXCHANGE asks for this kind: the hash of the
+    /// blocks of the trusted computing base for 1, and of all for 255; none for another kind.
+    pub fn summary(&self, setup: &Setup<'_>, kind: u8) -> Option<HashBytes>
+        ensures { (r : RspSetup) (at : Where) (turns : List Turn) (held : ℕ) → IsSetUp setup.now r
+            → StandsFor self.now turns
+            → unwrap_or result [] ≡ summary_answer r (place_at at turns held) kind }
+    {
+        setup.inventory.summary_by(self.negotiating.choice().hash, kind)
+    }
+
+    /// The handle of the next answer that goes by chunks.
+    pub fn next_handle(&self) -> u8
+        ensures { (turns : List Turn) → StandsFor self.now turns → result ≡ next_handle turns }
+    {
+        self.large.next_handle()
+    }
+
+    /// How far the connection has come.
+    pub fn phase(&self) -> Phase
+        ensures { (turns : List Turn) → StandsFor self.now turns → result ≡ phase_of turns }
+    {
+        self.negotiating.phase()
+    }
+}
+
+impl ClearPart {
+    /// How it stands but for large requests.
+    pub fn standing(&self) -> &Standing
+        ensures value { result.now ≡ self.now.requests.standing }
+        ensures stands { (r : RspSetup) (h : History) → clear_parts.StandsFor self.now r h
+            → StandsFor result.now (clear_turns h) }
+    {
+        self.requests().standing()
+    }
+
+    /// The bytes of the PSK_EXCHANGE that begins a session, in this clear message.
+    pub fn exchange<'a>(&'a self, begun: Begun, message: &'a [u8]) -> &'a [u8]
+        ensures { result.now ≡ exchange_bytes begun message.now self.now.requests }
+    {
+        match begun {
+            Begun::InClear => message,
+            Begun::InChunks { .. } => self.requests().whole(),
+        }
+    }
+}

@@ -1,0 +1,119 @@
+ghost use Rattle.std.specs.Prelude.{◌≡◌, ◌≤◌, [], ℕ, List, length, slice_index};
+ghost use Rattle.responder_machine.specs.Answer.{Free, answer_bytes};
+ghost use Rattle.responder_machine.specs.History.{History};
+ghost use Rattle.responder_machine.specs.Place.{clear_place, held_of};
+ghost use Rattle.responder_machine.specs.Refusal as refusals;
+ghost use Rattle.responder_machine.specs.Setup.{RspSetup};
+ghost use Rattle.spdm_grammar.specs.declared.heard.Heard.TheVariants as hearing;
+ghost use Rattle.spdm_grammar.specs.declared.names.TheConstants.{MAX_MESSAGE_SIZE};
+ghost use Rattle.spdm_machine.specs.Keys.{Draw};
+ghost use Rattle.connection.specs.ClearPart.{IsAnswered, IsBeginning, IsTold, StandsFor};
+ghost use Rattle.connection.specs.Coming.{exchange_bytes, exchange_place};
+ghost use Rattle.connection.specs.Free.{IsFree};
+ghost use Rattle.connection.specs.Setup.{IsSetUp};
+
+use crate::handling::replace;
+use crate::{Begun, Came, FreeValues, KeptReply, Requests, Setup, Told};
+use spdm_basis::Frame;
+use spdm_grammar::Heard;
+use std::marker::Model;
+
+/// The clear part of a responder's connection with one requester: what it keeps of the requests, and the kept
+/// reply. It lies in place, and takes no memory.
+#[derive(Drop)]
+pub struct ClearPart {
+    requests: Requests,
+    kept: KeptReply,
+}
+
+impl Model for ClearPart {
+    ghost use Rattle.connection.specs.ClearPart.{Seen};
+
+    ghost Value = { Seen };
+
+    ghost view = { λ c. record { requests = c.requests; kept = c.kept } };
+}
+
+// The request code of a message of at least two bytes; 0 for a shorter one.
+fn code_at(message: &[u8]) -> u8
+    ensures { result ≡ refusals.code_of message.now }
+{
+    match message {
+        [_, code, ..] => *code,
+        _ => 0,
+    }
+}
+
+impl ClearPart {
+    /// Where nothing came yet.
+    pub fn new(setup: &Setup<'_>) -> ClearPart
+        ensures { (r : RspSetup) → IsSetUp setup.now r → StandsFor result r [] }
+    {
+        ClearPart {
+            requests: Requests::new(setup),
+            kept: KeptReply::new(),
+        }
+    }
+
+    /// What is kept of the requests.
+    pub fn requests(&self) -> &Requests
+        ensures { result.now ≡ self.now.requests }
+    {
+        &self.requests
+    }
+
+    /// A clear message came with a tag, beside so many sessions past their handshake. The message that answers
+    /// it is written in place of what `out` holds: a repeat gets the kept reply. Where it begins a session
+    /// nothing is sent yet: `begin` ends its turn.
+    pub fn on_clear(
+        &mut self,
+        setup: &Setup<'_>,
+        held: u8,
+        tag: u8,
+        message: &[u8],
+        free: &FreeValues<'_>,
+        out: &mut Frame,
+    ) -> Told
+        ensures { (r : RspSetup) (h : History) (f : Free) (d : Draw) → IsSetUp setup.now r
+            → IsFree free.now f → StandsFor self.old r h → held_of h ≡ held
+            → IsTold r h tag message.now f d result self.new out.new }
+    {
+        if self.kept.is_repeat(tag, message) {
+            replace(out, self.kept.reply());
+            return Told::Heard(Heard::Same);
+        }
+        match self.requests.on_request(setup, held, message, free, out) {
+            Came::Refused(code) => Told::Heard(Heard::Refused(code.number())),
+            Came::Answered => {
+                self.kept.keep(tag, message, out.as_slice());
+                Told::Heard(Heard::Answered(code_at(message)))
+            }
+            Came::Begins(begun) => Told::Begins(begun),
+        }
+    }
+
+    /// Ends the turn of a clear message that begins a session, with PSK_EXCHANGE_RSP whole, of at most 4,096
+    /// bytes, and with this handle where it goes by chunks. The message that is sent is written in place of
+    /// what `out` holds.
+    pub fn begin(
+        &mut self,
+        begun: Begun,
+        tag: u8,
+        message: &[u8],
+        answer: &[u8],
+        handle: u8,
+        out: &mut Frame,
+    )
+        requires { length answer.now ≤ MAX_MESSAGE_SIZE }
+        ensures { (r : RspSetup) (h : History) (f : Free) (d : Draw) → f.handle ≡ handle
+            → r.transfer ≤ r.max → r.max ≤ MAX_MESSAGE_SIZE
+            → IsBeginning r h tag message.now f begun self.old
+            → answer.now ≡ answer_bytes r (exchange_place begun (clear_place h))
+            (exchange_bytes begun message.now self.old.requests) f
+            → IsAnswered r h tag message.now f d
+            (hearing.Answered (refusals.code_of message.now)) self.new out.new }
+    {
+        self.requests.begin(begun, answer, handle, out);
+        self.kept.keep(tag, message, out.as_slice());
+    }
+}

@@ -1,0 +1,71 @@
+ghost use Rattle.std.specs.Prelude.{◌≡◌, ◌≤◌, None, Some, length};
+ghost use Rattle.responder_machine.specs.Responder as responder;
+ghost use Rattle.spdm_grammar.specs.declared.names.TheConstants.{MAX_MESSAGE_SIZE};
+
+use spdm_basis::Frame;
+use std::marker::Model;
+
+/// The last clear request that was not refused, with its tag and its reply. It lies in place, and holds no
+/// memory of its own. Contracts see whether there is one, and it.
+#[derive(Drop)]
+pub struct KeptReply {
+    is_there: bool,
+    tag: u8,
+    message: Frame,
+    reply: Frame,
+}
+
+impl Model for KeptReply {
+    ghost use Rattle.std.specs.Prelude.{Option, Some, None, if◌then◌else◌};
+    ghost use Rattle.responder_machine.specs.History.{Kept};
+
+    ghost Value = { Option Kept };
+
+    ghost view = { λ k. if k.is_there then Some (record {
+        tag = k.tag;
+        message = k.message;
+        reply = k.reply;
+    }) else None };
+}
+
+impl KeptReply {
+    /// Where no request came yet.
+    pub fn new() -> KeptReply
+        ensures { result ≡ None }
+    {
+        KeptReply {
+            is_there: false,
+            tag: 0,
+            message: Frame::new(),
+            reply: Frame::new(),
+        }
+    }
+
+    /// Whether a message with this tag is the kept request.
+    pub fn is_repeat(&self, tag: u8, message: &[u8]) -> bool
+        ensures { result ≡ responder.is_repeat self.now tag message.now }
+    {
+        self.is_there && self.tag == tag && self.message.as_slice() == message
+    }
+
+    /// The kept reply; no bytes where none is kept.
+    pub fn reply(&self) -> &[u8]
+        ensures value { result.now ≡ responder.kept_reply self.now }
+        ensures fits { length result.now ≤ MAX_MESSAGE_SIZE }
+    {
+        if self.is_there { self.reply.as_slice() } else { &[] }
+    }
+
+    /// Keeps a request with its tag and its reply, in place of the one before. Each has at most 4,096 bytes.
+    pub fn keep(&mut self, tag: u8, message: &[u8], reply: &[u8])
+        ensures { length message.now ≤ MAX_MESSAGE_SIZE → length reply.now ≤ MAX_MESSAGE_SIZE
+            → self.new ≡ Some (record { tag = tag; message = message.now; reply = reply.now }) }
+    {
+        self.is_there = true;
+        self.tag = tag;
+        self.message.clear();
+        let _ = self.message.extend(message);
+        self.reply.clear();
+        let _ = self.reply.extend(reply);
+    }
+}

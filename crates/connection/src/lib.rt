@@ -1,0 +1,38 @@
+//! A responder's side of the connection with one requester (DSP0274, section 10), with every free value
+//! handed in: the clear part, which holds how far the negotiation has come and what was settled.
+#![tactic(auto)]
+
+mod answering;
+mod answers;
+mod beginning;
+mod came;
+mod clear_part;
+mod contents;
+mod exchange;
+mod free_values;
+mod gathering;
+mod handled;
+mod handling;
+mod kept;
+mod laws;
+mod negotiating;
+mod refused;
+mod requests;
+mod setup;
+mod standing;
+mod taking;
+mod told;
+mod tested;
+
+pub use came::{Begun, Came};
+pub use clear_part::ClearPart;
+pub use free_values::FreeValues;
+pub use handled::Handled;
+pub use kept::KeptReply;
+pub use laws::others_keep_the_clear_part;
+pub use negotiating::Negotiating;
+pub use refused::Refused;
+pub use requests::Requests;
+pub use setup::Setup;
+pub use standing::Standing;
+pub use told::Told;

@@ -1,0 +1,52 @@
+ghost use Rattle.std.specs.Prelude.{◌≡◌, [], ℕ, List};
+ghost use Rattle.responder_machine.specs.Turn.{Turn};
+ghost use Rattle.request_rules.specs.Place.{IsPlace, where_of};
+ghost use Rattle.connection.specs.Standing.{StandsFor, place_at};
+
+use crate::Negotiating;
+use request_rules::{LargeAnswer, Place, Where};
+use spdm_grammar::Stage;
+use std::marker::Model;
+
+/// How the clear part of a connection stands, but for its large request: the negotiation, and the large
+/// answer that is still to be given.
+#[derive(Drop)]
+pub struct Standing {
+    pub(crate) negotiating: Negotiating,
+    pub(crate) large: LargeAnswer,
+}
+
+impl Model for Standing {
+    ghost use Rattle.connection.specs.Standing.{Seen};
+
+    ghost Value = { Seen };
+
+    ghost view = { λ s. record { negotiating = s.negotiating; large = s.large } };
+}
+
+impl Standing {
+    /// Where no request came yet.
+    pub fn new() -> Standing
+        ensures { StandsFor result [] }
+    {
+        Standing {
+            negotiating: Negotiating::new(),
+            large: LargeAnswer::new(),
+        }
+    }
+
+    /// What the rules for requests go by in the clear, or inside a large request.
+    pub fn place(&self, at: Where) -> Place
+        ensures { (turns : List Turn) (held : ℕ) → StandsFor self.now turns
+            → IsPlace result (place_at (where_of at) turns held) }
+    {
+        Place {
+            at,
+            phase: self.negotiating.phase(),
+            stage: Stage::Handshake,
+            choice: self.negotiating.choice(),
+            common: self.negotiating.common(),
+            pending: self.large.is_pending(),
+        }
+    }
+}
