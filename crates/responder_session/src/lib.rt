@@ -28,8 +28,3 @@ pub use parts::ExchangeParts;
 pub use queue::{AppQueue, QueueFault};
 pub use took::{RspAct, RspState, RspTook};
 pub use verifying::RspVerifying;
-
-#[cfg(test)]
-mod suites;
-#[cfg(test)]
-mod tests;

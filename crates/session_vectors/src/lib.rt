@@ -8,3 +8,7 @@ mod psk_suites;
 mod psk_talks;
 #[cfg(test)]
 mod psk_tests;
+#[cfg(test)]
+mod responder_suites;
+#[cfg(test)]
+mod responder_tests;

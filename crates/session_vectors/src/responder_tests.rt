@@ -1,5 +1,5 @@
-use crate::suites::{MEASURED, REFUSED_IN_HANDSHAKE, REFUSED_IN_OPEN, SUITES, Suite};
-use crate::{AppQueue, ExchangeParts, QueueFault, RspAct, RspHandshake, RspState, RspTook};
+use crate::responder_suites::{MEASURED, REFUSED_IN_HANDSHAKE, REFUSED_IN_OPEN, SUITES, Suite};
+use responder_session::{AppQueue, ExchangeParts, QueueFault, RspAct, RspHandshake, RspState, RspTook};
 use hmac_hkdf::Drawn;
 use measurements::Inventory;
 use negotiate::{Common, Sizes};
@@ -229,20 +229,35 @@ fn fault(
 }
 
 #[test]
-fn repeats_and_faults(rt: HostRuntime) -> Result<(), Fail> {
+fn finish_comes_again(rt: HostRuntime) -> Result<(), Fail> {
     let finish = hex::decode(rt.alloc(), SUITES[0].finish.0)?;
     let blocks = inventory(rt.alloc())?;
     let state = open(&rt, &SUITES[0], &blocks)?;
     let took = take(state, finish.as_slice(), &blocks, &mut AppQueue::new())?;
     assert!(rt; matches!(took, RspTook::Same(_)));
-    let second = hex::decode(rt.alloc(), SUITES[0].records[1].0)?;
-    assert_eq!(rt;
-        fault(&rt, second.as_slice(), &blocks)?,
-        RecordFault::WrongNumber
-    );
-    let other = hex::decode(rt.alloc(), SUITES[1].records[0].0)?;
-    assert_eq!(rt; fault(&rt, other.as_slice(), &blocks)?, RecordFault::BadTag);
-    assert_eq!(rt; fault(&rt, &[], &blocks)?, RecordFault::Short);
+    Ok(())
+}
+
+// The second record of the first suite, the first of the second, and no bytes.
+const UNOPENED: [(&str, RecordFault); 3] = [
+    (
+        "01000100010017009643a1f85b0fc97d1285e494948666466b302cf218bf5b",
+        RecordFault::WrongNumber,
+    ),
+    (
+        "010001000000150045b51211b4c4fca4427b86585ba7c745b2bdcd6721",
+        RecordFault::BadTag,
+    ),
+    ("", RecordFault::Short),
+];
+
+#[test]
+fn unopened_in_open(rt: HostRuntime) -> Result<(), Fail> {
+    let blocks = inventory(rt.alloc())?;
+    for row in UNOPENED {
+        let sealed = hex::decode(rt.alloc(), row.0)?;
+        assert_eq!(rt; fault(&rt, sealed.as_slice(), &blocks)?, row.1);
+    }
     Ok(())
 }
 
