@@ -1,11 +1,11 @@
 -- How long answers are, told without their bytes.
-use Rattle.std.proofs.Common.{refl, ◌∙◌, ◌≡◌, ◌≤◌, ◌+◌, ◌-◌, ◌*◌, ◌<◌, ◌^◌, ℕ, zero, suc, List, [], ◌∷◌, ◌++◌, true, false, Bool, Option, Some, None, length, min, slice_range, ap, sym, subst, arith}
+use Rattle.std.proofs.Common.{refl, ◌≡◌, ◌≤◌, ◌+◌, ◌-◌, ◌<◌, ◌^◌, ℕ, zero, suc, List, [], ◌∷◌, true, false, Bool, Some, None, length, slice_range, ap, arith}
 use Rattle.std.proofs.lemmas.Bool.Decides.{nat_tests}
 use Rattle.std.proofs.lemmas.List.{length-append, length-replicate, length-drop, length-take}
 use Rattle.std.specs.Prelude.{if◌then◌else◌, ◌==◌, ◌||◌, is_some, unwrap_or}
-use Rattle.chunking.specs.Cutting.{chunk_end, chunk_start, nth_chunk, unit_of}
+use Rattle.chunking.specs.Cutting.{chunk_end, chunk_start, nth_chunk}
 use Rattle.key_schedule.specs.declared.direction.Direction.TheVariants as direction
-use Rattle.measurements.specs.Summaries.{hash_of_blocks, summarized, summary_of}
+use Rattle.measurements.specs.Summaries.{hash_of_blocks, summarized}
 use Rattle.responder_machine.proofs.VerifyLength.{length_digest, length_verify}
 use Rattle.responder_machine.specs.Answer.{Free, exchange_answer, summary_answer, t1_with}
 use Rattle.responder_machine.specs.Place.{Place, place_terms}
@@ -14,7 +14,7 @@ use Rattle.running_hash.specs.Hash.{hash_of}
 use Rattle.spdm_basis.specs.Sizes.{hash_size}
 use Rattle.spdm_basis.specs.declared.hash_alg.HashAlg.{HashAlg}
 use Rattle.spdm_grammar.specs.Fields.{IsSoundChunk, large_bytes}
-use Rattle.spdm_grammar.specs.Message.{ChunkMessage, ExchangeMessage}
+use Rattle.spdm_grammar.specs.Message.{ExchangeMessage}
 use Rattle.spdm_grammar.specs.Message.ResponseMessage.{ChunkResponse}
 use Rattle.spdm_grammar.specs.Responses.{canonical_response}
 use Rattle.spdm_grammar.specs.declared.block_spec.BlockSpec.{BlockSpec}

@@ -1,36 +1,33 @@
 -- The turns of chunks.
-use Rattle.std.proofs.Common.{refl, ◌∙◌, ◌≡◌, ◌≤◌, ◌<◌, ◌+◌, ℕ, List, [], ◌∷◌, ◌++◌, true, false, Bool, Option, Some, None, length, ap, sym, subst, arith}
+use Rattle.std.proofs.Common.{refl, ◌∙◌, ◌≡◌, ◌≤◌, ◌+◌, ℕ, List, [], ◌∷◌, true, false, Bool, Option, Some, None, length, ap, sym, subst, arith}
 use Rattle.std.proofs.lemmas.Bool.{false≢true, ltb-false}
-use Rattle.std.proofs.lemmas.List.{length-append}
-use Rattle.std.proofs.lemmas.Option.{none-some, same_Some}
-use Rattle.std.specs.Prelude.{◌==◌, ◌&&◌, if◌then◌else◌, nat_lt}
-use Rattle.chunking.specs.Collecting.{Collection, accepted_unless, answer_from, broken_rule, collected, joined_with, under_way}
+use Rattle.std.proofs.lemmas.Option.{same_Some}
+use Rattle.std.specs.Prelude.{if◌then◌else◌}
+use Rattle.chunking.specs.Collecting.{answer_from}
 use Rattle.chunking.specs.Collecting.Collection.{More, Refused, Whole}
 use Rattle.chunking.specs.Keeping as keeping
-use Rattle.request_rules.specs.LargeAnswer as large_answer
 use Rattle.responder_machine.proofs.Codes.{asked-code}
 use Rattle.responder_machine.proofs.Tests.{tests_are_false}
 use Rattle.responder_machine.proofs.Turns.{turn_of-chunk, turn_of-refused}
 use Rattle.responder_machine.specs.Answer.{Free, answer_bytes, request_at}
-use Rattle.responder_machine.specs.Handling.{acknowledged, carried_turn, chunk_in, chunk_turn, error_bytes, extended_of, goes_large, large_response, last_chunk_turn, plain_turn, refused_turn, request_effect, request_reply, sent_for, taken_chunk, turn_by, turn_of}
+use Rattle.responder_machine.specs.Handling.{acknowledged, carried_turn, chunk_in, error_bytes, extended_of, goes_large, large_response, last_chunk_turn, plain_turn, refused_turn, request_effect, request_reply, taken_chunk, turn_by, turn_of}
 use Rattle.responder_machine.specs.LargeMessages.{chunks_of}
 use Rattle.responder_machine.specs.Laws.{completed_at}
 use Rattle.responder_machine.specs.Place.{Place, Where, inside, place_terms}
-use Rattle.responder_machine.specs.Place.Where.{InChunks, InClear, InSession}
+use Rattle.responder_machine.specs.Place.Where.{InChunks}
 use Rattle.responder_machine.specs.Refusal.{has_pending, is_misplaced, refusal, refused_form, sizes_are_known, tests_of_form}
 use Rattle.responder_machine.specs.Setup.{RspSetup}
 use Rattle.responder_machine.specs.Turn.{Turn, is_taken}
 use Rattle.responder_machine.specs.Turn.Effect.{NoEffect}
 use Rattle.spdm_basis.proofs.Bools.{and_rest}
-use Rattle.spdm_grammar.specs.Message.{ChunkMessage, RequestMessage}
+use Rattle.spdm_grammar.specs.Message.{ChunkMessage}
 use Rattle.spdm_grammar.specs.Message.RequestMessage.{ChunkSend}
 use Rattle.spdm_grammar.specs.declared.error_code.ErrorCode.{ErrorCode}
 use Rattle.spdm_grammar.specs.declared.error_code.ErrorCode.TheVariants.{InvalidRequest, RequestTooLarge, ResponseTooLarge}
 use Rattle.spdm_grammar.specs.declared.names.TheConstants.{MAX_MESSAGE_SIZE}
-use Rattle.spdm_grammar.specs.declared.names.request_code.TheConstants.{CHUNK_SEND}
 use Rattle.spdm_grammar.specs.declared.part_faults.ChunkFault.{ChunkFault}
 use Rattle.spdm_grammar.specs.declared.part_faults.ChunkFault.TheVariants as broken
-use Rattle.connection.proofs.Passing.{chunk_send_known, settled_at}
+use Rattle.connection.proofs.Passing.{chunk_send_known}
 use Rattle.connection.proofs.Table.{phase_allowed}
 use Rattle.connection.specs.Coming.{Completes, IsTurned, Seen, StandsFor}
 use Rattle.connection.specs.Negotiating.{IsSized}
@@ -52,16 +49,17 @@ pub turned_refused : (r : RspSetup) (at : Where) (turns : List Turn) (held : ℕ
     → StandsFor new r turns → out ≡ error_bytes r (place_at at turns held) m f e → ((turn_of r (place_at at turns held) m f).refused ≡ Some e) × IsTurned r (place_at at turns held) m f new out
 turned_refused r at turns held m f e new out refused stands written =
     let p : Place = place_at at turns held in
-    let is = turn_of-refused r p m f e refused in
-    (ap (λ (t : Turn). t.refused) is,
-    record {
-      reply = written ∙ ap (λ (t : Turn). t.reply) (sym is);
-      stands = subst (λ (t : Turn). StandsFor new r (t ∷ turns)) (sym is) (record {
-        standing = refused_stands new.standing turns r p m f e stands.standing;
-        collector = stands.collector;
-        max = stands.max;
-      });
-    })
+    let is = turn_of-refused r p m f e refused in (
+      ap (λ (t : Turn). t.refused) is,
+      record {
+        reply = written ∙ ap (λ (t : Turn). t.reply) (sym is);
+        stands = subst (λ (t : Turn). StandsFor new r (t ∷ turns)) (sym is) (record {
+          standing = refused_stands new.standing turns r p m f e stands.standing;
+          collector = stands.collector;
+          max = stands.max;
+        });
+      },
+    )
 
 pub turned_plain : (r : RspSetup) (at : Where) (turns : List Turn) (held : ℕ) (m : List ℕ) (f : Free) (new : Seen) (out : List ℕ) → refusal r (place_at at turns held) m f ≡ None
     → chunk_in (request_at (place_at at turns held) m) ≡ None
@@ -71,12 +69,13 @@ unfolding turn_of
 turned_plain r at turns held m f new out taken plain stands collector max written =
     let p : Place = place_at at turns held in
     let is : turn_of r p m f ≡ plain_turn r p m f =
-        ap (λ (x : Option ErrorCode). turn_by r p m f x (chunk_in (request_at p m))) taken ∙ ap (λ (x : Option ChunkMessage). turn_by r p m f None x) plain in
-    (ap (λ (t : Turn). t.refused) is,
-    record {
-      reply = written ∙ ap (λ (t : Turn). t.reply) (sym is);
-      stands = subst (λ (t : Turn). StandsFor new r (t ∷ turns)) (sym is) (record { standing = stands; collector = collector; max = max });
-    })
+    ap (λ (x : Option ErrorCode). turn_by r p m f x (chunk_in (request_at p m))) taken ∙ ap (λ (x : Option ChunkMessage). turn_by r p m f None x) plain in (
+      ap (λ (t : Turn). t.refused) is,
+      record {
+        reply = written ∙ ap (λ (t : Turn). t.reply) (sym is);
+        stands = subst (λ (t : Turn). StandsFor new r (t ∷ turns)) (sym is) (record { standing = stands; collector = collector; max = max });
+      },
+    )
 
 -- ---- The sizes of acknowledgements.
 
@@ -171,16 +170,17 @@ pub turned_last_refused : (r : RspSetup) (at : Where) (turns : List Turn) (held 
     → ((turn_of r (place_at at turns held) m f).refused ≡ None) × IsTurned r (place_at at turns held) m f (standing_now before now) out
 turned_last_refused r at turns held m f chunk before now e out completes refused nothing written =
     let p : Place = place_at at turns held in
-    let is = last_turn r p m f chunk before (Some e) completes refused in
-    (ap (λ (t : Turn). t.refused) is,
-    record {
-      reply = written ∙ ap (λ (t : Turn). t.reply) (sym is);
-      stands = subst (λ (t : Turn). StandsFor (standing_now before now) r (t ∷ turns)) (sym is) (record {
-        standing = nothing (taken_chunk m chunk NoEffect (error_bytes r (inside p) before.whole f e)) refl refl;
-        collector = completes.collector;
-        max = completes.max;
-      });
-    })
+    let is = last_turn r p m f chunk before (Some e) completes refused in (
+      ap (λ (t : Turn). t.refused) is,
+      record {
+        reply = written ∙ ap (λ (t : Turn). t.reply) (sym is);
+        stands = subst (λ (t : Turn). StandsFor (standing_now before now) r (t ∷ turns)) (sym is) (record {
+          standing = nothing (taken_chunk m chunk NoEffect (error_bytes r (inside p) before.whole f e)) refl refl;
+          collector = completes.collector;
+          max = completes.max;
+        });
+      },
+    )
 
 pub turned_last_taken : (r : RspSetup) (at : Where) (turns : List Turn) (held : ℕ) (m : List ℕ) (f : Free) (chunk : ChunkMessage) (before : Seen) (now : standing.Seen) (out : List ℕ)
     → Completes r (place_at at turns held) m f chunk before → refusal r (place_at InChunks turns held) before.whole f ≡ None
@@ -189,16 +189,17 @@ pub turned_last_taken : (r : RspSetup) (at : Where) (turns : List Turn) (held : 
     → ((turn_of r (place_at at turns held) m f).refused ≡ None) × IsTurned r (place_at at turns held) m f (standing_now before now) out
 turned_last_taken r at turns held m f chunk before now out completes taken takes written =
     let p : Place = place_at at turns held in
-    let is = last_turn r p m f chunk before None completes taken in
-    (ap (λ (t : Turn). t.refused) is,
-    record {
-      reply = written ∙ ap (λ (t : Turn). t.reply) (sym is);
-      stands = subst (λ (t : Turn). StandsFor (standing_now before now) r (t ∷ turns)) (sym is) (record {
-        standing = takes (taken_chunk m chunk (request_effect r (inside p) before.whole f) (request_reply r (inside p) before.whole f)) refl refl;
-        collector = completes.collector;
-        max = completes.max;
-      });
-    })
+    let is = last_turn r p m f chunk before None completes taken in (
+      ap (λ (t : Turn). t.refused) is,
+      record {
+        reply = written ∙ ap (λ (t : Turn). t.reply) (sym is);
+        stands = subst (λ (t : Turn). StandsFor (standing_now before now) r (t ∷ turns)) (sym is) (record {
+          standing = takes (taken_chunk m chunk (request_effect r (inside p) before.whole f) (request_reply r (inside p) before.whole f)) refl refl;
+          collector = completes.collector;
+          max = completes.max;
+        });
+      },
+    )
 
 pub turned_more : (r : RspSetup) (at : Where) (turns : List Turn) (held : ℕ) (m : List ℕ) (f : Free) (chunk : ChunkMessage) (new : Seen) (out : List ℕ)
     → request_at (place_at at turns held) m ≡ Some (ChunkSend chunk) → refusal r (place_at at turns held) m f ≡ None → chunk.last ≡ false → TakesNothing new.standing turns
@@ -206,13 +207,14 @@ pub turned_more : (r : RspSetup) (at : Where) (turns : List Turn) (held : ℕ) (
     → ((turn_of r (place_at at turns held) m f).refused ≡ None) × IsTurned r (place_at at turns held) m f new out
 turned_more r at turns held m f chunk new out asked_is taken more nothing collector max written =
     let p : Place = place_at at turns held in
-    let is = turn_of-chunk r p m f chunk taken asked_is ∙ ap (λ (b : Bool). if b then last_chunk_turn r (inside p) m f chunk (completed_at p chunk) else taken_chunk m chunk NoEffect []) more in
-    (ap (λ (t : Turn). t.refused) is,
-    record {
-      reply = written ∙ ap (λ (t : Turn). t.reply) (sym is);
-      stands = subst (λ (t : Turn). StandsFor new r (t ∷ turns)) (sym is) (record {
-        standing = nothing (taken_chunk m chunk NoEffect []) refl refl;
-        collector = collector;
-        max = max;
-      });
-    })
+    let is = turn_of-chunk r p m f chunk taken asked_is ∙ ap (λ (b : Bool). if b then last_chunk_turn r (inside p) m f chunk (completed_at p chunk) else taken_chunk m chunk NoEffect []) more in (
+      ap (λ (t : Turn). t.refused) is,
+      record {
+        reply = written ∙ ap (λ (t : Turn). t.reply) (sym is);
+        stands = subst (λ (t : Turn). StandsFor new r (t ∷ turns)) (sym is) (record {
+          standing = nothing (taken_chunk m chunk NoEffect []) refl refl;
+          collector = collector;
+          max = max;
+        });
+      },
+    )

@@ -1,30 +1,28 @@
 -- How long the messages of a negotiation are.
-use Rattle.std.proofs.Common.{refl, ◌∙◌, ◌≡◌, ◌≤◌, ◌+◌, ◌*◌, ℕ, List, [], ◌∷◌, ◌++◌, true, false, Bool, Option, Some, None, Ok, length, ap, sym, subst, arith}
+use Rattle.std.proofs.Common.{◌∙◌, ◌≡◌, ◌≤◌, ◌+◌, ℕ, List, [], ◌∷◌, ◌++◌, Some, length, ap, sym, subst, arith}
 use Rattle.std.proofs.lemmas.List.{length-append}
-use Rattle.std.proofs.lemmas.Option.{none-some}
-use Rattle.std.specs.Prelude.{if◌then◌else◌, slice_index, unwrap_or}
+use Rattle.std.specs.Prelude.{slice_index}
 use Rattle.byteorder.specs.Endian.{little_number}
 use Rattle.negotiate.proofs.Answered.{four_each}
 use Rattle.negotiate.proofs.FewKinds.{few_kinds}
-use Rattle.negotiate.specs.Choosing.{selected}
 use Rattle.negotiate.specs.Reply.{answered_kinds, reply_of}
 use Rattle.responder_machine.proofs.Codes.{one_byte, sized-code}
-use Rattle.responder_machine.specs.Answer.{Free, algorithms_answer, answer_bytes, answer_of, answer_to, request_at}
+use Rattle.responder_machine.specs.Answer.{Free, answer_bytes, answer_of, answer_to, request_at}
 use Rattle.responder_machine.specs.Place.{Place, place_terms}
 use Rattle.responder_machine.specs.Refusal.{code_of}
-use Rattle.responder_machine.specs.Setup.{RspSetup, policy_of}
+use Rattle.responder_machine.specs.Setup.{RspSetup}
 use Rattle.spdm_grammar.proofs.Spellings.{read_iff}
 use Rattle.spdm_grammar.specs.Codes.{code_for}
-use Rattle.spdm_grammar.specs.Layout.{IsSpelling, Layout}
+use Rattle.spdm_grammar.specs.Layout.{IsSpelling}
 use Rattle.spdm_grammar.specs.Message.{OfferMessage, RequestMessage}
-use Rattle.spdm_grammar.specs.Message.RequestMessage.{GetCapabilities, GetVersion, NegotiateAlgorithms}
+use Rattle.spdm_grammar.specs.Message.RequestMessage.{GetCapabilities, GetVersion}
 use Rattle.spdm_grammar.specs.Message.ResponseMessage.{Algorithms}
 use Rattle.spdm_grammar.specs.Requests.{IsRequestSpelling, request_in, get_capabilities_layout, get_version_layout, request_body, request_layout}
 use Rattle.spdm_grammar.specs.Responses.{canonical_response}
 use Rattle.spdm_grammar.specs.declared.capabilities.Caps.{Caps}
 use Rattle.spdm_grammar.specs.declared.choice.Choice.{Choice}
 use Rattle.spdm_grammar.specs.declared.names.request_code.TheConstants.{GET_CAPABILITIES, GET_VERSION}
-use Rattle.spdm_machine.specs.Terms.{hash_len, no_choice}
+use Rattle.spdm_machine.specs.Terms.{hash_len}
 
 -- The answer to a request.
 pub answer_is : (r : RspSetup) (p : Place) (m : List ℕ) (f : Free) (asked : RequestMessage) → request_at p m ≡ Some asked
@@ -73,8 +71,16 @@ capabilities_spelled size others asked s =
     let flags = reserved.4 in
     let transfer = flags.5 in
     let max = transfer.5 in
-    omega (arith, field_first others s.0 s.1 3 s.2 s.3, field_first s.1 ct.0 ct.1 1 ct.2 ct.3, field_first ct.1 reserved.0 reserved.1 2 reserved.2 reserved.3,
-    field_first reserved.1 flags.0 flags.1 4 flags.2 flags.3, field_first flags.1 transfer.0 transfer.1 4 transfer.2 transfer.3, field_first transfer.1 max.0 max.1 4 max.2 max.3, ap length max.5.1)
+    omega (
+      arith,
+      field_first others s.0 s.1 3 s.2 s.3,
+      field_first s.1 ct.0 ct.1 1 ct.2 ct.3,
+      field_first ct.1 reserved.0 reserved.1 2 reserved.2 reserved.3,
+      field_first reserved.1 flags.0 flags.1 4 flags.2 flags.3,
+      field_first flags.1 transfer.0 transfer.1 4 transfer.2 transfer.3,
+      field_first transfer.1 max.0 max.1 4 max.2 max.3,
+      ap length max.5.1,
+    )
 
 spelled : (size : ℕ) (m : List ℕ) (asked : RequestMessage) → request_in size m ≡ Some asked → BehindCode size m asked
 spelled size m asked is = behind_code size m asked ((read_iff (request_layout size) asked m).0 is)

@@ -1,8 +1,7 @@
 -- What a message shows that passes the tests of the clear part, and why one is refused that does not.
-use Rattle.std.proofs.Common.{refl, ◌∙◌, ◌≡◌, ◌≤◌, ◌<◌, ◌+◌, ℕ, List, [], ◌∷◌, ◌++◌, true, false, Bool, Option, Some, None, length, ap, sym, subst, arith}
+use Rattle.std.proofs.Common.{refl, ◌∙◌, ◌≡◌, ◌≤◌, ◌+◌, ℕ, List, [], ◌∷◌, true, false, Bool, Option, Some, None, length, ap, sym, subst, arith}
 use Rattle.std.proofs.lemmas.Bool.{false≢true}
 use Rattle.std.proofs.lemmas.Bool.Decides.{nat_tests}
-use Rattle.std.proofs.lemmas.List.{length-append}
 use Rattle.std.proofs.lemmas.Option.{none-some, same_Some}
 use Rattle.std.specs.Option.{option_or}
 use Rattle.std.specs.Prelude.{◌==◌, ◌&&◌, ◌||◌, if◌then◌else◌, nat_lt, not, unwrap_or}
@@ -13,7 +12,7 @@ use Rattle.responder_machine.specs.Answer.{Free, answer_bytes, answer_of, reques
 use Rattle.responder_machine.specs.LargeMessages.{pending_of}
 use Rattle.responder_machine.specs.Place.{Place, Where, place_terms}
 use Rattle.responder_machine.specs.Place.Where.{InChunks, InClear, InSession}
-use Rattle.responder_machine.specs.Refusal.{bytes_round, chunk_fault, has_pending, is_answer_too_long, is_get_refused, lacks_flag, phase_allows, refusal, refused_contents, refused_form, sizes_are_known, tests_of_form}
+use Rattle.responder_machine.specs.Refusal.{bytes_round, chunk_fault, has_pending, is_answer_too_long, phase_allows, refusal, refused_contents, refused_form, sizes_are_known, tests_of_form}
 use Rattle.responder_machine.specs.Setup.{RspSetup, policy_of}
 use Rattle.negotiate.specs.Choosing.{selected}
 use Rattle.responder_machine.specs.Turn.{Turn}
@@ -23,19 +22,18 @@ use Rattle.spdm_grammar.specs.Message.{RequestMessage}
 use Rattle.spdm_grammar.specs.Message.RequestMessage.{ChunkGet, ChunkSend, EndSession, GetCapabilities, GetMeasurements, GetVersion, Heartbeat, KeyUpdate, NegotiateAlgorithms, PskExchange, PskFinish}
 use Rattle.spdm_grammar.specs.Responses.{canonical_response}
 use Rattle.spdm_grammar.specs.declared.error_code.ErrorCode.{ErrorCode}
-use Rattle.spdm_grammar.specs.declared.error_code.ErrorCode.TheVariants.{InvalidRequest, RequestTooLarge, ResponseTooLarge, SessionLimitExceeded, SessionRequired, UnexpectedRequest, UnsupportedRequest, VersionMismatch}
-use Rattle.spdm_grammar.specs.declared.names.TheConstants.{MAX_MESSAGE_SIZE, MIN_DATA_TRANSFER_SIZE}
-use Rattle.spdm_grammar.specs.declared.names.request_code.TheConstants.{CHUNK_GET, CHUNK_SEND, GET_MEASUREMENTS, PSK_EXCHANGE}
+use Rattle.spdm_grammar.specs.declared.error_code.ErrorCode.TheVariants.{ResponseTooLarge, SessionLimitExceeded}
+use Rattle.spdm_grammar.specs.declared.names.TheConstants.{MAX_MESSAGE_SIZE}
+use Rattle.spdm_grammar.specs.declared.names.request_code.TheConstants.{CHUNK_SEND, GET_MEASUREMENTS, PSK_EXCHANGE}
 use Rattle.spdm_grammar.specs.declared.phase.Phase.{Phase}
 use Rattle.spdm_grammar.specs.declared.phase.Phase.TheVariants.{Capable, Fresh, Negotiated, Versioned}
-use Rattle.spdm_machine.specs.Terms.{no_choice, no_common}
+use Rattle.spdm_machine.specs.Terms.{no_choice}
 use Rattle.connection.proofs.AnswerLengths.{chunk_fits}
 use Rattle.connection.proofs.Lengths.{algorithms_long, answer_is}
 use Rattle.connection.proofs.Table.{IsShort, outside_session, pending_for, phase_allowed, refusal_is}
 use Rattle.connection.specs.Answering.{IsAnswerable, is_made_here}
-use Rattle.connection.specs.Negotiating as negotiating
 use Rattle.connection.specs.Negotiating.{IsSettled, IsSized}
-use Rattle.connection.specs.Refused.{IsClear, IsPassed, IsPendingFor, IsRefused, chunk_refusal, tests_of_answer, tests_of_request}
+use Rattle.connection.specs.Refused.{IsClear, IsPassed, IsRefused, chunk_refusal, tests_of_answer, tests_of_request}
 use Rattle.connection.specs.Standing.{IsSettledAt, Seen, StandsFor, place_at}
 use Rattle.connection.specs.declared.refused.Refused.{Refused}
 
@@ -202,8 +200,8 @@ pub refused_for_request : (r : RspSetup) (p : Place) (m : List ℕ) (f : Free) (
     → first_of_tests (tests_of_request r p asked) ≡ Some seen.code → IsRefused r p m f seen
 refused_for_request r p m f asked seen clear settled form is refused = record {
   code =
-    refusal_is r p m f asked clear form is (is_short r p m f asked clear settled form is)
-    ∙ ap (λ (x : Option ErrorCode). option_or (option_or x (first_of_tests (tests_of_answer p (code_for asked) (answer_bytes r p m f)))) (chunk_refusal (chunk_fault r p (Some asked)))) refused;
+      refusal_is r p m f asked clear form is (is_short r p m f asked clear settled form is)
+      ∙ ap (λ (x : Option ErrorCode). option_or (option_or x (first_of_tests (tests_of_answer p (code_for asked) (answer_bytes r p m f)))) (chunk_refusal (chunk_fault r p (Some asked)))) refused;
   answer = λ large. absurd (other_code (tests_of_request r p asked) seen.code (request_codes r p asked) refused large);
 }
 
@@ -212,9 +210,9 @@ pub refused_for_answer : (r : RspSetup) (p : Place) (m : List ℕ) (f : Free) (a
     → seen.answer_len ≡ length (answer_bytes r p m f) → IsRefused r p m f seen
 refused_for_answer r p m f asked seen clear settled form is passed refused long = record {
   code =
-    refusal_is r p m f asked clear form is (is_short r p m f asked clear settled form is)
-    ∙ ap (λ (x : Option ErrorCode). option_or (option_or x (first_of_tests (tests_of_answer p (code_for asked) (answer_bytes r p m f)))) (chunk_refusal (chunk_fault r p (Some asked)))) passed
-    ∙ ap (λ (x : Option ErrorCode). option_or x (chunk_refusal (chunk_fault r p (Some asked)))) refused;
+      refusal_is r p m f asked clear form is (is_short r p m f asked clear settled form is)
+      ∙ ap (λ (x : Option ErrorCode). option_or (option_or x (first_of_tests (tests_of_answer p (code_for asked) (answer_bytes r p m f)))) (chunk_refusal (chunk_fault r p (Some asked)))) passed
+      ∙ ap (λ (x : Option ErrorCode). option_or x (chunk_refusal (chunk_fault r p (Some asked)))) refused;
   answer = λ large. long;
 }
 
@@ -231,7 +229,7 @@ passed_all r p m f asked clear settled form is passed fits = record {
   form = form;
   asked_is = is;
   refused =
-    refusal_is r p m f asked clear form is (is_short r p m f asked clear settled form is)
-    ∙ ap (λ (x : Option ErrorCode). option_or (option_or x (first_of_tests (tests_of_answer p (code_for asked) (answer_bytes r p m f)))) (chunk_refusal (chunk_fault r p (Some asked)))) passed
-    ∙ ap (λ (x : Option ErrorCode). option_or x (chunk_refusal (chunk_fault r p (Some asked)))) fits;
+      refusal_is r p m f asked clear form is (is_short r p m f asked clear settled form is)
+      ∙ ap (λ (x : Option ErrorCode). option_or (option_or x (first_of_tests (tests_of_answer p (code_for asked) (answer_bytes r p m f)))) (chunk_refusal (chunk_fault r p (Some asked)))) passed
+      ∙ ap (λ (x : Option ErrorCode). option_or x (chunk_refusal (chunk_fault r p (Some asked)))) fits;
 }

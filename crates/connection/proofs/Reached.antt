@@ -1,26 +1,21 @@
 -- What a negotiation has reached after each of its requests.
-use Rattle.std.proofs.Common.{refl, ◌∙◌, ◌≡◌, ◌≤◌, ◌+◌, ℕ, List, [], ◌∷◌, ◌++◌, true, false, Bool, Option, Some, None, Ok, Err, length, ap, sym, subst, arith}
-use Rattle.std.proofs.lemmas.Bool.{false≢true}
+use Rattle.std.proofs.Common.{refl, ◌∙◌, ◌≡◌, ◌≤◌, ◌+◌, ℕ, List, [], ◌∷◌, ◌++◌, true, false, Bool, Option, Some, Ok, Err, length, ap, sym, subst, arith}
 use Rattle.std.proofs.lemmas.List.{append-nil, length-append}
-use Rattle.std.specs.Prelude.{if◌then◌else◌, ◌==◌, ◌&&◌, ◌||◌, nat_lt, not, unwrap_or}
+use Rattle.std.specs.Prelude.{if◌then◌else◌, ◌&&◌, ◌||◌, nat_lt, not, unwrap_or}
 use Rattle.std.specs.Result.{result_ok}
 use Rattle.negotiate.specs.Capabilities.{common_of, protects, psk_is, shared}
 use Rattle.negotiate.specs.Choosing.{selected}
-use Rattle.negotiate.specs.Reply.{reply_of}
 use Rattle.negotiate.specs.declared.shared.Common.{Common}
 use Rattle.responder_machine.proofs.Settled.{choice_settled, common_settled}
 use Rattle.responder_machine.proofs.Sizes.{common_sized}
 use Rattle.responder_machine.specs.Answer.{Free, answer_bytes, request_at}
 use Rattle.responder_machine.specs.History.{negotiation_of, phase_of}
 use Rattle.responder_machine.specs.Place.{Place}
-use Rattle.responder_machine.specs.Refusal.{sizes_are_known}
 use Rattle.responder_machine.specs.Setup.{RspSetup, policy_of, responder_caps}
 use Rattle.responder_machine.specs.Turn.{Effect, Turn, takes}
 use Rattle.responder_machine.specs.Turn.Effect.{Took}
 use Rattle.spdm_grammar.specs.Fields.{FitsCaps}
 use Rattle.spdm_grammar.specs.Message.{OfferMessage}
-use Rattle.spdm_grammar.specs.Message.ResponseMessage.{Algorithms}
-use Rattle.spdm_grammar.specs.Responses.{canonical_response}
 use Rattle.spdm_grammar.specs.Message.RequestMessage.{GetCapabilities, GetVersion, NegotiateAlgorithms}
 use Rattle.spdm_grammar.specs.Reading.{field_at, number_at}
 use Rattle.spdm_grammar.specs.declared.capabilities.Caps.{Caps}

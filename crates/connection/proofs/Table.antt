@@ -1,7 +1,6 @@
 -- The table of refusals in the clear, from the tests that are made there.
-use Rattle.std.proofs.Common.{refl, ◌∙◌, ◌≡◌, ◌≤◌, ◌<◌, ◌+◌, ℕ, zero, suc, List, [], ◌∷◌, ◌++◌, true, false, Bool, Option, Some, None, length, ap, sym, subst, arith}
+use Rattle.std.proofs.Common.{refl, ◌∙◌, ◌≡◌, ℕ, List, [], ◌∷◌, ◌++◌, true, false, Bool, Option, Some, None, ap, sym}
 use Rattle.std.proofs.lemmas.Bool.{false≢true}
-use Rattle.std.proofs.lemmas.Option.{none-some, same_Some}
 use Rattle.std.specs.Option.{option_or}
 use Rattle.std.specs.Prelude.{◌==◌, ◌&&◌, if◌then◌else◌, is_some, not}
 use Rattle.responder_machine.proofs.Codes.{asked-code}
@@ -13,7 +12,7 @@ use Rattle.responder_machine.specs.Refusal.{are_caps_refused, chunk_fault, code_
 use Rattle.responder_machine.specs.Setup.{RspSetup}
 use Rattle.spdm_basis.specs.Tests.{first_of_tests}
 use Rattle.spdm_grammar.specs.Codes.{code_for}
-use Rattle.spdm_grammar.specs.Message.{ChunkMessage, RequestMessage}
+use Rattle.spdm_grammar.specs.Message.{RequestMessage}
 use Rattle.spdm_grammar.specs.Message.RequestMessage.{ChunkGet, ChunkSend, EndSession, GetCapabilities, GetMeasurements, GetVersion, Heartbeat, KeyUpdate, NegotiateAlgorithms, PskExchange, PskFinish}
 use Rattle.spdm_grammar.specs.declared.error_code.ErrorCode.{ErrorCode}
 use Rattle.spdm_grammar.specs.declared.error_code.ErrorCode.TheVariants.{DecryptError, InvalidRequest, RequestTooLarge, ResponseTooLarge, SessionLimitExceeded, UnexpectedRequest, UnsupportedRequest}
@@ -22,7 +21,7 @@ use Rattle.spdm_grammar.specs.declared.part_faults.ChunkFault.{ChunkFault}
 use Rattle.spdm_grammar.specs.declared.part_faults.ChunkFault.TheVariants as fault
 use Rattle.spdm_grammar.specs.declared.phase.Phase.{Phase}
 use Rattle.spdm_grammar.specs.declared.phase.Phase.TheVariants.{Capable, Fresh, Negotiated, Versioned}
-use Rattle.connection.specs.Refused.{IsClear, IsPassed, IsPendingFor, IsRefused, chunk_refusal, tests_of_answer, tests_of_request}
+use Rattle.connection.specs.Refused.{IsClear, IsPendingFor, chunk_refusal, tests_of_answer, tests_of_request}
 
 -- ---- Lists of tests.
 
@@ -165,18 +164,18 @@ refusal_is r p m f asked clear form is short =
   where
     contents_are : (q : Option RequestMessage) (code : ℕ) → q ≡ Some asked → code ≡ code_for asked
         → first_of_tests (
-            (lacks_flag (place_terms p) code, UnsupportedRequest)
-            ∷ (are_caps_refused r q, InvalidRequest)
-            ∷ (is_offer_refused r q, InvalidRequest)
-            ∷ (has_no_block r q, InvalidRequest)
-            ∷ (is_exchange_refused r p q, InvalidRequest)
-            ∷ (is_verify_wrong r p m q, DecryptError)
-            ∷ (is_update_misplaced p q, UnexpectedRequest)
-            ∷ (is_too_large (chunk_fault r p q), RequestTooLarge)
-            ∷ (is_some (chunk_fault r p q), InvalidRequest)
-            ∷ (is_get_refused p q, InvalidRequest)
-            ∷ (is_answer_too_long p (answer_bytes r p m f), ResponseTooLarge)
-            ∷ (code == PSK_EXCHANGE && p.past_handshake == 4, SessionLimitExceeded)
-            ∷ [])
+        (lacks_flag (place_terms p) code, UnsupportedRequest)
+        ∷ (are_caps_refused r q, InvalidRequest)
+        ∷ (is_offer_refused r q, InvalidRequest)
+        ∷ (has_no_block r q, InvalidRequest)
+        ∷ (is_exchange_refused r p q, InvalidRequest)
+        ∷ (is_verify_wrong r p m q, DecryptError)
+        ∷ (is_update_misplaced p q, UnexpectedRequest)
+        ∷ (is_too_large (chunk_fault r p q), RequestTooLarge)
+        ∷ (is_some (chunk_fault r p q), InvalidRequest)
+        ∷ (is_get_refused p q, InvalidRequest)
+        ∷ (is_answer_too_long p (answer_bytes r p m f), ResponseTooLarge)
+        ∷ (code == PSK_EXCHANGE && p.past_handshake == 4, SessionLimitExceeded)
+        ∷ [])
         ≡ first_of_tests (all_tests r p m asked (code_for asked) (is_answer_too_long p (answer_bytes r p m f)) (code_for asked == PSK_EXCHANGE && p.past_handshake == 4))
     contents_are q code is same = rw (is, same) refl

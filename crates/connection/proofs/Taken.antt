@@ -1,8 +1,8 @@
 -- What a request changes that is taken in the clear.
-use Rattle.std.proofs.Common.{refl, ◌∙◌, ◌≡◌, ◌≤◌, ◌<◌, ◌+◌, ℕ, List, [], ◌∷◌, ◌++◌, true, false, Bool, Option, Some, None, length, ap, sym, subst, arith}
+use Rattle.std.proofs.Common.{refl, ◌∙◌, ◌≡◌, ◌≤◌, ◌<◌, ◌+◌, ℕ, List, [], ◌∷◌, true, false, Bool, Option, Some, None, length, ap, sym, subst, arith}
 use Rattle.std.proofs.lemmas.Bool.{false≢true, ltb-true}
 use Rattle.std.proofs.lemmas.Bool.Decides.{nat_tests}
-use Rattle.std.proofs.lemmas.Option.{none-some, same_Some}
+use Rattle.std.proofs.lemmas.Option.{none-some}
 use Rattle.std.specs.Prelude.{◌==◌, ◌&&◌, ◌||◌, if◌then◌else◌, is_none, nat_lt, not, unwrap_or}
 use Rattle.negotiate.specs.Capabilities.{common_of}
 use Rattle.negotiate.specs.Choosing.{selected}
@@ -12,11 +12,11 @@ use Rattle.responder_machine.proofs.Codes.{asked-code}
 use Rattle.responder_machine.proofs.Tests.{contents_shown, tests_are_false}
 use Rattle.responder_machine.specs.Answer.{Free, answer_bytes, request_at}
 use Rattle.responder_machine.specs.Handling.{chunk_in, effect_of, goes_large, handle_for, request_effect}
-use Rattle.responder_machine.specs.History.{negotiation_of, phase_of}
+use Rattle.responder_machine.specs.History.{negotiation_of}
 use Rattle.responder_machine.specs.LargeMessages.{large_of, pending_of}
 use Rattle.responder_machine.specs.Place.{Place, Where, place_terms}
 use Rattle.responder_machine.specs.Place.Where.{InChunks, InClear, InSession}
-use Rattle.responder_machine.specs.Refusal.{are_caps_refused, bytes_round, chunk_fault, code_of, has_pending, is_misplaced, is_offer_refused, limit_of, phase_allows, refused_form, sizes_are_known, tests_of_form}
+use Rattle.responder_machine.specs.Refusal.{are_caps_refused, bytes_round, chunk_fault, has_pending, is_misplaced, is_offer_refused, limit_of, phase_allows, refused_form, sizes_are_known, tests_of_form}
 use Rattle.responder_machine.specs.Setup.{RspSetup, policy_of, responder_caps}
 use Rattle.responder_machine.specs.Turn.{Effect, Turn, answer_in, code_in, handle_in, is_taken, large_in, request_in, takes}
 use Rattle.responder_machine.specs.Turn.Effect.{NoEffect, Took}
@@ -30,13 +30,12 @@ use Rattle.spdm_grammar.specs.Codes.{code_for}
 use Rattle.spdm_grammar.specs.Message.{OfferMessage, RequestMessage, request_message}
 use Rattle.spdm_grammar.specs.Message.RequestMessage.{ChunkGet, GetCapabilities, GetVersion, NegotiateAlgorithms}
 use Rattle.spdm_grammar.specs.declared.capabilities.Caps.{Caps}
-use Rattle.spdm_grammar.specs.declared.choice.Choice.{Choice}
 use Rattle.spdm_grammar.specs.declared.names.request_code.TheConstants.{CHUNK_GET, GET_CAPABILITIES, GET_VERSION, NEGOTIATE_ALGORITHMS}
 use Rattle.spdm_grammar.specs.declared.phase.Phase.{Phase}
 use Rattle.spdm_grammar.specs.declared.phase.Phase.TheVariants.{Capable, Fresh, Negotiated, Versioned}
 use Rattle.connection.proofs.AnswerLengths.{chunk_fits}
 use Rattle.connection.proofs.Lengths.{answer_is}
-use Rattle.connection.proofs.Table.{pending_for, phase_allowed}
+use Rattle.connection.proofs.Table.{phase_allowed}
 use Rattle.connection.specs.Negotiating.{IsSettled, IsSized}
 use Rattle.connection.specs.Answering.{is_made_here}
 use Rattle.connection.specs.Refused.{IsClear, chunk_refusal}

@@ -1,19 +1,17 @@
 -- The whole outcome of a clear message, from its turn.
-use Rattle.std.proofs.Common.{refl, ◌∙◌, ◌≡◌, ◌≤◌, ◌<◌, ◌+◌, ℕ, List, [], ◌∷◌, ◌++◌, true, false, Bool, Option, Some, None, length, ap, sym, subst, arith}
-use Rattle.std.proofs.lemmas.Option.{none-some, same_Some}
-use Rattle.std.specs.Option.{option_or}
-use Rattle.std.specs.Prelude.{◌==◌, if◌then◌else◌, is_none}
+use Rattle.std.proofs.Common.{refl, ◌∙◌, ◌≡◌, ◌≤◌, ℕ, List, [], true, false, Bool, Option, Some, None, length, ap, sym, subst}
+use Rattle.std.proofs.lemmas.Option.{none-some}
+use Rattle.std.specs.Prelude.{if◌then◌else◌, is_none}
 use Rattle.connection.proofs.Taken.{message_short}
-use Rattle.connection.specs.ClearPart.{IsAnswered, IsBeginning, Seen, StandsFor}
-use Rattle.connection.specs.Coming as coming
+use Rattle.connection.specs.ClearPart.{IsAnswered, Seen, StandsFor}
 use Rattle.connection.specs.Coming.{IsTurned}
 use Rattle.responder_machine.proofs.Making.{turn_message}
 use Rattle.responder_machine.proofs.Tests.{none_of_both}
 use Rattle.responder_machine.proofs.Turns.{turn_of-refused}
 use Rattle.responder_machine.specs.Answer.{Free, answer_bytes, request_at}
-use Rattle.responder_machine.specs.Handling.{carried_turn, chunk_in, chunk_turn, effect_of, handle_for, last_chunk_turn, taken_chunk, turn_by, turn_of}
+use Rattle.responder_machine.specs.Handling.{carried_turn, chunk_in, effect_of, handle_for, last_chunk_turn, taken_chunk, turn_by, turn_of}
 use Rattle.responder_machine.specs.Heard.{heard_in, heard_of, no_id}
-use Rattle.responder_machine.specs.History.{History, Kept, clear_turns, kept_of}
+use Rattle.responder_machine.specs.History.{History, kept_of}
 use Rattle.responder_machine.specs.History.Entry.{Clear}
 use Rattle.responder_machine.specs.Laws.{completed_at}
 use Rattle.responder_machine.specs.Place.{Place, clear_place, inside}
@@ -21,12 +19,11 @@ use Rattle.responder_machine.specs.Refusal.{code_of, refusal, refused_contents, 
 use Rattle.responder_machine.specs.Responder.{Outcome, after, body_of, is_repeat, kept_reply, on_clear}
 use Rattle.responder_machine.specs.Responder.Outcome.{Adds, Same}
 use Rattle.responder_machine.specs.Setup.{RspSetup}
-use Rattle.responder_machine.specs.Turn.{Effect, Turn, is_data}
+use Rattle.responder_machine.specs.Turn.{Turn, is_data}
 use Rattle.responder_machine.specs.Turn.Effect.{NoEffect}
 use Rattle.spdm_grammar.specs.ErrorNumber.{error_number}
 use Rattle.spdm_grammar.specs.Message.{ChunkMessage, RequestMessage}
 use Rattle.spdm_grammar.specs.declared.error_code.ErrorCode.{ErrorCode}
-use Rattle.spdm_grammar.specs.declared.heard.Heard.{Heard}
 use Rattle.spdm_grammar.specs.declared.heard.Heard.TheVariants as heard
 use Rattle.spdm_grammar.specs.declared.names.TheConstants.{MAX_MESSAGE_SIZE}
 use Rattle.spdm_machine.specs.Bodies.{clear_body}
@@ -114,14 +111,14 @@ taken_answered r h tag m f d new out anew taken turned kept =
     let message = turn_message r (clear_place h) m f in
     record {
       told =
-        ap (λ (x : List ℕ). heard.Answered (code_of x)) (sym message)
-        ∙ ap (λ (b : Bool). if b then heard.Taken no_id else heard.Answered (code_of t.message)) (sym (no_data r (clear_place h) m f))
-        ∙ ap (λ (x : Option ErrorCode). heard_in t no_id x) (sym taken) ∙ ap heard_of (sym is);
+          ap (λ (x : List ℕ). heard.Answered (code_of x)) (sym message)
+          ∙ ap (λ (b : Bool). if b then heard.Taken no_id else heard.Answered (code_of t.message)) (sym (no_data r (clear_place h) m f))
+          ∙ ap (λ (x : Option ErrorCode). heard_in t no_id x) (sym taken) ∙ ap heard_of (sym is);
       body = ap clear_body turned.reply ∙ ap body_of (sym is);
       stands = subst (λ (o : Outcome). StandsFor new r (after h o)) (sym is) (record {
         requests = turned.stands;
         kept =
-          kept ∙ ap (λ (x : List ℕ). Some (record { tag = tag; message = x; reply = out })) (sym message) ∙ ap (λ (x : List ℕ). Some (record { tag = tag; message = t.message; reply = x })) turned.reply
-          ∙ ap (λ (x : Option ErrorCode). if is_none x then Some (record { tag = tag; message = t.message; reply = t.reply }) else kept_of h) (sym taken);
+            kept ∙ ap (λ (x : List ℕ). Some (record { tag = tag; message = x; reply = out })) (sym message) ∙ ap (λ (x : List ℕ). Some (record { tag = tag; message = t.message; reply = x })) turned.reply
+            ∙ ap (λ (x : Option ErrorCode). if is_none x then Some (record { tag = tag; message = t.message; reply = t.reply }) else kept_of h) (sym taken);
       });
     }

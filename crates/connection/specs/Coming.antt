@@ -7,7 +7,7 @@ use Rattle.connection.specs.declared.came.Begun.{Begun}
 use Rattle.connection.specs.declared.came.Begun.TheVariants as begun
 use Rattle.connection.specs.declared.came.Came.{Came}
 use Rattle.connection.specs.declared.came.Came.TheVariants as came
-use Rattle.responder_machine.specs.Answer.{Free, answer_bytes, request_at}
+use Rattle.responder_machine.specs.Answer.{Free, request_at}
 use Rattle.responder_machine.specs.Handling.{turn_of}
 use Rattle.responder_machine.specs.LargeMessages.{chunks_of}
 use Rattle.responder_machine.specs.Laws.{completed_at}

@@ -1,5 +1,5 @@
 -- Tests of a request's contents.
-use Rattle.std.specs.Prelude.{ℕ, List, Bool, false}
+use Rattle.std.specs.Prelude.{List, Bool, false}
 use Rattle.measurements.specs.Records.{is_missing}
 use Rattle.spdm_grammar.specs.Message.{RequestMessage}
 use Rattle.spdm_grammar.specs.Message.RequestMessage.{GetMeasurements}

@@ -1,5 +1,5 @@
 -- The clear part of a connection without its large request, as the program keeps it.
-use Rattle.std.specs.Prelude.{◌≡◌, ℕ, List, []}
+use Rattle.std.specs.Prelude.{ℕ, List, []}
 use Rattle.connection.specs.Negotiating as negotiating
 use Rattle.request_rules.specs.LargeAnswer as large_answer
 use Rattle.responder_machine.specs.History.{negotiation_of, phase_of}

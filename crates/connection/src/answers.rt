@@ -54,6 +54,7 @@ pub fn write_algorithms(setup: &Setup<'_>, offer: &AlgOffer<'_>, out: &mut Frame
 
 // What stands in CHUNK_RESPONSE beside the bytes of the chunk, and LargeMessageSize.
 const CHUNK_FIELDS_LEN: usize = 12;
+
 const LARGE_LEN: usize = 4;
 
 /// CHUNK_RESPONSE with a chunk of at most 4,096 bytes that has a spelling, and its length. One that passes

@@ -46,7 +46,9 @@ impl Standing {
             → StandsFor self.now turns
             → unwrap_or result [] ≡ summary_answer r (place_at at turns held) kind }
     {
-        setup.inventory.summary_by(self.negotiating.choice().hash, kind)
+        setup
+            .inventory
+            .summary_by(self.negotiating.choice().hash, kind)
     }
 
     /// The handle of the next answer that goes by chunks.

@@ -15,11 +15,7 @@ use spdm_grammar::Exchange;
 const FIELDS_LEN: usize = 12;
 
 /// The length of the PSK_EXCHANGE_RSP that answers an exchange at this place, told before any key is made.
-pub fn exchange_rsp_len(
-    place: &Place,
-    exchange: &Exchange<'_>,
-    free: &FreeValues<'_>,
-) -> usize
+pub fn exchange_rsp_len(place: &Place, exchange: &Exchange<'_>, free: &FreeValues<'_>) -> usize
     ensures most { result < 2 ^ 32 }
     ensures value { (r : RspSetup) (p : places.Place) (m : List ℕ) (f : Free) → IsPlace place.now p
         → IsFree free.now f → result ≡ length (canonical_response
@@ -35,5 +31,9 @@ fn summary_len(hash_len: usize, kind: u8) -> usize
     ensures value { result ≡ (if kind == 1 || kind == 255 then hash_len else 0) }
     ensures most { result ≤ hash_len }
 {
-    if kind == 1 || kind == 255 { hash_len } else { 0 }
+    if kind == 1 || kind == 255 {
+        hash_len
+    } else {
+        0
+    }
 }

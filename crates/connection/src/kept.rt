@@ -22,9 +22,9 @@ impl Model for KeptReply {
     ghost Value = { Option Kept };
 
     ghost view = { λ k. if k.is_there then Some (record {
-        tag = k.tag;
-        message = k.message;
-        reply = k.reply;
+      tag = k.tag;
+      message = k.message;
+      reply = k.reply;
     }) else None };
 }
 
@@ -53,7 +53,11 @@ impl KeptReply {
         ensures value { result.now ≡ responder.kept_reply self.now }
         ensures fits { length result.now ≤ MAX_MESSAGE_SIZE }
     {
-        if self.is_there { self.reply.as_slice() } else { &[] }
+        if self.is_there {
+            self.reply.as_slice()
+        } else {
+            &[]
+        }
     }
 
     /// Keeps a request with its tag and its reply, in place of the one before. Each has at most 4,096 bytes.

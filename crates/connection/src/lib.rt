@@ -21,8 +21,8 @@ mod requests;
 mod setup;
 mod standing;
 mod taking;
-mod told;
 mod tested;
+mod told;
 
 pub use came::{Begun, Came};
 pub use clear_part::ClearPart;

@@ -61,10 +61,10 @@ impl Model for Negotiating {
     ghost Value = { Seen };
 
     ghost view = { λ n. record {
-        phase = n.phase;
-        messages = n.messages;
-        common = n.common;
-        choice = n.choice;
+      phase = n.phase;
+      messages = n.messages;
+      common = n.common;
+      choice = n.choice;
     } };
 }
 

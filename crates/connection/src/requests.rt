@@ -42,9 +42,9 @@ impl Model for Requests {
     ghost Value = { Seen };
 
     ghost view = { λ q. record {
-        standing = q.standing;
-        collector = q.collector;
-        whole = q.whole;
+      standing = q.standing;
+      collector = q.collector;
+      whole = q.whole;
     } };
 }
 
@@ -101,7 +101,10 @@ impl Requests {
     {
         let mut response = Frame::new();
         let whole = self.whole.as_slice();
-        match self.standing.handle(Where::InChunks, setup, held, whole, free, &mut response) {
+        match self
+            .standing
+            .handle(Where::InChunks, setup, held, whole, free, &mut response)
+        {
             Handled::Refused(_) => {
                 self.standing.take_nothing();
                 write_acknowledgement(chunk.handle, chunk.number, response.as_slice(), out);
@@ -170,7 +173,10 @@ impl Requests {
             → IsFree free.now f → StandsFor self.old r turns
             → IsCome r (place_at InClear turns held) message.now f result self.new out.new }
     {
-        match self.standing.handle(Where::InClear, setup, held, message, free, out) {
+        match self
+            .standing
+            .handle(Where::InClear, setup, held, message, free, out)
+        {
             Handled::Refused(code) => Came::Refused(code),
             Handled::Answered => {
                 self.collector.clear();
@@ -197,9 +203,13 @@ impl Requests {
                 self.standing.begin(Where::InClear, answer, handle, out);
                 self.collector.clear();
             }
-            Begun::InChunks { handle: of_chunk, number } => {
+            Begun::InChunks {
+                handle: of_chunk,
+                number,
+            } => {
                 let mut response = Frame::new();
-                self.standing.begin(Where::InChunks, answer, handle, &mut response);
+                self.standing
+                    .begin(Where::InChunks, answer, handle, &mut response);
                 write_acknowledgement(of_chunk, number, response.as_slice(), out);
             }
         }

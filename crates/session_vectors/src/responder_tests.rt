@@ -1,8 +1,10 @@
 use crate::responder_suites::{MEASURED, REFUSED_IN_HANDSHAKE, REFUSED_IN_OPEN, SUITES, Suite};
-use responder_session::{AppQueue, ExchangeParts, QueueFault, RspAct, RspHandshake, RspState, RspTook};
 use hmac_hkdf::Drawn;
 use measurements::Inventory;
 use negotiate::{Common, Sizes};
+use responder_session::{
+    AppQueue, ExchangeParts, QueueFault, RspAct, RspHandshake, RspState, RspTook,
+};
 use secured_record::RecordFault;
 use session_keys::SessionTerms;
 use spdm_basis::{Bytes, Frame, Psk};

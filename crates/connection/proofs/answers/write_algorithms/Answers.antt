@@ -1,4 +1,4 @@
-use Rattle.std.proofs.Common.{◌≡◌, ◌∙◌, sym, subst}
+use Rattle.std.proofs.Common.{◌∙◌, sym, subst}
 use Rattle.spdm_grammar.specs.Message.{ReplyMessage, offer_message}
 use Rattle.spdm_grammar.specs.Responses.{IsSoundReply}
 use Rattle.connection.proofs.answers.write_algorithms.Goals as goal

@@ -1,4 +1,4 @@
-use Rattle.std.proofs.Common.{◌≡◌, ◌∙◌, ◌+◌, ◌≤◌, ℕ, List, length, sym, ap, arith}
+use Rattle.std.proofs.Common.{◌≡◌, ◌∙◌, ◌+◌, ℕ, length, sym, ap, arith}
 use Rattle.std.specs.Prelude.{◌==◌, ◌||◌, if◌then◌else◌}
 use Rattle.connection.proofs.AnswerLengths.{exchange_long}
 use Rattle.connection.proofs.exchange.exchange_rsp_len.Goals as goal
@@ -12,7 +12,7 @@ returns-clause-value c = λ r p m f place free.
     let kind = c.args.exchange.now.summary in
     let hash : c.size-hash_len.result ≡ hash_size (place_terms p).choice.hash = c.size-hash_len.ensures ∙ ap (λ (x : Choice). hash_size x.hash) (sym place.choice) in
     let summary : c.summary_len-summary_len.result ≡ (if kind == 1 || kind == 255 then hash_size (place_terms p).choice.hash else 0) =
-        c.summary_len-summary_len.ensures.value ∙ ap (λ (n : ℕ). if kind == 1 || kind == 255 then n else 0) hash in
+    c.summary_len-summary_len.ensures.value ∙ ap (λ (n : ℕ). if kind == 1 || kind == 255 then n else 0) hash in
     let context = ap length free.context in
     let opaque = ap length free.exchange_opaque in
     let long = exchange_long r p m f (exchange_message c.args.exchange.now) in

@@ -1,11 +1,10 @@
-use Rattle.std.proofs.Common.{◌≡◌, ◌∙◌, Option, Some, None, sym, ap, subst}
+use Rattle.std.proofs.Common.{◌∙◌, sym, subst}
 use Rattle.connection.proofs.Taken.{caps_agree, caps_phase, offer_chosen, offer_phase}
 use Rattle.connection.proofs.Table.{none_there}
 use Rattle.connection.proofs.taking.settle.Goals as goal
 use Rattle.connection.specs.Taking.{IsTaking}
 use Rattle.responder_machine.specs.Handling.{handle_for}
 use Rattle.spdm_grammar.specs.Message.{offer_message, request_message}
-use Rattle.spdm_grammar.specs.Message.RequestMessage.{GetCapabilities, GetVersion, NegotiateAlgorithms}
 use Rattle.spdm_grammar.specs.declared.request.Request.{Request}
 
 pub returns-in-GetVersion : goal.returns-in-GetVersion

@@ -1,8 +1,7 @@
-use Rattle.std.proofs.Common.{refl, eq-eqb, ◌≡◌, ◌∙◌, Option, Some, None, sym, ap, subst, List, ℕ}
+use Rattle.std.proofs.Common.{refl, eq-eqb, ◌≡◌, ◌∙◌, Option, Some, sym, ap, subst, ℕ}
 use Rattle.connection.proofs.Taken.{a_handle, code_small, large_sized, handle_of_turn, takes_code}
 use Rattle.connection.proofs.taking.settle_large.Goals as goal
-use Rattle.connection.specs.Taking.{IsTaking}
-use Rattle.responder_machine.specs.Turn.{Effect, code_in, handle_in, large_in}
+use Rattle.responder_machine.specs.Turn.{handle_in, large_in}
 use Rattle.responder_machine.specs.Place.{place_terms}
 use Rattle.std.proofs.lemmas.Bool.{ne_eqb}
 use Rattle.request_rules.specs.LargeAnswer as large_answer
@@ -12,7 +11,6 @@ use Rattle.std.proofs.Common.{◌<◌, ◌≤◌, ◌+◌, ◌∷◌, length}
 use Rattle.spdm_grammar.specs.declared.names.TheConstants.{MIN_DATA_TRANSFER_SIZE}
 use Rattle.spdm_grammar.specs.Codes.{code_for}
 use Rattle.spdm_grammar.specs.declared.names.request_code.TheConstants.{CHUNK_GET}
-use Rattle.spdm_grammar.specs.Message.{request_message}
 
 pub returns-then-code-eq-CHUNK_GET : goal.returns-then-code-eq-CHUNK_GET
 returns-then-code-eq-CHUNK_GET c = λ r p m f asked t place handle settled is_code stands taking.

@@ -1,18 +1,10 @@
-use Rattle.std.proofs.Common.{refl, true, false, ◌≡◌, ◌∙◌, sym, subst, ap, List, ℕ, ◌≤◌, length, Option, Some, None}
-use Rattle.connection.proofs.Whole.{refused_answered, repeated, taken_answered, turn_short}
-use Rattle.connection.specs.ClearPart.{IsBeginning, Seen, StandsFor}
-use Rattle.connection.specs.Coming.{IsCome, IsTurned, exchange_bytes, exchange_place}
-use Rattle.connection.specs.Standing.{place_at}
-use Rattle.responder_machine.specs.History.{Kept, clear_turns, kept_of}
+use Rattle.std.proofs.Common.{◌≡◌, ◌∙◌, sym, subst, ap, List, ℕ, ◌≤◌, length, Some}
+use Rattle.connection.proofs.Whole.{taken_answered, turn_short}
+use Rattle.connection.specs.ClearPart.{IsBeginning, Seen}
+use Rattle.connection.specs.Coming.{exchange_bytes, exchange_place}
+use Rattle.responder_machine.specs.History.{clear_turns}
 use Rattle.responder_machine.specs.Place.{clear_place, held_of}
-use Rattle.responder_machine.specs.Place.Where.{InClear}
-use Rattle.responder_machine.specs.Refusal.{code_of}
-use Rattle.responder_machine.specs.Responder.{is_repeat, kept_reply}
 use Rattle.spdm_grammar.specs.declared.names.TheConstants.{MAX_MESSAGE_SIZE}
-use Rattle.spdm_grammar.specs.declared.heard.Heard.{Heard}
-use Rattle.spdm_grammar.specs.declared.heard.Heard.TheVariants as hearing
-use Rattle.connection.specs.ClearPart.{IsAnswered}
-use Rattle.connection.specs.declared.came.Came.TheVariants as came
 use Rattle.connection.proofs.clear_part.ClearPart.begin.Goals as goal
 use Rattle.responder_machine.specs.Answer.{answer_bytes}
 

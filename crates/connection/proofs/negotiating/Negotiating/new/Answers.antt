@@ -1,6 +1,6 @@
-use Rattle.std.proofs.Common.{◌≡◌, [], subst, sym, ap, List, ℕ}
+use Rattle.std.proofs.Common.{[], subst, sym, List, ℕ}
 use Rattle.connection.proofs.Reached.{nothing_reached}
-use Rattle.connection.specs.Negotiating.{Seen, StandsFor}
+use Rattle.connection.specs.Negotiating.{StandsFor}
 use Rattle.spdm_grammar.specs.declared.phase.Phase.TheVariants.{Fresh}
 use Rattle.spdm_machine.specs.Terms.{no_choice, no_common}
 use Rattle.connection.proofs.negotiating.Negotiating.new.Goals as goal

@@ -1,4 +1,4 @@
-use Rattle.std.proofs.Common.{◌≡◌, ◌∙◌, ◌+◌, ◌++◌, ◌≤◌, [], subst, sym, ap, List, ℕ, length}
+use Rattle.std.proofs.Common.{◌≡◌, ◌+◌, ◌++◌, ◌≤◌, subst, List, ℕ, length}
 use Rattle.connection.proofs.Reached.{versioned}
 use Rattle.connection.proofs.negotiating.Negotiating.take_version.Goals as goal
 

@@ -1,19 +1,13 @@
-use Rattle.std.proofs.Common.{true, refl, ◌≡◌, ◌∙◌, ◌+◌, ◌≤◌, ◌∷◌, [], sym, subst, ap, List, ℕ, Option, Some, None, length, arith}
-use Rattle.chunking.specs.Keeping as keeping
-use Rattle.connection.proofs.Chunked.{chunk_code, chunk_known, error_fits, no_chunk_inside, reply_fits, rule_more, rule_refused, rule_whole, standing_now, turned_last_refused, turned_last_taken, turned_more, turned_plain, turned_refused}
+use Rattle.std.proofs.Common.{refl, ◌≡◌, ◌∙◌, ◌+◌, ◌≤◌, sym, subst, ap, List, ℕ, length}
+use Rattle.connection.proofs.Chunked.{chunk_known, reply_fits, turned_last_taken, turned_plain}
 use Rattle.connection.proofs.Passing.{settled_at}
-use Rattle.connection.specs.Coming.{Completes, Seen, StandsFor}
-use Rattle.connection.specs.Refused.{chunk_refusal}
-use Rattle.connection.specs.Standing as standing
+use Rattle.connection.specs.Coming.{Seen, StandsFor}
 use Rattle.connection.specs.Standing.{place_at}
-use Rattle.responder_machine.specs.Answer.{request_at}
-use Rattle.responder_machine.specs.Handling.{acknowledged, error_bytes, request_effect, request_reply}
+use Rattle.responder_machine.specs.Handling.{request_reply}
 use Rattle.responder_machine.specs.Place.{Place}
 use Rattle.responder_machine.specs.Place.Where.{InChunks, InClear}
-use Rattle.responder_machine.specs.Refusal.{refusal, refused_form}
-use Rattle.responder_machine.specs.Turn.{Turn, is_taken}
-use Rattle.spdm_grammar.specs.Message.{ChunkMessage, chunk_message}
-use Rattle.spdm_grammar.specs.Message.RequestMessage.{ChunkSend, PskExchange}
+use Rattle.spdm_grammar.specs.Message.{ChunkMessage}
+use Rattle.spdm_grammar.specs.Message.RequestMessage.{PskExchange}
 use Rattle.spdm_grammar.specs.declared.names.TheConstants.{MAX_MESSAGE_SIZE}
 use Rattle.connection.proofs.Taken.{effect_is, message_short}
 use Rattle.connection.proofs.requests.Requests.begin.Goals as goal
@@ -60,9 +54,9 @@ returns-in-InChunks c = λ r turns held m f handle ordered most begun answered.
     let h : ℕ = c.in-InChunks.of_chunk in
     let n : ℕ = c.in-InChunks.number in
     let begins : BeginsInChunks r p m f h n before =
-        subst (λ (s : Seen). BeginsInChunks r p m f h n s) same (subst (λ (b : Begun). IsBegun r p m f b c.args.self.now) c.in-InChunks.is begun) in
+    subst (λ (s : Seen). BeginsInChunks r p m f h n s) same (subst (λ (b : Begun). IsBegun r p m f b c.args.self.now) c.in-InChunks.is begun) in
     let told : answer ≡ answer_bytes r within before.whole f =
-        subst (λ (s : Seen). answer ≡ answer_bytes r within s.whole f) same (subst (λ (b : Begun). answer ≡ answer_bytes r (exchange_place b p) (exchange_bytes b m c.args.self.now) f) c.in-InChunks.is answered) in
+    subst (λ (s : Seen). answer ≡ answer_bytes r within s.whole f) same (subst (λ (b : Begun). answer ≡ answer_bytes r (exchange_place b p) (exchange_bytes b m c.args.self.now) f) c.in-InChunks.is answered) in
     let done = begins.completes in
     let chunk : ChunkMessage = begins.chunk in
     let asked = PskExchange begins.exchange in
@@ -71,9 +65,9 @@ returns-in-InChunks c = λ r turns held m f handle ordered most begun answered.
     let response = c.as_slice.ensures.value ∙ c.begin-in-InChunks.ensures.sent turns held f handle done.standing ∙ ap (sent_for within f) told in
     let fits = subst (λ (a : List ℕ). length a + 6 ≤ MAX_MESSAGE_SIZE) (sym response) (reply_fits r p before.whole f known.0 known.1) in
     let written =
-        c.write_acknowledgement.ensures fits ∙ ap (λ (a : List ℕ). canonical_response (ChunkSendAck false h n a)) response
-        ∙ ap (λ (x : ℕ). canonical_response (ChunkSendAck false x n (request_reply r within before.whole f))) (sym begins.handle_is)
-        ∙ ap (λ (x : ℕ). canonical_response (ChunkSendAck false chunk.handle x (request_reply r within before.whole f))) (sym begins.number_is) in
+    c.write_acknowledgement.ensures fits ∙ ap (λ (a : List ℕ). canonical_response (ChunkSendAck false h n a)) response
+    ∙ ap (λ (x : ℕ). canonical_response (ChunkSendAck false x n (request_reply r within before.whole f))) (sym begins.handle_is)
+    ∙ ap (λ (x : ℕ). canonical_response (ChunkSendAck false chunk.handle x (request_reply r within before.whole f))) (sym begins.number_is) in
     turned_last_taken r InClear turns held m f chunk before c.begin-in-InChunks.new.self c.write_acknowledgement.new.out done begins.refused
     (λ t taken took. c.begin-in-InChunks.ensures.stands r turns held before.whole f begins.exchange t handle done.standing (record {
       clear = tt;

@@ -1,20 +1,12 @@
-use Rattle.std.proofs.Common.{true, refl, ◌≡◌, ◌∙◌, ◌+◌, ◌≤◌, ◌∷◌, [], sym, subst, ap, List, ℕ, Option, Some, None, length, arith}
+use Rattle.std.proofs.Common.{◌≡◌, ◌∙◌, sym, subst, ap, List, ℕ, Option, arith}
 use Rattle.chunking.specs.Keeping as keeping
-use Rattle.connection.proofs.Chunked.{chunk_code, chunk_known, error_fits, no_chunk_inside, reply_fits, rule_more, rule_refused, rule_whole, standing_now, turned_last_refused, turned_last_taken, turned_more, turned_plain, turned_refused}
-use Rattle.connection.proofs.Passing.{settled_at}
-use Rattle.connection.specs.Coming.{Completes, Seen, StandsFor}
+use Rattle.connection.proofs.Chunked.{chunk_code, rule_more, rule_refused, rule_whole, turned_more, turned_refused}
+use Rattle.connection.specs.Coming.{Seen, StandsFor}
 use Rattle.connection.specs.Refused.{chunk_refusal}
-use Rattle.connection.specs.Standing as standing
 use Rattle.connection.specs.Standing.{place_at}
-use Rattle.responder_machine.specs.Answer.{request_at}
-use Rattle.responder_machine.specs.Handling.{acknowledged, error_bytes, request_effect, request_reply}
 use Rattle.responder_machine.specs.Place.{Place}
-use Rattle.responder_machine.specs.Place.Where.{InChunks, InClear}
-use Rattle.responder_machine.specs.Refusal.{refusal, refused_form}
-use Rattle.responder_machine.specs.Turn.{Turn, is_taken}
+use Rattle.responder_machine.specs.Place.Where.{InClear}
 use Rattle.spdm_grammar.specs.Message.{ChunkMessage, chunk_message}
-use Rattle.spdm_grammar.specs.Message.RequestMessage.{ChunkSend, PskExchange}
-use Rattle.spdm_grammar.specs.declared.names.TheConstants.{MAX_MESSAGE_SIZE}
 use Rattle.chunking.specs.Collecting.{accepted_unless, broken_rule, joined_with, under_way}
 use Rattle.connection.proofs.requests.Requests.on_chunk.Goals as goal
 use Rattle.responder_machine.specs.LargeMessages.{chunks_of}

@@ -1,24 +1,13 @@
-use Rattle.std.proofs.Common.{true, refl, ◌≡◌, ◌∙◌, ◌+◌, ◌≤◌, ◌∷◌, [], sym, subst, ap, List, ℕ, Option, Some, None, length, arith}
-use Rattle.chunking.specs.Keeping as keeping
-use Rattle.connection.proofs.Chunked.{chunk_code, chunk_known, error_fits, no_chunk_inside, reply_fits, rule_more, rule_refused, rule_whole, standing_now, turned_last_refused, turned_last_taken, turned_more, turned_plain, turned_refused}
-use Rattle.connection.proofs.Passing.{settled_at}
-use Rattle.connection.specs.Coming.{Completes, Seen, StandsFor}
-use Rattle.connection.specs.Refused.{chunk_refusal}
+use Rattle.std.proofs.Common.{refl, ◌≡◌, ◌∙◌, sym, subst, List, ℕ}
+use Rattle.connection.proofs.Chunked.{standing_now, turned_plain, turned_refused}
+use Rattle.connection.specs.Coming.{Seen, StandsFor}
 use Rattle.connection.specs.Standing as standing
 use Rattle.connection.specs.Standing.{place_at}
-use Rattle.responder_machine.specs.Answer.{request_at}
-use Rattle.responder_machine.specs.Handling.{acknowledged, error_bytes, request_effect, request_reply}
 use Rattle.responder_machine.specs.Place.{Place}
-use Rattle.responder_machine.specs.Place.Where.{InChunks, InClear}
-use Rattle.responder_machine.specs.Refusal.{refusal, refused_form}
-use Rattle.responder_machine.specs.Turn.{Turn, is_taken}
-use Rattle.spdm_grammar.specs.Message.{ChunkMessage, chunk_message}
-use Rattle.spdm_grammar.specs.Message.RequestMessage.{ChunkSend, PskExchange}
-use Rattle.spdm_grammar.specs.declared.names.TheConstants.{MAX_MESSAGE_SIZE}
+use Rattle.responder_machine.specs.Place.Where.{InClear}
 use Rattle.connection.proofs.requests.Requests.on_request.Goals as goal
-use Rattle.responder_machine.specs.Answer.{answer_bytes}
-use Rattle.responder_machine.specs.Handling.{chunk_in, effect_of, plain_turn}
-use Rattle.spdm_grammar.specs.Message.{RequestMessage, exchange_message}
+use Rattle.responder_machine.specs.Handling.{plain_turn}
+use Rattle.spdm_grammar.specs.Message.{exchange_message}
 
 pub returns-in-Refused : goal.returns-in-Refused
 returns-in-Refused c = λ r turns f setup free stands.

@@ -1,4 +1,4 @@
-use Rattle.std.proofs.Common.{◌≡◌, sym, subst, List, ℕ}
+use Rattle.std.proofs.Common.{sym, subst, List, ℕ}
 use Rattle.connection.proofs.standing.Standing.answer.Goals as goal
 use Rattle.connection.specs.Standing.{place_at}
 use Rattle.connection.specs.Taking.{IsTaking}

@@ -1,4 +1,4 @@
-use Rattle.std.proofs.Common.{◌≡◌, ◌∙◌, sym, subst, ap}
+use Rattle.std.proofs.Common.{◌∙◌, subst, ap}
 use Rattle.connection.proofs.standing.Standing.begin.Goals as goal
 use Rattle.connection.specs.Standing.{place_at}
 use Rattle.connection.specs.Taking.{IsTaking}

@@ -59,19 +59,21 @@ returns-in_default c = λ r turns f setup free stands clear.
     let plain = plain_is c.in-Ok.request c.in_default.not-ChunkSend c.in_default.not-PskExchange in
     let taken = passed.refused ∙ plain.no_fault r p in
     let answered : c.tested.new.answer ≡ answer_bytes r p m f =
-        subst (λ (a : Where). c.tested.new.answer ≡ answer_bytes r (place_at a turns c.args.held) m f) (sym same) (c.in-Ok.ensures.answer r turns f setup free stands here cleared plain.here) in
+    subst (λ (a : Where). c.tested.new.answer ≡ answer_bytes r (place_at a turns c.args.held) m f) (sym same) (c.in-Ok.ensures.answer r turns f setup free stands here cleared plain.here) in
     let effect = effect_is r p m f asked c.tested.new.answer passed.asked_is answered in
-    let short = message_short r p m clear setup.ordered setup.most passed.form in
-    (taken, ap chunk_in passed.asked_is ∙ plain.no_chunk,
-    (λ t is_taken took. c.answer.ensures.stands r turns c.args.held f t setup free.handle stands here
-    (subst (λ (a : Where). IsTaking r (place_at a turns c.args.held) m f asked c.tested.new.answer t) same (record {
-      clear = clear;
-      form = passed.form;
-      asked_is = passed.asked_is;
-      refused = taken;
-      short = short;
-      answer_is = answered;
-      taken = is_taken;
-      effect = took ∙ effect;
-    }))),
-    c.answer.ensures.sent p f place free.handle ∙ ap (sent_for p f) answered)
+    let short = message_short r p m clear setup.ordered setup.most passed.form in (
+      taken,
+      ap chunk_in passed.asked_is ∙ plain.no_chunk,
+      (λ t is_taken took. c.answer.ensures.stands r turns c.args.held f t setup free.handle stands here
+          (subst (λ (a : Where). IsTaking r (place_at a turns c.args.held) m f asked c.tested.new.answer t) same (record {
+            clear = clear;
+            form = passed.form;
+            asked_is = passed.asked_is;
+            refused = taken;
+            short = short;
+            answer_is = answered;
+            taken = is_taken;
+            effect = took ∙ effect;
+          }))),
+      c.answer.ensures.sent p f place free.handle ∙ ap (sent_for p f) answered,
+    )

@@ -1,16 +1,13 @@
-use Rattle.std.proofs.Common.{refl, ◌≡◌, ◌∙◌, ◌≤◌, ℕ, Option, Some, None, List, length, sym, ap, subst}
-use Rattle.connection.proofs.AnswerLengths.{exchange_long}
+use Rattle.std.proofs.Common.{refl, ◌≡◌, ◌∙◌, ◌≤◌, ℕ, Some, List, length, sym, ap, subst}
 use Rattle.connection.proofs.Lengths.{answer_is}
 use Rattle.connection.proofs.Passing.{answer_fits, answerable, passed_all, refused_for_answer, large_at, not_too_long, refused_for_form, refused_for_request, settled_at}
 use Rattle.connection.proofs.Table.{none_there, pending_for}
 use Rattle.connection.proofs.standing.Standing.tested.Goals as goal
 use Rattle.connection.specs.Refused.{tests_of_answer}
 use Rattle.connection.specs.Standing.{place_at}
-use Rattle.request_rules.specs.LargeAnswer as large_answer
 use Rattle.request_rules.specs.Place.{where_of}
-use Rattle.responder_machine.proofs.Tests.{tests_are_false}
 use Rattle.responder_machine.specs.Answer.{answer_bytes}
-use Rattle.responder_machine.specs.Place.{Place, place_terms}
+use Rattle.responder_machine.specs.Place.{Place}
 use Rattle.spdm_basis.specs.Tests.{first_of_tests}
 use Rattle.spdm_grammar.specs.Message.{RequestMessage, request_message}
 use Rattle.spdm_grammar.specs.declared.names.TheConstants.{MAX_MESSAGE_SIZE}
@@ -45,7 +42,7 @@ returns-in-Some-answer_fault-clause-tested c = λ r turns f setup free stands pl
     let passed = sym (c.contents_fault.ensures.value r p setup place large pending) ∙ none_there c.contents_fault.result c.in_default.not-Some in
     let able = answerable r p m c.args.self.now.large asked clear settled read.0 read.1 large passed in
     let long : c.write_answer-len.result ≡ length (answer_bytes r p m f) =
-        c.write_answer-len.ensures.size r p m f setup place free able ∙ ap length (sym (answer_is r p m f asked read.1)) in
+    c.write_answer-len.ensures.size r p m f setup place free able ∙ ap length (sym (answer_is r p m f asked read.1)) in
     let refused = sym (c.in-Some-answer_fault.ensures p (answer_bytes r p m f) place long refl) in
     refused_for_answer r p m f asked (record { code = c.in-Some-answer_fault.code; answer_len = c.write_answer-len.result }) clear settled read.0 read.1 passed
     (ap (λ (code : ℕ). first_of_tests (tests_of_answer p code (answer_bytes r p m f))) (sym c.code_of.ensures) ∙ refused) long
@@ -62,7 +59,7 @@ returns-clause-tested c = λ r turns f setup free stands place clear.
     let passed = sym (c.contents_fault.ensures.value r p setup place large pending) ∙ none_there c.contents_fault.result c.in_default.not-Some in
     let able = answerable r p m c.args.self.now.large asked clear settled read.0 read.1 large passed in
     let long : c.write_answer-len.result ≡ length (answer_bytes r p m f) =
-        c.write_answer-len.ensures.size r p m f setup place free able ∙ ap length (sym (answer_is r p m f asked read.1)) in
+    c.write_answer-len.ensures.size r p m f setup place free able ∙ ap length (sym (answer_is r p m f asked read.1)) in
     let fits = sym (c.answer_fault.ensures p (answer_bytes r p m f) place long refl) ∙ none_there c.answer_fault.result c.in_default-answer_fault.not-Some in
     passed_all r p m f asked clear settled read.0 read.1 passed (ap (λ (code : ℕ). first_of_tests (tests_of_answer p code (answer_bytes r p m f))) (sym c.code_of.ensures) ∙ fits)
 
@@ -78,7 +75,7 @@ returns-clause-answer c = λ r turns f setup free stands place clear here.
     let passed = sym (c.contents_fault.ensures.value r p setup place large pending) ∙ none_there c.contents_fault.result c.in_default.not-Some in
     let able = answerable r p m c.args.self.now.large asked clear settled read.0 read.1 large passed in
     let long : c.write_answer-len.result ≡ length (answer_bytes r p m f) =
-        c.write_answer-len.ensures.size r p m f setup place free able ∙ ap length (sym (answer_is r p m f asked read.1)) in
+    c.write_answer-len.ensures.size r p m f setup place free able ∙ ap length (sym (answer_is r p m f asked read.1)) in
     let fits = sym (c.answer_fault.ensures p (answer_bytes r p m f) place long refl) ∙ none_there c.answer_fault.result c.in_default-answer_fault.not-Some in
     let short = not_too_long p c.code_of.result (answer_bytes r p m f) fits in
     let few = answer_fits r p m f c.args.self.now.large asked clear settled read.0 read.1 able here short in
