@@ -1,3 +1,5 @@
+ghost use Rattle.std.specs.Prelude.{◌≡◌, false};
+
 use crate::suites::{MEASURED, REFUSED_IN_HANDSHAKE, REFUSED_IN_OPEN, SUITES, Suite};
 use crate::{AppQueue, ExchangeParts, QueueFault, RspAct, RspHandshake, RspState, RspTook};
 use hmac_hkdf::Drawn;
@@ -34,7 +36,9 @@ fn expect_bytes(rt: &(impl Abort + Alloc), bytes: &[u8], want: &str) -> Result<(
 }
 
 // The terms of a suite.
-fn terms(suite: &Suite) -> SessionTerms {
+fn terms(suite: &Suite) -> SessionTerms
+    ensures { result.summary ≡ false }
+{
     SessionTerms {
         choice: Choice {
             hash: suite.hash,
@@ -68,10 +72,10 @@ fn begin(
         context,
         opaque: &[],
     };
-    if context.len() != suite.hash.size() {
+    let terms = terms(suite);
+    if context.len() != terms.choice.hash.size() {
         return Err(Fail::from("another length of the context"));
     }
-    let terms = terms(suite);
     Ok(RspHandshake::start(&vca, &psk, exchange.as_slice(), terms, &parts, out))
 }
 
