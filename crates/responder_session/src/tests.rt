@@ -232,14 +232,19 @@ fn fault(
     }
 }
 
-#[test]
-fn finish_comes_again(rt: HostRuntime) -> Result<(), Fail> {
-    let finish = hex::decode(rt.alloc(), SUITES[0].finish.0)?;
-    let blocks = inventory(rt.alloc())?;
-    let state = open(&rt, &SUITES[0], &blocks)?;
-    let took = take(state, finish.as_slice(), &blocks, &mut AppQueue::new())?;
+// That the record of PSK_FINISH, which was taken, is known again.
+fn expect_repeat(rt: &(impl Abort + Alloc), suite: &Suite, blocks: &Inventory) -> Result<(), Fail> {
+    let finish = hex::decode(rt.alloc(), suite.finish.0)?;
+    let state = open(rt, suite, blocks)?;
+    let took = take(state, finish.as_slice(), blocks, &mut AppQueue::new())?;
     assert!(rt; matches!(took, RspTook::Same(_)));
     Ok(())
+}
+
+#[test]
+fn finish_comes_again(rt: HostRuntime) -> Result<(), Fail> {
+    let blocks = inventory(rt.alloc())?;
+    expect_repeat(&rt, &SUITES[0], &blocks)
 }
 
 // The second record of the first suite, the first of the second, and no bytes.
