@@ -1,10 +1,10 @@
 -- What is judged of an inner message where the session is not open, by the message behind its type.
-use Rattle.std.proofs.Common.{◌≡◌, ◌∙◌, ap, sym, subst, refl, ℕ, List, false, true, drop}
+use Rattle.std.proofs.Common.{◌≡◌, ◌∙◌, ap, sym, ℕ, List, false, drop}
 use Rattle.std.specs.Prelude.{Some, None, Bool}
-use Rattle.responder_machine.specs.Answer.{Free, request_at}
+use Rattle.responder_machine.specs.Answer.{Free}
 use Rattle.responder_machine.specs.Handling.{turn_of, refused_turn}
 use Rattle.responder_machine.specs.Place.{session_place}
-use Rattle.responder_machine.specs.Refusal.{refused_form, has_pending}
+use Rattle.responder_machine.specs.Refusal.{has_pending}
 use Rattle.responder_machine.specs.LargeMessages.{large_of, given_of, still_pending}
 use Rattle.responder_machine.specs.Responder.{session_turn, inner_refusal, is_open}
 use Rattle.responder_machine.specs.Session.{Events, stage_of, session_terms, turns_of}
@@ -12,7 +12,7 @@ use Rattle.responder_machine.specs.Setup.{RspSetup}
 use Rattle.responder_machine.specs.Turn.{Turn}
 use Rattle.spdm_grammar.specs.declared.error_code.ErrorCode.{ErrorCode}
 use Rattle.spdm_grammar.specs.declared.phase.Stage.{Stage}
-use Rattle.responder_session.proofs.Contents.{inner-refused, inner-spoken, spoken, turn-misfit}
+use Rattle.responder_session.proofs.Contents.{inner-refused, inner-spoken, spoken}
 
 -- Its turn is that of the message.
 pub judged_closed : (r : RspSetup) (s : Events) (inner m : List ℕ) (f : Free) (stage : Stage) → stage_of s ≡ stage → is_open stage ≡ false → inner_refusal stage inner ≡ None → m ≡ drop 1 inner

@@ -4,7 +4,6 @@ use Rattle.std.proofs.lemmas.Bool.Decides.{nat_tests}
 use Rattle.std.proofs.lemmas.Option.{none-some}
 use Rattle.std.specs.Prelude.{◌==◌, ◌&&◌, ◌||◌, not, nat_lt, if◌then◌else◌, Option, Some, None, is_some, slice_index}
 use Rattle.std.specs.Option.{option_or}
-use Rattle.negotiate.specs.declared.shared.Common.{Common}
 use Rattle.responder_machine.proofs.Codes.{asked-code}
 use Rattle.responder_machine.proofs.Turns.{turn_of-plain, plain_turn-asked}
 use Rattle.responder_machine.specs.Answer.{Free, answer_bytes, answer_of, answer_to, request_at}
@@ -15,7 +14,6 @@ use Rattle.responder_machine.specs.Responder.{session_turn, session_turn_by, inn
 use Rattle.responder_machine.specs.Session.{Events, stage_of, session_terms}
 use Rattle.responder_machine.specs.Setup.{RspSetup}
 use Rattle.responder_machine.specs.SizeLaws.{HasSizes}
-use Rattle.responder_machine.specs.Turn.{Turn}
 use Rattle.responder_machine.specs.Turn.Effect.{Took}
 use Rattle.spdm_basis.specs.Tests.{first_of_tests}
 use Rattle.spdm_grammar.specs.Codes.{code_for}

@@ -1,12 +1,11 @@
 -- What requests do in an open session.
-use Rattle.std.proofs.Common.{◌≡◌, ◌≤◌, ◌<◌, ◌∙◌, ap, sym, subst, refl, ℕ, ◌+◌, List, [], ◌∷◌, Bool, true, false, length, length-append, drop, arith}
+use Rattle.std.proofs.Common.{◌≡◌, ◌≤◌, ◌<◌, ◌∙◌, ap, sym, subst, refl, ℕ, ◌+◌, List, Bool, true, false, length, length-append, arith}
 use Rattle.std.proofs.lemmas.Bool.Decides.{nat_tests}
-use Rattle.std.specs.Prelude.{◌==◌, ◌&&◌, ◌||◌, not, nat_lt, if◌then◌else◌, Option, Some, None}
-use Rattle.measurements.specs.Blocks.{record_of}
-use Rattle.measurements.specs.Records.{asked, is_missing}
+use Rattle.std.specs.Prelude.{◌==◌, ◌&&◌, ◌||◌, not, nat_lt, if◌then◌else◌, Some, None}
+use Rattle.measurements.specs.Records.{is_missing}
 use Rattle.responder_machine.proofs.Codes.{asked-code}
-use Rattle.responder_machine.specs.Answer.{Free, answer_bytes, measurements_answer, request_at}
-use Rattle.responder_machine.specs.Handling.{turn_of, refused_turn, goes_large}
+use Rattle.responder_machine.specs.Answer.{Free, measurements_answer, request_at}
+use Rattle.responder_machine.specs.Handling.{goes_large}
 use Rattle.responder_machine.specs.Place.{session_place}
 use Rattle.responder_machine.specs.Refusal.{refused_form, lacks_flag, stage_allows, has_pending, fits_stage, code_of, is_answer_too_long}
 use Rattle.responder_machine.specs.Session.{Events, stage_of, session_terms}
@@ -19,7 +18,6 @@ use Rattle.spdm_grammar.specs.Message.ResponseMessage.{HeartbeatAck, EndSessionA
 use Rattle.spdm_grammar.specs.Responses.{canonical_response}
 use Rattle.spdm_grammar.specs.declared.request.Request.{Request}
 use Rattle.spdm_grammar.specs.declared.request.Request.TheVariants as request
-use Rattle.spdm_grammar.specs.declared.error_code.ErrorCode.{ErrorCode}
 use Rattle.spdm_grammar.specs.declared.error_code.ErrorCode.TheVariants.{InvalidRequest, UnexpectedRequest, UnsupportedRequest, ResponseTooLarge}
 use Rattle.spdm_grammar.specs.declared.names.TheConstants.{MAX_MESSAGE_SIZE}
 use Rattle.spdm_grammar.specs.declared.phase.Stage.{Stage}

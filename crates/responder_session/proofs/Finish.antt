@@ -1,6 +1,6 @@
 -- PSK_FINISH in a handshake.
-use Rattle.std.proofs.Common.{◌≡◌, ◌∙◌, ap, sym, subst, refl, ℕ, ◌+◌, List, [], ◌∷◌, ◌++◌, Bool, true, false, drop, inl, inr, arith}
-use Rattle.std.specs.Prelude.{◌==◌, ◌&&◌, ◌||◌, not, if◌then◌else◌, Option, Some, None, bytes_eq}
+use Rattle.std.proofs.Common.{◌≡◌, ◌∙◌, ap, sym, subst, refl, ℕ, ◌+◌, List, ◌∷◌, ◌++◌, Bool, true, false, drop, inl, inr, arith}
+use Rattle.std.specs.Prelude.{not, if◌then◌else◌, Option, Some, None, bytes_eq}
 use Rattle.key_schedule.specs.Purpose.{application_record}
 use Rattle.key_schedule.specs.declared.direction.Direction.TheVariants.{Request, Response}
 use Rattle.responder_machine.proofs.Codes.{asked-code}
@@ -16,7 +16,6 @@ use Rattle.running_hash.specs.Hash.{hash_of}
 use Rattle.session_keys.specs.Keys.{IsKeyOf}
 use Rattle.responder_machine.specs.Setup.{RspSetup}
 use Rattle.responder_machine.specs.SizeLaws.{HasSizes}
-use Rattle.spdm_basis.specs.Tests.{first_of_tests}
 use Rattle.spdm_grammar.specs.Codes.{code_for}
 use Rattle.spdm_grammar.specs.Message.{RequestMessage}
 use Rattle.spdm_grammar.specs.Message.RequestMessage.{GetVersion, GetCapabilities, NegotiateAlgorithms, GetMeasurements, PskExchange, PskFinish, Heartbeat, KeyUpdate, EndSession, ChunkSend, ChunkGet}
@@ -24,9 +23,8 @@ use Rattle.spdm_grammar.specs.Message.ResponseMessage.{PskFinishRsp}
 use Rattle.spdm_grammar.specs.Responses.{canonical_response}
 use Rattle.spdm_grammar.specs.declared.error_code.ErrorCode.{ErrorCode}
 use Rattle.spdm_grammar.specs.declared.error_code.ErrorCode.TheVariants.{DecryptError, ResponseTooLarge}
-use Rattle.spdm_grammar.specs.declared.names.request_code.TheConstants.{PSK_FINISH}
 use Rattle.spdm_grammar.specs.declared.phase.Stage.{Stage}
-use Rattle.spdm_grammar.specs.declared.phase.Stage.TheVariants.{Handshake, Verifying}
+use Rattle.spdm_grammar.specs.declared.phase.Stage.TheVariants.{Handshake}
 use Rattle.responder_session.proofs.Contents.{turn-refused, turn-answered, short_fits, short_is_small}
 use Rattle.responder_session.specs.Kept.{Keeps, kept_record}
 use Rattle.responder_session.specs.declared.kept.Kept.{Kept}

@@ -1,27 +1,22 @@
 -- CHUNK_GET in an open session.
-use Rattle.std.proofs.Common.{◌≡◌, ◌≤◌, ◌<◌, ◌∙◌, ap, sym, subst, refl, ℕ, ◌+◌, ◌-◌, ◌*◌, ◌^◌, List, [], ◌∷◌, Bool, true, false, length, length-append, min, inl, inr, arith}
+use Rattle.std.proofs.Common.{◌≡◌, ◌≤◌, ◌∙◌, ap, sym, subst, refl, ℕ, ◌+◌, ◌-◌, ◌*◌, List, [], Bool, true, false, length, length-append, inl, inr, arith}
 use Rattle.std.proofs.lemmas.Bool.Decides.{nat_tests}
-use Rattle.std.proofs.lemmas.Option.{none-some}
 use Rattle.std.specs.Prelude.{◌==◌, ◌&&◌, ◌||◌, ◌⊎◌, not, nat_lt, if◌then◌else◌, Option, Some, None, is_some, unwrap_or}
 use Rattle.chunking.proofs.ChunkSteps.{size_is}
-use Rattle.chunking.specs.Cutting.{chunk_count, nth_chunk}
+use Rattle.chunking.specs.Cutting.{nth_chunk}
 use Rattle.responder_machine.specs.Answer.{Free, chunk_answer}
-use Rattle.responder_machine.specs.Handling.{goes_large}
 use Rattle.responder_machine.specs.LargeMessages.{pending_of, given_of, handle_of}
 use Rattle.responder_machine.specs.Place.{session_place}
 use Rattle.responder_machine.specs.Refusal.{has_pending, stage_allows, is_answer_too_long, is_get_refused}
 use Rattle.responder_machine.specs.Session.{Events, session_terms, turns_of}
 use Rattle.responder_machine.specs.Setup.{RspSetup}
-use Rattle.responder_machine.specs.SizeLaws.{HasSizes}
-use Rattle.responder_machine.specs.Turn.{Turn}
 use Rattle.spdm_grammar.specs.Codes.{code_for}
 use Rattle.spdm_grammar.specs.Fields.{IsSoundChunk, large_bytes}
-use Rattle.spdm_grammar.specs.Message.{ChunkMessage, ResponseMessage}
+use Rattle.spdm_grammar.specs.Message.{ChunkMessage}
 use Rattle.spdm_grammar.specs.Message.RequestMessage.{ChunkGet}
 use Rattle.spdm_grammar.specs.Message.ResponseMessage.{ChunkResponse}
 use Rattle.spdm_grammar.specs.Responses.{canonical_response}
 use Rattle.spdm_grammar.specs.declared.error_code.ErrorCode.TheVariants.{InvalidRequest, UnexpectedRequest}
-use Rattle.spdm_grammar.specs.declared.names.TheConstants.{MIN_DATA_TRANSFER_SIZE, MAX_MESSAGE_SIZE}
 use Rattle.spdm_grammar.specs.declared.phase.Stage.TheVariants.{Open}
 use Rattle.responder_session.proofs.Contents.{turn-refused, turn-answered}
 use Rattle.responder_session.proofs.Doing.{has_flag, measured_by}

@@ -1,13 +1,11 @@
 -- What is kept of a session opens its records.
-use Rattle.std.proofs.Common.{◌≡◌, ◌≢◌, ◌∙◌, ap, sym, subst, refl, ℕ, List, Bool, true, false}
+use Rattle.std.proofs.Common.{◌≡◌, ◌∙◌, sym, subst, refl, ℕ, List, Bool, true, false}
 use Rattle.std.specs.Prelude.{◌==◌, ◌||◌, if◌then◌else◌, None, Some, Option, Result, MatchResult, OnOk}
-use Rattle.responder_machine.specs.Heard.{session_id}
 use Rattle.responder_machine.specs.Records.{opening_fault, opened, request_purpose}
-use Rattle.responder_machine.specs.Session.{Events, session_terms, request_next, response_next, is_spent, id_bytes}
+use Rattle.responder_machine.specs.Session.{Events, session_terms, request_next, is_spent, id_bytes}
 use Rattle.spdm_basis.specs.SessionIdBytes.{session_id_bytes}
 use Rattle.spdm_basis.specs.declared.record_fault.RecordFault.{RecordFault}
 use Rattle.spdm_basis.specs.declared.record_fault.RecordFault.TheVariants.{KeySpent}
-use Rattle.spdm_basis.specs.declared.session_id.SessionId.{SessionId}
 use Rattle.spdm_machine.specs.Keys.{record_fault, inner_message}
 use Rattle.responder_session.specs.Kept.{Keeps}
 use Rattle.responder_session.specs.declared.kept.Kept.{Kept}

@@ -14,3 +14,4 @@ pub mod Given
 pub mod Opened
 pub mod Steps
 pub mod Records
+pub mod Waits

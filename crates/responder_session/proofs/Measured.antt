@@ -1,5 +1,5 @@
 -- MEASUREMENTS as it is written.
-use Rattle.std.proofs.Common.{◌≡◌, ◌≤◌, ◌∙◌, ap, sym, subst, refl, ℕ, ◌+◌, List, [], length}
+use Rattle.std.proofs.Common.{◌≡◌, ◌≤◌, ◌∙◌, ap, sym, subst, ℕ, ◌+◌, List, length}
 use Rattle.std.specs.Prelude.{◌==◌, if◌then◌else◌}
 use Rattle.measurements.specs.Blocks.{record_of}
 use Rattle.measurements.specs.Records.{asked}

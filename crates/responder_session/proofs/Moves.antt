@@ -1,13 +1,10 @@
 -- What a record leaves of what is kept of its session.
 use Rattle.std.proofs.Common.{◌≡◌, ◌∙◌, ap, sym, subst, refl, ℕ, ◌+◌, List, [], ◌∷◌, Bool, true, false}
-use Rattle.std.specs.Prelude.{◌||◌, ◌%◌, ◌^◌, if◌then◌else◌, Option, Some, None}
-use Rattle.key_schedule.specs.Keys.{DirectionSecret}
+use Rattle.std.specs.Prelude.{◌||◌, ◌%◌, ◌^◌, if◌then◌else◌, Some}
 use Rattle.key_schedule.specs.Purpose.{Purpose}
-use Rattle.key_schedule.specs.declared.direction.Direction.{Direction}
 use Rattle.key_schedule.specs.declared.direction.Direction.TheVariants.{Request, Response}
 use Rattle.responder_machine.specs.Answer.{Free, answer_bytes}
 use Rattle.responder_machine.specs.Handling.{detail_of, error_bytes, extended_of}
-use Rattle.responder_machine.specs.History.{KeptRecord}
 use Rattle.responder_machine.specs.Place.{session_place}
 use Rattle.responder_machine.specs.Refusal.{code_of}
 use Rattle.responder_machine.specs.Setup.{RspSetup}
@@ -15,17 +12,16 @@ use Rattle.spdm_grammar.specs.ErrorNumber.{error_number}
 use Rattle.spdm_grammar.specs.Message.ResponseMessage.{Error}
 use Rattle.spdm_grammar.specs.Responses.{canonical_response}
 use Rattle.spdm_grammar.specs.declared.names.spdm_version.TheConstants.{V1_2}
-use Rattle.responder_machine.specs.Records.{request_purpose, response_purpose, reply_purpose, reply_number, reply_record}
+use Rattle.responder_machine.specs.Records.{response_purpose, reply_purpose, reply_record}
 use Rattle.responder_machine.specs.Responder.{inner_reply}
 use Rattle.responder_machine.specs.Session.{Events, stage_of, session_hash, session_terms, id_bytes, t1_of, t2_of, finish_of, finish_answer, request_epoch, response_epoch, request_next, response_next, taken_of, last_of}
 use Rattle.responder_machine.specs.Session.Event.{Heard}
-use Rattle.responder_machine.specs.Turn.{Turn, Effect, is_data, takes, updates, request_in, answer_in}
+use Rattle.responder_machine.specs.Turn.{Turn, is_data, takes, updates, request_in, answer_in}
 use Rattle.session_keys.specs.Keys.{IsKeyOf}
 use Rattle.spdm_basis.specs.SessionIdBytes.{session_id_bytes}
 use Rattle.spdm_grammar.specs.declared.error_code.ErrorCode.{ErrorCode}
 use Rattle.spdm_grammar.specs.declared.error_code.ErrorCode.TheVariants.{InvalidRequest, UnexpectedRequest, Unspecified, DecryptError, UnsupportedRequest, SessionLimitExceeded, SessionRequired, ResponseTooLarge, RequestTooLarge, LargeResponse, VersionMismatch}
 use Rattle.spdm_grammar.specs.declared.names.request_code.TheConstants.{PSK_FINISH, KEY_UPDATE}
-use Rattle.spdm_grammar.specs.declared.phase.Stage.{Stage}
 use Rattle.spdm_grammar.specs.declared.phase.Stage.TheVariants.{Open, Verifying}
 use Rattle.spdm_machine.specs.Keys.{sealed_of}
 use Rattle.spdm_machine.specs.Sessions.{purpose_in, transcript_in}
@@ -33,7 +29,6 @@ use Rattle.transcript.specs.Transcripts as transcript
 use Rattle.responder_session.specs.Kept.{Keeps, kept_record}
 use Rattle.responder_session.specs.Turns.{KeepsKeys, tells_length}
 use Rattle.responder_session.specs.declared.kept.Kept.{Kept}
-use Rattle.responder_session.specs.declared.kept.LastRecord.{LastRecord}
 
 -- An ERROR that tells no length tells nothing more.
 error_short : (code : ErrorCode) (answer : List ℕ) → tells_length code ≡ false → extended_of code answer ≡ []

@@ -6,8 +6,7 @@ use Rattle.std.specs.Prelude.{◌==◌, ◌&&◌, ◌||◌, not, nat_lt, Option,
 use Rattle.spdm_basis.specs.Tests.{first_of_tests}
 use Rattle.spdm_grammar.specs.declared.error_code.ErrorCode.TheVariants.{InvalidRequest, UnexpectedRequest, RequestTooLarge}
 use Rattle.responder_machine.specs.Answer.{Free}
-use Rattle.responder_machine.specs.Handling.{turn_of, refused_turn}
-use Rattle.responder_machine.specs.LargeMessages.{pending_of}
+use Rattle.responder_machine.specs.Handling.{turn_of}
 use Rattle.responder_machine.specs.Place.{session_place}
 use Rattle.responder_machine.specs.Refusal.{refused_form, has_pending}
 use Rattle.responder_machine.specs.Responder.{session_turn, inner_refusal}
@@ -18,7 +17,7 @@ use Rattle.spdm_grammar.specs.declared.error_code.ErrorCode.{ErrorCode}
 use Rattle.spdm_grammar.specs.declared.phase.Stage.{Stage}
 use Rattle.spdm_grammar.specs.declared.phase.Stage.TheVariants.{Open}
 use Rattle.responder_session.proofs.Contents.{inner-data, inner-spoken, turn-misfit}
-use Rattle.responder_session.specs.Deeds.{IsDeed, IsInnerDeed, turn_for}
+use Rattle.responder_session.specs.Deeds.{IsDeed, IsInnerDeed}
 use Rattle.responder_session.specs.Open.{IsPending}
 use Rattle.responder_session.specs.declared.deed.Deed.{Deed}
 use Rattle.responder_session.specs.declared.deed.Deed.TheVariants as deed

@@ -1,40 +1,18 @@
 -- The chunks of a pending large answer.
-use Rattle.std.proofs.Common.{◌≡◌, ◌≤◌, ◌<◌, ◌∙◌, ap, sym, subst, refl, ℕ, zero, suc, ◌+◌, ◌-◌, ◌*◌, List, [], ◌∷◌, Bool, true, false, length, length-append, drop, min, arith}
+use Rattle.std.proofs.Common.{◌≡◌, ◌≤◌, ◌<◌, ◌∙◌, ap, sym, subst, refl, ℕ, ◌+◌, List, ◌∷◌, Bool, true, false, drop, arith}
 use Rattle.std.proofs.lemmas.Bool.Decides.{nat_tests}
-use Rattle.std.proofs.lemmas.Grind.{common_steps}
 use Rattle.std.proofs.lemmas.Option.{none-some, same_Some}
 use Rattle.std.specs.List.{slice_get}
-use Rattle.std.specs.Option.{unwrap_or}
-use Rattle.std.specs.Prelude.{◌==◌, ◌&&◌, ◌||◌, not, nat_lt, if◌then◌else◌, Option, Some, None, is_some}
+use Rattle.std.specs.Prelude.{nat_lt, if◌then◌else◌, Option, Some, None}
 use Rattle.chunking.proofs.ChunkList.{rest_left, first_left, none_left}
-use Rattle.chunking.proofs.ChunkSteps.{size_is}
-use Rattle.chunking.specs.Cutting.{chunk_count, chunks_of, nth_chunk, unit_of}
-use Rattle.responder_machine.proofs.Codes.{asked-code}
-use Rattle.responder_machine.specs.Answer.{Free, chunk_answer, request_at}
+use Rattle.chunking.specs.Cutting.{chunk_count, chunks_of, nth_chunk}
 use Rattle.responder_machine.specs.LargeMessages.{pending_of, still_pending, large_of, given_of, handle_of}
-use Rattle.responder_machine.specs.Place.{session_place}
-use Rattle.responder_machine.specs.Refusal.{has_pending, lacks_flag, stage_allows, is_answer_too_long}
-use Rattle.responder_machine.specs.Session.{Events, stage_of, session_terms, turns_of}
-use Rattle.responder_machine.specs.Setup.{RspSetup}
-use Rattle.responder_machine.specs.SizeLaws.{HasSizes}
 use Rattle.responder_machine.specs.Turn.{Turn}
-use Rattle.spdm_grammar.specs.Codes.{code_for}
-use Rattle.spdm_grammar.specs.Fields.{IsSoundChunk}
-use Rattle.spdm_grammar.specs.Message.{ChunkMessage, ResponseMessage}
+use Rattle.spdm_grammar.specs.Message.{ChunkMessage}
 use Rattle.spdm_grammar.specs.Message.RequestMessage.{ChunkGet}
-use Rattle.spdm_grammar.specs.Message.ResponseMessage.{ChunkResponse}
-use Rattle.spdm_grammar.specs.Responses.{canonical_response}
-use Rattle.spdm_grammar.specs.declared.error_code.ErrorCode.TheVariants.{InvalidRequest, UnexpectedRequest}
-use Rattle.spdm_grammar.specs.declared.names.TheConstants.{MIN_DATA_TRANSFER_SIZE, MAX_MESSAGE_SIZE}
-use Rattle.spdm_grammar.specs.declared.phase.Stage.TheVariants.{Open}
-use Rattle.responder_session.proofs.Contents.{turn-refused, turn-answered}
-use Rattle.responder_session.proofs.Doing.{has_flag, measured_by}
-use Rattle.responder_session.proofs.Finish.{allowed_code}
 use Rattle.responder_session.specs.Chunks.{current_of, rest_of, left_by}
-use Rattle.responder_session.specs.Deeds.{IsAllowed, IsDeed}
 use Rattle.responder_session.specs.Open.{IsPending}
 use Rattle.responder_session.specs.Turns.{answered_turn}
-use Rattle.responder_session.specs.declared.deed.Deed.TheVariants as deed
 
 -- ---- The next chunk.
 

@@ -2,33 +2,29 @@
 use Rattle.std.proofs.Common.{◌≡◌, ◌∙◌, ap, sym, refl, ℕ, List, [], ◌∷◌, Bool, true, false, arith}
 use Rattle.std.proofs.lemmas.Bool.Decides.{nat_tests}
 use Rattle.std.proofs.lemmas.Bool.{false≢true}
-use Rattle.std.specs.Prelude.{◌==◌, ◌||◌, if◌then◌else◌, Option, Some, None, is_some}
+use Rattle.std.specs.Prelude.{◌==◌, if◌then◌else◌, Option, Some, None}
 use Rattle.responder_machine.specs.Answer.{Free}
 use Rattle.responder_machine.specs.Heard.{heard_of, heard_in, record_id}
 use Rattle.responder_machine.specs.History.{History, ended_of, clear_turns, phase_of}
 use Rattle.responder_machine.specs.History.Entry.{Sealed}
 use Rattle.responder_machine.specs.Records.{opening_fault}
-use Rattle.responder_machine.specs.Responder.{Outcome, on_record, to_session, in_session, in_session_by, repeats, kept_record, decrypt_error}
-use Rattle.responder_machine.specs.Responder.Outcome.{Adds as AddsEntry, Same as SendsAgain, Unopened as StaysUnopened}
-use Rattle.responder_machine.specs.Session.{Events, session_of, id_in_record, is_live, stage_of, last_of, after_record}
+use Rattle.responder_machine.specs.Responder.{on_record, to_session, in_session, in_session_by, repeats, kept_record}
+use Rattle.responder_machine.specs.Responder.Outcome.{Same as SendsAgain}
+use Rattle.responder_machine.specs.Session.{Events, session_of, id_in_record, is_live, last_of, after_record}
 use Rattle.responder_machine.specs.Session.Event.{Began, Heard, Waited}
 use Rattle.responder_machine.specs.Setup.{RspSetup}
 use Rattle.responder_machine.specs.Turn.{Turn, is_data}
-use Rattle.spdm_basis.specs.declared.record_fault.RecordFault.{RecordFault}
 use Rattle.spdm_basis.specs.declared.session_id.SessionId.{SessionId}
 use Rattle.spdm_grammar.specs.declared.error_code.ErrorCode.{ErrorCode}
 use Rattle.spdm_grammar.specs.declared.phase.Phase.{Phase}
 use Rattle.spdm_machine.specs.Bodies.{record_body}
 use Rattle.spdm_machine.specs.Keys.{Draw}
-use Rattle.spdm_machine.specs.Sessions.{is_past_handshake}
 use Rattle.responder_session.specs.Laws.{TookIsRecord, told_as}
 use Rattle.responder_session.specs.Staged.{BehindHasReply}
-use Rattle.responder_session.specs.Took.{IsTook, act_of, act_by, turn_in, reply_in}
-use Rattle.responder_session.specs.declared.took.RspAct.{RspAct}
+use Rattle.responder_session.specs.Took.{act_by, turn_in, reply_in}
 use Rattle.responder_session.specs.declared.took.RspAct.TheVariants as act
 use Rattle.spdm_grammar.specs.declared.heard.Heard.TheVariants as heard
 use Rattle.responder_machine.specs.Refusal.{code_of}
-use Rattle.responder_session.specs.declared.took.RspTook.{RspTook}
 use Rattle.responder_session.specs.declared.took.RspTook.TheVariants as took
 
 to_live : (r : RspSetup) (phase : Phase) (s : Events) (f : Free) (tag : ℕ) (sealed : List ℕ) (d : Draw) → is_live s ≡ true

@@ -1,19 +1,18 @@
 -- What an open session is after each turn.
-use Rattle.std.proofs.Common.{◌≡◌, ◌≤◌, ◌<◌, ◌∙◌, ap, sym, subst, refl, ℕ, ◌+◌, List, [], ◌∷◌, Bool, true, false, length, drop, arith}
+use Rattle.std.proofs.Common.{◌≡◌, ◌≤◌, ◌<◌, ◌∙◌, ap, sym, subst, refl, ℕ, ◌+◌, List, ◌∷◌, Bool, true, false, length, arith}
 use Rattle.std.proofs.lemmas.Bool.Decides.{nat_tests}
 use Rattle.std.proofs.lemmas.Grind.{div_ceil_times}
 use Rattle.std.specs.Int.{div_ceil}
-use Rattle.std.specs.Prelude.{◌%◌, ◌^◌, ◌*◌, zero, suc, nat_lt, ◌==◌, ◌||◌, not, if◌then◌else◌, Option, Some, None}
+use Rattle.std.specs.Prelude.{◌%◌, ◌^◌, ◌*◌, zero, suc, nat_lt, if◌then◌else◌, Some, None}
 use Rattle.key_schedule.specs.Keys.{DirectionSecret}
 use Rattle.key_schedule.specs.Purpose.{Purpose, application_record}
 use Rattle.key_schedule.specs.declared.direction.Direction.TheVariants.{Request, Response}
 use Rattle.chunking.specs.Cutting.{chunk_count, chunks_of, unit_of}
 use Rattle.responder_machine.specs.Answer.{Free}
-use Rattle.responder_machine.specs.History.{KeptRecord}
 use Rattle.responder_machine.specs.LargeMessages.{still_pending, given_of, large_of, larges_of}
-use Rattle.responder_machine.specs.Records.{request_purpose, response_purpose, reply_record}
+use Rattle.responder_machine.specs.Records.{reply_record}
 use Rattle.responder_machine.specs.Responder.{inner_reply, data_turn}
-use Rattle.responder_machine.specs.Session.{Events, stage_of, session_hash, session_terms, id_bytes, t1_of, t2_of, request_epoch, response_epoch, taken_of, turns_of}
+use Rattle.responder_machine.specs.Session.{Events, stage_of, session_hash, session_terms, t2_of, request_epoch, response_epoch, taken_of}
 use Rattle.responder_machine.specs.Session.Event.{Heard}
 use Rattle.responder_machine.specs.Turn.{Turn, takes}
 use Rattle.session_keys.specs.Keys.{IsKeyOf}
@@ -21,10 +20,8 @@ use Rattle.spdm_basis.specs.SessionIdBytes.{session_id_bytes}
 use Rattle.spdm_grammar.specs.Message.{RequestMessage}
 use Rattle.spdm_grammar.specs.Message.RequestMessage.{GetMeasurements, Heartbeat}
 use Rattle.spdm_grammar.specs.declared.names.request_code.TheConstants.{CHUNK_GET}
-use Rattle.spdm_grammar.specs.declared.phase.Stage.{Stage}
-use Rattle.spdm_grammar.specs.declared.phase.Stage.TheVariants.{Open, Verifying}
+use Rattle.spdm_grammar.specs.declared.phase.Stage.TheVariants.{Open}
 use Rattle.spdm_machine.specs.Keys.{sealed_of}
-use Rattle.spdm_machine.specs.Sessions.{purpose_in, transcript_in}
 use Rattle.responder_session.proofs.Moves.{kept_by}
 use Rattle.responder_session.proofs.Updating.{past_purpose, past_hash}
 use Rattle.responder_session.specs.Deeds.{is_quiet, large_turn}

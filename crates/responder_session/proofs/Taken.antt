@@ -1,5 +1,5 @@
 -- What comes of a record that a session takes.
-use Rattle.std.proofs.Common.{◌≡◌, ◌∙◌, ap, sym, subst, refl, ℕ, List, drop, Bool, true, false}
+use Rattle.std.proofs.Common.{◌≡◌, ◌∙◌, ap, sym, subst, ℕ, List, drop, Bool, false}
 use Rattle.std.specs.Prelude.{None, Option}
 use Rattle.responder_machine.specs.Answer.{Free}
 use Rattle.responder_machine.specs.History.{KeptRecord}

@@ -5,10 +5,8 @@ use Rattle.responder_machine.specs.Session.{Events}
 use Rattle.responder_machine.specs.Session.Event.{Began}
 use Rattle.session_keys.specs.declared.terms.SessionTerms.{SessionTerms}
 use Rattle.spdm_basis.specs.Sizes.{hash_size}
-use Rattle.spdm_grammar.specs.Message.{ResponseMessage}
 use Rattle.spdm_grammar.specs.Message.ResponseMessage.{PskExchangeRsp}
 use Rattle.spdm_grammar.specs.Responses.{canonical_response}
-use Rattle.spdm_grammar.specs.declared.choice.Choice.{Choice}
 use Rattle.spdm_machine.specs.Keys.{verify_data}
 use Rattle.spdm_machine.specs.Terms.{terms_of}
 use Rattle.transcript.specs.Transcripts.{Negotiation, vca_of}

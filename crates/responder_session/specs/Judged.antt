@@ -18,7 +18,6 @@ use Rattle.spdm_grammar.specs.declared.error_code.ErrorCode.{ErrorCode}
 use Rattle.spdm_grammar.specs.declared.error_code.ErrorCode.TheVariants.{DecryptError}
 use Rattle.spdm_grammar.specs.declared.names.request_code.TheConstants.{PSK_FINISH}
 use Rattle.spdm_machine.specs.Keys.{verify_data}
-use Rattle.responder_session.specs.Handshake as handshake
 use Rattle.responder_session.specs.Open as opens
 use Rattle.responder_session.specs.Turns.{answered_turn}
 

@@ -4,7 +4,7 @@ use Rattle.responder_machine.specs.Answer.{Free}
 use Rattle.responder_machine.specs.Heard.{heard_of, record_id}
 use Rattle.responder_machine.specs.History.{History, ended_of, clear_turns, phase_of}
 use Rattle.responder_machine.specs.History.Entry.{Sealed}
-use Rattle.responder_machine.specs.Responder.{Outcome, on_record, repeats, kept_record, decrypt_error}
+use Rattle.responder_machine.specs.Responder.{on_record, repeats, kept_record, decrypt_error}
 use Rattle.responder_machine.specs.Responder.Outcome.{Adds as AddsEntry, Same as SendsAgain, Unopened as StaysUnopened}
 use Rattle.responder_machine.specs.Session.{session_of, id_in_record, is_live, last_of, after_record}
 use Rattle.responder_machine.specs.Setup.{RspSetup}

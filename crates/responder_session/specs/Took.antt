@@ -1,14 +1,13 @@
 -- What comes of a record in a session. The answers are those of the definitions of a responder.
 use Rattle.std.specs.Prelude.{◌≡◌, ℕ, List, ◌∷◌, if◌then◌else◌, true, false, Option, Some, None}
 use Rattle.responder_machine.specs.Answer.{Free}
-use Rattle.responder_machine.specs.Records.{opening_fault, opened, reply_record, ended_fault}
+use Rattle.responder_machine.specs.Records.{opening_fault, opened, reply_record}
 use Rattle.responder_machine.specs.Refusal.{code_of}
 use Rattle.responder_machine.specs.Responder.{session_turn, inner_reply, repeats}
 use Rattle.responder_machine.specs.Session.{Events, id_bytes, last_of}
 use Rattle.responder_machine.specs.Session.Event.{Heard}
 use Rattle.responder_machine.specs.Setup.{RspSetup}
 use Rattle.responder_machine.specs.Turn.{Turn, is_data, takes}
-use Rattle.spdm_basis.specs.declared.record_fault.RecordFault.{RecordFault}
 use Rattle.spdm_grammar.specs.ErrorNumber.{error_number}
 use Rattle.spdm_grammar.specs.declared.error_code.ErrorCode.{ErrorCode}
 use Rattle.spdm_grammar.specs.declared.names.request_code.TheConstants.{END_SESSION}

@@ -1,3 +1,4 @@
+ghost use Rattle.responder_session.specs.ExchangeLaws.{StartIsAnswer, WaitingStands};
 ghost use Rattle.responder_session.specs.Laws.{TookIsRecord};
 ghost use Rattle.responder_session.specs.Staged.{BehindHasReply};
 
@@ -5,6 +6,17 @@ ghost use Rattle.responder_session.specs.Staged.{BehindHasReply};
 /// stands for: it adds the same entry, told alike, sends the kept reply again, or does not open it.
 pub fn took_is_record()
     ensures { TookIsRecord }
+{}
+
+/// The PSK_EXCHANGE_RSP that begins a session is the whole answer of the responder, where its parts are the
+/// responder's.
+pub fn start_is_answer()
+    ensures { StartIsAnswer }
+{}
+
+/// A state stands for its session also when seconds have passed.
+pub fn waiting_stands()
+    ensures { WaitingStands }
 {}
 
 /// A session behind its handshake has taken a record, so it keeps a reply.

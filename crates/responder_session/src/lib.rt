@@ -22,7 +22,7 @@ mod verifying;
 pub use deed::RecordFree;
 pub use ended::RspEnded;
 pub use handshake::RspHandshake;
-pub use laws::{behind_has_reply, took_is_record};
+pub use laws::{behind_has_reply, start_is_answer, took_is_record, waiting_stands};
 pub use open::RspOpen;
 pub use parts::ExchangeParts;
 pub use queue::{AppQueue, QueueFault};

@@ -1,4 +1,11 @@
+<<<<<<< HEAD:crates/session_vectors/src/responder_tests.rt
 use crate::responder_suites::{MEASURED, REFUSED_IN_HANDSHAKE, REFUSED_IN_OPEN, SUITES, Suite};
+=======
+ghost use Rattle.std.specs.Prelude.{◌≡◌, false};
+
+use crate::responder_suites::{MEASURED, REFUSED_IN_HANDSHAKE, REFUSED_IN_OPEN, SUITES, Suite};
+use responder_session::{AppQueue, ExchangeParts, QueueFault, RspAct, RspHandshake, RspState, RspTook};
+>>>>>>> 549ca4b9d33887347672921d1f0bcce8d356b25f:crates/responder_session/src/tests.rt
 use hmac_hkdf::Drawn;
 use measurements::Inventory;
 use negotiate::{Common, Sizes};
@@ -36,7 +43,9 @@ fn expect_bytes(rt: &(impl Abort + Alloc), bytes: &[u8], want: &str) -> Result<(
 }
 
 // The terms of a suite.
-fn terms(suite: &Suite) -> SessionTerms {
+fn terms(suite: &Suite) -> SessionTerms
+    ensures { result.summary ≡ false }
+{
     SessionTerms {
         choice: Choice {
             hash: suite.hash,
@@ -70,10 +79,10 @@ fn begin(
         context,
         opaque: &[],
     };
-    if context.len() != suite.hash.size() {
+    let terms = terms(suite);
+    if context.len() != terms.choice.hash.size() {
         return Err(Fail::from("another length of the context"));
     }
-    let terms = terms(suite);
     Ok(RspHandshake::start(&vca, &psk, exchange.as_slice(), terms, &parts, out))
 }
 
@@ -230,14 +239,19 @@ fn fault(
     }
 }
 
-#[test]
-fn finish_comes_again(rt: HostRuntime) -> Result<(), Fail> {
-    let finish = hex::decode(rt.alloc(), SUITES[0].finish.0)?;
-    let blocks = inventory(rt.alloc())?;
-    let state = open(&rt, &SUITES[0], &blocks)?;
-    let took = take(state, finish.as_slice(), &blocks, &mut AppQueue::new())?;
+// That the record of PSK_FINISH, which was taken, is known again.
+fn expect_repeat(rt: &(impl Abort + Alloc), suite: &Suite, blocks: &Inventory) -> Result<(), Fail> {
+    let finish = hex::decode(rt.alloc(), suite.finish.0)?;
+    let state = open(rt, suite, blocks)?;
+    let took = take(state, finish.as_slice(), blocks, &mut AppQueue::new())?;
     assert!(rt; matches!(took, RspTook::Same(_)));
     Ok(())
+}
+
+#[test]
+fn finish_comes_again(rt: HostRuntime) -> Result<(), Fail> {
+    let blocks = inventory(rt.alloc())?;
+    expect_repeat(&rt, &SUITES[0], &blocks)
 }
 
 // The second record of the first suite, the first of the second, and no bytes.

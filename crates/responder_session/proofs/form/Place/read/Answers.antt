@@ -3,7 +3,6 @@ use Rattle.std.specs.Prelude.{Some, None}
 use Rattle.responder_machine.specs.Answer.{request_at}
 use Rattle.responder_machine.specs.Place.{session_place}
 use Rattle.spdm_basis.specs.Sizes.{hash_size}
-use Rattle.spdm_basis.specs.declared.hash_alg.HashAlg.{HashAlg}
 use Rattle.spdm_grammar.specs.Message.{request_message}
 use Rattle.spdm_grammar.proofs.SoundRequests.{spelled_request}
 use Rattle.spdm_grammar.specs.Requests.{request_in, IsSoundRequest}

@@ -1,4 +1,4 @@
-use Rattle.std.proofs.Common.{◌≡◌, ◌++◌, ◌∙◌, ap, sym, subst, ℕ, List}
+use Rattle.std.proofs.Common.{◌++◌, ◌∙◌, ap, sym, subst, ℕ, List}
 use Rattle.std.specs.Prelude.{bytes_eq}
 use Rattle.key_schedule.specs.declared.direction.Direction.TheVariants.{Request}
 use Rattle.responder_machine.specs.Session.{session_terms, session_vca, exchange_of, exchange_answer, t1_of}

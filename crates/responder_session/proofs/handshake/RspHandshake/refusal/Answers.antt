@@ -1,4 +1,4 @@
-use Rattle.std.proofs.Common.{◌≡◌, ◌∙◌, ap, sym, subst, refl, ℕ, List, drop}
+use Rattle.std.proofs.Common.{◌∙◌, sym, subst, refl, drop}
 use Rattle.responder_machine.specs.Place.{session_place}
 use Rattle.spdm_grammar.specs.Message.{request_message}
 use Rattle.spdm_grammar.specs.declared.phase.Stage.TheVariants.{Handshake}

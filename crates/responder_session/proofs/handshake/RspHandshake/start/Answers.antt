@@ -1,16 +1,14 @@
 use Rattle.std.proofs.Common.{◌≡◌, ◌++◌, ◌∙◌, [], ap, sym, subst, refl, ℕ, List, length, arith}
-use Rattle.key_schedule.specs.declared.direction.Direction.TheVariants.{Response}
 use Rattle.running_hash.specs.Hash.{hash_of}
 use Rattle.session_keys.specs.Handshake.{IsHandshakeOf}
 use Rattle.spdm_basis.specs.Sizes.{hash_size}
-use Rattle.spdm_basis.specs.declared.hash_alg.HashAlg.{HashAlg}
 use Rattle.spdm_grammar.specs.declared.choice.Choice.{Choice}
 use Rattle.spdm_machine.specs.Sessions.{id_in_exchange}
 use Rattle.spdm_machine.specs.Terms.{terms_of}
 use Rattle.transcript.specs.Lane as lanes
 use Rattle.transcript.specs.Transcripts.{vca_of, without_verify}
 use Rattle.responder_machine.specs.Session.{t1_of}
-use Rattle.responder_session.specs.Exchange.{answer_with, begun, t1_with}
+use Rattle.responder_session.specs.Exchange.{answer_with, begun}
 use Rattle.responder_session.proofs.Answered.{unverified, told}
 use Rattle.responder_session.proofs.handshake.RspHandshake.start.Goals as goal
 

@@ -8,7 +8,6 @@ use Rattle.responder_machine.specs.Refusal.{code_of}
 use Rattle.spdm_grammar.specs.Responses.{canonical_response}
 use Rattle.responder_session.specs.Handshake.{Seen, StandsFor}
 use Rattle.responder_session.specs.Turns.{answered_turn}
-use Rattle.responder_session.specs.declared.took.RspAct.{RspAct}
 use Rattle.responder_session.specs.declared.took.RspAct.TheVariants.{Answered, Refused}
 use Rattle.responder_session.specs.declared.took.RspState.TheVariants as state
 use Rattle.responder_session.proofs.Closed.{refused_alike}

@@ -1,4 +1,4 @@
-use Rattle.std.proofs.Common.{◌∙◌, ap, sym}
+use Rattle.std.proofs.Common.{◌∙◌, ap}
 use Rattle.key_schedule.specs.Keys.{DirectionSecret}
 use Rattle.responder_session.proofs.kept.Kept.rekey_responses.Goals as goal
 

@@ -1,4 +1,4 @@
-use Rattle.std.proofs.Common.{◌≡◌, ◌∙◌, ◌∷◌, ap, ℕ, List}
+use Rattle.std.proofs.Common.{◌∙◌, ◌∷◌, ap, ℕ, List}
 use Rattle.std.specs.Prelude.{Option, Some}
 use Rattle.responder_machine.specs.History.{KeptRecord}
 use Rattle.responder_machine.specs.Records.{response_purpose}

@@ -1,4 +1,4 @@
-use Rattle.std.proofs.Common.{◌≡◌, ◌∙◌, ap, sym, subst}
+use Rattle.std.proofs.Common.{sym, subst}
 use Rattle.responder_machine.specs.Session.{session_terms, turns_of}
 use Rattle.spdm_grammar.specs.Message.{chunk_message}
 use Rattle.responder_session.specs.Open.{Seen, StandsFor}

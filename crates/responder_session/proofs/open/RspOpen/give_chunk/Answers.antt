@@ -1,4 +1,4 @@
-use Rattle.std.proofs.Common.{◌∙◌, ◌∷◌, sym, subst, refl, List}
+use Rattle.std.proofs.Common.{◌∷◌, sym, subst, refl, List}
 use Rattle.std.specs.Prelude.{Option}
 use Rattle.responder_machine.specs.Records.{reply_record}
 use Rattle.responder_machine.specs.Responder.{inner_reply}

@@ -1,13 +1,11 @@
-use Rattle.std.proofs.Common.{◌≡◌, ◌∙◌, ap, sym, subst, refl, ℕ, List, drop}
-use Rattle.responder_machine.specs.Place.{session_place}
-use Rattle.responder_machine.specs.Session.{session_terms, turns_of}
+use Rattle.std.proofs.Common.{◌∙◌, ap, sym, subst}
 use Rattle.spdm_basis.specs.Sizes.{hash_size}
 use Rattle.spdm_basis.specs.declared.hash_alg.HashAlg.{HashAlg}
 use Rattle.spdm_grammar.specs.Message.{request_message}
 use Rattle.spdm_grammar.specs.Requests.{IsSoundRequest}
 use Rattle.spdm_grammar.specs.declared.phase.Stage.TheVariants.{Open}
 use Rattle.responder_session.specs.Open.{Seen, StandsFor}
-use Rattle.responder_session.proofs.Closed.{judged_refused, refused_alike}
+use Rattle.responder_session.proofs.Closed.{judged_refused}
 use Rattle.responder_session.proofs.Opened.{inner_deed, misfit_deed, data_deed, spoken_open, is_pending}
 use Rattle.responder_session.proofs.open.RspOpen.judge.Goals as goal
 

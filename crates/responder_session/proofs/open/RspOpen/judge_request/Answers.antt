@@ -1,11 +1,8 @@
-use Rattle.std.proofs.Common.{◌≡◌, ◌∙◌, ap, sym, subst, refl, false, true, ℕ, Bool}
-use Rattle.std.specs.Prelude.{Some}
+use Rattle.std.proofs.Common.{◌∙◌, ap, sym, subst, refl, false}
 use Rattle.responder_machine.specs.Refusal.{lacks_flag}
 use Rattle.responder_machine.specs.Session.{session_terms}
 use Rattle.spdm_grammar.specs.Message.{request_message}
 use Rattle.spdm_grammar.specs.Message.RequestMessage.{GetMeasurements, Heartbeat, KeyUpdate, EndSession, ChunkGet}
-use Rattle.spdm_grammar.specs.Requests.{IsSoundRequest}
-use Rattle.spdm_grammar.specs.declared.request.Request.{Request}
 use Rattle.responder_session.specs.Open.{Seen, StandsFor}
 use Rattle.responder_session.proofs.Doing.{alive_deed, ended_deed, lacking_deed, allowed, unhandled, request_handled}
 use Rattle.responder_session.proofs.open.RspOpen.judge_request.Goals as goal

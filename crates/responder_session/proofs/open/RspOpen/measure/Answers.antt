@@ -1,10 +1,7 @@
-use Rattle.std.proofs.Common.{◌≡◌, ◌∙◌, ap, sym, subst, refl, ℕ, ◌+◌, ◌≤◌, List, length}
-use Rattle.measurements.specs.Blocks.{record_of}
-use Rattle.measurements.specs.Records.{asked, is_missing}
-use Rattle.responder_machine.specs.Setup.{inventory_of}
-use Rattle.spdm_grammar.specs.declared.block_spec.BlockSpec.{BlockSpec}
+use Rattle.std.proofs.Common.{◌≡◌, ◌∙◌, ap, sym, subst, ◌+◌, length}
+use Rattle.measurements.specs.Records.{is_missing}
 use Rattle.responder_session.specs.Open.{Seen, StandsFor}
-use Rattle.responder_session.proofs.Doing.{missing_deed, too_long_deed, measured_deed, large_deed, measured_answer, measured_length, fits_frame}
+use Rattle.responder_session.proofs.Doing.{missing_deed, too_long_deed, measured_deed, large_deed, measured_answer, fits_frame}
 use Rattle.responder_session.proofs.Measured.{answer_length, answer_written}
 use Rattle.responder_session.proofs.open.RspOpen.measure.Goals as goal
 

@@ -1,7 +1,5 @@
-use Rattle.std.proofs.Common.{◌≡◌, ◌∙◌, ap, sym, subst, refl, ℕ, List}
-use Rattle.std.specs.Prelude.{if◌then◌else◌}
+use Rattle.std.proofs.Common.{ap, sym, subst, refl, ℕ}
 use Rattle.spdm_grammar.specs.Message.RequestMessage.{GetMeasurements, Heartbeat}
-use Rattle.spdm_grammar.specs.declared.error_code.ErrorCode.TheVariants.{ResponseTooLarge}
 use Rattle.responder_machine.specs.Records.{reply_record}
 use Rattle.responder_machine.specs.Responder.{inner_reply}
 use Rattle.responder_session.specs.Deeds.{IsFit, large_turn}

@@ -1,4 +1,4 @@
-use Rattle.std.proofs.Common.{◌≡◌, ◌∙◌, ◌∷◌, ap, sym, subst, refl, ℕ, List}
+use Rattle.std.proofs.Common.{◌≡◌, ◌∷◌, ap, sym, subst, refl, ℕ, List}
 use Rattle.responder_machine.specs.Records.{reply_record}
 use Rattle.responder_machine.specs.Responder.{data_turn, inner_reply}
 use Rattle.responder_session.specs.Open.{Seen, StandsFor}

@@ -1,4 +1,4 @@
-use Rattle.std.proofs.Common.{◌≡◌, ◌∙◌, ap, sym, subst, refl, Bool, List, ℕ}
+use Rattle.std.proofs.Common.{◌∙◌, ap, sym, subst, Bool}
 use Rattle.std.specs.Prelude.{if◌then◌else◌}
 use Rattle.spdm_grammar.specs.Message.ResponseMessage.{KeyUpdateAck}
 use Rattle.spdm_grammar.specs.Responses.{canonical_response}

@@ -9,7 +9,6 @@ use Rattle.responder_machine.specs.Responder.{inner_reply}
 use Rattle.responder_machine.specs.Session.{session_terms, t2_of, request_epoch, response_epoch}
 use Rattle.session_keys.specs.Keys.{IsKeyOf}
 use Rattle.spdm_basis.specs.SessionIdBytes.{session_id_bytes}
-use Rattle.spdm_basis.specs.declared.session_id.SessionId.{SessionId}
 use Rattle.spdm_machine.specs.Keys.{sealed_of}
 use Rattle.responder_session.specs.Open.{Seen, StandsFor}
 use Rattle.responder_session.specs.Updates.{update_turn}

@@ -1,4 +1,4 @@
-use Rattle.std.proofs.Common.{◌≡◌, ◌∙◌, ◌∷◌, ap, sym, subst, refl, ℕ, List}
+use Rattle.std.proofs.Common.{◌∷◌, ap, sym, subst, refl, ℕ, List}
 use Rattle.key_schedule.specs.Keys.{DirectionSecret}
 use Rattle.key_schedule.specs.Purpose.{application_record}
 use Rattle.key_schedule.specs.declared.direction.Direction.TheVariants.{Request}

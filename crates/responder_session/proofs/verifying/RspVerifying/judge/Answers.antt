@@ -1,4 +1,4 @@
-use Rattle.std.proofs.Common.{◌≡◌, ◌∙◌, ap, sym, subst, refl, ℕ, List, drop}
+use Rattle.std.proofs.Common.{◌∙◌, sym, subst, refl, drop}
 use Rattle.responder_machine.specs.Place.{session_place}
 use Rattle.spdm_grammar.specs.declared.phase.Stage.TheVariants.{Verifying}
 use Rattle.responder_session.specs.Verifying.{Seen, StandsFor}
