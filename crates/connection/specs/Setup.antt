@@ -4,8 +4,8 @@ use Rattle.connection.specs.declared.setup.Setup.{Setup}
 use Rattle.responder_machine.specs.Setup.{RspSetup, inventory_of}
 use Rattle.spdm_grammar.specs.declared.names.TheConstants.{MAX_MESSAGE_SIZE}
 
--- The program sees this set-up of the definitions, which is within its limits: no message to the responder passes
--- its max size, nor that 4,096 bytes, and its opaque data have at most 1,024.
+-- The program sees this set-up of the definitions, which is within its limits: its transfer size is at most its max
+-- size, that is at most 4,096 bytes, and its opaque data have at most 1,024.
 pub record IsSetUp (seen : Setup) (r : RspSetup) : Type 0 where
   pub transfer : r.transfer ≡ seen.transfer
   pub max : r.max ≡ seen.max

@@ -11,8 +11,8 @@ pub struct Refused {
 }
 
 impl Refused {
-    /// A refusal of another code than ResponseTooLarge.
-    pub fn with(code: ErrorCode) -> Refused
+    // A refusal of another code than ResponseTooLarge.
+    pub(crate) fn with(code: ErrorCode) -> Refused
         ensures { result.code ≡ code }
     {
         Refused {
