@@ -1,16 +1,12 @@
-<<<<<<< HEAD:crates/session_vectors/src/responder_tests.rt
-use crate::responder_suites::{MEASURED, REFUSED_IN_HANDSHAKE, REFUSED_IN_OPEN, SUITES, Suite};
-=======
 ghost use Rattle.std.specs.Prelude.{◌≡◌, false};
 
 use crate::responder_suites::{MEASURED, REFUSED_IN_HANDSHAKE, REFUSED_IN_OPEN, SUITES, Suite};
-use responder_session::{AppQueue, ExchangeParts, QueueFault, RspAct, RspHandshake, RspState, RspTook};
->>>>>>> 549ca4b9d33887347672921d1f0bcce8d356b25f:crates/responder_session/src/tests.rt
 use hmac_hkdf::Drawn;
 use measurements::Inventory;
 use negotiate::{Common, Sizes};
 use responder_session::{
-    AppQueue, ExchangeParts, QueueFault, RspAct, RspHandshake, RspState, RspTook,
+    AppQueue, AppQueue, ExchangeParts, ExchangeParts, QueueFault, QueueFault, RspAct, RspAct,
+    RspHandshake, RspHandshake, RspState, RspState, RspTook, RspTook,
 };
 use secured_record::RecordFault;
 use session_keys::SessionTerms;
