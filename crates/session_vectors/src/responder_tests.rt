@@ -5,8 +5,7 @@ use hmac_hkdf::Drawn;
 use measurements::Inventory;
 use negotiate::{Common, Sizes};
 use responder_session::{
-    AppQueue, AppQueue, ExchangeParts, ExchangeParts, QueueFault, QueueFault, RspAct, RspAct,
-    RspHandshake, RspHandshake, RspState, RspState, RspTook, RspTook,
+    AppQueue, ExchangeParts, QueueFault, RspAct, RspHandshake, RspState, RspTook,
 };
 use secured_record::RecordFault;
 use session_keys::SessionTerms;
