@@ -25,6 +25,7 @@ use Rattle.responder_machine.proofs.Sizes.{session_sizes_set_up}
 use Rattle.spdm_agreement.specs.Configured.{IsRequester, IsResponder}
 use Rattle.spdm_agreement.proofs.Delivery.AtResponder.{chosen_short}
 use Rattle.spdm_basis.specs.declared.session_id.SessionId.{SessionId}
+use Rattle.spdm_grammar.specs.declared.names.TheConstants.{MIN_DATA_TRANSFER_SIZE}
 use Rattle.spdm_grammar.specs.Message.RequestMessage.{EndSession, GetMeasurements, Heartbeat}
 use Rattle.spdm_grammar.specs.Message.ResponseMessage.{EndSessionAck, HeartbeatAck, Measurements}
 use Rattle.spdm_grammar.specs.Requests.{canonical_request}
@@ -103,7 +104,7 @@ module _ (p : Pair) (same_key : p.requester.psk ≡ p.responder.psk) (id : ℕ) 
       let least = sizes.least in
       takes g e 4 rid here made live (omega arith)
 
-  pub room : 42 ≤ r.transfer
+  pub room : MIN_DATA_TRANSFER_SIZE ≤ r.transfer
   room = server.sizes.least
 
   abbrev pub IsGood : Asking → (Steps → Turn → Type 0) → Steps → Turn → Type 0

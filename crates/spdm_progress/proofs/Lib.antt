@@ -39,6 +39,10 @@ pub mod Opened
 pub mod ClearRounds
 pub mod ConnectRounds
 pub mod MeasureRound
+pub mod ChunkRules
+pub mod ChunkCounts
+pub mod LargeAnswers
+pub mod LargeMeasure
 pub mod Aside
 pub mod QuietCommands
 pub mod QuietWorlds

@@ -1,6 +1,6 @@
 -- Two ends talk in rounds: a request and its answer, each in packets that wait in order, until an answer after which
 -- nothing is sent. Honest delivery brings every such talk to its end.
-use Rattle.std.proofs.Common.{◌≡◌, ◌⊎◌, ℕ, zero, suc, ◌<◌, ◌≤◌, ◌+◌, ◌*◌, ◌==◌, ◌||◌, List, [], ◌++◌, length, true, false, Option, Some, None, unwrap_or, refl, sym, subst, inl, inr, arith}
+use Rattle.std.proofs.Common.{◌≡◌, ◌⊎◌, ◌∙◌, ℕ, zero, suc, ◌<◌, ◌≤◌, ◌+◌, ◌*◌, ◌==◌, ◌||◌, List, [], ◌++◌, length, true, false, Option, Some, None, unwrap_or, refl, sym, ap, subst, inl, inr, arith}
 use Rattle.mctp_framing.specs.Cutting.{packet_count}
 use Rattle.spdm_grammar.specs.Lines.{Line}
 use Rattle.spdm_grammar.specs.declared.event.Event.{Event}
@@ -30,7 +30,7 @@ use Rattle.world_machine.specs.World.{World, WorldStep, first_waiting, packet_of
 use Rattle.spdm_progress.specs.Honest.{NothingWaits, AreHonest, HaveNoCommand}
 use Rattle.spdm_progress.proofs.Aside.{IsAside}
 use Rattle.spdm_progress.proofs.Between.{Goes, GoesOn, Ends, IsGiven, IsOfEarlier, IsStill, ended, pumps_done}
-use Rattle.spdm_progress.proofs.ManyPackets.{IsBody, before_it, few_packets, none_came, waits_idle}
+use Rattle.spdm_progress.proofs.ManyPackets.{IsBody, before_it, none_came, packets_within, waits_idle}
 use Rattle.spdm_progress.proofs.PacketSteps.{Pair, AreEnds}
 use Rattle.spdm_progress.proofs.StillKept.{AreAlike, still_alike}
 use Rattle.spdm_progress.proofs.Views.{View, Shows, heard_view, shows_still, RequestComes, AnswerComes, IsServed, IsHeard, first_request, request_goes_on, request_ends, first_answer, answer_goes_on, answer_ends}
@@ -56,6 +56,11 @@ module _ (p : Pair) (Asks : Stage) (Done : Log → asked.History → served.Hist
     Further : (next : Sent) → (fewer : ℕ) → more ≡ suc fewer → shown.sent_by o ≡ Some next → Asks fewer next.tag (body_of next.content) log (shown.after h o) g → Leads more o log h g
     Over : shown.sent_by o ≡ None → shown.event_of o ≡ Some told → Done log (shown.after h o) g → Leads more o log h g
 
+-- Each request and each answer of these stages is short enough for so many packets.
+pub record AreShort (round : ℕ) (Asks Answers : Stage) : Type 0 where
+  pub asks : (more tag : ℕ) (body : List ℕ) (log : Log) (h : asked.History) (g : served.History) → Asks more tag body log h g → length body ≤ 64 * round
+  pub answers : (more tag : ℕ) (body : List ℕ) (log : Log) (h : asked.History) (g : served.History) → Answers more tag body log h g → length body ≤ 64 * round
+
 -- What makes such a talk of these stages.
 pub record IsTalk (p : Pair) (Asks Answers : Stage) (Done : Log → asked.History → served.History → Type 0) (told : Event) : Type 0 where
   pub asks_sent : (more tag : ℕ) (body : List ℕ) (log : Log) (h : asked.History) (g : served.History) → Asks more tag body log h g → IsSendable tag body
@@ -68,10 +73,18 @@ pub record IsTalk (p : Pair) (Asks Answers : Stage) (Done : Log → asked.Histor
   pub answers_still : (more tag : ℕ) (body : List ℕ) (log : Log) (h : asked.History) (g later : served.History) → AreAlike p.responder g later → Answers more tag body log h g → Answers more tag body log h later
   pub done_still : (log : Log) (h : asked.History) (g later : served.History) → AreAlike p.responder g later → Done log h g → Done log h later
 
-module _ (limit : ℕ) (within : limit ≤ wear_limit) (p : Pair) (ends : AreEnds p) (Aside : World → Type 0) (aside : IsAside p Aside) (Asks Answers : Stage) (Done : Log → asked.History → served.History → Type 0) (told : Event) (talk : IsTalk p Asks Answers Done told) where
-  -- A body has at most 66 packets, so each end takes as many in a round.
-  abbrev round : ℕ
-  round = 66
+-- No body has more than 66 packets.
+pub all_short : (p : Pair) (Asks Answers : Stage) (Done : Log → asked.History → served.History → Type 0) (told : Event) → IsTalk p Asks Answers Done told → AreShort 66 Asks Answers
+all_short p Asks Answers Done told talk = record {
+  asks = λ more tag body log h g asks. (let fits = (talk.asks_sent more tag body log h g asks).whole.fits in omega (arith, fits));
+  answers = λ more tag body log h g answers. (let fits = (talk.answers_sent more tag body log h g answers).whole.fits in omega (arith, fits));
+}
+
+module _ (limit : ℕ) (within : limit ≤ wear_limit) (p : Pair) (ends : AreEnds p) (Aside : World → Type 0) (aside : IsAside p Aside) (Asks Answers : Stage) (Done : Log → asked.History → served.History → Type 0) (told : Event) (talk : IsTalk p Asks Answers Done told)
+    (round : ℕ) (short : AreShort round Asks Answers) where
+  -- A body has so many packets at most, so each end takes as many in a round.
+  one_round : (more : ℕ) → round * suc more ≡ round * more + round
+  one_round more = omega arith
 
   -- So many packets of a request, or of an answer, were given.
   pub record Asking (world : World) : Type 0 where
@@ -117,10 +130,9 @@ module _ (limit : ℕ) (within : limit ≤ wear_limit) (p : Pair) (ends : AreEnd
 
   -- ---- A body was just sent.
 
-  left_of : (unit : ℕ) (body : List ℕ) → 64 ≤ unit → IsBody body → (left : ℕ) × (suc left ≡ packet_count unit body) × (packet_count unit body ≤ round)
-  left_of unit body wide whole =
-      let fits = whole.fits in
-      let count = few_packets unit body wide whole.filled (omega arith) in
+  left_of : (unit : ℕ) (body : List ℕ) → 64 ≤ unit → IsBody body → length body ≤ 64 * round → (left : ℕ) × (suc left ≡ packet_count unit body) × (packet_count unit body ≤ round)
+  left_of unit body wide whole fits =
+      let count = packets_within unit round body wide whole.filled fits in
       let left = before_it (packet_count unit body) count.0 in
       (left.0, left.1, count.1)
 
@@ -129,7 +141,8 @@ module _ (limit : ℕ) (within : limit ≤ wear_limit) (p : Pair) (ends : AreEnd
   begins more next v world s asks life responder_life =
       let body = body_of next.content in
       let sendable = talk.asks_sent more next.tag body v.log v.asked v.served asks in
-      let left = left_of p.requester.unit body ends.requester_unit sendable.whole in record {
+      let one = one_round more in
+      let left = left_of p.requester.unit body ends.requester_unit sendable.whole (short.asks more next.tag body v.log v.asked v.served asks) in record {
         more = more;
         tag = next.tag;
         body = body;
@@ -138,14 +151,14 @@ module _ (limit : ℕ) (within : limit ≤ wear_limit) (p : Pair) (ends : AreEnd
         asks = asks;
         done = 0;
         left = left.0;
-        few = omega (arith, left.1, left.2);
+        few = omega (arith, one, left.1, left.2);
         comes = record {
           sum = omega (arith, left.1);
           shows = subst (λ (to : ℕ). Shows p Aside v (packets_to to p.requester.eid true next.tag p.requester.unit body) world) ends.to s;
           came = none_came p.responder.eid p.requester.eid true next.tag p.requester.unit body sendable.small _ sendable.whole v.received;
         };
         life = life;
-        responder_life = omega (arith, left.1, left.2);
+        responder_life = omega (arith, one, left.1, left.2);
       }
 
   pub begins_with : (more : ℕ) (next : Sent) (v : View) (world : World) (shows : Shows p Aside v (packets_of_sent p.requester (Some next)) world) (asks : Asks more next.tag (body_of next.content) v.log v.asked v.served)
@@ -160,7 +173,8 @@ module _ (limit : ℕ) (within : limit ≤ wear_limit) (p : Pair) (ends : AreEnd
       let reply = answering.body_of o in
       let answers = talk.serves more tag body v.log v.asked v.served x.drawn x.draws chance asks in
       let sendable = talk.answers_sent more tag reply _ _ _ answers in
-      let left = left_of p.responder.unit reply ends.responder_unit sendable.whole in record {
+      let one = one_round more in
+      let left = left_of p.responder.unit reply ends.responder_unit sendable.whole (short.answers more tag reply _ _ _ answers) in record {
         more = more;
         tag = tag;
         body = reply;
@@ -169,14 +183,14 @@ module _ (limit : ℕ) (within : limit ≤ wear_limit) (p : Pair) (ends : AreEnd
         answers = answers;
         done = 0;
         left = left.0;
-        few = omega (arith, left.1, left.2);
+        few = omega (arith, one, left.1, left.2);
         comes = record {
           sum = omega (arith, left.1);
           shows = x.shows;
           came = none_came p.requester.eid p.responder.eid false tag p.responder.unit reply sendable.small _ sendable.whole v.given;
         };
-        life = omega (arith, left.1, left.2);
-        responder_life = omega arith;
+        life = omega (arith, one, left.1, left.2);
+        responder_life = omega (arith, one);
       }
 
   -- The world goes on, or all is done and its line is written.
@@ -188,7 +202,8 @@ module _ (limit : ℕ) (within : limit ≤ wear_limit) (p : Pair) (ends : AreEnd
       → (x : IsHeard p ends Aside aside tag body sent.small sent.whole done v s) (next : Sent) (fewer : ℕ) → more ≡ suc fewer → shown.sent_by (requester_hears p.requester v.asked false tag body x.drawn) ≡ Some next
       → Asks fewer next.tag (body_of next.content) (heard_view p ends Aside aside tag body sent.small sent.whole done v x.drawn).log (heard_view p ends Aside aside tag body sent.small sent.whole done v x.drawn).asked v.served → Asking s.after
   further s more tag body sent v done life responder_life x next fewer one_less sends asks =
-      begins fewer next (heard_view p ends Aside aside tag body sent.small sent.whole done v x.drawn) s.after (subst (λ (o : Option Sent). Shows p Aside (heard_view p ends Aside aside tag body sent.small sent.whole done v x.drawn) (packets_of_sent p.requester o) s.after) sends x.shows) asks (omega arith) (omega arith)
+      let these : round * more ≡ round * fewer + round = ap (λ (k : ℕ). round * k) one_less ∙ one_round fewer in
+      begins fewer next (heard_view p ends Aside aside tag body sent.small sent.whole done v x.drawn) s.after (subst (λ (o : Option Sent). Shows p Aside (heard_view p ends Aside aside tag body sent.small sent.whole done v x.drawn) (packets_of_sent p.requester o) s.after) sends x.shows) asks (omega (arith, one_round fewer, these)) (omega (arith, one_round fewer, these))
 
   heard : (s : WorldStep) (more tag : ℕ) (body : List ℕ) (sent : IsSendable tag body) (v : View) (done : ℕ) → length v.given + v.commands + 1 + round * more ≤ limit → length v.received + round * more ≤ limit
       → (x : IsHeard p ends Aside aside tag body sent.small sent.whole done v s)
@@ -325,10 +340,10 @@ module _ (limit : ℕ) (within : limit ≤ wear_limit) (p : Pair) (ends : AreEnd
 
   -- ---- How many packets are enough.
 
-  -- What is left of this body, and of the answer and the rounds that follow, of at most 66 packets each way.
+  -- What is left of this body, and of the answer and the rounds that follow, each way.
   abbrev cost : (world : World) → IsUnderWay world → ℕ
-  cost world (inl x) = suc x.left + 66 + 132 * x.more
-  cost world (inr x) = suc x.left + 132 * x.more
+  cost world (inl x) = suc x.left + round + round * x.more + round * x.more
+  cost world (inr x) = suc x.left + round * x.more + round * x.more
 
   -- Less is left than before.
   abbrev Falls : ℕ → (s : WorldStep) → TalkGoes s → Type 0
@@ -341,16 +356,17 @@ module _ (limit : ℕ) (within : limit ≤ wear_limit) (p : Pair) (ends : AreEnd
   heard_falls : (s : WorldStep) (more tag : ℕ) (body : List ℕ) (sent : IsSendable tag body) (v : View) (done : ℕ) (life : length v.given + v.commands + 1 + round * more ≤ limit) (responder_life : length v.received + round * more ≤ limit)
       (x : IsHeard p ends Aside aside tag body sent.small sent.whole done v s)
       (l : Leads p Asks Done told more (requester_hears p.requester v.asked false tag body x.drawn) (asked_log.acts_of p.requester v.asked body (requester_hears p.requester v.asked false tag body x.drawn) ++ v.log) v.asked v.served)
-      → Falls (1 + 132 * more) s (heard s more tag body sent v done life responder_life x l)
+      → Falls (1 + round * more + round * more) s (heard s more tag body sent v done life responder_life x l)
   unfolding heard further begins
   heard_falls s more tag body sent v done life responder_life x (Further next fewer one_less sends asks) =
       let few = (further s more tag body sent v done life responder_life x next fewer one_less sends asks).few in
-      omega (arith, few, one_less)
+      let these : round * more ≡ round * fewer + round = ap (λ (k : ℕ). round * k) one_less ∙ one_round fewer in
+      omega (arith, few, these)
   heard_falls s more tag body sent v done life responder_life x (Over sends tells finished) = tt
 
   asked_falls : (world : World) (more tag : ℕ) (body : List ℕ) (sent : IsSendable tag body) (v : View) (done left : ℕ) (few : suc left ≤ round) (chance : NoChance v.log) (asks : Asks more tag body v.log v.asked v.served) (life : length v.given + v.commands + round * suc more ≤ limit)
       (responder_life : length v.received + suc left + round * more ≤ limit) (x : RequestComes p ends Aside aside tag body sent.small sent.whole done left v world)
-      → FallsGiven (suc left + 66 + 132 * more) world (asked_given world more tag body sent v done left few chance asks life responder_life x)
+      → FallsGiven (suc left + round + round * more + round * more) world (asked_given world more tag body sent v done left few chance asks life responder_life x)
   unfolding asked_given answered
   asked_falls world more tag body sent v done zero few chance asks life responder_life x =
       let w = first_request p ends Aside aside tag body sent.small sent.whole done 0 v world x in
@@ -360,7 +376,7 @@ module _ (limit : ℕ) (within : limit ≤ wear_limit) (p : Pair) (ends : AreEnd
 
   answer_falls : (world : World) (more tag : ℕ) (body : List ℕ) (sent : IsSendable tag body) (v : View) (done left : ℕ) (few : suc left ≤ round) (chance : NoChance v.log) (answers : Answers more tag body v.log v.asked v.served) (life : length v.given + v.commands + suc left + round * more ≤ limit)
       (responder_life : length v.received + round * more ≤ limit) (x : AnswerComes p ends Aside aside tag body sent.small sent.whole done left v world)
-      → FallsGiven (suc left + 132 * more) world (answer_given world more tag body sent v done left few chance answers life responder_life x)
+      → FallsGiven (suc left + round * more + round * more) world (answer_given world more tag body sent v done left few chance answers life responder_life x)
   unfolding answer_given
   answer_falls world more tag body sent v done zero few chance answers life responder_life x =
       let w = first_answer p ends Aside aside tag body sent.small sent.whole done 0 v world x in
@@ -400,6 +416,6 @@ module _ (limit : ℕ) (within : limit ≤ wear_limit) (p : Pair) (ends : AreEnd
       subst (EnoughSo world (pumps count)) (sym g.first)
       (λ last. enough_behind count (cost world u) (delivers world (suc g.place) (packet_of (suc g.place) world.sent)) g.goes (one_falls world now u) most (pumps_enough count (delivers world (suc g.place) (packet_of (suc g.place) world.sent)).after) last) chance
 
-  -- A talk of three rounds or fewer takes no more than 396 packets.
-  pub enough : (count : ℕ) (world : World) (x : Asking world) → x.more ≤ 2 → 396 ≤ count → NoChance (pumps count world).after.log → NothingWaits (pumps count world).after
-  enough count world x few most chance = (let these = x.few in pumps_enough count world (inl x) (omega (arith, these, few, most)) chance)
+  -- Such a talk takes no more packets than these.
+  pub enough : (count : ℕ) (world : World) (x : Asking world) → round * suc x.more + round * suc x.more ≤ count → NoChance (pumps count world).after.log → NothingWaits (pumps count world).after
+  enough count world x most chance = (let these = x.few in let one = one_round x.more in pumps_enough count world (inl x) (omega (arith, these, one, most)) chance)

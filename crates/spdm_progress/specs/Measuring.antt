@@ -2,6 +2,8 @@
 use Rattle.std.specs.Prelude.{◌≡◌, ◌<◌, ◌≤◌, ◌+◌, ◌==◌, ℕ, List, length, if◌then◌else◌, true, false, Some, None, Contains}
 use Rattle.measurements.specs.Blocks.{record_of}
 use Rattle.measurements.specs.Records.{asked as blocks_asked, is_missing}
+use Rattle.negotiate.specs.declared.shared.Common.{Common}
+use Rattle.negotiate.specs.declared.shared.Sizes.{Sizes}
 use Rattle.requester_machine.specs.History as asked
 use Rattle.requester_machine.specs.Message.Command.{Measure}
 use Rattle.requester_machine.specs.Requesting.{Requesting, requester_told}
@@ -37,6 +39,11 @@ number_for r op = if op == 0 then length (inventory_of r) else length (blocks_as
 -- MEASUREMENTS has 42 bytes beside the record.
 abbrev pub measurements_size : RspSetup → (op : ℕ) → ℕ
 measurements_size r op = 42 + length (record_for r op)
+
+-- A message of this size can go to an end with these sizes: it is at most its max size, and at most its transfer size where
+-- chunks are not in common.
+abbrev pub CanGo : Common → Sizes → (size : ℕ) → Type 0
+CanGo common to size = (size ≤ to.max) × (common.chunk ≡ false → size ≤ to.transfer)
 
 -- What a clear measure needs. Both ends are negotiated, with one negotiation, as a connect leaves them, and it chose
 -- measurements. The operation is a byte, and a block that it names is configured. The request, of 4 bytes, and the

@@ -22,7 +22,7 @@ use Rattle.world_machine.specs.World.{World, entry_step, happens, new_world, req
 use Rattle.spdm_progress.specs.Connecting.{CanConnect}
 use Rattle.spdm_progress.specs.Honest.{AreHonest, HaveNoCommand, NothingWaits, is_command}
 use Rattle.spdm_progress.specs.InStep.{AreQuiet}
-use Rattle.spdm_progress.specs.Measuring.{measurements_size}
+use Rattle.spdm_progress.specs.Measuring.{CanGo, measurements_size}
 use Rattle.spdm_progress.specs.Opening.{CanOpen, opened_id, terms_now}
 use Rattle.spdm_progress.specs.SessionCommands.{CanAsk, CompletesQuietly, IsTold, IsToldQuietly, commanding, result_of}
 
@@ -34,16 +34,16 @@ ConnectsQuietly =
     (w : WorldSetup) (before : List Entry) (n : ℕ) (a : Requesting) (c : Connection) → IsTold w before n a c → CanConnect a c
     → (id : ℕ) → CompletesQuietly w before n a c Connect finished.Connected id false
 
--- What a command needs beside that it is answered `ok`, so that its messages need no chunks and none is refused: what a
--- connect and an open need; of measurements that a block which the operation, a byte, names is configured, and that the
--- answer fits the requester's transfer size.
+-- What a command needs beside that it is answered `ok`, so that none of its messages is refused: what a connect and an
+-- open need; of measurements that a block which the operation, a byte, names is configured, and that the answer can go to
+-- the requester, in the clear by chunks too.
 abbrev pub CanDo : Requesting → Connection → Command → Type 0
 CanDo a c Connect = CanConnect a c
 CanDo a c (Open summary) = CanOpen a c summary
 CanDo a c (Send id bytes) = CanAsk a c (Send id bytes)
 CanDo a c (Beat id) = CanAsk a c (Beat id)
 CanDo a c (Update id all) = CanAsk a c (Update id all)
-CanDo a c (Measure None op) = (op < 256) × (is_missing op (inventory_of c.setup) ≡ false) × (measurements_size c.setup op ≤ (terms_now a).common.to_requester.transfer)
+CanDo a c (Measure None op) = (op < 256) × (is_missing op (inventory_of c.setup) ≡ false) × CanGo (terms_now a).common (terms_now a).common.to_requester (measurements_size c.setup op)
 CanDo a c (Measure (Some id) op) = CanAsk a c (Measure (Some id) op)
 CanDo a c (End id) = CanAsk a c (End id)
 CanDo a c Retry = Unit {0}
