@@ -216,12 +216,12 @@ module _ (p : Pair) (op : ℕ) (h0 : asked.History) (d0 : Draw) (can : GoesLarge
   body_size : (message body : List ℕ) (size : ℕ) → body ≡ clear_body message → length message + 1 ≤ size → length body ≤ size
   body_size message body size is few = subst (λ (l : List ℕ). length l ≤ size) (sym is) (omega (arith, few))
 
-  pub are_short : (each : ℕ) → 1 ≤ each → transfer + 1 ≤ 64 * each → AreShort each MeasureAsked MeasureAnswered
+  pub are_short : (each : ℕ) → 1 ≤ each → transfer + 1 ≤ 64 * each → AreShort 1 each MeasureAsked MeasureAnswered
   are_short each some fits = record { asks = asks_short; answers = answers_short }
     where
-      asks_short : (more tag : ℕ) (body : List ℕ) (log : Log) (h : asked.History) (g : served.History) → MeasureAsked more tag body log h g → length body ≤ 64 * each
-      asks_short more tag body log h g (inl y) = body_size m body (64 * each) y.body_is (omega (arith, some))
-      asks_short more tag body log h g (inr y) = body_size (get_chunk y.handle y.k) body (64 * each) y.body_is (omega (arith, some))
+      asks_short : (more tag : ℕ) (body : List ℕ) (log : Log) (h : asked.History) (g : served.History) → MeasureAsked more tag body log h g → length body ≤ 64 * 1
+      asks_short more tag body log h g (inl y) = body_size m body (64 * 1) y.body_is (omega arith)
+      asks_short more tag body log h g (inr y) = body_size (get_chunk y.handle y.k) body (64 * 1) y.body_is (omega arith)
 
       answers_short : (more tag : ℕ) (body : List ℕ) (log : Log) (h : asked.History) (g : served.History) → MeasureAnswered more tag body log h g → length body ≤ 64 * each
       answers_short more tag body log h g (inl y) = body_size (large_response y.handle) body (64 * each) y.body_is (omega (arith, some))

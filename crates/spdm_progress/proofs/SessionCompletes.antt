@@ -70,6 +70,10 @@ no_chance_from world (entry ∷ entries) chance = no_chance_earlier world entry.
 abbrev pub IsLongPump : List Entry → Type 0
 IsLongPump behind = (line : ℕ) × (count : ℕ) × (396 ≤ count) × (behind ≡ record { line = line; happening = Pump count } ∷ [])
 
+-- So many packets in each round are few enough for each end, and for both.
+abbrev pub AreFew : (there each more : ℕ) → Type 0
+AreFew there each more = (each * suc more ≤ 198) × (there * suc more ≤ 198) × (there * suc more + each * suc more ≤ 396)
+
 -- No packet waits behind these entries, or there was a pump long enough.
 abbrev pub Rests : World → List Entry → Type 0
 Rests world behind = NothingWaits (world_from world behind) ⊎ IsLongPump behind
@@ -126,32 +130,32 @@ module _ (w : WorldSetup) (before : List Entry) (n : ℕ) (a : Requesting) (c : 
     record { idle = waits_idle later.sent s.waits; aside = s.aside; takes = takes },
   )
 
-  at_rest : (most : ℕ) (within : most ≤ wear_limit) (Asks Answers : Stage) (Done : Log → asked.History → served.History → Type 0) (result : Finished) (is_talk : IsTalk p Asks Answers Done (event.Done result)) (each : ℕ) (short : AreShort each Asks Answers) (sent : Sent) → requester_told a command ≡ sends a command sent
-      → (begun : talk.Asking most within p placed.ends Aside aside Asks Answers Done (event.Done result) is_talk each short (told_by world n (sends a command sent)).after) → (each * suc begun.more ≤ 198) → Rests (commanding world line n command) behind → NothingWaits (world_from (commanding world line n command) behind)
+  at_rest : (most : ℕ) (within : most ≤ wear_limit) (Asks Answers : Stage) (Done : Log → asked.History → served.History → Type 0) (result : Finished) (is_talk : IsTalk p Asks Answers Done (event.Done result)) (there each : ℕ) (short : AreShort there each Asks Answers) (sent : Sent) → requester_told a command ≡ sends a command sent
+      → (begun : talk.Asking most within p placed.ends Aside aside Asks Answers Done (event.Done result) is_talk there each short (told_by world n (sends a command sent)).after) → there * suc begun.more + each * suc begun.more ≤ 396 → Rests (commanding world line n command) behind → NothingWaits (world_from (commanding world line n command) behind)
   unfolding happens
-  at_rest most within Asks Answers Done result is_talk each short sent step begun few (inl idle) = idle
-  at_rest most within Asks Answers Done result is_talk each short sent step begun few (inr pump) =
+  at_rest most within Asks Answers Done result is_talk there each short sent step begun few (inl idle) = idle
+  at_rest most within Asks Answers Done result is_talk there each short sent step begun few (inr pump) =
       let same = told_is world n a command sent is_told.is_requester step in
       let later = commanding world line n command in
       let count = pump.1 in
       subst (λ (entries : List Entry). NothingWaits (world_from later entries)) (sym pump.3)
       (subst (λ (s : WorldStep). NothingWaits (pumps count s.after).after) (sym same)
-      (enough most within p placed.ends Aside aside Asks Answers Done (event.Done result) is_talk each short count (told_by world n (sends a command sent)).after begun (omega (arith, few, pump.2))
+      (enough most within p placed.ends Aside aside Asks Answers Done (event.Done result) is_talk there each short count (told_by world n (sends a command sent)).after begun (omega (arith, few, pump.2))
       (subst (λ (s : WorldStep). NoChance (pumps count s.after).after.log) same (subst (λ (entries : List Entry). NoChance (world_from later entries).log) pump.3 chance))))
 
   -- The talk that the message of the command begins, where no end takes more than so much.
   runs : (most : ℕ) (within : most ≤ wear_limit) → length a.given + a.commands + 199 ≤ most → length world.responder.given + 198 ≤ most
-      → (Asks Answers : Stage) (Done : Log → asked.History → served.History → Type 0) (result : Finished) (is_talk : IsTalk p Asks Answers Done (event.Done result)) (each : ℕ) (short : AreShort each Asks Answers) (more : ℕ) → (each * suc more ≤ 198) → (sent : Sent) → requester_told a command ≡ sends a command sent
+      → (Asks Answers : Stage) (Done : Log → asked.History → served.History → Type 0) (result : Finished) (is_talk : IsTalk p Asks Answers Done (event.Done result)) (there each : ℕ) (short : AreShort there each Asks Answers) (more : ℕ) → AreFew there each more → (sent : Sent) → requester_told a command ≡ sends a command sent
       → Asks more sent.tag (body_of sent.content) (told_view world a c command sent).log (told_view world a c command sent).asked c.history
-      → talk.IsDone most within p placed.ends Aside aside Asks Answers Done (event.Done result) is_talk each short (world_from (commanding world line n command) behind) × IsIn (lines_from (commanding world line n command) behind) (Line.ToRequester n (event.Done result))
-  runs most within life responder_life Asks Answers Done result is_talk each short more few sent step asks =
+      → talk.IsDone most within p placed.ends Aside aside Asks Answers Done (event.Done result) is_talk there each short (world_from (commanding world line n command) behind) × IsIn (lines_from (commanding world line n command) behind) (Line.ToRequester n (event.Done result))
+  runs most within life responder_life Asks Answers Done result is_talk there each short more few sent step asks =
       let shown = shows_told Aside world n a c aside command sent (shows_at Aside world n a c placed is_told.is_requester is_told.is_connection is_told.idle beside) in
-      let own_life : length (told_view world a c command sent).given + (told_view world a c command sent).commands + each * suc more ≤ most = omega arith in
-      let other_life : length (told_view world a c command sent).received + each * suc more ≤ most = omega arith in
-      let begun = begins most within p placed.ends Aside aside Asks Answers Done (event.Done result) is_talk each short more sent (told_view world a c command sent) (told_by world n (sends a command sent)).after shown asks own_life other_life in
-      let rounds = begins_with most within p placed.ends Aside aside Asks Answers Done (event.Done result) is_talk each short more sent (told_view world a c command sent) (told_by world n (sends a command sent)).after shown asks own_life other_life in
-      let asking_now = subst (λ (s : WorldStep). talk.Asking most within p placed.ends Aside aside Asks Answers Done (event.Done result) is_talk each short s.after) (sym (told_is world n a command sent is_told.is_requester step)) begun in
-      talk_ends most within p placed.ends Aside aside Asks Answers Done (event.Done result) is_talk each short (commanding world line n command) behind none honest chance asking_now (at_rest most within Asks Answers Done result is_talk each short sent step begun (subst (λ (k : ℕ). each * suc k ≤ 198) (sym rounds) few) still)
+      let own_life : length (told_view world a c command sent).given + (told_view world a c command sent).commands + each * suc more ≤ most = (let most_here = few.0 in omega (arith, life, most_here)) in
+      let other_life : length (told_view world a c command sent).received + there * suc more ≤ most = (let most_there = few.1 in omega (arith, responder_life, most_there)) in
+      let begun = begins most within p placed.ends Aside aside Asks Answers Done (event.Done result) is_talk there each short more sent (told_view world a c command sent) (told_by world n (sends a command sent)).after shown asks own_life other_life in
+      let rounds = begins_with most within p placed.ends Aside aside Asks Answers Done (event.Done result) is_talk there each short more sent (told_view world a c command sent) (told_by world n (sends a command sent)).after shown asks own_life other_life in
+      let asking_now = subst (λ (s : WorldStep). talk.Asking most within p placed.ends Aside aside Asks Answers Done (event.Done result) is_talk there each short s.after) (sym (told_is world n a command sent is_told.is_requester step)) begun in
+      talk_ends most within p placed.ends Aside aside Asks Answers Done (event.Done result) is_talk there each short (commanding world line n command) behind none honest chance asking_now (at_rest most within Asks Answers Done result is_talk there each short sent step begun (subst (λ (k : ℕ). there * suc k + each * suc k ≤ 396) (sym rounds) few.2) still)
 
   taken_so : (most : ℕ) (later : World) (v : View) → Shows p Aside v [] later → length v.given + v.commands ≤ most → length v.received ≤ most → HaveTakenAt n most later
   taken_so most later v s own other = (
@@ -164,16 +168,16 @@ module _ (w : WorldSetup) (before : List Entry) (n : ℕ) (a : Requesting) (c : 
 
   -- A talk in which each body has so many packets at most.
   pub completes_within : (Asks Answers : Stage) (Done : Log → asked.History → served.History → Type 0) (result : Finished) (id : ℕ) (left : Bool) → ((log : Log) (h : asked.History) (g : served.History) → Done log h g → AreQuiet a.setup c.setup a.first log h g × (steps.is_live (steps.session_of id h) ≡ left))
-      → IsTalk p Asks Answers Done (event.Done result) → (each : ℕ) → AreShort each Asks Answers → (more : ℕ) → (each * suc more ≤ 198) → (sent : Sent) → requester_told a command ≡ sends a command sent
+      → IsTalk p Asks Answers Done (event.Done result) → (there each : ℕ) → AreShort there each Asks Answers → (more : ℕ) → AreFew there each more → (sent : Sent) → requester_told a command ≡ sends a command sent
       → Asks more sent.tag (body_of sent.content) (told_view world a c command sent).log (told_view world a c command sent).asked c.history
       → IsDoneQuietly n a.setup c.setup result id left (world_from (commanding world line n command) behind) (lines_from (commanding world line n command) behind) × Idle world n a Aside (world_from (commanding world line n command) behind)
-  completes_within Asks Answers Done result id left means is_talk each short more few sent step asks =
+  completes_within Asks Answers Done result id left means is_talk there each short more few sent step asks =
       let later = world_from (commanding world line n command) behind in
-      let e = runs wear_limit all_lives is_told.life.requester is_told.life.responder Asks Answers Done result is_talk each short more few sent step asks in
+      let e = runs wear_limit all_lives is_told.life.requester is_told.life.responder Asks Answers Done result is_talk there each short more few sent step asks in
       let d = means e.0.view.log e.0.view.asked e.0.view.served e.0.done in
       finished_so result id left later (lines_from (commanding world line n command) behind) e.0.view e.0.shows d.0 d.1 e.1
       (λ most within own other.
-      let f = runs most within own other Asks Answers Done result is_talk each short more few sent step asks in
+      let f = runs most within own other Asks Answers Done result is_talk there each short more few sent step asks in
       taken_so most later f.0.view f.0.shows f.0.life f.0.responder_life)
 
   -- A talk of three rounds or fewer.
@@ -181,7 +185,7 @@ module _ (w : WorldSetup) (before : List Entry) (n : ℕ) (a : Requesting) (c : 
       → IsTalk p Asks Answers Done (event.Done result) → (more : ℕ) → more ≤ 2 → (sent : Sent) → requester_told a command ≡ sends a command sent
       → Asks more sent.tag (body_of sent.content) (told_view world a c command sent).log (told_view world a c command sent).asked c.history
       → IsDoneQuietly n a.setup c.setup result id left (world_from (commanding world line n command) behind) (lines_from (commanding world line n command) behind) × Idle world n a Aside (world_from (commanding world line n command) behind)
-  completes_by Asks Answers Done result id left means is_talk more few sent step asks = completes_within Asks Answers Done result id left means is_talk 66 (all_short p Asks Answers Done (event.Done result) is_talk) more (omega (arith, few)) sent step asks
+  completes_by Asks Answers Done result id left means is_talk more few sent step asks = completes_within Asks Answers Done result id left means is_talk 66 66 (all_short p Asks Answers Done (event.Done result) is_talk) more ((omega (arith, few)), (omega (arith, few)), (omega (arith, few))) sent step asks
 
   -- ---- What is asked of a session.
 
