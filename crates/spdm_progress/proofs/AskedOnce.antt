@@ -1,5 +1,5 @@
 -- What takes one round in a session: application data, HEARTBEAT, GET_MEASUREMENTS and END_SESSION.
-use Rattle.std.proofs.Common.{◌≡◌, ◌∙◌, ℕ, ◌<◌, ◌≤◌, ◌==◌, List, ◌∷◌, length, true, false, Result, Ok, refl, sym, ap, subst, arith}
+use Rattle.std.proofs.Common.{◌≡◌, ◌∙◌, ℕ, ◌<◌, ◌≤◌, ◌==◌, List, ◌∷◌, length, true, false, Result, Ok, refl, sym, ap, subst, inr, arith}
 use Rattle.std.proofs.lemmas.Bool.{false≢true}
 use Rattle.measurements.specs.Records.{asked as blocks_asked, is_missing}
 use Rattle.requester_machine.specs.Does.{body_chosen}
@@ -47,16 +47,21 @@ use Rattle.spdm_progress.proofs.SingleRound.{IsLast}
 
 -- What is asked.
 abbrev pub data_asking : List ℕ → Asking
-data_asking bytes = record { ask = AskData; inner = λ s. inner_data bytes }
+data_asking bytes = record { ask = AskData; inner = λ s. inner_data bytes; brings = λ t. Grants AskData t.reply; may = λ t. refl }
 
 abbrev pub beat_asking : Asking
-beat_asking = record { ask = AskBeat; inner = λ s. inner_request Heartbeat }
+beat_asking = record { ask = AskBeat; inner = λ s. inner_request Heartbeat; brings = λ t. Grants AskBeat t.reply; may = λ t. refl }
 
 abbrev pub measure_asking : ℕ → Asking
-measure_asking op = record { ask = AskMeasure op; inner = λ s. inner_request (GetMeasurements op) }
+measure_asking op = record {
+  ask = AskMeasure op;
+  inner = λ s. inner_request (GetMeasurements op);
+  brings = λ t. Grants (AskMeasure op) t.reply;
+  may = λ t. inr (op, t.reply, refl);
+}
 
 abbrev pub end_asking : Asking
-end_asking = record { ask = AskEnd; inner = λ s. inner_request EndSession }
+end_asking = record { ask = AskEnd; inner = λ s. inner_request EndSession; brings = λ t. Grants AskEnd t.reply; may = λ t. refl }
 
 module _ (p : Pair) (same_key : p.requester.psk ≡ p.responder.psk) (id : ℕ) (sid : SessionId) (asker : IsRequester p.requester) (server : IsResponder p.responder) where
   abbrev r : RspSetup
@@ -183,7 +188,7 @@ module _ (p : Pair) (same_key : p.requester.psk ≡ p.responder.psk) (id : ℕ) 
       let own = fit.fits_own in
       let most = asker.sizes.most in
       let ordered = asker.sizes.ordered in
-      (refl, record { nonce = d.bytes; whole = drawn; inner = ap (λ (m : List ℕ). 5 ∷ m) answer }, (omega (arith, size)))
+      ((_, _, refl), record { nonce = d.bytes; whole = drawn; inner = ap (λ (m : List ℕ). 5 ∷ m) answer }, (omega (arith, size)))
 
   measure_answered : (op : ℕ) → AreAnswered p.requester r p.first id (measure_asking op) (CanMeasure op) (IsMeasured op)
   measure_answered op = record {

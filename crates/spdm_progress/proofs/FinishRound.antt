@@ -50,7 +50,7 @@ use Rattle.spdm_progress.proofs.SessionTurns.{TakesInSession, answer_read, not_l
 use Rattle.spdm_progress.proofs.SingleRound.{IsLast}
 
 abbrev pub finish_asking : List ℕ → Asking
-finish_asking psk = record { ask = AskFinish; inner = λ s. inner_request (PskFinish (finish_verify psk s)) }
+finish_asking psk = record { ask = AskFinish; inner = λ s. inner_request (PskFinish (finish_verify psk s)); brings = λ t. Grants AskFinish t.reply; may = λ t. refl }
 
 -- ---- The responder.
 

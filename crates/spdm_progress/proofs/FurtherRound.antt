@@ -52,7 +52,7 @@ module _ (q : ReqSetup) (r : RspSetup) (first id : ℕ) (x x' : Asking) (Fit Fit
     acts = asked_log.acts_of q h body (Adds new)
 
     acts_are : acts ++ log ≡ made_record (steps.session_terms s).choice (request_purpose q.psk s) (steps.request_next s) sealed ∷ (checks ++ log)
-    acts_are = ap (λ (z : Steps). (asked_log.sent_made q.psk (steps.when_live z (TookAnswer (answer_for q r first id x y.s y.t) (inner_reply y.t) (Grants x.ask y.t.reply))) (Some next) ++ checks) ++ log) y.steps_are
+    acts_are = ap (λ (z : Steps). (asked_log.sent_made q.psk (steps.when_live z (TookAnswer (answer_for q r first id x y.s y.t) (inner_reply y.t) (x.brings y.t))) (Some next) ++ checks) ++ log) y.steps_are
 
     steps_follow : steps.session_of id (new ∷ h) ≡ asked_steps q r first id x' s []
     steps_follow =

@@ -45,10 +45,10 @@ use Rattle.spdm_progress.proofs.Talk.{IsTalk}
 use Rattle.spdm_progress.proofs.TwoRounds.{Answers, Asks, IsFirst, OneStage, two_talk}
 
 abbrev pub update_asking : Bool → Asking
-update_asking all = record { ask = AskUpdate all; inner = λ s. inner_request (key_update s (operation_of all)) }
+update_asking all = record { ask = AskUpdate all; inner = λ s. inner_request (key_update s (operation_of all)); brings = λ t. Grants (AskUpdate all) t.reply; may = λ t. refl }
 
 abbrev pub verify_asking : Asking
-verify_asking = record { ask = AskVerify; inner = λ s. inner_request (key_update s 3) }
+verify_asking = record { ask = AskVerify; inner = λ s. inner_request (key_update s 3); brings = λ t. Grants AskVerify t.reply; may = λ t. refl }
 
 operations : (all : Bool) → (1 ≤ operation_of all) × (operation_of all ≤ 3) × (fits_stage stage.Open (operation_of all) ≡ true)
 operations true = ((omega arith), (omega arith), refl)
