@@ -47,10 +47,10 @@ use Rattle.spdm_progress.proofs.SingleRound.{IsLast}
 
 -- What is asked.
 abbrev pub data_asking : List ℕ → Asking
-data_asking bytes = record { ask = AskData; inner = λ s. inner_data bytes; brings = λ t. Grants AskData t.reply; may = λ t. refl }
+data_asking bytes = record { ask = AskData; inner = λ s. inner_data bytes; brings = λ t. Grants AskData t.reply; may = λ t. refl; before = λ turns. Unit {0} }
 
 abbrev pub beat_asking : Asking
-beat_asking = record { ask = AskBeat; inner = λ s. inner_request Heartbeat; brings = λ t. Grants AskBeat t.reply; may = λ t. refl }
+beat_asking = record { ask = AskBeat; inner = λ s. inner_request Heartbeat; brings = λ t. Grants AskBeat t.reply; may = λ t. refl; before = λ turns. Unit {0} }
 
 abbrev pub measure_asking : ℕ → Asking
 measure_asking op = record {
@@ -58,10 +58,11 @@ measure_asking op = record {
   inner = λ s. inner_request (GetMeasurements op);
   brings = λ t. Grants (AskMeasure op) t.reply;
   may = λ t. inr (op, t.reply, refl);
+  before = λ turns. Unit {0};
 }
 
 abbrev pub end_asking : Asking
-end_asking = record { ask = AskEnd; inner = λ s. inner_request EndSession; brings = λ t. Grants AskEnd t.reply; may = λ t. refl }
+end_asking = record { ask = AskEnd; inner = λ s. inner_request EndSession; brings = λ t. Grants AskEnd t.reply; may = λ t. refl; before = λ turns. Unit {0} }
 
 module _ (p : Pair) (same_key : p.requester.psk ≡ p.responder.psk) (id : ℕ) (sid : SessionId) (asker : IsRequester p.requester) (server : IsResponder p.responder) where
   abbrev r : RspSetup
@@ -119,7 +120,7 @@ module _ (p : Pair) (same_key : p.requester.psk ≡ p.responder.psk) (id : ℕ) 
 
   beat_answered : AreAnswered p.requester r p.first id beat_asking CanBeat (IsSpdm (canonical_response HeartbeatAck))
   beat_answered = record {
-    turns = λ g s e f sealed d fit at k made drawn here is.
+    turns = λ g s e f sealed d fit at k made drawn here is known.
         subst (IsGood beat_asking (IsSpdm (canonical_response HeartbeatAck)) s)
         (sym (beat_turn r e f room (sym k.stage ∙ at) (ap (λ (t : Terms). t.common.heartbeat) (sym (same_terms s e k)) ∙ fit.flag) (small_takes g e (id_in_record sealed) here made k.live)))
         (refl, record { inner = refl }, (omega arith));
@@ -139,7 +140,7 @@ module _ (p : Pair) (same_key : p.requester.psk ≡ p.responder.psk) (id : ℕ) 
 
   end_answered : AreAnswered p.requester r p.first id end_asking IsNamed (IsSpdm (canonical_response EndSessionAck))
   end_answered = record {
-    turns = λ g s e f sealed d fit at k made drawn here is.
+    turns = λ g s e f sealed d fit at k made drawn here is known.
         subst (IsGood end_asking (IsSpdm (canonical_response EndSessionAck)) s) (sym (end_turn r e f room (sym k.stage ∙ at) (small_takes g e (id_in_record sealed) here made k.live))) (refl, record { inner = refl }, (omega arith));
   }
 
@@ -161,7 +162,7 @@ module _ (p : Pair) (same_key : p.requester.psk ≡ p.responder.psk) (id : ℕ) 
 
   data_answered : (bytes : List ℕ) → AreAnswered p.requester r p.first id (data_asking bytes) (CanSend bytes) IsData
   data_answered bytes = record {
-    turns = λ g s e f sealed d fit at k made drawn here is.
+    turns = λ g s e f sealed d fit at k made drawn here is known.
         let short : length f.reply ≤ 1024 = subst (λ (z : Free). length z.reply ≤ 1024) (sym is) (chosen_short r g sealed d made) in
         subst (IsGood (data_asking bytes) IsData s) (sym (data_turn_in r e bytes f (sym k.stage ∙ at) fit.short)) (refl, record { inner = refl; short = short }, (omega arith));
   }
@@ -192,7 +193,7 @@ module _ (p : Pair) (same_key : p.requester.psk ≡ p.responder.psk) (id : ℕ) 
 
   measure_answered : (op : ℕ) → AreAnswered p.requester r p.first id (measure_asking op) (CanMeasure op) (IsMeasured op)
   measure_answered op = record {
-    turns = λ g s e f sealed d fit at k made drawn here is.
+    turns = λ g s e f sealed d fit at k made drawn here is known.
         let answer = ap (λ (z : Free). canonical_response (answer_of r (session_place e) (canonical_request (GetMeasurements op)) z (GetMeasurements op))) is ∙ answer_is g e sealed d op in
         let size = ap length answer ∙ measurements_are r op d.bytes drawn in
         let fits : measurements_size r op ≤ (events.session_terms e).common.to_requester.transfer = subst (λ (t : Terms). measurements_size r op ≤ t.common.to_requester.transfer) (same_terms s e k) fit.fits in

@@ -23,8 +23,10 @@ use Rattle.requester_machine.specs.Session.Step.{Asked, Took as TookAnswer}
 use Rattle.requester_machine.specs.Setup.{ReqSetup}
 use Rattle.responder_machine.specs.History as served
 use Rattle.responder_machine.specs.Responder.{inner_reply}
+use Rattle.responder_machine.specs.Session as events
 use Rattle.responder_machine.specs.Setup.{RspSetup}
 use Rattle.responder_machine.specs.Turn.{Turn}
+use Rattle.spdm_progress.specs.InStep.{rsp_id}
 use Rattle.spdm_progress.proofs.AlikeSessions.{is_kept}
 use Rattle.spdm_progress.proofs.RecordHeard.{came_as}
 use Rattle.spdm_progress.proofs.RequesterStages.{next_small}
@@ -38,7 +40,7 @@ module _ (q : ReqSetup) (r : RspSetup) (first id : ℕ) (x x' : Asking) (Fit Fit
   abbrev next : Sent
   next = record_sent q h id s x'.ask (x'.inner s) []
 
-  module _ (leads : inner_led q h (body_chosen q h d) (came_as h id (answer_for q r first id x y.s y.t) (inner_reply y.t)) x.ask ≡ Ok (led q r first id x Fit Good tag log h g d body y event (Some next))) (kept : is_kept x.ask ≡ true) (fit : Fit' s) (at : steps.stage_of s ≡ stage_for x'.ask) (short : length (x'.inner s) + 0 ≤ 4134) where
+  module _ (leads : inner_led q h (body_chosen q h d) (came_as h id (answer_for q r first id x y.s y.t) (inner_reply y.t)) x.ask ≡ Ok (led q r first id x Fit Good tag log h g d body y event (Some next))) (kept : is_kept x.ask ≡ true) (fit : Fit' s) (at : steps.stage_of s ≡ stage_for x'.ask) (short : length (x'.inner s) + 0 ≤ 4134) (known : x'.before (events.turns_of (events.session_of (rsp_id y.s) g))) where
     abbrev sealed : List ℕ
     sealed = sealed_next q.psk s (x'.inner s) []
 
@@ -74,6 +76,7 @@ module _ (q : ReqSetup) (r : RspSetup) (first id : ℕ) (x x' : Asking) (Fit Fit
       two_bytes = y.two_bytes;
       older = checks ++ log;
       log_is = acts_are;
+      known = known;
       last = last_then q r first id x Fit Good tag log h g d body y event (Some next) leads checks kept;
       beside = beside_then q r first id x Fit Good tag log h g d body y event (Some next) leads acts;
     }

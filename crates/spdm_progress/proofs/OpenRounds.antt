@@ -482,6 +482,7 @@ module _ (p : Pair) (same_key : p.requester.psk ≡ p.responder.psk) (asker : Is
           older = behind_made ++ log;
           log_is = acts_are;
           last = λ k is. absurd (none_some k (sym y.last ∙ ap (λ (i : ℕ). events.last_of (events.session_of i g)) (sym y.id_told) ∙ is));
+          known = tt;
           beside = subst (λ (k : ℕ). Beside q r first id k (acts ++ log) h2 g) (sym y.id_told) (beside_on q r first id rid acts log h1 h2 g g (record {
             made = (hears_reply, y.beside.made);
             made_there = y.beside.made_there;

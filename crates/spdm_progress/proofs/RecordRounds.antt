@@ -48,6 +48,10 @@ pub last_waited : (old new : Events) → IsSameSession old new → events.last_o
 last_waited old new (inl same) = ap events.last_of same
 last_waited old new (inr x) = ap events.last_of x.2
 
+pub turns_waited : (old new : Events) → IsSameSession old new → events.turns_of new ≡ events.turns_of old
+turns_waited old new (inl same) = ap events.turns_of same
+turns_waited old new (inr x) = ap events.turns_of x.2
+
 pub resting_on : (psk : List ℕ) (acts log : Log) (s : Steps) (old new : Events) → IsSameSession old new → AreResting psk log s old → AreResting psk (acts ++ log) s new
 resting_on psk acts log s old new same k = record {
   in_step = still_in_step s old new same k.in_step;

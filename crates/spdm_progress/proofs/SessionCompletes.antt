@@ -197,7 +197,7 @@ module _ (w : WorldSetup) (before : List Entry) (n : ℕ) (a : Requesting) (c : 
         let most = placed.requester.pad in
         omega (arith, length-take a.setup.pad (asking.next_draw a).bytes, short)
 
-    module _ (id : ℕ) (x : Asking) (one : AsksOfSession command) (named : session_in command ≡ Some id) (plain : stage_for x.ask ≡ stage.Open) (small : length (x.inner (session_at a id)) ≤ 1025)
+    module _ (id : ℕ) (x : Asking) (one : AsksOfSession command) (named : session_in command ≡ Some id) (plain : stage_for x.ask ≡ stage.Open) (small : length (x.inner (session_at a id)) ≤ 1025) (known : (turns : List Turn) → x.before turns)
         (asks : done a.setup a.history command (command_chosen a.setup a.history (asking.next_draw a)) (asking.next_draw a) ≡ Adds (WasTold command (sent_for a.setup a.history id x (command_chosen a.setup a.history (asking.next_draw a)).pad) (asking.next_draw a))) where
       abbrev sent : Sent
       sent = sent_for a.setup a.history id x (command_chosen a.setup a.history (asking.next_draw a)).pad
@@ -213,7 +213,7 @@ module _ (w : WorldSetup) (before : List Entry) (n : ℕ) (a : Requesting) (c : 
 
       pub is_asked : (Fit : Steps → Type 0) → Fit (session_at a id) → IsAsked a.setup c.setup a.first id x Fit sent.tag (body_of sent.content) (told_view world a c command sent).log (told_view world a c command sent).asked c.history
       is_asked Fit fit =
-          asked_now a.setup c.setup a.first id x Fit command one world.log a.history c.history (asking.next_draw a) (command_chosen a.setup a.history (asking.next_draw a)).pad quietly.quiet live_so plain fit (omega (arith, pad_short, small)) asks_so
+          asked_now a.setup c.setup a.first id x Fit command one world.log a.history c.history (asking.next_draw a) (command_chosen a.setup a.history (asking.next_draw a)).pad quietly.quiet live_so plain fit (omega (arith, pad_short, small)) asks_so known
 
       -- It takes one round.
       pub once_completes : (Fit : Steps → Type 0) (Good : Steps → Turn → Type 0) (result : Finished) → IsLast p one_key id x Fit Good (event.Done result) → Fit (session_at a id)
@@ -258,7 +258,7 @@ module _ (w : WorldSetup) (before : List Entry) (n : ℕ) (a : Requesting) (c : 
       let key = one_key w before n a c command o.told.now line behind none o.honest o.still o.chance Aside aside beside in
       let short = ltb-false 1024 (length bytes) (passed command o 8) in
       let sid = steps.session_id (session_at a id) in
-      once_completes w before n a c command o.told.now line behind none o.honest o.still o.chance Aside aside beside o.told id (data_asking bytes) (of_session command (λ j n sent s. refl) refl) refl refl (omega arith) refl
+      once_completes w before n a c command o.told.now line behind none o.honest o.still o.chance Aside aside beside o.told id (data_asking bytes) (of_session command (λ j n sent s. refl) refl) refl refl (omega arith) (λ turns. tt) refl
       (CanSend pair key id sid here.requester here.responder bytes) (IsData pair key id sid here.requester here.responder) (finished.Answered sid) (data_last pair key id sid here.requester here.responder bytes) (record { named = refl; short = short })
 
   sent_beat : (id : ℕ) → IsOver (Beat id) → Result (Beat id) id
@@ -267,7 +267,7 @@ module _ (w : WorldSetup) (before : List Entry) (n : ℕ) (a : Requesting) (c : 
       let here = placed w before n a c command o.told.now line behind none o.honest o.still o.chance Aside aside beside in
       let key = one_key w before n a c command o.told.now line behind none o.honest o.still o.chance Aside aside beside in
       let sid = steps.session_id (session_at a id) in
-      once_completes w before n a c command o.told.now line behind none o.honest o.still o.chance Aside aside beside o.told id beat_asking (of_session command (λ j n sent s. refl) refl) refl refl (omega arith) refl
+      once_completes w before n a c command o.told.now line behind none o.honest o.still o.chance Aside aside beside o.told id beat_asking (of_session command (λ j n sent s. refl) refl) refl refl (omega arith) (λ turns. tt) refl
       (CanBeat pair key id sid here.requester here.responder) (IsSpdm pair key id sid here.requester here.responder (canonical_response HeartbeatAck)) (finished.Alive sid) (beat_last pair key id sid here.requester here.responder)
       (record { named = refl; flag = not-false _ (passed command o 5) })
 
@@ -277,7 +277,7 @@ module _ (w : WorldSetup) (before : List Entry) (n : ℕ) (a : Requesting) (c : 
       let here = placed w before n a c command o.told.now line behind none o.honest o.still o.chance Aside aside beside in
       let key = one_key w before n a c command o.told.now line behind none o.honest o.still o.chance Aside aside beside in
       let sid = steps.session_id (session_at a id) in
-      once_completes w before n a c command o.told.now line behind none o.honest o.still o.chance Aside aside beside o.told id end_asking (of_session command (λ j n sent s. refl) refl) refl refl (omega arith) refl
+      once_completes w before n a c command o.told.now line behind none o.honest o.still o.chance Aside aside beside o.told id end_asking (of_session command (λ j n sent s. refl) refl) refl refl (omega arith) (λ turns. tt) refl
       (IsNamed pair key id sid here.requester here.responder) (IsSpdm pair key id sid here.requester here.responder (canonical_response EndSessionAck)) (finished.Ended sid) (end_last pair key id sid here.requester here.responder) (record { named = refl })
 
   sent_measure : (id op : ℕ) → CanAsk a c (Measure (Some id) op) → IsOver (Measure (Some id) op) → Result (Measure (Some id) op) id
@@ -288,7 +288,7 @@ module _ (w : WorldSetup) (before : List Entry) (n : ℕ) (a : Requesting) (c : 
       let key = one_key w before n a c command o.told.now line behind none o.honest o.still o.chance Aside aside beside in
       let sid = steps.session_id (session_at a id) in
       let sizes = session_sizes a.setup a.history id (record { transfer = (let most = here.requester.sizes.most in let ordered = here.requester.sizes.ordered in omega arith); max = here.requester.sizes.most }) o.told.quiet.made live in
-      once_completes w before n a c command o.told.now line behind none o.honest o.still o.chance Aside aside beside o.told id (measure_asking op) (of_session command (λ j n sent s. refl) refl) refl refl (omega arith) refl
+      once_completes w before n a c command o.told.now line behind none o.honest o.still o.chance Aside aside beside o.told id (measure_asking op) (of_session command (λ j n sent s. refl) refl) refl refl (omega arith) (λ turns. tt) refl
       (CanMeasure pair key id sid here.requester here.responder op) (IsMeasured pair key id sid here.requester here.responder op) (finished.Measured (number_for c.setup op)) (measure_last pair key id sid here.requester here.responder op)
       (record { byte = can.0; block = can.1; chosen = and_second _ _ (not-false _ (passed command o 5)); fits = can.2; fits_own = subst (λ (size : ℕ). measurements_size c.setup op ≤ size) sizes.transfer can.2 })
 
@@ -300,10 +300,10 @@ module _ (w : WorldSetup) (before : List Entry) (n : ℕ) (a : Requesting) (c : 
       let sid = steps.session_id (session_at a id) in
       let one = of_session command (λ j n sent s. refl) refl in
       completes_by w before n a c command o.told.now line behind none o.honest o.still o.chance Aside aside beside (UpdateTalkAsks pair key id sid here.requester here.responder all) (UpdateTalkAnswers pair key id sid here.requester here.responder all) (UpdateDone pair key id sid here.requester here.responder all) (finished.Updated sid) id true (λ log h g z. (z.quiet, z.session))
-      (update_talk pair key id sid here.requester here.responder all) 1 (omega arith) _ (step_so w before n a c command o.told.now line behind none o.honest o.still o.chance Aside aside beside o.told id (update_asking all) one refl refl (omega arith) refl)
+      (update_talk pair key id sid here.requester here.responder all) 1 (omega arith) _ (step_so w before n a c command o.told.now line behind none o.honest o.still o.chance Aside aside beside o.told id (update_asking all) one refl refl (omega arith) (λ turns. tt) refl)
       (inl (
         refl,
-        is_asked w before n a c command o.told.now line behind none o.honest o.still o.chance Aside aside beside o.told id (update_asking all) one refl refl (omega arith) refl (CanUpdate pair key id sid here.requester here.responder all)
+        is_asked w before n a c command o.told.now line behind none o.honest o.still o.chance Aside aside beside o.told id (update_asking all) one refl refl (omega arith) (λ turns. tt) refl (CanUpdate pair key id sid here.requester here.responder all)
             (record { named = refl; flag = not-false _ (passed command o 5) }),
       ))
 

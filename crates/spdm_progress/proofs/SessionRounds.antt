@@ -55,20 +55,21 @@ use Rattle.spdm_progress.specs.InStep.{AreInStep, AreQuiet, AreResting, WasSeale
 use Rattle.spdm_progress.proofs.AlikeSessions.{IsAnswerTo, IsFetched, MayBring, behind, is_kept, still_in_step}
 use Rattle.spdm_progress.proofs.ManyPackets.{IsBody}
 use Rattle.spdm_progress.proofs.RecordHeard.{asking_in, came_as, heard}
-use Rattle.spdm_progress.proofs.RecordRounds.{Beside, KeepsBeside, beside_on, earlier_on, last_waited, moves_so, quiet_from}
+use Rattle.spdm_progress.proofs.RecordRounds.{Beside, KeepsBeside, beside_on, earlier_on, last_waited, moves_so, quiet_from, turns_waited}
 use Rattle.spdm_progress.proofs.RecordServed.{served as taken}
 use Rattle.spdm_progress.proofs.RecordsBetween.{names_session, no_copy, opens, record_length, tag_is}
 use Rattle.spdm_progress.proofs.StillKept.{AreAlike}
 use Rattle.spdm_progress.proofs.Talk.{IsSendable}
 use Rattle.spdm_progress.proofs.RecordStages.{answer_count, answer_under, awaited_under, live_heard, no_pad, not_end, opens_there, replies_so, sealed_elsewhere, sealed_here, updates_all}
 
--- What is asked of a session: the ask and its inner message, by the session as it stands; and what its answer brings about
--- at the requester, by the turn that answered.
-pub record Asking : Type 0 where
+-- What is asked of a session: the ask and its inner message, by the session as it stands; what its answer brings about at
+-- the requester, by the turn that answered; and what is known of the turns before it at the responder.
+pub record Asking : Type 1 where
   pub ask : Ask
   pub inner : Steps → List ℕ
   pub brings : Turn → asked.Effect
   pub may : (t : Turn) → MayBring ask t.reply (brings t)
+  pub before : List Turn → Type 0
 
 module _ (q : ReqSetup) (r : RspSetup) (first id : ℕ) (x : Asking) where
   abbrev pub sealed_for : Steps → List ℕ → List ℕ
@@ -105,7 +106,14 @@ module _ (q : ReqSetup) (r : RspSetup) (first id : ℕ) (x : Asking) where
     pub older : Log
     pub log_is : log ≡ made_for s pad older
     pub last : (k : KeptRecord) → events.last_of (events.session_of (rsp_id s) g) ≡ Some k → WasSealed q.psk older s k.sealed
+    pub known : x.before (events.turns_of (events.session_of (rsp_id s) g))
     pub beside : Beside q r first id (rsp_id s) log h g
+
+  -- The turn is the newest of these, behind some of which this was known.
+  pub record IsNewest (t : Turn) (turns : List Turn) : Type 0 where
+    pub earlier : List Turn
+    pub is : turns ≡ t ∷ earlier
+    pub known : x.before earlier
 
   -- Its answer is on its way: a turn of which this is known.
   pub record IsAnswered (Fit : Steps → Type 0) (Good : Steps → Turn → Type 0) (tag : ℕ) (body : List ℕ) (log : Log) (h : asked.History) (g : served.History) : Type 0 where
@@ -125,6 +133,7 @@ module _ (q : ReqSetup) (r : RspSetup) (first id : ℕ) (x : Asking) where
     pub two_bytes : rsp_id s < 65536
     pub kept : is_kept x.ask ≡ true → AreInStep (took_steps s pad t) (events.session_of (rsp_id s) g)
     pub last : is_kept x.ask ≡ true → (k : KeptRecord) → events.last_of (events.session_of (rsp_id s) g) ≡ Some k → k.sealed ≡ sealed_for s pad
+    pub newest : is_kept x.ask ≡ true → IsNewest t (events.turns_of (events.session_of (rsp_id s) g))
     pub made : Contains log (Made (request_purpose q.psk s) (record_input (steps.request_next s) (sealed_for s pad)) (tag_part (sealed_for s pad)))
     pub beside : Beside q r first id (rsp_id s) log h g
 
@@ -181,6 +190,7 @@ module _ (q : ReqSetup) (r : RspSetup) (first id : ℕ) (x : Asking) where
     older = y.older;
     log_is = y.log_is;
     last = λ k is. y.last k (sym (last_waited _ _ (alike.sessions (rsp_id y.s))) ∙ is);
+    known = subst x.before (sym (turns_waited _ _ (alike.sessions (rsp_id y.s)))) y.known;
     beside = still_beside log h g later (rsp_id y.s) alike y.beside;
   }
 
@@ -202,6 +212,7 @@ module _ (q : ReqSetup) (r : RspSetup) (first id : ℕ) (x : Asking) where
     two_bytes = y.two_bytes;
     kept = λ kept. still_in_step _ _ _ (alike.sessions (rsp_id y.s)) (y.kept kept);
     last = λ kept k is. y.last kept k (sym (last_waited _ _ (alike.sessions (rsp_id y.s))) ∙ is);
+    newest = λ kept. subst (IsNewest y.t) (sym (turns_waited _ _ (alike.sessions (rsp_id y.s)))) (y.newest kept);
     made = y.made;
     beside = still_beside log h g later (rsp_id y.s) alike y.beside;
   }
@@ -210,7 +221,7 @@ module _ (q : ReqSetup) (r : RspSetup) (first id : ℕ) (x : Asking) where
 
   -- What the responder makes of the record: a turn that answers it, of which this is known.
   pub record AreAnswered (Fit : Steps → Type 0) (Good : Steps → Turn → Type 0) : Type 0 where
-    pub turns : (g : served.History) (s : Steps) (e : Events) (f : Free) (sealed : List ℕ) (d : Draw) → Fit s → steps.stage_of s ≡ stage_for x.ask → AreInStep s e → serving_does.IsMade r g → length d.bytes ≡ 32 → events.session_of (id_in_record sealed) g ≡ e → f ≡ record_chosen r g sealed d
+    pub turns : (g : served.History) (s : Steps) (e : Events) (f : Free) (sealed : List ℕ) (d : Draw) → Fit s → steps.stage_of s ≡ stage_for x.ask → AreInStep s e → serving_does.IsMade r g → length d.bytes ≡ 32 → events.session_of (id_in_record sealed) g ≡ e → f ≡ record_chosen r g sealed d → x.before (events.turns_of e)
         → IsAnswerTo x.ask (x.inner s) (session_turn r e (x.inner s) f) × Good s (session_turn r e (x.inner s) f) × (length (session_turn r e (x.inner s) f).reply ≤ 4133)
 
   names : (s : Steps) (pad : List ℕ) → rsp_id s < 65536 → id_in_record (sealed_for s pad) ≡ rsp_id s
@@ -266,7 +277,7 @@ module _ (q : ReqSetup) (r : RspSetup) (first id : ℕ) (x : Asking) where
 
       reply_is : reply_record r.psk e t (inner_reply t) f.pad ≡ answer_for s t
       reply_is =
-          let a = answers.turns g s e f sealed d y.fit y.at y.in_step y.beside.made_there drawn here refl in
+          let a = answers.turns g s e f sealed d y.fit y.at y.in_step y.beside.made_there drawn here refl y.known in
           ap (reply_record r.psk e t (inner_reply t)) (no_pad r g sealed d)
           ∙ ap (λ (psk : List ℕ). reply_record psk e t (inner_reply t) []) (sym same_key)
           ∙ replies_so q.psk s e y.in_step t (asks_all x.ask) (inner_reply t) [] (updates_all x.ask (x.inner s) t a.0)
@@ -302,7 +313,7 @@ module _ (q : ReqSetup) (r : RspSetup) (first id : ℕ) (x : Asking) where
 
       heard_is : is_kept x.ask ≡ true → events.session_of (rsp_id s) new ≡ Heard sealed t (answer_for s t) ∷ e
       heard_is kept =
-          let a = answers.turns g s e f sealed d y.fit y.at y.in_step y.beside.made_there drawn here refl in
+          let a = answers.turns g s e f sealed d y.fit y.at y.in_step y.beside.made_there drawn here refl y.known in
           session_new ∙ live_heard e sealed (answer_for s t) t y.in_step.live (not_end x.ask (x.inner s) t kept a.0)
 
       own_made : (acts : Log) → Contains (acts ++ log) (Made (request_purpose q.psk s) (record_input (steps.request_next s) sealed) (tag_part sealed))
@@ -314,7 +325,7 @@ module _ (q : ReqSetup) (r : RspSetup) (first id : ℕ) (x : Asking) where
 
       after_here : After tag h g log sealed (AddsThere (WasSealedThere tag sealed t (answer_for s t) d))
       after_here =
-          let a = answers.turns g s e f sealed d y.fit y.at y.in_step y.beside.made_there drawn here refl in record {
+          let a = answers.turns g s e f sealed d y.fit y.at y.in_step y.beside.made_there drawn here refl y.known in record {
             s = s;
             pad = y.pad;
             t = t;
@@ -331,6 +342,7 @@ module _ (q : ReqSetup) (r : RspSetup) (first id : ℕ) (x : Asking) where
             two_bytes = y.two_bytes;
             kept = λ kept. subst (AreInStep (took_steps s y.pad t)) (sym (heard_is kept)) (behind (x.inner s) sealed (answer_for s t) t s e y.in_step x.ask (x.brings t) (x.may t) kept a.0);
             last = λ kept k is. sym (ap (λ (z : KeptRecord). z.sealed) (some_same _ k (sym (ap events.last_of (heard_is kept)) ∙ is)));
+            newest = λ kept. record { earlier = events.turns_of e; is = ap events.turns_of (heard_is kept); known = y.known };
             made = own_made acts;
             beside = beside_on q r first id (rsp_id s) acts log h h g new keeps_beside y.beside;
           }
