@@ -42,7 +42,7 @@ use Rattle.spdm_progress.proofs.PacketSteps.{Pair}
 use Rattle.spdm_progress.proofs.RecordHeard.{came_as}
 use Rattle.spdm_progress.proofs.RequesterStages.{reads}
 use Rattle.spdm_progress.proofs.SessionRounds.{AreAnswered, Asking, answer_for}
-use Rattle.spdm_progress.proofs.SessionTurns.{TakesInSession, answer_read, beat_turn, data_read, data_turn_in, end_turn, measure_turn_in, turn_in}
+use Rattle.spdm_progress.proofs.SessionTurns.{TakesInSession, answer_read, beat_turn, data_read, data_turn_in, end_turn, measure_turn_in, measured_in, turn_in}
 use Rattle.spdm_progress.proofs.SingleRound.{IsLast}
 
 -- What is asked.
@@ -178,13 +178,9 @@ module _ (p : Pair) (same_key : p.requester.psk ≡ p.responder.psk) (id : ℕ) 
 
   -- ---- GET_MEASUREMENTS.
 
-  answer_is : (g : served.History) (e : Events) (sealed : List ℕ) (d : Draw) (op : ℕ) → canonical_response (answer_of r (session_place e) (canonical_request (GetMeasurements op)) (record_chosen r g sealed d) (GetMeasurements op)) ≡ measurements r op d.bytes
-  unfolding chosen
-  answer_is g e sealed d op = refl
-
   measured_so : (g : served.History) (s : Steps) (e : Events) (f : Free) (sealed : List ℕ) (d : Draw) (op : ℕ) → CanMeasure op s → length d.bytes ≡ 32 → f ≡ record_chosen r g sealed d → IsGood (measure_asking op) (IsMeasured op) s (turn_in r e f (GetMeasurements op))
   measured_so g s e f sealed d op fit drawn is =
-      let answer = ap (λ (z : Free). canonical_response (answer_of r (session_place e) (canonical_request (GetMeasurements op)) z (GetMeasurements op))) is ∙ answer_is g e sealed d op in
+      let answer = ap (λ (z : Free). canonical_response (answer_of r (session_place e) (canonical_request (GetMeasurements op)) z (GetMeasurements op))) is ∙ measured_in r g e sealed d op in
       let size = ap length answer ∙ measurements_are r op d.bytes drawn in
       let own = fit.fits_own in
       let most = asker.sizes.most in
@@ -194,7 +190,7 @@ module _ (p : Pair) (same_key : p.requester.psk ≡ p.responder.psk) (id : ℕ) 
   measure_answered : (op : ℕ) → AreAnswered p.requester r p.first id (measure_asking op) (CanMeasure op) (IsMeasured op)
   measure_answered op = record {
     turns = λ g s e f sealed d fit at k made drawn here is known.
-        let answer = ap (λ (z : Free). canonical_response (answer_of r (session_place e) (canonical_request (GetMeasurements op)) z (GetMeasurements op))) is ∙ answer_is g e sealed d op in
+        let answer = ap (λ (z : Free). canonical_response (answer_of r (session_place e) (canonical_request (GetMeasurements op)) z (GetMeasurements op))) is ∙ measured_in r g e sealed d op in
         let size = ap length answer ∙ measurements_are r op d.bytes drawn in
         let fits : measurements_size r op ≤ (events.session_terms e).common.to_requester.transfer = subst (λ (t : Terms). measurements_size r op ≤ t.common.to_requester.transfer) (same_terms s e k) fit.fits in
         subst (IsGood (measure_asking op) (IsMeasured op) s)

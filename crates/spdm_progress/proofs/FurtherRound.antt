@@ -37,20 +37,20 @@ module _ (q : ReqSetup) (r : RspSetup) (first id : ℕ) (x x' : Asking) (Fit Fit
   abbrev s : Steps
   s = took_steps q r first id x y.s y.pad y.t
 
-  abbrev next : Sent
+  abbrev pub next : Sent
   next = record_sent q h id s x'.ask (x'.inner s) []
 
   module _ (leads : inner_led q h (body_chosen q h d) (came_as h id (answer_for q r first id x y.s y.t) (inner_reply y.t)) x.ask ≡ Ok (led q r first id x Fit Good tag log h g d body y event (Some next))) (kept : is_kept x.ask ≡ true) (fit : Fit' s) (at : steps.stage_of s ≡ stage_for x'.ask) (short : length (x'.inner s) + 0 ≤ 4134) (known : x'.before (events.turns_of (events.session_of (rsp_id y.s) g))) where
-    abbrev sealed : List ℕ
+    abbrev pub sealed : List ℕ
     sealed = sealed_next q.psk s (x'.inner s) []
 
     abbrev checks : Log
     checks = asked_log.sealed_check q h (answer_for q r first id x y.s y.t) (outstanding h)
 
-    abbrev new : asked.Entry
+    abbrev pub new : asked.Entry
     new = entry q r first id x Fit Good tag log h g d body y event (Some next)
 
-    abbrev acts : Log
+    abbrev pub acts : Log
     acts = asked_log.acts_of q h body (Adds new)
 
     acts_are : acts ++ log ≡ made_record (steps.session_terms s).choice (request_purpose q.psk s) (steps.request_next s) sealed ∷ (checks ++ log)
@@ -61,7 +61,7 @@ module _ (q : ReqSetup) (r : RspSetup) (first id : ℕ) (x x' : Asking) (Fit Fit
         took_is q r first id x Fit Good tag log h g d body y event (Some next) leads kept
         ∙ ap (λ (b : Bool). if b then Asked x'.ask (x'.inner s) sealed ∷ s else s) (eq-eqb id id refl)
 
-    asked_then : IsAsked q r first id x' Fit' (asked.next_tag h) (record_body sealed) (acts ++ log) (new ∷ h) g
+    pub asked_then : IsAsked q r first id x' Fit' (asked.next_tag h) (record_body sealed) (acts ++ log) (new ∷ h) g
     asked_then = record {
       s = s;
       pad = [];

@@ -33,7 +33,7 @@ use Rattle.responder_machine.specs.History as served
 use Rattle.responder_machine.specs.History.Entry.{Clear, Sealed, Queued, Ticked, Dropped}
 use Rattle.responder_machine.specs.LargeMessages.{given_of, handle_of, large_of, pending_of, still_pending}
 use Rattle.responder_machine.specs.Place.{Place, clear_place, place_terms}
-use Rattle.responder_machine.specs.Refusal.{has_pending, is_answer_too_long, lacks_flag, phase_allows, refusal, sizes_are_known}
+use Rattle.responder_machine.specs.Refusal.{bytes_round, has_pending, is_answer_too_long, is_get_refused, lacks_flag, phase_allows, refusal, sizes_are_known}
 use Rattle.responder_machine.specs.Responder.{Outcome, after, body_of, is_repeat}
 use Rattle.responder_machine.specs.Responder.Outcome.{Adds}
 use Rattle.responder_machine.specs.Setup.{RspSetup, inventory_of}
@@ -46,7 +46,7 @@ use Rattle.spdm_grammar.specs.Message.{ChunkMessage, RequestMessage, ResponseMes
 use Rattle.spdm_grammar.specs.Message.RequestMessage.{ChunkGet, GetMeasurements}
 use Rattle.spdm_grammar.specs.Message.ResponseMessage.{ChunkResponse, Error, Measurements}
 use Rattle.spdm_grammar.specs.Requests.{canonical_request}
-use Rattle.spdm_grammar.specs.Responses.{canonical_response}
+use Rattle.spdm_grammar.specs.Responses.{canonical_response, response_reading}
 use Rattle.spdm_grammar.specs.declared.ChunkFault.{ChunkFault}
 use Rattle.spdm_grammar.specs.declared.ChunkFault.TheVariants.{WrongHandle, WrongNumber}
 use Rattle.spdm_grammar.specs.declared.error_code.ErrorCode.TheVariants.{LargeResponse}
@@ -138,20 +138,20 @@ LargeAgain r op h = (k : served.Kept) → served.kept_of h ≡ Some k → k.mess
 pub again_at : (r : RspSetup) (op : ℕ) (old new : served.History) → served.kept_of new ≡ served.kept_of old → served.clear_turns new ≡ served.clear_turns old → LargeAgain r op old → LargeAgain r op new
 again_at r op old new kept turns again k is message = subst (Repeats r op k) (sym turns) (again k (sym kept ∙ is) message)
 
-chunked_fits : (known over chunk other : Bool) → over ≡ false → chunk ≡ true → (known && (over || (not chunk && other))) ≡ false
+pub chunked_fits : (known over chunk other : Bool) → over ≡ false → chunk ≡ true → (known && (over || (not chunk && other))) ≡ false
 chunked_fits true over chunk other o c = rw (o, c) refl
 chunked_fits false over chunk other o c = refl
 
-both_true : (a b : Bool) → a ≡ true → b ≡ true → (a && b) ≡ true
+pub both_true : (a b : Bool) → a ≡ true → b ≡ true → (a && b) ≡ true
 both_true a b x y = rw (x, y) refl
 
-chunk_flag : (terms : Terms) → terms.common.chunk ≡ true → lacks_flag terms CHUNK_GET ≡ false
+pub chunk_flag : (terms : Terms) → terms.common.chunk ≡ true → lacks_flag terms CHUNK_GET ≡ false
 chunk_flag terms e = rw e refl
 
-right_get : (a b : Bool) → a ≡ true → b ≡ true → (not a || not b) ≡ false
+pub right_get : (a b : Bool) → a ≡ true → b ≡ true → (not a || not b) ≡ false
 right_get a b x y = rw (x, y) refl
 
-some_if : (b : Bool) (w : List ℕ) → b ≡ true → (if b then Some w else None) ≡ Some w
+pub some_if : (b : Bool) (w : List ℕ) → b ≡ true → (if b then Some w else None) ≡ Some w
 some_if true w is = refl
 some_if false w is = absurd (false≢true is)
 
@@ -175,14 +175,14 @@ led_chunk : (q : ReqSetup) (h : asked.History) (f : FreeHere) (op handle k : ℕ
 unfolding clear_led carried_by
 led_chunk q h f op handle k before m c reads = ap (λ (x : Result ResponseMessage Malformed). carried_led q h f (GetMeasurements op) (chunk_carries q h (GetMeasurements op) handle k before x)) reads
 
-abbrev is_led : Led → Result Led ReqIgnored
+abbrev pub is_led : Led → Result Led ReqIgnored
 is_led x = Ok x
 
-goes_by : (b : Bool) (x y : Led) → b ≡ true → is_led (if b then x else y) ≡ is_led x
+pub goes_by : (b : Bool) (x y : Led) → b ≡ true → is_led (if b then x else y) ≡ is_led x
 goes_by true x y is = refl
 goes_by false x y is = absurd (false≢true is)
 
-right_chunk : (a b : Bool) (rule : Option ChunkFault) → a ≡ true → b ≡ true → rule ≡ None → (if not a then Some WrongHandle else (if not b then Some WrongNumber else rule)) ≡ None
+pub right_chunk : (a b : Bool) (rule : Option ChunkFault) → a ≡ true → b ≡ true → rule ≡ None → (if not a then Some WrongHandle else (if not b then Some WrongNumber else rule)) ≡ None
 right_chunk a b rule x y z = rw (x, y, z) refl
 
 module _ (q : ReqSetup) (r : RspSetup) (op : ℕ) (n : Negotiation) (can : GoesLarge q r op n) where
@@ -203,6 +203,32 @@ module _ (q : ReqSetup) (r : RspSetup) (op : ℕ) (n : Negotiation) (can : GoesL
         short = omega (arith, size, fits, max, most);
       }
 
+  pub reads_measured : (h : asked.History) (len : ℕ) (nonce : List ℕ) → length nonce ≡ 32 → response_reading len false (measurements r op nonce) ≡ Ok (Measurements (measured r op nonce))
+  reads_measured h len nonce whole =
+      let most = can.most in
+      let fits = can.fits_max in
+      let max = can.max in
+      reads h (Measurements (measured r op nonce)) len (measured_fits r op nonce) (measured_sound r op len nonce whole (omega (arith, most, fits, max)))
+
+  pub reads_large : (h : asked.History) (len handle : ℕ) → response_reading len false (large_response handle) ≡ Ok (Error V1_2 (error_number LargeResponse) 0 (handle ∷ []))
+  reads_large h len handle = reads h (Error V1_2 (error_number LargeResponse) 0 (handle ∷ [])) len (omega arith, omega arith) (inr refl, (λ e. absurd (omega (arith, e)), λ e. refl, omega arith))
+
+  -- ---- An answer of this size at a place of the responder.
+
+  module _ (place : Place) (answer : List ℕ) (size : length answer ≡ measurements_size r op) (under : place.negotiation ≡ n) where
+    pub large_goes : sizes_are_known place.phase ≡ true → bytes_round place.at + length answer ≡ length answer → goes_large place answer ≡ true
+    large_goes known none =
+        let large = can.large in
+        both_true (sizes_are_known place.phase) _ known
+        (ap (nat_lt (transfer_in place.negotiation)) none ∙ lt-ltb _ _ (subst (λ (x : Negotiation). transfer_in x < length answer) (sym under) (omega (arith, size, large))))
+
+    pub large_fits : is_answer_too_long place answer ≡ false
+    large_fits =
+        let most = can.fits_max in
+        chunked_fits (sizes_are_known place.phase) _ _ _
+        (lt_false (place_terms place).common.to_requester.max (length answer) (subst (λ (x : Negotiation). length answer ≤ (terms_of x).common.to_requester.max) (sym under) (omega (arith, size, most))))
+        (ap (λ (x : Negotiation). (terms_of x).common.chunk) under ∙ can.chunk)
+
   -- ---- The responder, of GET_MEASUREMENTS.
 
   module _ (g : served.History) (d : Draw) (drawn : length d.bytes ≡ 32) (under : served.negotiation_of (served.clear_turns g) ≡ n) where
@@ -210,18 +236,7 @@ module _ (q : ReqSetup) (r : RspSetup) (op : ℕ) (n : Negotiation) (can : GoesL
     size = ap length (answer_is r g d op) ∙ measurements_are r op d.bytes drawn
 
     goes : served.phase_of (served.clear_turns g) ≡ Negotiated → goes_large (clear_place g) (answer_at r g d op) ≡ true
-    goes phase =
-        let large = can.large in
-        both_true (sizes_are_known (served.phase_of (served.clear_turns g))) _ (ap sizes_are_known phase)
-        (ap (nat_lt (transfer_in (served.negotiation_of (served.clear_turns g)))) (zero_plus (length (answer_at r g d op)))
-        ∙ lt-ltb _ _ (subst (λ (x : Negotiation). transfer_in x < length (answer_at r g d op)) (sym under) (omega (arith, size, large))))
-
-    fits : is_answer_too_long (clear_place g) (answer_at r g d op) ≡ false
-    fits =
-        let most = can.fits_max in
-        chunked_fits (sizes_are_known (served.phase_of (served.clear_turns g))) _ _ _
-        (lt_false (place_terms (clear_place g)).common.to_requester.max (length (answer_at r g d op)) (subst (λ (x : Negotiation). length (answer_at r g d op) ≤ (terms_of x).common.to_requester.max) (sym under) (omega (arith, size, most))))
-        (ap (λ (x : Negotiation). (terms_of x).common.chunk) under ∙ can.chunk)
+    goes phase = large_goes (clear_place g) (answer_at r g d op) size under (ap sizes_are_known phase) (zero_plus (length (answer_at r g d op)))
 
     taken : served.phase_of (served.clear_turns g) ≡ Negotiated → refusal r (clear_place g) m (clear_chosen r g d) ≡ None
     taken phase =
@@ -248,7 +263,7 @@ module _ (q : ReqSetup) (r : RspSetup) (op : ℕ) (n : Negotiation) (can : GoesL
           update = refl;
           chunk = refl;
           get = refl;
-          fits = fits;
+          fits = large_fits (clear_place g) (answer_at r g d op) size under;
           limit = refl;
         }))
 
@@ -380,20 +395,27 @@ module _ (q : ReqSetup) (r : RspSetup) (op : ℕ) (n : Negotiation) (can : GoesL
     pub chunk_is_few : length reply ≤ transfer_in n
     chunk_is_few = (let transfer = can.transfer in let least = can.least in get_fits (transfer_in n) handle k w (omega (arith, transfer, least)))
 
-    number_small : k < 2 ^ 16
+    pub number_small : k < 2 ^ 16
     number_small = (fits_chunk q.max (transfer_in n) handle w (collectable w long) k small within).number
 
-    module _ (g : served.History) (d : Draw) (under : served.negotiation_of (served.clear_turns g) ≡ n) (phase : served.phase_of (served.clear_turns g) ≡ Negotiated) (pending : IsPending w handle k (served.clear_turns g)) where
-      abbrev place : Place
-      place = clear_place g
+    abbrev pub before : List ChunkMessage
+    before = chunks_before (transfer_in n) handle w k
 
-      abbrev f : Free
-      f = clear_chosen r g d
+    pub no_fault : get_fault q.max handle k before c ≡ None
+    no_fault = right_chunk (handle == handle) (k == k) _ (eq-eqb handle handle refl) (eq-eqb k k refl) (breaks_none q.max (transfer_in n) handle w (collectable w long) k within)
 
-      abbrev given_answer : List ℕ
+    pub reads_chunk : (h : asked.History) (len : ℕ) → response_reading len false reply ≡ Ok (ChunkResponse c)
+    reads_chunk h len = reads h (ChunkResponse c) len (fits_chunk q.max (transfer_in n) handle w (collectable w long) k small within) (sound_chunk q.max (transfer_in n) handle w (collectable w long) k)
+
+    pub joins_whole : (k + 1 == chunk_count (transfer_in n) w) ≡ true → joined_with before c ≡ w
+    joins_whole last = last_whole q.max (transfer_in n) handle w (collectable w long) k within last
+
+    -- At any place.
+    module _ (place : Place) (f : Free) (under : place.negotiation ≡ n) (pending : IsPending w handle k place.turns) where
+      abbrev pub given_answer : List ℕ
       given_answer = canonical_response (answer_of r place (get_chunk handle k) f (ChunkGet handle k))
 
-      is_pending : pending_of (transfer_in place.negotiation) place.turns ≡ Some w
+      pub is_pending : pending_of (transfer_in place.negotiation) place.turns ≡ Some w
       is_pending =
           ap (λ (z : ℕ). still_pending (transfer_in place.negotiation) z (large_of place.turns)) pending.given
           ∙ ap (still_pending (transfer_in place.negotiation) k) pending.large
@@ -404,13 +426,32 @@ module _ (q : ReqSetup) (r : RspSetup) (op : ℕ) (n : Negotiation) (can : GoesL
           ap (λ (o : Option (List ℕ)). canonical_response (ChunkResponse (nth_chunk (transfer_in place.negotiation) handle (unwrap_or o []) k))) is_pending
           ∙ ap (λ (x : Negotiation). chunk_response (transfer_in x) handle w k) under
 
-      takes_it : Takes place (length given_answer)
-      takes_it =
+      pub given_fits : (length given_answer ≤ (place_terms place).common.to_requester.max) × (length given_answer ≤ (place_terms place).common.to_requester.transfer)
+      given_fits =
           let few : length given_answer ≤ transfer_in n = subst (λ (l : List ℕ). length l ≤ transfer_in n) (sym gives_chunk) chunk_is_few in
           let large = can.large in
-          let most = can.fits_max in record {
-            both = λ known. subst (λ (x : Negotiation). (length given_answer ≤ (terms_of x).common.to_requester.max) × (length given_answer ≤ (terms_of x).common.to_requester.transfer)) (sym under) (omega (arith, few, large, most), few);
-          }
+          let most = can.fits_max in
+          subst (λ (x : Negotiation). (length given_answer ≤ (terms_of x).common.to_requester.max) × (length given_answer ≤ (terms_of x).common.to_requester.transfer)) (sym under) (omega (arith, few, large, most), few)
+
+      pub given_chunks : lacks_flag (place_terms place) CHUNK_GET ≡ false
+      given_chunks = chunk_flag (place_terms place) (ap (λ (x : Negotiation). (terms_of x).common.chunk) under ∙ can.chunk)
+
+      pub is_right : is_get_refused place (Some (ChunkGet handle k)) ≡ false
+      is_right = right_get (handle == handle_of place.turns) (k == given_of place.turns) (eq-eqb handle _ (sym pending.handle_is)) (eq-eqb k _ (sym pending.given))
+
+    -- In the clear.
+    module _ (g : served.History) (d : Draw) (under : served.negotiation_of (served.clear_turns g) ≡ n) (phase : served.phase_of (served.clear_turns g) ≡ Negotiated) (pending : IsPending w handle k (served.clear_turns g)) where
+      abbrev place : Place
+      place = clear_place g
+
+      abbrev f : Free
+      f = clear_chosen r g d
+
+      abbrev clear_answer : List ℕ
+      clear_answer = given_answer place f under pending
+
+      takes_it : Takes place (length clear_answer)
+      takes_it = record { both = λ known. given_fits place f under pending }
 
       pub chunk_turn : turn_of r place (get_chunk handle k) f ≡ taken_turn r place (get_chunk handle k) f (ChunkGet handle k)
       chunk_turn =
@@ -423,11 +464,11 @@ module _ (q : ReqSetup) (r : RspSetup) (op : ℕ) (n : Negotiation) (can : GoesL
             outside = refl;
             whole = refl;
             placed = refl;
-            allowed = ap (λ (x : Phase). phase_allows x (has_pending place) CHUNK_GET) phase ∙ ap is_some is_pending;
+            allowed = ap (λ (x : Phase). phase_allows x (has_pending place) CHUNK_GET) phase ∙ ap is_some (is_pending place f under pending);
             version = refl;
           })
           (record {
-            flags = chunk_flag (place_terms place) (ap (λ (x : Negotiation). (terms_of x).common.chunk) under ∙ can.chunk);
+            flags = given_chunks place f under pending;
             caps = refl;
             offer = refl;
             block = refl;
@@ -435,11 +476,11 @@ module _ (q : ReqSetup) (r : RspSetup) (op : ℕ) (n : Negotiation) (can : GoesL
             verify = refl;
             update = refl;
             chunk = refl;
-            get = right_get (handle == handle_of place.turns) (k == given_of place.turns) (eq-eqb handle _ (sym pending.handle_is)) (eq-eqb k _ (sym pending.given));
-            fits = not_too_long g given_answer takes_it;
+            get = is_right place f under pending;
+            fits = not_too_long g clear_answer takes_it;
             limit = refl;
           })
-          (not_large g given_answer takes_it)
+          (not_large g clear_answer takes_it)
 
       pub pending_next : IsPending w handle (k + 1) (taken_turn r place (get_chunk handle k) f (ChunkGet handle k) ∷ place.turns)
       pending_next = record { large = pending.large; given = ap (λ (z : ℕ). z + 1) pending.given; handle_is = pending.handle_is }
@@ -450,21 +491,15 @@ module _ (q : ReqSetup) (r : RspSetup) (op : ℕ) (n : Negotiation) (can : GoesL
     -- ---- The requester, of CHUNK_RESPONSE.
 
     module _ (h : asked.History) (tag : ℕ) (d : Draw) (waits : outstanding h ≡ Some (fetching tag op handle k (chunks_before (transfer_in n) handle w k))) where
-      abbrev before : List ChunkMessage
-      before = chunks_before (transfer_in n) handle w k
-
       abbrev asked_it : RequestMessage
       asked_it = GetMeasurements op
 
       hears_it : requester_hears q h false tag (clear_body reply) d ≡ clear_outcome tag reply d (clear_led q h (body_chosen q h d) (ForChunk asked_it handle k before) asked_it reply)
       hears_it = (let transfer = can.transfer in heard_chunk q h (body_chosen q h d) tag op handle k before reply d waits (omega (arith, chunk_is_few, transfer)))
 
-      no_fault : get_fault q.max handle k before c ≡ None
-      no_fault = right_chunk (handle == handle) (k == k) _ (eq-eqb handle handle refl) (eq-eqb k k refl) (breaks_none q.max (transfer_in n) handle w (collectable w long) k within)
-
       led : clear_led q h (body_chosen q h d) (ForChunk asked_it handle k before) asked_it reply ≡ carried_led q h (body_chosen q h d) asked_it (collected h asked_it before c None)
       led =
-          led_chunk q h (body_chosen q h d) op handle k before reply c (reads h (ChunkResponse c) (hash_len (asked.connection_terms h)) (fits_chunk q.max (transfer_in n) handle w (collectable w long) k small within) (sound_chunk q.max (transfer_in n) handle w (collectable w long) k))
+          led_chunk q h (body_chosen q h d) op handle k before reply c (reads_chunk h (hash_len (asked.connection_terms h)))
           ∙ ap (λ (o : Option ChunkFault). carried_led q h (body_chosen q h d) asked_it (collected h asked_it before c o)) no_fault
 
       -- One that is not the last calls for the next.
@@ -479,15 +514,11 @@ module _ (q : ReqSetup) (r : RspSetup) (op : ℕ) (n : Negotiation) (can : GoesL
       -- The last one completes the measurements.
       pub heard_last : (nonce : List ℕ) → length nonce ≡ 32 → w ≡ measurements r op nonce → (k + 1 == chunk_count (transfer_in n) w) ≡ true → requester_hears q h false tag (clear_body reply) d ≡ AddsHere (TookClear tag reply (measured_led r op nonce) d)
       heard_last nonce whole is last =
-          let most = can.most in
-          let fits = can.fits_max in
-          let max = can.max in
-          let within_it : measurements_size r op ≤ 4138 = omega (arith, most, fits, max) in
-          let whole_is = last_whole q.max (transfer_in n) handle w (collectable w long) k within last ∙ is in
+          let whole_is = joins_whole last ∙ is in
           hears_it
           ∙ ap (clear_outcome tag reply d) (led ∙ completes (k + 1 == chunk_count (transfer_in n) w) last
           ∙ ap (λ (l : List ℕ). read_led q h (body_chosen q h d) 0 asked_it l (reading_of h asked_it l)) whole_is
-          ∙ ap (λ (x : Result ResponseMessage Malformed). read_led q h (body_chosen q h d) 0 asked_it (measurements r op nonce) x) (reads h (Measurements (measured r op nonce)) (hash_len (asked.connection_terms h)) (measured_fits r op nonce) (measured_sound r op (hash_len (asked.connection_terms h)) nonce whole within_it))
+          ∙ ap (λ (x : Result ResponseMessage Malformed). read_led q h (body_chosen q h d) 0 asked_it (measurements r op nonce) x) (reads_measured h (hash_len (asked.connection_terms h)) nonce whole)
           ∙ ap (λ (z : ℕ). let x : Result Led ReqIgnored = Ok (is_done (finished.Measured z) (Answers asked_it (measurements r op nonce))) in x) (told_number (op == 0) (length (inventory_of r)) (length (blocks_asked op (inventory_of r)))))
         where
           completes : (b : Bool) → b ≡ true → carried_led q h (body_chosen q h d) asked_it (if b then Whole (joined_with before c) 0 else Further (get_sent h asked_it handle (k + 1) (c ∷ before))) ≡ read_led q h (body_chosen q h d) 0 asked_it (joined_with before c) (reading_of h asked_it (joined_with before c))
@@ -502,5 +533,5 @@ module _ (q : ReqSetup) (r : RspSetup) (op : ℕ) (n : Negotiation) (can : GoesL
       let least = can.least in
       hears_as q h tag (GetMeasurements op) m n (large_response handle) d (goes_on Nothing (get_sent h (GetMeasurements op) handle 0 [])) asks (omega (arith, least))
       (led_plain q h (body_chosen q h d) (GetMeasurements op) (large_response handle) (Error V1_2 (error_number LargeResponse) 0 (handle ∷ []))
-      (reads h (Error V1_2 (error_number LargeResponse) 0 (handle ∷ [])) (hash_len (asked.connection_terms h)) (omega arith, omega arith) (inr refl, (λ e. absurd (omega (arith, e)), λ e. refl, omega arith)))
+      (reads_large h (hash_len (asked.connection_terms h)) handle)
       ∙ goes_by (asked.connection_terms h).common.chunk (goes_on Nothing (get_sent h (GetMeasurements op) handle 0 [])) (is_refused (error_number LargeResponse) (Refuses (GetMeasurements op))) (ap (λ (x : Negotiation). (terms_of x).common.chunk) asks.negotiation ∙ can.chunk))

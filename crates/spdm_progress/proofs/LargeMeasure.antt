@@ -216,15 +216,15 @@ module _ (p : Pair) (op : ℕ) (h0 : asked.History) (d0 : Draw) (can : GoesLarge
   body_size : (message body : List ℕ) (size : ℕ) → body ≡ clear_body message → length message + 1 ≤ size → length body ≤ size
   body_size message body size is few = subst (λ (l : List ℕ). length l ≤ size) (sym is) (omega (arith, few))
 
-  pub are_short : (each : ℕ) → 1 ≤ each → transfer + 1 ≤ 64 * each → AreShort 1 each MeasureAsked MeasureAnswered
-  are_short each some fits = record { asks = asks_short; answers = answers_short }
+  pub are_short : (each : ℕ) → transfer + 28 ≤ 64 * each → AreShort 1 each MeasureAsked MeasureAnswered
+  are_short each fits = record { asks = asks_short; answers = answers_short }
     where
       asks_short : (more tag : ℕ) (body : List ℕ) (log : Log) (h : asked.History) (g : served.History) → MeasureAsked more tag body log h g → length body ≤ 64 * 1
       asks_short more tag body log h g (inl y) = body_size m body (64 * 1) y.body_is (omega arith)
       asks_short more tag body log h g (inr y) = body_size (get_chunk y.handle y.k) body (64 * 1) y.body_is (omega arith)
 
       answers_short : (more tag : ℕ) (body : List ℕ) (log : Log) (h : asked.History) (g : served.History) → MeasureAnswered more tag body log h g → length body ≤ 64 * each
-      answers_short more tag body log h g (inl y) = body_size (large_response y.handle) body (64 * each) y.body_is (omega (arith, some))
+      answers_short more tag body log h g (inl y) = body_size (large_response y.handle) body (64 * each) y.body_is (omega (arith, fits))
       answers_short more tag body log h g (inr y) =
           let few = few_bytes more y.k y.handle y.nonce y.whole y.small y.left in
           body_size (chunk_response transfer y.handle (measurements r op y.nonce) y.k) body (64 * each) y.body_is (omega (arith, few, fits))
@@ -297,7 +297,7 @@ module _ (p : Pair) (op : ℕ) (h0 : asked.History) (d0 : Draw) (can : GoesLarge
             low = low;
             since = since;
             waits = waits;
-            body_is = ap clear_body (gives_chunk q r op n can w long handle k small (within more k nonce whole left) g d under negotiated pending);
+            body_is = ap clear_body (gives_chunk q r op n can w long handle k small (within more k nonce whole left) (clear_place g) (clear_chosen r g d) under pending);
             quiet = quiet_there q r p.first acts log h0 g (Clear tag t d ∷ g) (does, quiet.made_there) refl refl get_earlier (λ j. refl) quiet;
             pending = pending_next q r op n can w long handle k small (within more k nonce whole left) g d under negotiated pending;
             last = record { kept = record { tag = tag; message = get_chunk handle k; reply = t.reply }; is = refl; message = refl };

@@ -43,6 +43,8 @@ pub mod ChunkRules
 pub mod ChunkCounts
 pub mod LargeAnswers
 pub mod LargeMeasure
+pub mod SessionLarge
+pub mod SessionMeasure
 pub mod Aside
 pub mod QuietCommands
 pub mod QuietWorlds

@@ -1,8 +1,7 @@
 -- Each command of two quiet ends comes to its result, and leaves the others quiet.
-use Rattle.std.proofs.Common.{◌≡◌, ◌∙◌, ℕ, suc, ◌<◌, ◌≤◌, ◌*◌, nat_le, List, [], ◌∷◌, Bool, true, false, is_none, Some, None, refl, sym, ap, subst, inl, inr, arith}
+use Rattle.std.proofs.Common.{◌≡◌, ◌∙◌, ℕ, ◌<◌, ◌≤◌, nat_le, List, [], ◌∷◌, Bool, true, false, is_none, Some, None, refl, sym, ap, subst, inl, inr, arith}
 use Rattle.std.specs.Prelude.{if◌then◌else◌}
 use Rattle.std.proofs.lemmas.Bool.{false≢true, leb-false, leb-true, not-false}
-use Rattle.std.proofs.lemmas.Nat.{mul-le}
 use Rattle.negotiate.specs.declared.shared.Sizes.{Sizes}
 use Rattle.spdm_basis.proofs.Bools.{and_second, lt_false}
 use Rattle.spdm_grammar.specs.Message.RequestMessage.{GetMeasurements}
@@ -50,6 +49,7 @@ use Rattle.spdm_progress.proofs.Aside.{IsAside, nothing_aside}
 use Rattle.spdm_progress.proofs.ConnectRounds as connects
 use Rattle.spdm_progress.proofs.ChunkCounts.{InChunks, in_chunks}
 use Rattle.spdm_progress.proofs.LargeAnswers.{GoesLarge, large_again, transfer_in}
+use Rattle.spdm_progress.proofs.SessionMeasure as session_measures
 use Rattle.spdm_progress.proofs.LargeMeasure as larges
 use Rattle.spdm_progress.proofs.MeasureRound as measures
 use Rattle.spdm_progress.proofs.MeasureStages.{CanServe, made_again}
@@ -223,17 +223,16 @@ module _ (w : WorldSetup) (before : List Entry) (n : ℕ) (a : Requesting) (c : 
 
       are_few : AreFew 1 counts.each (larges.count pair op a.history d goes phase asks)
       are_few =
-          let count = larges.count pair op a.history d goes phase asks in
-          let ones : 1 * suc count ≤ counts.each * suc count = mul-le 1 (suc count) counts.each (suc count) counts.some (omega arith) in
           let all = counts.few in
-          (all, omega (arith, ones, all), omega (arith, ones, all))
+          let rounds = counts.rounds in
+          (omega (arith, all), omega (arith, rounds), omega (arith, rounds, all))
 
       measured_by_chunks : Result (Measure None op)
       measured_by_chunks =
           plainly command (finished.Measured (number_for c.setup op)) 0 false refl
           (completes_within w before n a c command o.told.now line behind none o.honest o.still o.chance Aside aside beside (larges.MeasureAsked pair op a.history d goes phase asks) (larges.MeasureAnswered pair op a.history d goes phase asks)
           (larges.Quiet pair op a.history d goes phase asks) (finished.Measured (number_for c.setup op)) 0 false (λ log h g z. (z, zero_free h z.made (steps.is_live (steps.session_of 0 h)) refl)) (larges.large_talk pair op a.history d goes phase asks)
-          1 counts.each (larges.are_short pair op a.history d goes phase asks counts.each counts.some counts.fits) (larges.count pair op a.history d goes phase asks) are_few
+          1 counts.each (larges.are_short pair op a.history d goes phase asks counts.each counts.fits) (larges.count pair op a.history d goes phase asks) are_few
           (plain_sent a.history (GetMeasurements op)) (not_worn_told a command unworn ∙ ap (commanded_by a) asks)
           (inl (record {
             more_is = refl;

@@ -43,7 +43,7 @@ use Rattle.world_machine.specs.Trace.{lines_from, world_after, world_from}
 use Rattle.world_machine.specs.World.{World, WorldStep, entry_step, happens, pumps, requester_of, told_by}
 use Rattle.spdm_progress.specs.Honest.{AreHonest, HaveNoCommand, NothingWaits}
 use Rattle.spdm_progress.specs.InStep.{AreQuiet}
-use Rattle.spdm_progress.specs.SessionCommands.{CanAsk, IsDoneQuietly, IsTold, IsToldQuietly, SessionCommandsComplete, commanding, goes_on, result_of, session_at}
+use Rattle.spdm_progress.specs.SessionCommands.{CanAsk, IsDoneQuietly, IsTold, IsToldQuietly, SessionCommandsComplete, commanding, goes_on, most_asked, most_packets, most_served, result_of, session_at}
 use Rattle.spdm_progress.proofs.AlikeSessions.{is_kept}
 use Rattle.spdm_progress.proofs.Accepted.{not_worn_told, told_so}
 use Rattle.spdm_progress.proofs.Aside.{IsAside, nothing_aside}
@@ -66,13 +66,13 @@ no_chance_from world (entry ∷ entries) chance = no_chance_earlier world entry.
 
 -- ---- A talk that a command begins.
 
--- A pump of 396 packets or more, and nothing else.
+-- A pump of enough packets, and nothing else.
 abbrev pub IsLongPump : List Entry → Type 0
-IsLongPump behind = (line : ℕ) × (count : ℕ) × (396 ≤ count) × (behind ≡ record { line = line; happening = Pump count } ∷ [])
+IsLongPump behind = (line : ℕ) × (count : ℕ) × (most_packets ≤ count) × (behind ≡ record { line = line; happening = Pump count } ∷ [])
 
 -- So many packets in each round are few enough for each end, and for both.
 abbrev pub AreFew : (there each more : ℕ) → Type 0
-AreFew there each more = (each * suc more ≤ 198) × (there * suc more ≤ 198) × (there * suc more + each * suc more ≤ 396)
+AreFew there each more = (each * suc more + 1 ≤ most_asked) × (there * suc more ≤ most_served) × (there * suc more + each * suc more ≤ most_packets)
 
 -- No packet waits behind these entries, or there was a pump long enough.
 abbrev pub Rests : World → List Entry → Type 0
@@ -82,9 +82,9 @@ Rests world behind = NothingWaits (world_from world behind) ⊎ IsLongPump behin
 abbrev pub HaveTakenAt : ℕ → (most : ℕ) → World → Type 0
 HaveTakenAt n most world = ((b : Requesting) → requester_of n world ≡ Some b → length b.given + b.commands ≤ most) × (length world.responder.given ≤ most)
 
--- Each takes 199 more at most.
+-- Each takes no more than a command leads to.
 abbrev pub TakeFew : World → ℕ → Requesting → World → Type 0
-TakeFew world n a later = (most : ℕ) → most ≤ wear_limit → length a.given + a.commands + 199 ≤ most → length world.responder.given + 198 ≤ most → HaveTakenAt n most later
+TakeFew world n a later = (most : ℕ) → most ≤ wear_limit → length a.given + a.commands + most_asked ≤ most → length world.responder.given + most_served ≤ most → HaveTakenAt n most later
 
 -- No packet waits, what stands aside holds, and few packets were taken.
 pub record Idle (world : World) (n : ℕ) (a : Requesting) (Aside : World → Type 0) (later : World) : Type 0 where
@@ -131,7 +131,7 @@ module _ (w : WorldSetup) (before : List Entry) (n : ℕ) (a : Requesting) (c : 
   )
 
   at_rest : (most : ℕ) (within : most ≤ wear_limit) (Asks Answers : Stage) (Done : Log → asked.History → served.History → Type 0) (result : Finished) (is_talk : IsTalk p Asks Answers Done (event.Done result)) (there each : ℕ) (short : AreShort there each Asks Answers) (sent : Sent) → requester_told a command ≡ sends a command sent
-      → (begun : talk.Asking most within p placed.ends Aside aside Asks Answers Done (event.Done result) is_talk there each short (told_by world n (sends a command sent)).after) → there * suc begun.more + each * suc begun.more ≤ 396 → Rests (commanding world line n command) behind → NothingWaits (world_from (commanding world line n command) behind)
+      → (begun : talk.Asking most within p placed.ends Aside aside Asks Answers Done (event.Done result) is_talk there each short (told_by world n (sends a command sent)).after) → there * suc begun.more + each * suc begun.more ≤ most_packets → Rests (commanding world line n command) behind → NothingWaits (world_from (commanding world line n command) behind)
   unfolding happens
   at_rest most within Asks Answers Done result is_talk there each short sent step begun few (inl idle) = idle
   at_rest most within Asks Answers Done result is_talk there each short sent step begun few (inr pump) =
@@ -144,7 +144,7 @@ module _ (w : WorldSetup) (before : List Entry) (n : ℕ) (a : Requesting) (c : 
       (subst (λ (s : WorldStep). NoChance (pumps count s.after).after.log) same (subst (λ (entries : List Entry). NoChance (world_from later entries).log) pump.3 chance))))
 
   -- The talk that the message of the command begins, where no end takes more than so much.
-  runs : (most : ℕ) (within : most ≤ wear_limit) → length a.given + a.commands + 199 ≤ most → length world.responder.given + 198 ≤ most
+  runs : (most : ℕ) (within : most ≤ wear_limit) → length a.given + a.commands + most_asked ≤ most → length world.responder.given + most_served ≤ most
       → (Asks Answers : Stage) (Done : Log → asked.History → served.History → Type 0) (result : Finished) (is_talk : IsTalk p Asks Answers Done (event.Done result)) (there each : ℕ) (short : AreShort there each Asks Answers) (more : ℕ) → AreFew there each more → (sent : Sent) → requester_told a command ≡ sends a command sent
       → Asks more sent.tag (body_of sent.content) (told_view world a c command sent).log (told_view world a c command sent).asked c.history
       → talk.IsDone most within p placed.ends Aside aside Asks Answers Done (event.Done result) is_talk there each short (world_from (commanding world line n command) behind) × IsIn (lines_from (commanding world line n command) behind) (Line.ToRequester n (event.Done result))
@@ -155,7 +155,7 @@ module _ (w : WorldSetup) (before : List Entry) (n : ℕ) (a : Requesting) (c : 
       let begun = begins most within p placed.ends Aside aside Asks Answers Done (event.Done result) is_talk there each short more sent (told_view world a c command sent) (told_by world n (sends a command sent)).after shown asks own_life other_life in
       let rounds = begins_with most within p placed.ends Aside aside Asks Answers Done (event.Done result) is_talk there each short more sent (told_view world a c command sent) (told_by world n (sends a command sent)).after shown asks own_life other_life in
       let asking_now = subst (λ (s : WorldStep). talk.Asking most within p placed.ends Aside aside Asks Answers Done (event.Done result) is_talk there each short s.after) (sym (told_is world n a command sent is_told.is_requester step)) begun in
-      talk_ends most within p placed.ends Aside aside Asks Answers Done (event.Done result) is_talk there each short (commanding world line n command) behind none honest chance asking_now (at_rest most within Asks Answers Done result is_talk there each short sent step begun (subst (λ (k : ℕ). there * suc k + each * suc k ≤ 396) (sym rounds) few.2) still)
+      talk_ends most within p placed.ends Aside aside Asks Answers Done (event.Done result) is_talk there each short (commanding world line n command) behind none honest chance asking_now (at_rest most within Asks Answers Done result is_talk there each short sent step begun (subst (λ (k : ℕ). there * suc k + each * suc k ≤ most_packets) (sym rounds) few.2) still)
 
   taken_so : (most : ℕ) (later : World) (v : View) → Shows p Aside v [] later → length v.given + v.commands ≤ most → length v.received ≤ most → HaveTakenAt n most later
   taken_so most later v s own other = (

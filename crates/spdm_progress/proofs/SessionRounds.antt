@@ -139,11 +139,11 @@ module _ (q : ReqSetup) (r : RspSetup) (first id : ℕ) (x : Asking) where
 
   -- ---- Both can be sent.
 
-  sealed_length : (s : Steps) (pad : List ℕ) → length (sealed_for s pad) ≡ length (x.inner s) + length pad + 26
+  pub sealed_length : (s : Steps) (pad : List ℕ) → length (sealed_for s pad) ≡ length (x.inner s) + length pad + 26
   unfolding sealed_next
   sealed_length s pad = record_length (steps.session_terms s).choice (request_purpose q.psk s) (steps.request_next s) (id_in_exchange (steps.exchange_of s)) (rsp_id s) (x.inner s) pad
 
-  answer_length : (s : Steps) (t : Turn) → length (answer_for s t) ≡ length (inner_reply t) + 0 + 26
+  pub answer_length : (s : Steps) (t : Turn) → length (answer_for s t) ≡ length (inner_reply t) + 0 + 26
   answer_length s t = record_length (steps.session_terms s).choice (answer_under q.psk s (asks_all x.ask)) (answer_count s (asks_all x.ask)) (id_in_exchange (steps.exchange_of s)) (rsp_id s) (inner_reply t) []
 
   record_is_body : (sealed : List ℕ) → length sealed ≤ 4160 → IsBody (record_body sealed)

@@ -22,6 +22,9 @@ use Rattle.requester_machine.specs.Sending.{inner_data, inner_request}
 use Rattle.requester_machine.specs.Session as steps
 use Rattle.requester_machine.specs.Setup.{ReqSetup}
 use Rattle.responder_machine.specs.Answer.{Free, answer_of}
+use Rattle.responder_machine.specs.Does.{chosen, record_chosen}
+use Rattle.responder_machine.specs.History as served
+use Rattle.spdm_machine.specs.Keys.{Draw}
 use Rattle.responder_machine.specs.Handling.{goes_large, turn_of}
 use Rattle.responder_machine.specs.Place.{session_place}
 use Rattle.responder_machine.specs.Refusal.{fits_stage, has_pending, is_answer_too_long, lacks_flag, stage_allows}
@@ -31,7 +34,7 @@ use Rattle.responder_machine.specs.Session.{Events}
 use Rattle.responder_machine.specs.Setup.{RspSetup, inventory_of}
 use Rattle.responder_machine.specs.Turn.{Turn}
 use Rattle.measurements.specs.Records.{is_missing}
-use Rattle.spdm_progress.proofs.MeasureStages.{measures_flag}
+use Rattle.spdm_progress.proofs.MeasureStages.{measurements, measures_flag}
 use Rattle.spdm_progress.proofs.OnePacket.{positive}
 use Rattle.spdm_progress.proofs.ResponderStages.{both_short, zero_plus}
 use Rattle.spdm_progress.proofs.ResponderTurns.{read_at, taken_at, taken_turn}
@@ -181,6 +184,11 @@ measure_turn_in r e f op room byte at flag block takes =
       limit = refl;
     })
     (not_large_in e answer takes)
+
+-- MEASUREMENTS as the responder makes it.
+pub measured_in : (r : RspSetup) (g : served.History) (e : Events) (sealed : List ℕ) (d : Draw) (op : ℕ) → canonical_response (answer_of r (session_place e) (canonical_request (GetMeasurements op)) (record_chosen r g sealed d) (GetMeasurements op)) ≡ measurements r op d.bytes
+unfolding chosen
+measured_in r g e sealed d op = refl
 
 -- Application data.
 pub data_turn_in : (r : RspSetup) (e : Events) (bytes : List ℕ) (f : Free) → events.stage_of e ≡ stage.Open → length bytes ≤ 1024 → session_turn r e (inner_data bytes) f ≡ data_turn f bytes

@@ -24,7 +24,7 @@ use Rattle.spdm_progress.specs.Honest.{AreHonest, HaveNoCommand, NothingWaits, i
 use Rattle.spdm_progress.specs.InStep.{AreQuiet}
 use Rattle.spdm_progress.specs.Measuring.{CanGo, measurements_size}
 use Rattle.spdm_progress.specs.Opening.{CanOpen, opened_id, terms_now}
-use Rattle.spdm_progress.specs.SessionCommands.{CanAsk, CompletesQuietly, IsTold, IsToldQuietly, commanding, result_of}
+use Rattle.spdm_progress.specs.SessionCommands.{CanAsk, CompletesQuietly, IsTold, IsToldQuietly, commanding, most_packets, result_of}
 
 -- ---- Each command.
 
@@ -79,12 +79,12 @@ QuietCommandsComplete =
     → NothingWaits (world_from (commanding (world_after w before) line n command) behind) → NoChance (world_from (commanding (world_after w before) line n command) behind).log
     → IsDone n a.setup c.setup (result_for a c command) (world_from (commanding (world_after w before) line n command) behind) (lines_from (commanding (world_after w before) line n command) behind)
 
--- A pump of 396 packets or more behind such a command leaves none that waits, so an honest script can always go on. (A
+-- A pump of so many packets or more behind such a command leaves none that waits, so an honest script can always go on. (A
 -- command begins three rounds at most, and a message has at most 66 packets.)
 abbrev pub PumpsAreEnough : Type 0
 PumpsAreEnough =
     (w : WorldSetup) (before : List Entry) (n : ℕ) (a : Requesting) (c : Connection) (command : Command) → IsToldQuietly w before n a c command → CanDo a c command
-    → (line count : ℕ) → 396 ≤ count → NoChance (happens (commanding (world_after w before) line n command) (Pump count)).after.log → NothingWaits (happens (commanding (world_after w before) line n command) (Pump count)).after
+    → (line count : ℕ) → most_packets ≤ count → NoChance (happens (commanding (world_after w before) line n command) (Pump count)).after.log → NothingWaits (happens (commanding (world_after w before) line n command) (Pump count)).after
 
 -- ---- Whole scripts.
 
@@ -148,14 +148,14 @@ pub record Order : Type 0 where
   pub command : Command
   pub pump_line : ℕ
 
--- Each command has a pump of 396 packets behind it.
+-- Each command has a pump of so many packets behind it.
 abbrev pub with_pumps : List Order → List Entry
 with_pumps [] = []
-with_pumps (o ∷ orders) = record { line = o.line; happening = Told o.n o.command } ∷ record { line = o.pump_line; happening = Pump 396 } ∷ with_pumps orders
+with_pumps (o ∷ orders) = record { line = o.line; happening = Told o.n o.command } ∷ record { line = o.pump_line; happening = Pump most_packets } ∷ with_pumps orders
 
 -- Such a script is honest, and no packet waits at its end, where nothing agrees by chance and each command that is answered
 -- `ok` has what it needs. So there is an honest script for any such commands.
 abbrev pub PumpedScriptsAreHonest : Type 0
 PumpedScriptsAreHonest =
-    (w : WorldSetup) → IsConfigured w → (orders : List Order) → length orders ≤ 2 ^ 32 → NoChance (world_after w (with_pumps orders)).log
+    (w : WorldSetup) → IsConfigured w → (orders : List Order) → length orders ≤ 2 ^ 31 → NoChance (world_after w (with_pumps orders)).log
     → OfEachCommand CanBeDone (new_world w) (with_pumps orders) → AreHonest (new_world w) (with_pumps orders) × NothingWaits (world_after w (with_pumps orders))

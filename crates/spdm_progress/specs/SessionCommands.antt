@@ -58,10 +58,21 @@ result_of a c Connect = finished.Connected
 result_of a c (Open summary) = finished.Connected
 result_of a c Retry = finished.Connected
 
--- Neither end is worn out before it is over: each takes up to 198 packets, and the requester the command.
+-- The most that a command leads to: the requester takes it and 276 packets, the responder takes 198 packets, and there are
+-- 414 packets in all.
+abbrev pub most_asked : ℕ
+most_asked = 277
+
+abbrev pub most_served : ℕ
+most_served = 198
+
+abbrev pub most_packets : ℕ
+most_packets = 414
+
+-- Neither end is worn out before it is over.
 pub record LivesToAnswer (a : Requesting) (r : Responding) : Type 0 where
-  pub requester : length a.given + a.commands + 199 ≤ wear_limit
-  pub responder : length r.given + 198 ≤ wear_limit
+  pub requester : length a.given + a.commands + most_asked ≤ wear_limit
+  pub responder : length r.given + most_served ≤ wear_limit
 
 -- Requester n, of a world that a set-up and any events lead to, is told a command where no packet waits. The responder has
 -- this connection with it.
