@@ -21,7 +21,7 @@ use Rattle.world_machine.specs.World.{World, happens, new_world, requester_of, t
 use Rattle.spdm_progress.specs.Honest.{AreHonest, HaveNoCommand}
 use Rattle.spdm_progress.specs.InStep.{AreQuiet}
 use Rattle.spdm_progress.specs.Scripts.{CanDo, HaveTaken, IsDone, IsQuietWorld, result_for}
-use Rattle.spdm_progress.specs.SessionCommands.{LivesToAnswer, commanding}
+use Rattle.spdm_progress.specs.SessionCommands.{LivesToAnswer, commanding, most_asked}
 use Rattle.spdm_progress.proofs.Aside.{OthersAreQuiet, both_aside, others_aside}
 use Rattle.spdm_progress.proofs.Connected.{each_is_connected}
 use Rattle.spdm_agreement.proofs.Worlds.AllEvents.{requester_in}
@@ -51,7 +51,7 @@ world_behind world p = world_from (told_in world p) p.behind
 abbrev pub lines_behind : World → Paragraph → List Line
 lines_behind world p = lines_from (told_in world p) p.behind
 
-module _ (w : WorldSetup) (configured : IsConfigured w) (before : List Entry) (p : Paragraph) (most : ℕ) (room : most + 199 ≤ wear_limit) (ready : IsReady most (world_after w before)) (none : HaveNoCommand p.behind)
+module _ (w : WorldSetup) (configured : IsConfigured w) (before : List Entry) (p : Paragraph) (most : ℕ) (room : most + most_asked ≤ wear_limit) (ready : IsReady most (world_after w before)) (none : HaveNoCommand p.behind)
     (honest : AreHonest (told_in (world_after w before) p) p.behind) (still : Rests (told_in (world_after w before) p) p.behind) (chance : NoChance (world_behind (world_after w before) p).log) where
   abbrev world : World
   world = world_after w before
@@ -109,14 +109,14 @@ module _ (w : WorldSetup) (configured : IsConfigured w) (before : List Entry) (p
       (subst (λ (q : ReqSetup). AreQuiet q c.setup b.first (world_behind world p).log b.history e.history) (sym d.requester_setup) d.quiet))
       (subst (λ (k : ℕ). OthersAreQuiet k (world_behind world p)) (sym eid) x.1.aside.0)
 
-  done_taken : (a : Requesting) (c : Connection) → requester_of p.n world ≡ Some a → Ended a c → HaveTaken (most + 199) (world_behind world p)
+  done_taken : (a : Requesting) (c : Connection) → requester_of p.n world ≡ Some a → Ended a c → HaveTaken (most + most_asked) (world_behind world p)
   done_taken a c is x =
       let d = x.0 in
       let own = ready.1.requesters p.n a is in
       let other = ready.1.responder in
-      let took = x.1.takes (most + 199) room (omega (arith, own)) (omega (arith, other)) in
-      taken_with (world_behind world p) p.n d.requester (most + 199) differ_then d.is_requester (took.0 d.requester d.is_requester)
-      (subst (λ (k : ℕ). OthersTook k (most + 199) (world_behind world p)) (sym (ap (λ (q : ReqSetup). q.eid) d.requester_setup))
+      let took = x.1.takes (most + most_asked) room (omega (arith, own)) (omega (arith, other)) in
+      taken_with (world_behind world p) p.n d.requester (most + most_asked) differ_then d.is_requester (took.0 d.requester d.is_requester)
+      (subst (λ (k : ℕ). OthersTook k (most + most_asked) (world_behind world p)) (sym (ap (λ (q : ReqSetup). q.eid) d.requester_setup))
       (record { took = λ m b other is_b. (let least = x.1.aside.1.took m b other is_b in omega (arith, least)) })) took.1
 
   -- ---- Where it is refused, or is for nobody.
@@ -130,10 +130,10 @@ module _ (w : WorldSetup) (configured : IsConfigured w) (before : List Entry) (p
       subst (λ (z : World). AllDiffer (map (λ (x : Requesting). x.setup.eid) z.requesters)) (from_both (new_world w) before (record { line = p.line; happening = Told p.n p.command } ∷ []))
       (always_differ w configured (before ++ record { line = p.line; happening = Told p.n p.command } ∷ []))
 
-  with_more : (k : ℕ) → k ≤ most + 199 → IsReady k (world_behind world p) → IsReady (most + 199) (world_behind world p)
-  with_more k up r = (r.0, more_taken k (most + 199) (world_behind world p) up r.1)
+  with_more : (k : ℕ) → k ≤ most + most_asked → IsReady k (world_behind world p) → IsReady (most + most_asked) (world_behind world p)
+  with_more k up r = (r.0, more_taken k (most + most_asked) (world_behind world p) up r.1)
 
-  refused : (a : Requesting) (c : Connection) (f : CommandFault) → requester_of p.n world ≡ Some a → connection_of a.setup.eid world.responder.connections ≡ Some c → (requester_told a p.command).fault ≡ Some f → IsReady (most + 199) (world_behind world p)
+  refused : (a : Requesting) (c : Connection) (f : CommandFault) → requester_of p.n world ≡ Some a → connection_of a.setup.eid world.responder.connections ≡ Some c → (requester_told a p.command).fault ≡ Some f → IsReady (most + most_asked) (world_behind world p)
   refused a c f is connected fault =
       let now = told_so (Some a) is in
       with_more (most + 1) (omega arith)
@@ -141,7 +141,7 @@ module _ (w : WorldSetup) (configured : IsConfigured w) (before : List Entry) (p
       (subst (IsReady (most + 1)) (sym now)
       (refused_ready world p.n a c most (requester_told a p.command) (refused_step a p.command f fault) (subst (λ (z : World). AllDiffer (map (λ (x : Requesting). x.setup.eid) z.requesters)) now differ_now) ready is connected)))
 
-  nobody : requester_of p.n world ≡ None → IsReady (most + 199) (world_behind world p)
+  nobody : requester_of p.n world ≡ None → IsReady (most + most_asked) (world_behind world p)
   nobody is = with_more most (omega arith) (behind_ready most (told_in world p) p.behind none honest (subst (IsReady most) (sym (told_so None is)) ready))
 
   -- ---- One paragraph.
@@ -149,17 +149,17 @@ module _ (w : WorldSetup) (configured : IsConfigured w) (before : List Entry) (p
   abbrev Can : Type 0
   Can = (a : Requesting) (c : Connection) → requester_of p.n world ≡ Some a → connection_of a.setup.eid world.responder.connections ≡ Some c → (requester_told a p.command).fault ≡ None → CanDo a c p.command
 
-  by_fault : Can → (a : Requesting) (c : Connection) → requester_of p.n world ≡ Some a → connection_of a.setup.eid world.responder.connections ≡ Some c → (o : Option CommandFault) → (requester_told a p.command).fault ≡ o → IsReady (most + 199) (world_behind world p)
+  by_fault : Can → (a : Requesting) (c : Connection) → requester_of p.n world ≡ Some a → connection_of a.setup.eid world.responder.connections ≡ Some c → (o : Option CommandFault) → (requester_told a p.command).fault ≡ o → IsReady (most + most_asked) (world_behind world p)
   by_fault can a c is connected None ok = (let x = accepted a c is connected ok (can a c is connected ok) in (done_quiet a c x, done_taken a c is x))
   by_fault can a c is connected (Some f) fault = refused a c f is connected fault
 
-  by_requester : Can → (o : Option Requesting) → requester_of p.n world ≡ o → IsReady (most + 199) (world_behind world p)
+  by_requester : Can → (o : Option Requesting) → requester_of p.n world ≡ o → IsReady (most + most_asked) (world_behind world p)
   by_requester can None is = nobody is
   by_requester can (Some a) is =
       let c = each_is_connected w configured before (no_chance_from world (entries_of p) chance) p.n a is in
       by_fault can a c.0 is c.1 (requester_told a p.command).fault refl
 
-  pub paragraph_ready : Can → IsReady (most + 199) (world_behind world p)
+  pub paragraph_ready : Can → IsReady (most + most_asked) (world_behind world p)
   paragraph_ready can = by_requester can (requester_of p.n world) refl
 
   pub paragraph_done : Can → (a : Requesting) (c : Connection) → requester_of p.n world ≡ Some a → connection_of a.setup.eid world.responder.connections ≡ Some c → (requester_told a p.command).fault ≡ None → Done a c

@@ -49,14 +49,13 @@ use Rattle.spdm_progress.proofs.Aside.{IsAside, nothing_aside}
 use Rattle.spdm_progress.proofs.ConnectRounds as connects
 use Rattle.spdm_progress.proofs.ChunkCounts.{InChunks, in_chunks}
 use Rattle.spdm_progress.proofs.LargeAnswers.{GoesLarge, large_again, transfer_in}
-use Rattle.spdm_progress.proofs.SessionMeasure as session_measures
 use Rattle.spdm_progress.proofs.LargeMeasure as larges
 use Rattle.spdm_progress.proofs.MeasureRound as measures
 use Rattle.spdm_progress.proofs.MeasureStages.{CanServe, made_again}
 use Rattle.spdm_progress.proofs.Opened as opens
 use Rattle.spdm_progress.proofs.PacketSteps.{Pair}
 use Rattle.spdm_progress.proofs.SessionCompletes as sessions
-use Rattle.spdm_progress.proofs.SessionCompletes.{AreFew, Idle, Rests, completes_by, completes_within, fresh, placed}
+use Rattle.spdm_progress.proofs.SessionCompletes.{Idle, Rests, completes_by, completes_within, few_by_chunks, fresh, placed}
 use Rattle.spdm_progress.proofs.Told.{ArePlaced, pair_of}
 
 module _ (w : WorldSetup) (before : List Entry) (n : ℕ) (a : Requesting) (c : Connection) (line : ℕ) (behind : List Entry) (none : HaveNoCommand behind) (Aside : World → Type 0) (aside : IsAside (pair_of n a c) Aside) (beside : Aside (world_after w before)) where
@@ -221,18 +220,12 @@ module _ (w : WorldSetup) (before : List Entry) (n : ℕ) (a : Requesting) (c : 
           let transfer = own_sizes.transfer in
           in_chunks (transfer_in (asked.negotiation_of a.history)) (measurements_size c.setup op) (omega (arith, least, transfer)) large most_bytes
 
-      are_few : AreFew 1 counts.each (larges.count pair op a.history d goes phase asks)
-      are_few =
-          let all = counts.few in
-          let rounds = counts.rounds in
-          (omega (arith, all), omega (arith, rounds), omega (arith, rounds, all))
-
       measured_by_chunks : Result (Measure None op)
       measured_by_chunks =
           plainly command (finished.Measured (number_for c.setup op)) 0 false refl
           (completes_within w before n a c command o.told.now line behind none o.honest o.still o.chance Aside aside beside (larges.MeasureAsked pair op a.history d goes phase asks) (larges.MeasureAnswered pair op a.history d goes phase asks)
           (larges.Quiet pair op a.history d goes phase asks) (finished.Measured (number_for c.setup op)) 0 false (λ log h g z. (z, zero_free h z.made (steps.is_live (steps.session_of 0 h)) refl)) (larges.large_talk pair op a.history d goes phase asks)
-          1 counts.each (larges.are_short pair op a.history d goes phase asks counts.each counts.fits) (larges.count pair op a.history d goes phase asks) are_few
+          1 counts.each (larges.are_short pair op a.history d goes phase asks counts.each counts.fits) (larges.count pair op a.history d goes phase asks) (few_by_chunks (transfer_in (asked.negotiation_of a.history)) (measurements_size c.setup op) counts)
           (plain_sent a.history (GetMeasurements op)) (not_worn_told a command unworn ∙ ap (commanded_by a) asks)
           (inl (record {
             more_is = refl;

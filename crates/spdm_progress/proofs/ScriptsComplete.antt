@@ -12,6 +12,7 @@ use Rattle.world_machine.specs.Trace.{world_after, world_from}
 use Rattle.world_machine.specs.World.{World, entry_step, new_world}
 use Rattle.spdm_progress.specs.Honest.{AreHonest, HaveNoCommand, IsHonest, NothingWaits, is_command}
 use Rattle.spdm_progress.specs.Scripts.{CanBeDone, HonestScriptsComplete, IsQuietWorld, OfEachCommand, QuietWorldsComplete, WillBeDone, up_to_command}
+use Rattle.spdm_progress.specs.SessionCommands.{most_asked}
 use Rattle.spdm_progress.proofs.QuietWorlds.{IsReady, behind_ready, from_both}
 use Rattle.spdm_progress.proofs.SessionCompletes.{no_chance_from}
 use Rattle.spdm_progress.proofs.Paragraphs.{Paragraph, paragraph_done, paragraph_ready, starts_ready}
@@ -74,7 +75,7 @@ module _ (w : WorldSetup) (configured : IsConfigured w) where
 
   -- What is left of an honest script.
   record AreLeft (most : ℕ) (before entries : List Entry) : Type 0 where
-    room : most + 199 * length entries ≤ wear_limit
+    room : most + most_asked * length entries ≤ wear_limit
     honest : AreHonest (world_after w before) entries
     still : NothingWaits (world_from (world_after w before) entries)
     chance : NoChance (world_from (world_after w before) entries).log
@@ -90,7 +91,7 @@ module _ (w : WorldSetup) (configured : IsConfigured w) where
   one_later : (before : List Entry) (entry : Entry) → world_after w (and_one before entry) ≡ later before entry
   one_later before entry = from_both (new_world w) before (entry ∷ [])
 
-  left_behind : (most more : ℕ) → more ≤ most + 199 → (before : List Entry) (entry : Entry) (entries : List Entry) → AreLeft most before (entry ∷ entries) → IsReady more (world_from (later before entry) (up_to_command entries)) → AreLeft more (and_one before entry) entries
+  left_behind : (most more : ℕ) → more ≤ most + most_asked → (before : List Entry) (entry : Entry) (entries : List Entry) → AreLeft most before (entry ∷ entries) → IsReady more (world_from (later before entry) (up_to_command entries)) → AreLeft more (and_one before entry) entries
   left_behind most more up before entry entries l ready =
       let room = l.room in
       let back = sym (one_later before entry) in
@@ -121,9 +122,9 @@ module _ (w : WorldSetup) (configured : IsConfigured w) where
       let still = idle_next (later before entry) entries l.honest.1 l.still in
       let chance = chance_next (later before entry) entries l.chance in
       let all = l.room in
-      let room : most + 199 ≤ wear_limit = omega (arith, all) in
+      let room : most + most_asked ≤ wear_limit = omega (arith, all) in
       let ready = paragraph_ready w configured before p most room l.next none honest (inl still) chance l.can.0 in
-      let rest = behind_one before entry entries (others (most + 199) (left_behind most (most + 199) (omega arith) before entry entries l ready)) in
+      let rest = behind_one before entry entries (others (most + most_asked) (left_behind most (most + most_asked) (omega arith) before entry entries l ready)) in
       ((paragraph_done w configured before p most room l.next none honest (inl still) chance l.can.0, rest.0), rest.1)
 
   -- What comes behind an event that is no command.

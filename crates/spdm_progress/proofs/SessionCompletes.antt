@@ -1,7 +1,8 @@
 -- Each command that asks something of an open session comes to its result.
-use Rattle.std.proofs.Common.{◌≡◌, ◌⊎◌, ◌∙◌, ℕ, suc, ◌≤◌, ◌+◌, ◌*◌, List, [], ◌∷◌, length, Bool, true, false, Some, None, refl, sym, ap, subst, inl, inr, arith}
+use Rattle.std.proofs.Common.{◌≡◌, ◌⊎◌, ◌∙◌, ℕ, suc, ◌<◌, ◌≤◌, ◌+◌, ◌-◌, ◌*◌, nat_le, List, [], ◌∷◌, length, Bool, true, false, Some, None, refl, sym, ap, subst, inl, inr, arith}
 use Rattle.std.proofs.Math.Nat.{min-le_left}
-use Rattle.std.proofs.lemmas.Bool.{ltb-false, not-false}
+use Rattle.std.proofs.lemmas.Bool.{leb-false, leb-true, ltb-false, not-false}
+use Rattle.std.specs.Int.{div_ceil}
 use Rattle.std.proofs.lemmas.List.{length-take}
 use Rattle.spdm_basis.proofs.Bools.{and_second}
 use Rattle.spdm_grammar.specs.Lines.{Line}
@@ -26,6 +27,8 @@ use Rattle.requester_machine.specs.Order.{stage_for}
 use Rattle.requester_machine.specs.Requesting as asking
 use Rattle.requester_machine.specs.Requesting.{Requesting, commanded_by, requester_told}
 use Rattle.requester_machine.specs.Session as steps
+use Rattle.requester_machine.specs.UnderWay.{IsCommon}
+use Rattle.spdm_basis.specs.declared.session_id.SessionId.{SessionId}
 use Rattle.requester_machine.specs.Session.{Steps}
 use Rattle.requester_machine.proofs.Entries.{test_at, test_is_false}
 use Rattle.requester_machine.proofs.HoldsMade.{session_sizes}
@@ -51,7 +54,11 @@ use Rattle.spdm_progress.proofs.AskedOnce.{CanBeat, CanMeasure, CanSend, IsData,
 use Rattle.spdm_progress.proofs.ManyPackets.{waits_idle}
 use Rattle.spdm_progress.proofs.PacketSteps.{Pair, asker, not_worn, server}
 use Rattle.spdm_progress.proofs.SessionBegins.{AsksOfSession, asked_now, sends, sent_for, shows_at, shows_told, told_is, told_view}
-use Rattle.spdm_progress.proofs.SessionRounds.{Asking, IsAsked}
+use Rattle.spdm_progress.proofs.ChunkCounts.{InChunks, in_chunks}
+use Rattle.spdm_progress.proofs.LargeAnswers.{GoesLarge, transfer_in}
+use Rattle.spdm_progress.proofs.SessionLarge.{IsUnder, large_asking}
+use Rattle.spdm_progress.proofs.SessionMeasure as by_chunks
+use Rattle.spdm_progress.proofs.SessionRounds.{Asking, IsAsked, sealed_length}
 use Rattle.spdm_progress.proofs.SingleRound.{AnswersOnce, AsksOnce, IsLast, Quiet, once_talk}
 use Rattle.spdm_progress.proofs.Talk as talk
 use Rattle.spdm_progress.proofs.Talk.{AreShort, IsTalk, Stage, all_short, begins, begins_with, enough, no_chance_earlier, talk_ends}
@@ -73,6 +80,9 @@ IsLongPump behind = (line : ℕ) × (count : ℕ) × (most_packets ≤ count) ×
 -- So many packets in each round are few enough for each end, and for both.
 abbrev pub AreFew : (there each more : ℕ) → Type 0
 AreFew there each more = (each * suc more + 1 ≤ most_asked) × (there * suc more ≤ most_served) × (there * suc more + each * suc more ≤ most_packets)
+
+pub few_by_chunks : (transfer size : ℕ) (counts : InChunks transfer size) → AreFew 1 counts.each (div_ceil (size + 4) (transfer - 12))
+few_by_chunks transfer size counts = (let all = counts.few in let rounds = counts.rounds in (omega (arith, all), omega (arith, rounds), omega (arith, rounds, all)))
 
 -- No packet waits behind these entries, or there was a pump long enough.
 abbrev pub Rests : World → List Entry → Type 0
@@ -190,7 +200,7 @@ module _ (w : WorldSetup) (before : List Entry) (n : ℕ) (a : Requesting) (c : 
   -- ---- What is asked of a session.
 
   module _ (quietly : IsToldQuietly w before n a c command) where
-    pad_short : length (command_chosen a.setup a.history (asking.next_draw a)).pad ≤ 16
+    pub pad_short : length (command_chosen a.setup a.history (asking.next_draw a)).pad ≤ 16
     unfolding chosen
     pad_short =
         let short = min-le_left a.setup.pad (length (asking.next_draw a).bytes) in
@@ -280,17 +290,97 @@ module _ (w : WorldSetup) (before : List Entry) (n : ℕ) (a : Requesting) (c : 
       once_completes w before n a c command o.told.now line behind none o.honest o.still o.chance Aside aside beside o.told id end_asking (of_session command (λ j n sent s. refl) refl) refl refl (omega arith) (λ turns. tt) refl
       (IsNamed pair key id sid here.requester here.responder) (IsSpdm pair key id sid here.requester here.responder (canonical_response EndSessionAck)) (finished.Ended sid) (end_last pair key id sid here.requester here.responder) (record { named = refl })
 
-  sent_measure : (id op : ℕ) → CanAsk a c (Measure (Some id) op) → IsOver (Measure (Some id) op) → Result (Measure (Some id) op) id
-  sent_measure id op can o =
-      let command = Measure (Some id) op in
-      let live = somewhere a.setup a.history command (command_chosen a.setup a.history (asking.next_draw a)) id (no_fault command o) refl in
-      let here = placed w before n a c command o.told.now line behind none o.honest o.still o.chance Aside aside beside in
-      let key = one_key w before n a c command o.told.now line behind none o.honest o.still o.chance Aside aside beside in
-      let sid = steps.session_id (session_at a id) in
-      let sizes = session_sizes a.setup a.history id (record { transfer = (let most = here.requester.sizes.most in let ordered = here.requester.sizes.ordered in omega arith); max = here.requester.sizes.most }) o.told.quiet.made live in
-      once_completes w before n a c command o.told.now line behind none o.honest o.still o.chance Aside aside beside o.told id (measure_asking op) (of_session command (λ j n sent s. refl) refl) refl refl (omega arith) (λ turns. tt) refl
-      (CanMeasure pair key id sid here.requester here.responder op) (IsMeasured pair key id sid here.requester here.responder op) (finished.Measured (number_for c.setup op)) (measure_last pair key id sid here.requester here.responder op)
-      (record { byte = can.0; block = can.1; chosen = and_second _ _ (not-false _ (passed command o 5)); fits = can.2; fits_own = subst (λ (size : ℕ). measurements_size c.setup op ≤ size) sizes.transfer can.2 })
+  module _ (id op : ℕ) (can : CanAsk a c (Measure (Some id) op)) (o : IsOver (Measure (Some id) op)) where
+    abbrev measuring : Command
+    measuring = Measure (Some id) op
+
+    abbrev here : ArePlaced (world_after w before) n a c
+    here = placed w before n a c measuring o.told.now line behind none o.honest o.still o.chance Aside aside beside
+
+    abbrev key : a.setup.psk ≡ c.setup.psk
+    key = one_key w before n a c measuring o.told.now line behind none o.honest o.still o.chance Aside aside beside
+
+    abbrev sid : SessionId
+    sid = steps.session_id (session_at a id)
+
+    abbrev under : Negotiation
+    under = steps.session_negotiation (session_at a id)
+
+    live_now : steps.is_live (session_at a id) ≡ true
+    live_now = somewhere a.setup a.history measuring (command_chosen a.setup a.history (asking.next_draw a)) id (no_fault measuring o) refl
+
+    sizes : IsCommon a.setup (steps.session_terms (session_at a id)).common
+    sizes = session_sizes a.setup a.history id (record { transfer = (let most = here.requester.sizes.most in let ordered = here.requester.sizes.ordered in omega arith); max = here.requester.sizes.most }) o.told.quiet.made live_now
+
+    measure_chosen : (steps.session_terms (session_at a id)).choice.measure ≡ true
+    measure_chosen = and_second _ _ (not-false _ (passed measuring o 5))
+
+    measured_whole : measurements_size c.setup op ≤ (steps.session_terms (session_at a id)).common.to_requester.transfer → Result measuring id
+    measured_whole fits =
+        once_completes w before n a c measuring o.told.now line behind none o.honest o.still o.chance Aside aside beside o.told id (measure_asking op) (of_session measuring (λ j n sent s. refl) refl) refl refl (omega arith) (λ turns. tt) refl
+        (CanMeasure pair key id sid here.requester here.responder op) (IsMeasured pair key id sid here.requester here.responder op) (finished.Measured (number_for c.setup op)) (measure_last pair key id sid here.requester here.responder op)
+        (record { byte = can.0; block = can.1; chosen = measure_chosen; fits = fits; fits_own = subst (λ (size : ℕ). measurements_size c.setup op ≤ size) sizes.transfer fits })
+
+    -- The answer goes by chunks.
+    module _ (large : (steps.session_terms (session_at a id)).common.to_requester.transfer < measurements_size c.setup op) where
+      in_common : (b : Bool) → (steps.session_terms (session_at a id)).common.chunk ≡ b → b ≡ true
+      in_common true is = refl
+      in_common false is = (let fits = can.2.1 is in absurd (omega (arith, fits, large)))
+
+      goes : GoesLarge a.setup c.setup op under
+      goes = record {
+        room = here.responder.sizes.least;
+        byte = can.0;
+        block = can.1;
+        chosen = measure_chosen;
+        chunk = in_common (steps.session_terms (session_at a id)).common.chunk refl;
+        large = large;
+        fits_max = can.2.0;
+        transfer = sizes.transfer;
+        max = sizes.max;
+        least = here.requester.sizes.least;
+        most = here.requester.sizes.most;
+      }
+
+      counts : InChunks (transfer_in under) (measurements_size c.setup op)
+      counts =
+          let least = here.requester.sizes.least in
+          let transfer = sizes.transfer in
+          let fits = can.2.0 in
+          let max = sizes.max in
+          let most = here.requester.sizes.most in
+          in_chunks (transfer_in under) (measurements_size c.setup op) (omega (arith, least, transfer)) large (omega (arith, fits, max, most))
+
+      abbrev x : Asking
+      x = large_asking pair id op under goes
+
+      abbrev first_sent : Sent
+      first_sent = sent_for a.setup a.history id x (command_chosen a.setup a.history (asking.next_draw a)).pad
+
+      one_packet : length (body_of first_sent.content) ≤ 64
+      one_packet =
+          let pad = pad_short w before n a c measuring o.told.now line behind none o.honest o.still o.chance Aside aside beside o.told in
+          let long = sealed_length a.setup c.setup a.first id x (session_at a id) (command_chosen a.setup a.history (asking.next_draw a)).pad in
+          omega (arith, pad, long)
+
+      measured_by_chunks : Result measuring id
+      measured_by_chunks =
+          let one = of_session measuring (λ j n sent s. refl) refl in
+          completes_within w before n a c measuring o.told.now line behind none o.honest o.still o.chance Aside aside beside (by_chunks.MeasureAsked pair key id op under goes) (by_chunks.MeasureAnswered pair key id op under goes) (by_chunks.Quiet pair key id op under goes) (finished.Measured (number_for c.setup op)) id true (λ log h g z. (z.quiet, z.session))
+          (by_chunks.session_talk pair key id op under goes) 1 counts.each (by_chunks.are_short pair key id op under goes counts.each counts.fits) (by_chunks.count pair key id op under goes) (few_by_chunks (transfer_in under) (measurements_size c.setup op) counts)
+          first_sent (step_so w before n a c measuring o.told.now line behind none o.honest o.still o.chance Aside aside beside o.told id x one refl refl (omega arith) (λ turns. tt) refl)
+          (inl (record {
+            more_is = refl;
+            few = one_packet;
+            is = is_asked w before n a c measuring o.told.now line behind none o.honest o.still o.chance Aside aside beside o.told id x one refl refl (omega arith) (λ turns. tt) refl (IsUnder pair id op under goes) refl;
+          }))
+
+    sent_measure : Result measuring id
+    sent_measure = by_size (nat_le (measurements_size c.setup op) (steps.session_terms (session_at a id)).common.to_requester.transfer) refl
+      where
+        by_size : (b : Bool) → nat_le (measurements_size c.setup op) (steps.session_terms (session_at a id)).common.to_requester.transfer ≡ b → Result measuring id
+        by_size true is = measured_whole (leb-true _ _ is)
+        by_size false is = measured_by_chunks (leb-false _ _ is)
 
   sent_update : (id : ℕ) (all : Bool) → IsOver (Update id all) → Result (Update id all) id
   sent_update id all o =

@@ -1,6 +1,6 @@
 -- MEASUREMENTS goes by chunks in a session: what the responder makes of GET_MEASUREMENTS and of each CHUNK_GET, and the
 -- requester of what answers them.
-use Rattle.std.proofs.Common.{◌≡◌, ◌∙◌, ℕ, ◌<◌, ◌≤◌, ◌+◌, ◌==◌, List, [], ◌∷◌, length, Bool, true, false, Option, Some, None, is_some, Result, Ok, refl, sym, ap, subst, inl, inr, arith, add-one}
+use Rattle.std.proofs.Common.{◌≡◌, ◌∙◌, ℕ, ◌<◌, ◌≤◌, ◌+◌, ◌==◌, List, [], ◌∷◌, length, Bool, true, false, Option, Some, None, is_some, Result, Ok, refl, sym, ap, subst, inl, inr, arith}
 use Rattle.std.specs.Prelude.{if◌then◌else◌}
 use Rattle.std.proofs.lemmas.Bool.{false≢true}
 use Rattle.spdm_basis.proofs.Bools.{lt_false}
@@ -20,27 +20,24 @@ use Rattle.requester_machine.specs.Session.{Steps}
 use Rattle.requester_machine.specs.Session.Step.{Took as TookAnswer}
 use Rattle.requester_machine.specs.Setup.{ReqSetup}
 use Rattle.responder_machine.specs.Answer.{Free, answer_of}
-use Rattle.responder_machine.specs.Does as serving_does
 use Rattle.responder_machine.specs.Does.{chosen, record_chosen}
-use Rattle.responder_machine.specs.Handling.{goes_large, large_response, turn_of}
+use Rattle.responder_machine.specs.Handling.{large_response}
 use Rattle.responder_machine.specs.History as served
 use Rattle.responder_machine.specs.Place.{Place, session_place}
-use Rattle.responder_machine.specs.Refusal.{has_pending, refusal, stage_allows}
+use Rattle.responder_machine.specs.Refusal.{has_pending, stage_allows}
 use Rattle.responder_machine.specs.Responder.{inner_reply, session_turn}
 use Rattle.responder_machine.specs.Session as events
 use Rattle.responder_machine.specs.Session.{Events, id_in_record}
 use Rattle.responder_machine.specs.Setup.{RspSetup, inventory_of}
-use Rattle.responder_machine.specs.Turn.{Turn, is_taken}
+use Rattle.responder_machine.specs.Turn.{Turn}
 use Rattle.spdm_grammar.specs.ErrorNumber.{error_number}
-use Rattle.spdm_grammar.specs.Message.{ChunkMessage, RequestMessage, ResponseMessage}
+use Rattle.spdm_grammar.specs.Message.{ChunkMessage, ResponseMessage}
 use Rattle.spdm_grammar.specs.Message.RequestMessage.{ChunkGet, GetMeasurements}
-use Rattle.spdm_grammar.specs.Message.ResponseMessage.{ChunkResponse, Error, Measurements}
-use Rattle.spdm_grammar.specs.Requests.{canonical_request}
+use Rattle.spdm_grammar.specs.Message.ResponseMessage.{ChunkResponse, Error}
 use Rattle.spdm_grammar.specs.Responses.{canonical_response}
 use Rattle.spdm_grammar.specs.declared.ChunkFault.{ChunkFault}
 use Rattle.spdm_grammar.specs.declared.error_code.ErrorCode.TheVariants.{LargeResponse}
 use Rattle.spdm_grammar.specs.declared.event.BadReply.{BadReply}
-use Rattle.spdm_grammar.specs.declared.event.Event.TheVariants as event
 use Rattle.spdm_grammar.specs.declared.event.Finished.TheVariants as finished
 use Rattle.spdm_grammar.specs.declared.malformed.Malformed.{Malformed}
 use Rattle.spdm_grammar.specs.declared.names.request_code.TheConstants.{CHUNK_GET, GET_MEASUREMENTS}
@@ -48,13 +45,12 @@ use Rattle.spdm_grammar.specs.declared.names.spdm_version.TheConstants.{V1_2}
 use Rattle.spdm_grammar.specs.declared.phase.Stage.{Stage}
 use Rattle.spdm_grammar.specs.declared.phase.Stage.TheVariants as stage
 use Rattle.spdm_machine.specs.Keys.{Draw}
-use Rattle.spdm_machine.specs.Terms.{Terms, hash_len, terms_of}
+use Rattle.spdm_machine.specs.Terms.{hash_len, terms_of}
 use Rattle.transcript.specs.Transcripts.{Negotiation}
-use Rattle.spdm_progress.specs.InStep.{AreInStep}
 use Rattle.spdm_progress.specs.Measuring.{measurements_size, number_for}
 use Rattle.spdm_progress.proofs.AlikeSessions.{IsAnswerTo, IsFetched}
-use Rattle.spdm_progress.proofs.LargeAnswers.{GoesLarge, IsPending, chunk_is_few, chunk_response, get_chunk, given_answer, given_chunks, given_fits, gives_chunk, goes_by, is_pending, is_right, joins_whole, large_fits, large_goes, no_fault, number_small, reads_chunk, reads_large, reads_measured, transfer_in}
-use Rattle.spdm_progress.proofs.MeasureStages.{get_measurements, measured, measurements, measurements_are, measures_flag, told_number}
+use Rattle.spdm_progress.proofs.LargeAnswers.{GoesLarge, IsPending, chunk_is_few, chunk_response, get_chunk, given_answer, given_chunks, given_fits, gives_chunk, is_pending, is_right, joins_whole, large_fits, large_goes, no_fault, number_small, reads_chunk, reads_large, reads_measured, transfer_in}
+use Rattle.spdm_progress.proofs.MeasureStages.{get_measurements, measurements, measurements_are, measures_flag, told_number}
 use Rattle.spdm_progress.proofs.PacketSteps.{Pair}
 use Rattle.spdm_progress.proofs.RecordHeard.{came_as}
 use Rattle.spdm_progress.proofs.ResponderStages.{zero_plus}

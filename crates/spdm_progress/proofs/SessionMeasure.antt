@@ -1,6 +1,6 @@
 -- A measure in a session whose answer goes by chunks: one round for each chunk behind the first, and it leaves quiet ends
 -- quiet.
-use Rattle.std.proofs.Common.{◌≡◌, ◌⊎◌, ◌∙◌, ℕ, zero, suc, ◌<◌, ◌≤◌, ◌+◌, ◌*◌, ◌-◌, ◌==◌, List, [], ◌∷◌, ◌++◌, length, Bool, true, false, Some, None, Result, Ok, refl, sym, ap, subst, inl, inr, arith, add-one}
+use Rattle.std.proofs.Common.{◌≡◌, ◌⊎◌, ◌∙◌, ℕ, zero, suc, ◌<◌, ◌≤◌, ◌+◌, ◌*◌, ◌-◌, ◌==◌, List, [], ◌∷◌, ◌++◌, length, Bool, true, false, Some, None, Ok, refl, sym, ap, subst, inl, inr, arith, add-one}
 use Rattle.std.specs.Int.{div_ceil}
 use Rattle.std.proofs.lemmas.Bool.{eqb-false}
 use Rattle.std.proofs.lemmas.Grind.{div_ceil_times}
@@ -11,7 +11,7 @@ use Rattle.requester_machine.specs.Does.{body_chosen, requester_hears}
 use Rattle.requester_machine.specs.History as asked
 use Rattle.requester_machine.specs.History.Effect.{Grants, Nothing}
 use Rattle.requester_machine.specs.InnerMessages.{inner_led}
-use Rattle.requester_machine.specs.Message.{Sent, body_of}
+use Rattle.requester_machine.specs.Message.{Sent}
 use Rattle.requester_machine.specs.Message.Ask.{AskChunk}
 use Rattle.requester_machine.specs.RequesterLog as asked_log
 use Rattle.requester_machine.specs.Sending.{inner_request, record_sent}
@@ -24,12 +24,10 @@ use Rattle.responder_machine.specs.History as served
 use Rattle.responder_machine.specs.Responder as answering
 use Rattle.responder_machine.specs.Responder.{inner_reply}
 use Rattle.responder_machine.specs.ResponderLog as served_log
-use Rattle.responder_machine.specs.Session as events
 use Rattle.responder_machine.specs.Setup.{RspSetup}
 use Rattle.responder_machine.specs.Turn.{Turn}
 use Rattle.spdm_grammar.specs.Message.{ChunkMessage}
 use Rattle.spdm_grammar.specs.Message.RequestMessage.{ChunkGet}
-use Rattle.spdm_grammar.specs.declared.event.BadReply.{BadReply}
 use Rattle.spdm_grammar.specs.declared.event.Event.{Event}
 use Rattle.spdm_grammar.specs.declared.event.Event.TheVariants as event
 use Rattle.spdm_grammar.specs.declared.event.Finished.TheVariants as finished
@@ -38,16 +36,16 @@ use Rattle.spdm_machine.specs.Keys.{Draw}
 use Rattle.spdm_machine.specs.TagLog.{Log}
 use Rattle.transcript.specs.Transcripts.{Negotiation}
 use Rattle.world_machine.specs.Chance.{NoChance}
-use Rattle.spdm_progress.specs.InStep.{AreQuiet, rsp_id}
+use Rattle.spdm_progress.specs.InStep.{AreQuiet}
 use Rattle.spdm_progress.specs.Measuring.{measurements_size, number_for}
 use Rattle.spdm_progress.proofs.FurtherRound as further
-use Rattle.spdm_progress.proofs.LargeAnswers.{GoesLarge, IsPending, chunk_is_few, chunk_response, transfer_in}
+use Rattle.spdm_progress.proofs.LargeAnswers.{GoesLarge, IsPending, chunk_is_few, transfer_in}
 use Rattle.spdm_progress.proofs.ManyPackets.{before_it}
 use Rattle.spdm_progress.proofs.MeasureStages.{measurements, measurements_are}
 use Rattle.spdm_progress.proofs.PacketSteps.{Pair}
 use Rattle.spdm_progress.proofs.RecordHeard.{came_as}
 use Rattle.spdm_progress.proofs.RecordRounds.{quiet_still}
-use Rattle.spdm_progress.proofs.SessionLarge.{IsChunk, IsLarge, IsUnder, chunk_answered, chunk_asking, fetched, is_last, large_answered, large_asking, large_leads, last_leads, may_fetch, more_leads, stage_fetched}
+use Rattle.spdm_progress.proofs.SessionLarge.{IsChunk, IsLarge, IsUnder, chunk_answered, chunk_asking, fetched, large_answered, large_asking, large_leads, last_leads, may_fetch, more_leads, stage_fetched}
 use Rattle.spdm_progress.proofs.SessionRounds.{Asking, IsAnswered, IsAsked, answer_for, answer_length, answered_sent, answered_still, asked_sent, asked_steps, asked_still, entry, hears_so, led, live_then, quiet_then, sealed_length, serves_so, took_steps}
 use Rattle.spdm_progress.proofs.StillKept.{AreAlike}
 use Rattle.spdm_progress.proofs.Talk.{AreShort, Further, IsSendable, IsTalk, Leads, Over}

@@ -24,22 +24,22 @@ use Rattle.world_machine.specs.Trace.{lines_from, world_after, world_from}
 use Rattle.world_machine.specs.World.{World, entry_step, requester_of}
 use Rattle.spdm_progress.specs.Honest.{AreHonest, HaveNoCommand, NothingWaits}
 use Rattle.spdm_progress.specs.InStep.{AreQuiet}
-use Rattle.spdm_progress.specs.Measuring.{measurements_size, number_for}
+use Rattle.spdm_progress.specs.Measuring.{CanGo, measurements_size, number_for}
 
 -- The session with this ReqSessionID of a requester.
 abbrev pub session_at : Requesting → ℕ → Steps
 session_at a id = session_of id a.history
 
 -- What a command asks of a session needs no more than that it is answered `ok`; but for measurements a block that the
--- operation, a byte, names has to be configured, and the answer has to fit the requester's transfer size: then it needs no
--- chunks.
+-- operation, a byte, names has to be configured, and the answer has to be one that can go to the requester, by chunks too.
 abbrev pub CanAsk : Requesting → Connection → Command → Type 0
 CanAsk a c (Send id bytes) = Unit {0}
 CanAsk a c (Beat id) = Unit {0}
 CanAsk a c (Update id all) = Unit {0}
 CanAsk a c (Measure (Some id) op) =
     (op < 256) × (is_missing op (inventory_of c.setup) ≡ false)
-    × (measurements_size c.setup op ≤ (session_terms (session_at a id)).common.to_requester.transfer)
+    × CanGo (session_terms (session_at a id)).common
+        (session_terms (session_at a id)).common.to_requester (measurements_size c.setup op)
 CanAsk a c (End id) = Unit {0}
 CanAsk a c (Measure None op) = ⊥
 CanAsk a c Connect = ⊥
