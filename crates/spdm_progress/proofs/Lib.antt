@@ -48,6 +48,7 @@ pub mod SessionMeasure
 pub mod Aside
 pub mod QuietCommands
 pub mod QuietWorlds
+pub mod SomethingWaits
 pub mod Paragraphs
 pub mod ScriptsComplete
 pub mod PumpedScripts

@@ -24,7 +24,7 @@ use Rattle.spdm_progress.specs.Honest.{AreHonest, HaveNoCommand, NothingWaits, i
 use Rattle.spdm_progress.specs.InStep.{AreQuiet}
 use Rattle.spdm_progress.specs.Measuring.{CanGo, measurements_size}
 use Rattle.spdm_progress.specs.Opening.{CanOpen, opened_id, terms_now}
-use Rattle.spdm_progress.specs.SessionCommands.{CanAsk, CompletesQuietly, IsTold, IsToldQuietly, commanding, most_asked, most_packets, result_of}
+use Rattle.spdm_progress.specs.SessionCommands.{CanAsk, CompletesQuietly, IsTold, IsToldQuietly, commanding, most_packets, result_of}
 
 -- ---- Each command.
 
@@ -130,13 +130,13 @@ pub record HaveTaken (most : ℕ) (world : World) : Type 0 where
 abbrev pub QuietWorldsComplete : Type 0
 QuietWorldsComplete =
     (w : WorldSetup) → IsConfigured w → (before : List Entry) → IsQuietWorld (world_after w before) → (most : ℕ) → HaveTaken most (world_after w before)
-    → (entries : List Entry) → most + most_asked * length entries ≤ wear_limit → AreHonest (world_after w before) entries → NothingWaits (world_from (world_after w before) entries) → NoChance (world_from (world_after w before) entries).log
+    → (entries : List Entry) → most + 199 * length entries ≤ wear_limit → AreHonest (world_after w before) entries → NothingWaits (world_from (world_after w before) entries) → NoChance (world_from (world_after w before) entries).log
     → OfEachCommand CanBeDone (world_after w before) entries → OfEachCommand WillBeDone (world_after w before) entries × IsQuietWorld (world_from (world_after w before) entries)
 
--- So it is with each honest script of at most 2^31 events, since a new world is quiet.
+-- So it is with each honest script of at most 2^32 events, since a new world is quiet.
 abbrev pub HonestScriptsComplete : Type 0
 HonestScriptsComplete =
-    (w : WorldSetup) → IsConfigured w → (entries : List Entry) → length entries ≤ 2 ^ 31 → AreHonest (new_world w) entries → NothingWaits (world_after w entries) → NoChance (world_after w entries).log
+    (w : WorldSetup) → IsConfigured w → (entries : List Entry) → length entries ≤ 2 ^ 32 → AreHonest (new_world w) entries → NothingWaits (world_after w entries) → NoChance (world_after w entries).log
     → OfEachCommand CanBeDone (new_world w) entries → OfEachCommand WillBeDone (new_world w) entries × IsQuietWorld (world_after w entries)
 
 -- ---- Scripts that are honest by their form.

@@ -39,7 +39,7 @@ CanAsk a c (Update id all) = Unit {0}
 CanAsk a c (Measure (Some id) op) =
     (op < 256) × (is_missing op (inventory_of c.setup) ≡ false)
     × CanGo (session_terms (session_at a id)).common
-        (session_terms (session_at a id)).common.to_requester (measurements_size c.setup op)
+    (session_terms (session_at a id)).common.to_requester (measurements_size c.setup op)
 CanAsk a c (End id) = Unit {0}
 CanAsk a c (Measure None op) = ⊥
 CanAsk a c Connect = ⊥
