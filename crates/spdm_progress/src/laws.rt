@@ -57,7 +57,7 @@ pub fn open_completes()
 {}
 
 /// Each command that asks something of an open session (application data, HEARTBEAT, KEY_UPDATE of
-/// either kind, GET_MEASUREMENTS whose answer needs no chunks, END_SESSION), told where no packet
+/// either kind, GET_MEASUREMENTS whose answer may come by chunks, END_SESSION), told where no packet
 /// waits and the two ends are quiet, comes to its result once no packet waits again, and leaves the
 /// two ends quiet.
 pub fn session_commands_complete()
@@ -69,7 +69,7 @@ pub fn quiet_commands_complete()
     ensures { QuietCommandsComplete }
 {}
 
-/// No packet of such a command waits after a pump of 396.
+/// No packet of such a command waits after a pump of 414.
 pub fn pumps_are_enough()
     ensures { PumpsAreEnough }
 {}
@@ -85,7 +85,7 @@ pub fn honest_scripts_complete()
     ensures { HonestScriptsComplete }
 {}
 
-/// For any commands there is such a script: it is honest where each command has a pump of 396
+/// For any commands there is such a script: it is honest where each command has a pump of 414
 /// packets behind it.
 pub fn pumped_scripts_are_honest()
     ensures { PumpedScriptsAreHonest }
