@@ -63,8 +63,10 @@ impl RecordCipher {
     ) -> Result<(), BadTag>
         requires aad { length aad.now ≤ 65535 }
         requires text { length text.now ≤ 65535 }
-        ensures opens { IsOk result ↔ (tag.now ≡ tag_of (cipher_key self.now) iv.now aad.now text.now) }
-        ensures computed { IfErr result (λ e. e.computed ≡ tag_of (cipher_key self.now) iv.now aad.now text.now) }
+        ensures opens { IsOk result
+            ↔ (tag.now ≡ tag_of (cipher_key self.now) iv.now aad.now text.now) }
+        ensures computed { IfErr result
+            (λ e. e.computed ≡ tag_of (cipher_key self.now) iv.now aad.now text.now) }
     {
         match self {
             RecordCipher::Short(cipher) => cipher.verify(iv, aad, text, tag),
@@ -82,8 +84,10 @@ impl RecordCipher {
     ) -> Result<(), BadTag>
         requires aad { length aad.now ≤ 65535 }
         requires text { length text.now ≤ 65535 }
-        ensures opens { is_ok result ≡ same_bytes tag.now (tag_of (cipher_key self.now) iv.now aad.now text.now) }
-        ensures computed { IfErr result (λ e. e.computed ≡ tag_of (cipher_key self.now) iv.now aad.now text.now) }
+        ensures opens { is_ok result
+            ≡ same_bytes tag.now (tag_of (cipher_key self.now) iv.now aad.now text.now) }
+        ensures computed { IfErr result
+            (λ e. e.computed ≡ tag_of (cipher_key self.now) iv.now aad.now text.now) }
     {
         self.verify_tag(iv, aad, text, tag)
     }
