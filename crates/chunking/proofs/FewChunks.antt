@@ -32,7 +32,7 @@ of_the_message true true rule e = (refl, e)
 of_the_message true false rule e = cc
 of_the_message false number rule e = cc
 
-most : (max told : ℕ) → nat_lt (min max MAX_MESSAGE_SIZE) told ≡ false → told ≤ MAX_MESSAGE_SIZE
+pub most : (max told : ℕ) → nat_lt (min max MAX_MESSAGE_SIZE) told ≡ false → told ≤ MAX_MESSAGE_SIZE
 most max told small = grind (arith, common_steps)
 
 first_adds : (max : ℕ) (c : ChunkMessage) → first_rule max c ≡ None → (told_by c ≤ MAX_MESSAGE_SIZE) × Adds (told_by c) 0 c
