@@ -1,39 +1,28 @@
 -- MEASUREMENTS goes by chunks in the clear: what the two ends make of ERROR LargeResponse and of each CHUNK_GET with its
 -- answer.
-use Rattle.std.proofs.Common.{◌≡◌, ◌⊎◌, ◌∙◌, ℕ, zero, suc, ◌<◌, ◌≤◌, ◌+◌, ◌==◌, ◌&&◌, ◌||◌, not, nat_lt, List, [], ◌∷◌, length, Bool, true, false, Option, Some, None, Result, Ok, refl, sym, ap, subst, inl, inr, arith, eq-eqb}
-use Rattle.std.specs.Prelude.{bytes_eq, if◌then◌else◌, is_some, slice_index, unwrap_or, ◌^◌}
-use Rattle.std.proofs.lemmas.Bool.{false≢true, lt-ltb}
+use Rattle.std.proofs.Common.{◌≡◌, ◌⊎◌, ◌∙◌, ℕ, zero, suc, ◌<◌, ◌==◌, List, [], ◌∷◌, length, Bool, true, false, Option, Some, None, Result, Ok, refl, sym, ap, subst, inl, inr, arith}
+use Rattle.std.specs.Prelude.{bytes_eq, slice_index}
+use Rattle.std.proofs.lemmas.Bool.{false≢true}
 use Rattle.std.proofs.lemmas.Slice.Eq.{bytes_eq-Decides}
-use Rattle.chunking.specs.Cutting.{IsCollectable, chunk_count, chunks_before, nth_chunk}
 use Rattle.measurements.specs.Records.{is_missing}
-use Rattle.requester_machine.specs.Answers.{goes_on, is_done, is_refused}
+use Rattle.requester_machine.specs.Answers.{is_done}
 use Rattle.requester_machine.specs.Asking.Outcome.{Adds as AddsHere}
-use Rattle.requester_machine.specs.Bodies.{body_fault}
-use Rattle.requester_machine.specs.ClearAnswers.{carried_by, carried_led, chunk_carries, clear_led, collected, get_fault, read_led, reading_of}
-use Rattle.requester_machine.specs.ClearAnswers.Carried.{Further, Whole}
-use Rattle.chunking.specs.Collecting.{joined_with}
-use Rattle.requester_machine.specs.Commands.{Free as FreeHere}
+use Rattle.requester_machine.specs.ClearAnswers.{read_led, reading_of}
 use Rattle.requester_machine.specs.Does.{body_chosen, requester_hears}
-use Rattle.requester_machine.specs.Hearing.{clear_outcome, hears, hears_by}
+use Rattle.requester_machine.specs.Hearing.{clear_outcome}
 use Rattle.requester_machine.specs.History as asked
 use Rattle.requester_machine.specs.History.{Led, outstanding}
 use Rattle.requester_machine.specs.History.Effect.{Answers, Nothing, Refuses}
 use Rattle.requester_machine.specs.History.Entry.{TookClear}
-use Rattle.requester_machine.specs.Message.{Sent}
-use Rattle.requester_machine.specs.Message.Aim.{ForChunk}
-use Rattle.requester_machine.specs.Message.Content.{Clear as ClearContent}
-use Rattle.requester_machine.specs.Sending.{get_sent}
 use Rattle.requester_machine.specs.Setup.{ReqSetup}
 use Rattle.responder_machine.proofs.Repeats.{kept_of-taken}
 use Rattle.responder_machine.proofs.Turns.{turn_of-effect}
-use Rattle.responder_machine.specs.Answer.{Free, answer_of}
 use Rattle.responder_machine.specs.Does.{IsMade, chosen, clear_chosen, clear_does}
 use Rattle.responder_machine.specs.Handling.{goes_large, large_response, turn_of}
 use Rattle.responder_machine.specs.History as served
 use Rattle.responder_machine.specs.History.Entry.{Clear, Sealed, Queued, Ticked, Dropped}
-use Rattle.responder_machine.specs.LargeMessages.{given_of, handle_of, large_of, pending_of, still_pending}
-use Rattle.responder_machine.specs.Place.{Place, clear_place, place_terms}
-use Rattle.responder_machine.specs.Refusal.{bytes_round, has_pending, is_answer_too_long, is_get_refused, lacks_flag, phase_allows, refusal, sizes_are_known}
+use Rattle.responder_machine.specs.Place.{clear_place, place_terms}
+use Rattle.responder_machine.specs.Refusal.{has_pending, phase_allows, refusal, sizes_are_known}
 use Rattle.responder_machine.specs.Responder.{Outcome, after, body_of, is_repeat}
 use Rattle.responder_machine.specs.Responder.Outcome.{Adds}
 use Rattle.responder_machine.specs.Setup.{RspSetup, inventory_of}
@@ -41,87 +30,50 @@ use Rattle.responder_machine.specs.Turn.{Turn, is_taken}
 use Rattle.responder_machine.specs.Turn.Effect.{NoEffect}
 use Rattle.spdm_agreement.proofs.Responder.Negotiation.{entry_turn}
 use Rattle.spdm_basis.proofs.Bools.{and_second, lt_false}
-use Rattle.spdm_grammar.specs.ErrorNumber.{error_number}
-use Rattle.spdm_grammar.specs.Message.{ChunkMessage, RequestMessage, ResponseMessage}
-use Rattle.spdm_grammar.specs.Message.RequestMessage.{ChunkGet, GetMeasurements}
-use Rattle.spdm_grammar.specs.Message.ResponseMessage.{ChunkResponse, Error, Measurements}
-use Rattle.spdm_grammar.specs.Requests.{canonical_request}
-use Rattle.spdm_grammar.specs.Responses.{canonical_response, response_reading}
-use Rattle.spdm_grammar.specs.declared.ChunkFault.{ChunkFault}
-use Rattle.spdm_grammar.specs.declared.ChunkFault.TheVariants.{WrongHandle, WrongNumber}
-use Rattle.spdm_grammar.specs.declared.error_code.ErrorCode.TheVariants.{LargeResponse}
+use Rattle.spdm_grammar.specs.Message.{ResponseMessage}
+use Rattle.spdm_grammar.specs.Message.RequestMessage.{GetMeasurements}
+use Rattle.spdm_grammar.specs.Message.ResponseMessage.{Measurements}
+use Rattle.spdm_grammar.specs.Responses.{response_reading}
 use Rattle.spdm_grammar.specs.declared.event.Finished.TheVariants as finished
 use Rattle.spdm_grammar.specs.declared.event.ReqIgnored.{ReqIgnored}
 use Rattle.spdm_grammar.specs.declared.malformed.Malformed.{Malformed}
-use Rattle.spdm_grammar.specs.declared.names.TheConstants.{MAX_MESSAGE_SIZE, MIN_DATA_TRANSFER_SIZE}
-use Rattle.spdm_grammar.specs.declared.names.request_code.TheConstants.{CHUNK_GET, GET_MEASUREMENTS}
-use Rattle.spdm_grammar.specs.declared.names.spdm_version.TheConstants.{V1_2}
+use Rattle.spdm_grammar.specs.declared.names.request_code.TheConstants.{GET_MEASUREMENTS}
 use Rattle.spdm_grammar.specs.declared.phase.Phase.{Phase}
 use Rattle.spdm_grammar.specs.declared.phase.Phase.TheVariants.{Negotiated}
 use Rattle.spdm_machine.specs.Bodies.{clear_body}
 use Rattle.spdm_machine.specs.Keys.{Draw}
-use Rattle.spdm_machine.specs.Terms.{Terms, hash_len, terms_of}
+use Rattle.spdm_machine.specs.Terms.{hash_len, terms_of}
 use Rattle.spdm_machine.proofs.Members.{none_some, some_same}
 use Rattle.transcript.specs.Transcripts.{Negotiation}
-use Rattle.world_machine.proofs.SmallGets.{get_fits}
 use Rattle.spdm_progress.specs.Measuring.{measurements_size}
 use Rattle.measurements.specs.Records.{asked as blocks_asked}
-use Rattle.spdm_progress.proofs.AtRequester.{led_plain}
-use Rattle.spdm_progress.proofs.ChunkRules.{breaks_none, fits_chunk, last_whole, sound_chunk}
+use Rattle.spdm_progress.proofs.ClearFetch.{CanFetch, IsPending, differ, get_chunk, gets_differ, large_fits, large_goes}
 use Rattle.spdm_progress.proofs.Drawn.{AreDrawn}
 use Rattle.spdm_progress.proofs.MeasureStages.{answer_at, answer_is, get_measurements, measured, measured_fits, measured_led, measured_sound, measurements, measurements_are, measures_flag, same_by, same_negotiation, some_turn, taken_so, told_number, unchanged}
-use Rattle.spdm_progress.proofs.RequesterStages.{Asks, hears_as, reads}
+use Rattle.spdm_progress.proofs.RequesterStages.{reads}
 use Rattle.spdm_progress.proofs.ResponderBegins.{is_none_none, refused_with}
-use Rattle.spdm_progress.proofs.ResponderStages.{LastTook, Takes, adds, not_large, not_too_long, other_message, zero_plus}
-use Rattle.spdm_progress.proofs.ResponderTurns.{contents_passed, form_passed, not_refused, read_at, taken_at, taken_somehow, taken_turn}
+use Rattle.spdm_progress.proofs.ResponderStages.{LastTook, adds, zero_plus}
+use Rattle.spdm_progress.proofs.ResponderTurns.{contents_passed, form_passed, not_refused, read_at, taken_somehow}
 
 -- ---- The messages.
-
-abbrev pub get_chunk : (handle k : ℕ) → List ℕ
-get_chunk handle k = canonical_request (ChunkGet handle k)
-
-abbrev pub chunk_response : (transfer handle : ℕ) → List ℕ → (k : ℕ) → List ℕ
-chunk_response transfer handle w k = canonical_response (ChunkResponse (nth_chunk transfer handle w k))
 
 -- The request before a CHUNK_GET.
 abbrev pub before_get : (op handle k : ℕ) → List ℕ
 before_get op handle zero = get_measurements op
 before_get op handle (suc k) = get_chunk handle k
 
-differ : (m n : List ℕ) (b : Bool) → bytes_eq m n ≡ b → (m ≡ n → ⊥) → b ≡ false
-differ m n true is other = absurd (other ((bytes_eq-Decides m n).0 is))
-differ m n false is other = refl
-
 -- It is another one.
-pub gets_differ : (op handle k : ℕ) → bytes_eq (before_get op handle k) (get_chunk handle k) ≡ false
-gets_differ op handle zero = differ (get_measurements op) (get_chunk handle 0) (bytes_eq (get_measurements op) (get_chunk handle 0)) refl
+pub before_differs : (op handle k : ℕ) → bytes_eq (before_get op handle k) (get_chunk handle k) ≡ false
+before_differs op handle zero = differ (get_measurements op) (get_chunk handle 0) (bytes_eq (get_measurements op) (get_chunk handle 0)) refl
     (λ e. (let code : slice_index (get_measurements op) 1 ≡ slice_index (get_chunk handle 0) 1 = ap (λ (l : List ℕ). slice_index l 1) e in omega (arith, code)))
-gets_differ op handle (suc k) = differ (get_chunk handle k) (get_chunk handle (suc k)) (bytes_eq (get_chunk handle k) (get_chunk handle (suc k))) refl
-    (λ e. (let number : slice_index (get_chunk handle k) 4 ≡ slice_index (get_chunk handle (suc k)) 4 = ap (λ (l : List ℕ). slice_index l 4) e in omega (arith, number)))
-
--- The transfer size of the requester, as it was negotiated.
-abbrev pub transfer_in : Negotiation → ℕ
-transfer_in n = (terms_of n).common.to_requester.transfer
+before_differs op handle (suc k) = gets_differ handle k
 
 -- What the set-ups and the negotiation are where MEASUREMENTS goes by chunks.
 pub record GoesLarge (q : ReqSetup) (r : RspSetup) (op : ℕ) (n : Negotiation) : Type 0 where
-  pub room : MIN_DATA_TRANSFER_SIZE ≤ r.transfer
   pub byte : op < 256
   pub block : is_missing op (inventory_of r) ≡ false
   pub chosen : (terms_of n).choice.measure ≡ true
-  pub chunk : (terms_of n).common.chunk ≡ true
-  pub large : transfer_in n < measurements_size r op
-  pub fits_max : measurements_size r op ≤ (terms_of n).common.to_requester.max
-  pub transfer : transfer_in n ≡ q.transfer
-  pub max : (terms_of n).common.to_requester.max ≡ q.max
-  pub least : MIN_DATA_TRANSFER_SIZE ≤ q.transfer
-  pub most : q.max ≤ MAX_MESSAGE_SIZE
-
--- This answer is pending at a responder, with this handle, and so many chunks of it were given.
-pub record IsPending (w : List ℕ) (handle k : ℕ) (turns : List Turn) : Type 0 where
-  pub large : large_of turns ≡ Some w
-  pub given : given_of turns ≡ k
-  pub handle_is : handle_of turns ≡ handle
+  pub fetch : CanFetch q r (measurements_size r op) n
 
 -- Where GET_MEASUREMENTS is the last clear request that was taken, its answer is pending.
 pub record Repeats (r : RspSetup) (op : ℕ) (k : served.Kept) (turns : List Turn) : Type 0 where
@@ -138,96 +90,16 @@ LargeAgain r op h = (k : served.Kept) → served.kept_of h ≡ Some k → k.mess
 pub again_at : (r : RspSetup) (op : ℕ) (old new : served.History) → served.kept_of new ≡ served.kept_of old → served.clear_turns new ≡ served.clear_turns old → LargeAgain r op old → LargeAgain r op new
 again_at r op old new kept turns again k is message = subst (Repeats r op k) (sym turns) (again k (sym kept ∙ is) message)
 
-pub chunked_fits : (known over chunk other : Bool) → over ≡ false → chunk ≡ true → (known && (over || (not chunk && other))) ≡ false
-chunked_fits true over chunk other o c = rw (o, c) refl
-chunked_fits false over chunk other o c = refl
-
-pub both_true : (a b : Bool) → a ≡ true → b ≡ true → (a && b) ≡ true
-both_true a b x y = rw (x, y) refl
-
-pub chunk_flag : (terms : Terms) → terms.common.chunk ≡ true → lacks_flag terms CHUNK_GET ≡ false
-chunk_flag terms e = rw e refl
-
-pub right_get : (a b : Bool) → a ≡ true → b ≡ true → (not a || not b) ≡ false
-right_get a b x y = rw (x, y) refl
-
-pub some_if : (b : Bool) (w : List ℕ) → b ≡ true → (if b then Some w else None) ≡ Some w
-some_if true w is = refl
-some_if false w is = absurd (false≢true is)
-
--- CHUNK_GET for the chunk of this number is outstanding.
-abbrev pub fetching : (tag op handle k : ℕ) → List ChunkMessage → Sent
-fetching tag op handle k before = record { tag = tag; content = ClearContent (get_chunk handle k); aim = ForChunk (GetMeasurements op) handle k before }
-
-no_body_fault : (q : ReqSetup) (tag op handle k : ℕ) (before : List ChunkMessage) (m : List ℕ) → length m ≤ q.transfer → body_fault q (Some (fetching tag op handle k before)) false tag (clear_body m) ≡ None
-unfolding body_fault
-no_body_fault q tag op handle k before m fits = rw (eq-eqb tag tag refl, lt_false q.transfer (length m) fits) refl
-
-heard_chunk : (q : ReqSetup) (h : asked.History) (f : FreeHere) (tag op handle k : ℕ) (before : List ChunkMessage) (m : List ℕ) (d : Draw) → outstanding h ≡ Some (fetching tag op handle k before) → length m ≤ q.transfer
-    → hears q h false tag (clear_body m) f d ≡ clear_outcome tag m d (clear_led q h f (ForChunk (GetMeasurements op) handle k before) (GetMeasurements op) m)
-unfolding hears
-heard_chunk q h f tag op handle k before m d is fits =
-    ap (λ (o : Option Sent). hears_by q h f tag (clear_body m) d o (body_fault q o false tag (clear_body m))) is
-    ∙ ap (λ (o : Option ReqIgnored). hears_by q h f tag (clear_body m) d (Some (fetching tag op handle k before)) o) (no_body_fault q tag op handle k before m fits)
-
-led_chunk : (q : ReqSetup) (h : asked.History) (f : FreeHere) (op handle k : ℕ) (before : List ChunkMessage) (m : List ℕ) (c : ChunkMessage) → reading_of h (GetMeasurements op) m ≡ Ok (ChunkResponse c)
-    → clear_led q h f (ForChunk (GetMeasurements op) handle k before) (GetMeasurements op) m ≡ carried_led q h f (GetMeasurements op) (collected h (GetMeasurements op) before c (get_fault q.max handle k before c))
-unfolding clear_led carried_by
-led_chunk q h f op handle k before m c reads = ap (λ (x : Result ResponseMessage Malformed). carried_led q h f (GetMeasurements op) (chunk_carries q h (GetMeasurements op) handle k before x)) reads
-
-abbrev pub is_led : Led → Result Led ReqIgnored
-is_led x = Ok x
-
-pub goes_by : (b : Bool) (x y : Led) → b ≡ true → is_led (if b then x else y) ≡ is_led x
-goes_by true x y is = refl
-goes_by false x y is = absurd (false≢true is)
-
-pub right_chunk : (a b : Bool) (rule : Option ChunkFault) → a ≡ true → b ≡ true → rule ≡ None → (if not a then Some WrongHandle else (if not b then Some WrongNumber else rule)) ≡ None
-right_chunk a b rule x y z = rw (x, y, z) refl
-
 module _ (q : ReqSetup) (r : RspSetup) (op : ℕ) (n : Negotiation) (can : GoesLarge q r op n) where
   abbrev m : List ℕ
   m = get_measurements op
 
-  pub collectable : (w : List ℕ) → length w ≡ measurements_size r op → IsCollectable q.max (transfer_in n) w
-  collectable w size =
-      let transfer = can.transfer in
-      let least = can.least in
-      let large = can.large in
-      let fits = can.fits_max in
-      let max = can.max in
-      let most = can.most in record {
-        low = omega (arith, transfer, least);
-        large = omega (arith, size, large);
-        fits = omega (arith, size, fits, max);
-        short = omega (arith, size, fits, max, most);
-      }
-
   pub reads_measured : (h : asked.History) (len : ℕ) (nonce : List ℕ) → length nonce ≡ 32 → response_reading len false (measurements r op nonce) ≡ Ok (Measurements (measured r op nonce))
   reads_measured h len nonce whole =
-      let most = can.most in
-      let fits = can.fits_max in
-      let max = can.max in
+      let most = can.fetch.most in
+      let fits = can.fetch.fits_max in
+      let max = can.fetch.max in
       reads h (Measurements (measured r op nonce)) len (measured_fits r op nonce) (measured_sound r op len nonce whole (omega (arith, most, fits, max)))
-
-  pub reads_large : (h : asked.History) (len handle : ℕ) → response_reading len false (large_response handle) ≡ Ok (Error V1_2 (error_number LargeResponse) 0 (handle ∷ []))
-  reads_large h len handle = reads h (Error V1_2 (error_number LargeResponse) 0 (handle ∷ [])) len (omega arith, omega arith) (inr refl, (λ e. absurd (omega (arith, e)), λ e. refl, omega arith))
-
-  -- ---- An answer of this size at a place of the responder.
-
-  module _ (place : Place) (answer : List ℕ) (size : length answer ≡ measurements_size r op) (under : place.negotiation ≡ n) where
-    pub large_goes : sizes_are_known place.phase ≡ true → bytes_round place.at + length answer ≡ length answer → goes_large place answer ≡ true
-    large_goes known none =
-        let large = can.large in
-        both_true (sizes_are_known place.phase) _ known
-        (ap (nat_lt (transfer_in place.negotiation)) none ∙ lt-ltb _ _ (subst (λ (x : Negotiation). transfer_in x < length answer) (sym under) (omega (arith, size, large))))
-
-    pub large_fits : is_answer_too_long place answer ≡ false
-    large_fits =
-        let most = can.fits_max in
-        chunked_fits (sizes_are_known place.phase) _ _ _
-        (lt_false (place_terms place).common.to_requester.max (length answer) (subst (λ (x : Negotiation). length answer ≤ (terms_of x).common.to_requester.max) (sym under) (omega (arith, size, most))))
-        (ap (λ (x : Negotiation). (terms_of x).common.chunk) under ∙ can.chunk)
 
   -- ---- The responder, of GET_MEASUREMENTS.
 
@@ -236,11 +108,11 @@ module _ (q : ReqSetup) (r : RspSetup) (op : ℕ) (n : Negotiation) (can : GoesL
     size = ap length (answer_is r g d op) ∙ measurements_are r op d.bytes drawn
 
     goes : served.phase_of (served.clear_turns g) ≡ Negotiated → goes_large (clear_place g) (answer_at r g d op) ≡ true
-    goes phase = large_goes (clear_place g) (answer_at r g d op) size under (ap sizes_are_known phase) (zero_plus (length (answer_at r g d op)))
+    goes phase = large_goes q r (measurements_size r op) n can.fetch (clear_place g) (answer_at r g d op) size under (ap sizes_are_known phase) (zero_plus (length (answer_at r g d op)))
 
     taken : served.phase_of (served.clear_turns g) ≡ Negotiated → refusal r (clear_place g) m (clear_chosen r g d) ≡ None
     taken phase =
-        let room = can.room in
+        let room = can.fetch.room in
         let is = read_at (clear_place g) (GetMeasurements op) can.byte tt in
         not_refused r (clear_place g) m (clear_chosen r g d)
         (form_passed r (clear_place g) m (GetMeasurements op) is (record {
@@ -263,7 +135,7 @@ module _ (q : ReqSetup) (r : RspSetup) (op : ℕ) (n : Negotiation) (can : GoesL
           update = refl;
           chunk = refl;
           get = refl;
-          fits = large_fits (clear_place g) (answer_at r g d op) size under;
+          fits = large_fits q r (measurements_size r op) n can.fetch (clear_place g) (answer_at r g d op) size under;
           limit = refl;
         }))
 
@@ -383,155 +255,13 @@ module _ (q : ReqSetup) (r : RspSetup) (op : ℕ) (n : Negotiation) (can : GoesL
   large_again (Ticked seconds ∷ older) made drawn under phase = again_at r op older (Ticked seconds ∷ older) refl refl (large_again older made drawn under phase)
   large_again (Dropped id ∷ older) made drawn under phase = absurd made
 
-  -- ---- The responder, of CHUNK_GET.
+  -- ---- The requester takes the last chunk.
 
-  module _ (w : List ℕ) (long : length w ≡ measurements_size r op) (handle k : ℕ) (small : handle < 256) (within : k < chunk_count (transfer_in n) w) where
-    abbrev c : ChunkMessage
-    c = nth_chunk (transfer_in n) handle w k
-
-    abbrev reply : List ℕ
-    reply = chunk_response (transfer_in n) handle w k
-
-    pub chunk_is_few : length reply ≤ transfer_in n
-    chunk_is_few = (let transfer = can.transfer in let least = can.least in get_fits (transfer_in n) handle k w (omega (arith, transfer, least)))
-
-    pub number_small : k < 2 ^ 16
-    number_small = (fits_chunk q.max (transfer_in n) handle w (collectable w long) k small within).number
-
-    abbrev pub before : List ChunkMessage
-    before = chunks_before (transfer_in n) handle w k
-
-    pub no_fault : get_fault q.max handle k before c ≡ None
-    no_fault = right_chunk (handle == handle) (k == k) _ (eq-eqb handle handle refl) (eq-eqb k k refl) (breaks_none q.max (transfer_in n) handle w (collectable w long) k within)
-
-    pub reads_chunk : (h : asked.History) (len : ℕ) → response_reading len false reply ≡ Ok (ChunkResponse c)
-    reads_chunk h len = reads h (ChunkResponse c) len (fits_chunk q.max (transfer_in n) handle w (collectable w long) k small within) (sound_chunk q.max (transfer_in n) handle w (collectable w long) k)
-
-    pub joins_whole : (k + 1 == chunk_count (transfer_in n) w) ≡ true → joined_with before c ≡ w
-    joins_whole last = last_whole q.max (transfer_in n) handle w (collectable w long) k within last
-
-    -- At any place.
-    module _ (place : Place) (f : Free) (under : place.negotiation ≡ n) (pending : IsPending w handle k place.turns) where
-      abbrev pub given_answer : List ℕ
-      given_answer = canonical_response (answer_of r place (get_chunk handle k) f (ChunkGet handle k))
-
-      pub is_pending : pending_of (transfer_in place.negotiation) place.turns ≡ Some w
-      is_pending =
-          ap (λ (z : ℕ). still_pending (transfer_in place.negotiation) z (large_of place.turns)) pending.given
-          ∙ ap (still_pending (transfer_in place.negotiation) k) pending.large
-          ∙ some_if (nat_lt k (chunk_count (transfer_in place.negotiation) w)) w (lt-ltb _ _ (subst (λ (x : Negotiation). k < chunk_count (transfer_in x) w) (sym under) within))
-
-      pub gives_chunk : given_answer ≡ reply
-      gives_chunk =
-          ap (λ (o : Option (List ℕ)). canonical_response (ChunkResponse (nth_chunk (transfer_in place.negotiation) handle (unwrap_or o []) k))) is_pending
-          ∙ ap (λ (x : Negotiation). chunk_response (transfer_in x) handle w k) under
-
-      pub given_fits : (length given_answer ≤ (place_terms place).common.to_requester.max) × (length given_answer ≤ (place_terms place).common.to_requester.transfer)
-      given_fits =
-          let few : length given_answer ≤ transfer_in n = subst (λ (l : List ℕ). length l ≤ transfer_in n) (sym gives_chunk) chunk_is_few in
-          let large = can.large in
-          let most = can.fits_max in
-          subst (λ (x : Negotiation). (length given_answer ≤ (terms_of x).common.to_requester.max) × (length given_answer ≤ (terms_of x).common.to_requester.transfer)) (sym under) (omega (arith, few, large, most), few)
-
-      pub given_chunks : lacks_flag (place_terms place) CHUNK_GET ≡ false
-      given_chunks = chunk_flag (place_terms place) (ap (λ (x : Negotiation). (terms_of x).common.chunk) under ∙ can.chunk)
-
-      pub is_right : is_get_refused place (Some (ChunkGet handle k)) ≡ false
-      is_right = right_get (handle == handle_of place.turns) (k == given_of place.turns) (eq-eqb handle _ (sym pending.handle_is)) (eq-eqb k _ (sym pending.given))
-
-    -- In the clear.
-    module _ (g : served.History) (d : Draw) (under : served.negotiation_of (served.clear_turns g) ≡ n) (phase : served.phase_of (served.clear_turns g) ≡ Negotiated) (pending : IsPending w handle k (served.clear_turns g)) where
-      abbrev place : Place
-      place = clear_place g
-
-      abbrev f : Free
-      f = clear_chosen r g d
-
-      abbrev clear_answer : List ℕ
-      clear_answer = given_answer place f under pending
-
-      takes_it : Takes place (length clear_answer)
-      takes_it = record { both = λ known. given_fits place f under pending }
-
-      pub chunk_turn : turn_of r place (get_chunk handle k) f ≡ taken_turn r place (get_chunk handle k) f (ChunkGet handle k)
-      chunk_turn =
-          let room = can.room in
-          taken_at r place (get_chunk handle k) f (ChunkGet handle k) (read_at place (ChunkGet handle k) (small, number_small) tt) refl
-          (record {
-            long = refl;
-            short = lt_false r.transfer 6 (omega (arith, room));
-            known = refl;
-            outside = refl;
-            whole = refl;
-            placed = refl;
-            allowed = ap (λ (x : Phase). phase_allows x (has_pending place) CHUNK_GET) phase ∙ ap is_some (is_pending place f under pending);
-            version = refl;
-          })
-          (record {
-            flags = given_chunks place f under pending;
-            caps = refl;
-            offer = refl;
-            block = refl;
-            exchange = refl;
-            verify = refl;
-            update = refl;
-            chunk = refl;
-            get = is_right place f under pending;
-            fits = not_too_long g clear_answer takes_it;
-            limit = refl;
-          })
-          (not_large g clear_answer takes_it)
-
-      pub pending_next : IsPending w handle (k + 1) (taken_turn r place (get_chunk handle k) f (ChunkGet handle k) ∷ place.turns)
-      pending_next = record { large = pending.large; given = ap (λ (z : ℕ). z + 1) pending.given; handle_is = pending.handle_is }
-
-      pub served_chunk : (tag : ℕ) → LastTook (before_get op handle k) g → clear_does r g tag (get_chunk handle k) d ≡ Adds (Clear tag (taken_turn r place (get_chunk handle k) f (ChunkGet handle k)) d)
-      served_chunk tag last = adds r g tag (get_chunk handle k) d (taken_turn r place (get_chunk handle k) f (ChunkGet handle k)) (other_message g tag (before_get op handle k) (get_chunk handle k) last (gets_differ op handle k)) chunk_turn
-
-    -- ---- The requester, of CHUNK_RESPONSE.
-
-    module _ (h : asked.History) (tag : ℕ) (d : Draw) (waits : outstanding h ≡ Some (fetching tag op handle k (chunks_before (transfer_in n) handle w k))) where
-      abbrev asked_it : RequestMessage
-      asked_it = GetMeasurements op
-
-      hears_it : requester_hears q h false tag (clear_body reply) d ≡ clear_outcome tag reply d (clear_led q h (body_chosen q h d) (ForChunk asked_it handle k before) asked_it reply)
-      hears_it = (let transfer = can.transfer in heard_chunk q h (body_chosen q h d) tag op handle k before reply d waits (omega (arith, chunk_is_few, transfer)))
-
-      led : clear_led q h (body_chosen q h d) (ForChunk asked_it handle k before) asked_it reply ≡ carried_led q h (body_chosen q h d) asked_it (collected h asked_it before c None)
-      led =
-          led_chunk q h (body_chosen q h d) op handle k before reply c (reads_chunk h (hash_len (asked.connection_terms h)))
-          ∙ ap (λ (o : Option ChunkFault). carried_led q h (body_chosen q h d) asked_it (collected h asked_it before c o)) no_fault
-
-      -- One that is not the last calls for the next.
-      pub heard_more : (k + 1 == chunk_count (transfer_in n) w) ≡ false → requester_hears q h false tag (clear_body reply) d ≡ AddsHere (TookClear tag reply (goes_on Nothing (get_sent h asked_it handle (k + 1) (c ∷ before))) d)
-      heard_more more =
-          hears_it ∙ ap (clear_outcome tag reply d) (led ∙ further (k + 1 == chunk_count (transfer_in n) w) more)
-        where
-          further : (b : Bool) → b ≡ false → carried_led q h (body_chosen q h d) asked_it (if b then Whole (joined_with before c) 0 else Further (get_sent h asked_it handle (k + 1) (c ∷ before))) ≡ Ok (goes_on Nothing (get_sent h asked_it handle (k + 1) (c ∷ before)))
-          further true is = absurd (false≢true (sym is))
-          further false is = refl
-
-      -- The last one completes the measurements.
-      pub heard_last : (nonce : List ℕ) → length nonce ≡ 32 → w ≡ measurements r op nonce → (k + 1 == chunk_count (transfer_in n) w) ≡ true → requester_hears q h false tag (clear_body reply) d ≡ AddsHere (TookClear tag reply (measured_led r op nonce) d)
-      heard_last nonce whole is last =
-          let whole_is = joins_whole last ∙ is in
-          hears_it
-          ∙ ap (clear_outcome tag reply d) (led ∙ completes (k + 1 == chunk_count (transfer_in n) w) last
-          ∙ ap (λ (l : List ℕ). read_led q h (body_chosen q h d) 0 asked_it l (reading_of h asked_it l)) whole_is
-          ∙ ap (λ (x : Result ResponseMessage Malformed). read_led q h (body_chosen q h d) 0 asked_it (measurements r op nonce) x) (reads_measured h (hash_len (asked.connection_terms h)) nonce whole)
-          ∙ ap (λ (z : ℕ). let x : Result Led ReqIgnored = Ok (is_done (finished.Measured z) (Answers asked_it (measurements r op nonce))) in x) (told_number (op == 0) (length (inventory_of r)) (length (blocks_asked op (inventory_of r)))))
-        where
-          completes : (b : Bool) → b ≡ true → carried_led q h (body_chosen q h d) asked_it (if b then Whole (joined_with before c) 0 else Further (get_sent h asked_it handle (k + 1) (c ∷ before))) ≡ read_led q h (body_chosen q h d) 0 asked_it (joined_with before c) (reading_of h asked_it (joined_with before c))
-          completes true is = refl
-          completes false is = absurd (false≢true is)
-
-  -- ---- The requester, of LargeResponse.
-
-  pub heard_large : (h : asked.History) (tag handle : ℕ) (d : Draw) → handle < 256 → Asks q tag (GetMeasurements op) m n h
-      → requester_hears q h false tag (clear_body (large_response handle)) d ≡ AddsHere (TookClear tag (large_response handle) (goes_on Nothing (get_sent h (GetMeasurements op) handle 0 [])) d)
-  heard_large h tag handle d small asks =
-      let least = can.least in
-      hears_as q h tag (GetMeasurements op) m n (large_response handle) d (goes_on Nothing (get_sent h (GetMeasurements op) handle 0 [])) asks (omega (arith, least))
-      (led_plain q h (body_chosen q h d) (GetMeasurements op) (large_response handle) (Error V1_2 (error_number LargeResponse) 0 (handle ∷ []))
-      (reads_large h (hash_len (asked.connection_terms h)) handle)
-      ∙ goes_by (asked.connection_terms h).common.chunk (goes_on Nothing (get_sent h (GetMeasurements op) handle 0 [])) (is_refused (error_number LargeResponse) (Refuses (GetMeasurements op))) (ap (λ (x : Negotiation). (terms_of x).common.chunk) asks.negotiation ∙ can.chunk))
+  pub heard_last : (h : asked.History) (tag : ℕ) (message : List ℕ) (d : Draw) (nonce : List ℕ) → length nonce ≡ 32
+      → requester_hears q h false tag (clear_body message) d ≡ clear_outcome tag message d (read_led q h (body_chosen q h d) 0 (GetMeasurements op) (measurements r op nonce) (reading_of h (GetMeasurements op) (measurements r op nonce)))
+      → requester_hears q h false tag (clear_body message) d ≡ AddsHere (TookClear tag message (measured_led r op nonce) d)
+  heard_last h tag message d nonce whole hears_it =
+      hears_it
+      ∙ ap (clear_outcome tag message d)
+      (ap (λ (x : Result ResponseMessage Malformed). read_led q h (body_chosen q h d) 0 (GetMeasurements op) (measurements r op nonce) x) (reads_measured h (hash_len (asked.connection_terms h)) nonce whole)
+      ∙ ap (λ (z : ℕ). let x : Result Led ReqIgnored = Ok (is_done (finished.Measured z) (Answers (GetMeasurements op) (measurements r op nonce))) in x) (told_number (op == 0) (length (inventory_of r)) (length (blocks_asked op (inventory_of r)))))

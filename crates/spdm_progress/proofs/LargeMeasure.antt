@@ -46,7 +46,8 @@ use Rattle.transcript.specs.Transcripts.{Negotiation}
 use Rattle.world_machine.specs.Chance.{NoChance}
 use Rattle.spdm_progress.specs.InStep.{AreQuiet, TookEarlier}
 use Rattle.spdm_progress.specs.Measuring.{measurements_size, number_for}
-use Rattle.spdm_progress.proofs.LargeAnswers.{GoesLarge, IsPending, LargeAgain, again_at, before_get, chunk_response, chunk_is_few, fetching, get_chunk, gives_chunk, heard_large, heard_last, heard_more, pending_next, served_chunk, served_large, transfer_in}
+use Rattle.spdm_progress.proofs.ClearFetch.{IsPending, chunk_is_few, chunk_response, fetching, get_chunk, gives_chunk, heard_large, heard_more, heard_whole, pending_next, served_chunk, transfer_in}
+use Rattle.spdm_progress.proofs.LargeAnswers.{GoesLarge, LargeAgain, again_at, before_differs, before_get, heard_last, served_large}
 use Rattle.spdm_progress.proofs.ManyPackets.{before_it, clear_is_body}
 use Rattle.spdm_progress.proofs.MeasureStages.{asks_measure, get_measurements, measured_led, measurements, measurements_are, some_turn}
 use Rattle.spdm_progress.proofs.PacketSteps.{Pair}
@@ -99,8 +100,8 @@ module _ (p : Pair) (op : ℕ) (h0 : asked.History) (d0 : Draw) (can : GoesLarge
 
   some_chunks : 0 < count
   some_chunks =
-      let least = can.least in
-      let is = can.transfer in
+      let least = can.fetch.least in
+      let is = can.fetch.transfer in
       let around = div_ceil_times (measurements_size r op + 4) (transfer - 12) (omega (arith, least, is)) in
       by_zero count (λ e. (let none : (measurements_size r op + 4) ≤ 0 * (transfer - 12) = subst (λ (z : ℕ). (measurements_size r op + 4) ≤ z * (transfer - 12)) e around.0 in omega (arith, none)))
     where
@@ -148,7 +149,7 @@ module _ (p : Pair) (op : ℕ) (h0 : asked.History) (d0 : Draw) (can : GoesLarge
     pub small : handle < 256
     pub low : tag < 8
     pub since : Since h
-    pub waits : outstanding h ≡ Some (fetching tag op handle k (chunks_before transfer handle (measurements r op nonce) k))
+    pub waits : outstanding h ≡ Some (fetching (GetMeasurements op) tag handle k (chunks_before transfer handle (measurements r op nonce) k))
     pub body_is : body ≡ clear_body (get_chunk handle k)
     pub quiet : AreQuiet q r p.first log h0 g
     pub pending : IsPending (measurements r op nonce) handle k (served.clear_turns g)
@@ -163,7 +164,7 @@ module _ (p : Pair) (op : ℕ) (h0 : asked.History) (d0 : Draw) (can : GoesLarge
     pub small : handle < 256
     pub low : tag < 8
     pub since : Since h
-    pub waits : outstanding h ≡ Some (fetching tag op handle k (chunks_before transfer handle (measurements r op nonce) k))
+    pub waits : outstanding h ≡ Some (fetching (GetMeasurements op) tag handle k (chunks_before transfer handle (measurements r op nonce) k))
     pub body_is : body ≡ clear_body (chunk_response transfer handle (measurements r op nonce) k)
     pub quiet : AreQuiet q r p.first log h0 g
     pub pending : IsPending (measurements r op nonce) handle (k + 1) (served.clear_turns g)
@@ -185,14 +186,14 @@ module _ (p : Pair) (op : ℕ) (h0 : asked.History) (d0 : Draw) (can : GoesLarge
   within more k nonce whole left = subst (λ (z : ℕ). k < z) (sym (count_is nonce whole)) (within_by more k left)
 
   few_bytes : (more k handle : ℕ) (nonce : List ℕ) → length nonce ≡ 32 → handle < 256 → more + suc k ≡ count → length (chunk_response transfer handle (measurements r op nonce) k) ≤ transfer
-  few_bytes more k handle nonce whole small left = chunk_is_few q r op n can (measurements r op nonce) (measurements_are r op nonce whole) handle k small (within more k nonce whole left)
+  few_bytes more k handle nonce whole small left = chunk_is_few q r (measurements_size r op) n can.fetch (measurements r op nonce) (measurements_are r op nonce whole) handle k small (within more k nonce whole left)
 
   transfer_most : transfer < MAX_MESSAGE_SIZE
   transfer_most =
-      let most = can.most in
-      let fits = can.fits_max in
-      let max = can.max in
-      let large = can.large in
+      let most = can.fetch.most in
+      let fits = can.fetch.fits_max in
+      let max = can.fetch.max in
+      let large = can.fetch.large in
       omega (arith, most, fits, max, large)
 
   -- ---- Each body can be sent.
@@ -276,12 +277,12 @@ module _ (p : Pair) (op : ℕ) (h0 : asked.History) (d0 : Draw) (can : GoesLarge
       long = measurements_are r op nonce whole
 
       does : clear_does r g tag (get_chunk handle k) d ≡ AddsThere (Clear tag t d)
-      does = served_chunk q r op n can w long handle k small (within more k nonce whole left) g d under negotiated pending tag last
+      does = served_chunk q r (measurements_size r op) n can.fetch w long handle k small (within more k nonce whole left) g d under negotiated pending tag (before_get op handle k) (before_differs op handle k) last
 
       get_earlier : TookEarlier q p.first h0 (Clear tag t d ∷ g)
       get_earlier = record { kept = λ z is x e fits sound context has above below same. get_no_exchange handle k x (ap (λ (y : served.Kept). y.message) (some_same _ z is) ∙ same) }
 
-      chunk_served : tag < 8 → Since h → outstanding h ≡ Some (fetching tag op handle k (chunks_before transfer handle w k))
+      chunk_served : tag < 8 → Since h → outstanding h ≡ Some (fetching (GetMeasurements op) tag handle k (chunks_before transfer handle w k))
           → ChunkAnswered more tag (answering.body_of (clear_does r g tag (get_chunk handle k) d)) (served_log.acts_of r g (clear_body (get_chunk handle k)) (clear_does r g tag (get_chunk handle k) d) ++ log) h (answering.after g (clear_does r g tag (get_chunk handle k) d))
       unfolding events.session_of
       chunk_served low since waits =
@@ -297,9 +298,9 @@ module _ (p : Pair) (op : ℕ) (h0 : asked.History) (d0 : Draw) (can : GoesLarge
             low = low;
             since = since;
             waits = waits;
-            body_is = ap clear_body (gives_chunk q r op n can w long handle k small (within more k nonce whole left) (clear_place g) (clear_chosen r g d) under pending);
+            body_is = ap clear_body (gives_chunk q r (measurements_size r op) n can.fetch w long handle k small (within more k nonce whole left) (clear_place g) (clear_chosen r g d) under pending);
             quiet = quiet_there q r p.first acts log h0 g (Clear tag t d ∷ g) (does, quiet.made_there) refl refl get_earlier (λ j. refl) quiet;
-            pending = pending_next q r op n can w long handle k small (within more k nonce whole left) g d under negotiated pending;
+            pending = pending_next q r (measurements_size r op) n can.fetch w long handle k small (within more k nonce whole left) g d under negotiated pending;
             last = record { kept = record { tag = tag; message = get_chunk handle k; reply = t.reply }; is = refl; message = refl };
           })
 
@@ -335,7 +336,7 @@ module _ (p : Pair) (op : ℕ) (h0 : asked.History) (d0 : Draw) (can : GoesLarge
       → Leads p MeasureAsked Quiet told more (requester_hears q h1 false tag (clear_body (large_response handle)) d) (asked_log.acts_of q h1 (clear_body (large_response handle)) (requester_hears q h1 false tag (clear_body (large_response handle)) d) ++ log) h1 g
   first_heard more tag log g d nonce handle more_is whole small tag_is since quiet pending last =
       let asks_it = subst (λ (z : ℕ). AsksRequest q z (GetMeasurements op) m n h1) (sym tag_is) (asks_measure q h0 d0 op n refl) in
-      let is = heard_large q r op n can h1 tag handle d small asks_it in
+      let is = heard_large q r (measurements_size r op) n can.fetch (GetMeasurements op) m h1 tag handle d refl asks_it in
       let next = get_sent h1 (GetMeasurements op) handle 0 [] in
       let made = TookClear tag (large_response handle) (goes_on Nothing next) d in
       let acts = asked_log.acts_of q h1 (clear_body (large_response handle)) (Adds made) in
@@ -358,7 +359,7 @@ module _ (p : Pair) (op : ℕ) (h0 : asked.History) (d0 : Draw) (can : GoesLarge
       })))
 
   module _ (more tag : ℕ) (log : Log) (h : asked.History) (g : served.History) (d : Draw) (k handle : ℕ) (nonce : List ℕ) (left : more + suc k ≡ count) (whole : length nonce ≡ 32) (small : handle < 256) (low : tag < 8) (since : Since h)
-      (waits : outstanding h ≡ Some (fetching tag op handle k (chunks_before transfer handle (measurements r op nonce) k))) (quiet : AreQuiet q r p.first log h0 g) (pending : IsPending (measurements r op nonce) handle (k + 1) (served.clear_turns g)) (last : LastTook (get_chunk handle k) g) where
+      (waits : outstanding h ≡ Some (fetching (GetMeasurements op) tag handle k (chunks_before transfer handle (measurements r op nonce) k))) (quiet : AreQuiet q r p.first log h0 g) (pending : IsPending (measurements r op nonce) handle (k + 1) (served.clear_turns g)) (last : LastTook (get_chunk handle k) g) where
     abbrev text : List ℕ
     text = measurements r op nonce
 
@@ -373,7 +374,7 @@ module _ (p : Pair) (op : ℕ) (h0 : asked.History) (d0 : Draw) (can : GoesLarge
 
     next_heard : (k + 1 == chunk_count transfer text) ≡ false → LeadsTo (requester_hears q h false tag reply_body d)
     next_heard again =
-        let is = heard_more q r op n can text size handle k small (within more k nonce whole left) h tag d waits again in
+        let is = heard_more q r (measurements_size r op) n can.fetch text size handle k small (within more k nonce whole left) (GetMeasurements op) h tag d waits again in
         let before = nth_chunk transfer handle text k ∷ chunks_before transfer handle text k in
         let next = get_sent h (GetMeasurements op) handle (k + 1) before in
         let made = TookClear tag (chunk_response transfer handle text k) (goes_on Nothing next) d in
@@ -391,7 +392,7 @@ module _ (p : Pair) (op : ℕ) (h0 : asked.History) (d0 : Draw) (can : GoesLarge
           small = small;
           low = next_small h;
           since = goes_since h tag (chunk_response transfer handle text k) handle (k + 1) before d is since;
-          waits = ap (λ (l : List ChunkMessage). Some (fetching (asked.next_tag h) op handle (k + 1) l)) (ap (chunks_before transfer handle text) so);
+          waits = ap (λ (l : List ChunkMessage). Some (fetching (GetMeasurements op) (asked.next_tag h) handle (k + 1) l)) (ap (chunks_before transfer handle text) so);
           body_is = refl;
           quiet = quiet_longer q r p.first acts log h0 g quiet;
           pending = pending;
@@ -405,7 +406,7 @@ module _ (p : Pair) (op : ℕ) (h0 : asked.History) (d0 : Draw) (can : GoesLarge
     last_heard : (k + 1 == chunk_count transfer text) ≡ true → LeadsTo (requester_hears q h false tag reply_body d)
     unfolding steps.session_of
     last_heard ends =
-        let is = heard_last q r op n can text size handle k small (within more k nonce whole left) h tag d waits nonce whole refl ends in
+        let is = heard_last q r op n can h tag (chunk_response transfer handle text k) d nonce whole (heard_whole q r (measurements_size r op) n can.fetch text size handle k small (within more k nonce whole left) (GetMeasurements op) h tag d waits ends) in
         let made = TookClear tag (chunk_response transfer handle text k) (measured_led r op nonce) d in
         let acts = asked_log.acts_of q h reply_body (Adds made) in
         subst LeadsTo (sym is)

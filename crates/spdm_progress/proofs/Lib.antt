@@ -41,6 +41,7 @@ pub mod ConnectRounds
 pub mod MeasureRound
 pub mod ChunkRules
 pub mod ChunkCounts
+pub mod ClearFetch
 pub mod LargeAnswers
 pub mod LargeMeasure
 pub mod SessionLarge

@@ -48,7 +48,8 @@ use Rattle.spdm_progress.proofs.Accepted.{not_worn_told, told_so}
 use Rattle.spdm_progress.proofs.Aside.{IsAside, nothing_aside}
 use Rattle.spdm_progress.proofs.ConnectRounds as connects
 use Rattle.spdm_progress.proofs.ChunkCounts.{InChunks, in_chunks}
-use Rattle.spdm_progress.proofs.LargeAnswers.{GoesLarge, large_again, transfer_in}
+use Rattle.spdm_progress.proofs.LargeAnswers.{GoesLarge, large_again}
+use Rattle.spdm_progress.proofs.ClearFetch.{transfer_in}
 use Rattle.spdm_progress.proofs.LargeMeasure as larges
 use Rattle.spdm_progress.proofs.MeasureRound as measures
 use Rattle.spdm_progress.proofs.MeasureStages.{CanServe, made_again}
@@ -194,17 +195,19 @@ module _ (w : WorldSetup) (before : List Entry) (n : ℕ) (a : Requesting) (c : 
 
       goes : GoesLarge a.setup c.setup op (asked.negotiation_of a.history)
       goes = record {
-        room = here.responder.sizes.least;
         byte = can.0;
         block = can.1;
         chosen = measure_chosen;
-        chunk = in_common (asked.connection_terms a.history).common.chunk refl;
-        large = large;
-        fits_max = can.2.0;
-        transfer = own_sizes.transfer;
-        max = own_sizes.max;
-        least = here.requester.sizes.least;
-        most = here.requester.sizes.most;
+        fetch = record {
+          room = here.responder.sizes.least;
+          chunk = in_common (asked.connection_terms a.history).common.chunk refl;
+          large = large;
+          fits_max = can.2.0;
+          transfer = own_sizes.transfer;
+          max = own_sizes.max;
+          least = here.requester.sizes.least;
+          most = here.requester.sizes.most;
+        };
       }
 
       most_bytes : measurements_size c.setup op ≤ MAX_MESSAGE_SIZE

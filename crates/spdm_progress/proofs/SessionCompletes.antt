@@ -55,7 +55,8 @@ use Rattle.spdm_progress.proofs.ManyPackets.{waits_idle}
 use Rattle.spdm_progress.proofs.PacketSteps.{Pair, asker, not_worn, server}
 use Rattle.spdm_progress.proofs.SessionBegins.{AsksOfSession, asked_now, sends, sent_for, shows_at, shows_told, told_is, told_view}
 use Rattle.spdm_progress.proofs.ChunkCounts.{InChunks, in_chunks}
-use Rattle.spdm_progress.proofs.LargeAnswers.{GoesLarge, transfer_in}
+use Rattle.spdm_progress.proofs.LargeAnswers.{GoesLarge}
+use Rattle.spdm_progress.proofs.ClearFetch.{transfer_in}
 use Rattle.spdm_progress.proofs.SessionLarge.{IsUnder, large_asking}
 use Rattle.spdm_progress.proofs.SessionMeasure as by_chunks
 use Rattle.spdm_progress.proofs.SessionRounds.{Asking, IsAsked, sealed_length}
@@ -329,17 +330,19 @@ module _ (w : WorldSetup) (before : List Entry) (n : ℕ) (a : Requesting) (c : 
 
       goes : GoesLarge a.setup c.setup op under
       goes = record {
-        room = here.responder.sizes.least;
         byte = can.0;
         block = can.1;
         chosen = measure_chosen;
-        chunk = in_common (steps.session_terms (session_at a id)).common.chunk refl;
-        large = large;
-        fits_max = can.2.0;
-        transfer = sizes.transfer;
-        max = sizes.max;
-        least = here.requester.sizes.least;
-        most = here.requester.sizes.most;
+        fetch = record {
+          room = here.responder.sizes.least;
+          chunk = in_common (steps.session_terms (session_at a id)).common.chunk refl;
+          large = large;
+          fits_max = can.2.0;
+          transfer = sizes.transfer;
+          max = sizes.max;
+          least = here.requester.sizes.least;
+          most = here.requester.sizes.most;
+        };
       }
 
       counts : InChunks (transfer_in under) (measurements_size c.setup op)

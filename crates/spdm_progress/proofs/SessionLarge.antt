@@ -49,7 +49,8 @@ use Rattle.spdm_machine.specs.Terms.{hash_len, terms_of}
 use Rattle.transcript.specs.Transcripts.{Negotiation}
 use Rattle.spdm_progress.specs.Measuring.{measurements_size, number_for}
 use Rattle.spdm_progress.proofs.AlikeSessions.{IsAnswerTo, IsFetched}
-use Rattle.spdm_progress.proofs.LargeAnswers.{GoesLarge, IsPending, chunk_is_few, chunk_response, get_chunk, given_answer, given_chunks, given_fits, gives_chunk, is_pending, is_right, joins_whole, large_fits, large_goes, no_fault, number_small, reads_chunk, reads_large, reads_measured, transfer_in}
+use Rattle.spdm_progress.proofs.ClearFetch.{IsPending, chunk_is_few, chunk_response, get_chunk, given_answer, given_chunks, given_fits, gives_chunk, is_pending, is_right, joins_whole, large_fits, large_goes, no_fault, number_small, reads_chunk, reads_large, transfer_in}
+use Rattle.spdm_progress.proofs.LargeAnswers.{GoesLarge, reads_measured}
 use Rattle.spdm_progress.proofs.MeasureStages.{get_measurements, measurements, measurements_are, measures_flag, told_number}
 use Rattle.spdm_progress.proofs.PacketSteps.{Pair}
 use Rattle.spdm_progress.proofs.RecordHeard.{came_as}
@@ -139,7 +140,7 @@ module _ (p : Pair) (id op : ℕ) (n : Negotiation) (can : GoesLarge p.requester
 
     large_turn : length answer ≡ measurements_size r op → session_turn r e (inner_request (GetMeasurements op)) f ≡ turn_with m f (Some (GetMeasurements op)) answer true
     large_turn size =
-        let room = can.room in
+        let room = can.fetch.room in
         let is = read_at place (GetMeasurements op) can.byte tt in
         read_inside r e m f refl
         ∙ taken_somehow r place m f (GetMeasurements op) is refl
@@ -164,10 +165,10 @@ module _ (p : Pair) (id op : ℕ) (n : Negotiation) (can : GoesLarge p.requester
           update = refl;
           chunk = refl;
           get = refl;
-          fits = large_fits q r op n can place answer size under;
+          fits = large_fits q r (measurements_size r op) n can.fetch place answer size under;
           limit = refl;
         })))
-        ∙ ap (λ (large : Bool). turn_with m f (Some (GetMeasurements op)) answer large) (large_goes q r op n can place answer size under refl (zero_plus (length answer)))
+        ∙ ap (λ (large : Bool). turn_with m f (Some (GetMeasurements op)) answer large) (large_goes q r (measurements_size r op) n can.fetch place answer size under refl (zero_plus (length answer)))
 
   abbrev IsGood : Asking → (Steps → Turn → Type 0) → Steps → Turn → Type 0
   IsGood x Good s t = IsAnswerTo x.ask (x.inner s) t × Good s t × (length t.reply ≤ 4133)
@@ -205,11 +206,11 @@ module _ (p : Pair) (id op : ℕ) (n : Negotiation) (can : GoesLarge p.requester
       let f = body_chosen q h d in
       let reply = answer_for q r p.first id large_asking s t in
       let came = came_as h id reply (inner_reply t) in
-      let transfer_is = can.transfer in
-      let least = can.least in
-      answer_read q h f came (AskMeasure op) (large_response good.handle) (Error V1_2 (error_number LargeResponse) 0 (good.handle ∷ [])) good.inner (omega (arith, least)) (reads_large q r op n can h (hash_len (steps.session_terms (steps.session_of id h))) good.handle)
+      let transfer_is = can.fetch.transfer in
+      let least = can.fetch.least in
+      answer_read q h f came (AskMeasure op) (large_response good.handle) (Error V1_2 (error_number LargeResponse) 0 (good.handle ∷ [])) good.inner (omega (arith, least)) (reads_large (hash_len (steps.session_terms (steps.session_of id h))) good.handle false)
       ∙ follows_if (steps.session_terms (steps.session_of id h)).common.chunk (goes_on Nothing (chunk_sent q h id (with_record came Nothing) op good.handle 0 [] f.pad)) (Ok (is_refused (error_number LargeResponse) Nothing))
-      (ap (λ (z : Steps). (steps.session_terms z).common.chunk) is ∙ ap (λ (x : Negotiation). (terms_of x).common.chunk) under ∙ can.chunk)
+      (ap (λ (z : Steps). (steps.session_terms z).common.chunk) is ∙ ap (λ (x : Negotiation). (terms_of x).common.chunk) under ∙ can.fetch.chunk)
       ∙ ap (λ (z : Steps). first_led h (steps.when_live z (TookAnswer reply (inner_reply t) Nothing)) good.handle f.pad) is
       ∙ ap (first_led h (took_steps q r p.first id large_asking s pad t) good.handle) (no_pad q h d)
 
@@ -243,16 +244,16 @@ module _ (p : Pair) (id op : ℕ) (n : Negotiation) (can : GoesLarge p.requester
       there = session_place e
 
       abbrev chunk_answer : List ℕ
-      chunk_answer = given_answer q r op n can w long handle k small within there f under pending
+      chunk_answer = given_answer q r (measurements_size r op) n can.fetch w long handle k small within there f under pending
 
       fits_it : TakesInSession e (length chunk_answer)
-      fits_it = (let fits = given_fits q r op n can w long handle k small within there f under pending in record { max = fits.0; transfer = fits.1 })
+      fits_it = (let fits = given_fits q r (measurements_size r op) n can.fetch w long handle k small within there f under pending in record { max = fits.0; transfer = fits.1 })
 
       chunk_turn : session_turn r e (inner_request (ChunkGet handle k)) f ≡ taken_turn r there (get_chunk handle k) f (ChunkGet handle k)
       chunk_turn =
-          let room = can.room in
+          let room = can.fetch.room in
           read_inside r e (get_chunk handle k) f refl
-          ∙ taken_at r there (get_chunk handle k) f (ChunkGet handle k) (read_at there (ChunkGet handle k) (small, number_small q r op n can w long handle k small within) tt) refl
+          ∙ taken_at r there (get_chunk handle k) f (ChunkGet handle k) (read_at there (ChunkGet handle k) (small, number_small q r (measurements_size r op) n can.fetch w long handle k small within) tt) refl
           (record {
             long = refl;
             short = lt_false r.transfer 6 (omega (arith, room));
@@ -260,11 +261,11 @@ module _ (p : Pair) (id op : ℕ) (n : Negotiation) (can : GoesLarge p.requester
             outside = refl;
             whole = refl;
             placed = refl;
-            allowed = ap (λ (g : Stage). stage_allows g (has_pending there) CHUNK_GET) at ∙ ap is_some (is_pending q r op n can w long handle k small within there f under pending);
+            allowed = ap (λ (g : Stage). stage_allows g (has_pending there) CHUNK_GET) at ∙ ap is_some (is_pending q r (measurements_size r op) n can.fetch w long handle k small within there f under pending);
             version = refl;
           })
           (record {
-            flags = given_chunks q r op n can w long handle k small within there f under pending;
+            flags = given_chunks q r (measurements_size r op) n can.fetch w long handle k small within there f under pending;
             caps = refl;
             offer = refl;
             block = refl;
@@ -272,7 +273,7 @@ module _ (p : Pair) (id op : ℕ) (n : Negotiation) (can : GoesLarge p.requester
             verify = refl;
             update = refl;
             chunk = refl;
-            get = is_right q r op n can w long handle k small within there f under pending;
+            get = is_right q r (measurements_size r op) n can.fetch w long handle k small within there f under pending;
             fits = not_too_long_in e chunk_answer fits_it;
             limit = refl;
           })
@@ -280,13 +281,13 @@ module _ (p : Pair) (id op : ℕ) (n : Negotiation) (can : GoesLarge p.requester
 
       chunk_is_good : (s : Steps) → IsGood chunk_asking IsChunk s (taken_turn r there (get_chunk handle k) f (ChunkGet handle k))
       chunk_is_good s =
-          let gives = gives_chunk q r op n can w long handle k small within there f under pending in
-          let few = chunk_is_few q r op n can w long handle k small within in
+          let gives = gives_chunk q r (measurements_size r op) n can.fetch w long handle k small within there f under pending in
+          let few = chunk_is_few q r (measurements_size r op) n can.fetch w long handle k small within in
           let reply_few : length chunk_answer ≤ transfer = subst (λ (l : List ℕ). length l ≤ transfer) (sym gives) few in
-          let large = can.large in
-          let fits = can.fits_max in
-          let max = can.max in
-          let most = can.most in (
+          let large = can.fetch.large in
+          let fits = can.fetch.fits_max in
+          let max = can.fetch.max in
+          let most = can.fetch.most in (
             (_, refl),
             record {
               inner = ap (λ (l : List ℕ). 5 ∷ l) gives;
@@ -321,10 +322,10 @@ module _ (p : Pair) (id op : ℕ) (n : Negotiation) (can : GoesLarge p.requester
 
       chunk_read : leads_to ≡ chunk_led q h (body_chosen q h d) came op before c None
       chunk_read =
-          let few = chunk_is_few q r op n can w long handle k small within in
-          let transfer_is = can.transfer in
-          answer_read q h (body_chosen q h d) came (AskChunk op handle k before) (chunk_response transfer handle w k) (ChunkResponse c) good.inner (omega (arith, few, transfer_is)) (reads_chunk q r op n can w long handle k small within h (hash_len (steps.session_terms (steps.session_of id h))))
-          ∙ ap (λ (o : Option ChunkFault). chunk_led q h (body_chosen q h d) came op before c o) (no_fault q r op n can w long handle k small within)
+          let few = chunk_is_few q r (measurements_size r op) n can.fetch w long handle k small within in
+          let transfer_is = can.fetch.transfer in
+          answer_read q h (body_chosen q h d) came (AskChunk op handle k before) (chunk_response transfer handle w k) (ChunkResponse c) good.inner (omega (arith, few, transfer_is)) (reads_chunk q r (measurements_size r op) n can.fetch w long handle k small within h (hash_len (steps.session_terms (steps.session_of id h))) false)
+          ∙ ap (λ (o : Option ChunkFault). chunk_led q h (body_chosen q h d) came op before c o) (no_fault q r (measurements_size r op) n can.fetch w long handle k small within)
 
       abbrev more_led : Steps → List ℕ → Result Led BadReply
       more_led z pads = Ok (goes_on Nothing (chunk_sent q h id z op handle (k + 1) (c ∷ before) pads))
@@ -342,6 +343,6 @@ module _ (p : Pair) (id op : ℕ) (n : Negotiation) (can : GoesLarge p.requester
       last_leads last =
           chunk_read
           ∙ led_if_last is_last (whole_led q h (body_chosen q h d) came op (joined_with before c) (reading_of came (joined_with before c))) _ last
-          ∙ ap (λ (l : List ℕ). whole_led q h (body_chosen q h d) came op l (reading_of came l)) (joins_whole q r op n can w long handle k small within last)
+          ∙ ap (λ (l : List ℕ). whole_led q h (body_chosen q h d) came op l (reading_of came l)) (joins_whole q r (measurements_size r op) n can.fetch w long handle k small within last)
           ∙ ap (λ (x : Result ResponseMessage Malformed). whole_led q h (body_chosen q h d) came op w x) (reads_measured q r op n can h (hash_len (steps.session_terms (steps.session_of id h))) nonce whole)
           ∙ ap (λ (z : ℕ). is_led (is_done (finished.Measured z) (Grants (AskMeasure op) w))) (told_number (op == 0) (length (inventory_of r)) (length (blocks_asked op (inventory_of r))))

@@ -39,7 +39,8 @@ use Rattle.world_machine.specs.Chance.{NoChance}
 use Rattle.spdm_progress.specs.InStep.{AreQuiet}
 use Rattle.spdm_progress.specs.Measuring.{measurements_size, number_for}
 use Rattle.spdm_progress.proofs.FurtherRound as further
-use Rattle.spdm_progress.proofs.LargeAnswers.{GoesLarge, IsPending, chunk_is_few, transfer_in}
+use Rattle.spdm_progress.proofs.ClearFetch.{IsPending, chunk_is_few, transfer_in}
+use Rattle.spdm_progress.proofs.LargeAnswers.{GoesLarge}
 use Rattle.spdm_progress.proofs.ManyPackets.{before_it}
 use Rattle.spdm_progress.proofs.MeasureStages.{measurements, measurements_are}
 use Rattle.spdm_progress.proofs.PacketSteps.{Pair}
@@ -72,8 +73,8 @@ module _ (p : Pair) (same_key : p.requester.psk ≡ p.responder.psk) (id op : �
 
   some_chunks : 0 < count
   some_chunks =
-      let least = can.least in
-      let is = can.transfer in
+      let least = can.fetch.least in
+      let is = can.fetch.transfer in
       let around = div_ceil_times (measurements_size r op + 4) (transfer - 12) (omega (arith, least, is)) in
       by_zero count (λ e. (let none : (measurements_size r op + 4) ≤ 0 * (transfer - 12) = subst (λ (z : ℕ). (measurements_size r op + 4) ≤ z * (transfer - 12)) e around.0 in omega (arith, none)))
     where
@@ -159,14 +160,14 @@ module _ (p : Pair) (same_key : p.requester.psk ≡ p.responder.psk) (id op : �
       answers_short more tag body log h g (inl y) =
           let long = answer_length q r p.first id first_asking y.is.s y.is.t in
           let inner = ap length y.is.good.inner in
-          let is = can.transfer in
-          let least = can.least in
+          let is = can.fetch.transfer in
+          let least = can.fetch.least in
           subst (λ (b : List ℕ). length b ≤ 64 * each) (sym y.is.body_is) (omega (arith, long, inner, is, least, fits))
       answers_short more tag body log h g (inr y) =
           let z = y.which in
           let long = answer_length q r p.first id (asking more z) y.is.s y.is.t in
           let inner = ap length y.is.good.inner in
-          let few = chunk_is_few q r op n can (measurements r op z.nonce) (measurements_are r op z.nonce z.whole) z.handle z.k z.small (within more z.k z.nonce z.whole z.left) in
+          let few = chunk_is_few q r (measurements_size r op) n can.fetch (measurements r op z.nonce) (measurements_are r op z.nonce z.whole) z.handle z.k z.small (within more z.k z.nonce z.whole z.left) in
           subst (λ (b : List ℕ). length b ≤ 64 * each) (sym y.is.body_is) (omega (arith, long, inner, few, fits))
 
   -- ---- The responder.
