@@ -217,7 +217,7 @@ module _ (p : Pair) (op : ℕ) (h0 : asked.History) (d0 : Draw) (can : GoesLarge
   body_size : (message body : List ℕ) (size : ℕ) → body ≡ clear_body message → length message + 1 ≤ size → length body ≤ size
   body_size message body size is few = subst (λ (l : List ℕ). length l ≤ size) (sym is) (omega (arith, few))
 
-  pub are_short : (each : ℕ) → transfer + 28 ≤ 64 * each → AreShort 1 each MeasureAsked MeasureAnswered
+  pub are_short : (each : ℕ) → transfer + 28 ≤ 64 * each → AreShort (λ more. 1) (λ more. each) MeasureAsked MeasureAnswered
   are_short each fits = record { asks = asks_short; answers = answers_short }
     where
       asks_short : (more tag : ℕ) (body : List ℕ) (log : Log) (h : asked.History) (g : served.History) → MeasureAsked more tag body log h g → length body ≤ 64 * 1

@@ -228,7 +228,7 @@ module _ (w : WorldSetup) (before : List Entry) (n : ℕ) (a : Requesting) (c : 
           plainly command (finished.Measured (number_for c.setup op)) 0 false refl
           (completes_within w before n a c command o.told.now line behind none o.honest o.still o.chance Aside aside beside (larges.MeasureAsked pair op a.history d goes phase asks) (larges.MeasureAnswered pair op a.history d goes phase asks)
           (larges.Quiet pair op a.history d goes phase asks) (finished.Measured (number_for c.setup op)) 0 false (λ log h g z. (z, zero_free h z.made (steps.is_live (steps.session_of 0 h)) refl)) (larges.large_talk pair op a.history d goes phase asks)
-          1 counts.each (larges.are_short pair op a.history d goes phase asks counts.each counts.fits) (larges.count pair op a.history d goes phase asks) (few_by_chunks (transfer_in (asked.negotiation_of a.history)) (measurements_size c.setup op) counts)
+          (λ more. 1) (λ more. counts.each) (larges.are_short pair op a.history d goes phase asks counts.each counts.fits) (larges.count pair op a.history d goes phase asks) (few_by_chunks (transfer_in (asked.negotiation_of a.history)) (measurements_size c.setup op) counts)
           (plain_sent a.history (GetMeasurements op)) (not_worn_told a command unworn ∙ ap (commanded_by a) asks)
           (inl (record {
             more_is = refl;

@@ -1,5 +1,5 @@
 -- Each command that asks something of an open session comes to its result.
-use Rattle.std.proofs.Common.{◌≡◌, ◌⊎◌, ◌∙◌, ℕ, suc, ◌<◌, ◌≤◌, ◌+◌, ◌-◌, ◌*◌, nat_le, List, [], ◌∷◌, length, Bool, true, false, Some, None, refl, sym, ap, subst, inl, inr, arith}
+use Rattle.std.proofs.Common.{◌≡◌, ◌⊎◌, ◌∙◌, ℕ, zero, suc, ◌<◌, ◌≤◌, ◌+◌, ◌-◌, ◌*◌, nat_le, List, [], ◌∷◌, length, Bool, true, false, Some, None, refl, sym, ap, subst, inl, inr, arith}
 use Rattle.std.proofs.Math.Nat.{min-le_left}
 use Rattle.std.proofs.lemmas.Bool.{leb-false, leb-true, ltb-false, not-false}
 use Rattle.std.specs.Int.{div_ceil}
@@ -62,7 +62,7 @@ use Rattle.spdm_progress.proofs.SessionMeasure as by_chunks
 use Rattle.spdm_progress.proofs.SessionRounds.{Asking, IsAsked, sealed_length}
 use Rattle.spdm_progress.proofs.SingleRound.{AnswersOnce, AsksOnce, IsLast, Quiet, once_talk}
 use Rattle.spdm_progress.proofs.Talk as talk
-use Rattle.spdm_progress.proofs.Talk.{AreShort, IsTalk, Stage, all_short, begins, begins_with, enough, no_chance_earlier, talk_ends}
+use Rattle.spdm_progress.proofs.Talk.{AreShort, IsTalk, sum_to, Stage, all_short, begins, begins_with, enough, no_chance_earlier, talk_ends}
 use Rattle.spdm_progress.proofs.Told.{ArePlaced, are_placed, contained, pair_of}
 use Rattle.spdm_progress.proofs.UpdateRounds.{CanUpdate, UpdateDone, UpdateTalkAnswers, UpdateTalkAsks, update_asking, update_talk}
 use Rattle.spdm_progress.proofs.Views.{Shows, View}
@@ -79,11 +79,26 @@ abbrev pub IsLongPump : List Entry → Type 0
 IsLongPump behind = (line : ℕ) × (count : ℕ) × (most_packets ≤ count) × (behind ≡ record { line = line; happening = Pump count } ∷ [])
 
 -- So many packets in each round are few enough for each end, and for both.
-abbrev pub AreFew : (there each more : ℕ) → Type 0
-AreFew there each more = (each * suc more + 1 ≤ most_asked) × (there * suc more ≤ most_served) × (there * suc more + each * suc more ≤ most_packets)
+abbrev pub AreFew : (there each : ℕ → ℕ) → (more : ℕ) → Type 0
+AreFew there each more = (sum_to each (suc more) + 1 ≤ most_asked) × (sum_to there (suc more) ≤ most_served) × (sum_to there (suc more) + sum_to each (suc more) ≤ most_packets)
 
-pub few_by_chunks : (transfer size : ℕ) (counts : InChunks transfer size) → AreFew 1 counts.each (div_ceil (size + 4) (transfer - 12))
-few_by_chunks transfer size counts = (let all = counts.few in let rounds = counts.rounds in (omega (arith, all), omega (arith, rounds), omega (arith, rounds, all)))
+-- The same number in each round.
+times_each : (each more : ℕ) → sum_to (λ k. each) more ≡ each * more
+times_each each zero = omega arith
+times_each each (suc more) = (let next = times_each each more in let one : each * suc more ≡ each * more + each = omega arith in omega (arith, next, one))
+
+-- Three rounds of 66 packets each way.
+three_few : (more : ℕ) → more ≤ 2 → AreFew (λ k. 66) (λ k. 66) more
+three_few more few = (let all = times_each 66 (suc more) in (omega (arith, few, all), omega (arith, few, all), omega (arith, few, all)))
+
+pub few_by_chunks : (transfer size : ℕ) (counts : InChunks transfer size) → AreFew (λ more. 1) (λ more. counts.each) (div_ceil (size + 4) (transfer - 12))
+few_by_chunks transfer size counts =
+    let all = counts.few in
+    let rounds = counts.rounds in
+    let count = div_ceil (size + 4) (transfer - 12) in
+    let here = times_each counts.each (suc count) in
+    let there = times_each 1 (suc count) in
+    (omega (arith, all, here), omega (arith, rounds, there), omega (arith, rounds, all, here, there))
 
 -- No packet waits behind these entries, or there was a pump long enough.
 abbrev pub Rests : World → List Entry → Type 0
@@ -141,8 +156,8 @@ module _ (w : WorldSetup) (before : List Entry) (n : ℕ) (a : Requesting) (c : 
     record { idle = waits_idle later.sent s.waits; aside = s.aside; takes = takes },
   )
 
-  at_rest : (most : ℕ) (within : most ≤ wear_limit) (Asks Answers : Stage) (Done : Log → asked.History → served.History → Type 0) (result : Finished) (is_talk : IsTalk p Asks Answers Done (event.Done result)) (there each : ℕ) (short : AreShort there each Asks Answers) (sent : Sent) → requester_told a command ≡ sends a command sent
-      → (begun : talk.Asking most within p placed.ends Aside aside Asks Answers Done (event.Done result) is_talk there each short (told_by world n (sends a command sent)).after) → there * suc begun.more + each * suc begun.more ≤ most_packets → Rests (commanding world line n command) behind → NothingWaits (world_from (commanding world line n command) behind)
+  at_rest : (most : ℕ) (within : most ≤ wear_limit) (Asks Answers : Stage) (Done : Log → asked.History → served.History → Type 0) (result : Finished) (is_talk : IsTalk p Asks Answers Done (event.Done result)) (there each : ℕ → ℕ) (short : AreShort there each Asks Answers) (sent : Sent) → requester_told a command ≡ sends a command sent
+      → (begun : talk.Asking most within p placed.ends Aside aside Asks Answers Done (event.Done result) is_talk there each short (told_by world n (sends a command sent)).after) → sum_to there (suc begun.more) + sum_to each (suc begun.more) ≤ most_packets → Rests (commanding world line n command) behind → NothingWaits (world_from (commanding world line n command) behind)
   unfolding happens
   at_rest most within Asks Answers Done result is_talk there each short sent step begun few (inl idle) = idle
   at_rest most within Asks Answers Done result is_talk there each short sent step begun few (inr pump) =
@@ -156,17 +171,17 @@ module _ (w : WorldSetup) (before : List Entry) (n : ℕ) (a : Requesting) (c : 
 
   -- The talk that the message of the command begins, where no end takes more than so much.
   runs : (most : ℕ) (within : most ≤ wear_limit) → length a.given + a.commands + most_asked ≤ most → length world.responder.given + most_served ≤ most
-      → (Asks Answers : Stage) (Done : Log → asked.History → served.History → Type 0) (result : Finished) (is_talk : IsTalk p Asks Answers Done (event.Done result)) (there each : ℕ) (short : AreShort there each Asks Answers) (more : ℕ) → AreFew there each more → (sent : Sent) → requester_told a command ≡ sends a command sent
+      → (Asks Answers : Stage) (Done : Log → asked.History → served.History → Type 0) (result : Finished) (is_talk : IsTalk p Asks Answers Done (event.Done result)) (there each : ℕ → ℕ) (short : AreShort there each Asks Answers) (more : ℕ) → AreFew there each more → (sent : Sent) → requester_told a command ≡ sends a command sent
       → Asks more sent.tag (body_of sent.content) (told_view world a c command sent).log (told_view world a c command sent).asked c.history
       → talk.IsDone most within p placed.ends Aside aside Asks Answers Done (event.Done result) is_talk there each short (world_from (commanding world line n command) behind) × IsIn (lines_from (commanding world line n command) behind) (Line.ToRequester n (event.Done result))
   runs most within life responder_life Asks Answers Done result is_talk there each short more few sent step asks =
       let shown = shows_told Aside world n a c aside command sent (shows_at Aside world n a c placed is_told.is_requester is_told.is_connection is_told.idle beside) in
-      let own_life : length (told_view world a c command sent).given + (told_view world a c command sent).commands + each * suc more ≤ most = (let most_here = few.0 in omega (arith, life, most_here)) in
-      let other_life : length (told_view world a c command sent).received + there * suc more ≤ most = (let most_there = few.1 in omega (arith, responder_life, most_there)) in
+      let own_life : length (told_view world a c command sent).given + (told_view world a c command sent).commands + sum_to each (suc more) ≤ most = (let most_here = few.0 in omega (arith, life, most_here)) in
+      let other_life : length (told_view world a c command sent).received + sum_to there (suc more) ≤ most = (let most_there = few.1 in omega (arith, responder_life, most_there)) in
       let begun = begins most within p placed.ends Aside aside Asks Answers Done (event.Done result) is_talk there each short more sent (told_view world a c command sent) (told_by world n (sends a command sent)).after shown asks own_life other_life in
       let rounds = begins_with most within p placed.ends Aside aside Asks Answers Done (event.Done result) is_talk there each short more sent (told_view world a c command sent) (told_by world n (sends a command sent)).after shown asks own_life other_life in
       let asking_now = subst (λ (s : WorldStep). talk.Asking most within p placed.ends Aside aside Asks Answers Done (event.Done result) is_talk there each short s.after) (sym (told_is world n a command sent is_told.is_requester step)) begun in
-      talk_ends most within p placed.ends Aside aside Asks Answers Done (event.Done result) is_talk there each short (commanding world line n command) behind none honest chance asking_now (at_rest most within Asks Answers Done result is_talk there each short sent step begun (subst (λ (k : ℕ). there * suc k + each * suc k ≤ most_packets) (sym rounds) few.2) still)
+      talk_ends most within p placed.ends Aside aside Asks Answers Done (event.Done result) is_talk there each short (commanding world line n command) behind none honest chance asking_now (at_rest most within Asks Answers Done result is_talk there each short sent step begun (subst (λ (k : ℕ). sum_to there (suc k) + sum_to each (suc k) ≤ most_packets) (sym rounds) few.2) still)
 
   taken_so : (most : ℕ) (later : World) (v : View) → Shows p Aside v [] later → length v.given + v.commands ≤ most → length v.received ≤ most → HaveTakenAt n most later
   taken_so most later v s own other = (
@@ -179,7 +194,7 @@ module _ (w : WorldSetup) (before : List Entry) (n : ℕ) (a : Requesting) (c : 
 
   -- A talk in which each body has so many packets at most.
   pub completes_within : (Asks Answers : Stage) (Done : Log → asked.History → served.History → Type 0) (result : Finished) (id : ℕ) (left : Bool) → ((log : Log) (h : asked.History) (g : served.History) → Done log h g → AreQuiet a.setup c.setup a.first log h g × (steps.is_live (steps.session_of id h) ≡ left))
-      → IsTalk p Asks Answers Done (event.Done result) → (there each : ℕ) → AreShort there each Asks Answers → (more : ℕ) → AreFew there each more → (sent : Sent) → requester_told a command ≡ sends a command sent
+      → IsTalk p Asks Answers Done (event.Done result) → (there each : ℕ → ℕ) → AreShort there each Asks Answers → (more : ℕ) → AreFew there each more → (sent : Sent) → requester_told a command ≡ sends a command sent
       → Asks more sent.tag (body_of sent.content) (told_view world a c command sent).log (told_view world a c command sent).asked c.history
       → IsDoneQuietly n a.setup c.setup result id left (world_from (commanding world line n command) behind) (lines_from (commanding world line n command) behind) × Idle world n a Aside (world_from (commanding world line n command) behind)
   completes_within Asks Answers Done result id left means is_talk there each short more few sent step asks =
@@ -196,7 +211,7 @@ module _ (w : WorldSetup) (before : List Entry) (n : ℕ) (a : Requesting) (c : 
       → IsTalk p Asks Answers Done (event.Done result) → (more : ℕ) → more ≤ 2 → (sent : Sent) → requester_told a command ≡ sends a command sent
       → Asks more sent.tag (body_of sent.content) (told_view world a c command sent).log (told_view world a c command sent).asked c.history
       → IsDoneQuietly n a.setup c.setup result id left (world_from (commanding world line n command) behind) (lines_from (commanding world line n command) behind) × Idle world n a Aside (world_from (commanding world line n command) behind)
-  completes_by Asks Answers Done result id left means is_talk more few sent step asks = completes_within Asks Answers Done result id left means is_talk 66 66 (all_short p Asks Answers Done (event.Done result) is_talk) more ((omega (arith, few)), (omega (arith, few)), (omega (arith, few))) sent step asks
+  completes_by Asks Answers Done result id left means is_talk more few sent step asks = completes_within Asks Answers Done result id left means is_talk (λ more. 66) (λ more. 66) (all_short p Asks Answers Done (event.Done result) is_talk) more (three_few more few) sent step asks
 
   -- ---- What is asked of a session.
 
@@ -370,7 +385,7 @@ module _ (w : WorldSetup) (before : List Entry) (n : ℕ) (a : Requesting) (c : 
       measured_by_chunks =
           let one = of_session measuring (λ j n sent s. refl) refl in
           completes_within w before n a c measuring o.told.now line behind none o.honest o.still o.chance Aside aside beside (by_chunks.MeasureAsked pair key id op under goes) (by_chunks.MeasureAnswered pair key id op under goes) (by_chunks.Quiet pair key id op under goes) (finished.Measured (number_for c.setup op)) id true (λ log h g z. (z.quiet, z.session))
-          (by_chunks.session_talk pair key id op under goes) 1 counts.each (by_chunks.are_short pair key id op under goes counts.each counts.fits) (by_chunks.count pair key id op under goes) (few_by_chunks (transfer_in under) (measurements_size c.setup op) counts)
+          (by_chunks.session_talk pair key id op under goes) (λ more. 1) (λ more. counts.each) (by_chunks.are_short pair key id op under goes counts.each counts.fits) (by_chunks.count pair key id op under goes) (few_by_chunks (transfer_in under) (measurements_size c.setup op) counts)
           first_sent (step_so w before n a c measuring o.told.now line behind none o.honest o.still o.chance Aside aside beside o.told id x one refl refl (omega arith) (λ turns. tt) refl)
           (inl (record {
             more_is = refl;

@@ -149,7 +149,7 @@ module _ (p : Pair) (same_key : p.requester.psk ≡ p.responder.psk) (id op : �
   answered_so more tag body log h g (inl y) = answered_sent q r p.first id first_asking Under Large tag body log h g y.is
   answered_so more tag body log h g (inr y) = answered_sent q r p.first id (asking more y.which) Under (Chunk more y.which) tag body log h g y.is
 
-  pub are_short : (each : ℕ) → transfer + 28 ≤ 64 * each → AreShort 1 each MeasureAsked MeasureAnswered
+  pub are_short : (each : ℕ) → transfer + 28 ≤ 64 * each → AreShort (λ more. 1) (λ more. each) MeasureAsked MeasureAnswered
   are_short each fits = record { asks = asks_short; answers = answers_short }
     where
       asks_short : (more tag : ℕ) (body : List ℕ) (log : Log) (h : asked.History) (g : served.History) → MeasureAsked more tag body log h g → length body ≤ 64 * 1

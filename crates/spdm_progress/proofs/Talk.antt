@@ -56,10 +56,15 @@ module _ (p : Pair) (Asks : Stage) (Done : Log → asked.History → served.Hist
     Further : (next : Sent) → (fewer : ℕ) → more ≡ suc fewer → shown.sent_by o ≡ Some next → Asks fewer next.tag (body_of next.content) log (shown.after h o) g → Leads more o log h g
     Over : shown.sent_by o ≡ None → shown.event_of o ≡ Some told → Done log (shown.after h o) g → Leads more o log h g
 
--- Each request of these stages is short enough for so many packets, and each answer for so many.
-pub record AreShort (there round : ℕ) (Asks Answers : Stage) : Type 0 where
-  pub asks : (more tag : ℕ) (body : List ℕ) (log : Log) (h : asked.History) (g : served.History) → Asks more tag body log h g → length body ≤ 64 * there
-  pub answers : (more tag : ℕ) (body : List ℕ) (log : Log) (h : asked.History) (g : served.History) → Answers more tag body log h g → length body ≤ 64 * round
+-- Each request of these stages is short enough for so many packets, and each answer for so many, by how many rounds follow.
+pub record AreShort (there round : ℕ → ℕ) (Asks Answers : Stage) : Type 0 where
+  pub asks : (more tag : ℕ) (body : List ℕ) (log : Log) (h : asked.History) (g : served.History) → Asks more tag body log h g → length body ≤ 64 * there more
+  pub answers : (more tag : ℕ) (body : List ℕ) (log : Log) (h : asked.History) (g : served.History) → Answers more tag body log h g → length body ≤ 64 * round more
+
+-- So many packets in all of the last rounds.
+abbrev pub sum_to : (ℕ → ℕ) → ℕ → ℕ
+sum_to each zero = 0
+sum_to each (suc more) = sum_to each more + each more
 
 -- What makes such a talk of these stages.
 pub record IsTalk (p : Pair) (Asks Answers : Stage) (Done : Log → asked.History → served.History → Type 0) (told : Event) : Type 0 where
@@ -74,24 +79,14 @@ pub record IsTalk (p : Pair) (Asks Answers : Stage) (Done : Log → asked.Histor
   pub done_still : (log : Log) (h : asked.History) (g later : served.History) → AreAlike p.responder g later → Done log h g → Done log h later
 
 -- No body has more than 66 packets.
-pub all_short : (p : Pair) (Asks Answers : Stage) (Done : Log → asked.History → served.History → Type 0) (told : Event) → IsTalk p Asks Answers Done told → AreShort 66 66 Asks Answers
+pub all_short : (p : Pair) (Asks Answers : Stage) (Done : Log → asked.History → served.History → Type 0) (told : Event) → IsTalk p Asks Answers Done told → AreShort (λ more. 66) (λ more. 66) Asks Answers
 all_short p Asks Answers Done told talk = record {
   asks = λ more tag body log h g asks. (let fits = (talk.asks_sent more tag body log h g asks).whole.fits in omega (arith, fits));
   answers = λ more tag body log h g answers. (let fits = (talk.answers_sent more tag body log h g answers).whole.fits in omega (arith, fits));
 }
 
 module _ (limit : ℕ) (within : limit ≤ wear_limit) (p : Pair) (ends : AreEnds p) (Aside : World → Type 0) (aside : IsAside p Aside) (Asks Answers : Stage) (Done : Log → asked.History → served.History → Type 0) (told : Event) (talk : IsTalk p Asks Answers Done told)
-    (there round : ℕ) (short : AreShort there round Asks Answers) where
-  -- In a round the responder takes so many packets at most, and the requester so many.
-  one_more : (each more : ℕ) → each * suc more ≡ each * more + each
-  one_more each more = omega arith
-
-  one_round : (more : ℕ) → round * suc more ≡ round * more + round
-  one_round more = one_more round more
-
-  one_there : (more : ℕ) → there * suc more ≡ there * more + there
-  one_there more = one_more there more
-
+    (there round : ℕ → ℕ) (short : AreShort there round Asks Answers) where
   -- So many packets of a request, or of an answer, were given.
   pub record Asking (world : World) : Type 0 where
     pub more : ℕ
@@ -102,10 +97,10 @@ module _ (limit : ℕ) (within : limit ≤ wear_limit) (p : Pair) (ends : AreEnd
     pub asks : Asks more tag body view.log view.asked view.served
     pub done : ℕ
     pub left : ℕ
-    pub few : suc left ≤ there
+    pub few : suc left ≤ there more
     pub comes : RequestComes p ends Aside aside tag body sent.small sent.whole done left view world
-    pub life : length view.given + view.commands + round * suc more ≤ limit
-    pub responder_life : length view.received + suc left + there * more ≤ limit
+    pub life : length view.given + view.commands + sum_to round (suc more) ≤ limit
+    pub responder_life : length view.received + suc left + sum_to there more ≤ limit
 
   pub record Answering (world : World) : Type 0 where
     pub more : ℕ
@@ -116,10 +111,10 @@ module _ (limit : ℕ) (within : limit ≤ wear_limit) (p : Pair) (ends : AreEnd
     pub answers : Answers more tag body view.log view.asked view.served
     pub done : ℕ
     pub left : ℕ
-    pub few : suc left ≤ round
+    pub few : suc left ≤ round more
     pub comes : AnswerComes p ends Aside aside tag body sent.small sent.whole done left view world
-    pub life : length view.given + view.commands + suc left + round * more ≤ limit
-    pub responder_life : length view.received + there * more ≤ limit
+    pub life : length view.given + view.commands + suc left + sum_to round more ≤ limit
+    pub responder_life : length view.received + sum_to there more ≤ limit
 
   abbrev pub IsUnderWay : World → Type 0
   IsUnderWay world = Asking world ⊎ Answering world
@@ -143,13 +138,11 @@ module _ (limit : ℕ) (within : limit ≤ wear_limit) (p : Pair) (ends : AreEnd
       (left.0, left.1, count.1)
 
   pub begins : (more : ℕ) (next : Sent) (v : View) (world : World) → Shows p Aside v (packets_of_sent p.requester (Some next)) world → Asks more next.tag (body_of next.content) v.log v.asked v.served
-      → length v.given + v.commands + round * suc more ≤ limit → length v.received + there * suc more ≤ limit → Asking world
+      → length v.given + v.commands + sum_to round (suc more) ≤ limit → length v.received + sum_to there (suc more) ≤ limit → Asking world
   begins more next v world s asks life responder_life =
       let body = body_of next.content in
       let sendable = talk.asks_sent more next.tag body v.log v.asked v.served asks in
-      let one = one_round more in
-      let far = one_there more in
-      let left = left_of there p.requester.unit body ends.requester_unit sendable.whole (short.asks more next.tag body v.log v.asked v.served asks) in record {
+      let left = left_of (there more) p.requester.unit body ends.requester_unit sendable.whole (short.asks more next.tag body v.log v.asked v.served asks) in record {
         more = more;
         tag = next.tag;
         body = body;
@@ -158,31 +151,29 @@ module _ (limit : ℕ) (within : limit ≤ wear_limit) (p : Pair) (ends : AreEnd
         asks = asks;
         done = 0;
         left = left.0;
-        few = omega (arith, one, far, left.1, left.2);
+        few = omega (arith, left.1, left.2);
         comes = record {
           sum = omega (arith, left.1);
           shows = subst (λ (to : ℕ). Shows p Aside v (packets_to to p.requester.eid true next.tag p.requester.unit body) world) ends.to s;
           came = none_came p.responder.eid p.requester.eid true next.tag p.requester.unit body sendable.small _ sendable.whole v.received;
         };
         life = life;
-        responder_life = omega (arith, one, far, left.1, left.2);
+        responder_life = omega (arith, left.1, left.2);
       }
 
   pub begins_with : (more : ℕ) (next : Sent) (v : View) (world : World) (shows : Shows p Aside v (packets_of_sent p.requester (Some next)) world) (asks : Asks more next.tag (body_of next.content) v.log v.asked v.served)
-      (life : length v.given + v.commands + round * suc more ≤ limit) (responder_life : length v.received + there * suc more ≤ limit) → (begins more next v world shows asks life responder_life).more ≡ more
+      (life : length v.given + v.commands + sum_to round (suc more) ≤ limit) (responder_life : length v.received + sum_to there (suc more) ≤ limit) → (begins more next v world shows asks life responder_life).more ≡ more
   unfolding begins
   begins_with more next v world shows asks life responder_life = refl
 
-  answered : (world : World) (more tag : ℕ) (body : List ℕ) (sent : IsSendable tag body) (v : View) (done : ℕ) → NoChance v.log → Asks more tag body v.log v.asked v.served → length v.given + v.commands + round * suc more ≤ limit
-      → length v.received + 1 + there * more ≤ limit → IsServed p ends Aside aside tag body sent.small sent.whole done v world → Answering world
+  answered : (world : World) (more tag : ℕ) (body : List ℕ) (sent : IsSendable tag body) (v : View) (done : ℕ) → NoChance v.log → Asks more tag body v.log v.asked v.served → length v.given + v.commands + sum_to round (suc more) ≤ limit
+      → length v.received + 1 + sum_to there more ≤ limit → IsServed p ends Aside aside tag body sent.small sent.whole done v world → Answering world
   answered world more tag body sent v done chance asks life responder_life x =
       let o = responder_does p.responder v.served tag body x.drawn in
       let reply = answering.body_of o in
       let answers = talk.serves more tag body v.log v.asked v.served x.drawn x.draws chance asks in
       let sendable = talk.answers_sent more tag reply _ _ _ answers in
-      let one = one_round more in
-      let far = one_there more in
-      let left = left_of round p.responder.unit reply ends.responder_unit sendable.whole (short.answers more tag reply _ _ _ answers) in record {
+      let left = left_of (round more) p.responder.unit reply ends.responder_unit sendable.whole (short.answers more tag reply _ _ _ answers) in record {
         more = more;
         tag = tag;
         body = reply;
@@ -191,14 +182,14 @@ module _ (limit : ℕ) (within : limit ≤ wear_limit) (p : Pair) (ends : AreEnd
         answers = answers;
         done = 0;
         left = left.0;
-        few = omega (arith, one, far, left.1, left.2);
+        few = omega (arith, left.1, left.2);
         comes = record {
           sum = omega (arith, left.1);
           shows = x.shows;
           came = none_came p.requester.eid p.responder.eid false tag p.responder.unit reply sendable.small _ sendable.whole v.given;
         };
-        life = omega (arith, one, far, left.1, left.2);
-        responder_life = omega (arith, one, far);
+        life = omega (arith, left.1, left.2);
+        responder_life = omega arith;
       }
 
   -- The world goes on, or all is done and its line is written.
@@ -206,15 +197,15 @@ module _ (limit : ℕ) (within : limit ≤ wear_limit) (p : Pair) (ends : AreEnd
   TalkGoes s = Goes IsUnderWay IsDone done_line s
 
   -- A further request is on its way behind an answer.
-  further : (s : WorldStep) (more tag : ℕ) (body : List ℕ) (sent : IsSendable tag body) (v : View) (done : ℕ) → length v.given + v.commands + 1 + round * more ≤ limit → length v.received + there * more ≤ limit
+  further : (s : WorldStep) (more tag : ℕ) (body : List ℕ) (sent : IsSendable tag body) (v : View) (done : ℕ) → length v.given + v.commands + 1 + sum_to round more ≤ limit → length v.received + sum_to there more ≤ limit
       → (x : IsHeard p ends Aside aside tag body sent.small sent.whole done v s) (next : Sent) (fewer : ℕ) → more ≡ suc fewer → shown.sent_by (requester_hears p.requester v.asked false tag body x.drawn) ≡ Some next
       → Asks fewer next.tag (body_of next.content) (heard_view p ends Aside aside tag body sent.small sent.whole done v x.drawn).log (heard_view p ends Aside aside tag body sent.small sent.whole done v x.drawn).asked v.served → Asking s.after
   further s more tag body sent v done life responder_life x next fewer one_less sends asks =
-      let these : round * more ≡ round * fewer + round = ap (λ (k : ℕ). round * k) one_less ∙ one_round fewer in
-      let those : there * more ≡ there * fewer + there = ap (λ (k : ℕ). there * k) one_less ∙ one_there fewer in
-      begins fewer next (heard_view p ends Aside aside tag body sent.small sent.whole done v x.drawn) s.after (subst (λ (o : Option Sent). Shows p Aside (heard_view p ends Aside aside tag body sent.small sent.whole done v x.drawn) (packets_of_sent p.requester o) s.after) sends x.shows) asks (omega (arith, one_round fewer, these)) (omega (arith, one_there fewer, those))
+      let these : sum_to round more ≡ sum_to round fewer + round fewer = ap (sum_to round) one_less in
+      let those : sum_to there more ≡ sum_to there fewer + there fewer = ap (sum_to there) one_less in
+      begins fewer next (heard_view p ends Aside aside tag body sent.small sent.whole done v x.drawn) s.after (subst (λ (o : Option Sent). Shows p Aside (heard_view p ends Aside aside tag body sent.small sent.whole done v x.drawn) (packets_of_sent p.requester o) s.after) sends x.shows) asks (omega (arith, these)) (omega (arith, those))
 
-  heard : (s : WorldStep) (more tag : ℕ) (body : List ℕ) (sent : IsSendable tag body) (v : View) (done : ℕ) → length v.given + v.commands + 1 + round * more ≤ limit → length v.received + there * more ≤ limit
+  heard : (s : WorldStep) (more tag : ℕ) (body : List ℕ) (sent : IsSendable tag body) (v : View) (done : ℕ) → length v.given + v.commands + 1 + sum_to round more ≤ limit → length v.received + sum_to there more ≤ limit
       → (x : IsHeard p ends Aside aside tag body sent.small sent.whole done v s)
       → Leads p Asks Done told more (requester_hears p.requester v.asked false tag body x.drawn) (asked_log.acts_of p.requester v.asked body (requester_hears p.requester v.asked false tag body x.drawn) ++ v.log) v.asked v.served
       → TalkGoes s
@@ -225,8 +216,8 @@ module _ (limit : ℕ) (within : limit ≤ wear_limit) (p : Pair) (ends : AreEnd
 
   -- ---- One packet is given.
 
-  asked_given : (world : World) (more tag : ℕ) (body : List ℕ) (sent : IsSendable tag body) (v : View) (done left : ℕ) → suc left ≤ there → NoChance v.log → Asks more tag body v.log v.asked v.served → length v.given + v.commands + round * suc more ≤ limit
-      → length v.received + suc left + there * more ≤ limit → RequestComes p ends Aside aside tag body sent.small sent.whole done left v world → IsGiven IsUnderWay IsDone done_line world
+  asked_given : (world : World) (more tag : ℕ) (body : List ℕ) (sent : IsSendable tag body) (v : View) (done left : ℕ) → suc left ≤ there more → NoChance v.log → Asks more tag body v.log v.asked v.served → length v.given + v.commands + sum_to round (suc more) ≤ limit
+      → length v.received + suc left + sum_to there more ≤ limit → RequestComes p ends Aside aside tag body sent.small sent.whole done left v world → IsGiven IsUnderWay IsDone done_line world
   asked_given world more tag body sent v done zero few chance asks life responder_life x =
       let w = first_request p ends Aside aside tag body sent.small sent.whole done 0 v world x in record {
         place = w.place;
@@ -253,8 +244,8 @@ module _ (limit : ℕ) (within : limit ≤ wear_limit) (p : Pair) (ends : AreEnd
         }));
       }
 
-  answer_given : (world : World) (more tag : ℕ) (body : List ℕ) (sent : IsSendable tag body) (v : View) (done left : ℕ) → suc left ≤ round → NoChance v.log → Answers more tag body v.log v.asked v.served → length v.given + v.commands + suc left + round * more ≤ limit
-      → length v.received + there * more ≤ limit → AnswerComes p ends Aside aside tag body sent.small sent.whole done left v world → IsGiven IsUnderWay IsDone done_line world
+  answer_given : (world : World) (more tag : ℕ) (body : List ℕ) (sent : IsSendable tag body) (v : View) (done left : ℕ) → suc left ≤ round more → NoChance v.log → Answers more tag body v.log v.asked v.served → length v.given + v.commands + suc left + sum_to round more ≤ limit
+      → length v.received + sum_to there more ≤ limit → AnswerComes p ends Aside aside tag body sent.small sent.whole done left v world → IsGiven IsUnderWay IsDone done_line world
   answer_given world more tag body sent v done zero few chance answers life responder_life x =
       let w = first_answer p ends Aside aside tag body sent.small sent.whole done 0 v world x in
       let e = answer_ends p ends Aside aside tag body sent.small sent.whole done v world (omega (arith, within)) x w in record {
@@ -351,8 +342,8 @@ module _ (limit : ℕ) (within : limit ≤ wear_limit) (p : Pair) (ends : AreEnd
 
   -- What is left of this body, and of the answer and the rounds that follow, each way.
   abbrev cost : (world : World) → IsUnderWay world → ℕ
-  cost world (inl x) = suc x.left + round + round * x.more + there * x.more
-  cost world (inr x) = suc x.left + round * x.more + there * x.more
+  cost world (inl x) = suc x.left + round x.more + sum_to round x.more + sum_to there x.more
+  cost world (inr x) = suc x.left + sum_to round x.more + sum_to there x.more
 
   -- Less is left than before.
   abbrev Falls : ℕ → (s : WorldStep) → TalkGoes s → Type 0
@@ -362,21 +353,21 @@ module _ (limit : ℕ) (within : limit ≤ wear_limit) (p : Pair) (ends : AreEnd
   abbrev FallsGiven : ℕ → (world : World) → IsGiven IsUnderWay IsDone done_line world → Type 0
   FallsGiven before world g = Falls before (delivers world (suc g.place) (packet_of (suc g.place) world.sent)) g.goes
 
-  heard_falls : (s : WorldStep) (more tag : ℕ) (body : List ℕ) (sent : IsSendable tag body) (v : View) (done : ℕ) (life : length v.given + v.commands + 1 + round * more ≤ limit) (responder_life : length v.received + there * more ≤ limit)
+  heard_falls : (s : WorldStep) (more tag : ℕ) (body : List ℕ) (sent : IsSendable tag body) (v : View) (done : ℕ) (life : length v.given + v.commands + 1 + sum_to round more ≤ limit) (responder_life : length v.received + sum_to there more ≤ limit)
       (x : IsHeard p ends Aside aside tag body sent.small sent.whole done v s)
       (l : Leads p Asks Done told more (requester_hears p.requester v.asked false tag body x.drawn) (asked_log.acts_of p.requester v.asked body (requester_hears p.requester v.asked false tag body x.drawn) ++ v.log) v.asked v.served)
-      → Falls (1 + round * more + there * more) s (heard s more tag body sent v done life responder_life x l)
+      → Falls (1 + sum_to round more + sum_to there more) s (heard s more tag body sent v done life responder_life x l)
   unfolding heard further begins
   heard_falls s more tag body sent v done life responder_life x (Further next fewer one_less sends asks) =
       let few = (further s more tag body sent v done life responder_life x next fewer one_less sends asks).few in
-      let these : round * more ≡ round * fewer + round = ap (λ (k : ℕ). round * k) one_less ∙ one_round fewer in
-      let those : there * more ≡ there * fewer + there = ap (λ (k : ℕ). there * k) one_less ∙ one_there fewer in
+      let these : sum_to round more ≡ sum_to round fewer + round fewer = ap (sum_to round) one_less in
+      let those : sum_to there more ≡ sum_to there fewer + there fewer = ap (sum_to there) one_less in
       omega (arith, few, these, those)
   heard_falls s more tag body sent v done life responder_life x (Over sends tells finished) = tt
 
-  asked_falls : (world : World) (more tag : ℕ) (body : List ℕ) (sent : IsSendable tag body) (v : View) (done left : ℕ) (few : suc left ≤ there) (chance : NoChance v.log) (asks : Asks more tag body v.log v.asked v.served) (life : length v.given + v.commands + round * suc more ≤ limit)
-      (responder_life : length v.received + suc left + there * more ≤ limit) (x : RequestComes p ends Aside aside tag body sent.small sent.whole done left v world)
-      → FallsGiven (suc left + round + round * more + there * more) world (asked_given world more tag body sent v done left few chance asks life responder_life x)
+  asked_falls : (world : World) (more tag : ℕ) (body : List ℕ) (sent : IsSendable tag body) (v : View) (done left : ℕ) (few : suc left ≤ there more) (chance : NoChance v.log) (asks : Asks more tag body v.log v.asked v.served) (life : length v.given + v.commands + sum_to round (suc more) ≤ limit)
+      (responder_life : length v.received + suc left + sum_to there more ≤ limit) (x : RequestComes p ends Aside aside tag body sent.small sent.whole done left v world)
+      → FallsGiven (suc left + round more + sum_to round more + sum_to there more) world (asked_given world more tag body sent v done left few chance asks life responder_life x)
   unfolding asked_given answered
   asked_falls world more tag body sent v done zero few chance asks life responder_life x =
       let w = first_request p ends Aside aside tag body sent.small sent.whole done 0 v world x in
@@ -384,9 +375,9 @@ module _ (limit : ℕ) (within : limit ≤ wear_limit) (p : Pair) (ends : AreEnd
       omega (arith, later)
   asked_falls world more tag body sent v done (suc left) few chance asks life responder_life x = omega arith
 
-  answer_falls : (world : World) (more tag : ℕ) (body : List ℕ) (sent : IsSendable tag body) (v : View) (done left : ℕ) (few : suc left ≤ round) (chance : NoChance v.log) (answers : Answers more tag body v.log v.asked v.served) (life : length v.given + v.commands + suc left + round * more ≤ limit)
-      (responder_life : length v.received + there * more ≤ limit) (x : AnswerComes p ends Aside aside tag body sent.small sent.whole done left v world)
-      → FallsGiven (suc left + round * more + there * more) world (answer_given world more tag body sent v done left few chance answers life responder_life x)
+  answer_falls : (world : World) (more tag : ℕ) (body : List ℕ) (sent : IsSendable tag body) (v : View) (done left : ℕ) (few : suc left ≤ round more) (chance : NoChance v.log) (answers : Answers more tag body v.log v.asked v.served) (life : length v.given + v.commands + suc left + sum_to round more ≤ limit)
+      (responder_life : length v.received + sum_to there more ≤ limit) (x : AnswerComes p ends Aside aside tag body sent.small sent.whole done left v world)
+      → FallsGiven (suc left + sum_to round more + sum_to there more) world (answer_given world more tag body sent v done left few chance answers life responder_life x)
   unfolding answer_given
   answer_falls world more tag body sent v done zero few chance answers life responder_life x =
       let w = first_answer p ends Aside aside tag body sent.small sent.whole done 0 v world x in
@@ -419,7 +410,7 @@ module _ (limit : ℕ) (within : limit ≤ wear_limit) (p : Pair) (ends : AreEnd
 
   pumps_enough : (count : ℕ) (world : World) → Enough count world
   unfolding pumps
-  pumps_enough zero world u most chance = (let one = costs_one world u in absurd (omega (arith, one, most)))
+  pumps_enough zero world u most chance = (let one = costs_one world u in absurd (omega (arith, most)))
   pumps_enough (suc count) world u most chance =
       let now = before_these (suc count) world chance in
       let g = one_given world now u in
@@ -427,5 +418,5 @@ module _ (limit : ℕ) (within : limit ≤ wear_limit) (p : Pair) (ends : AreEnd
       (λ last. enough_behind count (cost world u) (delivers world (suc g.place) (packet_of (suc g.place) world.sent)) g.goes (one_falls world now u) most (pumps_enough count (delivers world (suc g.place) (packet_of (suc g.place) world.sent)).after) last) chance
 
   -- Such a talk takes no more packets than these.
-  pub enough : (count : ℕ) (world : World) (x : Asking world) → there * suc x.more + round * suc x.more ≤ count → NoChance (pumps count world).after.log → NothingWaits (pumps count world).after
-  enough count world x most chance = (let these = x.few in let one = one_round x.more in let far = one_there x.more in pumps_enough count world (inl x) (omega (arith, these, one, far, most)) chance)
+  pub enough : (count : ℕ) (world : World) (x : Asking world) → sum_to there (suc x.more) + sum_to round (suc x.more) ≤ count → NoChance (pumps count world).after.log → NothingWaits (pumps count world).after
+  enough count world x most chance = (let these = x.few in pumps_enough count world (inl x) (omega (arith, these, most)) chance)
