@@ -62,3 +62,16 @@ in_chunks transfer size low large most =
       few = all.0;
       rounds = all.1;
     }
+
+-- A message of at most 1,228 bytes has 42 chunks at most.
+pub chunks_within : (transfer size : ℕ) → MIN_DATA_TRANSFER_SIZE ≤ transfer → size ≤ 1228 → div_ceil (size + 4) (transfer - 12) ≤ 42
+chunks_within transfer size low few =
+    let chunks = div_ceil_times (size + 4) (transfer - 12) (omega (arith, low)) in
+    by_number (div_ceil (size + 4) (transfer - 12)) (transfer - 12) (omega (arith, low)) (omega (arith, chunks.1, few))
+  where
+    by_number : (q unit : ℕ) → 30 ≤ unit → q * unit ≤ 1231 + unit → q ≤ 42
+    by_number zero unit wide spare = omega arith
+    by_number (suc c) unit wide spare =
+        let units : suc c * unit ≡ c * unit + unit = grind arith in
+        let thirties : c * 30 ≤ c * unit = mul-le c 30 c unit (omega arith) wide in
+        omega (arith, units, spare, thirties)

@@ -65,7 +65,7 @@ no_exchange op x e = (let code : slice_index (get_measurements op) 1 ≡ slice_i
 get_no_exchange : (handle k : ℕ) (x : ExchangeMessage) → get_chunk handle k ≡ canonical_request (PskExchange x) → ⊥
 get_no_exchange handle k x e = (let code : slice_index (get_chunk handle k) 1 ≡ slice_index (canonical_request (PskExchange x)) 1 = ap (λ (l : List ℕ). slice_index l 1) e in omega (arith, code))
 
-last_on : (m : List ℕ) (g later : served.History) → served.kept_of later ≡ served.kept_of g → LastTook m g → LastTook m later
+pub last_on : (m : List ℕ) (g later : served.History) → served.kept_of later ≡ served.kept_of g → LastTook m g → LastTook m later
 last_on m g later same last = record { kept = last.kept; is = same ∙ last.is; message = last.message }
 
 module _ (p : Pair) (op : ℕ) (h0 : asked.History) (d0 : Draw) (can : GoesLarge p.requester p.responder op (asked.negotiation_of h0)) (phase : asked.phase_of h0 ≡ Negotiated)

@@ -35,6 +35,7 @@ pub mod SessionCompletes
 pub mod FinishRound
 pub mod ExchangeStages
 pub mod OpenRounds
+pub mod OpenCounts
 pub mod Opened
 pub mod ClearRounds
 pub mod ConnectRounds

@@ -17,6 +17,7 @@ use Rattle.spdm_grammar.specs.declared.event.Finished.TheVariants as finished
 use Rattle.spdm_machine.specs.Terms.{Terms}
 use Rattle.world_machine.specs.Happenings.{Entry}
 use Rattle.world_machine.specs.Setup.{WorldSetup}
+use Rattle.spdm_progress.specs.Measuring.{CanGo}
 use Rattle.spdm_progress.specs.SessionCommands.{CompletesQuietly, IsToldQuietly}
 
 -- The terms of the connection.
@@ -33,11 +34,13 @@ abbrev pub exchange_rsp_size : RspSetup → Terms → (summary : ℕ) → ℕ
 exchange_rsp_size r terms summary =
     12 + (if summary == 0 then 0 else hash_size terms.choice.hash) + hash_size terms.choice.hash + length r.opaque + hash_size terms.choice.hash
 
--- What an open needs. PSK_EXCHANGE, its answer and PSK_FINISH, of 4 bytes and the verify data, fit the transfer sizes of
--- their receivers, so that they need no chunks; and the responder holds fewer sessions than four.
+-- What an open needs. PSK_EXCHANGE and PSK_FINISH, of 4 bytes and the verify data, fit the transfer
+-- size of the responder, so that they need no chunks; the answer to PSK_EXCHANGE can go to the
+-- requester, by chunks too; and the responder holds fewer sessions than four.
 pub record CanOpen (a : Requesting) (c : Connection) (summary : ℕ) : Type 0 where
   pub request_fits : length (canonical_request (exchange_now a summary)) ≤ (terms_now a).common.to_responder.transfer
-  pub answer_fits : exchange_rsp_size c.setup (terms_now a) summary ≤ (terms_now a).common.to_requester.transfer
+  pub answer_goes : CanGo (terms_now a).common (terms_now a).common.to_requester
+      (exchange_rsp_size c.setup (terms_now a) summary)
   pub finish_fits : 4 + hash_size (terms_now a).choice.hash ≤ (terms_now a).common.to_responder.transfer
   pub limit : serving.held_of c.history ≢ 4
 
