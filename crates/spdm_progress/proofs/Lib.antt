@@ -34,6 +34,8 @@ pub mod UpdateRounds
 pub mod SessionCompletes
 pub mod FinishRound
 pub mod ExchangeStages
+pub mod OpenStages
+pub mod OpenServed
 pub mod OpenRounds
 pub mod OpenCounts
 pub mod Opened

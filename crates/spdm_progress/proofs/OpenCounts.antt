@@ -17,7 +17,8 @@ use Rattle.spdm_progress.proofs.ExchangeStages.{exchange_length, hash_few}
 use Rattle.spdm_progress.proofs.FinishRound.{finish_asking}
 use Rattle.spdm_progress.proofs.ManyPackets.{before_it}
 use Rattle.spdm_progress.proofs.OpenRounds as opens
-use Rattle.spdm_progress.proofs.OpenRounds.{CanExchange, GoesWhole, few_bytes}
+use Rattle.spdm_progress.proofs.OpenStages as stages
+use Rattle.spdm_progress.proofs.OpenStages.{CanExchange, GoesWhole, few_bytes}
 use Rattle.spdm_progress.proofs.PacketSteps.{Pair}
 use Rattle.spdm_progress.proofs.SessionCompletes.{AreFew}
 use Rattle.spdm_progress.proofs.SessionRounds.{answer_length}
@@ -55,19 +56,19 @@ no_more false n = omega arith
 
 module _ (p : Pair) (same_key : p.requester.psk ≡ p.responder.psk) (asker : IsRequester p.requester) (server : IsResponder p.responder) (summary : ℕ) (h0 : asked.History) (d0 : Draw) (x : ExchangeMessage) (rid : ℕ) (can : CanExchange p.requester p.responder p.first summary h0 d0 x) where
   abbrev size : ℕ
-  size = opens.size p same_key asker server summary h0 d0 x rid can
+  size = stages.size p same_key asker server summary h0 d0 x rid can
 
   abbrev transfer : ℕ
-  transfer = opens.transfer p same_key asker server summary h0 d0 x rid can
+  transfer = stages.transfer p same_key asker server summary h0 d0 x rid can
 
   abbrev count : ℕ
-  count = opens.count p same_key asker server summary h0 d0 x rid can
+  count = stages.count p same_key asker server summary h0 d0 x rid can
 
   abbrev Way : Type 0
   Way = GoesWhole p.requester (asked.negotiation_of h0) size ⊎ CanFetch p.requester p.responder size (asked.negotiation_of h0)
 
   abbrev rounds_of : Way → ℕ
-  rounds_of way = opens.rounds_of p same_key asker server summary h0 d0 x rid can way
+  rounds_of way = stages.rounds_of p same_key asker server summary h0 d0 x rid can way
 
   pub counts : CanFetch p.requester p.responder size (asked.negotiation_of h0) → InChunks transfer size
   counts fetch =
@@ -119,11 +120,11 @@ module _ (p : Pair) (same_key : p.requester.psk ≡ p.responder.psk) (asker : Is
       let k = before_it more some in
       ap (each_by (inr fetch)) (sym k.1) ∙ middle_is 1 (counts fetch).each 1 count k.0 (omega (arith, k.1, within))
 
-  exchange_few : length (opens.m p same_key asker server summary h0 d0 x rid can) + 1 ≤ 1216
+  exchange_few : length (stages.m p same_key asker server summary h0 d0 x rid can) + 1 ≤ 1216
   exchange_few =
       let hint = can.sound.hint in
       let opaque = can.sound.opaque in
-      let few = hash_few (opens.terms p same_key asker server summary h0 d0 x rid can).choice.hash in
+      let few = hash_few (stages.terms p same_key asker server summary h0 d0 x rid can).choice.hash in
       omega (arith, exchange_length x, can.sound.context, few.1, hint, opaque)
 
   asks_short : (way : Way) → can.way ≡ way → (more tag : ℕ) (body : List ℕ) (log : Log) (h : asked.History) (g : served.History) → Asks more tag body log h g → length body ≤ 64 * there_by way more
@@ -183,8 +184,8 @@ module _ (p : Pair) (same_key : p.requester.psk ≡ p.responder.psk) (asker : Is
 
   size_few : size ≤ 1228
   size_few =
-      let few = hash_few (opens.terms p same_key asker server summary h0 d0 x rid can).choice.hash in
-      let summed = no_more (x.summary == 0) (hash_size (opens.terms p same_key asker server summary h0 d0 x rid can).choice.hash) in
+      let few = hash_few (stages.terms p same_key asker server summary h0 d0 x rid can).choice.hash in
+      let summed = no_more (x.summary == 0) (hash_size (stages.terms p same_key asker server summary h0 d0 x rid can).choice.hash) in
       let opaque = server.opaque in
       omega (arith, few.1, summed, opaque)
 

@@ -46,7 +46,8 @@ use Rattle.spdm_progress.specs.Honest.{AreHonest, HaveNoCommand}
 use Rattle.spdm_progress.specs.Opening.{CanOpen, OpenCompletes, exchange_rsp_size}
 use Rattle.spdm_progress.specs.SessionCommands.{IsDoneQuietly, IsToldQuietly, commanding}
 use Rattle.spdm_progress.proofs.Accepted.{not_worn_told, told_so}
-use Rattle.spdm_progress.proofs.OpenRounds.{CanExchange, GoesWhole, OpenDone, OpenTalkAnswers, OpenTalkAsks, open_talk, rounds_of}
+use Rattle.spdm_progress.proofs.OpenRounds.{OpenDone, OpenTalkAnswers, OpenTalkAsks, open_talk}
+use Rattle.spdm_progress.proofs.OpenStages.{CanExchange, GoesWhole, rounds_of}
 use Rattle.spdm_progress.proofs.OpenCounts.{each_by, open_few, open_short, there_by}
 use Rattle.spdm_progress.proofs.ClearFetch.{CanFetch}
 use Rattle.spdm_progress.proofs.PacketSteps.{Pair}
