@@ -1,6 +1,10 @@
 //! What honest delivery completes, each law as the contract of a function that does nothing.
 
-ghost use Rattle.spdm_progress.specs.Connecting.{ConnectCompletes, EachIsConnected, SixPacketsAreEnough};
+ghost use Rattle.spdm_progress.specs.Connecting.{
+  ConnectCompletes,
+  EachIsConnected,
+  SixPacketsAreEnough,
+};
 ghost use Rattle.spdm_progress.specs.Measuring.{ConnectedCanMeasure, MeasureCompletes};
 ghost use Rattle.spdm_progress.specs.Opening.{OpenCompletes};
 ghost use Rattle.spdm_progress.specs.Scripts.{
@@ -57,9 +61,9 @@ pub fn open_completes()
 {}
 
 /// Each command that asks something of an open session (application data, HEARTBEAT, KEY_UPDATE of
-/// either kind, GET_MEASUREMENTS whose answer may come by chunks, END_SESSION), told where no packet
-/// waits and the two ends are quiet, comes to its result once no packet waits again, and leaves the
-/// two ends quiet.
+/// either kind, GET_MEASUREMENTS whose answer may come by chunks, END_SESSION), told where no
+/// packet waits and the two ends are quiet, comes to its result once no packet waits again, and
+/// leaves the two ends quiet.
 pub fn session_commands_complete()
     ensures { SessionCommandsComplete }
 {}
