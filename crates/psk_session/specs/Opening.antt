@@ -1,5 +1,5 @@
 -- A session at the requester while PSK_EXCHANGE_RSP is awaited (DSP0274, "PSK_EXCHANGE", "PSK_EXCHANGE_RSP"), and the session that the answer makes of it.
-use Rattle.std.specs.Prelude.{◌≡◌, ℕ, List, [], ◌∷◌, ◌++◌, ◌==◌, not, slice_index, if◌then◌else◌, Bool, Option, Some, None, Result, Ok, Err, bytes_eq}
+use Rattle.std.specs.Prelude.{◌≡◌, ℕ, List, [], ◌∷◌, ◌++◌, if◌then◌else◌, Option, Some, None, Result, Ok, Err, bytes_eq}
 use Rattle.spdm_grammar.specs.Message.{ResponseMessage}
 use Rattle.spdm_grammar.specs.Message.ResponseMessage.{PskExchangeRsp}
 use Rattle.spdm_grammar.specs.Message.RequestMessage.{PskFinish}

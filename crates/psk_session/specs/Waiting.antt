@@ -1,5 +1,5 @@
 -- A session at the requester that awaits an answer.
-use Rattle.std.specs.Prelude.{◌≡◌, ◌+◌, ℕ, List, [], ◌∷◌, if◌then◌else◌}
+use Rattle.std.specs.Prelude.{⊤, ◌≡◌, ◌+◌, ℕ, List, [], ◌∷◌, if◌then◌else◌}
 use Rattle.chunking.specs.Keeping as keeping
 use Rattle.requester_machine.specs.SpentLaws.{FewFor}
 use Rattle.requester_machine.specs.Message.{Ask}
@@ -39,13 +39,17 @@ abbrev pub IsBehind : (max : ℕ) → Awaited → (before : List ChunkMessage) �
 IsBehind max (awaited.Chunk op handle number) before = AreUnderWay max handle number before
 IsBehind max _ before = before ≡ []
 
--- This is what is awaited: the chunks before it are what was gathered, in messages of up to this length.
+-- While a chunk is awaited, the chunks before it are what was gathered, in messages of up to this length.
+abbrev pub IsGathered : (max : ℕ) → Awaited → (collector : keeping.Kept) → (before : List ChunkMessage) → Type 0
+IsGathered max (awaited.Chunk op handle number) collector before = keeping.StandsFor collector before × (collector.max ≡ max)
+IsGathered max _ collector before = ⊤
+
+-- This is what is awaited, in messages of up to this length.
 pub record Awaits (awaited : Awaited) (collector : keeping.Kept) (most : ℕ) (a : Ask) : Type 0 where
   pub before : List ChunkMessage
   pub is : a ≡ awaited_by awaited before
   pub behind : IsBehind most awaited before
-  pub gathered : keeping.StandsFor collector before
-  pub max : collector.max ≡ most
+  pub gathered : IsGathered most awaited collector before
 
 -- ---- The state.
 

@@ -21,6 +21,7 @@ ghost use Rattle.requester_machine.specs.Shown.{view_of};
 use crate::finish_record::{seal_finish, verify_of_finish};
 use crate::inner::{Inner, read_inner};
 use crate::kept::Kept;
+use crate::req_session::ReqSession;
 use crate::requests::write_finish;
 use crate::{Closed, FinishTook, ReqOpen, SessionTerms};
 use secured_record::{RecordFault, RecordKey};
@@ -205,8 +206,7 @@ impl Finishing {
             terms,
         };
         ReqOpen {
-            kept,
-            brought: RecordFrame::new(),
+            session: ReqSession::new(kept),
         }
     }
 }

@@ -47,7 +47,7 @@ impl RecordKey {
 
     /// The key that follows by a key update (DSP0274, "KEY_UPDATE"), with the next epoch. The caller's
     /// epoch is below 2^64 - 1.
-    pub fn next(self) -> RecordKey
+    pub fn next(mut self) -> RecordKey
         requires { self.epoch < 2 ^ 64 - 1 }
         ensures value { result
             ≡ record self {
@@ -57,11 +57,24 @@ impl RecordKey {
         ensures purpose { (p : Purpose) → IsSecretOf self p
             → IsSecretOf result (record p { epoch = p.epoch + 1 }) }
     {
-        let RecordKey {
-            direction,
-            cipher: _,
-        } = self;
-        RecordKey::new(direction.next())
+        self.update();
+        self
+    }
+
+    /// Steps to the key that follows by a key update, as `next` does, in place. The caller's epoch is below
+    /// 2^64 - 1.
+    pub fn update(&mut self)
+        requires { self.old.epoch < 2 ^ 64 - 1 }
+        ensures value { self.new
+            ≡ record self.old {
+              secret = updated_secret (hash_of self.old.hash) self.old.secret;
+              epoch = self.old.epoch + 1;
+            } }
+        ensures purpose { (p : Purpose) → IsSecretOf self.old p
+            → IsSecretOf self.new (record p { epoch = p.epoch + 1 }) }
+    {
+        self.direction.update();
+        self.cipher = RecordCipher::new(self.direction.aead(), self.direction.key());
     }
 
     /// How many key updates led to this key.

@@ -1,4 +1,4 @@
-ghost use Rattle.std.specs.Prelude.{◌≡◌, ◌≤◌, ◌+◌, None, Some, OnOk, MatchResult, length};
+ghost use Rattle.std.specs.Prelude.{◌≡◌, ◌≤◌, ◌+◌, None, Some, OnOk, OnErr, MatchResult, length};
 ghost use Rattle.key_schedule.specs.Purpose.{Purpose};
 ghost use Rattle.spdm_basis.specs.SessionIdBytes.{session_id_bytes};
 ghost use Rattle.spdm_grammar.specs.declared.choice.Choice.{Choice};
@@ -40,6 +40,7 @@ pub fn open_record(
     ensures inner { (choice : Choice) (p : Purpose) → IsKeyOf key.now choice p
         → OnOk result (out.new ≡ inner_message choice p number sealed.now) }
     ensures fits { OnOk result (length sealed.now ≤ 4160) }
+    ensures unchanged { OnErr result (out.new ≡ out.old) }
 {
     key.open(id, number, sealed, out)
 }
