@@ -32,7 +32,12 @@ impl Model for DirectionKey {
 
     ghost Value = { DirectionSecret };
 
-    ghost view = { λ k. record { hash = k.hash; aead = k.aead; secret = k.secret; epoch = k.epoch } };
+    ghost view = { λ k. record {
+      hash = k.hash;
+      aead = k.aead;
+      secret = k.secret;
+      epoch = k.epoch;
+    } };
 
     ghost invariant = { λ k. (length k.secret ≡ hash_size k.hash)
         × (length k.key.items ≡ key_size k.aead)

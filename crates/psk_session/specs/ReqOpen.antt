@@ -1,6 +1,6 @@
 -- A session at the requester that is open, with nothing outstanding.
 use Rattle.std.specs.Prelude.{◌≡◌, ℕ, List}
-use Rattle.requester_machine.proofs.Few.{FewBy}
+use Rattle.requester_machine.specs.SpentLaws.{FewBy}
 use Rattle.requester_machine.specs.Order.Waits.{Rests}
 use Rattle.requester_machine.specs.Session.{Steps, stage_of, response_epoch}
 use Rattle.spdm_grammar.specs.declared.phase.Stage.TheVariants.{Open}
