@@ -35,8 +35,8 @@ impl ReqSession {
 
     // Opens the session with a reply, whose data or measurement record were put down.
     fn answered(&mut self, reply: Reply)
-        ensures opened { (psk : List ℕ) (s : Steps) (a : message.Ask) (sealed answer : List ℕ) (op : ℕ)
-            → Keeps self.old.kept psk s (response_epoch s)
+        ensures opened { (psk : List ℕ) (s : Steps) (a : message.Ask) (sealed answer : List ℕ)
+            (op : ℕ) → Keeps self.old.kept psk s (response_epoch s)
             → request_next s ≤ 65535 → response_next s ≤ 65534
             → stage_of (with_taken psk s a sealed (effect_of answer op reply)) ≡ stages.Open
             → data_in (effect_of answer op reply) ≡ self.old.brought
@@ -74,7 +74,8 @@ impl ReqSession {
         self.gathered = Collector::new(self.kept.terms.common.to_requester.max);
     }
 
-    // Asks for the chunk of this number of the large answer to an operation, behind what was gathered.
+    // Asks for the chunk of this number of the large answer to an operation, behind what was
+    // gathered.
     fn fetch(&mut self, op: u8, handle: u8, number: u16, pad: &[u8])
         requires { length pad.now ≤ 16 }
         ensures asked { (psk : List ℕ) (s : Steps) (before : List ChunkMessage)
@@ -131,7 +132,8 @@ impl ReqSession {
         }
     }
 
-    // Asks for the next chunk of a large answer to an operation, behind the one that has this number.
+    // Asks for the next chunk of a large answer to an operation, behind the one that has this
+    // number.
     pub(crate) fn go_on(&mut self, op: u8, handle: u8, number: u16, pad: &[u8]) -> Told
         requires { length pad.now ≤ 16 }
         ensures follows { (psk : List ℕ) (s : Steps) (sealed : List ℕ) (at_handle at_number : ℕ)

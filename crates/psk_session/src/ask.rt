@@ -71,7 +71,8 @@ impl Ask<'_> {
     pub(crate) fn awaited(&self) -> Awaited
         ensures is { awaited_by result [] ≡ asked_of self.now }
         ensures behind { (max : ℕ) → IsBehind max result [] }
-        ensures gathered { (max : ℕ) (collector : keeping.Kept) → IsGathered max result collector [] }
+        ensures gathered { (max : ℕ) (collector : keeping.Kept)
+            → IsGathered max result collector [] }
     {
         match self {
             Ask::Data(_) => Awaited::Data,

@@ -63,7 +63,8 @@ impl Model for Finishing {
 }
 
 impl Finishing {
-    // The session whose PSK_EXCHANGE_RSP told this RspSessionID, with this padding for PSK_FINISH. The lane was
+    // The session whose PSK_EXCHANGE_RSP told this RspSessionID, with this padding for PSK_FINISH.
+    // The lane was
     // given the transcript up to PSK_EXCHANGE_RSP.
     pub(crate) fn new(
         mut lane: Lane,
@@ -128,7 +129,8 @@ impl Finishing {
         self.sent.as_slice()
     }
 
-    /// A record of the responder. Only PSK_FINISH_RSP opens the session; anything else that opens ends it.
+    /// A record of the responder. Only PSK_FINISH_RSP opens the session; anything else that opens
+    /// ends it.
     pub fn take(self, sealed: &[u8]) -> FinishTook
         ensures { (psk : List ℕ) (n : Negotiation) (exchange answer pad : List ℕ)
             → StandsFor self psk n exchange answer pad

@@ -16,8 +16,10 @@ use spdm_grammar::{BadReply, ChunkView, Request, SessionView, Stage};
 // The number of either direction from which on GET_MEASUREMENTS is not asked.
 const MOST_MEASURED: u32 = 65_300;
 
-// What a session keeps once it is open: the keys with the numbers of their next records, how many application
-// messages were taken, the hash of T2, the id and the terms. While the answer to an update of all keys is awaited,
+// What a session keeps once it is open: the keys with the numbers of their next records, how many
+// application
+// messages were taken, the hash of T2, the id and the terms. While the answer to an update of all
+// keys is awaited,
 // the key of responses is the next one.
 #[derive(Drop)]
 pub struct Kept {
@@ -38,7 +40,8 @@ pub fn record_number(next: u32) -> u16
     next.min(65_535) as u16
 }
 
-// The next number of responses behind the answer to an update, which is the first one under the next key where that
+// The next number of responses behind the answer to an update, which is the first one under the
+// next key where that
 // updates all keys.
 fn next_behind_update(next: u32, all: bool) -> u32
     ensures { result ≡ (if all then 1 else min (next + 1) (2 ^ 32 - 1)) }
@@ -188,7 +191,8 @@ impl Kept {
         }
     }
 
-    // Steps to the key under which the answer to this is: that to an update of all keys is under the next one.
+    // Steps to the key under which the answer to this is: that to an update of all keys is under
+    // the next one.
     pub fn look_ahead(&mut self, awaited: Awaited)
         requires { self.old.response.epoch < 2 ^ 64 - 1 }
         ensures { (psk : List ℕ) (s : Steps) (before : List ChunkMessage)
@@ -200,7 +204,8 @@ impl Kept {
         }
     }
 
-    // Counts one more record that was taken, which held application data or not, and updated no key.
+    // Counts one more record that was taken, which held application data or not, and updated no
+    // key.
     pub fn count(&mut self, had_data: bool)
         ensures { (psk : List ℕ) (s : Steps) (epoch : ℕ) (sealed inner : List ℕ) (effect : Effect)
             → Keeps self.old psk s epoch → finishes effect ≡ false → updates effect ≡ false
@@ -261,7 +266,8 @@ impl Kept {
         }
     }
 
-    // What the chunk that is awaited of a large answer to an operation leads to, behind what was gathered, with
+    // What the chunk that is awaited of a large answer to an operation leads to, behind what was
+    // gathered, with
     // what it brings in place of what `out` holds; nothing, where more chunks are awaited.
     pub fn collect(
         &self,

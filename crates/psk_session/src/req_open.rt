@@ -38,14 +38,16 @@ impl ReqOpen {
         self.session.view()
     }
 
-    /// The application data or the measurement record of the last answer; no bytes where it had none.
+    /// The application data or the measurement record of the last answer; no bytes where it had
+    /// none.
     pub fn data(&self) -> &[u8]
         ensures { result.now ≡ self.now.brought }
     {
         self.session.data()
     }
 
-    /// Asks something of the session, in a record with this padding of at most 16 bytes. A refused ask
+    /// Asks something of the session, in a record with this padding of at most 16 bytes. A refused
+    /// ask
     /// changes nothing. The caller's response key has an epoch below 2^64 - 1.
     pub fn ask(self, ask: Ask<'_>, pad: &[u8]) -> Result<Waiting, (ReqOpen, AskFault)>
         requires epoch { self.kept.response.epoch < 2 ^ 64 - 1 }

@@ -28,7 +28,8 @@ use session_keys::open_record;
 use spdm_basis::RecordFrame;
 use spdm_grammar::SessionView;
 
-/// A session at the requester behind its handshake, stepped in place. It is open, or it awaits an answer; once it
+/// A session at the requester behind its handshake, stepped in place. It is open, or it awaits an
+/// answer; once it
 /// was told to be ended or lost, it is neither.
 #[derive(Drop)]
 pub struct ReqSession {
@@ -86,13 +87,14 @@ impl ReqSession {
         self.kept.response.epoch()
     }
 
-    /// The session as it is shown, while it is open or awaits an answer. Its count of application messages has 64
+    /// The session as it is shown, while it is open or awaits an answer. Its count of application
+    /// messages has 64
     /// bits.
     pub fn view(&self) -> SessionView
         ensures opened { (psk : List ℕ) (s : Steps) → IsOpen self.now psk s
             → taken_of s < 2 ^ 64 → result ≡ view_of s }
-        ensures awaiting { (psk : List ℕ) (s : Steps) (a : message.Ask) → IsAwaiting self.now psk s a
-            → taken_of s < 2 ^ 64 → result ≡ view_of s }
+        ensures awaiting { (psk : List ℕ) (s : Steps) (a : message.Ask)
+            → IsAwaiting self.now psk s a → taken_of s < 2 ^ 64 → result ≡ view_of s }
         ensures request_epoch { result.request_epoch ≡ self.now.kept.request.epoch }
         ensures response_epoch { is_open self.now.standing ≡ true
             → result.response_epoch ≡ self.now.kept.response.epoch }
@@ -100,11 +102,12 @@ impl ReqSession {
         self.kept.view(self.standing.stage(), self.shown_epoch())
     }
 
-    // The epoch of responses that is shown: that of the key before, while the answer is under the next one.
+    // The epoch of responses that is shown: that of the key before, while the answer is under the
+    // next one.
     fn shown_epoch(&self) -> u64
         ensures opened { is_open self.now.standing ≡ true → result ≡ self.now.kept.response.epoch }
-        ensures awaiting { (psk : List ℕ) (s : Steps) (a : message.Ask) → IsAwaiting self.now psk s a
-            → result ≡ response_epoch s }
+        ensures awaiting { (psk : List ℕ) (s : Steps) (a : message.Ask)
+            → IsAwaiting self.now psk s a → result ≡ response_epoch s }
     {
         let epoch = self.kept.response.epoch();
         if self.standing.is_of_all() {
@@ -121,7 +124,8 @@ impl ReqSession {
         self.sent.as_slice()
     }
 
-    /// The application data or the measurement record of the last answer, while the session is open; no bytes where
+    /// The application data or the measurement record of the last answer, while the session is
+    /// open; no bytes where
     /// it had none.
     pub fn data(&self) -> &[u8]
         ensures { result.now ≡ (open_of self.now).brought }
@@ -129,7 +133,8 @@ impl ReqSession {
         self.brought.as_slice()
     }
 
-    /// Asks something of the session, which is open, in a record with this padding of at most 16 bytes. A refused
+    /// Asks something of the session, which is open, in a record with this padding of at most 16
+    /// bytes. A refused
     /// ask changes nothing. The caller's response key has an epoch below 2^64 - 1.
     pub fn ask(&mut self, ask: Ask<'_>, pad: &[u8]) -> Result<(), AskFault>
         requires open { is_open self.old.standing ≡ true }
@@ -180,7 +185,8 @@ impl ReqSession {
         self.standing = Standing::Awaits(awaited);
     }
 
-    /// A record of the responder, while an answer is awaited. A further record that is to be sent then has no
+    /// A record of the responder, while an answer is awaited. A further record that is to be sent
+    /// then has no
     /// padding. The caller's request key has an epoch below 2^64 - 1.
     pub fn take(&mut self, sealed: &[u8]) -> Told
         requires awaiting { is_awaiting self.old.standing ≡ true }
@@ -237,7 +243,8 @@ impl ReqSession {
         }
     }
 
-    // Opens the record that answers, and writes its inner message in place of the record that asked.
+    // Opens the record that answers, and writes its inner message in place of the record that
+    // asked.
     fn open_answer(&mut self, sealed: &[u8]) -> Result<(), RecordFault>
         ensures fault { (psk : List ℕ) (s : Steps) (a : message.Ask) → IsAwaiting self.old psk s a
             → MatchResult result

@@ -46,7 +46,8 @@ impl Waiting {
         self.session.view()
     }
 
-    /// A record of the responder. A further record that is to be sent then has no padding. The caller's request
+    /// A record of the responder. A further record that is to be sent then has no padding. The
+    /// caller's request
     /// key has an epoch below 2^64 - 1.
     pub fn take(self, sealed: &[u8]) -> Took
         requires { self.kept.request.epoch < 2 ^ 64 - 1 }

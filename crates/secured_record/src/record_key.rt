@@ -15,7 +15,8 @@ use key_schedule::DirectionKey;
 use spdm_basis::{RecordFrame, SessionId};
 use std::marker::Model;
 
-/// The key of a direction with its cipher set up once, for many records. Contracts see what they see of
+/// The key of a direction with its cipher set up once, for many records. Contracts see what they
+/// see of
 /// the key of the direction.
 #[derive(Drop)]
 pub struct RecordKey {
@@ -45,7 +46,8 @@ impl RecordKey {
         RecordKey { direction, cipher }
     }
 
-    /// The key that follows by a key update (DSP0274, "KEY_UPDATE"), with the next epoch. The caller's
+    /// The key that follows by a key update (DSP0274, "KEY_UPDATE"), with the next epoch. The
+    /// caller's
     /// epoch is below 2^64 - 1.
     pub fn next(mut self) -> RecordKey
         requires { self.epoch < 2 ^ 64 - 1 }
@@ -61,7 +63,8 @@ impl RecordKey {
         self
     }
 
-    /// Steps to the key that follows by a key update, as `next` does, in place. The caller's epoch is below
+    /// Steps to the key that follows by a key update, as `next` does, in place. The caller's epoch
+    /// is below
     /// 2^64 - 1.
     pub fn update(&mut self)
         requires { self.old.epoch < 2 ^ 64 - 1 }
@@ -128,7 +131,8 @@ impl RecordKey {
         ensures unchanged { OnErr result (out.new ≡ out.old) }
         ensures not_spent { IfErr result (λ e. e ≢ RecordFault.KeySpent) }
 
-        // What opens is a record of its inner message, and each record of at most 4,160 bytes opens.
+        // What opens is a record of its inner message, and each record of at most 4,160 bytes
+        // opens.
         ensures record { OnOk result
             (IsRecordOf (key_of self.now) (iv_of self.now)
             (session_id_bytes id.req id.rsp) number sealed.now out.new) }

@@ -8,7 +8,8 @@ ghost use Rattle.session_keys.specs.Keys.{IsKeyOf};
 use secured_record::{RecordFault, RecordKey};
 use spdm_basis::{Buffer, RecordFrame, SessionId};
 
-/// Writes the record of an inner message and padding under the key of a purpose, in place of what `out` holds.
+/// Writes the record of an inner message and padding under the key of a purpose, in place of what
+/// `out` holds.
 /// Together they have at most 4,134 bytes.
 pub fn seal_record(
     key: &RecordKey,
@@ -26,7 +27,8 @@ pub fn seal_record(
     let _ = key.seal(id, number, inner, pad, out);
 }
 
-/// Opens a record under the key of a purpose, and writes its inner message in place of what `out` holds.
+/// Opens a record under the key of a purpose, and writes its inner message in place of what `out`
+/// holds.
 pub fn open_record(
     key: &RecordKey,
     id: SessionId,
@@ -45,7 +47,8 @@ pub fn open_record(
     key.open(id, number, sealed, out)
 }
 
-/// The record of an inner message of at most 1,025 bytes, with at most 16 bytes of padding, under the key of a
+/// The record of an inner message of at most 1,025 bytes, with at most 16 bytes of padding, under
+/// the key of a
 /// purpose.
 pub fn seal_inner(
     key: &RecordKey,

@@ -39,7 +39,8 @@ const TERMS: SessionTerms = SessionTerms {
     req_id: 1,
 };
 
-/// Both ends of an open session under a pre-shared key of zeros: the requester, and the keys of the responder, with
+/// Both ends of an open session under a pre-shared key of zeros: the requester, and the keys of the
+/// responder, with
 /// the inner message that it opened last and the record that it sealed last.
 #[derive(Drop)]
 pub struct Talk {
@@ -123,7 +124,8 @@ impl Talk {
         }
     }
 
-    // The cryptography of a round trip alone, of an inner message: both records, each sealed and opened.
+    // The cryptography of a round trip alone, of an inner message: both records, each sealed and
+    // opened.
     fn records(&mut self, number: u16, inner: &[u8]) -> Result<(), BenchError> {
         let (heard, sealed) = (&mut self.inner, &mut self.sealed);
         let _ = self.request.seal(ID, number, inner, &[], sealed);
@@ -139,8 +141,10 @@ impl Talk {
     }
 }
 
-/// Has a session send `count` application messages of `size` zeros, each of which is sent back, and gives the last
-/// record of the responder in hexadecimal. A session refuses more than 65,535 of them, and more than 1,024 bytes.
+/// Has a session send `count` application messages of `size` zeros, each of which is sent back, and
+/// gives the last
+/// record of the responder in hexadecimal. A session refuses more than 65,535 of them, and more
+/// than 1,024 bytes.
 pub fn last_of_session(alloc: Global, size: usize, count: u16) -> Result<String, BenchError> {
     let text = vec![in alloc; 0u8; size]?;
     let mut talk = Talk::begin()?;

@@ -39,7 +39,8 @@ pub struct Work {
 }
 
 impl Work {
-    /// The work of the words `KIND SIZE COUNT`, where the kind is `gcm`, `hmac`, `session` or `records`, with a size of at most 65,535 and both
+    /// The work of the words `KIND SIZE COUNT`, where the kind is `gcm`, `hmac`, `session` or
+    /// `records`, with a size of at most 65,535 and both
     /// numbers in decimal, and `None` for others.
     pub fn of(words: &[String]) -> Option<Work>
         ensures kind { IfSome result (λ work. kind_named (slice_index_or
