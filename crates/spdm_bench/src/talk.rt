@@ -1,3 +1,7 @@
+ghost use Rattle.std.specs.Prelude.{◌≡◌, IfOk, length};
+ghost use Rattle.spdm_basis.specs.Sizes.{hash_size};
+ghost use Rattle.spdm_basis.specs.declared.hash_alg.HashAlg.TheVariants.{Sha256};
+
 use crate::bench_error::BenchError;
 use negotiate::{Common, Sizes};
 use psk_session::{Ask, FinishTook, Finishing, Opening, ReqSession, SessionTerms, Told};
@@ -60,14 +64,18 @@ fn exchange_answer() -> Frame {
 }
 
 // The hash of T1, whose negotiation and PSK_EXCHANGE have no bytes here.
-fn hash_of_t1(answer: &Frame) -> HashBytes {
+fn hash_of_t1(answer: &Frame) -> HashBytes
+    ensures { length result ≡ hash_size Sha256 }
+{
     let mut lane = Lane::new(HASH);
     lane.push(answer.as_slice());
     lane.finish()
 }
 
 // The requester that awaits PSK_FINISH_RSP, and the handshake as the responder has it.
-fn finishing(psk: &Psk) -> Result<(Finishing, Handshake), BenchError> {
+fn finishing(psk: &Psk) -> Result<(Finishing, Handshake), BenchError>
+    ensures { IfOk result (λ made. made.1.keys.hash ≡ Sha256) }
+{
     let mut answer = exchange_answer();
     let handshake = Handshake::new(HASH, AEAD, psk, hash_of_t1(&answer));
     let _ = answer.extend(handshake.responder_verify().as_slice());
@@ -90,7 +98,11 @@ impl Talk {
         let FinishTook::Open(state) = state.take(sealed.as_slice()) else {
             return Err(BenchError::NoSession);
         };
-        let keys = handshake.app_keys(&state.view().hash);
+        let th2 = state.view().hash;
+        if th2.as_slice().len() != HASH.size() {
+            return Err(BenchError::NoSession);
+        }
+        let keys = handshake.app_keys(&th2);
         Ok(Talk {
             session: state.into_session(),
             request: RecordKey::new(keys.request),
