@@ -12,8 +12,7 @@ use std::marker::Model;
 
 /// The key and the initialization vector of the records of one direction, and the secret from which
 /// they and their successors come (DSP0274, "Key schedule"). Contracts see the hash function, the
-/// AEAD,
-/// the secret and the epoch.
+/// AEAD, the secret and the epoch.
 #[derive(Drop)]
 pub struct DirectionKey {
     hash: HashAlg,
@@ -71,8 +70,7 @@ impl DirectionKey {
     }
 
     /// The key that follows by a key update (DSP0274, "KEY_UPDATE"), with the next epoch. The
-    /// caller's
-    /// epoch is below 2^64 - 1.
+    /// caller's epoch is below 2^64 - 1.
     pub fn next(mut self) -> DirectionKey
         requires { self.epoch < 2 ^ 64 - 1 }
         ensures value { result ≡ record self {
@@ -88,8 +86,7 @@ impl DirectionKey {
     }
 
     /// Steps to the key that follows by a key update, as `next` does, in place. The caller's epoch
-    /// is below
-    /// 2^64 - 1.
+    /// is below 2^64 - 1.
     #[tactic(auto, unfolding(crate::specs::Schedule::secret_at))]
     pub fn update(&mut self)
         requires { self.old.epoch < 2 ^ 64 - 1 }

@@ -64,8 +64,7 @@ impl Model for Finishing {
 
 impl Finishing {
     // The session whose PSK_EXCHANGE_RSP told this RspSessionID, with this padding for PSK_FINISH.
-    // The lane was
-    // given the transcript up to PSK_EXCHANGE_RSP.
+    // The lane was given the transcript up to PSK_EXCHANGE_RSP.
     pub(crate) fn new(
         mut lane: Lane,
         handshake: Handshake,

@@ -17,10 +17,8 @@ use spdm_grammar::{BadReply, ChunkView, Request, SessionView, Stage};
 const MOST_MEASURED: u32 = 65_300;
 
 // What a session keeps once it is open: the keys with the numbers of their next records, how many
-// application
-// messages were taken, the hash of T2, the id and the terms. While the answer to an update of all
-// keys is awaited,
-// the key of responses is the next one.
+// application messages were taken, the hash of T2, the id and the terms. While the answer to an
+// update of all keys is awaited, the key of responses is the next one.
 #[derive(Drop)]
 pub struct Kept {
     pub request: RecordKey,
@@ -41,8 +39,7 @@ pub fn record_number(next: u32) -> u16
 }
 
 // The next number of responses behind the answer to an update, which is the first one under the
-// next key where that
-// updates all keys.
+// next key where that updates all keys.
 fn next_behind_update(next: u32, all: bool) -> u32
     ensures { result ≡ (if all then 1 else min (next + 1) (2 ^ 32 - 1)) }
 {
@@ -267,8 +264,8 @@ impl Kept {
     }
 
     // What the chunk that is awaited of a large answer to an operation leads to, behind what was
-    // gathered, with
-    // what it brings in place of what `out` holds; nothing, where more chunks are awaited.
+    // gathered, with what it brings in place of what `out` holds; nothing, where more chunks are
+    // awaited.
     pub fn collect(
         &self,
         op: u8,

@@ -1,8 +1,6 @@
 //! A session under a pre-shared key at the requester (DSP0274, "Session"; DSP0277), as states that
-//! a call takes and
-//! gives back: what may not be done in a state is no call of it. Behind its handshake it can be
-//! stepped in place, so
-//! that nothing large moves. No call takes memory.
+//! a call takes and gives back: what may not be done in a state is no call of it. Behind its
+//! handshake it can be stepped in place, so that nothing large moves. No call takes memory.
 #![tactic(auto)]
 
 mod answering;

@@ -100,8 +100,7 @@ impl Opening {
     }
 
     /// The answer to PSK_EXCHANGE. Where its verify data are right, PSK_FINISH is made, without
-    /// padding;
-    /// a refused answer changes nothing.
+    /// padding; a refused answer changes nothing.
     pub fn take_response(self, answer: &[u8]) -> Result<Finishing, (Opening, OpenFault)>
         ensures { (psk : List ℕ) (n : Negotiation) (exchange : List ℕ)
             → StandsFor self psk n exchange → IsTaken self psk n exchange answer.now [] result }

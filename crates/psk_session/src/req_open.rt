@@ -47,8 +47,7 @@ impl ReqOpen {
     }
 
     /// Asks something of the session, in a record with this padding of at most 16 bytes. A refused
-    /// ask
-    /// changes nothing. The caller's response key has an epoch below 2^64 - 1.
+    /// ask changes nothing. The caller's response key has an epoch below 2^64 - 1.
     pub fn ask(self, ask: Ask<'_>, pad: &[u8]) -> Result<Waiting, (ReqOpen, AskFault)>
         requires epoch { self.kept.response.epoch < 2 ^ 64 - 1 }
         requires pad { length pad.now ≤ 16 }

@@ -29,8 +29,7 @@ use spdm_basis::RecordFrame;
 use spdm_grammar::SessionView;
 
 /// A session at the requester behind its handshake, stepped in place. It is open, or it awaits an
-/// answer; once it
-/// was told to be ended or lost, it is neither.
+/// answer; once it was told to be ended or lost, it is neither.
 #[derive(Drop)]
 pub struct ReqSession {
     pub(crate) kept: Kept,
@@ -88,8 +87,7 @@ impl ReqSession {
     }
 
     /// The session as it is shown, while it is open or awaits an answer. Its count of application
-    /// messages has 64
-    /// bits.
+    /// messages has 64 bits.
     pub fn view(&self) -> SessionView
         ensures opened { (psk : List ℕ) (s : Steps) → IsOpen self.now psk s
             → taken_of s < 2 ^ 64 → result ≡ view_of s }
@@ -125,8 +123,7 @@ impl ReqSession {
     }
 
     /// The application data or the measurement record of the last answer, while the session is
-    /// open; no bytes where
-    /// it had none.
+    /// open; no bytes where it had none.
     pub fn data(&self) -> &[u8]
         ensures { result.now ≡ (open_of self.now).brought }
     {
@@ -134,8 +131,7 @@ impl ReqSession {
     }
 
     /// Asks something of the session, which is open, in a record with this padding of at most 16
-    /// bytes. A refused
-    /// ask changes nothing. The caller's response key has an epoch below 2^64 - 1.
+    /// bytes. A refused ask changes nothing. The caller's response key has an epoch below 2^64 - 1.
     pub fn ask(&mut self, ask: Ask<'_>, pad: &[u8]) -> Result<(), AskFault>
         requires open { is_open self.old.standing ≡ true }
         requires epoch { self.old.kept.response.epoch < 2 ^ 64 - 1 }
@@ -186,8 +182,7 @@ impl ReqSession {
     }
 
     /// A record of the responder, while an answer is awaited. A further record that is to be sent
-    /// then has no
-    /// padding. The caller's request key has an epoch below 2^64 - 1.
+    /// then has no padding. The caller's request key has an epoch below 2^64 - 1.
     pub fn take(&mut self, sealed: &[u8]) -> Told
         requires awaiting { is_awaiting self.old.standing ≡ true }
         requires epoch { self.old.kept.request.epoch < 2 ^ 64 - 1 }

@@ -169,8 +169,7 @@ impl Awaited {
 }
 
 // What a whole large answer to an operation is, in a session of hashes of this length; where the
-// numbers are
-// reached or not from which on no GET_MEASUREMENTS is asked.
+// numbers are reached or not from which on no GET_MEASUREMENTS is asked.
 pub fn whole_verdict(whole: &[u8], hash_len: usize, reached: bool, op: u8) -> Verdict<'_>
     ensures { verdict_of result
         ≡ whole_verdict reached op (response_reading hash_len false whole.now) }

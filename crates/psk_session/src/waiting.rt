@@ -47,8 +47,7 @@ impl Waiting {
     }
 
     /// A record of the responder. A further record that is to be sent then has no padding. The
-    /// caller's request
-    /// key has an epoch below 2^64 - 1.
+    /// caller's request key has an epoch below 2^64 - 1.
     pub fn take(self, sealed: &[u8]) -> Took
         requires { self.kept.request.epoch < 2 ^ 64 - 1 }
         ensures { (psk : List ℕ) (s : Steps) (a : Ask) → StandsFor self psk s a

@@ -16,8 +16,7 @@ use spdm_basis::{RecordFrame, SessionId};
 use std::marker::Model;
 
 /// The key of a direction with its cipher set up once, for many records. Contracts see what they
-/// see of
-/// the key of the direction.
+/// see of the key of the direction.
 #[derive(Drop)]
 pub struct RecordKey {
     direction: DirectionKey,
@@ -47,8 +46,7 @@ impl RecordKey {
     }
 
     /// The key that follows by a key update (DSP0274, "KEY_UPDATE"), with the next epoch. The
-    /// caller's
-    /// epoch is below 2^64 - 1.
+    /// caller's epoch is below 2^64 - 1.
     pub fn next(mut self) -> RecordKey
         requires { self.epoch < 2 ^ 64 - 1 }
         ensures value { result
@@ -64,8 +62,7 @@ impl RecordKey {
     }
 
     /// Steps to the key that follows by a key update, as `next` does, in place. The caller's epoch
-    /// is below
-    /// 2^64 - 1.
+    /// is below 2^64 - 1.
     pub fn update(&mut self)
         requires { self.old.epoch < 2 ^ 64 - 1 }
         ensures value { self.new

@@ -9,8 +9,7 @@ use secured_record::{RecordFault, RecordKey};
 use spdm_basis::{Buffer, RecordFrame, SessionId};
 
 /// Writes the record of an inner message and padding under the key of a purpose, in place of what
-/// `out` holds.
-/// Together they have at most 4,134 bytes.
+/// `out` holds. Together they have at most 4,134 bytes.
 pub fn seal_record(
     key: &RecordKey,
     id: SessionId,
@@ -48,8 +47,7 @@ pub fn open_record(
 }
 
 /// The record of an inner message of at most 1,025 bytes, with at most 16 bytes of padding, under
-/// the key of a
-/// purpose.
+/// the key of a purpose.
 pub fn seal_inner(
     key: &RecordKey,
     id: SessionId,

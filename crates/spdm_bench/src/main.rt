@@ -1,6 +1,6 @@
 //! The program `spdm_bench`: it seals or authenticates many messages, or has a session send and
-//! answer them, so that
-//! the time that this takes can be measured from outside. It tells no time itself.
+//! answer them, so that the time that this takes can be measured from outside. It tells no time
+//! itself.
 #![tactic(auto)]
 
 mod answer;
@@ -17,8 +17,7 @@ use talk::{last_of_records, last_of_session};
 use work::{Kind, Work};
 
 /// Does the work that the words behind the program's name ask for, and prints the last tag, code or
-/// record
-/// in hexadecimal.
+/// record in hexadecimal.
 fn main(rt: HostRuntime) -> Result<(), BenchError> {
     let work = asked(&rt)?;
     let last = match work.kind {

@@ -44,8 +44,7 @@ const TERMS: SessionTerms = SessionTerms {
 };
 
 /// Both ends of an open session under a pre-shared key of zeros: the requester, and the keys of the
-/// responder, with
-/// the inner message that it opened last and the record that it sealed last.
+/// responder, with the inner message that it opened last and the record that it sealed last.
 #[derive(Drop)]
 pub struct Talk {
     session: ReqSession,
@@ -154,9 +153,8 @@ impl Talk {
 }
 
 /// Has a session send `count` application messages of `size` zeros, each of which is sent back, and
-/// gives the last
-/// record of the responder in hexadecimal. A session refuses more than 65,535 of them, and more
-/// than 1,024 bytes.
+/// gives the last record of the responder in hexadecimal. A session refuses more than 65,535 of
+/// them, and more than 1,024 bytes.
 pub fn last_of_session(alloc: Global, size: usize, count: u16) -> Result<String, BenchError> {
     let text = vec![in alloc; 0u8; size]?;
     let mut talk = Talk::begin()?;

@@ -40,8 +40,7 @@ pub struct Work {
 
 impl Work {
     /// The work of the words `KIND SIZE COUNT`, where the kind is `gcm`, `hmac`, `session` or
-    /// `records`, with a size of at most 65,535 and both
-    /// numbers in decimal, and `None` for others.
+    /// `records`, with a size of at most 65,535 and both numbers in decimal, and `None` for others.
     pub fn of(words: &[String]) -> Option<Work>
         ensures kind { IfSome result (λ work. kind_named (slice_index_or
             (map string_bytes words.now) 0 []) ≡ Some work.kind) }
