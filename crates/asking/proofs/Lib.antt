@@ -1,0 +1,5 @@
+pub mod Pieces
+pub mod Started
+pub mod Awaited
+pub mod Lengths
+pub mod Leading
