@@ -3,3 +3,5 @@ pub mod Started
 pub mod Awaited
 pub mod Lengths
 pub mod Leading
+pub mod Early
+pub mod Answered

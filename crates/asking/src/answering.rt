@@ -102,7 +102,7 @@ impl Talk {
     }
 
     // ERROR: LargeResponse calls for the first chunk of a large answer; any other refuses the request.
-    fn on_error(&mut self, asked: Asked, code: u8, extended: &[u8], out: &mut Frame) -> Led
+    pub(crate) fn on_error(&mut self, asked: Asked, code: u8, extended: &[u8], out: &mut Frame) -> Led
         ensures { (h : History) (request : RequestMessage) → Shows self.old h
             → self.old.outgoing.request ≡ canonical_request request
             → IsClearRequest request → kind_of request ≡ asked
@@ -122,7 +122,7 @@ impl Talk {
     }
 
     // VERSION: the own capabilities are told.
-    fn on_version(&mut self, setup: &Setup<'_>, answer: &[u8], entries: &[u8], out: &mut Frame) -> Led
+    pub(crate) fn on_version(&mut self, setup: &Setup<'_>, answer: &[u8], entries: &[u8], out: &mut Frame) -> Led
         ensures { (q : ReqSetup) (h : History) → IsSetUp setup.now q → Shows self.old h
             → self.old.outgoing.request ≡ canonical_request GetVersion
             → IsUpTo GetVersion (negotiation_of h) → length answer.now ≤ MAX_MESSAGE_SIZE
@@ -140,7 +140,7 @@ impl Talk {
     }
 
     // CAPABILITIES: what both ends can do is settled, and the own algorithms are offered.
-    fn on_capabilities(&mut self, setup: &Setup<'_>, answer: &[u8], theirs: &Caps, out: &mut Frame) -> Led
+    pub(crate) fn on_capabilities(&mut self, setup: &Setup<'_>, answer: &[u8], theirs: &Caps, out: &mut Frame) -> Led
         ensures { (q : ReqSetup) (h : History) (caps : Caps) → IsSetUp setup.now q → Shows self.old h
             → caps ≡ requester_caps q
             → self.old.outgoing.request ≡ canonical_request (GetCapabilities caps)
@@ -183,7 +183,7 @@ impl Talk {
     }
 
     // ALGORITHMS: they choose of what was offered.
-    fn on_algorithms(&mut self, setup: &Setup<'_>, answer: &[u8], reply: &AlgReply<'_>) -> Led
+    pub(crate) fn on_algorithms(&mut self, setup: &Setup<'_>, answer: &[u8], reply: &AlgReply<'_>) -> Led
         ensures { (q : ReqSetup) (h : History) (offer : OfferMessage) (out : List ℕ)
             → IsSetUp setup.now q → Shows self.old h
             → self.old.outgoing.request ≡ canonical_request (NegotiateAlgorithms offer)
@@ -209,7 +209,7 @@ impl Talk {
     }
 
     // MEASUREMENTS: the command is done.
-    fn on_measurements(&mut self, op: u8, measured: &Measured<'_>) -> Led
+    pub(crate) fn on_measurements(&mut self, op: u8, measured: &Measured<'_>) -> Led
         ensures { (h : History) (answer out : List ℕ) → Shows self.old h
             → length answer ≤ MAX_MESSAGE_SIZE
             → reading_of h (GetMeasurements op) answer

@@ -4,6 +4,7 @@
 
 mod again;
 mod answering;
+mod answers;
 mod commands;
 mod free_values;
 mod led;
