@@ -54,7 +54,7 @@ measurements_asked q h _ op a k = absurd a
 
 -- ---- What it leads to.
 
-any_free : Free
+pub any_free : Free
 any_free = record { id = 0; context = []; opaque = []; pad = [] }
 
 pub answered_by : (q : ReqSetup) (h : History) (place : ℕ) (request : RequestMessage) (answer : List ℕ) (led : seen_led.Led) (old new : Seen) (out : List ℕ)

@@ -28,7 +28,7 @@ use Rattle.asking.specs.Commands.{IsOfSession, IsResent, IsRetried}
 use Rattle.asking.specs.Negotiating.{IsUpTo, IsUpToAsked, IsUpToSent}
 use Rattle.asking.specs.Outgoing.{IsCut, IsKept, IsKeptOf, message_for}
 use Rattle.asking.specs.Talk.{Seen, StandsFor}
-use Rattle.asking.specs.Waiting.{IsClearRequest, kind_of, waiting_for, waiting_of}
+use Rattle.asking.specs.Waiting.{kind_of, waiting_for, waiting_of, way_of}
 use Rattle.asking.specs.declared.waiting.Asked.{Asked}
 use Rattle.asking.specs.declared.waiting.Way.{Way}
 use Rattle.asking.specs.declared.waiting.Way.TheVariants as ways
@@ -37,12 +37,6 @@ use Rattle.asking.specs.declared.waiting.Waiting.TheVariants as waits
 use Rattle.asking.proofs.Started.{HasRoom, common_room}
 
 -- ---- Read back.
-
-abbrev pub way_of : Aim → Way
-way_of (Plain asked) = ways.Whole
-way_of (ByChunks asked handle number) = ways.ByChunks handle number
-way_of (ForChunk asked handle number before) = ways.ForChunk handle number
-way_of (InSession id ask) = ways.Whole
 
 -- A request in the clear is outstanding.
 pub record InClearOf (o : Option Sent) (tag : ℕ) (asked : Asked) (way : Way) : Type 0 where

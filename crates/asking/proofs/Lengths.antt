@@ -6,7 +6,7 @@ use Rattle.byteorder.specs.Endian.{little_number}
 use Rattle.spdm_grammar.specs.Layout.{Layout, IsSpelling}
 use Rattle.spdm_grammar.specs.Layout.Layout.{Whole, Sized, Number, Optional, Bytes, Tables, UpTo, Remaining}
 use Rattle.spdm_grammar.specs.Message.{ResponseMessage, MeasuredMessage}
-use Rattle.spdm_grammar.specs.Message.ResponseMessage.{Capabilities, Measurements, Error}
+use Rattle.spdm_grammar.specs.Message.ResponseMessage.{Capabilities, ChunkSendAck, Measurements, Error}
 use Rattle.spdm_grammar.specs.Reading.{front}
 use Rattle.spdm_grammar.specs.Responses.{IsResponseSpelling, response_reading, response_layout, response_body, psk_exchange_rsp_layout, version_layout, error_layout, capabilities_layout, algorithms_layout, measurements_layout, psk_finish_rsp_layout, heartbeat_ack_layout, key_update_ack_layout, end_session_ack_layout, chunk_send_ack_layout, chunk_response_layout}
 use Rattle.spdm_grammar.specs.declared.capabilities.Caps.{Caps}
@@ -58,10 +58,12 @@ either_total false x y = y
 
 -- ---- The responses.
 
--- CAPABILITIES has 20 bytes, and MEASUREMENTS at least those of its measurement record.
+-- CAPABILITIES has 20 bytes, MEASUREMENTS at least those of its measurement record, and CHUNK_SEND_ACK those of its
+-- response.
 abbrev Fits : ResponseMessage → ℕ → Type 0
 Fits (Capabilities caps) k = k ≡ 20
 Fits (Measurements measured) k = length measured.block_bytes ≤ k
+Fits (ChunkSendAck early handle number answer) k = length answer ≤ k
 Fits _ k = ⊤
 
 version_fits : HasTotals Fits version_layout 2
@@ -103,9 +105,12 @@ end_fits : HasTotals Fits end_session_ack_layout 2
 unfolding end_session_ack_layout
 end_fits = record { are = λ _ _. tt }
 
+has_rest : (answer : List ℕ) → length answer ≤ 2 + 1 + 1 + 2 + length answer
+has_rest answer = omega arith
+
 ack_fits : HasTotals Fits chunk_send_ack_layout 2
 unfolding chunk_send_ack_layout
-ack_fits = record { are = λ _ _ _ _. tt }
+ack_fits = record { are = λ _ _ _ answer. has_rest answer }
 
 chunk_fits : HasTotals Fits chunk_response_layout 2
 unfolding chunk_response_layout
@@ -146,6 +151,9 @@ capabilities_long len bytes caps e = fits len false bytes (Capabilities caps) e
 
 pub measured_short : (len : ℕ) (bytes : List ℕ) (measured : MeasuredMessage) → response_reading len false bytes ≡ Ok (Measurements measured) → length measured.block_bytes ≤ length bytes
 measured_short len bytes measured e = fits len false bytes (Measurements measured) e
+
+pub ack_short : (len : ℕ) (summary : Bool) (bytes : List ℕ) (early : Bool) (handle number : ℕ) (answer : List ℕ) → response_reading len summary bytes ≡ Ok (ChunkSendAck early handle number answer) → length answer ≤ length bytes
+ack_short len summary bytes early handle number answer e = fits len summary bytes (ChunkSendAck early handle number answer) e
 
 -- ---- Whatever the hash.
 

@@ -5,3 +5,5 @@ pub mod Lengths
 pub mod Leading
 pub mod Early
 pub mod Answered
+pub mod Carrying
+pub mod Taken

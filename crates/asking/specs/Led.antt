@@ -1,10 +1,11 @@
 -- What comes of a message in the clear, but for the chunks of a large answer.
 use Rattle.std.specs.Prelude.{◌≡◌, ◌∷◌, ℕ, List, [], Bool, true, false, Option, Some, None, Result, Ok, Err}
-use Rattle.asking.specs.Talk.{Seen, Shows}
+use Rattle.asking.specs.Talk.{Seen, Shows, StandsFor}
 use Rattle.asking.specs.declared.led.Led as seen_led
 use Rattle.asking.specs.declared.led.Led.TheVariants as seen
 use Rattle.requester_machine.specs.Answers.{exchange_led}
-use Rattle.requester_machine.specs.ClearAnswers.{read_led, reading_of}
+use Rattle.requester_machine.specs.ClearAnswers.{Carried, carried_by, carried_led, clear_led, read_led, reading_of}
+use Rattle.requester_machine.specs.ClearAnswers.Carried.{Whole}
 use Rattle.requester_machine.specs.Commands.{Free}
 use Rattle.requester_machine.specs.History.{History, Led}
 use Rattle.requester_machine.specs.History.Entry.{TookClear}
@@ -69,3 +70,19 @@ pub record IsExchange (h : History) (request : RequestMessage) (answer : List �
 abbrev pub IsAnswered : ReqSetup → History → (place : ℕ) → RequestMessage → (answer : List ℕ) → seen_led.Led → (old new : Seen) → (out : List ℕ) → Type 0
 IsAnswered q h place request answer seen.Exchange old new out = IsExchange h request answer old new
 IsAnswered q h place request answer led old new out = (f : Free) → IsLed h (read_led q h f place request answer (reading_of h request answer)) led old new out
+
+-- A message came that is this to a request.
+abbrev pub IsCarried : ReqSetup → History → RequestMessage → Carried → seen_led.Led → (old new : Seen) → (out : List ℕ) → Type 0
+IsCarried q h request carried seen.Exchange old new out = (answer : List ℕ) × (place : ℕ) × (carried ≡ Whole answer place) × IsExchange h request answer old new
+IsCarried q h request carried led old new out = (f : Free) → IsLed h (carried_led q h f request carried) led old new out
+
+-- A message that led to something is an entry of the history that is kept.
+abbrev pub Stands : ReqSetup → History → List ℕ → Result Led ReqIgnored → Seen → Type 0
+Stands q h m leads new = (led : Led) (tag : ℕ) (d : Draw) → leads ≡ Ok led → StandsFor new q (TookClear tag m led d ∷ h)
+
+-- A message in the clear came to the outstanding one, which asks this: it leads to what it leads to in the definitions
+-- under any free values; or it brings the PSK_EXCHANGE_RSP that is awaited, and nothing changes.
+abbrev pub IsTaken : ReqSetup → History → Sent → RequestMessage → List ℕ → seen_led.Led → (old new : Seen) → (out : List ℕ) → Type 0
+IsTaken q h sent request m seen.Exchange old new out = (answer : List ℕ) × (place : ℕ) × (carried_by q h m sent.aim ≡ Whole answer place) × IsExchange h request answer old new
+IsTaken q h sent request m led old new out =
+    (f : Free) → IsLed h (clear_led q h f sent.aim request m) led old new out × Stands q h m (clear_led q h f sent.aim request m) new

@@ -2,6 +2,7 @@
 use Rattle.std.specs.Prelude.{ℕ, List, Option, Some, None}
 use Rattle.asking.specs.declared.waiting.Asked.{Asked}
 use Rattle.asking.specs.declared.waiting.Asked.TheVariants as asks
+use Rattle.asking.specs.declared.waiting.Way.{Way}
 use Rattle.asking.specs.declared.waiting.Way.TheVariants as ways
 use Rattle.asking.specs.declared.waiting.Waiting.{Waiting}
 use Rattle.asking.specs.declared.waiting.Waiting.TheVariants as waits
@@ -39,3 +40,10 @@ IsClearRequest (NegotiateAlgorithms offer) = Unit {0}
 IsClearRequest (GetMeasurements op) = Unit {0}
 IsClearRequest (PskExchange exchange) = Unit {0}
 IsClearRequest _ = ⊥
+
+-- How the request and its answer go, by what a message is sent for. A record goes whole.
+abbrev pub way_of : Aim → Way
+way_of (Plain asked) = ways.Whole
+way_of (ByChunks asked handle number) = ways.ByChunks handle number
+way_of (ForChunk asked handle number before) = ways.ForChunk handle number
+way_of (InSession id ask) = ways.Whole

@@ -2,9 +2,11 @@
 //! negotiation has come, what was settled, and what is outstanding.
 #![tactic(auto)]
 
+mod acknowledged;
 mod again;
 mod answering;
 mod answers;
+mod bodies;
 mod commands;
 mod free_values;
 mod led;

@@ -11,6 +11,7 @@ ghost use Rattle.spdm_grammar.specs.Requests.{IsSoundRequest, canonical_request}
 ghost use Rattle.spdm_grammar.specs.declared.names.TheConstants.{MAX_MESSAGE_SIZE, MIN_DATA_TRANSFER_SIZE};
 ghost use Rattle.asking.specs.Outgoing.{IsCut, Sends, message_for, tag_after};
 ghost use Rattle.asking.specs.declared.waiting.Waiting.TheVariants as waits;
+ghost use Rattle.asking.specs.declared.waiting.Way.TheVariants as ways;
 
 use crate::{Asked, Waiting, Way};
 use chunking::nth_chunk;
@@ -113,18 +114,31 @@ impl Outgoing {
     /// Writes the message that is sent for the kept request, to a responder of this DataTransferSize, in place of
     /// what `out` holds.
     pub fn write(&self, way: Way, transfer: u32, out: &mut Frame)
-        ensures { IsCut way transfer self.now.request
+        ensures out { IsCut way transfer self.now.request
             → out.new ≡ message_for way transfer self.now.request }
+        ensures fits { length self.now.request ≤ MAX_MESSAGE_SIZE }
     {
+        let request = self.request.as_slice();
         match way {
             Way::Whole => {
                 out.clear();
-                let _ = out.extend(self.request.as_slice());
+                let _ = out.extend(request);
             }
             Way::ByChunks { handle, number } => {
-                write_piece(self.request.as_slice(), transfer, handle, number, out);
+                write_piece(request, transfer, handle, number, out);
             }
             Way::ForChunk { handle, number } => write_get(handle, number, out),
+        }
+    }
+
+    /// Whether the chunk of this number of the kept request is the last, for a responder of this DataTransferSize.
+    pub fn is_last(&self, transfer: u32, handle: u8, number: u16) -> bool
+        ensures { IsCut (ways.ByChunks handle number) transfer self.now.request → result
+            ≡ (cutting.nth_chunk transfer handle self.now.request number).last }
+    {
+        match nth_chunk(self.request.as_slice(), transfer, handle, number) {
+            Some(chunk) => chunk.last,
+            None => false,
         }
     }
 
@@ -136,6 +150,7 @@ impl Outgoing {
             waiting = waits.InClear self.old.tag asked way } }
         ensures out { IsCut way transfer self.old.request
             → out.new ≡ message_for way transfer self.old.request }
+        ensures fits { length self.old.request ≤ MAX_MESSAGE_SIZE }
     {
         self.write(way, transfer, out);
         let tag = self.take_tag();

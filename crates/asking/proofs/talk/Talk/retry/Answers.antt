@@ -32,7 +32,7 @@ returns-in-InClear c = λ q h f d sizes stands.
     let transfer : (connection_terms h).common.to_responder.transfer ≡ c.common.result.now.to_responder.transfer =
     ap (λ (x : Common). x.to_responder.transfer) (stood.shows.negotiating.common ∙ sym c.common.ensures) in
     let cut = subst (λ (n : ℕ). IsCut way n before.outgoing.request) transfer (subst (λ (m : List ℕ). IsCut way (connection_terms h).common.to_responder.transfer m) (sym bytes) shown.1) in
-    let out = c.write.ensures cut in (
+    let out = c.write.ensures.out cut in (
       record { sent = waits.sent; outcome = again q h f d waits.sent waits.is; tag_is = waits.tag_is },
       shown.0 ∙ ap Clear (ap (message_for way (connection_terms h).common.to_responder.transfer) (sym bytes) ∙ ap (λ (n : ℕ). message_for way n before.outgoing.request) transfer ∙ sym out),
     )
