@@ -1,5 +1,5 @@
--- What a requester sends, as the program keeps it: the next tag and handle, what is waited for, and the request
--- in the clear that is outstanding.
+-- What a requester sends, as the program keeps it: the next tag and handle, what is waited for, and
+-- the request in the clear that is outstanding.
 use Rattle.std.specs.Prelude.{⊤, ◌≡◌, ◌≤◌, ◌<◌, ◌+◌, ◌%◌, ℕ, List, if◌then◌else◌, Option, Some, None}
 use Rattle.asking.specs.Waiting.{waiting_of}
 use Rattle.asking.specs.declared.waiting.Waiting.{Waiting}
@@ -31,11 +31,12 @@ IsKeptOf None bytes = ⊤
 IsKeptOf (Some sent) bytes = IsKept (asked_in sent.aim) bytes
 
 -- It is kept where these are the next tag and handle, and this is outstanding.
-pub record StandsFor (seen : Seen) (next_tag next_handle : ℕ) (outstanding : Option Sent) : Type 0 where
-  pub tag : seen.tag ≡ next_tag
-  pub handle : seen.handle ≡ next_handle
-  pub waiting : seen.waiting ≡ waiting_of outstanding
-  pub request : IsKeptOf outstanding seen.request
+pub record StandsFor (seen : Seen) (next_tag next_handle : ℕ) (outstanding : Option Sent) : Type 0
+  where
+    pub tag : seen.tag ≡ next_tag
+    pub handle : seen.handle ≡ next_handle
+    pub waiting : seen.waiting ≡ waiting_of outstanding
+    pub request : IsKeptOf outstanding seen.request
 
 -- The tag behind a tag, and the handle behind a handle.
 abbrev pub tag_after : ℕ → ℕ
@@ -44,7 +45,8 @@ tag_after tag = (tag % 8 + 1) % 8
 abbrev pub handle_after : ℕ → ℕ
 handle_after handle = (handle + 1) % 256
 
--- A message in the clear was sent with this tag, for the request that is kept: it is written, and is outstanding.
+-- A message in the clear was sent with this tag, for the request that is kept: it is written, and
+-- is outstanding.
 pub record Sends (sent : Sent) (old new : Seen) (tag : ℕ) (out : List ℕ) : Type 0 where
   pub tag_is : sent.tag ≡ tag
   pub content : sent.content ≡ Clear out
@@ -56,11 +58,14 @@ pub record Sends (sent : Sent) (old new : Seen) (tag : ℕ) (out : List ℕ) : T
 -- The message that is sent for a request, to a responder of this DataTransferSize.
 abbrev pub message_for : Way → (transfer : ℕ) → (request : List ℕ) → List ℕ
 message_for ways.Whole transfer request = request
-message_for (ways.ByChunks handle number) transfer request = canonical_request (ChunkSend (nth_chunk transfer handle request number))
-message_for (ways.ForChunk handle number) transfer request = canonical_request (ChunkGet handle number)
+message_for (ways.ByChunks handle number) transfer request = canonical_request (ChunkSend
+    (nth_chunk transfer handle request number))
+message_for (ways.ForChunk handle number) transfer request = canonical_request (ChunkGet handle
+    number)
 
 -- There is such a chunk of the request.
 abbrev pub IsCut : Way → (transfer : ℕ) → (request : List ℕ) → Type 0
 IsCut (ways.ByChunks handle number) transfer request =
-    (MIN_DATA_TRANSFER_SIZE ≤ transfer) × (transfer ≤ MAX_MESSAGE_SIZE) × (number < chunk_count transfer request)
+    (MIN_DATA_TRANSFER_SIZE ≤ transfer) × (transfer ≤ MAX_MESSAGE_SIZE)
+    × (number < chunk_count transfer request)
 IsCut _ transfer request = ⊤

@@ -23,8 +23,10 @@ kind_of _ = asks.Version
 -- By what a message with this tag is sent for.
 abbrev pub waiting_for : (tag : ℕ) → Aim → Waiting
 waiting_for tag (Plain asked) = waits.InClear tag (kind_of asked) ways.Whole
-waiting_for tag (ByChunks asked handle number) = waits.InClear tag (kind_of asked) (ways.ByChunks handle number)
-waiting_for tag (ForChunk asked handle number before) = waits.InClear tag (kind_of asked) (ways.ForChunk handle number)
+waiting_for tag (ByChunks asked handle number) = waits.InClear tag (kind_of asked) (ways.ByChunks
+    handle number)
+waiting_for tag (ForChunk asked handle number before) = waits.InClear tag (kind_of asked)
+    (ways.ForChunk handle number)
 waiting_for tag (InSession id ask) = waits.InSession tag
 
 -- By the outstanding message, if there is one.

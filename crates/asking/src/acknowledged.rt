@@ -67,16 +67,24 @@ impl Ack<'_> {
 }
 
 impl Talk {
-    // An acknowledgement of a chunk without a fault: its response refuses the request or answers it, or it calls
-    // for the next chunk.
-    fn on_ack(&mut self, setup: &Setup<'_>, asked: Asked, piece: &Piece, ack: &Ack<'_>, out: &mut Frame) -> Led
+    // An acknowledgement of a chunk without a fault: its response refuses the request or answers
+    // it, or it calls for the next chunk.
+    fn on_ack(
+        &mut self,
+        setup: &Setup<'_>,
+        asked: Asked,
+        piece: &Piece,
+        ack: &Ack<'_>,
+        out: &mut Frame,
+    ) -> Led
         ensures { (q : ReqSetup) (h : History) (request : RequestMessage) → IsSetUp setup.now q
             → Shows self.old h → IsAwaited q h request → kind_of request ≡ asked
             → self.old.outgoing.request ≡ canonical_request request
             → IsUpTo request (negotiation_of h) → length ack.now.response.now ≤ MAX_MESSAGE_SIZE
             → IsCut (ways.ByChunks piece.now.handle piece.now.number)
             (connection_terms h).common.to_responder.transfer (canonical_request request)
-            → piece.now.last ≡ (piece_of (connection_terms h).common request piece.now.handle piece.now.number).last
+            → piece.now.last
+            ≡ (piece_of (connection_terms h).common request piece.now.handle piece.now.number).last
             → IsCarried q h request (answers.acknowledged h (connection_terms h).common request
             (piece_of (connection_terms h).common request piece.now.handle piece.now.number)
             ack.now.early ack.now.response.now (first_cause (answers.ack_tests
@@ -104,7 +112,15 @@ impl Talk {
     }
 
     // A message came to a chunk of a request that was sent.
-    fn on_sent(&mut self, setup: &Setup<'_>, asked: Asked, handle: u8, number: u16, message: &[u8], out: &mut Frame) -> Led
+    fn on_sent(
+        &mut self,
+        setup: &Setup<'_>,
+        asked: Asked,
+        handle: u8,
+        number: u16,
+        message: &[u8],
+        out: &mut Frame,
+    ) -> Led
         ensures { (q : ReqSetup) (h : History) (request : RequestMessage) → IsSetUp setup.now q
             → Shows self.old h → IsAwaited q h request → kind_of request ≡ asked
             → self.old.outgoing.request ≡ canonical_request request
@@ -147,7 +163,14 @@ impl Talk {
     }
 
     // A message in the clear came to what is asked, which goes this way.
-    fn on_way(&mut self, setup: &Setup<'_>, asked: Asked, way: Way, message: &[u8], out: &mut Frame) -> Led
+    fn on_way(
+        &mut self,
+        setup: &Setup<'_>,
+        asked: Asked,
+        way: Way,
+        message: &[u8],
+        out: &mut Frame,
+    ) -> Led
         ensures { (q : ReqSetup) (h : History) (sent : Sent) (request : RequestMessage)
             → IsSetUp setup.now q → StandsFor self.old q h → outstanding h ≡ Some sent
             → asked_in sent.aim ≡ Some request → is_no_get sent.aim ≡ true
@@ -164,8 +187,9 @@ impl Talk {
         }
     }
 
-    /// A message in the clear came, of at most 4,096 bytes, while a request in the clear is outstanding that awaits no
-    /// chunk of a large answer. What is sent next, if anything is, is written in place of what `out` holds.
+    /// A message in the clear came, of at most 4,096 bytes, while a request in the clear is
+    /// outstanding that awaits no chunk of a large answer. What is sent next, if anything is, is
+    /// written in place of what `out` holds.
     pub fn on_clear(&mut self, setup: &Setup<'_>, message: &[u8], out: &mut Frame) -> Led
         ensures { (q : ReqSetup) (h : History) (sent : Sent) (request : RequestMessage)
             → IsSetUp setup.now q → StandsFor self.old q h → outstanding h ≡ Some sent

@@ -32,7 +32,9 @@ use negotiate::{Common, agrees, choose_version, common, own_offer};
 use spdm_basis::Frame;
 use spdm_codec::read_response;
 use spdm_grammar::names::error_number::LARGE_RESPONSE;
-use spdm_grammar::{AlgReply, Caps, Event, Finished, Malformed, Measured, ReqIgnored, Request, Response, Stop};
+use spdm_grammar::{
+    AlgReply, Caps, Event, Finished, Malformed, Measured, ReqIgnored, Request, Response, Stop,
+};
 
 // The length of the own NEGOTIATE_ALGORITHMS.
 const OFFER_LEN: usize = 48;
@@ -101,13 +103,21 @@ impl Talk {
         code == LARGE_RESPONSE && asked.may_be_large() && chunk
     }
 
-    // ERROR: LargeResponse calls for the first chunk of a large answer; any other refuses the request.
-    pub(crate) fn on_error(&mut self, asked: Asked, code: u8, extended: &[u8], out: &mut Frame) -> Led
+    // ERROR: LargeResponse calls for the first chunk of a large answer; any other refuses the
+    // request.
+    pub(crate) fn on_error(
+        &mut self,
+        asked: Asked,
+        code: u8,
+        extended: &[u8],
+        out: &mut Frame,
+    ) -> Led
         ensures { (h : History) (request : RequestMessage) → Shows self.old h
             → self.old.outgoing.request ≡ canonical_request request
             → IsClearRequest request → kind_of request ≡ asked
             → IsUpTo request (negotiation_of h)
-            → IsLed h (Ok (error_led h request code extended.now)) result self.old self.new out.new }
+            → IsLed h (Ok (error_led h request code extended.now)) result self.old self.new
+            out.new }
     {
         if self.is_large(asked, code) {
             let way = Way::ForChunk {
@@ -122,7 +132,13 @@ impl Talk {
     }
 
     // VERSION: the own capabilities are told.
-    pub(crate) fn on_version(&mut self, setup: &Setup<'_>, answer: &[u8], entries: &[u8], out: &mut Frame) -> Led
+    pub(crate) fn on_version(
+        &mut self,
+        setup: &Setup<'_>,
+        answer: &[u8],
+        entries: &[u8],
+        out: &mut Frame,
+    ) -> Led
         ensures { (q : ReqSetup) (h : History) → IsSetUp setup.now q → Shows self.old h
             → self.old.outgoing.request ≡ canonical_request GetVersion
             → IsUpTo GetVersion (negotiation_of h) → length answer.now ≤ MAX_MESSAGE_SIZE
@@ -132,16 +148,25 @@ impl Talk {
         if choose_version(entries).is_none() {
             return self.stop(Stop::NoVersion);
         }
-        self.negotiating.take_version(self.outgoing.request(), answer);
-        self.outgoing.keep(&Request::GetCapabilities(setup.caps()), 0);
+        self.negotiating
+            .take_version(self.outgoing.request(), answer);
+        self.outgoing
+            .keep(&Request::GetCapabilities(setup.caps()), 0);
         Led::Sends {
             tag: self.outgoing.send(Asked::Capabilities, Way::Whole, 0, out),
         }
     }
 
     // CAPABILITIES: what both ends can do is settled, and the own algorithms are offered.
-    pub(crate) fn on_capabilities(&mut self, setup: &Setup<'_>, answer: &[u8], theirs: &Caps, out: &mut Frame) -> Led
-        ensures { (q : ReqSetup) (h : History) (caps : Caps) → IsSetUp setup.now q → Shows self.old h
+    pub(crate) fn on_capabilities(
+        &mut self,
+        setup: &Setup<'_>,
+        answer: &[u8],
+        theirs: &Caps,
+        out: &mut Frame,
+    ) -> Led
+        ensures { (q : ReqSetup) (h : History) (caps : Caps) → IsSetUp setup.now q
+            → Shows self.old h
             → caps ≡ requester_caps q
             → self.old.outgoing.request ≡ canonical_request (GetCapabilities caps)
             → IsUpTo (GetCapabilities caps) (negotiation_of h)
@@ -183,7 +208,12 @@ impl Talk {
     }
 
     // ALGORITHMS: they choose of what was offered.
-    pub(crate) fn on_algorithms(&mut self, setup: &Setup<'_>, answer: &[u8], reply: &AlgReply<'_>) -> Led
+    pub(crate) fn on_algorithms(
+        &mut self,
+        setup: &Setup<'_>,
+        answer: &[u8],
+        reply: &AlgReply<'_>,
+    ) -> Led
         ensures { (q : ReqSetup) (h : History) (offer : OfferMessage) (out : List ℕ)
             → IsSetUp setup.now q → Shows self.old h
             → self.old.outgoing.request ≡ canonical_request (NegotiateAlgorithms offer)

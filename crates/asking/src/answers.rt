@@ -28,8 +28,8 @@ fn place_of(at: usize, place: usize) -> usize
 }
 
 impl Talk {
-    // The whole answer to what is asked reads as this response. It begins at this place of its message, near its
-    // front.
+    // The whole answer to what is asked reads as this response. It begins at this place of its
+    // message, near its front.
     fn on_response(
         &mut self,
         setup: &Setup<'_>,
@@ -68,8 +68,8 @@ impl Talk {
         }
     }
 
-    /// The whole answer to what is asked came, of at most 4,096 bytes. It begins at this place of its message, near
-    /// its front.
+    /// The whole answer to what is asked came, of at most 4,096 bytes. It begins at this place of
+    /// its message, near its front.
     pub(crate) fn on_answer(
         &mut self,
         setup: &Setup<'_>,

@@ -89,9 +89,7 @@ impl Waiting {
         match self {
             Waiting::Nothing => false,
             Waiting::InClear { .. } => is_record(body),
-            Waiting::InSession { .. } => {
-                is_clear(body) && error_in(message_in(body)).is_none()
-            }
+            Waiting::InSession { .. } => { is_clear(body) && error_in(message_in(body)).is_none() }
         }
     }
 }
@@ -105,10 +103,16 @@ fn is_too_long(transfer: u32, body: &[u8]) -> bool
 }
 
 impl Talk {
-    /// The cause for which a whole body, with its tag owner bit and tag, is ignored before its message is read, if
-    /// there is one.
+    /// The cause for which a whole body, with its tag owner bit and tag, is ignored before its
+    /// message is read, if there is one.
     #[tactic(auto, unfolding(requester_machine::specs::Bodies::body_fault))]
-    pub fn body_fault(&self, setup: &Setup<'_>, owner: bool, tag: u8, body: &[u8]) -> Option<ReqIgnored>
+    pub fn body_fault(
+        &self,
+        setup: &Setup<'_>,
+        owner: bool,
+        tag: u8,
+        body: &[u8],
+    ) -> Option<ReqIgnored>
         ensures { (q : ReqSetup) (h : History) → IsSetUp setup.now q → Shows self.now h
             → result ≡ bodies.body_fault q (outstanding h) owner tag body.now }
     {

@@ -28,7 +28,8 @@ const EXCHANGE_FIELDS_LEN: usize = 12;
 
 // Whether a message of this length is too long for the responder.
 pub fn is_too_long(common: &Common, len: usize) -> bool
-    ensures { (message : List ℕ) → length message ≡ len → result ≡ sending.is_too_long common.now message }
+    ensures { (message : List ℕ) → length message ≡ len → result
+        ≡ sending.is_too_long common.now message }
 {
     len > common.to_responder.max as usize
         || (!common.chunk && len > common.to_responder.transfer as usize)
@@ -43,8 +44,10 @@ fn is_summary(summary: u8) -> bool
 
 // The length of a PSK_EXCHANGE.
 fn exchange_len(setup: &Setup<'_>, free: &FreeValues<'_>) -> usize
-    ensures { 12 + length setup.now.hint.now + length free.now.context.now + length free.now.opaque.now ≤ MAX_MESSAGE_SIZE
-        → result ≡ 12 + length setup.now.hint.now + length free.now.context.now + length free.now.opaque.now }
+    ensures { 12 + length setup.now.hint.now + length free.now.context.now + length
+        free.now.opaque.now ≤ MAX_MESSAGE_SIZE
+        → result ≡ 12 + length setup.now.hint.now + length free.now.context.now + length
+        free.now.opaque.now }
 {
     EXCHANGE_FIELDS_LEN
         .saturating_add(setup.hint.len())
@@ -110,7 +113,8 @@ impl Talk {
         is_too_long(self.negotiating.common(), exchange_len(setup, free))
     }
 
-    // The fault of opening a session, beside so many live ones, with a PSK_EXCHANGE that is too long or not.
+    // The fault of opening a session, beside so many live ones, with a PSK_EXCHANGE that is too
+    // long or not.
     #[tactic(auto, unfolding(requester_machine::specs::Commands::command_fault))]
     fn open_fault(&self, live: u8, summary: u8, is_long: bool) -> Option<CommandFault>
         ensures { (q : ReqSetup) (h : History) (f : Free) → Shows self.now h → live_count h ≡ live
@@ -148,8 +152,8 @@ impl Talk {
         self.outgoing.send(Asked::Version, Way::Whole, 0, out)
     }
 
-    /// Asks for measurements in the clear, by an operation. The message that is sent is written in place of what
-    /// `out` holds: its tag.
+    /// Asks for measurements in the clear, by an operation. The message that is sent is written in
+    /// place of what `out` holds: its tag.
     pub fn measure(&mut self, op: u8, out: &mut Frame) -> Result<u8, CommandFault>
         ensures { (q : ReqSetup) (h : History) (f : Free) (d : Draw) → HasSizes q
             → StandsFor self.old q h
@@ -164,8 +168,9 @@ impl Talk {
         Ok(self.outgoing.send_request(transfer, asked, out))
     }
 
-    /// Begins a session beside so many live ones, with a measurement summary of a kind and these values. The
-    /// message that is sent for PSK_EXCHANGE is written in place of what `out` holds: its tag.
+    /// Begins a session beside so many live ones, with a measurement summary of a kind and these
+    /// values. The message that is sent for PSK_EXCHANGE is written in place of what `out` holds:
+    /// its tag.
     pub fn open(
         &mut self,
         setup: &Setup<'_>,
@@ -189,7 +194,8 @@ impl Talk {
             opaque: free.opaque,
         };
         let hash_len = self.negotiating.choice().hash.size();
-        self.outgoing.keep(&Request::PskExchange(exchange), hash_len);
+        self.outgoing
+            .keep(&Request::PskExchange(exchange), hash_len);
         let transfer = self.negotiating.common().to_responder.transfer;
         let asked = Asked::Exchange {
             id: free.id,
@@ -198,7 +204,8 @@ impl Talk {
         Ok(self.outgoing.send_request(transfer, asked, out))
     }
 
-    /// The outstanding message goes out again. One in the clear is written in place of what `out` holds.
+    /// The outstanding message goes out again. One in the clear is written in place of what `out`
+    /// holds.
     pub fn retry(&self, out: &mut Frame) -> Result<Again, CommandFault>
         ensures { (q : ReqSetup) (h : History) (f : Free) (d : Draw) → HasSizes q
             → StandsFor self.now q h → IsRetried q h f d result out.new }

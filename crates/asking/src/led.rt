@@ -11,6 +11,7 @@ pub enum Led {
     Sends { tag: u8 },
     /// CHUNK_GET for the first chunk of a large answer was sent, with this tag.
     Large { tag: u8 },
-    /// It is the PSK_EXCHANGE_RSP that is awaited, whose verify data its session compares. Nothing changed.
+    /// It is the PSK_EXCHANGE_RSP that is awaited, whose verify data its session compares. Nothing
+    /// changed.
     Exchange,
 }

@@ -1,5 +1,5 @@
-//! A requester (DSP0274, section 10) with every free value handed in: the clear part, which holds how far the
-//! negotiation has come, what was settled, and what is outstanding.
+//! A requester (DSP0274, section 10) with every free value handed in: the clear part, which holds
+//! how far the negotiation has come, what was settled, and what is outstanding.
 #![tactic(auto)]
 
 mod acknowledged;

@@ -57,7 +57,8 @@ impl Model for Negotiating {
 impl Negotiating {
     /// Where nothing was said yet.
     pub fn new() -> Negotiating
-        ensures { result ≡ record { phase = Fresh; messages = []; common = no_common; choice = no_choice } }
+        ensures { result
+            ≡ record { phase = Fresh; messages = []; common = no_common; choice = no_choice } }
     {
         Negotiating {
             phase: Phase::Fresh,
@@ -88,8 +89,8 @@ impl Negotiating {
         self.choice
     }
 
-    /// The bytes of its messages so far, one behind the other; in phase Negotiated the whole VCA (DSP0274,
-    /// "Transcript hash").
+    /// The bytes of its messages so far, one behind the other; in phase Negotiated the whole VCA
+    /// (DSP0274, "Transcript hash").
     pub fn messages(&self) -> &Vca
         ensures { result.now ≡ self.now.messages }
     {
@@ -98,7 +99,8 @@ impl Negotiating {
 
     /// It begins anew: all that was said is void.
     pub fn begin(&mut self)
-        ensures { self.new ≡ record { phase = Fresh; messages = []; common = no_common; choice = no_choice } }
+        ensures { self.new
+            ≡ record { phase = Fresh; messages = []; common = no_common; choice = no_choice } }
     {
         self.phase = Phase::Fresh;
         self.messages.clear();
@@ -126,8 +128,10 @@ impl Negotiating {
     /// VERSION was taken. The messages of a negotiation fit.
     pub fn take_version(&mut self, request: &[u8], answer: &[u8])
         ensures { length self.old.messages + length request.now + length answer.now ≤ 8768
-            → self.new ≡ record self.old { phase = Versioned;
-            messages = self.old.messages ++ request.now ++ answer.now } }
+            → self.new ≡ record self.old {
+              phase = Versioned;
+              messages = self.old.messages ++ request.now ++ answer.now;
+            } }
     {
         self.phase = Phase::Versioned;
         keep(&mut self.messages, request, answer);
@@ -136,8 +140,11 @@ impl Negotiating {
     /// CAPABILITIES were taken: both ends can do this together.
     pub fn take_capabilities(&mut self, request: &[u8], answer: &[u8], common: Common)
         ensures { length self.old.messages + length request.now + length answer.now ≤ 8768
-            → self.new ≡ record self.old { phase = Capable;
-            messages = self.old.messages ++ request.now ++ answer.now; common = common } }
+            → self.new ≡ record self.old {
+              phase = Capable;
+              messages = self.old.messages ++ request.now ++ answer.now;
+              common = common;
+            } }
     {
         self.phase = Phase::Capable;
         keep(&mut self.messages, request, answer);
@@ -147,8 +154,11 @@ impl Negotiating {
     /// ALGORITHMS were taken: these were chosen.
     pub fn take_algorithms(&mut self, request: &[u8], answer: &[u8], choice: Choice)
         ensures { length self.old.messages + length request.now + length answer.now ≤ 8768
-            → self.new ≡ record self.old { phase = Negotiated;
-            messages = self.old.messages ++ request.now ++ answer.now; choice = choice } }
+            → self.new ≡ record self.old {
+              phase = Negotiated;
+              messages = self.old.messages ++ request.now ++ answer.now;
+              choice = choice;
+            } }
     {
         self.phase = Phase::Negotiated;
         keep(&mut self.messages, request, answer);

@@ -20,8 +20,8 @@ use spdm_codec::write_request;
 use spdm_grammar::Request;
 use std::marker::Model;
 
-/// What a requester sends: the next tag and handle, what is waited for, and the bytes of the request in the clear
-/// that is outstanding. Tags and handles are never set back.
+/// What a requester sends: the next tag and handle, what is waited for, and the bytes of the
+/// request in the clear that is outstanding. Tags and handles are never set back.
 #[derive(Drop)]
 pub struct Outgoing {
     tag: u8,
@@ -91,13 +91,13 @@ impl Outgoing {
     /// A record of a session is sent, and outstanding: its tag.
     pub fn send_record(&mut self) -> u8
         ensures tag { result ≡ self.old.tag }
-        ensures new { self.new ≡ record self.old { tag = tag_after self.old.tag;
-            waiting = waits.InSession self.old.tag } }
+        ensures new { self.new ≡ record self.old {
+          tag = tag_after self.old.tag;
+          waiting = waits.InSession self.old.tag;
+        } }
     {
         let tag = self.take_tag();
-        self.waiting = Waiting::InSession {
-            tag,
-        };
+        self.waiting = Waiting::InSession { tag };
         tag
     }
 
@@ -106,13 +106,14 @@ impl Outgoing {
         ensures { IsSoundRequest hash_len (request_message request.now)
             → length (canonical_request (request_message request.now)) ≤ MAX_MESSAGE_SIZE
             → self.new ≡ record self.old {
-            request = canonical_request (request_message request.now) } }
+              request = canonical_request (request_message request.now);
+            } }
     {
         write_sound(request, hash_len, &mut self.request);
     }
 
-    /// Writes the message that is sent for the kept request, to a responder of this DataTransferSize, in place of
-    /// what `out` holds.
+    /// Writes the message that is sent for the kept request, to a responder of this
+    /// DataTransferSize, in place of what `out` holds.
     pub fn write(&self, way: Way, transfer: u32, out: &mut Frame)
         ensures out { IsCut way transfer self.now.request
             → out.new ≡ message_for way transfer self.now.request }
@@ -131,7 +132,8 @@ impl Outgoing {
         }
     }
 
-    /// Whether the chunk of this number of the kept request is the last, for a responder of this DataTransferSize.
+    /// Whether the chunk of this number of the kept request is the last, for a responder of this
+    /// DataTransferSize.
     pub fn is_last(&self, transfer: u32, handle: u8, number: u16) -> bool
         ensures { IsCut (ways.ByChunks handle number) transfer self.now.request → result
             ≡ (cutting.nth_chunk transfer handle self.now.request number).last }
@@ -142,28 +144,26 @@ impl Outgoing {
         }
     }
 
-    /// The message is sent for the kept request, to a responder of this DataTransferSize, in place of what `out`
-    /// holds: its tag.
+    /// The message is sent for the kept request, to a responder of this DataTransferSize, in place
+    /// of what `out` holds: its tag.
     pub fn send(&mut self, asked: Asked, way: Way, transfer: u32, out: &mut Frame) -> u8
         ensures tag { result ≡ self.old.tag }
-        ensures new { self.new ≡ record self.old { tag = tag_after self.old.tag;
-            waiting = waits.InClear self.old.tag asked way } }
+        ensures new { self.new ≡ record self.old {
+          tag = tag_after self.old.tag;
+          waiting = waits.InClear self.old.tag asked way;
+        } }
         ensures out { IsCut way transfer self.old.request
             → out.new ≡ message_for way transfer self.old.request }
         ensures fits { length self.old.request ≤ MAX_MESSAGE_SIZE }
     {
         self.write(way, transfer, out);
         let tag = self.take_tag();
-        self.waiting = Waiting::InClear {
-            tag,
-            asked,
-            way,
-        };
+        self.waiting = Waiting::InClear { tag, asked, way };
         tag
     }
 
-    /// The request that is kept is sent to a responder of this DataTransferSize, in place of what `out` holds:
-    /// whole, or by chunks under the next handle where it is longer. Its tag.
+    /// The request that is kept is sent to a responder of this DataTransferSize, in place of what
+    /// `out` holds: whole, or by chunks under the next handle where it is longer. Its tag.
     pub fn send_request(&mut self, transfer: u32, asked: Asked, out: &mut Frame) -> u8
         ensures { (h : History) (request : RequestMessage) (common : Common)
             → self.old.tag ≡ next_tag h → self.old.handle ≡ next_handle h
@@ -177,10 +177,7 @@ impl Outgoing {
         }
         let handle = self.handle;
         self.handle = handle.wrapping_add(1);
-        let first = Way::ByChunks {
-            handle,
-            number: 0,
-        };
+        let first = Way::ByChunks { handle, number: 0 };
         self.send(asked, first, transfer, out)
     }
 }

@@ -4,14 +4,9 @@ pub enum Asked {
     Version,
     Capabilities,
     Algorithms,
-    Measurements {
-        op: u8,
-    },
+    Measurements { op: u8 },
     /// PSK_EXCHANGE with this ReqSessionID and kind of summary.
-    Exchange {
-        id: u16,
-        summary: u8,
-    },
+    Exchange { id: u16, summary: u8 },
 }
 
 /// How a request in the clear and its answer go.

@@ -64,7 +64,11 @@ returns c = λ q h caps theirs setup shows own keeps up reads shared.
     let handles = ap (λ (s : outgoing.Seen). s.handle) keep in
     let negotiated = capabilities_stand q before.negotiating c.take_capabilities.new.self (phase_of h) (negotiation_of h) caps theirs common (hash_len (connection_terms h)) c.request.result.now answer setup.sizes shown.negotiating up own
     (c.request.ensures.value ∙ kept) (capabilities_long (hash_len (connection_terms h)) answer theirs reads) reads ours c.take_capabilities.ensures in
-    let sends = c.send_request.ensures h (NegotiateAlgorithms offer) common (tags ∙ shown.outgoing.tag) (handles ∙ shown.outgoing.handle) bytes refl refl room.least room.most in
-    (goes_on effect x, ap (λ (l : Led). Ok l) leads, x, request_no_get common h (NegotiateAlgorithms offer) (nat_lt transfer (length (canonical_request (NegotiateAlgorithms offer)))) (next_handle h),
+    let sends = c.send_request.ensures h (NegotiateAlgorithms offer) common (tags ∙ shown.outgoing.tag) (handles ∙ shown.outgoing.handle) bytes refl refl room.least room.most in (
+      goes_on effect x,
+      ap (λ (l : Led). Ok l) leads,
+      x,
+      request_no_get common h (NegotiateAlgorithms offer) (nat_lt transfer (length (canonical_request (NegotiateAlgorithms offer)))) (next_handle h),
       next_led h effect x (NegotiateAlgorithms offer) before c.take_capabilities.new.self c.keep.new.self c.send_request.new.self c.send_request.result c.send_request.new.out
-      shown negotiated (capabilities_up (negotiation_of h) (canonical_request (GetCapabilities caps)) answer up) refl (request_sent-asks common h (NegotiateAlgorithms offer)) tags handles bytes sends)
+          shown negotiated (capabilities_up (negotiation_of h) (canonical_request (GetCapabilities caps)) answer up) refl (request_sent-asks common h (NegotiateAlgorithms offer)) tags handles bytes sends,
+    )
