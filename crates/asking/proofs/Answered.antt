@@ -1,6 +1,6 @@
 -- A whole answer by what it reads as.
 use Rattle.std.proofs.Common.{refl, ◌≡◌, ◌∙◌, ap, sym, subst, ℕ, List, []}
-use Rattle.std.specs.Prelude.{Result, Ok, Err}
+use Rattle.std.specs.Prelude.{Result, Ok}
 use Rattle.asking.specs.Led.{IsAnswered, IsLed}
 use Rattle.asking.specs.Talk.{Seen}
 use Rattle.asking.specs.Waiting.{IsClearRequest, kind_of}
@@ -13,7 +13,7 @@ use Rattle.requester_machine.specs.Commands.{Free}
 use Rattle.requester_machine.specs.History.{History, Led}
 use Rattle.requester_machine.specs.Setup.{ReqSetup}
 use Rattle.requester_machine.specs.UnderWay.{IsAwaited}
-use Rattle.spdm_grammar.specs.Message.{ExchangeMessage, OfferMessage, RequestMessage, ResponseMessage}
+use Rattle.spdm_grammar.specs.Message.{OfferMessage, RequestMessage, ResponseMessage}
 use Rattle.spdm_grammar.specs.Message.RequestMessage.{GetCapabilities, GetMeasurements, GetVersion, NegotiateAlgorithms, PskExchange}
 use Rattle.spdm_grammar.specs.declared.capabilities.Caps.{Caps}
 use Rattle.spdm_grammar.specs.declared.event.ReqIgnored.{ReqIgnored}

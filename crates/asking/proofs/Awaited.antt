@@ -1,38 +1,32 @@
 -- What is outstanding, by what is kept of it.
-use Rattle.std.proofs.Common.{refl, ◌≡◌, ◌∙◌, ◌≤◌, ◌<◌, ℕ, List, [], true, false, Bool, Option, Some, None, ap, sym, subst, length, arith}
-use Rattle.std.specs.Prelude.{⊤, is_none, is_some}
+use Rattle.std.proofs.Common.{refl, ◌≡◌, ◌∙◌, ℕ, List, true, false, Option, Some, None, ap, sym, subst}
 use Rattle.std.proofs.lemmas.Bool.{false≢true}
 use Rattle.negotiate.specs.declared.shared.Common.{Common}
-use Rattle.requester_machine.proofs.Holds.{Holds, Waits, awaited}
+use Rattle.requester_machine.proofs.Holds.{Holds, Waits}
 use Rattle.requester_machine.specs.Asking.{asks, asks_by, resent}
 use Rattle.requester_machine.specs.Asking.Outcome.{Fails, Resends}
 use Rattle.requester_machine.specs.Commands.{Free, command_fault}
-use Rattle.requester_machine.specs.History.{History, connection_terms, negotiation_of, outstanding, phase_of}
-use Rattle.requester_machine.specs.Message.{Aim, Ask, Content, Sent, asked_in}
+use Rattle.requester_machine.specs.History.{History, connection_terms, negotiation_of, outstanding}
+use Rattle.requester_machine.specs.Message.{Aim, Content, Sent, asked_in}
 use Rattle.requester_machine.specs.Message.Aim.{ByChunks, ForChunk, InSession, Plain}
 use Rattle.requester_machine.specs.Message.Command.{Retry}
 use Rattle.requester_machine.specs.Message.Content.{Clear}
 use Rattle.requester_machine.specs.Setup.{ReqSetup}
-use Rattle.requester_machine.specs.UnderWay.{HasSizes, IsAwaited, IsCommon, IsOutstanding, IsPiece, is_capable}
+use Rattle.requester_machine.specs.UnderWay.{HasSizes, IsAwaited, IsOutstanding, is_capable}
 use Rattle.spdm_grammar.specs.Message.{RequestMessage}
 use Rattle.spdm_grammar.specs.Message.RequestMessage.{GetCapabilities, GetMeasurements, GetVersion, NegotiateAlgorithms, PskExchange}
 use Rattle.spdm_grammar.specs.Reading.{field_at, number_at}
 use Rattle.spdm_grammar.specs.Requests.{canonical_request}
 use Rattle.spdm_grammar.specs.declared.command_fault.CommandFault.TheVariants as fault
-use Rattle.spdm_grammar.specs.declared.names.TheConstants.{MAX_MESSAGE_SIZE, MIN_DATA_TRANSFER_SIZE}
-use Rattle.spdm_grammar.specs.declared.phase.Phase.{Phase}
 use Rattle.spdm_machine.specs.Keys.{Draw}
 use Rattle.spdm_machine.specs.Terms.{no_common, no_negotiation, terms_of}
 use Rattle.transcript.specs.Transcripts.{Negotiation}
-use Rattle.asking.specs.Commands.{IsOfSession, IsResent, IsRetried}
+use Rattle.asking.specs.Commands.{IsOfSession}
 use Rattle.asking.specs.Negotiating.{IsUpTo, IsUpToAsked, IsUpToSent}
 use Rattle.asking.specs.Outgoing.{IsCut, IsKept, IsKeptOf, message_for}
-use Rattle.asking.specs.Talk.{Seen, StandsFor}
 use Rattle.asking.specs.Waiting.{kind_of, waiting_for, waiting_of, way_of}
 use Rattle.asking.specs.declared.waiting.Asked.{Asked}
 use Rattle.asking.specs.declared.waiting.Way.{Way}
-use Rattle.asking.specs.declared.waiting.Way.TheVariants as ways
-use Rattle.asking.specs.declared.waiting.Waiting.{Waiting}
 use Rattle.asking.specs.declared.waiting.Waiting.TheVariants as waits
 use Rattle.asking.proofs.Started.{HasRoom, common_room}
 

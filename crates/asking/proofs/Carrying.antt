@@ -1,6 +1,6 @@
 -- What a message is to a request that goes by chunks.
-use Rattle.std.proofs.Common.{refl, ◌≡◌, ◌∙◌, ◌≤◌, ◌<◌, ◌+◌, ◌-◌, ◌*◌, ◌^◌, ℕ, List, Bool, true, false, ap, sym, subst, length, arith, min}
-use Rattle.std.specs.Prelude.{◌==◌, ◌/◌, ◌%◌, Result, Ok, Err}
+use Rattle.std.proofs.Common.{refl, ◌≡◌, ◌≤◌, ◌<◌, ◌+◌, ◌-◌, ◌^◌, ℕ, List, Bool, false, length, arith, min}
+use Rattle.std.specs.Prelude.{◌==◌, ◌/◌, ◌%◌, Ok}
 use Rattle.std.proofs.Math.Nat.{div-le_self}
 use Rattle.std.proofs.lemmas.Bool.Decides.{nat_tests}
 use Rattle.asking.specs.Led.{IsAnswered, IsCarried, IsLed}
@@ -8,18 +8,17 @@ use Rattle.asking.specs.Talk.{Seen}
 use Rattle.asking.specs.declared.led.Led as seen_led
 use Rattle.asking.specs.declared.led.Led.TheVariants as seen
 use Rattle.chunking.specs.Cutting.{chunk_count}
-use Rattle.requester_machine.specs.ClearAnswers.{Carried, ack_carries, carried_led, read_led, reading_of}
+use Rattle.requester_machine.specs.ClearAnswers.{Carried, ack_carries, carried_led}
 use Rattle.requester_machine.specs.ClearAnswers.Carried.{Whole}
 use Rattle.requester_machine.specs.Commands.{Free}
-use Rattle.requester_machine.specs.History.{History, Led}
+use Rattle.requester_machine.specs.History.{History}
 use Rattle.requester_machine.specs.Setup.{ReqSetup}
 use Rattle.negotiate.specs.declared.shared.Common.{Common}
 use Rattle.spdm_grammar.specs.Message.{ChunkMessage, RequestMessage, response_message}
 use Rattle.spdm_grammar.specs.declared.response.Response.{Response}
 use Rattle.spdm_grammar.specs.declared.response.Response.TheVariants as responses
 use Rattle.spdm_grammar.specs.declared.event.ReqIgnored.TheVariants as ignored
-use Rattle.spdm_grammar.specs.declared.event.ReqIgnored.{ReqIgnored}
-use Rattle.spdm_grammar.specs.declared.names.TheConstants.{MAX_MESSAGE_SIZE, MIN_DATA_TRANSFER_SIZE}
+use Rattle.spdm_grammar.specs.declared.names.TheConstants.{MAX_MESSAGE_SIZE}
 use Rattle.asking.proofs.Answered.{any_free}
 
 pub carried_by : (q : ReqSetup) (h : History) (request : RequestMessage) (carried : Carried) (led : seen_led.Led) (old new : Seen) (out : List ℕ)

@@ -1,18 +1,17 @@
 -- Where a fault is that reading a response finds: not far behind the end of its bytes.
-use Rattle.std.proofs.Common.{◌≡◌, ◌∙◌, ◌≤◌, ◌<◌, ◌+◌, ◌*◌, ◌/◌, ◌%◌, ℕ, zero, suc, Bool, true, false, eqb, ltb, cond, List, ◌++◌, length, refl, sym, ap, subst, arith, inl, inr}
-use Rattle.std.specs.Prelude.{⊤, ◌==◌, Option, Some, None, Result, Ok, Err}
+use Rattle.std.proofs.Common.{◌≡◌, ◌≤◌, ◌+◌, ◌*◌, ◌/◌, ◌%◌, ℕ, zero, suc, Bool, true, false, eqb, ltb, cond, List, ◌++◌, length, refl, sym, ap, subst, arith, inl, inr}
+use Rattle.std.specs.Prelude.{⊤, ◌==◌, Option, Ok, Err}
 use Rattle.std.proofs.lemmas.Bool.{ltb-true}
 use Rattle.std.proofs.lemmas.List.{length-append}
 use Rattle.spdm_grammar.specs.declared.malformed.Malformed.{Malformed}
 use Rattle.spdm_grammar.specs.declared.malformed.Part.TheVariants.{End, Field, Length, Rest}
 use Rattle.spdm_grammar.specs.Layout.{Layout}
 use Rattle.spdm_grammar.specs.Layout.Layout.{Whole, Sized, Number, Optional, Bytes, Tables, UpTo, Remaining}
-use Rattle.spdm_grammar.specs.Message.{ResponseMessage}
 use Rattle.spdm_grammar.specs.Message.ResponseMessage.{Error}
 use Rattle.spdm_grammar.specs.Reading.{and_then, front, Place, read, field_at, number_at, optional_at, behind_table, behind_tables, tables_at, ended, all_up_to}
 use Rattle.spdm_grammar.specs.Responses.{response_reading, response_layout, response_body, psk_exchange_rsp_layout, version_layout, error_layout, capabilities_layout, algorithms_layout, measurements_layout, psk_finish_rsp_layout, heartbeat_ack_layout, key_update_ack_layout, end_session_ack_layout, chunk_send_ack_layout, chunk_response_layout}
 use Rattle.spdm_grammar.specs.declared.names.error_number.TheConstants.{RESPONSE_TOO_LARGE, LARGE_RESPONSE}
-use Rattle.spdm_grammar.proofs.Steps.{Between, then_err, then_ok, passed_err, avoided_err, field_takes, number_takes, optional_none, optional_some, table_takes, tables_take}
+use Rattle.spdm_grammar.proofs.Steps.{Between, then_err, passed_err, avoided_err, field_takes, number_takes, optional_none, optional_some, table_takes, tables_take}
 
 -- A Length field is among the first.
 abbrev Early : {A : Type 0} → Layout A → Type 0

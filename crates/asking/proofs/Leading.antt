@@ -1,6 +1,6 @@
 -- What a message in the clear leaves of what is kept.
-use Rattle.std.proofs.Common.{refl, ◌≡◌, ◌∙◌, ◌≤◌, ◌<◌, ◌+◌, ◌^◌, ◌++◌, ℕ, List, [], ◌∷◌, true, false, Bool, Option, Some, None, ap, sym, subst, length, arith}
-use Rattle.std.specs.Prelude.{⊤, ◌==◌, ◌&&◌, if◌then◌else◌, unwrap_or, Result, Ok, Err, OnErr, OnOk, slice_index, nat_lt}
+use Rattle.std.proofs.Common.{refl, ◌≡◌, ◌∙◌, ◌≤◌, ◌<◌, ◌+◌, ◌++◌, ℕ, List, [], true, false, Bool, Option, Some, None, ap, sym, subst, length, arith}
+use Rattle.std.specs.Prelude.{◌==◌, ◌&&◌, if◌then◌else◌, unwrap_or, Result, Ok, Err, OnErr, OnOk}
 use Rattle.std.specs.Option.{option_or}
 use Rattle.std.specs.Result.{result_ok}
 use Rattle.std.proofs.lemmas.List.{append-nil, length-append}
@@ -12,15 +12,13 @@ use Rattle.negotiate.specs.Choosing.{agreed, has_large, has_room_for_sha_384, ha
 use Rattle.negotiate.specs.Offer.{hash_offer, offer_of, offer_tables, pick_bits}
 use Rattle.negotiate.specs.declared.shared.Common.{Common}
 use Rattle.requester_machine.proofs.CapsRead.{common_read, common_stays}
-use Rattle.requester_machine.specs.Answers.{error_led, goes_on, is_done, may_be_large, version_led}
+use Rattle.requester_machine.specs.Answers.{goes_on}
 use Rattle.requester_machine.specs.ClearAnswers.{reading_of}
-use Rattle.requester_machine.specs.History.{Effect, History, Led, begins_large, connection_terms, larges_of, negotiation_after, negotiation_of, next_handle, next_tag, outstanding, phase_after, phase_of, sent_count}
+use Rattle.requester_machine.specs.History.{Effect, History, begins_large, connection_terms, larges_of, negotiation_after, negotiation_of, next_tag, phase_after, phase_of, sent_count}
 use Rattle.requester_machine.specs.History.Effect.{Answers, Nothing}
-use Rattle.requester_machine.specs.History.Entry.{TookClear}
-use Rattle.requester_machine.specs.Message.{Aim, Sent, asked_in}
-use Rattle.requester_machine.specs.Message.Aim.{ByChunks, ForChunk, Plain}
+use Rattle.requester_machine.specs.Message.{Sent, asked_in}
 use Rattle.requester_machine.specs.Message.Content.{Clear}
-use Rattle.requester_machine.specs.Sending.{get_sent, piece_of, piece_sent, plain_sent, request_sent}
+use Rattle.requester_machine.specs.Sending.{get_sent, piece_of, piece_sent, plain_sent}
 use Rattle.requester_machine.specs.Setup.{ReqSetup, requester_caps}
 use Rattle.requester_machine.specs.Shown.{blocks_in, blocks_of, bytes_in, last_data}
 use Rattle.requester_machine.specs.UnderWay.{HasSizes}
@@ -37,13 +35,11 @@ use Rattle.spdm_grammar.specs.declared.choice.Choice.{Choice}
 use Rattle.spdm_grammar.specs.declared.choice.Suites.{Suites}
 use Rattle.spdm_grammar.specs.declared.event.Event.{Event}
 use Rattle.spdm_grammar.specs.declared.names.TheConstants.{MAX_MESSAGE_SIZE}
-use Rattle.spdm_grammar.specs.declared.names.error_number.TheConstants.{LARGE_RESPONSE}
 use Rattle.spdm_grammar.specs.declared.phase.Phase.{Phase}
-use Rattle.spdm_grammar.specs.declared.phase.Phase.TheVariants.{Capable, Fresh, Negotiated, Versioned}
-use Rattle.spdm_machine.specs.Keys.{Draw}
+use Rattle.spdm_grammar.specs.declared.phase.Phase.TheVariants.{Capable, Negotiated, Versioned}
 use Rattle.spdm_machine.specs.Terms.{Terms, choice_from, hash_len, no_choice, no_negotiation, offer_in, reply_in, request_value, response_value, terms_of}
 use Rattle.transcript.specs.Transcripts.{Negotiation, vca_of}
-use Rattle.asking.specs.Led.{Follows, IsLed, Rests, SendsNext, is_no_get}
+use Rattle.asking.specs.Led.{Follows, SendsNext, is_no_get}
 use Rattle.asking.specs.Negotiating as negotiating
 use Rattle.asking.specs.Negotiating.{IsShort, IsUpTo, IsUpToAsked}
 use Rattle.asking.specs.Outgoing as outgoing

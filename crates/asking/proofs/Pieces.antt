@@ -1,5 +1,5 @@
 -- One chunk of a request: that it has a spelling, and how long CHUNK_SEND with it is.
-use Rattle.std.proofs.Common.{◌≡◌, ◌≤◌, ◌<◌, ◌+◌, ◌-◌, ◌^◌, ℕ, List, ap, length, arith, zero, suc, Bool, true, false, refl}
+use Rattle.std.proofs.Common.{◌≡◌, ◌≤◌, ◌-◌, ℕ, List, ap, length, arith, zero, suc, Bool, true, false, refl}
 use Rattle.std.specs.Prelude.{◌==◌, if◌then◌else◌, slice_range, is_some, Some, None}
 use Rattle.std.proofs.lemmas.Bool.Decides.{nat_tests}
 use Rattle.std.proofs.lemmas.List.{length-append, length-drop, length-take}

@@ -1,6 +1,6 @@
 -- What a command leaves of what is kept.
-use Rattle.std.proofs.Common.{refl, ◌≡◌, ◌∙◌, ◌≤◌, ◌<◌, ◌+◌, ◌%◌, ◌^◌, ◌++◌, ℕ, List, [], ◌∷◌, true, false, Bool, Option, Some, None, ap, sym, subst, length, arith}
-use Rattle.std.specs.Prelude.{⊤, ◌==◌, if◌then◌else◌, is_none, is_some, nat_lt, not}
+use Rattle.std.proofs.Common.{refl, ◌≡◌, ◌∙◌, ◌≤◌, ◌+◌, ◌%◌, ℕ, List, [], ◌∷◌, true, false, Bool, Option, Some, None, ap, sym, subst, length, arith}
+use Rattle.std.specs.Prelude.{if◌then◌else◌, is_some, not}
 use Rattle.std.proofs.lemmas.Bool.{false≢true}
 use Rattle.std.proofs.lemmas.List.{length-append}
 use Rattle.negotiate.specs.declared.shared.Common.{Common}
@@ -8,32 +8,30 @@ use Rattle.requester_machine.proofs.Entries.{request_sent-asks, test_is_false}
 use Rattle.requester_machine.proofs.Holds.{Holds}
 use Rattle.requester_machine.proofs.HoldsTold.{connected, told_holds}
 use Rattle.requester_machine.specs.Asking.{asks, asks_by, done}
-use Rattle.requester_machine.specs.Asking.Outcome.{Adds, Fails, Resends}
+use Rattle.requester_machine.specs.Asking.Outcome.{Adds, Fails}
 use Rattle.requester_machine.specs.Commands.{Free, command_fault, exchange_for, needs_connection}
-use Rattle.requester_machine.specs.History.{History, begins_large, connection_terms, is_connect, larges_of, negotiation_of, next_handle, next_tag, outstanding, phase_of, sent_count}
+use Rattle.requester_machine.specs.History.{History, begins_large, connection_terms, is_connect, larges_of, negotiation_of, next_tag, phase_of, sent_count}
 use Rattle.requester_machine.specs.History.Entry.{Told}
 use Rattle.requester_machine.specs.May.{IsAllowed}
-use Rattle.requester_machine.specs.Message.{Aim, Command, Sent, asked_in}
-use Rattle.requester_machine.specs.Message.Aim.{ByChunks, ForChunk, InSession, Plain}
-use Rattle.requester_machine.specs.Message.Command.{Connect, Measure, Open, Retry}
+use Rattle.requester_machine.specs.Message.{Command, Sent, asked_in}
+use Rattle.requester_machine.specs.Message.Command.{Connect, Open}
 use Rattle.requester_machine.specs.Message.Content.{Clear}
 use Rattle.requester_machine.specs.Sending.{plain_sent, request_sent}
 use Rattle.requester_machine.specs.Session.{session_of}
 use Rattle.requester_machine.specs.Setup.{ReqSetup}
-use Rattle.requester_machine.specs.UnderWay.{HasSizes, IsCommon, IsOutstanding, is_capable}
+use Rattle.requester_machine.specs.UnderWay.{HasSizes, IsCommon, is_capable}
 use Rattle.spdm_grammar.specs.Fields.{is_summary}
 use Rattle.spdm_grammar.specs.Message.{RequestMessage}
-use Rattle.spdm_grammar.specs.Message.RequestMessage.{GetMeasurements, GetVersion, PskExchange}
+use Rattle.spdm_grammar.specs.Message.RequestMessage.{GetVersion, PskExchange}
 use Rattle.spdm_grammar.specs.Reading.{field_at, number_at}
 use Rattle.spdm_grammar.specs.Requests.{IsSoundExchange, canonical_request}
 use Rattle.spdm_grammar.specs.declared.command_fault.CommandFault.{CommandFault}
 use Rattle.spdm_grammar.specs.declared.names.TheConstants.{MAX_MESSAGE_SIZE, MIN_DATA_TRANSFER_SIZE}
-use Rattle.spdm_grammar.specs.declared.phase.Phase.{Phase}
-use Rattle.spdm_grammar.specs.declared.phase.Phase.TheVariants.{Fresh, Negotiated}
+use Rattle.spdm_grammar.specs.declared.phase.Phase.TheVariants.{Fresh}
 use Rattle.spdm_machine.specs.Keys.{Draw}
 use Rattle.spdm_machine.specs.Terms.{Terms, hash_len, no_choice, no_common, no_negotiation, no_terms, terms_of}
 use Rattle.transcript.specs.Transcripts.{Negotiation}
-use Rattle.asking.specs.Commands.{IsDone, IsFailed, IsTold}
+use Rattle.asking.specs.Commands.{IsDone, IsFailed}
 use Rattle.asking.specs.Free.{IsFree}
 use Rattle.asking.specs.Setup.{IsSetUp}
 use Rattle.asking.specs.declared.free_values.FreeValues.{FreeValues}
@@ -43,7 +41,6 @@ use Rattle.asking.specs.Negotiating.{IsShort, IsUpTo, IsUpToAsked, IsUpToSent}
 use Rattle.asking.specs.Outgoing as outgoing
 use Rattle.asking.specs.Outgoing.{IsKept, Sends, handle_after, tag_after}
 use Rattle.asking.specs.Talk.{Seen, Shows, StandsFor}
-use Rattle.asking.specs.Waiting.{waiting_of}
 use Rattle.asking.specs.declared.waiting.Asked.TheVariants as asked_kinds
 use Rattle.asking.specs.declared.waiting.Waiting.TheVariants as waits
 use Rattle.asking.specs.declared.waiting.Way.TheVariants as ways

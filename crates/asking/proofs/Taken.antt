@@ -1,9 +1,8 @@
 -- A message in the clear, as an entry of the history.
-use Rattle.std.proofs.Common.{refl, ◌≡◌, ◌∙◌, ◌∷◌, ap, sym, subst, ℕ, List, Option, Some, None, true, false, Bool}
+use Rattle.std.proofs.Common.{◌≡◌, ◌∙◌, ap, sym, subst, ℕ, List, Option, Some}
 use Rattle.std.specs.Prelude.{Result, Ok, Err}
-use Rattle.std.proofs.lemmas.Bool.{false≢true}
-use Rattle.asking.specs.Led.{Follows, IsCarried, IsLed, IsTaken, Stands, is_no_get}
-use Rattle.asking.specs.Talk.{Seen, Shows, StandsFor}
+use Rattle.asking.specs.Led.{Follows, IsCarried, IsLed, IsTaken, Stands}
+use Rattle.asking.specs.Talk.{Seen, Shows}
 use Rattle.asking.specs.declared.led.Led as seen_led
 use Rattle.asking.specs.declared.led.Led.TheVariants as seen
 use Rattle.asking.specs.declared.waiting.Way.TheVariants as ways
@@ -18,7 +17,6 @@ use Rattle.requester_machine.specs.Message.Aim.{ByChunks, ForChunk, InSession, P
 use Rattle.requester_machine.specs.Setup.{ReqSetup}
 use Rattle.spdm_grammar.specs.Message.{RequestMessage}
 use Rattle.spdm_grammar.specs.declared.event.ReqIgnored.{ReqIgnored}
-use Rattle.spdm_machine.specs.Keys.{Draw}
 use Rattle.asking.specs.Waiting.{kind_of, waiting_for, waiting_of, way_of}
 use Rattle.asking.specs.Negotiating.{IsUpTo, IsUpToAsked, IsUpToSent}
 use Rattle.asking.specs.Outgoing.{IsCut, IsKept, IsKeptOf}

@@ -1,9 +1,8 @@
 -- What comes of a message in the clear, but for the chunks of a large answer.
-use Rattle.std.specs.Prelude.{◌≡◌, ◌∷◌, ℕ, List, [], Bool, true, false, Option, Some, None, Result, Ok, Err}
+use Rattle.std.specs.Prelude.{◌≡◌, ◌∷◌, ℕ, List, [], Bool, true, false, Some, None, Result, Ok, Err}
 use Rattle.asking.specs.Talk.{Seen, Shows, StandsFor}
 use Rattle.asking.specs.declared.led.Led as seen_led
 use Rattle.asking.specs.declared.led.Led.TheVariants as seen
-use Rattle.requester_machine.specs.Answers.{exchange_led}
 use Rattle.requester_machine.specs.ClearAnswers.{Carried, carried_by, carried_led, clear_led, read_led, reading_of}
 use Rattle.requester_machine.specs.ClearAnswers.Carried.{Whole}
 use Rattle.requester_machine.specs.Commands.{Free}

@@ -1,5 +1,5 @@
 -- How a requester is set up, as the program sees it.
-use Rattle.std.specs.Prelude.{◌≡◌, ◌≤◌, length}
+use Rattle.std.specs.Prelude.{◌≡◌}
 use Rattle.asking.specs.declared.setup.Setup.{Setup}
 use Rattle.requester_machine.specs.Setup.{ReqSetup}
 use Rattle.requester_machine.specs.UnderWay.{HasSizes}

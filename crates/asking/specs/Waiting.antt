@@ -1,5 +1,5 @@
 -- What a requester waits for, as the program keeps it, read off the outstanding message.
-use Rattle.std.specs.Prelude.{ℕ, List, Option, Some, None}
+use Rattle.std.specs.Prelude.{ℕ, Option, Some, None}
 use Rattle.asking.specs.declared.waiting.Asked.{Asked}
 use Rattle.asking.specs.declared.waiting.Asked.TheVariants as asks
 use Rattle.asking.specs.declared.waiting.Way.{Way}

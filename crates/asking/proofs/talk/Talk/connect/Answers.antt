@@ -1,4 +1,4 @@
-use Rattle.std.proofs.Common.{◌≡◌, subst, sym, arith}
+use Rattle.std.proofs.Common.{subst, sym, arith}
 use Rattle.asking.proofs.Started.{connect_done}
 use Rattle.asking.specs.Talk.{Seen, StandsFor}
 use Rattle.asking.proofs.talk.Talk.connect.Goals as goal

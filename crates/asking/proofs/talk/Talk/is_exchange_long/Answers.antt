@@ -1,4 +1,4 @@
-use Rattle.std.proofs.Common.{◌≡◌, ◌∙◌, ap, subst, sym}
+use Rattle.std.proofs.Common.{◌∙◌, ap, subst, sym}
 use Rattle.asking.proofs.Started.{exchange_long}
 use Rattle.asking.specs.Talk.{Seen, Shows}
 use Rattle.negotiate.specs.declared.shared.Common.{Common}

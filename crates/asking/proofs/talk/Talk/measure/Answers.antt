@@ -7,7 +7,6 @@ use Rattle.requester_machine.specs.Commands.{command_fault}
 use Rattle.requester_machine.specs.History.{connection_terms}
 use Rattle.requester_machine.specs.Message.Command.{Measure}
 use Rattle.spdm_grammar.specs.Message.RequestMessage.{GetMeasurements}
-use Rattle.spdm_grammar.specs.Requests.{canonical_request}
 use Rattle.spdm_grammar.specs.declared.names.TheConstants.{MAX_MESSAGE_SIZE, MIN_DATA_TRANSFER_SIZE}
 use Rattle.asking.proofs.talk.Talk.measure.Goals as goal
 

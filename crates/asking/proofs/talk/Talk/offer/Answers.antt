@@ -1,4 +1,4 @@
-use Rattle.std.proofs.Common.{refl, ◌≡◌, ◌∙◌, ◌≤◌, ap, subst, sym, ℕ, List, Option, Some, None, Bool, length, arith}
+use Rattle.std.proofs.Common.{refl, ◌≡◌, ◌∙◌, ap, subst, sym, ℕ, Option, Some, None, Bool, length, arith}
 use Rattle.std.specs.Prelude.{if◌then◌else◌, Ok, nat_lt}
 use Rattle.asking.proofs.Leading.{capabilities_stand, capabilities_up, next_led, own_offer_is, request_no_get}
 use Rattle.asking.proofs.Lengths.{capabilities_long}

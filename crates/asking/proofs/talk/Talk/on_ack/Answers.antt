@@ -1,10 +1,10 @@
-use Rattle.std.proofs.Common.{refl, ◌≡◌, ◌∙◌, ◌≤◌, ◌<◌, ◌+◌, ap, subst, sym, ℕ, List, Option, Some, None, Bool, true, false, length, arith}
-use Rattle.std.specs.Prelude.{if◌then◌else◌, Ok, Result, unwrap_or}
+use Rattle.std.proofs.Common.{refl, ◌≡◌, ◌∙◌, ◌≤◌, ◌+◌, ap, subst, sym, ℕ, List, Option, Bool, false, length, arith}
+use Rattle.std.specs.Prelude.{if◌then◌else◌, unwrap_or}
 use Rattle.asking.proofs.Answered.{clear_request}
 use Rattle.asking.proofs.Carrying.{carried_by, count_few, next_within, whole_carried}
 use Rattle.asking.proofs.Early.{fault_near}
 use Rattle.asking.proofs.Leading.{next_led, piece_small, small_sends}
-use Rattle.asking.specs.Led.{IsCarried, IsLed, SendsNext}
+use Rattle.asking.specs.Led.{IsCarried, SendsNext}
 use Rattle.asking.specs.Outgoing.{IsCut, message_for, tag_after}
 use Rattle.asking.specs.declared.led.Led.TheVariants as seen
 use Rattle.asking.specs.declared.waiting.Waiting.TheVariants as waits
@@ -13,14 +13,13 @@ use Rattle.asking.specs.Talk.{Seen, Shows}
 use Rattle.asking.specs.declared.waiting.Way.TheVariants as ways
 use Rattle.chunking.specs.Cutting.{chunk_count}
 use Rattle.negotiate.specs.declared.shared.Common.{Common}
-use Rattle.requester_machine.specs.Answers.{goes_on, is_refused}
+use Rattle.requester_machine.specs.Answers.{goes_on}
 use Rattle.requester_machine.specs.Bodies.{error_in}
 use Rattle.requester_machine.specs.ClearAnswers.{Carried, acknowledged, carried_led, has_summary}
 use Rattle.requester_machine.specs.ClearAnswers.Carried.{Further, Refused, Whole}
 use Rattle.requester_machine.specs.History.{Led, connection_terms}
-use Rattle.requester_machine.specs.History.Effect.{Nothing, Refuses}
+use Rattle.requester_machine.specs.History.Effect.{Nothing}
 use Rattle.requester_machine.specs.Sending.{piece_of, piece_sent}
-use Rattle.spdm_grammar.specs.Message.RequestMessage.{ChunkSend}
 use Rattle.spdm_grammar.specs.Requests.{canonical_request}
 use Rattle.spdm_grammar.specs.declared.event.ReqIgnored.{ReqIgnored}
 use Rattle.spdm_grammar.specs.declared.names.TheConstants.{MAX_MESSAGE_SIZE}

@@ -1,10 +1,8 @@
-use Rattle.std.proofs.Common.{refl, ◌≡◌, ◌∙◌, ap, subst, sym, ℕ}
-use Rattle.std.specs.Prelude.{Ok, Err, Result}
+use Rattle.std.proofs.Common.{refl, ◌∙◌, ap, sym, ℕ}
+use Rattle.std.specs.Prelude.{Err}
 use Rattle.asking.proofs.Answered.{clear_request}
 use Rattle.requester_machine.specs.ClearAnswers.{read_led}
-use Rattle.spdm_grammar.specs.Message.{ResponseMessage}
 use Rattle.spdm_grammar.specs.declared.event.ReqIgnored.TheVariants as ignored
-use Rattle.spdm_grammar.specs.declared.malformed.Malformed.{Malformed}
 use Rattle.asking.proofs.talk.Talk.on_answer.Goals as goal
 
 pub returns-in-Ok : goal.returns-in-Ok

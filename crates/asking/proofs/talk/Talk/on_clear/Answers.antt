@@ -1,9 +1,7 @@
-use Rattle.std.proofs.Common.{refl, ◌≡◌, ◌∙◌, ap, subst, sym, Option, Some}
+use Rattle.std.proofs.Common.{◌∙◌, ap, subst, sym}
 use Rattle.asking.proofs.Taken.{clear_way}
 use Rattle.asking.specs.Talk.{Seen, StandsFor}
 use Rattle.asking.specs.Waiting.{waiting_of}
-use Rattle.requester_machine.specs.History.{outstanding}
-use Rattle.requester_machine.specs.Message.{Sent}
 use Rattle.asking.proofs.talk.Talk.on_clear.Goals as goal
 
 pub returns-in-InClear : goal.returns-in-InClear

@@ -1,5 +1,5 @@
-use Rattle.std.proofs.Common.{refl, ◌≡◌, ◌∙◌, ap, subst, sym, ℕ, List, [], Bool, true, false}
-use Rattle.std.specs.Prelude.{if◌then◌else◌, slice_index, Ok, Result}
+use Rattle.std.proofs.Common.{refl, ◌≡◌, ◌∙◌, ap, subst, sym, ℕ, List, [], Bool, true}
+use Rattle.std.specs.Prelude.{if◌then◌else◌, slice_index, Ok}
 use Rattle.asking.proofs.Leading.{large_led}
 use Rattle.asking.specs.Led.{IsLed, SendsNext}
 use Rattle.asking.specs.Talk.{Seen, Shows}
@@ -7,9 +7,7 @@ use Rattle.requester_machine.specs.Answers.{error_led, goes_on, is_refused}
 use Rattle.requester_machine.specs.History.{Led}
 use Rattle.requester_machine.specs.History.Effect.{Nothing, Refuses}
 use Rattle.requester_machine.specs.Sending.{get_sent}
-use Rattle.spdm_grammar.specs.Message.RequestMessage.{ChunkGet}
 use Rattle.spdm_grammar.specs.Requests.{canonical_request}
-use Rattle.spdm_grammar.specs.declared.event.ReqIgnored.{ReqIgnored}
 use Rattle.asking.proofs.talk.Talk.on_error.Goals as goal
 
 pub returns-then-is_large : goal.returns-then-is_large

@@ -1,4 +1,4 @@
-use Rattle.std.proofs.Common.{refl, ◌≡◌, ◌∙◌, ◌≤◌, ap, subst, sym, ℕ, List, length, arith}
+use Rattle.std.proofs.Common.{refl, ◌∙◌, ap, subst, sym, ℕ, arith}
 use Rattle.asking.proofs.Leading.{extended, measured_brings, rest_follows}
 use Rattle.asking.proofs.Lengths.{measured_short}
 use Rattle.asking.specs.Talk.{Seen, Shows}

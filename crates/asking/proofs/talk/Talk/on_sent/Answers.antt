@@ -1,4 +1,4 @@
-use Rattle.std.proofs.Common.{refl, ◌≡◌, ◌∙◌, ◌≤◌, ap, subst, sym, ℕ, List, length, arith}
+use Rattle.std.proofs.Common.{refl, ◌≡◌, ◌∙◌, ap, subst, sym, ℕ, List, arith}
 use Rattle.std.specs.Prelude.{Ok, Result}
 use Rattle.asking.proofs.Answered.{clear_request}
 use Rattle.asking.proofs.Carrying.{carried_by, other_ack}
@@ -18,7 +18,6 @@ use Rattle.spdm_grammar.specs.Message.{ResponseMessage, response_message}
 use Rattle.spdm_grammar.specs.Message.ResponseMessage.{ChunkSendAck}
 use Rattle.spdm_grammar.specs.Requests.{canonical_request}
 use Rattle.spdm_grammar.specs.declared.malformed.Malformed.{Malformed}
-use Rattle.spdm_grammar.specs.declared.names.TheConstants.{MAX_MESSAGE_SIZE}
 use Rattle.spdm_grammar.specs.declared.response.Response.{Response}
 use Rattle.spdm_machine.specs.Terms.{hash_len}
 use Rattle.asking.proofs.talk.Talk.on_sent.Goals as goal

@@ -1,11 +1,11 @@
-use Rattle.std.proofs.Common.{refl, ◌≡◌, ◌∙◌, ap, subst, sym, ℕ, List, Option, Some, None, Bool, arith}
+use Rattle.std.proofs.Common.{refl, ◌≡◌, ◌∙◌, ap, subst, sym, ℕ, List, Option, None, arith}
 use Rattle.std.specs.Prelude.{Ok}
 use Rattle.asking.proofs.Leading.{next_led, plain_small, small_sends, version_stands, version_up}
 use Rattle.asking.proofs.Started.{none_if, some_if}
 use Rattle.asking.specs.Led.{IsLed, SendsNext}
 use Rattle.asking.specs.Outgoing as outgoing
 use Rattle.asking.specs.Talk.{Seen, Shows}
-use Rattle.requester_machine.specs.Answers.{goes_on, stopped, version_led}
+use Rattle.requester_machine.specs.Answers.{goes_on, version_led}
 use Rattle.requester_machine.specs.History.{Led, negotiation_of, phase_of}
 use Rattle.requester_machine.specs.History.Effect.{Answers}
 use Rattle.requester_machine.specs.Sending.{plain_sent}
@@ -13,7 +13,6 @@ use Rattle.requester_machine.specs.Setup.{requester_caps}
 use Rattle.spdm_grammar.specs.Message.RequestMessage.{GetCapabilities, GetVersion}
 use Rattle.spdm_grammar.specs.Requests.{canonical_request}
 use Rattle.spdm_grammar.specs.declared.capabilities.Caps.{Caps}
-use Rattle.spdm_grammar.specs.declared.event.Stop.TheVariants as stop
 use Rattle.asking.specs.declared.waiting.Asked.TheVariants as asks
 use Rattle.asking.specs.declared.waiting.Way.TheVariants as ways
 use Rattle.asking.proofs.talk.Talk.on_version.Goals as goal

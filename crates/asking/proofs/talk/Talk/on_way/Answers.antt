@@ -1,10 +1,8 @@
-use Rattle.std.proofs.Common.{refl, ◌≡◌, ◌∙◌, ◌≤◌, ap, subst, sym, ℕ, List, length, arith}
-use Rattle.asking.proofs.Awaited.{kept_request, written}
+use Rattle.std.proofs.Common.{◌∙◌, ℕ, arith}
 use Rattle.asking.proofs.Carrying.{whole_carried}
 use Rattle.asking.proofs.Early.{fault_near}
 use Rattle.asking.proofs.Taken.{ack_carried, awaited_here, kept_here, pieces_aim, pieces_cut, plain_aim, taken, up_here, whole_carries}
-use Rattle.asking.specs.Led.{IsTaken}
-use Rattle.requester_machine.specs.ClearAnswers.{Carried, ack_carries, has_summary, reading_of}
+use Rattle.requester_machine.specs.ClearAnswers.{ack_carries, has_summary, reading_of}
 use Rattle.requester_machine.specs.ClearAnswers.Carried.{Whole}
 use Rattle.requester_machine.specs.History.{connection_terms}
 use Rattle.requester_machine.specs.Sending.{piece_of}

@@ -1,11 +1,10 @@
-use Rattle.std.proofs.Common.{refl, ◌≡◌, ◌∙◌, ap, subst, sym, ℕ, List}
+use Rattle.std.proofs.Common.{◌≡◌, ◌∙◌, ap, subst, sym, ℕ, List}
 use Rattle.asking.proofs.Awaited.{again, in_clear, in_session, kept_request, nothing_again, nothing_waits, written}
 use Rattle.asking.specs.Outgoing.{IsCut, message_for}
 use Rattle.asking.specs.Talk.{Seen, StandsFor}
 use Rattle.negotiate.specs.declared.shared.Common.{Common}
 use Rattle.requester_machine.specs.History.{connection_terms, outstanding}
 use Rattle.requester_machine.specs.Message.Content.{Clear}
-use Rattle.spdm_grammar.specs.Requests.{canonical_request}
 use Rattle.asking.proofs.talk.Talk.retry.Goals as goal
 
 pub returns-in-Nothing : goal.returns-in-Nothing
