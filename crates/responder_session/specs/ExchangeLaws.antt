@@ -8,7 +8,9 @@ use Rattle.responder_machine.specs.Setup.{RspSetup}
 use Rattle.spdm_grammar.specs.Message.{ExchangeMessage}
 use Rattle.spdm_grammar.specs.Responses.{canonical_response}
 use Rattle.responder_session.specs.Exchange.{answer_for}
+use Rattle.responder_session.specs.Session.{StandsFor}
 use Rattle.responder_session.specs.Took.{IsStateOf}
+use Rattle.responder_session.specs.declared.session.RspSession.{RspSession}
 use Rattle.responder_session.specs.declared.parts.ExchangeParts.{ExchangeParts}
 use Rattle.responder_session.specs.declared.took.RspState.{RspState}
 
@@ -24,6 +26,10 @@ pub record ArePartsOf (r : RspSetup) (p : Place) (f : Free) (e : ExchangeMessage
 abbrev pub StartIsAnswer : Type 0
 StartIsAnswer = (r : RspSetup) (p : Place) (m : List ℕ) (f : Free) (e : ExchangeMessage) (parts : ExchangeParts) → ArePartsOf r p f e parts
     → answer_for r.psk p.negotiation m parts ≡ canonical_response (exchange_answer r p m f e)
+
+-- A session that is stepped in place stands for its events also when seconds have passed.
+abbrev pub SessionWaits : Type 0
+SessionWaits = (session : RspSession) (psk : List ℕ) (s : Events) (seconds : ℕ) → StandsFor session psk s → StandsFor session psk (Waited seconds ∷ s)
 
 -- A state that stands for a session stands for it when seconds have passed.
 abbrev pub WaitingStands : Type 0
