@@ -193,7 +193,14 @@ impl Kept {
         write_inner(kind, message, inner);
         let number = self.response_next.number() as u16;
         let reply = &mut self.last.reply;
-        seal_record(&self.response, self.id, number, inner.as_slice(), pad, reply);
+        seal_record(
+            &self.response,
+            self.id,
+            number,
+            inner.as_slice(),
+            pad,
+            reply,
+        );
         self.last.keep(sealed);
         self.request_next.advance();
         self.response_next.advance();

@@ -28,7 +28,8 @@ pub use deed::RecordFree;
 pub use ended::RspEnded;
 pub use handshake::RspHandshake;
 pub use laws::{
-    behind_has_reply, session_waits, start_is_answer, told_is_record, took_is_record, waiting_stands,
+    behind_has_reply, session_waits, start_is_answer, told_is_record, took_is_record,
+    waiting_stands,
 };
 pub use open::RspOpen;
 pub use parts::ExchangeParts;

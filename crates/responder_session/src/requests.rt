@@ -23,6 +23,7 @@ use spdm_grammar::{ErrorCode, Stage};
 // The operations of KEY_UPDATE that update the keys of both directions, and by which new keys are verified
 // (DSP0274, "KEY_UPDATE operations").
 const UPDATE_ALL_KEYS: u8 = 2;
+
 const VERIFY_NEW_KEY: u8 = 3;
 
 // Whether an operation of KEY_UPDATE comes in a stage.
@@ -37,13 +38,7 @@ fn fits_stage(stage: Stage, op: u8) -> bool
 }
 
 // What KEY_UPDATE does.
-pub fn update<'a>(
-    place: &Place,
-    message: &'a [u8],
-    op: u8,
-    tag: u8,
-    out: &mut Frame,
-) -> Deed<'a>
+pub fn update<'a>(place: &Place, message: &'a [u8], op: u8, tag: u8, out: &mut Frame) -> Deed<'a>
     ensures { (r : RspSetup) (s : Events) (f : Free) → 1 ≤ op → op ≤ 3
         → IsPlace place.now (session_place s) → (stage_of s ≡ Open → HasEpochs s)
         → IsAllowed r s message.now (KeyUpdate op tag)

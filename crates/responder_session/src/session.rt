@@ -210,7 +210,11 @@ impl RspSession {
         let Some(stage) = self.stage else {
             return RspTold::Unopened(ended_fault(self.kept.id, sealed));
         };
-        let Work { inner, answer, sent } = work;
+        let Work {
+            inner,
+            answer,
+            sent,
+        } = work;
         if let Err(fault) = self.kept.open(sealed, inner) {
             return RspTold::Unopened(fault);
         }
