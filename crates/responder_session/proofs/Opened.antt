@@ -39,7 +39,8 @@ pub spoken : (r : RspSetup) (s : Events) (f : Free) (stage : Stage) (inner m : L
 spoken r s f stage inner m n at h is same behind =
     inner-spoken r s inner f (refuses s stage inner None at h) (five n inner is same) ∙ ap (λ (x : List ℕ). turn_of r (session_place s) x f) (sym behind)
 
--- Application data that is not refused has at most 1,024 bytes, and comes where the session is open.
+-- Application data that is not refused has at most 1,024 bytes, and comes where the session is
+-- open.
 few : (empty five one opens long : Bool)
     → first_of_tests ((empty, InvalidRequest) ∷ (not (five || one), InvalidRequest) ∷ (one && not opens, UnexpectedRequest) ∷ (one && long, RequestTooLarge) ∷ []) ≡ None
     → five ≡ false → (long ≡ false) × (opens ≡ true)

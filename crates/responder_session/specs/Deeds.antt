@@ -51,8 +51,9 @@ turn_for r s f message answer (deed.Verified tag) = update_turn message 3 tag
 turn_for r s f message answer deed.Ended = answered_turn message EndSession answer
 turn_for r s f message answer (deed.Chunk handle number) = answered_turn message (ChunkGet handle number) answer
 
--- What else is known of it: which answer is sent, that application data has at most 1,024 bytes, that a large
--- answer is longer than the requester's transfer size, and in which stage the keys change.
+-- What else is known of it: which answer is sent, that application data has at most 1,024 bytes,
+-- that a large answer is longer than the requester's transfer size, and in which stage the keys
+-- change.
 abbrev pub IsFit : RspSetup → Events → Free → (message answer : List ℕ) → Deed → Type 0
 IsFit r s f message answer (deed.Refused code) = answer ≡ error_bytes r (session_place s) message f code
 IsFit r s f message answer deed.Data = (stage_of s ≡ stage.Open) × (length message ≤ 1024) × (answer ≡ f.reply)
@@ -72,7 +73,8 @@ pub record IsInnerDeed (r : RspSetup) (s : Events) (f : Free) (inner message ans
   pub turn : session_turn r s inner f ≡ turn_for r s f message answer does
   pub fit : IsFit r s f message answer does
 
--- A request came to a session, at a responder with its sizes: neither its form nor its code is refused.
+-- A request came to a session, at a responder with its sizes: neither its form nor its code is
+-- refused.
 pub record IsAllowed (r : RspSetup) (s : Events) (m : List ℕ) (asked : RequestMessage) : Type 0 where
   pub sizes : HasSizes r (session_terms s).common
   pub form : refused_form r (session_place s) m ≡ None

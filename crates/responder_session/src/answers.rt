@@ -39,7 +39,8 @@ pub fn write_update_answer(op: u8, tag: u8, out: &mut Frame)
     }
 }
 
-// Writes CHUNK_RESPONSE of at most 4,096 bytes, where the chunk has a spelling: each chunk of a large answer has.
+// Writes CHUNK_RESPONSE of at most 4,096 bytes, where the chunk has a spelling: each chunk of a
+// large answer has.
 pub fn write_chunk(chunk: ChunkView<'_>, out: &mut Frame)
     ensures { IsSoundChunk (chunk_message chunk.entry)
         → length (canonical_response (ChunkResponse (chunk_message chunk.entry))) ≤ MAX_MESSAGE_SIZE

@@ -159,8 +159,7 @@ impl RspSession {
     {
         self.kept
             .reply(opened.sealed, SPDM_MESSAGE, answer, opened.pad, inner);
-        self.kept
-            .rekey_requests(self.exchange.handshake.request_key());
+        self.kept.rekey_requests();
         self.large.clear();
         self.stage = Some(Stage::Verifying);
     }
@@ -177,12 +176,10 @@ impl RspSession {
             → StandsFor self.new psk (heard_by psk s opened.now.sealed.now
             (update_turn opened.now.message.now 2 tag) opened.now.pad.now) }
     {
-        self.kept
-            .rekey_responses(self.exchange.handshake.response_key());
+        self.kept.rekey_responses();
         self.kept
             .reply(opened.sealed, SPDM_MESSAGE, answer, opened.pad, inner);
-        self.kept
-            .rekey_requests(self.exchange.handshake.request_key());
+        self.kept.rekey_requests();
         self.large.clear();
         self.stage = Some(Stage::Verifying);
     }

@@ -11,8 +11,8 @@ impl RspEnded {
     ghost use Rattle.responder_session.specs.Ended.{StandsFor};
     ghost use Rattle.responder_session.specs.EndedTook.{IsEndedTook};
 
-    /// A record of the requester: the repeat of the last one, or one that does not open. What is told of such a record
-    /// is its length or its id where they are wrong, and else its number.
+    /// A record of the requester: the repeat of the last one, or one that does not open. What is
+    /// told of such a record is its length or its id where they are wrong, and else its number.
     pub fn take(mut self, sealed: &[u8]) -> RspTook
         ensures { (id old answer : List ℕ) → StandsFor self id old answer
             → IsEndedTook id old answer sealed.now result }

@@ -59,7 +59,8 @@ fn blank(hash: HashAlg) -> HashBytes
     }
 }
 
-// The handshake that PSK_EXCHANGE and the parts of its answer fix; the lane was given VCA and PSK_EXCHANGE.
+// The handshake that PSK_EXCHANGE and the parts of its answer fix; the lane was given VCA and
+// PSK_EXCHANGE.
 pub fn handshake_with(
     lane: &Lane,
     psk: &Psk,
@@ -80,8 +81,8 @@ pub fn handshake_with(
     Handshake::new(choice.hash, choice.aead, psk, lane.finish())
 }
 
-// What PSK_EXCHANGE and its answer fix: the running hash of the transcript up to PSK_EXCHANGE_RSP, and the
-// secrets of the handshake.
+// What PSK_EXCHANGE and its answer fix: the running hash of the transcript up to PSK_EXCHANGE_RSP,
+// and the secrets of the handshake.
 #[derive(Drop)]
 pub struct Exchange {
     pub lane: Lane,

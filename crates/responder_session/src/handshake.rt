@@ -23,8 +23,9 @@ impl RspHandshake {
     ghost use Rattle.responder_session.specs.Handshake.{StandsFor};
     ghost use Rattle.responder_session.specs.Took.{IsTook};
 
-    /// The session that a PSK_EXCHANGE begins, after the messages of a negotiation and under its terms; writes the
-    /// whole PSK_EXCHANGE_RSP with these parts (DSP0274), in place of what `out` holds.
+    /// The session that a PSK_EXCHANGE begins, after the messages of a negotiation and under its
+    /// terms; writes the whole PSK_EXCHANGE_RSP with these parts (DSP0274), in place of what `out`
+    /// holds.
     pub fn start(
         vca: &Vca,
         psk: &Psk,

@@ -12,10 +12,10 @@ use secured_record::{RecordFault, RecordKey};
 use session_keys::{Handshake, SessionTerms, open_record, seal_record};
 use spdm_basis::{HashBytes, RecordFrame, SessionId};
 use spdm_grammar::{Phase, SessionView, Stage};
-use std::mem;
 
-// What a session keeps in every stage: the keys with the numbers of their next records, how many application
-// messages were taken, the hash of T1 or T2, the id, the terms, and the last record taken.
+// What a session keeps in every stage: the keys with the numbers of their next records, how many
+// application messages were taken, the hash of T1 or T2, the id, the terms, and the last record
+// taken.
 #[derive(Drop)]
 pub struct Kept {
     pub request: RecordKey,
@@ -36,16 +36,15 @@ fn copy_of(hash: &HashBytes) -> HashBytes
     hash.clone().unwrap()
 }
 
-// The next key, where epochs are left.
-fn next_of(key: RecordKey) -> RecordKey
-    ensures { key.epoch < 2 ^ 64 - 1 → (choice : Choice) (p : Purpose) → IsKeyOf key choice p
-        → IsKeyOf result choice (record p { epoch = p.epoch + 1 }) }
+// Steps to the next key, where epochs are left.
+fn update(key: &mut RecordKey)
+    ensures { key.old.epoch < 2 ^ 64 - 1 → (choice : Choice) (p : Purpose)
+        → IsKeyOf key.old choice p → IsKeyOf key.new choice (record p { epoch = p.epoch + 1 }) }
 {
-    if key.epoch() < u64::MAX {
-        key.next()
-    } else {
-        key
+    if key.epoch() == u64::MAX {
+        return;
     }
+    key.update();
 }
 
 impl Kept {
@@ -156,8 +155,8 @@ impl Kept {
         }
     }
 
-    // Seals the inner message of a type that answers a record, under the standing key; both are counted and kept.
-    // What `inner` holds does not matter.
+    // Seals the inner message of a type that answers a record, under the standing key; both are
+    // counted and kept. What `inner` holds does not matter.
     pub fn reply(
         &mut self,
         sealed: &[u8],
@@ -206,8 +205,8 @@ impl Kept {
         self.response_next.advance();
     }
 
-    // Goes on to the next key of requests, whose numbers begin anew. The other key takes its place meanwhile.
-    pub fn rekey_requests(&mut self, other: RecordKey)
+    // Goes on to the next key of requests, whose numbers begin anew.
+    pub fn rekey_requests(&mut self)
         ensures key { self.old.request.epoch < 2 ^ 64 - 1 → (choice : Choice) (p : Purpose)
             → IsKeyOf self.old.request choice p
             → IsKeyOf self.new.request choice (record p { epoch = p.epoch + 1 }) }
@@ -216,12 +215,12 @@ impl Kept {
           request_next = 0;
         } }
     {
-        self.request = next_of(mem::replace(&mut self.request, other));
+        update(&mut self.request);
         self.request_next = NextNumber::first();
     }
 
-    // Goes on to the next key of responses, whose numbers begin anew. The other key takes its place meanwhile.
-    pub fn rekey_responses(&mut self, other: RecordKey)
+    // Goes on to the next key of responses, whose numbers begin anew.
+    pub fn rekey_responses(&mut self)
         ensures key { self.old.response.epoch < 2 ^ 64 - 1 → (choice : Choice) (p : Purpose)
             → IsKeyOf self.old.response choice p
             → IsKeyOf self.new.response choice (record p { epoch = p.epoch + 1 }) }
@@ -230,7 +229,7 @@ impl Kept {
           response_next = 0;
         } }
     {
-        self.response = next_of(mem::replace(&mut self.response, other));
+        update(&mut self.response);
         self.response_next = NextNumber::first();
     }
 

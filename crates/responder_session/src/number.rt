@@ -3,8 +3,8 @@ use std::marker::Model;
 // As many records as a key may seal.
 const MOST_RECORDS: u32 = 65536;
 
-/// The number of the next record under a key, from 0 to 65,536: a key seals no more than 65,536 records
-/// (DSP0277, "Sequence number"). Contracts see it as a number.
+/// The number of the next record under a key, from 0 to 65,536: a key seals no more than 65,536
+/// records (DSP0277, "Sequence number"). Contracts see it as a number.
 #[derive(Drop)]
 pub struct NextNumber {
     number: u32,

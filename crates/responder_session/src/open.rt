@@ -31,8 +31,9 @@ impl RspOpen {
         self.session.kept.view(Stage::Open)
     }
 
-    /// A record of the requester, whose answer has these free values. The caller's nonce has 32 bytes, the opaque
-    /// data and the reply at most 1,024, and the padding at most 16; both epochs are below 2^64 - 1.
+    /// A record of the requester, whose answer has these free values. The caller's nonce has 32
+    /// bytes, the opaque data and the reply at most 1,024, and the padding at most 16; both epochs
+    /// are below 2^64 - 1.
     pub fn take_with(
         mut self,
         sealed: &[u8],
@@ -55,9 +56,10 @@ impl RspOpen {
         RspTook::of(self.session, told)
     }
 
-    /// A record of the requester, at this project's choice of what is free: the nonce is the draw, the opaque data and
-    /// the padding are empty, handles are given in order, and application data is answered by what waits first, which
-    /// is used up. Both epochs of the caller's state are below 2^64 - 1.
+    /// A record of the requester, at this project's choice of what is free: the nonce is the draw,
+    /// the opaque data and the padding are empty, handles are given in order, and application data
+    /// is answered by what waits first, which is used up. Both epochs of the caller's state are
+    /// below 2^64 - 1.
     pub fn take(
         self,
         sealed: &[u8],

@@ -1,6 +1,5 @@
-ghost use Rattle.std.specs.Prelude.{◌≡◌, ◌≤◌, take, length};
+ghost use Rattle.std.specs.Prelude.{◌≡◌, ◌≤◌, take, length, bytes_eq};
 ghost use Rattle.responder_machine.specs.Records.{ended_fault};
-ghost use Rattle.secured_record.specs.Faults.{same_bytes};
 ghost use Rattle.spdm_basis.specs.SessionIdBytes.{session_id_bytes};
 
 use crate::applying::Opened;
@@ -18,8 +17,9 @@ use transcript::{Lane, Vca};
 // The fewest bytes of a record.
 const LEAST_RECORD: usize = 26;
 
-/// A session at the responder in whatever stage, which takes records in place. Its keys, the last record with
-/// its reply, the pending large answer and the application data stand in it and do not move.
+/// A session at the responder in whatever stage, which takes records in place. Its keys, the last
+/// record with its reply, the pending large answer and the application data stand in it and do not
+/// move.
 #[derive(Drop)]
 pub struct RspSession {
     // None where END_SESSION ended it.
@@ -33,7 +33,7 @@ pub struct RspSession {
 // Whether a record of at least 26 bytes begins with a session id.
 fn names(sealed: &[u8], id: SessionId) -> bool
     requires { 26 ≤ length sealed.now }
-    ensures { result ≡ same_bytes (take 4 sealed.now) (session_id_bytes id.req id.rsp) }
+    ensures { result ≡ bytes_eq (take 4 sealed.now) (session_id_bytes id.req id.rsp) }
 {
     same_bytes(sealed.split_at(4).0, &id.bytes())
 }
@@ -71,8 +71,9 @@ impl RspSession {
     ghost use Rattle.responder_session.specs.Session.{StandsFor, IsEnded};
     ghost use Rattle.responder_session.specs.Took.{IsTold};
 
-    /// The session that a PSK_EXCHANGE begins, after the messages of a negotiation and under its terms; writes the
-    /// whole PSK_EXCHANGE_RSP with these parts (DSP0274), in place of what `out` holds.
+    /// The session that a PSK_EXCHANGE begins, after the messages of a negotiation and under its
+    /// terms; writes the whole PSK_EXCHANGE_RSP with these parts (DSP0274), in place of what `out`
+    /// holds.
     pub fn start(
         vca: &Vca,
         psk: &Psk,
@@ -111,7 +112,8 @@ impl RspSession {
         self.stage
     }
 
-    /// The session as it is shown, where fewer than 2^64 application messages were taken; none where it is ended.
+    /// The session as it is shown, where fewer than 2^64 application messages were taken; none
+    /// where it is ended.
     pub fn view(&self) -> Option<SessionView>
         ensures shown { (psk : List ℕ) (s : Events) → StandsFor self.now psk s
             → taken_of s < 2 ^ 64 → result ≡ Some (view_of s) }
@@ -123,7 +125,8 @@ impl RspSession {
         }
     }
 
-    /// The record that answered the last record taken; none exactly in a handshake that has taken no record.
+    /// The record that answered the last record taken; none exactly in a handshake that has taken
+    /// no record.
     pub fn reply(&self) -> Option<&[u8]>
         ensures kept { MatchOption result (kept_reply self.now ≡ None)
             (λ reply. kept_reply self.now ≡ Some reply.now) }
@@ -159,10 +162,10 @@ impl RspSession {
         self.kept.place(stage, self.large.is_pending())
     }
 
-    /// A record of the requester, whose answer has these free values: of them an open session needs all, and any
-    /// other the padding alone. The caller's nonce has 32 bytes, the opaque data and the reply at most 1,024, and
-    /// the padding at most 16. What is told goes by the definitions where both epochs of an open session are below
-    /// 2^64 - 1.
+    /// A record of the requester, whose answer has these free values: of them an open session needs
+    /// all, and any other the padding alone. The caller's nonce has 32 bytes, the opaque data and
+    /// the reply at most 1,024, and the padding at most 16. What is told goes by the definitions
+    /// where both epochs of an open session are below 2^64 - 1.
     pub fn take_with(
         &mut self,
         sealed: &[u8],

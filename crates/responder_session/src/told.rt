@@ -7,7 +7,8 @@ pub enum RspAct {
     Answered(u8),
     /// Application data was taken.
     Data,
-    /// A request was refused with the error code of this number (DSP0274, "Error code and error data").
+    /// A request was refused with the error code of this number (DSP0274, "Error code and error
+    /// data").
     Refused(u8),
 }
 

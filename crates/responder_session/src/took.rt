@@ -82,7 +82,8 @@ impl RspState {
         }
     }
 
-    /// The record that answered the last record taken; none exactly in a handshake that has taken no record.
+    /// The record that answered the last record taken; none exactly in a handshake that has taken
+    /// no record.
     pub fn reply(&self) -> Option<&[u8]>
         ensures kept { MatchOption result (reply_of self.now ≡ None)
             (λ reply. reply_of self.now ≡ Some reply.now) }

@@ -1,7 +1,7 @@
 use spdm_basis::{Frame, RecordFrame};
 
-/// The buffers that a session needs while it takes a record. What they hold between two calls does not matter,
-/// so one serves any number of sessions.
+/// The buffers that a session needs while it takes a record. What they hold between two calls does
+/// not matter, so one serves any number of sessions.
 #[derive(Drop)]
 pub struct Work {
     // The inner message of the record.
