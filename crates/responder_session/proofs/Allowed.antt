@@ -1,10 +1,10 @@
 -- In which stages requests come.
 use Rattle.std.proofs.Common.{◌≡◌, ◌<◌, ◌∙◌, ap, sym, refl, ℕ, List, Bool, true, false, arith, Bor}
 use Rattle.std.proofs.lemmas.Bool.Decides.{nat_tests}
-use Rattle.std.specs.Prelude.{not, slice_index, Some, None}
+use Rattle.std.specs.Prelude.{not, slice_index, Some}
 use Rattle.responder_machine.proofs.Codes.{asked-code}
 use Rattle.responder_machine.specs.Place.{session_place}
-use Rattle.responder_machine.specs.Refusal.{lacks_flag, stage_allows, has_pending, fits_stage, code_of}
+use Rattle.responder_machine.specs.Refusal.{lacks_flag, stage_allows, has_pending, fits_stage}
 use Rattle.responder_machine.specs.Session.{Events, stage_of, session_terms}
 use Rattle.responder_machine.specs.Setup.{RspSetup}
 use Rattle.spdm_grammar.proofs.SoundRequests.{spelled_request}

@@ -7,7 +7,7 @@ use Rattle.std.specs.Option.{option_or}
 use Rattle.responder_machine.proofs.Codes.{asked-code}
 use Rattle.responder_machine.proofs.Turns.{turn_of-plain, turn_of-refused, plain_turn-asked}
 use Rattle.responder_machine.specs.Answer.{Free, answer_bytes, answer_of, answer_to, request_at}
-use Rattle.responder_machine.specs.Handling.{turn_of, turn_by, refused_turn, chunk_in, goes_large, large_response}
+use Rattle.responder_machine.specs.Handling.{turn_of, refused_turn, chunk_in, goes_large, large_response}
 use Rattle.responder_machine.specs.Place.{Place, place_terms, session_place}
 use Rattle.responder_machine.specs.Refusal.{refusal, refused_form, refused_contents, tests_of_form, lacks_flag, are_caps_refused, is_offer_refused, has_no_block, is_exchange_refused, is_verify_wrong, is_update_misplaced, is_too_large, chunk_fault, is_get_refused, is_answer_too_long}
 use Rattle.responder_machine.specs.Responder.{session_turn, session_turn_by, inner_refusal, is_open, data_turn}

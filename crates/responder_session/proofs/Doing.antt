@@ -1,5 +1,5 @@
 -- What requests do in a session.
-use Rattle.std.proofs.Common.{◌≡◌, ◌≤◌, ◌<◌, ◌∙◌, ap, sym, subst, refl, ℕ, ◌+◌, List, Bool, true, false, length, drop, arith}
+use Rattle.std.proofs.Common.{◌≡◌, ◌≤◌, ◌<◌, ◌∙◌, ap, sym, subst, refl, ℕ, ◌+◌, List, Bool, true, false, length, arith}
 use Rattle.std.proofs.lemmas.Bool.Decides.{nat_tests}
 use Rattle.std.specs.Prelude.{◌==◌, ◌&&◌, ◌||◌, not, nat_lt, if◌then◌else◌, Some, None, bytes_eq}
 use Rattle.measurements.specs.Records.{is_missing}
@@ -7,7 +7,6 @@ use Rattle.responder_machine.specs.Answer.{Free, answer_bytes, measurements_answ
 use Rattle.responder_machine.specs.Handling.{error_bytes, goes_large, refused_turn, turn_of}
 use Rattle.responder_machine.specs.Place.{session_place}
 use Rattle.responder_machine.specs.Refusal.{refused_form, lacks_flag, fits_stage, code_of, is_answer_too_long}
-use Rattle.responder_machine.specs.Responder.{session_turn}
 use Rattle.responder_machine.specs.Session.{Events, stage_of, session_terms}
 use Rattle.responder_machine.specs.Setup.{RspSetup, inventory_of}
 use Rattle.responder_machine.specs.SizeLaws.{HasSizes}
@@ -20,11 +19,11 @@ use Rattle.spdm_grammar.specs.declared.request.Request.{Request}
 use Rattle.spdm_grammar.specs.declared.error_code.ErrorCode.{ErrorCode}
 use Rattle.spdm_grammar.specs.declared.error_code.ErrorCode.TheVariants.{DecryptError, InvalidRequest, UnexpectedRequest, UnsupportedRequest, ResponseTooLarge}
 use Rattle.spdm_grammar.specs.declared.names.TheConstants.{MAX_MESSAGE_SIZE}
-use Rattle.responder_session.proofs.Allowed.{has_flag, finish_in_handshake, verify_in_verifying, update_in_open}
-use Rattle.responder_session.proofs.Contents.{turn-misfit, turn-refused, turn-answered, turn-large, answer_asked, short_fits, short_is_small}
+use Rattle.responder_session.proofs.Allowed.{has_flag, verify_in_verifying, update_in_open}
+use Rattle.responder_session.proofs.Contents.{turn-refused, turn-answered, turn-large, answer_asked, short_fits, short_is_small}
 use Rattle.responder_session.proofs.Finish.{finish-refused, finish-answered}
 use Rattle.responder_session.proofs.Updating.{lacking, update-misplaced, update-answered}
-use Rattle.responder_session.specs.Deeds.{IsAllowed, IsDeed, IsInnerDeed, large_turn}
+use Rattle.responder_session.specs.Deeds.{IsAllowed, IsDeed, large_turn}
 use Rattle.responder_session.specs.Judged.{right_verify}
 use Rattle.responder_session.specs.Turns.{answered_turn}
 use Rattle.responder_session.specs.Updates.{HasEpochs, update_turn}

@@ -1,5 +1,5 @@
 -- PSK_FINISH in a handshake.
-use Rattle.std.proofs.Common.{◌≡◌, ◌∙◌, ap, sym, subst, refl, ℕ, ◌+◌, List, ◌∷◌, ◌++◌, Bool, true, false, drop, inl, inr, arith}
+use Rattle.std.proofs.Common.{◌≡◌, ◌∙◌, ap, sym, subst, refl, ℕ, ◌+◌, List, ◌∷◌, ◌++◌, Bool, true, false, arith}
 use Rattle.std.specs.Prelude.{not, if◌then◌else◌, Option, Some, None, bytes_eq}
 use Rattle.key_schedule.specs.Keys.{DirectionSecret}
 use Rattle.key_schedule.specs.Purpose.{application_record}
@@ -9,8 +9,7 @@ use Rattle.responder_machine.proofs.Tests.{tests_are_false}
 use Rattle.responder_machine.specs.Answer.{Free, request_at}
 use Rattle.responder_machine.specs.Handling.{turn_of, refused_turn}
 use Rattle.responder_machine.specs.Place.{session_place}
-use Rattle.responder_machine.specs.Refusal.{refused_form, tests_of_form, stage_allows, has_pending, code_of, is_answer_too_long}
-use Rattle.responder_machine.specs.Responder.{session_turn}
+use Rattle.responder_machine.specs.Refusal.{refused_form, tests_of_form, stage_allows, has_pending, is_answer_too_long}
 use Rattle.responder_machine.specs.Session.{Events, stage_of, session_terms, session_vca, exchange_of, exchange_answer, request_epoch, response_epoch}
 use Rattle.responder_machine.specs.Session.Event.{Heard}
 use Rattle.running_hash.specs.Hash.{hash_of}
@@ -19,13 +18,12 @@ use Rattle.responder_machine.specs.Setup.{RspSetup}
 use Rattle.responder_machine.specs.SizeLaws.{HasSizes}
 use Rattle.spdm_grammar.specs.Codes.{code_for}
 use Rattle.spdm_grammar.specs.Message.{RequestMessage}
-use Rattle.spdm_grammar.specs.Message.RequestMessage.{GetVersion, GetCapabilities, NegotiateAlgorithms, GetMeasurements, PskExchange, PskFinish, Heartbeat, KeyUpdate, EndSession, ChunkSend, ChunkGet}
+use Rattle.spdm_grammar.specs.Message.RequestMessage.{PskFinish}
 use Rattle.spdm_grammar.specs.Message.ResponseMessage.{PskFinishRsp}
 use Rattle.spdm_grammar.specs.Responses.{canonical_response}
 use Rattle.spdm_grammar.specs.declared.error_code.ErrorCode.{ErrorCode}
 use Rattle.spdm_grammar.specs.declared.error_code.ErrorCode.TheVariants.{DecryptError, ResponseTooLarge}
 use Rattle.spdm_grammar.specs.declared.phase.Stage.{Stage}
-use Rattle.spdm_grammar.specs.declared.phase.Stage.TheVariants.{Handshake}
 use Rattle.responder_session.proofs.Contents.{turn-refused, turn-answered, short_fits, short_is_small}
 use Rattle.responder_session.specs.Kept.{Keeps, kept_record}
 use Rattle.responder_session.specs.declared.kept.Kept.{Kept}

@@ -1,14 +1,14 @@
 -- CHUNK_GET in an open session.
-use Rattle.std.proofs.Common.{◌≡◌, ◌≤◌, ◌∙◌, ap, sym, subst, refl, ℕ, ◌+◌, ◌-◌, ◌*◌, List, [], Bool, true, false, length, length-append, inl, inr, arith}
+use Rattle.std.proofs.Common.{◌≡◌, ◌≤◌, ◌∙◌, ap, sym, subst, refl, ℕ, ◌+◌, ◌-◌, ◌*◌, List, [], Bool, true, false, length, length-append, arith}
 use Rattle.std.proofs.lemmas.Bool.Decides.{nat_tests}
-use Rattle.std.specs.Prelude.{◌==◌, ◌&&◌, ◌||◌, ◌⊎◌, not, nat_lt, if◌then◌else◌, Option, Some, None, is_some, unwrap_or}
+use Rattle.std.specs.Prelude.{◌==◌, ◌&&◌, ◌||◌, not, nat_lt, if◌then◌else◌, Some, None, is_some, unwrap_or}
 use Rattle.chunking.proofs.ChunkSteps.{size_is}
 use Rattle.chunking.specs.Cutting.{nth_chunk}
 use Rattle.responder_machine.specs.Answer.{Free, chunk_answer}
-use Rattle.responder_machine.specs.LargeMessages.{pending_of, given_of, handle_of}
+use Rattle.responder_machine.specs.LargeMessages.{pending_of}
 use Rattle.responder_machine.specs.Handling.{refused_turn, turn_of}
 use Rattle.responder_machine.specs.Place.{session_place}
-use Rattle.responder_machine.specs.Refusal.{has_pending, stage_allows, is_answer_too_long, is_get_refused}
+use Rattle.responder_machine.specs.Refusal.{is_answer_too_long, is_get_refused}
 use Rattle.responder_machine.specs.Session.{Events, session_terms, turns_of}
 use Rattle.responder_machine.specs.Setup.{RspSetup}
 use Rattle.spdm_grammar.specs.Fields.{IsSoundChunk, large_bytes}
@@ -17,7 +17,7 @@ use Rattle.spdm_grammar.specs.declared.names.TheConstants.{MAX_MESSAGE_SIZE, MIN
 use Rattle.spdm_grammar.specs.Message.RequestMessage.{ChunkGet}
 use Rattle.spdm_grammar.specs.Message.ResponseMessage.{ChunkResponse}
 use Rattle.spdm_grammar.specs.Responses.{canonical_response}
-use Rattle.spdm_grammar.specs.declared.error_code.ErrorCode.TheVariants.{InvalidRequest, UnexpectedRequest}
+use Rattle.spdm_grammar.specs.declared.error_code.ErrorCode.TheVariants.{InvalidRequest}
 use Rattle.responder_session.proofs.Contents.{turn-refused, turn-answered}
 use Rattle.responder_session.proofs.Allowed.{has_flag}
 use Rattle.responder_session.proofs.Doing.{measured_by}

@@ -6,7 +6,7 @@ use Rattle.std.specs.Prelude.{◌==◌, ◌&&◌, ◌||◌, not, nat_lt, Option,
 use Rattle.spdm_basis.specs.Tests.{first_of_tests}
 use Rattle.spdm_grammar.specs.declared.error_code.ErrorCode.TheVariants.{InvalidRequest, UnexpectedRequest, RequestTooLarge}
 use Rattle.responder_machine.specs.Answer.{Free}
-use Rattle.responder_machine.specs.Handling.{error_bytes, refused_turn, turn_of}
+use Rattle.responder_machine.specs.Handling.{error_bytes, turn_of}
 use Rattle.responder_machine.specs.Place.{session_place}
 use Rattle.responder_machine.specs.Refusal.{refused_form}
 use Rattle.responder_machine.specs.Responder.{session_turn, inner_refusal, is_open}

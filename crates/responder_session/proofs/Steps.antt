@@ -1,6 +1,6 @@
 -- What an open session is after each turn.
-use Rattle.std.proofs.Common.{◌≡◌, ◌≤◌, ◌<◌, ◌∙◌, ap, sym, subst, refl, ℕ, ◌+◌, List, ◌∷◌, Bool, true, false, length, arith}
-use Rattle.std.specs.Prelude.{◌%◌, ◌^◌, ◌*◌, zero, suc, nat_lt, if◌then◌else◌, Some, None}
+use Rattle.std.proofs.Common.{◌≡◌, ◌∙◌, ap, sym, subst, refl, ℕ, ◌+◌, List, ◌∷◌, true, false, arith}
+use Rattle.std.specs.Prelude.{◌%◌, ◌^◌, Some}
 use Rattle.key_schedule.specs.Keys.{DirectionSecret}
 use Rattle.key_schedule.specs.Purpose.{Purpose, application_record}
 use Rattle.key_schedule.specs.declared.direction.Direction.TheVariants.{Request, Response}
@@ -9,7 +9,7 @@ use Rattle.responder_machine.specs.Records.{reply_record}
 use Rattle.responder_machine.specs.Responder.{inner_reply, data_turn}
 use Rattle.responder_machine.specs.Session.{Events, stage_of, session_hash, session_terms, t2_of, request_epoch, response_epoch, taken_of}
 use Rattle.responder_machine.specs.Session.Event.{Heard}
-use Rattle.responder_machine.specs.Turn.{Turn, takes}
+use Rattle.responder_machine.specs.Turn.{takes}
 use Rattle.session_keys.specs.Keys.{IsKeyOf}
 use Rattle.spdm_basis.specs.SessionIdBytes.{session_id_bytes}
 use Rattle.spdm_grammar.specs.Message.{RequestMessage}

@@ -1,6 +1,6 @@
 -- What comes of a record that a session takes.
-use Rattle.std.proofs.Common.{◌≡◌, ◌∙◌, ap, sym, subst, refl, ℕ, List, ◌∷◌, drop, Bool, true, false, inl, inr}
-use Rattle.std.specs.Prelude.{None, Option, Some, ◌⊎◌}
+use Rattle.std.proofs.Common.{◌≡◌, ◌∙◌, ap, sym, subst, refl, ℕ, List, ◌∷◌, Bool, true, false, inl, inr}
+use Rattle.std.specs.Prelude.{None, Option}
 use Rattle.responder_machine.specs.Answer.{Free}
 use Rattle.responder_machine.specs.History.{KeptRecord}
 use Rattle.responder_machine.specs.Records.{opening_fault, opened, reply_record}
@@ -11,7 +11,6 @@ use Rattle.responder_machine.specs.Setup.{RspSetup}
 use Rattle.responder_machine.specs.Turn.{Turn, takes}
 use Rattle.spdm_grammar.specs.declared.names.request_code.TheConstants.{END_SESSION}
 use Rattle.responder_session.specs.Deeds.{is_whole, turn_for}
-use Rattle.responder_session.specs.Ended as ended
 use Rattle.responder_session.specs.EndedTook.{IsEndedStill}
 use Rattle.responder_session.specs.Kept.{Keeps, kept_record}
 use Rattle.responder_session.specs.Session.{StandsFor, IsEnded}

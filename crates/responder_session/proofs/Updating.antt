@@ -1,8 +1,6 @@
 -- KEY_UPDATE: its turn, and what is kept after it.
-use Rattle.std.proofs.Common.{◌≡◌, ◌∙◌, ap, sym, subst, refl, ℕ, ◌+◌, List, ◌∷◌, Bool, true, false, drop, arith}
-use Rattle.std.proofs.lemmas.Bool.Decides.{nat_tests}
-use Rattle.std.proofs.lemmas.Option.{none-some, same_Some}
-use Rattle.std.specs.Prelude.{◌==◌, not, if◌then◌else◌, Option, Some, None, Result, Ok, Err}
+use Rattle.std.proofs.Common.{◌≡◌, ◌∙◌, ap, sym, subst, refl, ℕ, ◌+◌, List, ◌∷◌, Bool, true, false, arith}
+use Rattle.std.specs.Prelude.{not, if◌then◌else◌, Option, Some, None}
 use Rattle.key_schedule.specs.Purpose.{Purpose, application_record}
 use Rattle.key_schedule.specs.declared.direction.Direction.{Direction}
 use Rattle.key_schedule.specs.declared.direction.Direction.TheVariants.{Request, Response}
@@ -10,8 +8,7 @@ use Rattle.responder_machine.proofs.Codes.{asked-code}
 use Rattle.responder_machine.specs.Answer.{Free, request_at}
 use Rattle.responder_machine.specs.Handling.{turn_of, refused_turn}
 use Rattle.responder_machine.specs.Place.{session_place}
-use Rattle.responder_machine.specs.Refusal.{refused_form, lacks_flag, stage_allows, has_pending, fits_stage, code_of, is_answer_too_long}
-use Rattle.responder_machine.specs.Responder.{session_turn}
+use Rattle.responder_machine.specs.Refusal.{refused_form, lacks_flag, fits_stage, code_of, is_answer_too_long}
 use Rattle.responder_machine.specs.Session.{Events, stage_of, session_hash, session_terms, t1_of, t2_of, request_epoch, response_epoch}
 use Rattle.responder_machine.specs.Session.Event.{Heard}
 use Rattle.responder_machine.specs.Setup.{RspSetup}
@@ -19,7 +16,7 @@ use Rattle.responder_machine.specs.SizeLaws.{HasSizes}
 use Rattle.session_keys.specs.Keys.{IsKeyOf}
 use Rattle.spdm_grammar.specs.Codes.{code_for}
 use Rattle.spdm_grammar.specs.Message.{RequestMessage}
-use Rattle.spdm_grammar.specs.Message.RequestMessage.{GetVersion, GetCapabilities, NegotiateAlgorithms, GetMeasurements, PskExchange, PskFinish, Heartbeat, KeyUpdate, EndSession, ChunkSend, ChunkGet}
+use Rattle.spdm_grammar.specs.Message.RequestMessage.{KeyUpdate}
 use Rattle.spdm_grammar.specs.Message.ResponseMessage.{KeyUpdateAck}
 use Rattle.spdm_grammar.specs.Responses.{canonical_response}
 use Rattle.spdm_grammar.specs.declared.error_code.ErrorCode.{ErrorCode}
@@ -29,7 +26,6 @@ use Rattle.spdm_grammar.specs.declared.phase.Stage.{Stage}
 use Rattle.spdm_grammar.specs.declared.phase.Stage.TheVariants.{Handshake, Open, Verifying}
 use Rattle.spdm_machine.specs.Sessions.{is_past_handshake, purpose_in, transcript_in}
 use Rattle.responder_session.proofs.Contents.{turn-refused, turn-answered, short_fits, short_is_small}
-use Rattle.responder_session.proofs.Finish.{allowed_code}
 use Rattle.responder_session.specs.Kept.{Keeps, kept_record}
 use Rattle.responder_session.specs.Updates.{update_turn}
 use Rattle.responder_session.specs.declared.kept.Kept.{Kept}

@@ -1,4 +1,3 @@
-use Rattle.std.proofs.Common.{◌∙◌, sym}
 use Rattle.responder_machine.specs.Place.{session_place}
 use Rattle.spdm_grammar.specs.Message.{chunk_message}
 use Rattle.spdm_grammar.specs.declared.error_code.ErrorCode.TheVariants.{InvalidRequest}

@@ -1,7 +1,5 @@
-use Rattle.std.proofs.Common.{◌≡◌, ◌∙◌, ap, sym, true, false}
-use Rattle.std.specs.Prelude.{not}
+use Rattle.std.proofs.Common.{◌∙◌, ap, sym}
 use Rattle.responder_machine.specs.Refusal.{fits_stage}
-use Rattle.responder_machine.specs.Session.{stage_of}
 use Rattle.spdm_grammar.specs.declared.phase.Stage.{Stage}
 use Rattle.spdm_grammar.specs.declared.error_code.ErrorCode.TheVariants.{UnexpectedRequest}
 use Rattle.responder_session.proofs.Doing.{refused_deed, misplaced_turn, verified_deed, update_deed}

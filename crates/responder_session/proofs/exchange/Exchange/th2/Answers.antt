@@ -1,4 +1,4 @@
-use Rattle.std.proofs.Common.{◌++◌, ◌∙◌, ap, ℕ, List}
+use Rattle.std.proofs.Common.{◌++◌, ◌∙◌, ap}
 use Rattle.running_hash.specs.Hash.{hash_of}
 use Rattle.spdm_basis.specs.declared.hash_alg.HashAlg.{HashAlg}
 use Rattle.responder_session.proofs.exchange.Exchange.th2.Goals as goal

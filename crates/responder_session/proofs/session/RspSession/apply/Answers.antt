@@ -1,4 +1,4 @@
-use Rattle.std.proofs.Common.{◌∙◌, ap, sym, subst, refl, inl, ℕ, List}
+use Rattle.std.proofs.Common.{ap, sym, subst, refl, inl, ℕ, List}
 use Rattle.responder_session.specs.Deeds.{IsFit}
 use Rattle.responder_session.specs.Took.{IsMoved}
 use Rattle.responder_session.specs.Deeds.{turn_for}

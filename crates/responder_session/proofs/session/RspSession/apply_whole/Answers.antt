@@ -1,9 +1,8 @@
-use Rattle.std.proofs.Common.{◌∙◌, ap, sym, subst, refl, ℕ, inl, inr}
-use Rattle.std.specs.Prelude.{false, true}
+use Rattle.std.proofs.Common.{◌∙◌, ap, sym, subst, refl, inl, inr}
 use Rattle.spdm_grammar.specs.Message.RequestMessage.{GetMeasurements, Heartbeat}
 use Rattle.responder_session.specs.Deeds.{IsFit, is_whole}
 use Rattle.responder_session.specs.declared.deed.Deed.{Deed}
-use Rattle.responder_session.specs.declared.told.RspAct.TheVariants.{Answered, Data, Refused}
+use Rattle.responder_session.specs.declared.told.RspAct.TheVariants.{Answered, Refused}
 use Rattle.responder_session.proofs.Taken.{moved_by}
 use Rattle.responder_session.proofs.session.RspSession.apply_whole.Goals as goal
 

@@ -1,4 +1,4 @@
-use Rattle.std.proofs.Common.{◌≡◌, ◌∙◌, ap, sym, subst, refl, ℕ}
+use Rattle.std.proofs.Common.{◌∙◌, ap, sym}
 use Rattle.negotiate.specs.declared.shared.Common.{Common}
 use Rattle.responder_machine.specs.Place.{session_place}
 use Rattle.responder_session.proofs.Contents.{form_code, inner_code}

@@ -1,4 +1,4 @@
-use Rattle.std.proofs.Common.{◌≡◌, ◌∙◌, ap, sym, subst, refl}
+use Rattle.std.proofs.Common.{◌∙◌, ap, sym, subst, refl}
 use Rattle.responder_machine.specs.Place.{session_place}
 use Rattle.responder_machine.specs.Refusal.{lacks_flag}
 use Rattle.responder_machine.specs.Session.{session_terms}

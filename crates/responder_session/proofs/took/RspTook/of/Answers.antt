@@ -1,4 +1,4 @@
-use Rattle.std.proofs.Common.{refl, subst}
+use Rattle.std.proofs.Common.{subst}
 use Rattle.responder_session.proofs.Taken.{state_after}
 use Rattle.responder_session.specs.EndedTook.{IsEndedTold}
 use Rattle.responder_session.specs.Took.{IsTold, turn_in, reply_in}
