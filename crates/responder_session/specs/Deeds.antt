@@ -35,32 +35,50 @@ pub record AreGiven (given : RecordFree) (f : Free) (s : Events) : Type 0 where
   pub epochs : HasEpochs s
 
 -- A request that took effect, and whose answer went by LargeResponse.
-abbrev pub large_turn : (message : List ℕ) → RequestMessage → (answer : List ℕ) → (handle : ℕ) → Turn
-large_turn message asked answer handle = record { message = message; refused = None; chunk = None; effect = Took asked message answer (Some handle); reply = large_response handle }
+abbrev pub large_turn : (message : List ℕ) → RequestMessage → (answer : List ℕ) → (handle : ℕ)
+    → Turn
+large_turn message asked answer handle =
+    record {
+      message = message;
+      refused = None;
+      chunk = None;
+      effect = Took asked message answer (Some handle);
+      reply = large_response handle;
+    }
 
 -- The turn of a message, by what it does and by the whole answer to it.
 abbrev pub turn_for : RspSetup → Events → Free → (message answer : List ℕ) → Deed → Turn
 turn_for r s f message answer (deed.Refused code) = refused_turn r (session_place s) message f code
 turn_for r s f message answer deed.Data = data_turn f message
-turn_for r s f message answer (deed.Finished verify) = answered_turn message (PskFinish verify.now) (canonical_response PskFinishRsp)
+turn_for r s f message answer (deed.Finished verify) =
+    answered_turn message (PskFinish verify.now) (canonical_response PskFinishRsp)
 turn_for r s f message answer deed.Alive = answered_turn message Heartbeat answer
 turn_for r s f message answer (deed.Measured op) = answered_turn message (GetMeasurements op) answer
-turn_for r s f message answer (deed.Large op handle) = large_turn message (GetMeasurements op) answer handle
+turn_for r s f message answer (deed.Large op handle) =
+    large_turn message (GetMeasurements op) answer handle
 turn_for r s f message answer (deed.Update all tag) = update_turn message (if all then 2 else 1) tag
 turn_for r s f message answer (deed.Verified tag) = update_turn message 3 tag
 turn_for r s f message answer deed.Ended = answered_turn message EndSession answer
-turn_for r s f message answer (deed.Chunk handle number) = answered_turn message (ChunkGet handle number) answer
+turn_for r s f message answer (deed.Chunk handle number) =
+    answered_turn message (ChunkGet handle number) answer
 
 -- What else is known of it: which answer is sent, that application data has at most 1,024 bytes,
 -- that a large answer is longer than the requester's transfer size, and in which stage the keys
 -- change.
 abbrev pub IsFit : RspSetup → Events → Free → (message answer : List ℕ) → Deed → Type 0
-IsFit r s f message answer (deed.Refused code) = answer ≡ error_bytes r (session_place s) message f code
-IsFit r s f message answer deed.Data = (stage_of s ≡ stage.Open) × (length message ≤ 1024) × (answer ≡ f.reply)
-IsFit r s f message answer (deed.Finished verify) = (stage_of s ≡ stage.Handshake) × (answer ≡ canonical_response PskFinishRsp)
-IsFit r s f message answer (deed.Large op handle) = (session_terms s).common.to_requester.transfer < length answer
-IsFit r s f message answer (deed.Update all tag) = (stage_of s ≡ stage.Open) × HasEpochs s × (answer ≡ canonical_response (KeyUpdateAck (if all then 2 else 1) tag))
-IsFit r s f message answer (deed.Verified tag) = (stage_of s ≡ stage.Verifying) × (answer ≡ canonical_response (KeyUpdateAck 3 tag))
+IsFit r s f message answer (deed.Refused code) =
+    answer ≡ error_bytes r (session_place s) message f code
+IsFit r s f message answer deed.Data =
+    (stage_of s ≡ stage.Open) × (length message ≤ 1024) × (answer ≡ f.reply)
+IsFit r s f message answer (deed.Finished verify) =
+    (stage_of s ≡ stage.Handshake) × (answer ≡ canonical_response PskFinishRsp)
+IsFit r s f message answer (deed.Large op handle) =
+    (session_terms s).common.to_requester.transfer < length answer
+IsFit r s f message answer (deed.Update all tag) =
+    (stage_of s ≡ stage.Open) × HasEpochs s
+    × (answer ≡ canonical_response (KeyUpdateAck (if all then 2 else 1) tag))
+IsFit r s f message answer (deed.Verified tag) =
+    (stage_of s ≡ stage.Verifying) × (answer ≡ canonical_response (KeyUpdateAck 3 tag))
 IsFit r s f message answer _ = Unit {0}
 
 -- What a message that is read as a request does.

@@ -26,13 +26,19 @@ pub record ArePartsOf (r : RspSetup) (p : Place) (f : Free) (e : ExchangeMessage
 
 -- With them the answer that is written is the whole answer of the responder.
 abbrev pub StartIsAnswer : Type 0
-StartIsAnswer = (r : RspSetup) (p : Place) (m : List ℕ) (f : Free) (e : ExchangeMessage) (parts : ExchangeParts) → ArePartsOf r p f e parts
+StartIsAnswer =
+    (r : RspSetup) (p : Place) (m : List ℕ) (f : Free) (e : ExchangeMessage) (parts : ExchangeParts)
+    → ArePartsOf r p f e parts
     → answer_for r.psk p.negotiation m parts ≡ canonical_response (exchange_answer r p m f e)
 
 -- A session that is stepped in place stands for its events also when seconds have passed.
 abbrev pub SessionWaits : Type 0
-SessionWaits = (session : RspSession) (psk : List ℕ) (s : Events) (seconds : ℕ) → StandsFor session psk s → StandsFor session psk (Waited seconds ∷ s)
+SessionWaits =
+    (session : RspSession) (psk : List ℕ) (s : Events) (seconds : ℕ) → StandsFor session psk s
+    → StandsFor session psk (Waited seconds ∷ s)
 
 -- A state that stands for a session stands for it when seconds have passed.
 abbrev pub WaitingStands : Type 0
-WaitingStands = (state : RspState) (psk : List ℕ) (s : Events) (seconds : ℕ) → IsStateOf state psk s → IsStateOf state psk (Waited seconds ∷ s)
+WaitingStands =
+    (state : RspState) (psk : List ℕ) (s : Events) (seconds : ℕ) → IsStateOf state psk s
+    → IsStateOf state psk (Waited seconds ∷ s)

@@ -6,4 +6,5 @@ use Rattle.spdm_machine.specs.Keys.{verify_data}
 
 -- Those that this PSK_FINISH has to have.
 abbrev pub right_verify : (psk : List ℕ) → Events → (message : List ℕ) → List ℕ
-right_verify psk s message = verify_data (session_terms s).choice psk (t1_of s) Request (tv_of s message)
+right_verify psk s message =
+    verify_data (session_terms s).choice psk (t1_of s) Request (tv_of s message)

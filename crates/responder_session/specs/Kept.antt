@@ -11,7 +11,8 @@ use Rattle.responder_session.specs.declared.last.LastRecord.{LastRecord}
 
 -- The last record taken, with its reply; none before the first.
 abbrev pub kept_record : LastRecord → Option KeptRecord
-kept_record last = if last.is_taken then Some (record { sealed = last.sealed; reply = last.reply }) else None
+kept_record last =
+    if last.is_taken then Some (record { sealed = last.sealed; reply = last.reply }) else None
 
 -- It is kept of a live session of these events, with this pre-shared key. Application messages are
 -- counted modulo 2 ^ 64.

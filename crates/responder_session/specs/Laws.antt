@@ -32,23 +32,30 @@ told_as id (act.Refused code) = heard.Refused code
 -- A record that moves the session becomes an entry of the history with its turn and its reply, is
 -- told so, and is an event of the session; the last record gets its reply again; and one that does
 -- not open gets DecryptError in the clear.
-abbrev pub IsOutcome : RspSetup → History → (tag : ℕ) → (sealed : List ℕ) → Free → Draw → RspTold → Type 0
+abbrev pub IsOutcome : RspSetup → History → (tag : ℕ) → (sealed : List ℕ) → Free → Draw → RspTold
+    → Type 0
 IsOutcome r h tag sealed f d (told.Moved act) =
     let s = session_of (id_in_record sealed) h in
     let t = turn_in r s f sealed in
     let reply = reply_in r s f sealed in
     (on_record r h tag sealed f d ≡ AddsEntry (Sealed tag sealed t reply d))
     × (heard_of (on_record r h tag sealed f d) ≡ told_as (record_id sealed) act)
-    × (session_of (id_in_record sealed) (Sealed tag sealed t reply d ∷ h) ≡ after_record s sealed t reply)
-IsOutcome r h tag sealed f d told.Same = on_record r h tag sealed f d ≡ SendsAgain (record_body (kept_record (last_of (session_of (id_in_record sealed) h))))
-IsOutcome r h tag sealed f d (told.Unopened fault) = on_record r h tag sealed f d ≡ StaysUnopened (decrypt_error (phase_of (clear_turns h)))
+    × (session_of (id_in_record sealed) (Sealed tag sealed t reply d ∷ h)
+    ≡ after_record s sealed t reply)
+IsOutcome r h tag sealed f d told.Same =
+    on_record r h tag sealed f d
+    ≡ SendsAgain (record_body (kept_record (last_of (session_of (id_in_record sealed) h))))
+IsOutcome r h tag sealed f d (told.Unopened fault) =
+    on_record r h tag sealed f d ≡ StaysUnopened (decrypt_error (phase_of (clear_turns h)))
 
 -- So it is in every history in which a live session has the record's id and the record is not the
 -- last one of the ended session.
 abbrev pub ToldIsRecord : Type 0
-ToldIsRecord = (r : RspSetup) (h : History) (tag : ℕ) (sealed : List ℕ) (f : Free) (d : Draw) (after : RspSession) (result : RspTold)
+ToldIsRecord = (r : RspSetup) (h : History) (tag : ℕ) (sealed : List ℕ) (f : Free) (d : Draw)
+    (after : RspSession) (result : RspTold)
     → is_live (session_of (id_in_record sealed) h) ≡ true → repeats (ended_of h) sealed ≡ false
-    → IsTold r (session_of (id_in_record sealed) h) f sealed after result → IsOutcome r h tag sealed f d result
+    → IsTold r (session_of (id_in_record sealed) h) f sealed after result
+    → IsOutcome r h tag sealed f d result
 
 -- What is told without the state.
 abbrev pub told_of : RspTook → RspTold
@@ -58,6 +65,8 @@ told_of (took.Unopened same fault) = told.Unopened fault
 
 -- The same of the states that are taken and given back.
 abbrev pub TookIsRecord : Type 0
-TookIsRecord = (r : RspSetup) (h : History) (tag : ℕ) (sealed : List ℕ) (f : Free) (d : Draw) (result : RspTook)
+TookIsRecord = (r : RspSetup) (h : History) (tag : ℕ) (sealed : List ℕ) (f : Free) (d : Draw)
+    (result : RspTook)
     → is_live (session_of (id_in_record sealed) h) ≡ true → repeats (ended_of h) sealed ≡ false
-    → IsTook r (session_of (id_in_record sealed) h) f sealed result → IsOutcome r h tag sealed f d (told_of result)
+    → IsTook r (session_of (id_in_record sealed) h) f sealed result
+    → IsOutcome r h tag sealed f d (told_of result)

@@ -40,19 +40,24 @@ abbrev pub turn_in : RspSetup → Events → Free → (sealed : List ℕ) → Tu
 turn_in r s f sealed = session_turn r s (opened r.psk s sealed) f
 
 abbrev pub reply_in : RspSetup → Events → Free → (sealed : List ℕ) → List ℕ
-reply_in r s f sealed = reply_record r.psk s (turn_in r s f sealed) (inner_reply (turn_in r s f sealed)) f.pad
+reply_in r s f sealed =
+    reply_record r.psk s (turn_in r s f sealed) (inner_reply (turn_in r s f sealed)) f.pad
 
 -- ---- A session that is stepped in place.
 
 -- The session with a record, its turn and its reply; where END_SESSION took effect, it is ended.
-abbrev pub IsSessionAfter : RspSession → (psk : List ℕ) → Events → (sealed : List ℕ) → Turn → (reply : List ℕ) → Type 0
+abbrev pub IsSessionAfter : RspSession → (psk : List ℕ) → Events → (sealed : List ℕ) → Turn
+    → (reply : List ℕ) → Type 0
 IsSessionAfter after psk s sealed t reply =
     ((takes END_SESSION t ≡ false) × sessions.StandsFor after psk (Heard sealed t reply ∷ s))
     ⊎ ((takes END_SESSION t ≡ true) × sessions.IsEnded after (id_bytes s) sealed reply)
 
 -- The session with a record of this turn, and what is told of it.
-abbrev pub IsMoved : (psk : List ℕ) → Events → (sealed : List ℕ) → Turn → (pad : List ℕ) → RspSession → RspAct → Type 0
-IsMoved psk s sealed t pad after act = IsSessionAfter after psk s sealed t (reply_record psk s t (inner_reply t) pad) × (act ≡ act_of t)
+abbrev pub IsMoved : (psk : List ℕ) → Events → (sealed : List ℕ) → Turn → (pad : List ℕ)
+    → RspSession → RspAct → Type 0
+IsMoved psk s sealed t pad after act =
+    IsSessionAfter after psk s sealed t (reply_record psk s t (inner_reply t) pad)
+    × (act ≡ act_of t)
 
 -- What came of a record: it opened, the session took it, and this is told of its turn; it is the
 -- last record that was taken, and nothing changed; or it did not open, with its fault, and nothing
@@ -62,8 +67,11 @@ IsTold r s f sealed after (told.Moved act) =
     (repeats (last_of s) sealed ≡ false) × (opening_fault r.psk s sealed ≡ None)
     × IsSessionAfter after r.psk s sealed (turn_in r s f sealed) (reply_in r s f sealed)
     × (act ≡ act_of (turn_in r s f sealed))
-IsTold r s f sealed after told.Same = (repeats (last_of s) sealed ≡ true) × sessions.StandsFor after r.psk s
-IsTold r s f sealed after (told.Unopened fault) = (repeats (last_of s) sealed ≡ false) × (opening_fault r.psk s sealed ≡ Some fault) × sessions.StandsFor after r.psk s
+IsTold r s f sealed after told.Same =
+    (repeats (last_of s) sealed ≡ true) × sessions.StandsFor after r.psk s
+IsTold r s f sealed after (told.Unopened fault) =
+    (repeats (last_of s) sealed ≡ false) × (opening_fault r.psk s sealed ≡ Some fault)
+    × sessions.StandsFor after r.psk s
 
 -- ---- States that are taken and given back.
 
@@ -75,11 +83,16 @@ IsStateOf (state.Verifying v) psk s = verifying.StandsFor v psk s
 IsStateOf (state.Ended e) psk s = ⊥
 
 -- The session with a record, its turn and its reply; where END_SESSION took effect, it is ended.
-abbrev pub IsAfter : RspState → (psk : List ℕ) → Events → (sealed : List ℕ) → Turn → (reply : List ℕ) → Type 0
-IsAfter (state.Handshake h) psk s sealed t reply = (takes END_SESSION t ≡ false) × handshake.StandsFor h psk (Heard sealed t reply ∷ s)
-IsAfter (state.Open o) psk s sealed t reply = (takes END_SESSION t ≡ false) × opens.StandsFor o psk (Heard sealed t reply ∷ s)
-IsAfter (state.Verifying v) psk s sealed t reply = (takes END_SESSION t ≡ false) × verifying.StandsFor v psk (Heard sealed t reply ∷ s)
-IsAfter (state.Ended e) psk s sealed t reply = (takes END_SESSION t ≡ true) × ended.StandsFor e (id_bytes s) sealed reply
+abbrev pub IsAfter : RspState → (psk : List ℕ) → Events → (sealed : List ℕ) → Turn
+    → (reply : List ℕ) → Type 0
+IsAfter (state.Handshake h) psk s sealed t reply =
+    (takes END_SESSION t ≡ false) × handshake.StandsFor h psk (Heard sealed t reply ∷ s)
+IsAfter (state.Open o) psk s sealed t reply =
+    (takes END_SESSION t ≡ false) × opens.StandsFor o psk (Heard sealed t reply ∷ s)
+IsAfter (state.Verifying v) psk s sealed t reply =
+    (takes END_SESSION t ≡ false) × verifying.StandsFor v psk (Heard sealed t reply ∷ s)
+IsAfter (state.Ended e) psk s sealed t reply =
+    (takes END_SESSION t ≡ true) × ended.StandsFor e (id_bytes s) sealed reply
 
 -- What came of a record, by the state that is given back.
 abbrev pub IsTook : RspSetup → Events → Free → (sealed : List ℕ) → RspTook → Type 0
@@ -88,4 +101,6 @@ IsTook r s f sealed (Moved after act) =
     × IsAfter after r.psk s sealed (turn_in r s f sealed) (reply_in r s f sealed)
     × (act ≡ act_of (turn_in r s f sealed))
 IsTook r s f sealed (Same same) = (repeats (last_of s) sealed ≡ true) × IsStateOf same r.psk s
-IsTook r s f sealed (Unopened same fault) = (repeats (last_of s) sealed ≡ false) × (opening_fault r.psk s sealed ≡ Some fault) × IsStateOf same r.psk s
+IsTook r s f sealed (Unopened same fault) =
+    (repeats (last_of s) sealed ≡ false) × (opening_fault r.psk s sealed ≡ Some fault)
+    × IsStateOf same r.psk s

@@ -20,7 +20,14 @@ pub record KeepsKeys (t : Turn) : Type 0 where
 
 -- A request that took effect, and was answered by its whole answer.
 abbrev pub answered_turn : (message : List ℕ) → RequestMessage → (answer : List ℕ) → Turn
-answered_turn message asked answer = record { message = message; refused = None; chunk = None; effect = Took asked message answer None; reply = answer }
+answered_turn message asked answer =
+    record {
+      message = message;
+      refused = None;
+      chunk = None;
+      effect = Took asked message answer None;
+      reply = answer;
+    }
 
 -- The session with a record of this turn, answered with this padding.
 abbrev pub heard_by : (psk : List ℕ) → Events → (sealed : List ℕ) → Turn → (pad : List ℕ) → Events

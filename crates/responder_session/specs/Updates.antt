@@ -9,7 +9,8 @@ use Rattle.responder_session.specs.Turns.{answered_turn}
 
 -- KEY_UPDATE with this operation and tag, which took effect.
 abbrev pub update_turn : (message : List ℕ) → (op tag : ℕ) → Turn
-update_turn message op tag = answered_turn message (KeyUpdate op tag) (canonical_response (KeyUpdateAck op tag))
+update_turn message op tag =
+    answered_turn message (KeyUpdate op tag) (canonical_response (KeyUpdateAck op tag))
 
 -- Both keys of a session can be updated: epochs are counted in 64 bits.
 pub record HasEpochs (s : Events) : Type 0 where
