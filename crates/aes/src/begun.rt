@@ -36,8 +36,10 @@ impl Begun {
     /// The first two rounds on a state, under their keys. Its last byte is that of some block and `key` added,
     /// and may be any other such byte.
     pub fn of(start: &Columns, key: u8, first: &Columns, second: &Columns) -> Begun
-        ensures { (fourth last : ℕ) → fourth / 2 ^ 8 ≡ start.now.fourth / 2 ^ 8 → fourth % 2 ^ 8 ≡ bit_xor last key
-            → state_of result last ≡ round_of (round_of (record start.now { fourth = fourth }) first.now) second.now }
+        ensures { (fourth last : ℕ) → fourth / 2 ^ 8 ≡ start.now.fourth / 2 ^ 8
+            → fourth % 2 ^ 8 ≡ bit_xor last key
+            → state_of result last
+            ≡ round_of (round_of (record start.now { fourth = fourth }) first.now) second.now }
     {
         let one = start.round(first);
         let two = one.round(second);

@@ -51,7 +51,8 @@ impl Aes {
 
     // What the rounds from the third on make of the state after the second.
     fn finish(&self, second: &Columns) -> u128
-        ensures { (block : List ℕ) → bytes_of second.now ≡ rounds (round_keys self.now) block 2 → block_bytes result ≡ cipher self.now block }
+        ensures { (block : List ℕ) → bytes_of second.now ≡ rounds (round_keys self.now) block 2
+            → block_bytes result ≡ cipher self.now block }
     {
         let keys = self.keys.as_slice();
         let mut state = second.round(&keys[3]);

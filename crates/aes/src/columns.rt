@@ -10,7 +10,8 @@ use byteorder::{BigEndian, ByteOrder};
 
 // The column that SubBytes and MixColumns make of four bytes.
 fn mixed(a: u8, b: u8, c: u8, d: u8) -> u32
-    ensures bytes { big_bytes 4 result ≡ map (mixed (sub_bytes (a ∷ b ∷ c ∷ d ∷ []))) (range_with_len 0 4) }
+    ensures bytes { big_bytes 4 result
+        ≡ map (mixed (sub_bytes (a ∷ b ∷ c ∷ d ∷ []))) (range_with_len 0 4) }
     ensures value { result ≡ column_of a b c d }
 {
     first_row(a) ^ second_row(b) ^ third_row(c) ^ fourth_row(d)
@@ -87,7 +88,9 @@ impl Columns {
 
     /// A round (FIPS 197, section 5.1).
     pub fn round(&self, key: &Columns) -> Columns
-        ensures bytes { bytes_of result ≡ add_round_key (mix_columns (shift_rows (sub_bytes (bytes_of self.now)))) (bytes_of key.now) }
+        ensures bytes { bytes_of result
+            ≡ add_round_key (mix_columns (shift_rows (sub_bytes (bytes_of self.now))))
+            (bytes_of key.now) }
         ensures value { result ≡ round_of self.now key.now }
     {
         let a = self.first.to_be_bytes();
@@ -105,7 +108,8 @@ impl Columns {
 
     /// The last round, which leaves MixColumns out (FIPS 197, section 5.1).
     pub fn last_round(&self, key: &Columns) -> Columns
-        ensures { bytes_of result ≡ add_round_key (shift_rows (sub_bytes (bytes_of self.now))) (bytes_of key.now) }
+        ensures { bytes_of result
+            ≡ add_round_key (shift_rows (sub_bytes (bytes_of self.now))) (bytes_of key.now) }
     {
         let a = self.first.to_be_bytes();
         let b = self.second.to_be_bytes();

@@ -55,7 +55,8 @@ impl Aes128Gcm {
         requires text { length text.old ≤ 65535 }
         ensures opens { IsOk result ↔ (tag.now ≡ tag_of self.now iv.now aad.now text.old) }
         ensures text { OnOk result (text.new ≡ crypt self.now iv.now text.old) }
-        ensures computed { IfErr result (λ e. e.computed ≡ tag_of self.now iv.now aad.now text.old) }
+        ensures computed { IfErr result
+            (λ e. e.computed ≡ tag_of self.now iv.now aad.now text.old) }
         ensures unchanged { OnErr result (text.new ≡ text.old) }
     {
         self.key.open(iv, aad, text, tag)
@@ -74,7 +75,8 @@ impl Aes128Gcm {
         requires aad { length aad.now ≤ 65535 }
         requires text { length text.now ≤ 65535 }
         ensures opens { IsOk result ↔ (tag.now ≡ tag_of self.now iv.now aad.now text.now) }
-        ensures computed { IfErr result (λ e. e.computed ≡ tag_of self.now iv.now aad.now text.now) }
+        ensures computed { IfErr result
+            (λ e. e.computed ≡ tag_of self.now iv.now aad.now text.now) }
     {
         self.key.verify(iv, aad, text, tag)
     }
@@ -152,7 +154,8 @@ impl Aes256Gcm {
         requires text { length text.old ≤ 65535 }
         ensures opens { IsOk result ↔ (tag.now ≡ tag_of self.now iv.now aad.now text.old) }
         ensures text { OnOk result (text.new ≡ crypt self.now iv.now text.old) }
-        ensures computed { IfErr result (λ e. e.computed ≡ tag_of self.now iv.now aad.now text.old) }
+        ensures computed { IfErr result
+            (λ e. e.computed ≡ tag_of self.now iv.now aad.now text.old) }
         ensures unchanged { OnErr result (text.new ≡ text.old) }
     {
         self.key.open(iv, aad, text, tag)
@@ -171,7 +174,8 @@ impl Aes256Gcm {
         requires aad { length aad.now ≤ 65535 }
         requires text { length text.now ≤ 65535 }
         ensures opens { IsOk result ↔ (tag.now ≡ tag_of self.now iv.now aad.now text.now) }
-        ensures computed { IfErr result (λ e. e.computed ≡ tag_of self.now iv.now aad.now text.now) }
+        ensures computed { IfErr result
+            (λ e. e.computed ≡ tag_of self.now iv.now aad.now text.now) }
     {
         self.key.verify(iv, aad, text, tag)
     }

@@ -57,7 +57,9 @@ fn next_block(aes: &Aes, iv: &[u8; 12], begun: &mut Begun, counter: u32) -> u128
 // The sum of eight bytes and half a block of the key stream.
 fn masked(bytes: &[u8], stream: u64) -> u64
     requires { length bytes.now ≡ 8 }
-    ensures { (k : ℕ) → k < 8 → slice_index (big_bytes 8 result) k ≡ bit_xor (slice_index bytes.now k) (slice_index (big_bytes 8 stream) k) }
+    ensures { (k : ℕ) → k < 8
+        → slice_index (big_bytes 8 result) k
+        ≡ bit_xor (slice_index bytes.now k) (slice_index (big_bytes 8 stream) k) }
 {
     BigEndian::read_u64(bytes) ^ stream
 }
@@ -65,7 +67,9 @@ fn masked(bytes: &[u8], stream: u64) -> u64
 // Encrypts or decrypts eight bytes in place.
 fn mask_half(bytes: &mut [u8], stream: u64)
     requires { length bytes.old ≡ 8 }
-    ensures { (k : ℕ) → k < 8 → slice_index bytes.new k ≡ bit_xor (slice_index bytes.old k) (slice_index (big_bytes 8 stream) k) }
+    ensures { (k : ℕ) → k < 8
+        → slice_index bytes.new k
+        ≡ bit_xor (slice_index bytes.old k) (slice_index (big_bytes 8 stream) k) }
 {
     let sum = masked(bytes, stream);
     BigEndian::write_u64(bytes, sum);
@@ -74,7 +78,9 @@ fn mask_half(bytes: &mut [u8], stream: u64)
 // Encrypts or decrypts in place the eight bytes from `at` on.
 fn mask(text: &mut [u8], at: usize, stream: u64)
     requires { at + 8 ≤ length text.old }
-    ensures here { (k : ℕ) → at ≤ k → k < at + 8 → slice_index text.new k ≡ bit_xor (slice_index text.old k) (slice_index (big_bytes 8 stream) (k - at)) }
+    ensures here { (k : ℕ) → at ≤ k → k < at + 8
+        → slice_index text.new k
+        ≡ bit_xor (slice_index text.old k) (slice_index (big_bytes 8 stream) (k - at)) }
     ensures before { (k : ℕ) → k < at → slice_index text.new k ≡ slice_index text.old k }
     ensures behind { (k : ℕ) → at + 8 ≤ k → slice_index text.new k ≡ slice_index text.old k }
 {
@@ -87,7 +93,8 @@ fn crypt_block(aes: &Aes, iv: &[u8; 12], begun: &mut Begun, first: usize, text: 
     requires whole { 16 * n + 16 ≤ length text.old }
     requires small { 16 * first + length text.old ≤ 65535 }
     requires begun { HasBegun begun.old aes.now iv.now (first + n + 1) }
-    ensures block { (k : ℕ) → 16 * n ≤ k → k < 16 * n + 16 → slice_index text.new k ≡ crypted_behind first aes.now iv.now text.old k }
+    ensures block { (k : ℕ) → 16 * n ≤ k → k < 16 * n + 16
+        → slice_index text.new k ≡ crypted_behind first aes.now iv.now text.old k }
     ensures before { (k : ℕ) → k < 16 * n → slice_index text.new k ≡ slice_index text.old k }
     ensures behind { (k : ℕ) → 16 * n + 16 ≤ k → slice_index text.new k ≡ slice_index text.old k }
     ensures begun { HasBegun begun.new aes.now iv.now (first + n + 2) }
@@ -103,7 +110,8 @@ fn crypt_rest(aes: &Aes, iv: &[u8; 12], begun: &mut Begun, first: usize, text: &
     requires rest { length text.old / 16 ≡ n }
     requires small { 16 * first + length text.old ≤ 65535 }
     requires begun { HasBegun begun.old aes.now iv.now (first + n + 1) }
-    ensures rest { (k : ℕ) → 16 * n ≤ k → k < length text.old → slice_index text.new k ≡ crypted_behind first aes.now iv.now text.old k }
+    ensures rest { (k : ℕ) → 16 * n ≤ k → k < length text.old
+        → slice_index text.new k ≡ crypted_behind first aes.now iv.now text.old k }
     ensures before { (k : ℕ) → k < 16 * n → slice_index text.new k ≡ slice_index text.old k }
 {
     let stream = next_block(aes, iv, begun, (first + n) as u32 + 2).to_be_bytes();

@@ -52,7 +52,8 @@ impl GcmKey {
     fn tag(&self, mask: u128, aad: &[u8], text: &[u8]) -> [u8; 16]
         requires aad { length aad.now ≤ 65535 }
         requires text { length text.now ≤ 65535 }
-        ensures { (iv : List ℕ) → block_bytes mask ≡ stream_block self.now iv 1 → result ≡ tag_of self.now iv aad.now text.now }
+        ensures { (iv : List ℕ) → block_bytes mask ≡ stream_block self.now iv 1
+            → result ≡ tag_of self.now iv aad.now text.now }
     {
         let lengths = lengths_block(aad, text);
         let hash = self.hash.absorb(0, aad);
@@ -79,8 +80,10 @@ impl GcmKey {
     fn compare(&self, mask: u128, aad: &[u8], text: &[u8], tag: &[u8; 16]) -> Result<(), BadTag>
         requires aad { length aad.now ≤ 65535 }
         requires text { length text.now ≤ 65535 }
-        ensures opens { (iv : List ℕ) → block_bytes mask ≡ stream_block self.now iv 1 → IsOk result ↔ (tag.now ≡ tag_of self.now iv aad.now text.now) }
-        ensures computed { (iv : List ℕ) → block_bytes mask ≡ stream_block self.now iv 1 → IfErr result (λ e. e.computed ≡ tag_of self.now iv aad.now text.now) }
+        ensures opens { (iv : List ℕ) → block_bytes mask ≡ stream_block self.now iv 1
+            → IsOk result ↔ (tag.now ≡ tag_of self.now iv aad.now text.now) }
+        ensures computed { (iv : List ℕ) → block_bytes mask ≡ stream_block self.now iv 1
+            → IfErr result (λ e. e.computed ≡ tag_of self.now iv aad.now text.now) }
     {
         let computed = self.tag(mask, aad, text);
         if computed != *tag {
@@ -100,7 +103,8 @@ impl GcmKey {
         requires aad { length aad.now ≤ 65535 }
         requires text { length text.now ≤ 65535 }
         ensures opens { IsOk result ↔ (tag.now ≡ tag_of self.now iv.now aad.now text.now) }
-        ensures computed { IfErr result (λ e. e.computed ≡ tag_of self.now iv.now aad.now text.now) }
+        ensures computed { IfErr result
+            (λ e. e.computed ≡ tag_of self.now iv.now aad.now text.now) }
     {
         self.compare(stream_block(&self.aes, iv, 1), aad, text, tag)
     }
@@ -117,7 +121,8 @@ impl GcmKey {
         requires text { length text.old ≤ 65535 }
         ensures opens { IsOk result ↔ (tag.now ≡ tag_of self.now iv.now aad.now text.old) }
         ensures text { OnOk result (text.new ≡ crypt self.now iv.now text.old) }
-        ensures computed { IfErr result (λ e. e.computed ≡ tag_of self.now iv.now aad.now text.old) }
+        ensures computed { IfErr result
+            (λ e. e.computed ≡ tag_of self.now iv.now aad.now text.old) }
         ensures unchanged { OnErr result (text.new ≡ text.old) }
     {
         let begun = begin(&self.aes, iv, 1);

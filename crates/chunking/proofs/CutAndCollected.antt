@@ -6,6 +6,7 @@ use Rattle.std.specs.Prelude.{Option, None, Some, if◌then◌else◌}
 use Rattle.spdm_grammar.specs.Message.{ChunkMessage}
 use Rattle.spdm_grammar.specs.declared.ChunkFault.{ChunkFault}
 use Rattle.spdm_grammar.specs.declared.ChunkFault.TheVariants.{WrongHandle, WrongNumber, WrongSize, TooLarge, EarlyLast, MissingLast}
+use Rattle.spdm_grammar.specs.declared.names.TheConstants.{MAX_MESSAGE_SIZE}
 use Rattle.chunking.specs.Cutting.{IsCollectable, unit_of, chunk_count, nth_chunk, chunks_before}
 use Rattle.chunking.specs.Collecting.{under_way, joined, told_size, first_fault, has_wrong_size, size_rule, first_rule, later_rule, broken_rule, answer_from, accepted_unless, accepted_with, collected}
 use Rattle.chunking.specs.Collecting.Collection.{Whole, More}
@@ -100,7 +101,7 @@ module _ (max transfer handle : ℕ) (message : List ℕ) (sound : IsCollectable
   first_is_sound within =
       let Q : ℕ → Type 0 = λ n. size_rule (length message) n (nth 0) ≡ None in
       let none : 0 * unit - 4 ≡ 0 = omega arith in
-      under_max _ _ (lt_false (min max 4096) (length message) (omega (arith, sound.fits, sound.short))) (subst Q none (size_is_sound 0 within))
+      under_max _ _ (lt_false (min max MAX_MESSAGE_SIZE) (length message) (omega (arith, sound.fits, sound.short))) (subst Q none (size_is_sound 0 within))
 
   same_message : (handle_test number_test : Bool) (rule : Option ChunkFault) → handle_test ≡ true → number_test ≡ true → rule ≡ None →
       (if not handle_test then Some WrongHandle else (if not number_test then Some WrongNumber else rule)) ≡ None

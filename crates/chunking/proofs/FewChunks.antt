@@ -6,6 +6,7 @@ use Rattle.std.specs.Prelude.{Option, None, Some, if◌then◌else◌}
 use Rattle.spdm_grammar.specs.Message.{ChunkMessage}
 use Rattle.spdm_grammar.specs.declared.ChunkFault.{ChunkFault}
 use Rattle.spdm_grammar.specs.declared.ChunkFault.TheVariants.{WrongHandle, WrongNumber, TooLarge}
+use Rattle.spdm_grammar.specs.declared.names.TheConstants.{MAX_MESSAGE_SIZE}
 use Rattle.chunking.specs.Collecting.{under_way, joined, told_by, told_size, size_rule, first_rule, later_rule, broken_rule, accepted_unless, accepted_of}
 
 -- What a chunk that breaks no rule of sizes and marks adds.
@@ -31,13 +32,13 @@ of_the_message true true rule e = (refl, e)
 of_the_message true false rule e = cc
 of_the_message false number rule e = cc
 
-most : (max told : ℕ) → nat_lt (min max 4096) told ≡ false → told ≤ 4096
+pub most : (max told : ℕ) → nat_lt (min max MAX_MESSAGE_SIZE) told ≡ false → told ≤ MAX_MESSAGE_SIZE
 most max told small = grind (arith, common_steps)
 
-first_adds : (max : ℕ) (c : ChunkMessage) → first_rule max c ≡ None → (told_by c ≤ 4096) × Adds (told_by c) 0 c
+first_adds : (max : ℕ) (c : ChunkMessage) → first_rule max c ≡ None → (told_by c ≤ MAX_MESSAGE_SIZE) × Adds (told_by c) 0 c
 first_adds max c e =
-    let parts = not_too_large (nat_lt (min max 4096) (told_by c)) (size_rule (told_by c) 0 c) e in
-    let small : nat_lt (min max 4096) (told_by c) ≡ false = parts.0 in
+    let parts = not_too_large (nat_lt (min max MAX_MESSAGE_SIZE) (told_by c)) (size_rule (told_by c) 0 c) e in
+    let small : nat_lt (min max MAX_MESSAGE_SIZE) (told_by c) ≡ false = parts.0 in
     (most max (told_by c) small, adds (told_by c) 0 c parts.1)
 
 later_adds : (d : ChunkMessage) (earlier : List ChunkMessage) (c : ChunkMessage) → later_rule (d ∷ earlier) c ≡ None →
@@ -51,7 +52,7 @@ later_adds d earlier c e =
 -- The newest of the chunks under way has a number that counts those before it, each of which has 26 bytes.
 abbrev Grows : List ChunkMessage → Type 0
 Grows [] = Unit {0}
-Grows (d ∷ earlier) = (26 * (d.number + 1) ≤ length (joined (d ∷ earlier))) × (told_size (d ∷ earlier) ≤ 4096) × (d.number + 1 ≡ length (d ∷ earlier))
+Grows (d ∷ earlier) = (26 * (d.number + 1) ≤ length (joined (d ∷ earlier))) × (told_size (d ∷ earlier) ≤ MAX_MESSAGE_SIZE) × (d.number + 1 ≡ length (d ∷ earlier))
 
 bounded : (zero : Bool) (max : ℕ) (before : List ChunkMessage) (c : ChunkMessage) → nat_eq c.number 0 ≡ zero → Grows before →
     (if zero then first_rule max c else later_rule before c) ≡ None → (c.number < 158) × (c.number ≡ (if zero then 0 else length before))

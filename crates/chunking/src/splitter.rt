@@ -50,7 +50,9 @@ impl Model for Splitter {
 
     ghost view = { λ s. drop s.taken (chunks_of s.transfer s.handle s.message) };
 
-    ghost invariant = { λ s. (MIN_DATA_TRANSFER_SIZE ≤ s.transfer) × (length s.message ≤ MAX_MESSAGE_SIZE) × (s.transfer < length s.message + 16) × (s.count ≡ chunk_count s.transfer s.message) × (s.taken ≤ s.count) };
+    ghost invariant = { λ s. (MIN_DATA_TRANSFER_SIZE ≤ s.transfer)
+        × (length s.message ≤ MAX_MESSAGE_SIZE) × (s.transfer < length s.message + 16)
+        × (s.count ≡ chunk_count s.transfer s.message) × (s.taken ≤ s.count) };
 }
 
 impl Splitter {

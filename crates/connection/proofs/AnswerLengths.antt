@@ -1,12 +1,12 @@
 -- How long answers are, told without their bytes.
 use Rattle.std.proofs.Common.{refl, ◌≡◌, ◌≤◌, ◌+◌, ◌-◌, ◌<◌, ◌^◌, ℕ, zero, suc, List, [], ◌∷◌, true, false, Bool, Some, None, length, slice_range, ap, arith}
 use Rattle.std.proofs.lemmas.Bool.Decides.{nat_tests}
-use Rattle.std.proofs.lemmas.List.{length-append, length-replicate, length-drop, length-take}
+use Rattle.std.proofs.lemmas.List.{length-append, length-drop, length-take}
 use Rattle.std.specs.Prelude.{if◌then◌else◌, ◌==◌, ◌||◌, is_some, unwrap_or}
 use Rattle.chunking.specs.Cutting.{chunk_end, chunk_start, nth_chunk}
 use Rattle.key_schedule.specs.declared.direction.Direction.TheVariants as direction
 use Rattle.measurements.specs.Summaries.{hash_of_blocks, summarized}
-use Rattle.responder_machine.proofs.VerifyLength.{length_digest, length_verify}
+use Rattle.responder_machine.proofs.VerifyLength.{length_blocks, length_verify}
 use Rattle.responder_machine.specs.Answer.{Free, exchange_answer, summary_answer, t1_with}
 use Rattle.responder_machine.specs.Place.{Place, place_terms}
 use Rattle.responder_machine.specs.Setup.{RspSetup, inventory_of}
@@ -18,11 +18,6 @@ use Rattle.spdm_grammar.specs.Message.{ExchangeMessage}
 use Rattle.spdm_grammar.specs.Message.ResponseMessage.{ChunkResponse}
 use Rattle.spdm_grammar.specs.Responses.{canonical_response}
 use Rattle.spdm_grammar.specs.declared.block_spec.BlockSpec.{BlockSpec}
-
--- A summary is as long as the hash.
-summary_long : (hash : HashAlg) (blocks : List BlockSpec) → length (hash_of_blocks (hash_of hash) blocks) ≡ hash_size hash
-summary_long hash [] = length-replicate (hash_size hash) 0
-summary_long hash (block ∷ others) = length_digest hash _
 
 summary_answer_long : (r : RspSetup) (p : Place) (kind : ℕ)
     → length (summary_answer r p kind) ≡ (if kind == 1 || kind == 255 then hash_size (place_terms p).choice.hash else 0)
@@ -38,7 +33,7 @@ summary_answer_long r p kind = by_kind (kind == 0) (kind == 1 || kind == 255) (�
         → length (if zero then [] else unwrap_or (if some then Some (hash_of_blocks (hash_of hash) (summarized kind (inventory_of r))) else None) []) ≡ (if some then hash_size hash else 0)
     by_kind true true none = absurd (let h = none refl in cc)
     by_kind true false none = refl
-    by_kind false true none = summary_long hash (summarized kind (inventory_of r))
+    by_kind false true none = length_blocks hash (summarized kind (inventory_of r))
     by_kind false false none = refl
 
 pub exchange_long : (r : RspSetup) (p : Place) (m : List ℕ) (f : Free) (exchange : ExchangeMessage)

@@ -24,12 +24,6 @@ use Rattle.spdm_grammar.specs.declared.choice.Choice.{Choice}
 use Rattle.spdm_grammar.specs.declared.names.request_code.TheConstants.{GET_CAPABILITIES, GET_VERSION}
 use Rattle.spdm_machine.specs.Terms.{hash_len}
 
--- The answer to a request.
-pub answer_is : (r : RspSetup) (p : Place) (m : List ℕ) (f : Free) (asked : RequestMessage) → request_at p m ≡ Some asked
-    → answer_bytes r p m f ≡ canonical_response (answer_of r p m f asked)
-unfolding answer_bytes
-answer_is r p m f asked is = ap (answer_to r p m f) is
-
 -- What stands behind the code of a request that these bytes spell.
 record BehindCode (size : ℕ) (m : List ℕ) (asked : RequestMessage) : Type 0 where
   code : ℕ

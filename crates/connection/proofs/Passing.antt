@@ -1,7 +1,6 @@
 -- What a message shows that passes the tests of the clear part, and why one is refused that does not.
 use Rattle.std.proofs.Common.{refl, ◌∙◌, ◌≡◌, ◌≤◌, ◌+◌, ℕ, List, [], ◌∷◌, true, false, Bool, Option, Some, None, length, ap, sym, subst, arith}
-use Rattle.std.proofs.lemmas.Bool.{false≢true}
-use Rattle.std.proofs.lemmas.Bool.Decides.{nat_tests}
+use Rattle.std.proofs.lemmas.Bool.{false≢true, ltb-false}
 use Rattle.std.proofs.lemmas.Option.{none-some, same_Some}
 use Rattle.std.specs.Option.{option_or}
 use Rattle.std.specs.Prelude.{◌==◌, ◌&&◌, ◌||◌, if◌then◌else◌, nat_lt, not, unwrap_or}
@@ -17,6 +16,7 @@ use Rattle.responder_machine.specs.Setup.{RspSetup, policy_of}
 use Rattle.negotiate.specs.Choosing.{selected}
 use Rattle.responder_machine.specs.Turn.{Turn}
 use Rattle.spdm_basis.specs.Tests.{first_of_tests}
+use Rattle.spdm_basis.proofs.Bools.{lt_false}
 use Rattle.spdm_grammar.specs.Codes.{code_for}
 use Rattle.spdm_grammar.specs.Message.{RequestMessage}
 use Rattle.spdm_grammar.specs.Message.RequestMessage.{ChunkGet, ChunkSend, EndSession, GetCapabilities, GetMeasurements, GetVersion, Heartbeat, KeyUpdate, NegotiateAlgorithms, PskExchange, PskFinish}
@@ -29,7 +29,8 @@ use Rattle.spdm_grammar.specs.declared.phase.Phase.{Phase}
 use Rattle.spdm_grammar.specs.declared.phase.Phase.TheVariants.{Capable, Fresh, Negotiated, Versioned}
 use Rattle.spdm_machine.specs.Terms.{no_choice}
 use Rattle.connection.proofs.AnswerLengths.{chunk_fits}
-use Rattle.connection.proofs.Lengths.{algorithms_long, answer_is}
+use Rattle.connection.proofs.Lengths.{algorithms_long}
+use Rattle.responder_machine.proofs.Settled.{answer_is}
 use Rattle.connection.proofs.Table.{IsShort, outside_session, pending_for, phase_allowed, refusal_is}
 use Rattle.connection.specs.Answering.{IsAnswerable, is_made_here}
 use Rattle.connection.specs.Negotiating.{IsSettled, IsSized}
@@ -100,9 +101,6 @@ not_both : (a b c : Bool) → a ≡ false → c ≡ false → (a || (b && c)) �
 not_both a true c x y = rw (x, y) refl
 not_both a false c x y = rw x refl
 
-above : (a b : ℕ) → b ≤ a → nat_lt a b ≡ false
-above a b h = grind (arith, nat_tests)
-
 round_few : (at : Where) → bytes_round at ≤ 6
 round_few InClear = omega arith
 round_few InChunks = omega arith
@@ -122,7 +120,7 @@ short_fits p answer sized short = by_known (sizes_are_known p.phase)
         let least = sized.least in
         let crossed = sized.crossed in
         let few = round_few p.at in
-        not_both (nat_lt max (length answer)) (not (place_terms p).common.chunk) (nat_lt transfer (bytes_round p.at + length answer)) (above max (length answer) (omega arith)) (above transfer (bytes_round p.at + length answer) (omega arith))
+        not_both (nat_lt max (length answer)) (not (place_terms p).common.chunk) (nat_lt transfer (bytes_round p.at + length answer)) (lt_false max (length answer) (omega arith)) (lt_false transfer (bytes_round p.at + length answer) (omega arith))
 
     by_known : (known : Bool) → (known && (nat_lt max (length answer) || (not (place_terms p).common.chunk && nat_lt transfer (bytes_round p.at + length answer)))) ≡ false
     by_known true = rest
@@ -142,9 +140,6 @@ not_long true true c known h = absurd (false≢true (sym h))
 not_long true false c known h = refl
 not_long false b c known h = absurd (false≢true known)
 
-within : (a b : ℕ) → nat_lt a b ≡ false → b ≤ a
-within a b h = grind (arith, nat_tests)
-
 pub answer_fits : (r : RspSetup) (p : Place) (m : List ℕ) (f : Free) (large : large_answer.Seen) (asked : RequestMessage) → IsClear p.at → IsSettledAt p → refused_form r p m ≡ None → request_at p m ≡ Some asked
     → IsAnswerable large p asked → is_made_here asked ≡ true → is_answer_too_long p (answer_bytes r p m f) ≡ false → length (canonical_response (answer_of r p m f asked)) ≤ MAX_MESSAGE_SIZE
 answer_fits r p m f large GetVersion clear settled form is able here short = omega arith
@@ -152,7 +147,7 @@ answer_fits r p m f large (GetCapabilities caps) clear settled form is able here
 answer_fits r p m f large (NegotiateAlgorithms offer) clear settled form is able here short = omega (arith, algorithms_long offer (unwrap_or (selected offer (policy_of r)) no_choice))
 answer_fits r p m f large (GetMeasurements op) clear settled form is able here short =
     let known = measurements_known p.phase (place_terms p).common (has_pending p) settled.settled (phase_allowed r p m (GetMeasurements op) clear form is) in
-    let fits = within (place_terms p).common.to_requester.max (length (answer_bytes r p m f)) (not_long (sizes_are_known p.phase) _ _ known.0 short) in
+    let fits = ltb-false (place_terms p).common.to_requester.max (length (answer_bytes r p m f)) (not_long (sizes_are_known p.phase) _ _ known.0 short) in
     let most = known.1.most in
     subst (λ (a : List ℕ). length a ≤ MAX_MESSAGE_SIZE) (answer_is r p m f (GetMeasurements op) is) (omega arith)
 answer_fits r p m f large (PskExchange exchange) clear settled form is able here short = absurd (false≢true here)

@@ -30,7 +30,8 @@ use Rattle.spdm_grammar.specs.declared.phase.Phase.{Phase}
 use Rattle.spdm_grammar.specs.declared.phase.Phase.TheVariants.{Capable, Fresh, Negotiated, Versioned}
 use Rattle.spdm_machine.specs.Terms.{Terms, no_choice, no_common, no_negotiation, no_terms, terms_of}
 use Rattle.transcript.specs.Transcripts.{Negotiation, vca_of}
-use Rattle.connection.proofs.Lengths.{algorithms_long, answer_is, capabilities_long, version_long}
+use Rattle.connection.proofs.Lengths.{algorithms_long, capabilities_long, version_long}
+use Rattle.responder_machine.proofs.Settled.{answer_is}
 use Rattle.connection.specs.Negotiating.{IsSettled, IsUpTo, Seen, StandsFor, most_in}
 
 -- Versions settle no terms.

@@ -1,7 +1,6 @@
 -- What a request changes that is taken in the clear.
 use Rattle.std.proofs.Common.{refl, ◌∙◌, ◌≡◌, ◌≤◌, ◌<◌, ◌+◌, ℕ, List, [], ◌∷◌, true, false, Bool, Option, Some, None, length, ap, sym, subst, arith}
-use Rattle.std.proofs.lemmas.Bool.{false≢true, ltb-true}
-use Rattle.std.proofs.lemmas.Bool.Decides.{nat_tests}
+use Rattle.std.proofs.lemmas.Bool.{false≢true, ltb-false, ltb-true}
 use Rattle.std.proofs.lemmas.Option.{none-some}
 use Rattle.std.specs.Prelude.{◌==◌, ◌&&◌, ◌||◌, if◌then◌else◌, is_none, nat_lt, not, unwrap_or}
 use Rattle.negotiate.specs.Capabilities.{common_of}
@@ -34,7 +33,7 @@ use Rattle.spdm_grammar.specs.declared.names.request_code.TheConstants.{CHUNK_GE
 use Rattle.spdm_grammar.specs.declared.phase.Phase.{Phase}
 use Rattle.spdm_grammar.specs.declared.phase.Phase.TheVariants.{Capable, Fresh, Negotiated, Versioned}
 use Rattle.connection.proofs.AnswerLengths.{chunk_fits}
-use Rattle.connection.proofs.Lengths.{answer_is}
+use Rattle.responder_machine.proofs.Settled.{answer_is}
 use Rattle.connection.proofs.Table.{phase_allowed}
 use Rattle.connection.specs.Negotiating.{IsSettled, IsSized}
 use Rattle.connection.specs.Answering.{is_made_here}
@@ -44,7 +43,7 @@ use Rattle.spdm_grammar.specs.declared.exchange.Exchange.{Exchange}
 use Rattle.spdm_grammar.specs.declared.request.Request.{Request}
 use Rattle.spdm_grammar.specs.declared.request.Request.TheVariants as asked
 use Rattle.spdm_grammar.specs.declared.names.TheConstants.{MAX_MESSAGE_SIZE, MIN_DATA_TRANSFER_SIZE}
-use Rattle.spdm_basis.proofs.Bools.{and_first, and_second}
+use Rattle.spdm_basis.proofs.Bools.{and_first, and_second, lt_false}
 use Rattle.connection.specs.Standing.{IsSettledAt}
 use Rattle.connection.specs.Taking.{IsTaking}
 
@@ -101,11 +100,8 @@ get_round : (r : RspSetup) (p : Place) (m : List ℕ) (handle number : ℕ) → 
 unfolding refused_form
 get_round r p m handle number form is = not_in_chunks p.at (ap (is_misplaced p.at) (asked-code p m (ChunkGet handle number) is) ∙ tests_are_false (tests_of_form r p m) form 5)
 
-above : (a b : ℕ) → b ≤ a → nat_lt a b ≡ false
-above a b h = grind (arith, nat_tests)
-
 small_by : (known : Bool) (transfer round : ℕ) (n : ℕ) → (known ≡ true → round + n ≤ transfer) → (known && nat_lt transfer (round + n)) ≡ false
-small_by true transfer round n h = above transfer (round + n) (h refl)
+small_by true transfer round n h = lt_false transfer (round + n) (h refl)
 small_by false transfer round n h = refl
 
 known_sized : (phase : Phase) (common : Common) → IsSettled phase common → sizes_are_known phase ≡ true → IsSized common
@@ -236,14 +232,11 @@ limit_few r InClear clear ordered most = omega arith
 limit_few r InChunks clear ordered most = omega arith
 limit_few r InSession clear ordered most = absurd clear
 
-not_longer : (a b : ℕ) → nat_lt a b ≡ false → b ≤ a
-not_longer a b h = grind (arith, nat_tests)
-
 pub message_short : (r : RspSetup) (p : Place) (m : List ℕ) → IsClear p.at → r.transfer ≤ r.max → r.max ≤ MAX_MESSAGE_SIZE → refused_form r p m ≡ None → length m ≤ MAX_MESSAGE_SIZE
 unfolding refused_form
 message_short r p m clear ordered most form =
     let few = limit_few r p.at clear ordered most in
-    let within = not_longer (limit_of r p.at) (length m) (tests_are_false (tests_of_form r p m) form 1) in
+    let within = ltb-false (limit_of r p.at) (length m) (tests_are_false (tests_of_form r p m) form 1) in
     omega arith
 
 -- The effect of a request with its answer.

@@ -46,7 +46,8 @@ impl HashKey {
     /// The hash of the blocks before and of one more, where `sum` is the hash of the blocks before. The
     /// hash of no blocks is 0.
     pub fn absorb_block(&self, sum: u128, block: u128) -> u128
-        ensures { (before : List ℕ) → sum ≡ ghash self.now before → result ≡ ghash self.now (before ++ block ∷ []) }
+        ensures { (before : List ℕ) → sum ≡ ghash self.now before
+            → result ≡ ghash self.now (before ++ block ∷ []) }
     {
         self.times(sum ^ block)
     }
@@ -54,7 +55,8 @@ impl HashKey {
     /// The hash of the blocks before and of those of some bytes, the last of which is filled with zeros,
     /// where `sum` is the hash of the blocks before.
     pub fn absorb(&self, sum: u128, bytes: &[u8]) -> u128
-        ensures { (before : List ℕ) → sum ≡ ghash self.now before → result ≡ ghash self.now (before ++ blocks bytes.now) }
+        ensures { (before : List ℕ) → sum ≡ ghash self.now before
+            → result ≡ ghash self.now (before ++ blocks bytes.now) }
     {
         let mut hash = sum;
         for i in 0..bytes.len().div_ceil(16) {

@@ -39,7 +39,8 @@ impl Wide {
     /// to the left of there.
     pub fn next(&self, upper: u128, lower: u128) -> Wide
         requires { self.now.high < 2 ^ 122 }
-        ensures value { number_of result ≡ bit_xor (number_of self.now * 64) (bit_xor (upper * 2 ^ 64) lower) }
+        ensures value { number_of result
+            ≡ bit_xor (number_of self.now * 64) (bit_xor (upper * 2 ^ 64) lower) }
         ensures room { (k : ℕ) → 58 ≤ k → self.now.high < 2 ^ k → result.high < 2 ^ (k + 6) }
     {
         self.shifted(6).plus(&Wide {

@@ -11,8 +11,8 @@ use spdm_basis::{AeadAlg, HashAlg, HashBytes};
 use std::marker::Model;
 
 /// The key and the initialization vector of the records of one direction, and the secret from which
-/// they and their successors come (DSP0274, "Key schedule"). Contracts see the hash function, the AEAD,
-/// the secret and the epoch.
+/// they and their successors come (DSP0274, "Key schedule"). Contracts see the hash function, the
+/// AEAD, the secret and the epoch.
 #[derive(Drop)]
 pub struct DirectionKey {
     hash: HashAlg,
@@ -32,7 +32,12 @@ impl Model for DirectionKey {
 
     ghost Value = { DirectionSecret };
 
-    ghost view = { λ k. record { hash = k.hash; aead = k.aead; secret = k.secret; epoch = k.epoch } };
+    ghost view = { λ k. record {
+      hash = k.hash;
+      aead = k.aead;
+      secret = k.secret;
+      epoch = k.epoch;
+    } };
 
     ghost invariant = { λ k. (length k.secret ≡ hash_size k.hash)
         × (length k.key.items ≡ key_size k.aead)
@@ -64,10 +69,9 @@ impl DirectionKey {
         }
     }
 
-    /// The key that follows by a key update (DSP0274, "KEY_UPDATE"), with the next epoch. The caller's
-    /// epoch is below 2^64 - 1.
-    #[tactic(auto, unfolding(crate::specs::Schedule::secret_at))]
-    pub fn next(self) -> DirectionKey
+    /// The key that follows by a key update (DSP0274, "KEY_UPDATE"), with the next epoch. The
+    /// caller's epoch is below 2^64 - 1.
+    pub fn next(mut self) -> DirectionKey
         requires { self.epoch < 2 ^ 64 - 1 }
         ensures value { result ≡ record self {
           secret = updated_secret
@@ -77,8 +81,25 @@ impl DirectionKey {
         ensures purpose { (p : Purpose) → IsSecretOf self p
             → IsSecretOf result (record p { epoch = p.epoch + 1 }) }
     {
+        self.update();
+        self
+    }
+
+    /// Steps to the key that follows by a key update, as `next` does, in place. The caller's epoch
+    /// is below 2^64 - 1.
+    #[tactic(auto, unfolding(crate::specs::Schedule::secret_at))]
+    pub fn update(&mut self)
+        requires { self.old.epoch < 2 ^ 64 - 1 }
+        ensures value { self.new ≡ record self.old {
+          secret = updated_secret
+              (hash_of self.old.hash) self.old.secret;
+          epoch = self.old.epoch + 1;
+        } }
+        ensures purpose { (p : Purpose) → IsSecretOf self.old p
+            → IsSecretOf self.new (record p { epoch = p.epoch + 1 }) }
+    {
         let secret = derive_secret(self.hash, &self.secret, Label::Update, &[]);
-        DirectionKey::of_secret(self.hash, self.aead, secret, self.epoch + 1)
+        *self = DirectionKey::of_secret(self.hash, self.aead, secret, self.epoch + 1);
     }
 
     /// The key of the records: 16 or 32 bytes, by the AEAD.

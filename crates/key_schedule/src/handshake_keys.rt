@@ -31,7 +31,13 @@ impl Model for HandshakeKeys {
 
     ghost Value = { HandshakeSecrets };
 
-    ghost view = { λ k. record { hash = k.hash; aead = k.aead; handshake = k.handshake; request = k.request; response = k.response } };
+    ghost view = { λ k. record {
+      hash = k.hash;
+      aead = k.aead;
+      handshake = k.handshake;
+      request = k.request;
+      response = k.response;
+    } };
 
     ghost invariant = { λ k. (length k.handshake ≡ hash_size k.hash)
         × (length k.request ≡ hash_size k.hash)
@@ -98,7 +104,12 @@ impl HandshakeKeys {
     /// The key of the requester's records of the handshake.
     #[tactic(auto, unfolding(crate::specs::Schedule::secret_at))]
     pub fn request_key(&self) -> DirectionKey
-        ensures value { result ≡ record { hash = self.now.hash; aead = self.now.aead; secret = self.now.request; epoch = 0 } }
+        ensures value { result ≡ record {
+          hash = self.now.hash;
+          aead = self.now.aead;
+          secret = self.now.request;
+          epoch = 0;
+        } }
         ensures purpose { (psk t1 : List ℕ) → AreSecretsOf self.now psk t1
             → IsSecretOf result (handshake_record psk t1 Request) }
     {
@@ -108,7 +119,12 @@ impl HandshakeKeys {
     /// The key of the responder's records of the handshake.
     #[tactic(auto, unfolding(crate::specs::Schedule::secret_at))]
     pub fn response_key(&self) -> DirectionKey
-        ensures value { result ≡ record { hash = self.now.hash; aead = self.now.aead; secret = self.now.response; epoch = 0 } }
+        ensures value { result ≡ record {
+          hash = self.now.hash;
+          aead = self.now.aead;
+          secret = self.now.response;
+          epoch = 0;
+        } }
         ensures purpose { (psk t1 : List ℕ) → AreSecretsOf self.now psk t1
             → IsSecretOf result (handshake_record psk t1 Response) }
     {

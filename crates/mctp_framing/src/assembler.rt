@@ -59,8 +59,8 @@ impl Assembler {
     /// An assembler that was given no packet. It takes the memory for a body of `limit` bytes, and no
     /// more later.
     pub fn new(alloc: Global, own: Eid, peer: Eid, limit: usize) -> Result<Assembler, OutOfMemory>
-        ensures receiver { IfOk result (λ a. a.receiver
-            ≡ record { own = own.number; peer = peer.number; limit = limit }) }
+        ensures receiver { IfOk result
+            (λ a. a.receiver ≡ record { own = own.number; peer = peer.number; limit = limit }) }
         ensures stands { IfOk result (λ a. StandsFor a []) }
     {
         Ok(Assembler {
@@ -100,7 +100,12 @@ impl Assembler {
     // The route of a packet for the own end point and from the peer.
     fn route(&self, packet: PacketView<'_>) -> Route
         requires { packet.tag < 8 }
-        ensures { route_of result ≡ record { to = self.now.receiver.own; from = self.now.receiver.peer; owner = packet.entry.owner; tag = packet.entry.tag } }
+        ensures { route_of result ≡ record {
+          to = self.now.receiver.own;
+          from = self.now.receiver.peer;
+          owner = packet.entry.owner;
+          tag = packet.entry.tag;
+        } }
     {
         Route {
             to: self.own,

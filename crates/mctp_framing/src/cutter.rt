@@ -29,7 +29,8 @@ impl<'a> Model for Cutter<'a> {
 
     ghost view = { λ c. drop c.given (packets_of (route_of c.route) c.unit c.body.now) };
 
-    ghost invariant = { λ c. (64 ≤ c.unit) × (c.unit ≤ 1024) × (c.count ≡ packet_count c.unit c.body.now) × (c.given ≤ c.count) };
+    ghost invariant = { λ c. (64 ≤ c.unit) × (c.unit ≤ 1024)
+        × (c.count ≡ packet_count c.unit c.body.now) × (c.given ≤ c.count) };
 }
 
 /// Cuts a message body into packets of `unit` payload bytes, the last of which may be shorter

@@ -1,11 +1,9 @@
 -- What is asked of an open session leaves its numbers few.
-use Rattle.std.proofs.Common.{◌≡◌, ◌<◌, ◌≤◌, ◌+◌, ℕ, [], ◌∷◌, Bool, true, false, refl, arith}
+use Rattle.std.proofs.Common.{◌≡◌, ◌≤◌, ◌+◌, ℕ, [], ◌∷◌, Bool, true, false, refl, arith}
 use Rattle.std.specs.Prelude.{◌||◌, nat_le, None}
 use Rattle.std.proofs.lemmas.Bool.{or_parts}
-use Rattle.std.proofs.lemmas.Bool.Decides.{nat_tests}
 use Rattle.requester_machine.proofs.FewEntries.{less, room_for_large, room_for_one}
-use Rattle.requester_machine.proofs.Few.{FewBy, unreached}
-use Rattle.requester_machine.specs.SpentLaws.{FewFor}
+use Rattle.requester_machine.specs.SpentLaws.{FewBy, FewFor}
 use Rattle.requester_machine.specs.Commands.{has_reached, lacks, is_spent}
 use Rattle.requester_machine.specs.Order.Waits.{Rests}
 use Rattle.requester_machine.specs.Session.{Steps, session_terms, request_next, response_next}

@@ -10,3 +10,4 @@ pub mod Courses
 pub mod Chunks
 pub mod Taking
 pub mod Entries
+pub mod Standings

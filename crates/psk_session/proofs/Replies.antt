@@ -2,8 +2,8 @@
 use Rattle.std.proofs.Common.{◌≡◌, ◌∙◌, ◌≤◌, ◌<◌, ◌+◌, ap, sym, subst, refl, ℕ, List, [], ◌++◌, Bool, true, false, length, arith}
 use Rattle.std.specs.Prelude.{◌||◌, if◌then◌else◌, Some, Result, Ok, Err, OnOk, OnErr}
 use Rattle.std.proofs.lemmas.Bool.{false≢true}
-use Rattle.requester_machine.proofs.Few.{FewBy, answered_few}
-use Rattle.requester_machine.specs.SpentLaws.{FewFor}
+use Rattle.requester_machine.proofs.Few.{answered_few}
+use Rattle.requester_machine.specs.SpentLaws.{FewBy, FewFor}
 use Rattle.requester_machine.specs.Message.{Ask}
 use Rattle.requester_machine.specs.Message.Ask.{AskData, AskBeat, AskMeasure, AskChunk}
 use Rattle.requester_machine.specs.Order.{may_bring, stage_for, waiting_ask}

@@ -12,11 +12,12 @@ use Rattle.requester_machine.specs.Setup.{ReqSetup}
 use Rattle.spdm_grammar.specs.declared.choice.Pick.TheVariants.{Small}
 use Rattle.spdm_machine.specs.Terms.{hash_len}
 use Rattle.psk_session.specs.Course.{Course, TakesCourse}
-use Rattle.psk_session.specs.Took.{Follows, IsTook}
+use Rattle.psk_session.specs.Stepped.{Follows, IsLeft, IsStanding, IsToldOf}
 use Rattle.psk_session.specs.Verdict.{Meaning}
-use Rattle.psk_session.specs.Waiting.{Seen, IsNewest}
-use Rattle.psk_session.specs.declared.took.Took.{Took}
-use Rattle.psk_session.specs.declared.took.Took.TheVariants as took
+use Rattle.psk_session.specs.Waiting.{IsNewest}
+use Rattle.psk_session.specs.declared.req_session.ReqSession.{ReqSession}
+use Rattle.psk_session.specs.declared.told.Told.{Told}
+use Rattle.psk_session.specs.declared.told.Told.TheVariants as told
 use Rattle.psk_session.proofs.Courses.{IsMeaning}
 use Rattle.psk_session.proofs.Meanings.{FitsMeaning, contents_fit}
 
@@ -25,12 +26,20 @@ newest_waits a sealed [] is = absurd is
 newest_waits a sealed (Asked other inner sent ∷ older) is = ap (λ (x : Ask). Some x) is.0
 newest_waits a sealed (_ ∷ older) is = absurd is
 
-pub took_by : (old : Seen) (psk : List ℕ) (s : Steps) (a : Ask) (sealed pad : List ℕ) (t : Took) (course : Course) → TakesCourse psk s a sealed course → Follows psk s a sealed pad t course → IsTook old psk s a sealed pad t
-took_by old psk s a sealed pad (took.Answer state reply) course takes follows = (course, takes, follows)
-took_by old psk s a sealed pad (took.Next state) course takes follows = (course, takes, follows)
-took_by old psk s a sealed pad (took.Ended closed) course takes follows = (course, takes, follows)
-took_by old psk s a sealed pad (took.Bad closed fault) course takes follows = (course, takes, follows)
-took_by old psk s a sealed pad (took.Stay state fault) course takes follows = absurd follows
+pub told_by : (old : ReqSession) (psk : List ℕ) (s : Steps) (a : Ask) (sealed pad : List ℕ) (new : ReqSession) (t : Told) (course : Course) → TakesCourse psk s a sealed course → Follows psk s a sealed pad new t course
+    → IsToldOf old psk s a sealed pad new t
+told_by old psk s a sealed pad new (told.Answer reply) course takes follows = (course, takes, follows)
+told_by old psk s a sealed pad new told.Next course takes follows = (course, takes, follows)
+told_by old psk s a sealed pad new told.Ended course takes follows = (course, takes, follows)
+told_by old psk s a sealed pad new (told.Bad fault) course takes follows = (course, takes, follows)
+told_by old psk s a sealed pad new (told.Stay fault) course takes follows = absurd follows
+
+pub left_by : (old new : ReqSession) (t : Told) → IsStanding new t → IsLeft old new t
+left_by old new (told.Answer reply) stands = stands
+left_by old new told.Next stands = stands
+left_by old new told.Ended stands = stands
+left_by old new (told.Bad fault) stands = stands
+left_by old new (told.Stay fault) stands = absurd stands
 
 -- Some requester of a transfer size.
 abbrev some_setup : ℕ → ReqSetup

@@ -9,7 +9,10 @@ use Rattle.psk_session.specs.declared.ask_fault.AskFault.{AskFault}
 use Rattle.psk_session.specs.declared.req_open.ReqOpen.{ReqOpen}
 use Rattle.psk_session.specs.declared.waiting.Waiting.{Waiting}
 
--- A state of the session with the record that asks it, padded so; or the same state, with the fault of the ask.
-abbrev pub IsAsked : Seen → (psk : List ℕ) → Steps → Ask → (pad : List ℕ) → Result Waiting (ReqOpen × AskFault) → Type 0
-IsAsked old psk s a pad (Ok state) = (ask_fault s a ≡ None) × StandsFor state psk (asked psk s a pad) (asked_of a)
+-- A state of the session with the record that asks it, padded so; or the same state, with the fault
+-- of the ask.
+abbrev pub IsAsked : Seen → (psk : List ℕ) → Steps → Ask → (pad : List ℕ)
+    → Result Waiting (ReqOpen × AskFault) → Type 0
+IsAsked old psk s a pad (Ok state) =
+    (ask_fault s a ≡ None) × StandsFor state psk (asked psk s a pad) (asked_of a)
 IsAsked old psk s a pad (Err refused) = (ask_fault s a ≡ Some refused.1) × (refused.0 ≡ old)

@@ -20,7 +20,8 @@ use Rattle.spdm_grammar.specs.declared.event.Finished.TheVariants as finished
 use Rattle.psk_session.specs.declared.reply.Reply.{Reply}
 use Rattle.psk_session.specs.declared.reply.Reply.TheVariants as reply
 
--- The session is lost; it is ended; what was asked is answered; or a further record is sent, which asks this by this inner message.
+-- The session is lost; it is ended; what was asked is answered; or a further record is sent, which
+-- asks this by this inner message.
 pub data Course : Type 0 where
   Lost : (fault : BadReply) → Course
   Ended : Course
@@ -38,21 +39,28 @@ event_of id (reply.Refused code) = event.Refused code
 -- What a requester is led to by it.
 abbrev pub led_of : ReqSetup → History → Free → Came → Course → Result Led BadReply
 led_of q h f came (Lost fault) = Err fault
-led_of q h f came Ended = Ok (is_done (finished.Ended (session_id came.steps)) (Grants AskEnd (message_in came)))
-led_of q h f came (Answered reply effect) = Ok (record { event = event_of (session_id came.steps) reply; effect = effect; next = None })
-led_of q h f came (GoesOn effect ask inner) = Ok (goes_on effect (record_sent q h came.id (with_record came effect) ask inner f.pad))
+led_of q h f came Ended =
+    Ok (is_done (finished.Ended (session_id came.steps)) (Grants AskEnd (message_in came)))
+led_of q h f came (Answered reply effect) =
+    Ok (record { event = event_of (session_id came.steps) reply; effect = effect; next = None })
+led_of q h f came (GoesOn effect ask inner) =
+    Ok (goes_on effect (record_sent q h came.id (with_record came effect) ask inner f.pad))
 
 -- A record as it came to the session of these steps, which asked this.
 abbrev pub came_to : (psk : List ℕ) → (id : ℕ) → Steps → Ask → (sealed : List ℕ) → Came
-came_to psk id s a sealed = record { id = id; steps = s; sealed = sealed; inner = answer_inner psk s a sealed }
+came_to psk id s a sealed =
+    record { id = id; steps = s; sealed = sealed; inner = answer_inner psk s a sealed }
 
--- The record opens, and takes this course by the definitions of each requester whose sizes are those of the session's terms.
+-- The record opens, and takes this course by the definitions of each requester whose sizes are
+-- those of the session's terms.
 abbrev pub TakesCourse : (psk : List ℕ) → Steps → Ask → (sealed : List ℕ) → Course → Type 0
 TakesCourse psk s a sealed course =
     (answer_fault psk s a sealed ≡ None)
     × ((q : ReqSetup) (h : History) (f : Free) (id : ℕ)
-    → q.transfer ≡ (session_terms s).common.to_requester.transfer → q.max ≡ (session_terms s).common.to_requester.max
-    → inner_led q h f (came_to psk id s a sealed) a ≡ led_of q h f (came_to psk id s a sealed) course)
+    → q.transfer ≡ (session_terms s).common.to_requester.transfer
+    → q.max ≡ (session_terms s).common.to_requester.max
+    → inner_led q h f (came_to psk id s a sealed) a
+    ≡ led_of q h f (came_to psk id s a sealed) course)
 
 -- The session with the record, which brought this about.
 abbrev pub with_taken : (psk : List ℕ) → Steps → Ask → (sealed : List ℕ) → Effect → Steps

@@ -1,4 +1,5 @@
--- What comes of a record while PSK_FINISH_RSP is awaited. The answers are those of the definitions of a requester.
+-- What comes of a record while PSK_FINISH_RSP is awaited. The answers are those of the definitions
+-- of a requester.
 use Rattle.std.specs.Prelude.{◌≡◌, ℕ, List, drop, Option, Some, None, Result, Ok, Err}
 use Rattle.requester_machine.specs.Answers.{is_done}
 use Rattle.requester_machine.specs.Commands.{Free}
@@ -34,23 +35,33 @@ finish_fault (Ok (AppData bytes)) = Some bad.WrongKind
 -- What a record leads to whose inner message is at fault or not: the session is open.
 abbrev pub finish_led : Came → Option BadReply → Result Led BadReply
 finish_led came (Some fault) = Err fault
-finish_led came None = Ok (is_done (finished.Opened (session_id came.steps)) (Grants AskFinish (message_in came)))
+finish_led came None =
+    Ok (is_done (finished.Opened (session_id came.steps)) (Grants AskFinish (message_in came)))
 
 -- ---- The record.
 
--- The record is taken with this verdict on its inner message, by each requester whose transfer size is that of the session's terms.
+-- The record is taken with this verdict on its inner message, by each requester whose transfer size
+-- is that of the session's terms.
 abbrev pub IsJudged : (psk : List ℕ) → Steps → (sealed : List ℕ) → Option BadReply → Type 0
 IsJudged psk s sealed verdict =
     (answer_fault psk s AskFinish sealed ≡ None)
-    × ((q : ReqSetup) (h : History) (f : Free) (id : ℕ) → q.transfer ≡ (session_terms s).common.to_requester.transfer
-    → inner_led q h f (came_to psk id s AskFinish sealed) AskFinish ≡ finish_led (came_to psk id s AskFinish sealed) verdict)
+    × ((q : ReqSetup) (h : History) (f : Free) (id : ℕ)
+    → q.transfer ≡ (session_terms s).common.to_requester.transfer
+    → inner_led q h f (came_to psk id s AskFinish sealed) AskFinish
+    ≡ finish_led (came_to psk id s AskFinish sealed) verdict)
 
 -- The session with PSK_FINISH_RSP.
 abbrev pub finished_by : (psk : List ℕ) → Steps → (sealed : List ℕ) → Steps
-finished_by psk s sealed = with_taken psk s AskFinish sealed (Grants AskFinish (drop 1 (answer_inner psk s AskFinish sealed)))
+finished_by psk s sealed =
+    with_taken psk s AskFinish sealed
+    (Grants AskFinish (drop 1 (answer_inner psk s AskFinish sealed)))
 
--- What came of a record: the session is open; it is lost; or the record did not open, with its fault, and the state is the same.
-abbrev pub IsFinishTook : finishing.Seen → (psk : List ℕ) → Steps → (sealed : List ℕ) → FinishTook → Type 0
-IsFinishTook old psk s sealed (took.Open state) = IsJudged psk s sealed None × open_state.StandsFor state psk (finished_by psk s sealed)
+-- What came of a record: the session is open; it is lost; or the record did not open, with its
+-- fault, and the state is the same.
+abbrev pub IsFinishTook : finishing.Seen → (psk : List ℕ) → Steps → (sealed : List ℕ) → FinishTook
+    → Type 0
+IsFinishTook old psk s sealed (took.Open state) =
+    IsJudged psk s sealed None × open_state.StandsFor state psk (finished_by psk s sealed)
 IsFinishTook old psk s sealed (took.Bad closed fault) = IsJudged psk s sealed (Some fault)
-IsFinishTook old psk s sealed (took.Stay state fault) = (answer_fault psk s AskFinish sealed ≡ Some fault) × (state ≡ old)
+IsFinishTook old psk s sealed (took.Stay state fault) =
+    (answer_fault psk s AskFinish sealed ≡ Some fault) × (state ≡ old)

@@ -1,5 +1,5 @@
 -- The contents of inner messages in the program, and what they are to what is awaited.
-use Rattle.std.specs.Prelude.{◌≡◌, Result, Ok, Err}
+use Rattle.std.specs.Prelude.{◌≡◌, ℕ, List, Result, Ok, Err}
 use Rattle.spdm_grammar.specs.Message.{response_message, chunk_message}
 use Rattle.spdm_grammar.specs.declared.event.BadReply.{BadReply}
 use Rattle.psk_session.specs.Inner.{Contents}
@@ -7,6 +7,8 @@ use Rattle.psk_session.specs.Inner.Contents.{Spoken, AppData}
 use Rattle.psk_session.specs.Verdict as verdicts
 use Rattle.psk_session.specs.declared.inner.Inner.{Inner}
 use Rattle.psk_session.specs.declared.inner.Inner.TheVariants.{Message, Data}
+use Rattle.psk_session.specs.declared.outcome.Outcome.{Outcome}
+use Rattle.psk_session.specs.declared.outcome.Outcome.TheVariants as outcome
 use Rattle.psk_session.specs.declared.verdict.Meaning.{Meaning}
 use Rattle.psk_session.specs.declared.verdict.Meaning.TheVariants as meaning
 use Rattle.psk_session.specs.declared.verdict.Verdict.{Verdict}
@@ -28,6 +30,14 @@ verdict_of Ended = verdicts.Verdict.Ended
 verdict_of (Answered reply bytes) = verdicts.Verdict.Answered reply bytes.now
 verdict_of (Updated all) = verdicts.Verdict.Updated all
 verdict_of (Large op handle) = verdicts.Verdict.Large op handle
+
+-- An outcome, whose application data or measurement record were put down as these bytes.
+abbrev pub verdict_with : Outcome → (bytes : List ℕ) → verdicts.Verdict
+verdict_with (outcome.Bad fault) bytes = verdicts.Verdict.Bad fault
+verdict_with outcome.Ended bytes = verdicts.Verdict.Ended
+verdict_with (outcome.Answered reply) bytes = verdicts.Verdict.Answered reply bytes
+verdict_with (outcome.Updated all) bytes = verdicts.Verdict.Updated all
+verdict_with (outcome.Large op handle) bytes = verdicts.Verdict.Large op handle
 
 abbrev pub seen_meaning : Meaning → verdicts.Meaning
 seen_meaning (meaning.Done verdict) = verdicts.Meaning.Done (verdict_of verdict)

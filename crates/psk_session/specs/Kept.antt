@@ -7,14 +7,18 @@ use Rattle.spdm_machine.specs.Sessions.{is_past_handshake}
 use Rattle.session_keys.specs.Keys.{IsKeyOf}
 use Rattle.psk_session.specs.declared.kept.Kept.{Kept}
 
--- It is kept of a session of these steps, past its handshake, with this pre-shared key. The key of responses is that of this epoch. The count of application messages is kept as far as it goes into 64 bits.
+-- It is kept of a session of these steps, past its handshake, with this pre-shared key. The key of
+-- responses is that of this epoch. The count of application messages is kept as far as it goes into
+-- 64 bits.
 pub record Keeps (kept : Kept) (psk : List ℕ) (s : Steps) (epoch : ℕ) : Type 0 where
   pub past : is_past_handshake (stage_of s) ≡ true
   pub choice : kept.terms.choice ≡ (session_terms s).choice
   pub common : kept.terms.common ≡ (session_terms s).common
   pub id : kept.id ≡ session_id s
-  pub request : IsKeyOf kept.request (session_terms s).choice (application_record psk (t2_of s) Request (request_epoch s))
-  pub response : IsKeyOf kept.response (session_terms s).choice (application_record psk (t2_of s) Response epoch)
+  pub request : IsKeyOf kept.request (session_terms s).choice
+      (application_record psk (t2_of s) Request (request_epoch s))
+  pub response : IsKeyOf kept.response (session_terms s).choice
+      (application_record psk (t2_of s) Response epoch)
   pub request_next : kept.request_next ≡ request_next s
   pub response_next : kept.response_next ≡ response_next s
   pub taken : taken_of s < 2 ^ 64 → kept.taken ≡ taken_of s

@@ -16,3 +16,6 @@ pub mod Took
 pub mod Finished
 pub mod Answers
 pub mod TookLaws
+pub mod ReqSession
+pub mod Stepped
+pub mod Collected

@@ -1,5 +1,6 @@
--- A session at the requester while PSK_EXCHANGE_RSP is awaited (DSP0274, "PSK_EXCHANGE", "PSK_EXCHANGE_RSP"), and the session that the answer makes of it.
-use Rattle.std.specs.Prelude.{◌≡◌, ℕ, List, [], ◌∷◌, ◌++◌, ◌==◌, not, slice_index, if◌then◌else◌, Bool, Option, Some, None, Result, Ok, Err, bytes_eq}
+-- A session at the requester while PSK_EXCHANGE_RSP is awaited (DSP0274, "PSK_EXCHANGE",
+-- "PSK_EXCHANGE_RSP"), and the session that the answer makes of it.
+use Rattle.std.specs.Prelude.{◌≡◌, ℕ, List, [], ◌∷◌, ◌++◌, if◌then◌else◌, Option, Some, None, Result, Ok, Err, bytes_eq}
 use Rattle.spdm_grammar.specs.Message.{ResponseMessage}
 use Rattle.spdm_grammar.specs.Message.ResponseMessage.{PskExchangeRsp}
 use Rattle.spdm_grammar.specs.Message.RequestMessage.{PskFinish}
@@ -41,29 +42,39 @@ finish_record psk s pad = sealed_next psk s (finish_inner psk s) pad
 -- PSK_FINISH was sent.
 abbrev pub finishing : (psk : List ℕ) → Negotiation → (exchange answer pad : List ℕ) → Steps
 finishing psk n exchange answer pad =
-    Asked AskFinish (finish_inner psk (accepted n exchange answer)) (finish_record psk (accepted n exchange answer) pad) ∷ accepted n exchange answer
+    Asked AskFinish (finish_inner psk (accepted n exchange answer))
+    (finish_record psk (accepted n exchange answer) pad) ∷ accepted n exchange answer
 
 -- ---- The state of the program.
 
--- The state as contracts see it: the running hash of the transcript so far, the pre-shared key and the terms.
+-- The state as contracts see it: the running hash of the transcript so far, the pre-shared key and
+-- the terms.
 pub record Seen : Type 0 where
   pub lane : Lane
   pub psk : List ℕ
   pub terms : SessionTerms
 
--- The state stands for the session that this PSK_EXCHANGE began under this negotiation, with this pre-shared key.
-pub record StandsFor (seen : Seen) (psk : List ℕ) (n : Negotiation) (exchange : List ℕ) : Type 0 where
+-- The state stands for the session that this PSK_EXCHANGE began under this negotiation, with this
+-- pre-shared key.
+pub record StandsFor (seen : Seen) (psk : List ℕ) (n : Negotiation)
+    (exchange : List ℕ) : Type 0 where
   pub terms : AreTermsOf seen.terms n exchange
   pub key : seen.psk ≡ psk
   pub pushed : lane.StandsFor seen.lane (vca_of n ++ exchange)
 
 -- ---- The answer.
 
--- Why a message is no answer: it is no PSK_EXCHANGE_RSP, or its verify data are not the computed ones.
-abbrev pub fault_by : (psk : List ℕ) → Negotiation → (exchange answer : List ℕ) → Result ResponseMessage Malformed → Option OpenFault
+-- Why a message is no answer: it is no PSK_EXCHANGE_RSP, or its verify data are not the computed
+-- ones.
+abbrev pub fault_by : (psk : List ℕ) → Negotiation → (exchange answer : List ℕ)
+    → Result ResponseMessage Malformed → Option OpenFault
 fault_by psk n exchange answer (Err at) = Some (fault.Malformed at.at)
-fault_by psk n exchange answer (Ok (PskExchangeRsp rsp)) = if bytes_eq rsp.verify (answer_verify psk (accepted n exchange answer)) then None else Some fault.BadVerify
+fault_by psk n exchange answer (Ok (PskExchangeRsp rsp)) =
+    if bytes_eq rsp.verify (answer_verify psk (accepted n exchange answer)) then None
+    else Some fault.BadVerify
 fault_by psk n exchange answer (Ok _) = Some (fault.Malformed 1)
 
 abbrev pub open_fault : (psk : List ℕ) → Negotiation → (exchange answer : List ℕ) → Option OpenFault
-open_fault psk n exchange answer = fault_by psk n exchange answer (response_reading (hash_len (terms_of n)) (asks_summary exchange) answer)
+open_fault psk n exchange answer =
+    fault_by psk n exchange answer
+    (response_reading (hash_len (terms_of n)) (asks_summary exchange) answer)

@@ -22,6 +22,7 @@ use Rattle.spdm_grammar.specs.declared.event.BadReply.{BadReply}
 use Rattle.spdm_grammar.specs.declared.event.BadReply.TheVariants as bad
 use Rattle.spdm_grammar.specs.declared.malformed.Malformed.{Malformed}
 use Rattle.spdm_grammar.specs.declared.names.error_number.TheConstants.{LARGE_RESPONSE}
+use Rattle.spdm_grammar.specs.declared.names.key_operation.TheConstants.{VERIFY_NEW_KEY}
 use Rattle.spdm_grammar.specs.declared.part_faults.ChunkFault.TheVariants as chunk
 use Rattle.spdm_grammar.specs.declared.phase.Stage.TheVariants as stage
 use Rattle.psk_session.specs.Course.{Course, with_taken}
@@ -32,7 +33,9 @@ use Rattle.psk_session.specs.Inner.Contents.{Spoken, AppData}
 use Rattle.psk_session.specs.declared.reply.Reply.{Reply}
 use Rattle.psk_session.specs.declared.reply.Reply.TheVariants as reply
 
--- It is no answer; END_SESSION_ACK; the answer, with its application data or measurement record; KEY_UPDATE_ACK to an update; or LargeResponse, with the operation and the handle of the large answer.
+-- It is no answer; END_SESSION_ACK; the answer, with its application data or measurement record;
+-- KEY_UPDATE_ACK to an update; or LargeResponse, with the operation and the handle of the large
+-- answer.
 pub data Verdict : Type 0 where
   Bad : (fault : BadReply) → Verdict
   Ended : Verdict
@@ -51,7 +54,9 @@ wrong_kind = Bad bad.WrongKind
 -- ---- By what is asked, where chunks are in common or not, and under this tag of KEY_UPDATE.
 
 abbrev pub error_verdict : (chunks : Bool) → Ask → (code : ℕ) → (extended : List ℕ) → Verdict
-error_verdict chunks (AskMeasure op) code extended = if code == LARGE_RESPONSE && chunks then Large op (slice_index extended 0) else Answered (reply.Refused code) []
+error_verdict chunks (AskMeasure op) code extended =
+    if code == LARGE_RESPONSE && chunks then Large op (slice_index extended 0)
+    else Answered (reply.Refused code) []
 error_verdict chunks (AskUpdate all) code extended = Bad (bad.Refused code)
 error_verdict chunks AskVerify code extended = Bad (bad.Refused code)
 error_verdict chunks AskEnd code extended = Bad (bad.Refused code)
@@ -59,8 +64,10 @@ error_verdict chunks AskFinish code extended = Bad (bad.Refused code)
 error_verdict chunks _ code extended = Answered (reply.Refused code) []
 
 abbrev pub ack_verdict : (tag : ℕ) → Ask → (op told : ℕ) → Verdict
-ack_verdict tag (AskUpdate all) op told = if op == operation_of all && told == tag then Updated all else wrong_kind
-ack_verdict tag AskVerify op told = if op == 3 && told == tag then Answered reply.Updated [] else wrong_kind
+ack_verdict tag (AskUpdate all) op told =
+    if op == operation_of all && told == tag then Updated all else wrong_kind
+ack_verdict tag AskVerify op told =
+    if op == VERIFY_NEW_KEY && told == tag then Answered reply.Updated [] else wrong_kind
 ack_verdict tag _ op told = wrong_kind
 
 abbrev pub beat_verdict : Ask → Verdict
@@ -76,7 +83,8 @@ data_verdict AskData bytes = Answered reply.Data bytes
 data_verdict _ bytes = wrong_kind
 
 abbrev pub measured_by : (op : ℕ) → MeasuredMessage → Verdict
-measured_by op measured = Answered (reply.Measured (measured_number op measured)) measured.block_bytes
+measured_by op measured =
+    Answered (reply.Measured (measured_number op measured)) measured.block_bytes
 
 abbrev pub measured_verdict : Ask → MeasuredMessage → Verdict
 measured_verdict (AskMeasure op) measured = measured_by op measured
@@ -90,7 +98,8 @@ chunk_meaning (AskChunk op handle number before) c =
 chunk_meaning _ c = Done wrong_kind
 
 abbrev pub message_meaning : (chunks : Bool) → (tag : ℕ) → Ask → ResponseMessage → Meaning
-message_meaning chunks tag a (Error version code detail extended) = Done (error_verdict chunks a code extended)
+message_meaning chunks tag a (Error version code detail extended) =
+    Done (error_verdict chunks a code extended)
 message_meaning chunks tag a HeartbeatAck = Done (beat_verdict a)
 message_meaning chunks tag a (KeyUpdateAck op told) = Done (ack_verdict tag a op told)
 message_meaning chunks tag a (Measurements measured) = Done (measured_verdict a measured)
@@ -103,10 +112,13 @@ meaning_of chunks tag a (Err fault) = Done (Bad fault)
 meaning_of chunks tag a (Ok (AppData bytes)) = Done (data_verdict a bytes)
 meaning_of chunks tag a (Ok (Spoken message)) = message_meaning chunks tag a message
 
--- A whole large answer to an operation, by what it reads as. A LargeResponse in it is followed unless the numbers are reached from which on GET_MEASUREMENTS is not asked.
+-- A whole large answer to an operation, by what it reads as. A LargeResponse in it is followed
+-- unless the numbers are reached from which on GET_MEASUREMENTS is not asked.
 abbrev pub whole_verdict : (reached : Bool) → (op : ℕ) → Result ResponseMessage Malformed → Verdict
 whole_verdict reached op (Err fault) = Bad (bad.Malformed fault.at)
-whole_verdict reached op (Ok (Error version code detail extended)) = if code == LARGE_RESPONSE && not reached then Large op (slice_index extended 0) else Answered (reply.Refused code) []
+whole_verdict reached op (Ok (Error version code detail extended)) =
+    if code == LARGE_RESPONSE && not reached then Large op (slice_index extended 0)
+    else Answered (reply.Refused code) []
 whole_verdict reached op (Ok (Measurements measured)) = measured_by op measured
 whole_verdict reached op (Ok _) = wrong_kind
 
@@ -123,24 +135,36 @@ effect_of answer op (reply.Refused code) = Nothing
 abbrev pub course_of : (psk : List ℕ) → Steps → Ask → (sealed answer : List ℕ) → Verdict → Course
 course_of psk s a sealed answer (Bad fault) = courses.Course.Lost fault
 course_of psk s a sealed answer Ended = courses.Course.Ended
-course_of psk s a sealed answer (Answered reply bytes) = courses.Course.Answered reply (effect_of answer (op_in a) reply)
+course_of psk s a sealed answer (Answered reply bytes) =
+    courses.Course.Answered reply (effect_of answer (op_in a) reply)
 course_of psk s a sealed answer (Updated all) =
-    courses.Course.GoesOn (Grants (AskUpdate all) answer) AskVerify (inner_request (key_update (with_taken psk s a sealed (Grants (AskUpdate all) answer)) 3))
-course_of psk s a sealed answer (Large op handle) = courses.Course.GoesOn Nothing (AskChunk op handle 0 []) (inner_request (ChunkGet handle 0))
+    courses.Course.GoesOn (Grants (AskUpdate all) answer) AskVerify
+    (inner_request (key_update (with_taken psk s a sealed (Grants (AskUpdate all) answer)) VERIFY_NEW_KEY))
+course_of psk s a sealed answer (Large op handle) =
+    courses.Course.GoesOn Nothing (AskChunk op handle 0 []) (inner_request (ChunkGet handle 0))
 
--- What a chunk leads to, by what a collector says of it that was given the chunks before: it is refused; the next one is asked for; or the large answer is whole.
-abbrev pub chunk_course : (psk : List ℕ) → Steps → (op handle number : ℕ) → (before : List ChunkMessage) → (sealed : List ℕ) → ChunkMessage → Collection → Course
-chunk_course psk s op handle number before sealed c (Refused fault) = courses.Course.Lost (bad.Chunk fault)
+-- What a chunk leads to, by what a collector says of it that was given the chunks before: it is
+-- refused; the next one is asked for; or the large answer is whole.
+abbrev pub chunk_course : (psk : List ℕ) → Steps → (op handle number : ℕ)
+    → (before : List ChunkMessage) → (sealed : List ℕ) → ChunkMessage → Collection → Course
+chunk_course psk s op handle number before sealed c (Refused fault) =
+    courses.Course.Lost (bad.Chunk fault)
 chunk_course psk s op handle number before sealed c More =
-    courses.Course.GoesOn Nothing (AskChunk op c.handle (c.number + 1) (c ∷ before)) (inner_request (ChunkGet c.handle (c.number + 1)))
+    courses.Course.GoesOn Nothing (AskChunk op c.handle (c.number + 1) (c
+    ∷ before)) (inner_request (ChunkGet c.handle (c.number + 1)))
 chunk_course psk s op handle number before sealed c (Whole answer) =
-    course_of psk s (AskChunk op handle number before) sealed answer (whole_verdict (has_reached 65300 s) op (response_reading (hash_len (session_terms s)) false answer))
+    course_of psk s (AskChunk op handle number before) sealed answer
+    (whole_verdict (has_reached 65300 s) op
+    (response_reading (hash_len (session_terms s)) false answer))
 
 -- The verdict goes with what is asked of a session of these steps.
 abbrev pub Fits : Steps → Ask → (answer : List ℕ) → Verdict → Type 0
 Fits s a answer (Bad fault) = ⊤
 Fits s a answer Ended = ⊤
 Fits s a answer (Answered reply bytes) =
-    (may_bring (effect_of answer (op_in a) reply) a ≡ true) × (asks_all a ≡ false) × (data_in (effect_of answer (op_in a) reply) ≡ bytes) × (length bytes ≤ 4160)
+    (may_bring (effect_of answer (op_in a) reply) a ≡ true) × (asks_all a ≡ false)
+    × (data_in (effect_of answer (op_in a) reply) ≡ bytes) × (length bytes ≤ 4160)
 Fits s a answer (Updated all) = a ≡ AskUpdate all
-Fits s a answer (Large op handle) = (asks_all a ≡ false) × (stage_for a ≡ stage.Open) × (request_next s ≤ 65300) × (response_next s ≤ 65299)
+Fits s a answer (Large op handle) =
+    (asks_all a ≡ false) × (stage_for a ≡ stage.Open) × (request_next s ≤ 65300)
+    × (response_next s ≤ 65299)

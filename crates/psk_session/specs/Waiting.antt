@@ -1,5 +1,5 @@
 -- A session at the requester that awaits an answer.
-use Rattle.std.specs.Prelude.{◌≡◌, ◌+◌, ℕ, List, [], ◌∷◌, if◌then◌else◌}
+use Rattle.std.specs.Prelude.{⊤, ◌≡◌, ◌+◌, ℕ, List, [], ◌∷◌, if◌then◌else◌}
 use Rattle.chunking.specs.Keeping as keeping
 use Rattle.requester_machine.specs.SpentLaws.{FewFor}
 use Rattle.requester_machine.specs.Message.{Ask}
@@ -15,7 +15,8 @@ use Rattle.psk_session.specs.declared.ask.Awaited.{Awaited}
 use Rattle.psk_session.specs.declared.ask.Awaited.TheVariants as awaited
 use Rattle.psk_session.specs.declared.kept.Kept.{Kept}
 
--- The state as contracts see it: what is kept of the session, what is awaited, what was gathered of a large answer, and the record that was sent.
+-- The state as contracts see it: what is kept of the session, what is awaited, what was gathered of
+-- a large answer, and the record that was sent.
 pub record Seen : Type 0 where
   pub kept : Kept
   pub awaited : Awaited
@@ -39,13 +40,20 @@ abbrev pub IsBehind : (max : ℕ) → Awaited → (before : List ChunkMessage) �
 IsBehind max (awaited.Chunk op handle number) before = AreUnderWay max handle number before
 IsBehind max _ before = before ≡ []
 
--- This is what is awaited: the chunks before it are what was gathered, in messages of up to this length.
+-- While a chunk is awaited, the chunks before it are what was gathered, in messages of up to this
+-- length.
+abbrev pub IsGathered : (max : ℕ) → Awaited → (collector : keeping.Kept)
+    → (before : List ChunkMessage) → Type 0
+IsGathered max (awaited.Chunk op handle number) collector before =
+    keeping.StandsFor collector before × (collector.max ≡ max)
+IsGathered max _ collector before = ⊤
+
+-- This is what is awaited, in messages of up to this length.
 pub record Awaits (awaited : Awaited) (collector : keeping.Kept) (most : ℕ) (a : Ask) : Type 0 where
   pub before : List ChunkMessage
   pub is : a ≡ awaited_by awaited before
   pub behind : IsBehind most awaited before
-  pub gathered : keeping.StandsFor collector before
-  pub max : collector.max ≡ most
+  pub gathered : IsGathered most awaited collector before
 
 -- ---- The state.
 
@@ -59,7 +67,8 @@ IsNewest ask sealed (_ ∷ older) = ⊥
 abbrev pub awaited_epoch : Steps → Ask → ℕ
 awaited_epoch s a = if asks_all a then response_epoch s + 1 else response_epoch s
 
--- The state stands for a session of these steps, with this pre-shared key, whose newest record asks this. Its next numbers are few enough for what that may lead to.
+-- The state stands for a session of these steps, with this pre-shared key, whose newest record asks
+-- this. Its next numbers are few enough for what that may lead to.
 pub record StandsFor (seen : Seen) (psk : List ℕ) (s : Steps) (a : Ask) : Type 0 where
   pub stage : stage_of s ≡ stage_for a
   pub keeps : Keeps seen.kept psk s (awaited_epoch s a)

@@ -1,19 +1,19 @@
+use crate::Reply;
 use crate::ask::Awaited;
-use crate::kept::Kept;
-use crate::requests::{VERIFY_NEW_KEY, write_inner_request};
-use crate::verdict::{Verdict, whole_verdict};
-use crate::{Closed, Reply, ReqOpen, Took, Waiting};
-use chunking::{Collected, Collector};
-use spdm_basis::RecordFrame;
-use spdm_grammar::{BadReply, ChunkView, Request};
-
-// The number of either direction from which on GET_MEASUREMENTS is not asked.
-const MOST_MEASURED: u32 = 65_300;
+use crate::outcome::Outcome;
+use crate::req_session::ReqSession;
+use crate::requests::write_inner_request;
+use crate::standing::Standing;
+use crate::told::Told;
+use chunking::Collector;
+use spdm_grammar::Request;
+use spdm_grammar::names::key_operation::VERIFY_NEW_KEY;
 
 // What is done about a record that opened.
-impl Kept {
-    ghost use Rattle.std.specs.Prelude.{◌≡◌, ◌≤◌, ◌<◌, ◌+◌, ◌-◌, ◌^◌, ◌∷◌, ◌==◌, [], ℕ, List, Some, true, length};
-    ghost use Rattle.chunking.specs.Collecting.{collected};
+impl ReqSession {
+    ghost use Rattle.std.specs.Prelude.{◌≡◌, ◌≤◌, ◌<◌, ◌+◌, ◌-◌, ◌^◌, ◌==◌, [], ℕ, List, Some, true, length};
+    ghost use Rattle.chunking.specs.Collecting.{accepted_with, collected};
+    ghost use Rattle.chunking.specs.Collecting.Collection.{More};
     ghost use Rattle.chunking.specs.Keeping as keeping;
     ghost use Rattle.requester_machine.specs.SpentLaws.{FewFor};
     ghost use Rattle.requester_machine.specs.Message as message;
@@ -22,138 +22,141 @@ impl Kept {
     ghost use Rattle.requester_machine.specs.Sending.{inner_request, key_update};
     ghost use Rattle.requester_machine.specs.Session.{Steps, request_next, response_next, response_epoch, session_terms, stage_of};
     ghost use Rattle.requester_machine.specs.UnderWay.{AreUnderWay};
-    ghost use Rattle.spdm_grammar.specs.Message.{ChunkMessage, chunk_message};
+    ghost use Rattle.spdm_grammar.specs.Message.{ChunkMessage};
     ghost use Rattle.spdm_grammar.specs.Message.RequestMessage.{ChunkGet};
+    ghost use Rattle.spdm_grammar.specs.declared.names.key_operation.TheConstants.{VERIFY_NEW_KEY};
     ghost use Rattle.spdm_grammar.specs.declared.phase.Stage.TheVariants as stages;
     ghost use Rattle.psk_session.specs.Course.{with_asked, with_taken};
     ghost use Rattle.psk_session.specs.Data.{data_in};
-    ghost use Rattle.psk_session.specs.Held.{verdict_of};
+    ghost use Rattle.psk_session.specs.Held.{verdict_with};
     ghost use Rattle.psk_session.specs.Kept.{Keeps};
-    ghost use Rattle.psk_session.specs.ReqOpen as open_state;
-    ghost use Rattle.psk_session.specs.Took.{Follows};
+    ghost use Rattle.psk_session.specs.ReqSession.{IsAwaiting, IsOpen, is_awaiting, is_open};
+    ghost use Rattle.psk_session.specs.Stepped.{Follows, IsStanding};
     ghost use Rattle.psk_session.specs.Verdict.{Fits, chunk_course, course_of, effect_of};
-    ghost use Rattle.psk_session.specs.Waiting as waiting;
     ghost use Rattle.psk_session.specs.Waiting.{awaited_epoch};
 
-    // A collector of large answers that was given no chunk.
-    pub fn collector(&self) -> Collector
-        ensures max { result.max ≡ self.now.terms.common.to_requester.max }
-        ensures stands { keeping.StandsFor result [] }
-    {
-        Collector::new(self.terms.common.to_requester.max)
-    }
-
-    // The open session with a reply, which brought these bytes.
-    fn answered(self, reply: Reply, bytes: &[u8]) -> ReqOpen
-        ensures { (psk : List ℕ) (s : Steps) (a : message.Ask) (sealed answer : List ℕ) (op : ℕ)
-            → Keeps self psk s (response_epoch s)
+    // Opens the session with a reply, whose data or measurement record were put down.
+    fn answered(&mut self, reply: Reply)
+        ensures opened { (psk : List ℕ) (s : Steps) (a : message.Ask) (sealed answer : List ℕ)
+            (op : ℕ) → Keeps self.old.kept psk s (response_epoch s)
             → request_next s ≤ 65535 → response_next s ≤ 65534
             → stage_of (with_taken psk s a sealed (effect_of answer op reply)) ≡ stages.Open
-            → data_in (effect_of answer op reply) ≡ bytes.now → length bytes.now ≤ 4160
-            → open_state.StandsFor result psk
-            (with_taken psk s a sealed (effect_of answer op reply)) }
+            → data_in (effect_of answer op reply) ≡ self.old.brought
+            → IsOpen self.new psk (with_taken psk s a sealed (effect_of answer op reply)) }
+        ensures standing { is_open self.new.standing ≡ true }
     {
-        let mut brought = RecordFrame::new();
-        let _ = brought.extend(bytes);
-        ReqOpen {
-            kept: self.took(reply.is_data()),
-            brought,
-        }
+        self.kept.count(reply.is_data());
+        self.standing = Standing::Open;
     }
 
-    // VerifyNewKey, which follows the answer to an update.
-    fn verify(self, pad: &[u8]) -> Waiting
+    // Asks by VerifyNewKey, which follows the answer to an update.
+    fn verify(&mut self, pad: &[u8])
         requires { length pad.now ≤ 16 }
-        ensures { (psk : List ℕ) (s : Steps) → Keeps self psk s (response_epoch s)
+        ensures asked { (psk : List ℕ) (s : Steps) → Keeps self.old.kept psk s (response_epoch s)
             → stage_of s ≡ stages.Verifying → request_next s ≤ 65535
             → FewFor AskVerify (request_next s + 1) (response_next s)
-            → waiting.StandsFor result psk
-            (with_asked psk s AskVerify (inner_request (key_update s 3)) pad.now) AskVerify }
+            → IsAwaiting self.new psk
+            (with_asked psk s AskVerify (inner_request (key_update s VERIFY_NEW_KEY)) pad.now)
+            AskVerify }
+        ensures standing { is_awaiting self.new.standing ≡ true }
     {
-        let mut inner = RecordFrame::new();
         let request = Request::KeyUpdate {
             op: VERIFY_NEW_KEY,
-            tag: self.update_tag(),
+            tag: self.kept.update_tag(),
         };
-        write_inner_request(&request, &mut inner);
-        let gathered = self.collector();
-        self.send(Awaited::Verify, gathered, inner.as_slice(), pad)
+        write_inner_request(&request, &mut self.brought);
+        self.send(Awaited::Verify, pad);
     }
 
-    // CHUNK_GET for the chunk of this number of the large answer to an operation, behind what was gathered.
-    fn fetch(self, op: u8, handle: u8, number: u16, gathered: Collector, pad: &[u8]) -> Waiting
+    // Makes ready for a large answer, of which no chunk was given.
+    fn begin(&mut self)
+        ensures max { self.new.gathered.max ≡ self.old.kept.terms.common.to_requester.max }
+        ensures stands { keeping.StandsFor self.new.gathered [] }
+        ensures same { self.new ≡ record self.old { gathered = self.new.gathered } }
+    {
+        self.gathered = Collector::new(self.kept.terms.common.to_requester.max);
+    }
+
+    // Asks for the chunk of this number of the large answer to an operation, behind what was
+    // gathered.
+    fn fetch(&mut self, op: u8, handle: u8, number: u16, pad: &[u8])
         requires { length pad.now ≤ 16 }
-        ensures { (psk : List ℕ) (s : Steps) (before : List ChunkMessage)
-            → Keeps self psk s (response_epoch s) → stage_of s ≡ stages.Open
+        ensures asked { (psk : List ℕ) (s : Steps) (before : List ChunkMessage)
+            → Keeps self.old.kept psk s (response_epoch s) → stage_of s ≡ stages.Open
             → request_next s ≤ 65535
             → FewFor (AskChunk op handle number before) (request_next s + 1) (response_next s)
             → AreUnderWay (session_terms s).common.to_requester.max handle number before
-            → keeping.StandsFor gathered before
-            → gathered.max ≡ (session_terms s).common.to_requester.max
-            → waiting.StandsFor result psk
-            (with_asked psk s (AskChunk op handle number before)
-            (inner_request (ChunkGet handle number)) pad.now)
-            (AskChunk op handle number before) }
+            → keeping.StandsFor self.old.gathered before
+            → self.old.gathered.max ≡ (session_terms s).common.to_requester.max
+            → IsAwaiting self.new psk (with_asked psk s (AskChunk op handle number before)
+            (inner_request (ChunkGet handle number)) pad.now) (AskChunk op handle number before) }
+        ensures standing { is_awaiting self.new.standing ≡ true }
     {
-        let mut inner = RecordFrame::new();
-        write_inner_request(&Request::ChunkGet { handle, number }, &mut inner);
-        let awaited = Awaited::Chunk { op, handle, number };
-        self.send(awaited, gathered, inner.as_slice(), pad)
+        write_inner_request(&Request::ChunkGet { handle, number }, &mut self.brought);
+        self.send(Awaited::Chunk { op, handle, number }, pad);
     }
 
-    // What a verdict leads to.
-    pub fn led(self, verdict: Verdict<'_>, pad: &[u8]) -> Took
-        requires epoch { self.request.epoch < 2 ^ 64 - 1 }
+    // What an outcome leads to.
+    pub(crate) fn led(&mut self, outcome: Outcome, pad: &[u8]) -> Told
+        requires epoch { self.old.kept.request.epoch < 2 ^ 64 - 1 }
         requires pad { length pad.now ≤ 16 }
-        ensures { (psk : List ℕ) (s : Steps) (a : message.Ask) (sealed answer : List ℕ)
-            → Keeps self psk s (awaited_epoch s a) → stage_of s ≡ stage_for a
+        ensures follows { (psk : List ℕ) (s : Steps) (a : message.Ask) (sealed answer : List ℕ)
+            → Keeps self.old.kept psk s (awaited_epoch s a) → stage_of s ≡ stage_for a
             → waiting_ask s ≡ Some a → FewFor a (request_next s) (response_next s)
-            → Fits s a answer (verdict_of verdict.entry)
-            → Follows psk s a sealed pad.now result
-            (course_of psk s a sealed answer (verdict_of verdict.entry)) }
+            → Fits s a answer (verdict_with outcome self.old.brought)
+            → Follows psk s a sealed pad.now self.new result
+            (course_of psk s a sealed answer (verdict_with outcome self.old.brought)) }
+        ensures standing { IsStanding self.new result }
     {
-        match verdict {
-            Verdict::Bad(fault) => Took::Bad(Closed, fault),
-            Verdict::Ended => Took::Ended(Closed),
-            Verdict::Answered(reply, bytes) => Took::Answer(self.answered(reply, bytes), reply),
-            Verdict::Updated { all } => Took::Next(self.updated(all).verify(pad)),
-            Verdict::Large { op, handle } => {
-                let gathered = self.collector();
-                Took::Next(self.took(false).fetch(op, handle, 0, gathered, pad))
+        match outcome {
+            Outcome::Bad(fault) => {
+                self.standing = Standing::Closed;
+                Told::Bad(fault)
+            }
+            Outcome::Ended => {
+                self.standing = Standing::Closed;
+                Told::Ended
+            }
+            Outcome::Answered(reply) => {
+                self.answered(reply);
+                Told::Answer(reply)
+            }
+            Outcome::Updated { all } => {
+                self.kept.update(all);
+                self.verify(pad);
+                Told::Next
+            }
+            Outcome::Large { op, handle } => {
+                self.kept.count(false);
+                self.begin();
+                self.fetch(op, handle, 0, pad);
+                Told::Next
             }
         }
     }
 
-    // What the chunk of a large answer leads to that is awaited behind what was gathered.
-    pub fn gather(self, mut gathered: Collector, op: u8, chunk: ChunkView<'_>, pad: &[u8]) -> Took
-        requires epoch { self.request.epoch < 2 ^ 64 - 1 }
-        requires pad { length pad.now ≤ 16 }
-        ensures { (psk : List ℕ) (s : Steps) (sealed : List ℕ) (handle number : ℕ)
-            (before : List ChunkMessage)
-            → Keeps self psk s (response_epoch s) → stage_of s ≡ stages.Open
-            → waiting_ask s ≡ Some (AskChunk op handle number before)
-            → FewFor (AskChunk op handle number before) (request_next s) (response_next s)
-            → AreUnderWay (session_terms s).common.to_requester.max handle number before
-            → keeping.StandsFor gathered before
-            → gathered.max ≡ (session_terms s).common.to_requester.max
-            → (chunk.entry.handle == handle) ≡ true → (chunk.entry.number == number) ≡ true
-            → Follows psk s (AskChunk op handle number before) sealed pad.now result
-            (chunk_course psk s op handle number before sealed (chunk_message chunk.entry)
-            (collected (session_terms s).common.to_requester.max before
-            (chunk_message chunk.entry))) }
+    // Asks for the next chunk of a large answer to an operation, behind the one that has this
+    // number.
+    pub(crate) fn go_on(&mut self, op: u8, handle: u8, number: u16, pad: &[u8]) -> Told
+        requires { length pad.now ≤ 16 }
+        ensures follows { (psk : List ℕ) (s : Steps) (sealed : List ℕ) (at_handle at_number : ℕ)
+            (before : List ChunkMessage) (c : ChunkMessage)
+            → handle ≡ c.handle → number ≡ c.number
+            → Keeps self.old.kept psk s (response_epoch s) → stage_of s ≡ stages.Open
+            → waiting_ask s ≡ Some (AskChunk op at_handle at_number before)
+            → FewFor (AskChunk op at_handle at_number before) (request_next s) (response_next s)
+            → AreUnderWay (session_terms s).common.to_requester.max at_handle at_number before
+            → keeping.StandsFor self.old.gathered
+            (accepted_with (session_terms s).common.to_requester.max before c)
+            → self.old.gathered.max ≡ (session_terms s).common.to_requester.max
+            → (c.handle == at_handle) ≡ true → (c.number == at_number) ≡ true
+            → More ≡ collected (session_terms s).common.to_requester.max before c
+            → Follows psk s (AskChunk op at_handle at_number before) sealed pad.now self.new result
+            (chunk_course psk s op at_handle at_number before sealed c More) }
+        ensures standing { IsStanding self.new result }
     {
-        match gathered.take(chunk) {
-            Collected::Refused(fault) => Took::Bad(Closed, BadReply::Chunk(fault)),
-            Collected::More => {
-                let number = chunk.number.saturating_add(1);
-                let next = self.took(false);
-                Took::Next(next.fetch(op, chunk.handle, number, gathered, pad))
-            }
-            Collected::Whole(whole) => {
-                let reached = self.has_reached(MOST_MEASURED);
-                let hash_len = self.terms.choice.hash.size();
-                self.led(whole_verdict(whole, hash_len, reached, op), pad)
-            }
-        }
+        self.kept.count(false);
+        self.fetch(op, handle, number.saturating_add(1), pad);
+        Told::Next
     }
 }

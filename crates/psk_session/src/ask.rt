@@ -64,12 +64,15 @@ impl Awaited {
 impl Ask<'_> {
     ghost use Rattle.std.specs.Prelude.{◌≡◌, ◌≤◌, [], ℕ, length, nat_lt};
     ghost use Rattle.psk_session.specs.Asking.{asked_of, is_long};
-    ghost use Rattle.psk_session.specs.Waiting.{IsBehind, awaited_by};
+    ghost use Rattle.chunking.specs.Keeping as keeping;
+    ghost use Rattle.psk_session.specs.Waiting.{IsBehind, IsGathered, awaited_by};
 
     // What is awaited once it was asked.
     pub(crate) fn awaited(&self) -> Awaited
         ensures is { awaited_by result [] ≡ asked_of self.now }
         ensures behind { (max : ℕ) → IsBehind max result [] }
+        ensures gathered { (max : ℕ) (collector : keeping.Kept)
+            → IsGathered max result collector [] }
     {
         match self {
             Ask::Data(_) => Awaited::Data,

@@ -21,6 +21,7 @@ ghost use Rattle.requester_machine.specs.Shown.{view_of};
 use crate::finish_record::{seal_finish, verify_of_finish};
 use crate::inner::{Inner, read_inner};
 use crate::kept::Kept;
+use crate::req_session::ReqSession;
 use crate::requests::write_finish;
 use crate::{Closed, FinishTook, ReqOpen, SessionTerms};
 use secured_record::{RecordFault, RecordKey};
@@ -62,8 +63,8 @@ impl Model for Finishing {
 }
 
 impl Finishing {
-    // The session whose PSK_EXCHANGE_RSP told this RspSessionID, with this padding for PSK_FINISH. The lane was
-    // given the transcript up to PSK_EXCHANGE_RSP.
+    // The session whose PSK_EXCHANGE_RSP told this RspSessionID, with this padding for PSK_FINISH.
+    // The lane was given the transcript up to PSK_EXCHANGE_RSP.
     pub(crate) fn new(
         mut lane: Lane,
         handshake: Handshake,
@@ -127,7 +128,8 @@ impl Finishing {
         self.sent.as_slice()
     }
 
-    /// A record of the responder. Only PSK_FINISH_RSP opens the session; anything else that opens ends it.
+    /// A record of the responder. Only PSK_FINISH_RSP opens the session; anything else that opens
+    /// ends it.
     pub fn take(self, sealed: &[u8]) -> FinishTook
         ensures { (psk : List ℕ) (n : Negotiation) (exchange answer pad : List ℕ)
             → StandsFor self psk n exchange answer pad
@@ -205,8 +207,7 @@ impl Finishing {
             terms,
         };
         ReqOpen {
-            kept,
-            brought: RecordFrame::new(),
+            session: ReqSession::new(kept),
         }
     }
 }

@@ -1,19 +1,24 @@
-ghost use Rattle.std.specs.Prelude.{◌≡◌, ◌<◌};
+ghost use Rattle.std.specs.Prelude.{◌≡◌, ◌<◌, ◌+◌, ◌-◌, ◌^◌, if◌then◌else◌, min};
 
-use crate::Waiting;
 use crate::ask::{Ask, Awaited};
 use crate::ask_fault::AskFault;
+use crate::inner::{Inner, read_inner};
+use crate::outcome::{Outcome, put_down};
 use crate::requests::{operation_of, write_inner_data, write_inner_request};
-use crate::updates::next_key;
-use chunking::Collector;
+use crate::updates::update;
+use crate::verdict::{Meaning, Verdict, whole_verdict};
+use chunking::{Collected, Collector};
 use secured_record::RecordKey;
-use session_keys::{SessionTerms, seal_inner};
+use session_keys::{SessionTerms, seal_record};
 use spdm_basis::{HashBytes, RecordFrame, SessionId};
-use spdm_grammar::{Request, SessionView, Stage};
+use spdm_grammar::{BadReply, ChunkView, Request, SessionView, Stage};
 
-// What a session keeps once it is open: the keys with the numbers of their next records, how many application
-// messages were taken, the hash of T2, the id and the terms. While the answer to an update of all keys is awaited,
-// the key of responses is the next one.
+// The number of either direction from which on GET_MEASUREMENTS is not asked.
+const MOST_MEASURED: u32 = 65_300;
+
+// What a session keeps once it is open: the keys with the numbers of their next records, how many
+// application messages were taken, the hash of T2, the id and the terms. While the answer to an
+// update of all keys is awaited, the key of responses is the next one.
 #[derive(Drop)]
 pub struct Kept {
     pub request: RecordKey,
@@ -33,25 +38,36 @@ pub fn record_number(next: u32) -> u16
     next.min(65_535) as u16
 }
 
+// The next number of responses behind the answer to an update, which is the first one under the
+// next key where that updates all keys.
+fn next_behind_update(next: u32, all: bool) -> u32
+    ensures { result ≡ (if all then 1 else min (next + 1) (2 ^ 32 - 1)) }
+{
+    if all { 1 } else { next.saturating_add(1) }
+}
+
 impl Kept {
     ghost use Rattle.std.specs.Prelude.{◌≡◌, ◌≤◌, ◌<◌, ◌+◌, ◌-◌, ◌^◌, ◌∷◌, ℕ, List, Bool, None, true, false, length};
     ghost use Rattle.chunking.specs.Keeping as keeping;
-    ghost use Rattle.requester_machine.specs.SpentLaws.{FewFor};
     ghost use Rattle.requester_machine.specs.Commands.{has_reached, is_spent, lacks};
     ghost use Rattle.requester_machine.specs.History.{Effect};
     ghost use Rattle.requester_machine.specs.History.Effect.{Grants};
-    ghost use Rattle.requester_machine.specs.Message as message;
     ghost use Rattle.requester_machine.specs.Message.Ask.{AskUpdate};
-    ghost use Rattle.requester_machine.specs.Order.{stage_for};
     ghost use Rattle.requester_machine.specs.Session.{Steps, finishes, is_data, request_next, response_next, response_epoch, session_terms, stage_of, taken_of, updates};
     ghost use Rattle.requester_machine.specs.Sending.{update_tag};
-    ghost use Rattle.requester_machine.specs.Session.Step.{Took};
+    ghost use Rattle.requester_machine.specs.Session.Step.{Asked, Took};
+    ghost use Rattle.requester_machine.specs.Records.{sealed_next};
+    ghost use Rattle.requester_machine.specs.Setup.{ReqSetup};
+    ghost use Rattle.spdm_machine.specs.Terms.{hash_len};
     ghost use Rattle.requester_machine.specs.Shown.{view_of};
-    ghost use Rattle.spdm_grammar.specs.Message.{ChunkMessage};
+    ghost use Rattle.spdm_grammar.specs.Message.{ChunkMessage, chunk_message};
     ghost use Rattle.psk_session.specs.Asking.{ask_fault, command_of, inner_for, is_long};
-    ghost use Rattle.psk_session.specs.Course.{with_asked};
+    ghost use Rattle.psk_session.specs.Collected.{IsCollected};
+    ghost use Rattle.psk_session.specs.Held.{seen_meaning};
+    ghost use Rattle.psk_session.specs.Inner.{contents_of};
+    ghost use Rattle.psk_session.specs.Verdict.{meaning_of};
     ghost use Rattle.psk_session.specs.Kept.{Keeps};
-    ghost use Rattle.psk_session.specs.Waiting.{Awaits, StandsFor, awaited_by, awaited_epoch};
+    ghost use Rattle.psk_session.specs.Waiting.{awaited_by, awaited_epoch};
 
     // The hash of T2.
     fn hash(&self) -> HashBytes
@@ -110,7 +126,7 @@ impl Kept {
         match ask {
             Ask::Data(_) | Ask::Beat => self.has_reached(65535),
             Ask::UpdateKey => self.has_reached(65535) || 65534 <= self.response_next,
-            Ask::Measure { .. } => self.has_reached(65300),
+            Ask::Measure { .. } => self.has_reached(MOST_MEASURED),
             Ask::UpdateAll | Ask::End => false,
         }
     }
@@ -172,110 +188,105 @@ impl Kept {
         }
     }
 
-    // What is kept while this is awaited: the answer to an update of all keys is under the next key.
-    pub fn awaiting(self, awaited: Awaited) -> Kept
-        requires { self.response.epoch < 2 ^ 64 - 1 }
+    // Steps to the key under which the answer to this is: that to an update of all keys is under
+    // the next one.
+    pub fn look_ahead(&mut self, awaited: Awaited)
+        requires { self.old.response.epoch < 2 ^ 64 - 1 }
         ensures { (psk : List ℕ) (s : Steps) (before : List ChunkMessage)
-            → Keeps self psk s (response_epoch s)
-            → Keeps result psk s (awaited_epoch s (awaited_by awaited before)) }
+            → Keeps self.old psk s (response_epoch s)
+            → Keeps self.new psk s (awaited_epoch s (awaited_by awaited before)) }
     {
-        if !awaited.is_of_all() {
-            return self;
-        }
-        let Kept {
-            request,
-            response,
-            request_next,
-            response_next,
-            taken,
-            th2,
-            id,
-            terms,
-        } = self;
-        Kept {
-            request,
-            response: next_key(response),
-            request_next,
-            response_next,
-            taken,
-            th2,
-            id,
-            terms,
+        if awaited.is_of_all() {
+            update(&mut self.response);
         }
     }
 
-    // What is kept once one more record was taken, which held application data or not, and updated no key.
-    pub fn took(mut self, had_data: bool) -> Kept
+    // Counts one more record that was taken, which held application data or not, and updated no
+    // key.
+    pub fn count(&mut self, had_data: bool)
         ensures { (psk : List ℕ) (s : Steps) (epoch : ℕ) (sealed inner : List ℕ) (effect : Effect)
-            → Keeps self psk s epoch → finishes effect ≡ false → updates effect ≡ false
+            → Keeps self.old psk s epoch → finishes effect ≡ false → updates effect ≡ false
             → had_data ≡ is_data effect → response_next s ≤ 65535
-            → Keeps result psk (Took sealed inner effect ∷ s) epoch }
+            → Keeps self.new psk (Took sealed inner effect ∷ s) epoch }
     {
         self.response_next = self.response_next.saturating_add(1);
         if had_data {
             self.taken = self.taken.saturating_add(1);
         }
-        self
     }
 
-    // What is kept once the answer to an update was taken: the request key is the next one.
-    pub fn updated(self, all: bool) -> Kept
-        requires { self.request.epoch < 2 ^ 64 - 1 }
+    // Steps behind the answer to an update: the request key is the next one.
+    pub fn update(&mut self, all: bool)
+        requires { self.old.request.epoch < 2 ^ 64 - 1 }
         ensures { (psk : List ℕ) (s : Steps) (sealed inner answer : List ℕ)
-            → Keeps self psk s (awaited_epoch s (AskUpdate all)) → response_next s ≤ 65535
-            → Keeps result psk (Took sealed inner (Grants (AskUpdate all) answer) ∷ s)
+            → Keeps self.old psk s (awaited_epoch s (AskUpdate all)) → response_next s ≤ 65535
+            → Keeps self.new psk (Took sealed inner (Grants (AskUpdate all) answer) ∷ s)
             (response_epoch (Took sealed inner (Grants (AskUpdate all) answer) ∷ s)) }
     {
-        let Kept {
-            request,
-            response,
-            request_next: _,
-            response_next,
-            taken,
-            th2,
-            id,
-            terms,
-        } = self;
-        Kept {
-            request: next_key(request),
-            response,
-            request_next: 0,
-            response_next: if all {
-                1
-            } else {
-                response_next.saturating_add(1)
-            },
-            taken,
-            th2,
-            id,
-            terms,
-        }
+        update(&mut self.request);
+        self.request_next = 0;
+        self.response_next = next_behind_update(self.response_next, all);
     }
 
-    // The session with the next record of requests, after which this is awaited.
-    pub fn send(
-        mut self,
-        awaited: Awaited,
-        gathered: Collector,
-        inner: &[u8],
-        pad: &[u8],
-    ) -> Waiting
+    // Seals an inner message as the next record of requests, in place of what `out` holds.
+    pub fn seal(&mut self, inner: &[u8], pad: &[u8], out: &mut RecordFrame)
         requires inner { length inner.now ≤ 1025 }
         requires pad { length pad.now ≤ 16 }
-        ensures { (psk : List ℕ) (s : Steps) (a : message.Ask)
-            → Keeps self psk s (awaited_epoch s a) → stage_of s ≡ stage_for a
-            → request_next s ≤ 65535 → FewFor a (request_next s + 1) (response_next s)
-            → Awaits awaited gathered (session_terms s).common.to_requester.max a
-            → StandsFor result psk (with_asked psk s a inner.now pad.now) a }
+        ensures record { (psk : List ℕ) (s : Steps) (epoch : ℕ) → Keeps self.old psk s epoch
+            → request_next s ≤ 65535 → out.new ≡ sealed_next psk s inner.now pad.now }
+        ensures keeps { (psk : List ℕ) (s : Steps) (epoch : ℕ) (awaited : Awaited)
+            (before : List ChunkMessage) (sealed : List ℕ) → Keeps self.old psk s epoch
+            → request_next s ≤ 65535
+            → Keeps self.new psk (Asked (awaited_by awaited before) inner.now sealed ∷ s) epoch }
     {
         let number = record_number(self.request_next);
         self.request_next = self.request_next.saturating_add(1);
-        let sent = seal_inner(&self.request, self.id, number, inner, pad);
-        Waiting {
-            kept: self,
-            awaited,
-            gathered,
-            sent,
+        seal_record(&self.request, self.id, number, inner, pad, out);
+    }
+
+    // What an inner message is to what is awaited.
+    pub fn meaning<'a>(&self, awaited: Awaited, inner: &'a [u8]) -> Meaning<'a>
+        ensures { (psk : List ℕ) (s : Steps) (epoch : ℕ) (before : List ChunkMessage) (q : ReqSetup)
+            → Keeps self.now psk s epoch
+            → q.transfer ≡ (session_terms s).common.to_requester.transfer
+            → seen_meaning result ≡ meaning_of (session_terms s).common.chunk (update_tag s)
+            (awaited_by awaited before)
+            (contents_of q (hash_len (session_terms s)) inner.now) }
+    {
+        let transfer = self.terms.common.to_requester.transfer;
+        match read_inner(transfer, self.terms.choice.hash.size(), inner) {
+            Err(fault) => Meaning::Done(Verdict::Bad(fault)),
+            Ok(Inner::Data(bytes)) => Meaning::Done(awaited.data(bytes)),
+            Ok(Inner::Message(message)) => {
+                awaited.message(self.terms.common.chunk, self.update_tag(), message)
+            }
+        }
+    }
+
+    // What the chunk that is awaited of a large answer to an operation leads to, behind what was
+    // gathered, with what it brings in place of what `out` holds; nothing, where more chunks are
+    // awaited.
+    pub fn collect(
+        &self,
+        op: u8,
+        chunk: ChunkView<'_>,
+        gathered: &mut Collector,
+        out: &mut RecordFrame,
+    ) -> Option<Outcome>
+        ensures { (psk : List ℕ) (s : Steps) (epoch handle number : ℕ) (before : List ChunkMessage)
+            (sealed : List ℕ) → Keeps self.now psk s epoch → keeping.StandsFor gathered.old before
+            → gathered.old.max ≡ (session_terms s).common.to_requester.max
+            → IsCollected psk s op handle number before sealed (chunk_message chunk.entry)
+            gathered.new out.new result }
+    {
+        match gathered.take(chunk) {
+            Collected::Refused(fault) => Some(Outcome::Bad(BadReply::Chunk(fault))),
+            Collected::More => None,
+            Collected::Whole(whole) => {
+                let reached = self.has_reached(MOST_MEASURED);
+                let hash_len = self.terms.choice.hash.size();
+                Some(put_down(whole_verdict(whole, hash_len, reached, op), out))
+            }
         }
     }
 }

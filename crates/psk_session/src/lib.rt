@@ -1,5 +1,6 @@
-//! A session under a pre-shared key, at each of its two ends (DSP0274, "Session"; DSP0277), as states that a
-//! call takes and gives back: what may not be done in a state is no call of it. No call takes memory.
+//! A session under a pre-shared key at the requester (DSP0274, "Session"; DSP0277), as states that
+//! a call takes and gives back: what may not be done in a state is no call of it. Behind its
+//! handshake it can be stepped in place, so that nothing large moves. No call takes memory.
 #![tactic(auto)]
 
 mod answering;
@@ -15,9 +16,13 @@ mod kept;
 mod laws;
 mod open_fault;
 mod opening;
+mod outcome;
 mod reply;
 mod req_open;
+mod req_session;
 mod requests;
+mod standing;
+mod told;
 mod took;
 mod updates;
 mod verdict;
@@ -36,6 +41,8 @@ pub use open_fault::OpenFault;
 pub use opening::Opening;
 pub use reply::Reply;
 pub use req_open::ReqOpen;
+pub use req_session::ReqSession;
 pub use session_keys::SessionTerms;
+pub use told::Told;
 pub use took::Took;
 pub use waiting::Waiting;

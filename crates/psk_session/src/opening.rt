@@ -39,7 +39,8 @@ impl Model for Opening {
 }
 
 impl Opening {
-    /// The session that a PSK_EXCHANGE begins, after the messages of a negotiation and under its terms.
+    /// The session that a PSK_EXCHANGE begins, after the messages of a negotiation and under its
+    /// terms.
     pub fn start(vca: &Vca, psk: &Psk, exchange: &[u8], terms: SessionTerms) -> Opening
         ensures terms { result.terms ≡ terms }
         ensures stands { (n : Negotiation) → vca.now ≡ vca_of n → AreTermsOf terms n exchange.now
@@ -98,8 +99,8 @@ impl Opening {
         }
     }
 
-    /// The answer to PSK_EXCHANGE. Where its verify data are right, PSK_FINISH is made, without padding;
-    /// a refused answer changes nothing.
+    /// The answer to PSK_EXCHANGE. Where its verify data are right, PSK_FINISH is made, without
+    /// padding; a refused answer changes nothing.
     pub fn take_response(self, answer: &[u8]) -> Result<Finishing, (Opening, OpenFault)>
         ensures { (psk : List ℕ) (n : Negotiation) (exchange : List ℕ)
             → StandsFor self psk n exchange → IsTaken self psk n exchange answer.now [] result }

@@ -7,7 +7,8 @@ pub enum Reply {
     Alive,
     /// KEY_UPDATE_ACK to the VerifyNewKey that followed the update.
     Updated,
-    /// MEASUREMENTS: the number of all blocks for operation 0, else that of the blocks in the record.
+    /// MEASUREMENTS: the number of all blocks for operation 0, else that of the blocks in the
+    /// record.
     Measured(u8),
     /// ERROR of this code, which the session outlives.
     Refused(u8),

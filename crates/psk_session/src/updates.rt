@@ -5,11 +5,11 @@ ghost use Rattle.session_keys.specs.Keys.{IsKeyOf};
 
 use secured_record::RecordKey;
 
-// The key behind a key update, which is that of the next epoch.
-pub fn next_key(key: RecordKey) -> RecordKey
-    requires { key.epoch < 2 ^ 64 - 1 }
-    ensures { (choice : Choice) (p : Purpose) → IsKeyOf key choice p
-        → IsKeyOf result choice (record p { epoch = p.epoch + 1 }) }
+// Steps to the key behind a key update, which is that of the next epoch.
+pub fn update(key: &mut RecordKey)
+    requires { key.old.epoch < 2 ^ 64 - 1 }
+    ensures { (choice : Choice) (p : Purpose) → IsKeyOf key.old choice p
+        → IsKeyOf key.new choice (record p { epoch = p.epoch + 1 }) }
 {
-    key.next()
+    key.update();
 }

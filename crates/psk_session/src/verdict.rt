@@ -8,9 +8,10 @@ ghost use Rattle.psk_session.specs.Waiting.{awaited_by};
 use crate::Reply;
 use crate::answers::read_answer;
 use crate::ask::Awaited;
-use crate::requests::{VERIFY_NEW_KEY, operation_of};
+use crate::requests::operation_of;
 use session_keys::byte_at;
 use spdm_grammar::names::error_number::LARGE_RESPONSE;
+use spdm_grammar::names::key_operation::VERIFY_NEW_KEY;
 use spdm_grammar::{BadReply, ChunkFault, ChunkView, Measured, Response};
 
 // What an inner message is to what is awaited.
@@ -144,7 +145,8 @@ impl Awaited {
         Meaning::Piece { op, chunk }
     }
 
-    // What a response is, where chunks are in common or not, and under the tag that KEY_UPDATE told.
+    // What a response is, where chunks are in common or not, and under the tag that KEY_UPDATE
+    // told.
     pub fn message(self, chunks: bool, tag: u8, message: Response<'_>) -> Meaning<'_>
         ensures { (before : List ChunkMessage) → seen_meaning result
             ≡ message_meaning chunks tag (awaited_by self before)
@@ -166,8 +168,8 @@ impl Awaited {
     }
 }
 
-// What a whole large answer to an operation is, in a session of hashes of this length; where the numbers are
-// reached or not from which on no GET_MEASUREMENTS is asked.
+// What a whole large answer to an operation is, in a session of hashes of this length; where the
+// numbers are reached or not from which on no GET_MEASUREMENTS is asked.
 pub fn whole_verdict(whole: &[u8], hash_len: usize, reached: bool, op: u8) -> Verdict<'_>
     ensures { verdict_of result
         ≡ whole_verdict reached op (response_reading hash_len false whole.now) }

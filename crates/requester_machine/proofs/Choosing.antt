@@ -7,6 +7,7 @@ use Rattle.spdm_basis.specs.declared.hash_alg.HashAlg.{HashAlg}
 use Rattle.spdm_basis.specs.declared.hash_alg.HashAlg.TheVariants.{Sha256, Sha384}
 use Rattle.spdm_machine.specs.Keys.{Draw, context_of}
 use Rattle.spdm_machine.specs.Sessions.{one_if}
+use Rattle.spdm_grammar.specs.declared.names.TheConstants.{MAX_MESSAGE_SIZE}
 use Rattle.requester_machine.specs.Setup.{ReqSetup}
 use Rattle.requester_machine.specs.Commands.{live_count}
 use Rattle.requester_machine.specs.Does.{chosen, free_id, command_chosen, body_chosen}
@@ -47,7 +48,7 @@ hash_size-small : (hash : HashAlg) → hash_size hash ≤ 48
 hash_size-small Sha256 = omega arith
 hash_size-small Sha384 = omega arith
 
-exchange-short : (hint context opaque size : ℕ) → hint ≤ 64 → opaque ≤ 1024 → context ≡ size → size ≤ 48 → 12 + hint + context + opaque ≤ 4096
+exchange-short : (hint context opaque size : ℕ) → hint ≤ 64 → opaque ≤ 1024 → context ≡ size → size ≤ 48 → 12 + hint + context + opaque ≤ MAX_MESSAGE_SIZE
 exchange-short hint context opaque size a b c e = omega arith
 
 allowed : (q : ReqSetup) (h : History) (d : Draw) (pad : List ℕ) → IsSetUp q → length d.bytes ≡ 32 → length pad ≤ 16 → IsAllowed q h (chosen q h d pad)

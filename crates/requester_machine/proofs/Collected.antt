@@ -9,7 +9,7 @@ use Rattle.spdm_grammar.specs.declared.ChunkFault.TheVariants.{WrongHandle, Wron
 use Rattle.spdm_grammar.specs.declared.names.TheConstants.{MAX_MESSAGE_SIZE}
 use Rattle.requester_machine.specs.ClearAnswers.{get_fault}
 use Rattle.requester_machine.specs.UnderWay.{AreNumbered, AreUnfinished, AreUnderWay}
-use Rattle.chunking.proofs.FewChunks.{not_too_large}
+use Rattle.chunking.proofs.FewChunks.{most, not_too_large}
 
 -- None yet.
 pub none_yet : (max handle : ℕ) → AreUnderWay max handle 0 []
@@ -29,9 +29,6 @@ tested : (a b : Bool) (x y : ChunkFault) (rest : Option ChunkFault) → (if not 
 tested true true x y rest e = (refl, refl, e)
 tested true false x y rest e = absurd (cc)
 tested false b x y rest e = absurd (cc)
-
-most : (max told : ℕ) → nat_lt (min max MAX_MESSAGE_SIZE) told ≡ false → told ≤ MAX_MESSAGE_SIZE
-most max told small = grind (arith, common_steps)
 
 -- Of number 0.
 first_adds : (max : ℕ) (c : ChunkMessage) → c.last ≡ false → first_rule max c ≡ None → (told_by c ≤ MAX_MESSAGE_SIZE) × Adds (told_by c) 0 c

@@ -15,13 +15,7 @@ use Rattle.requester_machine.specs.Order.Waits.{Rests, ForExchange, ForRecord}
 use Rattle.requester_machine.specs.Records.{answer_number, asks_all}
 use Rattle.requester_machine.specs.Session.{Steps, Step, request_next, response_next, is_live, when_live, after_record, ends, finishes, updates, updates_all}
 use Rattle.requester_machine.specs.Session.Step.{Accepted, Asked, Took}
-use Rattle.requester_machine.specs.SpentLaws.{AreNumbersFew, FewFor, number_for}
-
--- What bounds them by what the session waits for.
-abbrev pub FewBy : Waits → Steps → Type 0
-FewBy Rests s = (request_next s ≤ 65535) × (response_next s ≤ 65535)
-FewBy ForExchange s = (request_next s ≤ 0) × (response_next s ≤ 0)
-FewBy (ForRecord ask) s = FewFor ask (request_next s) (response_next s)
+use Rattle.requester_machine.specs.SpentLaws.{AreNumbersFew, FewBy, FewFor, number_for}
 
 abbrev pub Few : Waits → Steps → Type 0
 Few waits s = FewBy waits s × AreNumbersFew s

@@ -31,8 +31,8 @@ use Rattle.requester_machine.proofs.ClearLeads.{ClearLeads, either}
 use Rattle.requester_machine.proofs.ClearLeads.ClearLeads.{ByRefusal, ByLarge, BySend, ByGet, ByStop, ByVersion, ByCaps, ByChoice, ByMeasured, ByExchange}
 use Rattle.requester_machine.proofs.Collected.{one_more}
 use Rattle.requester_machine.proofs.Entries.{test_is_false}
-use Rattle.requester_machine.proofs.Few.{Few, FewBy, none_few, asked_few, begun_few, unreached, exchange_few, refused_few, end_few, done_few, next_few, answered_few, updated_few, first_few, chunk_few}
-use Rattle.requester_machine.specs.SpentLaws.{FewFor}
+use Rattle.requester_machine.proofs.Few.{Few, none_few, asked_few, begun_few, unreached, exchange_few, refused_few, end_few, done_few, next_few, answered_few, updated_few, first_few, chunk_few}
+use Rattle.requester_machine.specs.SpentLaws.{FewBy, FewFor}
 use Rattle.requester_machine.proofs.HoldsTold.{told_sent, resent_adds, somewhere}
 use Rattle.requester_machine.proofs.RecordLeads.{RecordLeads, Follows}
 use Rattle.requester_machine.proofs.RecordLeads.Follows.{ToAsk, ToWhole}

@@ -19,11 +19,11 @@ use Rattle.requester_machine.specs.Order.{FitsWaits, Waits, waits_for, waits_aim
 use Rattle.requester_machine.specs.Order.Waits.{Rests, ForExchange, ForRecord}
 use Rattle.requester_machine.specs.Records.{asks_all}
 use Rattle.requester_machine.specs.Session.{Steps, session_of, request_next, response_next}
-use Rattle.requester_machine.specs.SpentLaws.{FewFor, NumbersAreFew, TakenNumberIsFew, number_for}
+use Rattle.requester_machine.specs.SpentLaws.{FewBy, FewFor, NumbersAreFew, TakenNumberIsFew, number_for}
 use Rattle.requester_machine.specs.UnderWay.{IsOutstanding, IsSealed}
 use Rattle.requester_machine.proofs.ClearLeads.{clear_leads}
 use Rattle.requester_machine.proofs.Entries.{asked}
-use Rattle.requester_machine.proofs.Few.{Few, FewBy, none_few}
+use Rattle.requester_machine.proofs.Few.{Few, none_few}
 use Rattle.requester_machine.proofs.FewEntries.{told_few, clear_few, record_few}
 use Rattle.requester_machine.proofs.Heard.{Heard, heard}
 use Rattle.requester_machine.proofs.Holds.{Holds}

@@ -2,6 +2,7 @@
 use Rattle.std.proofs.Common.{refl, ◌≡◌, ◌≤◌, ◌<◌, ◌+◌, ◌-◌, ◌*◌, ℕ, true, false, Bool, zero, suc, length, arith, nat_lt}
 use Rattle.std.specs.Prelude.{◌==◌, ◌||◌, ◌&&◌, not, min, ◌/◌, ◌%◌}
 use Rattle.std.proofs.lemmas.Bool.Decides.{nat_tests}
+use Rattle.std.proofs.lemmas.Bool.{ltb-false, ltb-true}
 use Rattle.std.proofs.lemmas.Grind.{div_ceil_times}
 use Rattle.chunking.specs.Cutting.{chunk_count}
 use Rattle.negotiate.specs.declared.shared.Common.{Common}
@@ -27,12 +28,6 @@ within_sizes false true b is large = (refl, refl)
 within_sizes false false true is large = absurd (cc)
 within_sizes false false false is large = absurd (cc)
 
-above : (a b : ℕ) → nat_lt a b ≡ true → a < b
-above a b is = grind (arith, nat_tests)
-
-at_most : (a b : ℕ) → nat_lt a b ≡ false → b ≤ a
-at_most a b is = grind (arith, nat_tests)
-
 pub first_piece : (common : Common) (asked : RequestMessage) (handle : ℕ) → handle < 256 → MIN_DATA_TRANSFER_SIZE ≤ common.to_responder.transfer → is_too_long common (canonical_request asked) ≡ false
     → nat_lt common.to_responder.transfer (length (canonical_request asked)) ≡ true → IsPiece common asked handle 0 (Clear (canonical_request (ChunkSend (piece_of common asked handle 0))))
 first_piece common asked handle small least short large =
@@ -41,8 +36,8 @@ first_piece common asked handle small least short large =
       is = refl;
       chunks = sizes.1;
       one_byte = small;
-      large = above common.to_responder.transfer (length (canonical_request asked)) large;
-      short = at_most common.to_responder.max (length (canonical_request asked)) sizes.0;
+      large = ltb-true common.to_responder.transfer (length (canonical_request asked)) large;
+      short = ltb-false common.to_responder.max (length (canonical_request asked)) sizes.0;
       within = has_chunk (length (canonical_request asked)) (common.to_responder.transfer - 12) (omega arith);
     }
 

@@ -5,7 +5,7 @@ use Rattle.std.specs.Result.{result_ok}
 use Rattle.std.proofs.lemmas.Option.{none-some}
 use Rattle.std.proofs.lemmas.Slice.Eq.{bytes_eq-Decides}
 use Rattle.key_schedule.specs.Purpose.{Purpose, key_of, iv_of}
-use Rattle.secured_record.proofs.Same.{true-same}
+use Rattle.std.proofs.lemmas.Slice.Eq.{bytes_eq-Decides}
 use Rattle.secured_record.specs.Faults.{fault_of, fault_behind, header_fault, is_authentic, tag_part}
 use Rattle.spdm_basis.specs.declared.record_fault.RecordFault.{RecordFault}
 use Rattle.spdm_basis.specs.declared.record_fault.RecordFault.TheVariants.{BadTag}
@@ -95,7 +95,7 @@ behind-right None key iv id number sealed is = first_passed (is_authentic key iv
 opened-right : (choice : Choice) (p : Purpose) (number : ℕ) (id sealed : List ℕ) → record_fault choice p number id sealed ≡ None → record_tag choice p number sealed ≡ tag_part sealed
 unfolding record_fault fault_of is_authentic record_tag
 opened-right choice p number id sealed is =
-    sym (true-same _ _ (behind-right (header_fault id number sealed) (key_of choice.hash choice.aead p) (iv_of choice.hash p) id number sealed is))
+    sym ((bytes_eq-Decides _ _).0 (behind-right (header_fault id number sealed) (key_of choice.hash choice.aead p) (iv_of choice.hash p) id number sealed is))
 
 checked-right : (b : Bool) (act : Act) → AreRight (act ∷ []) → AreRight (if b then act ∷ [] else [])
 checked-right true act is = is

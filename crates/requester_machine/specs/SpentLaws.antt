@@ -9,7 +9,8 @@ use Rattle.requester_machine.specs.Laws.{sealed_under}
 use Rattle.requester_machine.specs.Message.{Ask, Sent}
 use Rattle.requester_machine.specs.Message.Ask.{AskFinish, AskData, AskBeat, AskUpdate, AskVerify, AskMeasure, AskChunk, AskEnd}
 use Rattle.requester_machine.specs.Message.Aim.{InSession}
-use Rattle.requester_machine.specs.Order.{waiting_ask}
+use Rattle.requester_machine.specs.Order.{Waits, waiting_ask}
+use Rattle.requester_machine.specs.Order.Waits.{Rests, ForExchange, ForRecord}
 use Rattle.requester_machine.specs.Records.{answer_number}
 use Rattle.requester_machine.specs.ResponseLaws.{taken_under}
 use Rattle.requester_machine.specs.Session.{Steps, session_of, request_next, response_next}
@@ -31,6 +32,12 @@ FewFor AskVerify request response = (request ≤ 65535) × (response ≤ 65534)
 FewFor (AskMeasure op) request response = (request ≤ 65300) × (response ≤ 65299)
 FewFor (AskChunk op handle number before) request response = (request ≤ 65301 + number) × (response ≤ 65300 + number) × (number ≤ 157)
 FewFor AskEnd request response = (request ≤ 65536) × (response ≤ 65535)
+
+-- What bounds them by what the session waits for.
+abbrev pub FewBy : Waits → Steps → Type 0
+FewBy Rests s = (request_next s ≤ 65535) × (response_next s ≤ 65535)
+FewBy ForExchange s = (request_next s ≤ 0) × (response_next s ≤ 0)
+FewBy (ForRecord ask) s = FewFor ask (request_next s) (response_next s)
 
 -- Each record was sealed under a number of at most 65,535, and each one that the session outlived was taken under a
 -- number of at most 65,534.

@@ -81,7 +81,8 @@ told_read : (message : ResponseMessage) → FitsResponse message → IsSoundResp
 told_read message fits sound =
     ap result_ok (spelling_read (response_layout 32 false) 0 message (canonical_response message) (response_spelled 32 false message fits sound).is)
 
-answer_is : (r : RspSetup) (p : Place) (m : List ℕ) (f : Free) (asked : RequestMessage) → request_at p m ≡ Some asked → answer_bytes r p m f ≡ canonical_response (answer_of r p m f asked)
+-- The answer to a request.
+pub answer_is : (r : RspSetup) (p : Place) (m : List ℕ) (f : Free) (asked : RequestMessage) → request_at p m ≡ Some asked → answer_bytes r p m f ≡ canonical_response (answer_of r p m f asked)
 unfolding answer_bytes
 answer_is r p m f asked is = ap (answer_to r p m f) is
 

@@ -1,9 +1,8 @@
 -- The records of a session at the responder: under which purpose and number the next ones are taken and
 -- sealed. DSP0277, "Sequence number" and "Secured Message format"; DSP0274, "KEY_UPDATE".
-use Rattle.std.specs.Prelude.{ℕ, List, length, take, not, nat_lt, Option, Some, if◌then◌else◌, ◌+◌}
+use Rattle.std.specs.Prelude.{ℕ, List, length, take, not, nat_lt, Option, Some, if◌then◌else◌, ◌+◌, bytes_eq}
 use Rattle.key_schedule.specs.Purpose.{Purpose}
 use Rattle.key_schedule.specs.declared.direction.Direction.TheVariants.{Request, Response}
-use Rattle.secured_record.specs.Faults.{same_bytes}
 use Rattle.spdm_basis.specs.declared.record_fault.RecordFault.{RecordFault}
 use Rattle.spdm_basis.specs.declared.record_fault.RecordFault.TheVariants.{KeySpent, Short, WrongId, WrongNumber}
 use Rattle.spdm_machine.specs.Keys.{record_fault, inner_message, sealed_of}
@@ -31,7 +30,7 @@ opening_fault psk s sealed =
 abbrev pub ended_fault : (id : List ℕ) → List ℕ → RecordFault
 ended_fault id sealed =
     if nat_lt (length sealed) 26 then Short
-    else (if not (same_bytes (take 4 sealed) id) then WrongId
+    else (if not (bytes_eq (take 4 sealed) id) then WrongId
     else WrongNumber)
 
 -- The inner message of the next record.

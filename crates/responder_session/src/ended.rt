@@ -1,6 +1,5 @@
-ghost use Rattle.std.specs.Prelude.{◌≡◌, ◌≤◌, take, length};
+ghost use Rattle.std.specs.Prelude.{◌≡◌, ◌≤◌, take, length, bytes_eq};
 ghost use Rattle.responder_machine.specs.Records.{ended_fault};
-ghost use Rattle.secured_record.specs.Faults.{same_bytes};
 ghost use Rattle.spdm_basis.specs.SessionIdBytes.{session_id_bytes};
 
 use crate::kept::LastRecord;
@@ -31,7 +30,7 @@ impl Model for RspEnded {
 // Whether a record of at least four bytes begins with a session id.
 fn names(sealed: &[u8], id: SessionId) -> bool
     requires { 26 ≤ length sealed.now }
-    ensures { result ≡ same_bytes (take 4 sealed.now) (session_id_bytes id.req id.rsp) }
+    ensures { result ≡ bytes_eq (take 4 sealed.now) (session_id_bytes id.req id.rsp) }
 {
     same_bytes(sealed.split_at(4).0, &id.bytes())
 }

@@ -6,6 +6,7 @@ use Rattle.std.proofs.lemmas.Bool.{and_parts}
 use Rattle.std.proofs.lemmas.Bool.Decides.{nat_tests}
 use Rattle.spdm_basis.specs.declared.eid.Eid.{Eid}
 use Rattle.spdm_grammar.specs.declared.choice.FlagSet.{FlagSet}
+use Rattle.spdm_grammar.specs.declared.names.TheConstants.{MIN_DATA_TRANSFER_SIZE, MAX_MESSAGE_SIZE}
 use Rattle.script_text.specs.Configuring.{config_kind, responder_fault, after_responder}
 use Rattle.script_text.specs.EndPoints.{eid_of}
 use Rattle.script_text.specs.Lines.{words_of}
@@ -35,8 +36,8 @@ use Rattle.script_text.proofs.PrintedConfig.{IsTaken, IsNumberWord, IsBytesWord,
 -- the numbers and capabilities of an end in range
 record IsEndParts (limit eid transfer max unit own : ℕ) (flags : FlagSet) : Type 0 where
   eid_is : IsNumberWord 8 254 eid
-  transfer_is : IsNumberWord 42 4096 transfer
-  max_is : IsNumberWord transfer 4096 max
+  transfer_is : IsNumberWord MIN_DATA_TRANSFER_SIZE MAX_MESSAGE_SIZE transfer
+  max_is : IsNumberWord transfer MAX_MESSAGE_SIZE max
   unit_is : IsNumberWord 64 1024 unit
   own_is : IsNumberWord 0 limit own
   flags_is : IsFlagsWord flags
@@ -44,24 +45,24 @@ record IsEndParts (limit eid transfer max unit own : ℕ) (flags : FlagSet) : Ty
 
 end_parts : (limit : ℕ) (eid : Eid) (transfer max unit own : ℕ) (flags : FlagSet) → limit ≤ 255 → is_sound_end limit transfer max unit own flags ≡ true → IsEndParts limit eid.number transfer max unit own flags
 end_parts limit eid transfer max unit own flags few sound =
-    let a = and_parts (is_within 42 4096 transfer && is_within transfer 4096 max && is_within 64 1024 unit && nat_le own limit) (flags.chunk || nat_le max transfer) sound in
-    let b = and_parts (is_within 42 4096 transfer && is_within transfer 4096 max && is_within 64 1024 unit) (nat_le own limit) a.0 in
-    let c = and_parts (is_within 42 4096 transfer && is_within transfer 4096 max) (is_within 64 1024 unit) b.0 in
-    let d = and_parts (is_within 42 4096 transfer) (is_within transfer 4096 max) c.0 in
-    let t = and_parts (nat_le 42 transfer) (nat_le transfer 4096) d.0 in
-    let m = and_parts (nat_le transfer max) (nat_le max 4096) d.1 in
+    let a = and_parts (is_within MIN_DATA_TRANSFER_SIZE MAX_MESSAGE_SIZE transfer && is_within transfer MAX_MESSAGE_SIZE max && is_within 64 1024 unit && nat_le own limit) (flags.chunk || nat_le max transfer) sound in
+    let b = and_parts (is_within MIN_DATA_TRANSFER_SIZE MAX_MESSAGE_SIZE transfer && is_within transfer MAX_MESSAGE_SIZE max && is_within 64 1024 unit) (nat_le own limit) a.0 in
+    let c = and_parts (is_within MIN_DATA_TRANSFER_SIZE MAX_MESSAGE_SIZE transfer && is_within transfer MAX_MESSAGE_SIZE max) (is_within 64 1024 unit) b.0 in
+    let d = and_parts (is_within MIN_DATA_TRANSFER_SIZE MAX_MESSAGE_SIZE transfer) (is_within transfer MAX_MESSAGE_SIZE max) c.0 in
+    let t = and_parts (nat_le MIN_DATA_TRANSFER_SIZE transfer) (nat_le transfer MAX_MESSAGE_SIZE) d.0 in
+    let m = and_parts (nat_le transfer max) (nat_le max MAX_MESSAGE_SIZE) d.1 in
     let u = and_parts (nat_le 64 unit) (nat_le unit 1024) c.1 in
-    let t0 : 42 ≤ transfer = grind (arith, nat_tests, t.0) in
-    let t1 : transfer ≤ 4096 = grind (arith, nat_tests, t.1) in
+    let t0 : MIN_DATA_TRANSFER_SIZE ≤ transfer = grind (arith, nat_tests, t.0) in
+    let t1 : transfer ≤ MAX_MESSAGE_SIZE = grind (arith, nat_tests, t.1) in
     let m0 : transfer ≤ max = grind (arith, nat_tests, m.0) in
-    let m1 : max ≤ 4096 = grind (arith, nat_tests, m.1) in
+    let m1 : max ≤ MAX_MESSAGE_SIZE = grind (arith, nat_tests, m.1) in
     let u0 : 64 ≤ unit = grind (arith, nat_tests, u.0) in
     let u1 : unit ≤ 1024 = grind (arith, nat_tests, u.1) in
     let o1 : own ≤ limit = grind (arith, nat_tests, b.1) in
     record {
       eid_is = number_is 8 254 eid.number eid.low (omega (arith, eid.high)) (omega arith);
-      transfer_is = number_is 42 4096 transfer t0 t1 (omega arith);
-      max_is = number_is transfer 4096 max m0 m1 (omega arith);
+      transfer_is = number_is MIN_DATA_TRANSFER_SIZE MAX_MESSAGE_SIZE transfer t0 t1 (omega arith);
+      max_is = number_is transfer MAX_MESSAGE_SIZE max m0 m1 (omega arith);
       unit_is = number_is 64 1024 unit u0 u1 (omega arith);
       own_is = number_is 0 limit own (omega arith) o1 (omega arith);
       flags_is = flags_are flags;

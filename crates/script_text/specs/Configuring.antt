@@ -4,6 +4,7 @@ use Rattle.std.specs.List.{list_any}
 use Rattle.spdm_grammar.specs.declared.block_spec.BlockSpec.{BlockSpec}
 use Rattle.spdm_grammar.specs.declared.choice.Suites.{Suites}
 use Rattle.spdm_grammar.specs.declared.choice.Pick.TheVariants.{Small}
+use Rattle.spdm_grammar.specs.declared.names.TheConstants.{MIN_DATA_TRANSFER_SIZE, MAX_MESSAGE_SIZE}
 use Rattle.script_text.specs.declared.config.ReqPart.{ReqPart}
 use Rattle.script_text.specs.declared.config.RspPart.{RspPart}
 use Rattle.script_text.specs.declared.config.ScriptConfig.{ScriptConfig}
@@ -79,8 +80,8 @@ after_block given line = record given { blocks = given.blocks ++ block_of line �
 abbrev pub has_numbers : ℕ → List ℕ → Bool
 has_numbers limit line =
     is_number_in 8 254 (word 1 line)
-    && is_number_in 42 4096 (word 2 line)
-    && is_number_in (value_of (word 2 line)) 4096 (word 3 line)
+    && is_number_in MIN_DATA_TRANSFER_SIZE MAX_MESSAGE_SIZE (word 2 line)
+    && is_number_in (value_of (word 2 line)) MAX_MESSAGE_SIZE (word 3 line)
     && is_number_in 64 1024 (word 4 line)
     && is_number_in 0 limit (word 5 line)
 

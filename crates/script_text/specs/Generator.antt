@@ -2,6 +2,7 @@
 use Rattle.std.specs.Prelude.{ℕ, zero, suc, List, [], ◌∷◌, ◌++◌, ◌+◌, ◌*◌, ◌/◌, ◌%◌, ◌^◌, ◌==◌, nat_le, replicate, if◌then◌else◌, Bool, true, false, Some}
 use Rattle.std.specs.Int.{to_le_bytes, w64}
 use Rattle.spdm_grammar.specs.declared.block_spec.BlockSpec.{BlockSpec}
+use Rattle.spdm_grammar.specs.declared.names.TheConstants.{MAX_MESSAGE_SIZE}
 use Rattle.script_text.specs.Choices.{small_suites}
 use Rattle.script_text.specs.EndPoints.{eid_of}
 use Rattle.script_text.specs.declared.config.ReqPart.{ReqPart}
@@ -27,7 +28,7 @@ unfoldable pub generated_responder : RspPart
 generated_responder = record {
   eid = eid_of 8;
   transfer = 1024;
-  max = 4096;
+  max = MAX_MESSAGE_SIZE;
   unit = 64;
   beat = 30;
   flags = record { measure = true; heartbeat = true; key_update = true; chunk = true };
@@ -44,7 +45,7 @@ unfoldable pub generated_requester : (eid hint key : ℕ) → ReqPart
 generated_requester eid hint key = record {
   eid = eid_of eid;
   transfer = 1024;
-  max = 4096;
+  max = MAX_MESSAGE_SIZE;
   unit = 64;
   pad = 0;
   flags = record { measure = false; heartbeat = true; key_update = true; chunk = true };

@@ -4,6 +4,7 @@ use Rattle.std.specs.Prelude.{ℕ, List, [], ◌∷◌, ◌++◌, ◌+◌, ◌<�
 use Rattle.std.specs.List.{list_all}
 use Rattle.spdm_grammar.specs.declared.block_spec.BlockSpec.{BlockSpec}
 use Rattle.spdm_grammar.specs.declared.choice.FlagSet.{FlagSet}
+use Rattle.spdm_grammar.specs.declared.names.TheConstants.{MIN_DATA_TRANSFER_SIZE, MAX_MESSAGE_SIZE}
 use Rattle.script_text.specs.Configuring.{has_block, requester_has_eid, has_psk}
 use Rattle.script_text.specs.Measured.{block_size, sizes_of}
 use Rattle.script_text.specs.declared.config.ReqPart.{ReqPart}
@@ -66,8 +67,8 @@ are_bytes_in low high bytes = are_bytes bytes && is_within low high (length byte
 -- The sizes of an end, a number of its own of at most `limit`, and its capabilities.
 abbrev pub is_sound_end : (limit transfer max unit own : ℕ) → FlagSet → Bool
 is_sound_end limit transfer max unit own flags =
-    is_within 42 4096 transfer
-    && is_within transfer 4096 max
+    is_within MIN_DATA_TRANSFER_SIZE MAX_MESSAGE_SIZE transfer
+    && is_within transfer MAX_MESSAGE_SIZE max
     && is_within 64 1024 unit
     && nat_le own limit
     && (flags.chunk || nat_le max transfer)

@@ -35,7 +35,8 @@ fn has_flag_letters(word: &[u8]) -> bool
 
 // The word without this letter in front.
 fn behind(letter: u8, word: &[u8]) -> &[u8]
-    ensures { (letters : List ℕ) → is_some_of letters result.now ≡ is_some_of (letter ∷ letters) word.now }
+    ensures { (letters : List ℕ)
+        → is_some_of letters result.now ≡ is_some_of (letter ∷ letters) word.now }
 {
     if !word.is_empty() && word[0] == letter {
         behind_first(word)

@@ -108,7 +108,8 @@ fn session(word: &[u8]) -> Option<u8>
 #[tactic(auto, unfolding(crate::specs::Commands::send_fault))]
 fn send(alloc: Global, requesters: usize, q: u8, line: &[u8]) -> Result<LinkEvent, LineError>
     ensures answer { IsAnswerTo (send_fault requesters q line.now) result }
-    ensures value { IfOk result (λ event. event ≡ LinkEvent.Send q (value_of (word 2 line.now)) (bytes_of (word 3 line.now))) }
+    ensures value { IfOk result (λ event. event
+        ≡ LinkEvent.Send q (value_of (word 2 line.now)) (bytes_of (word 3 line.now))) }
 {
     if !has_words(4, line) {
         return Err(LineError::Fault(LineFault::Words));
@@ -160,7 +161,8 @@ fn says_all(word: &[u8]) -> bool
 #[tactic(auto, unfolding(crate::specs::Commands::update_fault))]
 fn update(requesters: usize, q: u8, line: &[u8]) -> Result<LinkEvent, LineError>
     ensures answer { IsAnswerTo (update_fault requesters q line.now) result }
-    ensures value { IfOk result (λ event. event ≡ LinkEvent.Update q (value_of (word 2 line.now)) (says_all (word 3 line.now))) }
+    ensures value { IfOk result (λ event. event
+        ≡ LinkEvent.Update q (value_of (word 2 line.now)) (says_all (word 3 line.now))) }
 {
     if !has_words(4, line) {
         return Err(LineError::Fault(LineFault::Words));
@@ -194,7 +196,8 @@ fn place(word: &[u8]) -> Option<Option<u8>>
 #[tactic(auto, unfolding(crate::specs::Commands::measure_fault))]
 fn measure(requesters: usize, q: u8, line: &[u8]) -> Result<LinkEvent, LineError>
     ensures answer { IsAnswerTo (measure_fault requesters q line.now) result }
-    ensures value { IfOk result (λ event. event ≡ LinkEvent.Measure q (place_of (word 2 line.now)) (value_of (word 3 line.now))) }
+    ensures value { IfOk result (λ event. event
+        ≡ LinkEvent.Measure q (place_of (word 2 line.now)) (value_of (word 3 line.now))) }
 {
     if !has_words(4, line) {
         return Err(LineError::Fault(LineFault::Words));

@@ -148,7 +148,9 @@ fn is_small(pick: Pick) -> bool
 
 // Puts algorithms behind the words of a line, and ends it.
 fn end_with_suites(suites: Suites, text: &mut Bytes) -> Result<(), OutOfMemory>
-    ensures { OnOk result (text.new ≡ with_word (with_word text.old (hash_word suites.hash)) (aead_word suites.aead) ++ 10 ∷ []) }
+    ensures { OnOk result (text.new
+        ≡ with_word (with_word text.old (hash_word suites.hash))
+        (aead_word suites.aead) ++ 10 ∷ []) }
 {
     add_word(hash_word(suites.hash), text)?;
     add_word(aead_word(suites.aead), text)?;

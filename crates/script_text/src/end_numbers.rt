@@ -5,6 +5,7 @@ ghost use Rattle.script_text.specs.Numbers.{is_number_in, value_of};
 use crate::numbers::number;
 use crate::words::word;
 use spdm_basis::Eid;
+use spdm_grammar::names::{MAX_MESSAGE_SIZE, MIN_DATA_TRANSFER_SIZE};
 
 /// The numbers in the line of an end.
 #[derive(Clone, Copy, Debug, PartialEq, Eq)]
@@ -18,7 +19,6 @@ pub struct EndNumbers {
 }
 
 // The end point of the number that a word is.
-
 fn eid(word: &[u8]) -> Option<Eid>
     ensures valid { is_some result ≡ is_number_in 8 254 word.now }
     ensures value { IfSome result (λ eid. eid ≡ eid_of (value_of word.now)) }
@@ -37,8 +37,8 @@ impl EndNumbers {
         ensures value { IfSome result (λ numbers. numbers ≡ numbers_of line.now) }
     {
         let eid = eid(word(1, line))?;
-        let transfer = number(42, 4_096, word(2, line))?;
-        let max = number(transfer, 4_096, word(3, line))?;
+        let transfer = number(MIN_DATA_TRANSFER_SIZE, MAX_MESSAGE_SIZE, word(2, line))?;
+        let max = number(transfer, MAX_MESSAGE_SIZE, word(3, line))?;
         let unit = number(64, 1_024, word(4, line))?;
         let own = number(0, u32::from(limit), word(5, line))?;
         Some(EndNumbers {

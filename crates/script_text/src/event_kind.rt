@@ -71,7 +71,8 @@ pub fn event_kind(line: &[u8]) -> Option<EventKind>
 #[tactic(auto, unfolding(crate::specs::EventLines::reply_fault))]
 fn reply(alloc: Global, requesters: usize, line: &[u8]) -> Result<LinkEvent, LineError>
     ensures answer { IsAnswerTo (reply_fault requesters line.now) result }
-    ensures value { IfOk result (λ event. event ≡ LinkEvent.Reply (named (requester_in (word 1 line.now))) (bytes_of (word 2 line.now))) }
+    ensures value { IfOk result (λ event. event
+        ≡ LinkEvent.Reply (named (requester_in (word 1 line.now))) (bytes_of (word 2 line.now))) }
 {
     if !has_words(3, line) {
         return Err(LineError::Fault(LineFault::Words));

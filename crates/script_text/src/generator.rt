@@ -8,6 +8,7 @@ use crate::given::SMALL_SUITES;
 use crate::script::Script;
 use arrayvec::ArrayVec;
 use spdm_basis::{Bytes, Eid, OutOfMemory, Psk};
+use spdm_grammar::names::MAX_MESSAGE_SIZE;
 use spdm_grammar::{BlockSpec, FlagSet};
 use std::alloc::Global;
 
@@ -30,7 +31,7 @@ fn responder(alloc: Global) -> RspPart
     RspPart {
         eid: end_point(8),
         transfer: 1_024,
-        max: 4_096,
+        max: MAX_MESSAGE_SIZE,
         unit: 64,
         beat: 30,
         flags: FlagSet {
@@ -65,7 +66,7 @@ fn requester(alloc: Global, eid: u8, hint: u8, key: u8) -> Result<ReqPart, OutOf
     Ok(ReqPart {
         eid: end_point(eid),
         transfer: 1_024,
-        max: 4_096,
+        max: MAX_MESSAGE_SIZE,
         unit: 64,
         pad: 0,
         flags: FlagSet {

@@ -32,7 +32,8 @@ pub trait LineReader: Drop {
     /// Ends the text.
     fn finish(self, alloc: Global) -> Result<Self::Whole, LineError>
         ensures ok { IfOk result (λ v. whole self ≡ Some v) }
-        ensures missing { IfErr result (λ e. (e ≡ NoMemory) ⊎ ((e ≡ Fault Incomplete) × (whole self ≡ None))) };
+        ensures missing { IfErr result (λ e. (e ≡ NoMemory)
+            ⊎ ((e ≡ Fault Incomplete) × (whole self ≡ None))) };
 }
 
 // Takes a line of any kind.
@@ -73,7 +74,8 @@ pub fn read_text<R: LineReader>(
     text: &[u8],
 ) -> Result<R::Whole, ScriptFault>
     requires { first + length text.now < 2 ^ 32 }
-    ensures { IsReading (read_lines R.fault R.after R.whole first reader (lines_of text.now)) result }
+    ensures { IsReading (read_lines R.fault R.after R.whole first reader
+        (lines_of text.now)) result }
 {
     let mut reader = reader;
     let mut number = first;

@@ -38,7 +38,8 @@ fn update_word(all: bool) -> &'static [u8]
 
 // A line of a word and a number.
 fn add_numbered(word: &[u8], number: u32, text: &mut Bytes) -> Result<(), OutOfMemory>
-    ensures { OnOk result (text.new ≡ with_word (text.old ++ word.now) (decimal number) ++ 10 ∷ []) }
+    ensures { OnOk result (text.new
+        ≡ with_word (text.old ++ word.now) (decimal number) ++ 10 ∷ []) }
 {
     text.extend(word)?;
     add_number(u64::from(number), text)?;
@@ -47,7 +48,8 @@ fn add_numbered(word: &[u8], number: u32, text: &mut Bytes) -> Result<(), OutOfM
 
 // A line of a command in a session.
 fn add_in_session(q: u8, command: &[u8], session: u8, text: &mut Bytes) -> Result<(), OutOfMemory>
-    ensures { OnOk result (text.new ≡ with_word (with_word (text.old ++ requester_word q) command.now) (decimal session)) }
+    ensures { OnOk result (text.new
+        ≡ with_word (with_word (text.old ++ requester_word q) command.now) (decimal session)) }
 {
     begin_command(q, command, text)?;
     add_number(u64::from(session), text)

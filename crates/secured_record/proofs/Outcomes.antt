@@ -1,13 +1,13 @@
 -- What the answer of `open` means for records.
 use Rattle.std.proofs.Common.{◌≡◌, ◌≢◌, ℕ, ◌-◌, ◌≤◌, List, [], ◌∷◌, length, take, drop, ap, sym, subst, refl, ◌∙◌}
-use Rattle.std.specs.Prelude.{Bool, true, false, not, nat_lt, ◌||◌, Option, Result, Ok, Err, Some, None, OnOk, IsOk, IfErr, MatchResult}
+use Rattle.std.specs.Prelude.{Bool, true, false, not, nat_lt, ◌||◌, Option, Result, Ok, Err, Some, None, OnOk, IsOk, IfErr, MatchResult, bytes_eq}
 use Rattle.byteorder.specs.Endian.{little_bytes, little_number}
 use Rattle.spdm_basis.specs.SessionIdBytes.{session_id_bytes}
 use Rattle.aes_gcm.specs.Gcm.{crypt}
 use Rattle.aes_gcm.proofs.Twice.{length-crypt}
 use Rattle.secured_record.specs.Format.{nonce, record_of}
 use Rattle.secured_record.specs.Contents.{IsRecordOf}
-use Rattle.secured_record.specs.Faults.{same_bytes, header_fault, text_part, is_authentic, fault_behind, fault_of, inner_of, opened_text}
+use Rattle.secured_record.specs.Faults.{header_fault, text_part, is_authentic, fault_behind, fault_of, inner_of, opened_text}
 use Rattle.spdm_basis.specs.Tests.{first_of_tests}
 use Rattle.spdm_basis.specs.declared.record_fault.RecordFault.{RecordFault}
 use Rattle.spdm_basis.specs.declared.record_fault.RecordFault.TheVariants.{Short, WrongId, WrongNumber, WrongLength, BadTag, BadInnerLength, KeySpent}
@@ -88,8 +88,8 @@ not_spent_behind None key iv number s h =
 header_not_spent : (id : List ℕ) (number : ℕ) (s : List ℕ) → header_fault id number s ≢ Some KeySpent
 unfolding header_fault
 header_not_spent id number s =
-    not_spent_of_header (nat_lt (length s) 26) (not (same_bytes (take 4 s) id)) (not (same_bytes (take 2 (drop 4 s)) (little_bytes 2 number)))
-    (not (same_bytes (take 2 (drop 6 s)) (little_bytes 2 (length s - 8))) || nat_lt 4160 (length s))
+    not_spent_of_header (nat_lt (length s) 26) (not (bytes_eq (take 4 s) id)) (not (bytes_eq (take 2 (drop 4 s)) (little_bytes 2 number)))
+    (not (bytes_eq (take 2 (drop 6 s)) (little_bytes 2 (length s - 8))) || nat_lt 4160 (length s))
 
 -- Of no bytes is the fault that the key is spent.
 fault_not_spent : (key iv id : List ℕ) (number : ℕ) (s : List ℕ) → fault_of key iv id number s ≢ Some KeySpent

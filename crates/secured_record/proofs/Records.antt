@@ -1,6 +1,6 @@
 -- A record of an inner message opens to it, and what opens is a record of its inner message.
 use Rattle.std.proofs.Common.{◌≡◌, ℕ, ◌+◌, ◌-◌, ◌/◌, ◌%◌, ◌<◌, ◌≤◌, List, [], ◌∷◌, ◌++◌, length, take, drop, refl, ap, sym, ◌∙◌, arith, length-append, append_assoc, length-drop, get_or}
-use Rattle.std.specs.Prelude.{Bool, true, false, not, nat_lt, ◌||◌, Option, Some, None}
+use Rattle.std.specs.Prelude.{Bool, true, false, not, nat_lt, ◌||◌, Option, Some, None, bytes_eq}
 use Rattle.std.proofs.Math.Seq.{take-append_seam, drop-append_seam, take-add}
 use Rattle.std.proofs.lemmas.List.{take-append-drop, length-take-le}
 use Rattle.std.proofs.lemmas.Bool.{le-ltb, ltb-false}
@@ -11,11 +11,11 @@ use Rattle.aes_gcm.proofs.Tags.{length-tag_of}
 use Rattle.aes_gcm.proofs.Twice.{crypt-crypt, length-crypt}
 use Rattle.secured_record.specs.Format.{header, nonce, plain_text, sealed_text, record_of}
 use Rattle.secured_record.specs.Contents.{IsRecordOf}
-use Rattle.secured_record.specs.Faults.{header_fault, text_part, tag_part, is_authentic, opened_text, fault_behind, fault_of, inner_of, same_bytes}
+use Rattle.secured_record.specs.Faults.{header_fault, text_part, tag_part, is_authentic, opened_text, fault_behind, fault_of, inner_of}
 use Rattle.spdm_basis.specs.Tests.{first_of_tests}
 use Rattle.spdm_basis.specs.declared.record_fault.RecordFault.{RecordFault}
 use Rattle.spdm_basis.specs.declared.record_fault.RecordFault.TheVariants.{Short, WrongId, WrongNumber, WrongLength, BadTag, BadInnerLength}
-use Rattle.secured_record.proofs.Same.{same-true, true-same}
+use Rattle.std.proofs.lemmas.Slice.Eq.{bytes_eq-Decides}
 
 none_of_header : (a b c d e : Bool) → a ≡ false → b ≡ true → c ≡ true → d ≡ true → e ≡ false →
     first_of_tests ((a, Short) ∷ (not b, WrongId) ∷ (not c, WrongNumber) ∷ (not d || e, WrongLength) ∷ []) ≡ None
@@ -63,9 +63,9 @@ header_fault-record key iv req rsp number inner pad h =
     let size : length s ≡ length t + 24 = omega (arith, length-append c g, length-crypt key n t, length-tag_of key n (header id number (length t + 16)) c) in
     let count : length t + 16 ≡ length s - 8 = omega arith in
     let least : 26 ≤ length s = omega (arith, length-append inner pad) in
-    none_of_header (nat_lt (length s) 26) (same_bytes (take 4 s) id) (same_bytes (take 2 (drop 4 s)) (little_bytes 2 number)) (same_bytes (take 2 (drop 6 s)) (little_bytes 2 (length s - 8))) (nat_lt 4160 (length s))
-    (le-ltb (length s) 26 least) (same-true id id refl) (same-true (little_bytes 2 number) (little_bytes 2 number) refl)
-    (same-true (little_bytes 2 (length t + 16)) (little_bytes 2 (length s - 8)) (ap (little_bytes 2) count)) (le-ltb 4160 (length s) h)
+    none_of_header (nat_lt (length s) 26) (bytes_eq (take 4 s) id) (bytes_eq (take 2 (drop 4 s)) (little_bytes 2 number)) (bytes_eq (take 2 (drop 6 s)) (little_bytes 2 (length s - 8))) (nat_lt 4160 (length s))
+    (le-ltb (length s) 26 least) ((bytes_eq-Decides id id).1 refl) ((bytes_eq-Decides (little_bytes 2 number) (little_bytes 2 number)).1 refl)
+    ((bytes_eq-Decides (little_bytes 2 (length t + 16)) (little_bytes 2 (length s - 8))).1 (ap (little_bytes 2) count)) (le-ltb 4160 (length s) h)
 
 text_part-record : (key iv : List ℕ) (req rsp number : ℕ) (inner pad : List ℕ)
     → text_part (record_of key iv (session_id_bytes req rsp) number inner pad) ≡ crypt key (nonce iv number) (plain_text inner pad)
@@ -93,14 +93,14 @@ is_authentic-record key iv req rsp number inner pad =
     let c = crypt key n t in
     let h = header id number (length t + 16) in
     let s = record_of key iv id number inner pad in
-    same-true (tag_part s) (tag_of key n (take 8 s) (text_part s))
+    (bytes_eq-Decides (tag_part s) (tag_of key n (take 8 s) (text_part s))).1
     (tag_part-append c (tag_of key n h c) (length-tag_of key n h c) ∙ sym (ap (tag_of key n h) (text_part-record key iv req rsp number inner pad)))
 
 pub fault_behind-none : (f : Option RecordFault) (key iv : List ℕ) (number : ℕ) (s : List ℕ) → f ≡ None → is_authentic key iv number s ≡ true
     → nat_lt (length (opened_text key iv number s) - 2) (little_number 2 (opened_text key iv number s)) ≡ false → fault_behind f key iv number s ≡ None
 fault_behind-none f key iv number s e a b = rw e (none_of_text _ _ a b)
 
-inner_length : (a : ℕ) (rest : List ℕ) → a < 65536 → little_number 2 (little_bytes 2 a ++ rest) ≡ a
+pub inner_length : (a : ℕ) (rest : List ℕ) → a < 65536 → little_number 2 (little_bytes 2 a ++ rest) ≡ a
 inner_length a rest h = omega arith
 
 -- A record of an inner message and padding has no fault, and holds the inner message.
@@ -181,10 +181,10 @@ opened_is_record key iv id number s none spelled =
     let b = text_part s in
     let o = crypt key n b in
     let p = fault_behind_parts (header_fault id number s) key iv number s none in
-    let q = header_of_none (nat_lt (length s) 26) (same_bytes (take 4 s) id) (same_bytes (take 2 (drop 4 s)) (little_bytes 2 number)) (same_bytes (take 2 (drop 6 s)) (little_bytes 2 (length s - 8))) (nat_lt 4160 (length s)) p.0 in
+    let q = header_of_none (nat_lt (length s) 26) (bytes_eq (take 4 s) id) (bytes_eq (take 2 (drop 4 s)) (little_bytes 2 number)) (bytes_eq (take 2 (drop 6 s)) (little_bytes 2 (length s - 8))) (nat_lt 4160 (length s)) p.0 in
     let least : 26 ≤ length s = ltb-false (length s) 26 q.0 in
-    let whole = rejoined key iv id number s least (true-same (take 4 s) id q.1) (true-same (take 2 (drop 4 s)) (little_bytes 2 number) q.2)
-    (true-same (take 2 (drop 6 s)) (little_bytes 2 (length s - 8)) q.3) (true-same (tag_part s) (tag_of key n (take 8 s) b) p.1) in
+    let whole = rejoined key iv id number s least ((bytes_eq-Decides (take 4 s) id).0 q.1) ((bytes_eq-Decides (take 2 (drop 4 s)) (little_bytes 2 number)).0 q.2)
+    ((bytes_eq-Decides (take 2 (drop 6 s)) (little_bytes 2 (length s - 8))).0 q.3) ((bytes_eq-Decides (tag_part s) (tag_of key n (take 8 s) b)).0 p.1) in
     let b_long : length b ≡ length (drop 8 s) - 16 = length-take-le (length (drop 8 s) - 16) (drop 8 s) (omega arith) in
     let o_least : 2 ≤ length o = omega (arith, length-crypt key n b, length-drop 8 s) in (
       drop (little_number 2 o) (drop 2 o),

@@ -5,15 +5,12 @@ use Rattle.byteorder.specs.Endian.{little_bytes, little_number}
 use Rattle.spdm_basis.specs.SessionIdBytes.{session_id_bytes}
 use Rattle.secured_record.specs.Format.{plain_text, record_of}
 use Rattle.secured_record.specs.Faults.{opened_text}
-use Rattle.secured_record.proofs.Records.{opened_text-record}
-
-length_in : (n : ℕ) (rest : List ℕ) → n < 65536 → little_number 2 (little_bytes 2 n ++ rest) ≡ n
-length_in n rest h = omega arith
+use Rattle.secured_record.proofs.Records.{inner_length, opened_text-record}
 
 -- The text of a record tells both.
 pub text_tells : (inner other pad padding : List ℕ) → length inner < 65536 → length other < 65536 → plain_text inner pad ≡ plain_text other padding → (inner ≡ other) × (pad ≡ padding)
 text_tells inner other pad padding less few same =
-    let long : length inner ≡ length other = sym (length_in (length inner) (inner ++ pad) less) ∙ ap (little_number 2) same ∙ length_in (length other) (other ++ padding) few in
+    let long : length inner ≡ length other = sym (inner_length (length inner) (inner ++ pad) less) ∙ ap (little_number 2) same ∙ inner_length (length other) (other ++ padding) few in
     let rest : inner ++ pad ≡ other ++ padding = ap (λ (l : List ℕ). drop 2 l) same in (
       sym (take-append_seam inner pad) ∙ ap (λ (n : ℕ). take n (inner ++ pad)) long ∙ ap (λ (l : List ℕ). take (length other) l) rest ∙ take-append_seam other padding,
       sym (drop-append_seam inner pad) ∙ ap (λ (n : ℕ). drop n (inner ++ pad)) long ∙ ap (λ (l : List ℕ). drop (length other) l) rest ∙ drop-append_seam other padding,

@@ -1,5 +1,5 @@
 -- What bytes are not a record for, and what a record holds. The order of the tests is this project's own.
-use Rattle.std.specs.Prelude.{ℕ, ◌-◌, Bool, true, false, ◌==◌, ◌&&◌, ◌||◌, not, nat_lt, List, [], ◌∷◌, length, take, drop, Option, Some, None}
+use Rattle.std.specs.Prelude.{ℕ, ◌-◌, Bool, ◌||◌, not, nat_lt, List, [], ◌∷◌, length, take, drop, bytes_eq, Option, Some, None}
 use Rattle.spdm_basis.specs.Tests.{first_of_tests}
 use Rattle.byteorder.specs.Endian.{little_bytes, little_number}
 use Rattle.aes_gcm.specs.Gcm.{crypt, tag_of}
@@ -7,20 +7,13 @@ use Rattle.secured_record.specs.Format.{nonce}
 use Rattle.spdm_basis.specs.declared.record_fault.RecordFault.{RecordFault}
 use Rattle.spdm_basis.specs.declared.record_fault.RecordFault.TheVariants.{Short, WrongId, WrongNumber, WrongLength, BadTag, BadInnerLength}
 
--- Two lists of bytes are the same.
-abbrev pub same_bytes : List ℕ → List ℕ → Bool
-same_bytes [] [] = true
-same_bytes (x ∷ xs) (y ∷ ys) = x == y && same_bytes xs ys
-same_bytes [] (y ∷ ys) = false
-same_bytes (x ∷ xs) [] = false
-
 -- The faults that are seen without the key: fewer bytes than a record without inner message and padding has, another session id, another number, a length field that is not the count of bytes behind it, and more bytes than a record may have.
 unfoldable pub header_fault : List ℕ → ℕ → List ℕ → Option RecordFault
 header_fault id number sealed = first_of_tests (
     (nat_lt (length sealed) 26, Short)
-    ∷ (not (same_bytes (take 4 sealed) id), WrongId)
-    ∷ (not (same_bytes (take 2 (drop 4 sealed)) (little_bytes 2 number)), WrongNumber)
-    ∷ (not (same_bytes (take 2 (drop 6 sealed)) (little_bytes 2 (length sealed - 8))) || nat_lt 4160 (length sealed), WrongLength)
+    ∷ (not (bytes_eq (take 4 sealed) id), WrongId)
+    ∷ (not (bytes_eq (take 2 (drop 4 sealed)) (little_bytes 2 number)), WrongNumber)
+    ∷ (not (bytes_eq (take 2 (drop 6 sealed)) (little_bytes 2 (length sealed - 8))) || nat_lt 4160 (length sealed), WrongLength)
     ∷ [])
 
 -- The encrypted text of a record, between its header and its tag, and the tag, its last 16 bytes.
@@ -32,7 +25,7 @@ tag_part sealed = drop (length (drop 8 sealed) - 16) (drop 8 sealed)
 
 -- The tag of a record is that of its header and text.
 unfoldable pub is_authentic : List ℕ → List ℕ → ℕ → List ℕ → Bool
-is_authentic key iv number sealed = same_bytes (tag_part sealed) (tag_of key (nonce iv number) (take 8 sealed) (text_part sealed))
+is_authentic key iv number sealed = bytes_eq (tag_part sealed) (tag_of key (nonce iv number) (take 8 sealed) (text_part sealed))
 
 -- The text of a record, decrypted.
 unfoldable pub opened_text : List ℕ → List ℕ → ℕ → List ℕ → List ℕ

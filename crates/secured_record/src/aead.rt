@@ -1,4 +1,4 @@
-ghost use Rattle.std.specs.Prelude.{◌≡◌, length};
+ghost use Rattle.std.specs.Prelude.{◌≡◌, length, bytes_eq};
 ghost use Rattle.spdm_basis.specs.Sizes.{key_size};
 
 use aes_gcm::{Aes128Gcm, Aes256Gcm, BadTag};
@@ -19,7 +19,6 @@ impl RecordCipher {
     ghost use Rattle.aes_gcm.specs.Gcm.{crypt, tag_of};
     ghost use Rattle.aes_gcm.specs.Behind.{crypt_behind};
     ghost use Rattle.secured_record.specs.Ciphers.{cipher_key};
-    ghost use Rattle.secured_record.specs.Faults.{same_bytes};
 
     // The cipher of an AEAD under a key.
     pub fn new(aead: AeadAlg, key: &[u8]) -> RecordCipher
@@ -63,8 +62,10 @@ impl RecordCipher {
     ) -> Result<(), BadTag>
         requires aad { length aad.now ≤ 65535 }
         requires text { length text.now ≤ 65535 }
-        ensures opens { IsOk result ↔ (tag.now ≡ tag_of (cipher_key self.now) iv.now aad.now text.now) }
-        ensures computed { IfErr result (λ e. e.computed ≡ tag_of (cipher_key self.now) iv.now aad.now text.now) }
+        ensures opens { IsOk result
+            ↔ (tag.now ≡ tag_of (cipher_key self.now) iv.now aad.now text.now) }
+        ensures computed { IfErr result
+            (λ e. e.computed ≡ tag_of (cipher_key self.now) iv.now aad.now text.now) }
     {
         match self {
             RecordCipher::Short(cipher) => cipher.verify(iv, aad, text, tag),
@@ -82,8 +83,10 @@ impl RecordCipher {
     ) -> Result<(), BadTag>
         requires aad { length aad.now ≤ 65535 }
         requires text { length text.now ≤ 65535 }
-        ensures opens { is_ok result ≡ same_bytes tag.now (tag_of (cipher_key self.now) iv.now aad.now text.now) }
-        ensures computed { IfErr result (λ e. e.computed ≡ tag_of (cipher_key self.now) iv.now aad.now text.now) }
+        ensures opens { is_ok result
+            ≡ bytes_eq tag.now (tag_of (cipher_key self.now) iv.now aad.now text.now) }
+        ensures computed { IfErr result
+            (λ e. e.computed ≡ tag_of (cipher_key self.now) iv.now aad.now text.now) }
     {
         self.verify_tag(iv, aad, text, tag)
     }

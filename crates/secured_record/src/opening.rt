@@ -1,4 +1,4 @@
-ghost use Rattle.std.specs.Prelude.{◌≡◌, ◌≢◌, ◌≤◌, ◌+◌, ◌-◌, ◌++◌, ℕ, List, None, Some, true, false, nat_lt, min, IsOk, OnOk, OnErr, IfErr, MatchResult, is_ok, length, take, drop};
+ghost use Rattle.std.specs.Prelude.{◌≡◌, ◌≢◌, ◌≤◌, ◌+◌, ◌-◌, ◌++◌, ℕ, List, None, Some, true, false, nat_lt, min, IsOk, OnOk, OnErr, IfErr, MatchResult, is_ok, length, bytes_eq, take, drop};
 ghost use Rattle.byteorder.specs.Endian.{little_bytes, little_number};
 ghost use Rattle.spdm_basis.specs.Sizes.{key_size};
 ghost use Rattle.aes_gcm.specs.Gcm.{crypt};
@@ -7,7 +7,7 @@ ghost use Rattle.secured_record.specs.Ciphers.{cipher_key};
 ghost use Rattle.spdm_basis.specs.SessionIdBytes.{session_id_bytes};
 ghost use Rattle.secured_record.specs.Format.{key_of, iv_of, record_of};
 ghost use Rattle.secured_record.specs.Contents.{IsRecordOf};
-ghost use Rattle.secured_record.specs.Faults.{same_bytes, header_fault, is_authentic, opened_text, text_part, fault_of, inner_of};
+ghost use Rattle.secured_record.specs.Faults.{header_fault, is_authentic, opened_text, text_part, fault_of, inner_of};
 
 use crate::RecordFault;
 use crate::aead::RecordCipher;
@@ -25,7 +25,7 @@ const MOST: usize = 4160;
 
 // Whether bytes are the same.
 fn same_bytes(a: &[u8], b: &[u8]) -> bool
-    ensures { result ≡ same_bytes a.now b.now }
+    ensures { result ≡ bytes_eq a.now b.now }
 {
     a == b
 }

@@ -15,8 +15,8 @@ use key_schedule::DirectionKey;
 use spdm_basis::{RecordFrame, SessionId};
 use std::marker::Model;
 
-/// The key of a direction with its cipher set up once, for many records. Contracts see what they see of
-/// the key of the direction.
+/// The key of a direction with its cipher set up once, for many records. Contracts see what they
+/// see of the key of the direction.
 #[derive(Drop)]
 pub struct RecordKey {
     direction: DirectionKey,
@@ -45,9 +45,9 @@ impl RecordKey {
         RecordKey { direction, cipher }
     }
 
-    /// The key that follows by a key update (DSP0274, "KEY_UPDATE"), with the next epoch. The caller's
-    /// epoch is below 2^64 - 1.
-    pub fn next(self) -> RecordKey
+    /// The key that follows by a key update (DSP0274, "KEY_UPDATE"), with the next epoch. The
+    /// caller's epoch is below 2^64 - 1.
+    pub fn next(mut self) -> RecordKey
         requires { self.epoch < 2 ^ 64 - 1 }
         ensures value { result
             ≡ record self {
@@ -57,11 +57,24 @@ impl RecordKey {
         ensures purpose { (p : Purpose) → IsSecretOf self p
             → IsSecretOf result (record p { epoch = p.epoch + 1 }) }
     {
-        let RecordKey {
-            direction,
-            cipher: _,
-        } = self;
-        RecordKey::new(direction.next())
+        self.update();
+        self
+    }
+
+    /// Steps to the key that follows by a key update, as `next` does, in place. The caller's epoch
+    /// is below 2^64 - 1.
+    pub fn update(&mut self)
+        requires { self.old.epoch < 2 ^ 64 - 1 }
+        ensures value { self.new
+            ≡ record self.old {
+              secret = updated_secret (hash_of self.old.hash) self.old.secret;
+              epoch = self.old.epoch + 1;
+            } }
+        ensures purpose { (p : Purpose) → IsSecretOf self.old p
+            → IsSecretOf self.new (record p { epoch = p.epoch + 1 }) }
+    {
+        self.direction.update();
+        self.cipher = RecordCipher::new(self.direction.aead(), self.direction.key());
     }
 
     /// How many key updates led to this key.
@@ -115,7 +128,8 @@ impl RecordKey {
         ensures unchanged { OnErr result (out.new ≡ out.old) }
         ensures not_spent { IfErr result (λ e. e ≢ RecordFault.KeySpent) }
 
-        // What opens is a record of its inner message, and each record of at most 4,160 bytes opens.
+        // What opens is a record of its inner message, and each record of at most 4,160 bytes
+        // opens.
         ensures record { OnOk result
             (IsRecordOf (key_of self.now) (iv_of self.now)
             (session_id_bytes id.req id.rsp) number sealed.now out.new) }

@@ -2,7 +2,7 @@
 use Rattle.std.proofs.Common.{◌≡◌, ◌≤◌, ◌∙◌, ap, sym, subst, refl, ℕ, ◌+◌, ◌-◌, List, Bool, length, length-append, take, drop, arith}
 use Rattle.std.proofs.lemmas.Bool.Decides.{nat_tests}
 use Rattle.std.proofs.lemmas.Option.{none-some}
-use Rattle.std.specs.Prelude.{if◌then◌else◌, nat_lt, Option, Result, Ok, Err, None, Some, MatchResult, OnOk, IsOk}
+use Rattle.std.specs.Prelude.{if◌then◌else◌, nat_lt, Option, Result, Ok, Err, None, Some, MatchResult, OnOk, IsOk, bytes_eq}
 use Rattle.byteorder.specs.Endian.{little_bytes}
 use Rattle.key_schedule.specs.Keys.{DirectionSecret}
 use Rattle.key_schedule.specs.Purpose as purpose
@@ -11,7 +11,7 @@ use Rattle.key_schedule.specs.Purpose.{Purpose, IsSecretOf, AreSecretsOf, is_rec
 use Rattle.key_schedule.specs.declared.direction.Direction.{Direction}
 use Rattle.key_schedule.specs.Schedule.{record_key, record_iv, finished_key}
 use Rattle.running_hash.specs.Hash.{hash_of}
-use Rattle.secured_record.specs.Faults.{fault_of, header_fault, fault_behind, inner_of, same_bytes}
+use Rattle.secured_record.specs.Faults.{fault_of, header_fault, fault_behind, inner_of}
 use Rattle.secured_record.specs.Format as format
 use Rattle.secured_record.specs.Format.{record_of, plain_text}
 use Rattle.secured_record.proofs.Records.{header_of_none}
@@ -101,7 +101,7 @@ no_header_fault (Some fault) key iv number sealed h = absurd (none-some fault (s
 header_fits : (id : List ℕ) (number : ℕ) (sealed : List ℕ) → header_fault id number sealed ≡ None → length sealed ≤ 4160
 unfolding header_fault
 header_fits id number sealed h =
-    let long = (header_of_none (nat_lt (length sealed) 26) (same_bytes (take 4 sealed) id) (same_bytes (take 2 (drop 4 sealed)) (little_bytes 2 number)) (same_bytes (take 2 (drop 6 sealed)) (little_bytes 2 (length sealed - 8))) (nat_lt 4160 (length sealed)) h).4 in
+    let long = (header_of_none (nat_lt (length sealed) 26) (bytes_eq (take 4 sealed) id) (bytes_eq (take 2 (drop 4 sealed)) (little_bytes 2 number)) (bytes_eq (take 2 (drop 6 sealed)) (little_bytes 2 (length sealed - 8))) (nat_lt 4160 (length sealed)) h).4 in
     grind (arith, nat_tests)
 
 pub opened_fits : {U : Type 0} (r : Result U RecordFault) (key iv id : List ℕ) (number : ℕ) (sealed : List ℕ)

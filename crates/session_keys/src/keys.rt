@@ -1,4 +1,4 @@
-ghost use Rattle.std.specs.Prelude.{◌≡◌, ◌≤◌, ◌+◌, None, Some, OnOk, MatchResult, length};
+ghost use Rattle.std.specs.Prelude.{◌≡◌, ◌≤◌, ◌+◌, None, Some, OnOk, OnErr, MatchResult, length};
 ghost use Rattle.key_schedule.specs.Purpose.{Purpose};
 ghost use Rattle.spdm_basis.specs.SessionIdBytes.{session_id_bytes};
 ghost use Rattle.spdm_grammar.specs.declared.choice.Choice.{Choice};
@@ -8,8 +8,8 @@ ghost use Rattle.session_keys.specs.Keys.{IsKeyOf};
 use secured_record::{RecordFault, RecordKey};
 use spdm_basis::{Buffer, RecordFrame, SessionId};
 
-/// Writes the record of an inner message and padding under the key of a purpose, in place of what `out` holds.
-/// Together they have at most 4,134 bytes.
+/// Writes the record of an inner message and padding under the key of a purpose, in place of what
+/// `out` holds. Together they have at most 4,134 bytes.
 pub fn seal_record(
     key: &RecordKey,
     id: SessionId,
@@ -26,7 +26,8 @@ pub fn seal_record(
     let _ = key.seal(id, number, inner, pad, out);
 }
 
-/// Opens a record under the key of a purpose, and writes its inner message in place of what `out` holds.
+/// Opens a record under the key of a purpose, and writes its inner message in place of what `out`
+/// holds.
 pub fn open_record(
     key: &RecordKey,
     id: SessionId,
@@ -40,12 +41,13 @@ pub fn open_record(
     ensures inner { (choice : Choice) (p : Purpose) → IsKeyOf key.now choice p
         → OnOk result (out.new ≡ inner_message choice p number sealed.now) }
     ensures fits { OnOk result (length sealed.now ≤ 4160) }
+    ensures unchanged { OnErr result (out.new ≡ out.old) }
 {
     key.open(id, number, sealed, out)
 }
 
-/// The record of an inner message of at most 1,025 bytes, with at most 16 bytes of padding, under the key of a
-/// purpose.
+/// The record of an inner message of at most 1,025 bytes, with at most 16 bytes of padding, under
+/// the key of a purpose.
 pub fn seal_inner(
     key: &RecordKey,
     id: SessionId,

@@ -1,5 +1,6 @@
-//! What both ends of a session under a pre-shared key do alike (DSP0274, "Session" and "Key schedule"; DSP0277):
-//! the keys of its handshake and behind it, its verify data, and its records. No call takes memory.
+//! What both ends of a session under a pre-shared key do alike (DSP0274, "Session" and "Key
+//! schedule"; DSP0277): the keys of its handshake and behind it, its verify data, and its records.
+//! No call takes memory.
 #![tactic(auto)]
 
 mod handshake;

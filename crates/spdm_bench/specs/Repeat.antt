@@ -28,7 +28,8 @@ unfoldable pub last_tag : List ℕ → ℕ → List ℕ
 last_tag text zero = replicate 16 0
 last_tag text (suc n) = tag_of zero_key (iv_of n) aad (sealed text (suc n))
 
--- The code of the last of n messages of this many bytes, and zeros where there is none. Each byte of message k is the lowest byte of k.
+-- The code of the last of n messages of this many bytes, and zeros where there is none. Each byte
+-- of message k is the lowest byte of k.
 unfoldable pub last_code : ℕ → ℕ → List ℕ
 last_code size zero = replicate 32 0
 last_code size (suc n) = hmac (hash_of Sha256) zero_key (replicate size (n % 256))

@@ -2,12 +2,18 @@ use std::alloc::AllocError;
 use std::io;
 use thiserror::Error;
 
-/// Why the program printed no tag.
+/// Why the program printed nothing.
 #[derive(Debug, Drop, Error)]
 pub enum BenchError {
     /// The words ask for no work.
-    #[error("usage: spdm_bench gcm|hmac SIZE COUNT")]
+    #[error("usage: spdm_bench gcm|hmac|session|records SIZE COUNT")]
     Usage,
+    /// The handshake opened no session.
+    #[error("no session")]
+    NoSession,
+    /// A record was refused.
+    #[error("a record was refused")]
+    Refused,
     /// Memory ran out.
     #[error("out of memory")]
     OutOfMemory,

@@ -1,28 +1,38 @@
-//! The program `spdm_bench`: it seals or authenticates many messages, so that the time that this takes can
-//! be measured from outside. It tells no time itself.
+//! The program `spdm_bench`: it seals or authenticates many messages, or has a session send and
+//! answer them, so that the time that this takes can be measured from outside. It tells no time
+//! itself.
 #![tactic(auto)]
 
 mod answer;
 mod bench_error;
 mod repeat;
+mod talk;
 mod work;
 
 use answer::{last_code, last_tag};
 use bench_error::BenchError;
 use std::env;
 use std::rt::Env;
+use talk::{last_of_records, last_of_session};
 use work::{Kind, Work};
 
-/// Does the work that the words behind the program's name ask for, and prints the last tag or code in
-/// hexadecimal.
+/// Does the work that the words behind the program's name ask for, and prints the last tag, code or
+/// record in hexadecimal.
 fn main(rt: HostRuntime) -> Result<(), BenchError> {
     let work = asked(&rt)?;
     let last = match work.kind {
         Kind::Gcm => last_tag(rt.alloc(), work.size, work.count)?,
         Kind::Hmac => last_code(rt.alloc(), work.size, work.count)?,
+        Kind::Session => last_of_session(rt.alloc(), work.size, few(work.count)?)?,
+        Kind::Records => last_of_records(rt.alloc(), work.size, few(work.count)?)?,
     };
     println!(rt; "{last}")?;
     Ok(())
+}
+
+// A count of records, which have numbers of 16 bits.
+fn few(count: u64) -> Result<u16, BenchError> {
+    u16::try_from(count).map_err(|_| BenchError::Usage)
 }
 
 fn asked(rt: &(impl Env + AllocGlobal)) -> Result<Work, BenchError> {

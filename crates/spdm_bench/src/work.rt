@@ -8,6 +8,10 @@ pub enum Kind {
     Gcm,
     /// It is authenticated by HMAC over SHA-256.
     Hmac,
+    /// A session sends it as application data, and it is sent back.
+    Session,
+    /// The records of that are sealed and opened alone.
+    Records,
 }
 
 fn kind_named(word: &str) -> Option<Kind>
@@ -16,6 +20,8 @@ fn kind_named(word: &str) -> Option<Kind>
     match word {
         "gcm" => Some(Kind::Gcm),
         "hmac" => Some(Kind::Hmac),
+        "session" => Some(Kind::Session),
+        "records" => Some(Kind::Records),
         _ => None,
     }
 }
@@ -33,8 +39,8 @@ pub struct Work {
 }
 
 impl Work {
-    /// The work of the words `gcm SIZE COUNT` or `hmac SIZE COUNT`, with a size of at most 65,535 and both
-    /// numbers in decimal, and `None` for others.
+    /// The work of the words `KIND SIZE COUNT`, where the kind is `gcm`, `hmac`, `session` or
+    /// `records`, with a size of at most 65,535 and both numbers in decimal, and `None` for others.
     pub fn of(words: &[String]) -> Option<Work>
         ensures kind { IfSome result (λ work. kind_named (slice_index_or
             (map string_bytes words.now) 0 []) ≡ Some work.kind) }

@@ -1,6 +1,7 @@
 ghost use Rattle.std.specs.Prelude.{◌≡◌, ◌≤◌, ◌<◌, ◌++◌, length, OnOk, IfSome, Option};
 ghost use Rattle.std.specs.Option.{option_map};
 ghost use Rattle.mctp_framing.specs.Cutting.{packets_of, route_of};
+ghost use Rattle.spdm_grammar.specs.declared.names.TheConstants.{MAX_MESSAGE_SIZE};
 ghost use Rattle.spdm_cmd.specs.Body.{body_of, clear_in, clear_of};
 
 use crate::packets::Packets;
@@ -37,7 +38,7 @@ pub fn clear_in(packet: &[u8], own: Eid, peer: Eid, owner: bool) -> Option<Clear
 
 /// Sends a message of up to 4,096 bytes in the clear: the packets of its body are added at the end.
 pub fn send(message: &[u8], unit: usize, route: Route, out: &mut Packets) -> Result<(), OutOfMemory>
-    requires few { length message.now ≤ 4096 }
+    requires few { length message.now ≤ MAX_MESSAGE_SIZE }
     requires low { 64 ≤ unit }
     requires high { unit ≤ 1024 }
     ensures { OnOk result (out.new

@@ -33,7 +33,12 @@ impl Model for Requester {
 
     ghost Value = { RequesterSeen };
 
-    ghost view = { λ r. record { setup = r.setup; phase = r.phase; next_tag = r.next_tag; outstanding = r.outstanding } };
+    ghost view = { λ r. record {
+      setup = r.setup;
+      phase = r.phase;
+      next_tag = r.next_tag;
+      outstanding = r.outstanding;
+    } };
 
     ghost invariant = { λ r. (64 ≤ r.setup.unit) × (r.setup.unit ≤ 1024) × (r.next_tag < 8) };
 }

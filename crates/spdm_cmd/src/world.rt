@@ -45,7 +45,12 @@ impl Model for World {
 
     ghost Value = { WorldSeen };
 
-    ghost view = { λ w. record { setup = w.setup; requester = w.requester; responder = w.responder; link = w.link } };
+    ghost view = { λ w. record {
+      setup = w.setup;
+      requester = w.requester;
+      responder = w.responder;
+      link = w.link;
+    } };
 
     ghost invariant = { λ w. (w.requester.setup ≡ w.setup) × (w.responder.setup ≡ w.setup) };
 }

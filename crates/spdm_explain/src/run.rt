@@ -34,18 +34,27 @@ pub fn run<S: Source, K: Sink>(
     sink: &mut K,
 ) -> Outcome
     // What is written is what the reader of the form says of the text.
-    ensures good { result ≡ Outcome.Good → (form : Form) (text : List ℕ) → form_of (map string_bytes words.now) ≡ Some form → S.remaining source.old ≡ Some text
-        → (said_of form text ≡ Good) × Takes (K.contents sink.old) (report_text Good) (K.contents sink.new) }
-    ensures bad { result ≡ Outcome.Bad → (form : Form) (text : List ℕ) → form_of (map string_bytes words.now) ≡ Some form → S.remaining source.old ≡ Some text
-        → IsBad (said_of form text) × Takes (K.contents sink.old) (report_text (said_of form text)) (K.contents sink.new) }
+    ensures good { result ≡ Outcome.Good → (form : Form) (text : List ℕ)
+        → form_of (map string_bytes words.now) ≡ Some form → S.remaining source.old ≡ Some text
+        → (said_of form text ≡ Good)
+        × Takes (K.contents sink.old) (report_text Good) (K.contents sink.new) }
+    ensures bad { result ≡ Outcome.Bad → (form : Form) (text : List ℕ)
+        → form_of (map string_bytes words.now) ≡ Some form → S.remaining source.old ≡ Some text
+        → IsBad (said_of form text)
+        × Takes (K.contents sink.old) (report_text (said_of form text)) (K.contents sink.new) }
 
     ensures usage { (result ≡ Outcome.Usage) ↔ (form_of (map string_bytes words.now) ≡ None) }
-    ensures read_fault { result ≡ Outcome.ReadFault → HasFault (S.faults source.old) (S.faults source.new) }
-    ensures write_fault { result ≡ Outcome.WriteFault → HasFault (K.faults sink.old) (K.faults sink.new) }
-    ensures tells { (form : Form) (text : List ℕ) → form_of (map string_bytes words.now) ≡ Some form → S.remaining source.old ≡ Some text
-        → IsQuiet (S.faults source.old) (S.faults source.new) → IsQuiet (K.faults sink.old) (K.faults sink.new) → length text ≤ TEXT_LIMIT
+    ensures read_fault { result ≡ Outcome.ReadFault
+        → HasFault (S.faults source.old) (S.faults source.new) }
+    ensures write_fault { result ≡ Outcome.WriteFault
+        → HasFault (K.faults sink.old) (K.faults sink.new) }
+    ensures tells { (form : Form) (text : List ℕ) → form_of (map string_bytes words.now) ≡ Some form
+        → S.remaining source.old ≡ Some text
+        → IsQuiet (S.faults source.old) (S.faults source.new)
+        → IsQuiet (K.faults sink.old) (K.faults sink.new) → length text ≤ TEXT_LIMIT
         → ((result ≡ Outcome.Good) ⊎ (result ≡ Outcome.Bad)) ⊎ (result ≡ Outcome.OutOfMemory) }
-    ensures too_long { result ≡ Outcome.TooLong → (text : List ℕ) → S.remaining source.old ≡ Some text → TEXT_LIMIT < length text }
+    ensures too_long { result ≡ Outcome.TooLong → (text : List ℕ)
+        → S.remaining source.old ≡ Some text → TEXT_LIMIT < length text }
 {
     let Some(form) = form_of(words) else {
         return Outcome::Usage;

@@ -170,6 +170,10 @@ pub const MIN_DATA_TRANSFER_SIZE: u32 = 42;
 /// The greatest length of an SPDM message, in bytes, whatever an end announces. This project's own limit.
 pub const MAX_MESSAGE_SIZE: u32 = 4096;
 
+/// The length of MEASUREMENTS without its record and its opaque data, in bytes (DSP0274, "MEASUREMENTS
+/// response message format").
+pub const MEASUREMENTS_FIELDS_LEN: u32 = 42;
+
 /// Bits of BaseHashAlgo and BaseHashSel (DSP0274, "NEGOTIATE_ALGORITHMS request message format").
 pub mod base_hash {
     pub const SHA_256: u32 = 1;

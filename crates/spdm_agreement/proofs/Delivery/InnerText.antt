@@ -4,15 +4,13 @@ use Rattle.std.proofs.Math.Seq.{take-append_seam}
 use Rattle.std.proofs.lemmas.Bool.{lt-leb}
 use Rattle.byteorder.specs.Endian.{little_number, little_bytes}
 use Rattle.secured_record.specs.Format.{plain_text}
+use Rattle.secured_record.proofs.Records.{inner_length}
 use Rattle.world_machine.specs.Agreement.{some_under}
 use Rattle.spdm_agreement.specs.Claims.{in_order}
 use Rattle.spdm_agreement.proofs.Delivery.Data.{inner_in, is_data_inner, is_data_text, data_in}
 
-front_length : (n : ℕ) (rest : List ℕ) → n < 65536 → little_number 2 (little_bytes 2 n ++ rest) ≡ n
-front_length n rest less = omega arith
-
 pub inner_is : (inner pad : List ℕ) → length inner < 65536 → inner_in (plain_text inner pad) ≡ inner
-inner_is inner pad less = ap (λ (n : ℕ). take n (inner ++ pad)) (front_length (length inner) (inner ++ pad) less) ∙ take-append_seam inner pad
+inner_is inner pad less = ap (λ (n : ℕ). take n (inner ++ pad)) (inner_length (length inner) (inner ++ pad) less) ∙ take-append_seam inner pad
 
 -- Application data that are sealed.
 pub data_text : (bytes pad : List ℕ) → length bytes ≤ 1024 → (is_data_text (plain_text (1 ∷ bytes) pad) ≡ true) × (data_in (plain_text (1 ∷ bytes) pad) ≡ bytes)

@@ -1,6 +1,6 @@
 -- What the tag of a record is computed over is what its text and its session make it.
 use Rattle.std.proofs.Common.{◌≡◌, ℕ, ◌+◌, ◌-◌, ◌≤◌, List, [], ◌∷◌, ◌++◌, length, take, drop, Bool, true, false, None, refl, sym, ap, ◌∙◌, arith, length-append, length-drop}
-use Rattle.std.specs.Prelude.{not, nat_lt, ◌||◌}
+use Rattle.std.specs.Prelude.{not, nat_lt, ◌||◌, bytes_eq}
 use Rattle.std.proofs.Math.Seq.{take-append_seam, take-add}
 use Rattle.std.proofs.lemmas.Bool.{ltb-false}
 use Rattle.std.proofs.lemmas.List.{length-take-le}
@@ -9,10 +9,10 @@ use Rattle.aes_gcm.proofs.Tags.{length-tag_of}
 use Rattle.aes_gcm.proofs.Twice.{crypt-crypt, length-crypt}
 use Rattle.byteorder.specs.Endian.{little_bytes, little_number}
 use Rattle.key_schedule.specs.Purpose.{Purpose, key_of, iv_of}
-use Rattle.secured_record.specs.Faults.{header_fault, text_part, opened_text, inner_of, same_bytes}
+use Rattle.secured_record.specs.Faults.{header_fault, text_part, opened_text, inner_of}
 use Rattle.spdm_basis.specs.Tests.{first_of_tests}
 use Rattle.secured_record.specs.Format.{header, nonce, plain_text, record_of}
-use Rattle.secured_record.proofs.Same.{true-same}
+use Rattle.std.proofs.lemmas.Slice.Eq.{bytes_eq-Decides}
 use Rattle.spdm_basis.specs.declared.record_fault.RecordFault.TheVariants.{Short, WrongId, WrongNumber, WrongLength}
 use Rattle.spdm_grammar.specs.declared.choice.Choice.{Choice}
 use Rattle.spdm_machine.specs.Keys as keys
@@ -45,11 +45,11 @@ checked_input t p number s none =
     let key = key_of (first_terms t).choice.hash (first_terms t).choice.aead p in
     let iv = nonce (iv_of (first_terms t).choice.hash p) number in
     let id = first_id t in
-    let q = header_of_none (nat_lt (length s) 26) (same_bytes (take 4 s) id) (same_bytes (take 2 (drop 4 s)) (little_bytes 2 number)) (same_bytes (take 2 (drop 6 s)) (little_bytes 2 (length s - 8))) (nat_lt 4160 (length s)) none in
+    let q = header_of_none (nat_lt (length s) 26) (bytes_eq (take 4 s) id) (bytes_eq (take 2 (drop 4 s)) (little_bytes 2 number)) (bytes_eq (take 2 (drop 6 s)) (little_bytes 2 (length s - 8))) (nat_lt 4160 (length s)) none in
     let least : 26 ≤ length s = ltb-false (length s) 26 q.0 in
-    let e1 : take 4 s ≡ id = true-same (take 4 s) id q.1 in
-    let e2 : take 2 (drop 4 s) ≡ little_bytes 2 number = true-same (take 2 (drop 4 s)) (little_bytes 2 number) q.2 in
-    let e3 : take 2 (drop 6 s) ≡ little_bytes 2 (length s - 8) = true-same (take 2 (drop 6 s)) (little_bytes 2 (length s - 8)) q.3 in
+    let e1 : take 4 s ≡ id = (bytes_eq-Decides (take 4 s) id).0 q.1 in
+    let e2 : take 2 (drop 4 s) ≡ little_bytes 2 number = (bytes_eq-Decides (take 2 (drop 4 s)) (little_bytes 2 number)).0 q.2 in
+    let e3 : take 2 (drop 6 s) ≡ little_bytes 2 (length s - 8) = (bytes_eq-Decides (take 2 (drop 6 s)) (little_bytes 2 (length s - 8))).0 q.3 in
     let r = drop 8 s in
     let b = text_part s in
     let o = crypt key iv b in

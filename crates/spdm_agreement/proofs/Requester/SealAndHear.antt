@@ -9,7 +9,7 @@ use Rattle.requester_machine.specs.RequesterLog.{record_made, record_check}
 use Rattle.requester_machine.specs.Session.{Steps, stage_of, t2_of, session_terms, id_bytes, request_next}
 use Rattle.secured_record.specs.Faults.{header_fault, fault_behind, fault_of, is_authentic, tag_part}
 use Rattle.secured_record.specs.Format.{plain_text}
-use Rattle.secured_record.proofs.Same.{true-same}
+use Rattle.std.proofs.lemmas.Slice.Eq.{bytes_eq-Decides}
 use Rattle.spdm_basis.specs.declared.record_fault.RecordFault.{RecordFault}
 use Rattle.spdm_basis.specs.declared.record_fault.RecordFault.TheVariants.{BadTag}
 use Rattle.spdm_grammar.specs.declared.choice.Choice.{Choice}
@@ -75,7 +75,7 @@ pub opened_as : (choice : Choice) (p : Purpose) (number : ℕ) (id sealed : List
 unfolding record_fault fault_of is_authentic record_tag
 opened_as choice p number id sealed is =
     let l = no_fault_behind (header_fault id number sealed) (key_of choice.hash choice.aead p) (iv_of choice.hash p) number sealed is in
-    (l.0, sym (true-same _ _ l.1))
+    (l.0, sym ((bytes_eq-Decides _ _).0 l.1))
 
 pub answer_opened : (psk : List ℕ) (s : Steps) (ask : Ask) (sealed : List ℕ) → answer_fault psk s ask sealed ≡ None
     → (header_fault (id_bytes s) (answer_number s ask) sealed ≡ None) × (record_tag (session_terms s).choice (answer_purpose psk s ask) (answer_number s ask) sealed ≡ tag_part sealed)

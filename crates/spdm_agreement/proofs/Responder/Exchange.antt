@@ -2,7 +2,7 @@
 -- in the right verify data and holds the number of its draw.
 use Rattle.std.proofs.Common.{◌≡◌, ℕ, ◌+◌, ◌-◌, ◌≤◌, List, [], ◌∷◌, ◌++◌, length, take, drop, Bool, true, false, cond, Some, None, is_some, unwrap_or, ◌==◌, ◌&&◌, ◌||◌, refl, sym, ap, ap₂, ◌∙◌, subst, inl, inr, arith, true≢false, length-append, append_assoc, append-nil, drop-drop, replicate}
 use Rattle.std.proofs.Math.Seq.{take-append_seam, drop-append_seam}
-use Rattle.std.proofs.lemmas.List.{length-take-le, length-replicate}
+use Rattle.std.proofs.lemmas.List.{length-take-le}
 use Rattle.std.specs.Prelude.{if◌then◌else◌}
 use Rattle.measurements.specs.Blocks.{record_of}
 use Rattle.std.proofs.lemmas.Slice.Eq.{bytes_eq-Decides}
@@ -44,7 +44,7 @@ use Rattle.spdm_agreement.specs.Configured.{IsResponder}
 use Rattle.spdm_agreement.specs.Reading.{First}
 use Rattle.spdm_agreement.proofs.Messages.RequestCodes.{code_read, second_byte}
 use Rattle.spdm_agreement.proofs.Worlds.EndSteps.{IsDraw, DoesWell}
-use Rattle.responder_machine.proofs.VerifyLength.{length_digest, length_verify}
+use Rattle.responder_machine.proofs.VerifyLength.{length_blocks, length_verify}
 use Rattle.spdm_agreement.proofs.Messages.Beginnings.{reading_of, is_sound_first, is_negotiated, first_hash, transcript_of, answer_verify, context_number, summary_size, answer_context}
 use Rattle.spdm_agreement.proofs.Responder.ClearTurns.{TakesClear, clear_case}
 use Rattle.spdm_agreement.proofs.Responder.Negotiation.{HasVersion, HasCaps, HasAlgorithms, IsKnown, answered, entry_turn, known, common_in}
@@ -179,7 +179,7 @@ before_verify hash front v long =
 
 -- ---- It is sound.
 
-both_hold : (a b : Bool) → a ≡ true → b ≡ true → (a && b) ≡ true
+pub both_hold : (a b : Bool) → a ≡ true → b ≡ true → (a && b) ≡ true
 both_hold a b e f = ap₂ (λ (x y : Bool). x && y) e f
 
 negotiated : (n : Negotiation) → HasVersion n → HasCaps n → HasAlgorithms n → is_negotiated n ≡ true
@@ -214,10 +214,6 @@ summary_by true b c x size e long = refl
 summary_by false true c x size e long = long
 summary_by false false true x size e long = long
 summary_by false false false x size e long = absurd (true≢false (sym e))
-
-length_blocks : (hash : HashAlg) (blocks : List BlockSpec) → length (hash_of_blocks (hash_of hash) blocks) ≡ hash_size hash
-length_blocks hash [] = length-replicate (hash_size hash) 0
-length_blocks hash (block ∷ others) = length_digest hash (record_of (block ∷ others))
 
 summary_spelled : (len : ℕ) (exchange : ExchangeMessage) (rest : List ℕ) → IsSpelling (request_body len PSK_EXCHANGE) 2 (PskExchange exchange) rest → is_summary exchange.summary ≡ true
 unfolding request_body psk_exchange_layout

@@ -7,7 +7,7 @@ use Rattle.key_schedule.specs.Purpose.{Purpose, key_of, iv_of}
 use Rattle.secured_record.specs.Faults.{header_fault, fault_behind, fault_of, is_authentic, tag_part, text_part}
 use Rattle.spdm_basis.specs.Tests.{first_of_tests}
 use Rattle.secured_record.specs.Format.{nonce}
-use Rattle.secured_record.proofs.Same.{true-same}
+use Rattle.std.proofs.lemmas.Slice.Eq.{bytes_eq-Decides}
 use Rattle.spdm_basis.specs.declared.record_fault.RecordFault.{RecordFault}
 use Rattle.spdm_basis.specs.declared.record_fault.RecordFault.TheVariants.{BadTag, BadInnerLength}
 use Rattle.spdm_grammar.specs.Message.{RequestMessage}
@@ -81,7 +81,7 @@ no_fault choice p number id sealed e =
     let key = key_of choice.hash choice.aead p in
     let iv = iv_of choice.hash p in
     let l = behind_none (header_fault id number sealed) key iv number sealed e in
-    (l.0, sym (true-same (tag_part sealed) (tag_of key (nonce iv number) (take 8 sealed) (text_part sealed)) l.1))
+    (l.0, sym ((bytes_eq-Decides (tag_part sealed) (tag_of key (nonce iv number) (take 8 sealed) (text_part sealed))).0 l.1))
 
 not_spent : (b : Bool) (fault : RecordFault) (o : Option RecordFault) → cond b (Some fault) o ≡ None → (b ≡ false) × (o ≡ None)
 not_spent true fault o e = absurd (cc)

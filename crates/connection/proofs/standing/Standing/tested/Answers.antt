@@ -1,5 +1,5 @@
 use Rattle.std.proofs.Common.{refl, ◌≡◌, ◌∙◌, ◌≤◌, ℕ, Some, List, length, sym, ap, subst}
-use Rattle.connection.proofs.Lengths.{answer_is}
+use Rattle.responder_machine.proofs.Settled.{answer_is}
 use Rattle.connection.proofs.Passing.{answer_fits, answerable, passed_all, refused_for_answer, large_at, not_too_long, refused_for_form, refused_for_request, settled_at}
 use Rattle.connection.proofs.Table.{none_there, pending_for}
 use Rattle.connection.proofs.standing.Standing.tested.Goals as goal

@@ -2,7 +2,7 @@ use Rattle.std.proofs.Common.{◌≡◌, ◌++◌, sym, ap, subst, refl, ◌∙�
 use Rattle.key_schedule.specs.Keys.{DirectionSecret}
 use Rattle.key_schedule.specs.Purpose.{application_record}
 use Rattle.key_schedule.specs.declared.direction.Direction.TheVariants.{Request, Response}
-use Rattle.requester_machine.specs.Session.{t1_of, t2_of}
+use Rattle.requester_machine.specs.Session.{response_epoch, t1_of, t2_of}
 use Rattle.running_hash.specs.Hash.{hash_of}
 use Rattle.spdm_basis.specs.declared.hash_alg.HashAlg.{HashAlg}
 use Rattle.spdm_grammar.specs.declared.choice.Choice.{Choice}
@@ -11,12 +11,15 @@ use Rattle.transcript.specs.Transcripts.{vca_of}
 use Rattle.psk_session.specs.Finished.{finished_by}
 use Rattle.psk_session.specs.Finishing.{Seen, StandsFor, finish_message}
 use Rattle.session_keys.specs.Keys.{IsKeyOf}
+use Rattle.psk_session.specs.Kept.{Keeps}
 use Rattle.psk_session.specs.Opening.{accepted, finishing}
+use Rattle.psk_session.specs.declared.kept.Kept.{Kept}
 use Rattle.psk_session.proofs.finishing.Finishing.finish.Goals as goal
 
 pub returns : goal.returns
 returns c = λ psk n exchange answer pad sealed stands held.
     let inside = subst (λ (x : Seen). StandsFor x psk n exchange answer pad) (sym c.self.view_is) stands in
+    let after = finished_by psk (finishing psk n exchange answer pad) sealed in
     let t1 = t1_of (accepted n exchange answer) in
     let t2 = t2_of (finished_by psk (finishing psk n exchange answer pad) sealed) in
     let before = vca_of n ++ exchange ++ answer ++ finish_message psk n exchange answer in
@@ -26,7 +29,7 @@ returns c = λ psk n exchange answer pad sealed stands held.
     ∙ ap (λ (m : List ℕ). (hash_of (terms_of n).choice.hash).digest (before ++ m)) (c.behind_type.ensures ∙ ap (λ (m : List ℕ). drop 1 m) held) in
     record {
       stage = refl;
-      keeps = record {
+      keeps = subst (λ (x : Kept). Keeps x psk after (response_epoch after)) (sym c.new-3.ensures.kept) (record {
         past = refl;
         choice = inside.terms.choice;
         common = inside.terms.common;
@@ -39,7 +42,7 @@ returns c = λ psk n exchange answer pad sealed stands held.
         response_next = refl;
         taken = λ _. refl;
         th2 = th2;
-      };
+      });
       few = (omega arith, omega arith);
-      brought = c.new-3.ensures;
+      brought = c.new-3.ensures.brought;
     }

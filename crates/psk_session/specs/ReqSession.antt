@@ -1,0 +1,46 @@
+-- A session at the requester that is stepped in place, as the typed states show it.
+use Rattle.std.specs.Prelude.{◌≡◌, ℕ, List, Bool, true, false}
+use Rattle.requester_machine.specs.Message.{Ask}
+use Rattle.requester_machine.specs.Session.{Steps}
+use Rattle.psk_session.specs.ReqOpen as open_state
+use Rattle.psk_session.specs.Waiting as waiting
+use Rattle.psk_session.specs.declared.ask.Awaited.{Awaited}
+use Rattle.psk_session.specs.declared.ask.Awaited.TheVariants as awaited
+use Rattle.psk_session.specs.declared.req_session.ReqSession.{ReqSession}
+use Rattle.psk_session.specs.declared.standing.Standing.{Standing}
+use Rattle.psk_session.specs.declared.standing.Standing.TheVariants.{Open, Awaits}
+
+-- ---- How it stands.
+
+abbrev pub is_open : Standing → Bool
+is_open Open = true
+is_open _ = false
+
+abbrev pub is_awaiting : Standing → Bool
+is_awaiting (Awaits what) = true
+is_awaiting _ = false
+
+-- What is awaited, where an answer is.
+abbrev pub awaited_in : Standing → Awaited
+awaited_in (Awaits what) = what
+awaited_in _ = awaited.End
+
+-- ---- The typed states in it.
+
+-- The open session.
+abbrev pub open_of : ReqSession → open_state.Seen
+open_of x = record { kept = x.kept; brought = x.brought }
+
+-- The session that awaits an answer.
+abbrev pub waiting_of : ReqSession → waiting.Seen
+waiting_of x =
+    record { kept = x.kept; awaited = awaited_in x.standing; gathered = x.gathered; sent = x.sent }
+
+-- It is open, and stands for a session of these steps with this pre-shared key.
+abbrev pub IsOpen : ReqSession → (psk : List ℕ) → Steps → Type 0
+IsOpen x psk s = (is_open x.standing ≡ true) × open_state.StandsFor (open_of x) psk s
+
+-- It awaits an answer, and stands for a session of these steps with this pre-shared key, whose
+-- newest record asks this.
+abbrev pub IsAwaiting : ReqSession → (psk : List ℕ) → Steps → Ask → Type 0
+IsAwaiting x psk s a = (is_awaiting x.standing ≡ true) × waiting.StandsFor (waiting_of x) psk s a
