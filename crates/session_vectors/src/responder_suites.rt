@@ -1,3 +1,4 @@
+use secured_record::RecordFault;
 use spdm_basis::{AeadAlg, HashAlg};
 
 // A session under one choice of algorithms and the pre-shared key "1234567890123456", in hexadecimal: the messages of
@@ -328,4 +329,59 @@ pub const SUITES: [Suite; 4] = [
             ),
         ],
     },
+];
+
+const NUMBER: RecordFault = RecordFault::WrongNumber;
+
+const TAG: RecordFault = RecordFault::BadTag;
+
+// What does not open in place of each record of the first suite, from PSK_FINISH on: its inner message under the next
+// number, and each record that was taken before the last one, with its fault.
+pub const HOSTILE: [(&str, &[RecordFault]); 9] = [
+    (
+        "0100010001003700fb08780931102b361c956e8586b3df57ce76cd6d484d33cf65121196ad8ecc89766d2a39ee5b9c03dcbbc05c2658b89f3fc6a0402eb81d",
+        &[],
+    ),
+    (
+        "01000100010015009043a54008b1d40ff2240d4a82a683e5cd42847b8c",
+        &[],
+    ),
+    (
+        "010001000200170075baaf7ba4ef2cbd26e35a517a8c106c1dec1b8b9550af",
+        &[NUMBER],
+    ),
+    (
+        "01000100030017005520b62521c9999f76cc841f5209319580bfddb12101b4",
+        &[NUMBER, NUMBER],
+    ),
+    (
+        "01000100010017002264bec3699db45b844f7c66be2c2182e8923977714575",
+        &[TAG, TAG, NUMBER],
+    ),
+    (
+        "01000100020017000ab0a6d5806fa1a7413d30bb6b58a6de0fdfa2b51934f8",
+        &[NUMBER, NUMBER, TAG, NUMBER],
+    ),
+    (
+        "0100010001001700dcb30034610431b168d51863051facf0a29e56a9919e5a",
+        &[TAG, TAG, NUMBER, NUMBER, TAG],
+    ),
+    (
+        "01000100020013001312a935a8f4612774496e75686b2fe6aba45e",
+        &[NUMBER, NUMBER, TAG, NUMBER, NUMBER, TAG],
+    ),
+    (
+        "01000100030017001275afbefe95287565e9325de65d2dd9b9194ee9748896",
+        &[NUMBER, NUMBER, NUMBER, TAG, NUMBER, NUMBER, NUMBER],
+    ),
+];
+
+// A place in a record at which one bit is altered, with the fault: both halves of its id, its number, its length, and
+// what is sealed.
+pub const ALTERED: [(usize, RecordFault); 5] = [
+    (0, RecordFault::WrongId),
+    (2, RecordFault::WrongId),
+    (4, RecordFault::WrongNumber),
+    (6, RecordFault::WrongLength),
+    (8, RecordFault::BadTag),
 ];

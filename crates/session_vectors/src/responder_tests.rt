@@ -1,6 +1,8 @@
 ghost use Rattle.std.specs.Prelude.{◌≡◌, false};
 
-use crate::responder_suites::{MEASURED, REFUSED_IN_HANDSHAKE, REFUSED_IN_OPEN, SUITES, Suite};
+use crate::responder_suites::{
+    ALTERED, HOSTILE, MEASURED, REFUSED_IN_HANDSHAKE, REFUSED_IN_OPEN, SUITES, Suite,
+};
 use hmac_hkdf::Drawn;
 use measurements::Inventory;
 use negotiate::{Common, Sizes};
@@ -268,6 +270,92 @@ fn unopened_in_open(rt: HostRuntime) -> Result<(), Fail> {
     for row in UNOPENED {
         let sealed = hex::decode(rt.alloc(), row.0)?;
         assert_eq!(rt; fault(&rt, sealed.as_slice(), &blocks)?, row.1);
+    }
+    Ok(())
+}
+
+// The state that a record leaves which has this fault.
+fn unopened(
+    rt: &impl Abort,
+    state: RspState,
+    sealed: &[u8],
+    fault: RecordFault,
+    blocks: &Inventory,
+) -> Result<RspState, Fail> {
+    match take(state, sealed, blocks, &mut AppQueue::new())? {
+        RspTook::Unopened(state, told) => {
+            assert_eq!(rt; told, fault);
+            Ok(state)
+        }
+        _ => Err(Fail::from("opened")),
+    }
+}
+
+// The same of a record with one bit altered at a place.
+fn altered(
+    rt: &(impl Abort + Alloc),
+    state: RspState,
+    record: &str,
+    row: (usize, RecordFault),
+    blocks: &Inventory,
+) -> Result<RspState, Fail> {
+    let mut sealed = hex::decode(rt.alloc(), record)?;
+    match sealed.get_mut(row.0) {
+        Some(byte) => *byte ^= 1,
+        None => return Err(Fail::from("no such byte")),
+    }
+    unopened(rt, state, sealed.as_slice(), row.1, blocks)
+}
+
+// The record of PSK_FINISH of a suite, or one of those behind it.
+fn record_at(suite: &Suite, at: usize) -> (&'static str, &'static str) {
+    match at.checked_sub(1) {
+        Some(at) => suite.records.get(at).copied().unwrap_or(suite.finish),
+        None => suite.finish,
+    }
+}
+
+// A record with a bit altered in each of its fields, and in the last byte of its tag, leaves the session as it is.
+fn each_altered(
+    rt: &(impl Abort + Alloc),
+    mut state: RspState,
+    record: &str,
+    blocks: &Inventory,
+) -> Result<RspState, Fail> {
+    for row in ALTERED {
+        state = altered(rt, state, record, row, blocks)?;
+    }
+    let last = (record.len() / 2).saturating_sub(1);
+    altered(rt, state, record, (last, RecordFault::BadTag), blocks)
+}
+
+// A record under the next number, and each one that was taken before the last one, leave the session as it is.
+fn each_replayed(
+    rt: &(impl Abort + Alloc),
+    state: RspState,
+    row: (&str, &[RecordFault]),
+    blocks: &Inventory,
+) -> Result<RspState, Fail> {
+    let next = hex::decode(rt.alloc(), row.0)?;
+    let mut state = unopened(rt, state, next.as_slice(), RecordFault::WrongNumber, blocks)?;
+    for (at, fault) in row.1.iter().enumerate() {
+        let sealed = hex::decode(rt.alloc(), record_at(&SUITES[0], at).0)?;
+        state = unopened(rt, state, sealed.as_slice(), *fault, blocks)?;
+    }
+    Ok(state)
+}
+
+#[test]
+fn hostile_records_change_nothing(rt: HostRuntime) -> Result<(), Fail> {
+    let blocks = inventory(rt.alloc())?;
+    let mut app = AppQueue::new();
+    app.push(&[9])?;
+    let mut state = handshake(&rt, &SUITES[0])?;
+    for (at, row) in HOSTILE.iter().enumerate() {
+        let record = record_at(&SUITES[0], at);
+        state = each_altered(&rt, state, record.0, &blocks)?;
+        state = each_replayed(&rt, state, *row, &blocks)?;
+        state = step(&rt, state, record, &blocks, &mut app)?.0;
     }
     Ok(())
 }

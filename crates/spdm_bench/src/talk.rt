@@ -1,16 +1,16 @@
-ghost use Rattle.std.specs.Prelude.{◌≡◌, IfOk, length};
+ghost use Rattle.std.specs.Prelude.{◌≡◌, ◌≤◌, length};
 ghost use Rattle.spdm_basis.specs.Sizes.{hash_size};
 ghost use Rattle.spdm_basis.specs.declared.hash_alg.HashAlg.TheVariants.{Sha256};
 
 use crate::bench_error::BenchError;
+use measurements::Inventory;
 use negotiate::{Common, Sizes};
-use psk_session::{Ask, FinishTook, Finishing, Opening, ReqSession, SessionTerms, Told};
+use psk_session::{Ask, FinishTook, Opening, ReqSession, SessionTerms, Told};
+use responder_session::{ExchangeParts, RecordFree, RspAct, RspSession, RspTold, Work};
 use secured_record::RecordKey;
-use session_keys::{APP_DATA, Handshake, SPDM_MESSAGE};
+use session_keys::{APP_DATA, Handshake};
 use spdm_basis::{AeadAlg, Frame, HashAlg, HashBytes, Psk, RecordFrame, SessionId};
 use spdm_grammar::Choice;
-use spdm_grammar::names::response_code::{PSK_EXCHANGE_RSP, PSK_FINISH_RSP};
-use spdm_grammar::names::spdm_version::V1_2;
 use std::alloc::Global;
 use transcript::{Lane, Vca};
 
@@ -43,101 +43,144 @@ const TERMS: SessionTerms = SessionTerms {
     req_id: 1,
 };
 
-/// Both ends of an open session under a pre-shared key of zeros: the requester, and the keys of the
-/// responder, with the inner message that it opened last and the record that it sealed last.
+/// Both ends of an open session under a pre-shared key of zeros.
 #[derive(Drop)]
 pub struct Talk {
-    session: ReqSession,
+    requester: ReqSession,
+    responder: RspSession,
+    inventory: Inventory,
+    work: Work,
+}
+
+/// The keys of such a session, with the inner message that was opened last and the record that was
+/// sealed last.
+#[derive(Drop)]
+pub struct Records {
     request: RecordKey,
     response: RecordKey,
     inner: RecordFrame,
     sealed: RecordFrame,
 }
 
-// PSK_EXCHANGE_RSP without its verify data, with a context of zeros.
-fn exchange_answer() -> Frame {
-    let mut answer = Frame::new();
-    let _ = answer.extend(&[V1_2, PSK_EXCHANGE_RSP, 0, 0, 1, 0, 0, 0, 32, 0, 0, 0]);
-    let _ = answer.extend(&[0; 32]);
-    answer
+// A pre-shared key of zeros.
+fn psk() -> Result<Psk, BenchError> {
+    Psk::new(&[0; 16]).ok_or(BenchError::NoSession)
 }
 
-// The hash of T1, whose negotiation and PSK_EXCHANGE have no bytes here.
-fn hash_of_t1(answer: &Frame) -> HashBytes
-    ensures { length result ≡ hash_size Sha256 }
-{
-    let mut lane = Lane::new(HASH);
-    lane.push(answer.as_slice());
-    lane.finish()
+// The responder behind a PSK_EXCHANGE of no bytes, with its answer.
+fn begin(psk: &Psk, answer: &mut Frame) -> RspSession {
+    let parts = ExchangeParts {
+        heartbeat: 0,
+        rsp_id: 1,
+        summary: &[],
+        context: &[0; 32],
+        opaque: &[],
+    };
+    RspSession::start(&Vca::new(), psk, &[], TERMS, &parts, answer)
 }
 
-// The requester that awaits PSK_FINISH_RSP, and the handshake as the responder has it.
-fn finishing(psk: &Psk) -> Result<(Finishing, Handshake), BenchError>
-    ensures { IfOk result (λ made. made.1.keys.hash ≡ Sha256) }
+// What is free of the answer to application data: the data that are sent back.
+fn sent_back(text: &[u8]) -> RecordFree<'_>
+    ensures reply { result.reply.now ≡ text.now }
+    ensures nonce { length result.nonce.now ≡ 32 }
+    ensures opaque { length result.opaque.now ≤ 1024 }
+    ensures pad { length result.pad.now ≤ 16 }
 {
-    let mut answer = exchange_answer();
-    let handshake = Handshake::new(HASH, AEAD, psk, hash_of_t1(&answer));
-    let _ = answer.extend(handshake.responder_verify().as_slice());
-    match Opening::start(&Vca::new(), psk, &[], TERMS).take_response(answer.as_slice()) {
-        Ok(state) => Ok((state, handshake)),
-        Err(_) => Err(BenchError::NoSession),
+    RecordFree {
+        nonce: &[0; 32],
+        opaque: &[],
+        handle: 0,
+        reply: text,
+        pad: &[],
     }
 }
 
 impl Talk {
     /// Both ends behind their handshake.
-    pub fn begin() -> Result<Talk, BenchError> {
-        let psk = Psk::new(&[0; 16]).ok_or(BenchError::NoSession)?;
-        let (state, handshake) = finishing(&psk)?;
-        let finished = [SPDM_MESSAGE, V1_2, PSK_FINISH_RSP, 0, 0];
-        let mut sealed = RecordFrame::new();
-        let _ = handshake
-            .response_key()
-            .seal(ID, 0, &finished, &[], &mut sealed);
-        let FinishTook::Open(state) = state.take(sealed.as_slice()) else {
+    pub fn begin(alloc: Global) -> Result<Talk, BenchError> {
+        let psk = psk()?;
+        let mut answer = Frame::new();
+        let mut responder = begin(&psk, &mut answer);
+        let opening = Opening::start(&Vca::new(), &psk, &[], TERMS);
+        let Ok(finishing) = opening.take_response(answer.as_slice()) else {
             return Err(BenchError::NoSession);
         };
-        let th2 = state.view().hash;
-        if th2.as_slice().len() != HASH.size() {
+        let inventory = Inventory::new(alloc, &[]).map_err(|_| BenchError::OutOfMemory)?;
+        let mut work = Work::new();
+        responder.take_with(finishing.again(), &inventory, &sent_back(&[]), &mut work);
+        let reply = responder.reply().ok_or(BenchError::NoSession)?;
+        let FinishTook::Open(open) = finishing.take(reply) else {
             return Err(BenchError::NoSession);
-        }
-        let keys = handshake.app_keys(&th2);
+        };
         Ok(Talk {
-            session: state.into_session(),
-            request: RecordKey::new(keys.request),
-            response: RecordKey::new(keys.response),
-            inner: RecordFrame::new(),
-            sealed,
+            requester: open.into_session(),
+            responder,
+            inventory,
+            work,
         })
     }
 
-    // One round trip by the session: it sends a text, which the responder sends back.
-    fn turn(&mut self, number: u16, text: &[u8]) -> Result<(), BenchError> {
-        let session = &mut self.session;
-        if !session.is_open() || session.response_epoch() == u64::MAX {
+    // One round trip: the requester sends a text of at most 1,024 bytes, and the responder sends it
+    // back.
+    fn turn(&mut self, text: &[u8]) -> Result<(), BenchError>
+        requires { length text.now ≤ 1024 }
+    {
+        let requester = &mut self.requester;
+        if !requester.is_open() || requester.response_epoch() == u64::MAX {
             return Err(BenchError::NoSession);
         }
-        session
+        requester
             .ask(Ask::Data(text), &[])
             .map_err(|_| BenchError::Refused)?;
-        self.request
-            .open(ID, number, session.again(), &mut self.inner)
-            .map_err(|_| BenchError::Refused)?;
-        let _ = self
-            .response
-            .seal(ID, number, self.inner.as_slice(), &[], &mut self.sealed);
-        if !session.is_awaiting() || session.request_epoch() == u64::MAX {
+        let free = sent_back(text);
+        let told = self
+            .responder
+            .take_with(requester.again(), &self.inventory, &free, &mut self.work);
+        if told != RspTold::Moved(RspAct::Data) {
+            return Err(BenchError::Refused);
+        }
+        let reply = self.responder.reply().ok_or(BenchError::NoSession)?;
+        if !requester.is_awaiting() || requester.request_epoch() == u64::MAX {
             return Err(BenchError::NoSession);
         }
-        match session.take(self.sealed.as_slice()) {
+        match requester.take(reply) {
             Told::Answer(_) => Ok(()),
             _ => Err(BenchError::Refused),
         }
     }
+}
 
-    // The cryptography of a round trip alone, of an inner message: both records, each sealed and
-    // opened.
-    fn records(&mut self, number: u16, inner: &[u8]) -> Result<(), BenchError> {
+// The hash of T1 behind a PSK_EXCHANGE of no bytes: the answer without its verify data.
+fn hash_of_t1(answer: &Frame) -> HashBytes
+    ensures { length result ≡ hash_size Sha256 }
+{
+    let end = answer.as_slice().len().saturating_sub(HASH.size());
+    let mut lane = Lane::new(HASH);
+    lane.push(answer.as_slice().get(..end).unwrap_or(&[]));
+    lane.finish()
+}
+
+impl Records {
+    /// The keys behind the handshake.
+    pub fn begin(alloc: Global) -> Result<Records, BenchError> {
+        let th2 = Talk::begin(alloc)?.requester.view().hash;
+        if th2.as_slice().len() != HASH.size() {
+            return Err(BenchError::NoSession);
+        }
+        let psk = psk()?;
+        let mut answer = Frame::new();
+        let _ = begin(&psk, &mut answer);
+        let keys = Handshake::new(HASH, AEAD, &psk, hash_of_t1(&answer)).app_keys(&th2);
+        Ok(Records {
+            request: RecordKey::new(keys.request),
+            response: RecordKey::new(keys.response),
+            inner: RecordFrame::new(),
+            sealed: RecordFrame::new(),
+        })
+    }
+
+    // The cryptography of a round trip, of an inner message: both records, each sealed and opened.
+    fn turn(&mut self, number: u16, inner: &[u8]) -> Result<(), BenchError> {
         let (heard, sealed) = (&mut self.inner, &mut self.sealed);
         let _ = self.request.seal(ID, number, inner, &[], sealed);
         self.request
@@ -152,17 +195,20 @@ impl Talk {
     }
 }
 
-/// Has a session send `count` application messages of `size` zeros, each of which is sent back, and
-/// gives the last record of the responder in hexadecimal. A session refuses more than 65,535 of
-/// them, and more than 1,024 bytes.
+/// Has a requester send `count` application messages of `size` zeros, each of which its responder
+/// sends back, and gives the last record of the responder in hexadecimal. A session refuses more
+/// than 65,535 of them, and more than 1,024 bytes.
 pub fn last_of_session(alloc: Global, size: usize, count: u16) -> Result<String, BenchError> {
-    let text = vec![in alloc; 0u8; size]?;
-    let mut talk = Talk::begin()?;
-    for number in 0..count {
-        talk.turn(number, text.as_slice())?;
+    if size > 1024 {
+        return Err(BenchError::Refused);
     }
-    let digits = hex::encode(alloc, talk.sealed.as_slice())?;
-    Ok(digits)
+    let text = vec![in alloc; 0u8; size]?;
+    let mut talk = Talk::begin(alloc)?;
+    for _ in 0..count {
+        talk.turn(text.as_slice())?;
+    }
+    let last = talk.responder.reply().ok_or(BenchError::NoSession)?;
+    Ok(hex::encode(alloc, last)?)
 }
 
 /// Seals and opens the same records under the same keys, without a session.
@@ -172,10 +218,9 @@ pub fn last_of_records(alloc: Global, size: usize, count: u16) -> Result<String,
     for _ in 0..size {
         inner.push(0).map_err(|_| BenchError::OutOfMemory)?;
     }
-    let mut talk = Talk::begin()?;
+    let mut records = Records::begin(alloc)?;
     for number in 0..count {
-        talk.records(number, inner.as_slice())?;
+        records.turn(number, inner.as_slice())?;
     }
-    let digits = hex::encode(alloc, talk.sealed.as_slice())?;
-    Ok(digits)
+    Ok(hex::encode(alloc, records.sealed.as_slice())?)
 }
