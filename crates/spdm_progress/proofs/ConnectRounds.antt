@@ -1,14 +1,13 @@
--- A connect takes three rounds, and leaves two quiet ends.
-use Rattle.std.proofs.Common.{◌≡◌, ◌∙◌, ℕ, ◌<◌, ◌≤◌, List, ◌∷◌, length, false, refl, sym, ap, inl, arith}
-use Rattle.std.specs.Prelude.{slice_index}
+-- A connect takes three rounds, and one for each chunk where ALGORITHMS goes by chunks; it leaves two quiet ends.
+use Rattle.std.proofs.Common.{◌≡◌, ◌∙◌, ℕ, suc, ◌≤◌, List, ◌∷◌, length, false, refl, sym, ap, subst, inl, inr, arith}
 use Rattle.std.proofs.lemmas.Bool.{false≢true}
-use Rattle.spdm_grammar.specs.Message.{ExchangeMessage, OfferMessage}
-use Rattle.spdm_grammar.specs.Message.RequestMessage.{GetVersion, GetCapabilities, NegotiateAlgorithms, PskExchange}
-use Rattle.spdm_grammar.specs.Requests.{canonical_request}
+use Rattle.spdm_grammar.specs.Message.{OfferMessage}
+use Rattle.spdm_grammar.specs.Message.RequestMessage.{GetVersion, GetCapabilities, NegotiateAlgorithms}
 use Rattle.spdm_grammar.specs.declared.choice.Choice.{Choice}
 use Rattle.spdm_grammar.specs.declared.event.Event.{Event}
 use Rattle.spdm_grammar.specs.declared.event.Event.TheVariants as event
 use Rattle.spdm_grammar.specs.declared.event.Finished.TheVariants as finished
+use Rattle.spdm_machine.specs.Bodies.{clear_body}
 use Rattle.spdm_machine.specs.TagLog.{Log}
 use Rattle.spdm_machine.specs.Terms.{no_negotiation}
 use Rattle.spdm_machine.proofs.Members.{some_same}
@@ -42,19 +41,20 @@ use Rattle.spdm_progress.specs.InStep.{AreQuiet}
 use Rattle.spdm_progress.specs.Scripts.{ConnectsQuietly}
 use Rattle.spdm_progress.specs.SessionCommands.{IsDoneQuietly, IsTold, commanding}
 use Rattle.spdm_progress.proofs.AtRequester.{asking as asks_for}
-use Rattle.spdm_progress.proofs.ClearRounds.{ClearWay, LastAnswer, LastWay, WayOver, last_talk, way_heard, way_sent, way_served, way_still}
+use Rattle.spdm_progress.proofs.AlgorithmsRounds.{AlgorithmsAnswers, AlgorithmsAsks, AlgorithmsDone, algorithms_talk, answers_short, asks_short, few_rounds, rounds_of}
+use Rattle.spdm_progress.proofs.ClearRounds.{ClearWay, way_heard, way_sent, way_served, way_still}
 use Rattle.spdm_progress.proofs.PacketSteps.{Pair}
-use Rattle.spdm_progress.proofs.RequesterStages.{Asks as AsksRequest, IsOver, algorithms_heard, asks_version, capabilities_heard, next_small, told_connect, version_heard}
+use Rattle.spdm_progress.proofs.RequesterStages.{Asks as AsksRequest, asks_version, capabilities_heard, next_small, told_connect, version_heard}
 use Rattle.spdm_progress.proofs.ResponderBegins.{awaits_on, awaits_version, stands_on}
-use Rattle.spdm_progress.proofs.ResponderStages.{AwaitsVersion, HasAlgorithms, HasCapabilities, HasVersion, algorithms, algorithms_answered, capabilities, capabilities_answered, first_pair, get_capabilities, get_version, negotiate_algorithms, three_pairs, two_pairs, version, version_answered}
-use Rattle.spdm_progress.proofs.SessionCompletes.{Idle, Rests, completes_by, fresh, no_chance_from, placed}
-use Rattle.spdm_progress.proofs.SetUps.{CanTalk, algorithms_size, can_talk, common_for, takes_answer}
-use Rattle.spdm_progress.proofs.Talk.{IsTalk, Stage}
+use Rattle.spdm_progress.proofs.ResponderStages.{AwaitsVersion, HasCapabilities, HasVersion, capabilities, capabilities_answered, first_pair, get_capabilities, get_version, negotiate_algorithms, two_pairs, version, version_answered}
+use Rattle.spdm_progress.proofs.SessionCompletes.{AreFew, Idle, Rests, completes_within, fresh, no_chance_from, placed, times_each}
+use Rattle.spdm_progress.proofs.SetUps.{CanMeet, can_meet, common_for}
+use Rattle.spdm_progress.proofs.Talk.{AreShort, IsTalk, Stage}
 use Rattle.spdm_progress.proofs.Aside.{IsAside, nothing_aside}
 use Rattle.spdm_progress.proofs.Told.{ArePlaced, fits_always, pair_of}
 use Rattle.spdm_progress.proofs.TwoRounds.{Answers, Asks, IsFirst, OneStage, two_talk}
 
-module _ (p : Pair) (offer : OfferMessage) (choice : Choice) (can : CanTalk p.requester p.responder offer choice) where
+module _ (p : Pair) (offer : OfferMessage) (choice : Choice) (can : CanMeet p.requester p.responder offer choice) where
   abbrev q : ReqSetup
   q = p.requester
 
@@ -64,7 +64,11 @@ module _ (p : Pair) (offer : OfferMessage) (choice : Choice) (can : CanTalk p.re
   abbrev told : Event
   told = event.Done finished.Connected
 
-  -- ---- The three rounds.
+  -- How many rounds follow that of NEGOTIATE_ALGORITHMS.
+  abbrev pub rounds : ℕ
+  rounds = rounds_of p offer choice can can.way
+
+  -- ---- The first rounds.
 
   abbrev AsksVersion : ℕ → asked.History → Type 0
   AsksVersion tag h = AsksRequest q tag GetVersion get_version no_negotiation h
@@ -78,12 +82,6 @@ module _ (p : Pair) (offer : OfferMessage) (choice : Choice) (can : CanTalk p.re
   abbrev Capable : served.History → Type 0
   Capable g = HasCapabilities q r g
 
-  abbrev Agreed : served.History → Type 0
-  Agreed g = HasAlgorithms q r offer g
-
-  abbrev Ended : asked.History → Type 0
-  Ended h = IsOver (three_pairs q r offer) h
-
   abbrev VersionAsked : OneStage
   VersionAsked = ClearWay p get_version AsksVersion AwaitsVersion
 
@@ -96,36 +94,16 @@ module _ (p : Pair) (offer : OfferMessage) (choice : Choice) (can : CanTalk p.re
   abbrev CapabilitiesAnswered : OneStage
   CapabilitiesAnswered = ClearWay p (capabilities r) AsksCapabilities Capable
 
-  neg_short : length (negotiate_algorithms offer) < 4161
-  neg_short = (let size = can.own.size in omega arith)
-
-  neg_long : 4 ≤ length (negotiate_algorithms offer)
-  neg_long = (let size = can.own.size in omega arith)
-
-  alg_short : length (algorithms r offer) < 4161
-  alg_short = (let size = algorithms_size r offer in omega arith)
-
   abbrev AlgorithmsAsked : Stage
-  AlgorithmsAsked = LastWay p (negotiate_algorithms offer) (algorithms r offer) AsksAlgorithms Ended Capable Agreed told neg_short alg_short (stands_on _ _ _) (stands_on _ _ _)
-      (λ tag g d drawn made has. algorithms_answered q r g tag d offer choice neg_long can.request_fits can.own.fits can.own.sound can.chosen (takes_answer q r offer choice g can has) has)
-      (λ tag h d asks. algorithms_heard q r h tag d offer choice can.answer_fits can.chosen asks)
+  AlgorithmsAsked = AlgorithmsAsks p offer choice can
 
   abbrev AlgorithmsAnswered : Stage
-  AlgorithmsAnswered = LastAnswer p (negotiate_algorithms offer) (algorithms r offer) AsksAlgorithms Ended Capable Agreed told neg_short alg_short (stands_on _ _ _) (stands_on _ _ _)
-      (λ tag g d drawn made has. algorithms_answered q r g tag d offer choice neg_long can.request_fits can.own.fits can.own.sound can.chosen (takes_answer q r offer choice g can has) has)
-      (λ tag h d asks. algorithms_heard q r h tag d offer choice can.answer_fits can.chosen asks)
+  AlgorithmsAnswered = AlgorithmsAnswers p offer choice can
 
   abbrev ConnectDone : Log → asked.History → served.History → Type 0
-  ConnectDone = WayOver p (negotiate_algorithms offer) (algorithms r offer) AsksAlgorithms Ended Capable Agreed told neg_short alg_short (stands_on _ _ _) (stands_on _ _ _)
-      (λ tag g d drawn made has. algorithms_answered q r g tag d offer choice neg_long can.request_fits can.own.fits can.own.sound can.chosen (takes_answer q r offer choice g can has) has)
-      (λ tag h d asks. algorithms_heard q r h tag d offer choice can.answer_fits can.chosen asks)
+  ConnectDone = AlgorithmsDone p offer choice can
 
-  third : IsTalk p AlgorithmsAsked AlgorithmsAnswered ConnectDone told
-  third = last_talk p (negotiate_algorithms offer) (algorithms r offer) AsksAlgorithms Ended Capable Agreed told neg_short alg_short (stands_on _ _ _) (stands_on _ _ _)
-      (λ tag g d drawn made has. algorithms_answered q r g tag d offer choice neg_long can.request_fits can.own.fits can.own.sound can.chosen (takes_answer q r offer choice g can has) has)
-      (λ tag h d asks. algorithms_heard q r h tag d offer choice can.answer_fits can.chosen asks)
-
-  second : IsFirst p CapabilitiesAsked CapabilitiesAnswered (AlgorithmsAsked 0)
+  second : IsFirst p CapabilitiesAsked CapabilitiesAnswered (AlgorithmsAsked rounds)
   second = record {
     asks_sent = way_sent p (get_capabilities q) AsksCapabilities HasVersion (omega arith);
     answers_sent = way_sent p (capabilities r) AsksCapabilities Capable (omega arith);
@@ -134,18 +112,18 @@ module _ (p : Pair) (offer : OfferMessage) (choice : Choice) (can : CanTalk p.re
     hears = λ tag body log h g d chance y.
         let on = way_heard p (capabilities r) (negotiate_algorithms offer) AsksCapabilities AsksAlgorithms Capable event.Progress (λ k. asks_for (asked.next_tag k) (Clear (negotiate_algorithms offer)) (NegotiateAlgorithms offer)) (λ k. (next_small k, refl))
         (λ t k e asks. capabilities_heard q r k t e offer (common_for q r) can.requester_room can.their_caps can.offers asks) tag body log h g d chance y in
-        record { next = on.next; sends = on.sends; asks = record { is = on.asks } };
+        record { next = on.next; sends = on.sends; asks = inl (record { more_is = refl; is = on.asks }) };
     asks_still = way_still p (get_capabilities q) AsksCapabilities HasVersion (stands_on _ _ _);
     answers_still = way_still p (capabilities r) AsksCapabilities Capable (stands_on _ _ _);
   }
 
   abbrev SecondAsks : Stage
-  SecondAsks = Asks p 0 CapabilitiesAsked CapabilitiesAnswered AlgorithmsAsked AlgorithmsAnswered ConnectDone told
+  SecondAsks = Asks p rounds CapabilitiesAsked CapabilitiesAnswered AlgorithmsAsked AlgorithmsAnswered ConnectDone told
 
   abbrev SecondAnswers : Stage
-  SecondAnswers = Answers p 0 CapabilitiesAsked CapabilitiesAnswered AlgorithmsAsked AlgorithmsAnswered ConnectDone told
+  SecondAnswers = Answers p rounds CapabilitiesAsked CapabilitiesAnswered AlgorithmsAsked AlgorithmsAnswered ConnectDone told
 
-  first_round : IsFirst p VersionAsked VersionAnswered (SecondAsks 1)
+  first_round : IsFirst p VersionAsked VersionAnswered (SecondAsks (suc rounds))
   first_round = record {
     asks_sent = way_sent p get_version AsksVersion AwaitsVersion (omega arith);
     answers_sent = way_sent p version AsksVersion HasVersion (omega arith);
@@ -159,19 +137,40 @@ module _ (p : Pair) (offer : OfferMessage) (choice : Choice) (can : CanTalk p.re
   }
 
   abbrev ConnectAsks : Stage
-  ConnectAsks = Asks p 1 VersionAsked VersionAnswered SecondAsks SecondAnswers ConnectDone told
+  ConnectAsks = Asks p (suc rounds) VersionAsked VersionAnswered SecondAsks SecondAnswers ConnectDone told
 
   abbrev ConnectAnswers : Stage
-  ConnectAnswers = Answers p 1 VersionAsked VersionAnswered SecondAsks SecondAnswers ConnectDone told
+  ConnectAnswers = Answers p (suc rounds) VersionAsked VersionAnswered SecondAsks SecondAnswers ConnectDone told
 
   connect_talk : IsTalk p ConnectAsks ConnectAnswers ConnectDone told
-  connect_talk = two_talk p 1 VersionAsked VersionAnswered SecondAsks SecondAnswers ConnectDone told first_round
-      (two_talk p 0 CapabilitiesAsked CapabilitiesAnswered AlgorithmsAsked AlgorithmsAnswered ConnectDone told second third)
+  connect_talk = two_talk p (suc rounds) VersionAsked VersionAnswered SecondAsks SecondAnswers ConnectDone told first_round
+      (two_talk p rounds CapabilitiesAsked CapabilitiesAnswered AlgorithmsAsked AlgorithmsAnswered ConnectDone told second (algorithms_talk p offer choice can))
+
+  -- ---- Each message goes in one packet.
+
+  body_size : (message body : List ℕ) → body ≡ clear_body message → length message ≤ 63 → length body ≤ 64
+  body_size message body is few = subst (λ (l : List ℕ). length l ≤ 64) (sym is) (omega (arith, few))
+
+  connect_short : AreShort (λ more. 1) (λ more. 1) ConnectAsks ConnectAnswers
+  connect_short = record { asks = asks_few; answers = answers_few }
+    where
+      asks_few : (more tag : ℕ) (body : List ℕ) (log : Log) (h : asked.History) (g : served.History) → ConnectAsks more tag body log h g → length body ≤ 64
+      asks_few more tag body log h g (inl y) = body_size get_version body y.1.body_is (omega arith)
+      asks_few more tag body log h g (inr (inl y)) = body_size (get_capabilities q) body y.1.body_is (omega arith)
+      asks_few more tag body log h g (inr (inr y)) = asks_short p offer choice can more tag body log h g y
+
+      answers_few : (more tag : ℕ) (body : List ℕ) (log : Log) (h : asked.History) (g : served.History) → ConnectAnswers more tag body log h g → length body ≤ 64
+      answers_few more tag body log h g (inl y) = body_size version body y.1.body_is (omega arith)
+      answers_few more tag body log h g (inr (inl y)) = body_size (capabilities r) body y.1.body_is (omega arith)
+      answers_few more tag body log h g (inr (inr y)) = answers_short p offer choice can more tag body log h g y
+
+  connect_few : AreFew (λ more. 1) (λ more. 1) (suc (suc rounds))
+  connect_few =
+      let all = times_each 1 (suc (suc (suc rounds))) in
+      let few = few_rounds p offer choice can can.way in
+      (omega (arith, few, all), omega (arith, few, all), omega (arith, few, all))
 
   -- ---- Quiet ends.
-
-  other_codes : (x : ExchangeMessage) → negotiate_algorithms offer ≡ canonical_request (PskExchange x) → ⊥
-  other_codes x e = (let code : slice_index (negotiate_algorithms offer) 1 ≡ slice_index (canonical_request (PskExchange x)) 1 = ap (λ (l : List ℕ). slice_index l 1) e in omega arith)
 
   connected_quiet : (log : Log) (h : asked.History) (g : served.History) → ConnectDone log h g → (id : ℕ) → AreQuiet q r p.first log h g × (steps.is_live (steps.session_of id h) ≡ false)
   connected_quiet log h g z id = (
@@ -179,11 +178,11 @@ module _ (p : Pair) (offer : OfferMessage) (choice : Choice) (can : CanTalk p.re
       made = z.made;
       made_there = z.made_there;
       none = z.asks.none;
-      phase = z.asks.phase ∙ sym z.serves.phase_is;
-      negotiation = z.asks.negotiation ∙ sym z.serves.negotiation;
+      phase = z.asks.phase ∙ sym z.serves.stands.phase_is;
+      negotiation = z.asks.negotiation ∙ sym z.serves.stands.negotiation;
       earlier = record {
         kept = λ k is x d fits sound context whole above below same.
-            other_codes x (sym z.serves.last.message ∙ ap (λ (o : served.Kept). o.message) (some_same z.serves.last.kept k (sym z.serves.last.is ∙ is)) ∙ same);
+            z.serves.other x (sym z.serves.stands.last.message ∙ ap (λ (o : served.Kept). o.message) (some_same z.serves.stands.last.kept k (sym z.serves.stands.last.is ∙ is)) ∙ same);
       };
       sessions = λ j live. absurd (false≢true (sym (z.bare j) ∙ live));
       apart = λ i j differ live_i live_j. absurd (false≢true (sym (z.bare i) ∙ live_i));
@@ -203,8 +202,8 @@ module _ (w : WorldSetup) (before : List Entry) (n : ℕ) (a : Requesting) (c : 
   abbrev pair : Pair
   pair = pair_of n a c
 
-  talks : CanTalk pair.requester pair.responder can.offer can.choice
-  talks = can_talk a.setup c.setup can.offer can.choice here.requester here.responder can.offered can.chosen can.request_fits can.answer_fits
+  talks : CanMeet pair.requester pair.responder can.offer can.choice
+  talks = can_meet a.setup c.setup can.offer can.choice here.requester here.responder can.offered can.chosen can.request_fits can.answer_goes
 
   asks_connect : requester_asks false a.setup a.history Connect (asking.next_draw a) ≡ Adds (WasTold Connect (plain_sent a.history GetVersion) (asking.next_draw a))
   unfolding asks command_fault
@@ -217,8 +216,8 @@ module _ (w : WorldSetup) (before : List Entry) (n : ℕ) (a : Requesting) (c : 
       × Idle (world_after w before) n a Aside (world_from (commanding (world_after w before) line n Connect) behind)
   unfolding steps.session_of
   connected id =
-      completes_by w before n a c Connect is_told line behind none honest still chance Aside aside beside (ConnectAsks pair can.offer can.choice talks) (ConnectAnswers pair can.offer can.choice talks) (ConnectDone pair can.offer can.choice talks) finished.Connected id false
-      (λ log h g z. connected_quiet pair can.offer can.choice talks log h g z id) (connect_talk pair can.offer can.choice talks) 2 (omega arith) (plain_sent a.history GetVersion) (told_connect a (fresh w before n a c Connect is_told line behind none honest still chance Aside aside beside))
+      completes_within w before n a c Connect is_told line behind none honest still chance Aside aside beside (ConnectAsks pair can.offer can.choice talks) (ConnectAnswers pair can.offer can.choice talks) (ConnectDone pair can.offer can.choice talks) finished.Connected id false
+      (λ log h g z. connected_quiet pair can.offer can.choice talks log h g z id) (connect_talk pair can.offer can.choice talks) (λ more. 1) (λ more. 1) (connect_short pair can.offer can.choice talks) (suc (suc (rounds pair can.offer can.choice talks))) (connect_few pair can.offer can.choice talks) (plain_sent a.history GetVersion) (told_connect a (fresh w before n a c Connect is_told line behind none honest still chance Aside aside beside))
       (inl (
         refl,
         record {

@@ -17,6 +17,7 @@ use Rattle.spdm_grammar.specs.declared.choice.Choice.{Choice}
 use Rattle.spdm_grammar.specs.declared.event.Event.{Event}
 use Rattle.spdm_grammar.specs.declared.event.Event.TheVariants as event
 use Rattle.spdm_grammar.specs.declared.event.Finished.TheVariants as finished
+use Rattle.spdm_grammar.specs.declared.malformed.Malformed.{Malformed}
 use Rattle.spdm_grammar.specs.declared.phase.Phase.TheVariants.{Negotiated}
 use Rattle.spdm_machine.specs.Bodies.{clear_body}
 use Rattle.spdm_machine.specs.Keys.{Draw}
@@ -24,7 +25,7 @@ use Rattle.spdm_machine.specs.Terms.{no_negotiation}
 use Rattle.requester_machine.specs.Answers.{goes_on, is_done, caps_led, offer_led, algorithms_led}
 use Rattle.requester_machine.specs.Asking.{Outcome}
 use Rattle.requester_machine.specs.Asking.Outcome.{Adds}
-use Rattle.requester_machine.specs.ClearAnswers.{clear_led}
+use Rattle.requester_machine.specs.ClearAnswers.{clear_led, read_led, reading_of}
 use Rattle.requester_machine.specs.Commands.{Free}
 use Rattle.requester_machine.specs.Does.{requester_hears, body_chosen}
 use Rattle.requester_machine.specs.Hearing.{clear_outcome}
@@ -49,7 +50,7 @@ use Rattle.spdm_machine.specs.Terms.{no_choice}
 use Rattle.negotiate.proofs.Choices.{choice_is_agreed}
 use Rattle.spdm_agreement.proofs.Responder.Negotiation.{reply_fits, reply_sound}
 use Rattle.transcript.specs.Transcripts.{Negotiation}
-use Rattle.spdm_progress.proofs.AtRequester.{asking, heard_plain, led_plain}
+use Rattle.spdm_progress.proofs.AtRequester.{asking, heard_plain, led_plain, led_whole}
 use Rattle.spdm_progress.proofs.ResponderStages.{get_version, version, get_capabilities, capabilities, negotiate_algorithms, algorithms, first_pair, two_pairs, three_pairs}
 
 -- A canonical answer without a summary reads, whatever the hash.
@@ -133,20 +134,32 @@ capabilities_heard q r h tag d offer common room told k asks =
 
 -- ---- ALGORITHMS.
 
+-- What a requester makes of the whole message, however it came.
+pub algorithms_read : (q : ReqSetup) (r : RspSetup) (h : History) (f : Free) (offer : OfferMessage) (choice : Choice) → selected offer (policy_of r) ≡ Some choice
+    → read_led q h f 0 (NegotiateAlgorithms offer) (algorithms r offer) (reading_of h (NegotiateAlgorithms offer) (algorithms r offer)) ≡ Ok (is_done finished.Connected (Answers (NegotiateAlgorithms offer) (algorithms r offer)))
+algorithms_read q r h f offer choice chosen =
+    let reply = reply_of offer (unwrap_or (selected offer (policy_of r)) no_choice) in
+    let takes : agreed offer reply ≡ Some choice = ap (λ (o : Option Choice). agreed offer (reply_of offer (unwrap_or o no_choice))) chosen ∙ choice_is_agreed offer (policy_of r) choice chosen in
+    ap (λ (x : Result ResponseMessage Malformed). read_led q h f 0 (NegotiateAlgorithms offer) (algorithms r offer) x)
+    (reads h (Algorithms reply) _ (reply_fits offer (unwrap_or (selected offer (policy_of r)) no_choice)) (reply_sound offer (unwrap_or (selected offer (policy_of r)) no_choice)))
+    ∙ ap (λ (o : Option Choice). let x : Result Led ReqIgnored = Ok (algorithms_led (Answers (NegotiateAlgorithms offer) (algorithms r offer)) o) in x) takes
+
+-- It ends the connect.
+pub algorithms_over : (q : ReqSetup) (r : RspSetup) (h : History) (tag : ℕ) (m : List ℕ) (d : Draw) (offer : OfferMessage) → negotiation_of h ≡ two_pairs q r
+    → requester_hears q h false tag (clear_body m) d ≡ Adds (TookClear tag m (is_done finished.Connected (Answers (NegotiateAlgorithms offer) (algorithms r offer))) d)
+    → Hears q h tag m d (event.Done finished.Connected) None (IsOver (three_pairs q r offer))
+algorithms_over q r h tag m d offer under is =
+    hears_by q h tag m d (is_done finished.Connected (Answers (NegotiateAlgorithms offer) (algorithms r offer))) (IsOver (three_pairs q r offer)) is
+    (record { none = refl; negotiation = ap (λ (n : Negotiation). record n { negotiate_algorithms = negotiate_algorithms offer; algorithms = algorithms r offer }) under; phase = refl })
+
 pub algorithms_heard : (q : ReqSetup) (r : RspSetup) (h : History) (tag : ℕ) (d : Draw) (offer : OfferMessage) (choice : Choice) → length (algorithms r offer) ≤ q.transfer → selected offer (policy_of r) ≡ Some choice
     → Asks q tag (NegotiateAlgorithms offer) (negotiate_algorithms offer) (two_pairs q r) h
     → Hears q h tag (algorithms r offer) d (event.Done finished.Connected) None (IsOver (three_pairs q r offer))
 algorithms_heard q r h tag d offer choice fits chosen asks =
     let asked = NegotiateAlgorithms offer in
-    let reply = reply_of offer (unwrap_or (selected offer (policy_of r)) no_choice) in
-    let led = is_done finished.Connected (Answers asked (algorithms r offer)) in
-    let takes : agreed offer reply ≡ Some choice = ap (λ (o : Option Choice). agreed offer (reply_of offer (unwrap_or o no_choice))) chosen ∙ choice_is_agreed offer (policy_of r) choice chosen in
-    hears_by q h tag (algorithms r offer) d led (IsOver (three_pairs q r offer))
-    (hears_as q h tag asked (negotiate_algorithms offer) (two_pairs q r) (algorithms r offer) d led asks fits
-    (led_plain q h (body_chosen q h d) asked (algorithms r offer) (Algorithms reply)
-    (reads h (Algorithms reply) _ (reply_fits offer (unwrap_or (selected offer (policy_of r)) no_choice)) (reply_sound offer (unwrap_or (selected offer (policy_of r)) no_choice)))
-    ∙ ap (λ (o : Option Choice). let x : Result Led ReqIgnored = Ok (algorithms_led (Answers asked (algorithms r offer)) o) in x) takes))
-    (record { none = refl; negotiation = ap (λ (n : Negotiation). record n { negotiate_algorithms = negotiate_algorithms offer; algorithms = algorithms r offer }) asks.negotiation; phase = refl })
+    algorithms_over q r h tag (algorithms r offer) d offer asks.negotiation
+    (hears_as q h tag asked (negotiate_algorithms offer) (two_pairs q r) (algorithms r offer) d (is_done finished.Connected (Answers asked (algorithms r offer))) asks fits
+    (led_whole q h (body_chosen q h d) asked (algorithms r offer) ∙ algorithms_read q r h (body_chosen q h d) offer choice chosen))
 
 -- ---- The command.
 

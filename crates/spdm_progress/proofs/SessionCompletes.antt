@@ -83,7 +83,7 @@ abbrev pub AreFew : (there each : ℕ → ℕ) → (more : ℕ) → Type 0
 AreFew there each more = (sum_to each (suc more) + 1 ≤ most_asked) × (sum_to there (suc more) ≤ most_served) × (sum_to there (suc more) + sum_to each (suc more) ≤ most_packets)
 
 -- The same number in each round.
-times_each : (each more : ℕ) → sum_to (λ k. each) more ≡ each * more
+pub times_each : (each more : ℕ) → sum_to (λ k. each) more ≡ each * more
 times_each each zero = omega arith
 times_each each (suc more) = (let next = times_each each more in let one : each * suc more ≡ each * more + each = omega arith in omega (arith, next, one))
 

@@ -1,5 +1,5 @@
 -- What follows of two configured ends: their capabilities go together, and their messages have these lengths.
-use Rattle.std.proofs.Common.{◌≡◌, ◌∙◌, ℕ, ◌<◌, ◌≤◌, ◌+◌, ◌^◌, ◌==◌, ◌&&◌, ◌||◌, not, List, [], length, Bool, true, false, cond, nat_lt, Some, None, Result, Ok, Err, refl, sym, ap, subst, arith}
+use Rattle.std.proofs.Common.{◌≡◌, ◌⊎◌, ◌∙◌, ℕ, ◌<◌, ◌≤◌, ◌+◌, ◌^◌, ◌==◌, ◌&&◌, ◌||◌, not, List, [], length, Bool, true, false, cond, nat_le, nat_lt, Some, None, Result, Ok, Err, refl, sym, ap, subst, inl, inr, arith}
 use Rattle.spdm_basis.proofs.Bools.{lt_false}
 use Rattle.std.specs.Prelude.{if◌then◌else◌, min, unwrap_or}
 use Rattle.std.specs.Result.{result_ok}
@@ -35,6 +35,9 @@ use Rattle.spdm_agreement.proofs.Requester.OwnRequests as own
 use Rattle.spdm_agreement.proofs.Requester.OwnRequests.{offer_with, are_four, at_most}
 use Rattle.spdm_agreement.proofs.Responder.Negotiation as served
 use Rattle.spdm_agreement.proofs.Responder.Negotiation.{answered}
+use Rattle.std.proofs.lemmas.Bool.{leb-false, leb-true}
+use Rattle.spdm_progress.specs.Fitting.{CanGo}
+use Rattle.spdm_progress.proofs.ClearFetch.{CanFetch}
 use Rattle.spdm_progress.proofs.RequesterStages.{OffersWhole}
 use Rattle.spdm_progress.proofs.ResponderStages.{Takes, HasCapabilities, first_pair, two_pairs, three_pairs, get_capabilities, negotiate_algorithms, algorithms}
 use Rattle.spdm_progress.proofs.ResponderTurns.{read_at}
@@ -139,6 +142,25 @@ pub record CanTalk (q : ReqSetup) (r : RspSetup) (offer : OfferMessage) (choice 
   pub common_is : (terms_of (two_pairs q r)).common ≡ common_for q r
   pub choice_is : (terms_of (three_pairs q r offer)).choice ≡ choice
 
+-- ALGORITHMS fits the transfer size of the requester, as it is set up and as it is negotiated.
+pub record GoesWhole (q : ReqSetup) (r : RspSetup) (offer : OfferMessage) : Type 0 where
+  pub answer_fits : length (algorithms r offer) ≤ q.transfer
+  pub answer_takes : (length (algorithms r offer) ≤ (common_for q r).to_requester.max) × (length (algorithms r offer) ≤ (common_for q r).to_requester.transfer)
+
+-- The same where ALGORITHMS may go by chunks.
+pub record CanMeet (q : ReqSetup) (r : RspSetup) (offer : OfferMessage) (choice : Choice) : Type 0 where
+  pub requester_room : MIN_DATA_TRANSFER_SIZE ≤ q.transfer
+  pub responder_room : MIN_DATA_TRANSFER_SIZE ≤ r.transfer
+  pub own_caps : FitsRequest (GetCapabilities (requester_caps q))
+  pub their_caps : FitsResponse (Capabilities (responder_caps r))
+  pub together : common_of (requester_caps q) (responder_caps r) ≡ Ok (common_for q r)
+  pub offers : OffersWhole q r offer (common_for q r)
+  pub own : IsOwnOffer offer
+  pub chosen : selected offer (policy_of r) ≡ Some choice
+  pub request_fits : length (negotiate_algorithms offer) ≤ r.transfer
+  pub common_is : (terms_of (two_pairs q r)).common ≡ common_for q r
+  pub way : GoesWhole q r offer ⊎ CanFetch q r (length (algorithms r offer)) (two_pairs q r)
+
 no_overflow : (a b c : Bool) → a ≡ false → c ≡ false → (a || (not b && c)) ≡ false
 no_overflow a true c e f = rw e refl
 no_overflow a false c e f = rw (e, f) refl
@@ -192,6 +214,61 @@ can_talk q r offer choice a b offered chosen request_fits answer_fits =
       common_is = common_told q r a b;
       choice_is = choice_told q r offer choice (own_offer q r.transfer offer offered) chosen;
     }
+
+-- ALGORITHMS goes whole, or by chunks.
+module _ (q : ReqSetup) (r : RspSetup) (offer : OfferMessage) (a : IsRequester q) (b : IsResponder r) (goes : CanGo (common_for q r) (common_for q r).to_requester (length (algorithms r offer))) where
+  abbrev size : ℕ
+  size = length (algorithms r offer)
+
+  own_transfer : (common_for q r).to_requester.transfer ≡ q.transfer
+  own_transfer = (let most = a.sizes.most in let ordered = a.sizes.ordered in min-eq_left (omega arith))
+
+  own_max : (common_for q r).to_requester.max ≡ q.max
+  own_max = (let most = a.sizes.most in min-eq_left most)
+
+  chunks_too : (z : Bool) → (common_for q r).chunk ≡ z → q.transfer < size → z ≡ true
+  chunks_too true is large = refl
+  chunks_too false is large = (let fits = goes.1 is in absurd (omega (arith, fits, large, own_transfer)))
+
+  algorithms_way : GoesWhole q r offer ⊎ CanFetch q r size (two_pairs q r)
+  algorithms_way = by_size (nat_le size q.transfer) refl
+    where
+      by_size : (z : Bool) → nat_le size q.transfer ≡ z → GoesWhole q r offer ⊎ CanFetch q r size (two_pairs q r)
+      by_size true is = inl (record { answer_fits = leb-true _ _ is; answer_takes = (goes.0, subst (λ (k : ℕ). size ≤ k) (sym own_transfer) (leb-true _ _ is)) })
+      by_size false is =
+          let common = common_told q r a b in
+          inr (record {
+            room = b.sizes.least;
+            chunk = ap (λ (c : Common). c.chunk) common ∙ chunks_too (common_for q r).chunk refl (leb-false _ _ is);
+            large = subst (λ (c : Common). c.to_requester.transfer < size) (sym common) (subst (λ (k : ℕ). k < size) (sym own_transfer) (leb-false _ _ is));
+            fits_max = subst (λ (c : Common). size ≤ c.to_requester.max) (sym common) goes.0;
+            transfer = ap (λ (c : Common). c.to_requester.transfer) common ∙ own_transfer;
+            max = ap (λ (c : Common). c.to_requester.max) common ∙ own_max;
+            least = a.sizes.least;
+            most = a.sizes.most;
+          })
+
+pub can_meet : (q : ReqSetup) (r : RspSetup) (offer : OfferMessage) (choice : Choice) → IsRequester q → IsResponder r → offer_of q.suites r.transfer ≡ Some offer → selected offer (policy_of r) ≡ Some choice
+    → length (negotiate_algorithms offer) ≤ r.transfer → CanGo (common_for q r) (common_for q r).to_requester (length (algorithms r offer)) → CanMeet q r offer choice
+can_meet q r offer choice a b offered chosen request_fits goes = record {
+  requester_room = a.sizes.least;
+  responder_room = b.sizes.least;
+  own_caps = own.caps_fit q a;
+  their_caps = served.caps_fit r b;
+  together = go_together q r a b;
+  offers = whole_offer q r offer a b offered request_fits;
+  own = own_offer q r.transfer offer offered;
+  chosen = chosen;
+  request_fits = request_fits;
+  common_is = common_told q r a b;
+  way = algorithms_way q r offer a b goes;
+}
+
+pub takes_whole : (q : ReqSetup) (r : RspSetup) (offer : OfferMessage) (choice : Choice) (h : History) → CanMeet q r offer choice → GoesWhole q r offer → HasCapabilities q r h → Takes (clear_place h) (length (algorithms r offer))
+takes_whole q r offer choice h can whole has = record {
+  both = λ known. subst (λ (common : Common). (length (algorithms r offer) ≤ common.to_requester.max) × (length (algorithms r offer) ≤ common.to_requester.transfer))
+      (sym (ap (λ (n : Negotiation). (terms_of n).common) has.negotiation ∙ can.common_is)) whole.answer_takes;
+}
 
 pub takes_answer : (q : ReqSetup) (r : RspSetup) (offer : OfferMessage) (choice : Choice) (h : History) → CanTalk q r offer choice → HasCapabilities q r h → Takes (clear_place h) (length (algorithms r offer))
 takes_answer q r offer choice h can has = record {
