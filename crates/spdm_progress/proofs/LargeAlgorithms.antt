@@ -27,7 +27,7 @@ use Rattle.spdm_grammar.specs.declared.event.Finished.TheVariants as finished
 use Rattle.spdm_grammar.specs.declared.phase.Phase.TheVariants.{Negotiated}
 use Rattle.spdm_machine.specs.Keys.{Draw}
 use Rattle.transcript.specs.Transcripts.{Negotiation}
-use Rattle.spdm_progress.proofs.ClearFetch.{CanFetch, IsPending, chunk_response, differ, fetching, get_chunk, gets_differ, gives_chunk, heard_large, heard_more, heard_whole, large_fits, large_goes, pending_next, served_chunk, transfer_in}
+use Rattle.spdm_progress.proofs.ClearFetch.{CanFetch, CanFetchIn, IsPending, chunk_response, differ, fetching, get_chunk, gets_differ, gives_chunk, heard_large, heard_more, heard_whole, large_fits, large_goes, pending_next, served_chunk, transfer_in}
 use Rattle.spdm_progress.proofs.RequesterStages.{Asks, Hears, IsOver, algorithms_over, algorithms_read, hears_by, next_small}
 use Rattle.spdm_progress.proofs.ResponderStages.{Answered, HasCapabilities, Stands, adds, algorithms, algorithms_taken, answers_by, get_capabilities, negotiate_algorithms, other_message, three_pairs, two_pairs, zero_plus}
 use Rattle.spdm_progress.proofs.ResponderTurns.{read_at, taken_somehow, taken_turn, turn_with}
@@ -53,14 +53,9 @@ module _ (q : ReqSetup) (r : RspSetup) (offer : OfferMessage) where
   abbrev pub transfer : ℕ
   transfer = transfer_in (two_pairs q r)
 
-  -- The last clear request that a responder took before CHUNK_GET for this chunk.
-  abbrev pub before_get : (handle k : ℕ) → List ℕ
-  before_get handle zero = m
-  before_get handle (suc k) = get_chunk handle k
-
-  before_differs : (handle k : ℕ) → bytes_eq (before_get handle k) (get_chunk handle k) ≡ false
-  before_differs handle zero = differ m (get_chunk handle 0) (bytes_eq m (get_chunk handle 0)) refl (λ e. (let code : slice_index m 1 ≡ slice_index (get_chunk handle 0) 1 = ap (λ (l : List ℕ). slice_index l 1) e in omega (arith, code)))
-  before_differs handle (suc k) = gets_differ handle k
+  -- CHUNK_GET comes after another request.
+  pub asks_differ : (handle : ℕ) → bytes_eq m (get_chunk handle 0) ≡ false
+  asks_differ handle = differ m (get_chunk handle 0) (bytes_eq m (get_chunk handle 0)) refl (λ e. (let code : slice_index m 1 ≡ slice_index (get_chunk handle 0) 1 = ap (λ (l : List ℕ). slice_index l 1) e in omega (arith, code)))
 
   -- The responder has agreed, and ALGORITHMS is pending.
   pub record Holds (handle k : ℕ) (last : List ℕ) (g : served.History) : Type 0 where
@@ -83,53 +78,29 @@ module _ (q : ReqSetup) (r : RspSetup) (offer : OfferMessage) where
     pub negotiation : asked.negotiation_of h ≡ two_pairs q r
     pub small : tag < 8
 
-  module _ (fetch : CanFetch q r size (two_pairs q r)) where
+  module _ {round : ℕ} (fetch : CanFetchIn round q r size (two_pairs q r)) where
     -- The sizes were settled by the capabilities alone.
     same_transfer : transfer_in (three_pairs q r offer) ≡ transfer
     same_transfer = ap (λ (c : _). c.to_requester.transfer) (common_stays (two_pairs q r) m w)
 
-    fetch_there : CanFetch q r size (three_pairs q r offer)
+    fetch_there : CanFetchIn round q r size (three_pairs q r offer)
     fetch_there =
         let large = fetch.large in
         let most = fetch.fits_max in
         record {
           room = fetch.room;
           chunk = ap (λ (c : _). c.chunk) (common_stays (two_pairs q r) m w) ∙ fetch.chunk;
-          large = subst (λ (k : ℕ). k < size) (sym same_transfer) large;
+          large = subst (λ (k : ℕ). k < round + size) (sym same_transfer) large;
+          few = fetch.few;
           fits_max = subst (λ (k : ℕ). size ≤ k) (sym (ap (λ (c : _). c.to_requester.max) (common_stays (two_pairs q r) m w))) most;
           transfer = same_transfer ∙ fetch.transfer;
           max = ap (λ (c : _). c.to_requester.max) (common_stays (two_pairs q r) m w) ∙ fetch.max;
           least = fetch.least;
+          ordered = fetch.ordered;
           most = fetch.most;
         }
 
     -- ---- The responder.
-
-    module _ (choice : Choice) (long : 4 ≤ length m) (room : length m ≤ r.transfer) (own : FitsRequest asks_for) (sound : IsSoundRequest 32 asks_for) (selects : selected offer (policy_of r) ≡ Some choice) where
-      large_turn : (g : served.History) (d : Draw) → HasCapabilities q r g → turn_of r (clear_place g) m (clear_chosen r g d) ≡ turn_with m (clear_chosen r g d) (Some asks_for) w true
-      large_turn g d has =
-          taken_somehow r (clear_place g) m (clear_chosen r g d) asks_for (read_at (clear_place g) asks_for own sound) refl
-          (algorithms_taken q r g (clear_chosen r g d) offer choice long room own sound selects (large_fits q r size (two_pairs q r) fetch (clear_place g) w refl has.negotiation) has)
-          ∙ ap (λ (large : Bool). turn_with m (clear_chosen r g d) (Some asks_for) w large)
-          (large_goes q r size (two_pairs q r) fetch (clear_place g) w refl has.negotiation (ap sizes_are_known has.phase_is) (zero_plus size))
-
-      pub own_handle : (g : served.History) (d : Draw) → (clear_chosen r g d).handle < 256
-      unfolding chosen
-      own_handle g d = omega arith
-
-      pub large_answered : (g : served.History) (tag : ℕ) (d : Draw) → HasCapabilities q r g → Answered r g tag m d (large_response (clear_chosen r g d).handle) (Holds (clear_chosen r g d).handle 0 m)
-      large_answered g tag d has =
-          let f = clear_chosen r g d in
-          answers_by r g tag m d (turn_with m f (Some asks_for) w true) (Holds f.handle 0 m)
-          (adds r g tag m d (turn_with m f (Some asks_for) w true) (other_message g tag (get_capabilities q) m has.last refl) (large_turn g d has))
-          (record {
-            stands = record {
-              phase_is = refl;
-              negotiation = ap (λ (n : Negotiation). record n { negotiate_algorithms = m; algorithms = w }) has.negotiation;
-              last = record { kept = record { tag = tag; message = m; reply = large_response f.handle }; is = refl; message = refl };
-            };
-            pending = record { large = refl; given = refl; handle_is = refl };
-          })
 
     module _ (handle k : ℕ) (small : handle < 256) (within : k < chunk_count transfer w) where
       within_there : k < chunk_count (transfer_in (three_pairs q r offer)) w
@@ -138,11 +109,11 @@ module _ (q : ReqSetup) (r : RspSetup) (offer : OfferMessage) where
       abbrev text : List ℕ
       text = chunk_response transfer handle w k
 
-      pub chunk_answered : (g : served.History) (tag : ℕ) (d : Draw) → Holds handle k (before_get handle k) g → Answered r g tag (get_chunk handle k) d text (Holds handle (k + 1) (get_chunk handle k))
-      chunk_answered g tag d y =
+      pub chunk_answered : (last : List ℕ) → bytes_eq last (get_chunk handle k) ≡ false → (g : served.History) (tag : ℕ) (d : Draw) → Holds handle k last g → Answered r g tag (get_chunk handle k) d text (Holds handle (k + 1) (get_chunk handle k))
+      chunk_answered last other g tag d y =
           let t = taken_turn r (clear_place g) (get_chunk handle k) (clear_chosen r g d) (ChunkGet handle k) in
           let n = three_pairs q r offer in
-          let does = served_chunk q r size n fetch_there w refl handle k small within_there g d y.stands.negotiation y.stands.phase_is y.pending tag (before_get handle k) (before_differs handle k) y.stands.last in
+          let does = served_chunk q r size n fetch_there w refl handle k small within_there g d y.stands.negotiation y.stands.phase_is y.pending tag last other y.stands.last in
           let gives : t.reply ≡ text =
           gives_chunk q r size n fetch_there w refl handle k small within_there (clear_place g) (clear_chosen r g d) y.stands.negotiation y.pending
           ∙ ap (λ (z : ℕ). chunk_response z handle w k) same_transfer in
@@ -175,7 +146,7 @@ module _ (q : ReqSetup) (r : RspSetup) (offer : OfferMessage) where
         last_heard choice selects last =
             algorithms_over q r h tag text d offer y.negotiation
             (heard_whole q r size (two_pairs q r) fetch w refl handle k small within asks_for h tag d y.waits last
-            ∙ ap (clear_outcome tag text d) (algorithms_read q r h (body_chosen q h d) offer choice selects))
+            ∙ ap (clear_outcome tag text d) (algorithms_read q r h (body_chosen q h d) 0 offer choice selects))
 
     pub large_heard : (handle : ℕ) (h : asked.History) (tag : ℕ) (d : Draw) → Asks q tag asks_for m (two_pairs q r) h
         → Hears q h tag (large_response handle) d event.Progress (Some (get_sent h asks_for handle 0 [])) (Fetches handle 0 (asked.next_tag h))
@@ -183,3 +154,31 @@ module _ (q : ReqSetup) (r : RspSetup) (offer : OfferMessage) where
         hears_by q h tag (large_response handle) d (goes_on Nothing (get_sent h asks_for handle 0 [])) (Fetches handle 0 (asked.next_tag h))
         (heard_large q r size (two_pairs q r) fetch asks_for m h tag handle d refl asks)
         (record { waits = refl; negotiation = asks.negotiation; small = next_small h })
+
+  -- ---- The responder, of NEGOTIATE_ALGORITHMS.
+
+  module _ (fetch : CanFetch q r size (two_pairs q r)) (choice : Choice) (long : 4 ≤ length m) (room : length m ≤ r.transfer) (own : FitsRequest asks_for) (sound : IsSoundRequest 32 asks_for) (selects : selected offer (policy_of r) ≡ Some choice) where
+    large_turn : (g : served.History) (d : Draw) → HasCapabilities q r g → turn_of r (clear_place g) m (clear_chosen r g d) ≡ turn_with m (clear_chosen r g d) (Some asks_for) w true
+    large_turn g d has =
+        taken_somehow r (clear_place g) m (clear_chosen r g d) asks_for (read_at (clear_place g) asks_for own sound) refl
+        (algorithms_taken q r g (clear_chosen r g d) offer choice long room own sound selects (large_fits q r size (two_pairs q r) fetch (clear_place g) w refl has.negotiation) has)
+        ∙ ap (λ (large : Bool). turn_with m (clear_chosen r g d) (Some asks_for) w large)
+        (large_goes q r size (two_pairs q r) fetch (clear_place g) w refl has.negotiation (ap sizes_are_known has.phase_is) refl)
+
+    pub own_handle : (g : served.History) (d : Draw) → (clear_chosen r g d).handle < 256
+    unfolding chosen
+    own_handle g d = omega arith
+
+    pub large_answered : (g : served.History) (tag : ℕ) (d : Draw) → HasCapabilities q r g → Answered r g tag m d (large_response (clear_chosen r g d).handle) (Holds (clear_chosen r g d).handle 0 m)
+    large_answered g tag d has =
+        let f = clear_chosen r g d in
+        answers_by r g tag m d (turn_with m f (Some asks_for) w true) (Holds f.handle 0 m)
+        (adds r g tag m d (turn_with m f (Some asks_for) w true) (other_message g tag (get_capabilities q) m has.last refl) (large_turn g d has))
+        (record {
+          stands = record {
+            phase_is = refl;
+            negotiation = ap (λ (n : Negotiation). record n { negotiate_algorithms = m; algorithms = w }) has.negotiation;
+            last = record { kept = record { tag = tag; message = m; reply = large_response f.handle }; is = refl; message = refl };
+          };
+          pending = record { large = refl; given = refl; handle_is = refl };
+        })

@@ -108,7 +108,7 @@ module _ (q : ReqSetup) (r : RspSetup) (op : ℕ) (n : Negotiation) (can : GoesL
     size = ap length (answer_is r g d op) ∙ measurements_are r op d.bytes drawn
 
     goes : served.phase_of (served.clear_turns g) ≡ Negotiated → goes_large (clear_place g) (answer_at r g d op) ≡ true
-    goes phase = large_goes q r (measurements_size r op) n can.fetch (clear_place g) (answer_at r g d op) size under (ap sizes_are_known phase) (zero_plus (length (answer_at r g d op)))
+    goes phase = large_goes q r (measurements_size r op) n can.fetch (clear_place g) (answer_at r g d op) size under (ap sizes_are_known phase) refl
 
     taken : served.phase_of (served.clear_turns g) ≡ Negotiated → refusal r (clear_place g) m (clear_chosen r g d) ≡ None
     taken phase =

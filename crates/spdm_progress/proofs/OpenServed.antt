@@ -144,7 +144,7 @@ module _ (p : Pair) (same_key : p.requester.psk ≡ p.responder.psk) (asker : Is
     taken_large : CanFetch q r size n → clear_does r g tag m d ≡ AddsThere (Clear tag (turn true) d)
     taken_large fetch =
         taken_as (large_fits q r size n fetch (clear_place g) (answer r g d x) answer_size (sym quiet.negotiation)) true
-        (large_goes q r size n fetch (clear_place g) (answer r g d x) answer_size (sym quiet.negotiation) (ap sizes_are_known phase_there) (zero_plus (length (answer r g d x))))
+        (large_goes q r size n fetch (clear_place g) (answer r g d x) answer_size (sym quiet.negotiation) (ap sizes_are_known phase_there) refl)
 
     module _ (large : Bool) (does : clear_does r g tag m d ≡ AddsThere (Clear tag (turn large) d)) where
       abbrev later : served.History

@@ -201,11 +201,13 @@ module _ (w : WorldSetup) (before : List Entry) (n : ℕ) (a : Requesting) (c : 
         fetch = record {
           room = here.responder.sizes.least;
           chunk = in_common (asked.connection_terms a.history).common.chunk refl;
-          large = large;
+          large = omega (arith, large);
+          few = omega arith;
           fits_max = can.2.0;
           transfer = own_sizes.transfer;
           max = own_sizes.max;
           least = here.requester.sizes.least;
+          ordered = here.requester.sizes.ordered;
           most = here.requester.sizes.most;
         };
       }

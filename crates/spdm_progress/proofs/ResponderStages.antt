@@ -26,7 +26,7 @@ use Rattle.responder_machine.specs.Does.{clear_does, clear_chosen}
 use Rattle.responder_machine.specs.Handling.{turn_of, goes_large}
 use Rattle.responder_machine.specs.History.{History, Kept, kept_of, clear_turns, phase_of, negotiation_of}
 use Rattle.responder_machine.specs.History.Entry.{Clear}
-use Rattle.responder_machine.specs.Place.{Place, clear_place, place_terms}
+use Rattle.responder_machine.specs.Place.{Place, clear_place, inside, place_terms}
 use Rattle.responder_machine.specs.Refusal.{phase_allows, refusal, sizes_are_known, is_answer_too_long, has_pending}
 use Rattle.responder_machine.specs.Responder.{Outcome, on_clear, is_repeat, kept_reply, after, body_of}
 use Rattle.responder_machine.specs.Responder.Outcome.{Same, Adds}
@@ -224,6 +224,38 @@ algorithms_taken q r h f offer choice long room own sound chosen fits has =
       version = refl;
     }))
     (contents_passed r (clear_place h) (negotiate_algorithms offer) f (NegotiateAlgorithms offer) is (record {
+      flags = refl;
+      caps = refl;
+      offer = ap is_none chosen;
+      block = refl;
+      exchange = refl;
+      verify = refl;
+      update = refl;
+      chunk = refl;
+      get = refl;
+      fits = fits;
+      limit = refl;
+    }))
+
+-- So it is inside of its chunks.
+pub algorithms_inside : (q : ReqSetup) (r : RspSetup) (h : History) (f : Free) (offer : OfferMessage) (choice : Choice) → 4 ≤ length (negotiate_algorithms offer) → length (negotiate_algorithms offer) ≤ r.max
+    → FitsRequest (NegotiateAlgorithms offer) → IsSoundRequest 32 (NegotiateAlgorithms offer) → selected offer (policy_of r) ≡ Some choice → is_answer_too_long (inside (clear_place h)) (algorithms r offer) ≡ false
+    → phase_of (clear_turns h) ≡ Capable → refusal r (inside (clear_place h)) (negotiate_algorithms offer) f ≡ None
+algorithms_inside q r h f offer choice long room own sound chosen fits phase =
+    let p = inside (clear_place h) in
+    let is = read_at p (NegotiateAlgorithms offer) own sound in
+    not_refused r p (negotiate_algorithms offer) f
+    (form_passed r p (negotiate_algorithms offer) (NegotiateAlgorithms offer) is (record {
+      long = lt_false (length (negotiate_algorithms offer)) 4 long;
+      short = lt_false r.max (length (negotiate_algorithms offer)) room;
+      known = refl;
+      outside = refl;
+      whole = refl;
+      placed = refl;
+      allowed = ap (λ (x : Phase). phase_allows x (has_pending p) NEGOTIATE_ALGORITHMS) phase;
+      version = refl;
+    }))
+    (contents_passed r p (negotiate_algorithms offer) f (NegotiateAlgorithms offer) is (record {
       flags = refl;
       caps = refl;
       offer = ap is_none chosen;

@@ -168,7 +168,7 @@ module _ (p : Pair) (id op : ℕ) (n : Negotiation) (can : GoesLarge p.requester
           fits = large_fits q r (measurements_size r op) n can.fetch place answer size under;
           limit = refl;
         })))
-        ∙ ap (λ (large : Bool). turn_with m f (Some (GetMeasurements op)) answer large) (large_goes q r (measurements_size r op) n can.fetch place answer size under refl (zero_plus (length answer)))
+        ∙ ap (λ (large : Bool). turn_with m f (Some (GetMeasurements op)) answer large) (large_goes q r (measurements_size r op) n can.fetch place answer size under refl refl)
 
   abbrev IsGood : Asking → (Steps → Turn → Type 0) → Steps → Turn → Type 0
   IsGood x Good s t = IsAnswerTo x.ask (x.inner s) t × Good s t × (length t.reply ≤ 4133)

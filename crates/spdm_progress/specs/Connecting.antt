@@ -38,14 +38,15 @@ common_of_both a c = shared (requester_caps a.setup) (responder_caps c.setup)
 
 -- What a connect needs of the two set-ups: the requester has a hash to offer to a responder of this
 -- transfer size, and the responder can choose of the offer. Of the messages only two may have more
--- than 42 bytes. NEGOTIATE_ALGORITHMS fits the transfer size of the responder, so that it needs no
--- chunks; ALGORITHMS can go to the requester, by chunks too.
+-- than 42 bytes: NEGOTIATE_ALGORITHMS can go to the responder, and ALGORITHMS to the requester, by
+-- chunks too.
 pub record CanConnect (a : Requesting) (c : Connection) : Type 0 where
   pub offer : OfferMessage
   pub offered : offer_of a.setup.suites c.setup.transfer ≡ Some offer
   pub choice : Choice
   pub chosen : selected offer (policy_of c.setup) ≡ Some choice
-  pub request_fits : length (canonical_request (NegotiateAlgorithms offer)) ≤ c.setup.transfer
+  pub request_goes : CanGo (common_of_both a c) (common_of_both a c).to_responder
+      (length (canonical_request (NegotiateAlgorithms offer)))
   pub answer_goes : CanGo (common_of_both a c) (common_of_both a c).to_requester
       (length (canonical_response (algorithms_answer c.setup offer)))
 
@@ -94,6 +95,7 @@ pub record ConnectIsTold (w : WorldSetup) (before : List Entry) (n : ℕ) (a : R
   pub is_connection : connection_of a.setup.eid (world_after w before).responder.connections
       ≡ Some c
   pub can : CanConnect a c
+  pub request_fits : length (canonical_request (NegotiateAlgorithms can.offer)) ≤ c.setup.transfer
   pub answer_fits : length (canonical_response (algorithms_answer c.setup can.offer))
       ≤ a.setup.transfer
   pub life : HasLife a (world_after w before).responder

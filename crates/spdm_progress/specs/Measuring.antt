@@ -9,10 +9,7 @@ use Rattle.requester_machine.specs.Shown.{last_data}
 use Rattle.responder_machine.specs.History as served
 use Rattle.responder_machine.specs.Responding.{Connection, Responding, connection_of}
 use Rattle.responder_machine.specs.Setup.{RspSetup, inventory_of}
-use Rattle.spdm_agreement.specs.Configured.{IsConfigured, IsRequester, IsResponder}
-use Rattle.requester_machine.specs.Setup.{ReqSetup}
-use Rattle.spdm_grammar.specs.declared.choice.Choice.{Choice}
-use Rattle.spdm_progress.specs.Connecting.{IsConnected}
+use Rattle.spdm_agreement.specs.Configured.{IsConfigured}
 use Rattle.spdm_grammar.specs.Lines.{Line}
 use Rattle.spdm_grammar.specs.declared.event.Event.TheVariants as event
 use Rattle.spdm_grammar.specs.declared.event.Finished.TheVariants as finished
@@ -106,14 +103,3 @@ MeasureCompletes =
     → NothingWaits (world_from (measuring (world_after w before) line n op) behind)
     → IsMeasured n c.setup op (world_from (measuring (world_after w before) line n op) behind)
     (lines_from (measuring (world_after w before) line n op) behind)
-
--- Right behind a connect that chose measurements, all that a measure needs is that a block which it
--- names is configured and that the answer fits the transfer size with which the requester is set
--- up.
-abbrev pub ConnectedCanMeasure : Type 0
-ConnectedCanMeasure =
-    (q : ReqSetup) (r : RspSetup) → IsRequester q → IsResponder r
-    → (n : ℕ) (choice : Choice) (world : World) (lines : List Line)
-    → (is : IsConnected n q r choice world lines) → choice.measure ≡ true
-    → (op : ℕ) → op < 256 → is_missing op (inventory_of r) ≡ false
-    → measurements_size r op ≤ q.transfer → CanMeasure is.requester is.connection op

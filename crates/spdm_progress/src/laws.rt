@@ -5,9 +5,10 @@ ghost use Rattle.spdm_progress.specs.Connecting.{
   EachIsConnected,
   SixPacketsAreEnough,
 };
-ghost use Rattle.spdm_progress.specs.Measuring.{ConnectedCanMeasure, MeasureCompletes};
+ghost use Rattle.spdm_progress.specs.Measuring.{MeasureCompletes};
 ghost use Rattle.spdm_progress.specs.Opening.{OpenCompletes};
 ghost use Rattle.spdm_progress.specs.Scripts.{
+  ConnectedCanMeasure,
   ConnectsQuietly,
   HonestScriptsComplete,
   PumpedScriptsAreHonest,
@@ -43,12 +44,13 @@ pub fn measure_completes()
 {}
 
 /// Right behind a connect that chose measurements, a measure needs no more than that a block which
-/// it names is configured, and that the answer fits the transfer size of the requester's set-up.
+/// it names is configured, and that the answer can go to the requester, by chunks too.
 pub fn connected_can_measure()
     ensures { ConnectedCanMeasure }
 {}
 
-/// A connect leaves the two ends quiet, whatever came before.
+/// A connect leaves the two ends quiet, whatever came before, and both hold one negotiation. Its
+/// messages may go by chunks.
 pub fn connects_quietly()
     ensures { ConnectsQuietly }
 {}
