@@ -1,15 +1,15 @@
 -- What comes of a message in a session: the tests in order, and its turn.
 use Rattle.std.proofs.Common.{◌≡◌, ◌≤◌, ◌∙◌, ap, sym, refl, ℕ, ◌+◌, List, [], ◌∷◌, Bool, true, false, length, drop, arith}
 use Rattle.std.proofs.lemmas.Bool.Decides.{nat_tests}
-use Rattle.std.proofs.lemmas.Option.{none-some}
+use Rattle.std.proofs.lemmas.Option.{none-some, same_Some}
 use Rattle.std.specs.Prelude.{◌==◌, ◌&&◌, ◌||◌, not, nat_lt, if◌then◌else◌, Option, Some, None, is_some, slice_index}
 use Rattle.std.specs.Option.{option_or}
 use Rattle.responder_machine.proofs.Codes.{asked-code}
-use Rattle.responder_machine.proofs.Turns.{turn_of-plain, plain_turn-asked}
+use Rattle.responder_machine.proofs.Turns.{turn_of-plain, turn_of-refused, plain_turn-asked}
 use Rattle.responder_machine.specs.Answer.{Free, answer_bytes, answer_of, answer_to, request_at}
-use Rattle.responder_machine.specs.Handling.{turn_of, turn_by, refused_turn, chunk_in, goes_large, large_response}
+use Rattle.responder_machine.specs.Handling.{turn_of, refused_turn, chunk_in, goes_large, large_response}
 use Rattle.responder_machine.specs.Place.{Place, place_terms, session_place}
-use Rattle.responder_machine.specs.Refusal.{refusal, refused_form, refused_contents, lacks_flag, are_caps_refused, is_offer_refused, has_no_block, is_exchange_refused, is_verify_wrong, is_update_misplaced, is_too_large, chunk_fault, is_get_refused, is_answer_too_long}
+use Rattle.responder_machine.specs.Refusal.{refusal, refused_form, refused_contents, tests_of_form, lacks_flag, are_caps_refused, is_offer_refused, has_no_block, is_exchange_refused, is_verify_wrong, is_update_misplaced, is_too_large, chunk_fault, is_get_refused, is_answer_too_long}
 use Rattle.responder_machine.specs.Responder.{session_turn, session_turn_by, inner_refusal, is_open, data_turn}
 use Rattle.responder_machine.specs.Session.{Events, stage_of, session_terms}
 use Rattle.responder_machine.specs.Setup.{RspSetup}
@@ -56,17 +56,13 @@ refusal_is : (r : RspSetup) (p : Place) (m : List ℕ) (f : Free) → refused_fo
 unfolding refusal
 refusal_is r p m f h = ap (λ (x : Option ErrorCode). option_or x (refused_contents r p m f)) h
 
-refused_by : (r : RspSetup) (p : Place) (m : List ℕ) (f : Free) (code : ErrorCode) → refusal r p m f ≡ Some code → turn_of r p m f ≡ refused_turn r p m f code
-unfolding turn_of
-refused_by r p m f code h = ap (λ (x : Option ErrorCode). turn_by r p m f x (chunk_in (request_at p m))) h
-
 pub turn-misfit : (r : RspSetup) (p : Place) (m : List ℕ) (f : Free) (code : ErrorCode) → refused_form r p m ≡ Some code → turn_of r p m f ≡ refused_turn r p m f code
 unfolding refusal
-turn-misfit r p m f code h = refused_by r p m f code (ap (λ (x : Option ErrorCode). option_or x (refused_contents r p m f)) h)
+turn-misfit r p m f code h = turn_of-refused r p m f code (ap (λ (x : Option ErrorCode). option_or x (refused_contents r p m f)) h)
 
 pub turn-refused : (r : RspSetup) (p : Place) (m : List ℕ) (f : Free) (asked : RequestMessage) (code : ErrorCode) → refused_form r p m ≡ None → request_at p m ≡ Some asked
     → first_of_tests (contents_at r p m (code_for asked) (Some asked) (canonical_response (answer_of r p m f asked))) ≡ Some code → turn_of r p m f ≡ refused_turn r p m f code
-turn-refused r p m f asked code form is h = refused_by r p m f code (refusal_is r p m f form ∙ contents_asked r p m f asked is ∙ h)
+turn-refused r p m f asked code form is h = turn_of-refused r p m f code (refusal_is r p m f form ∙ contents_asked r p m f asked is ∙ h)
 
 pub answer_asked : (r : RspSetup) (p : Place) (m : List ℕ) (f : Free) (asked : RequestMessage) → request_at p m ≡ Some asked → answer_bytes r p m f ≡ canonical_response (answer_of r p m f asked)
 unfolding answer_bytes
@@ -141,15 +137,37 @@ inner-data r s inner f h five =
     ap (λ (x : Option ErrorCode). session_turn_by r s inner f x) h
     ∙ ap (λ (b : Bool). if b then turn_of r (session_place s) (drop 1 inner) f else data_turn f (drop 1 inner)) five
 
--- Where the session is not open, an inner message that is not refused is an SPDM message.
-spoken_by : (empty five one opens long : Bool)
-    → first_of_tests ((empty, InvalidRequest) ∷ (not (five || one), InvalidRequest) ∷ (one && not opens, UnexpectedRequest) ∷ (one && long, RequestTooLarge) ∷ []) ≡ None
-    → opens ≡ false → five ≡ true
-spoken_by true five one opens long h k = absurd (none-some InvalidRequest (sym h))
-spoken_by false true one opens long h k = refl
-spoken_by false false false opens long h k = absurd (none-some InvalidRequest (sym h))
-spoken_by false false true true long h k = absurd (cc)
-spoken_by false false true false long h k = absurd (none-some UnexpectedRequest (sym h))
+-- ---- ResponseTooLarge comes for an answer alone.
 
-pub spoken : (stage : Stage) (inner : List ℕ) → inner_refusal stage inner ≡ None → is_open stage ≡ false → (slice_index inner 0 == 5) ≡ true
-spoken stage inner h k = spoken_by (length inner == 0) (slice_index inner 0 == 5) (slice_index inner 0 == 1) (is_open stage) (nat_lt 1025 (length inner)) h k
+abbrev AreOther : List (Bool × ErrorCode) → Type 0
+AreOther [] = Unit {0}
+AreOther (t ∷ ts) = (t.1 ≡ ResponseTooLarge → ⊥) × AreOther ts
+
+other_code : (ts : List (Bool × ErrorCode)) (code : ErrorCode) → AreOther ts → first_of_tests ts ≡ Some code → code ≡ ResponseTooLarge → ⊥
+other_code [] code others is large = none-some code is
+other_code (t ∷ ts) code others is large = by_test t.0 is (other_code ts code others.1)
+  where
+    by_test : (b : Bool) → (if b then Some t.1 else first_of_tests ts) ≡ Some code → (first_of_tests ts ≡ Some code → code ≡ ResponseTooLarge → ⊥) → ⊥
+    by_test true is rest = others.0 (same_Some t.1 code is ∙ large)
+    by_test false is rest = rest is large
+
+form_codes : (r : RspSetup) (p : Place) (m : List ℕ) → AreOther (tests_of_form r p m)
+form_codes r p m = (λ e. cc, (λ e. cc, (λ e. cc, (λ e. cc, (λ e. cc, (λ e. cc, (λ e. cc, (λ e. cc, (λ e. cc, tt)))))))))
+
+pub form_code : (r : RspSetup) (p : Place) (m : List ℕ) (code : ErrorCode) → refused_form r p m ≡ Some code → code ≡ ResponseTooLarge → ⊥
+unfolding refused_form
+form_code r p m code is large = other_code (tests_of_form r p m) code (form_codes r p m) is large
+
+abbrev inner_tests : Stage → List ℕ → List (Bool × ErrorCode)
+inner_tests stage inner =
+    (length inner == 0, InvalidRequest)
+    ∷ (not (slice_index inner 0 == 5 || slice_index inner 0 == 1), InvalidRequest)
+    ∷ (slice_index inner 0 == 1 && not (is_open stage), UnexpectedRequest)
+    ∷ (slice_index inner 0 == 1 && nat_lt 1025 (length inner), RequestTooLarge)
+    ∷ []
+
+inner_codes : (stage : Stage) (inner : List ℕ) → AreOther (inner_tests stage inner)
+inner_codes stage inner = (λ e. cc, (λ e. cc, (λ e. cc, (λ e. cc, tt))))
+
+pub inner_code : (stage : Stage) (inner : List ℕ) (code : ErrorCode) → inner_refusal stage inner ≡ Some code → code ≡ ResponseTooLarge → ⊥
+inner_code stage inner code is large = other_code (inner_tests stage inner) code (inner_codes stage inner) is large

@@ -1,17 +1,8 @@
 -- What a record leaves of what is kept of its session.
-use Rattle.std.proofs.Common.{◌≡◌, ◌∙◌, ap, sym, subst, refl, ℕ, ◌+◌, List, [], ◌∷◌, Bool, true, false}
+use Rattle.std.proofs.Common.{◌≡◌, ◌∙◌, ap, sym, subst, refl, ℕ, ◌+◌, List, ◌∷◌, Bool, true, false}
 use Rattle.std.specs.Prelude.{◌||◌, ◌%◌, ◌^◌, if◌then◌else◌, Some}
 use Rattle.key_schedule.specs.Purpose.{Purpose}
 use Rattle.key_schedule.specs.declared.direction.Direction.TheVariants.{Request, Response}
-use Rattle.responder_machine.specs.Answer.{Free, answer_bytes}
-use Rattle.responder_machine.specs.Handling.{detail_of, error_bytes, extended_of}
-use Rattle.responder_machine.specs.Place.{session_place}
-use Rattle.responder_machine.specs.Refusal.{code_of}
-use Rattle.responder_machine.specs.Setup.{RspSetup}
-use Rattle.spdm_grammar.specs.ErrorNumber.{error_number}
-use Rattle.spdm_grammar.specs.Message.ResponseMessage.{Error}
-use Rattle.spdm_grammar.specs.Responses.{canonical_response}
-use Rattle.spdm_grammar.specs.declared.names.spdm_version.TheConstants.{V1_2}
 use Rattle.responder_machine.specs.Records.{response_purpose, reply_purpose, reply_record}
 use Rattle.responder_machine.specs.Responder.{inner_reply}
 use Rattle.responder_machine.specs.Session.{Events, stage_of, session_hash, session_terms, id_bytes, t1_of, t2_of, finish_of, finish_answer, request_epoch, response_epoch, request_next, response_next, taken_of, last_of}
@@ -19,38 +10,23 @@ use Rattle.responder_machine.specs.Session.Event.{Heard}
 use Rattle.responder_machine.specs.Turn.{Turn, is_data, takes, updates, request_in, answer_in}
 use Rattle.session_keys.specs.Keys.{IsKeyOf}
 use Rattle.spdm_basis.specs.SessionIdBytes.{session_id_bytes}
-use Rattle.spdm_grammar.specs.declared.error_code.ErrorCode.{ErrorCode}
-use Rattle.spdm_grammar.specs.declared.error_code.ErrorCode.TheVariants.{InvalidRequest, UnexpectedRequest, Unspecified, DecryptError, UnsupportedRequest, SessionLimitExceeded, SessionRequired, ResponseTooLarge, RequestTooLarge, LargeResponse, VersionMismatch}
 use Rattle.spdm_grammar.specs.declared.names.request_code.TheConstants.{PSK_FINISH, KEY_UPDATE}
 use Rattle.spdm_grammar.specs.declared.phase.Stage.TheVariants.{Open, Verifying}
 use Rattle.spdm_machine.specs.Keys.{sealed_of}
 use Rattle.spdm_machine.specs.Sessions.{purpose_in, transcript_in}
 use Rattle.transcript.specs.Transcripts as transcript
 use Rattle.responder_session.specs.Kept.{Keeps, kept_record}
-use Rattle.responder_session.specs.Turns.{KeepsKeys, tells_length}
+use Rattle.responder_session.specs.Turns.{KeepsKeys}
 use Rattle.responder_session.specs.declared.kept.Kept.{Kept}
-
--- An ERROR that tells no length tells nothing more.
-error_short : (code : ErrorCode) (answer : List ℕ) → tells_length code ≡ false → extended_of code answer ≡ []
-error_short ResponseTooLarge answer h = absurd (cc)
-error_short InvalidRequest answer h = refl
-error_short UnexpectedRequest answer h = refl
-error_short Unspecified answer h = refl
-error_short DecryptError answer h = refl
-error_short UnsupportedRequest answer h = refl
-error_short SessionLimitExceeded answer h = refl
-error_short SessionRequired answer h = refl
-error_short RequestTooLarge answer h = refl
-error_short LargeResponse answer h = refl
-error_short VersionMismatch answer h = refl
 
 -- ---- The record that answers.
 
-if_no : {A : Type 0} (b : Bool) (x y : A) → b ≡ false → (if b then x else y) ≡ y
+pub if_no : {A : Type 0} (b : Bool) (x y : A) → b ≡ false → (if b then x else y) ≡ y
 if_no true x y h = absurd (cc)
 if_no false x y h = refl
 
--- What is sealed under the key and the number that are kept answers a turn that is no update of all keys.
+-- What is sealed under the key and the number that are kept answers a turn that is no update of all
+-- keys.
 pub sealed_kept : (kept : Kept) (psk : List ℕ) (s : Events) (t : Turn) (inner pad : List ℕ) → Keeps kept psk s → updates 2 t ≡ false → inner_reply t ≡ inner
     → sealed_of (session_terms s).choice (response_purpose psk s) kept.response_next (session_id_bytes kept.id.req kept.id.rsp) inner pad ≡ reply_record psk s t (inner_reply t) pad
 unfolding reply_record
@@ -73,10 +49,10 @@ same_t2 s m t reply other =
     let answer = if_no (takes PSK_FINISH t) (answer_in t.effect) (finish_answer s) other in
     λ i. transcript.t2_of (transcript.vca_of (Rattle.responder_machine.specs.Session.session_negotiation s)) (Rattle.responder_machine.specs.Session.exchange_of s) (Rattle.responder_machine.specs.Session.exchange_answer s) (finish i) (answer i)
 
-same_request_epoch : (s : Events) (m : List ℕ) (t : Turn) (reply : List ℕ) → KeepsKeys t → request_epoch (Heard m t reply ∷ s) ≡ request_epoch s
+pub same_request_epoch : (s : Events) (m : List ℕ) (t : Turn) (reply : List ℕ) → KeepsKeys t → request_epoch (Heard m t reply ∷ s) ≡ request_epoch s
 same_request_epoch s m t reply k = if_no (updates 1 t || updates 2 t) (request_epoch s + 1) (request_epoch s) (λ i. k.key i || k.all i)
 
-same_response_epoch : (s : Events) (m : List ℕ) (t : Turn) (reply : List ℕ) → KeepsKeys t → response_epoch (Heard m t reply ∷ s) ≡ response_epoch s
+pub same_response_epoch : (s : Events) (m : List ℕ) (t : Turn) (reply : List ℕ) → KeepsKeys t → response_epoch (Heard m t reply ∷ s) ≡ response_epoch s
 same_response_epoch s m t reply k = if_no (updates 2 t) (response_epoch s + 1) (response_epoch s) k.all
 
 next_request : (s : Events) (m : List ℕ) (t : Turn) (reply : List ℕ) → KeepsKeys t → request_next (Heard m t reply ∷ s) ≡ request_next s + 1
@@ -87,7 +63,8 @@ next_response s m t reply k =
     if_no (takes PSK_FINISH t) 0 (if updates 2 t then 1 else response_next s + 1) k.finish
     ∙ if_no (updates 2 t) 1 (response_next s + 1) k.all
 
--- What is kept where nothing but the numbers and the last record moved, and the count of application messages to this.
+-- What is kept where nothing but the numbers and the last record moved, and the count of
+-- application messages to this.
 abbrev counted : (old new : Kept) → (taken : ℕ) → Type 0
 counted old new taken = new ≡ record old { request_next = old.request_next + 1; response_next = old.response_next + 1; taken = taken; last = new.last }
 
@@ -123,11 +100,3 @@ pub kept_plain : (old new : Kept) (psk : List ℕ) (s : Events) (m : List ℕ) (
     → kept_record new.last ≡ Some (record { sealed = m; reply = reply }) → KeepsKeys t → Keeps old psk s → Keeps new psk (Heard m t reply ∷ s)
 kept_plain old new psk s m t reply is other last k keeps =
     kept_by old new psk s m t reply old.taken is (keeps.taken ∙ ap (λ (n : ℕ). n % 2 ^ 64) (sym (if_no (is_data t.effect) (taken_of s + 1) (taken_of s) other))) last k keeps
-
--- ---- ERROR.
-
--- The ERROR that answers a refused message tells the code, and for a request that is not supported the code of the message.
-pub error_is : (r : RspSetup) (s : Events) (m : List ℕ) (f : Free) (code : ErrorCode) → tells_length code ≡ false
-    → error_bytes r (session_place s) m f code ≡ canonical_response (Error V1_2 (error_number code) (detail_of code (code_of m)) [])
-error_is r s m f code short =
-    ap (λ (x : List ℕ). canonical_response (Error V1_2 (error_number code) (detail_of code (code_of m)) x)) (error_short code (answer_bytes r (session_place s) m f) short)

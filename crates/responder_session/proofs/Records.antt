@@ -19,10 +19,11 @@ use Rattle.spdm_grammar.specs.declared.error_code.ErrorCode.{ErrorCode}
 use Rattle.spdm_grammar.specs.declared.phase.Phase.{Phase}
 use Rattle.spdm_machine.specs.Bodies.{record_body}
 use Rattle.spdm_machine.specs.Keys.{Draw}
-use Rattle.responder_session.specs.Laws.{TookIsRecord, told_as}
+use Rattle.responder_session.specs.Laws.{ToldIsRecord, TookIsRecord, told_as}
 use Rattle.responder_session.specs.Staged.{BehindHasReply}
 use Rattle.responder_session.specs.Took.{act_by, turn_in, reply_in}
-use Rattle.responder_session.specs.declared.took.RspAct.TheVariants as act
+use Rattle.responder_session.specs.declared.told.RspAct.TheVariants as act
+use Rattle.responder_session.specs.declared.told.RspTold.TheVariants as told
 use Rattle.spdm_grammar.specs.declared.heard.Heard.TheVariants as heard
 use Rattle.responder_machine.specs.Refusal.{code_of}
 use Rattle.responder_session.specs.declared.took.RspTook.TheVariants as took
@@ -60,6 +61,21 @@ own_record : (h : History) (tag : ℕ) (sealed : List ℕ) (t : Turn) (reply : L
     → session_of (id_in_record sealed) (Sealed tag sealed t reply d ∷ h) ≡ after_record (session_of (id_in_record sealed) h) sealed t reply
 unfolding session_of
 own_record h tag sealed t reply d = ap (λ (b : Bool). if b then after_record (session_of (id_in_record sealed) h) sealed t reply else session_of (id_in_record sealed) h) (same_number (id_in_record sealed))
+
+pub told_is_record : ToldIsRecord
+told_is_record r h tag sealed f d after (told.Moved act) live other (first, opens, stands, is) =
+    let s = session_of (id_in_record sealed) h in
+    let adds = on_live r h tag sealed f d live other ∙ chosen (repeats (last_of s) sealed) false (SendsAgain (record_body (kept_record (last_of s)))) _ first
+    ∙ ap (in_session_by r (phase_of (clear_turns h)) s f tag sealed d) opens in (
+      adds,
+      ap heard_of adds ∙ told_by (turn_in r s f sealed) (record_id sealed) (turn_in r s f sealed).refused ∙ ap (told_as (record_id sealed)) (sym is),
+      own_record h tag sealed (turn_in r s f sealed) (reply_in r s f sealed) d,
+    )
+told_is_record r h tag sealed f d after told.Same live other (first, stands) =
+    on_live r h tag sealed f d live other ∙ chosen _ true _ _ first
+told_is_record r h tag sealed f d after (told.Unopened fault) live other (first, faulty, stands) =
+    let s = session_of (id_in_record sealed) h in
+    on_live r h tag sealed f d live other ∙ chosen _ false _ _ first ∙ ap (in_session_by r (phase_of (clear_turns h)) s f tag sealed d) faulty
 
 pub took_is_record : TookIsRecord
 took_is_record r h tag sealed f d (took.Moved after told) live other (first, opens, stands, is) =

@@ -1,20 +1,15 @@
 -- What an open session is after each turn.
-use Rattle.std.proofs.Common.{◌≡◌, ◌≤◌, ◌<◌, ◌∙◌, ap, sym, subst, refl, ℕ, ◌+◌, List, ◌∷◌, Bool, true, false, length, arith}
-use Rattle.std.proofs.lemmas.Bool.Decides.{nat_tests}
-use Rattle.std.proofs.lemmas.Grind.{div_ceil_times}
-use Rattle.std.specs.Int.{div_ceil}
-use Rattle.std.specs.Prelude.{◌%◌, ◌^◌, ◌*◌, zero, suc, nat_lt, if◌then◌else◌, Some, None}
+use Rattle.std.proofs.Common.{◌≡◌, ◌∙◌, ap, sym, subst, refl, ℕ, ◌+◌, List, ◌∷◌, true, false, arith}
+use Rattle.std.specs.Prelude.{◌%◌, ◌^◌, Some}
 use Rattle.key_schedule.specs.Keys.{DirectionSecret}
 use Rattle.key_schedule.specs.Purpose.{Purpose, application_record}
 use Rattle.key_schedule.specs.declared.direction.Direction.TheVariants.{Request, Response}
-use Rattle.chunking.specs.Cutting.{chunk_count, chunks_of, unit_of}
 use Rattle.responder_machine.specs.Answer.{Free}
-use Rattle.responder_machine.specs.LargeMessages.{still_pending, given_of, large_of, larges_of}
 use Rattle.responder_machine.specs.Records.{reply_record}
 use Rattle.responder_machine.specs.Responder.{inner_reply, data_turn}
 use Rattle.responder_machine.specs.Session.{Events, stage_of, session_hash, session_terms, t2_of, request_epoch, response_epoch, taken_of}
 use Rattle.responder_machine.specs.Session.Event.{Heard}
-use Rattle.responder_machine.specs.Turn.{Turn, takes}
+use Rattle.responder_machine.specs.Turn.{takes}
 use Rattle.session_keys.specs.Keys.{IsKeyOf}
 use Rattle.spdm_basis.specs.SessionIdBytes.{session_id_bytes}
 use Rattle.spdm_grammar.specs.Message.{RequestMessage}
@@ -24,9 +19,8 @@ use Rattle.spdm_grammar.specs.declared.phase.Stage.TheVariants.{Open}
 use Rattle.spdm_machine.specs.Keys.{sealed_of}
 use Rattle.responder_session.proofs.Moves.{kept_by}
 use Rattle.responder_session.proofs.Updating.{past_purpose, past_hash}
-use Rattle.responder_session.specs.Deeds.{is_quiet, large_turn}
+use Rattle.responder_session.specs.Deeds.{is_quiet}
 use Rattle.responder_session.specs.Kept.{Keeps, kept_record}
-use Rattle.responder_session.specs.Open.{IsPending}
 use Rattle.responder_session.specs.Turns.{KeepsKeys, answered_turn}
 use Rattle.responder_session.specs.Updates.{update_turn}
 use Rattle.responder_session.specs.declared.kept.Kept.{Kept}
@@ -38,15 +32,10 @@ quiet_keys message answer Heartbeat h = record { finish = refl; update = refl; k
 quiet_keys message answer (GetMeasurements op) h = record { finish = refl; update = refl; key = refl; all = refl; verify = refl }
 quiet_keys message answer asked h = absurd (cc)
 
-no_chunk : (message answer : List ℕ) (asked : RequestMessage) → is_quiet asked ≡ true → takes CHUNK_GET (answered_turn message asked answer) ≡ false
+pub no_chunk : (message answer : List ℕ) (asked : RequestMessage) → is_quiet asked ≡ true → takes CHUNK_GET (answered_turn message asked answer) ≡ false
 no_chunk message answer Heartbeat h = refl
 no_chunk message answer (GetMeasurements op) h = refl
 no_chunk message answer asked h = absurd (cc)
-
--- It drops a pending large answer.
-pub quiet_pending : (transfer : ℕ) (turns : List Turn) (message answer : List ℕ) (asked : RequestMessage) → is_quiet asked ≡ true → IsPending None transfer (answered_turn message asked answer ∷ turns)
-quiet_pending transfer turns message answer asked h =
-    ap (λ (b : Bool). still_pending transfer (given_of (answered_turn message asked answer ∷ turns)) (if b then large_of turns else None)) (no_chunk message answer asked h)
 
 -- ---- Application data.
 
@@ -61,29 +50,6 @@ kept_data old mid taken psk s f sealed bytes reply is count last keeps =
     kept_by old (record mid { taken = taken }) psk s sealed (data_turn f bytes) reply taken (ap (λ (x : Kept). record x { taken = taken }) is)
     (count ∙ counted_more (taken_of s) mid.taken (ap (λ (x : Kept). x.taken) is ∙ keeps.taken)) last
     (record { finish = refl; update = refl; key = refl; all = refl; verify = refl }) keeps
-
--- ---- An answer by chunks.
-
-some_chunk : (n unit : ℕ) → 0 < unit → 0 < div_ceil (n + 4) unit
-some_chunk n unit h = (let around = div_ceil_times (n + 4) unit h in by_zero (div_ceil (n + 4) unit) n unit around.0)
-  where
-    by_zero : (k n unit : ℕ) → n + 4 ≤ k * unit → 0 < k
-    by_zero zero n unit h = absurd (omega (arith, h))
-    by_zero (suc k) n unit h = omega arith
-
-pub large_pending : (transfer : ℕ) (turns : List Turn) (message answer : List ℕ) (op handle : ℕ) → 42 ≤ transfer
-    → IsPending (Some (chunks_of transfer handle answer)) transfer (large_turn message (GetMeasurements op) answer handle ∷ turns)
-large_pending transfer turns message answer op handle low =
-    let some = some_chunk (length answer) (unit_of transfer) (omega arith) in
-    let test : nat_lt 0 (chunk_count transfer answer) ≡ true = grind (arith, nat_tests) in
-    (answer, ap (λ (b : Bool). if b then Some answer else None) test, refl, some)
-
-next_counted : (n m : ℕ) → m ≡ n % 256 → (m + 1) % 256 ≡ (n + 1) % 256
-next_counted n m h = omega arith
-
-pub large_next : (turns : List Turn) (message answer : List ℕ) (op handle next after : ℕ) → next ≡ larges_of turns % 256 → after ≡ (next + 1) % 256
-    → after ≡ larges_of (large_turn message (GetMeasurements op) answer handle ∷ turns) % 256
-large_next turns message answer op handle next after h k = k ∙ next_counted (larges_of turns) next h
 
 -- ---- Updates.
 

@@ -1,49 +1,76 @@
 -- What comes of a record that a session takes.
-use Rattle.std.proofs.Common.{◌≡◌, ◌∙◌, ap, sym, subst, ℕ, List, drop, Bool, false}
+use Rattle.std.proofs.Common.{◌≡◌, ◌∙◌, ap, sym, subst, refl, ℕ, List, ◌∷◌, Bool, true, false, inl, inr}
 use Rattle.std.specs.Prelude.{None, Option}
 use Rattle.responder_machine.specs.Answer.{Free}
 use Rattle.responder_machine.specs.History.{KeptRecord}
 use Rattle.responder_machine.specs.Records.{opening_fault, opened, reply_record}
 use Rattle.responder_machine.specs.Responder.{session_turn, inner_reply, repeats}
-use Rattle.responder_machine.specs.Session.{Events, last_of}
+use Rattle.responder_machine.specs.Session.{Events, id_bytes, last_of}
+use Rattle.responder_machine.specs.Session.Event.{Heard}
 use Rattle.responder_machine.specs.Setup.{RspSetup}
-use Rattle.responder_machine.specs.Turn.{Turn}
+use Rattle.responder_machine.specs.Turn.{Turn, takes}
+use Rattle.spdm_grammar.specs.declared.names.request_code.TheConstants.{END_SESSION}
+use Rattle.responder_session.specs.Deeds.{is_whole, turn_for}
+use Rattle.responder_session.specs.EndedTook.{IsEndedStill}
 use Rattle.responder_session.specs.Kept.{Keeps, kept_record}
-use Rattle.responder_session.specs.Deeds.{IsInnerDeed, IsFit, turn_for}
-use Rattle.responder_session.specs.Took.{IsTook, IsAfter, IsMoved, act_of}
+use Rattle.responder_session.specs.Session.{StandsFor, IsEnded}
+use Rattle.responder_session.specs.Took.{IsAfter, IsMoved, IsSessionAfter, IsStateOf, IsTold, act_of}
 use Rattle.responder_session.specs.declared.deed.Deed.{Deed}
+use Rattle.responder_session.specs.declared.deed.Deed.TheVariants as deed
 use Rattle.responder_session.specs.declared.kept.Kept.{Kept}
-use Rattle.responder_session.specs.declared.took.RspAct.{RspAct}
+use Rattle.responder_session.specs.declared.session.RspSession.{RspSession}
+use Rattle.responder_session.specs.declared.told.RspAct.{RspAct}
+use Rattle.responder_session.specs.declared.told.RspTold.TheVariants as told
 use Rattle.responder_session.specs.declared.took.RspState.{RspState}
-use Rattle.responder_session.specs.declared.took.RspTook.TheVariants.{Moved}
+use Rattle.responder_session.specs.declared.took.RspState.TheVariants as state
 
 -- The record is the last one as what is kept says so.
 pub repeats_kept : (kept : Kept) (psk : List ℕ) (s : Events) (sealed : List ℕ) (b : Bool) → Keeps kept psk s → b ≡ repeats (kept_record kept.last) sealed → repeats (last_of s) sealed ≡ b
 repeats_kept kept psk s sealed b keeps is = ap (λ (x : Option KeptRecord). repeats x sealed) (sym keeps.last) ∙ sym is
 
 -- A turn of its inner message is the turn of the record.
-pub taken : (r : RspSetup) (s : Events) (f : Free) (sealed inner pad : List ℕ) (t : Turn) (after : RspState) (act : RspAct)
+pub taken : (r : RspSetup) (s : Events) (f : Free) (sealed inner pad : List ℕ) (t : Turn) (after : RspSession) (act : RspAct)
     → repeats (last_of s) sealed ≡ false → opening_fault r.psk s sealed ≡ None → inner ≡ opened r.psk s sealed → session_turn r s inner f ≡ t → f.pad ≡ pad
-    → IsAfter after r.psk s sealed t (reply_record r.psk s t (inner_reply t) pad) → act ≡ act_of t → IsTook r s f sealed (Moved after act)
-taken r s f sealed inner pad t after act other unfaulted is turn padded stands told =
+    → IsMoved r.psk s sealed t pad after act → IsTold r s f sealed after (told.Moved act)
+taken r s f sealed inner pad t after act other unfaulted is turn padded (stands, told) =
     let same : t ≡ session_turn r s (opened r.psk s sealed) f = sym turn ∙ ap (λ (x : List ℕ). session_turn r s x f) is in (
       other,
       unfaulted,
-      subst (λ (u : Turn). IsAfter after r.psk s sealed u (reply_record r.psk s u (inner_reply u) f.pad)) same
-          (subst (λ (x : List ℕ). IsAfter after r.psk s sealed t (reply_record r.psk s t (inner_reply t) x)) (sym padded) stands),
+      subst (λ (u : Turn). IsSessionAfter after r.psk s sealed u (reply_record r.psk s u (inner_reply u) f.pad)) same
+          (subst (λ (x : List ℕ). IsSessionAfter after r.psk s sealed t (reply_record r.psk s t (inner_reply t) x)) (sym padded) stands),
       told ∙ ap act_of same,
     )
 
 -- The turn of what a message does.
-pub moved_by : (r : RspSetup) (s : Events) (f : Free) (message answer sealed pad : List ℕ) (d x : Deed) (moved : RspState × RspAct) → d ≡ x
-    → IsMoved r.psk s sealed (turn_for r s f message answer x) pad moved → IsMoved r.psk s sealed (turn_for r s f message answer d) pad moved
-moved_by r s f message answer sealed pad d x moved is h = subst (λ (y : Deed). IsMoved r.psk s sealed (turn_for r s f message answer y) pad moved) (sym is) h
+pub moved_by : (r : RspSetup) (s : Events) (f : Free) (message answer sealed pad : List ℕ) (d x : Deed) (after : RspSession) (act : RspAct) → d ≡ x
+    → IsMoved r.psk s sealed (turn_for r s f message answer x) pad after act → IsMoved r.psk s sealed (turn_for r s f message answer d) pad after act
+moved_by r s f message answer sealed pad d x after act is h = subst (λ (y : Deed). IsMoved r.psk s sealed (turn_for r s f message answer y) pad after act) (sym is) h
 
-pub taken_deed : (r : RspSetup) (s : Events) (f : Free) (sealed inner message answer pad : List ℕ) (d : Deed) (after : RspState) (act : RspAct)
-    → repeats (last_of s) sealed ≡ false → opening_fault r.psk s sealed ≡ None → inner ≡ opened r.psk s sealed → message ≡ drop 1 inner → f.pad ≡ pad
-    → IsInnerDeed r s f inner (drop 1 inner) answer d
-    → (IsFit r s f message answer d → IsMoved r.psk s sealed (turn_for r s f message answer d) pad (record { 0 = after; 1 = act })) → IsTook r s f sealed (Moved after act)
-taken_deed r s f sealed inner message answer pad d after act other unfaulted is behind padded does moves =
-    let deed : IsInnerDeed r s f inner message answer d = subst (λ (x : List ℕ). IsInnerDeed r s f inner x answer d) (sym behind) does in
-    let moved = moves deed.fit in
-    taken r s f sealed inner pad (turn_for r s f message answer d) after act other unfaulted is deed.turn padded moved.0 moved.1
+-- ---- A session as a state.
+
+pub live_after : (state : RspState) (psk : List ℕ) (s : Events) (sealed : List ℕ) (t : Turn) (reply : List ℕ) → takes END_SESSION t ≡ false
+    → IsStateOf state psk (Heard sealed t reply ∷ s) → IsAfter state psk s sealed t reply
+live_after (state.Handshake h) psk s sealed t reply other x = (other, x)
+live_after (state.Open o) psk s sealed t reply other x = (other, x)
+live_after (state.Verifying v) psk s sealed t reply other x = (other, x)
+live_after (state.Ended e) psk s sealed t reply other x = absurd x
+
+pub ended_after : (state : RspState) (psk : List ℕ) (s : Events) (sealed : List ℕ) (t : Turn) (reply : List ℕ) → takes END_SESSION t ≡ true
+    → IsEndedStill (id_bytes s) sealed reply state → IsAfter state psk s sealed t reply
+ended_after (state.Handshake h) psk s sealed t reply ends x = absurd x
+ended_after (state.Open o) psk s sealed t reply ends x = absurd x
+ended_after (state.Verifying v) psk s sealed t reply ends x = absurd x
+ended_after (state.Ended e) psk s sealed t reply ends x = (ends, x)
+
+pub state_after : (session : RspSession) (state : RspState) (psk : List ℕ) (s : Events) (sealed : List ℕ) (t : Turn) (reply : List ℕ)
+    → ((psk : List ℕ) (s : Events) → StandsFor session psk s → IsStateOf state psk s)
+    → ((id old answer : List ℕ) → IsEnded session id old answer → IsEndedStill id old answer state)
+    → IsSessionAfter session psk s sealed t reply → IsAfter state psk s sealed t reply
+state_after session state psk s sealed t reply live ends (inl (other, x)) = live_after state psk s sealed t reply other (live psk (Heard sealed t reply ∷ s) x)
+state_after session state psk s sealed t reply live ends (inr (is, x)) = ended_after state psk s sealed t reply is (ends (id_bytes s) sealed reply x)
+
+-- ---- Deeds but one.
+
+pub whole_but : (d : Deed) → ((op handle : ℕ) → d ≡ deed.Large op handle → ⊥) → is_whole d ≡ true
+whole_but (deed.Large op handle) other = absurd (other op handle refl)
+whole_but _ other = refl

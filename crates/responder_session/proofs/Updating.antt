@@ -1,8 +1,6 @@
 -- KEY_UPDATE: its turn, and what is kept after it.
-use Rattle.std.proofs.Common.{◌≡◌, ◌∙◌, ap, sym, subst, refl, ℕ, ◌+◌, List, ◌∷◌, Bool, true, false, drop, arith}
-use Rattle.std.proofs.lemmas.Bool.Decides.{nat_tests}
-use Rattle.std.proofs.lemmas.Option.{none-some, same_Some}
-use Rattle.std.specs.Prelude.{◌==◌, not, if◌then◌else◌, Option, Some, None, Result, Ok, Err}
+use Rattle.std.proofs.Common.{◌≡◌, ◌∙◌, ap, sym, subst, refl, ℕ, ◌+◌, List, ◌∷◌, Bool, true, false, arith}
+use Rattle.std.specs.Prelude.{not, if◌then◌else◌, Option, Some, None}
 use Rattle.key_schedule.specs.Purpose.{Purpose, application_record}
 use Rattle.key_schedule.specs.declared.direction.Direction.{Direction}
 use Rattle.key_schedule.specs.declared.direction.Direction.TheVariants.{Request, Response}
@@ -10,8 +8,7 @@ use Rattle.responder_machine.proofs.Codes.{asked-code}
 use Rattle.responder_machine.specs.Answer.{Free, request_at}
 use Rattle.responder_machine.specs.Handling.{turn_of, refused_turn}
 use Rattle.responder_machine.specs.Place.{session_place}
-use Rattle.responder_machine.specs.Refusal.{refused_form, lacks_flag, stage_allows, has_pending, fits_stage, code_of, is_answer_too_long}
-use Rattle.responder_machine.specs.Responder.{session_turn}
+use Rattle.responder_machine.specs.Refusal.{refused_form, lacks_flag, fits_stage, code_of, is_answer_too_long}
 use Rattle.responder_machine.specs.Session.{Events, stage_of, session_hash, session_terms, t1_of, t2_of, request_epoch, response_epoch}
 use Rattle.responder_machine.specs.Session.Event.{Heard}
 use Rattle.responder_machine.specs.Setup.{RspSetup}
@@ -19,7 +16,7 @@ use Rattle.responder_machine.specs.SizeLaws.{HasSizes}
 use Rattle.session_keys.specs.Keys.{IsKeyOf}
 use Rattle.spdm_grammar.specs.Codes.{code_for}
 use Rattle.spdm_grammar.specs.Message.{RequestMessage}
-use Rattle.spdm_grammar.specs.Message.RequestMessage.{GetVersion, GetCapabilities, NegotiateAlgorithms, GetMeasurements, PskExchange, PskFinish, Heartbeat, KeyUpdate, EndSession, ChunkSend, ChunkGet}
+use Rattle.spdm_grammar.specs.Message.RequestMessage.{KeyUpdate}
 use Rattle.spdm_grammar.specs.Message.ResponseMessage.{KeyUpdateAck}
 use Rattle.spdm_grammar.specs.Responses.{canonical_response}
 use Rattle.spdm_grammar.specs.declared.error_code.ErrorCode.{ErrorCode}
@@ -29,9 +26,8 @@ use Rattle.spdm_grammar.specs.declared.phase.Stage.{Stage}
 use Rattle.spdm_grammar.specs.declared.phase.Stage.TheVariants.{Handshake, Open, Verifying}
 use Rattle.spdm_machine.specs.Sessions.{is_past_handshake, purpose_in, transcript_in}
 use Rattle.responder_session.proofs.Contents.{turn-refused, turn-answered, short_fits, short_is_small}
-use Rattle.responder_session.proofs.Finish.{allowed_code}
 use Rattle.responder_session.specs.Kept.{Keeps, kept_record}
-use Rattle.responder_session.specs.Updates.{verifies, update_turn, IsVerified, IsVerifyJudged}
+use Rattle.responder_session.specs.Updates.{update_turn}
 use Rattle.responder_session.specs.declared.kept.Kept.{Kept}
 
 -- ---- The turn.
@@ -70,62 +66,6 @@ update-answered r s m f op tag sizes form is h fits =
     (fitting_by (lacks_flag (session_terms s) KEY_UPDATE) (not (fits_stage (stage_of s) op)) (is_answer_too_long (session_place s) answer)
     (ap (lacks_flag (session_terms s)) (asked-code (session_place s) m (KeyUpdate op tag) is) ∙ h) (ap not fits) (short_fits r s answer sizes (omega arith)))
     (short_is_small r s answer sizes (omega arith))
-
--- ---- While VerifyNewKey is awaited.
-
--- Verifying allows KEY_UPDATE alone.
-abbrev pub is_update : RequestMessage → Bool
-is_update (KeyUpdate op tag) = true
-is_update _ = false
-
-only_update : (asked : RequestMessage) (pending : Bool) → not (stage_allows Verifying pending (code_for asked)) ≡ false → is_update asked ≡ false → ⊥
-only_update (KeyUpdate op tag) pending h k = cc
-only_update GetVersion pending h k = cc
-only_update (GetCapabilities caps) pending h k = cc
-only_update (NegotiateAlgorithms offer) pending h k = cc
-only_update (GetMeasurements op) pending h k = cc
-only_update (PskExchange exchange) pending h k = cc
-only_update (PskFinish verify) pending h k = cc
-only_update Heartbeat pending h k = cc
-only_update EndSession pending h k = cc
-only_update (ChunkSend chunk) pending h k = cc
-only_update (ChunkGet handle number) pending h k = cc
-
--- What VerifyNewKey is, told by its tag.
-new_key : (op tag told : ℕ) → (if op == 3 then Some tag else None) ≡ Some told → (op ≡ 3) × (tag ≡ told)
-new_key op tag told h = by_test (op == 3) op tag told refl h
-  where
-    by_test : (b : Bool) (op tag told : ℕ) → (op == 3) ≡ b → (if b then Some tag else None) ≡ Some told → (op ≡ 3) × (tag ≡ told)
-    by_test true op tag told is h = ((let three = is in grind (arith, nat_tests)), same_Some tag told h)
-    by_test false op tag told is h = absurd (none-some told h)
-
-other_key : (op tag : ℕ) → (if op == 3 then Some tag else None) ≡ None → (op == 3) ≡ false
-other_key op tag h = by_test (op == 3) tag h
-  where
-    by_test : (b : Bool) (tag : ℕ) → (if b then Some tag else None) ≡ None → b ≡ false
-    by_test true tag h = absurd (none-some tag (sym h))
-    by_test false tag h = refl
-
-verified_by : (r : RspSetup) (s : Events) (m : List ℕ) (f : Free) (op tag told : ℕ) → HasSizes r (session_terms s).common → stage_of s ≡ Verifying
-    → refused_form r (session_place s) m ≡ None → request_at (session_place s) m ≡ Some (KeyUpdate op tag) → lacks_flag (session_terms s) (code_of m) ≡ false
-    → op ≡ 3 → tag ≡ told → turn_of r (session_place s) m f ≡ update_turn m 3 told
-verified_by r s m f op tag told sizes at form is h three same =
-    update-answered r s m f op tag sizes form is h (λ i. fits_stage (at i) (three i)) ∙ (λ i. update_turn m (three i) (same i))
-
-pub verify_right : (r : RspSetup) (s : Events) (m : List ℕ) (f : Free) (asked : RequestMessage) (told : ℕ) → HasSizes r (session_terms s).common → stage_of s ≡ Verifying
-    → refused_form r (session_place s) m ≡ None → request_at (session_place s) m ≡ Some asked → lacks_flag (session_terms s) (code_of m) ≡ false → verifies asked ≡ Some told
-    → (turn_of r (session_place s) m f ≡ update_turn m 3 told) × (code_of m ≡ KEY_UPDATE)
-verify_right r s m f (KeyUpdate op tag) told sizes at form is h v =
-    let found = new_key op tag told v in
-    (verified_by r s m f op tag told sizes at form is h found.0 found.1, sym (asked-code (session_place s) m (KeyUpdate op tag) is))
-verify_right r s m f asked told sizes at form is h v = absurd (none-some told v)
-
-pub verify_other : (r : RspSetup) (s : Events) (m : List ℕ) (f : Free) (asked : RequestMessage) → stage_of s ≡ Verifying
-    → refused_form r (session_place s) m ≡ None → request_at (session_place s) m ≡ Some asked → lacks_flag (session_terms s) (code_of m) ≡ false → verifies asked ≡ None
-    → turn_of r (session_place s) m f ≡ refused_turn r (session_place s) m f UnexpectedRequest
-verify_other r s m f (KeyUpdate op tag) at form is h v =
-    update-misplaced r s m f op tag form is h (ap (λ (x : Stage). fits_stage x op) at ∙ other_key op tag v)
-verify_other r s m f asked at form is h v = absurd (only_update asked (has_pending (session_place s)) (allowed_code r s m asked Verifying form is at) refl)
 
 -- ---- What is kept.
 
@@ -168,9 +108,3 @@ kept_verified old new psk s sealed message reply tag at is last keeps =
       hash = keeps.hash ∙ ap (λ (x : List ℕ). (session_hash s).digest x) (past_hash s Verifying at refl);
       last = last;
     })
-
--- What is judged of the message is judged of the inner message.
-pub verify_shown : (r : RspSetup) (s : Events) (inner m : List ℕ) (f : Free) (answer : Result ℕ ErrorCode) → m ≡ drop 1 inner → session_turn r s inner f ≡ turn_of r (session_place s) m f
-    → IsVerified r s m f answer → IsVerifyJudged r s inner f answer
-verify_shown r s inner m f (Ok tag) same turn (is, code) = (turn ∙ is ∙ ap (λ (x : List ℕ). update_turn x 3 tag) same, ap code_of (sym same) ∙ code)
-verify_shown r s inner m f (Err code) same turn is = turn ∙ is ∙ ap (λ (x : List ℕ). refused_turn r (session_place s) x f code) same

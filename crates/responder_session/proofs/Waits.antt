@@ -12,7 +12,7 @@ use Rattle.spdm_grammar.specs.Responses.{canonical_response}
 use Rattle.spdm_machine.specs.Keys.{verify_data}
 use Rattle.transcript.specs.Transcripts.{vca_of}
 use Rattle.responder_session.specs.Exchange.{answer_with}
-use Rattle.responder_session.specs.ExchangeLaws.{ArePartsOf, StartIsAnswer, WaitingStands}
+use Rattle.responder_session.specs.ExchangeLaws.{ArePartsOf, SessionWaits, StartIsAnswer, WaitingStands}
 use Rattle.responder_session.specs.Kept.{Keeps}
 use Rattle.responder_session.specs.declared.kept.Kept.{Kept}
 use Rattle.responder_session.specs.declared.parts.ExchangeParts.{ExchangeParts}
@@ -51,31 +51,19 @@ kept_waits kept psk s seconds k = record {
   last = k.last;
 }
 
-pub waiting_stands : WaitingStands
-waiting_stands (state.Handshake h) psk s seconds x = record {
-  keeps = kept_waits h.kept psk s seconds x.keeps;
+pub session_waits : SessionWaits
+session_waits session psk s seconds x = record {
   stage = x.stage;
+  keeps = kept_waits session.kept psk s seconds x.keeps;
   handshake = x.handshake;
   pushed = x.pushed;
-  request_epoch = x.request_epoch;
-  response_epoch = x.response_epoch;
-  taken = x.taken;
-  bytes = x.bytes;
-  large = x.large;
-  larges = x.larges;
-}
-waiting_stands (state.Open o) psk s seconds x = record {
-  keeps = kept_waits o.kept psk s seconds x.keeps;
-  stage = x.stage;
-  next_handle = x.next_handle;
-  pending = x.pending;
-  bytes = x.bytes;
-}
-waiting_stands (state.Verifying v) psk s seconds x = record {
-  keeps = kept_waits v.kept psk s seconds x.keeps;
-  stage = x.stage;
-  next_handle = x.next_handle;
   large = x.large;
   bytes = x.bytes;
+  fresh = λ at. let f = x.fresh at in record { request_epoch = f.request_epoch; response_epoch = f.response_epoch; taken = f.taken };
 }
+
+pub waiting_stands : WaitingStands
+waiting_stands (state.Handshake h) psk s seconds x = record { session = session_waits h.session psk s seconds x.session; stage = x.stage }
+waiting_stands (state.Open o) psk s seconds x = record { session = session_waits o.session psk s seconds x.session; stage = x.stage }
+waiting_stands (state.Verifying v) psk s seconds x = record { session = session_waits v.session psk s seconds x.session; stage = x.stage }
 waiting_stands (state.Ended e) psk s seconds x = absurd x

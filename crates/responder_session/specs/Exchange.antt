@@ -1,4 +1,5 @@
--- The answer to PSK_EXCHANGE (DSP0274, "PSK_EXCHANGE_RSP"), from the parts that the responder puts into it.
+-- The answer to PSK_EXCHANGE (DSP0274, "PSK_EXCHANGE_RSP"), from the parts that the responder puts
+-- into it.
 use Rattle.std.specs.Prelude.{◌≡◌, ◌≤◌, ℕ, List, [], ◌∷◌, ◌++◌, length, if◌then◌else◌}
 use Rattle.key_schedule.specs.declared.direction.Direction.TheVariants.{Response}
 use Rattle.responder_machine.specs.Session.{Events}
@@ -12,7 +13,8 @@ use Rattle.spdm_machine.specs.Terms.{terms_of}
 use Rattle.transcript.specs.Transcripts.{Negotiation, vca_of}
 use Rattle.responder_session.specs.declared.parts.ExchangeParts.{ExchangeParts}
 
--- The parts fit the terms: the context is as long as the hash, a summary stands exactly where one was asked for, and the opaque data have at most 1,024 bytes.
+-- The parts fit the terms: the context is as long as the hash, a summary stands exactly where one
+-- was asked for, and the opaque data have at most 1,024 bytes.
 pub record AreParts (terms : SessionTerms) (parts : ExchangeParts) : Type 0 where
   pub summary : length parts.summary.now ≡ (if terms.summary then hash_size terms.choice.hash else 0)
   pub context : length parts.context.now ≡ hash_size terms.choice.hash

@@ -1,5 +1,5 @@
--- What a live session at the responder keeps in every stage.
-use Rattle.std.specs.Prelude.{◌≡◌, ◌%◌, ◌^◌, ℕ, List, true, Option, Some, None}
+-- What a session at the responder keeps in every stage.
+use Rattle.std.specs.Prelude.{◌≡◌, ◌%◌, ◌^◌, if◌then◌else◌, ℕ, List, true, Option, Some, None}
 use Rattle.responder_machine.specs.Heard.{session_id}
 use Rattle.responder_machine.specs.History.{KeptRecord}
 use Rattle.responder_machine.specs.Records.{request_purpose, response_purpose}
@@ -7,14 +7,15 @@ use Rattle.responder_machine.specs.Session.{Events, is_live, stage_of, session_h
 use Rattle.session_keys.specs.Keys.{IsKeyOf}
 use Rattle.spdm_machine.specs.Sessions.{transcript_in}
 use Rattle.responder_session.specs.declared.kept.Kept.{Kept}
-use Rattle.responder_session.specs.declared.kept.LastRecord.{LastRecord}
+use Rattle.responder_session.specs.declared.last.LastRecord.{LastRecord}
 
--- The last record taken, with its reply.
-abbrev pub kept_record : Option LastRecord → Option KeptRecord
-kept_record None = None
-kept_record (Some last) = Some (record { sealed = last.sealed; reply = last.reply })
+-- The last record taken, with its reply; none before the first.
+abbrev pub kept_record : LastRecord → Option KeptRecord
+kept_record last =
+    if last.is_taken then Some (record { sealed = last.sealed; reply = last.reply }) else None
 
--- It is kept of a live session of these events, with this pre-shared key. Application messages are counted modulo 2 ^ 64.
+-- It is kept of a live session of these events, with this pre-shared key. Application messages are
+-- counted modulo 2 ^ 64.
 pub record Keeps (kept : Kept) (psk : List ℕ) (s : Events) : Type 0 where
   pub live : is_live s ≡ true
   pub choice : kept.terms.choice ≡ (session_terms s).choice

@@ -5,8 +5,8 @@ use Rattle.responder_machine.specs.Answer.{Free}
 use Rattle.responder_machine.specs.Does.{first_queued}
 use Rattle.responder_machine.specs.LargeMessages.{next_handle}
 use Rattle.responder_machine.specs.Session.{Events, turns_of}
-use Rattle.responder_session.specs.declared.took.RspAct.{RspAct}
-use Rattle.responder_session.specs.declared.took.RspAct.TheVariants as act
+use Rattle.responder_session.specs.declared.told.RspAct.{RspAct}
+use Rattle.responder_session.specs.declared.told.RspAct.TheVariants as act
 use Rattle.responder_session.specs.declared.took.RspTook.{RspTook}
 use Rattle.responder_session.specs.declared.took.RspTook.TheVariants as took
 use Rattle.responder_session.specs.declared.queue.QueueFault.{QueueFault}
@@ -19,7 +19,8 @@ queue_fault waiting bytes =
     else (if nat_le 16 (length waiting) then Some Full
     else None)
 
--- The free values of a record at this project's choice, where these draw and application data stand next.
+-- The free values of a record at this project's choice, where these draw and application data stand
+-- next.
 pub record IsChosen (draw : Drawn) (waiting : List (List ℕ)) (s : Events) (f : Free) : Type 0 where
   pub nonce : f.nonce ≡ draw.bytes
   pub opaque : f.measured_opaque ≡ []
@@ -33,7 +34,7 @@ is_data_act act.Data = true
 is_data_act _ = false
 
 abbrev pub took_data : RspTook → Bool
-took_data (took.Moved state told) = is_data_act told
+took_data (took.Moved state act) = is_data_act act
 took_data _ = false
 
 -- Application data that is taken uses up what waits first.

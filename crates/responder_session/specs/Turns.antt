@@ -1,21 +1,16 @@
 -- Turns of the inner messages of records, by what they leave of the session.
-use Rattle.std.specs.Prelude.{◌≡◌, ℕ, List, ◌∷◌, Bool, true, false, None}
-use Rattle.responder_machine.specs.Answer.{Free}
-use Rattle.responder_machine.specs.Handling.{refused_turn}
-use Rattle.responder_machine.specs.Place.{session_place}
+use Rattle.std.specs.Prelude.{◌≡◌, ℕ, List, ◌∷◌, false, None}
 use Rattle.responder_machine.specs.Records.{reply_record}
 use Rattle.responder_machine.specs.Responder.{inner_reply}
 use Rattle.responder_machine.specs.Session.{Events}
 use Rattle.responder_machine.specs.Session.Event.{Heard}
-use Rattle.responder_machine.specs.Setup.{RspSetup}
 use Rattle.responder_machine.specs.Turn.{Turn, takes, updates}
 use Rattle.responder_machine.specs.Turn.Effect.{Took}
 use Rattle.spdm_grammar.specs.Message.{RequestMessage}
-use Rattle.spdm_grammar.specs.declared.error_code.ErrorCode.{ErrorCode}
-use Rattle.spdm_grammar.specs.declared.error_code.ErrorCode.TheVariants.{ResponseTooLarge}
 use Rattle.spdm_grammar.specs.declared.names.request_code.TheConstants.{PSK_FINISH, KEY_UPDATE}
 
--- A turn leaves the stage and the keys of a session as they are: neither PSK_FINISH nor KEY_UPDATE took effect in it.
+-- A turn leaves the stage and the keys of a session as they are: neither PSK_FINISH nor KEY_UPDATE
+-- took effect in it.
 pub record KeepsKeys (t : Turn) : Type 0 where
   pub finish : takes PSK_FINISH t ≡ false
   pub update : takes KEY_UPDATE t ≡ false
@@ -23,17 +18,17 @@ pub record KeepsKeys (t : Turn) : Type 0 where
   pub all : updates 2 t ≡ false
   pub verify : updates 3 t ≡ false
 
--- The session with a record whose message was refused with this code, and which was answered with this padding.
-abbrev pub refused_by : RspSetup → Events → Free → (sealed message : List ℕ) → ErrorCode → (pad : List ℕ) → Events
-refused_by r s f sealed message code pad =
-    let t = refused_turn r (session_place s) message f code in
-    Heard sealed t (reply_record r.psk s t (inner_reply t) pad) ∷ s
-
 -- A request that took effect, and was answered by its whole answer.
 abbrev pub answered_turn : (message : List ℕ) → RequestMessage → (answer : List ℕ) → Turn
-answered_turn message asked answer = record { message = message; refused = None; chunk = None; effect = Took asked message answer None; reply = answer }
+answered_turn message asked answer =
+    record {
+      message = message;
+      refused = None;
+      chunk = None;
+      effect = Took asked message answer None;
+      reply = answer;
+    }
 
--- The ERROR of this code tells the length of an answer.
-abbrev pub tells_length : ErrorCode → Bool
-tells_length ResponseTooLarge = true
-tells_length _ = false
+-- The session with a record of this turn, answered with this padding.
+abbrev pub heard_by : (psk : List ℕ) → Events → (sealed : List ℕ) → Turn → (pad : List ℕ) → Events
+heard_by psk s sealed t pad = Heard sealed t (reply_record psk s t (inner_reply t) pad) ∷ s

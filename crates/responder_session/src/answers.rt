@@ -1,14 +1,13 @@
-ghost use Rattle.std.specs.Prelude.{◌≡◌, ◌≤◌, length};
-ghost use Rattle.spdm_grammar.specs.Message.{chunk_message, measured_message};
-ghost use Rattle.spdm_grammar.specs.Message.ResponseMessage.{HeartbeatAck, EndSessionAck, Measurements, ChunkResponse};
+ghost use Rattle.std.specs.Prelude.{◌≡◌, ◌≤◌, ◌∷◌, length};
+ghost use Rattle.spdm_grammar.specs.Message.{chunk_message};
+ghost use Rattle.spdm_grammar.specs.Message.ResponseMessage.{HeartbeatAck, EndSessionAck, PskFinishRsp, KeyUpdateAck, ChunkResponse};
 ghost use Rattle.spdm_grammar.specs.Fields.{IsSoundChunk};
-ghost use Rattle.spdm_grammar.specs.Responses.{canonical_response, IsSoundMeasured};
-ghost use Rattle.responder_machine.specs.Handling.{large_response};
+ghost use Rattle.spdm_grammar.specs.Responses.{canonical_response};
+ghost use Rattle.spdm_grammar.specs.declared.names.TheConstants.{MAX_MESSAGE_SIZE};
 
-use spdm_basis::Frame;
+use spdm_basis::{Frame, RecordFrame};
 use spdm_codec::write_response;
-use spdm_grammar::names::spdm_version::V1_2;
-use spdm_grammar::{ChunkView, ErrorCode, Measured, Response};
+use spdm_grammar::{ChunkView, Response};
 
 // Writes HEARTBEAT_ACK.
 pub fn write_alive(out: &mut Frame)
@@ -24,19 +23,27 @@ pub fn write_ended(out: &mut Frame)
     let _ = write_response(&Response::EndSessionAck, 0, false, out);
 }
 
-// Writes MEASUREMENTS of at most 4,096 bytes.
-pub fn write_measured(measured: Measured<'_>, out: &mut Frame)
-    requires { IsSoundMeasured (measured_message measured) }
-    ensures { length (canonical_response (Measurements (measured_message measured.entry))) ≤ 4096
-        → out.new ≡ canonical_response (Measurements (measured_message measured.entry)) }
+// Writes PSK_FINISH_RSP.
+pub fn write_finish_answer(out: &mut Frame)
+    ensures { out.new ≡ canonical_response PskFinishRsp }
 {
-    let _ = write_response(&Response::Measurements(measured), 0, false, out);
+    let _ = write_response(&Response::PskFinishRsp, 0, false, out);
 }
 
-// Writes CHUNK_RESPONSE of at most 4,096 bytes, where the chunk has a spelling: each chunk of a large answer has.
+// Writes KEY_UPDATE_ACK of an operation, where it is one.
+pub fn write_update_answer(op: u8, tag: u8, out: &mut Frame)
+    ensures { 1 ≤ op → op ≤ 3 → out.new ≡ canonical_response (KeyUpdateAck op tag) }
+{
+    if matches!(op, 1..=3) {
+        let _ = write_response(&Response::KeyUpdateAck { op, tag }, 0, false, out);
+    }
+}
+
+// Writes CHUNK_RESPONSE of at most 4,096 bytes, where the chunk has a spelling: each chunk of a
+// large answer has.
 pub fn write_chunk(chunk: ChunkView<'_>, out: &mut Frame)
     ensures { IsSoundChunk (chunk_message chunk.entry)
-        → length (canonical_response (ChunkResponse (chunk_message chunk.entry))) ≤ 4096
+        → length (canonical_response (ChunkResponse (chunk_message chunk.entry))) ≤ MAX_MESSAGE_SIZE
         → out.new ≡ canonical_response (ChunkResponse (chunk_message chunk.entry)) }
 {
     if chunk.is_sound() {
@@ -44,15 +51,21 @@ pub fn write_chunk(chunk: ChunkView<'_>, out: &mut Frame)
     }
 }
 
-// Writes the ERROR LargeResponse of a handle.
-pub fn write_large_response(handle: u8, out: &mut Frame)
-    ensures { out.new ≡ large_response handle }
+// Writes the inner message of a type, in place of what `out` holds.
+pub fn write_inner(kind: u8, message: &[u8], out: &mut RecordFrame)
+    requires { length message.now ≤ MAX_MESSAGE_SIZE }
+    ensures { out.new ≡ kind ∷ message.now }
 {
-    let error = Response::Error {
-        version: V1_2,
-        code: ErrorCode::LargeResponse.number(),
-        detail: 0,
-        extended: &[handle],
-    };
-    let _ = write_response(&error, 0, false, out);
+    out.clear();
+    let _ = out.extend(&[kind]);
+    let _ = out.extend(message);
+}
+
+// Puts application data, of at most 1,024 bytes, in place of what an answer held.
+pub fn write_data(bytes: &[u8], out: &mut Frame)
+    requires { length bytes.now ≤ 1024 }
+    ensures { out.new ≡ bytes.now }
+{
+    out.clear();
+    let _ = out.extend(bytes);
 }

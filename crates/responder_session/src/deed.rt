@@ -15,23 +15,45 @@ pub struct RecordFree<'a> {
     pub pad: &'a [u8],
 }
 
-// What a message does in an open session; the whole answer to a request stands apart.
+impl<'a> RecordFree<'a> {
+    ghost use Rattle.std.specs.Prelude.{◌≡◌, ◌≤◌, [], length};
+
+    // Padding alone, which is all that a session needs that is not open.
+    pub(crate) fn padding(pad: &'a [u8]) -> RecordFree<'a>
+        ensures nonce { length result.nonce.now ≡ 32 }
+        ensures opaque { result.opaque.now ≡ [] }
+        ensures reply { result.reply.now ≡ [] }
+        ensures pad { result.pad.now ≡ pad.now }
+    {
+        RecordFree {
+            nonce: &[0; 32],
+            opaque: &[],
+            handle: 0,
+            reply: &[],
+            pad,
+        }
+    }
+}
+
+// What an inner message does in a session; the whole answer to it stands apart.
 #[derive(Clone, Copy)]
-pub enum Deed {
-    // It is refused with this code, which tells no length.
+pub enum Deed<'a> {
+    // It is refused with this code.
     Refused(ErrorCode),
-    // It is refused since its answer, of so many bytes, is too long.
-    TooLong(u32),
     // It is application data.
     Data,
+    // PSK_FINISH with these verify data, which are right.
+    Finished { verify: &'a [u8] },
     // HEARTBEAT.
     Alive,
     // GET_MEASUREMENTS, answered at once.
     Measured { op: u8 },
-    // GET_MEASUREMENTS, whose answer goes by chunks.
-    Large { op: u8 },
+    // GET_MEASUREMENTS, whose answer goes by chunks under this handle.
+    Large { op: u8, handle: u8 },
     // KEY_UPDATE with UpdateKey or UpdateAllKeys.
     Update { all: bool, tag: u8 },
+    // KEY_UPDATE with VerifyNewKey.
+    Verified { tag: u8 },
     // END_SESSION.
     Ended,
     // CHUNK_GET of the next chunk of the pending large answer.

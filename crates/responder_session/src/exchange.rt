@@ -9,7 +9,7 @@ ghost use Rattle.transcript.specs.Transcripts.{Negotiation, vca_of};
 ghost use Rattle.responder_session.specs.Exchange.{AreParts, answer_with, t1_with};
 
 use crate::ExchangeParts;
-use session_keys::{Handshake, SessionTerms, without_verify};
+use session_keys::{Handshake, SessionTerms, same_bytes, without_verify};
 use spdm_basis::{Frame, HashAlg, HashBytes, Psk};
 use spdm_codec::write_response;
 use spdm_grammar::{ExchangeRsp, Response};
@@ -59,12 +59,14 @@ fn blank(hash: HashAlg) -> HashBytes
     }
 }
 
-// The handshake that PSK_EXCHANGE and the parts of its answer fix; the lane was given VCA and PSK_EXCHANGE.
+// The handshake that PSK_EXCHANGE and the parts of its answer fix; the lane was given VCA and
+// PSK_EXCHANGE.
 pub fn handshake_with(
     lane: &Lane,
     psk: &Psk,
     terms: SessionTerms,
     parts: &ExchangeParts<'_>,
+    scratch: &mut Frame,
 ) -> Handshake
     requires lane { lane_hash lane.now ≡ terms.choice.hash }
     requires parts { AreParts terms parts.now }
@@ -74,8 +76,51 @@ pub fn handshake_with(
         → IsHandshakeOf result (terms_of n).choice psk.now (t1_with n exchange parts.now) }
 {
     let choice = terms.choice;
-    let mut answer = Frame::new();
-    write_answer(parts, terms, &blank(choice.hash), &mut answer);
-    let lane = lane_with(lane, without_verify(choice.hash, answer.as_slice()));
+    write_answer(parts, terms, &blank(choice.hash), scratch);
+    let lane = lane_with(lane, without_verify(choice.hash, scratch.as_slice()));
     Handshake::new(choice.hash, choice.aead, psk, lane.finish())
+}
+
+// What PSK_EXCHANGE and its answer fix: the running hash of the transcript up to PSK_EXCHANGE_RSP,
+// and the secrets of the handshake.
+#[derive(Drop)]
+pub struct Exchange {
+    pub lane: Lane,
+    pub handshake: Handshake,
+    pub ghost same: { lane_hash lane ≡ handshake.keys.hash },
+}
+
+impl Exchange {
+    ghost use Rattle.std.specs.Prelude.{◌≡◌, ◌++◌, ℕ, List, length, bytes_eq};
+    ghost use Rattle.key_schedule.specs.declared.direction.Direction.TheVariants.{Request};
+    ghost use Rattle.running_hash.specs.Hash.{hash_of};
+    ghost use Rattle.session_keys.specs.Handshake.{IsHandshakeOf};
+    ghost use Rattle.spdm_basis.specs.Sizes.{hash_size};
+    ghost use Rattle.spdm_grammar.specs.declared.choice.Choice.{Choice};
+    ghost use Rattle.spdm_machine.specs.Keys.{verify_data};
+    ghost use Rattle.transcript.specs.Lane as lanes;
+    ghost use Rattle.transcript.specs.Transcripts.{without_verify};
+
+    // Whether these are the verify data of a PSK_FINISH, under this hash.
+    pub fn is_verified(&self, hash: HashAlg, message: &[u8], verify: &[u8]) -> bool
+        ensures { (choice : Choice) (psk t1 given : List ℕ) → hash ≡ choice.hash
+            → IsHandshakeOf self.now.handshake choice psk t1 → lanes.StandsFor self.now.lane given
+            → result ≡ bytes_eq verify.now (verify_data choice psk t1 Request
+            (given ++ without_verify (hash_of choice.hash) message.now)) }
+    {
+        let lane = lane_with(&self.lane, without_verify(hash, message));
+        same_bytes(verify, self.handshake.requester_verify(lane).as_slice())
+    }
+
+    // The hash of T2, which ends with PSK_FINISH and its answer.
+    pub fn th2(&self, message: &[u8], answer: &[u8]) -> HashBytes
+        ensures size { length result ≡ hash_size self.now.handshake.keys.hash }
+        ensures value { (choice : Choice) (psk t1 given : List ℕ)
+            → IsHandshakeOf self.now.handshake choice psk t1 → lanes.StandsFor self.now.lane given
+            → result ≡ (hash_of choice.hash).digest (given ++ message.now ++ answer.now) }
+    {
+        let mut lane = lane_with(&self.lane, message);
+        lane.push(answer);
+        lane.finish()
+    }
 }

@@ -1,120 +1,125 @@
-ghost use Rattle.std.specs.Prelude.{◌≡◌, ◌≤◌, ◌==◌, if◌then◌else◌, ℕ, List, true, length};
+ghost use Rattle.std.specs.Prelude.{◌≡◌};
 ghost use Rattle.responder_machine.specs.Answer.{Free};
+ghost use Rattle.responder_machine.specs.Handling.{error_bytes};
+ghost use Rattle.responder_machine.specs.Place.{session_place};
+ghost use Rattle.responder_machine.specs.Responder.{inner_refusal};
 ghost use Rattle.responder_machine.specs.Session.{Events};
 ghost use Rattle.responder_machine.specs.Setup.{RspSetup};
-ghost use Rattle.spdm_grammar.specs.Message.RequestMessage.{KeyUpdate};
-ghost use Rattle.responder_session.specs.Deeds.{IsAllowed, IsDeed, is_short};
+ghost use Rattle.request_rules.specs.Place.{IsPlace};
+ghost use Rattle.spdm_grammar.specs.declared.error_code.ErrorCode.TheVariants.{ResponseTooLarge};
+ghost use Rattle.responder_session.specs.declared.deed.Deed.TheVariants as deed;
 
-use crate::answers::{write_alive, write_chunk, write_ended, write_measured};
+use crate::answers::{write_alive, write_data, write_ended, write_finish_answer};
 use crate::deed::Deed;
-use crate::form::inner_refusal;
-use crate::open::current;
-use crate::verifying::{VERIFY_NEW_KEY, write_update_answer};
-use crate::{RecordFree, RspOpen};
+use crate::requests::{give, measure, update};
+use crate::{RecordFree, RspSession};
 use measurements::Inventory;
-use session_keys::{SPDM_MESSAGE, behind_type, byte_at};
+use request_rules::Place;
+use session_keys::{APP_DATA, MOST_DATA, SPDM_MESSAGE, behind_type, byte_at};
 use spdm_basis::Frame;
-use spdm_grammar::{ErrorCode, Measured, Request, Stage};
+use spdm_grammar::{ErrorCode, Request, Stage};
 
-// The operation of KEY_UPDATE that updates the keys of both directions (DSP0274, "KEY_UPDATE operations").
-const UPDATE_ALL_KEYS: u8 = 2;
-
-// The bytes of MEASUREMENTS beside its blocks and its opaque data.
-const MEASURED_LEN: usize = 42;
-
-// How many blocks there are in all, which operation 0 alone tells.
-fn told_total(op: u8, inventory: &Inventory) -> u8
-    ensures { result ≡ (if op == 0 then length inventory.now else 0) }
+// What an inner message is refused for before it is read as a request.
+fn inner_refusal(stage: Stage, inner: &[u8]) -> Option<ErrorCode>
+    ensures { result ≡ inner_refusal stage inner.now }
 {
-    if op == 0 { inventory.total() } else { 0 }
+    let kind = byte_at(inner, 0);
+    if inner.is_empty() {
+        return Some(ErrorCode::InvalidRequest);
+    }
+    if kind != SPDM_MESSAGE && kind != APP_DATA {
+        return Some(ErrorCode::InvalidRequest);
+    }
+    if kind == APP_DATA && stage != Stage::Open {
+        return Some(ErrorCode::UnexpectedRequest);
+    }
+    if kind == APP_DATA && inner.len() > MOST_DATA + 1 {
+        return Some(ErrorCode::RequestTooLarge);
+    }
+    None
 }
 
-// What KEY_UPDATE does.
-fn update(op: u8, tag: u8, out: &mut Frame) -> Deed
-    requires { (1 ≤ op) × (op ≤ 3) }
-    ensures value { (r : RspSetup) (s : Events) (f : Free) (m : List ℕ)
-        → IsAllowed r s m (KeyUpdate op tag) → IsDeed r s f m out.new result }
-    ensures short { is_short result ≡ true }
+// A message is refused with a code other than ResponseTooLarge; writes its ERROR.
+pub fn refused<'a>(place: &Place, code: ErrorCode, message: &[u8], out: &mut Frame) -> Deed<'a>
+    ensures deed { result ≡ deed.Refused code }
+    ensures answer { (r : RspSetup) (s : Events) (f : Free) → IsPlace place.now (session_place s)
+        → (code ≡ ResponseTooLarge → ⊥)
+        → out.new ≡ error_bytes r (session_place s) message.now f code }
 {
-    if op == VERIFY_NEW_KEY {
-        return Deed::Refused(ErrorCode::UnexpectedRequest);
-    }
-    write_update_answer(op, tag, out);
-    Deed::Update {
-        all: op == UPDATE_ALL_KEYS,
-        tag,
-    }
+    place.write_error(code, message, 0, out);
+    Deed::Refused(code)
 }
 
-impl RspOpen {
-    ghost use Rattle.std.specs.Prelude.{◌≡◌, ◌≤◌, ℕ, List, Ok, true, drop, length};
-    ghost use Rattle.spdm_grammar.specs.Message.RequestMessage.{GetMeasurements, ChunkGet};
+impl RspSession {
+    ghost use Rattle.std.specs.Prelude.{◌≡◌, ◌≤◌, ℕ, List, MatchOption, Ok, drop, length};
+    ghost use Rattle.request_rules.specs.Place.{IsPlace, IsRead};
     ghost use Rattle.responder_machine.specs.Answer.{Free};
-    ghost use Rattle.responder_machine.specs.Session.{Events, session_terms};
+    ghost use Rattle.responder_machine.specs.Place.{session_place};
+    ghost use Rattle.responder_machine.specs.Session.{Events, session_terms, stage_of};
     ghost use Rattle.responder_machine.specs.Setup.{RspSetup, inventory_of};
     ghost use Rattle.responder_machine.specs.SizeLaws.{HasSizes};
-    ghost use Rattle.spdm_basis.specs.Sizes.{hash_size};
-    ghost use Rattle.spdm_grammar.specs.Message.{request_message};
-    ghost use Rattle.spdm_grammar.specs.Requests.{IsSoundRequest};
-    ghost use Rattle.responder_session.specs.Deeds.{AreFree, IsAllowed, IsDeed, IsInnerDeed, is_short};
-    ghost use Rattle.responder_session.specs.Form.{IsRead};
-    ghost use Rattle.responder_session.specs.Open.{StandsFor};
+    ghost use Rattle.spdm_grammar.specs.Message.RequestMessage.{PskFinish};
+    ghost use Rattle.spdm_grammar.specs.declared.phase.Stage.TheVariants.{Open};
+    ghost use Rattle.responder_session.specs.Deeds.{AreGiven, IsAllowed, IsDeed, IsInnerDeed};
+    ghost use Rattle.responder_session.specs.Session.{StandsFor};
 
-    // What an inner message does; the whole answer to a request that takes effect is written.
-    pub(crate) fn judge(
+    // What an inner message does in a stage; the whole answer to it is written.
+    pub(crate) fn judge<'a>(
         &self,
-        inner: &[u8],
-        inventory: &Inventory,
+        stage: Stage,
+        inner: &'a [u8],
+        inventory: Option<&Inventory>,
         free: &RecordFree<'_>,
         out: &mut Frame,
-    ) -> Deed
+    ) -> Deed<'a>
         requires nonce { length free.now.nonce.now ≡ 32 }
         requires opaque { length free.now.opaque.now ≤ 1024 }
-        ensures value { (r : RspSetup) (s : Events) (f : Free) → HasSizes r (session_terms s).common
-            → StandsFor self.now r.psk s → inventory_of r ≡ inventory.now → AreFree free.now f
+        requires reply { length free.now.reply.now ≤ 1024 }
+        ensures { (r : RspSetup) (s : Events) (f : Free) → HasSizes r (session_terms s).common
+            → (stage_of s ≡ Open → MatchOption inventory.entry ⊥ (λ i. inventory_of r ≡ i.now))
+            → (stage_of s ≡ Open → AreGiven free.now f s)
+            → StandsFor self.now r.psk s → stage ≡ stage_of s
             → IsInnerDeed r s f inner.now (drop 1 inner.now) out.new result }
-        ensures short { is_short result ≡ true }
     {
-        if let Some(code) = inner_refusal(Stage::Open, inner) {
-            return Deed::Refused(code);
-        }
+        let place = self.place(stage);
         let message = behind_type(inner);
+        if let Some(code) = inner_refusal(stage, inner) {
+            return refused(&place, code, message, out);
+        }
         if byte_at(inner, 0) != SPDM_MESSAGE {
+            write_data(free.reply, out);
             return Deed::Data;
         }
-        match self
-            .kept
-            .place(Stage::Open, self.pending.is_some())
-            .read(message)
-        {
-            Err(code) => Deed::Refused(code),
-            Ok(request) => self.judge_request(message, &request, inventory, free, out),
+        match place.read(place.common.to_responder.transfer, message) {
+            Err(code) => refused(&place, code, message, out),
+            Ok(request) => self.judge_request(&place, message, &request, inventory, free, out),
         }
     }
 
     // What a request does that the stage allows.
-    fn judge_request(
+    fn judge_request<'a>(
         &self,
-        message: &[u8],
-        request: &Request<'_>,
-        inventory: &Inventory,
+        place: &Place,
+        message: &'a [u8],
+        request: &Request<'a>,
+        inventory: Option<&Inventory>,
         free: &RecordFree<'_>,
         out: &mut Frame,
-    ) -> Deed
+    ) -> Deed<'a>
         requires nonce { length free.now.nonce.now ≡ 32 }
         requires opaque { length free.now.opaque.now ≤ 1024 }
-        requires sound { IsSoundRequest (hash_size self.now.kept.terms.choice.hash)
-            (request_message request.now) }
-        ensures value { (r : RspSetup) (s : Events) (f : Free) → HasSizes r (session_terms s).common
-            → StandsFor self.now r.psk s → inventory_of r ≡ inventory.now → AreFree free.now f
-            → IsRead r s message.now (Ok request.now)
+        ensures { (r : RspSetup) (s : Events) (f : Free) → HasSizes r (session_terms s).common
+            → (stage_of s ≡ Open → MatchOption inventory.entry ⊥ (λ i. inventory_of r ≡ i.now))
+            → (stage_of s ≡ Open → AreGiven free.now f s)
+            → StandsFor self.now r.psk s → IsPlace place.now (session_place s)
+            → IsRead r (session_place s) message.now (Ok request.now)
             → IsDeed r s f message.now out.new result }
-        ensures short { is_short result ≡ true }
     {
-        if self.kept.lacks_flag(byte_at(message, 1)) {
-            return Deed::Refused(ErrorCode::UnsupportedRequest);
+        if place.lacks_flag(byte_at(message, 1)) {
+            return refused(place, ErrorCode::UnsupportedRequest, message, out);
         }
         match request {
+            Request::PskFinish { verify } => self.finish(place, message, verify, out),
             Request::Heartbeat => {
                 write_alive(out);
                 Deed::Alive
@@ -123,60 +128,34 @@ impl RspOpen {
                 write_ended(out);
                 Deed::Ended
             }
-            Request::KeyUpdate { op, tag } => update(*op, *tag, out),
-            Request::GetMeasurements { op } => self.measure(*op, inventory, free, out),
-            Request::ChunkGet { handle, number } => self.give(*handle, *number, out),
-            _ => Deed::Refused(ErrorCode::UnexpectedRequest),
+            Request::KeyUpdate { op, tag } => update(place, message, *op, *tag, out),
+            Request::GetMeasurements { op } => measure(place, message, *op, inventory, free, out),
+            Request::ChunkGet { handle, number } => {
+                give(&self.large, place, message, *handle, *number, out)
+            }
+            _ => refused(place, ErrorCode::UnexpectedRequest, message, out),
         }
     }
 
-    // What GET_MEASUREMENTS does.
-    fn measure(&self, op: u8, inventory: &Inventory, free: &RecordFree<'_>, out: &mut Frame) -> Deed
-        requires nonce { length free.now.nonce.now ≡ 32 }
-        requires opaque { length free.now.opaque.now ≤ 1024 }
-        ensures value { (r : RspSetup) (s : Events) (f : Free) (m : List ℕ)
-            → StandsFor self.now r.psk s → inventory_of r ≡ inventory.now → AreFree free.now f
-            → IsAllowed r s m (GetMeasurements op) → IsDeed r s f m out.new result }
-        ensures short { is_short result ≡ true }
+    // What PSK_FINISH does.
+    fn finish<'a>(
+        &self,
+        place: &Place,
+        message: &[u8],
+        verify: &'a [u8],
+        out: &mut Frame,
+    ) -> Deed<'a>
+        ensures { (r : RspSetup) (s : Events) (f : Free) → StandsFor self.now r.psk s
+            → IsPlace place.now (session_place s)
+            → IsAllowed r s message.now (PskFinish verify.now)
+            → IsDeed r s f message.now out.new result }
     {
-        let mut record = Frame::new();
-        let Ok(blocks) = inventory.record(op, &mut record) else {
-            return Deed::Refused(ErrorCode::InvalidRequest);
-        };
-        let block_bytes = record.as_slice();
-        let long = (MEASURED_LEN + block_bytes.len() + free.opaque.len()) as u32;
-        if self.kept.is_too_long(long) {
-            return Deed::TooLong(long);
-        }
-        let measured = Measured {
-            total: told_total(op, inventory),
-            blocks,
-            block_bytes,
-            nonce: free.nonce,
-            opaque: free.opaque,
-        };
-        write_measured(measured, out);
-        if self.kept.goes_large(long) {
-            Deed::Large { op }
+        let hash = self.kept.terms.choice.hash;
+        if self.exchange.is_verified(hash, message, verify) {
+            write_finish_answer(out);
+            Deed::Finished { verify }
         } else {
-            Deed::Measured { op }
+            refused(place, ErrorCode::DecryptError, message, out)
         }
-    }
-
-    // What CHUNK_GET does.
-    fn give(&self, handle: u8, number: u16, out: &mut Frame) -> Deed
-        ensures value { (r : RspSetup) (s : Events) (f : Free) (m : List ℕ)
-            → StandsFor self.now r.psk s
-            → IsAllowed r s m (ChunkGet handle number) → IsDeed r s f m out.new result }
-        ensures short { is_short result ≡ true }
-    {
-        let Some(chunk) = current(&self.pending) else {
-            return Deed::Refused(ErrorCode::UnexpectedRequest);
-        };
-        if chunk.handle != handle || chunk.number != number {
-            return Deed::Refused(ErrorCode::InvalidRequest);
-        }
-        write_chunk(chunk, out);
-        Deed::Chunk { handle, number }
     }
 }

@@ -50,8 +50,8 @@ impl Reply {
     }
 }
 
-/// The application data that waits to be sent in answer, the oldest first: up to 16 messages of up to 1,024 bytes,
-/// kept in place. Contracts see it as the list of the messages.
+/// The application data that waits to be sent in answer, the oldest first: up to 16 messages of up
+/// to 1,024 bytes, kept in place. Contracts see it as the list of the messages.
 #[derive(Drop)]
 pub struct AppQueue {
     replies: ArrayVec<Reply, 16>,

@@ -1,5 +1,6 @@
-use crate::{RspEnded, RspHandshake, RspOpen, RspVerifying};
+use crate::{RspAct, RspEnded, RspHandshake, RspOpen, RspSession, RspTold, RspVerifying};
 use secured_record::RecordFault;
+use spdm_grammar::Stage;
 
 /// A session at the responder.
 #[derive(Drop)]
@@ -14,17 +15,6 @@ pub enum RspState {
     Ended(RspEnded),
 }
 
-/// What a record did that a session took.
-#[derive(Clone, Copy, Debug, PartialEq, Eq)]
-pub enum RspAct {
-    /// A request was answered; this is its code.
-    Answered(u8),
-    /// Application data was taken.
-    Data,
-    /// A request was refused with the error code of this number (DSP0274, "Error code and error data").
-    Refused(u8),
-}
-
 /// What came of a record.
 #[derive(Drop)]
 pub enum RspTook {
@@ -37,8 +27,29 @@ pub enum RspTook {
 }
 
 impl RspTook {
-    ghost use Rattle.std.specs.Prelude.{◌≡◌};
+    ghost use Rattle.std.specs.Prelude.{◌≡◌, ℕ, List};
+    ghost use Rattle.responder_machine.specs.Answer.{Free};
+    ghost use Rattle.responder_machine.specs.Session.{Events};
+    ghost use Rattle.responder_machine.specs.Setup.{RspSetup};
+    ghost use Rattle.responder_session.specs.EndedTook.{IsEndedTold, IsEndedTook};
     ghost use Rattle.responder_session.specs.Queue.{took_data};
+    ghost use Rattle.responder_session.specs.Took.{IsTold, IsTook};
+
+    // What a session told, with the session as a state.
+    pub(crate) fn of(session: RspSession, told: RspTold) -> RspTook
+        ensures live { (r : RspSetup) (s : Events) (f : Free) (sealed : List ℕ)
+            → IsTold r s f sealed session told → IsTook r s f sealed result }
+        ensures ended { (id old answer sealed : List ℕ)
+            → IsEndedTold id old answer sealed session told
+            → IsEndedTook id old answer sealed result }
+    {
+        let state = RspState::of(session);
+        match told {
+            RspTold::Moved(act) => RspTook::Moved(state, act),
+            RspTold::Same => RspTook::Same(state),
+            RspTold::Unopened(fault) => RspTook::Unopened(state, fault),
+        }
+    }
 
     // Whether application data was taken.
     pub(crate) fn takes_data(&self) -> bool
@@ -51,10 +62,28 @@ impl RspTook {
 impl RspState {
     ghost use Rattle.std.specs.Prelude.{◌≡◌, ℕ, List, None, Some, MatchOption};
     ghost use Rattle.responder_machine.specs.Session.{Events, last_of};
+    ghost use Rattle.responder_session.specs.EndedTook.{IsEndedStill};
     ghost use Rattle.responder_session.specs.Reply.{last_reply, reply_of};
+    ghost use Rattle.responder_session.specs.Session.{IsEnded, StandsFor};
     ghost use Rattle.responder_session.specs.Took.{IsStateOf};
 
-    /// The record that answered the last record taken; none exactly in a handshake that has taken no record.
+    // A session as the state that it is in.
+    pub(crate) fn of(session: RspSession) -> RspState
+        ensures live { (psk : List ℕ) (s : Events) → StandsFor session psk s
+            → IsStateOf result psk s }
+        ensures ended { (id old answer : List ℕ) → IsEnded session id old answer
+            → IsEndedStill id old answer result }
+    {
+        match session.stage {
+            Some(Stage::Handshake) => RspState::Handshake(RspHandshake { session }),
+            Some(Stage::Open) => RspState::Open(RspOpen { session }),
+            Some(Stage::Verifying) => RspState::Verifying(RspVerifying { session }),
+            None => RspState::Ended(RspEnded { session }),
+        }
+    }
+
+    /// The record that answered the last record taken; none exactly in a handshake that has taken
+    /// no record.
     pub fn reply(&self) -> Option<&[u8]>
         ensures kept { MatchOption result (reply_of self.now ≡ None)
             (λ reply. reply_of self.now ≡ Some reply.now) }
@@ -63,10 +92,10 @@ impl RspState {
             (λ reply. last_reply (last_of s) ≡ Some reply.now) }
     {
         match self {
-            RspState::Handshake(state) => state.kept.last_reply(),
-            RspState::Open(state) => state.kept.last_reply(),
-            RspState::Verifying(state) => state.kept.last_reply(),
-            RspState::Ended(state) => Some(state.last.reply.as_slice()),
+            RspState::Handshake(state) => state.session.reply(),
+            RspState::Open(state) => state.session.reply(),
+            RspState::Verifying(state) => state.session.reply(),
+            RspState::Ended(state) => state.session.reply(),
         }
     }
 }

@@ -4,8 +4,8 @@ use Rattle.spdm_machine.specs.Terms.{terms_of}
 use Rattle.responder_session.specs.Exchange.{begun}
 use Rattle.responder_session.proofs.kept.Kept.begin.Goals as goal
 
-pub returns-clause-keeps : goal.returns-clause-keeps
-returns-clause-keeps c = λ psk n exchange answer terms told is.
+pub returns : goal.returns
+returns c = λ psk n exchange answer terms told is.
     let t1 = t1_of (begun n exchange answer) in
     let request = c.request_key.ensures (terms_of n).choice psk t1 is in
     let response = c.response_key.ensures (terms_of n).choice psk t1 is in
@@ -18,9 +18,9 @@ returns-clause-keeps c = λ psk n exchange answer terms told is.
       response = response;
       request_epoch = request.secret.epoch;
       response_epoch = response.secret.epoch;
-      request_next = refl;
-      response_next = refl;
+      request_next = c.first.ensures;
+      response_next = c.first-2.ensures;
       taken = refl;
       hash = c.copy_of.ensures ∙ is.th1;
-      last = refl;
+      last = c.none.ensures;
     }

@@ -1,0 +1,60 @@
+ghost use Rattle.std.specs.Prelude.{◌≡◌};
+
+use session_keys::same_bytes;
+use spdm_basis::RecordFrame;
+
+/// The last record that was taken, with the record that answered it, in place; none before the
+/// first.
+#[derive(Drop)]
+pub struct LastRecord {
+    pub is_taken: bool,
+    pub sealed: RecordFrame,
+    pub reply: RecordFrame,
+}
+
+impl LastRecord {
+    ghost use Rattle.std.specs.Prelude.{◌≡◌, ◌≤◌, None, Some, MatchOption, true, length};
+    ghost use Rattle.responder_machine.specs.Responder.{repeats};
+    ghost use Rattle.responder_session.specs.Kept.{kept_record};
+    ghost use Rattle.responder_session.specs.Reply.{last_reply};
+
+    /// No record was taken yet.
+    pub fn none() -> LastRecord
+        ensures { kept_record result ≡ None }
+    {
+        LastRecord {
+            is_taken: false,
+            sealed: RecordFrame::new(),
+            reply: RecordFrame::new(),
+        }
+    }
+
+    /// Whether a record is the last one that was taken.
+    pub fn repeats(&self, sealed: &[u8]) -> bool
+        ensures { result ≡ repeats (kept_record self.now) sealed.now }
+    {
+        self.is_taken && same_bytes(self.sealed.as_slice(), sealed)
+    }
+
+    /// A record of at most 4,160 bytes was taken; its reply stands already.
+    pub fn keep(&mut self, sealed: &[u8])
+        requires { length sealed.now ≤ 4160 }
+        ensures { self.new ≡ record self.old { is_taken = true; sealed = sealed.now } }
+    {
+        self.is_taken = true;
+        self.sealed.clear();
+        let _ = self.sealed.extend(sealed);
+    }
+
+    /// The reply to the last record.
+    pub fn last_reply(&self) -> Option<&[u8]>
+        ensures { MatchOption result (last_reply (kept_record self.now) ≡ None)
+            (λ reply. last_reply (kept_record self.now) ≡ Some reply.now) }
+    {
+        if self.is_taken {
+            Some(self.reply.as_slice())
+        } else {
+            None
+        }
+    }
+}

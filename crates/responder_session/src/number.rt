@@ -1,0 +1,55 @@
+use std::marker::Model;
+
+// As many records as a key may seal.
+const MOST_RECORDS: u32 = 65536;
+
+/// The number of the next record under a key, from 0 to 65,536: a key seals no more than 65,536
+/// records (DSP0277, "Sequence number"). Contracts see it as a number.
+#[derive(Drop)]
+pub struct NextNumber {
+    number: u32,
+}
+
+impl Model for NextNumber {
+    ghost use Rattle.std.specs.Prelude.{ℕ, ◌≤◌};
+
+    ghost Value = { ℕ };
+
+    ghost view = { λ n. n.number };
+
+    ghost invariant = { λ n. n.number ≤ 65536 };
+}
+
+impl NextNumber {
+    ghost use Rattle.std.specs.Prelude.{◌≡◌, ◌<◌, ◌≤◌, ◌+◌, ◌==◌, false};
+
+    /// The number of the first record.
+    pub fn first() -> NextNumber
+        ensures { result ≡ 0 }
+    {
+        NextNumber { number: 0 }
+    }
+
+    /// Whether the key has sealed as many records as it may.
+    pub fn is_spent(&self) -> bool
+        ensures value { result ≡ (self.now == 65536) }
+        ensures few { result ≡ false → self.now < 65536 }
+    {
+        self.number == MOST_RECORDS
+    }
+
+    /// The number.
+    pub fn number(&self) -> u32
+        ensures { result ≡ self.now }
+    {
+        self.number
+    }
+
+    /// A record was sealed or opened under the key, which is not spent.
+    pub fn advance(&mut self)
+        requires { self.old < 65536 }
+        ensures { self.new ≡ self.old + 1 }
+    {
+        self.number += 1;
+    }
+}

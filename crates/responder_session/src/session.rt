@@ -1,0 +1,233 @@
+ghost use Rattle.std.specs.Prelude.{◌≡◌, ◌≤◌, take, length, bytes_eq};
+ghost use Rattle.responder_machine.specs.Records.{ended_fault};
+ghost use Rattle.spdm_basis.specs.SessionIdBytes.{session_id_bytes};
+
+use crate::applying::Opened;
+use crate::exchange::{Exchange, handshake_with, write_answer};
+use crate::kept::Kept;
+use crate::{ExchangeParts, RecordFree, RspTold, Work};
+use measurements::Inventory;
+use request_rules::{LargeAnswer, Place};
+use secured_record::RecordFault;
+use session_keys::{SessionTerms, behind_type, same_bytes};
+use spdm_basis::{Buffer, Frame, Psk, SessionId};
+use spdm_grammar::{SessionView, Stage};
+use transcript::{Lane, Vca};
+
+// The fewest bytes of a record.
+const LEAST_RECORD: usize = 26;
+
+/// A session at the responder in whatever stage, which takes records in place. Its keys, the last
+/// record with its reply, the pending large answer and the application data stand in it and do not
+/// move.
+#[derive(Drop)]
+pub struct RspSession {
+    // None where END_SESSION ended it.
+    pub(crate) stage: Option<Stage>,
+    pub(crate) kept: Kept,
+    pub(crate) exchange: Exchange,
+    pub(crate) large: LargeAnswer,
+    pub(crate) bytes: Buffer<1024>,
+}
+
+// Whether a record of at least 26 bytes begins with a session id.
+fn names(sealed: &[u8], id: SessionId) -> bool
+    requires { 26 ≤ length sealed.now }
+    ensures { result ≡ bytes_eq (take 4 sealed.now) (session_id_bytes id.req id.rsp) }
+{
+    same_bytes(sealed.split_at(4).0, &id.bytes())
+}
+
+// What is told of a record that does not open at an ended session.
+fn ended_fault(id: SessionId, sealed: &[u8]) -> RecordFault
+    ensures { result ≡ ended_fault (session_id_bytes id.req id.rsp) sealed.now }
+{
+    if sealed.len() < LEAST_RECORD {
+        return RecordFault::Short;
+    }
+    if !names(sealed, id) {
+        return RecordFault::WrongId;
+    }
+    RecordFault::WrongNumber
+}
+
+impl RspSession {
+    ghost use Rattle.std.specs.Prelude.{◌≡◌, ◌≤◌, ◌<◌, ◌^◌, ℕ, List, None, Some, MatchOption, length};
+    ghost use Rattle.request_rules.specs.Place.{IsPlace};
+    ghost use Rattle.responder_machine.specs.Answer.{Free};
+    ghost use Rattle.responder_machine.specs.Heard.{view_of};
+    ghost use Rattle.responder_machine.specs.Place.{session_place};
+    ghost use Rattle.responder_machine.specs.LargeMessages.{next_handle};
+    ghost use Rattle.responder_machine.specs.Session.{Events, last_of, session_terms, stage_of, taken_of, turns_of};
+    ghost use Rattle.responder_machine.specs.Setup.{RspSetup, inventory_of};
+    ghost use Rattle.responder_machine.specs.SizeLaws.{HasSizes};
+    ghost use Rattle.session_keys.specs.Terms.{AreTermsOf};
+    ghost use Rattle.spdm_grammar.specs.declared.phase.Stage.TheVariants.{Handshake, Open};
+    ghost use Rattle.transcript.specs.Transcripts.{Negotiation, vca_of};
+    ghost use Rattle.responder_session.specs.Deeds.{AreGiven};
+    ghost use Rattle.responder_session.specs.EndedTook.{IsEndedTold};
+    ghost use Rattle.responder_session.specs.Exchange.{AreParts, answer_for, begun};
+    ghost use Rattle.responder_session.specs.Reply.{kept_reply, last_reply};
+    ghost use Rattle.responder_session.specs.Session.{StandsFor, IsEnded};
+    ghost use Rattle.responder_session.specs.Took.{IsTold};
+
+    /// The session that a PSK_EXCHANGE begins, after the messages of a negotiation and under its
+    /// terms; writes the whole PSK_EXCHANGE_RSP with these parts (DSP0274), in place of what `out`
+    /// holds.
+    pub fn start(
+        vca: &Vca,
+        psk: &Psk,
+        exchange: &[u8],
+        terms: SessionTerms,
+        parts: &ExchangeParts<'_>,
+        out: &mut Frame,
+    ) -> RspSession
+        requires { AreParts terms parts.now }
+        ensures answer { (n : Negotiation) → vca.now ≡ vca_of n → AreTermsOf terms n exchange.now
+            → out.new ≡ answer_for psk.now n exchange.now parts.now }
+        ensures stands { (n : Negotiation) → vca.now ≡ vca_of n → AreTermsOf terms n exchange.now
+            → StandsFor result psk.now (begun n exchange.now out.new) }
+    {
+        let mut lane = Lane::new(terms.choice.hash);
+        lane.push(vca.as_slice());
+        lane.push(exchange);
+        let handshake = handshake_with(&lane, psk, terms, parts, out);
+        write_answer(parts, terms, &handshake.responder_verify(), out);
+        lane.push(out.as_slice());
+        RspSession {
+            stage: Some(Stage::Handshake),
+            kept: Kept::begin(&handshake, terms, parts.rsp_id),
+            exchange: Exchange { lane, handshake },
+            large: LargeAnswer::new(),
+            bytes: Buffer::new(),
+        }
+    }
+
+    /// How far the session has come; none where it is ended.
+    pub fn stage(&self) -> Option<Stage>
+        ensures live { (psk : List ℕ) (s : Events) → StandsFor self.now psk s
+            → result ≡ Some (stage_of s) }
+        ensures ended { (id old answer : List ℕ) → IsEnded self.now id old answer → result ≡ None }
+    {
+        self.stage
+    }
+
+    /// The session as it is shown, where fewer than 2^64 application messages were taken; none
+    /// where it is ended.
+    pub fn view(&self) -> Option<SessionView>
+        ensures shown { (psk : List ℕ) (s : Events) → StandsFor self.now psk s
+            → taken_of s < 2 ^ 64 → result ≡ Some (view_of s) }
+        ensures ended { (id old answer : List ℕ) → IsEnded self.now id old answer → result ≡ None }
+    {
+        match self.stage {
+            Some(stage) => Some(self.kept.view(stage)),
+            None => None,
+        }
+    }
+
+    /// The record that answered the last record taken; none exactly in a handshake that has taken
+    /// no record.
+    pub fn reply(&self) -> Option<&[u8]>
+        ensures kept { MatchOption result (kept_reply self.now ≡ None)
+            (λ reply. kept_reply self.now ≡ Some reply.now) }
+        ensures last { (psk : List ℕ) (s : Events) → StandsFor self.now psk s
+            → MatchOption result (last_reply (last_of s) ≡ None)
+            (λ reply. last_reply (last_of s) ≡ Some reply.now) }
+        ensures ended { (id old answer : List ℕ) → IsEnded self.now id old answer
+            → MatchOption result ⊥ (λ reply. reply.now ≡ answer) }
+    {
+        self.kept.last.last_reply()
+    }
+
+    /// The application data last taken, and no bytes before the first.
+    pub fn data(&self) -> &[u8]
+        ensures { result.now ≡ self.now.bytes }
+    {
+        self.bytes.as_slice()
+    }
+
+    /// The handle that is given to the next large answer at this project's choice.
+    pub fn next_handle(&self) -> u8
+        ensures { (psk : List ℕ) (s : Events) → StandsFor self.now psk s
+            → result ≡ next_handle (turns_of s) }
+    {
+        self.large.next_handle()
+    }
+
+    // What the rules for requests go by, in a stage.
+    pub(crate) fn place(&self, stage: Stage) -> Place
+        ensures { (psk : List ℕ) (s : Events) → StandsFor self.now psk s → stage ≡ stage_of s
+            → IsPlace result (session_place s) }
+    {
+        self.kept.place(stage, self.large.is_pending())
+    }
+
+    /// A record of the requester, whose answer has these free values: of them an open session needs
+    /// all, and any other the padding alone. The caller's nonce has 32 bytes, the opaque data and
+    /// the reply at most 1,024, and the padding at most 16. What is told goes by the definitions
+    /// where both epochs of an open session are below 2^64 - 1.
+    pub fn take_with(
+        &mut self,
+        sealed: &[u8],
+        inventory: &Inventory,
+        free: &RecordFree<'_>,
+        work: &mut Work,
+    ) -> RspTold
+        requires nonce { length free.now.nonce.now ≡ 32 }
+        requires opaque { length free.now.opaque.now ≤ 1024 }
+        requires reply { length free.now.reply.now ≤ 1024 }
+        requires pad { length free.now.pad.now ≤ 16 }
+        ensures live { (r : RspSetup) (s : Events) (f : Free) → HasSizes r (session_terms s).common
+            → f.pad ≡ free.now.pad.now → (stage_of s ≡ Open → inventory_of r ≡ inventory.now)
+            → (stage_of s ≡ Open → AreGiven free.now f s)
+            → StandsFor self.old r.psk s → IsTold r s f sealed.now self.new result }
+        ensures ended { (id old answer : List ℕ) → IsEnded self.old id old answer
+            → IsEndedTold id old answer sealed.now self.new result }
+    {
+        self.take_given(sealed, Some(inventory), free, work)
+    }
+
+    // The same, with an inventory wherever it is open.
+    pub(crate) fn take_given(
+        &mut self,
+        sealed: &[u8],
+        inventory: Option<&Inventory>,
+        free: &RecordFree<'_>,
+        work: &mut Work,
+    ) -> RspTold
+        requires nonce { length free.now.nonce.now ≡ 32 }
+        requires opaque { length free.now.opaque.now ≤ 1024 }
+        requires reply { length free.now.reply.now ≤ 1024 }
+        requires pad { length free.now.pad.now ≤ 16 }
+        ensures live { (r : RspSetup) (s : Events) (f : Free) → HasSizes r (session_terms s).common
+            → f.pad ≡ free.now.pad.now
+            → (stage_of s ≡ Open → MatchOption inventory.entry ⊥ (λ i. inventory_of r ≡ i.now))
+            → (stage_of s ≡ Open → AreGiven free.now f s)
+            → StandsFor self.old r.psk s → IsTold r s f sealed.now self.new result }
+        ensures ended { (id old answer : List ℕ) → IsEnded self.old id old answer
+            → IsEndedTold id old answer sealed.now self.new result }
+    {
+        if self.kept.last.repeats(sealed) {
+            return RspTold::Same;
+        }
+        let Some(stage) = self.stage else {
+            return RspTold::Unopened(ended_fault(self.kept.id, sealed));
+        };
+        let Work {
+            inner,
+            answer,
+            sent,
+        } = work;
+        if let Err(fault) = self.kept.open(sealed, inner) {
+            return RspTold::Unopened(fault);
+        }
+        let inner = inner.as_slice();
+        let deed = self.judge(stage, inner, inventory, free, answer);
+        let opened = Opened {
+            sealed,
+            message: behind_type(inner),
+            pad: free.pad,
+        };
+        RspTold::Moved(self.apply(&opened, &deed, answer, sent))
+    }
+}
