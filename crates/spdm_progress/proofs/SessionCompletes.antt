@@ -88,7 +88,7 @@ times_each each zero = omega arith
 times_each each (suc more) = (let next = times_each each more in let one : each * suc more ≡ each * more + each = omega arith in omega (arith, next, one))
 
 -- Three rounds of 66 packets each way.
-three_few : (more : ℕ) → more ≤ 2 → AreFew (λ k. 66) (λ k. 66) more
+pub three_few : (more : ℕ) → more ≤ 2 → AreFew (λ k. 66) (λ k. 66) more
 three_few more few = (let all = times_each 66 (suc more) in (omega (arith, few, all), omega (arith, few, all), omega (arith, few, all)))
 
 pub few_by_chunks : (transfer size : ℕ) (counts : InChunks transfer size) → AreFew (λ more. 1) (λ more. counts.each) (div_ceil (size + 4) (transfer - 12))

@@ -25,7 +25,7 @@ use Rattle.spdm_progress.specs.Connecting.{CanConnect, IsConnected}
 use Rattle.spdm_progress.specs.Fitting.{CanGo}
 use Rattle.spdm_progress.specs.Honest.{AreHonest, HaveNoCommand, NothingWaits, is_command}
 use Rattle.spdm_progress.specs.InStep.{AreQuiet}
-use Rattle.spdm_progress.specs.Measuring.{CanMeasure, measurements_size}
+use Rattle.spdm_progress.specs.Measuring.{CanMeasure, IsMeasured, measurements_size}
 use Rattle.spdm_progress.specs.Opening.{CanOpen, opened_id, terms_now}
 use Rattle.spdm_progress.specs.SessionCommands.{CanAsk, CompletesQuietly, IsTold, IsToldQuietly, commanding, most_packets, result_of}
 
@@ -114,6 +114,20 @@ QuietCommandsComplete =
     → IsDone n a.setup c.setup (result_for a c command)
     (world_from (commanding (world_after w before) line n command) behind)
     (lines_from (commanding (world_after w before) line n command) behind)
+
+-- Behind a clear measure among them, by chunks too, the record that the requester took last is the
+-- one that the responder is set up with.
+abbrev pub QuietMeasuresComplete : Type 0
+QuietMeasuresComplete =
+    (w : WorldSetup) (before : List Entry) (n : ℕ) (a : Requesting) (c : Connection) (op : ℕ)
+    → IsToldQuietly w before n a c (Measure None op) → CanDo a c (Measure None op)
+    → (line : ℕ) (behind : List Entry) → HaveNoCommand behind
+    → AreHonest (commanding (world_after w before) line n (Measure None op)) behind
+    → NothingWaits (world_from (commanding (world_after w before) line n (Measure None op)) behind)
+    → NoChance (world_from (commanding (world_after w before) line n (Measure None op)) behind).log
+    → IsMeasured n c.setup op
+    (world_from (commanding (world_after w before) line n (Measure None op)) behind)
+    (lines_from (commanding (world_after w before) line n (Measure None op)) behind)
 
 -- A pump of so many packets or more behind such a command leaves none that waits, so an honest
 -- script can always go on.

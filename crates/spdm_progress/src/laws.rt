@@ -14,6 +14,7 @@ ghost use Rattle.spdm_progress.specs.Scripts.{
   PumpedScriptsAreHonest,
   PumpsAreEnough,
   QuietCommandsComplete,
+  QuietMeasuresComplete,
   QuietWorldsComplete,
 };
 ghost use Rattle.spdm_progress.specs.SessionCommands.{SessionCommandsComplete};
@@ -73,6 +74,12 @@ pub fn session_commands_complete()
 /// The same of every command that quiet ends answer `ok`, in the clear or in a session.
 pub fn quiet_commands_complete()
     ensures { QuietCommandsComplete }
+{}
+
+/// Behind a clear measure among them, by chunks too, the requester took the record that the responder
+/// is set up with.
+pub fn quiet_measures_complete()
+    ensures { QuietMeasuresComplete }
 {}
 
 /// No packet of such a command waits after a pump of 414.
