@@ -1,9 +1,7 @@
 -- The last rounds of a connect: NEGOTIATE_ALGORITHMS and its answer, each of which goes whole or by chunks.
-use Rattle.std.proofs.Common.{◌≡◌, ◌⊎◌, ◌∙◌, ℕ, zero, suc, ◌<◌, ◌≤◌, ◌+◌, ◌*◌, ◌-◌, ◌==◌, List, [], ◌∷◌, ◌++◌, length, nat_le, Bool, true, false, Some, None, refl, sym, ap, subst, inl, inr, arith, add-one, eqb-true}
+use Rattle.std.proofs.Common.{◌≡◌, ◌⊎◌, ◌∙◌, ℕ, zero, suc, ◌<◌, ◌≤◌, ◌+◌, ◌-◌, ◌==◌, List, [], ◌∷◌, ◌++◌, length, nat_le, Bool, true, false, Some, None, refl, sym, ap, subst, inl, inr, arith, add-one, eqb-true}
 use Rattle.std.specs.Prelude.{bytes_eq, slice_index}
-use Rattle.std.specs.Int.{div_ceil}
 use Rattle.std.proofs.lemmas.Bool.{eqb-false, leb-false, leb-true}
-use Rattle.std.proofs.lemmas.Grind.{div_ceil_times}
 use Rattle.chunking.specs.Cutting.{chunk_count, chunks_before, nth_chunk}
 use Rattle.requester_machine.specs.Does.{requester_hears}
 use Rattle.requester_machine.specs.History as asked
@@ -40,7 +38,7 @@ use Rattle.spdm_progress.proofs.LargeAlgorithms.{Fetches, Holds, asks_differ, ch
 use Rattle.spdm_progress.proofs.ManyPackets.{before_it}
 use Rattle.spdm_progress.proofs.PacketSteps.{Pair}
 use Rattle.spdm_progress.proofs.RequesterStages.{Asks as AsksRequest, Hears, IsOver, algorithms_heard, next_small}
-use Rattle.spdm_progress.proofs.ResponderStages.{HasAlgorithms, HasCapabilities, Stands, algorithms, algorithms_answered, negotiate_algorithms, three_pairs, two_pairs}
+use Rattle.spdm_progress.proofs.ResponderStages.{HasCapabilities, Stands, algorithms, algorithms_answered, negotiate_algorithms, three_pairs, two_pairs}
 use Rattle.spdm_progress.proofs.SetUps.{AnswerGoes, AsksByChunks, AsksWhole, CanMeet, algorithms_size, takes_whole}
 use Rattle.spdm_progress.proofs.ResponderBegins.{stands_on}
 use Rattle.spdm_progress.proofs.StillKept.{AreAlike}

@@ -1,13 +1,13 @@
 -- A request goes by chunks in the clear: what the two ends make of each CHUNK_SEND and its acknowledgement.
-use Rattle.std.proofs.Common.{◌≡◌, ◌∙◌, ℕ, zero, suc, ◌<◌, ◌≤◌, ◌+◌, ◌==◌, ◌&&◌, not, List, [], ◌∷◌, length, Bool, true, false, Option, Some, None, Result, Ok, refl, sym, ap, subst, arith, add-one, eq-eqb}
-use Rattle.std.specs.Prelude.{bytes_eq, if◌then◌else◌, is_some, slice_index, ◌^◌}
+use Rattle.std.proofs.Common.{◌≡◌, ◌∙◌, ℕ, zero, suc, ◌<◌, ◌≤◌, ◌+◌, ◌==◌, ◌&&◌, not, List, [], ◌∷◌, length, Bool, true, false, Option, Some, None, Result, Ok, refl, sym, ap, subst, arith, eq-eqb}
+use Rattle.std.specs.Prelude.{bytes_eq, if◌then◌else◌, slice_index}
 use Rattle.std.proofs.lemmas.Bool.{false≢true, ne_eqb}
 use Rattle.chunking.specs.Collecting.{broken_rule, joined_with, under_way}
 use Rattle.chunking.specs.Cutting.{IsCollectable, chunk_count, chunks_before, nth_chunk}
 use Rattle.requester_machine.specs.Answers.{goes_on}
 use Rattle.requester_machine.specs.Asking.Outcome.{Adds as AddsHere}
 use Rattle.requester_machine.specs.Bodies.{body_fault, first_cause}
-use Rattle.requester_machine.specs.ClearAnswers.{Carried, ack_carries, ack_tests, acknowledged, carried_by, carried_led, clear_led, read_led, reading_of}
+use Rattle.requester_machine.specs.ClearAnswers.{ack_carries, ack_tests, acknowledged, carried_by, carried_led, clear_led, read_led, reading_of}
 use Rattle.requester_machine.specs.ClearAnswers.Carried.{Further, Whole}
 use Rattle.requester_machine.specs.Commands.{Free as FreeHere}
 use Rattle.requester_machine.specs.Does.{body_chosen, requester_hears}
@@ -26,18 +26,16 @@ use Rattle.responder_machine.specs.History as served
 use Rattle.responder_machine.specs.Handling.{carried_turn, chunk_in, chunk_turn, last_chunk_turn, request_effect, request_reply, taken_chunk, turn_by, turn_of}
 use Rattle.responder_machine.specs.LargeMessages.{chunks_of}
 use Rattle.responder_machine.specs.Place.{Place, clear_place, inside, place_terms}
-use Rattle.responder_machine.specs.Refusal.{has_pending, is_answer_too_long, is_too_large, lacks_flag, phase_allows, refusal, sizes_are_known}
+use Rattle.responder_machine.specs.Refusal.{has_pending, lacks_flag, phase_allows, refusal}
 use Rattle.responder_machine.specs.Setup.{RspSetup}
 use Rattle.responder_machine.specs.Turn.{Turn}
 use Rattle.responder_machine.specs.Turn.Effect.{NoEffect}
 use Rattle.spdm_basis.proofs.Bools.{lt_false}
-use Rattle.spdm_grammar.specs.Fields.{FitsChunk}
 use Rattle.spdm_grammar.specs.Message.{ChunkMessage, RequestMessage, ResponseMessage}
 use Rattle.spdm_grammar.specs.Message.RequestMessage.{ChunkSend}
 use Rattle.spdm_grammar.specs.Message.ResponseMessage.{ChunkSendAck}
 use Rattle.spdm_grammar.specs.Requests.{canonical_request}
-use Rattle.spdm_grammar.specs.Responses.{canonical_response, response_reading}
-use Rattle.spdm_grammar.specs.declared.ChunkFault.{ChunkFault}
+use Rattle.spdm_grammar.specs.Responses.{canonical_response}
 use Rattle.spdm_grammar.specs.declared.error_code.ErrorCode.{ErrorCode}
 use Rattle.spdm_grammar.specs.declared.event.ReqIgnored.{ReqIgnored}
 use Rattle.spdm_grammar.specs.declared.event.ReqIgnored.TheVariants as ignored

@@ -1,5 +1,5 @@
 -- ALGORITHMS goes by chunks: what the two ends make of ERROR LargeResponse and of each CHUNK_GET with its answer.
-use Rattle.std.proofs.Common.{◌≡◌, ◌∙◌, ℕ, zero, suc, ◌<◌, ◌≤◌, ◌+◌, ◌==◌, List, [], ◌∷◌, length, Bool, true, false, Some, None, refl, sym, ap, subst, arith, add-one}
+use Rattle.std.proofs.Common.{◌≡◌, ◌∙◌, ℕ, ◌<◌, ◌≤◌, ◌+◌, ◌==◌, List, [], ◌∷◌, length, Bool, true, false, Some, None, refl, sym, ap, subst, arith, add-one}
 use Rattle.std.specs.Prelude.{bytes_eq, slice_index}
 use Rattle.chunking.specs.Cutting.{chunk_count, chunks_before, nth_chunk}
 use Rattle.negotiate.specs.Choosing.{selected}
@@ -27,9 +27,9 @@ use Rattle.spdm_grammar.specs.declared.event.Finished.TheVariants as finished
 use Rattle.spdm_grammar.specs.declared.phase.Phase.TheVariants.{Negotiated}
 use Rattle.spdm_machine.specs.Keys.{Draw}
 use Rattle.transcript.specs.Transcripts.{Negotiation}
-use Rattle.spdm_progress.proofs.ClearFetch.{CanFetch, CanFetchIn, IsPending, chunk_response, differ, fetching, get_chunk, gets_differ, gives_chunk, heard_large, heard_more, heard_whole, large_fits, large_goes, pending_next, served_chunk, transfer_in}
+use Rattle.spdm_progress.proofs.ClearFetch.{CanFetch, CanFetchIn, IsPending, chunk_response, differ, fetching, get_chunk, gives_chunk, heard_large, heard_more, heard_whole, large_fits, large_goes, pending_next, served_chunk, transfer_in}
 use Rattle.spdm_progress.proofs.RequesterStages.{Asks, Hears, IsOver, algorithms_over, algorithms_read, hears_by, next_small}
-use Rattle.spdm_progress.proofs.ResponderStages.{Answered, HasCapabilities, Stands, adds, algorithms, algorithms_taken, answers_by, get_capabilities, negotiate_algorithms, other_message, three_pairs, two_pairs, zero_plus}
+use Rattle.spdm_progress.proofs.ResponderStages.{Answered, HasCapabilities, Stands, adds, algorithms, algorithms_taken, answers_by, get_capabilities, negotiate_algorithms, other_message, three_pairs, two_pairs}
 use Rattle.spdm_progress.proofs.ResponderTurns.{read_at, taken_somehow, taken_turn, turn_with}
 use Rattle.spdm_progress.proofs.StillKept.{AreAlike}
 

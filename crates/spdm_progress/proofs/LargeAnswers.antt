@@ -52,7 +52,7 @@ use Rattle.spdm_progress.proofs.Drawn.{AreDrawn}
 use Rattle.spdm_progress.proofs.MeasureStages.{answer_at, answer_is, get_measurements, measured, measured_fits, measured_led, measured_sound, measurements, measurements_are, measures_flag, same_by, same_negotiation, some_turn, taken_so, told_number, unchanged}
 use Rattle.spdm_progress.proofs.RequesterStages.{reads}
 use Rattle.spdm_progress.proofs.ResponderBegins.{is_none_none, refused_with}
-use Rattle.spdm_progress.proofs.ResponderStages.{LastTook, adds, zero_plus}
+use Rattle.spdm_progress.proofs.ResponderStages.{LastTook, adds}
 use Rattle.spdm_progress.proofs.ResponderTurns.{contents_passed, form_passed, not_refused, read_at, taken_somehow}
 
 -- ---- The messages.

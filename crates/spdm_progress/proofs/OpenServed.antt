@@ -61,7 +61,7 @@ use Rattle.spdm_progress.proofs.ExchangeStages as exchange
 use Rattle.spdm_progress.proofs.ExchangeStages.{IsExchange, answer, answer_id, answer_length, answer_reads, exchange_bytes, exchange_fits, exchange_length, exchange_taken, hash_few, request_id, rsp, turn_as, verify_is}
 use Rattle.spdm_progress.proofs.PacketSteps.{Pair}
 use Rattle.spdm_progress.proofs.RecordRounds.{Beside, beside_on}
-use Rattle.spdm_progress.proofs.ResponderStages.{LastTook, Takes, not_large, not_too_long, zero_plus}
+use Rattle.spdm_progress.proofs.ResponderStages.{LastTook, Takes, not_large, not_too_long}
 use Rattle.spdm_progress.proofs.ResponderTurns.{taken_turn}
 use Rattle.spdm_progress.proofs.OpenStages as stages
 use Rattle.spdm_progress.proofs.OpenStages.{CanExchange, GoesWhole, count_still, free_still, own_handle, plainly, resting_held, same_context}

@@ -1,10 +1,9 @@
 -- NEGOTIATE_ALGORITHMS goes by chunks: what the two ends make of each CHUNK_SEND, and of the answer in the last
 -- acknowledgement, which is ALGORITHMS or ERROR LargeResponse.
-use Rattle.std.proofs.Common.{◌≡◌, ◌∙◌, ℕ, zero, suc, ◌<◌, ◌≤◌, ◌+◌, ◌==◌, ◌&&◌, ◌||◌, List, [], ◌∷◌, length, nat_lt, not, Bool, true, false, Option, Some, None, refl, sym, ap, subst, arith, add-one}
+use Rattle.std.proofs.Common.{◌≡◌, ◌∙◌, ℕ, suc, ◌<◌, ◌≤◌, ◌+◌, ◌==◌, ◌&&◌, List, [], length, nat_lt, Bool, true, false, Some, None, refl, sym, ap, subst, arith, add-one}
 use Rattle.std.specs.Prelude.{bytes_eq, if◌then◌else◌, slice_index}
 use Rattle.chunking.specs.Cutting.{nth_chunk}
 use Rattle.negotiate.specs.Choosing.{selected}
-use Rattle.negotiate.specs.declared.shared.Common.{Common}
 use Rattle.requester_machine.specs.Answers.{goes_on}
 use Rattle.requester_machine.specs.Does.{body_chosen}
 use Rattle.requester_machine.specs.Hearing.{clear_outcome}
@@ -35,14 +34,13 @@ use Rattle.spdm_grammar.specs.declared.phase.Phase.TheVariants.{Capable, Negotia
 use Rattle.spdm_machine.specs.Keys.{Draw}
 use Rattle.spdm_machine.specs.Terms.{terms_of}
 use Rattle.transcript.specs.Transcripts.{Negotiation}
-use Rattle.spdm_progress.proofs.ClearFetch.{CanFetchIn, IsPending, chunked_fits, differ, get_chunk, large_fits, large_goes, large_read}
+use Rattle.spdm_progress.proofs.ClearFetch.{CanFetchIn, chunked_fits, differ, get_chunk, large_goes, large_read}
 use Rattle.spdm_progress.proofs.ClearSend as send
 use Rattle.spdm_progress.proofs.ClearSend.{CanSend, ack_of, send_chunk, sending, transfer_there}
 use Rattle.spdm_progress.proofs.LargeAlgorithms.{Fetches, Holds}
 use Rattle.spdm_progress.proofs.RequesterStages.{Hears, IsOver, algorithms_over, algorithms_read, hears_by, next_small}
-use Rattle.spdm_progress.proofs.ResponderStages.{Answered, Stands, adds, algorithms, algorithms_inside, answers_by, get_capabilities, negotiate_algorithms, other_message, three_pairs, two_pairs}
+use Rattle.spdm_progress.proofs.ResponderStages.{Answered, Stands, adds, algorithms, algorithms_inside, answers_by, negotiate_algorithms, other_message, three_pairs, two_pairs}
 use Rattle.spdm_progress.proofs.ResponderTurns.{effect_so, read_at, reply_so}
-use Rattle.spdm_progress.proofs.SetUps.{GoesWhole, common_for}
 use Rattle.spdm_progress.proofs.StillKept.{AreAlike}
 
 module _ (q : ReqSetup) (r : RspSetup) (offer : OfferMessage) (can : CanSend q r (negotiate_algorithms offer) (two_pairs q r)) (handle : ℕ) (small : handle < 256) where
