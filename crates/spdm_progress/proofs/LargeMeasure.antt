@@ -48,6 +48,7 @@ use Rattle.world_machine.specs.Chance.{NoChance}
 use Rattle.spdm_progress.specs.InStep.{AreQuiet, TookEarlier}
 use Rattle.spdm_progress.specs.Measuring.{measurements_size, number_for, record_for}
 use Rattle.spdm_progress.proofs.ClearFetch.{IsPending, chunk_is_few, chunk_response, fetching, get_chunk, gives_chunk, heard_large, heard_more, heard_whole, pending_next, served_chunk, transfer_in}
+use Rattle.spdm_progress.proofs.LargeAlgorithms.{get_no_exchange}
 use Rattle.spdm_progress.proofs.LargeAnswers.{GoesLarge, LargeAgain, again_at, before_differs, before_get, heard_last, served_large}
 use Rattle.spdm_progress.proofs.ManyPackets.{before_it, clear_is_body}
 use Rattle.spdm_progress.proofs.MeasureStages.{asks_measure, get_measurements, measured_led, measurements, measurements_are, record_taken, some_turn}
@@ -62,9 +63,6 @@ use Rattle.spdm_progress.proofs.Talk.{AreShort, Further, IsSendable, IsTalk, Lea
 -- GET_MEASUREMENTS and CHUNK_GET are no PSK_EXCHANGE.
 no_exchange : (op : ℕ) (x : ExchangeMessage) → get_measurements op ≡ canonical_request (PskExchange x) → ⊥
 no_exchange op x e = (let code : slice_index (get_measurements op) 1 ≡ slice_index (canonical_request (PskExchange x)) 1 = ap (λ (l : List ℕ). slice_index l 1) e in omega (arith, code))
-
-get_no_exchange : (handle k : ℕ) (x : ExchangeMessage) → get_chunk handle k ≡ canonical_request (PskExchange x) → ⊥
-get_no_exchange handle k x e = (let code : slice_index (get_chunk handle k) 1 ≡ slice_index (canonical_request (PskExchange x)) 1 = ap (λ (l : List ℕ). slice_index l 1) e in omega (arith, code))
 
 pub last_on : (m : List ℕ) (g later : served.History) → served.kept_of later ≡ served.kept_of g → LastTook m g → LastTook m later
 last_on m g later same last = record { kept = last.kept; is = same ∙ last.is; message = last.message }
