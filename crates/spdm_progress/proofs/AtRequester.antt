@@ -49,6 +49,11 @@ heard_plain q h f tag content asked m d is fits =
     ap (λ (o : Option Sent). hears_by q h f tag (clear_body m) d o (body_fault q o false tag (clear_body m))) is
     ∙ ap (λ (o : Option ReqIgnored). hears_by q h f tag (clear_body m) d (Some (asking tag content asked)) o) (no_fault q tag content asked m fits)
 
+-- A whole answer is read.
+pub led_whole : (q : ReqSetup) (h : History) (f : Free) (asked : RequestMessage) (m : List ℕ) → clear_led q h f (Plain asked) asked m ≡ read_led q h f 0 asked m (reading_of h asked m)
+unfolding clear_led carried_by
+led_whole q h f asked m = refl
+
 -- A whole answer that reads leads to what it says.
 pub led_plain : (q : ReqSetup) (h : History) (f : Free) (asked : RequestMessage) (m : List ℕ) (value : ResponseMessage) → reading_of h asked m ≡ Ok value
     → clear_led q h f (Plain asked) asked m ≡ answer_led q h f 0 asked m value

@@ -1,5 +1,5 @@
 -- How many packets a large message takes in chunks.
-use Rattle.std.proofs.Common.{◌≡◌, ◌+◌, ◌-◌, ◌*◌, ◌<◌, ◌≤◌, ℕ, zero, suc, Bool, true, false, nat_le, refl, arith}
+use Rattle.std.proofs.Common.{◌≡◌, ◌+◌, ◌-◌, ◌*◌, ◌<◌, ◌≤◌, ℕ, zero, suc, Bool, true, false, nat_le, refl, subst, arith}
 use Rattle.std.proofs.lemmas.Bool.{leb-false, leb-true}
 use Rattle.std.proofs.lemmas.Grind.{div_ceil_times}
 use Rattle.std.proofs.lemmas.Nat.{mul-le}
@@ -75,3 +75,13 @@ chunks_within transfer size low few =
         let units : suc c * unit ≡ c * unit + unit = grind arith in
         let thirties : c * 30 ≤ c * unit = mul-le c 30 c unit (omega arith) wide in
         omega (arith, units, spare, thirties)
+
+-- A message that has bytes has a chunk.
+pub some_of : (size unit : ℕ) → 0 < size → 0 < unit → 1 ≤ div_ceil size unit
+some_of size unit some wide =
+    let around = div_ceil_times size unit wide in
+    by_zero (div_ceil size unit) (λ e. (let none : size ≤ 0 * unit = subst (λ (z : ℕ). size ≤ z * unit) e around.0 in omega (arith, none, some)))
+  where
+    by_zero : (z : ℕ) → (z ≡ 0 → ⊥) → 1 ≤ z
+    by_zero zero other = absurd (other refl)
+    by_zero (suc z) other = omega arith

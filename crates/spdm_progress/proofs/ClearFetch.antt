@@ -57,7 +57,7 @@ use Rattle.spdm_machine.specs.Keys.{Draw}
 use Rattle.spdm_machine.specs.Terms.{Terms, hash_len, terms_of}
 use Rattle.transcript.specs.Transcripts.{Negotiation}
 use Rattle.world_machine.proofs.SmallGets.{get_fits}
-use Rattle.spdm_progress.proofs.AtRequester.{led_plain}
+use Rattle.spdm_progress.proofs.AtRequester.{led_whole}
 use Rattle.spdm_progress.proofs.ChunkRules.{breaks_none, fits_chunk, last_whole, sound_chunk}
 use Rattle.spdm_progress.proofs.RequesterStages.{Asks, hears_as, reads}
 use Rattle.spdm_progress.proofs.ResponderStages.{LastTook, Takes, adds, not_large, not_too_long, other_message}
@@ -86,16 +86,22 @@ gets_differ handle k = differ (get_chunk handle k) (get_chunk handle (suc k)) (b
 abbrev pub transfer_in : Negotiation → ℕ
 transfer_in n = (terms_of n).common.to_requester.transfer
 
--- What the set-ups and the negotiation are where an answer of this size goes by chunks in the clear.
-pub record CanFetch (q : ReqSetup) (r : RspSetup) (size : ℕ) (n : Negotiation) : Type 0 where
+-- What the set-ups and the negotiation are where an answer of this size, with so many bytes round it, goes by chunks in
+-- the clear.
+pub record CanFetchIn (round : ℕ) (q : ReqSetup) (r : RspSetup) (size : ℕ) (n : Negotiation) : Type 0 where
   pub room : MIN_DATA_TRANSFER_SIZE ≤ r.transfer
   pub chunk : (terms_of n).common.chunk ≡ true
-  pub large : transfer_in n < size
+  pub large : transfer_in n < round + size
+  pub few : round ≤ 6
   pub fits_max : size ≤ (terms_of n).common.to_requester.max
   pub transfer : transfer_in n ≡ q.transfer
   pub max : (terms_of n).common.to_requester.max ≡ q.max
   pub least : MIN_DATA_TRANSFER_SIZE ≤ q.transfer
+  pub ordered : q.transfer ≤ q.max
   pub most : q.max ≤ MAX_MESSAGE_SIZE
+
+abbrev pub CanFetch : ReqSetup → RspSetup → (size : ℕ) → Negotiation → Type 0
+CanFetch q r size n = CanFetchIn 0 q r size n
 
 -- This answer is pending at a responder, with this handle, and so many chunks of it were given.
 pub record IsPending (w : List ℕ) (handle k : ℕ) (turns : List Turn) : Type 0 where
@@ -148,29 +154,39 @@ pub right_chunk : (a b : Bool) (rule : Option ChunkFault) → a ≡ true → b �
 right_chunk a b rule x y z = rw (x, y, z) refl
 
 -- A response is read, with a summary or without.
-reads_so : (v : ResponseMessage) (len : ℕ) (summary : Bool) → FitsResponse v → IsSoundResponse len summary v → response_reading len summary (canonical_response v) ≡ Ok v
+pub reads_so : (v : ResponseMessage) (len : ℕ) (summary : Bool) → FitsResponse v → IsSoundResponse len summary v → response_reading len summary (canonical_response v) ≡ Ok v
 reads_so v len summary fits sound = spelling_read (response_layout len summary) 0 v (canonical_response v) (response_spelled len summary v fits sound).is
 
 pub reads_large : (len handle : ℕ) (summary : Bool) → response_reading len summary (large_response handle) ≡ Ok (Error V1_2 (error_number LargeResponse) 0 (handle ∷ []))
 reads_large len handle summary = reads_so (Error V1_2 (error_number LargeResponse) 0 (handle ∷ [])) len summary (omega arith, omega arith) (inr refl, (λ e. absurd (omega (arith, e)), λ e. refl, omega arith))
 
 -- What LargeResponse leads to.
-error_answer : (q : ReqSetup) (h : asked.History) (f : FreeHere) (v : RequestMessage) (handle : ℕ)
-    → answer_led q h f 0 v (large_response handle) (Error V1_2 (error_number LargeResponse) 0 (handle ∷ []))
+error_answer : (q : ReqSetup) (h : asked.History) (f : FreeHere) (at : ℕ) (v : RequestMessage) (handle : ℕ)
+    → answer_led q h f at v (large_response handle) (Error V1_2 (error_number LargeResponse) 0 (handle ∷ []))
     ≡ is_led (if may_be_large v && (asked.connection_terms h).common.chunk then goes_on Nothing (get_sent h v handle 0 []) else is_refused (error_number LargeResponse) (Refuses v))
-error_answer q h f v handle = refl
+error_answer q h f at v handle = refl
 
-module _ (q : ReqSetup) (r : RspSetup) (size : ℕ) (n : Negotiation) (can : CanFetch q r size n) where
+-- Where chunks are in common, it calls for the first chunk, wherever it stood.
+pub large_read : (q : ReqSetup) (h : asked.History) (f : FreeHere) (at : ℕ) (v : RequestMessage) (handle : ℕ) → may_be_large v ≡ true → (asked.connection_terms h).common.chunk ≡ true
+    → read_led q h f at v (large_response handle) (reading_of h v (large_response handle)) ≡ Ok (goes_on Nothing (get_sent h v handle 0 []))
+large_read q h f at v handle large chunks =
+    ap (λ (x : Result ResponseMessage Malformed). read_led q h f at v (large_response handle) x) (reads_large (hash_len (asked.connection_terms h)) handle (has_summary v))
+    ∙ error_answer q h f at v handle
+    ∙ goes_by (may_be_large v && (asked.connection_terms h).common.chunk) (goes_on Nothing (get_sent h v handle 0 [])) (is_refused (error_number LargeResponse) (Refuses v))
+    (both_hold (may_be_large v) (asked.connection_terms h).common.chunk large chunks)
+
+module _ {round : ℕ} (q : ReqSetup) (r : RspSetup) (size : ℕ) (n : Negotiation) (can : CanFetchIn round q r size n) where
   pub collectable : (w : List ℕ) → length w ≡ size → IsCollectable q.max (transfer_in n) w
   collectable w is =
       let transfer = can.transfer in
       let least = can.least in
       let large = can.large in
+      let few = can.few in
       let fits = can.fits_max in
       let max = can.max in
       let most = can.most in record {
         low = omega (arith, transfer, least);
-        large = omega (arith, is, large);
+        large = omega (arith, is, large, few);
         fits = omega (arith, is, fits, max);
         short = omega (arith, is, fits, max, most);
       }
@@ -178,11 +194,12 @@ module _ (q : ReqSetup) (r : RspSetup) (size : ℕ) (n : Negotiation) (can : Can
   -- ---- An answer of this size at a place of the responder.
 
   module _ (place : Place) (answer : List ℕ) (is : length answer ≡ size) (under : place.negotiation ≡ n) where
-    pub large_goes : sizes_are_known place.phase ≡ true → bytes_round place.at + length answer ≡ length answer → goes_large place answer ≡ true
-    large_goes known none =
+    pub large_goes : sizes_are_known place.phase ≡ true → bytes_round place.at ≡ round → goes_large place answer ≡ true
+    large_goes known there =
         let large = can.large in
         both_hold (sizes_are_known place.phase) _ known
-        (ap (nat_lt (transfer_in place.negotiation)) none ∙ lt-ltb _ _ (subst (λ (x : Negotiation). transfer_in x < length answer) (sym under) (omega (arith, is, large))))
+        (ap (λ (k : ℕ). nat_lt (transfer_in place.negotiation) (k + length answer)) there
+        ∙ lt-ltb _ _ (subst (λ (x : Negotiation). transfer_in x < round + length answer) (sym under) (omega (arith, is, large))))
 
     pub large_fits : is_answer_too_long place answer ≡ false
     large_fits =
@@ -237,9 +254,10 @@ module _ (q : ReqSetup) (r : RspSetup) (size : ℕ) (n : Negotiation) (can : Can
       pub given_fits : (length given_answer ≤ (place_terms place).common.to_requester.max) × (length given_answer ≤ (place_terms place).common.to_requester.transfer)
       given_fits =
           let few : length given_answer ≤ transfer_in n = subst (λ (l : List ℕ). length l ≤ transfer_in n) (sym gives_chunk) chunk_is_few in
-          let large = can.large in
-          let most = can.fits_max in
-          subst (λ (x : Negotiation). (length given_answer ≤ (terms_of x).common.to_requester.max) × (length given_answer ≤ (terms_of x).common.to_requester.transfer)) (sym under) (omega (arith, few, large, most), few)
+          let ordered = can.ordered in
+          let transfer = can.transfer in
+          let max = can.max in
+          subst (λ (x : Negotiation). (length given_answer ≤ (terms_of x).common.to_requester.max) × (length given_answer ≤ (terms_of x).common.to_requester.transfer)) (sym under) (omega (arith, few, ordered, transfer, max), few)
 
       pub given_chunks : lacks_flag (place_terms place) CHUNK_GET ≡ false
       given_chunks = chunk_flag (place_terms place) (ap (λ (x : Negotiation). (terms_of x).common.chunk) under ∙ can.chunk)
@@ -335,8 +353,5 @@ module _ (q : ReqSetup) (r : RspSetup) (size : ℕ) (n : Negotiation) (can : Can
   heard_large v m h tag handle d large asks =
       let least = can.least in
       hears_as q h tag v m n (large_response handle) d (goes_on Nothing (get_sent h v handle 0 [])) asks (omega (arith, least))
-      (led_plain q h (body_chosen q h d) v (large_response handle) (Error V1_2 (error_number LargeResponse) 0 (handle ∷ []))
-      (reads_large (hash_len (asked.connection_terms h)) handle (has_summary v))
-      ∙ error_answer q h (body_chosen q h d) v handle
-      ∙ goes_by (may_be_large v && (asked.connection_terms h).common.chunk) (goes_on Nothing (get_sent h v handle 0 [])) (is_refused (error_number LargeResponse) (Refuses v))
-      (both_hold (may_be_large v) (asked.connection_terms h).common.chunk large (ap (λ (x : Negotiation). (terms_of x).common.chunk) asks.negotiation ∙ can.chunk)))
+      (led_whole q h (body_chosen q h d) v (large_response handle)
+      ∙ large_read q h (body_chosen q h d) 0 v handle large (ap (λ (x : Negotiation). (terms_of x).common.chunk) asks.negotiation ∙ can.chunk))

@@ -32,7 +32,7 @@ use Rattle.spdm_progress.proofs.PacketSteps.{Pair}
 use Rattle.spdm_progress.proofs.RequesterStages.{Hears}
 use Rattle.spdm_progress.proofs.ResponderStages.{Answered}
 use Rattle.spdm_progress.proofs.StillKept.{AreAlike}
-use Rattle.spdm_progress.proofs.Talk.{IsSendable, IsTalk, Leads, Over}
+use Rattle.spdm_progress.proofs.Talk.{IsSendable, Leads, Over, Stage}
 use Rattle.spdm_progress.proofs.TwoRounds.{LeadsTo}
 
 -- ---- No session is live.
@@ -84,13 +84,13 @@ module _ (p : Pair) (m : List ℕ) (Asked : ℕ → asked.History → Type 0) (S
     bare = y.bare;
   }
 
-module _ (p : Pair) (m reply : List ℕ) (Asked : ℕ → asked.History → Type 0) (Served Behind : served.History → Type 0)
-    (answers : (tag : ℕ) (g : served.History) (d : Draw) → length d.bytes ≡ 32 → serving_does.IsMade p.responder g → Served g → Answered p.responder g tag m d reply Behind) where
-  -- The responder answers.
-  pub way_served : (tag : ℕ) (body : List ℕ) (log : Log) (h : asked.History) (g : served.History) (d : Draw) → length d.bytes ≡ 32 → NoChance log → ClearWay p m Asked Served tag body log h g
+-- ---- One message of it.
+
+module _ (p : Pair) (m reply : List ℕ) (Asked : ℕ → asked.History → Type 0) (Served Behind : served.History → Type 0) (tag : ℕ) (body : List ℕ) (log : Log) (h : asked.History) (g : served.History) (d : Draw) where
+  -- The responder answers this request.
+  pub way_answered : Answered p.responder g tag m d reply Behind → ClearWay p m Asked Served tag body log h g
       → ClearWay p reply Asked Behind tag (answering.body_of (responder_does p.responder g tag body d)) (served_log.acts_of p.responder g body (responder_does p.responder g tag body d) ++ log) h (answering.after g (responder_does p.responder g tag body d))
-  way_served tag body log h g d drawn chance y =
-      let o = answers tag g d drawn y.made_there y.serves in
+  way_answered o y =
       subst (λ (b : List ℕ). ClearWay p reply Asked Behind tag (answering.body_of (responder_does p.responder g tag b d)) (served_log.acts_of p.responder g b (responder_does p.responder g tag b d) ++ log) h (answering.after g (responder_does p.responder g tag b d))) (sym y.body_is)
       (record {
         small = y.small;
@@ -102,21 +102,18 @@ module _ (p : Pair) (m reply : List ℕ) (Asked : ℕ → asked.History → Type
         bare = y.bare;
       })
 
-module _ (p : Pair) (reply next : List ℕ) (Asked Then : ℕ → asked.History → Type 0) (Served : served.History → Type 0) (told : Event) (follows : asked.History → Sent)
-    (goes : (h : asked.History) → ((follows h).tag < 8) × (body_of (follows h).content ≡ clear_body next))
-    (hears : (tag : ℕ) (h : asked.History) (d : Draw) → Asked tag h → Hears p.requester h tag reply d told (Some (follows h)) (Then (follows h).tag)) where
-  -- The requester takes the answer, and asks further.
-  pub way_heard : (tag : ℕ) (body : List ℕ) (log : Log) (h : asked.History) (g : served.History) (d : Draw) → NoChance log → ClearWay p reply Asked Served tag body log h g
+module _ (p : Pair) (reply next : List ℕ) (Asked Then : ℕ → asked.History → Type 0) (Served : served.History → Type 0) (told : Event) (tag : ℕ) (body : List ℕ) (log : Log) (h : asked.History) (g : served.History) (d : Draw) (follows : Sent) where
+  -- The requester takes this answer, and asks further.
+  pub way_leads : (follows.tag < 8) × (body_of follows.content ≡ clear_body next) → Hears p.requester h tag reply d told (Some follows) (Then follows.tag) → ClearWay p reply Asked Served tag body log h g
       → LeadsTo (ClearWay p next Then Served) (requester_hears p.requester h false tag body d) (asked_log.acts_of p.requester h body (requester_hears p.requester h false tag body d) ++ log) h g
-  way_heard tag body log h g d chance y =
-      let o = hears tag h d y.asks in
+  way_leads goes o y =
       subst (λ (b : List ℕ). LeadsTo (ClearWay p next Then Served) (requester_hears p.requester h false tag b d) (asked_log.acts_of p.requester h b (requester_hears p.requester h false tag b d) ++ log) h g) (sym y.body_is)
       (record {
-        next = follows h;
+        next = follows;
         sends = o.sends;
         asks = record {
-          small = (goes h).0;
-          body_is = (goes h).1;
+          small = goes.0;
+          body_is = goes.1;
           asks = o.leaves;
           serves = y.serves;
           made = (hears_made p.requester h false tag (clear_body reply) d y.made).made;
@@ -125,44 +122,54 @@ module _ (p : Pair) (reply next : List ℕ) (Asked Then : ℕ → asked.History 
         };
       })
 
-module _ (p : Pair) (m reply : List ℕ) (Asked : ℕ → asked.History → Type 0) (Ended : asked.History → Type 0) (Served Behind : served.History → Type 0) (told : Event) (short : length m < 4161) (reply_short : length reply < 4161) (stable : IsStable Served) (behind_stable : IsStable Behind)
-    (answers : (tag : ℕ) (g : served.History) (d : Draw) → length d.bytes ≡ 32 → serving_does.IsMade p.responder g → Served g → Answered p.responder g tag m d reply Behind)
-    (hears : (tag : ℕ) (h : asked.History) (d : Draw) → Asked tag h → Hears p.requester h tag reply d told None Ended) where
-  -- The last round.
-  pub record LastWay (more tag : ℕ) (body : List ℕ) (log : Log) (h : asked.History) (g : served.History) : Type 0 where
-    pub is : ClearWay p m Asked Served tag body log h g
+-- The talk is over.
+pub record ClearOver (p : Pair) (Ended : asked.History → Type 0) (Behind : served.History → Type 0) (log : Log) (h : asked.History) (g : served.History) : Type 0 where
+  pub asks : Ended h
+  pub serves : Behind g
+  pub made : asking_does.IsMade p.requester h
+  pub made_there : serving_does.IsMade p.responder g
+  pub bare : IsBare h
 
-  pub record LastAnswer (more tag : ℕ) (body : List ℕ) (log : Log) (h : asked.History) (g : served.History) : Type 0 where
-    pub is : ClearWay p reply Asked Behind tag body log h g
-
-  pub record WayOver (log : Log) (h : asked.History) (g : served.History) : Type 0 where
-    pub asks : Ended h
-    pub serves : Behind g
-    pub made : asking_does.IsMade p.requester h
-    pub made_there : serving_does.IsMade p.responder g
-    pub bare : IsBare h
-
-  last_heard : (more tag : ℕ) (body : List ℕ) (log : Log) (h : asked.History) (g : served.History) (d : Draw) → NoChance log → LastAnswer more tag body log h g
-      → Leads p LastWay WayOver told more (requester_hears p.requester h false tag body d) (asked_log.acts_of p.requester h body (requester_hears p.requester h false tag body d) ++ log) h g
-  last_heard more tag body log h g d chance z =
-      let y = z.is in
-      let o = hears tag h d y.asks in
-      subst (λ (b : List ℕ). Leads p LastWay WayOver told more (requester_hears p.requester h false tag b d) (asked_log.acts_of p.requester h b (requester_hears p.requester h false tag b d) ++ log) h g) (sym y.body_is)
+module _ (p : Pair) (reply : List ℕ) (Asked : ℕ → asked.History → Type 0) (Ended : asked.History → Type 0) (Served Behind : served.History → Type 0) (told : Event) (Asks : Stage) (more tag : ℕ) (body : List ℕ) (log : Log) (h : asked.History) (g : served.History) (d : Draw) where
+  -- The requester takes this answer, and is done.
+  pub way_ends : (Served g → Behind g) → Hears p.requester h tag reply d told None Ended → ClearWay p reply Asked Served tag body log h g
+      → Leads p Asks (ClearOver p Ended Behind) told more (requester_hears p.requester h false tag body d) (asked_log.acts_of p.requester h body (requester_hears p.requester h false tag body d) ++ log) h g
+  way_ends means o y =
+      subst (λ (b : List ℕ). Leads p Asks (ClearOver p Ended Behind) told more (requester_hears p.requester h false tag b d) (asked_log.acts_of p.requester h b (requester_hears p.requester h false tag b d) ++ log) h g) (sym y.body_is)
       (Over o.sends o.event (record {
         asks = o.leaves;
-        serves = y.serves;
+        serves = means y.serves;
         made = (hears_made p.requester h false tag (clear_body reply) d y.made).made;
         made_there = y.made_there;
         bare = bare_hears p.requester h tag (clear_body reply) d y.bare;
       }))
 
-  pub last_talk : IsTalk p LastWay LastAnswer WayOver told
-  last_talk = record {
-    asks_sent = λ more tag body log h g z. way_sent p m Asked Served short tag body log h g z.is;
-    answers_sent = λ more tag body log h g z. way_sent p reply Asked Behind reply_short tag body log h g z.is;
-    serves = λ more tag body log h g d drawn chance z. record { is = way_served p m reply Asked Served Behind answers tag body log h g d drawn chance z.is };
-    hears = last_heard;
-    asks_still = λ more tag body log h g later alike z. record { is = way_still p m Asked Served stable tag body log h g later alike z.is };
-    answers_still = λ more tag body log h g later alike z. record { is = way_still p reply Asked Behind behind_stable tag body log h g later alike z.is };
-    done_still = λ log h g later alike z. record { asks = z.asks; serves = behind_stable g later alike.clear z.serves; made = z.made; made_there = alike.made z.made_there; bare = z.bare };
+module _ (p : Pair) (m : List ℕ) (Asked : ℕ → asked.History → Type 0) (Served : served.History → Type 0) where
+  -- What the responder makes of the time between does not matter.
+  pub way_kept : ((g later : served.History) → AreAlike p.responder g later → Served g → Served later) → (tag : ℕ) (body : List ℕ) (log : Log) (h : asked.History) (g later : served.History) → AreAlike p.responder g later → ClearWay p m Asked Served tag body log h g → ClearWay p m Asked Served tag body log h later
+  way_kept keeps tag body log h g later alike y = record {
+    small = y.small;
+    body_is = y.body_is;
+    asks = y.asks;
+    serves = keeps g later alike y.serves;
+    made = y.made;
+    made_there = alike.made y.made_there;
+    bare = y.bare;
   }
+
+-- ---- All messages of it.
+
+module _ (p : Pair) (m reply : List ℕ) (Asked : ℕ → asked.History → Type 0) (Served Behind : served.History → Type 0)
+    (answers : (tag : ℕ) (g : served.History) (d : Draw) → length d.bytes ≡ 32 → serving_does.IsMade p.responder g → Served g → Answered p.responder g tag m d reply Behind) where
+  -- The responder answers.
+  pub way_served : (tag : ℕ) (body : List ℕ) (log : Log) (h : asked.History) (g : served.History) (d : Draw) → length d.bytes ≡ 32 → NoChance log → ClearWay p m Asked Served tag body log h g
+      → ClearWay p reply Asked Behind tag (answering.body_of (responder_does p.responder g tag body d)) (served_log.acts_of p.responder g body (responder_does p.responder g tag body d) ++ log) h (answering.after g (responder_does p.responder g tag body d))
+  way_served tag body log h g d drawn chance y = way_answered p m reply Asked Served Behind tag body log h g d (answers tag g d drawn y.made_there y.serves) y
+
+module _ (p : Pair) (reply next : List ℕ) (Asked Then : ℕ → asked.History → Type 0) (Served : served.History → Type 0) (told : Event) (follows : asked.History → Sent)
+    (goes : (h : asked.History) → ((follows h).tag < 8) × (body_of (follows h).content ≡ clear_body next))
+    (hears : (tag : ℕ) (h : asked.History) (d : Draw) → Asked tag h → Hears p.requester h tag reply d told (Some (follows h)) (Then (follows h).tag)) where
+  -- The requester takes the answer, and asks further.
+  pub way_heard : (tag : ℕ) (body : List ℕ) (log : Log) (h : asked.History) (g : served.History) (d : Draw) → NoChance log → ClearWay p reply Asked Served tag body log h g
+      → LeadsTo (ClearWay p next Then Served) (requester_hears p.requester h false tag body d) (asked_log.acts_of p.requester h body (requester_hears p.requester h false tag body d) ++ log) h g
+  way_heard tag body log h g d chance y = way_leads p reply next Asked Then Served told tag body log h g d (follows h) (goes h) (hears tag h d y.asks) y

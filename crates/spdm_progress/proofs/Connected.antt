@@ -55,7 +55,7 @@ module _ (w : WorldSetup) (before : List Entry) (n : ℕ) (a : Requesting) (c : 
   p = pair_of n a c
 
   talks : CanTalk p.requester p.responder is_told.can.offer is_told.can.choice
-  talks = can_talk a.setup c.setup is_told.can.offer is_told.can.choice placed.requester placed.responder is_told.can.offered is_told.can.chosen is_told.can.request_fits is_told.can.answer_fits
+  talks = can_talk a.setup c.setup is_told.can.offer is_told.can.choice placed.requester placed.responder is_told.can.offered is_told.can.chosen is_told.request_fits is_told.answer_fits
 
   abbrev later : World
   later = (told_by world n (connect_step a)).after

@@ -29,8 +29,8 @@ server = new_connection part (known_of requester)
 abbrev choice : Choice
 choice = record { hash = Sha256; aead = Aes128Gcm; measure = false }
 
-can : (seed : List ℕ) → CanConnect (asker seed) server
-can seed = record { offer = offer_with 1 1; offered = refl; choice = choice; chosen = refl; request_fits = omega arith; answer_fits = omega arith }
+abbrev can : (seed : List ℕ) → CanConnect (asker seed) server
+can seed = record { offer = offer_with 1 1; offered = refl; choice = choice; chosen = refl; request_goes = (omega arith, λ none. omega arith); answer_goes = (omega arith, λ none. omega arith) }
 
 told : (seed : List ℕ) → ConnectIsTold (world seed) [] 1 (asker seed) server
 told seed = record {
@@ -40,6 +40,8 @@ told seed = record {
   is_requester = refl;
   is_connection = refl;
   can = can seed;
+  request_fits = omega arith;
+  answer_fits = omega arith;
   life = record { requester = omega arith; responder = omega arith };
 }
 

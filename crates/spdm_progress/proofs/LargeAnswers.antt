@@ -52,7 +52,7 @@ use Rattle.spdm_progress.proofs.Drawn.{AreDrawn}
 use Rattle.spdm_progress.proofs.MeasureStages.{answer_at, answer_is, get_measurements, measured, measured_fits, measured_led, measured_sound, measurements, measurements_are, measures_flag, same_by, same_negotiation, some_turn, taken_so, told_number, unchanged}
 use Rattle.spdm_progress.proofs.RequesterStages.{reads}
 use Rattle.spdm_progress.proofs.ResponderBegins.{is_none_none, refused_with}
-use Rattle.spdm_progress.proofs.ResponderStages.{LastTook, adds, zero_plus}
+use Rattle.spdm_progress.proofs.ResponderStages.{LastTook, adds}
 use Rattle.spdm_progress.proofs.ResponderTurns.{contents_passed, form_passed, not_refused, read_at, taken_somehow}
 
 -- ---- The messages.
@@ -108,7 +108,7 @@ module _ (q : ReqSetup) (r : RspSetup) (op : ℕ) (n : Negotiation) (can : GoesL
     size = ap length (answer_is r g d op) ∙ measurements_are r op d.bytes drawn
 
     goes : served.phase_of (served.clear_turns g) ≡ Negotiated → goes_large (clear_place g) (answer_at r g d op) ≡ true
-    goes phase = large_goes q r (measurements_size r op) n can.fetch (clear_place g) (answer_at r g d op) size under (ap sizes_are_known phase) (zero_plus (length (answer_at r g d op)))
+    goes phase = large_goes q r (measurements_size r op) n can.fetch (clear_place g) (answer_at r g d op) size under (ap sizes_are_known phase) refl
 
     taken : served.phase_of (served.clear_turns g) ≡ Negotiated → refusal r (clear_place g) m (clear_chosen r g d) ≡ None
     taken phase =

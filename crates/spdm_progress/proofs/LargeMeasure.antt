@@ -19,6 +19,7 @@ use Rattle.requester_machine.specs.RequesterLog as asked_log
 use Rattle.requester_machine.specs.Sending.{get_sent, plain_sent}
 use Rattle.requester_machine.specs.Session as steps
 use Rattle.requester_machine.specs.Setup.{ReqSetup}
+use Rattle.requester_machine.specs.Shown.{last_data}
 use Rattle.responder_machine.specs.Does.{clear_chosen, clear_does, responder_does}
 use Rattle.responder_machine.specs.Handling.{large_response}
 use Rattle.responder_machine.specs.History as served
@@ -45,11 +46,12 @@ use Rattle.spdm_machine.proofs.Members.{some_same}
 use Rattle.transcript.specs.Transcripts.{Negotiation}
 use Rattle.world_machine.specs.Chance.{NoChance}
 use Rattle.spdm_progress.specs.InStep.{AreQuiet, TookEarlier}
-use Rattle.spdm_progress.specs.Measuring.{measurements_size, number_for}
+use Rattle.spdm_progress.specs.Measuring.{measurements_size, number_for, record_for}
 use Rattle.spdm_progress.proofs.ClearFetch.{IsPending, chunk_is_few, chunk_response, fetching, get_chunk, gives_chunk, heard_large, heard_more, heard_whole, pending_next, served_chunk, transfer_in}
+use Rattle.spdm_progress.proofs.LargeAlgorithms.{get_no_exchange}
 use Rattle.spdm_progress.proofs.LargeAnswers.{GoesLarge, LargeAgain, again_at, before_differs, before_get, heard_last, served_large}
 use Rattle.spdm_progress.proofs.ManyPackets.{before_it, clear_is_body}
-use Rattle.spdm_progress.proofs.MeasureStages.{asks_measure, get_measurements, measured_led, measurements, measurements_are, some_turn}
+use Rattle.spdm_progress.proofs.MeasureStages.{asks_measure, get_measurements, measured_led, measurements, measurements_are, record_taken, some_turn}
 use Rattle.spdm_progress.proofs.PacketSteps.{Pair}
 use Rattle.spdm_progress.proofs.RecordRounds.{quiet_longer, quiet_moved, quiet_still, quiet_there}
 use Rattle.spdm_progress.proofs.RequesterStages.{Asks as AsksRequest, next_small}
@@ -61,9 +63,6 @@ use Rattle.spdm_progress.proofs.Talk.{AreShort, Further, IsSendable, IsTalk, Lea
 -- GET_MEASUREMENTS and CHUNK_GET are no PSK_EXCHANGE.
 no_exchange : (op : ℕ) (x : ExchangeMessage) → get_measurements op ≡ canonical_request (PskExchange x) → ⊥
 no_exchange op x e = (let code : slice_index (get_measurements op) 1 ≡ slice_index (canonical_request (PskExchange x)) 1 = ap (λ (l : List ℕ). slice_index l 1) e in omega (arith, code))
-
-get_no_exchange : (handle k : ℕ) (x : ExchangeMessage) → get_chunk handle k ≡ canonical_request (PskExchange x) → ⊥
-get_no_exchange handle k x e = (let code : slice_index (get_chunk handle k) 1 ≡ slice_index (canonical_request (PskExchange x)) 1 = ap (λ (l : List ℕ). slice_index l 1) e in omega (arith, code))
 
 pub last_on : (m : List ℕ) (g later : served.History) → served.kept_of later ≡ served.kept_of g → LastTook m g → LastTook m later
 last_on m g later same last = record { kept = last.kept; is = same ∙ last.is; message = last.message }
@@ -176,8 +175,9 @@ module _ (p : Pair) (op : ℕ) (h0 : asked.History) (d0 : Draw) (can : GoesLarge
   abbrev pub MeasureAnswered : ℕ → ℕ → List ℕ → Log → asked.History → served.History → Type 0
   MeasureAnswered more tag body log h g = FirstAnswered more tag body log h g ⊎ ChunkAnswered more tag body log h g
 
+  -- It is over: the two are quiet, and the record was taken.
   abbrev pub Quiet : Log → asked.History → served.History → Type 0
-  Quiet log h g = AreQuiet q r p.first log h g
+  Quiet log h g = AreQuiet q r p.first log h g × (last_data h ≡ record_for r op)
 
   within_by : (more k : ℕ) → more + suc k ≡ count → k < count
   within_by more k left = omega (arith, left)
@@ -409,8 +409,14 @@ module _ (p : Pair) (op : ℕ) (h0 : asked.History) (d0 : Draw) (can : GoesLarge
         let is = heard_last q r op n can h tag (chunk_response transfer handle text k) d nonce whole (heard_whole q r (measurements_size r op) n can.fetch text size handle k small (within more k nonce whole left) (GetMeasurements op) h tag d waits ends) in
         let made = TookClear tag (chunk_response transfer handle text k) (measured_led r op nonce) d in
         let acts = asked_log.acts_of q h reply_body (Adds made) in
+        let most = can.fetch.most in
+        let fits = can.fetch.fits_max in
+        let max = can.fetch.max in
         subst LeadsTo (sym is)
-        (Over refl refl (quiet_moved q r p.first acts log h0 (made ∷ h) g (is, since.made) refl since.phase_is since.negotiation since.draws since.sessions quiet))
+        (Over refl refl (
+          quiet_moved q r p.first acts log h0 (made ∷ h) g (is, since.made) refl since.phase_is since.negotiation since.draws since.sessions quiet,
+          record_taken r h tag op (chunk_response transfer handle text k) nonce d whole (omega (arith, most, fits, max)),
+        ))
 
     chunk_heard : (b : Bool) → (k + 1 == chunk_count transfer text) ≡ b → LeadsTo (requester_hears q h false tag reply_body d)
     chunk_heard true is = last_heard is
@@ -434,7 +440,7 @@ module _ (p : Pair) (op : ℕ) (h0 : asked.History) (d0 : Draw) (can : GoesLarge
     hears = hears;
     asks_still = asks_still;
     answers_still = answers_still;
-    done_still = λ log h g later alike y. quiet_still q r p.first log h g later alike y;
+    done_still = λ log h g later alike y. (quiet_still q r p.first log h g later alike y.0, y.1);
   }
     where
       asks_still : (more tag : ℕ) (body : List ℕ) (log : Log) (h : asked.History) (g later : served.History) → AreAlike r g later → MeasureAsked more tag body log h g → MeasureAsked more tag body log h later

@@ -40,11 +40,15 @@ pub mod OpenRounds
 pub mod OpenCounts
 pub mod Opened
 pub mod ClearRounds
+pub mod SentAlgorithms
+pub mod AlgorithmsRounds
 pub mod ConnectRounds
 pub mod MeasureRound
 pub mod ChunkRules
 pub mod ChunkCounts
 pub mod ClearFetch
+pub mod ClearSend
+pub mod LargeAlgorithms
 pub mod LargeAnswers
 pub mod LargeMeasure
 pub mod SessionLarge

@@ -22,6 +22,7 @@ use Rattle.requester_machine.specs.RequesterLog as asked_log
 use Rattle.requester_machine.specs.Sending.{plain_sent}
 use Rattle.requester_machine.specs.Session as steps
 use Rattle.requester_machine.specs.Setup.{ReqSetup}
+use Rattle.requester_machine.specs.Shown.{last_data}
 use Rattle.responder_machine.specs.Does.{clear_chosen, clear_does, responder_does}
 use Rattle.responder_machine.specs.Handling.{turn_of}
 use Rattle.responder_machine.specs.History as served
@@ -37,9 +38,9 @@ use Rattle.responder_machine.specs.Turn.{Turn}
 use Rattle.transcript.specs.Transcripts.{Negotiation}
 use Rattle.world_machine.specs.Chance.{NoChance}
 use Rattle.spdm_progress.specs.InStep.{AreQuiet, TookEarlier}
-use Rattle.spdm_progress.specs.Measuring.{number_for}
+use Rattle.spdm_progress.specs.Measuring.{number_for, record_for}
 use Rattle.spdm_progress.proofs.ManyPackets.{clear_is_body}
-use Rattle.spdm_progress.proofs.MeasureStages.{Again, CanServe, asks_measure, get_measurements, measure_answered, measure_outcome, measure_turn, measured_led, measurements, measurements_are}
+use Rattle.spdm_progress.proofs.MeasureStages.{Again, CanServe, asks_measure, get_measurements, measure_answered, measure_outcome, measure_turn, measured_led, measurements, measurements_are, record_taken}
 use Rattle.spdm_progress.proofs.PacketSteps.{Pair}
 use Rattle.spdm_progress.proofs.RecordRounds.{quiet_longer, quiet_moved, quiet_still, quiet_there}
 use Rattle.spdm_progress.proofs.RequesterStages.{Asks as AsksRequest, next_small}
@@ -84,8 +85,9 @@ module _ (p : Pair) (op : ℕ) (h0 : asked.History) (d0 : Draw) (can : CanServe 
     pub body_is : body ≡ clear_body (measurements r op nonce)
     pub quiet : AreQuiet q r p.first log h0 g
 
+  -- It is over: the two are quiet, and the record was taken.
   abbrev pub Quiet : Log → asked.History → served.History → Type 0
-  Quiet log h g = AreQuiet q r p.first log h g
+  Quiet log h g = AreQuiet q r p.first log h g × (last_data h ≡ record_for r op)
 
   asked_sent : (more tag : ℕ) (body : List ℕ) (log : Log) (h : asked.History) (g : served.History) → MeasureAsked more tag body log h g → IsSendable tag body
   asked_sent more tag body log h g y =
@@ -160,7 +162,10 @@ module _ (p : Pair) (op : ℕ) (h0 : asked.History) (d0 : Draw) (can : CanServe 
       let is = measure_outcome q r h1 tag op n nonce d whole can asks_it in
       let acts = asked_log.acts_of q h1 (clear_body (measurements r op nonce)) (Adds entry) in
       subst (λ (o : Outcome). Leads p MeasureAsked Quiet told more o (asked_log.acts_of q h1 (clear_body (measurements r op nonce)) o ++ log) h1 g) (sym is)
-      (Over refl refl (quiet_moved q r p.first acts log h0 (entry ∷ h1) g (is, (asks, quiet.made)) refl refl refl (omega arith) (λ j. refl) quiet))
+      (Over refl refl (
+        quiet_moved q r p.first acts log h0 (entry ∷ h1) g (is, (asks, quiet.made)) refl refl refl (omega arith) (λ j. refl) quiet,
+        record_taken r h1 tag op (measurements r op nonce) nonce d whole (let fits = can.fits_own in let most = can.most in omega (arith, fits, most)),
+      ))
 
   hears : (more tag : ℕ) (body : List ℕ) (log : Log) (h : asked.History) (g : served.History) (d : Draw) → NoChance log → MeasureAnswered more tag body log h g
       → Leads p MeasureAsked Quiet told more (requester_hears q h false tag body d) (asked_log.acts_of q h body (requester_hears q h false tag body d) ++ log) h g
@@ -180,5 +185,5 @@ module _ (p : Pair) (op : ℕ) (h0 : asked.History) (d0 : Draw) (can : CanServe 
     hears = hears;
     asks_still = λ more tag body log h g later alike y. record { h_is = y.h_is; tag_is = y.tag_is; body_is = y.body_is; quiet = quiet_still q r p.first log h0 g later alike y.quiet; again = again_still g later alike y.again };
     answers_still = λ more tag body log h g later alike y. record { h_is = y.h_is; tag_is = y.tag_is; nonce = y.nonce; whole = y.whole; body_is = y.body_is; quiet = quiet_still q r p.first log h0 g later alike y.quiet };
-    done_still = λ log h g later alike y. quiet_still q r p.first log h g later alike y;
+    done_still = λ log h g later alike y. (quiet_still q r p.first log h g later alike y.0, y.1);
   }

@@ -314,6 +314,11 @@ pub record IsMeasuredBy (r : RspSetup) (op : ℕ) (h : asked.History) : Type 0 w
 abbrev pub measured_led : RspSetup → ℕ → List ℕ → Led
 measured_led r op nonce = is_done (finished.Measured (number_for r op)) (Answers (GetMeasurements op) (measurements r op nonce))
 
+-- What is taken last behind it, however the answer came.
+pub record_taken : (r : RspSetup) (h : asked.History) (tag op : ℕ) (m nonce : List ℕ) (d : Draw) → length nonce ≡ 32 → measurements_size r op ≤ 4138 → last_data (TookClear tag m (measured_led r op nonce) d ∷ h) ≡ record_for r op
+record_taken r h tag op m nonce d whole within =
+    ap (λ (o : Option ResponseMessage). unwrap_or (option_or None (blocks_of o)) (last_data h)) (ap result_ok (reads h (Measurements (measured r op nonce)) 32 (measured_fits r op nonce) (measured_sound r op 32 nonce whole within)))
+
 pub measure_outcome : (q : ReqSetup) (r : RspSetup) (h : asked.History) (tag op : ℕ) (n : Negotiation) (nonce : List ℕ) (d : Draw) → length nonce ≡ 32 → CanServe q r op n → Asks q tag (GetMeasurements op) (get_measurements op) n h
     → requester_hears q h false tag (clear_body (measurements r op nonce)) d ≡ Adds (TookClear tag (measurements r op nonce) (measured_led r op nonce) d)
 measure_outcome q r h tag op n nonce d whole can asks =
@@ -336,7 +341,7 @@ measure_heard q r h tag op n nonce d whole can asks =
     hears_by q h tag (measurements r op nonce) d (measured_led r op nonce) (IsMeasuredBy r op) (measure_outcome q r h tag op n nonce d whole can asks)
     (record {
       none = refl;
-      taken = ap (λ (o : Option ResponseMessage). unwrap_or (option_or None (blocks_of o)) (last_data h)) (ap result_ok (reads h (Measurements (measured r op nonce)) 32 (measured_fits r op nonce) (measured_sound r op 32 nonce whole within)));
+      taken = record_taken r h tag op (measurements r op nonce) nonce d whole within;
     })
 
 -- ---- The command.

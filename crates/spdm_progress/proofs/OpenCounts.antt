@@ -77,7 +77,8 @@ module _ (p : Pair) (same_key : p.requester.psk ≡ p.responder.psk) (asker : Is
       let fits = fetch.fits_max in
       let max = fetch.max in
       let most = fetch.most in
-      in_chunks transfer size (omega (arith, least, is)) fetch.large (omega (arith, fits, max, most))
+      let large = fetch.large in
+      in_chunks transfer size (omega (arith, least, is)) (omega (arith, large)) (omega (arith, fits, max, most))
 
   abbrev pub chunks_of : Way → ℕ
   chunks_of (inl whole) = 0

@@ -61,8 +61,9 @@ use Rattle.spdm_progress.proofs.ExchangeStages as exchange
 use Rattle.spdm_progress.proofs.ExchangeStages.{IsExchange, answer, answer_id, answer_length, answer_reads, exchange_bytes, exchange_fits, exchange_length, exchange_taken, hash_few, request_id, rsp, turn_as, verify_is}
 use Rattle.spdm_progress.proofs.PacketSteps.{Pair}
 use Rattle.spdm_progress.proofs.RecordRounds.{Beside, beside_on}
-use Rattle.spdm_progress.proofs.ResponderStages.{LastTook, Takes, not_large, not_too_long, zero_plus}
+use Rattle.spdm_progress.proofs.ResponderStages.{LastTook, Takes, not_large, not_too_long}
 use Rattle.spdm_progress.proofs.ResponderTurns.{taken_turn}
+use Rattle.spdm_progress.proofs.LargeAlgorithms.{get_no_exchange}
 use Rattle.spdm_progress.proofs.OpenStages as stages
 use Rattle.spdm_progress.proofs.OpenStages.{CanExchange, GoesWhole, count_still, free_still, own_handle, plainly, resting_held, same_context}
 
@@ -144,7 +145,7 @@ module _ (p : Pair) (same_key : p.requester.psk ≡ p.responder.psk) (asker : Is
     taken_large : CanFetch q r size n → clear_does r g tag m d ≡ AddsThere (Clear tag (turn true) d)
     taken_large fetch =
         taken_as (large_fits q r size n fetch (clear_place g) (answer r g d x) answer_size (sym quiet.negotiation)) true
-        (large_goes q r size n fetch (clear_place g) (answer r g d x) answer_size (sym quiet.negotiation) (ap sizes_are_known phase_there) (zero_plus (length (answer r g d x))))
+        (large_goes q r size n fetch (clear_place g) (answer r g d x) answer_size (sym quiet.negotiation) (ap sizes_are_known phase_there) refl)
 
     module _ (large : Bool) (does : clear_does r g tag m d ≡ AddsThere (Clear tag (turn large) d)) where
       abbrev later : served.History
@@ -300,9 +301,6 @@ module _ (p : Pair) (same_key : p.requester.psk ≡ p.responder.psk) (asker : Is
     get_does : clear_does r g tag (get_chunk handle k) d ≡ AddsThere (Clear tag get_turn d)
     get_does = served_chunk q r size n fetch reply long handle k small ((stages.within p same_key asker server summary h0 d0 x rid can) more k reply long left some) g d get_under get_phase pending tag ((stages.before_chunk p same_key asker server summary h0 d0 x rid can) handle k) (other_request k) took
 
-    get_no_exchange : (y : ExchangeMessage) → get_chunk handle k ≡ canonical_request (PskExchange y) → ⊥
-    get_no_exchange y e = (let code : slice_index (get_chunk handle k) 1 ≡ slice_index (canonical_request (PskExchange y)) 1 = ap (λ (l : List ℕ). slice_index l 1) e in omega (arith, code))
-
     get_made : (acts : Log) → (stages.IsMadeThere p same_key asker server summary h0 d0 x rid can) reply (acts ++ log) h (Clear tag get_turn d ∷ g)
     unfolding events.session_of
     get_made acts = record {
@@ -321,7 +319,7 @@ module _ (p : Pair) (same_key : p.requester.psk ≡ p.responder.psk) (asker : Is
         phase_there = refl;
         negotiation = refl;
         negotiation_there = refl;
-        earlier = λ earlier. record { kept = λ z is y e fits sound context whole above below same. get_no_exchange y (ap (λ (o : served.Kept). o.message) (some_same _ z is) ∙ same) };
+        earlier = λ earlier. record { kept = λ z is y e fits sound context whole above below same. get_no_exchange handle k y (ap (λ (o : served.Kept). o.message) (some_same _ z is) ∙ same) };
         same = λ j other. refl;
         same_there = λ j other past. inl refl;
       }) made.beside;

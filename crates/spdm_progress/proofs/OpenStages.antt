@@ -33,6 +33,7 @@ use Rattle.responder_machine.specs.Setup.{RspSetup}
 use Rattle.running_hash.specs.Hash.{hash_of}
 use Rattle.spdm_agreement.specs.Configured.{IsRequester, IsResponder}
 use Rattle.spdm_basis.specs.Sizes.{hash_size}
+use Rattle.spdm_grammar.specs.declared.names.TheConstants.{MAX_MESSAGE_SIZE}
 use Rattle.spdm_grammar.specs.Message.{ExchangeMessage, ExchangeRspMessage, RequestMessage}
 use Rattle.spdm_grammar.specs.Message.RequestMessage.{PskExchange}
 use Rattle.spdm_grammar.specs.Message.ResponseMessage.{PskExchangeRsp}
@@ -285,7 +286,7 @@ module _ (p : Pair) (same_key : p.requester.psk ≡ p.responder.psk) (asker : Is
   few_bytes more k handle reply fetch long small left some =
       (let few = chunk_is_few q r size n fetch reply long handle k small (within more k reply long left some) in let is = fetch.transfer in omega (arith, few, is))
 
-  pub own_most : q.transfer ≤ 4096
+  pub own_most : q.transfer ≤ MAX_MESSAGE_SIZE
   own_most = (let most = asker.sizes.most in let ordered = asker.sizes.ordered in omega arith)
 
   -- ---- Queued data and time.

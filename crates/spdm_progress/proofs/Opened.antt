@@ -135,11 +135,13 @@ module _ (w : WorldSetup) (before : List Entry) (n : ℕ) (a : Requesting) (c : 
       by_size false is = inr (record {
         room = here.responder.sizes.least;
         chunk = chunks_too (asked.connection_terms a.history).common.chunk refl (leb-false _ _ is);
-        large = leb-false _ _ is;
+        large = (let more = leb-false _ _ is in omega (arith, more));
+        few = omega arith;
         fits_max = can.answer_goes.0;
         transfer = own_sizes.transfer;
         max = own_sizes.max;
         least = here.requester.sizes.least;
+        ordered = here.requester.sizes.ordered;
         most = here.requester.sizes.most;
       })
 

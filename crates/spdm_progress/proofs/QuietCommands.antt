@@ -39,9 +39,12 @@ use Rattle.world_machine.specs.Happenings.Happening.{Pump}
 use Rattle.world_machine.specs.Setup.{WorldSetup}
 use Rattle.world_machine.specs.Trace.{lines_from, world_after, world_from}
 use Rattle.world_machine.specs.World.{World, happens}
+use Rattle.spdm_machine.specs.Packets.{wear_limit}
+use Rattle.spdm_grammar.specs.declared.event.Event.TheVariants as event
+use Rattle.spdm_progress.proofs.Talk.{all_short}
 use Rattle.spdm_progress.specs.Honest.{AreHonest, HaveNoCommand}
-use Rattle.spdm_progress.specs.Measuring.{measurements_size, number_for}
-use Rattle.spdm_progress.specs.Scripts.{CanDo, IsDone, PumpsAreEnough, QuietCommandsComplete, result_for}
+use Rattle.spdm_progress.specs.Measuring.{measurements_size, number_for, IsMeasured}
+use Rattle.spdm_progress.specs.Scripts.{CanDo, IsDone, PumpsAreEnough, QuietCommandsComplete, result_for, QuietMeasuresComplete}
 use Rattle.spdm_progress.specs.SessionCommands.{CanAsk, IsDoneQuietly, IsToldQuietly, commanding, goes_on, result_of}
 use Rattle.spdm_progress.specs.Opening.{opened_id}
 use Rattle.spdm_progress.proofs.Accepted.{not_worn_told, told_so}
@@ -54,10 +57,10 @@ use Rattle.spdm_progress.proofs.LargeMeasure as larges
 use Rattle.spdm_progress.proofs.MeasureRound as measures
 use Rattle.spdm_progress.proofs.MeasureStages.{CanServe, made_again}
 use Rattle.spdm_progress.proofs.Opened as opens
-use Rattle.spdm_progress.proofs.PacketSteps.{Pair}
+use Rattle.spdm_progress.proofs.PacketSteps.{Pair, asker}
 use Rattle.spdm_progress.proofs.SessionCompletes as sessions
-use Rattle.spdm_progress.proofs.SessionCompletes.{Idle, Rests, completes_by, completes_within, few_by_chunks, fresh, placed}
-use Rattle.spdm_progress.proofs.Told.{ArePlaced, pair_of}
+use Rattle.spdm_progress.proofs.SessionCompletes.{Idle, Rests, completes_by, completes_within, few_by_chunks, fresh, placed, runs, three_few}
+use Rattle.spdm_progress.proofs.Told.{ArePlaced, pair_of, contained}
 
 module _ (w : WorldSetup) (before : List Entry) (n : ℕ) (a : Requesting) (c : Connection) (line : ℕ) (behind : List Entry) (none : HaveNoCommand behind) (Aside : World → Type 0) (aside : IsAside (pair_of n a c) Aside) (beside : Aside (world_after w before)) where
   abbrev After : Command → World
@@ -158,6 +161,12 @@ module _ (w : WorldSetup) (before : List Entry) (n : ℕ) (a : Requesting) (c : 
     measure_chosen : (asked.connection_terms a.history).choice.measure ≡ true
     measure_chosen = and_second _ _ (not-false _ (test_is_false false a.setup a.history command f accepted.0 5))
 
+    abbrev Taken : Type 0
+    Taken = IsMeasured n c.setup op (world_from (After command) behind) (lines_from (After command) behind)
+
+    all_fits : wear_limit ≤ wear_limit
+    all_fits = omega arith
+
     -- Its answer goes whole.
     module _ (fits : measurements_size c.setup op ≤ (asked.connection_terms a.history).common.to_requester.transfer) where
       serves : CanServe a.setup c.setup op (asked.negotiation_of a.history)
@@ -177,7 +186,7 @@ module _ (w : WorldSetup) (before : List Entry) (n : ℕ) (a : Requesting) (c : 
       measured_whole =
           plainly command (finished.Measured (number_for c.setup op)) 0 false refl
           (completes_by w before n a c command o.told.now line behind none o.honest o.still o.chance Aside aside beside (measures.MeasureAsked pair op a.history d serves phase asks) (measures.MeasureAnswered pair op a.history d serves phase asks)
-          (measures.Quiet pair op a.history d serves phase asks) (finished.Measured (number_for c.setup op)) 0 false (λ log h g z. (z, zero_free h z.made (steps.is_live (steps.session_of 0 h)) refl)) (measures.measure_talk pair op a.history d serves phase asks) 0 (omega arith)
+          (measures.Quiet pair op a.history d serves phase asks) (finished.Measured (number_for c.setup op)) 0 false (λ log h g z. (z.0, zero_free h z.0.made (steps.is_live (steps.session_of 0 h)) refl)) (measures.measure_talk pair op a.history d serves phase asks) 0 (omega arith)
           (plain_sent a.history (GetMeasurements op)) (not_worn_told a command unworn ∙ ap (commanded_by a) asks)
           (record {
             h_is = refl;
@@ -186,6 +195,28 @@ module _ (w : WorldSetup) (before : List Entry) (n : ℕ) (a : Requesting) (c : 
             quiet = o.told.quiet;
             again = made_again a.setup c.setup op (asked.negotiation_of a.history) serves c.history here.made here.drawn (sym o.told.quiet.negotiation);
           }))
+
+      record_whole : Taken
+      record_whole =
+          let talk = measures.measure_talk pair op a.history d serves phase asks in
+          let e = runs w before n a c command o.told.now line behind none o.honest o.still o.chance Aside aside beside wear_limit all_fits o.told.now.life.requester o.told.now.life.responder (measures.MeasureAsked pair op a.history d serves phase asks) (measures.MeasureAnswered pair op a.history d serves phase asks)
+          (measures.Quiet pair op a.history d serves phase asks) (finished.Measured (number_for c.setup op)) talk (λ more. 66) (λ more. 66)
+          (all_short pair (measures.MeasureAsked pair op a.history d serves phase asks) (measures.MeasureAnswered pair op a.history d serves phase asks) (measures.Quiet pair op a.history d serves phase asks) (event.Done (finished.Measured (number_for c.setup op))) talk) 0 (three_few 0 (omega arith))
+          (plain_sent a.history (GetMeasurements op)) (not_worn_told a command unworn ∙ ap (commanded_by a) asks)
+          (record {
+            h_is = refl;
+            tag_is = refl;
+            body_is = refl;
+            quiet = o.told.quiet;
+            again = made_again a.setup c.setup op (asked.negotiation_of a.history) serves c.history here.made here.drawn (sym o.told.quiet.negotiation);
+          }) in
+          record {
+            told = contained (lines_from (After command) behind) _ e.1;
+            requester = asker pair e.0.view.given e.0.view.commands e.0.view.asked;
+            is_requester = e.0.shows.is_requester;
+            none = e.0.done.0.none;
+            taken = e.0.done.1;
+          }
 
     -- It goes by chunks.
     module _ (large : (asked.connection_terms a.history).common.to_requester.transfer < measurements_size c.setup op) where
@@ -201,11 +232,13 @@ module _ (w : WorldSetup) (before : List Entry) (n : ℕ) (a : Requesting) (c : 
         fetch = record {
           room = here.responder.sizes.least;
           chunk = in_common (asked.connection_terms a.history).common.chunk refl;
-          large = large;
+          large = omega (arith, large);
+          few = omega arith;
           fits_max = can.2.0;
           transfer = own_sizes.transfer;
           max = own_sizes.max;
           least = here.requester.sizes.least;
+          ordered = here.requester.sizes.ordered;
           most = here.requester.sizes.most;
         };
       }
@@ -227,7 +260,7 @@ module _ (w : WorldSetup) (before : List Entry) (n : ℕ) (a : Requesting) (c : 
       measured_by_chunks =
           plainly command (finished.Measured (number_for c.setup op)) 0 false refl
           (completes_within w before n a c command o.told.now line behind none o.honest o.still o.chance Aside aside beside (larges.MeasureAsked pair op a.history d goes phase asks) (larges.MeasureAnswered pair op a.history d goes phase asks)
-          (larges.Quiet pair op a.history d goes phase asks) (finished.Measured (number_for c.setup op)) 0 false (λ log h g z. (z, zero_free h z.made (steps.is_live (steps.session_of 0 h)) refl)) (larges.large_talk pair op a.history d goes phase asks)
+          (larges.Quiet pair op a.history d goes phase asks) (finished.Measured (number_for c.setup op)) 0 false (λ log h g z. (z.0, zero_free h z.0.made (steps.is_live (steps.session_of 0 h)) refl)) (larges.large_talk pair op a.history d goes phase asks)
           (λ more. 1) (λ more. counts.each) (larges.are_short pair op a.history d goes phase asks counts.each counts.fits) (larges.count pair op a.history d goes phase asks) (few_by_chunks (transfer_in (asked.negotiation_of a.history)) (measurements_size c.setup op) counts)
           (plain_sent a.history (GetMeasurements op)) (not_worn_told a command unworn ∙ ap (commanded_by a) asks)
           (inl (record {
@@ -238,6 +271,36 @@ module _ (w : WorldSetup) (before : List Entry) (n : ℕ) (a : Requesting) (c : 
             quiet = o.told.quiet;
             again = large_again a.setup c.setup op (asked.negotiation_of a.history) goes c.history here.made here.drawn (sym o.told.quiet.negotiation) (sym o.told.quiet.phase ∙ phase);
           })))
+
+      record_by_chunks : Taken
+      record_by_chunks =
+          let e = runs w before n a c command o.told.now line behind none o.honest o.still o.chance Aside aside beside wear_limit all_fits o.told.now.life.requester o.told.now.life.responder (larges.MeasureAsked pair op a.history d goes phase asks) (larges.MeasureAnswered pair op a.history d goes phase asks)
+          (larges.Quiet pair op a.history d goes phase asks) (finished.Measured (number_for c.setup op)) (larges.large_talk pair op a.history d goes phase asks)
+          (λ more. 1) (λ more. counts.each) (larges.are_short pair op a.history d goes phase asks counts.each counts.fits) (larges.count pair op a.history d goes phase asks) (few_by_chunks (transfer_in (asked.negotiation_of a.history)) (measurements_size c.setup op) counts)
+          (plain_sent a.history (GetMeasurements op)) (not_worn_told a command unworn ∙ ap (commanded_by a) asks)
+          (inl (record {
+            more_is = refl;
+            h_is = refl;
+            tag_is = refl;
+            body_is = refl;
+            quiet = o.told.quiet;
+            again = large_again a.setup c.setup op (asked.negotiation_of a.history) goes c.history here.made here.drawn (sym o.told.quiet.negotiation) (sym o.told.quiet.phase ∙ phase);
+          })) in
+          record {
+            told = contained (lines_from (After command) behind) _ e.1;
+            requester = asker pair e.0.view.given e.0.view.commands e.0.view.asked;
+            is_requester = e.0.shows.is_requester;
+            none = e.0.done.0.none;
+            taken = e.0.done.1;
+          }
+
+    -- The record that was taken.
+    pub recorded : Taken
+    recorded = by_size (nat_le (measurements_size c.setup op) (asked.connection_terms a.history).common.to_requester.transfer) refl
+      where
+        by_size : (b : Bool) → nat_le (measurements_size c.setup op) (asked.connection_terms a.history).common.to_requester.transfer ≡ b → Taken
+        by_size true is = record_whole (leb-true _ _ is)
+        by_size false is = record_by_chunks (leb-false _ _ is)
 
     measured : Result (Measure None op)
     measured = by_size (nat_le (measurements_size c.setup op) (asked.connection_terms a.history).common.to_requester.transfer) refl
@@ -268,6 +331,10 @@ module _ (w : WorldSetup) (before : List Entry) (n : ℕ) (a : Requesting) (c : 
 pub quiet_commands_complete : QuietCommandsComplete
 quiet_commands_complete w before n a c command told can line behind none honest still chance =
     (each w before n a c line behind none (λ later. Unit {0}) (nothing_aside (pair_of n a c)) tt command can (record { told = told; honest = honest; still = inl still; chance = chance })).0
+
+pub quiet_measures_complete : QuietMeasuresComplete
+quiet_measures_complete w before n a c op told can line behind none honest still chance =
+    recorded w before n a c line behind none (λ later. Unit {0}) (nothing_aside (pair_of n a c)) tt op can (record { told = told; honest = honest; still = inl still; chance = chance })
 
 pub pumps_are_enough : PumpsAreEnough
 unfolding happens

@@ -1,6 +1,6 @@
 -- A requester as a connect goes on: each of the three answers leads to the next request, and the last one to the end.
-use Rattle.std.proofs.Common.{◌≡◌, ◌∙◌, ℕ, ◌<◌, ◌≤◌, List, ◌∷◌, length, false, nat_lt, Option, Some, None, Result, Ok, refl, sym, ap, subst, arith}
-use Rattle.std.specs.Prelude.{unwrap_or}
+use Rattle.std.proofs.Common.{◌≡◌, ◌∙◌, ℕ, ◌<◌, ◌≤◌, List, ◌∷◌, length, Bool, false, nat_lt, Option, Some, None, Result, Ok, refl, sym, ap, subst, arith}
+use Rattle.std.specs.Prelude.{if◌then◌else◌, unwrap_or}
 use Rattle.negotiate.specs.Capabilities.{common_of}
 use Rattle.negotiate.specs.Choosing.{agreed, selected}
 use Rattle.negotiate.specs.Offer.{offer_of}
@@ -17,14 +17,15 @@ use Rattle.spdm_grammar.specs.declared.choice.Choice.{Choice}
 use Rattle.spdm_grammar.specs.declared.event.Event.{Event}
 use Rattle.spdm_grammar.specs.declared.event.Event.TheVariants as event
 use Rattle.spdm_grammar.specs.declared.event.Finished.TheVariants as finished
+use Rattle.spdm_grammar.specs.declared.malformed.Malformed.{Malformed}
 use Rattle.spdm_grammar.specs.declared.phase.Phase.TheVariants.{Negotiated}
 use Rattle.spdm_machine.specs.Bodies.{clear_body}
 use Rattle.spdm_machine.specs.Keys.{Draw}
 use Rattle.spdm_machine.specs.Terms.{no_negotiation}
-use Rattle.requester_machine.specs.Answers.{goes_on, is_done, caps_led, offer_led, algorithms_led}
+use Rattle.requester_machine.specs.Answers.{goes_on, is_done, stopped, caps_led, offer_led, algorithms_led}
 use Rattle.requester_machine.specs.Asking.{Outcome}
 use Rattle.requester_machine.specs.Asking.Outcome.{Adds}
-use Rattle.requester_machine.specs.ClearAnswers.{clear_led}
+use Rattle.requester_machine.specs.ClearAnswers.{clear_led, read_led, reading_of}
 use Rattle.requester_machine.specs.Commands.{Free}
 use Rattle.requester_machine.specs.Does.{requester_hears, body_chosen}
 use Rattle.requester_machine.specs.Hearing.{clear_outcome}
@@ -34,12 +35,13 @@ use Rattle.requester_machine.specs.History.Entry.{TookClear}
 use Rattle.requester_machine.specs.Message.{Sent}
 use Rattle.requester_machine.specs.Message.Aim.{Plain}
 use Rattle.requester_machine.specs.Message.Content.{Clear}
-use Rattle.requester_machine.specs.Sending.{plain_sent, is_too_long}
+use Rattle.requester_machine.specs.Sending.{plain_sent, request_sent, is_too_long}
 use Rattle.requester_machine.specs.Setup.{ReqSetup, requester_caps}
 use Rattle.requester_machine.specs.Shown.{after, sent_by, event_of}
 use Rattle.responder_machine.specs.Answer.{version_answer}
 use Rattle.responder_machine.specs.Setup.{RspSetup, responder_caps, policy_of}
 use Rattle.spdm_grammar.specs.declared.event.ReqIgnored.{ReqIgnored}
+use Rattle.spdm_grammar.specs.declared.event.Stop.TheVariants as stop
 use Rattle.requester_machine.specs.Asking.{asks}
 use Rattle.requester_machine.specs.Commands.{command_fault}
 use Rattle.requester_machine.specs.History.Entry.{Told}
@@ -49,7 +51,7 @@ use Rattle.spdm_machine.specs.Terms.{no_choice}
 use Rattle.negotiate.proofs.Choices.{choice_is_agreed}
 use Rattle.spdm_agreement.proofs.Responder.Negotiation.{reply_fits, reply_sound}
 use Rattle.transcript.specs.Transcripts.{Negotiation}
-use Rattle.spdm_progress.proofs.AtRequester.{asking, heard_plain, led_plain}
+use Rattle.spdm_progress.proofs.AtRequester.{asking, heard_plain, led_plain, led_whole}
 use Rattle.spdm_progress.proofs.ResponderStages.{get_version, version, get_capabilities, capabilities, negotiate_algorithms, algorithms, first_pair, two_pairs, three_pairs}
 
 -- A canonical answer without a summary reads, whatever the hash.
@@ -131,22 +133,57 @@ capabilities_heard q r h tag d offer common room told k asks =
     ∙ ap (λ (l : Led). let x : Result Led ReqIgnored = Ok l in x) (offers q r h offer common k)))
     (record { waits = refl; negotiation = ap (λ (n : Negotiation). record n { get_capabilities = get_capabilities q; capabilities = capabilities r }) asks.negotiation; small = next_small h })
 
+-- The offer goes as it is sent, whole or by chunks.
+pub record Offers (q : ReqSetup) (r : RspSetup) (offer : OfferMessage) (common : Common) : Type 0 where
+  pub shared : common_of (requester_caps q) (responder_caps r) ≡ Ok common
+  pub offered : offer_of q.suites common.to_responder.transfer ≡ Some offer
+  pub short : is_too_long common (negotiate_algorithms offer) ≡ false
+
+pub capabilities_sends : (q : ReqSetup) (r : RspSetup) (h : History) (tag : ℕ) (d : Draw) (offer : OfferMessage) (common : Common) (sent : Sent) (P : History → Type 0) → MIN_DATA_TRANSFER_SIZE ≤ q.transfer → FitsResponse (Capabilities (responder_caps r)) → Offers q r offer common
+    → request_sent common h (NegotiateAlgorithms offer) ≡ sent → Asks q tag (GetCapabilities (requester_caps q)) (get_capabilities q) first_pair h
+    → ((k : History) → outstanding k ≡ Some sent → negotiation_of k ≡ two_pairs q r → P k) → Hears q h tag (capabilities r) d event.Progress (Some sent) P
+capabilities_sends q r h tag d offer common sent P room told k goes asks means =
+    let asked = GetCapabilities (requester_caps q) in
+    let effect = Answers asked (capabilities r) in
+    let led = goes_on effect sent in
+    let leads : caps_led q h effect (common_of (requester_caps q) (responder_caps r)) ≡ led =
+    ap (caps_led q h effect) k.shared ∙ ap (offer_led h effect common) k.offered
+    ∙ ap (λ (b : Bool). if b then stopped stop.TooLong else goes_on effect (request_sent common h (NegotiateAlgorithms offer))) k.short
+    ∙ ap (goes_on effect) goes in
+    hears_by q h tag (capabilities r) d led P
+    (hears_as q h tag asked (get_capabilities q) first_pair (capabilities r) d led asks (omega arith)
+    (led_plain q h (body_chosen q h d) asked (capabilities r) (Capabilities (responder_caps r)) (reads h (Capabilities (responder_caps r)) _ told tt)
+    ∙ ap (λ (l : Led). let x : Result Led ReqIgnored = Ok l in x) leads))
+    (means (TookClear tag (capabilities r) led d ∷ h) refl (ap (λ (n : Negotiation). record n { get_capabilities = get_capabilities q; capabilities = capabilities r }) asks.negotiation))
+
 -- ---- ALGORITHMS.
+
+-- What a requester makes of the whole message, however it came.
+pub algorithms_read : (q : ReqSetup) (r : RspSetup) (h : History) (f : Free) (at : ℕ) (offer : OfferMessage) (choice : Choice) → selected offer (policy_of r) ≡ Some choice
+    → read_led q h f at (NegotiateAlgorithms offer) (algorithms r offer) (reading_of h (NegotiateAlgorithms offer) (algorithms r offer)) ≡ Ok (is_done finished.Connected (Answers (NegotiateAlgorithms offer) (algorithms r offer)))
+algorithms_read q r h f at offer choice chosen =
+    let reply = reply_of offer (unwrap_or (selected offer (policy_of r)) no_choice) in
+    let takes : agreed offer reply ≡ Some choice = ap (λ (o : Option Choice). agreed offer (reply_of offer (unwrap_or o no_choice))) chosen ∙ choice_is_agreed offer (policy_of r) choice chosen in
+    ap (λ (x : Result ResponseMessage Malformed). read_led q h f at (NegotiateAlgorithms offer) (algorithms r offer) x)
+    (reads h (Algorithms reply) _ (reply_fits offer (unwrap_or (selected offer (policy_of r)) no_choice)) (reply_sound offer (unwrap_or (selected offer (policy_of r)) no_choice)))
+    ∙ ap (λ (o : Option Choice). let x : Result Led ReqIgnored = Ok (algorithms_led (Answers (NegotiateAlgorithms offer) (algorithms r offer)) o) in x) takes
+
+-- It ends the connect.
+pub algorithms_over : (q : ReqSetup) (r : RspSetup) (h : History) (tag : ℕ) (m : List ℕ) (d : Draw) (offer : OfferMessage) → negotiation_of h ≡ two_pairs q r
+    → requester_hears q h false tag (clear_body m) d ≡ Adds (TookClear tag m (is_done finished.Connected (Answers (NegotiateAlgorithms offer) (algorithms r offer))) d)
+    → Hears q h tag m d (event.Done finished.Connected) None (IsOver (three_pairs q r offer))
+algorithms_over q r h tag m d offer under is =
+    hears_by q h tag m d (is_done finished.Connected (Answers (NegotiateAlgorithms offer) (algorithms r offer))) (IsOver (three_pairs q r offer)) is
+    (record { none = refl; negotiation = ap (λ (n : Negotiation). record n { negotiate_algorithms = negotiate_algorithms offer; algorithms = algorithms r offer }) under; phase = refl })
 
 pub algorithms_heard : (q : ReqSetup) (r : RspSetup) (h : History) (tag : ℕ) (d : Draw) (offer : OfferMessage) (choice : Choice) → length (algorithms r offer) ≤ q.transfer → selected offer (policy_of r) ≡ Some choice
     → Asks q tag (NegotiateAlgorithms offer) (negotiate_algorithms offer) (two_pairs q r) h
     → Hears q h tag (algorithms r offer) d (event.Done finished.Connected) None (IsOver (three_pairs q r offer))
 algorithms_heard q r h tag d offer choice fits chosen asks =
     let asked = NegotiateAlgorithms offer in
-    let reply = reply_of offer (unwrap_or (selected offer (policy_of r)) no_choice) in
-    let led = is_done finished.Connected (Answers asked (algorithms r offer)) in
-    let takes : agreed offer reply ≡ Some choice = ap (λ (o : Option Choice). agreed offer (reply_of offer (unwrap_or o no_choice))) chosen ∙ choice_is_agreed offer (policy_of r) choice chosen in
-    hears_by q h tag (algorithms r offer) d led (IsOver (three_pairs q r offer))
-    (hears_as q h tag asked (negotiate_algorithms offer) (two_pairs q r) (algorithms r offer) d led asks fits
-    (led_plain q h (body_chosen q h d) asked (algorithms r offer) (Algorithms reply)
-    (reads h (Algorithms reply) _ (reply_fits offer (unwrap_or (selected offer (policy_of r)) no_choice)) (reply_sound offer (unwrap_or (selected offer (policy_of r)) no_choice)))
-    ∙ ap (λ (o : Option Choice). let x : Result Led ReqIgnored = Ok (algorithms_led (Answers asked (algorithms r offer)) o) in x) takes))
-    (record { none = refl; negotiation = ap (λ (n : Negotiation). record n { negotiate_algorithms = negotiate_algorithms offer; algorithms = algorithms r offer }) asks.negotiation; phase = refl })
+    algorithms_over q r h tag (algorithms r offer) d offer asks.negotiation
+    (hears_as q h tag asked (negotiate_algorithms offer) (two_pairs q r) (algorithms r offer) d (is_done finished.Connected (Answers asked (algorithms r offer))) asks fits
+    (led_whole q h (body_chosen q h d) asked (algorithms r offer) ∙ algorithms_read q r h (body_chosen q h d) 0 offer choice chosen))
 
 -- ---- The command.
 

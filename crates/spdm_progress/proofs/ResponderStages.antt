@@ -26,8 +26,8 @@ use Rattle.responder_machine.specs.Does.{clear_does, clear_chosen}
 use Rattle.responder_machine.specs.Handling.{turn_of, goes_large}
 use Rattle.responder_machine.specs.History.{History, Kept, kept_of, clear_turns, phase_of, negotiation_of}
 use Rattle.responder_machine.specs.History.Entry.{Clear}
-use Rattle.responder_machine.specs.Place.{Place, clear_place, place_terms}
-use Rattle.responder_machine.specs.Refusal.{phase_allows, sizes_are_known, is_answer_too_long, has_pending}
+use Rattle.responder_machine.specs.Place.{Place, clear_place, inside, place_terms}
+use Rattle.responder_machine.specs.Refusal.{phase_allows, refusal, sizes_are_known, is_answer_too_long, has_pending}
 use Rattle.responder_machine.specs.Responder.{Outcome, on_clear, is_repeat, kept_reply, after, body_of}
 use Rattle.responder_machine.specs.Responder.Outcome.{Same, Adds}
 use Rattle.responder_machine.specs.Responding.{data_of}
@@ -35,7 +35,7 @@ use Rattle.responder_machine.specs.Setup.{RspSetup, responder_caps, policy_of}
 use Rattle.responder_machine.specs.Turn.{Turn}
 use Rattle.requester_machine.specs.Setup.{ReqSetup, requester_caps}
 use Rattle.transcript.specs.Transcripts.{Negotiation}
-use Rattle.spdm_progress.proofs.ResponderTurns.{taken_turn, taken_at, read_at}
+use Rattle.spdm_progress.proofs.ResponderTurns.{contents_passed, form_passed, not_refused, plainly_taken, taken_turn, taken_at, read_at}
 
 -- ---- The six messages.
 
@@ -206,12 +206,14 @@ capabilities_turn q r h f common room own go_together has =
 
 -- ---- NEGOTIATE_ALGORITHMS.
 
-pub algorithms_turn : (q : ReqSetup) (r : RspSetup) (h : History) (f : Free) (offer : OfferMessage) (choice : Choice) → 4 ≤ length (negotiate_algorithms offer) → length (negotiate_algorithms offer) ≤ r.transfer
-    → FitsRequest (NegotiateAlgorithms offer) → IsSoundRequest 32 (NegotiateAlgorithms offer) → selected offer (policy_of r) ≡ Some choice → Takes (clear_place h) (length (algorithms r offer)) → HasCapabilities q r h
-    → turn_of r (clear_place h) (negotiate_algorithms offer) f ≡ taken_turn r (clear_place h) (negotiate_algorithms offer) f (NegotiateAlgorithms offer)
-algorithms_turn q r h f offer choice long room own sound chosen takes has =
-    taken_at r (clear_place h) (negotiate_algorithms offer) f (NegotiateAlgorithms offer) (read_at (clear_place h) (NegotiateAlgorithms offer) own sound) refl
-    (record {
+-- It is taken, where its answer is not too long.
+pub algorithms_taken : (q : ReqSetup) (r : RspSetup) (h : History) (f : Free) (offer : OfferMessage) (choice : Choice) → 4 ≤ length (negotiate_algorithms offer) → length (negotiate_algorithms offer) ≤ r.transfer
+    → FitsRequest (NegotiateAlgorithms offer) → IsSoundRequest 32 (NegotiateAlgorithms offer) → selected offer (policy_of r) ≡ Some choice → is_answer_too_long (clear_place h) (algorithms r offer) ≡ false → HasCapabilities q r h
+    → refusal r (clear_place h) (negotiate_algorithms offer) f ≡ None
+algorithms_taken q r h f offer choice long room own sound chosen fits has =
+    let is = read_at (clear_place h) (NegotiateAlgorithms offer) own sound in
+    not_refused r (clear_place h) (negotiate_algorithms offer) f
+    (form_passed r (clear_place h) (negotiate_algorithms offer) (NegotiateAlgorithms offer) is (record {
       long = lt_false (length (negotiate_algorithms offer)) 4 long;
       short = lt_false r.transfer (length (negotiate_algorithms offer)) room;
       known = refl;
@@ -220,8 +222,8 @@ algorithms_turn q r h f offer choice long room own sound chosen takes has =
       placed = refl;
       allowed = ap (λ (x : Phase). phase_allows x (has_pending (clear_place h)) NEGOTIATE_ALGORITHMS) has.phase_is;
       version = refl;
-    })
-    (record {
+    }))
+    (contents_passed r (clear_place h) (negotiate_algorithms offer) f (NegotiateAlgorithms offer) is (record {
       flags = refl;
       caps = refl;
       offer = ap is_none chosen;
@@ -231,9 +233,48 @@ algorithms_turn q r h f offer choice long room own sound chosen takes has =
       update = refl;
       chunk = refl;
       get = refl;
-      fits = not_too_long h (algorithms r offer) takes;
+      fits = fits;
       limit = refl;
-    })
+    }))
+
+-- So it is inside of its chunks.
+pub algorithms_inside : (q : ReqSetup) (r : RspSetup) (h : History) (f : Free) (offer : OfferMessage) (choice : Choice) → 4 ≤ length (negotiate_algorithms offer) → length (negotiate_algorithms offer) ≤ r.max
+    → FitsRequest (NegotiateAlgorithms offer) → IsSoundRequest 32 (NegotiateAlgorithms offer) → selected offer (policy_of r) ≡ Some choice → is_answer_too_long (inside (clear_place h)) (algorithms r offer) ≡ false
+    → phase_of (clear_turns h) ≡ Capable → refusal r (inside (clear_place h)) (negotiate_algorithms offer) f ≡ None
+algorithms_inside q r h f offer choice long room own sound chosen fits phase =
+    let p = inside (clear_place h) in
+    let is = read_at p (NegotiateAlgorithms offer) own sound in
+    not_refused r p (negotiate_algorithms offer) f
+    (form_passed r p (negotiate_algorithms offer) (NegotiateAlgorithms offer) is (record {
+      long = lt_false (length (negotiate_algorithms offer)) 4 long;
+      short = lt_false r.max (length (negotiate_algorithms offer)) room;
+      known = refl;
+      outside = refl;
+      whole = refl;
+      placed = refl;
+      allowed = ap (λ (x : Phase). phase_allows x (has_pending p) NEGOTIATE_ALGORITHMS) phase;
+      version = refl;
+    }))
+    (contents_passed r p (negotiate_algorithms offer) f (NegotiateAlgorithms offer) is (record {
+      flags = refl;
+      caps = refl;
+      offer = ap is_none chosen;
+      block = refl;
+      exchange = refl;
+      verify = refl;
+      update = refl;
+      chunk = refl;
+      get = refl;
+      fits = fits;
+      limit = refl;
+    }))
+
+pub algorithms_turn : (q : ReqSetup) (r : RspSetup) (h : History) (f : Free) (offer : OfferMessage) (choice : Choice) → 4 ≤ length (negotiate_algorithms offer) → length (negotiate_algorithms offer) ≤ r.transfer
+    → FitsRequest (NegotiateAlgorithms offer) → IsSoundRequest 32 (NegotiateAlgorithms offer) → selected offer (policy_of r) ≡ Some choice → Takes (clear_place h) (length (algorithms r offer)) → HasCapabilities q r h
+    → turn_of r (clear_place h) (negotiate_algorithms offer) f ≡ taken_turn r (clear_place h) (negotiate_algorithms offer) f (NegotiateAlgorithms offer)
+algorithms_turn q r h f offer choice long room own sound chosen takes has =
+    plainly_taken r (clear_place h) (negotiate_algorithms offer) f (NegotiateAlgorithms offer) (read_at (clear_place h) (NegotiateAlgorithms offer) own sound) refl
+    (algorithms_taken q r h f offer choice long room own sound chosen (not_too_long h (algorithms r offer) takes) has)
     (not_large h (algorithms r offer) takes)
 
 -- ---- Each request as it comes.

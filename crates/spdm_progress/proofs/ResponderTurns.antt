@@ -11,7 +11,7 @@ use Rattle.spdm_grammar.specs.Responses.{canonical_response}
 use Rattle.spdm_grammar.specs.declared.error_code.ErrorCode.{ErrorCode}
 use Rattle.spdm_machine.specs.Terms.{hash_len}
 use Rattle.responder_machine.specs.Answer.{Free, answer_of, answer_bytes, request_at}
-use Rattle.responder_machine.specs.Handling.{turn_of, turn_by, chunk_in, goes_large, effect_of, large_response}
+use Rattle.responder_machine.specs.Handling.{chunk_in, effect_of, goes_large, handle_for, large_response, request_effect, request_reply, sent_for, turn_by, turn_of}
 use Rattle.responder_machine.specs.Place.{Place, place_terms}
 use Rattle.responder_machine.specs.Refusal.{refusal, refused_form, refused_contents, tests_of_form, tests_of_contents, lacks_flag, are_caps_refused, is_offer_refused, has_no_block, is_exchange_refused, is_verify_wrong, is_update_misplaced, is_too_large, chunk_fault, is_get_refused, is_answer_too_long, code_of, limit_of, is_known, needs_session, is_chunk_in_session, is_misplaced, is_allowed, version_for}
 use Rattle.responder_machine.specs.Setup.{RspSetup}
@@ -48,6 +48,20 @@ pub plainly_taken : (r : RspSetup) (p : Place) (m : List ℕ) (f : Free) (v : Re
     → goes_large p (canonical_response (answer_of r p m f v)) ≡ false → turn_of r p m f ≡ taken_turn r p m f v
 plainly_taken r p m f v is single taken small =
     taken_somehow r p m f v is single taken ∙ ap (λ (large : Bool). turn_with m f (Some v) (canonical_response (answer_of r p m f v)) large) small
+
+-- What a request has for its effect and its reply, wherever it stood.
+pub effect_so : (r : RspSetup) (p : Place) (m : List ℕ) (f : Free) (v : RequestMessage) (large : Bool) → request_at p m ≡ Some v → goes_large p (canonical_response (answer_of r p m f v)) ≡ large
+    → request_effect r p m f ≡ Took v m (canonical_response (answer_of r p m f v)) (if large then Some f.handle else None)
+effect_so r p m f v large is goes =
+    ap (λ (o : Option RequestMessage). effect_of o m (answer_bytes r p m f) (handle_for p f (answer_bytes r p m f))) is
+    ∙ ap (λ (answer : List ℕ). Took v m answer (handle_for p f answer)) (answered r p m f v is)
+    ∙ ap (λ (b : Bool). Took v m (canonical_response (answer_of r p m f v)) (if b then Some f.handle else None)) goes
+
+pub reply_so : (r : RspSetup) (p : Place) (m : List ℕ) (f : Free) (v : RequestMessage) (large : Bool) → request_at p m ≡ Some v → goes_large p (canonical_response (answer_of r p m f v)) ≡ large
+    → request_reply r p m f ≡ (if large then large_response f.handle else canonical_response (answer_of r p m f v))
+reply_so r p m f v large is goes =
+    ap (λ (answer : List ℕ). sent_for p f answer) (answered r p m f v is)
+    ∙ ap (λ (b : Bool). if b then large_response f.handle else canonical_response (answer_of r p m f v)) goes
 
 -- ---- No test holds.
 

@@ -83,12 +83,12 @@ abbrev pub AreFew : (there each : ℕ → ℕ) → (more : ℕ) → Type 0
 AreFew there each more = (sum_to each (suc more) + 1 ≤ most_asked) × (sum_to there (suc more) ≤ most_served) × (sum_to there (suc more) + sum_to each (suc more) ≤ most_packets)
 
 -- The same number in each round.
-times_each : (each more : ℕ) → sum_to (λ k. each) more ≡ each * more
+pub times_each : (each more : ℕ) → sum_to (λ k. each) more ≡ each * more
 times_each each zero = omega arith
 times_each each (suc more) = (let next = times_each each more in let one : each * suc more ≡ each * more + each = omega arith in omega (arith, next, one))
 
 -- Three rounds of 66 packets each way.
-three_few : (more : ℕ) → more ≤ 2 → AreFew (λ k. 66) (λ k. 66) more
+pub three_few : (more : ℕ) → more ≤ 2 → AreFew (λ k. 66) (λ k. 66) more
 three_few more few = (let all = times_each 66 (suc more) in (omega (arith, few, all), omega (arith, few, all), omega (arith, few, all)))
 
 pub few_by_chunks : (transfer size : ℕ) (counts : InChunks transfer size) → AreFew (λ more. 1) (λ more. counts.each) (div_ceil (size + 4) (transfer - 12))
@@ -170,7 +170,7 @@ module _ (w : WorldSetup) (before : List Entry) (n : ℕ) (a : Requesting) (c : 
       (subst (λ (s : WorldStep). NoChance (pumps count s.after).after.log) same (subst (λ (entries : List Entry). NoChance (world_from later entries).log) pump.3 chance))))
 
   -- The talk that the message of the command begins, where no end takes more than so much.
-  runs : (most : ℕ) (within : most ≤ wear_limit) → length a.given + a.commands + most_asked ≤ most → length world.responder.given + most_served ≤ most
+  pub runs : (most : ℕ) (within : most ≤ wear_limit) → length a.given + a.commands + most_asked ≤ most → length world.responder.given + most_served ≤ most
       → (Asks Answers : Stage) (Done : Log → asked.History → served.History → Type 0) (result : Finished) (is_talk : IsTalk p Asks Answers Done (event.Done result)) (there each : ℕ → ℕ) (short : AreShort there each Asks Answers) (more : ℕ) → AreFew there each more → (sent : Sent) → requester_told a command ≡ sends a command sent
       → Asks more sent.tag (body_of sent.content) (told_view world a c command sent).log (told_view world a c command sent).asked c.history
       → talk.IsDone most within p placed.ends Aside aside Asks Answers Done (event.Done result) is_talk there each short (world_from (commanding world line n command) behind) × IsIn (lines_from (commanding world line n command) behind) (Line.ToRequester n (event.Done result))
@@ -189,7 +189,7 @@ module _ (w : WorldSetup) (before : List Entry) (n : ℕ) (a : Requesting) (c : 
     subst (λ (given : List (List ℕ)). length given ≤ most) (sym s.received) other,
   )
 
-  all_lives : wear_limit ≤ wear_limit
+  pub all_lives : wear_limit ≤ wear_limit
   all_lives = omega arith
 
   -- A talk in which each body has so many packets at most.
@@ -351,11 +351,13 @@ module _ (w : WorldSetup) (before : List Entry) (n : ℕ) (a : Requesting) (c : 
         fetch = record {
           room = here.responder.sizes.least;
           chunk = in_common (steps.session_terms (session_at a id)).common.chunk refl;
-          large = large;
+          large = omega (arith, large);
+          few = omega arith;
           fits_max = can.2.0;
           transfer = sizes.transfer;
           max = sizes.max;
           least = here.requester.sizes.least;
+          ordered = here.requester.sizes.ordered;
           most = here.requester.sizes.most;
         };
       }

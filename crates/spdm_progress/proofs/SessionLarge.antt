@@ -54,7 +54,6 @@ use Rattle.spdm_progress.proofs.LargeAnswers.{GoesLarge, reads_measured}
 use Rattle.spdm_progress.proofs.MeasureStages.{get_measurements, measurements, measurements_are, measures_flag, told_number}
 use Rattle.spdm_progress.proofs.PacketSteps.{Pair}
 use Rattle.spdm_progress.proofs.RecordHeard.{came_as}
-use Rattle.spdm_progress.proofs.ResponderStages.{zero_plus}
 use Rattle.spdm_progress.proofs.ResponderTurns.{contents_passed, form_passed, not_refused, read_at, taken_at, taken_somehow, taken_turn, turn_with}
 use Rattle.spdm_progress.proofs.SessionRounds.{AreAnswered, Asking, answer_for, asked_steps, took_steps}
 use Rattle.spdm_progress.proofs.SessionTurns.{TakesInSession, answer_read, measured_in, not_large_in, not_too_long_in, read_inside}
@@ -168,7 +167,7 @@ module _ (p : Pair) (id op : ℕ) (n : Negotiation) (can : GoesLarge p.requester
           fits = large_fits q r (measurements_size r op) n can.fetch place answer size under;
           limit = refl;
         })))
-        ∙ ap (λ (large : Bool). turn_with m f (Some (GetMeasurements op)) answer large) (large_goes q r (measurements_size r op) n can.fetch place answer size under refl (zero_plus (length answer)))
+        ∙ ap (λ (large : Bool). turn_with m f (Some (GetMeasurements op)) answer large) (large_goes q r (measurements_size r op) n can.fetch place answer size under refl refl)
 
   abbrev IsGood : Asking → (Steps → Turn → Type 0) → Steps → Turn → Type 0
   IsGood x Good s t = IsAnswerTo x.ask (x.inner s) t × Good s t × (length t.reply ≤ 4133)

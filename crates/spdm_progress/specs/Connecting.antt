@@ -3,6 +3,7 @@ use Rattle.std.specs.Prelude.{◌≡◌, ◌≤◌, ◌+◌, ℕ, List, length, 
 use Rattle.negotiate.specs.Capabilities.{shared}
 use Rattle.negotiate.specs.Choosing.{selected}
 use Rattle.negotiate.specs.Offer.{offer_of}
+use Rattle.negotiate.specs.declared.shared.Common.{Common}
 use Rattle.requester_machine.specs.History as asked
 use Rattle.requester_machine.specs.Message.Command.{Connect}
 use Rattle.requester_machine.specs.Requesting.{Requesting}
@@ -28,18 +29,26 @@ use Rattle.world_machine.specs.Happenings.Happening.{Told, Pump}
 use Rattle.world_machine.specs.Setup.{WorldSetup}
 use Rattle.world_machine.specs.Trace.{world_from, world_after, lines_from}
 use Rattle.world_machine.specs.World.{World, requester_of, entry_step, happens}
+use Rattle.spdm_progress.specs.Fitting.{CanGo}
 use Rattle.spdm_progress.specs.Honest.{NothingWaits, AreHonest, HaveNoCommand}
 
+-- The capabilities that the set-ups of the two have in common.
+abbrev pub common_of_both : Requesting → Connection → Common
+common_of_both a c = shared (requester_caps a.setup) (responder_caps c.setup)
+
 -- What a connect needs of the two set-ups: the requester has a hash to offer to a responder of this
--- transfer size, the responder can choose of the offer, and the two messages that may have more
--- than 42 bytes fit the transfer sizes of their receivers, so that they need no chunks.
+-- transfer size, and the responder can choose of the offer. Of the messages only two may have more
+-- than 42 bytes: NEGOTIATE_ALGORITHMS can go to the responder, and ALGORITHMS to the requester, by
+-- chunks too.
 pub record CanConnect (a : Requesting) (c : Connection) : Type 0 where
   pub offer : OfferMessage
   pub offered : offer_of a.setup.suites c.setup.transfer ≡ Some offer
   pub choice : Choice
   pub chosen : selected offer (policy_of c.setup) ≡ Some choice
-  pub request_fits : length (canonical_request (NegotiateAlgorithms offer)) ≤ c.setup.transfer
-  pub answer_fits : length (canonical_response (algorithms_answer c.setup offer)) ≤ a.setup.transfer
+  pub request_goes : CanGo (common_of_both a c) (common_of_both a c).to_responder
+      (length (canonical_request (NegotiateAlgorithms offer)))
+  pub answer_goes : CanGo (common_of_both a c) (common_of_both a c).to_requester
+      (length (canonical_response (algorithms_answer c.setup offer)))
 
 -- Neither end is worn out before a connect is over: the requester takes the command and three
 -- packets, the responder three packets. An end takes 2^40.
@@ -76,7 +85,7 @@ connecting world line n =
 
 -- A connect is told to requester n of a world that a set-up and any events lead to, where no packet
 -- waits and nothing agrees by chance. The responder has this connection with it, and the two can
--- connect.
+-- connect without chunks.
 pub record ConnectIsTold (w : WorldSetup) (before : List Entry) (n : ℕ) (a : Requesting)
     (c : Connection) : Type 0 where
   pub configured : IsConfigured w
@@ -86,6 +95,9 @@ pub record ConnectIsTold (w : WorldSetup) (before : List Entry) (n : ℕ) (a : R
   pub is_connection : connection_of a.setup.eid (world_after w before).responder.connections
       ≡ Some c
   pub can : CanConnect a c
+  pub request_fits : length (canonical_request (NegotiateAlgorithms can.offer)) ≤ c.setup.transfer
+  pub answer_fits : length (canonical_response (algorithms_answer c.setup can.offer))
+      ≤ a.setup.transfer
   pub life : HasLife a (world_after w before).responder
 
 -- Whatever stands between this command and the next one of an honest script: once no packet waits

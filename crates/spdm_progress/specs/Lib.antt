@@ -1,3 +1,4 @@
+pub mod Fitting
 pub mod Honest
 pub mod Connecting
 pub mod Measuring

@@ -2,8 +2,6 @@
 use Rattle.std.specs.Prelude.{◌≡◌, ◌<◌, ◌≤◌, ◌+◌, ◌==◌, ℕ, List, length, if◌then◌else◌, true, false, Some, None, Contains}
 use Rattle.measurements.specs.Blocks.{record_of}
 use Rattle.measurements.specs.Records.{asked as blocks_asked, is_missing}
-use Rattle.negotiate.specs.declared.shared.Common.{Common}
-use Rattle.negotiate.specs.declared.shared.Sizes.{Sizes}
 use Rattle.requester_machine.specs.History as asked
 use Rattle.requester_machine.specs.Message.Command.{Measure}
 use Rattle.requester_machine.specs.Requesting.{Requesting, requester_told}
@@ -11,13 +9,11 @@ use Rattle.requester_machine.specs.Shown.{last_data}
 use Rattle.responder_machine.specs.History as served
 use Rattle.responder_machine.specs.Responding.{Connection, Responding, connection_of}
 use Rattle.responder_machine.specs.Setup.{RspSetup, inventory_of}
-use Rattle.spdm_agreement.specs.Configured.{IsConfigured, IsRequester, IsResponder}
-use Rattle.requester_machine.specs.Setup.{ReqSetup}
-use Rattle.spdm_grammar.specs.declared.choice.Choice.{Choice}
-use Rattle.spdm_progress.specs.Connecting.{IsConnected}
+use Rattle.spdm_agreement.specs.Configured.{IsConfigured}
 use Rattle.spdm_grammar.specs.Lines.{Line}
 use Rattle.spdm_grammar.specs.declared.event.Event.TheVariants as event
 use Rattle.spdm_grammar.specs.declared.event.Finished.TheVariants as finished
+use Rattle.spdm_grammar.specs.declared.names.TheConstants.{MEASUREMENTS_FIELDS_LEN}
 use Rattle.spdm_grammar.specs.declared.phase.Phase.TheVariants.{Negotiated}
 use Rattle.spdm_machine.specs.Packets.{wear_limit}
 use Rattle.world_machine.specs.Chance.{NoChance}
@@ -38,14 +34,10 @@ abbrev pub number_for : RspSetup → (op : ℕ) → ℕ
 number_for r op =
     if op == 0 then length (inventory_of r) else length (blocks_asked op (inventory_of r))
 
--- MEASUREMENTS has 42 bytes beside the record.
+-- MEASUREMENTS has 42 bytes beside the record: its fields before the record, the nonce and the
+-- length of no opaque data.
 abbrev pub measurements_size : RspSetup → (op : ℕ) → ℕ
-measurements_size r op = 42 + length (record_for r op)
-
--- A message of this size can go to an end with these sizes: it is at most its max size, and at most
--- its transfer size where chunks are not in common.
-abbrev pub CanGo : Common → Sizes → (size : ℕ) → Type 0
-CanGo common to size = (size ≤ to.max) × (common.chunk ≡ false → size ≤ to.transfer)
+measurements_size r op = MEASUREMENTS_FIELDS_LEN + length (record_for r op)
 
 -- What a clear measure needs. Both ends are negotiated, with one negotiation, as a connect leaves
 -- them, and it chose measurements. The operation is a byte, and a block that it names is
@@ -111,14 +103,3 @@ MeasureCompletes =
     → NothingWaits (world_from (measuring (world_after w before) line n op) behind)
     → IsMeasured n c.setup op (world_from (measuring (world_after w before) line n op) behind)
     (lines_from (measuring (world_after w before) line n op) behind)
-
--- Right behind a connect that chose measurements, all that a measure needs is that a block which it
--- names is configured and that the answer fits the transfer size with which the requester is set
--- up.
-abbrev pub ConnectedCanMeasure : Type 0
-ConnectedCanMeasure =
-    (q : ReqSetup) (r : RspSetup) → IsRequester q → IsResponder r
-    → (n : ℕ) (choice : Choice) (world : World) (lines : List Line)
-    → (is : IsConnected n q r choice world lines) → choice.measure ≡ true
-    → (op : ℕ) → op < 256 → is_missing op (inventory_of r) ≡ false
-    → measurements_size r op ≤ q.transfer → CanMeasure is.requester is.connection op

@@ -17,7 +17,7 @@ use Rattle.spdm_grammar.specs.declared.event.Finished.TheVariants as finished
 use Rattle.spdm_machine.specs.Terms.{Terms}
 use Rattle.world_machine.specs.Happenings.{Entry}
 use Rattle.world_machine.specs.Setup.{WorldSetup}
-use Rattle.spdm_progress.specs.Measuring.{CanGo}
+use Rattle.spdm_progress.specs.Fitting.{CanGo}
 use Rattle.spdm_progress.specs.SessionCommands.{CompletesQuietly, IsToldQuietly}
 
 -- The terms of the connection.

@@ -1,14 +1,16 @@
 -- Each command of an honest script comes to its result. This project's own.
-use Rattle.std.specs.Prelude.{◌≡◌, ◌<◌, ◌≤◌, ◌+◌, ◌*◌, ◌^◌, ℕ, List, [], ◌∷◌, length, if◌then◌else◌, false, Some, None, Contains}
+use Rattle.std.specs.Prelude.{◌≡◌, ◌<◌, ◌≤◌, ◌+◌, ◌*◌, ◌^◌, ℕ, List, [], ◌∷◌, length, if◌then◌else◌, false, true, Some, None, Contains}
 use Rattle.measurements.specs.Records.{is_missing}
+use Rattle.negotiate.specs.Capabilities.{shared}
 use Rattle.requester_machine.specs.Message.{Command}
 use Rattle.requester_machine.specs.Message.Command.{Beat, Connect, End, Measure, Open, Retry, Send, Update}
 use Rattle.requester_machine.specs.Requesting.{Requesting, requester_told}
-use Rattle.requester_machine.specs.Setup.{ReqSetup}
+use Rattle.requester_machine.specs.Setup.{ReqSetup, requester_caps}
 use Rattle.responder_machine.specs.Responding.{Connection, connection_of}
-use Rattle.responder_machine.specs.Setup.{RspSetup, inventory_of}
-use Rattle.spdm_agreement.specs.Configured.{IsConfigured}
+use Rattle.responder_machine.specs.Setup.{RspSetup, inventory_of, responder_caps}
+use Rattle.spdm_agreement.specs.Configured.{IsConfigured, IsRequester, IsResponder}
 use Rattle.spdm_grammar.specs.Lines.{Line}
+use Rattle.spdm_grammar.specs.declared.choice.Choice.{Choice}
 use Rattle.spdm_grammar.specs.declared.event.Event.TheVariants as event
 use Rattle.spdm_grammar.specs.declared.event.Finished.{Finished}
 use Rattle.spdm_grammar.specs.declared.event.Finished.TheVariants as finished
@@ -19,21 +21,31 @@ use Rattle.world_machine.specs.Happenings.Happening.{Pump, Told}
 use Rattle.world_machine.specs.Setup.{WorldSetup}
 use Rattle.world_machine.specs.Trace.{lines_from, world_after, world_from}
 use Rattle.world_machine.specs.World.{World, entry_step, happens, new_world, requester_of}
-use Rattle.spdm_progress.specs.Connecting.{CanConnect}
+use Rattle.spdm_progress.specs.Connecting.{CanConnect, IsConnected}
+use Rattle.spdm_progress.specs.Fitting.{CanGo}
 use Rattle.spdm_progress.specs.Honest.{AreHonest, HaveNoCommand, NothingWaits, is_command}
 use Rattle.spdm_progress.specs.InStep.{AreQuiet}
-use Rattle.spdm_progress.specs.Measuring.{CanGo, measurements_size}
+use Rattle.spdm_progress.specs.Measuring.{CanMeasure, IsMeasured, measurements_size}
 use Rattle.spdm_progress.specs.Opening.{CanOpen, opened_id, terms_now}
 use Rattle.spdm_progress.specs.SessionCommands.{CanAsk, CompletesQuietly, IsTold, IsToldQuietly, commanding, most_packets, result_of}
 
 -- ---- Each command.
 
--- Whatever came before, a connect leaves two quiet ends, and no session at the requester.
+-- Whatever came before, a connect leaves two quiet ends, and no session at the requester; and both
+-- hold one negotiation, with the choice of the responder and the common capabilities of the two
+-- set-ups.
 abbrev pub ConnectsQuietly : Type 0
 ConnectsQuietly =
     (w : WorldSetup) (before : List Entry) (n : ℕ) (a : Requesting) (c : Connection)
-    → IsTold w before n a c → CanConnect a c
-    → (id : ℕ) → CompletesQuietly w before n a c Connect finished.Connected id false
+    → IsTold w before n a c → (can : CanConnect a c)
+    → ((id : ℕ) → CompletesQuietly w before n a c Connect finished.Connected id false)
+    × ((line : ℕ) (behind : List Entry) → HaveNoCommand behind
+    → AreHonest (commanding (world_after w before) line n Connect) behind
+    → NothingWaits (world_from (commanding (world_after w before) line n Connect) behind)
+    → NoChance (world_from (commanding (world_after w before) line n Connect) behind).log
+    → IsConnected n a.setup c.setup can.choice
+    (world_from (commanding (world_after w before) line n Connect) behind)
+    (lines_from (commanding (world_after w before) line n Connect) behind))
 
 -- What a command needs beside that it is answered `ok`, so that none of its messages is refused:
 -- what a connect and an open need; of measurements that a block which the operation, a byte, names
@@ -49,6 +61,21 @@ CanDo a c (Measure None op) = (op < 256) × (is_missing op (inventory_of c.setup
 CanDo a c (Measure (Some id) op) = CanAsk a c (Measure (Some id) op)
 CanDo a c (End id) = CanAsk a c (End id)
 CanDo a c Retry = Unit {0}
+
+-- Right behind a connect that chose measurements, a clear measure needs no more than that a block
+-- which it names is configured, and that the answer can go to the requester by what the two set-ups
+-- have in common. Where the answer fits the transfer size with which the requester is set up, it
+-- needs no chunks.
+abbrev pub ConnectedCanMeasure : Type 0
+ConnectedCanMeasure =
+    (q : ReqSetup) (r : RspSetup) → IsRequester q → IsResponder r
+    → (n : ℕ) (choice : Choice) (world : World) (lines : List Line)
+    → (is : IsConnected n q r choice world lines) → choice.measure ≡ true
+    → (op : ℕ) → op < 256 → is_missing op (inventory_of r) ≡ false
+    → (CanGo (shared (requester_caps q) (responder_caps r))
+    (shared (requester_caps q) (responder_caps r)).to_requester (measurements_size r op)
+    → CanDo is.requester is.connection (Measure None op))
+    × (measurements_size r op ≤ q.transfer → CanMeasure is.requester is.connection op)
 
 -- What it comes to.
 abbrev pub result_for : Requesting → Connection → Command → Finished
@@ -87,6 +114,20 @@ QuietCommandsComplete =
     → IsDone n a.setup c.setup (result_for a c command)
     (world_from (commanding (world_after w before) line n command) behind)
     (lines_from (commanding (world_after w before) line n command) behind)
+
+-- Behind a clear measure among them, by chunks too, the record that the requester took last is the
+-- one that the responder is set up with.
+abbrev pub QuietMeasuresComplete : Type 0
+QuietMeasuresComplete =
+    (w : WorldSetup) (before : List Entry) (n : ℕ) (a : Requesting) (c : Connection) (op : ℕ)
+    → IsToldQuietly w before n a c (Measure None op) → CanDo a c (Measure None op)
+    → (line : ℕ) (behind : List Entry) → HaveNoCommand behind
+    → AreHonest (commanding (world_after w before) line n (Measure None op)) behind
+    → NothingWaits (world_from (commanding (world_after w before) line n (Measure None op)) behind)
+    → NoChance (world_from (commanding (world_after w before) line n (Measure None op)) behind).log
+    → IsMeasured n c.setup op
+    (world_from (commanding (world_after w before) line n (Measure None op)) behind)
+    (lines_from (commanding (world_after w before) line n (Measure None op)) behind)
 
 -- A pump of so many packets or more behind such a command leaves none that waits, so an honest
 -- script can always go on.

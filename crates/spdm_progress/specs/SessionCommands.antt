@@ -22,9 +22,10 @@ use Rattle.world_machine.specs.Happenings.Happening.{Told}
 use Rattle.world_machine.specs.Setup.{WorldSetup}
 use Rattle.world_machine.specs.Trace.{lines_from, world_after, world_from}
 use Rattle.world_machine.specs.World.{World, entry_step, requester_of}
+use Rattle.spdm_progress.specs.Fitting.{CanGo}
 use Rattle.spdm_progress.specs.Honest.{AreHonest, HaveNoCommand, NothingWaits}
 use Rattle.spdm_progress.specs.InStep.{AreQuiet}
-use Rattle.spdm_progress.specs.Measuring.{CanGo, measurements_size, number_for}
+use Rattle.spdm_progress.specs.Measuring.{measurements_size, number_for}
 
 -- The session with this ReqSessionID of a requester.
 abbrev pub session_at : Requesting → ℕ → Steps

@@ -5,14 +5,16 @@ ghost use Rattle.spdm_progress.specs.Connecting.{
   EachIsConnected,
   SixPacketsAreEnough,
 };
-ghost use Rattle.spdm_progress.specs.Measuring.{ConnectedCanMeasure, MeasureCompletes};
+ghost use Rattle.spdm_progress.specs.Measuring.{MeasureCompletes};
 ghost use Rattle.spdm_progress.specs.Opening.{OpenCompletes};
 ghost use Rattle.spdm_progress.specs.Scripts.{
+  ConnectedCanMeasure,
   ConnectsQuietly,
   HonestScriptsComplete,
   PumpedScriptsAreHonest,
   PumpsAreEnough,
   QuietCommandsComplete,
+  QuietMeasuresComplete,
   QuietWorldsComplete,
 };
 ghost use Rattle.spdm_progress.specs.SessionCommands.{SessionCommandsComplete};
@@ -43,12 +45,13 @@ pub fn measure_completes()
 {}
 
 /// Right behind a connect that chose measurements, a measure needs no more than that a block which
-/// it names is configured, and that the answer fits the transfer size of the requester's set-up.
+/// it names is configured, and that the answer can go to the requester, by chunks too.
 pub fn connected_can_measure()
     ensures { ConnectedCanMeasure }
 {}
 
-/// A connect leaves the two ends quiet, whatever came before.
+/// A connect leaves the two ends quiet, whatever came before, and both hold one negotiation. Its
+/// messages may go by chunks.
 pub fn connects_quietly()
     ensures { ConnectsQuietly }
 {}
@@ -71,6 +74,12 @@ pub fn session_commands_complete()
 /// The same of every command that quiet ends answer `ok`, in the clear or in a session.
 pub fn quiet_commands_complete()
     ensures { QuietCommandsComplete }
+{}
+
+/// Behind a clear measure among them, by chunks too, the requester took the record that the responder
+/// is set up with.
+pub fn quiet_measures_complete()
+    ensures { QuietMeasuresComplete }
 {}
 
 /// No packet of such a command waits after a pump of 414.
