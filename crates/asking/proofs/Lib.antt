@@ -7,3 +7,4 @@ pub mod Early
 pub mod Answered
 pub mod Carrying
 pub mod Taken
+pub mod Fetched

@@ -9,6 +9,7 @@ mod answers;
 mod bodies;
 mod commands;
 mod free_values;
+mod gathering;
 mod led;
 mod negotiating;
 mod outgoing;

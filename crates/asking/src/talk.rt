@@ -6,8 +6,8 @@ use crate::{Negotiating, Outgoing};
 use spdm_basis::Frame;
 use std::marker::Model;
 
-/// The clear part of a requester without the chunks of a large answer: the negotiation, what is
-/// sent, and the last application data or measurement record that came.
+/// The clear part of a requester: the negotiation, what is sent, and the last application data or
+/// measurement record that came. What is gathered of a large answer stands beside it.
 #[derive(Drop)]
 pub struct Talk {
     pub(crate) negotiating: Negotiating,
