@@ -8,3 +8,4 @@ pub mod Answered
 pub mod Carrying
 pub mod Taken
 pub mod Fetched
+pub mod ExchangeTaken

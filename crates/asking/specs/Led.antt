@@ -109,8 +109,8 @@ Stands q h m leads new = (led : Led) (tag : ℕ) (d : Draw) → leads ≡ Ok led
     → StandsFor new q (TookClear tag m led d ∷ h)
 
 -- A message in the clear came to the outstanding one, which asks this: it leads to what it leads to
--- in the definitions under any free values; or it brings the PSK_EXCHANGE_RSP that is awaited, which
--- is written, and nothing changes.
+-- in the definitions under any free values; or it brings the PSK_EXCHANGE_RSP that is awaited,
+-- which is written, and nothing changes.
 abbrev pub IsTaken : ReqSetup → History → Sent → RequestMessage → List ℕ → seen_led.Led
     → (old new : Seen) → (out : List ℕ) → Type 0
 IsTaken q h sent request m seen.Exchange old new out = (answer : List ℕ) × (place : ℕ)

@@ -7,3 +7,4 @@ pub mod Talk
 pub mod Commands
 pub mod Led
 pub mod Gathering
+pub mod Accepting

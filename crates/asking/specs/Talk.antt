@@ -1,4 +1,5 @@
--- The clear part of a requester without what is gathered of a large answer, as the program keeps it.
+-- The clear part of a requester, as the program keeps it. What is gathered of a large answer stands
+-- beside it.
 use Rattle.std.specs.Prelude.{◌≡◌, ℕ, List}
 use Rattle.asking.specs.Negotiating as negotiating
 use Rattle.asking.specs.Negotiating.{IsUpToSent}

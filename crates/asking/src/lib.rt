@@ -2,6 +2,7 @@
 //! how far the negotiation has come, what was settled, and what is outstanding.
 #![tactic(auto)]
 
+mod accepting;
 mod acknowledged;
 mod again;
 mod answering;
