@@ -63,6 +63,7 @@ answered_by q h place request answer (seen.Ignored cause) old new out is = is
 answered_by q h place request answer (seen.Rests told) old new out is = is
 answered_by q h place request answer (seen.Sends tag) old new out is = is
 answered_by q h place request answer (seen.Large tag) old new out is = is
+answered_by q h place request answer (seen.More tag) old new out is = is
 answered_by q h place request answer seen.Exchange old new out is = absurd (is any_free)
 
 -- By the response that it reads as.

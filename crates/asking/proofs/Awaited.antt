@@ -2,7 +2,7 @@
 use Rattle.std.proofs.Common.{refl, ◌≡◌, ◌∙◌, ℕ, List, true, false, Option, Some, None, ap, sym, subst}
 use Rattle.std.proofs.lemmas.Bool.{false≢true}
 use Rattle.negotiate.specs.declared.shared.Common.{Common}
-use Rattle.requester_machine.proofs.Holds.{Holds, Waits}
+use Rattle.requester_machine.specs.Holds.{Holds, Waits}
 use Rattle.requester_machine.specs.Asking.{asks, asks_by, resent}
 use Rattle.requester_machine.specs.Asking.Outcome.{Fails, Resends}
 use Rattle.requester_machine.specs.Commands.{Free, command_fault}

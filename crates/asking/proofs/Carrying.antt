@@ -27,6 +27,7 @@ carried_by q h request carried (seen.Ignored cause) old new out is = is
 carried_by q h request carried (seen.Rests told) old new out is = is
 carried_by q h request carried (seen.Sends tag) old new out is = is
 carried_by q h request carried (seen.Large tag) old new out is = is
+carried_by q h request carried (seen.More tag) old new out is = absurd (is any_free)
 carried_by q h request carried seen.Exchange old new out is = absurd (is any_free)
 
 -- A whole answer.
@@ -36,6 +37,7 @@ whole_carried q h request answer place (seen.Ignored cause) old new out is = is
 whole_carried q h request answer place (seen.Rests told) old new out is = is
 whole_carried q h request answer place (seen.Sends tag) old new out is = is
 whole_carried q h request answer place (seen.Large tag) old new out is = is
+whole_carried q h request answer place (seen.More tag) old new out is = absurd (is any_free)
 whole_carried q h request answer place seen.Exchange old new out is = (answer, place, refl, is)
 
 -- ---- How many chunks there are.

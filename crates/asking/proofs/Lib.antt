@@ -7,3 +7,5 @@ pub mod Early
 pub mod Answered
 pub mod Carrying
 pub mod Taken
+pub mod Fetched
+pub mod ExchangeTaken

@@ -5,7 +5,7 @@ use Rattle.std.proofs.lemmas.Bool.{false≢true}
 use Rattle.std.proofs.lemmas.List.{length-append}
 use Rattle.negotiate.specs.declared.shared.Common.{Common}
 use Rattle.requester_machine.proofs.Entries.{request_sent-asks, test_is_false}
-use Rattle.requester_machine.proofs.Holds.{Holds}
+use Rattle.requester_machine.specs.Holds.{Holds}
 use Rattle.requester_machine.proofs.HoldsTold.{connected, told_holds}
 use Rattle.requester_machine.specs.Asking.{asks, asks_by, done}
 use Rattle.requester_machine.specs.Asking.Outcome.{Adds, Fails}

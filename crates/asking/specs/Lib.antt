@@ -6,3 +6,5 @@ pub mod Outgoing
 pub mod Talk
 pub mod Commands
 pub mod Led
+pub mod Gathering
+pub mod Accepting

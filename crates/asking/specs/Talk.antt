@@ -1,9 +1,10 @@
--- The clear part of a requester without the chunks of a large answer, as the program keeps it.
+-- The clear part of a requester, as the program keeps it. What is gathered of a large answer stands
+-- beside it.
 use Rattle.std.specs.Prelude.{◌≡◌, ℕ, List}
 use Rattle.asking.specs.Negotiating as negotiating
 use Rattle.asking.specs.Negotiating.{IsUpToSent}
 use Rattle.asking.specs.Outgoing as outgoing
-use Rattle.requester_machine.proofs.Holds.{Holds}
+use Rattle.requester_machine.specs.Holds.{Holds}
 use Rattle.requester_machine.specs.History.{History, negotiation_of, next_handle, next_tag, outstanding, phase_of}
 use Rattle.requester_machine.specs.Setup.{ReqSetup}
 use Rattle.requester_machine.specs.Shown.{last_data}

@@ -1,7 +1,7 @@
-ghost use Rattle.std.specs.Prelude.{◌≡◌, ◌≤◌, List, Some, true, length};
+ghost use Rattle.std.specs.Prelude.{◌≡◌, ◌≤◌, Some, length};
 ghost use Rattle.requester_machine.specs.Bodies.{first_cause};
 ghost use Rattle.requester_machine.specs.ClearAnswers as answers;
-ghost use Rattle.requester_machine.specs.ClearAnswers.{ack_carries, reading_of};
+ghost use Rattle.requester_machine.specs.ClearAnswers.{ack_carries, carried_by, reading_of};
 ghost use Rattle.requester_machine.specs.History.{History, connection_terms, negotiation_of, outstanding};
 ghost use Rattle.requester_machine.specs.Message.{Sent, asked_in};
 ghost use Rattle.requester_machine.specs.Sending.{piece_of};
@@ -10,7 +10,8 @@ ghost use Rattle.requester_machine.specs.UnderWay.{IsAwaited};
 ghost use Rattle.spdm_grammar.specs.Message.{ChunkMessage, RequestMessage};
 ghost use Rattle.spdm_grammar.specs.Requests.{canonical_request};
 ghost use Rattle.spdm_grammar.specs.declared.names.TheConstants.{MAX_MESSAGE_SIZE};
-ghost use Rattle.asking.specs.Led.{IsCarried, IsTaken, is_no_get};
+ghost use Rattle.asking.specs.Gathering.{Gathered, Gathers, Leaves};
+ghost use Rattle.asking.specs.Led.{IsCarried, IsTaken, is_large};
 ghost use Rattle.asking.specs.Negotiating.{IsUpTo};
 ghost use Rattle.asking.specs.Outgoing.{IsCut};
 ghost use Rattle.asking.specs.Setup.{IsSetUp};
@@ -20,6 +21,7 @@ ghost use Rattle.asking.specs.declared.waiting.Way.TheVariants as ways;
 
 use crate::bodies::error_in;
 use crate::{Asked, Led, Setup, Talk, Waiting, Way};
+use chunking::Collector;
 use spdm_basis::Frame;
 use spdm_grammar::{ReqIgnored, Response};
 
@@ -168,40 +170,80 @@ impl Talk {
         setup: &Setup<'_>,
         asked: Asked,
         way: Way,
+        gathered: &mut Collector,
         message: &[u8],
         out: &mut Frame,
     ) -> Led
         ensures { (q : ReqSetup) (h : History) (sent : Sent) (request : RequestMessage)
             → IsSetUp setup.now q → StandsFor self.old q h → outstanding h ≡ Some sent
-            → asked_in sent.aim ≡ Some request → is_no_get sent.aim ≡ true
+            → Gathers q (outstanding h) gathered.old → asked_in sent.aim ≡ Some request
             → kind_of request ≡ asked → way_of sent.aim ≡ way
             → length message.now ≤ MAX_MESSAGE_SIZE
-            → IsTaken q h sent request message.now result self.old self.new out.new }
+            → IsTaken q h sent request message.now result self.old self.new out.new
+            × Leaves q (carried_by q h message.now sent.aim) result gathered.old gathered.new }
     {
         match way {
             Way::Whole => self.on_answer(setup, asked, message, 0, out),
             Way::ByChunks { handle, number } => {
                 self.on_sent(setup, asked, handle, number, message, out)
             }
-            Way::ForChunk { .. } => Led::Ignored(ReqIgnored::NothingOutstanding),
+            Way::ForChunk { handle, number } => {
+                self.on_get(setup, asked, handle, number, gathered, message, out)
+            }
         }
     }
 
-    /// A message in the clear came, of at most 4,096 bytes, while a request in the clear is
-    /// outstanding that awaits no chunk of a large answer. What is sent next, if anything is, is
-    /// written in place of what `out` holds.
-    pub fn on_clear(&mut self, setup: &Setup<'_>, message: &[u8], out: &mut Frame) -> Led
+    // A message in the clear came to the outstanding one.
+    fn on_outstanding(
+        &mut self,
+        setup: &Setup<'_>,
+        gathered: &mut Collector,
+        message: &[u8],
+        out: &mut Frame,
+    ) -> Led
         ensures { (q : ReqSetup) (h : History) (sent : Sent) (request : RequestMessage)
             → IsSetUp setup.now q → StandsFor self.old q h → outstanding h ≡ Some sent
-            → asked_in sent.aim ≡ Some request → is_no_get sent.aim ≡ true
+            → Gathers q (outstanding h) gathered.old → asked_in sent.aim ≡ Some request
             → length message.now ≤ MAX_MESSAGE_SIZE
-            → IsTaken q h sent request message.now result self.old self.new out.new }
+            → IsTaken q h sent request message.now result self.old self.new out.new
+            × Leaves q (carried_by q h message.now sent.aim) result gathered.old gathered.new }
     {
         match self.outgoing.waiting() {
-            Waiting::InClear { asked, way, .. } => self.on_way(setup, asked, way, message, out),
+            Waiting::InClear { asked, way, .. } => {
+                self.on_way(setup, asked, way, gathered, message, out)
+            }
             Waiting::Nothing | Waiting::InSession { .. } => {
                 Led::Ignored(ReqIgnored::NothingOutstanding)
             }
         }
+    }
+
+    /// A message in the clear came, of at most 4,096 bytes, while a request in the clear is
+    /// outstanding. `gathered` has the chunks of its large answer that came. What is sent next, if
+    /// anything is, or the PSK_EXCHANGE_RSP that is awaited, is written in place of what `out`
+    /// holds.
+    pub fn on_clear(
+        &mut self,
+        setup: &Setup<'_>,
+        gathered: &mut Collector,
+        message: &[u8],
+        out: &mut Frame,
+    ) -> Led
+        ensures taken { (q : ReqSetup) (h : History) (sent : Sent) (request : RequestMessage)
+            → IsSetUp setup.now q → StandsFor self.old q h → outstanding h ≡ Some sent
+            → Gathers q (outstanding h) gathered.old → asked_in sent.aim ≡ Some request
+            → length message.now ≤ MAX_MESSAGE_SIZE
+            → IsTaken q h sent request message.now result self.old self.new out.new }
+        ensures gathered { (q : ReqSetup) (h : History) (sent : Sent) (request : RequestMessage)
+            → IsSetUp setup.now q → StandsFor self.old q h → outstanding h ≡ Some sent
+            → Gathers q (outstanding h) gathered.old → asked_in sent.aim ≡ Some request
+            → length message.now ≤ MAX_MESSAGE_SIZE
+            → Gathered q h sent request message.now result gathered.old gathered.new }
+    {
+        let led = self.on_outstanding(setup, gathered, message, out);
+        if led.is_large() {
+            gathered.clear();
+        }
+        led
     }
 }

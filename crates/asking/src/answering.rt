@@ -2,7 +2,7 @@ ghost use Rattle.std.specs.Prelude.{◌≡◌, ◌≤◌, ◌==◌, ◌&&◌, �
 ghost use Rattle.negotiate.specs.Capabilities.{common_of};
 ghost use Rattle.negotiate.specs.Offer.{offer_of};
 ghost use Rattle.negotiate.specs.Versions.{first_of_1_2, version_entries};
-ghost use Rattle.requester_machine.proofs.Holds.{Holds};
+ghost use Rattle.requester_machine.specs.Holds.{Holds};
 ghost use Rattle.requester_machine.specs.Answers as answers;
 ghost use Rattle.requester_machine.specs.Answers.{algorithms_led, caps_led, error_led, is_done, is_refused, may_be_large, measured_led, offer_led, stopped, version_led};
 ghost use Rattle.requester_machine.specs.ClearAnswers.{reading_of};

@@ -27,6 +27,14 @@ fn place_of(at: usize, place: usize) -> usize
     at.saturating_add(place)
 }
 
+// Writes bytes in place of what `out` holds, where they fit.
+fn put(bytes: &[u8], out: &mut Frame)
+    ensures { length bytes.now ≤ MAX_MESSAGE_SIZE → out.new ≡ bytes.now }
+{
+    out.clear();
+    let _ = out.extend(bytes);
+}
+
 impl Talk {
     // The whole answer to what is asked reads as this response. It begins at this place of its
     // message, near its front.
@@ -63,7 +71,10 @@ impl Talk {
             (Asked::Measurements { op }, Response::Measurements(measured)) => {
                 self.on_measurements(op, &measured)
             }
-            (Asked::Exchange { .. }, Response::PskExchangeRsp(_)) => Led::Exchange,
+            (Asked::Exchange { .. }, Response::PskExchangeRsp(_)) => {
+                put(answer, out);
+                Led::Exchange
+            }
             _ => Led::Ignored(ReqIgnored::Malformed(place + 1)),
         }
     }

@@ -2,6 +2,7 @@
 //! how far the negotiation has come, what was settled, and what is outstanding.
 #![tactic(auto)]
 
+mod accepting;
 mod acknowledged;
 mod again;
 mod answering;
@@ -9,6 +10,7 @@ mod answers;
 mod bodies;
 mod commands;
 mod free_values;
+mod gathering;
 mod led;
 mod negotiating;
 mod outgoing;

@@ -1,6 +1,7 @@
 use asking::{Led, Setup, Talk};
+use chunking::Collector;
 use spdm_basis::Frame;
-use spdm_grammar::{CommandFault, Event, Finished, FlagSet, Pick, ReqIgnored, Suites};
+use spdm_grammar::{ChunkFault, CommandFault, Event, Finished, FlagSet, Pick, ReqIgnored, Suites};
 use std::test::Fail;
 
 // An answer, what comes of it, and the message that is sent next, if one is, in hexadecimal.
@@ -30,8 +31,9 @@ const WHOLE: [Turn; 4] = [
     ),
 ];
 
-// A negotiation with a responder that takes 42 bytes, up to the first chunk of its large answer.
-const BY_CHUNKS: [Turn; 4] = [
+// A negotiation with a responder that takes 42 bytes, and whose last answer is large. Of that, a chunk of
+// another handle and a whole that does not read are ignored.
+const BY_CHUNKS: [Turn; 8] = [
     (
         "1004000000010012",
         Led::Sends { tag: 1 },
@@ -51,6 +53,26 @@ const BY_CHUNKS: [Turn; 4] = [
         "120500000100127f0f0000",
         Led::Large { tag: 4 },
         "128600000000",
+    ),
+    (
+        "12060000000000001a000000340000001263040034000102020000000000000001000000000000000000",
+        Led::More { tag: 5 },
+        "128600000100",
+    ),
+    (
+        "12060001010000001a0000000000000000000000000002200000032001000420000005200100",
+        Led::Ignored(ReqIgnored::Chunk(ChunkFault::WrongHandle)),
+        "128600000100",
+    ),
+    (
+        "12060100010000001a0000000000000000000000000002300000032001000420000005200100",
+        Led::Ignored(ReqIgnored::Malformed(37)),
+        "128600000100",
+    ),
+    (
+        "12060100010000001a0000000000000000000000000002200000032001000420000005200100",
+        Led::Rests(Event::Done(Finished::Connected)),
+        "128600000100",
     ),
 ];
 
@@ -77,12 +99,16 @@ fn setup(transfer: u32) -> Setup<'static> {
 fn negotiation_completes(rt: HostRuntime) -> Result<(), Fail> {
     let setup = setup(1024);
     let mut talk = Talk::new();
+    let mut gathered = Collector::new(setup.max);
     let mut out = Frame::new();
     assert_eq!(rt; talk.measure(0, &mut out), Err(CommandFault::NotConnected));
     assert_eq!(rt; talk.connect(&mut out), 0);
     for (answer, led, sent) in &WHOLE {
         let message = hex::decode(rt.alloc(), *answer)?;
-        assert_eq!(rt; talk.on_clear(&setup, &message, &mut out), *led);
+        assert_eq!(rt;
+            talk.on_clear(&setup, &mut gathered, &message, &mut out),
+            *led
+        );
         let text = hex::encode(rt.alloc(), out.as_slice())?;
         assert_eq!(rt; text.as_str(), *sent);
     }
@@ -93,11 +119,15 @@ fn negotiation_completes(rt: HostRuntime) -> Result<(), Fail> {
 fn negotiation_by_chunks(rt: HostRuntime) -> Result<(), Fail> {
     let setup = setup(42);
     let mut talk = Talk::new();
+    let mut gathered = Collector::new(setup.max);
     let mut out = Frame::new();
     assert_eq!(rt; talk.connect(&mut out), 0);
     for (answer, led, sent) in &BY_CHUNKS {
         let message = hex::decode(rt.alloc(), *answer)?;
-        assert_eq!(rt; talk.on_clear(&setup, &message, &mut out), *led);
+        assert_eq!(rt;
+            talk.on_clear(&setup, &mut gathered, &message, &mut out),
+            *led
+        );
         let text = hex::encode(rt.alloc(), out.as_slice())?;
         assert_eq!(rt; text.as_str(), *sent);
     }

@@ -27,7 +27,8 @@ use Rattle.requester_machine.specs.Session.Step.{Started, Accepted, Asked}
 use Rattle.requester_machine.specs.UnderWay.{IsAwaited}
 use Rattle.requester_machine.proofs.ClearLeads.{IsExchanged, clear_leads, exchanged}
 use Rattle.requester_machine.proofs.Heard.{Heard, heard}
-use Rattle.requester_machine.proofs.Holds.{Holds, Waits, awaited}
+use Rattle.requester_machine.proofs.Holds.{awaited}
+use Rattle.requester_machine.specs.Holds.{Holds, Waits}
 use Rattle.requester_machine.proofs.HoldsMade.{made_holds}
 
 -- The session that was begun, with its answer and PSK_FINISH.

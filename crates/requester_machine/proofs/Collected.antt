@@ -1,8 +1,9 @@
 -- The chunks of a large answer that are under way, with one more.
-use Rattle.std.proofs.Common.{refl, ◌≡◌, ◌∙◌, ◌≤◌, ◌<◌, ◌+◌, ◌*◌, ℕ, List, [], ◌∷◌, true, false, Bool, Option, Some, None, ap, sym, subst, length, min, nat_lt, nat_eq, not, arith, eqb-true, length-append}
+use Rattle.std.proofs.Common.{refl, ◌≡◌, ◌∙◌, ◌≤◌, ◌<◌, ◌+◌, ◌-◌, ◌*◌, ◌^◌, ℕ, List, [], ◌∷◌, true, false, Bool, Option, Some, None, ap, sym, subst, length, min, nat_lt, nat_eq, not, arith, eqb-true, length-append}
 use Rattle.std.specs.Prelude.{◌==◌, if◌then◌else◌}
 use Rattle.std.proofs.lemmas.Grind.{common_steps}
-use Rattle.chunking.specs.Collecting.{under_way, joined, told_by, told_size, size_rule, first_rule, later_rule, broken_rule, accepted_unless}
+use Rattle.chunking.specs.Collecting.{accepted_unless, accepted_with, answer_from, broken_rule, collected, first_rule, joined, joined_with, later_rule, size_rule, told_by, told_size, under_way}
+use Rattle.chunking.specs.Collecting.Collection.{More, Refused, Whole}
 use Rattle.spdm_grammar.specs.Message.{ChunkMessage}
 use Rattle.spdm_grammar.specs.declared.ChunkFault.{ChunkFault}
 use Rattle.spdm_grammar.specs.declared.ChunkFault.TheVariants.{WrongHandle, WrongNumber}
@@ -109,3 +110,55 @@ one_more max handle number before c none more u =
 
     g : Grown (c ∷ before)
     g = grown max before c (c.number == 0) refl counted more (record { unfinished = u.unfinished; told = u.told; held = held_by before number u.counted u.held }) kept.2
+
+-- ---- What a collector answers.
+
+not_last : (c : ChunkMessage) (message : List ℕ) (b : Bool) → c.last ≡ b → More ≡ (if b then Whole message else More) → c.last ≡ false
+not_last c message true is more = absurd (cc more)
+not_last c message false is more = is
+
+pub means_more : (c : ChunkMessage) (message : List ℕ) (rule : Option ChunkFault) → More ≡ answer_from rule c message → (rule ≡ None) × (c.last ≡ false)
+means_more c message (Some fault) more = absurd (cc more)
+means_more c message None more = (refl, not_last c message c.last refl more)
+
+is_last : (c : ChunkMessage) (answer message : List ℕ) (b : Bool) → c.last ≡ b → Whole answer ≡ (if b then Whole message else More) → (c.last ≡ true) × (answer ≡ message)
+is_last c answer message true is whole = (is, cc whole)
+is_last c answer message false is whole = absurd (cc whole)
+
+pub means_whole : (c : ChunkMessage) (answer message : List ℕ) (rule : Option ChunkFault) → Whole answer ≡ answer_from rule c message → (rule ≡ None) × (c.last ≡ true) × (answer ≡ message)
+means_whole c answer message (Some fault) whole = absurd (cc whole)
+means_whole c answer message None whole = (let is = is_last c answer message c.last refl whole in (refl, is.0, is.1))
+
+no_fault : {A : Type 0} (fault : ChunkFault) (message : List ℕ) (b : Bool) → Refused fault ≡ (if b then Whole message else More) → A
+no_fault fault message true e = absurd (cc e)
+no_fault fault message false e = absurd (cc e)
+
+pub means_refused : (c : ChunkMessage) (fault : ChunkFault) (message : List ℕ) (rule : Option ChunkFault) → Refused fault ≡ answer_from rule c message → rule ≡ Some fault
+means_refused c fault message (Some other) e = (let same : fault ≡ other = cc e in ap (λ (f : ChunkFault). Some f) (sym same))
+means_refused c fault message None e = no_fault fault message c.last e
+
+-- ---- A chunk behind which more are awaited.
+
+-- It is accepted, and is under way with those before it.
+pub record IsNext (most handle number : ℕ) (before : List ChunkMessage) (c : ChunkMessage) : Type 0 where
+  pub counted : c.number ≡ number
+  pub accepted : accepted_with most before c ≡ c ∷ before
+  pub under : AreUnderWay most c.handle (c.number + 1) (c ∷ before)
+
+pub is_next : (most handle number : ℕ) (before : List ChunkMessage) (c : ChunkMessage) → (c.handle == handle) ≡ true → (c.number == number) ≡ true → AreUnderWay most handle number before
+    → More ≡ collected most before c → IsNext most handle number before c
+is_next most handle number before c same_handle same_number under more =
+    let m = means_more c (joined_with (under_way before) c) (broken_rule most (under_way before) c) more in
+    let none : get_fault most handle number before c ≡ None =
+    ap (λ (b : Bool). if not b then Some WrongHandle else (if not (c.number == number) then Some WrongNumber else broken_rule most before c)) same_handle
+    ∙ ap (λ (b : Bool). if not b then Some WrongNumber else broken_rule most before c) same_number
+    ∙ ap (λ (x : List ChunkMessage). broken_rule most x c) (sym under.whole) ∙ m.0 in
+    record {
+      counted = eqb-true c.number number same_number;
+      accepted = ap (λ (r : Option ChunkFault). accepted_unless r before c) m.0;
+      under = one_more most handle number before c none m.1 under;
+    }
+
+-- The number behind it, which has two bytes.
+pub counted_on : (n m : ℕ) → m ≡ min (n + 1) (2 ^ 16 - 1) → n + 1 ≤ 157 → m ≡ n + 1
+counted_on n m is few = omega arith

@@ -26,8 +26,8 @@ use Rattle.requester_machine.proofs.Entries.{asked}
 use Rattle.requester_machine.proofs.Few.{Few, none_few}
 use Rattle.requester_machine.proofs.FewEntries.{told_few, clear_few, record_few}
 use Rattle.requester_machine.proofs.Heard.{Heard, heard}
-use Rattle.requester_machine.proofs.Holds.{Holds}
-use Rattle.requester_machine.proofs.Holds as holds
+use Rattle.requester_machine.specs.Holds.{Holds}
+use Rattle.requester_machine.specs.Holds as holds
 use Rattle.requester_machine.proofs.HoldsMade.{made_holds}
 use Rattle.requester_machine.proofs.MadeOrder.{in_order}
 use Rattle.requester_machine.proofs.RecordLeads.{record_leads}

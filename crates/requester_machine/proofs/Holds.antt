@@ -1,7 +1,6 @@
--- What a made history holds: under which negotiation its sessions are, and what is outstanding. What each kind of entry
--- does to it.
-use Rattle.std.proofs.Common.{refl, ◌≡◌, ◌∙◌, ◌≤◌, ◌<◌, ◌%◌, ℕ, true, false, Option, Some, None, sym, subst, arith}
-use Rattle.std.specs.Prelude.{⊤, nat_lt, length}
+-- What a made history holds while it grows: what each kind of entry does to it.
+use Rattle.std.proofs.Common.{refl, ◌≡◌, ◌∙◌, ◌≤◌, ◌<◌, ◌%◌, ℕ, true, false, Some, sym, subst, arith}
+use Rattle.std.specs.Prelude.{nat_lt, length}
 use Rattle.std.proofs.lemmas.Bool.{false≢true}
 use Rattle.negotiate.specs.declared.shared.Common.{Common}
 use Rattle.spdm_grammar.specs.Message.{RequestMessage}
@@ -11,27 +10,16 @@ use Rattle.spdm_grammar.specs.declared.phase.Phase.{Phase}
 use Rattle.spdm_grammar.specs.declared.phase.Phase.TheVariants.{Fresh, Versioned, Capable, Negotiated}
 use Rattle.spdm_grammar.specs.declared.names.TheConstants.{MIN_DATA_TRANSFER_SIZE}
 use Rattle.requester_machine.specs.Setup.{ReqSetup}
-use Rattle.requester_machine.specs.History.{History, outstanding, phase_of, negotiation_of, negotiates, connection_terms, next_handle, larges_of}
+use Rattle.requester_machine.specs.Holds.{LiveAt}
+use Rattle.requester_machine.specs.History.{History, phase_of, negotiation_of, negotiates, connection_terms, next_handle, larges_of}
 use Rattle.requester_machine.specs.Message.{Aim, Content, Sent, asked_in}
 use Rattle.requester_machine.specs.Message.Aim.{Plain, ByChunks, ForChunk, InSession}
 use Rattle.requester_machine.specs.Sending.{piece_sent, plain_sent, request_sent, is_too_long}
-use Rattle.requester_machine.specs.Session.{session_of, session_negotiation, is_live}
-use Rattle.requester_machine.specs.UnderWay.{HasSizes, IsCommon, is_capable, IsAwaited, IsPiece, IsOutstanding}
+use Rattle.requester_machine.specs.Session.{session_of}
+use Rattle.requester_machine.specs.UnderWay.{HasSizes, IsAwaited, IsPiece, IsOutstanding}
 use Rattle.requester_machine.proofs.ClearLeads.{tested}
 use Rattle.requester_machine.proofs.Keeps.{Keeps}
 use Rattle.requester_machine.proofs.Pieces.{first_piece}
-
-abbrev pub Waits : ReqSetup → History → Option Sent → Type 0
-Waits q h None = ⊤
-Waits q h (Some sent) = IsOutstanding q h sent.content sent.aim
-
-abbrev pub LiveAt : History → ℕ → Type 0
-LiveAt h id = is_live (session_of id h) ≡ true → (session_negotiation (session_of id h) ≡ negotiation_of h) × (phase_of h ≡ Negotiated)
-
-pub record Holds (q : ReqSetup) (h : History) : Type 0 where
-  pub live : (id : ℕ) → LiveAt h id
-  pub known : HasSizes q → is_capable (phase_of h) ≡ true → IsCommon q (connection_terms h).common
-  pub waits : Waits q h (outstanding h)
 
 -- ---- Phases.
 

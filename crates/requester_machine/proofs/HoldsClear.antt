@@ -34,7 +34,8 @@ use Rattle.requester_machine.proofs.CapsRead.{common_read, common_stays, common_
 use Rattle.requester_machine.proofs.ClearLeads.{ClearLeads}
 use Rattle.requester_machine.proofs.ClearLeads.ClearLeads.{ByRefusal, ByLarge, BySend, ByGet, ByStop, ByVersion, ByCaps, ByChoice, ByMeasured, ByExchange}
 use Rattle.requester_machine.proofs.Collected.{none_yet, one_more}
-use Rattle.requester_machine.proofs.Holds.{Holds, Waits, live_stays, none_live, negotiating, awaited, awaited_stays, request_waits}
+use Rattle.requester_machine.proofs.Holds.{live_stays, none_live, negotiating, awaited, awaited_stays, request_waits}
+use Rattle.requester_machine.specs.Holds.{Holds, Waits}
 use Rattle.requester_machine.proofs.Keeps.{Keeps, behind_clear}
 use Rattle.requester_machine.proofs.Pieces.{next_piece}
 use Rattle.requester_machine.proofs.Few.{live_first}

@@ -18,7 +18,7 @@ use Rattle.requester_machine.specs.UnderWay.{IsCommon, is_capable, SizesAreSetUp
 use Rattle.requester_machine.proofs.ClearLeads.{clear_leads}
 use Rattle.requester_machine.proofs.Entries.{asked}
 use Rattle.requester_machine.proofs.Heard.{Heard, heard}
-use Rattle.requester_machine.proofs.Holds.{Holds, Waits}
+use Rattle.requester_machine.specs.Holds.{Holds, Waits}
 use Rattle.requester_machine.proofs.HoldsClear.{clear_holds}
 use Rattle.requester_machine.proofs.HoldsRecord.{record_holds}
 use Rattle.requester_machine.proofs.HoldsTold.{told_holds}

@@ -20,7 +20,8 @@ use Rattle.requester_machine.specs.Session.{Steps, Step, session_of, is_live, wh
 use Rattle.requester_machine.specs.Session.Step.{Asked, Took}
 use Rattle.requester_machine.specs.UnderWay.{IsOutstanding, IsSealed, AreBehind}
 use Rattle.requester_machine.proofs.Collected.{none_yet, one_more}
-use Rattle.requester_machine.proofs.Holds.{Holds, Waits, live_stays}
+use Rattle.requester_machine.proofs.Holds.{live_stays}
+use Rattle.requester_machine.specs.Holds.{Holds, Waits}
 use Rattle.requester_machine.proofs.Keeps.{Keeps, behind_record}
 use Rattle.requester_machine.proofs.RecordLeads.{RecordLeads}
 use Rattle.requester_machine.proofs.RecordLeads.RecordLeads.{ByEnd, ByAnswer, ByUpdate, ByFirst, ByChunk}

@@ -28,7 +28,8 @@ use Rattle.requester_machine.specs.Session.{Steps, session_of, session_negotiati
 use Rattle.requester_machine.specs.Session.Step.{Started, Asked}
 use Rattle.requester_machine.specs.UnderWay.{IsCommon, is_capable, IsAwaited, IsSealed, AreBehind}
 use Rattle.requester_machine.proofs.Entries.{test_is_false, request_sent-asks}
-use Rattle.requester_machine.proofs.Holds.{Holds, Waits, LiveAt, live_stays, request_waits}
+use Rattle.requester_machine.proofs.Holds.{live_stays, request_waits}
+use Rattle.requester_machine.specs.Holds.{Holds, Waits, LiveAt}
 use Rattle.requester_machine.proofs.Keeps.{Keeps, sent_keeps}
 use Rattle.spdm_basis.proofs.Bools.{and_rest}
 use Rattle.requester_machine.proofs.Few.{live_first}

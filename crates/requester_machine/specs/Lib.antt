@@ -22,5 +22,6 @@ pub mod Requesting
 pub mod Bounds
 pub mod AcceptedLaws
 pub mod UnderWay
+pub mod Holds
 pub mod SpentLaws
 pub mod EndLaws

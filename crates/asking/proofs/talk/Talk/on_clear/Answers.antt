@@ -1,12 +1,14 @@
-use Rattle.std.proofs.Common.{◌∙◌, ap, subst, sym}
-use Rattle.asking.proofs.Taken.{clear_way}
-use Rattle.asking.specs.Talk.{Seen, StandsFor}
-use Rattle.asking.specs.Waiting.{waiting_of}
+use Rattle.std.proofs.Common.{sym}
+use Rattle.asking.proofs.Fetched.{gathered_as, large_gathered}
 use Rattle.asking.proofs.talk.Talk.on_clear.Goals as goal
 
-pub returns-in-InClear : goal.returns-in-InClear
-returns-in-InClear c = λ q h sent request setup stands waits asks no_get short.
-    let before : Seen = record { negotiating = c.self.inside.negotiating; outgoing = c.self.inside.outgoing; brought = c.self.inside.brought } in
-    let stood = subst (λ (s : Seen). StandsFor s q h) (sym c.self.view_is) stands in
-    let is = clear_way sent request c.in-InClear.tag c.in-InClear.asked c.in-InClear.way asks (c.in-InClear.ensures ∙ stood.shows.outgoing.waiting ∙ ap waiting_of waits) in
-    c.on_way.ensures q h sent request setup stands waits asks no_get is.0 is.1 short
+pub returns-then-is_large-clause-gathered : goal.returns-then-is_large-clause-gathered
+returns-then-is_large-clause-gathered c = λ q h sent request setup stands waits gathers asks short.
+    let both = c.on_outstanding-led.ensures q h sent request setup stands waits gathers asks short in
+    large_gathered q h sent request c.args.message.now c.on_outstanding-led.result c.args.self.now c.on_outstanding-led.new.self c.on_outstanding-led.new.out c.args.gathered.now c.on_outstanding-led.new.gathered c.clear.new.self both.0 both.1
+    (sym c.if-is_large.ensures) c.clear.ensures.max c.clear.ensures.stands
+
+pub returns-else-is_large-clause-gathered : goal.returns-else-is_large-clause-gathered
+returns-else-is_large-clause-gathered c = λ q h sent request setup stands waits gathers asks short.
+    let both = c.on_outstanding-led.ensures q h sent request setup stands waits gathers asks short in
+    gathered_as q h sent request c.args.message.now c.on_outstanding-led.result c.args.self.now c.on_outstanding-led.new.self c.on_outstanding-led.new.out c.args.gathered.now c.on_outstanding-led.new.gathered both.0 both.1 (sym c.if-is_large.ensures)

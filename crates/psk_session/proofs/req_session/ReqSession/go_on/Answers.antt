@@ -13,7 +13,7 @@ use Rattle.spdm_grammar.specs.Message.{ChunkMessage}
 use Rattle.spdm_grammar.specs.Message.RequestMessage.{ChunkGet}
 use Rattle.psk_session.specs.Course.{with_asked, with_taken}
 use Rattle.psk_session.specs.ReqSession.{IsAwaiting}
-use Rattle.psk_session.proofs.Chunks.{counted_on, is_next}
+use Rattle.requester_machine.proofs.Collected.{counted_on, is_next}
 use Rattle.psk_session.proofs.req_session.ReqSession.go_on.Goals as goal
 
 pub returns-clause-follows : goal.returns-clause-follows
