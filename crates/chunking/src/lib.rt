@@ -14,4 +14,4 @@ pub use laws::{
     chunk_sizes, chunks_are_the_message, cut_is_collected, few_chunks, first_chunk_begins_anew,
 };
 pub use spdm_grammar::ChunkFault;
-pub use splitter::{SplitFault, Splitter};
+pub use splitter::{SplitFault, Splitter, nth_chunk};

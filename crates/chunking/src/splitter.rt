@@ -1,7 +1,8 @@
-ghost use Rattle.std.specs.Prelude.{◌≡◌, ◌↔◌, ◌<◌, ◌≤◌, ◌+◌, length, drop, Err, IfOk};
+ghost use Rattle.std.specs.Prelude.{◌≡◌, ◌↔◌, ◌<◌, ◌≤◌, ◌+◌, length, drop, Err, IfOk, Some};
 ghost use Rattle.std.specs.List.{slice_get};
 ghost use Rattle.chunking.specs.Answers.{chunk_given};
-ghost use Rattle.chunking.specs.Cutting.{chunk_count, chunks_of, nth_chunk};
+ghost use Rattle.chunking.specs.Cutting as cutting;
+ghost use Rattle.chunking.specs.Cutting.{chunk_count, chunks_of};
 ghost use Rattle.spdm_grammar.specs.Message.{chunk_message};
 
 use spdm_basis::Frame;
@@ -106,13 +107,32 @@ impl Splitter {
     }
 }
 
+/// The chunk of this number of a message, counted from 0, as a splitter gives it. `None` comes where the transfer
+/// size is below 42, and where the message has no such chunk.
+pub fn nth_chunk(message: &[u8], transfer: u32, handle: u8, number: u16) -> Option<ChunkView<'_>>
+    requires { length message.now ≤ MAX_MESSAGE_SIZE }
+    ensures { MIN_DATA_TRANSFER_SIZE ≤ transfer → number < chunk_count transfer message.now
+        → chunk_given result ≡ Some (cutting.nth_chunk transfer handle message.now number) }
+{
+    if transfer < MIN_DATA_TRANSFER_SIZE {
+        return None;
+    }
+    let unit = transfer as usize - HEADER_LEN;
+    let count = (message.len() + LARGE_SIZE_LEN).div_ceil(unit);
+    let number = number as usize;
+    if number >= count {
+        return None;
+    }
+    Some(chunk_at(message, transfer, handle, number, count))
+}
+
 // The chunk of this number, of the number of chunks that the message has.
 fn chunk_at(message: &[u8], transfer: u32, handle: u8, number: usize, count: usize) -> ChunkView<'_>
     requires low { MIN_DATA_TRANSFER_SIZE ≤ transfer }
     requires high { length message.now ≤ MAX_MESSAGE_SIZE }
     requires counted { count ≡ chunk_count transfer message.now }
     requires within { number < count }
-    ensures { chunk_message result ≡ nth_chunk transfer handle message.now number }
+    ensures { chunk_message result ≡ cutting.nth_chunk transfer handle message.now number }
 {
     let unit = transfer as usize - HEADER_LEN;
     let from = (number * unit).saturating_sub(LARGE_SIZE_LEN);

@@ -22,6 +22,7 @@ use Rattle.spdm_grammar.specs.declared.event.BadReply.{BadReply}
 use Rattle.spdm_grammar.specs.declared.event.BadReply.TheVariants as bad
 use Rattle.spdm_grammar.specs.declared.malformed.Malformed.{Malformed}
 use Rattle.spdm_grammar.specs.declared.names.error_number.TheConstants.{LARGE_RESPONSE}
+use Rattle.spdm_grammar.specs.declared.names.key_operation.TheConstants.{VERIFY_NEW_KEY}
 use Rattle.spdm_grammar.specs.declared.part_faults.ChunkFault.TheVariants as chunk
 use Rattle.spdm_grammar.specs.declared.phase.Stage.TheVariants as stage
 use Rattle.psk_session.specs.Course.{Course, with_taken}
@@ -66,7 +67,7 @@ abbrev pub ack_verdict : (tag : ℕ) → Ask → (op told : ℕ) → Verdict
 ack_verdict tag (AskUpdate all) op told =
     if op == operation_of all && told == tag then Updated all else wrong_kind
 ack_verdict tag AskVerify op told =
-    if op == 3 && told == tag then Answered reply.Updated [] else wrong_kind
+    if op == VERIFY_NEW_KEY && told == tag then Answered reply.Updated [] else wrong_kind
 ack_verdict tag _ op told = wrong_kind
 
 abbrev pub beat_verdict : Ask → Verdict
@@ -138,7 +139,7 @@ course_of psk s a sealed answer (Answered reply bytes) =
     courses.Course.Answered reply (effect_of answer (op_in a) reply)
 course_of psk s a sealed answer (Updated all) =
     courses.Course.GoesOn (Grants (AskUpdate all) answer) AskVerify
-    (inner_request (key_update (with_taken psk s a sealed (Grants (AskUpdate all) answer)) 3))
+    (inner_request (key_update (with_taken psk s a sealed (Grants (AskUpdate all) answer)) VERIFY_NEW_KEY))
 course_of psk s a sealed answer (Large op handle) =
     courses.Course.GoesOn Nothing (AskChunk op handle 0 []) (inner_request (ChunkGet handle 0))
 

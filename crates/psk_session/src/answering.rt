@@ -2,11 +2,12 @@ use crate::Reply;
 use crate::ask::Awaited;
 use crate::outcome::Outcome;
 use crate::req_session::ReqSession;
-use crate::requests::{VERIFY_NEW_KEY, write_inner_request};
+use crate::requests::write_inner_request;
 use crate::standing::Standing;
 use crate::told::Told;
 use chunking::Collector;
 use spdm_grammar::Request;
+use spdm_grammar::names::key_operation::VERIFY_NEW_KEY;
 
 // What is done about a record that opened.
 impl ReqSession {
@@ -23,6 +24,7 @@ impl ReqSession {
     ghost use Rattle.requester_machine.specs.UnderWay.{AreUnderWay};
     ghost use Rattle.spdm_grammar.specs.Message.{ChunkMessage};
     ghost use Rattle.spdm_grammar.specs.Message.RequestMessage.{ChunkGet};
+    ghost use Rattle.spdm_grammar.specs.declared.names.key_operation.TheConstants.{VERIFY_NEW_KEY};
     ghost use Rattle.spdm_grammar.specs.declared.phase.Stage.TheVariants as stages;
     ghost use Rattle.psk_session.specs.Course.{with_asked, with_taken};
     ghost use Rattle.psk_session.specs.Data.{data_in};
@@ -54,7 +56,8 @@ impl ReqSession {
             → stage_of s ≡ stages.Verifying → request_next s ≤ 65535
             → FewFor AskVerify (request_next s + 1) (response_next s)
             → IsAwaiting self.new psk
-            (with_asked psk s AskVerify (inner_request (key_update s 3)) pad.now) AskVerify }
+            (with_asked psk s AskVerify (inner_request (key_update s VERIFY_NEW_KEY)) pad.now)
+            AskVerify }
         ensures standing { is_awaiting self.new.standing ≡ true }
     {
         let request = Request::KeyUpdate {

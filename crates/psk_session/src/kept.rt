@@ -126,7 +126,7 @@ impl Kept {
         match ask {
             Ask::Data(_) | Ask::Beat => self.has_reached(65535),
             Ask::UpdateKey => self.has_reached(65535) || 65534 <= self.response_next,
-            Ask::Measure { .. } => self.has_reached(65300),
+            Ask::Measure { .. } => self.has_reached(MOST_MEASURED),
             Ask::UpdateAll | Ask::End => false,
         }
     }

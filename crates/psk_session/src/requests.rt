@@ -8,13 +8,7 @@ use session_keys::{APP_DATA, SPDM_MESSAGE};
 use spdm_basis::{Frame, RecordFrame};
 use spdm_codec::write_request;
 use spdm_grammar::Request;
-
-// The operations of KEY_UPDATE (DSP0274, "KEY_UPDATE request message format").
-const UPDATE_KEY: u8 = 1;
-
-const UPDATE_ALL_KEYS: u8 = 2;
-
-pub const VERIFY_NEW_KEY: u8 = 3;
+use spdm_grammar::names::key_operation::{UPDATE_ALL_KEYS, UPDATE_KEY};
 
 // The operation that updates the request key, or all keys.
 pub fn operation_of(all: bool) -> u8

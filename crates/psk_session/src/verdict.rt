@@ -8,9 +8,10 @@ ghost use Rattle.psk_session.specs.Waiting.{awaited_by};
 use crate::Reply;
 use crate::answers::read_answer;
 use crate::ask::Awaited;
-use crate::requests::{VERIFY_NEW_KEY, operation_of};
+use crate::requests::operation_of;
 use session_keys::byte_at;
 use spdm_grammar::names::error_number::LARGE_RESPONSE;
+use spdm_grammar::names::key_operation::VERIFY_NEW_KEY;
 use spdm_grammar::{BadReply, ChunkFault, ChunkView, Measured, Response};
 
 // What an inner message is to what is awaited.

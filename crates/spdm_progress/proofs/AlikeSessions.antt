@@ -1,9 +1,10 @@
 -- A session that both ends hold alike: its purposes are one, and an exchange that both took leaves it alike.
-use Rattle.std.proofs.Common.{◌≡◌, ◌∙◌, ℕ, ◌+◌, List, ◌∷◌, drop, Bool, true, false, None, refl, sym, ap, ap₂, subst, inl, inr}
+use Rattle.std.proofs.Common.{◌≡◌, ◌⊎◌, ◌∙◌, ℕ, ◌+◌, List, ◌∷◌, drop, Bool, true, false, Option, None, refl, sym, ap, ap₂, subst, inl, inr}
 use Rattle.std.proofs.lemmas.Bool.{false≢true}
 use Rattle.key_schedule.specs.declared.direction.Direction.{Direction}
 use Rattle.key_schedule.specs.declared.direction.Direction.TheVariants.{Request, Response}
-use Rattle.spdm_grammar.specs.Message.RequestMessage.{EndSession, GetMeasurements, Heartbeat, KeyUpdate, PskFinish}
+use Rattle.spdm_grammar.specs.Message.{ChunkMessage}
+use Rattle.spdm_grammar.specs.Message.RequestMessage.{ChunkGet, EndSession, GetMeasurements, Heartbeat, KeyUpdate, PskFinish}
 use Rattle.spdm_grammar.specs.declared.phase.Stage.{Stage}
 use Rattle.running_hash.specs.Hash.{hash_of}
 use Rattle.spdm_basis.specs.SessionIdBytes.{session_id_bytes}
@@ -11,7 +12,8 @@ use Rattle.spdm_machine.specs.Sessions.{id_in_exchange, purpose_in}
 use Rattle.spdm_machine.specs.Terms.{terms_of}
 use Rattle.transcript.specs.Transcripts as transcript
 use Rattle.transcript.specs.Transcripts.{Negotiation, vca_of}
-use Rattle.requester_machine.specs.History.Effect.{Grants}
+use Rattle.requester_machine.specs.History as asked
+use Rattle.requester_machine.specs.History.Effect.{Grants, Nothing}
 use Rattle.requester_machine.specs.Message.{Ask}
 use Rattle.requester_machine.specs.Message.Ask.{AskBeat, AskChunk, AskData, AskEnd, AskFinish, AskMeasure, AskUpdate, AskVerify}
 use Rattle.requester_machine.specs.Records as asking
@@ -87,16 +89,32 @@ still_in_step s old new (inr x) k = subst (AreInStep s) (sym x.2) (waited_in_ste
 
 -- ---- An exchange that both took.
 
--- A turn that took what was asked, and was answered whole. Chunks are not among them.
+-- A turn that took what was asked. All but the answer to GET_MEASUREMENTS go whole.
 abbrev pub IsAnswerTo : Ask → List ℕ → Turn → Type 0
 IsAnswerTo AskFinish inner t = (verify : List ℕ) × (t.effect ≡ Took (PskFinish verify) (drop 1 inner) t.reply None)
 IsAnswerTo AskData inner t = t.effect ≡ TookData (drop 1 inner) t.reply
 IsAnswerTo AskBeat inner t = t.effect ≡ Took Heartbeat (drop 1 inner) t.reply None
 IsAnswerTo (AskUpdate all) inner t = (tag : ℕ) × (t.effect ≡ Took (KeyUpdate (operation_of all) tag) (drop 1 inner) t.reply None)
 IsAnswerTo AskVerify inner t = (tag : ℕ) × (t.effect ≡ Took (KeyUpdate 3 tag) (drop 1 inner) t.reply None)
-IsAnswerTo (AskMeasure op) inner t = t.effect ≡ Took (GetMeasurements op) (drop 1 inner) t.reply None
-IsAnswerTo (AskChunk op handle number before) inner t = ⊥
+IsAnswerTo (AskMeasure op) inner t = (answer : List ℕ) × (large : Option ℕ) × (t.effect ≡ Took (GetMeasurements op) (drop 1 inner) answer large)
+IsAnswerTo (AskChunk op handle number before) inner t = (answer : List ℕ) × (t.effect ≡ Took (ChunkGet handle number) (drop 1 inner) answer None)
 IsAnswerTo AskEnd inner t = t.effect ≡ Took EndSession (drop 1 inner) t.reply None
+
+-- Nothing that counts, or measurements.
+abbrev pub IsFetched : asked.Effect → Type 0
+IsFetched effect = (effect ≡ Nothing) ⊎ ((op : ℕ) × (whole : List ℕ) × (effect ≡ Grants (AskMeasure op) whole))
+
+-- What the answer to an ask may bring about at the requester, by the reply: this reply; or, where it is one of the messages
+-- of measurements, nothing before the last of them.
+abbrev pub MayBring : Ask → List ℕ → asked.Effect → Type 0
+MayBring AskFinish reply effect = effect ≡ Grants AskFinish reply
+MayBring AskData reply effect = effect ≡ Grants AskData reply
+MayBring AskBeat reply effect = effect ≡ Grants AskBeat reply
+MayBring (AskUpdate all) reply effect = effect ≡ Grants (AskUpdate all) reply
+MayBring AskVerify reply effect = effect ≡ Grants AskVerify reply
+MayBring (AskMeasure op) reply effect = IsFetched effect
+MayBring (AskChunk op handle number before) reply effect = IsFetched effect
+MayBring AskEnd reply effect = effect ≡ Grants AskEnd reply
 
 -- What is asked does not end the session.
 abbrev pub is_kept : Ask → Bool
@@ -107,6 +125,9 @@ module _ (inner sealed reply : List ℕ) (t : Turn) (s : Steps) (e : Events) (k 
   -- Both ends behind the exchange.
   abbrev pub AreBehind : Ask → Effect → Type 0
   AreBehind ask effect = AreInStep (TookAnswer reply (inner_reply t) (Grants ask t.reply) ∷ Asked ask inner sealed ∷ s) (Heard sealed (record t { effect = effect }) reply ∷ e)
+
+  abbrev pub AreBehindBy : Ask → Effect → asked.Effect → Type 0
+  AreBehindBy ask effect brought = AreInStep (TookAnswer reply (inner_reply t) brought ∷ Asked ask inner sealed ∷ s) (Heard sealed (record t { effect = effect }) reply ∷ e)
 
   abbrev next : ℕ → ℕ
   next n = n + 1
@@ -143,8 +164,8 @@ module _ (inner sealed reply : List ℕ) (t : Turn) (s : Steps) (e : Events) (k 
     response_next = ap next k.response_next;
   }
 
-  measure_behind : (op : ℕ) → AreBehind (AskMeasure op) (Took (GetMeasurements op) (drop 1 inner) t.reply None)
-  measure_behind op = record {
+  measure_behind : (op : ℕ) (answer : List ℕ) (large : Option ℕ) (brought : asked.Effect) → IsFetched brought → AreBehindBy (AskMeasure op) (Took (GetMeasurements op) (drop 1 inner) answer large) brought
+  measure_behind op answer large brought (inl is) = subst (AreBehindBy (AskMeasure op) (Took (GetMeasurements op) (drop 1 inner) answer large)) (sym is) (record {
     accepted = k.accepted;
     live = refl;
     negotiation = k.negotiation;
@@ -157,7 +178,51 @@ module _ (inner sealed reply : List ℕ) (t : Turn) (s : Steps) (e : Events) (k 
     response_epoch = k.response_epoch;
     request_next = ap next k.request_next;
     response_next = ap next k.response_next;
-  }
+  })
+  measure_behind op answer large brought (inr is) = subst (AreBehindBy (AskMeasure op) (Took (GetMeasurements op) (drop 1 inner) answer large)) (sym is.2) (record {
+    accepted = k.accepted;
+    live = refl;
+    negotiation = k.negotiation;
+    exchange = k.exchange;
+    answer = k.answer;
+    finish = k.finish;
+    finish_answer = k.finish_answer;
+    stage = k.stage;
+    request_epoch = k.request_epoch;
+    response_epoch = k.response_epoch;
+    request_next = ap next k.request_next;
+    response_next = ap next k.response_next;
+  })
+
+  chunk_behind : (op handle number : ℕ) (before : List ChunkMessage) (answer : List ℕ) (brought : asked.Effect) → IsFetched brought → AreBehindBy (AskChunk op handle number before) (Took (ChunkGet handle number) (drop 1 inner) answer None) brought
+  chunk_behind op handle number before answer brought (inl is) = subst (AreBehindBy (AskChunk op handle number before) (Took (ChunkGet handle number) (drop 1 inner) answer None)) (sym is) (record {
+    accepted = k.accepted;
+    live = refl;
+    negotiation = k.negotiation;
+    exchange = k.exchange;
+    answer = k.answer;
+    finish = k.finish;
+    finish_answer = k.finish_answer;
+    stage = k.stage;
+    request_epoch = k.request_epoch;
+    response_epoch = k.response_epoch;
+    request_next = ap next k.request_next;
+    response_next = ap next k.response_next;
+  })
+  chunk_behind op handle number before answer brought (inr is) = subst (AreBehindBy (AskChunk op handle number before) (Took (ChunkGet handle number) (drop 1 inner) answer None)) (sym is.2) (record {
+    accepted = k.accepted;
+    live = refl;
+    negotiation = k.negotiation;
+    exchange = k.exchange;
+    answer = k.answer;
+    finish = k.finish;
+    finish_answer = k.finish_answer;
+    stage = k.stage;
+    request_epoch = k.request_epoch;
+    response_epoch = k.response_epoch;
+    request_next = ap next k.request_next;
+    response_next = ap next k.response_next;
+  })
 
   finish_behind : (verify : List ℕ) → AreBehind AskFinish (Took (PskFinish verify) (drop 1 inner) t.reply None)
   finish_behind verify = record {
@@ -221,12 +286,12 @@ module _ (inner sealed reply : List ℕ) (t : Turn) (s : Steps) (e : Events) (k 
     response_next = ap next k.response_next;
   }
 
-  pub behind : (ask : Ask) → is_kept ask ≡ true → IsAnswerTo ask inner t → AreBehind ask t.effect
-  behind AskFinish kept is = subst (AreBehind AskFinish) (sym is.1) (finish_behind is.0)
-  behind AskData kept is = subst (AreBehind AskData) (sym is) data_behind
-  behind AskBeat kept is = subst (AreBehind AskBeat) (sym is) beat_behind
-  behind (AskUpdate all) kept is = subst (AreBehind (AskUpdate all)) (sym is.1) (update_behind all is.0)
-  behind AskVerify kept is = subst (AreBehind AskVerify) (sym is.1) (verify_behind is.0)
-  behind (AskMeasure op) kept is = subst (AreBehind (AskMeasure op)) (sym is) (measure_behind op)
-  behind (AskChunk op handle number before) kept is = absurd is
-  behind AskEnd kept is = absurd (false≢true kept)
+  pub behind : (ask : Ask) (brought : asked.Effect) → MayBring ask t.reply brought → is_kept ask ≡ true → IsAnswerTo ask inner t → AreBehindBy ask t.effect brought
+  behind AskFinish brought may kept is = subst (AreBehindBy AskFinish t.effect) (sym may) (subst (AreBehind AskFinish) (sym is.1) (finish_behind is.0))
+  behind AskData brought may kept is = subst (AreBehindBy AskData t.effect) (sym may) (subst (AreBehind AskData) (sym is) data_behind)
+  behind AskBeat brought may kept is = subst (AreBehindBy AskBeat t.effect) (sym may) (subst (AreBehind AskBeat) (sym is) beat_behind)
+  behind (AskUpdate all) brought may kept is = subst (AreBehindBy (AskUpdate all) t.effect) (sym may) (subst (AreBehind (AskUpdate all)) (sym is.1) (update_behind all is.0))
+  behind AskVerify brought may kept is = subst (AreBehindBy AskVerify t.effect) (sym may) (subst (AreBehind AskVerify) (sym is.1) (verify_behind is.0))
+  behind (AskMeasure op) brought may kept is = subst (λ (f : Effect). AreBehindBy (AskMeasure op) f brought) (sym is.2) (measure_behind op is.0 is.1 brought may)
+  behind (AskChunk op handle number before) brought may kept is = subst (λ (f : Effect). AreBehindBy (AskChunk op handle number before) f brought) (sym is.1) (chunk_behind op handle number before is.0 brought may)
+  behind AskEnd brought may kept is = absurd (false≢true kept)

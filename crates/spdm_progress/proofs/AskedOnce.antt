@@ -1,5 +1,5 @@
 -- What takes one round in a session: application data, HEARTBEAT, GET_MEASUREMENTS and END_SESSION.
-use Rattle.std.proofs.Common.{◌≡◌, ◌∙◌, ℕ, ◌<◌, ◌≤◌, ◌==◌, List, ◌∷◌, length, true, false, Result, Ok, refl, sym, ap, subst, arith}
+use Rattle.std.proofs.Common.{◌≡◌, ◌∙◌, ℕ, ◌<◌, ◌≤◌, ◌==◌, List, ◌∷◌, length, true, false, Result, Ok, refl, sym, ap, subst, inr, arith}
 use Rattle.std.proofs.lemmas.Bool.{false≢true}
 use Rattle.measurements.specs.Records.{asked as blocks_asked, is_missing}
 use Rattle.requester_machine.specs.Does.{body_chosen}
@@ -25,6 +25,7 @@ use Rattle.responder_machine.proofs.Sizes.{session_sizes_set_up}
 use Rattle.spdm_agreement.specs.Configured.{IsRequester, IsResponder}
 use Rattle.spdm_agreement.proofs.Delivery.AtResponder.{chosen_short}
 use Rattle.spdm_basis.specs.declared.session_id.SessionId.{SessionId}
+use Rattle.spdm_grammar.specs.declared.names.TheConstants.{MIN_DATA_TRANSFER_SIZE}
 use Rattle.spdm_grammar.specs.Message.RequestMessage.{EndSession, GetMeasurements, Heartbeat}
 use Rattle.spdm_grammar.specs.Message.ResponseMessage.{EndSessionAck, HeartbeatAck, Measurements}
 use Rattle.spdm_grammar.specs.Requests.{canonical_request}
@@ -41,21 +42,27 @@ use Rattle.spdm_progress.proofs.PacketSteps.{Pair}
 use Rattle.spdm_progress.proofs.RecordHeard.{came_as}
 use Rattle.spdm_progress.proofs.RequesterStages.{reads}
 use Rattle.spdm_progress.proofs.SessionRounds.{AreAnswered, Asking, answer_for}
-use Rattle.spdm_progress.proofs.SessionTurns.{TakesInSession, answer_read, beat_turn, data_read, data_turn_in, end_turn, measure_turn_in, turn_in}
+use Rattle.spdm_progress.proofs.SessionTurns.{TakesInSession, answer_read, beat_turn, data_read, data_turn_in, end_turn, measure_turn_in, measured_in, turn_in}
 use Rattle.spdm_progress.proofs.SingleRound.{IsLast}
 
 -- What is asked.
 abbrev pub data_asking : List ℕ → Asking
-data_asking bytes = record { ask = AskData; inner = λ s. inner_data bytes }
+data_asking bytes = record { ask = AskData; inner = λ s. inner_data bytes; brings = λ t. Grants AskData t.reply; may = λ t. refl; before = λ turns. Unit {0} }
 
 abbrev pub beat_asking : Asking
-beat_asking = record { ask = AskBeat; inner = λ s. inner_request Heartbeat }
+beat_asking = record { ask = AskBeat; inner = λ s. inner_request Heartbeat; brings = λ t. Grants AskBeat t.reply; may = λ t. refl; before = λ turns. Unit {0} }
 
 abbrev pub measure_asking : ℕ → Asking
-measure_asking op = record { ask = AskMeasure op; inner = λ s. inner_request (GetMeasurements op) }
+measure_asking op = record {
+  ask = AskMeasure op;
+  inner = λ s. inner_request (GetMeasurements op);
+  brings = λ t. Grants (AskMeasure op) t.reply;
+  may = λ t. inr (op, t.reply, refl);
+  before = λ turns. Unit {0};
+}
 
 abbrev pub end_asking : Asking
-end_asking = record { ask = AskEnd; inner = λ s. inner_request EndSession }
+end_asking = record { ask = AskEnd; inner = λ s. inner_request EndSession; brings = λ t. Grants AskEnd t.reply; may = λ t. refl; before = λ turns. Unit {0} }
 
 module _ (p : Pair) (same_key : p.requester.psk ≡ p.responder.psk) (id : ℕ) (sid : SessionId) (asker : IsRequester p.requester) (server : IsResponder p.responder) where
   abbrev r : RspSetup
@@ -103,7 +110,7 @@ module _ (p : Pair) (same_key : p.requester.psk ≡ p.responder.psk) (id : ℕ) 
       let least = sizes.least in
       takes g e 4 rid here made live (omega arith)
 
-  pub room : 42 ≤ r.transfer
+  pub room : MIN_DATA_TRANSFER_SIZE ≤ r.transfer
   room = server.sizes.least
 
   abbrev pub IsGood : Asking → (Steps → Turn → Type 0) → Steps → Turn → Type 0
@@ -113,7 +120,7 @@ module _ (p : Pair) (same_key : p.requester.psk ≡ p.responder.psk) (id : ℕ) 
 
   beat_answered : AreAnswered p.requester r p.first id beat_asking CanBeat (IsSpdm (canonical_response HeartbeatAck))
   beat_answered = record {
-    turns = λ g s e f sealed d fit at k made drawn here is.
+    turns = λ g s e f sealed d fit at k made drawn here is known.
         subst (IsGood beat_asking (IsSpdm (canonical_response HeartbeatAck)) s)
         (sym (beat_turn r e f room (sym k.stage ∙ at) (ap (λ (t : Terms). t.common.heartbeat) (sym (same_terms s e k)) ∙ fit.flag) (small_takes g e (id_in_record sealed) here made k.live)))
         (refl, record { inner = refl }, (omega arith));
@@ -133,7 +140,7 @@ module _ (p : Pair) (same_key : p.requester.psk ≡ p.responder.psk) (id : ℕ) 
 
   end_answered : AreAnswered p.requester r p.first id end_asking IsNamed (IsSpdm (canonical_response EndSessionAck))
   end_answered = record {
-    turns = λ g s e f sealed d fit at k made drawn here is.
+    turns = λ g s e f sealed d fit at k made drawn here is known.
         subst (IsGood end_asking (IsSpdm (canonical_response EndSessionAck)) s) (sym (end_turn r e f room (sym k.stage ∙ at) (small_takes g e (id_in_record sealed) here made k.live))) (refl, record { inner = refl }, (omega arith));
   }
 
@@ -155,7 +162,7 @@ module _ (p : Pair) (same_key : p.requester.psk ≡ p.responder.psk) (id : ℕ) 
 
   data_answered : (bytes : List ℕ) → AreAnswered p.requester r p.first id (data_asking bytes) (CanSend bytes) IsData
   data_answered bytes = record {
-    turns = λ g s e f sealed d fit at k made drawn here is.
+    turns = λ g s e f sealed d fit at k made drawn here is known.
         let short : length f.reply ≤ 1024 = subst (λ (z : Free). length z.reply ≤ 1024) (sym is) (chosen_short r g sealed d made) in
         subst (IsGood (data_asking bytes) IsData s) (sym (data_turn_in r e bytes f (sym k.stage ∙ at) fit.short)) (refl, record { inner = refl; short = short }, (omega arith));
   }
@@ -171,23 +178,19 @@ module _ (p : Pair) (same_key : p.requester.psk ≡ p.responder.psk) (id : ℕ) 
 
   -- ---- GET_MEASUREMENTS.
 
-  answer_is : (g : served.History) (e : Events) (sealed : List ℕ) (d : Draw) (op : ℕ) → canonical_response (answer_of r (session_place e) (canonical_request (GetMeasurements op)) (record_chosen r g sealed d) (GetMeasurements op)) ≡ measurements r op d.bytes
-  unfolding chosen
-  answer_is g e sealed d op = refl
-
   measured_so : (g : served.History) (s : Steps) (e : Events) (f : Free) (sealed : List ℕ) (d : Draw) (op : ℕ) → CanMeasure op s → length d.bytes ≡ 32 → f ≡ record_chosen r g sealed d → IsGood (measure_asking op) (IsMeasured op) s (turn_in r e f (GetMeasurements op))
   measured_so g s e f sealed d op fit drawn is =
-      let answer = ap (λ (z : Free). canonical_response (answer_of r (session_place e) (canonical_request (GetMeasurements op)) z (GetMeasurements op))) is ∙ answer_is g e sealed d op in
+      let answer = ap (λ (z : Free). canonical_response (answer_of r (session_place e) (canonical_request (GetMeasurements op)) z (GetMeasurements op))) is ∙ measured_in r g e sealed d op in
       let size = ap length answer ∙ measurements_are r op d.bytes drawn in
       let own = fit.fits_own in
       let most = asker.sizes.most in
       let ordered = asker.sizes.ordered in
-      (refl, record { nonce = d.bytes; whole = drawn; inner = ap (λ (m : List ℕ). 5 ∷ m) answer }, (omega (arith, size)))
+      ((_, _, refl), record { nonce = d.bytes; whole = drawn; inner = ap (λ (m : List ℕ). 5 ∷ m) answer }, (omega (arith, size)))
 
   measure_answered : (op : ℕ) → AreAnswered p.requester r p.first id (measure_asking op) (CanMeasure op) (IsMeasured op)
   measure_answered op = record {
-    turns = λ g s e f sealed d fit at k made drawn here is.
-        let answer = ap (λ (z : Free). canonical_response (answer_of r (session_place e) (canonical_request (GetMeasurements op)) z (GetMeasurements op))) is ∙ answer_is g e sealed d op in
+    turns = λ g s e f sealed d fit at k made drawn here is known.
+        let answer = ap (λ (z : Free). canonical_response (answer_of r (session_place e) (canonical_request (GetMeasurements op)) z (GetMeasurements op))) is ∙ measured_in r g e sealed d op in
         let size = ap length answer ∙ measurements_are r op d.bytes drawn in
         let fits : measurements_size r op ≤ (events.session_terms e).common.to_requester.transfer = subst (λ (t : Terms). measurements_size r op ≤ t.common.to_requester.transfer) (same_terms s e k) fit.fits in
         subst (IsGood (measure_asking op) (IsMeasured op) s)

@@ -13,7 +13,7 @@ use Rattle.responder_machine.specs.Does.{clear_does}
 use Rattle.responder_machine.specs.Responding.{Connection, Responding, RspStep, connection_of, responder_hears, hears_packet, hears_from, hears_gathered, answers, is_worn, worn_step, next_draw, ignores}
 use Rattle.spdm_progress.proofs.OnePacket.{route_to, fields_to, packet_to, packet_read, packet_gathered}
 
-ours : (b : Bool) (x y : RspStep) → b ≡ true → (if not b then x else y) ≡ y
+pub ours : (b : Bool) (x y : RspStep) → b ≡ true → (if not b then x else y) ≡ y
 ours b x y e = rw e refl
 
 -- The packet of a short clear request is answered.

@@ -9,11 +9,11 @@ use Rattle.responder_machine.proofs.Ids.{free_id-range}
 use Rattle.responder_machine.proofs.VerifyLength.{length_verify}
 use Rattle.responder_machine.specs.Answer.{Free, request_at, summary_answer, t1_with}
 use Rattle.responder_machine.specs.Does.{chosen, clear_chosen, clear_does}
-use Rattle.responder_machine.specs.Handling.{turn_of}
+use Rattle.responder_machine.specs.Handling.{goes_large, turn_of}
 use Rattle.responder_machine.specs.History as served
 use Rattle.responder_machine.specs.History.Entry.{Clear}
 use Rattle.responder_machine.specs.Place.{clear_place, free_id, held_of, place_terms}
-use Rattle.responder_machine.specs.Refusal.{has_pending, is_exchange_refused, phase_allows}
+use Rattle.responder_machine.specs.Refusal.{is_answer_too_long, has_pending, is_exchange_refused, phase_allows}
 use Rattle.responder_machine.specs.Responder.{is_repeat}
 use Rattle.responder_machine.specs.Responder.Outcome.{Adds}
 use Rattle.responder_machine.specs.Setup.{RspSetup}
@@ -41,8 +41,8 @@ use Rattle.spdm_machine.specs.Sessions.{id_in_exchange}
 use Rattle.spdm_machine.specs.Terms.{Terms}
 use Rattle.transcript.specs.Transcripts.{vca_of, without_verify}
 use Rattle.spdm_progress.specs.Opening.{exchange_rsp_size}
-use Rattle.spdm_progress.proofs.ResponderStages.{Takes, adds, not_large, not_too_long}
-use Rattle.spdm_progress.proofs.ResponderTurns.{read_at, taken_at, taken_turn}
+use Rattle.spdm_progress.proofs.ResponderStages.{adds}
+use Rattle.spdm_progress.proofs.ResponderTurns.{contents_passed, form_passed, not_refused as passes_all, read_at, taken_somehow, turn_with}
 
 pub hash_few : (hash : HashAlg) → (32 ≤ hash_size hash) × (hash_size hash ≤ 48)
 hash_few Sha256 = ((omega arith), (omega arith))
@@ -187,16 +187,19 @@ module _ (r : RspSetup) (g : served.History) (d : Draw) (x : ExchangeMessage) wh
 
     -- ---- The responder takes it.
 
-    abbrev pub turn : Turn
-    turn = taken_turn r (clear_place g) m f (PskExchange x)
-
     not_refused : x.hint ≡ r.hint → (b c : Bool) → (x.summary == 0) ≡ b → terms.choice.measure ≡ c → (not b && not c) ≡ false → is_exchange_refused r (clear_place g) (Some (PskExchange x)) ≡ false
     not_refused hint b c e w fine = rw ((bytes_eq-Decides x.hint r.hint).1 hint, e, w) fine
 
-    taken : served.phase_of (served.clear_turns g) ≡ Negotiated → length m ≤ r.transfer → x.hint ≡ r.hint → (not (x.summary == 0) && not terms.choice.measure) ≡ false → Takes (clear_place g) (length answer) → (held_of g == 4) ≡ false → turn_of r (clear_place g) m f ≡ turn
-    taken phase fits hint summary takes limit =
-        taken_at r (clear_place g) m f (PskExchange x) read refl
-        (record {
+    -- Its answer goes whole, or by LargeResponse.
+    abbrev pub turn_as : Bool → Turn
+    turn_as large = turn_with m f (Some (PskExchange x)) answer large
+
+    taken : served.phase_of (served.clear_turns g) ≡ Negotiated → length m ≤ r.transfer → x.hint ≡ r.hint → (not (x.summary == 0) && not terms.choice.measure) ≡ false → is_answer_too_long (clear_place g) answer ≡ false → (held_of g == 4) ≡ false
+        → (large : Bool) → goes_large (clear_place g) answer ≡ large → turn_of r (clear_place g) m f ≡ turn_as large
+    taken phase fits hint summary long limit large goes =
+        taken_somehow r (clear_place g) m f (PskExchange x) read refl
+        (passes_all r (clear_place g) m f
+        (form_passed r (clear_place g) m (PskExchange x) read (record {
           long = lt_false (length m) 4 (omega (arith, exchange_length x));
           short = lt_false r.transfer (length m) fits;
           known = refl;
@@ -205,8 +208,8 @@ module _ (r : RspSetup) (g : served.History) (d : Draw) (x : ExchangeMessage) wh
           placed = refl;
           allowed = ap (λ (p : Phase). phase_allows p (has_pending (clear_place g)) PSK_EXCHANGE) phase;
           version = refl;
-        })
-        (record {
+        }))
+        (contents_passed r (clear_place g) m f (PskExchange x) read (record {
           flags = refl;
           caps = refl;
           offer = refl;
@@ -216,17 +219,17 @@ module _ (r : RspSetup) (g : served.History) (d : Draw) (x : ExchangeMessage) wh
           update = refl;
           chunk = refl;
           get = refl;
-          fits = not_too_long g answer takes;
+          fits = long;
           limit = limit;
-        })
-        (not_large g answer takes)
+        })))
+        ∙ ap turn_as goes
 
     new_there : (o : Option served.Kept) (tag : ℕ) (b : Bool) → ((k : served.Kept) → o ≡ Some k → k.message ≢ m) → is_repeat o tag m ≡ b → b ≡ false
     new_there None tag b new is_so = sym is_so
     new_there (Some k) tag true new is_so = absurd (new k refl ((bytes_eq-Decides k.message m).0 (and_second (k.tag == tag) (bytes_eq k.message m) is_so)))
     new_there (Some k) tag false new is_so = refl
 
-    pub exchange_taken : (tag : ℕ) → served.phase_of (served.clear_turns g) ≡ Negotiated → length m ≤ r.transfer → x.hint ≡ r.hint → (not (x.summary == 0) && not terms.choice.measure) ≡ false → Takes (clear_place g) (length answer) → (held_of g == 4) ≡ false
-        → ((k : served.Kept) → served.kept_of g ≡ Some k → k.message ≢ m) → clear_does r g tag m d ≡ Adds (Clear tag turn d)
-    exchange_taken tag phase fits hint summary takes limit new =
-        adds r g tag m d turn (new_there (served.kept_of g) tag (is_repeat (served.kept_of g) tag m) new refl) (taken phase fits hint summary takes limit)
+    pub exchange_taken : (tag : ℕ) → served.phase_of (served.clear_turns g) ≡ Negotiated → length m ≤ r.transfer → x.hint ≡ r.hint → (not (x.summary == 0) && not terms.choice.measure) ≡ false → is_answer_too_long (clear_place g) answer ≡ false → (held_of g == 4) ≡ false
+        → ((k : served.Kept) → served.kept_of g ≡ Some k → k.message ≢ m) → (large : Bool) → goes_large (clear_place g) answer ≡ large → clear_does r g tag m d ≡ Adds (Clear tag (turn_as large) d)
+    exchange_taken tag phase fits hint summary long limit new large goes =
+        adds r g tag m d (turn_as large) (new_there (served.kept_of g) tag (is_repeat (served.kept_of g) tag m) new refl) (taken phase fits hint summary long limit large goes)

@@ -23,8 +23,10 @@ use Rattle.requester_machine.specs.Session.Step.{Asked, Took as TookAnswer}
 use Rattle.requester_machine.specs.Setup.{ReqSetup}
 use Rattle.responder_machine.specs.History as served
 use Rattle.responder_machine.specs.Responder.{inner_reply}
+use Rattle.responder_machine.specs.Session as events
 use Rattle.responder_machine.specs.Setup.{RspSetup}
 use Rattle.responder_machine.specs.Turn.{Turn}
+use Rattle.spdm_progress.specs.InStep.{rsp_id}
 use Rattle.spdm_progress.proofs.AlikeSessions.{is_kept}
 use Rattle.spdm_progress.proofs.RecordHeard.{came_as}
 use Rattle.spdm_progress.proofs.RequesterStages.{next_small}
@@ -35,31 +37,31 @@ module _ (q : ReqSetup) (r : RspSetup) (first id : ℕ) (x x' : Asking) (Fit Fit
   abbrev s : Steps
   s = took_steps q r first id x y.s y.pad y.t
 
-  abbrev next : Sent
+  abbrev pub next : Sent
   next = record_sent q h id s x'.ask (x'.inner s) []
 
-  module _ (leads : inner_led q h (body_chosen q h d) (came_as h id (answer_for q r first id x y.s y.t) (inner_reply y.t)) x.ask ≡ Ok (led q r first id x Fit Good tag log h g d body y event (Some next))) (kept : is_kept x.ask ≡ true) (fit : Fit' s) (at : steps.stage_of s ≡ stage_for x'.ask) (short : length (x'.inner s) + 0 ≤ 4134) where
-    abbrev sealed : List ℕ
+  module _ (leads : inner_led q h (body_chosen q h d) (came_as h id (answer_for q r first id x y.s y.t) (inner_reply y.t)) x.ask ≡ Ok (led q r first id x Fit Good tag log h g d body y event (Some next))) (kept : is_kept x.ask ≡ true) (fit : Fit' s) (at : steps.stage_of s ≡ stage_for x'.ask) (short : length (x'.inner s) + 0 ≤ 4134) (known : x'.before (events.turns_of (events.session_of (rsp_id y.s) g))) where
+    abbrev pub sealed : List ℕ
     sealed = sealed_next q.psk s (x'.inner s) []
 
     abbrev checks : Log
     checks = asked_log.sealed_check q h (answer_for q r first id x y.s y.t) (outstanding h)
 
-    abbrev new : asked.Entry
+    abbrev pub new : asked.Entry
     new = entry q r first id x Fit Good tag log h g d body y event (Some next)
 
-    abbrev acts : Log
+    abbrev pub acts : Log
     acts = asked_log.acts_of q h body (Adds new)
 
     acts_are : acts ++ log ≡ made_record (steps.session_terms s).choice (request_purpose q.psk s) (steps.request_next s) sealed ∷ (checks ++ log)
-    acts_are = ap (λ (z : Steps). (asked_log.sent_made q.psk (steps.when_live z (TookAnswer (answer_for q r first id x y.s y.t) (inner_reply y.t) (Grants x.ask y.t.reply))) (Some next) ++ checks) ++ log) y.steps_are
+    acts_are = ap (λ (z : Steps). (asked_log.sent_made q.psk (steps.when_live z (TookAnswer (answer_for q r first id x y.s y.t) (inner_reply y.t) (x.brings y.t))) (Some next) ++ checks) ++ log) y.steps_are
 
     steps_follow : steps.session_of id (new ∷ h) ≡ asked_steps q r first id x' s []
     steps_follow =
         took_is q r first id x Fit Good tag log h g d body y event (Some next) leads kept
         ∙ ap (λ (b : Bool). if b then Asked x'.ask (x'.inner s) sealed ∷ s else s) (eq-eqb id id refl)
 
-    asked_then : IsAsked q r first id x' Fit' (asked.next_tag h) (record_body sealed) (acts ++ log) (new ∷ h) g
+    pub asked_then : IsAsked q r first id x' Fit' (asked.next_tag h) (record_body sealed) (acts ++ log) (new ∷ h) g
     asked_then = record {
       s = s;
       pad = [];
@@ -74,6 +76,7 @@ module _ (q : ReqSetup) (r : RspSetup) (first id : ℕ) (x x' : Asking) (Fit Fit
       two_bytes = y.two_bytes;
       older = checks ++ log;
       log_is = acts_are;
+      known = known;
       last = last_then q r first id x Fit Good tag log h g d body y event (Some next) leads checks kept;
       beside = beside_then q r first id x Fit Good tag log h g d body y event (Some next) leads acts;
     }

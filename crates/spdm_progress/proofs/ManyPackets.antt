@@ -147,14 +147,22 @@ some_packets : (q unit n : ℕ) → n ≤ q * unit → 0 < n → 0 < q
 some_packets zero unit n holds filled = absurd (omega arith)
 some_packets (suc q) unit n holds filled = omega arith
 
-few_by : (q unit n : ℕ) (b : Bool) → nat_le 67 q ≡ b → q * unit < n + unit → 64 ≤ unit → n ≤ 4162 → q ≤ 66
-few_by q unit n true many spare wide fits = (let most : 67 * unit ≤ q * unit = mul-le 67 unit q unit (leb-true 67 q many) (omega arith) in absurd (omega arith))
-few_by q unit n false few spare wide fits = (let less = leb-false 67 q few in omega arith)
+-- A body of so many times 64 bytes has so many packets at most.
+pub packets_within : (unit round : ℕ) (body : List ℕ) → 64 ≤ unit → 0 < length body → length body ≤ 64 * round → (0 < packet_count unit body) × (packet_count unit body ≤ round)
+packets_within unit round body wide filled fits =
+    let around = div_ceil_times (length body) unit (omega arith) in
+    let wider : 64 * round ≤ unit * round = mul-le 64 round unit round wide (omega arith) in
+    (some_packets (packet_count unit body) unit (length body) around.0 filled, within_by (packet_count unit body) unit round (length body) (nat_le (suc round) (packet_count unit body)) refl around.1 (omega (arith, wider)))
+  where
+    within_by : (q unit round n : ℕ) (b : Bool) → nat_le (suc round) q ≡ b → q * unit < n + unit → n ≤ unit * round → q ≤ round
+    within_by q unit round n true many spare fits =
+        let most : suc round * unit ≤ q * unit = mul-le (suc round) unit q unit (leb-true (suc round) q many) (omega arith) in
+        let units : suc round * unit ≡ unit * round + unit = omega arith in
+        absurd (omega (arith, most, units))
+    within_by q unit round n false few spare fits = (let less = leb-false (suc round) q few in omega arith)
 
 pub few_packets : (unit : ℕ) (body : List ℕ) → 64 ≤ unit → 0 < length body → length body ≤ 4162 → (0 < packet_count unit body) × (packet_count unit body ≤ 66)
-few_packets unit body wide filled fits =
-    let around = div_ceil_times (length body) unit (omega arith) in
-    (some_packets (packet_count unit body) unit (length body) around.0 filled, few_by (packet_count unit body) unit (length body) (nat_le 67 (packet_count unit body)) refl around.1 wide fits)
+few_packets unit body wide filled fits = packets_within unit 66 body wide filled (omega (arith, fits))
 
 pub before_it : (n : ℕ) → 0 < n → (k : ℕ) × (suc k ≡ n)
 before_it zero some = absurd (omega arith)

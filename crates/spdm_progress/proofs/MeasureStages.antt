@@ -5,6 +5,7 @@ use Rattle.measurements.proofs.Lengths.{few}
 use Rattle.measurements.specs.Blocks.{block_of, at_most_one}
 use Rattle.measurements.specs.Records.{asked as blocks_asked, is_missing}
 use Rattle.spdm_basis.proofs.Bools.{and_second, lt_false}
+use Rattle.spdm_grammar.specs.declared.names.TheConstants.{MAX_MESSAGE_SIZE, MIN_DATA_TRANSFER_SIZE}
 use Rattle.spdm_grammar.specs.declared.block_spec.BlockSpec.{BlockSpec}
 use Rattle.spdm_grammar.specs.Message.{MeasuredMessage, ResponseMessage}
 use Rattle.spdm_grammar.specs.Message.RequestMessage.{GetMeasurements}
@@ -108,14 +109,14 @@ measurements_are r op nonce whole = size_of (if op == 0 then length (inventory_o
 
 -- What the two set-ups and the negotiation are.
 pub record CanServe (q : ReqSetup) (r : RspSetup) (op : ℕ) (n : Negotiation) : Type 0 where
-  pub room : 42 ≤ r.transfer
+  pub room : MIN_DATA_TRANSFER_SIZE ≤ r.transfer
   pub byte : op < 256
   pub block : is_missing op (inventory_of r) ≡ false
   pub chosen : (terms_of n).choice.measure ≡ true
   pub fits : measurements_size r op ≤ (terms_of n).common.to_requester.transfer
   pub fits_max : measurements_size r op ≤ (terms_of n).common.to_requester.max
   pub fits_own : measurements_size r op ≤ q.transfer
-  pub most : q.transfer ≤ 4096
+  pub most : q.transfer ≤ MAX_MESSAGE_SIZE
 
 -- ---- The same request again.
 
@@ -145,10 +146,10 @@ pub measures_flag : (terms : Terms) → terms.choice.measure ≡ true → lacks_
 measures_flag terms e = rw e refl
 
 -- The answer as the responder makes it.
-abbrev answer_at : RspSetup → served.History → Draw → ℕ → List ℕ
+abbrev pub answer_at : RspSetup → served.History → Draw → ℕ → List ℕ
 answer_at r h d op = canonical_response (answer_of r (clear_place h) (get_measurements op) (clear_chosen r h d) (GetMeasurements op))
 
-answer_is : (r : RspSetup) (h : served.History) (d : Draw) (op : ℕ) → answer_at r h d op ≡ measurements r op d.bytes
+pub answer_is : (r : RspSetup) (h : served.History) (d : Draw) (op : ℕ) → answer_at r h d op ≡ measurements r op d.bytes
 unfolding chosen
 answer_is r h d op = refl
 
@@ -194,7 +195,7 @@ measure_turn q r h d tag op n drawn can has =
 abbrev IsAnswered : RspSetup → served.History → ℕ → ℕ → Negotiation → Draw → Type 0
 IsAnswered r h tag op n d = (nonce : List ℕ) × (length nonce ≡ 32) × Answered r h tag (get_measurements op) d (measurements r op nonce) (Served n)
 
-same_by : (r : RspSetup) (h : served.History) (tag op : ℕ) (d : Draw) (k : served.Kept) → served.kept_of h ≡ Some k → is_repeat (served.kept_of h) tag (get_measurements op) ≡ true → clear_does r h tag (get_measurements op) d ≡ Same (clear_body k.reply)
+pub same_by : (r : RspSetup) (h : served.History) (tag op : ℕ) (d : Draw) (k : served.Kept) → served.kept_of h ≡ Some k → is_repeat (served.kept_of h) tag (get_measurements op) ≡ true → clear_does r h tag (get_measurements op) d ≡ Same (clear_body k.reply)
 unfolding on_clear
 same_by r h tag op d k is repeats = rw repeats (ap (λ (o : Option served.Kept). Same (clear_body (kept_reply o))) is)
 
@@ -232,18 +233,18 @@ measure_answered q r h d tag op n drawn can has = answered_by q r h d tag op n d
 
 -- ---- Where it comes from.
 
-unchanged : (h : served.History) (t : Turn) → t.effect ≡ NoEffect → served.negotiation_of (t ∷ served.clear_turns h) ≡ served.negotiation_of (served.clear_turns h)
+pub unchanged : (h : served.History) (t : Turn) → t.effect ≡ NoEffect → served.negotiation_of (t ∷ served.clear_turns h) ≡ served.negotiation_of (served.clear_turns h)
 unchanged h t nothing = rw nothing refl
 
 -- What a request that is taken leads to, whether its answer is large or not.
-abbrev some_turn : RspSetup → served.History → Draw → ℕ → Bool → Turn
+abbrev pub some_turn : RspSetup → served.History → Draw → ℕ → Bool → Turn
 some_turn r h d op large = turn_with (get_measurements op) (clear_chosen r h d) (Some (GetMeasurements op)) (answer_at r h d op) large
 
-same_negotiation : (r : RspSetup) (h : served.History) (d : Draw) (op : ℕ) (large : Bool) → served.negotiation_of (some_turn r h d op large ∷ served.clear_turns h) ≡ served.negotiation_of (served.clear_turns h)
+pub same_negotiation : (r : RspSetup) (h : served.History) (d : Draw) (op : ℕ) (large : Bool) → served.negotiation_of (some_turn r h d op large ∷ served.clear_turns h) ≡ served.negotiation_of (served.clear_turns h)
 same_negotiation r h d op large = refl
 
 -- A request that was not refused was taken so.
-taken_so : (r : RspSetup) (h : served.History) (d : Draw) (op : ℕ) (o : Option ErrorCode) → op < 256 → refusal r (clear_place h) (get_measurements op) (clear_chosen r h d) ≡ o → is_taken (turn_of r (clear_place h) (get_measurements op) (clear_chosen r h d)) ≡ true
+pub taken_so : (r : RspSetup) (h : served.History) (d : Draw) (op : ℕ) (o : Option ErrorCode) → op < 256 → refusal r (clear_place h) (get_measurements op) (clear_chosen r h d) ≡ o → is_taken (turn_of r (clear_place h) (get_measurements op) (clear_chosen r h d)) ≡ true
     → turn_of r (clear_place h) (get_measurements op) (clear_chosen r h d) ≡ some_turn r h d op (goes_large (clear_place h) (answer_at r h d op))
 taken_so r h d op (Some e) byte refused taken =
     absurd (false≢true (sym (ap is_taken (turn_of-refused r (clear_place h) (get_measurements op) (clear_chosen r h d) e refused)) ∙ taken))

@@ -1,8 +1,8 @@
 -- An open that is told to a quiet requester ends with an open session.
-use Rattle.std.proofs.Common.{◌≡◌, ◌≢◌, ◌∙◌, ℕ, ◌<◌, ◌≤◌, ◌+◌, ◌^◌, ◌==◌, ◌&&◌, List, ◌∷◌, length, Bool, true, false, not, None, refl, sym, ap, subst, inl, arith, eq-eqb}
+use Rattle.std.proofs.Common.{◌≡◌, ◌≢◌, ◌⊎◌, ◌∙◌, ℕ, nat_le, ◌<◌, ◌≤◌, ◌+◌, ◌^◌, ◌==◌, ◌&&◌, List, ◌∷◌, length, Bool, true, false, not, None, refl, sym, ap, subst, inl, inr, arith, eq-eqb}
 use Rattle.spdm_basis.proofs.Bools.{lt_false}
 use Rattle.std.specs.Prelude.{if◌then◌else◌}
-use Rattle.std.proofs.lemmas.Bool.{false≢true, not-false}
+use Rattle.std.proofs.lemmas.Bool.{false≢true, leb-false, leb-true, not-false}
 use Rattle.negotiate.specs.declared.shared.Sizes.{Sizes}
 use Rattle.spdm_basis.specs.Sizes.{hash_size}
 use Rattle.spdm_grammar.specs.Message.{ExchangeMessage}
@@ -27,7 +27,7 @@ use Rattle.requester_machine.specs.Requesting as asking
 use Rattle.requester_machine.specs.Requesting.{Requesting, commanded_by, requester_told}
 use Rattle.requester_machine.specs.Sending.{piece_sent, plain_sent, request_sent}
 use Rattle.requester_machine.specs.Session as steps
-use Rattle.requester_machine.specs.UnderWay.{is_capable}
+use Rattle.requester_machine.specs.UnderWay.{IsCommon, is_capable}
 use Rattle.responder_machine.proofs.Ids.{not_four}
 use Rattle.responder_machine.proofs.Sizes.{sizes_set_up}
 use Rattle.responder_machine.specs.History as served
@@ -46,9 +46,12 @@ use Rattle.spdm_progress.specs.Honest.{AreHonest, HaveNoCommand}
 use Rattle.spdm_progress.specs.Opening.{CanOpen, OpenCompletes, exchange_rsp_size}
 use Rattle.spdm_progress.specs.SessionCommands.{IsDoneQuietly, IsToldQuietly, commanding}
 use Rattle.spdm_progress.proofs.Accepted.{not_worn_told, told_so}
-use Rattle.spdm_progress.proofs.OpenRounds.{CanExchange, OpenDone, OpenTalkAnswers, OpenTalkAsks, open_talk}
+use Rattle.spdm_progress.proofs.OpenRounds.{OpenDone, OpenTalkAnswers, OpenTalkAsks, open_talk}
+use Rattle.spdm_progress.proofs.OpenStages.{CanExchange, GoesWhole, rounds_of}
+use Rattle.spdm_progress.proofs.OpenCounts.{each_by, open_few, open_short, there_by}
+use Rattle.spdm_progress.proofs.ClearFetch.{CanFetch}
 use Rattle.spdm_progress.proofs.PacketSteps.{Pair}
-use Rattle.spdm_progress.proofs.SessionCompletes.{Idle, Rests, completes_by, fresh, no_chance_from, placed}
+use Rattle.spdm_progress.proofs.SessionCompletes.{Idle, Rests, completes_within, fresh, no_chance_from, placed}
 use Rattle.spdm_progress.proofs.Aside.{IsAside, nothing_aside}
 use Rattle.spdm_progress.proofs.Told.{ArePlaced, fits_always, pair_of}
 
@@ -110,11 +113,35 @@ module _ (w : WorldSetup) (before : List Entry) (n : ℕ) (a : Requesting) (c : 
       let s = sizes_set_up c.setup c.history is_told.quiet.made_there here.responder.sizes.ordered here.responder.sizes.most known in
       ap (λ (k : Negotiation). (terms_of k).common.to_responder.transfer) is_told.quiet.negotiation ∙ ap (λ (z : Sizes). z.transfer) s.own
 
-  mine : (asked.connection_terms a.history).common.to_requester.transfer ≡ a.setup.transfer
-  mine =
+  own_sizes : IsCommon a.setup (asked.connection_terms a.history).common
+  own_sizes =
       let most = here.requester.sizes.most in
       let ordered = here.requester.sizes.ordered in
-      (sizes a.setup a.history (record { transfer = omega arith; max = most }) is_told.quiet.made (ap is_capable phase)).transfer
+      sizes a.setup a.history (record { transfer = omega arith; max = most }) is_told.quiet.made (ap is_capable phase)
+
+  abbrev answer_size : ℕ
+  answer_size = exchange_rsp_size c.setup (asked.connection_terms a.history) summary
+
+  -- The answer goes whole, or by chunks.
+  way : GoesWhole a.setup (asked.negotiation_of a.history) answer_size ⊎ CanFetch a.setup c.setup answer_size (asked.negotiation_of a.history)
+  way = by_size (nat_le answer_size (asked.connection_terms a.history).common.to_requester.transfer) refl
+    where
+      chunks_too : (b : Bool) → (asked.connection_terms a.history).common.chunk ≡ b → (asked.connection_terms a.history).common.to_requester.transfer < answer_size → b ≡ true
+      chunks_too true is large = refl
+      chunks_too false is large = (let fits = can.answer_goes.1 is in absurd (omega (arith, fits, large)))
+
+      by_size : (b : Bool) → nat_le answer_size (asked.connection_terms a.history).common.to_requester.transfer ≡ b → GoesWhole a.setup (asked.negotiation_of a.history) answer_size ⊎ CanFetch a.setup c.setup answer_size (asked.negotiation_of a.history)
+      by_size true is = inl (record { fits = leb-true _ _ is; own = subst (λ (k : ℕ). answer_size ≤ k) own_sizes.transfer (leb-true _ _ is) })
+      by_size false is = inr (record {
+        room = here.responder.sizes.least;
+        chunk = chunks_too (asked.connection_terms a.history).common.chunk refl (leb-false _ _ is);
+        large = leb-false _ _ is;
+        fits_max = can.answer_goes.0;
+        transfer = own_sizes.transfer;
+        max = own_sizes.max;
+        least = here.requester.sizes.least;
+        most = here.requester.sizes.most;
+      })
 
   room : live_count a.history ≢ 4
   room = λ e. false≢true (sym (passed 4) ∙ eq-eqb (live_count a.history) 4 e)
@@ -155,8 +182,7 @@ module _ (w : WorldSetup) (before : List Entry) (n : ℕ) (a : Requesting) (c : 
     measures = needs_choice (summary == 0) (asked.connection_terms a.history).common.measure (asked.connection_terms a.history).choice.measure (passed 5);
     hint = sym here.hint;
     request_fits = subst (λ (k : ℕ). length (canonical_request (PskExchange x)) ≤ k) there can.request_fits;
-    answer_fits = can.answer_fits;
-    answer_own = subst (λ (k : ℕ). exchange_rsp_size c.setup (asked.connection_terms a.history) summary ≤ k) mine can.answer_fits;
+    way = way;
     finish_fits = subst (λ (k : ℕ). 4 + hash_size (asked.connection_terms a.history).choice.hash ≤ k) there can.finish_fits;
     asks = asks;
     free = ap (λ (i : ℕ). steps.is_live (steps.session_of i a.history)) own_id ∙ free_id-free a.history room;
@@ -175,20 +201,20 @@ module _ (w : WorldSetup) (before : List Entry) (n : ℕ) (a : Requesting) (c : 
 
   done_with : Result f.id
   done_with =
-      completes_by w before n a c (Open summary) is_told.now line behind none honest still chance Aside aside beside (OpenTalkAsks p here.key here.requester here.responder summary a.history d x rid ready) (OpenTalkAnswers p here.key here.requester here.responder summary a.history d x rid ready)
-      (OpenDone p here.key here.requester here.responder summary a.history d x rid ready) (finished.Opened (record { req = f.id; rsp = rid })) f.id true (λ log h g z. (z.quiet, z.session)) (open_talk p here.key here.requester here.responder summary a.history d x rid ready) 1 (omega arith)
+      completes_within w before n a c (Open summary) is_told.now line behind none honest still chance Aside aside beside (OpenTalkAsks p here.key here.requester here.responder summary a.history d x rid ready) (OpenTalkAnswers p here.key here.requester here.responder summary a.history d x rid ready)
+      (OpenDone p here.key here.requester here.responder summary a.history d x rid ready) (finished.Opened (record { req = f.id; rsp = rid })) f.id true (λ log h g z. (z.quiet, z.session)) (open_talk p here.key here.requester here.responder summary a.history d x rid ready)
+      (there_by p here.key here.requester here.responder summary a.history d x rid ready ready.way) (each_by p here.key here.requester here.responder summary a.history d x rid ready ready.way) (open_short p here.key here.requester here.responder summary a.history d x rid ready)
+      (rounds_of p here.key here.requester here.responder summary a.history d x rid ready ready.way) (open_few p here.key here.requester here.responder summary a.history d x rid ready)
       (plain_sent a.history (PskExchange x)) (not_worn_told a (Open summary) (fresh w before n a c (Open summary) is_told.now line behind none honest still chance Aside aside beside) ∙ ap (commanded_by a) asks)
-      (inl (
-        refl,
-        record {
-          h_is = refl;
-          tag_is = refl;
-          body_is = refl;
-          quiet = is_told.quiet;
-          id_is = refl;
-          limit = not_four (serving.held_of c.history) can.limit;
-        },
-      ))
+      (inl (record {
+        more_is = refl;
+        h_is = refl;
+        tag_is = refl;
+        body_is = refl;
+        quiet = is_told.quiet;
+        id_is = refl;
+        limit = not_four (serving.held_of c.history) can.limit;
+      }))
 
   pub opened : Result (free_id a.history)
   opened = subst Result own_id done_with

@@ -18,10 +18,12 @@ use Rattle.world_machine.specs.Happenings.Happening.{Told}
 use Rattle.world_machine.specs.Setup.{WorldSetup}
 use Rattle.world_machine.specs.Trace.{lines_from, world_after, world_from}
 use Rattle.world_machine.specs.World.{World, happens, new_world, requester_of, told}
-use Rattle.spdm_progress.specs.Honest.{AreHonest, HaveNoCommand}
+use Rattle.spdm_progress.specs.Honest.{AreHonest, HaveNoCommand, NothingWaits}
+use Rattle.spdm_progress.proofs.SomethingWaits.{something_waits}
+use Rattle.spdm_progress.proofs.PacketSteps.{not_worn}
 use Rattle.spdm_progress.specs.InStep.{AreQuiet}
 use Rattle.spdm_progress.specs.Scripts.{CanDo, HaveTaken, IsDone, IsQuietWorld, result_for}
-use Rattle.spdm_progress.specs.SessionCommands.{LivesToAnswer, commanding}
+use Rattle.spdm_progress.specs.SessionCommands.{LivesToAnswer, commanding, most_asked}
 use Rattle.spdm_progress.proofs.Aside.{OthersAreQuiet, both_aside, others_aside}
 use Rattle.spdm_progress.proofs.Connected.{each_is_connected}
 use Rattle.spdm_agreement.proofs.Worlds.AllEvents.{requester_in}
@@ -51,7 +53,50 @@ world_behind world p = world_from (told_in world p) p.behind
 abbrev pub lines_behind : World → Paragraph → List Line
 lines_behind world p = lines_from (told_in world p) p.behind
 
-module _ (w : WorldSetup) (configured : IsConfigured w) (before : List Entry) (p : Paragraph) (most : ℕ) (room : most + 199 ≤ wear_limit) (ready : IsReady most (world_after w before)) (none : HaveNoCommand p.behind)
+module _ (w : WorldSetup) (configured : IsConfigured w) (before : List Entry) (p : Paragraph) (most : ℕ) (ready : IsReady most (world_after w before)) where
+  abbrev first_world : World
+  first_world = world_after w before
+
+  told_so : (o : Option Requesting) → requester_of p.n first_world ≡ o → told_in first_world p ≡ (told first_world p.n p.command o).after
+  unfolding happens
+  told_so o is = ap (λ (o : Option Requesting). (told first_world p.n p.command o).after) is
+
+  differ_now : AllDiffer (map (λ (x : Requesting). x.setup.eid) (told_in first_world p).requesters)
+  differ_now =
+      subst (λ (z : World). AllDiffer (map (λ (x : Requesting). x.setup.eid) z.requesters)) (from_both (new_world w) before (record { line = p.line; happening = Told p.n p.command } ∷ []))
+      (always_differ w configured (before ++ record { line = p.line; happening = Told p.n p.command } ∷ []))
+
+  refused_now : (a : Requesting) (c : Connection) (f : CommandFault) → requester_of p.n first_world ≡ Some a → connection_of a.setup.eid first_world.responder.connections ≡ Some c → (requester_told a p.command).fault ≡ Some f → IsReady (most + 1) (told_in first_world p)
+  refused_now a c f is connected fault =
+      let now = told_so (Some a) is in
+      subst (IsReady (most + 1)) (sym now)
+      (refused_ready first_world p.n a c most (requester_told a p.command) (refused_step a p.command f fault) (subst (λ (z : World). AllDiffer (map (λ (x : Requesting). x.setup.eid) z.requesters)) now differ_now) ready is connected)
+
+  nobody_now : requester_of p.n first_world ≡ None → IsReady most (told_in first_world p)
+  nobody_now is = subst (IsReady most) (sym (told_so None is)) ready
+
+  -- ---- Where no packet waits behind it, it was not answered `ok`.
+
+  module _ (room : most + 1 ≤ wear_limit) (chance : NoChance first_world.log) (idle : NothingWaits (told_in first_world p)) where
+    pub never_ok : (a : Requesting) (c : Connection) → requester_of p.n first_world ≡ Some a → connection_of a.setup.eid first_world.responder.connections ≡ Some c → (requester_told a p.command).fault ≡ None → ⊥
+    never_ok a c is connected ok =
+        let placed = are_placed w before p.n a c configured chance is connected in
+        let unit = placed.ends.requester_unit in
+        let own = ready.1.requesters p.n a is in
+        something_waits first_world p.line p.n a p.command is (omega (arith, unit)) (not_worn (length a.given + a.commands) wear_limit (omega (arith, own, room))) (ready.0.quiet p.n a c is connected).none ok idle
+
+    alone_by_fault : (a : Requesting) (c : Connection) → requester_of p.n first_world ≡ Some a → connection_of a.setup.eid first_world.responder.connections ≡ Some c → (o : Option CommandFault) → (requester_told a p.command).fault ≡ o → IsReady (most + 1) (told_in first_world p)
+    alone_by_fault a c is connected (Some f) fault = refused_now a c f is connected fault
+    alone_by_fault a c is connected None ok = absurd (never_ok a c is connected ok)
+
+    alone_by : (o : Option Requesting) → requester_of p.n first_world ≡ o → IsReady (most + 1) (told_in first_world p)
+    alone_by None is = (let k = nobody_now is in (k.0, more_taken most (most + 1) (told_in first_world p) (omega arith) k.1))
+    alone_by (Some a) is = (let c = each_is_connected w configured before chance p.n a is in alone_by_fault a c.0 is c.1 (requester_told a p.command).fault refl)
+
+    pub alone_ready : IsReady (most + 1) (told_in first_world p)
+    alone_ready = alone_by (requester_of p.n first_world) refl
+
+module _ (w : WorldSetup) (configured : IsConfigured w) (before : List Entry) (p : Paragraph) (most : ℕ) (room : most + most_asked ≤ wear_limit) (ready : IsReady most (world_after w before)) (none : HaveNoCommand p.behind)
     (honest : AreHonest (told_in (world_after w before) p) p.behind) (still : Rests (told_in (world_after w before) p) p.behind) (chance : NoChance (world_behind (world_after w before) p).log) where
   abbrev world : World
   world = world_after w before
@@ -109,57 +154,43 @@ module _ (w : WorldSetup) (configured : IsConfigured w) (before : List Entry) (p
       (subst (λ (q : ReqSetup). AreQuiet q c.setup b.first (world_behind world p).log b.history e.history) (sym d.requester_setup) d.quiet))
       (subst (λ (k : ℕ). OthersAreQuiet k (world_behind world p)) (sym eid) x.1.aside.0)
 
-  done_taken : (a : Requesting) (c : Connection) → requester_of p.n world ≡ Some a → Ended a c → HaveTaken (most + 199) (world_behind world p)
+  done_taken : (a : Requesting) (c : Connection) → requester_of p.n world ≡ Some a → Ended a c → HaveTaken (most + most_asked) (world_behind world p)
   done_taken a c is x =
       let d = x.0 in
       let own = ready.1.requesters p.n a is in
       let other = ready.1.responder in
-      let took = x.1.takes (most + 199) room (omega (arith, own)) (omega (arith, other)) in
-      taken_with (world_behind world p) p.n d.requester (most + 199) differ_then d.is_requester (took.0 d.requester d.is_requester)
-      (subst (λ (k : ℕ). OthersTook k (most + 199) (world_behind world p)) (sym (ap (λ (q : ReqSetup). q.eid) d.requester_setup))
+      let took = x.1.takes (most + most_asked) room (omega (arith, own)) (omega (arith, other)) in
+      taken_with (world_behind world p) p.n d.requester (most + most_asked) differ_then d.is_requester (took.0 d.requester d.is_requester)
+      (subst (λ (k : ℕ). OthersTook k (most + most_asked) (world_behind world p)) (sym (ap (λ (q : ReqSetup). q.eid) d.requester_setup))
       (record { took = λ m b other is_b. (let least = x.1.aside.1.took m b other is_b in omega (arith, least)) })) took.1
 
   -- ---- Where it is refused, or is for nobody.
 
-  told_so : (o : Option Requesting) → requester_of p.n world ≡ o → told_in world p ≡ (told world p.n p.command o).after
-  unfolding happens
-  told_so o is = ap (λ (o : Option Requesting). (told world p.n p.command o).after) is
+  with_more : (k : ℕ) → k ≤ most + most_asked → IsReady k (world_behind world p) → IsReady (most + most_asked) (world_behind world p)
+  with_more k up r = (r.0, more_taken k (most + most_asked) (world_behind world p) up r.1)
 
-  differ_now : AllDiffer (map (λ (x : Requesting). x.setup.eid) (told_in world p).requesters)
-  differ_now =
-      subst (λ (z : World). AllDiffer (map (λ (x : Requesting). x.setup.eid) z.requesters)) (from_both (new_world w) before (record { line = p.line; happening = Told p.n p.command } ∷ []))
-      (always_differ w configured (before ++ record { line = p.line; happening = Told p.n p.command } ∷ []))
+  refused : (a : Requesting) (c : Connection) (f : CommandFault) → requester_of p.n world ≡ Some a → connection_of a.setup.eid world.responder.connections ≡ Some c → (requester_told a p.command).fault ≡ Some f → IsReady (most + most_asked) (world_behind world p)
+  refused a c f is connected fault = with_more (most + 1) (omega arith) (behind_ready (most + 1) (told_in world p) p.behind none honest (refused_now w configured before p most ready a c f is connected fault))
 
-  with_more : (k : ℕ) → k ≤ most + 199 → IsReady k (world_behind world p) → IsReady (most + 199) (world_behind world p)
-  with_more k up r = (r.0, more_taken k (most + 199) (world_behind world p) up r.1)
-
-  refused : (a : Requesting) (c : Connection) (f : CommandFault) → requester_of p.n world ≡ Some a → connection_of a.setup.eid world.responder.connections ≡ Some c → (requester_told a p.command).fault ≡ Some f → IsReady (most + 199) (world_behind world p)
-  refused a c f is connected fault =
-      let now = told_so (Some a) is in
-      with_more (most + 1) (omega arith)
-      (behind_ready (most + 1) (told_in world p) p.behind none honest
-      (subst (IsReady (most + 1)) (sym now)
-      (refused_ready world p.n a c most (requester_told a p.command) (refused_step a p.command f fault) (subst (λ (z : World). AllDiffer (map (λ (x : Requesting). x.setup.eid) z.requesters)) now differ_now) ready is connected)))
-
-  nobody : requester_of p.n world ≡ None → IsReady (most + 199) (world_behind world p)
-  nobody is = with_more most (omega arith) (behind_ready most (told_in world p) p.behind none honest (subst (IsReady most) (sym (told_so None is)) ready))
+  nobody : requester_of p.n world ≡ None → IsReady (most + most_asked) (world_behind world p)
+  nobody is = with_more most (omega arith) (behind_ready most (told_in world p) p.behind none honest (nobody_now w configured before p most ready is))
 
   -- ---- One paragraph.
 
   abbrev Can : Type 0
   Can = (a : Requesting) (c : Connection) → requester_of p.n world ≡ Some a → connection_of a.setup.eid world.responder.connections ≡ Some c → (requester_told a p.command).fault ≡ None → CanDo a c p.command
 
-  by_fault : Can → (a : Requesting) (c : Connection) → requester_of p.n world ≡ Some a → connection_of a.setup.eid world.responder.connections ≡ Some c → (o : Option CommandFault) → (requester_told a p.command).fault ≡ o → IsReady (most + 199) (world_behind world p)
+  by_fault : Can → (a : Requesting) (c : Connection) → requester_of p.n world ≡ Some a → connection_of a.setup.eid world.responder.connections ≡ Some c → (o : Option CommandFault) → (requester_told a p.command).fault ≡ o → IsReady (most + most_asked) (world_behind world p)
   by_fault can a c is connected None ok = (let x = accepted a c is connected ok (can a c is connected ok) in (done_quiet a c x, done_taken a c is x))
   by_fault can a c is connected (Some f) fault = refused a c f is connected fault
 
-  by_requester : Can → (o : Option Requesting) → requester_of p.n world ≡ o → IsReady (most + 199) (world_behind world p)
+  by_requester : Can → (o : Option Requesting) → requester_of p.n world ≡ o → IsReady (most + most_asked) (world_behind world p)
   by_requester can None is = nobody is
   by_requester can (Some a) is =
       let c = each_is_connected w configured before (no_chance_from world (entries_of p) chance) p.n a is in
       by_fault can a c.0 is c.1 (requester_told a p.command).fault refl
 
-  pub paragraph_ready : Can → IsReady (most + 199) (world_behind world p)
+  pub paragraph_ready : Can → IsReady (most + most_asked) (world_behind world p)
   paragraph_ready can = by_requester can (requester_of p.n world) refl
 
   pub paragraph_done : Can → (a : Requesting) (c : Connection) → requester_of p.n world ≡ Some a → connection_of a.setup.eid world.responder.connections ≡ Some c → (requester_told a p.command).fault ≡ None → Done a c

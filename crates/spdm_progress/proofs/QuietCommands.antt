@@ -1,12 +1,13 @@
 -- Each command of two quiet ends comes to its result, and leaves the others quiet.
-use Rattle.std.proofs.Common.{◌≡◌, ◌∙◌, ℕ, ◌≤◌, List, [], ◌∷◌, Bool, true, false, is_none, Some, None, refl, sym, ap, subst, inl, inr, arith}
+use Rattle.std.proofs.Common.{◌≡◌, ◌∙◌, ℕ, ◌<◌, ◌≤◌, nat_le, List, [], ◌∷◌, Bool, true, false, is_none, Some, None, refl, sym, ap, subst, inl, inr, arith}
 use Rattle.std.specs.Prelude.{if◌then◌else◌}
-use Rattle.std.proofs.lemmas.Bool.{false≢true, not-false}
+use Rattle.std.proofs.lemmas.Bool.{false≢true, leb-false, leb-true, not-false}
 use Rattle.negotiate.specs.declared.shared.Sizes.{Sizes}
 use Rattle.spdm_basis.proofs.Bools.{and_second, lt_false}
 use Rattle.spdm_grammar.specs.Message.RequestMessage.{GetMeasurements}
 use Rattle.spdm_grammar.specs.declared.event.Finished.{Finished}
 use Rattle.spdm_grammar.specs.declared.event.Finished.TheVariants as finished
+use Rattle.spdm_grammar.specs.declared.names.TheConstants.{MAX_MESSAGE_SIZE}
 use Rattle.spdm_grammar.specs.declared.phase.Phase.TheVariants.{Negotiated}
 use Rattle.spdm_machine.specs.Keys.{Draw}
 use Rattle.spdm_machine.specs.Terms.{terms_of}
@@ -27,7 +28,7 @@ use Rattle.requester_machine.specs.Sending.{piece_sent, plain_sent, request_sent
 use Rattle.requester_machine.proofs.Ids.{few}
 use Rattle.requester_machine.specs.Does.{IsMade, free_id}
 use Rattle.requester_machine.specs.Session as steps
-use Rattle.requester_machine.specs.UnderWay.{is_capable}
+use Rattle.requester_machine.specs.UnderWay.{IsCommon, is_capable}
 use Rattle.responder_machine.proofs.Sizes.{sizes_set_up}
 use Rattle.responder_machine.specs.History as served
 use Rattle.responder_machine.specs.Refusal.{sizes_are_known}
@@ -46,12 +47,16 @@ use Rattle.spdm_progress.specs.Opening.{opened_id}
 use Rattle.spdm_progress.proofs.Accepted.{not_worn_told, told_so}
 use Rattle.spdm_progress.proofs.Aside.{IsAside, nothing_aside}
 use Rattle.spdm_progress.proofs.ConnectRounds as connects
+use Rattle.spdm_progress.proofs.ChunkCounts.{InChunks, in_chunks}
+use Rattle.spdm_progress.proofs.LargeAnswers.{GoesLarge, large_again}
+use Rattle.spdm_progress.proofs.ClearFetch.{transfer_in}
+use Rattle.spdm_progress.proofs.LargeMeasure as larges
 use Rattle.spdm_progress.proofs.MeasureRound as measures
 use Rattle.spdm_progress.proofs.MeasureStages.{CanServe, made_again}
 use Rattle.spdm_progress.proofs.Opened as opens
 use Rattle.spdm_progress.proofs.PacketSteps.{Pair}
 use Rattle.spdm_progress.proofs.SessionCompletes as sessions
-use Rattle.spdm_progress.proofs.SessionCompletes.{Idle, Rests, completes_by, fresh, placed}
+use Rattle.spdm_progress.proofs.SessionCompletes.{Idle, Rests, completes_by, completes_within, few_by_chunks, fresh, placed}
 use Rattle.spdm_progress.proofs.Told.{ArePlaced, pair_of}
 
 module _ (w : WorldSetup) (before : List Entry) (n : ℕ) (a : Requesting) (c : Connection) (line : ℕ) (behind : List Entry) (none : HaveNoCommand behind) (Aside : World → Type 0) (aside : IsAside (pair_of n a c) Aside) (beside : Aside (world_after w before)) where
@@ -123,30 +128,16 @@ module _ (w : WorldSetup) (before : List Entry) (n : ℕ) (a : Requesting) (c : 
         let s = sizes_set_up c.setup c.history o.told.quiet.made_there here.responder.sizes.ordered here.responder.sizes.most known in
         ap (λ (k : Negotiation). (terms_of k).common.to_responder.transfer) o.told.quiet.negotiation ∙ ap (λ (z : Sizes). z.transfer) s.own
 
-    mine : (asked.connection_terms a.history).common.to_requester.transfer ≡ a.setup.transfer
-    mine =
+    own_sizes : IsCommon a.setup (asked.connection_terms a.history).common
+    own_sizes =
         let most = here.requester.sizes.most in
         let ordered = here.requester.sizes.ordered in
-        (sizes a.setup a.history (record { transfer = omega arith; max = most }) o.told.quiet.made (ap is_capable phase)).transfer
+        sizes a.setup a.history (record { transfer = omega arith; max = most }) o.told.quiet.made (ap is_capable phase)
 
     crossed : (asked.connection_terms a.history).common.to_requester.transfer ≤ (asked.connection_terms a.history).common.to_requester.max
     crossed =
         let s = sizes_set_up c.setup c.history o.told.quiet.made_there here.responder.sizes.ordered here.responder.sizes.most known in
         subst (λ (k : Negotiation). (terms_of k).common.to_requester.transfer ≤ (terms_of k).common.to_requester.max) (sym o.told.quiet.negotiation) s.crossed
-
-    serves : CanServe a.setup c.setup op (asked.negotiation_of a.history)
-    serves =
-        let fits = can.2 in
-        let within = crossed in record {
-          room = here.responder.sizes.least;
-          byte = can.0;
-          block = can.1;
-          chosen = and_second _ _ (not-false _ (test_is_false false a.setup a.history command f accepted.0 5));
-          fits = can.2;
-          fits_max = omega arith;
-          fits_own = subst (λ (k : ℕ). measurements_size c.setup op ≤ k) mine can.2;
-          most = (let most = here.requester.sizes.most in let ordered = here.requester.sizes.ordered in omega arith);
-        }
 
     asks : requester_asks false a.setup a.history command d ≡ Adds (WasTold command (plain_sent a.history (GetMeasurements op)) d)
     asks =
@@ -164,19 +155,96 @@ module _ (w : WorldSetup) (before : List Entry) (n : ℕ) (a : Requesting) (c : 
     zero_free h made true live = (let range = (few a.setup h 0 made live).0 in absurd (omega arith))
     zero_free h made false live = refl
 
+    measure_chosen : (asked.connection_terms a.history).choice.measure ≡ true
+    measure_chosen = and_second _ _ (not-false _ (test_is_false false a.setup a.history command f accepted.0 5))
+
+    -- Its answer goes whole.
+    module _ (fits : measurements_size c.setup op ≤ (asked.connection_terms a.history).common.to_requester.transfer) where
+      serves : CanServe a.setup c.setup op (asked.negotiation_of a.history)
+      serves =
+          let within = crossed in record {
+            room = here.responder.sizes.least;
+            byte = can.0;
+            block = can.1;
+            chosen = measure_chosen;
+            fits = fits;
+            fits_max = omega arith;
+            fits_own = subst (λ (k : ℕ). measurements_size c.setup op ≤ k) own_sizes.transfer fits;
+            most = (let most = here.requester.sizes.most in let ordered = here.requester.sizes.ordered in omega arith);
+          }
+
+      measured_whole : Result (Measure None op)
+      measured_whole =
+          plainly command (finished.Measured (number_for c.setup op)) 0 false refl
+          (completes_by w before n a c command o.told.now line behind none o.honest o.still o.chance Aside aside beside (measures.MeasureAsked pair op a.history d serves phase asks) (measures.MeasureAnswered pair op a.history d serves phase asks)
+          (measures.Quiet pair op a.history d serves phase asks) (finished.Measured (number_for c.setup op)) 0 false (λ log h g z. (z, zero_free h z.made (steps.is_live (steps.session_of 0 h)) refl)) (measures.measure_talk pair op a.history d serves phase asks) 0 (omega arith)
+          (plain_sent a.history (GetMeasurements op)) (not_worn_told a command unworn ∙ ap (commanded_by a) asks)
+          (record {
+            h_is = refl;
+            tag_is = refl;
+            body_is = refl;
+            quiet = o.told.quiet;
+            again = made_again a.setup c.setup op (asked.negotiation_of a.history) serves c.history here.made here.drawn (sym o.told.quiet.negotiation);
+          }))
+
+    -- It goes by chunks.
+    module _ (large : (asked.connection_terms a.history).common.to_requester.transfer < measurements_size c.setup op) where
+      in_common : (b : Bool) → (asked.connection_terms a.history).common.chunk ≡ b → b ≡ true
+      in_common true is = refl
+      in_common false is = (let fits = can.2.1 is in absurd (omega (arith, fits, large)))
+
+      goes : GoesLarge a.setup c.setup op (asked.negotiation_of a.history)
+      goes = record {
+        byte = can.0;
+        block = can.1;
+        chosen = measure_chosen;
+        fetch = record {
+          room = here.responder.sizes.least;
+          chunk = in_common (asked.connection_terms a.history).common.chunk refl;
+          large = large;
+          fits_max = can.2.0;
+          transfer = own_sizes.transfer;
+          max = own_sizes.max;
+          least = here.requester.sizes.least;
+          most = here.requester.sizes.most;
+        };
+      }
+
+      most_bytes : measurements_size c.setup op ≤ MAX_MESSAGE_SIZE
+      most_bytes =
+          let fits = can.2.0 in
+          let max = own_sizes.max in
+          let most = here.requester.sizes.most in
+          omega (arith, fits, max, most)
+
+      counts : InChunks (transfer_in (asked.negotiation_of a.history)) (measurements_size c.setup op)
+      counts =
+          let least = here.requester.sizes.least in
+          let transfer = own_sizes.transfer in
+          in_chunks (transfer_in (asked.negotiation_of a.history)) (measurements_size c.setup op) (omega (arith, least, transfer)) large most_bytes
+
+      measured_by_chunks : Result (Measure None op)
+      measured_by_chunks =
+          plainly command (finished.Measured (number_for c.setup op)) 0 false refl
+          (completes_within w before n a c command o.told.now line behind none o.honest o.still o.chance Aside aside beside (larges.MeasureAsked pair op a.history d goes phase asks) (larges.MeasureAnswered pair op a.history d goes phase asks)
+          (larges.Quiet pair op a.history d goes phase asks) (finished.Measured (number_for c.setup op)) 0 false (λ log h g z. (z, zero_free h z.made (steps.is_live (steps.session_of 0 h)) refl)) (larges.large_talk pair op a.history d goes phase asks)
+          (λ more. 1) (λ more. counts.each) (larges.are_short pair op a.history d goes phase asks counts.each counts.fits) (larges.count pair op a.history d goes phase asks) (few_by_chunks (transfer_in (asked.negotiation_of a.history)) (measurements_size c.setup op) counts)
+          (plain_sent a.history (GetMeasurements op)) (not_worn_told a command unworn ∙ ap (commanded_by a) asks)
+          (inl (record {
+            more_is = refl;
+            h_is = refl;
+            tag_is = refl;
+            body_is = refl;
+            quiet = o.told.quiet;
+            again = large_again a.setup c.setup op (asked.negotiation_of a.history) goes c.history here.made here.drawn (sym o.told.quiet.negotiation) (sym o.told.quiet.phase ∙ phase);
+          })))
+
     measured : Result (Measure None op)
-    measured =
-        plainly command (finished.Measured (number_for c.setup op)) 0 false refl
-        (completes_by w before n a c command o.told.now line behind none o.honest o.still o.chance Aside aside beside (measures.MeasureAsked pair op a.history d serves phase asks) (measures.MeasureAnswered pair op a.history d serves phase asks)
-        (measures.Quiet pair op a.history d serves phase asks) (finished.Measured (number_for c.setup op)) 0 false (λ log h g z. (z, zero_free h z.made (steps.is_live (steps.session_of 0 h)) refl)) (measures.measure_talk pair op a.history d serves phase asks) 0 (omega arith)
-        (plain_sent a.history (GetMeasurements op)) (not_worn_told a command unworn ∙ ap (commanded_by a) asks)
-        (record {
-          h_is = refl;
-          tag_is = refl;
-          body_is = refl;
-          quiet = o.told.quiet;
-          again = made_again a.setup c.setup op (asked.negotiation_of a.history) serves c.history here.made here.drawn (sym o.told.quiet.negotiation);
-        }))
+    measured = by_size (nat_le (measurements_size c.setup op) (asked.connection_terms a.history).common.to_requester.transfer) refl
+      where
+        by_size : (b : Bool) → nat_le (measurements_size c.setup op) (asked.connection_terms a.history).common.to_requester.transfer ≡ b → Result (Measure None op)
+        by_size true is = measured_whole (leb-true _ _ is)
+        by_size false is = measured_by_chunks (leb-false _ _ is)
 
   -- ---- Each command.
 

@@ -35,7 +35,7 @@ use Rattle.responder_machine.specs.Session as events
 use Rattle.responder_machine.specs.Session.{Events, id_in_record}
 use Rattle.responder_machine.specs.Setup.{RspSetup}
 use Rattle.spdm_progress.specs.InStep.{AreQuiet, AreResting, IsResting, TookEarlier, WasSealed, rsp_id}
-use Rattle.spdm_progress.proofs.AlikeSessions.{is_kept, still_in_step}
+use Rattle.spdm_progress.proofs.AlikeSessions.{IsFetched, MayBring, is_kept, still_in_step}
 use Rattle.spdm_progress.proofs.StillKept.{AreAlike, IsSameSession}
 
 -- ---- Records that were sealed before.
@@ -47,6 +47,10 @@ was_sealed_on psk acts log s sealed w = record { purpose = w.purpose; number = w
 pub last_waited : (old new : Events) → IsSameSession old new → events.last_of new ≡ events.last_of old
 last_waited old new (inl same) = ap events.last_of same
 last_waited old new (inr x) = ap events.last_of x.2
+
+pub turns_waited : (old new : Events) → IsSameSession old new → events.turns_of new ≡ events.turns_of old
+turns_waited old new (inl same) = ap events.turns_of same
+turns_waited old new (inr x) = ap events.turns_of x.2
 
 pub resting_on : (psk : List ℕ) (acts log : Log) (s : Steps) (old new : Events) → IsSameSession old new → AreResting psk log s old → AreResting psk (acts ++ log) s new
 resting_on psk acts log s old new same k = record {
@@ -140,7 +144,7 @@ shake_kind psk s n shakes = ap (λ (g : Stage). (purpose_in g psk (steps.t1_of s
 one_more : (n : ℕ) → n ≡ n + 1 → ⊥
 one_more n e = omega arith
 
-pub moves_on : (ask : Ask) (psk inner sealed reply reply_inner answer : List ℕ) (s : Steps) → is_kept ask ≡ true → steps.stage_of s ≡ stage_for ask
+moves_on : (ask : Ask) (psk inner sealed reply reply_inner answer : List ℕ) (s : Steps) → is_kept ask ≡ true → steps.stage_of s ≡ stage_for ask
     → request_purpose psk s ≡ request_purpose psk (TookAnswer reply reply_inner (Grants ask answer) ∷ Asked ask inner sealed ∷ s) → steps.request_next s ≡ steps.request_next (TookAnswer reply reply_inner (Grants ask answer) ∷ Asked ask inner sealed ∷ s) → ⊥
 moves_on AskFinish psk inner sealed reply reply_inner answer s kept at purpose number = kinds_differ (sym (shake_kind psk s (steps.request_epoch s) at) ∙ ap (λ (p : Purpose). p.kind) purpose)
   where
@@ -154,6 +158,24 @@ moves_on AskVerify psk inner sealed reply reply_inner answer s kept at purpose n
 moves_on (AskMeasure op) psk inner sealed reply reply_inner answer s kept at purpose number = one_more (steps.request_next s) number
 moves_on (AskChunk op handle n before) psk inner sealed reply reply_inner answer s kept at purpose number = one_more (steps.request_next s) number
 moves_on AskEnd psk inner sealed reply reply_inner answer s kept at purpose number = absurd (false≢true kept)
+
+-- Whatever it brings about.
+abbrev MovesOn : Ask → (psk inner sealed reply reply_inner : List ℕ) → Steps → asked.Effect → Type 0
+MovesOn ask psk inner sealed reply reply_inner s brought = request_purpose psk s ≡ request_purpose psk (TookAnswer reply reply_inner brought ∷ Asked ask inner sealed ∷ s) → steps.request_next s ≡ steps.request_next (TookAnswer reply reply_inner brought ∷ Asked ask inner sealed ∷ s) → ⊥
+
+fetched_moves : (ask : Ask) (psk inner sealed reply reply_inner : List ℕ) (s : Steps) (brought : asked.Effect) → IsFetched brought → MovesOn ask psk inner sealed reply reply_inner s brought
+fetched_moves ask psk inner sealed reply reply_inner s brought (inl is) = subst (MovesOn ask psk inner sealed reply reply_inner s) (sym is) (λ purpose number. one_more (steps.request_next s) number)
+fetched_moves ask psk inner sealed reply reply_inner s brought (inr is) = subst (MovesOn ask psk inner sealed reply reply_inner s) (sym is.2) (λ purpose number. one_more (steps.request_next s) number)
+
+pub moves_so : (ask : Ask) (psk inner sealed reply reply_inner answer : List ℕ) (s : Steps) (brought : asked.Effect) → MayBring ask answer brought → is_kept ask ≡ true → steps.stage_of s ≡ stage_for ask → MovesOn ask psk inner sealed reply reply_inner s brought
+moves_so AskFinish psk inner sealed reply reply_inner answer s brought may kept at = subst (MovesOn AskFinish psk inner sealed reply reply_inner s) (sym may) (moves_on AskFinish psk inner sealed reply reply_inner answer s kept at)
+moves_so AskData psk inner sealed reply reply_inner answer s brought may kept at = subst (MovesOn AskData psk inner sealed reply reply_inner s) (sym may) (moves_on AskData psk inner sealed reply reply_inner answer s kept at)
+moves_so AskBeat psk inner sealed reply reply_inner answer s brought may kept at = subst (MovesOn AskBeat psk inner sealed reply reply_inner s) (sym may) (moves_on AskBeat psk inner sealed reply reply_inner answer s kept at)
+moves_so (AskUpdate all) psk inner sealed reply reply_inner answer s brought may kept at = subst (MovesOn (AskUpdate all) psk inner sealed reply reply_inner s) (sym may) (moves_on (AskUpdate all) psk inner sealed reply reply_inner answer s kept at)
+moves_so AskVerify psk inner sealed reply reply_inner answer s brought may kept at = subst (MovesOn AskVerify psk inner sealed reply reply_inner s) (sym may) (moves_on AskVerify psk inner sealed reply reply_inner answer s kept at)
+moves_so (AskMeasure op) psk inner sealed reply reply_inner answer s brought may kept at = fetched_moves (AskMeasure op) psk inner sealed reply reply_inner s brought may
+moves_so (AskChunk op handle n before) psk inner sealed reply reply_inner answer s brought may kept at = fetched_moves (AskChunk op handle n before) psk inner sealed reply reply_inner s brought may
+moves_so AskEnd psk inner sealed reply reply_inner answer s brought may kept at = absurd (false≢true kept)
 
 -- ---- Quiet again.
 

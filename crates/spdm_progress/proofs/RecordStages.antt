@@ -104,8 +104,8 @@ updates_all AskBeat inner t is = ap (λ (e : Effect). updates 2 (record t { effe
 updates_all (AskUpdate true) inner t is = ap (λ (e : Effect). updates 2 (record t { effect = e })) is.1
 updates_all (AskUpdate false) inner t is = ap (λ (e : Effect). updates 2 (record t { effect = e })) is.1
 updates_all AskVerify inner t is = ap (λ (e : Effect). updates 2 (record t { effect = e })) is.1
-updates_all (AskMeasure op) inner t is = ap (λ (e : Effect). updates 2 (record t { effect = e })) is
-updates_all (AskChunk op handle number before) inner t is = absurd is
+updates_all (AskMeasure op) inner t is = ap (λ (e : Effect). updates 2 (record t { effect = e })) is.2
+updates_all (AskChunk op handle number before) inner t is = ap (λ (e : Effect). updates 2 (record t { effect = e })) is.1
 updates_all AskEnd inner t is = ap (λ (e : Effect). updates 2 (record t { effect = e })) is
 
 pub not_end : (ask : Ask) (inner : List ℕ) (t : Turn) → is_kept ask ≡ true → IsAnswerTo ask inner t → takes END_SESSION t ≡ false
@@ -114,8 +114,8 @@ not_end AskData inner t kept is = ap (λ (e : Effect). takes END_SESSION (record
 not_end AskBeat inner t kept is = ap (λ (e : Effect). takes END_SESSION (record t { effect = e })) is
 not_end (AskUpdate all) inner t kept is = ap (λ (e : Effect). takes END_SESSION (record t { effect = e })) is.1
 not_end AskVerify inner t kept is = ap (λ (e : Effect). takes END_SESSION (record t { effect = e })) is.1
-not_end (AskMeasure op) inner t kept is = ap (λ (e : Effect). takes END_SESSION (record t { effect = e })) is
-not_end (AskChunk op handle number before) inner t kept is = absurd is
+not_end (AskMeasure op) inner t kept is = ap (λ (e : Effect). takes END_SESSION (record t { effect = e })) is.2
+not_end (AskChunk op handle number before) inner t kept is = ap (λ (e : Effect). takes END_SESSION (record t { effect = e })) is.1
 not_end AskEnd inner t kept is = absurd (false≢true kept)
 
 pub an_end : (ask : Ask) (inner : List ℕ) (t : Turn) → is_kept ask ≡ false → IsAnswerTo ask inner t → takes END_SESSION t ≡ true

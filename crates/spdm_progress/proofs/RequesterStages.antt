@@ -6,6 +6,7 @@ use Rattle.negotiate.specs.Choosing.{agreed, selected}
 use Rattle.negotiate.specs.Offer.{offer_of}
 use Rattle.negotiate.specs.Reply.{reply_of}
 use Rattle.negotiate.specs.declared.shared.Common.{Common}
+use Rattle.spdm_grammar.specs.declared.names.TheConstants.{MIN_DATA_TRANSFER_SIZE}
 use Rattle.spdm_grammar.proofs.CanonicalResponses.{response_spelled}
 use Rattle.spdm_grammar.proofs.Spellings.{spelling_read}
 use Rattle.spdm_grammar.specs.Message.{RequestMessage, ResponseMessage, OfferMessage}
@@ -93,7 +94,7 @@ next_small h = omega arith
 version_led : (q : ReqSetup) (h : History) (f : Free) → clear_led q h f (Plain GetVersion) GetVersion version ≡ Ok (goes_on (Answers GetVersion version) (plain_sent h (GetCapabilities (requester_caps q))))
 version_led q h f = led_plain q h f GetVersion version version_answer (reads h version_answer _ tt (refl, (omega arith)))
 
-pub version_heard : (q : ReqSetup) (h : History) (tag : ℕ) (d : Draw) → 42 ≤ q.transfer → Asks q tag GetVersion get_version no_negotiation h
+pub version_heard : (q : ReqSetup) (h : History) (tag : ℕ) (d : Draw) → MIN_DATA_TRANSFER_SIZE ≤ q.transfer → Asks q tag GetVersion get_version no_negotiation h
     → Hears q h tag version d event.Progress (Some (asking (next_tag h) (Clear (get_capabilities q)) (GetCapabilities (requester_caps q))))
     (Asks q (next_tag h) (GetCapabilities (requester_caps q)) (get_capabilities q) first_pair)
 version_heard q h tag d room asks =
@@ -117,7 +118,7 @@ offers q r h offer common k =
     let effect = Answers (GetCapabilities (requester_caps q)) (capabilities r) in
     ap (caps_led q h effect) k.shared ∙ ap (offer_led h effect common) k.offered ∙ rw (k.short, k.whole) refl
 
-pub capabilities_heard : (q : ReqSetup) (r : RspSetup) (h : History) (tag : ℕ) (d : Draw) (offer : OfferMessage) (common : Common) → 42 ≤ q.transfer → FitsResponse (Capabilities (responder_caps r)) → OffersWhole q r offer common
+pub capabilities_heard : (q : ReqSetup) (r : RspSetup) (h : History) (tag : ℕ) (d : Draw) (offer : OfferMessage) (common : Common) → MIN_DATA_TRANSFER_SIZE ≤ q.transfer → FitsResponse (Capabilities (responder_caps r)) → OffersWhole q r offer common
     → Asks q tag (GetCapabilities (requester_caps q)) (get_capabilities q) first_pair h
     → Hears q h tag (capabilities r) d event.Progress (Some (asking (next_tag h) (Clear (negotiate_algorithms offer)) (NegotiateAlgorithms offer)))
     (Asks q (next_tag h) (NegotiateAlgorithms offer) (negotiate_algorithms offer) (two_pairs q r))

@@ -8,6 +8,7 @@ use Rattle.negotiate.specs.Capabilities.{common_of}
 use Rattle.negotiate.specs.Choosing.{selected}
 use Rattle.negotiate.specs.declared.shared.Common.{Common}
 use Rattle.spdm_basis.proofs.Bools.{and_second, lt_false}
+use Rattle.spdm_grammar.specs.declared.names.TheConstants.{MIN_DATA_TRANSFER_SIZE}
 use Rattle.spdm_grammar.specs.Message.{OfferMessage}
 use Rattle.spdm_grammar.specs.Message.RequestMessage.{GetVersion, GetCapabilities, NegotiateAlgorithms}
 use Rattle.spdm_grammar.specs.Message.ResponseMessage.{Capabilities}
@@ -99,7 +100,7 @@ and_false : (b : Bool) → (b && false) ≡ false
 and_false true = refl
 and_false false = refl
 
-other_message : (h : History) (tag : ℕ) (m n : List ℕ) → LastTook m h → bytes_eq m n ≡ false → is_repeat (kept_of h) tag n ≡ false
+pub other_message : (h : History) (tag : ℕ) (m n : List ℕ) → LastTook m h → bytes_eq m n ≡ false → is_repeat (kept_of h) tag n ≡ false
 other_message h tag m n last differ =
     ap (λ (o : Option Kept). is_repeat o tag n) last.is
     ∙ ap (λ (x : List ℕ). last.kept.tag == tag && bytes_eq x n) last.message
@@ -128,7 +129,7 @@ one_short : (known : Bool) (transfer n : ℕ) → (known ≡ true → n ≤ tran
 one_short false transfer n k = refl
 one_short true transfer n k = lt_false transfer n (k refl)
 
-zero_plus : (n : ℕ) → 0 + n ≡ n
+pub zero_plus : (n : ℕ) → 0 + n ≡ n
 zero_plus n = omega arith
 
 -- What a requester at this place takes.
@@ -155,7 +156,7 @@ version_allowed Versioned pending = refl
 version_allowed Capable pending = refl
 version_allowed Negotiated pending = refl
 
-pub version_turn : (r : RspSetup) (h : History) (f : Free) → 42 ≤ r.transfer → Takes (clear_place h) 8 → turn_of r (clear_place h) get_version f ≡ taken_turn r (clear_place h) get_version f GetVersion
+pub version_turn : (r : RspSetup) (h : History) (f : Free) → MIN_DATA_TRANSFER_SIZE ≤ r.transfer → Takes (clear_place h) 8 → turn_of r (clear_place h) get_version f ≡ taken_turn r (clear_place h) get_version f GetVersion
 version_turn r h f room fits =
     taken_at r (clear_place h) get_version f GetVersion (read_at (clear_place h) GetVersion tt tt) refl
     (record {
@@ -173,7 +174,7 @@ version_turn r h f room fits =
 
 -- ---- GET_CAPABILITIES.
 
-pub capabilities_turn : (q : ReqSetup) (r : RspSetup) (h : History) (f : Free) (common : Common) → 42 ≤ r.transfer → FitsRequest (GetCapabilities (requester_caps q)) → common_of (requester_caps q) (responder_caps r) ≡ Ok common → HasVersion h
+pub capabilities_turn : (q : ReqSetup) (r : RspSetup) (h : History) (f : Free) (common : Common) → MIN_DATA_TRANSFER_SIZE ≤ r.transfer → FitsRequest (GetCapabilities (requester_caps q)) → common_of (requester_caps q) (responder_caps r) ≡ Ok common → HasVersion h
     → turn_of r (clear_place h) (get_capabilities q) f ≡ taken_turn r (clear_place h) (get_capabilities q) f (GetCapabilities (requester_caps q))
 capabilities_turn q r h f common room own go_together has =
     let takes : Takes (clear_place h) (length (capabilities r)) = record { both = λ known. absurd (false≢true (sym (ap sizes_are_known has.phase_is) ∙ known)) } in
@@ -259,14 +260,14 @@ repeated r h tag d awaits (Some k) is repeats =
       nothing = ap data_of same;
     }
 
-version_by : (r : RspSetup) (h : History) (tag : ℕ) (d : Draw) → 42 ≤ r.transfer → AwaitsVersion h → (b : Bool) → is_repeat (kept_of h) tag get_version ≡ b → Answered r h tag get_version d version HasVersion
+version_by : (r : RspSetup) (h : History) (tag : ℕ) (d : Draw) → MIN_DATA_TRANSFER_SIZE ≤ r.transfer → AwaitsVersion h → (b : Bool) → is_repeat (kept_of h) tag get_version ≡ b → Answered r h tag get_version d version HasVersion
 version_by r h tag d room awaits true is = repeated r h tag d awaits (kept_of h) refl is
 version_by r h tag d room awaits false is =
     answers_by r h tag get_version d (taken_turn r (clear_place h) get_version (clear_chosen r h d) GetVersion) HasVersion
     (adds r h tag get_version d (taken_turn r (clear_place h) get_version (clear_chosen r h d) GetVersion) is (version_turn r h (clear_chosen r h d) room awaits.sized))
     (took_version r h (clear_chosen r h d) tag d)
 
-pub version_answered : (r : RspSetup) (h : History) (tag : ℕ) (d : Draw) → 42 ≤ r.transfer → AwaitsVersion h → Answered r h tag get_version d version HasVersion
+pub version_answered : (r : RspSetup) (h : History) (tag : ℕ) (d : Draw) → MIN_DATA_TRANSFER_SIZE ≤ r.transfer → AwaitsVersion h → Answered r h tag get_version d version HasVersion
 version_answered r h tag d room awaits = version_by r h tag d room awaits (is_repeat (kept_of h) tag get_version) refl
 
 took_capabilities : (q : ReqSetup) (r : RspSetup) (h : History) (f : Free) (tag : ℕ) (d : Draw) → HasVersion h → HasCapabilities q r (Clear tag (taken_turn r (clear_place h) (get_capabilities q) f (GetCapabilities (requester_caps q))) d ∷ h)
@@ -276,7 +277,7 @@ took_capabilities q r h f tag d has = record {
   last = record { kept = record { tag = tag; message = get_capabilities q; reply = capabilities r }; is = refl; message = refl };
 }
 
-pub capabilities_answered : (q : ReqSetup) (r : RspSetup) (h : History) (tag : ℕ) (d : Draw) (common : Common) → 42 ≤ r.transfer → FitsRequest (GetCapabilities (requester_caps q)) → common_of (requester_caps q) (responder_caps r) ≡ Ok common → HasVersion h
+pub capabilities_answered : (q : ReqSetup) (r : RspSetup) (h : History) (tag : ℕ) (d : Draw) (common : Common) → MIN_DATA_TRANSFER_SIZE ≤ r.transfer → FitsRequest (GetCapabilities (requester_caps q)) → common_of (requester_caps q) (responder_caps r) ≡ Ok common → HasVersion h
     → Answered r h tag (get_capabilities q) d (capabilities r) (HasCapabilities q r)
 capabilities_answered q r h tag d common room own go_together has =
     let f = clear_chosen r h d in

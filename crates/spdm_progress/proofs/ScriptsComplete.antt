@@ -1,5 +1,5 @@
 -- Every command of an honest script that is answered `ok`, and has what it needs, comes to its result.
-use Rattle.std.proofs.Common.{◌≡◌, ◌≤◌, ◌+◌, ◌*◌, ℕ, List, [], ◌∷◌, ◌++◌, length, Bool, true, false, if◌then◌else◌, refl, sym, subst, inl, arith}
+use Rattle.std.proofs.Common.{◌≡◌, ◌⊎◌, ◌≤◌, ◌+◌, ◌*◌, ℕ, List, [], ◌∷◌, ◌++◌, length, Bool, true, false, if◌then◌else◌, refl, sym, ap, subst, inl, inr, arith}
 use Rattle.std.proofs.lemmas.Bool.{false≢true}
 use Rattle.requester_machine.specs.Message.{Command}
 use Rattle.spdm_agreement.specs.Configured.{IsConfigured}
@@ -12,9 +12,10 @@ use Rattle.world_machine.specs.Trace.{world_after, world_from}
 use Rattle.world_machine.specs.World.{World, entry_step, new_world}
 use Rattle.spdm_progress.specs.Honest.{AreHonest, HaveNoCommand, IsHonest, NothingWaits, is_command}
 use Rattle.spdm_progress.specs.Scripts.{CanBeDone, HonestScriptsComplete, IsQuietWorld, OfEachCommand, QuietWorldsComplete, WillBeDone, up_to_command}
+use Rattle.spdm_progress.specs.SessionCommands.{most_asked}
 use Rattle.spdm_progress.proofs.QuietWorlds.{IsReady, behind_ready, from_both}
 use Rattle.spdm_progress.proofs.SessionCompletes.{no_chance_from}
-use Rattle.spdm_progress.proofs.Paragraphs.{Paragraph, paragraph_done, paragraph_ready, starts_ready}
+use Rattle.spdm_progress.proofs.Paragraphs.{Paragraph, alone_ready, never_ok, paragraph_done, paragraph_ready, starts_ready}
 
 -- ---- The entries up to the next command.
 
@@ -72,14 +73,27 @@ module _ (w : WorldSetup) (configured : IsConfigured w) where
   abbrev Runs : World → List Entry → Type 0
   Runs world entries = OfEachCommand WillBeDone world entries × IsQuietWorld (world_from world entries)
 
-  -- What is left of an honest script.
+  -- The next entry is no command.
+  abbrev StartsPlainly : List Entry → Type 0
+  StartsPlainly [] = ⊥
+  StartsPlainly (entry ∷ entries) = is_command entry.happening ≡ false
+
+  -- What is left of an honest script. A command that was answered has another entry behind it, so it may have taken as much
+  -- as two of them.
   record AreLeft (most : ℕ) (before entries : List Entry) : Type 0 where
-    room : most + 199 * length entries ≤ wear_limit
+    over : ℕ
+    few : over ≤ 78
+    owed : (over ≡ 0) ⊎ StartsPlainly entries
+    room : most + 199 * length entries ≤ wear_limit + over
     honest : AreHonest (world_after w before) entries
     still : NothingWaits (world_from (world_after w before) entries)
     chance : NoChance (world_from (world_after w before) entries).log
     can : OfEachCommand CanBeDone (world_after w before) entries
     next : IsReady most (world_from (world_after w before) (up_to_command entries))
+
+  -- A command stands in a world that is ready.
+  ready_at : (most : ℕ) (before : List Entry) (line n : ℕ) (command : Command) (entries : List Entry) → AreLeft most before (record { line = line; happening = Told n command } ∷ entries) → IsReady most (world_after w before)
+  ready_at most before line n command entries l = l.next
 
   abbrev and_one : List Entry → Entry → List Entry
   and_one before entry = before ++ entry ∷ []
@@ -90,12 +104,15 @@ module _ (w : WorldSetup) (configured : IsConfigured w) where
   one_later : (before : List Entry) (entry : Entry) → world_after w (and_one before entry) ≡ later before entry
   one_later before entry = from_both (new_world w) before (entry ∷ [])
 
-  left_behind : (most more : ℕ) → more ≤ most + 199 → (before : List Entry) (entry : Entry) (entries : List Entry) → AreLeft most before (entry ∷ entries) → IsReady more (world_from (later before entry) (up_to_command entries)) → AreLeft more (and_one before entry) entries
-  left_behind most more up before entry entries l ready =
-      let room = l.room in
+  left_behind : (most more over : ℕ) → over ≤ 78 → (before : List Entry) (entry : Entry) (entries : List Entry) → (over ≡ 0) ⊎ StartsPlainly entries → more + 199 * length entries ≤ wear_limit + over → AreLeft most before (entry ∷ entries) → IsReady more (world_from (later before entry) (up_to_command entries))
+      → AreLeft more (and_one before entry) entries
+  left_behind most more over few before entry entries owed room l ready =
       let back = sym (one_later before entry) in
       record {
-        room = omega (arith, room, up);
+        over = over;
+        few = few;
+        owed = owed;
+        room = room;
         honest = subst (λ (z : World). AreHonest z entries) back l.honest.1;
         still = subst (λ (z : World). NothingWaits (world_from z entries)) back l.still;
         chance = subst (λ (z : World). NoChance (world_from z entries).log) back l.chance;
@@ -112,24 +129,86 @@ module _ (w : WorldSetup) (configured : IsConfigured w) where
   abbrev at_line : ℕ → Happening → Entry
   at_line line event = record { line = line; happening = event }
 
-  command_runs : (most : ℕ) (before : List Entry) (line n : ℕ) (command : Command) (entries : List Entry) → Others before (at_line line (Told n command)) entries → AreLeft most before (at_line line (Told n command) ∷ entries) → Runs (world_after w before) (at_line line (Told n command) ∷ entries)
-  command_runs most before line n command entries others l =
-      let entry = at_line line (Told n command) in
-      let p : Paragraph = record { line = line; n = n; command = command; behind = up_to_command entries } in
-      let none = none_yet entries in
-      let honest = honest_yet (later before entry) entries l.honest.1 in
-      let still = idle_next (later before entry) entries l.honest.1 l.still in
-      let chance = chance_next (later before entry) entries l.chance in
-      let all = l.room in
-      let room : most + 199 ≤ wear_limit = omega (arith, all) in
-      let ready = paragraph_ready w configured before p most room l.next none honest (inl still) chance l.can.0 in
-      let rest = behind_one before entry entries (others (most + 199) (left_behind most (most + 199) (omega arith) before entry entries l ready)) in
-      ((paragraph_done w configured before p most room l.next none honest (inl still) chance l.can.0, rest.0), rest.1)
+  -- ---- A command.
+
+  module _ (most : ℕ) (before : List Entry) (line n : ℕ) (command : Command) where
+    abbrev told : Entry
+    told = at_line line (Told n command)
+
+    owes_none : (entries : List Entry) (l : AreLeft most before (told ∷ entries)) → l.over ≡ 0
+    owes_none entries l = by_owed l.owed
+      where
+        by_owed : (l.over ≡ 0) ⊎ StartsPlainly (told ∷ entries) → l.over ≡ 0
+        by_owed (inl none) = none
+        by_owed (inr plain) = absurd (false≢true (sym plain))
+
+    -- Another entry comes before the next command.
+    module _ (entries : List Entry) (l : AreLeft most before (told ∷ entries)) (plain : StartsPlainly entries) (some : 1 ≤ length entries) where
+      p : Paragraph
+      p = record { line = line; n = n; command = command; behind = up_to_command entries }
+
+      room_for : most + most_asked ≤ wear_limit
+      room_for = (let all = l.room in let none = owes_none entries l in omega (arith, all, none, some))
+
+      ready_then : IsReady (most + most_asked) (world_from (later before told) (up_to_command entries))
+      unfolding p
+      ready_then = paragraph_ready w configured before p most room_for (ready_at most before line n command entries l) (none_yet entries) (honest_yet (later before told) entries l.honest.1) (inl (idle_next (later before told) entries l.honest.1 l.still)) (chance_next (later before told) entries l.chance) l.can.0
+
+      followed : Others before told entries → Runs (world_after w before) (told ∷ entries)
+      unfolding p
+      followed others =
+          let all = l.room in
+          let none = owes_none entries l in
+          let rest = behind_one before told entries (others (most + most_asked) (left_behind most (most + most_asked) 78 (omega arith) before told entries (inr plain) (omega (arith, all, none)) l ready_then)) in (
+            (
+              paragraph_done w configured before p most room_for (ready_at most before line n command entries l) (none_yet entries) (honest_yet (later before told) entries l.honest.1) (inl (idle_next (later before told) entries l.honest.1 l.still)) (chance_next (later before told) entries l.chance) l.can.0,
+              rest.0,
+            ),
+            rest.1,
+          )
+
+    -- The next command, or the end, comes at once: the command is not answered `ok`.
+    module _ (entries : List Entry) (l : AreLeft most before (told ∷ entries)) (at_once : up_to_command entries ≡ []) where
+      abbrev q : Paragraph
+      q = record { line = line; n = n; command = command; behind = [] }
+
+      room_alone : most + 1 ≤ wear_limit
+      room_alone = (let all = l.room in let none = owes_none entries l in omega (arith, all, none))
+
+      idle_now : NothingWaits (later before told)
+      idle_now = subst (λ (e : List Entry). NothingWaits (world_from (later before told) e)) at_once (idle_next (later before told) entries l.honest.1 l.still)
+
+      chance_before : NoChance (world_after w before).log
+      chance_before = no_chance_from (world_after w before) (told ∷ entries) l.chance
+
+      ready_alone : IsReady (most + 1) (later before told)
+      ready_alone = alone_ready w configured before q most (ready_at most before line n command entries l) room_alone chance_before idle_now
+
+      not_ok : WillBeDone (world_after w before) line n command (up_to_command entries)
+      not_ok a c is connected ok = absurd (never_ok w configured before q most (ready_at most before line n command entries l) room_alone chance_before idle_now a c is connected ok)
+
+      alone : Others before told entries → Runs (world_after w before) (told ∷ entries)
+      alone others =
+          let all = l.room in
+          let none = owes_none entries l in
+          let ready = subst (λ (e : List Entry). IsReady (most + 1) (world_from (later before told) e)) (sym at_once) ready_alone in
+          let rest = behind_one before told entries (others (most + 1) (left_behind most (most + 1) 0 (omega arith) before told entries (inl refl) (omega (arith, all, none)) l ready)) in
+          ((not_ok, rest.0), rest.1)
+
+    by_next : (entry : Entry) (entries : List Entry) (b : Bool) → is_command entry.happening ≡ b → Others before told (entry ∷ entries) → AreLeft most before (told ∷ entry ∷ entries) → Runs (world_after w before) (told ∷ entry ∷ entries)
+    by_next entry entries true is others l = alone (entry ∷ entries) l (ap (λ (b : Bool). next_part b entry entries) is) others
+    by_next entry entries false is others l = followed (entry ∷ entries) l is (omega arith) others
+
+    command_runs : (entries : List Entry) → Others before told entries → AreLeft most before (told ∷ entries) → Runs (world_after w before) (told ∷ entries)
+    command_runs [] others l = alone [] l refl others
+    command_runs (entry ∷ entries) others l = by_next entry entries (is_command entry.happening) refl others l
 
   -- What comes behind an event that is no command.
   other_runs : (most : ℕ) (before : List Entry) (entry : Entry) (entries : List Entry) → is_command entry.happening ≡ false → Others before entry entries → AreLeft most before (entry ∷ entries) → Runs (later before entry) entries
   other_runs most before entry entries other others l =
-      behind_one before entry entries (others most (left_behind most most (omega arith) before entry entries l (subst (λ (b : Bool). IsReady most (world_from (world_after w before) (next_part b entry entries))) other l.next)))
+      let all = l.room in
+      let few = l.few in
+      behind_one before entry entries (others most (left_behind most most 0 (omega arith) before entry entries (inl refl) (omega (arith, all, few)) l (subst (λ (b : Bool). IsReady most (world_from (world_after w before) (next_part b entry entries))) other l.next)))
 
   one_runs : (most : ℕ) (before : List Entry) (line : ℕ) (event : Happening) (entries : List Entry) → Others before (at_line line event) entries → AreLeft most before (at_line line event ∷ entries) → Runs (world_after w before) (at_line line event ∷ entries)
   one_runs most before line (Told n command) entries others l = command_runs most before line n command entries others l
@@ -147,7 +226,10 @@ module _ (w : WorldSetup) (configured : IsConfigured w) where
 
 pub quiet_worlds_complete : QuietWorldsComplete
 quiet_worlds_complete w configured before quiet most taken entries room honest still chance can = all_run w configured entries before most (record {
-  room = room;
+  over = 0;
+  few = omega arith;
+  owed = inl refl;
+  room = omega (arith, room);
   honest = honest;
   still = still;
   chance = chance;

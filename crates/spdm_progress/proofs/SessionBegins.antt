@@ -22,6 +22,8 @@ use Rattle.requester_machine.proofs.Few.{live_first}
 use Rattle.requester_machine.specs.Order.{stage_for}
 use Rattle.responder_machine.specs.History as served
 use Rattle.responder_machine.specs.Responding.{Connection, connection_of}
+use Rattle.responder_machine.specs.Session as events
+use Rattle.responder_machine.specs.Turn.{Turn}
 use Rattle.responder_machine.specs.Setup.{RspSetup}
 use Rattle.spdm_grammar.specs.declared.phase.Stage.TheVariants as stage
 use Rattle.transcript.specs.Transcripts.{Negotiation}
@@ -110,7 +112,7 @@ pub record AsksOfSession (command : Command) : Type 0 where
 
 module _ (q : ReqSetup) (r : RspSetup) (first id : ℕ) (x : Asking) (Fit : Steps → Type 0) (command : Command) (one : AsksOfSession command) (log : Log) (h : asked.History) (g : served.History) (d : Draw) (pad : List ℕ)
     (quiet : AreQuiet q r first log h g) (live : steps.is_live (steps.session_of id h) ≡ true) (plain : stage_for x.ask ≡ stage.Open) (fit : Fit (steps.session_of id h)) (short : length (x.inner (steps.session_of id h)) + length pad ≤ 4134)
-    (asks : requester_asks false q h command d ≡ Adds (WasTold command (sent_for q h id x pad) d)) where
+    (asks : requester_asks false q h command d ≡ Adds (WasTold command (sent_for q h id x pad) d)) (known : (turns : List Turn) → x.before turns) where
   abbrev s : Steps
   s = steps.session_of id h
 
@@ -154,6 +156,7 @@ module _ (q : ReqSetup) (r : RspSetup) (first id : ℕ) (x : Asking) (Fit : Step
         older = log;
         log_is = refl;
         last = resting.last;
+        known = known (events.turns_of (events.session_of (rsp_id s) g));
         beside = beside_on q r first id (rsp_id s) (made_for q r first id x s pad []) log h new g g (record {
           made = (asks, quiet.made);
           made_there = quiet.made_there;

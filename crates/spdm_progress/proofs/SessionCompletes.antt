@@ -1,7 +1,8 @@
 -- Each command that asks something of an open session comes to its result.
-use Rattle.std.proofs.Common.{◌≡◌, ◌⊎◌, ◌∙◌, ℕ, suc, ◌≤◌, ◌+◌, ◌*◌, List, [], ◌∷◌, length, Bool, true, false, Some, None, refl, sym, ap, subst, inl, inr, arith}
+use Rattle.std.proofs.Common.{◌≡◌, ◌⊎◌, ◌∙◌, ℕ, zero, suc, ◌<◌, ◌≤◌, ◌+◌, ◌-◌, ◌*◌, nat_le, List, [], ◌∷◌, length, Bool, true, false, Some, None, refl, sym, ap, subst, inl, inr, arith}
 use Rattle.std.proofs.Math.Nat.{min-le_left}
-use Rattle.std.proofs.lemmas.Bool.{ltb-false, not-false}
+use Rattle.std.proofs.lemmas.Bool.{leb-false, leb-true, ltb-false, not-false}
+use Rattle.std.specs.Int.{div_ceil}
 use Rattle.std.proofs.lemmas.List.{length-take}
 use Rattle.spdm_basis.proofs.Bools.{and_second}
 use Rattle.spdm_grammar.specs.Lines.{Line}
@@ -26,6 +27,8 @@ use Rattle.requester_machine.specs.Order.{stage_for}
 use Rattle.requester_machine.specs.Requesting as asking
 use Rattle.requester_machine.specs.Requesting.{Requesting, commanded_by, requester_told}
 use Rattle.requester_machine.specs.Session as steps
+use Rattle.requester_machine.specs.UnderWay.{IsCommon}
+use Rattle.spdm_basis.specs.declared.session_id.SessionId.{SessionId}
 use Rattle.requester_machine.specs.Session.{Steps}
 use Rattle.requester_machine.proofs.Entries.{test_at, test_is_false}
 use Rattle.requester_machine.proofs.HoldsMade.{session_sizes}
@@ -43,7 +46,7 @@ use Rattle.world_machine.specs.Trace.{lines_from, world_after, world_from}
 use Rattle.world_machine.specs.World.{World, WorldStep, entry_step, happens, pumps, requester_of, told_by}
 use Rattle.spdm_progress.specs.Honest.{AreHonest, HaveNoCommand, NothingWaits}
 use Rattle.spdm_progress.specs.InStep.{AreQuiet}
-use Rattle.spdm_progress.specs.SessionCommands.{CanAsk, IsDoneQuietly, IsTold, IsToldQuietly, SessionCommandsComplete, commanding, goes_on, result_of, session_at}
+use Rattle.spdm_progress.specs.SessionCommands.{CanAsk, IsDoneQuietly, IsTold, IsToldQuietly, SessionCommandsComplete, commanding, goes_on, most_asked, most_packets, most_served, result_of, session_at}
 use Rattle.spdm_progress.proofs.AlikeSessions.{is_kept}
 use Rattle.spdm_progress.proofs.Accepted.{not_worn_told, told_so}
 use Rattle.spdm_progress.proofs.Aside.{IsAside, nothing_aside}
@@ -51,10 +54,15 @@ use Rattle.spdm_progress.proofs.AskedOnce.{CanBeat, CanMeasure, CanSend, IsData,
 use Rattle.spdm_progress.proofs.ManyPackets.{waits_idle}
 use Rattle.spdm_progress.proofs.PacketSteps.{Pair, asker, not_worn, server}
 use Rattle.spdm_progress.proofs.SessionBegins.{AsksOfSession, asked_now, sends, sent_for, shows_at, shows_told, told_is, told_view}
-use Rattle.spdm_progress.proofs.SessionRounds.{Asking, IsAsked}
+use Rattle.spdm_progress.proofs.ChunkCounts.{InChunks, in_chunks}
+use Rattle.spdm_progress.proofs.LargeAnswers.{GoesLarge}
+use Rattle.spdm_progress.proofs.ClearFetch.{transfer_in}
+use Rattle.spdm_progress.proofs.SessionLarge.{IsUnder, large_asking}
+use Rattle.spdm_progress.proofs.SessionMeasure as by_chunks
+use Rattle.spdm_progress.proofs.SessionRounds.{Asking, IsAsked, sealed_length}
 use Rattle.spdm_progress.proofs.SingleRound.{AnswersOnce, AsksOnce, IsLast, Quiet, once_talk}
 use Rattle.spdm_progress.proofs.Talk as talk
-use Rattle.spdm_progress.proofs.Talk.{IsTalk, Stage, begins, begins_with, enough, no_chance_earlier, talk_ends}
+use Rattle.spdm_progress.proofs.Talk.{AreShort, IsTalk, sum_to, Stage, all_short, begins, begins_with, enough, no_chance_earlier, talk_ends}
 use Rattle.spdm_progress.proofs.Told.{ArePlaced, are_placed, contained, pair_of}
 use Rattle.spdm_progress.proofs.UpdateRounds.{CanUpdate, UpdateDone, UpdateTalkAnswers, UpdateTalkAsks, update_asking, update_talk}
 use Rattle.spdm_progress.proofs.Views.{Shows, View}
@@ -66,9 +74,31 @@ no_chance_from world (entry ∷ entries) chance = no_chance_earlier world entry.
 
 -- ---- A talk that a command begins.
 
--- A pump of 396 packets or more, and nothing else.
+-- A pump of enough packets, and nothing else.
 abbrev pub IsLongPump : List Entry → Type 0
-IsLongPump behind = (line : ℕ) × (count : ℕ) × (396 ≤ count) × (behind ≡ record { line = line; happening = Pump count } ∷ [])
+IsLongPump behind = (line : ℕ) × (count : ℕ) × (most_packets ≤ count) × (behind ≡ record { line = line; happening = Pump count } ∷ [])
+
+-- So many packets in each round are few enough for each end, and for both.
+abbrev pub AreFew : (there each : ℕ → ℕ) → (more : ℕ) → Type 0
+AreFew there each more = (sum_to each (suc more) + 1 ≤ most_asked) × (sum_to there (suc more) ≤ most_served) × (sum_to there (suc more) + sum_to each (suc more) ≤ most_packets)
+
+-- The same number in each round.
+times_each : (each more : ℕ) → sum_to (λ k. each) more ≡ each * more
+times_each each zero = omega arith
+times_each each (suc more) = (let next = times_each each more in let one : each * suc more ≡ each * more + each = omega arith in omega (arith, next, one))
+
+-- Three rounds of 66 packets each way.
+three_few : (more : ℕ) → more ≤ 2 → AreFew (λ k. 66) (λ k. 66) more
+three_few more few = (let all = times_each 66 (suc more) in (omega (arith, few, all), omega (arith, few, all), omega (arith, few, all)))
+
+pub few_by_chunks : (transfer size : ℕ) (counts : InChunks transfer size) → AreFew (λ more. 1) (λ more. counts.each) (div_ceil (size + 4) (transfer - 12))
+few_by_chunks transfer size counts =
+    let all = counts.few in
+    let rounds = counts.rounds in
+    let count = div_ceil (size + 4) (transfer - 12) in
+    let here = times_each counts.each (suc count) in
+    let there = times_each 1 (suc count) in
+    (omega (arith, all, here), omega (arith, rounds, there), omega (arith, rounds, all, here, there))
 
 -- No packet waits behind these entries, or there was a pump long enough.
 abbrev pub Rests : World → List Entry → Type 0
@@ -78,9 +108,9 @@ Rests world behind = NothingWaits (world_from world behind) ⊎ IsLongPump behin
 abbrev pub HaveTakenAt : ℕ → (most : ℕ) → World → Type 0
 HaveTakenAt n most world = ((b : Requesting) → requester_of n world ≡ Some b → length b.given + b.commands ≤ most) × (length world.responder.given ≤ most)
 
--- Each takes 199 more at most.
+-- Each takes no more than a command leads to.
 abbrev pub TakeFew : World → ℕ → Requesting → World → Type 0
-TakeFew world n a later = (most : ℕ) → most ≤ wear_limit → length a.given + a.commands + 199 ≤ most → length world.responder.given + 198 ≤ most → HaveTakenAt n most later
+TakeFew world n a later = (most : ℕ) → most ≤ wear_limit → length a.given + a.commands + most_asked ≤ most → length world.responder.given + most_served ≤ most → HaveTakenAt n most later
 
 -- No packet waits, what stands aside holds, and few packets were taken.
 pub record Idle (world : World) (n : ℕ) (a : Requesting) (Aside : World → Type 0) (later : World) : Type 0 where
@@ -126,32 +156,32 @@ module _ (w : WorldSetup) (before : List Entry) (n : ℕ) (a : Requesting) (c : 
     record { idle = waits_idle later.sent s.waits; aside = s.aside; takes = takes },
   )
 
-  at_rest : (most : ℕ) (within : most ≤ wear_limit) (Asks Answers : Stage) (Done : Log → asked.History → served.History → Type 0) (result : Finished) (is_talk : IsTalk p Asks Answers Done (event.Done result)) (sent : Sent) → requester_told a command ≡ sends a command sent
-      → (begun : talk.Asking most within p placed.ends Aside aside Asks Answers Done (event.Done result) is_talk (told_by world n (sends a command sent)).after) → begun.more ≤ 2 → Rests (commanding world line n command) behind → NothingWaits (world_from (commanding world line n command) behind)
+  at_rest : (most : ℕ) (within : most ≤ wear_limit) (Asks Answers : Stage) (Done : Log → asked.History → served.History → Type 0) (result : Finished) (is_talk : IsTalk p Asks Answers Done (event.Done result)) (there each : ℕ → ℕ) (short : AreShort there each Asks Answers) (sent : Sent) → requester_told a command ≡ sends a command sent
+      → (begun : talk.Asking most within p placed.ends Aside aside Asks Answers Done (event.Done result) is_talk there each short (told_by world n (sends a command sent)).after) → sum_to there (suc begun.more) + sum_to each (suc begun.more) ≤ most_packets → Rests (commanding world line n command) behind → NothingWaits (world_from (commanding world line n command) behind)
   unfolding happens
-  at_rest most within Asks Answers Done result is_talk sent step begun few (inl idle) = idle
-  at_rest most within Asks Answers Done result is_talk sent step begun few (inr pump) =
+  at_rest most within Asks Answers Done result is_talk there each short sent step begun few (inl idle) = idle
+  at_rest most within Asks Answers Done result is_talk there each short sent step begun few (inr pump) =
       let same = told_is world n a command sent is_told.is_requester step in
       let later = commanding world line n command in
       let count = pump.1 in
       subst (λ (entries : List Entry). NothingWaits (world_from later entries)) (sym pump.3)
       (subst (λ (s : WorldStep). NothingWaits (pumps count s.after).after) (sym same)
-      (enough most within p placed.ends Aside aside Asks Answers Done (event.Done result) is_talk count (told_by world n (sends a command sent)).after begun few pump.2
+      (enough most within p placed.ends Aside aside Asks Answers Done (event.Done result) is_talk there each short count (told_by world n (sends a command sent)).after begun (omega (arith, few, pump.2))
       (subst (λ (s : WorldStep). NoChance (pumps count s.after).after.log) same (subst (λ (entries : List Entry). NoChance (world_from later entries).log) pump.3 chance))))
 
   -- The talk that the message of the command begins, where no end takes more than so much.
-  runs : (most : ℕ) (within : most ≤ wear_limit) → length a.given + a.commands + 199 ≤ most → length world.responder.given + 198 ≤ most
-      → (Asks Answers : Stage) (Done : Log → asked.History → served.History → Type 0) (result : Finished) (is_talk : IsTalk p Asks Answers Done (event.Done result)) (more : ℕ) → more ≤ 2 → (sent : Sent) → requester_told a command ≡ sends a command sent
+  runs : (most : ℕ) (within : most ≤ wear_limit) → length a.given + a.commands + most_asked ≤ most → length world.responder.given + most_served ≤ most
+      → (Asks Answers : Stage) (Done : Log → asked.History → served.History → Type 0) (result : Finished) (is_talk : IsTalk p Asks Answers Done (event.Done result)) (there each : ℕ → ℕ) (short : AreShort there each Asks Answers) (more : ℕ) → AreFew there each more → (sent : Sent) → requester_told a command ≡ sends a command sent
       → Asks more sent.tag (body_of sent.content) (told_view world a c command sent).log (told_view world a c command sent).asked c.history
-      → talk.IsDone most within p placed.ends Aside aside Asks Answers Done (event.Done result) is_talk (world_from (commanding world line n command) behind) × IsIn (lines_from (commanding world line n command) behind) (Line.ToRequester n (event.Done result))
-  runs most within life responder_life Asks Answers Done result is_talk more few sent step asks =
+      → talk.IsDone most within p placed.ends Aside aside Asks Answers Done (event.Done result) is_talk there each short (world_from (commanding world line n command) behind) × IsIn (lines_from (commanding world line n command) behind) (Line.ToRequester n (event.Done result))
+  runs most within life responder_life Asks Answers Done result is_talk there each short more few sent step asks =
       let shown = shows_told Aside world n a c aside command sent (shows_at Aside world n a c placed is_told.is_requester is_told.is_connection is_told.idle beside) in
-      let own_life : length (told_view world a c command sent).given + (told_view world a c command sent).commands + 66 * suc more ≤ most = omega arith in
-      let other_life : length (told_view world a c command sent).received + 66 * suc more ≤ most = omega arith in
-      let begun = begins most within p placed.ends Aside aside Asks Answers Done (event.Done result) is_talk more sent (told_view world a c command sent) (told_by world n (sends a command sent)).after shown asks own_life other_life in
-      let rounds = begins_with most within p placed.ends Aside aside Asks Answers Done (event.Done result) is_talk more sent (told_view world a c command sent) (told_by world n (sends a command sent)).after shown asks own_life other_life in
-      let asking_now = subst (λ (s : WorldStep). talk.Asking most within p placed.ends Aside aside Asks Answers Done (event.Done result) is_talk s.after) (sym (told_is world n a command sent is_told.is_requester step)) begun in
-      talk_ends most within p placed.ends Aside aside Asks Answers Done (event.Done result) is_talk (commanding world line n command) behind none honest chance asking_now (at_rest most within Asks Answers Done result is_talk sent step begun (omega (arith, rounds, few)) still)
+      let own_life : length (told_view world a c command sent).given + (told_view world a c command sent).commands + sum_to each (suc more) ≤ most = (let most_here = few.0 in omega (arith, life, most_here)) in
+      let other_life : length (told_view world a c command sent).received + sum_to there (suc more) ≤ most = (let most_there = few.1 in omega (arith, responder_life, most_there)) in
+      let begun = begins most within p placed.ends Aside aside Asks Answers Done (event.Done result) is_talk there each short more sent (told_view world a c command sent) (told_by world n (sends a command sent)).after shown asks own_life other_life in
+      let rounds = begins_with most within p placed.ends Aside aside Asks Answers Done (event.Done result) is_talk there each short more sent (told_view world a c command sent) (told_by world n (sends a command sent)).after shown asks own_life other_life in
+      let asking_now = subst (λ (s : WorldStep). talk.Asking most within p placed.ends Aside aside Asks Answers Done (event.Done result) is_talk there each short s.after) (sym (told_is world n a command sent is_told.is_requester step)) begun in
+      talk_ends most within p placed.ends Aside aside Asks Answers Done (event.Done result) is_talk there each short (commanding world line n command) behind none honest chance asking_now (at_rest most within Asks Answers Done result is_talk there each short sent step begun (subst (λ (k : ℕ). sum_to there (suc k) + sum_to each (suc k) ≤ most_packets) (sym rounds) few.2) still)
 
   taken_so : (most : ℕ) (later : World) (v : View) → Shows p Aside v [] later → length v.given + v.commands ≤ most → length v.received ≤ most → HaveTakenAt n most later
   taken_so most later v s own other = (
@@ -162,30 +192,38 @@ module _ (w : WorldSetup) (before : List Entry) (n : ℕ) (a : Requesting) (c : 
   all_lives : wear_limit ≤ wear_limit
   all_lives = omega arith
 
+  -- A talk in which each body has so many packets at most.
+  pub completes_within : (Asks Answers : Stage) (Done : Log → asked.History → served.History → Type 0) (result : Finished) (id : ℕ) (left : Bool) → ((log : Log) (h : asked.History) (g : served.History) → Done log h g → AreQuiet a.setup c.setup a.first log h g × (steps.is_live (steps.session_of id h) ≡ left))
+      → IsTalk p Asks Answers Done (event.Done result) → (there each : ℕ → ℕ) → AreShort there each Asks Answers → (more : ℕ) → AreFew there each more → (sent : Sent) → requester_told a command ≡ sends a command sent
+      → Asks more sent.tag (body_of sent.content) (told_view world a c command sent).log (told_view world a c command sent).asked c.history
+      → IsDoneQuietly n a.setup c.setup result id left (world_from (commanding world line n command) behind) (lines_from (commanding world line n command) behind) × Idle world n a Aside (world_from (commanding world line n command) behind)
+  completes_within Asks Answers Done result id left means is_talk there each short more few sent step asks =
+      let later = world_from (commanding world line n command) behind in
+      let e = runs wear_limit all_lives is_told.life.requester is_told.life.responder Asks Answers Done result is_talk there each short more few sent step asks in
+      let d = means e.0.view.log e.0.view.asked e.0.view.served e.0.done in
+      finished_so result id left later (lines_from (commanding world line n command) behind) e.0.view e.0.shows d.0 d.1 e.1
+      (λ most within own other.
+      let f = runs most within own other Asks Answers Done result is_talk there each short more few sent step asks in
+      taken_so most later f.0.view f.0.shows f.0.life f.0.responder_life)
+
+  -- A talk of three rounds or fewer.
   pub completes_by : (Asks Answers : Stage) (Done : Log → asked.History → served.History → Type 0) (result : Finished) (id : ℕ) (left : Bool) → ((log : Log) (h : asked.History) (g : served.History) → Done log h g → AreQuiet a.setup c.setup a.first log h g × (steps.is_live (steps.session_of id h) ≡ left))
       → IsTalk p Asks Answers Done (event.Done result) → (more : ℕ) → more ≤ 2 → (sent : Sent) → requester_told a command ≡ sends a command sent
       → Asks more sent.tag (body_of sent.content) (told_view world a c command sent).log (told_view world a c command sent).asked c.history
       → IsDoneQuietly n a.setup c.setup result id left (world_from (commanding world line n command) behind) (lines_from (commanding world line n command) behind) × Idle world n a Aside (world_from (commanding world line n command) behind)
-  completes_by Asks Answers Done result id left means is_talk more few sent step asks =
-      let later = world_from (commanding world line n command) behind in
-      let e = runs wear_limit all_lives is_told.life.requester is_told.life.responder Asks Answers Done result is_talk more few sent step asks in
-      let d = means e.0.view.log e.0.view.asked e.0.view.served e.0.done in
-      finished_so result id left later (lines_from (commanding world line n command) behind) e.0.view e.0.shows d.0 d.1 e.1
-      (λ most within own other.
-      let f = runs most within own other Asks Answers Done result is_talk more few sent step asks in
-      taken_so most later f.0.view f.0.shows f.0.life f.0.responder_life)
+  completes_by Asks Answers Done result id left means is_talk more few sent step asks = completes_within Asks Answers Done result id left means is_talk (λ more. 66) (λ more. 66) (all_short p Asks Answers Done (event.Done result) is_talk) more (three_few more few) sent step asks
 
   -- ---- What is asked of a session.
 
   module _ (quietly : IsToldQuietly w before n a c command) where
-    pad_short : length (command_chosen a.setup a.history (asking.next_draw a)).pad ≤ 16
+    pub pad_short : length (command_chosen a.setup a.history (asking.next_draw a)).pad ≤ 16
     unfolding chosen
     pad_short =
         let short = min-le_left a.setup.pad (length (asking.next_draw a).bytes) in
         let most = placed.requester.pad in
         omega (arith, length-take a.setup.pad (asking.next_draw a).bytes, short)
 
-    module _ (id : ℕ) (x : Asking) (one : AsksOfSession command) (named : session_in command ≡ Some id) (plain : stage_for x.ask ≡ stage.Open) (small : length (x.inner (session_at a id)) ≤ 1025)
+    module _ (id : ℕ) (x : Asking) (one : AsksOfSession command) (named : session_in command ≡ Some id) (plain : stage_for x.ask ≡ stage.Open) (small : length (x.inner (session_at a id)) ≤ 1025) (known : (turns : List Turn) → x.before turns)
         (asks : done a.setup a.history command (command_chosen a.setup a.history (asking.next_draw a)) (asking.next_draw a) ≡ Adds (WasTold command (sent_for a.setup a.history id x (command_chosen a.setup a.history (asking.next_draw a)).pad) (asking.next_draw a))) where
       abbrev sent : Sent
       sent = sent_for a.setup a.history id x (command_chosen a.setup a.history (asking.next_draw a)).pad
@@ -201,7 +239,7 @@ module _ (w : WorldSetup) (before : List Entry) (n : ℕ) (a : Requesting) (c : 
 
       pub is_asked : (Fit : Steps → Type 0) → Fit (session_at a id) → IsAsked a.setup c.setup a.first id x Fit sent.tag (body_of sent.content) (told_view world a c command sent).log (told_view world a c command sent).asked c.history
       is_asked Fit fit =
-          asked_now a.setup c.setup a.first id x Fit command one world.log a.history c.history (asking.next_draw a) (command_chosen a.setup a.history (asking.next_draw a)).pad quietly.quiet live_so plain fit (omega (arith, pad_short, small)) asks_so
+          asked_now a.setup c.setup a.first id x Fit command one world.log a.history c.history (asking.next_draw a) (command_chosen a.setup a.history (asking.next_draw a)).pad quietly.quiet live_so plain fit (omega (arith, pad_short, small)) asks_so known
 
       -- It takes one round.
       pub once_completes : (Fit : Steps → Type 0) (Good : Steps → Turn → Type 0) (result : Finished) → IsLast p one_key id x Fit Good (event.Done result) → Fit (session_at a id)
@@ -246,7 +284,7 @@ module _ (w : WorldSetup) (before : List Entry) (n : ℕ) (a : Requesting) (c : 
       let key = one_key w before n a c command o.told.now line behind none o.honest o.still o.chance Aside aside beside in
       let short = ltb-false 1024 (length bytes) (passed command o 8) in
       let sid = steps.session_id (session_at a id) in
-      once_completes w before n a c command o.told.now line behind none o.honest o.still o.chance Aside aside beside o.told id (data_asking bytes) (of_session command (λ j n sent s. refl) refl) refl refl (omega arith) refl
+      once_completes w before n a c command o.told.now line behind none o.honest o.still o.chance Aside aside beside o.told id (data_asking bytes) (of_session command (λ j n sent s. refl) refl) refl refl (omega arith) (λ turns. tt) refl
       (CanSend pair key id sid here.requester here.responder bytes) (IsData pair key id sid here.requester here.responder) (finished.Answered sid) (data_last pair key id sid here.requester here.responder bytes) (record { named = refl; short = short })
 
   sent_beat : (id : ℕ) → IsOver (Beat id) → Result (Beat id) id
@@ -255,7 +293,7 @@ module _ (w : WorldSetup) (before : List Entry) (n : ℕ) (a : Requesting) (c : 
       let here = placed w before n a c command o.told.now line behind none o.honest o.still o.chance Aside aside beside in
       let key = one_key w before n a c command o.told.now line behind none o.honest o.still o.chance Aside aside beside in
       let sid = steps.session_id (session_at a id) in
-      once_completes w before n a c command o.told.now line behind none o.honest o.still o.chance Aside aside beside o.told id beat_asking (of_session command (λ j n sent s. refl) refl) refl refl (omega arith) refl
+      once_completes w before n a c command o.told.now line behind none o.honest o.still o.chance Aside aside beside o.told id beat_asking (of_session command (λ j n sent s. refl) refl) refl refl (omega arith) (λ turns. tt) refl
       (CanBeat pair key id sid here.requester here.responder) (IsSpdm pair key id sid here.requester here.responder (canonical_response HeartbeatAck)) (finished.Alive sid) (beat_last pair key id sid here.requester here.responder)
       (record { named = refl; flag = not-false _ (passed command o 5) })
 
@@ -265,20 +303,102 @@ module _ (w : WorldSetup) (before : List Entry) (n : ℕ) (a : Requesting) (c : 
       let here = placed w before n a c command o.told.now line behind none o.honest o.still o.chance Aside aside beside in
       let key = one_key w before n a c command o.told.now line behind none o.honest o.still o.chance Aside aside beside in
       let sid = steps.session_id (session_at a id) in
-      once_completes w before n a c command o.told.now line behind none o.honest o.still o.chance Aside aside beside o.told id end_asking (of_session command (λ j n sent s. refl) refl) refl refl (omega arith) refl
+      once_completes w before n a c command o.told.now line behind none o.honest o.still o.chance Aside aside beside o.told id end_asking (of_session command (λ j n sent s. refl) refl) refl refl (omega arith) (λ turns. tt) refl
       (IsNamed pair key id sid here.requester here.responder) (IsSpdm pair key id sid here.requester here.responder (canonical_response EndSessionAck)) (finished.Ended sid) (end_last pair key id sid here.requester here.responder) (record { named = refl })
 
-  sent_measure : (id op : ℕ) → CanAsk a c (Measure (Some id) op) → IsOver (Measure (Some id) op) → Result (Measure (Some id) op) id
-  sent_measure id op can o =
-      let command = Measure (Some id) op in
-      let live = somewhere a.setup a.history command (command_chosen a.setup a.history (asking.next_draw a)) id (no_fault command o) refl in
-      let here = placed w before n a c command o.told.now line behind none o.honest o.still o.chance Aside aside beside in
-      let key = one_key w before n a c command o.told.now line behind none o.honest o.still o.chance Aside aside beside in
-      let sid = steps.session_id (session_at a id) in
-      let sizes = session_sizes a.setup a.history id (record { transfer = (let most = here.requester.sizes.most in let ordered = here.requester.sizes.ordered in omega arith); max = here.requester.sizes.most }) o.told.quiet.made live in
-      once_completes w before n a c command o.told.now line behind none o.honest o.still o.chance Aside aside beside o.told id (measure_asking op) (of_session command (λ j n sent s. refl) refl) refl refl (omega arith) refl
-      (CanMeasure pair key id sid here.requester here.responder op) (IsMeasured pair key id sid here.requester here.responder op) (finished.Measured (number_for c.setup op)) (measure_last pair key id sid here.requester here.responder op)
-      (record { byte = can.0; block = can.1; chosen = and_second _ _ (not-false _ (passed command o 5)); fits = can.2; fits_own = subst (λ (size : ℕ). measurements_size c.setup op ≤ size) sizes.transfer can.2 })
+  module _ (id op : ℕ) (can : CanAsk a c (Measure (Some id) op)) (o : IsOver (Measure (Some id) op)) where
+    abbrev measuring : Command
+    measuring = Measure (Some id) op
+
+    abbrev here : ArePlaced (world_after w before) n a c
+    here = placed w before n a c measuring o.told.now line behind none o.honest o.still o.chance Aside aside beside
+
+    abbrev key : a.setup.psk ≡ c.setup.psk
+    key = one_key w before n a c measuring o.told.now line behind none o.honest o.still o.chance Aside aside beside
+
+    abbrev sid : SessionId
+    sid = steps.session_id (session_at a id)
+
+    abbrev under : Negotiation
+    under = steps.session_negotiation (session_at a id)
+
+    live_now : steps.is_live (session_at a id) ≡ true
+    live_now = somewhere a.setup a.history measuring (command_chosen a.setup a.history (asking.next_draw a)) id (no_fault measuring o) refl
+
+    sizes : IsCommon a.setup (steps.session_terms (session_at a id)).common
+    sizes = session_sizes a.setup a.history id (record { transfer = (let most = here.requester.sizes.most in let ordered = here.requester.sizes.ordered in omega arith); max = here.requester.sizes.most }) o.told.quiet.made live_now
+
+    measure_chosen : (steps.session_terms (session_at a id)).choice.measure ≡ true
+    measure_chosen = and_second _ _ (not-false _ (passed measuring o 5))
+
+    measured_whole : measurements_size c.setup op ≤ (steps.session_terms (session_at a id)).common.to_requester.transfer → Result measuring id
+    measured_whole fits =
+        once_completes w before n a c measuring o.told.now line behind none o.honest o.still o.chance Aside aside beside o.told id (measure_asking op) (of_session measuring (λ j n sent s. refl) refl) refl refl (omega arith) (λ turns. tt) refl
+        (CanMeasure pair key id sid here.requester here.responder op) (IsMeasured pair key id sid here.requester here.responder op) (finished.Measured (number_for c.setup op)) (measure_last pair key id sid here.requester here.responder op)
+        (record { byte = can.0; block = can.1; chosen = measure_chosen; fits = fits; fits_own = subst (λ (size : ℕ). measurements_size c.setup op ≤ size) sizes.transfer fits })
+
+    -- The answer goes by chunks.
+    module _ (large : (steps.session_terms (session_at a id)).common.to_requester.transfer < measurements_size c.setup op) where
+      in_common : (b : Bool) → (steps.session_terms (session_at a id)).common.chunk ≡ b → b ≡ true
+      in_common true is = refl
+      in_common false is = (let fits = can.2.1 is in absurd (omega (arith, fits, large)))
+
+      goes : GoesLarge a.setup c.setup op under
+      goes = record {
+        byte = can.0;
+        block = can.1;
+        chosen = measure_chosen;
+        fetch = record {
+          room = here.responder.sizes.least;
+          chunk = in_common (steps.session_terms (session_at a id)).common.chunk refl;
+          large = large;
+          fits_max = can.2.0;
+          transfer = sizes.transfer;
+          max = sizes.max;
+          least = here.requester.sizes.least;
+          most = here.requester.sizes.most;
+        };
+      }
+
+      counts : InChunks (transfer_in under) (measurements_size c.setup op)
+      counts =
+          let least = here.requester.sizes.least in
+          let transfer = sizes.transfer in
+          let fits = can.2.0 in
+          let max = sizes.max in
+          let most = here.requester.sizes.most in
+          in_chunks (transfer_in under) (measurements_size c.setup op) (omega (arith, least, transfer)) large (omega (arith, fits, max, most))
+
+      abbrev x : Asking
+      x = large_asking pair id op under goes
+
+      abbrev first_sent : Sent
+      first_sent = sent_for a.setup a.history id x (command_chosen a.setup a.history (asking.next_draw a)).pad
+
+      one_packet : length (body_of first_sent.content) ≤ 64
+      one_packet =
+          let pad = pad_short w before n a c measuring o.told.now line behind none o.honest o.still o.chance Aside aside beside o.told in
+          let long = sealed_length a.setup c.setup a.first id x (session_at a id) (command_chosen a.setup a.history (asking.next_draw a)).pad in
+          omega (arith, pad, long)
+
+      measured_by_chunks : Result measuring id
+      measured_by_chunks =
+          let one = of_session measuring (λ j n sent s. refl) refl in
+          completes_within w before n a c measuring o.told.now line behind none o.honest o.still o.chance Aside aside beside (by_chunks.MeasureAsked pair key id op under goes) (by_chunks.MeasureAnswered pair key id op under goes) (by_chunks.Quiet pair key id op under goes) (finished.Measured (number_for c.setup op)) id true (λ log h g z. (z.quiet, z.session))
+          (by_chunks.session_talk pair key id op under goes) (λ more. 1) (λ more. counts.each) (by_chunks.are_short pair key id op under goes counts.each counts.fits) (by_chunks.count pair key id op under goes) (few_by_chunks (transfer_in under) (measurements_size c.setup op) counts)
+          first_sent (step_so w before n a c measuring o.told.now line behind none o.honest o.still o.chance Aside aside beside o.told id x one refl refl (omega arith) (λ turns. tt) refl)
+          (inl (record {
+            more_is = refl;
+            few = one_packet;
+            is = is_asked w before n a c measuring o.told.now line behind none o.honest o.still o.chance Aside aside beside o.told id x one refl refl (omega arith) (λ turns. tt) refl (IsUnder pair id op under goes) refl;
+          }))
+
+    sent_measure : Result measuring id
+    sent_measure = by_size (nat_le (measurements_size c.setup op) (steps.session_terms (session_at a id)).common.to_requester.transfer) refl
+      where
+        by_size : (b : Bool) → nat_le (measurements_size c.setup op) (steps.session_terms (session_at a id)).common.to_requester.transfer ≡ b → Result measuring id
+        by_size true is = measured_whole (leb-true _ _ is)
+        by_size false is = measured_by_chunks (leb-false _ _ is)
 
   sent_update : (id : ℕ) (all : Bool) → IsOver (Update id all) → Result (Update id all) id
   sent_update id all o =
@@ -288,10 +408,10 @@ module _ (w : WorldSetup) (before : List Entry) (n : ℕ) (a : Requesting) (c : 
       let sid = steps.session_id (session_at a id) in
       let one = of_session command (λ j n sent s. refl) refl in
       completes_by w before n a c command o.told.now line behind none o.honest o.still o.chance Aside aside beside (UpdateTalkAsks pair key id sid here.requester here.responder all) (UpdateTalkAnswers pair key id sid here.requester here.responder all) (UpdateDone pair key id sid here.requester here.responder all) (finished.Updated sid) id true (λ log h g z. (z.quiet, z.session))
-      (update_talk pair key id sid here.requester here.responder all) 1 (omega arith) _ (step_so w before n a c command o.told.now line behind none o.honest o.still o.chance Aside aside beside o.told id (update_asking all) one refl refl (omega arith) refl)
+      (update_talk pair key id sid here.requester here.responder all) 1 (omega arith) _ (step_so w before n a c command o.told.now line behind none o.honest o.still o.chance Aside aside beside o.told id (update_asking all) one refl refl (omega arith) (λ turns. tt) refl)
       (inl (
         refl,
-        is_asked w before n a c command o.told.now line behind none o.honest o.still o.chance Aside aside beside o.told id (update_asking all) one refl refl (omega arith) refl (CanUpdate pair key id sid here.requester here.responder all)
+        is_asked w before n a c command o.told.now line behind none o.honest o.still o.chance Aside aside beside o.told id (update_asking all) one refl refl (omega arith) (λ turns. tt) refl (CanUpdate pair key id sid here.requester here.responder all)
             (record { named = refl; flag = not-false _ (passed command o 5) }),
       ))
 

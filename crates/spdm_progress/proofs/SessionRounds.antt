@@ -1,6 +1,6 @@
 -- A round in a session: a record that asks something of it is on its way to the responder, and then the record that
 -- answers it is on its way back.
-use Rattle.std.proofs.Common.{◌≡◌, ◌≢◌, ◌∙◌, ℕ, ◌<◌, ◌≤◌, ◌+◌, List, [], ◌∷◌, ◌++◌, length, Bool, true, false, Option, Some, None, Result, Ok, Contains, refl, sym, ap, subst, inl, arith, eq-eqb}
+use Rattle.std.proofs.Common.{◌≡◌, ◌≢◌, ◌∙◌, ℕ, ◌<◌, ◌≤◌, ◌+◌, List, [], ◌∷◌, ◌++◌, length, Bool, true, false, Option, Some, None, Result, Ok, Contains, refl, sym, ap, subst, inl, inr, arith, eq-eqb}
 use Rattle.std.specs.Prelude.{if◌then◌else◌}
 use Rattle.std.proofs.lemmas.Bool.{false≢true, ne_eqb}
 use Rattle.std.proofs.lemmas.List.Elements.{Contains-append_left, Contains-append_right, Contains-push}
@@ -52,20 +52,24 @@ use Rattle.responder_machine.specs.Setup.{RspSetup}
 use Rattle.responder_machine.specs.Turn.{Turn}
 use Rattle.world_machine.specs.Chance.{NoChance}
 use Rattle.spdm_progress.specs.InStep.{AreInStep, AreQuiet, AreResting, WasSealed, rsp_id}
-use Rattle.spdm_progress.proofs.AlikeSessions.{IsAnswerTo, behind, is_kept, still_in_step}
+use Rattle.spdm_progress.proofs.AlikeSessions.{IsAnswerTo, IsFetched, MayBring, behind, is_kept, still_in_step}
 use Rattle.spdm_progress.proofs.ManyPackets.{IsBody}
 use Rattle.spdm_progress.proofs.RecordHeard.{asking_in, came_as, heard}
-use Rattle.spdm_progress.proofs.RecordRounds.{Beside, KeepsBeside, beside_on, earlier_on, last_waited, moves_on, quiet_from}
+use Rattle.spdm_progress.proofs.RecordRounds.{Beside, KeepsBeside, beside_on, earlier_on, last_waited, moves_so, quiet_from, turns_waited}
 use Rattle.spdm_progress.proofs.RecordServed.{served as taken}
 use Rattle.spdm_progress.proofs.RecordsBetween.{names_session, no_copy, opens, record_length, tag_is}
 use Rattle.spdm_progress.proofs.StillKept.{AreAlike}
 use Rattle.spdm_progress.proofs.Talk.{IsSendable}
 use Rattle.spdm_progress.proofs.RecordStages.{answer_count, answer_under, awaited_under, live_heard, no_pad, not_end, opens_there, replies_so, sealed_elsewhere, sealed_here, updates_all}
 
--- What is asked of a session: the ask and its inner message, by the session as it stands.
-pub record Asking : Type 0 where
+-- What is asked of a session: the ask and its inner message, by the session as it stands; what its answer brings about at
+-- the requester, by the turn that answered; and what is known of the turns before it at the responder.
+pub record Asking : Type 1 where
   pub ask : Ask
   pub inner : Steps → List ℕ
+  pub brings : Turn → asked.Effect
+  pub may : (t : Turn) → MayBring ask t.reply (brings t)
+  pub before : List Turn → Type 0
 
 module _ (q : ReqSetup) (r : RspSetup) (first id : ℕ) (x : Asking) where
   abbrev pub sealed_for : Steps → List ℕ → List ℕ
@@ -80,7 +84,7 @@ module _ (q : ReqSetup) (r : RspSetup) (first id : ℕ) (x : Asking) where
   answer_for s t = sealed_of (steps.session_terms s).choice (answer_under q.psk s (asks_all x.ask)) (answer_count s (asks_all x.ask)) (steps.id_bytes s) (inner_reply t) []
 
   abbrev pub took_steps : Steps → List ℕ → Turn → Steps
-  took_steps s pad t = TookAnswer (answer_for s t) (inner_reply t) (Grants x.ask t.reply) ∷ asked_steps s pad
+  took_steps s pad t = TookAnswer (answer_for s t) (inner_reply t) (x.brings t) ∷ asked_steps s pad
 
   -- What was sealed with the record.
   abbrev pub made_for : Steps → List ℕ → Log → Log
@@ -102,7 +106,14 @@ module _ (q : ReqSetup) (r : RspSetup) (first id : ℕ) (x : Asking) where
     pub older : Log
     pub log_is : log ≡ made_for s pad older
     pub last : (k : KeptRecord) → events.last_of (events.session_of (rsp_id s) g) ≡ Some k → WasSealed q.psk older s k.sealed
+    pub known : x.before (events.turns_of (events.session_of (rsp_id s) g))
     pub beside : Beside q r first id (rsp_id s) log h g
+
+  -- The turn is the newest of these, behind some of which this was known.
+  pub record IsNewest (t : Turn) (turns : List Turn) : Type 0 where
+    pub earlier : List Turn
+    pub is : turns ≡ t ∷ earlier
+    pub known : x.before earlier
 
   -- Its answer is on its way: a turn of which this is known.
   pub record IsAnswered (Fit : Steps → Type 0) (Good : Steps → Turn → Type 0) (tag : ℕ) (body : List ℕ) (log : Log) (h : asked.History) (g : served.History) : Type 0 where
@@ -122,16 +133,17 @@ module _ (q : ReqSetup) (r : RspSetup) (first id : ℕ) (x : Asking) where
     pub two_bytes : rsp_id s < 65536
     pub kept : is_kept x.ask ≡ true → AreInStep (took_steps s pad t) (events.session_of (rsp_id s) g)
     pub last : is_kept x.ask ≡ true → (k : KeptRecord) → events.last_of (events.session_of (rsp_id s) g) ≡ Some k → k.sealed ≡ sealed_for s pad
+    pub newest : is_kept x.ask ≡ true → IsNewest t (events.turns_of (events.session_of (rsp_id s) g))
     pub made : Contains log (Made (request_purpose q.psk s) (record_input (steps.request_next s) (sealed_for s pad)) (tag_part (sealed_for s pad)))
     pub beside : Beside q r first id (rsp_id s) log h g
 
   -- ---- Both can be sent.
 
-  sealed_length : (s : Steps) (pad : List ℕ) → length (sealed_for s pad) ≡ length (x.inner s) + length pad + 26
+  pub sealed_length : (s : Steps) (pad : List ℕ) → length (sealed_for s pad) ≡ length (x.inner s) + length pad + 26
   unfolding sealed_next
   sealed_length s pad = record_length (steps.session_terms s).choice (request_purpose q.psk s) (steps.request_next s) (id_in_exchange (steps.exchange_of s)) (rsp_id s) (x.inner s) pad
 
-  answer_length : (s : Steps) (t : Turn) → length (answer_for s t) ≡ length (inner_reply t) + 0 + 26
+  pub answer_length : (s : Steps) (t : Turn) → length (answer_for s t) ≡ length (inner_reply t) + 0 + 26
   answer_length s t = record_length (steps.session_terms s).choice (answer_under q.psk s (asks_all x.ask)) (answer_count s (asks_all x.ask)) (id_in_exchange (steps.exchange_of s)) (rsp_id s) (inner_reply t) []
 
   record_is_body : (sealed : List ℕ) → length sealed ≤ 4160 → IsBody (record_body sealed)
@@ -178,6 +190,7 @@ module _ (q : ReqSetup) (r : RspSetup) (first id : ℕ) (x : Asking) where
     older = y.older;
     log_is = y.log_is;
     last = λ k is. y.last k (sym (last_waited _ _ (alike.sessions (rsp_id y.s))) ∙ is);
+    known = subst x.before (sym (turns_waited _ _ (alike.sessions (rsp_id y.s)))) y.known;
     beside = still_beside log h g later (rsp_id y.s) alike y.beside;
   }
 
@@ -199,6 +212,7 @@ module _ (q : ReqSetup) (r : RspSetup) (first id : ℕ) (x : Asking) where
     two_bytes = y.two_bytes;
     kept = λ kept. still_in_step _ _ _ (alike.sessions (rsp_id y.s)) (y.kept kept);
     last = λ kept k is. y.last kept k (sym (last_waited _ _ (alike.sessions (rsp_id y.s))) ∙ is);
+    newest = λ kept. subst (IsNewest y.t) (sym (turns_waited _ _ (alike.sessions (rsp_id y.s)))) (y.newest kept);
     made = y.made;
     beside = still_beside log h g later (rsp_id y.s) alike y.beside;
   }
@@ -207,7 +221,7 @@ module _ (q : ReqSetup) (r : RspSetup) (first id : ℕ) (x : Asking) where
 
   -- What the responder makes of the record: a turn that answers it, of which this is known.
   pub record AreAnswered (Fit : Steps → Type 0) (Good : Steps → Turn → Type 0) : Type 0 where
-    pub turns : (g : served.History) (s : Steps) (e : Events) (f : Free) (sealed : List ℕ) (d : Draw) → Fit s → steps.stage_of s ≡ stage_for x.ask → AreInStep s e → serving_does.IsMade r g → length d.bytes ≡ 32 → events.session_of (id_in_record sealed) g ≡ e → f ≡ record_chosen r g sealed d
+    pub turns : (g : served.History) (s : Steps) (e : Events) (f : Free) (sealed : List ℕ) (d : Draw) → Fit s → steps.stage_of s ≡ stage_for x.ask → AreInStep s e → serving_does.IsMade r g → length d.bytes ≡ 32 → events.session_of (id_in_record sealed) g ≡ e → f ≡ record_chosen r g sealed d → x.before (events.turns_of e)
         → IsAnswerTo x.ask (x.inner s) (session_turn r e (x.inner s) f) × Good s (session_turn r e (x.inner s) f) × (length (session_turn r e (x.inner s) f).reply ≤ 4133)
 
   names : (s : Steps) (pad : List ℕ) → rsp_id s < 65536 → id_in_record (sealed_for s pad) ≡ rsp_id s
@@ -263,7 +277,7 @@ module _ (q : ReqSetup) (r : RspSetup) (first id : ℕ) (x : Asking) where
 
       reply_is : reply_record r.psk e t (inner_reply t) f.pad ≡ answer_for s t
       reply_is =
-          let a = answers.turns g s e f sealed d y.fit y.at y.in_step y.beside.made_there drawn here refl in
+          let a = answers.turns g s e f sealed d y.fit y.at y.in_step y.beside.made_there drawn here refl y.known in
           ap (reply_record r.psk e t (inner_reply t)) (no_pad r g sealed d)
           ∙ ap (λ (psk : List ℕ). reply_record psk e t (inner_reply t) []) (sym same_key)
           ∙ replies_so q.psk s e y.in_step t (asks_all x.ask) (inner_reply t) [] (updates_all x.ask (x.inner s) t a.0)
@@ -299,7 +313,7 @@ module _ (q : ReqSetup) (r : RspSetup) (first id : ℕ) (x : Asking) where
 
       heard_is : is_kept x.ask ≡ true → events.session_of (rsp_id s) new ≡ Heard sealed t (answer_for s t) ∷ e
       heard_is kept =
-          let a = answers.turns g s e f sealed d y.fit y.at y.in_step y.beside.made_there drawn here refl in
+          let a = answers.turns g s e f sealed d y.fit y.at y.in_step y.beside.made_there drawn here refl y.known in
           session_new ∙ live_heard e sealed (answer_for s t) t y.in_step.live (not_end x.ask (x.inner s) t kept a.0)
 
       own_made : (acts : Log) → Contains (acts ++ log) (Made (request_purpose q.psk s) (record_input (steps.request_next s) sealed) (tag_part sealed))
@@ -311,7 +325,7 @@ module _ (q : ReqSetup) (r : RspSetup) (first id : ℕ) (x : Asking) where
 
       after_here : After tag h g log sealed (AddsThere (WasSealedThere tag sealed t (answer_for s t) d))
       after_here =
-          let a = answers.turns g s e f sealed d y.fit y.at y.in_step y.beside.made_there drawn here refl in record {
+          let a = answers.turns g s e f sealed d y.fit y.at y.in_step y.beside.made_there drawn here refl y.known in record {
             s = s;
             pad = y.pad;
             t = t;
@@ -326,8 +340,9 @@ module _ (q : ReqSetup) (r : RspSetup) (first id : ℕ) (x : Asking) where
             at = y.at;
             accepted = y.in_step.accepted;
             two_bytes = y.two_bytes;
-            kept = λ kept. subst (AreInStep (took_steps s y.pad t)) (sym (heard_is kept)) (behind (x.inner s) sealed (answer_for s t) t s e y.in_step x.ask kept a.0);
+            kept = λ kept. subst (AreInStep (took_steps s y.pad t)) (sym (heard_is kept)) (behind (x.inner s) sealed (answer_for s t) t s e y.in_step x.ask (x.brings t) (x.may t) kept a.0);
             last = λ kept k is. sym (ap (λ (z : KeptRecord). z.sealed) (some_same _ k (sym (ap events.last_of (heard_is kept)) ∙ is)));
+            newest = λ kept. record { earlier = events.turns_of e; is = ap events.turns_of (heard_is kept); known = y.known };
             made = own_made acts;
             beside = beside_on q r first id (rsp_id s) acts log h h g new keeps_beside y.beside;
           }
@@ -339,32 +354,36 @@ module _ (q : ReqSetup) (r : RspSetup) (first id : ℕ) (x : Asking) where
 
   -- ---- The requester takes the answer.
 
-  not_ends : (ask : Ask) (answer : List ℕ) → is_kept ask ≡ true → steps.ends (Grants ask answer) ≡ false
-  not_ends AskFinish answer kept = refl
-  not_ends AskData answer kept = refl
-  not_ends AskBeat answer kept = refl
-  not_ends (AskUpdate all) answer kept = refl
-  not_ends AskVerify answer kept = refl
-  not_ends (AskMeasure op) answer kept = refl
-  not_ends (AskChunk op handle number before) answer kept = refl
-  not_ends AskEnd answer kept = absurd (false≢true kept)
+  fetched_ends : (brought : asked.Effect) → IsFetched brought → steps.ends brought ≡ false
+  fetched_ends brought (inl is) = ap steps.ends is
+  fetched_ends brought (inr is) = ap steps.ends is.2
 
-  ends_so : (ask : Ask) (answer : List ℕ) → is_kept ask ≡ false → steps.ends (Grants ask answer) ≡ true
-  ends_so AskEnd answer ends = refl
-  ends_so AskFinish answer ends = absurd (false≢true (sym ends))
-  ends_so AskData answer ends = absurd (false≢true (sym ends))
-  ends_so AskBeat answer ends = absurd (false≢true (sym ends))
-  ends_so (AskUpdate all) answer ends = absurd (false≢true (sym ends))
-  ends_so AskVerify answer ends = absurd (false≢true (sym ends))
-  ends_so (AskMeasure op) answer ends = absurd (false≢true (sym ends))
-  ends_so (AskChunk op handle number before) answer ends = absurd (false≢true (sym ends))
+  not_ends : (ask : Ask) (answer : List ℕ) (brought : asked.Effect) → MayBring ask answer brought → is_kept ask ≡ true → steps.ends brought ≡ false
+  not_ends AskFinish answer brought may kept = ap steps.ends may
+  not_ends AskData answer brought may kept = ap steps.ends may
+  not_ends AskBeat answer brought may kept = ap steps.ends may
+  not_ends (AskUpdate all) answer brought may kept = ap steps.ends may
+  not_ends AskVerify answer brought may kept = ap steps.ends may
+  not_ends (AskMeasure op) answer brought may kept = fetched_ends brought may
+  not_ends (AskChunk op handle number before) answer brought may kept = fetched_ends brought may
+  not_ends AskEnd answer brought may kept = absurd (false≢true kept)
+
+  ends_so : (ask : Ask) (answer : List ℕ) (brought : asked.Effect) → MayBring ask answer brought → is_kept ask ≡ false → steps.ends brought ≡ true
+  ends_so AskEnd answer brought may ends = ap steps.ends may
+  ends_so AskFinish answer brought may ends = absurd (false≢true (sym ends))
+  ends_so AskData answer brought may ends = absurd (false≢true (sym ends))
+  ends_so AskBeat answer brought may ends = absurd (false≢true (sym ends))
+  ends_so (AskUpdate all) answer brought may ends = absurd (false≢true (sym ends))
+  ends_so AskVerify answer brought may ends = absurd (false≢true (sym ends))
+  ends_so (AskMeasure op) answer brought may ends = absurd (false≢true (sym ends))
+  ends_so (AskChunk op handle number before) answer brought may ends = absurd (false≢true (sym ends))
 
   module _ (Fit : Steps → Type 0) (Good : Steps → Turn → Type 0) (tag : ℕ) (log : Log) (h : asked.History) (g : served.History) (d : Draw) (body : List ℕ) (y : IsAnswered Fit Good tag body log h g) (event : Event) (next : Option Sent) where
     abbrev reply : List ℕ
     reply = answer_for y.s y.t
 
     abbrev pub led : Led
-    led = record { event = event; effect = Grants x.ask y.t.reply; next = next }
+    led = record { event = event; effect = x.brings y.t; next = next }
 
     abbrev pub entry : asked.Entry
     entry = TookRecord tag id reply (inner_reply y.t) led d
@@ -395,19 +414,19 @@ module _ (q : ReqSetup) (r : RspSetup) (first id : ℕ) (x : Asking) where
       abbrev pub behind_it : asked.History
       behind_it = entry ∷ h
 
-      session_then : steps.session_of id behind_it ≡ steps.with_sent id next (steps.after_record reply (inner_reply y.t) (Grants x.ask y.t.reply) (steps.session_of id h))
+      session_then : steps.session_of id behind_it ≡ steps.with_sent id next (steps.after_record reply (inner_reply y.t) (x.brings y.t) (steps.session_of id h))
       unfolding steps.session_of
-      session_then = ap (λ (b : Bool). if b then steps.with_sent id next (steps.after_record reply (inner_reply y.t) (Grants x.ask y.t.reply) (steps.session_of id h)) else steps.session_of id h) (eq-eqb id id refl)
+      session_then = ap (λ (b : Bool). if b then steps.with_sent id next (steps.after_record reply (inner_reply y.t) (x.brings y.t) (steps.session_of id h)) else steps.session_of id h) (eq-eqb id id refl)
 
       pub took_is : is_kept x.ask ≡ true → steps.session_of id behind_it ≡ steps.with_sent id next (took_steps y.s y.pad y.t)
       took_is kept =
           session_then
-          ∙ ap (λ (z : Steps). steps.with_sent id next (steps.after_record reply (inner_reply y.t) (Grants x.ask y.t.reply) z)) y.steps_are
-          ∙ ap (λ (b : Bool). steps.with_sent id next (if b then [] else took_steps y.s y.pad y.t)) (not_ends x.ask y.t.reply kept)
+          ∙ ap (λ (z : Steps). steps.with_sent id next (steps.after_record reply (inner_reply y.t) (x.brings y.t) z)) y.steps_are
+          ∙ ap (λ (b : Bool). steps.with_sent id next (if b then [] else took_steps y.s y.pad y.t)) (not_ends x.ask y.t.reply (x.brings y.t) (x.may y.t) kept)
 
       elsewhere : (j : ℕ) → j ≢ id → steps.session_of j behind_it ≡ steps.session_of j h
       unfolding steps.session_of
-      elsewhere j other = ap (λ (b : Bool). if b then steps.with_sent j next (steps.after_record reply (inner_reply y.t) (Grants x.ask y.t.reply) (steps.session_of j h)) else steps.session_of j h) (ne_eqb id j (λ same. other (sym same)))
+      elsewhere j other = ap (λ (b : Bool). if b then steps.with_sent j next (steps.after_record reply (inner_reply y.t) (x.brings y.t) (steps.session_of j h)) else steps.session_of j h) (ne_eqb id j (λ same. other (sym same)))
 
       pub beside_then : (acts : Log) → Beside q r first id (rsp_id y.s) (acts ++ log) behind_it g
       beside_then acts = beside_on q r first id (rsp_id y.s) acts log h behind_it g g (record {
@@ -428,7 +447,7 @@ module _ (q : ReqSetup) (r : RspSetup) (first id : ℕ) (x : Asking) where
         purpose = request_purpose q.psk y.s;
         number = steps.request_next y.s;
         made = Contains-append_right acts log _ y.made;
-        other = moves_on x.ask q.psk (x.inner y.s) (sealed_for y.s y.pad) reply (inner_reply y.t) y.t.reply y.s kept y.at;
+        other = moves_so x.ask q.psk (x.inner y.s) (sealed_for y.s y.pad) reply (inner_reply y.t) y.t.reply y.s (x.brings y.t) (x.may y.t) kept y.at;
       })
 
       -- ---- Nothing follows.
@@ -446,8 +465,8 @@ module _ (q : ReqSetup) (r : RspSetup) (first id : ℕ) (x : Asking) where
       gone_is : is_kept x.ask ≡ false → next ≡ None → steps.session_of id behind_it ≡ []
       gone_is ends last =
           session_then
-          ∙ ap (λ (o : Option Sent). steps.with_sent id o (steps.after_record reply (inner_reply y.t) (Grants x.ask y.t.reply) (steps.session_of id h))) last
-          ∙ ap (λ (b : Bool). if b then [] else steps.when_live (steps.session_of id h) (TookAnswer reply (inner_reply y.t) (Grants x.ask y.t.reply))) (ends_so x.ask y.t.reply ends)
+          ∙ ap (λ (o : Option Sent). steps.with_sent id o (steps.after_record reply (inner_reply y.t) (x.brings y.t) (steps.session_of id h))) last
+          ∙ ap (λ (b : Bool). if b then [] else steps.when_live (steps.session_of id h) (TookAnswer reply (inner_reply y.t) (x.brings y.t))) (ends_so x.ask y.t.reply (x.brings y.t) (x.may y.t) ends)
 
       pub quiet_gone : (acts : Log) → next ≡ None → is_kept x.ask ≡ false → AreQuiet q r first (acts ++ log) behind_it g
       quiet_gone acts last ends =

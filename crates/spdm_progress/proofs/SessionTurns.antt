@@ -1,6 +1,7 @@
 -- What a responder makes of each thing that is asked of an open session, and the requester of its answer.
-use Rattle.std.proofs.Common.{◌≡◌, ◌≢◌, ◌∙◌, ℕ, suc, ◌<◌, ◌≤◌, ◌+◌, ◌&&◌, ◌||◌, not, List, ◌∷◌, length, Bool, true, false, nat_lt, None, Result, Ok, refl, sym, ap, subst, arith}
+use Rattle.std.proofs.Common.{◌≡◌, ◌≢◌, ◌∙◌, ℕ, suc, ◌<◌, ◌≤◌, ◌&&◌, ◌||◌, not, List, ◌∷◌, length, Bool, true, false, nat_lt, None, Result, Ok, refl, sym, ap, subst, arith}
 use Rattle.spdm_basis.proofs.Bools.{lt_false}
+use Rattle.spdm_grammar.specs.declared.names.TheConstants.{MIN_DATA_TRANSFER_SIZE}
 use Rattle.spdm_grammar.specs.Message.{RequestMessage, ResponseMessage}
 use Rattle.spdm_grammar.specs.Message.RequestMessage.{EndSession, GetMeasurements, Heartbeat, KeyUpdate}
 use Rattle.spdm_grammar.specs.Message.ResponseMessage.{EndSessionAck, HeartbeatAck, KeyUpdateAck}
@@ -21,6 +22,9 @@ use Rattle.requester_machine.specs.Sending.{inner_data, inner_request}
 use Rattle.requester_machine.specs.Session as steps
 use Rattle.requester_machine.specs.Setup.{ReqSetup}
 use Rattle.responder_machine.specs.Answer.{Free, answer_of}
+use Rattle.responder_machine.specs.Does.{chosen, record_chosen}
+use Rattle.responder_machine.specs.History as served
+use Rattle.spdm_machine.specs.Keys.{Draw}
 use Rattle.responder_machine.specs.Handling.{goes_large, turn_of}
 use Rattle.responder_machine.specs.Place.{session_place}
 use Rattle.responder_machine.specs.Refusal.{fits_stage, has_pending, is_answer_too_long, lacks_flag, stage_allows}
@@ -30,9 +34,9 @@ use Rattle.responder_machine.specs.Session.{Events}
 use Rattle.responder_machine.specs.Setup.{RspSetup, inventory_of}
 use Rattle.responder_machine.specs.Turn.{Turn}
 use Rattle.measurements.specs.Records.{is_missing}
-use Rattle.spdm_progress.proofs.MeasureStages.{measures_flag}
+use Rattle.spdm_progress.proofs.MeasureStages.{measurements, measures_flag}
 use Rattle.spdm_progress.proofs.OnePacket.{positive}
-use Rattle.spdm_progress.proofs.ResponderStages.{both_short}
+use Rattle.spdm_progress.proofs.ResponderStages.{both_short, zero_plus}
 use Rattle.spdm_progress.proofs.ResponderTurns.{read_at, taken_at, taken_turn}
 
 -- ---- An SPDM message in a session.
@@ -41,9 +45,6 @@ use Rattle.spdm_progress.proofs.ResponderTurns.{read_at, taken_at, taken_turn}
 pub record TakesInSession (e : Events) (n : ℕ) : Type 0 where
   pub max : n ≤ (events.session_terms e).common.to_requester.max
   pub transfer : n ≤ (events.session_terms e).common.to_requester.transfer
-
-zero_plus : (n : ℕ) → 0 + n ≡ n
-zero_plus n = omega arith
 
 pub not_too_long_in : (e : Events) (answer : List ℕ) → TakesInSession e (length answer) → is_answer_too_long (session_place e) answer ≡ false
 not_too_long_in e answer k =
@@ -64,7 +65,7 @@ pub read_inside : (r : RspSetup) (e : Events) (m : List ℕ) (f : Free) → inne
 unfolding session_turn
 read_inside r e m f none = ap (session_turn_by r e (5 ∷ m) f) none
 
-pub beat_turn : (r : RspSetup) (e : Events) (f : Free) → 42 ≤ r.transfer → events.stage_of e ≡ stage.Open → (events.session_terms e).common.heartbeat ≡ true → TakesInSession e 4 → session_turn r e (inner_request Heartbeat) f ≡ turn_in r e f Heartbeat
+pub beat_turn : (r : RspSetup) (e : Events) (f : Free) → MIN_DATA_TRANSFER_SIZE ≤ r.transfer → events.stage_of e ≡ stage.Open → (events.session_terms e).common.heartbeat ≡ true → TakesInSession e 4 → session_turn r e (inner_request Heartbeat) f ≡ turn_in r e f Heartbeat
 beat_turn r e f room at flag takes =
     read_inside r e (canonical_request Heartbeat) f refl
     ∙ taken_at r (session_place e) (canonical_request Heartbeat) f Heartbeat (read_at (session_place e) Heartbeat tt tt) refl
@@ -96,7 +97,7 @@ beat_turn r e f room at flag takes =
     beats : (terms : Terms) → terms.common.heartbeat ≡ true → lacks_flag terms HEARTBEAT ≡ false
     beats terms is = rw is refl
 
-pub end_turn : (r : RspSetup) (e : Events) (f : Free) → 42 ≤ r.transfer → events.stage_of e ≡ stage.Open → TakesInSession e 4 → session_turn r e (inner_request EndSession) f ≡ turn_in r e f EndSession
+pub end_turn : (r : RspSetup) (e : Events) (f : Free) → MIN_DATA_TRANSFER_SIZE ≤ r.transfer → events.stage_of e ≡ stage.Open → TakesInSession e 4 → session_turn r e (inner_request EndSession) f ≡ turn_in r e f EndSession
 end_turn r e f room at takes =
     read_inside r e (canonical_request EndSession) f refl
     ∙ taken_at r (session_place e) (canonical_request EndSession) f EndSession (read_at (session_place e) EndSession tt tt) refl
@@ -119,7 +120,7 @@ stage_updates stage.Handshake op pending past = absurd (past refl)
 stage_updates stage.Open op pending past = refl
 stage_updates stage.Verifying op pending past = refl
 
-pub update_turn : (r : RspSetup) (e : Events) (f : Free) (op tag : ℕ) → 42 ≤ r.transfer → 1 ≤ op → op ≤ 3 → tag < 256 → events.stage_of e ≢ stage.Handshake → fits_stage (events.stage_of e) op ≡ true → (events.session_terms e).common.key_update ≡ true → TakesInSession e 4
+pub update_turn : (r : RspSetup) (e : Events) (f : Free) (op tag : ℕ) → MIN_DATA_TRANSFER_SIZE ≤ r.transfer → 1 ≤ op → op ≤ 3 → tag < 256 → events.stage_of e ≢ stage.Handshake → fits_stage (events.stage_of e) op ≡ true → (events.session_terms e).common.key_update ≡ true → TakesInSession e 4
     → session_turn r e (inner_request (KeyUpdate op tag)) f ≡ turn_in r e f (KeyUpdate op tag)
 update_turn r e f op tag room least most byte past at flag takes =
     read_inside r e (canonical_request (KeyUpdate op tag)) f refl
@@ -153,7 +154,7 @@ update_turn r e f op tag room least most byte past at flag takes =
     updates_flag terms is = rw is refl
 
 -- GET_MEASUREMENTS, whose answer fits.
-pub measure_turn_in : (r : RspSetup) (e : Events) (f : Free) (op : ℕ) → 42 ≤ r.transfer → op < 256 → events.stage_of e ≡ stage.Open → (events.session_terms e).choice.measure ≡ true → is_missing op (inventory_of r) ≡ false
+pub measure_turn_in : (r : RspSetup) (e : Events) (f : Free) (op : ℕ) → MIN_DATA_TRANSFER_SIZE ≤ r.transfer → op < 256 → events.stage_of e ≡ stage.Open → (events.session_terms e).choice.measure ≡ true → is_missing op (inventory_of r) ≡ false
     → TakesInSession e (length (canonical_response (answer_of r (session_place e) (canonical_request (GetMeasurements op)) f (GetMeasurements op)))) → session_turn r e (inner_request (GetMeasurements op)) f ≡ turn_in r e f (GetMeasurements op)
 measure_turn_in r e f op room byte at flag block takes =
     let answer = canonical_response (answer_of r (session_place e) (canonical_request (GetMeasurements op)) f (GetMeasurements op)) in
@@ -183,6 +184,11 @@ measure_turn_in r e f op room byte at flag block takes =
       limit = refl;
     })
     (not_large_in e answer takes)
+
+-- MEASUREMENTS as the responder makes it.
+pub measured_in : (r : RspSetup) (g : served.History) (e : Events) (sealed : List ℕ) (d : Draw) (op : ℕ) → canonical_response (answer_of r (session_place e) (canonical_request (GetMeasurements op)) (record_chosen r g sealed d) (GetMeasurements op)) ≡ measurements r op d.bytes
+unfolding chosen
+measured_in r g e sealed d op = refl
 
 -- Application data.
 pub data_turn_in : (r : RspSetup) (e : Events) (bytes : List ℕ) (f : Free) → events.stage_of e ≡ stage.Open → length bytes ≤ 1024 → session_turn r e (inner_data bytes) f ≡ data_turn f bytes

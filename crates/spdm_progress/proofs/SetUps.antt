@@ -125,8 +125,8 @@ algorithms_size r offer = reply_size offer (unwrap_or (selected offer (policy_of
 -- ---- All together.
 
 pub record CanTalk (q : ReqSetup) (r : RspSetup) (offer : OfferMessage) (choice : Choice) : Type 0 where
-  pub requester_room : 42 ≤ q.transfer
-  pub responder_room : 42 ≤ r.transfer
+  pub requester_room : MIN_DATA_TRANSFER_SIZE ≤ q.transfer
+  pub responder_room : MIN_DATA_TRANSFER_SIZE ≤ r.transfer
   pub own_caps : FitsRequest (GetCapabilities (requester_caps q))
   pub their_caps : FitsResponse (Capabilities (responder_caps r))
   pub together : common_of (requester_caps q) (responder_caps r) ≡ Ok (common_for q r)

@@ -43,7 +43,7 @@ module _ (p : Pair) (same_key : p.requester.psk ≡ p.responder.psk) (id : ℕ) 
   pub record IsLast : Type 0 where
     pub answers : AreAnswered p.requester p.responder p.first id x Fit Good
     pub leads : (h : asked.History) (d : Draw) (s : Steps) (pad : List ℕ) (t : Turn) → Fit s → Good s t → steps.session_of id h ≡ asked_steps p.requester p.responder p.first id x s pad
-        → inner_led p.requester h (body_chosen p.requester h d) (came_as h id (answer_for p.requester p.responder p.first id x s t) (inner_reply t)) x.ask ≡ Ok (record { event = told; effect = Grants x.ask t.reply; next = None })
+        → inner_led p.requester h (body_chosen p.requester h d) (came_as h id (answer_for p.requester p.responder p.first id x s t) (inner_reply t)) x.ask ≡ Ok (record { event = told; effect = x.brings t; next = None })
     pub at_end : (s : Steps) (pad : List ℕ) (t : Turn) → steps.stage_of s ≡ stage_for x.ask → is_kept x.ask ≡ true → steps.stage_of (took_steps p.requester p.responder p.first id x s pad t) ≡ stage.Open
 
   quiet_behind : (k : Bool) → is_kept x.ask ≡ k → IsLast → (more tag : ℕ) (body : List ℕ) (log : Log) (h : asked.History) (g : served.History) (d : Draw) → (y : IsAnswered p.requester p.responder p.first id x Fit Good tag body log h g)

@@ -27,12 +27,13 @@ IsSameSession old new = (new ≡ old) ⊎ ((seconds : ℕ) × (is_live old ≡ t
 -- Two histories of one connection between which nothing came but queued data and time that ended no session.
 pub record AreAlike (r : RspSetup) (old new : served.History) : Type 0 where
   pub clear : SameClear old new
+  pub turns : served.clear_turns new ≡ served.clear_turns old
   pub made : IsMade r old → IsMade r new
   pub ended : served.ended_of new ≡ served.ended_of old
   pub sessions : (id : ℕ) → IsSameSession (session_of id old) (session_of id new)
 
 pub alike_itself : (r : RspSetup) (h : served.History) → AreAlike r h h
-alike_itself r h = record { clear = same_clear h; made = λ m. m; ended = refl; sessions = λ id. inl refl }
+alike_itself r h = record { clear = same_clear h; turns = refl; made = λ m. m; ended = refl; sessions = λ id. inl refl }
 
 -- ---- Queued data.
 
@@ -48,7 +49,7 @@ queued_within c bytes is = go (nat_lt 1024 (length bytes)) (nat_le 16 (length (s
 
 queued_alike : (r : RspSetup) (h : served.History) (bytes : List ℕ) → length bytes ≤ 1024 → length (served.queue_of h) < 16 → AreAlike r h (Queued bytes ∷ h)
 unfolding session_of
-queued_alike r h bytes short room = record { clear = queued_same h bytes; made = λ m. (short, room, m); ended = refl; sessions = λ id. inl refl }
+queued_alike r h bytes short room = record { clear = queued_same h bytes; turns = refl; made = λ m. (short, room, m); ended = refl; sessions = λ id. inl refl }
 
 -- ---- Time.
 
@@ -64,7 +65,7 @@ ticked_session (e ∷ s) seconds lives = ticked_by (is_timed (e ∷ s)) (nat_le 
 
 ticked_alike : (r : RspSetup) (h : served.History) (seconds : ℕ) → ((id : ℕ) → is_live (session_of id h) ≡ true → is_live (after_tick (session_of id h) seconds) ≡ true) → AreAlike r h (Ticked seconds ∷ h)
 unfolding session_of
-ticked_alike r h seconds lives = record { clear = ticked_same h seconds; made = λ m. m; ended = refl; sessions = λ id. ticked_session (session_of id h) seconds (lives id) }
+ticked_alike r h seconds lives = record { clear = ticked_same h seconds; turns = refl; made = λ m. m; ended = refl; sessions = λ id. ticked_session (session_of id h) seconds (lives id) }
 
 -- ---- The connection of a pair.
 

@@ -1,6 +1,6 @@
 -- Two ends talk in rounds: a request and its answer, each in packets that wait in order, until an answer after which
 -- nothing is sent. Honest delivery brings every such talk to its end.
-use Rattle.std.proofs.Common.{◌≡◌, ◌⊎◌, ℕ, zero, suc, ◌<◌, ◌≤◌, ◌+◌, ◌*◌, ◌==◌, ◌||◌, List, [], ◌++◌, length, true, false, Option, Some, None, unwrap_or, refl, sym, subst, inl, inr, arith}
+use Rattle.std.proofs.Common.{◌≡◌, ◌⊎◌, ℕ, zero, suc, ◌<◌, ◌≤◌, ◌+◌, ◌*◌, ◌==◌, ◌||◌, List, [], ◌++◌, length, true, false, Option, Some, None, unwrap_or, refl, sym, ap, subst, inl, inr, arith}
 use Rattle.mctp_framing.specs.Cutting.{packet_count}
 use Rattle.spdm_grammar.specs.Lines.{Line}
 use Rattle.spdm_grammar.specs.declared.event.Event.{Event}
@@ -30,7 +30,7 @@ use Rattle.world_machine.specs.World.{World, WorldStep, first_waiting, packet_of
 use Rattle.spdm_progress.specs.Honest.{NothingWaits, AreHonest, HaveNoCommand}
 use Rattle.spdm_progress.proofs.Aside.{IsAside}
 use Rattle.spdm_progress.proofs.Between.{Goes, GoesOn, Ends, IsGiven, IsOfEarlier, IsStill, ended, pumps_done}
-use Rattle.spdm_progress.proofs.ManyPackets.{IsBody, before_it, few_packets, none_came, waits_idle}
+use Rattle.spdm_progress.proofs.ManyPackets.{IsBody, before_it, none_came, packets_within, waits_idle}
 use Rattle.spdm_progress.proofs.PacketSteps.{Pair, AreEnds}
 use Rattle.spdm_progress.proofs.StillKept.{AreAlike, still_alike}
 use Rattle.spdm_progress.proofs.Views.{View, Shows, heard_view, shows_still, RequestComes, AnswerComes, IsServed, IsHeard, first_request, request_goes_on, request_ends, first_answer, answer_goes_on, answer_ends}
@@ -56,6 +56,16 @@ module _ (p : Pair) (Asks : Stage) (Done : Log → asked.History → served.Hist
     Further : (next : Sent) → (fewer : ℕ) → more ≡ suc fewer → shown.sent_by o ≡ Some next → Asks fewer next.tag (body_of next.content) log (shown.after h o) g → Leads more o log h g
     Over : shown.sent_by o ≡ None → shown.event_of o ≡ Some told → Done log (shown.after h o) g → Leads more o log h g
 
+-- Each request of these stages is short enough for so many packets, and each answer for so many, by how many rounds follow.
+pub record AreShort (there round : ℕ → ℕ) (Asks Answers : Stage) : Type 0 where
+  pub asks : (more tag : ℕ) (body : List ℕ) (log : Log) (h : asked.History) (g : served.History) → Asks more tag body log h g → length body ≤ 64 * there more
+  pub answers : (more tag : ℕ) (body : List ℕ) (log : Log) (h : asked.History) (g : served.History) → Answers more tag body log h g → length body ≤ 64 * round more
+
+-- So many packets in all of the last rounds.
+abbrev pub sum_to : (ℕ → ℕ) → ℕ → ℕ
+sum_to each zero = 0
+sum_to each (suc more) = sum_to each more + each more
+
 -- What makes such a talk of these stages.
 pub record IsTalk (p : Pair) (Asks Answers : Stage) (Done : Log → asked.History → served.History → Type 0) (told : Event) : Type 0 where
   pub asks_sent : (more tag : ℕ) (body : List ℕ) (log : Log) (h : asked.History) (g : served.History) → Asks more tag body log h g → IsSendable tag body
@@ -68,11 +78,15 @@ pub record IsTalk (p : Pair) (Asks Answers : Stage) (Done : Log → asked.Histor
   pub answers_still : (more tag : ℕ) (body : List ℕ) (log : Log) (h : asked.History) (g later : served.History) → AreAlike p.responder g later → Answers more tag body log h g → Answers more tag body log h later
   pub done_still : (log : Log) (h : asked.History) (g later : served.History) → AreAlike p.responder g later → Done log h g → Done log h later
 
-module _ (limit : ℕ) (within : limit ≤ wear_limit) (p : Pair) (ends : AreEnds p) (Aside : World → Type 0) (aside : IsAside p Aside) (Asks Answers : Stage) (Done : Log → asked.History → served.History → Type 0) (told : Event) (talk : IsTalk p Asks Answers Done told) where
-  -- A body has at most 66 packets, so each end takes as many in a round.
-  abbrev round : ℕ
-  round = 66
+-- No body has more than 66 packets.
+pub all_short : (p : Pair) (Asks Answers : Stage) (Done : Log → asked.History → served.History → Type 0) (told : Event) → IsTalk p Asks Answers Done told → AreShort (λ more. 66) (λ more. 66) Asks Answers
+all_short p Asks Answers Done told talk = record {
+  asks = λ more tag body log h g asks. (let fits = (talk.asks_sent more tag body log h g asks).whole.fits in omega (arith, fits));
+  answers = λ more tag body log h g answers. (let fits = (talk.answers_sent more tag body log h g answers).whole.fits in omega (arith, fits));
+}
 
+module _ (limit : ℕ) (within : limit ≤ wear_limit) (p : Pair) (ends : AreEnds p) (Aside : World → Type 0) (aside : IsAside p Aside) (Asks Answers : Stage) (Done : Log → asked.History → served.History → Type 0) (told : Event) (talk : IsTalk p Asks Answers Done told)
+    (there round : ℕ → ℕ) (short : AreShort there round Asks Answers) where
   -- So many packets of a request, or of an answer, were given.
   pub record Asking (world : World) : Type 0 where
     pub more : ℕ
@@ -83,10 +97,10 @@ module _ (limit : ℕ) (within : limit ≤ wear_limit) (p : Pair) (ends : AreEnd
     pub asks : Asks more tag body view.log view.asked view.served
     pub done : ℕ
     pub left : ℕ
-    pub few : suc left ≤ round
+    pub few : suc left ≤ there more
     pub comes : RequestComes p ends Aside aside tag body sent.small sent.whole done left view world
-    pub life : length view.given + view.commands + round * suc more ≤ limit
-    pub responder_life : length view.received + suc left + round * more ≤ limit
+    pub life : length view.given + view.commands + sum_to round (suc more) ≤ limit
+    pub responder_life : length view.received + suc left + sum_to there more ≤ limit
 
   pub record Answering (world : World) : Type 0 where
     pub more : ℕ
@@ -97,10 +111,10 @@ module _ (limit : ℕ) (within : limit ≤ wear_limit) (p : Pair) (ends : AreEnd
     pub answers : Answers more tag body view.log view.asked view.served
     pub done : ℕ
     pub left : ℕ
-    pub few : suc left ≤ round
+    pub few : suc left ≤ round more
     pub comes : AnswerComes p ends Aside aside tag body sent.small sent.whole done left view world
-    pub life : length view.given + view.commands + suc left + round * more ≤ limit
-    pub responder_life : length view.received + round * more ≤ limit
+    pub life : length view.given + view.commands + suc left + sum_to round more ≤ limit
+    pub responder_life : length view.received + sum_to there more ≤ limit
 
   abbrev pub IsUnderWay : World → Type 0
   IsUnderWay world = Asking world ⊎ Answering world
@@ -117,19 +131,18 @@ module _ (limit : ℕ) (within : limit ≤ wear_limit) (p : Pair) (ends : AreEnd
 
   -- ---- A body was just sent.
 
-  left_of : (unit : ℕ) (body : List ℕ) → 64 ≤ unit → IsBody body → (left : ℕ) × (suc left ≡ packet_count unit body) × (packet_count unit body ≤ round)
-  left_of unit body wide whole =
-      let fits = whole.fits in
-      let count = few_packets unit body wide whole.filled (omega arith) in
+  left_of : (each unit : ℕ) (body : List ℕ) → 64 ≤ unit → IsBody body → length body ≤ 64 * each → (left : ℕ) × (suc left ≡ packet_count unit body) × (packet_count unit body ≤ each)
+  left_of each unit body wide whole fits =
+      let count = packets_within unit each body wide whole.filled fits in
       let left = before_it (packet_count unit body) count.0 in
       (left.0, left.1, count.1)
 
   pub begins : (more : ℕ) (next : Sent) (v : View) (world : World) → Shows p Aside v (packets_of_sent p.requester (Some next)) world → Asks more next.tag (body_of next.content) v.log v.asked v.served
-      → length v.given + v.commands + round * suc more ≤ limit → length v.received + round * suc more ≤ limit → Asking world
+      → length v.given + v.commands + sum_to round (suc more) ≤ limit → length v.received + sum_to there (suc more) ≤ limit → Asking world
   begins more next v world s asks life responder_life =
       let body = body_of next.content in
       let sendable = talk.asks_sent more next.tag body v.log v.asked v.served asks in
-      let left = left_of p.requester.unit body ends.requester_unit sendable.whole in record {
+      let left = left_of (there more) p.requester.unit body ends.requester_unit sendable.whole (short.asks more next.tag body v.log v.asked v.served asks) in record {
         more = more;
         tag = next.tag;
         body = body;
@@ -149,18 +162,18 @@ module _ (limit : ℕ) (within : limit ≤ wear_limit) (p : Pair) (ends : AreEnd
       }
 
   pub begins_with : (more : ℕ) (next : Sent) (v : View) (world : World) (shows : Shows p Aside v (packets_of_sent p.requester (Some next)) world) (asks : Asks more next.tag (body_of next.content) v.log v.asked v.served)
-      (life : length v.given + v.commands + round * suc more ≤ limit) (responder_life : length v.received + round * suc more ≤ limit) → (begins more next v world shows asks life responder_life).more ≡ more
+      (life : length v.given + v.commands + sum_to round (suc more) ≤ limit) (responder_life : length v.received + sum_to there (suc more) ≤ limit) → (begins more next v world shows asks life responder_life).more ≡ more
   unfolding begins
   begins_with more next v world shows asks life responder_life = refl
 
-  answered : (world : World) (more tag : ℕ) (body : List ℕ) (sent : IsSendable tag body) (v : View) (done : ℕ) → NoChance v.log → Asks more tag body v.log v.asked v.served → length v.given + v.commands + round * suc more ≤ limit
-      → length v.received + 1 + round * more ≤ limit → IsServed p ends Aside aside tag body sent.small sent.whole done v world → Answering world
+  answered : (world : World) (more tag : ℕ) (body : List ℕ) (sent : IsSendable tag body) (v : View) (done : ℕ) → NoChance v.log → Asks more tag body v.log v.asked v.served → length v.given + v.commands + sum_to round (suc more) ≤ limit
+      → length v.received + 1 + sum_to there more ≤ limit → IsServed p ends Aside aside tag body sent.small sent.whole done v world → Answering world
   answered world more tag body sent v done chance asks life responder_life x =
       let o = responder_does p.responder v.served tag body x.drawn in
       let reply = answering.body_of o in
       let answers = talk.serves more tag body v.log v.asked v.served x.drawn x.draws chance asks in
       let sendable = talk.answers_sent more tag reply _ _ _ answers in
-      let left = left_of p.responder.unit reply ends.responder_unit sendable.whole in record {
+      let left = left_of (round more) p.responder.unit reply ends.responder_unit sendable.whole (short.answers more tag reply _ _ _ answers) in record {
         more = more;
         tag = tag;
         body = reply;
@@ -184,13 +197,15 @@ module _ (limit : ℕ) (within : limit ≤ wear_limit) (p : Pair) (ends : AreEnd
   TalkGoes s = Goes IsUnderWay IsDone done_line s
 
   -- A further request is on its way behind an answer.
-  further : (s : WorldStep) (more tag : ℕ) (body : List ℕ) (sent : IsSendable tag body) (v : View) (done : ℕ) → length v.given + v.commands + 1 + round * more ≤ limit → length v.received + round * more ≤ limit
+  further : (s : WorldStep) (more tag : ℕ) (body : List ℕ) (sent : IsSendable tag body) (v : View) (done : ℕ) → length v.given + v.commands + 1 + sum_to round more ≤ limit → length v.received + sum_to there more ≤ limit
       → (x : IsHeard p ends Aside aside tag body sent.small sent.whole done v s) (next : Sent) (fewer : ℕ) → more ≡ suc fewer → shown.sent_by (requester_hears p.requester v.asked false tag body x.drawn) ≡ Some next
       → Asks fewer next.tag (body_of next.content) (heard_view p ends Aside aside tag body sent.small sent.whole done v x.drawn).log (heard_view p ends Aside aside tag body sent.small sent.whole done v x.drawn).asked v.served → Asking s.after
   further s more tag body sent v done life responder_life x next fewer one_less sends asks =
-      begins fewer next (heard_view p ends Aside aside tag body sent.small sent.whole done v x.drawn) s.after (subst (λ (o : Option Sent). Shows p Aside (heard_view p ends Aside aside tag body sent.small sent.whole done v x.drawn) (packets_of_sent p.requester o) s.after) sends x.shows) asks (omega arith) (omega arith)
+      let these : sum_to round more ≡ sum_to round fewer + round fewer = ap (sum_to round) one_less in
+      let those : sum_to there more ≡ sum_to there fewer + there fewer = ap (sum_to there) one_less in
+      begins fewer next (heard_view p ends Aside aside tag body sent.small sent.whole done v x.drawn) s.after (subst (λ (o : Option Sent). Shows p Aside (heard_view p ends Aside aside tag body sent.small sent.whole done v x.drawn) (packets_of_sent p.requester o) s.after) sends x.shows) asks (omega (arith, these)) (omega (arith, those))
 
-  heard : (s : WorldStep) (more tag : ℕ) (body : List ℕ) (sent : IsSendable tag body) (v : View) (done : ℕ) → length v.given + v.commands + 1 + round * more ≤ limit → length v.received + round * more ≤ limit
+  heard : (s : WorldStep) (more tag : ℕ) (body : List ℕ) (sent : IsSendable tag body) (v : View) (done : ℕ) → length v.given + v.commands + 1 + sum_to round more ≤ limit → length v.received + sum_to there more ≤ limit
       → (x : IsHeard p ends Aside aside tag body sent.small sent.whole done v s)
       → Leads p Asks Done told more (requester_hears p.requester v.asked false tag body x.drawn) (asked_log.acts_of p.requester v.asked body (requester_hears p.requester v.asked false tag body x.drawn) ++ v.log) v.asked v.served
       → TalkGoes s
@@ -201,8 +216,8 @@ module _ (limit : ℕ) (within : limit ≤ wear_limit) (p : Pair) (ends : AreEnd
 
   -- ---- One packet is given.
 
-  asked_given : (world : World) (more tag : ℕ) (body : List ℕ) (sent : IsSendable tag body) (v : View) (done left : ℕ) → suc left ≤ round → NoChance v.log → Asks more tag body v.log v.asked v.served → length v.given + v.commands + round * suc more ≤ limit
-      → length v.received + suc left + round * more ≤ limit → RequestComes p ends Aside aside tag body sent.small sent.whole done left v world → IsGiven IsUnderWay IsDone done_line world
+  asked_given : (world : World) (more tag : ℕ) (body : List ℕ) (sent : IsSendable tag body) (v : View) (done left : ℕ) → suc left ≤ there more → NoChance v.log → Asks more tag body v.log v.asked v.served → length v.given + v.commands + sum_to round (suc more) ≤ limit
+      → length v.received + suc left + sum_to there more ≤ limit → RequestComes p ends Aside aside tag body sent.small sent.whole done left v world → IsGiven IsUnderWay IsDone done_line world
   asked_given world more tag body sent v done zero few chance asks life responder_life x =
       let w = first_request p ends Aside aside tag body sent.small sent.whole done 0 v world x in record {
         place = w.place;
@@ -229,8 +244,8 @@ module _ (limit : ℕ) (within : limit ≤ wear_limit) (p : Pair) (ends : AreEnd
         }));
       }
 
-  answer_given : (world : World) (more tag : ℕ) (body : List ℕ) (sent : IsSendable tag body) (v : View) (done left : ℕ) → suc left ≤ round → NoChance v.log → Answers more tag body v.log v.asked v.served → length v.given + v.commands + suc left + round * more ≤ limit
-      → length v.received + round * more ≤ limit → AnswerComes p ends Aside aside tag body sent.small sent.whole done left v world → IsGiven IsUnderWay IsDone done_line world
+  answer_given : (world : World) (more tag : ℕ) (body : List ℕ) (sent : IsSendable tag body) (v : View) (done left : ℕ) → suc left ≤ round more → NoChance v.log → Answers more tag body v.log v.asked v.served → length v.given + v.commands + suc left + sum_to round more ≤ limit
+      → length v.received + sum_to there more ≤ limit → AnswerComes p ends Aside aside tag body sent.small sent.whole done left v world → IsGiven IsUnderWay IsDone done_line world
   answer_given world more tag body sent v done zero few chance answers life responder_life x =
       let w = first_answer p ends Aside aside tag body sent.small sent.whole done 0 v world x in
       let e = answer_ends p ends Aside aside tag body sent.small sent.whole done v world (omega (arith, within)) x w in record {
@@ -325,10 +340,10 @@ module _ (limit : ℕ) (within : limit ≤ wear_limit) (p : Pair) (ends : AreEnd
 
   -- ---- How many packets are enough.
 
-  -- What is left of this body, and of the answer and the rounds that follow, of at most 66 packets each way.
+  -- What is left of this body, and of the answer and the rounds that follow, each way.
   abbrev cost : (world : World) → IsUnderWay world → ℕ
-  cost world (inl x) = suc x.left + 66 + 132 * x.more
-  cost world (inr x) = suc x.left + 132 * x.more
+  cost world (inl x) = suc x.left + round x.more + sum_to round x.more + sum_to there x.more
+  cost world (inr x) = suc x.left + sum_to round x.more + sum_to there x.more
 
   -- Less is left than before.
   abbrev Falls : ℕ → (s : WorldStep) → TalkGoes s → Type 0
@@ -338,19 +353,21 @@ module _ (limit : ℕ) (within : limit ≤ wear_limit) (p : Pair) (ends : AreEnd
   abbrev FallsGiven : ℕ → (world : World) → IsGiven IsUnderWay IsDone done_line world → Type 0
   FallsGiven before world g = Falls before (delivers world (suc g.place) (packet_of (suc g.place) world.sent)) g.goes
 
-  heard_falls : (s : WorldStep) (more tag : ℕ) (body : List ℕ) (sent : IsSendable tag body) (v : View) (done : ℕ) (life : length v.given + v.commands + 1 + round * more ≤ limit) (responder_life : length v.received + round * more ≤ limit)
+  heard_falls : (s : WorldStep) (more tag : ℕ) (body : List ℕ) (sent : IsSendable tag body) (v : View) (done : ℕ) (life : length v.given + v.commands + 1 + sum_to round more ≤ limit) (responder_life : length v.received + sum_to there more ≤ limit)
       (x : IsHeard p ends Aside aside tag body sent.small sent.whole done v s)
       (l : Leads p Asks Done told more (requester_hears p.requester v.asked false tag body x.drawn) (asked_log.acts_of p.requester v.asked body (requester_hears p.requester v.asked false tag body x.drawn) ++ v.log) v.asked v.served)
-      → Falls (1 + 132 * more) s (heard s more tag body sent v done life responder_life x l)
+      → Falls (1 + sum_to round more + sum_to there more) s (heard s more tag body sent v done life responder_life x l)
   unfolding heard further begins
   heard_falls s more tag body sent v done life responder_life x (Further next fewer one_less sends asks) =
       let few = (further s more tag body sent v done life responder_life x next fewer one_less sends asks).few in
-      omega (arith, few, one_less)
+      let these : sum_to round more ≡ sum_to round fewer + round fewer = ap (sum_to round) one_less in
+      let those : sum_to there more ≡ sum_to there fewer + there fewer = ap (sum_to there) one_less in
+      omega (arith, few, these, those)
   heard_falls s more tag body sent v done life responder_life x (Over sends tells finished) = tt
 
-  asked_falls : (world : World) (more tag : ℕ) (body : List ℕ) (sent : IsSendable tag body) (v : View) (done left : ℕ) (few : suc left ≤ round) (chance : NoChance v.log) (asks : Asks more tag body v.log v.asked v.served) (life : length v.given + v.commands + round * suc more ≤ limit)
-      (responder_life : length v.received + suc left + round * more ≤ limit) (x : RequestComes p ends Aside aside tag body sent.small sent.whole done left v world)
-      → FallsGiven (suc left + 66 + 132 * more) world (asked_given world more tag body sent v done left few chance asks life responder_life x)
+  asked_falls : (world : World) (more tag : ℕ) (body : List ℕ) (sent : IsSendable tag body) (v : View) (done left : ℕ) (few : suc left ≤ there more) (chance : NoChance v.log) (asks : Asks more tag body v.log v.asked v.served) (life : length v.given + v.commands + sum_to round (suc more) ≤ limit)
+      (responder_life : length v.received + suc left + sum_to there more ≤ limit) (x : RequestComes p ends Aside aside tag body sent.small sent.whole done left v world)
+      → FallsGiven (suc left + round more + sum_to round more + sum_to there more) world (asked_given world more tag body sent v done left few chance asks life responder_life x)
   unfolding asked_given answered
   asked_falls world more tag body sent v done zero few chance asks life responder_life x =
       let w = first_request p ends Aside aside tag body sent.small sent.whole done 0 v world x in
@@ -358,9 +375,9 @@ module _ (limit : ℕ) (within : limit ≤ wear_limit) (p : Pair) (ends : AreEnd
       omega (arith, later)
   asked_falls world more tag body sent v done (suc left) few chance asks life responder_life x = omega arith
 
-  answer_falls : (world : World) (more tag : ℕ) (body : List ℕ) (sent : IsSendable tag body) (v : View) (done left : ℕ) (few : suc left ≤ round) (chance : NoChance v.log) (answers : Answers more tag body v.log v.asked v.served) (life : length v.given + v.commands + suc left + round * more ≤ limit)
-      (responder_life : length v.received + round * more ≤ limit) (x : AnswerComes p ends Aside aside tag body sent.small sent.whole done left v world)
-      → FallsGiven (suc left + 132 * more) world (answer_given world more tag body sent v done left few chance answers life responder_life x)
+  answer_falls : (world : World) (more tag : ℕ) (body : List ℕ) (sent : IsSendable tag body) (v : View) (done left : ℕ) (few : suc left ≤ round more) (chance : NoChance v.log) (answers : Answers more tag body v.log v.asked v.served) (life : length v.given + v.commands + suc left + sum_to round more ≤ limit)
+      (responder_life : length v.received + sum_to there more ≤ limit) (x : AnswerComes p ends Aside aside tag body sent.small sent.whole done left v world)
+      → FallsGiven (suc left + sum_to round more + sum_to there more) world (answer_given world more tag body sent v done left few chance answers life responder_life x)
   unfolding answer_given
   answer_falls world more tag body sent v done zero few chance answers life responder_life x =
       let w = first_answer p ends Aside aside tag body sent.small sent.whole done 0 v world x in
@@ -393,13 +410,13 @@ module _ (limit : ℕ) (within : limit ≤ wear_limit) (p : Pair) (ends : AreEnd
 
   pumps_enough : (count : ℕ) (world : World) → Enough count world
   unfolding pumps
-  pumps_enough zero world u most chance = (let one = costs_one world u in absurd (omega (arith, one, most)))
+  pumps_enough zero world u most chance = (let one = costs_one world u in absurd (omega (arith, most)))
   pumps_enough (suc count) world u most chance =
       let now = before_these (suc count) world chance in
       let g = one_given world now u in
       subst (EnoughSo world (pumps count)) (sym g.first)
       (λ last. enough_behind count (cost world u) (delivers world (suc g.place) (packet_of (suc g.place) world.sent)) g.goes (one_falls world now u) most (pumps_enough count (delivers world (suc g.place) (packet_of (suc g.place) world.sent)).after) last) chance
 
-  -- A talk of three rounds or fewer takes no more than 396 packets.
-  pub enough : (count : ℕ) (world : World) (x : Asking world) → x.more ≤ 2 → 396 ≤ count → NoChance (pumps count world).after.log → NothingWaits (pumps count world).after
-  enough count world x few most chance = (let these = x.few in pumps_enough count world (inl x) (omega (arith, these, few, most)) chance)
+  -- Such a talk takes no more packets than these.
+  pub enough : (count : ℕ) (world : World) (x : Asking world) → sum_to there (suc x.more) + sum_to round (suc x.more) ≤ count → NoChance (pumps count world).after.log → NothingWaits (pumps count world).after
+  enough count world x most chance = (let these = x.few in pumps_enough count world (inl x) (omega (arith, these, most)) chance)

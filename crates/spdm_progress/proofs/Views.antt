@@ -1,5 +1,5 @@
 -- A pair of ends as a world shows it, and what one packet of a body of any length makes of it.
-use Rattle.std.proofs.Common.{◌≡◌, ◌∙◌, ℕ, suc, ◌<◌, ◌+◌, ◌==◌, ◌||◌, List, [], ◌∷◌, ◌++◌, length, drop, find, Bool, true, false, not, Option, Some, Result, Ok, unwrap_or, refl, sym, ap, subst, inl, arith, eq-eqb}
+use Rattle.std.proofs.Common.{◌≡◌, ◌∙◌, ℕ, suc, ◌<◌, ◌+◌, ◌==◌, ◌||◌, List, [], ◌∷◌, ◌++◌, length, drop, find, Bool, true, false, Option, Some, Result, Ok, unwrap_or, refl, sym, ap, subst, inl, arith, eq-eqb}
 use Rattle.spdm_basis.proofs.Bools.{lt_false}
 use Rattle.std.specs.Prelude.{if◌then◌else◌}
 use Rattle.mctp_framing.proofs.Packets.{packets_from, no_packets_from}
@@ -32,6 +32,7 @@ use Rattle.responder_machine.specs.Responding as serving
 use Rattle.responder_machine.specs.Responding.{Connection, Responding, RspStep, answers, connection_of, responder_hears}
 use Rattle.responder_machine.specs.Setup.{RspPart}
 use Rattle.world_machine.specs.World.{World, WorldStep, is_at, number_at, packet_of, requester_of, given, given_to_requester, given_to_responder, with_sent, without_waiting, delivers}
+use Rattle.spdm_progress.proofs.AtResponder.{ours}
 use Rattle.spdm_progress.proofs.Aside.{IsAside}
 use Rattle.spdm_progress.proofs.Between.{IsStill}
 use Rattle.spdm_progress.proofs.ComingSteps.{gathers_as, to_requester}
@@ -93,9 +94,6 @@ stopped p Aside aside v waiting rest place world behind s = record {
 }
 
 -- ---- A packet to the responder.
-
-ours : (b : Bool) (x y : RspStep) → b ≡ true → (if not b then x else y) ≡ y
-ours b x y e = rw e refl
 
 -- A responder that gathers a packet does what that leads to.
 gathers_there : (r : Responding) (c : Connection) (f : PacketFields) (g : Gathered) → serving.is_worn r ≡ false → parsed (spelled_packet f) ≡ Ok f → f.to ≡ r.part.eid → connection_of f.from r.connections ≡ Some c → gathered_from c.setup.eid c.setup.peer r.given f ≡ g

@@ -30,9 +30,9 @@ use Rattle.world_machine.specs.Trace.{world_from, world_after, lines_from}
 use Rattle.world_machine.specs.World.{World, requester_of, entry_step, happens}
 use Rattle.spdm_progress.specs.Honest.{NothingWaits, AreHonest, HaveNoCommand}
 
--- What a connect needs of the two set-ups: the requester has a hash to offer to a responder of this transfer size, the
--- responder can choose of the offer, and the two messages that may have more than 42 bytes fit the transfer sizes of
--- their receivers, so that they need no chunks.
+-- What a connect needs of the two set-ups: the requester has a hash to offer to a responder of this
+-- transfer size, the responder can choose of the offer, and the two messages that may have more
+-- than 42 bytes fit the transfer sizes of their receivers, so that they need no chunks.
 pub record CanConnect (a : Requesting) (c : Connection) : Type 0 where
   pub offer : OfferMessage
   pub offered : offer_of a.setup.suites c.setup.transfer ≡ Some offer
@@ -41,16 +41,18 @@ pub record CanConnect (a : Requesting) (c : Connection) : Type 0 where
   pub request_fits : length (canonical_request (NegotiateAlgorithms offer)) ≤ c.setup.transfer
   pub answer_fits : length (canonical_response (algorithms_answer c.setup offer)) ≤ a.setup.transfer
 
--- Neither end is worn out before a connect is over: the requester takes the command and three packets, the responder
--- three packets. An end takes 2^40.
+-- Neither end is worn out before a connect is over: the requester takes the command and three
+-- packets, the responder three packets. An end takes 2^40.
 pub record HasLife (a : Requesting) (r : Responding) : Type 0 where
   pub requester : length a.given + a.commands + 4 ≤ wear_limit
   pub responder : length r.given + 3 ≤ wear_limit
 
--- The connect of requester n is done: it is told so in these lines; nothing is outstanding; both ends are set up as they
--- were, are in phase Negotiated, and hold the same negotiation: the same six messages, so the same choice and the same
--- common capabilities. The choice is this one, and the capabilities are what the two set-ups can do together.
-pub record IsConnected (n : ℕ) (q : ReqSetup) (r : RspSetup) (choice : Choice) (world : World) (lines : List Line) : Type 0 where
+-- The connect of requester n is done: it is told so in these lines; nothing is outstanding; both
+-- ends are set up as they were, are in phase Negotiated, and hold the same negotiation: the same
+-- six messages, so the same choice and the same common capabilities. The choice is this one, and
+-- the capabilities are what the two set-ups can do together.
+pub record IsConnected (n : ℕ) (q : ReqSetup) (r : RspSetup) (choice : Choice) (world : World)
+    (lines : List Line) : Type 0 where
   pub told : Contains lines (Line.ToRequester n (event.Done finished.Connected))
   pub requester : Requesting
   pub is_requester : requester_of n world ≡ Some requester
@@ -61,42 +63,56 @@ pub record IsConnected (n : ℕ) (q : ReqSetup) (r : RspSetup) (choice : Choice)
   pub none : asked.outstanding requester.history ≡ None
   pub requester_phase : asked.phase_of requester.history ≡ Negotiated
   pub responder_phase : served.phase_of (served.clear_turns connection.history) ≡ Negotiated
-  pub same : asked.negotiation_of requester.history ≡ served.negotiation_of (served.clear_turns connection.history)
+  pub same : asked.negotiation_of requester.history
+      ≡ served.negotiation_of (served.clear_turns connection.history)
   pub chosen : (asked.connection_terms requester.history).choice ≡ choice
-  pub common : (asked.connection_terms requester.history).common ≡ shared (requester_caps q) (responder_caps r)
+  pub common : (asked.connection_terms requester.history).common
+      ≡ shared (requester_caps q) (responder_caps r)
 
 -- The world in which requester n was told to connect.
 abbrev pub connecting : World → (line n : ℕ) → World
-connecting world line n = (entry_step world (record { line = line; happening = Told n Connect })).after
+connecting world line n =
+    (entry_step world (record { line = line; happening = Told n Connect })).after
 
--- A connect is told to requester n of a world that a set-up and any events lead to, where no packet waits and nothing
--- agrees by chance. The responder has this connection with it, and the two can connect.
-pub record ConnectIsTold (w : WorldSetup) (before : List Entry) (n : ℕ) (a : Requesting) (c : Connection) : Type 0 where
+-- A connect is told to requester n of a world that a set-up and any events lead to, where no packet
+-- waits and nothing agrees by chance. The responder has this connection with it, and the two can
+-- connect.
+pub record ConnectIsTold (w : WorldSetup) (before : List Entry) (n : ℕ) (a : Requesting)
+    (c : Connection) : Type 0 where
   pub configured : IsConfigured w
   pub no_chance : NoChance (world_after w before).log
   pub idle : NothingWaits (world_after w before)
   pub is_requester : requester_of n (world_after w before) ≡ Some a
-  pub is_connection : connection_of a.setup.eid (world_after w before).responder.connections ≡ Some c
+  pub is_connection : connection_of a.setup.eid (world_after w before).responder.connections
+      ≡ Some c
   pub can : CanConnect a c
   pub life : HasLife a (world_after w before).responder
 
--- Whatever stands between this command and the next one of an honest script: once no packet waits any more, the connect
--- is done.
+-- Whatever stands between this command and the next one of an honest script: once no packet waits
+-- any more, the connect is done.
 abbrev pub ConnectCompletes : Type 0
 ConnectCompletes =
-    (w : WorldSetup) (before : List Entry) (n : ℕ) (a : Requesting) (c : Connection) → (is : ConnectIsTold w before n a c)
-    → (line : ℕ) (behind : List Entry) → HaveNoCommand behind → AreHonest (connecting (world_after w before) line n) behind
+    (w : WorldSetup) (before : List Entry) (n : ℕ) (a : Requesting) (c : Connection)
+    → (is : ConnectIsTold w before n a c)
+    → (line : ℕ) (behind : List Entry) → HaveNoCommand behind
+    → AreHonest (connecting (world_after w before) line n) behind
     → NothingWaits (world_from (connecting (world_after w before) line n) behind)
-    → IsConnected n a.setup c.setup is.can.choice (world_from (connecting (world_after w before) line n) behind) (lines_from (connecting (world_after w before) line n) behind)
+    → IsConnected n a.setup c.setup is.can.choice
+    (world_from (connecting (world_after w before) line n) behind)
+    (lines_from (connecting (world_after w before) line n) behind)
 
 -- A pump of six packets or more leaves none that waits.
 abbrev pub SixPacketsAreEnough : Type 0
 SixPacketsAreEnough =
-    (w : WorldSetup) (before : List Entry) (n : ℕ) (a : Requesting) (c : Connection) → ConnectIsTold w before n a c
-    → (line count : ℕ) → 6 ≤ count → NothingWaits (happens (connecting (world_after w before) line n) (Pump count)).after
+    (w : WorldSetup) (before : List Entry) (n : ℕ) (a : Requesting) (c : Connection)
+    → ConnectIsTold w before n a c
+    → (line count : ℕ) → 6 ≤ count
+    → NothingWaits (happens (connecting (world_after w before) line n) (Pump count)).after
 
 -- Each requester of a world has a connection at the responder.
 abbrev pub EachIsConnected : Type 0
 EachIsConnected =
-    (w : WorldSetup) → IsConfigured w → (before : List Entry) → NoChance (world_after w before).log → (n : ℕ) (a : Requesting) → requester_of n (world_after w before) ≡ Some a
-    → (c : Connection) × (connection_of a.setup.eid (world_after w before).responder.connections ≡ Some c)
+    (w : WorldSetup) → IsConfigured w → (before : List Entry) → NoChance (world_after w before).log
+    → (n : ℕ) (a : Requesting) → requester_of n (world_after w before) ≡ Some a
+    → (c : Connection)
+    × (connection_of a.setup.eid (world_after w before).responder.connections ≡ Some c)

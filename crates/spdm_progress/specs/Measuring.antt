@@ -2,6 +2,8 @@
 use Rattle.std.specs.Prelude.{◌≡◌, ◌<◌, ◌≤◌, ◌+◌, ◌==◌, ℕ, List, length, if◌then◌else◌, true, false, Some, None, Contains}
 use Rattle.measurements.specs.Blocks.{record_of}
 use Rattle.measurements.specs.Records.{asked as blocks_asked, is_missing}
+use Rattle.negotiate.specs.declared.shared.Common.{Common}
+use Rattle.negotiate.specs.declared.shared.Sizes.{Sizes}
 use Rattle.requester_machine.specs.History as asked
 use Rattle.requester_machine.specs.Message.Command.{Measure}
 use Rattle.requester_machine.specs.Requesting.{Requesting, requester_told}
@@ -30,18 +32,25 @@ use Rattle.spdm_progress.specs.Honest.{NothingWaits, AreHonest, HaveNoCommand}
 abbrev pub record_for : RspSetup → (op : ℕ) → List ℕ
 record_for r op = record_of (blocks_asked op (inventory_of r))
 
--- How many measurements are told: those that the responder has for operation 0, else those in the record.
+-- How many measurements are told: those that the responder has for operation 0, else those in the
+-- record.
 abbrev pub number_for : RspSetup → (op : ℕ) → ℕ
-number_for r op = if op == 0 then length (inventory_of r) else length (blocks_asked op (inventory_of r))
+number_for r op =
+    if op == 0 then length (inventory_of r) else length (blocks_asked op (inventory_of r))
 
 -- MEASUREMENTS has 42 bytes beside the record.
 abbrev pub measurements_size : RspSetup → (op : ℕ) → ℕ
 measurements_size r op = 42 + length (record_for r op)
 
--- What a clear measure needs. Both ends are negotiated, with one negotiation, as a connect leaves them, and it chose
--- measurements. The operation is a byte, and a block that it names is configured. The request, of 4 bytes, and the
--- answer fit the transfer sizes of their receivers as they were negotiated, and the answer that of the requester as it is
--- set up.
+-- A message of this size can go to an end with these sizes: it is at most its max size, and at most
+-- its transfer size where chunks are not in common.
+abbrev pub CanGo : Common → Sizes → (size : ℕ) → Type 0
+CanGo common to size = (size ≤ to.max) × (common.chunk ≡ false → size ≤ to.transfer)
+
+-- What a clear measure needs. Both ends are negotiated, with one negotiation, as a connect leaves
+-- them, and it chose measurements. The operation is a byte, and a block that it names is
+-- configured. The request, of 4 bytes, and the answer fit the transfer sizes of their receivers as
+-- they were negotiated, and the answer that of the requester as it is set up.
 pub record CanMeasure (a : Requesting) (c : Connection) (op : ℕ) : Type 0 where
   pub requester_phase : asked.phase_of a.history ≡ Negotiated
   pub responder_phase : served.phase_of (served.clear_turns c.history) ≡ Negotiated
@@ -50,29 +59,36 @@ pub record CanMeasure (a : Requesting) (c : Connection) (op : ℕ) : Type 0 wher
   pub byte : op < 256
   pub block : is_missing op (inventory_of c.setup) ≡ false
   pub request_fits : 4 ≤ (asked.connection_terms a.history).common.to_responder.transfer
-  pub answer_fits : measurements_size c.setup op ≤ (asked.connection_terms a.history).common.to_requester.transfer
-  pub answer_fits_max : measurements_size c.setup op ≤ (asked.connection_terms a.history).common.to_requester.max
+  pub answer_fits : measurements_size c.setup op
+      ≤ (asked.connection_terms a.history).common.to_requester.transfer
+  pub answer_fits_max : measurements_size c.setup op
+      ≤ (asked.connection_terms a.history).common.to_requester.max
   pub answer_fits_own : measurements_size c.setup op ≤ a.setup.transfer
 
--- Neither end is worn out before it is over: the requester takes the command and up to 66 packets, the responder one.
+-- Neither end is worn out before it is over: the requester takes the command and up to 66 packets,
+-- the responder one.
 pub record LivesToMeasure (a : Requesting) (r : Responding) : Type 0 where
   pub requester : length a.given + a.commands + 67 ≤ wear_limit
   pub responder : length r.given + 1 ≤ wear_limit
 
--- A clear measure is told to requester n, and answered `ok`, where no packet waits and nothing agrees by chance.
-pub record MeasureIsTold (w : WorldSetup) (before : List Entry) (n : ℕ) (a : Requesting) (c : Connection) (op : ℕ) : Type 0 where
+-- A clear measure is told to requester n, and answered `ok`, where no packet waits and nothing
+-- agrees by chance.
+pub record MeasureIsTold (w : WorldSetup) (before : List Entry) (n : ℕ) (a : Requesting)
+    (c : Connection) (op : ℕ) : Type 0 where
   pub configured : IsConfigured w
   pub no_chance : NoChance (world_after w before).log
   pub idle : NothingWaits (world_after w before)
   pub is_requester : requester_of n (world_after w before) ≡ Some a
-  pub is_connection : connection_of a.setup.eid (world_after w before).responder.connections ≡ Some c
+  pub is_connection : connection_of a.setup.eid (world_after w before).responder.connections
+      ≡ Some c
   pub accepted : (requester_told a (Measure None op)).fault ≡ None
   pub can : CanMeasure a c op
   pub life : LivesToMeasure a (world_after w before).responder
 
--- The measure of requester n is done: it is told how many measurements there are, nothing is outstanding, and the record
--- that it took last is the one that the responder is set up with.
-pub record IsMeasured (n : ℕ) (r : RspSetup) (op : ℕ) (world : World) (lines : List Line) : Type 0 where
+-- The measure of requester n is done: it is told how many measurements there are, nothing is
+-- outstanding, and the record that it took last is the one that the responder is set up with.
+pub record IsMeasured (n : ℕ) (r : RspSetup) (op : ℕ) (world : World)
+    (lines : List Line) : Type 0 where
   pub told : Contains lines (Line.ToRequester n (event.Done (finished.Measured (number_for r op))))
   pub requester : Requesting
   pub is_requester : requester_of n world ≡ Some requester
@@ -81,20 +97,28 @@ pub record IsMeasured (n : ℕ) (r : RspSetup) (op : ℕ) (world : World) (lines
 
 -- The world in which requester n was told to measure.
 abbrev pub measuring : World → (line n op : ℕ) → World
-measuring world line n op = (entry_step world (record { line = line; happening = Told n (Measure None op) })).after
+measuring world line n op =
+    (entry_step world (record { line = line; happening = Told n (Measure None op) })).after
 
--- Whatever stands between this command and the next one of an honest script: once no packet waits any more, the measure
--- is done.
+-- Whatever stands between this command and the next one of an honest script: once no packet waits
+-- any more, the measure is done.
 abbrev pub MeasureCompletes : Type 0
 MeasureCompletes =
-    (w : WorldSetup) (before : List Entry) (n : ℕ) (a : Requesting) (c : Connection) (op : ℕ) → MeasureIsTold w before n a c op
-    → (line : ℕ) (behind : List Entry) → HaveNoCommand behind → AreHonest (measuring (world_after w before) line n op) behind
+    (w : WorldSetup) (before : List Entry) (n : ℕ) (a : Requesting) (c : Connection) (op : ℕ)
+    → MeasureIsTold w before n a c op
+    → (line : ℕ) (behind : List Entry) → HaveNoCommand behind
+    → AreHonest (measuring (world_after w before) line n op) behind
     → NothingWaits (world_from (measuring (world_after w before) line n op) behind)
-    → IsMeasured n c.setup op (world_from (measuring (world_after w before) line n op) behind) (lines_from (measuring (world_after w before) line n op) behind)
+    → IsMeasured n c.setup op (world_from (measuring (world_after w before) line n op) behind)
+    (lines_from (measuring (world_after w before) line n op) behind)
 
--- Right behind a connect that chose measurements, all that a measure needs is that a block which it names is configured
--- and that the answer fits the transfer size with which the requester is set up.
+-- Right behind a connect that chose measurements, all that a measure needs is that a block which it
+-- names is configured and that the answer fits the transfer size with which the requester is set
+-- up.
 abbrev pub ConnectedCanMeasure : Type 0
 ConnectedCanMeasure =
-    (q : ReqSetup) (r : RspSetup) → IsRequester q → IsResponder r → (n : ℕ) (choice : Choice) (world : World) (lines : List Line) → (is : IsConnected n q r choice world lines) → choice.measure ≡ true
-    → (op : ℕ) → op < 256 → is_missing op (inventory_of r) ≡ false → measurements_size r op ≤ q.transfer → CanMeasure is.requester is.connection op
+    (q : ReqSetup) (r : RspSetup) → IsRequester q → IsResponder r
+    → (n : ℕ) (choice : Choice) (world : World) (lines : List Line)
+    → (is : IsConnected n q r choice world lines) → choice.measure ≡ true
+    → (op : ℕ) → op < 256 → is_missing op (inventory_of r) ≡ false
+    → measurements_size r op ≤ q.transfer → CanMeasure is.requester is.connection op

@@ -17,6 +17,7 @@ use Rattle.spdm_grammar.specs.declared.event.Finished.TheVariants as finished
 use Rattle.spdm_machine.specs.Terms.{Terms}
 use Rattle.world_machine.specs.Happenings.{Entry}
 use Rattle.world_machine.specs.Setup.{WorldSetup}
+use Rattle.spdm_progress.specs.Measuring.{CanGo}
 use Rattle.spdm_progress.specs.SessionCommands.{CompletesQuietly, IsToldQuietly}
 
 -- The terms of the connection.
@@ -25,29 +26,37 @@ terms_now a = asked.connection_terms a.history
 
 -- The PSK_EXCHANGE that a requester sends next, for a summary of this kind.
 abbrev pub exchange_now : Requesting → (summary : ℕ) → RequestMessage
-exchange_now a summary = exchange_for a.setup (command_chosen a.setup a.history (next_draw a)) summary
+exchange_now a summary =
+    exchange_for a.setup (command_chosen a.setup a.history (next_draw a)) summary
 
--- PSK_EXCHANGE_RSP has 12 bytes beside the summary, where one is asked for, the context, the opaque data and the verify
--- data; the summary, the context and the verify data are as long as the hash.
+-- PSK_EXCHANGE_RSP has 12 bytes beside the summary, where one is asked for, the context, the opaque
+-- data and the verify data; the summary, the context and the verify data are as long as the hash.
 abbrev pub exchange_rsp_size : RspSetup → Terms → (summary : ℕ) → ℕ
 exchange_rsp_size r terms summary =
-    12 + (if summary == 0 then 0 else hash_size terms.choice.hash) + hash_size terms.choice.hash + length r.opaque + hash_size terms.choice.hash
+    12 + (if summary == 0 then 0 else hash_size terms.choice.hash) + hash_size terms.choice.hash
+    + length r.opaque + hash_size terms.choice.hash
 
--- What an open needs. PSK_EXCHANGE, its answer and PSK_FINISH, of 4 bytes and the verify data, fit the transfer sizes of
--- their receivers, so that they need no chunks; and the responder holds fewer sessions than four.
+-- What an open needs. PSK_EXCHANGE and PSK_FINISH, of 4 bytes and the verify data, fit the transfer
+-- size of the responder, so that they need no chunks; the answer to PSK_EXCHANGE can go to the
+-- requester, by chunks too; and the responder holds fewer sessions than four.
 pub record CanOpen (a : Requesting) (c : Connection) (summary : ℕ) : Type 0 where
-  pub request_fits : length (canonical_request (exchange_now a summary)) ≤ (terms_now a).common.to_responder.transfer
-  pub answer_fits : exchange_rsp_size c.setup (terms_now a) summary ≤ (terms_now a).common.to_requester.transfer
-  pub finish_fits : 4 + hash_size (terms_now a).choice.hash ≤ (terms_now a).common.to_responder.transfer
+  pub request_fits : length (canonical_request (exchange_now a summary))
+      ≤ (terms_now a).common.to_responder.transfer
+  pub answer_goes : CanGo (terms_now a).common (terms_now a).common.to_requester
+      (exchange_rsp_size c.setup (terms_now a) summary)
+  pub finish_fits : 4 + hash_size (terms_now a).choice.hash
+      ≤ (terms_now a).common.to_responder.transfer
   pub limit : serving.held_of c.history ≢ 4
 
 -- The session that is opened has the least free id of either end.
 abbrev pub opened_id : Requesting → Connection → SessionId
 opened_id a c = record { req = asking.free_id a.history; rsp = serving.free_id c.history }
 
--- Whatever stands between this command and the next one of an honest script: once no packet waits any more, the session is
--- open, with this id.
+-- Whatever stands between this command and the next one of an honest script: once no packet waits
+-- any more, the session is open, with this id.
 abbrev pub OpenCompletes : Type 0
 OpenCompletes =
-    (w : WorldSetup) (before : List Entry) (n : ℕ) (a : Requesting) (c : Connection) (summary : ℕ) → IsToldQuietly w before n a c (Open summary) → CanOpen a c summary
-    → CompletesQuietly w before n a c (Open summary) (finished.Opened (opened_id a c)) (asking.free_id a.history) true
+    (w : WorldSetup) (before : List Entry) (n : ℕ) (a : Requesting) (c : Connection) (summary : ℕ)
+    → IsToldQuietly w before n a c (Open summary) → CanOpen a c summary
+    → CompletesQuietly w before n a c (Open summary) (finished.Opened (opened_id a c))
+    (asking.free_id a.history) true

@@ -22,28 +22,30 @@ use Rattle.world_machine.specs.World.{World, entry_step, happens, new_world, req
 use Rattle.spdm_progress.specs.Connecting.{CanConnect}
 use Rattle.spdm_progress.specs.Honest.{AreHonest, HaveNoCommand, NothingWaits, is_command}
 use Rattle.spdm_progress.specs.InStep.{AreQuiet}
-use Rattle.spdm_progress.specs.Measuring.{measurements_size}
+use Rattle.spdm_progress.specs.Measuring.{CanGo, measurements_size}
 use Rattle.spdm_progress.specs.Opening.{CanOpen, opened_id, terms_now}
-use Rattle.spdm_progress.specs.SessionCommands.{CanAsk, CompletesQuietly, IsTold, IsToldQuietly, commanding, result_of}
+use Rattle.spdm_progress.specs.SessionCommands.{CanAsk, CompletesQuietly, IsTold, IsToldQuietly, commanding, most_packets, result_of}
 
 -- ---- Each command.
 
 -- Whatever came before, a connect leaves two quiet ends, and no session at the requester.
 abbrev pub ConnectsQuietly : Type 0
 ConnectsQuietly =
-    (w : WorldSetup) (before : List Entry) (n : ℕ) (a : Requesting) (c : Connection) → IsTold w before n a c → CanConnect a c
+    (w : WorldSetup) (before : List Entry) (n : ℕ) (a : Requesting) (c : Connection)
+    → IsTold w before n a c → CanConnect a c
     → (id : ℕ) → CompletesQuietly w before n a c Connect finished.Connected id false
 
--- What a command needs beside that it is answered `ok`, so that its messages need no chunks and none is refused: what a
--- connect and an open need; of measurements that a block which the operation, a byte, names is configured, and that the
--- answer fits the requester's transfer size.
+-- What a command needs beside that it is answered `ok`, so that none of its messages is refused:
+-- what a connect and an open need; of measurements that a block which the operation, a byte, names
+-- is configured, and that the answer can go to the requester, by chunks too.
 abbrev pub CanDo : Requesting → Connection → Command → Type 0
 CanDo a c Connect = CanConnect a c
 CanDo a c (Open summary) = CanOpen a c summary
 CanDo a c (Send id bytes) = CanAsk a c (Send id bytes)
 CanDo a c (Beat id) = CanAsk a c (Beat id)
 CanDo a c (Update id all) = CanAsk a c (Update id all)
-CanDo a c (Measure None op) = (op < 256) × (is_missing op (inventory_of c.setup) ≡ false) × (measurements_size c.setup op ≤ (terms_now a).common.to_requester.transfer)
+CanDo a c (Measure None op) = (op < 256) × (is_missing op (inventory_of c.setup) ≡ false)
+    × CanGo (terms_now a).common (terms_now a).common.to_requester (measurements_size c.setup op)
 CanDo a c (Measure (Some id) op) = CanAsk a c (Measure (Some id) op)
 CanDo a c (End id) = CanAsk a c (End id)
 CanDo a c Retry = Unit {0}
@@ -59,9 +61,10 @@ result_for a c (Measure id op) = result_of a c (Measure id op)
 result_for a c (End id) = result_of a c (End id)
 result_for a c Retry = finished.Connected
 
--- The command of requester n is done: it is told this result in these lines, and is quiet again with the responder's
--- connection.
-pub record IsDone (n : ℕ) (q : ReqSetup) (r : RspSetup) (result : Finished) (world : World) (lines : List Line) : Type 0 where
+-- The command of requester n is done: it is told this result in these lines, and is quiet again
+-- with the responder's connection.
+pub record IsDone (n : ℕ) (q : ReqSetup) (r : RspSetup) (result : Finished) (world : World)
+    (lines : List Line) : Type 0 where
   pub told : Contains lines (Line.ToRequester n (event.Done result))
   pub requester : Requesting
   pub is_requester : requester_of n world ≡ Some requester
@@ -71,73 +74,107 @@ pub record IsDone (n : ℕ) (q : ReqSetup) (r : RspSetup) (result : Finished) (w
   pub responder_setup : connection.setup ≡ r
   pub quiet : AreQuiet q r requester.first world.log requester.history connection.history
 
--- Each command that quiet ends answer `ok` comes to its result. No retry is among them, since nothing is outstanding.
+-- Each command that quiet ends answer `ok` comes to its result. No retry is among them, since
+-- nothing is outstanding.
 abbrev pub QuietCommandsComplete : Type 0
 QuietCommandsComplete =
-    (w : WorldSetup) (before : List Entry) (n : ℕ) (a : Requesting) (c : Connection) (command : Command) → IsToldQuietly w before n a c command → CanDo a c command
-    → (line : ℕ) (behind : List Entry) → HaveNoCommand behind → AreHonest (commanding (world_after w before) line n command) behind
-    → NothingWaits (world_from (commanding (world_after w before) line n command) behind) → NoChance (world_from (commanding (world_after w before) line n command) behind).log
-    → IsDone n a.setup c.setup (result_for a c command) (world_from (commanding (world_after w before) line n command) behind) (lines_from (commanding (world_after w before) line n command) behind)
+    (w : WorldSetup) (before : List Entry) (n : ℕ) (a : Requesting) (c : Connection)
+    (command : Command) → IsToldQuietly w before n a c command → CanDo a c command
+    → (line : ℕ) (behind : List Entry) → HaveNoCommand behind
+    → AreHonest (commanding (world_after w before) line n command) behind
+    → NothingWaits (world_from (commanding (world_after w before) line n command) behind)
+    → NoChance (world_from (commanding (world_after w before) line n command) behind).log
+    → IsDone n a.setup c.setup (result_for a c command)
+    (world_from (commanding (world_after w before) line n command) behind)
+    (lines_from (commanding (world_after w before) line n command) behind)
 
--- A pump of 396 packets or more behind such a command leaves none that waits, so an honest script can always go on. (A
--- command begins three rounds at most, and a message has at most 66 packets.)
+-- A pump of so many packets or more behind such a command leaves none that waits, so an honest
+-- script can always go on.
 abbrev pub PumpsAreEnough : Type 0
 PumpsAreEnough =
-    (w : WorldSetup) (before : List Entry) (n : ℕ) (a : Requesting) (c : Connection) (command : Command) → IsToldQuietly w before n a c command → CanDo a c command
-    → (line count : ℕ) → 396 ≤ count → NoChance (happens (commanding (world_after w before) line n command) (Pump count)).after.log → NothingWaits (happens (commanding (world_after w before) line n command) (Pump count)).after
+    (w : WorldSetup) (before : List Entry) (n : ℕ) (a : Requesting) (c : Connection)
+    (command : Command) → IsToldQuietly w before n a c command → CanDo a c command
+    → (line count : ℕ) → most_packets ≤ count
+    → NoChance (happens (commanding (world_after w before) line n command) (Pump count)).after.log
+    → NothingWaits (happens (commanding (world_after w before) line n command) (Pump count)).after
 
 -- ---- Whole scripts.
 
--- A world is quiet: no packet waits, and each requester is quiet with the responder's connection with it.
+-- A world is quiet: no packet waits, and each requester is quiet with the responder's connection
+-- with it.
 pub record IsQuietWorld (world : World) : Type 0 where
   pub idle : NothingWaits world
-  pub quiet : (n : ℕ) (a : Requesting) (c : Connection) → requester_of n world ≡ Some a → connection_of a.setup.eid world.responder.connections ≡ Some c → AreQuiet a.setup c.setup a.first world.log a.history c.history
+  pub quiet : (n : ℕ) (a : Requesting) (c : Connection) → requester_of n world ≡ Some a
+      → connection_of a.setup.eid world.responder.connections ≡ Some c
+      → AreQuiet a.setup c.setup a.first world.log a.history c.history
 
 -- The entries up to the next command.
 abbrev pub up_to_command : List Entry → List Entry
 up_to_command [] = []
-up_to_command (entry ∷ entries) = if is_command entry.happening then [] else entry ∷ up_to_command entries
+up_to_command (entry ∷ entries) =
+    if is_command entry.happening then [] else entry ∷ up_to_command entries
 
 -- What holds of each command in the world in which it stands, with what stands behind it.
-abbrev pub OfEachCommand : (World → (line n : ℕ) → Command → (behind : List Entry) → Type 0) → World → List Entry → Type 0
+abbrev pub OfEachCommand : (World → (line n : ℕ) → Command → (behind : List Entry) → Type 0) → World
+    → List Entry → Type 0
 OfEachCommand Holds world [] = Unit {0}
-OfEachCommand Holds world (entry ∷ entries) = OfCommand Holds world entry.line entry.happening entries × OfEachCommand Holds (entry_step world entry).after entries
+OfEachCommand Holds world (entry ∷ entries) =
+    OfCommand Holds world entry.line entry.happening entries
+    × OfEachCommand Holds (entry_step world entry).after entries
   where
-    OfCommand : (World → (line n : ℕ) → Command → (behind : List Entry) → Type 0) → World → (line : ℕ) → Happening → List Entry → Type 0
-    OfCommand Holds world line (Told n command) entries = Holds world line n command (up_to_command entries)
+    OfCommand : (World → (line n : ℕ) → Command → (behind : List Entry) → Type 0)
+        → World → (line : ℕ) → Happening → List Entry → Type 0
+    OfCommand Holds world line (Told n command) entries =
+        Holds world line n command (up_to_command entries)
     OfCommand Holds world line _ entries = Unit {0}
 
 -- A command that is answered `ok` has what it needs.
 abbrev pub CanBeDone : World → (line n : ℕ) → Command → List Entry → Type 0
 CanBeDone world line n command behind =
-    (a : Requesting) (c : Connection) → requester_of n world ≡ Some a → connection_of a.setup.eid world.responder.connections ≡ Some c → (requester_told a command).fault ≡ None
+    (a : Requesting) (c : Connection) → requester_of n world ≡ Some a
+    → connection_of a.setup.eid world.responder.connections ≡ Some c
+    → (requester_told a command).fault ≡ None
     → CanDo a c command
 
 -- A command that is answered `ok` is done before the next one.
 abbrev pub WillBeDone : World → (line n : ℕ) → Command → List Entry → Type 0
 WillBeDone world line n command behind =
-    (a : Requesting) (c : Connection) → requester_of n world ≡ Some a → connection_of a.setup.eid world.responder.connections ≡ Some c → (requester_told a command).fault ≡ None
-    → IsDone n a.setup c.setup (result_for a c command) (world_from (commanding world line n command) behind) (lines_from (commanding world line n command) behind)
+    (a : Requesting) (c : Connection) → requester_of n world ≡ Some a
+    → connection_of a.setup.eid world.responder.connections ≡ Some c
+    → (requester_told a command).fault ≡ None
+    → IsDone n a.setup c.setup (result_for a c command)
+    (world_from (commanding world line n command) behind)
+    (lines_from (commanding world line n command) behind)
 
 -- Each end has taken so many packets and commands at most. It takes 2^40.
 pub record HaveTaken (most : ℕ) (world : World) : Type 0 where
-  pub requesters : (n : ℕ) (a : Requesting) → requester_of n world ≡ Some a → length a.given + a.commands ≤ most
+  pub requesters : (n : ℕ) (a : Requesting) → requester_of n world ≡ Some a
+      → length a.given + a.commands ≤ most
   pub responder : length world.responder.given ≤ most
 
--- From any quiet world on, whatever led to it: where nothing agrees by chance, each command that is answered `ok` has what it
--- needs, no packet waits at the end, and neither end can be worn out by then, each of these commands is done before the next
--- one, and the world is quiet.
+-- From any quiet world on, whatever led to it: where nothing agrees by chance, each command that is
+-- answered `ok` has what it needs, no packet waits at the end, and neither end can be worn out by
+-- then, each of these commands is done before the next one, and the world is quiet.
 abbrev pub QuietWorldsComplete : Type 0
 QuietWorldsComplete =
-    (w : WorldSetup) → IsConfigured w → (before : List Entry) → IsQuietWorld (world_after w before) → (most : ℕ) → HaveTaken most (world_after w before)
-    → (entries : List Entry) → most + 199 * length entries ≤ wear_limit → AreHonest (world_after w before) entries → NothingWaits (world_from (world_after w before) entries) → NoChance (world_from (world_after w before) entries).log
-    → OfEachCommand CanBeDone (world_after w before) entries → OfEachCommand WillBeDone (world_after w before) entries × IsQuietWorld (world_from (world_after w before) entries)
+    (w : WorldSetup) → IsConfigured w → (before : List Entry) → IsQuietWorld (world_after w before)
+    → (most : ℕ) → HaveTaken most (world_after w before)
+    → (entries : List Entry) → most + 199 * length entries ≤ wear_limit
+    → AreHonest (world_after w before) entries
+    → NothingWaits (world_from (world_after w before) entries)
+    → NoChance (world_from (world_after w before) entries).log
+    → OfEachCommand CanBeDone (world_after w before) entries
+    → OfEachCommand WillBeDone (world_after w before) entries
+    × IsQuietWorld (world_from (world_after w before) entries)
 
 -- So it is with each honest script of at most 2^32 events, since a new world is quiet.
 abbrev pub HonestScriptsComplete : Type 0
 HonestScriptsComplete =
-    (w : WorldSetup) → IsConfigured w → (entries : List Entry) → length entries ≤ 2 ^ 32 → AreHonest (new_world w) entries → NothingWaits (world_after w entries) → NoChance (world_after w entries).log
-    → OfEachCommand CanBeDone (new_world w) entries → OfEachCommand WillBeDone (new_world w) entries × IsQuietWorld (world_after w entries)
+    (w : WorldSetup) → IsConfigured w → (entries : List Entry) → length entries ≤ 2 ^ 32
+    → AreHonest (new_world w) entries → NothingWaits (world_after w entries)
+    → NoChance (world_after w entries).log
+    → OfEachCommand CanBeDone (new_world w) entries → OfEachCommand WillBeDone (new_world w) entries
+    × IsQuietWorld (world_after w entries)
 
 -- ---- Scripts that are honest by their form.
 
@@ -148,14 +185,19 @@ pub record Order : Type 0 where
   pub command : Command
   pub pump_line : ℕ
 
--- Each command has a pump of 396 packets behind it.
+-- Each command has a pump of so many packets behind it.
 abbrev pub with_pumps : List Order → List Entry
 with_pumps [] = []
-with_pumps (o ∷ orders) = record { line = o.line; happening = Told o.n o.command } ∷ record { line = o.pump_line; happening = Pump 396 } ∷ with_pumps orders
+with_pumps (o ∷ orders) =
+    record { line = o.line; happening = Told o.n o.command }
+    ∷ record { line = o.pump_line; happening = Pump most_packets } ∷ with_pumps orders
 
--- Such a script is honest, and no packet waits at its end, where nothing agrees by chance and each command that is answered
--- `ok` has what it needs. So there is an honest script for any such commands.
+-- Such a script is honest, and no packet waits at its end, where nothing agrees by chance and each
+-- command that is answered `ok` has what it needs. So there is an honest script for any such
+-- commands.
 abbrev pub PumpedScriptsAreHonest : Type 0
 PumpedScriptsAreHonest =
-    (w : WorldSetup) → IsConfigured w → (orders : List Order) → length orders ≤ 2 ^ 32 → NoChance (world_after w (with_pumps orders)).log
-    → OfEachCommand CanBeDone (new_world w) (with_pumps orders) → AreHonest (new_world w) (with_pumps orders) × NothingWaits (world_after w (with_pumps orders))
+    (w : WorldSetup) → IsConfigured w → (orders : List Order) → length orders ≤ 2 ^ 31
+    → NoChance (world_after w (with_pumps orders)).log
+    → OfEachCommand CanBeDone (new_world w) (with_pumps orders)
+    → AreHonest (new_world w) (with_pumps orders) × NothingWaits (world_after w (with_pumps orders))

@@ -1,5 +1,5 @@
--- What is asked of an open session where its messages are delivered honestly: each command comes to its result. This
--- project's own.
+-- What is asked of an open session where its messages are delivered honestly: each command comes to
+-- its result. This project's own.
 use Rattle.std.specs.Prelude.{◌≡◌, ◌<◌, ◌≤◌, ◌+◌, ℕ, List, length, Bool, true, false, Some, None, Contains}
 use Rattle.measurements.specs.Records.{is_missing}
 use Rattle.requester_machine.specs.Message.{Command}
@@ -24,30 +24,31 @@ use Rattle.world_machine.specs.Trace.{lines_from, world_after, world_from}
 use Rattle.world_machine.specs.World.{World, entry_step, requester_of}
 use Rattle.spdm_progress.specs.Honest.{AreHonest, HaveNoCommand, NothingWaits}
 use Rattle.spdm_progress.specs.InStep.{AreQuiet}
-use Rattle.spdm_progress.specs.Measuring.{measurements_size, number_for}
+use Rattle.spdm_progress.specs.Measuring.{CanGo, measurements_size, number_for}
 
 -- The session with this ReqSessionID of a requester.
 abbrev pub session_at : Requesting → ℕ → Steps
 session_at a id = session_of id a.history
 
--- What a command asks of a session needs no more than that it is answered `ok`; but for measurements a block that the
--- operation, a byte, names has to be configured, and the answer has to fit the requester's transfer size: then it needs no
--- chunks.
+-- What a command asks of a session needs no more than that it is answered `ok`; but for
+-- measurements a block that the operation, a byte, names has to be configured, and the answer has
+-- to be one that can go to the requester, by chunks too.
 abbrev pub CanAsk : Requesting → Connection → Command → Type 0
 CanAsk a c (Send id bytes) = Unit {0}
 CanAsk a c (Beat id) = Unit {0}
 CanAsk a c (Update id all) = Unit {0}
 CanAsk a c (Measure (Some id) op) =
     (op < 256) × (is_missing op (inventory_of c.setup) ≡ false)
-    × (measurements_size c.setup op ≤ (session_terms (session_at a id)).common.to_requester.transfer)
+    × CanGo (session_terms (session_at a id)).common
+    (session_terms (session_at a id)).common.to_requester (measurements_size c.setup op)
 CanAsk a c (End id) = Unit {0}
 CanAsk a c (Measure None op) = ⊥
 CanAsk a c Connect = ⊥
 CanAsk a c (Open summary) = ⊥
 CanAsk a c Retry = ⊥
 
--- What it comes to: application data was answered, the session is alive, its keys are updated, so many measurements came,
--- or the session is ended.
+-- What it comes to: application data was answered, the session is alive, its keys are updated, so
+-- many measurements came, or the session is ended.
 abbrev pub result_of : Requesting → Connection → Command → Finished
 result_of a c (Send id bytes) = finished.Answered (session_id (session_at a id))
 result_of a c (Beat id) = finished.Alive (session_id (session_at a id))
@@ -58,22 +59,37 @@ result_of a c Connect = finished.Connected
 result_of a c (Open summary) = finished.Connected
 result_of a c Retry = finished.Connected
 
--- Neither end is worn out before it is over: each takes up to 198 packets, and the requester the command.
-pub record LivesToAnswer (a : Requesting) (r : Responding) : Type 0 where
-  pub requester : length a.given + a.commands + 199 ≤ wear_limit
-  pub responder : length r.given + 198 ≤ wear_limit
+-- The most that a command leads to: the requester takes it and 276 packets, the responder takes 198
+-- packets, and there are 414 packets in all.
+abbrev pub most_asked : ℕ
+most_asked = 277
 
--- Requester n, of a world that a set-up and any events lead to, is told a command where no packet waits. The responder has
--- this connection with it.
-pub record IsTold (w : WorldSetup) (before : List Entry) (n : ℕ) (a : Requesting) (c : Connection) : Type 0 where
+abbrev pub most_served : ℕ
+most_served = 198
+
+abbrev pub most_packets : ℕ
+most_packets = 414
+
+-- Neither end is worn out before it is over.
+pub record LivesToAnswer (a : Requesting) (r : Responding) : Type 0 where
+  pub requester : length a.given + a.commands + most_asked ≤ wear_limit
+  pub responder : length r.given + most_served ≤ wear_limit
+
+-- Requester n, of a world that a set-up and any events lead to, is told a command where no packet
+-- waits. The responder has this connection with it.
+pub record IsTold (w : WorldSetup) (before : List Entry) (n : ℕ) (a : Requesting)
+    (c : Connection) : Type 0 where
   pub configured : IsConfigured w
   pub idle : NothingWaits (world_after w before)
   pub is_requester : requester_of n (world_after w before) ≡ Some a
-  pub is_connection : connection_of a.setup.eid (world_after w before).responder.connections ≡ Some c
+  pub is_connection : connection_of a.setup.eid (world_after w before).responder.connections
+      ≡ Some c
   pub life : LivesToAnswer a (world_after w before).responder
 
--- The command is answered `ok` where the requester and the responder's connection with it are quiet.
-pub record IsToldQuietly (w : WorldSetup) (before : List Entry) (n : ℕ) (a : Requesting) (c : Connection) (command : Command) : Type 0 where
+-- The command is answered `ok` where the requester and the responder's connection with it are
+-- quiet.
+pub record IsToldQuietly (w : WorldSetup) (before : List Entry) (n : ℕ) (a : Requesting)
+    (c : Connection) (command : Command) : Type 0 where
   pub now : IsTold w before n a c
   pub quiet : AreQuiet a.setup c.setup a.first (world_after w before).log a.history c.history
   pub accepted : (requester_told a command).fault ≡ None
@@ -83,9 +99,10 @@ abbrev pub goes_on : Command → Bool
 goes_on (End id) = false
 goes_on _ = true
 
--- The command of requester n is done: it is told this result in these lines; it is quiet again with the responder's
--- connection; and this session goes on, open at both ends, or is ended.
-pub record IsDoneQuietly (n : ℕ) (q : ReqSetup) (r : RspSetup) (result : Finished) (id : ℕ) (open_still : Bool) (world : World) (lines : List Line) : Type 0 where
+-- The command of requester n is done: it is told this result in these lines; it is quiet again with
+-- the responder's connection; and this session goes on, open at both ends, or is ended.
+pub record IsDoneQuietly (n : ℕ) (q : ReqSetup) (r : RspSetup) (result : Finished) (id : ℕ)
+    (open_still : Bool) (world : World) (lines : List Line) : Type 0 where
   pub told : Contains lines (Line.ToRequester n (event.Done result))
   pub requester : Requesting
   pub is_requester : requester_of n world ≡ Some requester
@@ -98,18 +115,26 @@ pub record IsDoneQuietly (n : ℕ) (q : ReqSetup) (r : RspSetup) (result : Finis
 
 -- The world in which requester n was told a command.
 abbrev pub commanding : World → (line n : ℕ) → Command → World
-commanding world line n command = (entry_step world (record { line = line; happening = Told n command })).after
+commanding world line n command =
+    (entry_step world (record { line = line; happening = Told n command })).after
 
--- Whatever stands between this command and the next one of an honest script: once no packet waits any more, and nothing
--- agreed by chance until then, the command is done.
-abbrev pub CompletesQuietly : WorldSetup → List Entry → (n : ℕ) → Requesting → Connection → Command → Finished → (id : ℕ) → (open_still : Bool) → Type 0
+-- Whatever stands between this command and the next one of an honest script: once no packet waits
+-- any more, and nothing agreed by chance until then, the command is done.
+abbrev pub CompletesQuietly : WorldSetup → List Entry → (n : ℕ) → Requesting → Connection → Command
+    → Finished → (id : ℕ) → (open_still : Bool) → Type 0
 CompletesQuietly w before n a c command result id open_still =
-    (line : ℕ) (behind : List Entry) → HaveNoCommand behind → AreHonest (commanding (world_after w before) line n command) behind
-    → NothingWaits (world_from (commanding (world_after w before) line n command) behind) → NoChance (world_from (commanding (world_after w before) line n command) behind).log
-    → IsDoneQuietly n a.setup c.setup result id open_still (world_from (commanding (world_after w before) line n command) behind) (lines_from (commanding (world_after w before) line n command) behind)
+    (line : ℕ) (behind : List Entry) → HaveNoCommand behind
+    → AreHonest (commanding (world_after w before) line n command) behind
+    → NothingWaits (world_from (commanding (world_after w before) line n command) behind)
+    → NoChance (world_from (commanding (world_after w before) line n command) behind).log
+    → IsDoneQuietly n a.setup c.setup result id open_still
+    (world_from (commanding (world_after w before) line n command) behind)
+    (lines_from (commanding (world_after w before) line n command) behind)
 
 -- Each command that asks something of an open session comes to its result.
 abbrev pub SessionCommandsComplete : Type 0
 SessionCommandsComplete =
-    (w : WorldSetup) (before : List Entry) (n : ℕ) (a : Requesting) (c : Connection) (command : Command) (id : ℕ) → IsToldQuietly w before n a c command → CanAsk a c command → session_in command ≡ Some id
+    (w : WorldSetup) (before : List Entry) (n : ℕ) (a : Requesting) (c : Connection)
+    (command : Command) (id : ℕ) → IsToldQuietly w before n a c command → CanAsk a c command
+    → session_in command ≡ Some id
     → CompletesQuietly w before n a c command (result_of a c command) id (goes_on command)

@@ -1,6 +1,10 @@
 //! What honest delivery completes, each law as the contract of a function that does nothing.
 
-ghost use Rattle.spdm_progress.specs.Connecting.{ConnectCompletes, EachIsConnected, SixPacketsAreEnough};
+ghost use Rattle.spdm_progress.specs.Connecting.{
+  ConnectCompletes,
+  EachIsConnected,
+  SixPacketsAreEnough,
+};
 ghost use Rattle.spdm_progress.specs.Measuring.{ConnectedCanMeasure, MeasureCompletes};
 ghost use Rattle.spdm_progress.specs.Opening.{OpenCompletes};
 ghost use Rattle.spdm_progress.specs.Scripts.{
@@ -51,15 +55,15 @@ pub fn connects_quietly()
 
 /// An open, told where no packet waits and the two ends are quiet, is done once no packet waits
 /// again: the requester is told the id of a session that is open at both ends, in step, and the two
-/// ends are quiet. It speaks of messages that need no chunks.
+/// ends are quiet. The answer to PSK_EXCHANGE may come by chunks.
 pub fn open_completes()
     ensures { OpenCompletes }
 {}
 
 /// Each command that asks something of an open session (application data, HEARTBEAT, KEY_UPDATE of
-/// either kind, GET_MEASUREMENTS whose answer needs no chunks, END_SESSION), told where no packet
-/// waits and the two ends are quiet, comes to its result once no packet waits again, and leaves the
-/// two ends quiet.
+/// either kind, GET_MEASUREMENTS whose answer may come by chunks, END_SESSION), told where no
+/// packet waits and the two ends are quiet, comes to its result once no packet waits again, and
+/// leaves the two ends quiet.
 pub fn session_commands_complete()
     ensures { SessionCommandsComplete }
 {}
@@ -69,7 +73,7 @@ pub fn quiet_commands_complete()
     ensures { QuietCommandsComplete }
 {}
 
-/// No packet of such a command waits after a pump of 396.
+/// No packet of such a command waits after a pump of 414.
 pub fn pumps_are_enough()
     ensures { PumpsAreEnough }
 {}
@@ -85,7 +89,7 @@ pub fn honest_scripts_complete()
     ensures { HonestScriptsComplete }
 {}
 
-/// For any commands there is such a script: it is honest where each command has a pump of 396
+/// For any commands there is such a script: it is honest where each command has a pump of 414
 /// packets behind it.
 pub fn pumped_scripts_are_honest()
     ensures { PumpedScriptsAreHonest }

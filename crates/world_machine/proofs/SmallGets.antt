@@ -76,7 +76,7 @@ piece_fits true transfer handle number whole low is =
     subst P (sym zero_is) (omega (arith, size_is transfer handle whole (omega arith) 0))
 piece_fits false transfer handle number whole low is = omega (arith, size_is transfer handle whole (omega arith) number)
 
-get_fits : (transfer handle number : ℕ) (whole : List ℕ) → MIN_DATA_TRANSFER_SIZE ≤ transfer → length (canonical_response (ChunkResponse (nth_chunk transfer handle whole number))) ≤ transfer
+pub get_fits : (transfer handle number : ℕ) (whole : List ℕ) → MIN_DATA_TRANSFER_SIZE ≤ transfer → length (canonical_response (ChunkResponse (nth_chunk transfer handle whole number))) ≤ transfer
 get_fits transfer handle number whole low =
     let c : ChunkMessage = nth_chunk transfer handle whole number in
     let fits = chunk_fits (number == 0) (cond c.last 1 0) handle number (length c.chunk) 0 (transfer - 12) c.chunk (length whole) (piece_fits (number == 0) transfer handle number whole low refl) (omega arith) in

@@ -1,0 +1,9 @@
+pub mod Pieces
+pub mod Started
+pub mod Awaited
+pub mod Lengths
+pub mod Leading
+pub mod Early
+pub mod Answered
+pub mod Carrying
+pub mod Taken

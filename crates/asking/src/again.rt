@@ -1,0 +1,8 @@
+/// The outstanding message as it goes out again.
+#[derive(Clone, Copy, Debug, PartialEq, Eq)]
+pub enum Again {
+    /// It is a message in the clear with this tag, which is written.
+    InClear { tag: u8 },
+    /// It is a record with this tag, which its session keeps.
+    InSession { tag: u8 },
+}

@@ -1,0 +1,26 @@
+//! A requester (DSP0274, section 10) with every free value handed in: the clear part, which holds
+//! how far the negotiation has come, what was settled, and what is outstanding.
+#![tactic(auto)]
+
+mod acknowledged;
+mod again;
+mod answering;
+mod answers;
+mod bodies;
+mod commands;
+mod free_values;
+mod led;
+mod negotiating;
+mod outgoing;
+mod setup;
+mod talk;
+mod waiting;
+
+pub use again::Again;
+pub use free_values::FreeValues;
+pub use led::Led;
+pub use negotiating::Negotiating;
+pub use outgoing::Outgoing;
+pub use setup::Setup;
+pub use talk::Talk;
+pub use waiting::{Asked, Waiting, Way};

@@ -1,0 +1,6 @@
+//! The clear part of a requester that is given the answers of a connection, beside what another program sends and
+//! tells. There is nothing here but tests.
+#![tactic(auto)]
+
+#[cfg(test)]
+mod clear_tests;
