@@ -8,10 +8,8 @@ ghost use Rattle.spdm_grammar.specs.declared.names.TheConstants.{MAX_MESSAGE_SIZ
 use measurements::Inventory;
 use spdm_basis::Frame;
 use spdm_codec::write_response;
+use spdm_grammar::names::MEASUREMENTS_FIELDS_LEN;
 use spdm_grammar::{Measured, Response};
-
-// What stands in MEASUREMENTS beside the record and the opaque data.
-const FIELDS_LEN: usize = 42;
 
 /// Writes the MEASUREMENTS that answer an operation, with this nonce of 32 bytes and these opaque data of at
 /// most 1,024, in place of what `out` holds, and tells their length. Where that is above 4,096 they are not
@@ -43,5 +41,5 @@ pub fn write_measurements(
         opaque,
     };
     let _ = write_response(&Response::Measurements(measured), 0, false, out);
-    (FIELDS_LEN + record.as_slice().len() + opaque.len()) as u32
+    (MEASUREMENTS_FIELDS_LEN as usize + record.as_slice().len() + opaque.len()) as u32
 }

@@ -34,6 +34,7 @@ use Rattle.responder_machine.specs.Refusal.{bytes_round, has_pending, is_answer_
 use Rattle.responder_machine.specs.Responder.Outcome.{Adds}
 use Rattle.responder_machine.specs.Setup.{RspSetup}
 use Rattle.responder_machine.specs.Turn.{Turn}
+use Rattle.spdm_agreement.proofs.Responder.Exchange.{both_hold}
 use Rattle.spdm_basis.proofs.Bools.{lt_false}
 use Rattle.spdm_grammar.specs.ErrorNumber.{error_number}
 use Rattle.spdm_grammar.specs.Message.{ChunkMessage, RequestMessage, ResponseMessage}
@@ -105,9 +106,6 @@ pub record IsPending (w : List ℕ) (handle k : ℕ) (turns : List Turn) : Type 
 pub chunked_fits : (known over chunk other : Bool) → over ≡ false → chunk ≡ true → (known && (over || (not chunk && other))) ≡ false
 chunked_fits true over chunk other o c = rw (o, c) refl
 chunked_fits false over chunk other o c = refl
-
-pub both_true : (a b : Bool) → a ≡ true → b ≡ true → (a && b) ≡ true
-both_true a b x y = rw (x, y) refl
 
 pub chunk_flag : (terms : Terms) → terms.common.chunk ≡ true → lacks_flag terms CHUNK_GET ≡ false
 chunk_flag terms e = rw e refl
@@ -183,7 +181,7 @@ module _ (q : ReqSetup) (r : RspSetup) (size : ℕ) (n : Negotiation) (can : Can
     pub large_goes : sizes_are_known place.phase ≡ true → bytes_round place.at + length answer ≡ length answer → goes_large place answer ≡ true
     large_goes known none =
         let large = can.large in
-        both_true (sizes_are_known place.phase) _ known
+        both_hold (sizes_are_known place.phase) _ known
         (ap (nat_lt (transfer_in place.negotiation)) none ∙ lt-ltb _ _ (subst (λ (x : Negotiation). transfer_in x < length answer) (sym under) (omega (arith, is, large))))
 
     pub large_fits : is_answer_too_long place answer ≡ false
@@ -341,4 +339,4 @@ module _ (q : ReqSetup) (r : RspSetup) (size : ℕ) (n : Negotiation) (can : Can
       (reads_large (hash_len (asked.connection_terms h)) handle (has_summary v))
       ∙ error_answer q h (body_chosen q h d) v handle
       ∙ goes_by (may_be_large v && (asked.connection_terms h).common.chunk) (goes_on Nothing (get_sent h v handle 0 [])) (is_refused (error_number LargeResponse) (Refuses v))
-      (both_true (may_be_large v) (asked.connection_terms h).common.chunk large (ap (λ (x : Negotiation). (terms_of x).common.chunk) asks.negotiation ∙ can.chunk)))
+      (both_hold (may_be_large v) (asked.connection_terms h).common.chunk large (ap (λ (x : Negotiation). (terms_of x).common.chunk) asks.negotiation ∙ can.chunk)))

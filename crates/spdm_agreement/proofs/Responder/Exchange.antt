@@ -179,7 +179,7 @@ before_verify hash front v long =
 
 -- ---- It is sound.
 
-both_hold : (a b : Bool) → a ≡ true → b ≡ true → (a && b) ≡ true
+pub both_hold : (a b : Bool) → a ≡ true → b ≡ true → (a && b) ≡ true
 both_hold a b e f = ap₂ (λ (x y : Bool). x && y) e f
 
 negotiated : (n : Negotiation) → HasVersion n → HasCaps n → HasAlgorithms n → is_negotiated n ≡ true
