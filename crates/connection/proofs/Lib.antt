@@ -6,3 +6,5 @@ pub mod Passing
 pub mod Taken
 pub mod Chunked
 pub mod Whole
+pub mod Slots
+pub mod Recorded

@@ -10,3 +10,5 @@ pub mod Gathering
 pub mod Handled
 pub mod Coming
 pub mod ClearPart
+pub mod Live
+pub mod Sessions

@@ -48,8 +48,9 @@ impl LastRecord {
 
     /// The reply to the last record.
     pub fn last_reply(&self) -> Option<&[u8]>
-        ensures { MatchOption result (last_reply (kept_record self.now) ≡ None)
+        ensures value { MatchOption result (last_reply (kept_record self.now) ≡ None)
             (λ reply. last_reply (kept_record self.now) ≡ Some reply.now) }
+        ensures fits { MatchOption result (Unit {0}) (λ reply. length reply.now ≤ 4160) }
     {
         if self.is_taken {
             Some(self.reply.as_slice())

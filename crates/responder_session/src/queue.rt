@@ -96,8 +96,8 @@ impl AppQueue {
         Ok(())
     }
 
-    // What waits first, and no bytes where nothing waits.
-    pub(crate) fn first(&self) -> &[u8]
+    /// What waits first, and no bytes where nothing waits.
+    pub fn first(&self) -> &[u8]
         ensures value { result.now ≡ first_queued self.now }
         ensures fits { length result.now ≤ 1024 }
     {
@@ -107,8 +107,8 @@ impl AppQueue {
         }
     }
 
-    // Takes out what waits first.
-    pub(crate) fn advance(&mut self)
+    /// Takes out what waits first.
+    pub fn advance(&mut self)
         ensures { self.new ≡ drop 1 self.old }
     {
         let _ = self.replies.pop_at(0);

@@ -135,6 +135,7 @@ impl RspSession {
             (λ reply. last_reply (last_of s) ≡ Some reply.now) }
         ensures ended { (id old answer : List ℕ) → IsEnded self.now id old answer
             → MatchOption result ⊥ (λ reply. reply.now ≡ answer) }
+        ensures fits { MatchOption result (Unit {0}) (λ reply. length reply.now ≤ 4160) }
     {
         self.kept.last.last_reply()
     }

@@ -1,0 +1,165 @@
+ghost use Rattle.std.specs.Prelude.{◌≡◌};
+ghost use Rattle.responder_session.specs.Laws.{told_as};
+
+use crate::records::{record_id, replace_record, write_decrypt_error};
+use crate::{EndedRecord, Live};
+use measurements::Inventory;
+use responder_session::{RecordFree, RspAct, RspTold, Work};
+use spdm_basis::{RecordFrame, SessionId};
+use spdm_grammar::{Heard, Phase};
+
+/// The sessions of a connection: a slot for each RspSessionID from 1 to 4, and the last record of the one ended
+/// session. They lie in place.
+#[derive(Drop)]
+pub struct Sessions {
+    slots: [Option<Live>; 4],
+    ended: EndedRecord,
+}
+
+// How the responder tells what a record of this session did.
+fn heard_as(id: SessionId, act: RspAct) -> Heard
+    ensures { result ≡ told_as id act }
+{
+    match act {
+        RspAct::Answered(code) => Heard::Answered(code),
+        RspAct::Data => Heard::Taken(id),
+        RspAct::Refused(code) => Heard::Refused(code),
+    }
+}
+
+impl Sessions {
+    ghost use Rattle.std.specs.Prelude.{◌≡◌, ◌≢◌, ◌≤◌, ◌<◌, ◌^◌, ◌-◌, [], None, Some, ℕ, List, length};
+    ghost use Rattle.responder_machine.specs.Answer.{Free};
+    ghost use Rattle.responder_machine.specs.BoundLaws.{messages_of};
+    ghost use Rattle.responder_machine.specs.History.{History, clear_turns, phase_of};
+    ghost use Rattle.responder_machine.specs.Session.{Events};
+    ghost use Rattle.responder_machine.specs.Setup.{RspSetup, inventory_of};
+    ghost use Rattle.responder_session.specs.Deeds.{AreFree};
+    ghost use Rattle.responder_session.specs.Updates.{HasEpochs};
+    ghost use Rattle.spdm_machine.specs.Keys.{Draw};
+    ghost use Rattle.connection.specs.Live.{IsSlotOf, IsTakenIn};
+    ghost use Rattle.connection.specs.Sessions.{IsAnswered, IsDelivered, StandsFor, slot_of};
+    ghost use Rattle.connection.specs.declared.live.Live.{Live};
+    ghost use Rattle.responder_session.specs.Session.{IsEnded};
+
+    /// No sessions.
+    pub fn new() -> Sessions
+        ensures { (r : RspSetup) → StandsFor result r [] }
+    {
+        Sessions {
+            slots: [None, None, None, None],
+            ended: EndedRecord::none(),
+        }
+    }
+
+    // A record for the session of this RspSessionID; none where there is none.
+    fn take(
+        &mut self,
+        id: u16,
+        sealed: &[u8],
+        inventory: &Inventory,
+        free: &RecordFree<'_>,
+        work: &mut Work,
+        out: &mut RecordFrame,
+    ) -> Option<RspTold>
+        requires nonce { length free.now.nonce.now ≡ 32 }
+        requires opaque { length free.now.opaque.now ≤ 1024 }
+        requires reply { length free.now.reply.now ≤ 1024 }
+        requires pad { length free.now.pad.now ≤ 16 }
+        ensures taken { (r : RspSetup) (s : Events) (f : Free) → AreFree free.now f → HasEpochs s
+            → inventory_of r ≡ inventory.now → IsSlotOf (slot_of self.old id) r s
+            → IsTakenIn r s f sealed.now (slot_of self.new id) result out.new }
+        ensures others { (i : ℕ) → i ≢ id → slot_of self.new i ≡ slot_of self.old i }
+        ensures ended { self.new.ended ≡ self.old.ended }
+    {
+        if id == 0 || id > 4 {
+            return None;
+        }
+        match &mut self.slots[usize::from(id) - 1] {
+            Some(live) => Some(live.take(sealed, inventory, free, work, out)),
+            None => None,
+        }
+    }
+
+    // Where END_SESSION ended the session of this RspSessionID, its last record and reply are kept apart, and
+    // its slot is empty.
+    fn settle(&mut self, id: u16, sealed: &[u8], reply: &[u8])
+        requires reply { length reply.now ≤ 4160 }
+        ensures live { (r : RspSetup) (s : Events) → IsSlotOf (slot_of self.old id) r s
+            → self.new ≡ self.old }
+        ensures gone { (kept : Live) (bytes : List ℕ) → slot_of self.old id ≡ Some kept
+            → IsEnded kept.session bytes sealed.now reply.now → length sealed.now ≤ 4160
+            → (slot_of self.new id ≡ None)
+            × (self.new.ended ≡ Some (record { sealed = sealed.now; reply = reply.now })) }
+        ensures others { (i : ℕ) → i ≢ id → slot_of self.new i ≡ slot_of self.old i }
+    {
+        if id == 0 || id > 4 {
+            return;
+        }
+        let index = usize::from(id) - 1;
+        let is_ended = match &self.slots[index] {
+            Some(live) => live.is_ended(),
+            None => false,
+        };
+        if is_ended {
+            self.ended.keep(sealed, reply);
+            self.slots[index] = None;
+        }
+    }
+
+    // Ends the turn of a record of which this is told: what is sent is written.
+    fn answer(&mut self, phase: Phase, told: RspTold, sealed: &[u8], out: &mut RecordFrame) -> Heard
+        ensures { (r : RspSetup) (h : History) (tag : ℕ) (f : Free) (d : Draw)
+            → phase ≡ phase_of (clear_turns h)
+            → IsDelivered r h sealed.now f (Some told) self.old out.old
+            → IsAnswered r h tag sealed.now f d result self.new out.new }
+    {
+        let id = record_id(sealed);
+        match told {
+            RspTold::Moved(act) => {
+                self.settle(id.rsp, sealed, out.as_slice());
+                heard_as(id, act)
+            }
+            RspTold::Same => Heard::Same,
+            RspTold::Unopened(_) => {
+                write_decrypt_error(phase, out);
+                Heard::Unopened
+            }
+        }
+    }
+
+    /// A record came in this phase of the connection, and its answer has these free values. The record that
+    /// answers, or ERROR DecryptError in the clear, is written in place of what `out` holds. The nonce has 32
+    /// bytes, the opaque data and the reply at most 1,024, and the padding at most 16.
+    pub fn on_record(
+        &mut self,
+        phase: Phase,
+        sealed: &[u8],
+        inventory: &Inventory,
+        free: &RecordFree<'_>,
+        work: &mut Work,
+        out: &mut RecordFrame,
+    ) -> Heard
+        requires nonce { length free.now.nonce.now ≡ 32 }
+        requires opaque { length free.now.opaque.now ≤ 1024 }
+        requires reply { length free.now.reply.now ≤ 1024 }
+        requires pad { length free.now.pad.now ≤ 16 }
+        ensures { (r : RspSetup) (h : History) (tag : ℕ) (f : Free) (d : Draw)
+            → AreFree free.now f → messages_of h < 2 ^ 64 - 1 → inventory_of r ≡ inventory.now
+            → phase ≡ phase_of (clear_turns h) → StandsFor self.old r h
+            → IsAnswered r h tag sealed.now f d result self.new out.new }
+    {
+        if self.ended.is_repeat(sealed) {
+            replace_record(out, self.ended.reply());
+            return Heard::Same;
+        }
+        let id = record_id(sealed);
+        match self.take(id.rsp, sealed, inventory, free, work, out) {
+            Some(told) => self.answer(phase, told, sealed, out),
+            None => {
+                write_decrypt_error(phase, out);
+                Heard::Unopened
+            }
+        }
+    }
+}
