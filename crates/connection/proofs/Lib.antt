@@ -8,3 +8,5 @@ pub mod Chunked
 pub mod Whole
 pub mod Slots
 pub mod Recorded
+pub mod Waiting
+pub mod Starting

@@ -12,3 +12,4 @@ pub mod Coming
 pub mod ClearPart
 pub mod Live
 pub mod Sessions
+pub mod Beginning

@@ -1,5 +1,5 @@
 -- A live session of a connection, as the program keeps it.
-use Rattle.std.specs.Prelude.{◌≡◌, ℕ, List, [], true, Option, Some, None}
+use Rattle.std.specs.Prelude.{◌≡◌, ℕ, List, [], Bool, true, false, Option, Some, None}
 use Rattle.connection.specs.declared.live.Live.{Live}
 use Rattle.responder_machine.specs.Answer.{Free}
 use Rattle.responder_machine.specs.Responder.{kept_record}
@@ -49,3 +49,8 @@ abbrev pub IsTakenIn : RspSetup → Events → Free → (sealed : List ℕ) → 
 IsTakenIn r s f sealed None None out = s ≡ []
 IsTakenIn r s f sealed (Some after) (Some result) out = IsTaken r s f sealed after result out
 IsTakenIn r s f sealed _ _ out = ⊥
+
+-- Seconds passed: the session still stands, with these events; or there is none any more.
+abbrev pub IsWaited : RspSetup → Events → Live → Bool → Type 0
+IsWaited r s after true = StandsFor after r s
+IsWaited r s after false = s ≡ []

@@ -6,8 +6,8 @@ use session_keys::same_bytes;
 use spdm_basis::RecordFrame;
 use std::marker::Model;
 
-/// The last record of the one ended session, with its reply. It lies in place, and holds no memory of its own.
-/// Contracts see whether there is one, and it.
+/// The last record of the one ended session, with its reply. It lies in place, and holds no memory
+/// of its own. Contracts see whether there is one, and it.
 #[derive(Drop)]
 pub struct EndedRecord {
     is_there: bool,

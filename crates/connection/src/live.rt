@@ -1,11 +1,13 @@
+ghost use Rattle.std.specs.Prelude.{◌≡◌, ◌≤◌, slice_index, length};
+
 use crate::records::replace_record;
 use measurements::Inventory;
 use responder_session::{RecordFree, RspSession, RspTold, Work};
 use spdm_basis::RecordFrame;
 use spdm_grammar::Stage;
 
-/// A live session, with the seconds since its last record and its HeartbeatPeriod in seconds. It lies in place:
-/// it moves once, when it is made.
+/// A live session, with the seconds since its last record and its HeartbeatPeriod in seconds. It
+/// lies in place: it moves once, when it is made.
 #[derive(Drop)]
 pub struct Live {
     pub(crate) session: RspSession,
@@ -13,17 +15,42 @@ pub struct Live {
     pub(crate) period: u8,
 }
 
+// HeartbeatPeriod of a PSK_EXCHANGE_RSP.
+fn period_in(answer: &[u8]) -> u8
+    ensures { result ≡ slice_index answer.now 2 }
+{
+    match answer {
+        [_, _, period, ..] => *period,
+        _ => 0,
+    }
+}
+
 impl Live {
-    ghost use Rattle.std.specs.Prelude.{◌≡◌, ◌≤◌, [], ℕ, List, true, false, length, Some};
+    ghost use Rattle.std.specs.Prelude.{◌≡◌, ◌≤◌, [], ℕ, List, true, false, length, slice_index, Some};
     ghost use Rattle.responder_machine.specs.Answer.{Free};
-    ghost use Rattle.responder_machine.specs.Session.{Events, stage_of};
+    ghost use Rattle.responder_machine.specs.Session.{Events, after_tick, session_terms, stage_of};
     ghost use Rattle.responder_machine.specs.Setup.{RspSetup, inventory_of};
-    ghost use Rattle.responder_session.specs.Deeds.{AreFree};
+    ghost use Rattle.responder_machine.specs.SizeLaws.{HasSizes};
+    ghost use Rattle.responder_session.specs.Deeds.{AreFree, AreGiven};
     ghost use Rattle.responder_session.specs.Reply.{kept_reply};
     ghost use Rattle.responder_session.specs.Session as sessions;
     ghost use Rattle.responder_session.specs.Updates.{HasEpochs};
     ghost use Rattle.spdm_machine.specs.Sessions.{is_past_handshake};
-    ghost use Rattle.connection.specs.Live.{IsTaken, StandsFor};
+    ghost use Rattle.connection.specs.Live.{IsTaken, IsWaited, StandsFor};
+
+    // A session that this PSK_EXCHANGE_RSP began.
+    pub(crate) fn begin(session: RspSession, answer: &[u8]) -> Live
+        ensures session { result.session ≡ session }
+        ensures idle { result.idle ≡ 0 }
+        ensures period { result.period ≡ slice_index answer.now 2 }
+    {
+        let period = period_in(answer);
+        Live {
+            session,
+            idle: 0,
+            period,
+        }
+    }
 
     /// Whether the session is past its handshake.
     pub fn is_held(&self) -> bool
@@ -45,8 +72,8 @@ impl Live {
         self.session.stage().is_none()
     }
 
-    /// A record for this session, which is no repeat of an ended one's. The record that answers is written in
-    /// place of what `out` holds, unless this one does not open.
+    /// A record for this session, which is no repeat of an ended one's. The record that answers is
+    /// written in place of what `out` holds, unless this one does not open.
     pub fn take(
         &mut self,
         sealed: &[u8],
@@ -75,6 +102,22 @@ impl Live {
             }
             RspTold::Unopened(fault) => RspTold::Unopened(fault),
         }
+    }
+
+    // Seconds pass: whether the session still stands.
+    pub(crate) fn wait(&mut self, seconds: u32) -> bool
+        ensures { (r : RspSetup) (s : Events) → StandsFor self.old r s
+            → IsWaited r (after_tick s seconds) self.new result }
+    {
+        if !self.is_held() || self.period == 0 {
+            return true;
+        }
+        let waited = self.idle as u64 + seconds as u64;
+        if waited >= 2 * self.period as u64 {
+            return false;
+        }
+        self.idle = waited as u32;
+        true
     }
 
     // Writes the reply to the last record, where there is one, in place of what `out` holds.

@@ -4,12 +4,12 @@ ghost use Rattle.responder_session.specs.Laws.{told_as};
 use crate::records::{record_id, replace_record, write_decrypt_error};
 use crate::{EndedRecord, Live};
 use measurements::Inventory;
-use responder_session::{RecordFree, RspAct, RspTold, Work};
+use responder_session::{RecordFree, RspAct, RspSession, RspTold, Work};
 use spdm_basis::{RecordFrame, SessionId};
 use spdm_grammar::{Heard, Phase};
 
-/// The sessions of a connection: a slot for each RspSessionID from 1 to 4, and the last record of the one ended
-/// session. They lie in place.
+/// The sessions of a connection: a slot for each RspSessionID from 1 to 4, and the last record of
+/// the one ended session. They lie in place.
 #[derive(Drop)]
 pub struct Sessions {
     slots: [Option<Live>; 4],
@@ -28,11 +28,14 @@ fn heard_as(id: SessionId, act: RspAct) -> Heard
 }
 
 impl Sessions {
-    ghost use Rattle.std.specs.Prelude.{◌≡◌, ◌≢◌, ◌≤◌, ◌<◌, ◌^◌, ◌-◌, [], None, Some, ℕ, List, length};
+    ghost use Rattle.std.specs.Prelude.{◌≡◌, ◌≢◌, ◌≤◌, ◌<◌, ◌^◌, ◌-◌, ◌∷◌, [], None, Some, ℕ, List, length};
     ghost use Rattle.responder_machine.specs.Answer.{Free};
     ghost use Rattle.responder_machine.specs.BoundLaws.{messages_of};
     ghost use Rattle.responder_machine.specs.History.{History, clear_turns, phase_of};
-    ghost use Rattle.responder_machine.specs.Session.{Events};
+    ghost use Rattle.responder_machine.specs.History.Entry.{Clear, Dropped, Ticked};
+    ghost use Rattle.responder_machine.specs.Turn.{Turn};
+    ghost use Rattle.connection.specs.Beginning.{IsBeginningAt, held_part};
+    ghost use Rattle.responder_machine.specs.Session.{Events, after_tick};
     ghost use Rattle.responder_machine.specs.Setup.{RspSetup, inventory_of};
     ghost use Rattle.responder_session.specs.Deeds.{AreFree};
     ghost use Rattle.responder_session.specs.Updates.{HasEpochs};
@@ -81,8 +84,8 @@ impl Sessions {
         }
     }
 
-    // Where END_SESSION ended the session of this RspSessionID, its last record and reply are kept apart, and
-    // its slot is empty.
+    // Where END_SESSION ended the session of this RspSessionID, its last record and reply are kept
+    // apart, and its slot is empty.
     fn settle(&mut self, id: u16, sealed: &[u8], reply: &[u8])
         requires reply { length reply.now ≤ 4160 }
         ensures live { (r : RspSetup) (s : Events) → IsSlotOf (slot_of self.old id) r s
@@ -128,9 +131,10 @@ impl Sessions {
         }
     }
 
-    /// A record came in this phase of the connection, and its answer has these free values. The record that
-    /// answers, or ERROR DecryptError in the clear, is written in place of what `out` holds. The nonce has 32
-    /// bytes, the opaque data and the reply at most 1,024, and the padding at most 16.
+    /// A record came in this phase of the connection, and its answer has these free values. The
+    /// record that answers, or ERROR DecryptError in the clear, is written in place of what `out`
+    /// holds. The nonce has 32 bytes, the opaque data and the reply at most 1,024, and the padding
+    /// at most 16.
     pub fn on_record(
         &mut self,
         phase: Phase,
@@ -161,5 +165,105 @@ impl Sessions {
                 Heard::Unopened
             }
         }
+    }
+
+    // Seconds pass for the session of this RspSessionID.
+    fn wait(&mut self, id: u16, seconds: u32)
+        ensures own { (r : RspSetup) (s : Events) → IsSlotOf (slot_of self.old id) r s
+            → IsSlotOf (slot_of self.new id) r (after_tick s seconds) }
+        ensures others { (i : ℕ) → i ≢ id → slot_of self.new i ≡ slot_of self.old i }
+        ensures ended { self.new.ended ≡ self.old.ended }
+    {
+        if id == 0 || id > 4 {
+            return;
+        }
+        let index = usize::from(id) - 1;
+        let stays = match &mut self.slots[index] {
+            Some(live) => live.wait(seconds),
+            None => true,
+        };
+        if !stays {
+            self.slots[index] = None;
+        }
+    }
+
+    /// Seconds pass: a session past its handshake that has waited for twice its HeartbeatPeriod is
+    /// gone, and its kept reply with it (DSP0274, "HEARTBEAT"). One whose period is 0 is not timed.
+    pub fn tick(&mut self, seconds: u32)
+        ensures { (r : RspSetup) (h : History) → StandsFor self.old r h
+            → StandsFor self.new r (Ticked seconds ∷ h) }
+    {
+        self.wait(1, seconds);
+        self.wait(2, seconds);
+        self.wait(3, seconds);
+        self.wait(4, seconds);
+    }
+
+    /// The session of this RspSessionID was dropped unseen, as a capture may show.
+    pub fn drop_unseen(&mut self, id: u16)
+        ensures { (r : RspSetup) (h : History) → StandsFor self.old r h
+            → StandsFor self.new r (Dropped id ∷ h) }
+    {
+        self.empty(id);
+    }
+
+    // Empties the slot of this RspSessionID.
+    fn empty(&mut self, id: u16)
+        ensures own { slot_of self.new id ≡ None }
+        ensures others { (i : ℕ) → i ≢ id → slot_of self.new i ≡ slot_of self.old i }
+        ensures ended { self.new.ended ≡ self.old.ended }
+    {
+        if id >= 1 && id <= 4 {
+            self.slots[usize::from(id) - 1] = None;
+        }
+    }
+
+    // A session of this RspSessionID that is in its handshake is gone.
+    fn leave(&mut self, id: u16)
+        ensures own { (r : RspSetup) (s : Events) → IsSlotOf (slot_of self.old id) r s
+            → IsSlotOf (slot_of self.new id) r (held_part s) }
+        ensures others { (i : ℕ) → i ≢ id → slot_of self.new i ≡ slot_of self.old i }
+        ensures ended { self.new.ended ≡ self.old.ended }
+    {
+        if id == 0 || id > 4 {
+            return;
+        }
+        let index = usize::from(id) - 1;
+        let stays = match &self.slots[index] {
+            Some(live) => live.is_held(),
+            None => true,
+        };
+        if !stays {
+            self.slots[index] = None;
+        }
+    }
+
+    /// PSK_EXCHANGE was taken: this session, which moves into its slot, begins under this
+    /// RspSessionID from 1 to 4 with this whole PSK_EXCHANGE_RSP. A session in its handshake is
+    /// gone, and so is the last record of an ended one.
+    pub fn begin(&mut self, id: u16, session: RspSession, answer: &[u8])
+        requires least { 1 ≤ id }
+        requires most { id ≤ 4 }
+        ensures { (r : RspSetup) (h : History) (tag : ℕ) (t : Turn) (d : Draw)
+            → IsBeginningAt r h t id session answer.now → StandsFor self.old r h
+            → StandsFor self.new r (Clear tag t d ∷ h) }
+    {
+        self.leave(1);
+        self.leave(2);
+        self.leave(3);
+        self.leave(4);
+        self.ended.clear();
+        self.put(id, Live::begin(session, answer));
+    }
+
+    // Puts a session into the slot of this RspSessionID.
+    fn put(&mut self, id: u16, live: Live)
+        requires least { 1 ≤ id }
+        requires most { id ≤ 4 }
+        ensures own { slot_of self.new id ≡ Some live }
+        ensures others { (i : ℕ) → i ≢ id → slot_of self.new i ≡ slot_of self.old i }
+        ensures ended { self.new.ended ≡ self.old.ended }
+    {
+        self.slots[usize::from(id) - 1] = Some(live);
     }
 }
