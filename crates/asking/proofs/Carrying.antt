@@ -20,6 +20,7 @@ use Rattle.spdm_grammar.specs.declared.response.Response.TheVariants as response
 use Rattle.spdm_grammar.specs.declared.event.ReqIgnored.TheVariants as ignored
 use Rattle.spdm_grammar.specs.declared.names.TheConstants.{MAX_MESSAGE_SIZE}
 use Rattle.asking.proofs.Answered.{any_free}
+use Rattle.requester_machine.proofs.Pieces.{not_last}
 
 pub carried_by : (q : ReqSetup) (h : History) (request : RequestMessage) (carried : Carried) (led : seen_led.Led) (old new : Seen) (out : List ℕ)
     → ((f : Free) → IsLed h (carried_led q h f request carried) led old new out) → IsCarried q h request carried led old new out
@@ -47,9 +48,6 @@ counted a u = (let b = div-le_self a u in omega (arith, b))
 
 pub count_few : (transfer : ℕ) (message : List ℕ) → length message ≤ MAX_MESSAGE_SIZE → chunk_count transfer message ≤ 4101
 count_few transfer message short = (let b = counted (length message + 4) (transfer - 12) in omega (arith, b, short))
-
-not_last : (a b : ℕ) → (a == b) ≡ false → a ≤ b → a < b
-not_last a b is le = grind (arith, nat_tests)
 
 -- The number of the next one.
 pub next_within : (number count next : ℕ) → number < count → count ≤ 4101 → (number + 1 == count) ≡ false → next ≡ min (number + 1) (2 ^ 16 - 1) → (next ≡ number + 1) × (number + 1 < count)

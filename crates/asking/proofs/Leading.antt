@@ -11,7 +11,7 @@ use Rattle.negotiate.specs.Capabilities.{common_of}
 use Rattle.negotiate.specs.Choosing.{agreed, has_large, has_room_for_sha_384, has_small}
 use Rattle.negotiate.specs.Offer.{hash_offer, offer_of, offer_tables, pick_bits}
 use Rattle.negotiate.specs.declared.shared.Common.{Common}
-use Rattle.requester_machine.proofs.CapsRead.{common_read, common_stays}
+use Rattle.requester_machine.proofs.CapsRead.{common_read}
 use Rattle.requester_machine.specs.Answers.{goes_on}
 use Rattle.requester_machine.specs.ClearAnswers.{reading_of}
 use Rattle.requester_machine.specs.History.{Effect, History, begins_large, connection_terms, larges_of, negotiation_after, negotiation_of, next_tag, phase_after, phase_of, sent_count}
@@ -50,8 +50,9 @@ use Rattle.asking.specs.declared.waiting.Asked.{Asked}
 use Rattle.asking.specs.declared.waiting.Waiting.TheVariants as waits
 use Rattle.asking.specs.declared.waiting.Way.{Way}
 use Rattle.asking.specs.declared.waiting.Way.TheVariants as ways
-use Rattle.asking.proofs.Lengths.{measured_value}
+use Rattle.requester_machine.proofs.ResponseLengths.{measured_value}
 use Rattle.asking.proofs.Started.{sends_shown}
+use Rattle.spdm_machine.proofs.Settling.{algorithms_keep, capabilities_keep, capabilities_up, choice_by, with_algorithms, with_capabilities}
 
 -- ---- Messages that are sent.
 
@@ -191,24 +192,8 @@ version_stands old new p n request answer stands none asks short keeps =
 
 -- ---- CAPABILITIES.
 
-capabilities_keep : (n : Negotiation) (request answer : List ℕ) → (terms_of (record n { get_capabilities = request; capabilities = answer })).choice ≡ (terms_of n).choice
-unfolding terms_of
-capabilities_keep n request answer = refl
-
-with_capabilities : (n : Negotiation) (messages request answer : List ℕ) → n ≡ record no_negotiation { get_version = n.get_version; version = n.version } → messages ≡ vca_of n
-    → messages ++ request ++ answer ≡ vca_of (record n { get_capabilities = request; capabilities = answer })
-with_capabilities n messages request answer is said =
-    let first : messages ≡ n.get_version ++ n.version = said ∙ ap vca_of is ∙ simp append-nil in
-    let asked : n.negotiate_algorithms ≡ [] = ap (λ (x : Negotiation). x.negotiate_algorithms) is in
-    let answered : n.algorithms ≡ [] = ap (λ (x : Negotiation). x.algorithms) is in
-    rw (first, asked, answered) (simp append-nil)
-
 vca_long : (n : Negotiation) → length (vca_of n) ≡ length n.get_version + length n.version + length n.get_capabilities + length n.capabilities + length n.negotiate_algorithms + length n.algorithms
 vca_long n = simp length-append (omega arith)
-
-pub capabilities_up : (n : Negotiation) (request answer : List ℕ) → n ≡ record no_negotiation { get_version = n.get_version; version = n.version }
-    → record n { get_capabilities = request; capabilities = answer } ≡ record n { get_capabilities = request; capabilities = answer; negotiate_algorithms = []; algorithms = [] }
-capabilities_up n request answer is = ap (λ (x : Negotiation). record n { get_capabilities = request; capabilities = answer; negotiate_algorithms = x.negotiate_algorithms; algorithms = x.algorithms }) is
 
 pub capabilities_stand : (q : ReqSetup) (old new : negotiating.Seen) (p : Phase) (n : Negotiation) (caps theirs : Caps) (common : Common) (len : ℕ) (request answer : List ℕ) → HasSizes q → negotiating.StandsFor old p n
     → n ≡ record no_negotiation { get_version = n.get_version; version = n.version } → caps ≡ requester_caps q → request ≡ canonical_request (GetCapabilities caps) → length answer ≡ 20
@@ -276,26 +261,9 @@ own_offer_is suites transfer offer is = own_by suites transfer offer (hash_offer
 
 -- ---- ALGORITHMS.
 
-with_algorithms : (n : Negotiation) (messages request answer : List ℕ) → n ≡ record n { negotiate_algorithms = []; algorithms = [] } → messages ≡ vca_of n
-    → messages ++ request ++ answer ≡ vca_of (record n { negotiate_algorithms = request; algorithms = answer })
-with_algorithms n messages request answer is said =
-    let first : messages ≡ n.get_version ++ n.version ++ n.get_capabilities ++ n.capabilities = said ∙ ap vca_of is ∙ simp append-nil in
-    rw first refl
-
 unsettled : (n : Negotiation) → n ≡ record n { negotiate_algorithms = []; algorithms = [] } → (terms_of n).choice ≡ no_choice
 unfolding terms_of number_at field_at
 unsettled n is = ap (λ (x : Negotiation). (terms_of x).choice) is
-
-found_or : {A : Type 0} (x : Option A) (a b : A) → x ≡ Some a → unwrap_or x b ≡ a
-found_or {A = A} x a b e = ap (λ (o : Option A). unwrap_or o b) e
-
-choice_by : (n : Negotiation) (m answer : List ℕ) (offer : OfferMessage) (reply : ReplyMessage) (choice : Choice) → request_value m ≡ Some (NegotiateAlgorithms offer) → response_value answer ≡ Some (Algorithms reply) → agreed offer reply ≡ Some choice
-    → (terms_of (record n { negotiate_algorithms = m; algorithms = answer })).choice ≡ choice
-unfolding terms_of
-choice_by n m answer offer reply choice asked answered is =
-    ap (λ (q : Option RequestMessage). choice_from (offer_in q) (reply_in (response_value answer))) asked
-    ∙ ap (λ (q : Option ResponseMessage). choice_from (Some offer) (reply_in q)) answered
-    ∙ found_or (agreed offer reply) choice no_choice is
 
 pub algorithms_stand : (old new : negotiating.Seen) (p : Phase) (n : Negotiation) (offer : OfferMessage) (reply : ReplyMessage) (choice : Choice) (request answer : List ℕ) → negotiating.StandsFor old p n
     → n ≡ record n { negotiate_algorithms = []; algorithms = [] } → IsOwn offer → IsSoundOffer offer → request ≡ canonical_request (NegotiateAlgorithms offer) → length answer ≤ MAX_MESSAGE_SIZE
@@ -317,7 +285,7 @@ algorithms_stand old new p n offer reply choice request answer stands is own sou
     record {
       phase = sym (ap (λ (s : negotiating.Seen). s.phase) said);
       messages = ap (λ (s : negotiating.Seen). s.messages) said ∙ ap (λ (m : List ℕ). old.messages ++ m ++ answer) asks ∙ with_algorithms n old.messages (canonical_request (NegotiateAlgorithms offer)) answer is stands.messages;
-      common = common_stays n (canonical_request (NegotiateAlgorithms offer)) answer ∙ stands.common ∙ sym (ap (λ (s : negotiating.Seen). s.common) said);
+      common = algorithms_keep n (canonical_request (NegotiateAlgorithms offer)) answer ∙ stands.common ∙ sym (ap (λ (s : negotiating.Seen). s.common) said);
       choice = choice_by n (canonical_request (NegotiateAlgorithms offer)) answer offer reply choice (own.reads sound) value chooses ∙ sym (ap (λ (s : negotiating.Seen). s.choice) said);
       short = record {
         get_version = stands.short.get_version;

@@ -1,7 +1,7 @@
 -- What a command leaves of what is kept.
 use Rattle.std.proofs.Common.{refl, ◌≡◌, ◌∙◌, ◌≤◌, ◌+◌, ◌%◌, ℕ, List, [], ◌∷◌, true, false, Bool, Option, Some, None, ap, sym, subst, length, arith}
 use Rattle.std.specs.Prelude.{if◌then◌else◌, is_some, not}
-use Rattle.std.proofs.lemmas.Bool.{false≢true}
+use Rattle.std.proofs.lemmas.Bool.{false≢true, not-false}
 use Rattle.std.proofs.lemmas.List.{length-append}
 use Rattle.negotiate.specs.declared.shared.Common.{Common}
 use Rattle.requester_machine.proofs.Entries.{request_sent-asks, test_is_false}
@@ -220,12 +220,8 @@ exchange_sound q h f summary allowed kind = record {
   opaque = allowed.opaque;
 }
 
-not_bad : (b : Bool) → not b ≡ false → b ≡ true
-not_bad true e = refl
-not_bad false e = absurd (false≢true (sym e))
-
 pub kind_known : (q : ReqSetup) (h : History) (f : Free) (summary : ℕ) → command_fault false q h (Open summary) f ≡ None → is_summary summary ≡ true
-kind_known q h f summary none = not_bad (is_summary summary) (test_is_false false q h (Open summary) f none 6)
+kind_known q h f summary none = not-false (is_summary summary) (test_is_false false q h (Open summary) f none 6)
 
 -- The request as the program writes it.
 pub exchange_is : (q : ReqSetup) (f : Free) (summary : ℕ) (setup : Setup) (free : FreeValues) → IsSetUp setup q → IsFree free f

@@ -4,3 +4,4 @@ pub mod ChunkSteps
 pub mod CutAndCollected
 pub mod FewChunks
 pub mod WorkedChunks
+pub mod ChunkLengths

@@ -3,7 +3,8 @@ use Rattle.std.proofs.Common.{refl, ◌≡◌, ◌≤◌, ◌+◌, ◌-◌, ◌<
 use Rattle.std.proofs.lemmas.Bool.Decides.{nat_tests}
 use Rattle.std.proofs.lemmas.List.{length-append, length-drop, length-take}
 use Rattle.std.specs.Prelude.{if◌then◌else◌, ◌==◌, ◌||◌, is_some, unwrap_or}
-use Rattle.chunking.specs.Cutting.{chunk_end, chunk_start, nth_chunk}
+use Rattle.chunking.proofs.ChunkLengths.{chunk_framed}
+use Rattle.chunking.specs.Cutting.{nth_chunk}
 use Rattle.key_schedule.specs.declared.direction.Direction.TheVariants as direction
 use Rattle.measurements.specs.Summaries.{hash_of_blocks, summarized}
 use Rattle.responder_machine.proofs.VerifyLength.{length_blocks, length_verify}
@@ -45,34 +46,7 @@ exchange_long r p m f exchange =
     simp length-append (omega arith)
 
 -- A chunk of a large answer, with what stands round it, fits the transfer size.
-range_long : (message : List ℕ) (a b : ℕ) → length (slice_range message a b) ≤ b - a
-range_long message a b = simp (length-take, length-drop) (omega arith)
-
--- The first chunk alone tells the length of the whole.
-told_first : (first : Bool) (n : ℕ) → is_some (if first then Some n else None) ≡ first
-told_first true n = refl
-told_first false n = refl
-
-not_first : (k : ℕ) → (suc k == 0) ≡ false
-not_first k = grind (arith, nat_tests)
-
-told_later : (k n : ℕ) → length (large_bytes (if suc k == 0 then Some n else None)) ≡ 0
-told_later k n = ap (λ (first : Bool). length (large_bytes (if first then Some n else None))) (not_first k)
-
 pub chunk_fits : (transfer handle : ℕ) (message : List ℕ) (k : ℕ) → 16 ≤ transfer → length (canonical_response (ChunkResponse (nth_chunk transfer handle message k))) ≤ transfer
-chunk_fits transfer handle message zero least =
-    let within = range_long message (chunk_start transfer 0) (chunk_end transfer 0) in
-    simp length-append (omega arith)
-chunk_fits transfer handle message (suc k) least =
-    let within = range_long message (chunk_start transfer (suc k)) (chunk_end transfer (suc k)) in
-    let told = told_later k (length message) in
-    simp length-append (omega arith)
-
-chunk_short : (transfer handle : ℕ) (message : List ℕ) (k : ℕ) → length (nth_chunk transfer handle message k).chunk ≤ transfer
-chunk_short transfer handle message k = (let within = range_long message (chunk_start transfer k) (chunk_end transfer k) in omega arith)
-
-pub chunk_sound : (transfer handle : ℕ) (message : List ℕ) (k : ℕ) → transfer < 2 ^ 32 → IsSoundChunk (nth_chunk transfer handle message k)
-chunk_sound transfer handle message k most = record {
-  first = told_first (k == 0) (length message);
-  size = (let short = chunk_short transfer handle message k in omega arith);
-}
+chunk_fits transfer handle message k least =
+    let framed = chunk_framed transfer handle message k least in
+    simp length-append (omega (arith, framed))

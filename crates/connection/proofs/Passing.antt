@@ -37,6 +37,7 @@ use Rattle.connection.specs.Negotiating.{IsSettled, IsSized}
 use Rattle.connection.specs.Refused.{IsClear, IsPassed, IsRefused, chunk_refusal, tests_of_answer, tests_of_request}
 use Rattle.connection.specs.Standing.{IsSettledAt, Seen, StandsFor, place_at}
 use Rattle.connection.specs.declared.refused.Refused.{Refused}
+use Rattle.responder_session.proofs.Contents.{AreOther, form_codes, other_code}
 
 -- ---- The sizes of the requester.
 
@@ -164,22 +165,6 @@ answer_fits r p m f large (ChunkGet handle number) clear settled form is able he
     omega arith
 
 -- ---- Refusals.
-
--- ResponseTooLarge comes for an answer alone.
-abbrev AreOther : List (Bool × ErrorCode) → Type 0
-AreOther [] = Unit {0}
-AreOther (t ∷ ts) = (t.1 ≡ ResponseTooLarge → ⊥) × AreOther ts
-
-other_code : (ts : List (Bool × ErrorCode)) (code : ErrorCode) → AreOther ts → first_of_tests ts ≡ Some code → code ≡ ResponseTooLarge → ⊥
-other_code [] code others is large = none-some code is
-other_code (t ∷ ts) code others is large = by_test t.0 is (other_code ts code others.1)
-  where
-    by_test : (b : Bool) → (if b then Some t.1 else first_of_tests ts) ≡ Some code → (first_of_tests ts ≡ Some code → code ≡ ResponseTooLarge → ⊥) → ⊥
-    by_test true is rest = others.0 (same_Some t.1 code is ∙ large)
-    by_test false is rest = rest is large
-
-form_codes : (r : RspSetup) (p : Place) (m : List ℕ) → AreOther (tests_of_form r p m)
-form_codes r p m = (λ e. cc, (λ e. cc, (λ e. cc, (λ e. cc, (λ e. cc, (λ e. cc, (λ e. cc, (λ e. cc, (λ e. cc, tt)))))))))
 
 request_codes : (r : RspSetup) (p : Place) (asked : RequestMessage) → AreOther (tests_of_request r p asked)
 request_codes r p asked = (λ e. cc, (λ e. cc, (λ e. cc, (λ e. cc, (λ e. cc, (λ e. cc, tt))))))

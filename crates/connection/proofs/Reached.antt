@@ -33,6 +33,7 @@ use Rattle.transcript.specs.Transcripts.{Negotiation, vca_of}
 use Rattle.connection.proofs.Lengths.{algorithms_long, capabilities_long, version_long}
 use Rattle.responder_machine.proofs.Settled.{answer_is}
 use Rattle.connection.specs.Negotiating.{IsSettled, IsUpTo, Seen, StandsFor, most_in}
+use Rattle.spdm_machine.proofs.Settling.{algorithms_keep, capabilities_keep, capabilities_up, with_algorithms, with_capabilities}
 
 -- Versions settle no terms.
 version_settles : (get_version version : List ℕ) → terms_of (record no_negotiation { get_version = get_version; version = version }) ≡ no_terms
@@ -75,34 +76,6 @@ versioned r p f request answer messages large turns t kept is answered effect =
       settled = refl;
     })
 
--- CAPABILITIES settle no choice, and ALGORITHMS nothing of what both ends can do.
-capabilities_keep : (n : Negotiation) (request answer : List ℕ) → (terms_of (record n { get_capabilities = request; capabilities = answer })).choice ≡ (terms_of n).choice
-unfolding terms_of
-capabilities_keep n request answer = refl
-
-pub algorithms_keep : (n : Negotiation) (request answer : List ℕ) → (terms_of (record n { negotiate_algorithms = request; algorithms = answer })).common ≡ (terms_of n).common
-unfolding terms_of
-algorithms_keep n request answer = refl
-
--- The messages with those of one more request, behind those of the phase before it.
-with_capabilities : (n : Negotiation) (messages request answer : List ℕ) → n ≡ record no_negotiation { get_version = n.get_version; version = n.version } → messages ≡ vca_of n
-    → messages ++ request ++ answer ≡ vca_of (record n { get_capabilities = request; capabilities = answer })
-with_capabilities n messages request answer is said =
-    let first : messages ≡ n.get_version ++ n.version = said ∙ ap vca_of is ∙ simp append-nil in
-    let asked : n.negotiate_algorithms ≡ [] = ap (λ (x : Negotiation). x.negotiate_algorithms) is in
-    let answered : n.algorithms ≡ [] = ap (λ (x : Negotiation). x.algorithms) is in
-    rw (first, asked, answered) (simp append-nil)
-
-with_algorithms : (n : Negotiation) (messages request answer : List ℕ) → n ≡ record n { negotiate_algorithms = []; algorithms = [] } → messages ≡ vca_of n
-    → messages ++ request ++ answer ≡ vca_of (record n { negotiate_algorithms = request; algorithms = answer })
-with_algorithms n messages request answer is said =
-    let first : messages ≡ n.get_version ++ n.version ++ n.get_capabilities ++ n.capabilities = said ∙ ap vca_of is ∙ simp append-nil in
-    rw first refl
-
-upto_capabilities : (n : Negotiation) (request answer : List ℕ) → n ≡ record no_negotiation { get_version = n.get_version; version = n.version }
-    → record n { get_capabilities = request; capabilities = answer } ≡ record n { get_capabilities = request; capabilities = answer; negotiate_algorithms = []; algorithms = [] }
-upto_capabilities n request answer is = ap (λ (x : Negotiation). record n { get_capabilities = request; capabilities = answer; negotiate_algorithms = x.negotiate_algorithms; algorithms = x.algorithms }) is
-
 few_more : (messages request answer : List ℕ) (a b c most : ℕ) → length messages ≤ a → length request ≤ b → length answer ≤ c → a + b + c ≤ most → length (messages ++ request ++ answer) ≤ most
 few_more messages request answer a b c most x y z within = omega (arith, length-append (messages ++ request) answer, length-append messages request)
 
@@ -137,7 +110,7 @@ capable r p f caps common request answer messages large seen turns t kept stands
     of_effect _ turns t (Took (GetCapabilities caps) request answer large) effect (record {
       phase = refl;
       messages = said ∙ with_capabilities n seen.messages request answer up_to stands.messages;
-      up_to = upto_capabilities n request answer up_to;
+      up_to = capabilities_up n request answer up_to;
       few = subst (λ (m : List ℕ). length m ≤ 52) (sym said) (few_more seen.messages request answer 12 20 20 52 few asked told (omega arith));
       common = ap (λ (a : List ℕ). (terms_of (record n { get_capabilities = request; capabilities = a })).common) answered ∙ common_settled r p request f caps common n fits is agreed;
       choice = capabilities_keep n request answer ∙ stands.choice;

@@ -45,6 +45,7 @@ use Rattle.spdm_grammar.specs.declared.heard.Heard.TheVariants as heard
 use Rattle.spdm_grammar.specs.declared.names.request_code.TheConstants.{END_SESSION}
 use Rattle.spdm_machine.specs.Bodies.{clear_body, record_body}
 use Rattle.spdm_machine.specs.Keys.{Draw}
+use Rattle.session_keys.proofs.Purposes.{header_fits}
 
 -- ---- What stands after an entry that touches one session.
 
@@ -169,17 +170,9 @@ header_passed : (x : Option RecordFault) (key iv : List ℕ) (number : ℕ) (sea
 header_passed (Some fault) key iv number sealed h = absurd (none-some fault (sym h))
 header_passed None key iv number sealed h = refl
 
-not_more : (n : ℕ) → nat_lt 4160 n ≡ false → n ≤ 4160
-not_more n h = grind (arith, nat_tests)
-
-header_short : (id : List ℕ) (number : ℕ) (sealed : List ℕ) → header_fault id number sealed ≡ None → length sealed ≤ 4160
-unfolding header_fault
-header_short id number sealed h = not_more (length sealed)
-    (header_of_none (nat_lt (length sealed) 26) (bytes_eq (take 4 sealed) id) (bytes_eq (take 2 (drop 4 sealed)) (little_bytes 2 number)) (bytes_eq (take 2 (drop 6 sealed)) (little_bytes 2 (length sealed - 8))) (nat_lt 4160 (length sealed)) h).4
-
 opens_short : (psk : List ℕ) (s : Events) (sealed : List ℕ) → opening_fault psk s sealed ≡ None → length sealed ≤ 4160
 unfolding opening_fault record_fault fault_of
-opens_short psk s sealed h = header_short (id_bytes s) (request_next s) sealed (header_passed _ _ _ _ _ (not_spent (is_spent s) _ h))
+opens_short psk s sealed h = header_fits (id_bytes s) (request_next s) sealed (header_passed _ _ _ _ _ (not_spent (is_spent s) _ h))
 
 -- ---- The history after a record that a session took.
 

@@ -24,12 +24,10 @@ use Rattle.spdm_grammar.specs.declared.names.request_code.TheConstants.{GET_VERS
 use Rattle.spdm_machine.specs.Keys.{Draw}
 use Rattle.spdm_machine.specs.Sessions.{id_in_exchange}
 use Rattle.transcript.specs.Transcripts.{Negotiation}
+use Rattle.std.proofs.lemmas.Bool.{eq-eqb}
 
 other_code : (n : ℕ) → (n == PSK_EXCHANGE) ≡ true → (n == GET_VERSION) ≡ false
 other_code n h = grind (arith, nat_tests)
-
-same_number : (a b : ℕ) → a ≡ b → (a == b) ≡ true
-same_number a b h = grind (arith, nat_tests)
 
 other_number : (a b i : ℕ) → a ≡ b → i ≢ b → (a == i) ≡ false
 other_number a b i h ne = grind (arith, nat_tests)
@@ -40,7 +38,7 @@ exchange_is id s t n h =
     ∙ ap (λ (b : Bool). if b then after_exchange id s t n else s) h
 
 own_exchange : (id : ℕ) (s : Events) (t : Turn) (n : Negotiation) → id_in_exchange (answer_in t.effect) ≡ id → after_exchange id s t n ≡ begun n (request_in t.effect) (answer_in t.effect)
-own_exchange id s t n is = ap (λ (b : Bool). if b then begun n (request_in t.effect) (answer_in t.effect) else held_part s) (same_number (id_in_exchange (answer_in t.effect)) id is)
+own_exchange id s t n is = ap (λ (b : Bool). if b then begun n (request_in t.effect) (answer_in t.effect) else held_part s) (eq-eqb (id_in_exchange (answer_in t.effect)) id is)
 
 other_exchange : (id i : ℕ) (s : Events) (t : Turn) (n : Negotiation) → id_in_exchange (answer_in t.effect) ≡ id → i ≢ id → after_exchange i s t n ≡ held_part s
 other_exchange id i s t n is ne = ap (λ (b : Bool). if b then begun n (request_in t.effect) (answer_in t.effect) else held_part s) (other_number (id_in_exchange (answer_in t.effect)) id i is ne)

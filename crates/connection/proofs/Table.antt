@@ -1,6 +1,6 @@
 -- The table of refusals in the clear, from the tests that are made there.
 use Rattle.std.proofs.Common.{refl, ◌∙◌, ◌≡◌, ℕ, List, [], ◌∷◌, ◌++◌, true, false, Bool, Option, Some, None, ap, sym}
-use Rattle.std.proofs.lemmas.Bool.{false≢true}
+use Rattle.std.proofs.lemmas.Bool.{false≢true, not-false}
 use Rattle.std.specs.Option.{option_or}
 use Rattle.std.specs.Prelude.{◌==◌, ◌&&◌, if◌then◌else◌, is_some, not}
 use Rattle.responder_machine.proofs.Codes.{asked-code}
@@ -61,15 +61,11 @@ clear_allows InClear p code clear = refl
 clear_allows InChunks p code clear = refl
 clear_allows InSession p code clear = absurd clear
 
-not_false : (b : Bool) → not b ≡ false → b ≡ true
-not_false true h = refl
-not_false false h = absurd (false≢true (sym h))
-
 -- The phase allows a request that is not refused for its form.
 pub phase_allowed : (r : RspSetup) (p : Place) (m : List ℕ) (asked : RequestMessage) → IsClear p.at → refused_form r p m ≡ None → request_at p m ≡ Some asked → phase_allows p.phase (has_pending p) (code_for asked) ≡ true
 unfolding refused_form
 phase_allowed r p m asked clear form is =
-    ap (phase_allows p.phase (has_pending p)) (asked-code p m asked is) ∙ sym (clear_allows p.at p (code_of m) clear) ∙ not_false (is_allowed p.at p (code_of m)) (tests_are_false (tests_of_form r p m) form 6)
+    ap (phase_allows p.phase (has_pending p)) (asked-code p m asked is) ∙ sym (clear_allows p.at p (code_of m) clear) ∙ not-false (is_allowed p.at p (code_of m)) (tests_are_false (tests_of_form r p m) form 6)
 
 pub pending_for : (r : RspSetup) (p : Place) (m : List ℕ) (asked : RequestMessage) → IsClear p.at → refused_form r p m ≡ None → request_at p m ≡ Some asked → IsPendingFor p asked
 pending_for r p m (ChunkGet handle number) clear form is = by_phase p.phase (phase_allowed r p m (ChunkGet handle number) clear form is)

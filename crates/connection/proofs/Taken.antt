@@ -22,7 +22,7 @@ use Rattle.responder_machine.specs.Turn.Effect.{NoEffect, Took}
 use Rattle.std.specs.Option.{option_map}
 use Rattle.spdm_machine.specs.Terms.{terms_of}
 use Rattle.transcript.specs.Transcripts.{Negotiation}
-use Rattle.connection.proofs.Reached.{algorithms_keep, unmoved}
+use Rattle.connection.proofs.Reached.{unmoved}
 use Rattle.connection.specs.Negotiating as negotiating
 use Rattle.std.specs.Result.{result_ok}
 use Rattle.spdm_grammar.specs.Codes.{code_for}
@@ -46,6 +46,7 @@ use Rattle.spdm_grammar.specs.declared.names.TheConstants.{MAX_MESSAGE_SIZE, MIN
 use Rattle.spdm_basis.proofs.Bools.{and_first, and_second, lt_false}
 use Rattle.connection.specs.Standing.{IsSettledAt}
 use Rattle.connection.specs.Taking.{IsTaking}
+use Rattle.spdm_machine.proofs.Settling.{algorithms_keep}
 
 -- ---- In which phase it comes.
 

@@ -1,6 +1,6 @@
 -- Sessions that wait, and sessions that were dropped unseen.
 use Rattle.std.proofs.Common.{refl, ◌∙◌, ◌≡◌, ◌≢◌, ℕ, zero, suc, List, [], ◌∷◌, true, false, Bool, Option, Some, None, ap, sym, subst, arith}
-use Rattle.std.proofs.lemmas.Bool.{false≢true}
+use Rattle.std.proofs.lemmas.Bool.{false≢true, eq-eqb, eqb-false}
 use Rattle.std.proofs.lemmas.Bool.Decides.{nat_tests}
 use Rattle.std.specs.Prelude.{◌==◌, ◌-◌, ◌||◌, nat_lt, slice_index_or, if◌then◌else◌}
 use Rattle.connection.proofs.Recorded.{standing_with}
@@ -21,14 +21,8 @@ pub record Visits (r : RspSetup) (change : Events → Events) (id : ℕ) (old ne
   pub own : (s : Events) → IsSlotOf (slot_of old id) r s → IsSlotOf (slot_of new id) r (change s)
   pub others : (i : ℕ) → i ≢ id → slot_of new i ≡ slot_of old i
 
-equal : (a b : ℕ) → a ≡ b → (a == b) ≡ true
-equal a b h = grind (arith, nat_tests)
-
-differ : (a b : ℕ) → (a == b) ≡ false → a ≢ b
-differ a b h e = false≢true (sym h ∙ equal a b e)
-
 carried : (r : RspSetup) (change : Events → Events) (id i : ℕ) (old new : Sessions) (s : Events) → Visits r change id old new → (i == id) ≡ false → IsSlotOf (slot_of old i) r s → IsSlotOf (slot_of new i) r s
-carried r change id i old new s visits other slot = subst (λ (x : Option Live). IsSlotOf x r s) (sym (visits.others i (differ i id other))) slot
+carried r change id i old new s visits other slot = subst (λ (x : Option Live). IsSlotOf x r s) (sym (visits.others i (eqb-false i id other))) slot
 
 by_tests : (b c : Bool) (x : Option Live) → c ≡ true → (if b || c then None else x) ≡ None
 by_tests true c x h = refl
@@ -76,9 +70,6 @@ session_of-Dropped : (id which : ℕ) (h : History) → session_of id (Dropped w
 unfolding session_of
 session_of-Dropped id which h = refl
 
-same_id : (n : ℕ) → (n == n) ≡ true
-same_id n = grind (arith, nat_tests)
-
 not_same : (a b : ℕ) → a ≢ b → (b == a) ≡ false
 not_same a b h = grind (arith, nat_tests)
 
@@ -87,7 +78,7 @@ pub dropped : (r : RspSetup) (h : History) (id : ℕ) (old new : Sessions) → S
 dropped r h id old new stands own others ended =
     standing_with new r (Dropped id ∷ h) id
     (subst (λ (x : Option Live). IsSlotOf x r (session_of id (Dropped id ∷ h))) (sym own)
-    (session_of-Dropped id id h ∙ ap (λ (b : Bool). if b then [] else session_of id h) (same_id id)))
+    (session_of-Dropped id id h ∙ ap (λ (b : Bool). if b then [] else session_of id h) (eq-eqb id id refl)))
     (λ i other. subst (λ (s : Events). IsSlotOf (slot_of new i) r s) (sym (session_of-Dropped i id h ∙ ap (λ (b : Bool). if b then [] else session_of i h) (not_same i id other)))
     (subst (λ (x : Option Live). IsSlotOf x r (session_of i h)) (sym (others i other)) (stands.slots i)))
     (ended ∙ stands.ended)

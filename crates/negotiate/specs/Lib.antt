@@ -4,3 +4,4 @@ pub mod Tables
 pub mod Choosing
 pub mod Offer
 pub mod Reply
+pub mod OwnSizes

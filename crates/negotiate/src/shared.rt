@@ -1,3 +1,8 @@
+ghost use Rattle.std.specs.Prelude.{◌≡◌};
+ghost use Rattle.negotiate.specs.OwnSizes.{may_be_own};
+
+use spdm_grammar::names::{MAX_MESSAGE_SIZE, MIN_DATA_TRANSFER_SIZE};
+
 /// What two ends can do together.
 #[derive(Clone, Copy, Debug, PartialEq, Eq)]
 pub struct Common {
@@ -22,4 +27,16 @@ pub struct Sizes {
     pub transfer: u32,
     /// MaxSPDMmsgSize: in chunks.
     pub max: u32,
+}
+
+impl Sizes {
+    /// Whether an end may be set up with them: DataTransferSize is from 42 to 4,096, and
+    /// MaxSPDMmsgSize from it to 4,096; without CHUNK_CAP they are equal.
+    pub fn may_be_own(&self, chunk: bool) -> bool
+        ensures { result ≡ may_be_own self.now chunk }
+    {
+        let has_room = self.transfer >= MIN_DATA_TRANSFER_SIZE;
+        let is_ordered = self.transfer <= self.max && self.max <= MAX_MESSAGE_SIZE;
+        has_room && is_ordered && (chunk || self.max == self.transfer)
+    }
 }

@@ -49,6 +49,14 @@ fn capabilities_in_common(rt: HostRuntime) {
 }
 
 #[test]
+fn limits_of_own_sizes(rt: HostRuntime) {
+    let may = |transfer, max, chunk| Sizes { transfer, max }.may_be_own(chunk);
+    assert!(rt; may(42, 42, false) && may(4096, 4096, false) && may(42, 4096, true));
+    assert!(rt; !may(41, 4096, true) && !may(42, 4097, true) && !may(43, 42, true));
+    assert!(rt; !may(42, 43, false));
+}
+
+#[test]
 fn faults_of_a_requester(rt: HostRuntime) {
     let small = Caps {
         transfer: 41,

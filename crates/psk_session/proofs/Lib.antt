@@ -3,7 +3,6 @@ pub mod Judged
 pub mod Past
 pub mod AskCommands
 pub mod AskFew
-pub mod Blocks
 pub mod Replies
 pub mod Meanings
 pub mod Courses

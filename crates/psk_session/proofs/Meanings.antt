@@ -25,7 +25,7 @@ use Rattle.psk_session.specs.Verdict.{Meaning, Fits, wrong_kind, error_verdict, 
 use Rattle.psk_session.specs.Verdict.Meaning.{Done, Piece}
 use Rattle.psk_session.specs.Verdict.Verdict.{Bad, Answered, Updated, Large}
 use Rattle.psk_session.specs.declared.reply.Reply.TheVariants as reply
-use Rattle.psk_session.proofs.Blocks.{measured_value, measured_short}
+use Rattle.requester_machine.proofs.ResponseLengths.{measured_value, measured_short}
 
 -- The chunk is the one that was asked for.
 pub record IsAskedFor (a : Ask) (op : ℕ) (c : ChunkMessage) : Type 0 where
@@ -103,7 +103,7 @@ blocks_are : (h : ℕ) (answer : List ℕ) (measured : MeasuredMessage) → resp
 blocks_are h answer measured e = ap (λ (v : Option ResponseMessage). unwrap_or (option_or None (blocks_of v)) []) (measured_value h answer measured e)
 
 measured_fits : (s : Steps) (a : Ask) (h : ℕ) (answer : List ℕ) (measured : MeasuredMessage) → response_reading h false answer ≡ Ok (Measurements measured) → length answer ≤ 4160 → Fits s a answer (measured_verdict a measured)
-measured_fits s (AskMeasure op) h answer measured e short = (eq-eqb op op refl, refl, blocks_are h answer measured e, measured_short 4160 h answer measured e short)
+measured_fits s (AskMeasure op) h answer measured e short = (eq-eqb op op refl, refl, blocks_are h answer measured e, (let fits = measured_short h answer measured e in omega (arith, fits, short)))
 measured_fits s _ h answer measured e short = tt
 
 chunk_tests : (s : Steps) (op handle number : ℕ) (before : List ChunkMessage) (answer : List ℕ) (c : ChunkMessage) (b d : Bool) → (c.handle == handle) ≡ b → (c.number == number) ≡ d
@@ -153,7 +153,7 @@ whole_by s op handle number h before answer (Err fault) e short = tt
 whole_by s op handle number h before answer (Ok (Error version code detail extended)) e short =
     again_fits s op handle number (slice_index extended 0) code before answer (code == LARGE_RESPONSE) (has_reached 65300 s) refl
 whole_by s op handle number h before answer (Ok (Measurements measured)) e short =
-    (eq-eqb op op refl, refl, blocks_are h answer measured e, measured_short 4160 h answer measured e short)
+    (eq-eqb op op refl, refl, blocks_are h answer measured e, (let fits = measured_short h answer measured e in omega (arith, fits, short)))
 whole_by s op handle number h before answer (Ok _) e short = tt
 
 pub whole_fits : (s : Steps) (op handle number h : ℕ) (before : List ChunkMessage) (answer : List ℕ) → length answer ≤ 4160

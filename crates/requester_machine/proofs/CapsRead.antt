@@ -143,11 +143,6 @@ common_read q n len theirs common s own told is =
     ∙ ap (λ (x : Option ResponseMessage). common_from (Some (requester_caps q)) (told_caps x)) (any_hash len n.capabilities theirs told)
     ∙ ap (λ (x : Result Common CapsFault). unwrap_or (result_ok x) no_common) is
 
--- It depends on these two alone.
-pub common_stays : (n : Negotiation) (a b : List ℕ) → (terms_of (record n { negotiate_algorithms = a; algorithms = b })).common ≡ (terms_of n).common
-unfolding terms_of
-common_stays n a b = refl
-
 passed : (a b c e : Bool) (x common : Common) → (if a then Err SizeTooSmall else (if b then Err SizesCrossed else (if c then Err NoPsk else (if e then Err NoProtection else Ok x)))) ≡ Ok common
     → (a ≡ false) × (b ≡ false) × (x ≡ common)
 passed true b c e x common is = absurd (cc)

@@ -30,7 +30,7 @@ use Rattle.requester_machine.specs.Sending.{plain_sent, request_sent, piece_sent
 use Rattle.requester_machine.specs.Session.{Steps, Step, session_of, is_live, when_live}
 use Rattle.requester_machine.specs.Session.Step.{Accepted, Asked}
 use Rattle.requester_machine.specs.UnderWay.{HasSizes, IsCommon, is_capable, IsAwaited, IsOutstanding}
-use Rattle.requester_machine.proofs.CapsRead.{common_read, common_stays, common_is}
+use Rattle.requester_machine.proofs.CapsRead.{common_read, common_is}
 use Rattle.requester_machine.proofs.ClearLeads.{ClearLeads}
 use Rattle.requester_machine.proofs.ClearLeads.ClearLeads.{ByRefusal, ByLarge, BySend, ByGet, ByStop, ByVersion, ByCaps, ByChoice, ByMeasured, ByExchange}
 use Rattle.requester_machine.proofs.Collected.{none_yet, one_more}
@@ -39,6 +39,7 @@ use Rattle.requester_machine.specs.Holds.{Holds, Waits}
 use Rattle.requester_machine.proofs.Keeps.{Keeps, behind_clear}
 use Rattle.requester_machine.proofs.Pieces.{next_piece}
 use Rattle.requester_machine.proofs.Few.{live_first}
+use Rattle.spdm_machine.proofs.Settling.{algorithms_keep}
 
 module _ (q : ReqSetup) (h : History) (tag : ℕ) (m : List ℕ) (d : Draw) where
   keeps : (led : Led) (id : ℕ) → Keeps (session_of id h) (session_of id (TookClear tag m led d ∷ h))
@@ -150,7 +151,7 @@ module _ (q : ReqSetup) (h : History) (tag : ℕ) (m : List ℕ) (d : Draw) wher
   choice_holds offer answer a k = record {
     live = λ id. none_live h (TookClear tag m (is_done finished.Connected (Answers (NegotiateAlgorithms offer) answer)) d ∷ h) id (keeps (is_done finished.Connected (Answers (NegotiateAlgorithms offer) answer)) id)
         (negotiating q h (NegotiateAlgorithms offer) refl a) (k.live id);
-    known = λ s capable. subst (IsCommon q) (sym (common_stays (negotiation_of h) (canonical_request (NegotiateAlgorithms offer)) answer)) (k.known s (ap is_capable a.0));
+    known = λ s capable. subst (IsCommon q) (sym (algorithms_keep (negotiation_of h) (canonical_request (NegotiateAlgorithms offer)) answer)) (k.known s (ap is_capable a.0));
     waits = tt;
   }
 

@@ -1,7 +1,7 @@
 -- The number of the next record counts those sealed under its purpose.
 use Rattle.std.proofs.Common.{refl, ◌∙◌, ◌≡◌, ◌<◌, ◌≤◌, ◌+◌, ℕ, List, [], ◌∷◌, true, false, Bool, ap, sym, arith}
 use Rattle.std.specs.Prelude.{◌==◌, ◌&&◌, if◌then◌else◌, bytes_eq}
-use Rattle.std.proofs.lemmas.Bool.{false≢true}
+use Rattle.std.proofs.lemmas.Bool.{false≢true, eq-eqb}
 use Rattle.std.proofs.lemmas.Bool.Decides.{nat_tests}
 use Rattle.key_schedule.specs.Purpose.{Purpose, Kind, application_record}
 use Rattle.key_schedule.specs.Purpose.Kind.{Verify, HandshakeRecord, ApplicationRecord}
@@ -35,11 +35,8 @@ is_same_kind-refl Verify = refl
 is_same_kind-refl HandshakeRecord = refl
 is_same_kind-refl ApplicationRecord = refl
 
-is_same_number-refl : (n : ℕ) → (n == n) ≡ true
-is_same_number-refl n = grind (arith, nat_tests)
-
 pub is_same_purpose-refl : (p : Purpose) → is_same_purpose p p ≡ true
-is_same_purpose-refl p = rw (bytes_eq-refl p.transcript, is_same_kind-refl p.kind, is_same_number-refl p.epoch) refl
+is_same_purpose-refl p = rw (bytes_eq-refl p.transcript, is_same_kind-refl p.kind, eq-eqb p.epoch p.epoch refl) refl
 
 pub and_false : (a b : Bool) → (a && b && false) ≡ false
 and_false true true = refl

@@ -41,7 +41,7 @@ first_piece common asked handle small least short large =
       within = has_chunk (length (canonical_request asked)) (common.to_responder.transfer - 12) (omega arith);
     }
 
-not_last : (a b : ℕ) → (a == b) ≡ false → a ≤ b → a < b
+pub not_last : (a b : ℕ) → (a == b) ≡ false → a ≤ b → a < b
 not_last a b is le = grind (arith, nat_tests)
 
 pub next_piece : (common : Common) (asked : RequestMessage) (handle number : ℕ) (content : Content) → (piece_of common asked handle number).last ≡ false → IsPiece common asked handle number content

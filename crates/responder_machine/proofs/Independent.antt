@@ -14,6 +14,7 @@ use Rattle.responder_machine.specs.Independence.Given.{Packet, Reply, Seconds}
 use Rattle.responder_machine.specs.Independence.Own.{Came, Waits}
 use Rattle.responder_machine.specs.Responding.{Connection, Responding, RspStep, changed, connection_of, hears_packet, is_worn, new_responding, next_draw, queues, reply_fault_of, responder_hears, ticks, with_history, worn_step}
 use Rattle.responder_machine.specs.Setup.{RspEnd}
+use Rattle.std.proofs.lemmas.Bool.{eqb-false}
 
 -- ---- Connections.
 
@@ -88,9 +89,6 @@ alike_through eid r s t a b = record { part = a.part ∙ b.part; connection = a.
 alike_self : (eid : ℕ) (r : Responding) → AreAlike eid r r
 alike_self eid r = record { part = refl; connection = refl; packets = λ own. refl }
 
-not_same : (a b : ℕ) → (a == b) ≡ false → a ≢ b
-not_same a b e s = true≢false (sym (eq-eqb a b s) ∙ e)
-
 module _ (e : RspEnd) (eid : ℕ) where
   -- What a run has sent and come to.
   record Follows (given : List Given) : Type 0 where
@@ -129,7 +127,7 @@ module _ (e : RspEnd) (eid : ℕ) where
   other_packet : (older : List Given) (bytes : List ℕ) → Follows older → (source_of bytes == eid) ≡ false → Adds (Packet bytes) older []
   other_packet older bytes k apart = record {
     sent = ap (λ (b : Bool). sent_to e eid older ++ cond b (responder_hears (run_of e older) bytes).sent []) apart ∙ append-nil (sent_to e eid older) ∙ k.sent;
-    alike = alike_through eid _ _ _ (others (run_of e older) bytes eid (not_same _ _ apart)) k.alike;
+    alike = alike_through eid _ _ _ (others (run_of e older) bytes eid (eqb-false _ _ apart)) k.alike;
   }
 
   abbrev came_by : List ℕ → List Given → Bool → Bool → List Own
@@ -153,7 +151,7 @@ module _ (e : RspEnd) (eid : ℕ) where
       })
       go false x = subst (λ (b : Bool). Adds (Reply other bytes) older (cond b (Waits bytes ∷ []) [])) (sym x) (record {
         sent = append-nil (sent_to e eid older) ∙ k.sent;
-        alike = alike_through eid _ _ _ (other_queued eid other bytes (run_of e older) _ (not_same _ _ x)) k.alike;
+        alike = alike_through eid _ _ _ (other_queued eid other bytes (run_of e older) _ (eqb-false _ _ x)) k.alike;
       })
 
   adds : (g : Given) (older : List Given) → Follows older → Adds g older (concerns eid g (run_of e older))

@@ -38,6 +38,7 @@ use Rattle.responder_machine.specs.SettledLaws.{CapabilitiesSettleCommon, Algori
 use Rattle.spdm_machine.specs.Terms.{terms_of, hash_len, request_value, response_value, common_from, choice_from, asked_caps, told_caps, offer_in, reply_in, no_common, no_choice}
 use Rattle.transcript.specs.Transcripts.{Negotiation}
 use Rattle.spdm_grammar.specs.declared.names.request_code.TheConstants.{GET_CAPABILITIES, NEGOTIATE_ALGORITHMS, PSK_EXCHANGE, PSK_FINISH}
+use Rattle.spdm_machine.proofs.Settling.{choice_by}
 
 -- ---- The length of the hash does not tell in most requests.
 
@@ -101,14 +102,6 @@ pub common_settled : CapabilitiesSettleCommon
 common_settled r p m f caps common n fits is agreed_on =
     common_by n m (answer_bytes r p m f) caps (responder_caps r) common (value_read p m (GetCapabilities caps) GET_CAPABILITIES is (sized-code (hash_len (place_terms p)) m (GetCapabilities caps) is) refl refl)
     (ap response_value (answer_is r p m f (GetCapabilities caps) is) ∙ told_read (Capabilities (responder_caps r)) fits tt) agreed_on
-
-choice_by : (n : Negotiation) (m answer : List ℕ) (offer : OfferMessage) (reply : ReplyMessage) (choice : Choice) → request_value m ≡ Some (NegotiateAlgorithms offer) → response_value answer ≡ Some (Algorithms reply) → agreed offer reply ≡ Some choice
-    → (terms_of (record n { negotiate_algorithms = m; algorithms = answer })).choice ≡ choice
-unfolding terms_of
-choice_by n m answer offer reply choice asked answered is =
-    ap (λ (q : Option RequestMessage). choice_from (offer_in q) (reply_in (response_value answer))) asked
-    ∙ ap (λ (q : Option ResponseMessage). choice_from (Some offer) (reply_in q)) answered
-    ∙ found_or (agreed offer reply) choice no_choice is
 
 small_bit : (b : Bool) (x : ℕ) → x < 256 → (if b then x else 0) < 256
 small_bit true x h = h

@@ -26,6 +26,7 @@ use Rattle.spdm_grammar.specs.declared.names.request_code.TheConstants.{PSK_EXCH
 use Rattle.spdm_grammar.specs.declared.phase.Stage.{Stage}
 use Rattle.responder_session.specs.Deeds.{large_turn}
 use Rattle.responder_session.specs.Turns.{answered_turn}
+use Rattle.responder_machine.proofs.Settled.{answer_is}
 
 -- ---- The tests of contents, by the code, the request and its answer.
 
@@ -64,10 +65,6 @@ pub turn-refused : (r : RspSetup) (p : Place) (m : List ℕ) (f : Free) (asked :
     → first_of_tests (contents_at r p m (code_for asked) (Some asked) (canonical_response (answer_of r p m f asked))) ≡ Some code → turn_of r p m f ≡ refused_turn r p m f code
 turn-refused r p m f asked code form is h = turn_of-refused r p m f code (refusal_is r p m f form ∙ contents_asked r p m f asked is ∙ h)
 
-pub answer_asked : (r : RspSetup) (p : Place) (m : List ℕ) (f : Free) (asked : RequestMessage) → request_at p m ≡ Some asked → answer_bytes r p m f ≡ canonical_response (answer_of r p m f asked)
-unfolding answer_bytes
-answer_asked r p m f asked is = ap (λ (q : Option RequestMessage). answer_to r p m f q) is
-
 plain_answered : (p : Place) (m : List ℕ) (f : Free) (asked : RequestMessage) (large : Bool) (whole answer other : List ℕ) → whole ≡ answer → large ≡ false
     → record { message = m; refused = None; chunk = None; effect = Took asked m whole (if large then Some f.handle else None); reply = if large then other else whole } ≡ answered_turn m asked answer
 plain_answered p m f asked large whole answer other is h = λ i. record { message = m; refused = None; chunk = None; effect = Took asked m (is i) (if h i then Some f.handle else None); reply = if h i then other else is i }
@@ -77,7 +74,7 @@ pub turn-answered : (r : RspSetup) (p : Place) (m : List ℕ) (f : Free) (asked 
     → goes_large p (canonical_response (answer_of r p m f asked)) ≡ false
     → turn_of r p m f ≡ answered_turn m asked (canonical_response (answer_of r p m f asked))
 turn-answered r p m f asked form is plain h small =
-    let same = answer_asked r p m f asked is in
+    let same = answer_is r p m f asked is in
     turn_of-plain r p m f asked (refusal_is r p m f form ∙ contents_asked r p m f asked is ∙ h) is plain
     ∙ plain_turn-asked r p m f asked is
     ∙ plain_answered p m f asked (goes_large p (answer_bytes r p m f)) (answer_bytes r p m f) _ _ same (ap (goes_large p) same ∙ small)
@@ -91,7 +88,7 @@ pub turn-large : (r : RspSetup) (p : Place) (m : List ℕ) (f : Free) (asked : R
     → goes_large p (canonical_response (answer_of r p m f asked)) ≡ true
     → turn_of r p m f ≡ large_turn m asked (canonical_response (answer_of r p m f asked)) f.handle
 turn-large r p m f asked form is plain h large =
-    let same = answer_asked r p m f asked is in
+    let same = answer_is r p m f asked is in
     turn_of-plain r p m f asked (refusal_is r p m f form ∙ contents_asked r p m f asked is ∙ h) is plain
     ∙ plain_turn-asked r p m f asked is
     ∙ large_answered p m f asked (goes_large p (answer_bytes r p m f)) (answer_bytes r p m f) _ same (ap (goes_large p) same ∙ large)
@@ -139,11 +136,11 @@ inner-data r s inner f h five =
 
 -- ---- ResponseTooLarge comes for an answer alone.
 
-abbrev AreOther : List (Bool × ErrorCode) → Type 0
+abbrev pub AreOther : List (Bool × ErrorCode) → Type 0
 AreOther [] = Unit {0}
 AreOther (t ∷ ts) = (t.1 ≡ ResponseTooLarge → ⊥) × AreOther ts
 
-other_code : (ts : List (Bool × ErrorCode)) (code : ErrorCode) → AreOther ts → first_of_tests ts ≡ Some code → code ≡ ResponseTooLarge → ⊥
+pub other_code : (ts : List (Bool × ErrorCode)) (code : ErrorCode) → AreOther ts → first_of_tests ts ≡ Some code → code ≡ ResponseTooLarge → ⊥
 other_code [] code others is large = none-some code is
 other_code (t ∷ ts) code others is large = by_test t.0 is (other_code ts code others.1)
   where
@@ -151,7 +148,7 @@ other_code (t ∷ ts) code others is large = by_test t.0 is (other_code ts code 
     by_test true is rest = others.0 (same_Some t.1 code is ∙ large)
     by_test false is rest = rest is large
 
-form_codes : (r : RspSetup) (p : Place) (m : List ℕ) → AreOther (tests_of_form r p m)
+pub form_codes : (r : RspSetup) (p : Place) (m : List ℕ) → AreOther (tests_of_form r p m)
 form_codes r p m = (λ e. cc, (λ e. cc, (λ e. cc, (λ e. cc, (λ e. cc, (λ e. cc, (λ e. cc, (λ e. cc, (λ e. cc, tt)))))))))
 
 pub form_code : (r : RspSetup) (p : Place) (m : List ℕ) (code : ErrorCode) → refused_form r p m ≡ Some code → code ≡ ResponseTooLarge → ⊥

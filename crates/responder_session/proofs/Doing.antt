@@ -20,7 +20,7 @@ use Rattle.spdm_grammar.specs.declared.error_code.ErrorCode.{ErrorCode}
 use Rattle.spdm_grammar.specs.declared.error_code.ErrorCode.TheVariants.{DecryptError, InvalidRequest, UnexpectedRequest, UnsupportedRequest, ResponseTooLarge}
 use Rattle.spdm_grammar.specs.declared.names.TheConstants.{MAX_MESSAGE_SIZE}
 use Rattle.responder_session.proofs.Allowed.{has_flag, verify_in_verifying, update_in_open}
-use Rattle.responder_session.proofs.Contents.{turn-refused, turn-answered, turn-large, answer_asked, short_fits, short_is_small}
+use Rattle.responder_session.proofs.Contents.{turn-refused, turn-answered, turn-large, short_fits, short_is_small}
 use Rattle.responder_session.proofs.Finish.{finish-refused, finish-answered}
 use Rattle.responder_session.proofs.Updating.{lacking, update-misplaced, update-answered}
 use Rattle.responder_session.specs.Deeds.{IsAllowed, IsDeed, large_turn}
@@ -29,6 +29,7 @@ use Rattle.responder_session.specs.Turns.{answered_turn}
 use Rattle.responder_session.specs.Updates.{HasEpochs, update_turn}
 use Rattle.responder_session.specs.declared.deed.Deed.{Deed}
 use Rattle.responder_session.specs.declared.deed.Deed.TheVariants as deed
+use Rattle.responder_machine.proofs.Settled.{answer_is}
 
 -- ---- What is known of a request that was read.
 
@@ -134,7 +135,7 @@ too_long_turn r s f m op a found is =
 -- How long the answer is that is too long.
 pub told_length : (r : RspSetup) (s : Events) (f : Free) (m : List ℕ) (op long : ℕ) → IsAllowed r s m (GetMeasurements op) → long ≡ length (measured_answer r f op)
     → long ≡ length (answer_bytes r (session_place s) m f)
-told_length r s f m op long a size = size ∙ ap (λ (x : List ℕ). length x) (sym (answer_asked r (session_place s) m f (GetMeasurements op) a.asks))
+told_length r s f m op long a size = size ∙ ap (λ (x : List ℕ). length x) (sym (answer_is r (session_place s) m f (GetMeasurements op) a.asks))
 
 pub measured_deed : (r : RspSetup) (s : Events) (f : Free) (m out : List ℕ) (op : ℕ) → IsAllowed r s m (GetMeasurements op) → is_missing op (inventory_of r) ≡ false
     → is_answer_too_long (session_place s) (measured_answer r f op) ≡ false → goes_large (session_place s) (measured_answer r f op) ≡ false → out ≡ measured_answer r f op

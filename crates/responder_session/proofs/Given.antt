@@ -24,31 +24,15 @@ use Rattle.responder_session.proofs.Doing.{measured_by}
 use Rattle.responder_session.specs.Deeds.{IsAllowed, IsDeed}
 use Rattle.responder_session.specs.Turns.{answered_turn}
 use Rattle.responder_session.specs.declared.deed.Deed.TheVariants as deed
+use Rattle.chunking.proofs.ChunkLengths.{chunk_framed, chunk_sound}
 
 -- ---- A chunk has a spelling, and fits into the transfer size.
 
-chunk_long : (transfer handle : ℕ) (message : List ℕ) (k : ℕ) (b : Bool) → MIN_DATA_TRANSFER_SIZE ≤ transfer → (k == 0) ≡ b
-    → length (large_bytes (if b then Some (length message) else None)) + length (nth_chunk transfer handle message k).chunk + 12 ≤ transfer
-chunk_long transfer handle message k true low e =
-    (let zero : k ≡ 0 = grind (arith, nat_tests) in
-    let none : k * (transfer - 12) ≡ 0 = ap (λ (n : ℕ). n * (transfer - 12)) zero ∙ omega arith in
-    omega (arith, size_is transfer handle message (omega arith) k))
-chunk_long transfer handle message k false low e = omega (arith, size_is transfer handle message (omega arith) k)
-
-chunk_total : (c : ChunkMessage) → length (canonical_response (ChunkResponse c)) ≡ length (large_bytes c.large) + length c.chunk + 12
-chunk_total c = simp length-append (omega arith)
-
 pub chunk_within : (transfer handle : ℕ) (message : List ℕ) (k : ℕ) → MIN_DATA_TRANSFER_SIZE ≤ transfer → length (canonical_response (ChunkResponse (nth_chunk transfer handle message k))) ≤ transfer
 chunk_within transfer handle message k low =
-    subst (λ (n : ℕ). n ≤ transfer) (sym (chunk_total (nth_chunk transfer handle message k))) (chunk_long transfer handle message k (k == 0) low refl)
+    let framed = chunk_framed transfer handle message k (omega (arith, low)) in
+    simp length-append (omega (arith, framed))
 
-told_first : (b : Bool) (n : ℕ) → is_some (if b then Some n else None) ≡ b
-told_first true n = refl
-told_first false n = refl
-
-pub chunk_sound : (transfer handle : ℕ) (message : List ℕ) (k : ℕ) → MIN_DATA_TRANSFER_SIZE ≤ transfer → transfer ≤ MAX_MESSAGE_SIZE → IsSoundChunk (nth_chunk transfer handle message k)
-chunk_sound transfer handle message k low high =
-    record { first = told_first (k == 0) (length message); size = (let long = chunk_long transfer handle message k (k == 0) low refl in omega arith) }
 
 -- ---- What it does.
 
@@ -82,7 +66,7 @@ given_deed r s f m out c handle number a free answer written =
     let most = a.sizes.most in
     let shown : nth_chunk transfer handle whole number ≡ c = ap (the_chunk c) answer in
     let long : length (canonical_response (ChunkResponse c)) ≤ transfer = subst (λ (x : ChunkMessage). length (canonical_response (ChunkResponse x)) ≤ transfer) shown (chunk_within transfer handle whole number least) in
-    let sound : IsSoundChunk c = subst IsSoundChunk shown (chunk_sound transfer handle whole number least (omega arith)) in
+    let sound : IsSoundChunk c = subst IsSoundChunk shown (chunk_sound transfer handle whole number (omega arith)) in
     let sent : List ℕ = canonical_response (chunk_answer (session_place s) handle number) in
     let same : sent ≡ canonical_response (ChunkResponse c) = ap canonical_response answer in
     let short : length sent ≤ transfer = subst (λ (x : List ℕ). length x ≤ transfer) (sym same) long in

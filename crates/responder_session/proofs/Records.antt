@@ -1,7 +1,7 @@
 -- A record at a live session, as the responder handles it in its history.
 use Rattle.std.proofs.Common.{◌≡◌, ◌∙◌, ap, sym, refl, ℕ, List, [], ◌∷◌, Bool, true, false, arith}
 use Rattle.std.proofs.lemmas.Bool.Decides.{nat_tests}
-use Rattle.std.proofs.lemmas.Bool.{false≢true}
+use Rattle.std.proofs.lemmas.Bool.{false≢true, eq-eqb}
 use Rattle.std.specs.Prelude.{◌==◌, if◌then◌else◌, Option, Some, None}
 use Rattle.responder_machine.specs.Answer.{Free}
 use Rattle.responder_machine.specs.Heard.{heard_of, heard_in, record_id}
@@ -46,9 +46,6 @@ on_live r h tag sealed f d live other =
 pub chosen : {A : Type 0} (b c : Bool) (x y : A) → b ≡ c → (if b then x else y) ≡ (if c then x else y)
 chosen b c x y h = ap (λ (z : Bool). if z then x else y) h
 
-same_number : (n : ℕ) → (n == n) ≡ true
-same_number n = grind (arith, nat_tests)
-
 told_by : (t : Turn) (id : SessionId) (refused : Option ErrorCode) → heard_in t id refused ≡ told_as id (act_by t refused)
 told_by t id (Some code) = refl
 told_by t id None = by_data (is_data t.effect) t id
@@ -60,7 +57,7 @@ told_by t id None = by_data (is_data t.effect) t id
 own_record : (h : History) (tag : ℕ) (sealed : List ℕ) (t : Turn) (reply : List ℕ) (d : Draw)
     → session_of (id_in_record sealed) (Sealed tag sealed t reply d ∷ h) ≡ after_record (session_of (id_in_record sealed) h) sealed t reply
 unfolding session_of
-own_record h tag sealed t reply d = ap (λ (b : Bool). if b then after_record (session_of (id_in_record sealed) h) sealed t reply else session_of (id_in_record sealed) h) (same_number (id_in_record sealed))
+own_record h tag sealed t reply d = ap (λ (b : Bool). if b then after_record (session_of (id_in_record sealed) h) sealed t reply else session_of (id_in_record sealed) h) (eq-eqb (id_in_record sealed) (id_in_record sealed) refl)
 
 pub told_is_record : ToldIsRecord
 told_is_record r h tag sealed f d after (told.Moved act) live other (first, opens, stands, is) =

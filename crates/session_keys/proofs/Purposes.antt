@@ -98,7 +98,7 @@ no_header_fault : (f : Option RecordFault) (key iv : List ℕ) (number : ℕ) (s
 no_header_fault None key iv number sealed h = refl
 no_header_fault (Some fault) key iv number sealed h = absurd (none-some fault (sym h))
 
-header_fits : (id : List ℕ) (number : ℕ) (sealed : List ℕ) → header_fault id number sealed ≡ None → length sealed ≤ 4160
+pub header_fits : (id : List ℕ) (number : ℕ) (sealed : List ℕ) → header_fault id number sealed ≡ None → length sealed ≤ 4160
 unfolding header_fault
 header_fits id number sealed h =
     let long = (header_of_none (nat_lt (length sealed) 26) (bytes_eq (take 4 sealed) id) (bytes_eq (take 2 (drop 4 sealed)) (little_bytes 2 number)) (bytes_eq (take 2 (drop 6 sealed)) (little_bytes 2 (length sealed - 8))) (nat_lt 4160 (length sealed)) h).4 in

@@ -11,6 +11,7 @@ use Rattle.chunking.specs.Cutting.{IsCollectable, chunk_count, chunks_before, nt
 use Rattle.spdm_grammar.specs.Fields.{FitsChunk, IsSoundChunk}
 use Rattle.spdm_grammar.specs.Message.{ChunkMessage}
 use Rattle.spdm_grammar.specs.declared.ChunkFault.{ChunkFault}
+use Rattle.chunking.proofs.ChunkLengths.{told_first}
 
 no_rule : (o : Option ChunkFault) (c : ChunkMessage) (x whole : List ℕ) (b : Bool) → answer_from o c x ≡ (if b then Whole whole else More) → o ≡ None
 no_rule None c x whole b e = refl
@@ -24,10 +25,6 @@ same_whole false x whole e is = absurd (cc)
 large_fits : (b : Bool) (n : ℕ) → n < 2 ^ 32 → IfSome (if b then Some n else None) (λ m. m < 2 ^ 32)
 large_fits true n small = small
 large_fits false n small = tt
-
-told_first : (b : Bool) (n : ℕ) → is_some (if b then Some n else None) ≡ b
-told_first true n = refl
-told_first false n = refl
 
 module _ (max transfer handle : ℕ) (message : List ℕ) (sound : IsCollectable max transfer message) where
   abbrev count : ℕ

@@ -1,7 +1,7 @@
 use Rattle.std.proofs.Common.{refl, ◌≡◌, ◌∙◌, ap, subst, sym, ℕ, Option, Some, None, Bool, length, arith}
 use Rattle.std.specs.Prelude.{if◌then◌else◌, Ok, nat_lt}
-use Rattle.asking.proofs.Leading.{capabilities_stand, capabilities_up, next_led, own_offer_is, request_no_get}
-use Rattle.asking.proofs.Lengths.{capabilities_long}
+use Rattle.asking.proofs.Leading.{capabilities_stand, next_led, own_offer_is, request_no_get}
+use Rattle.requester_machine.proofs.ResponseLengths.{capabilities_long}
 use Rattle.asking.proofs.Started.{common_room}
 use Rattle.asking.specs.Led.{IsLed}
 use Rattle.asking.specs.Outgoing as outgoing
@@ -22,6 +22,7 @@ use Rattle.spdm_grammar.specs.declared.choice.Suites.{Suites}
 use Rattle.spdm_grammar.specs.declared.event.Stop.TheVariants as stop
 use Rattle.spdm_machine.specs.Terms.{hash_len}
 use Rattle.asking.proofs.talk.Talk.offer.Goals as goal
+use Rattle.spdm_machine.proofs.Settling.{capabilities_up}
 
 pub returns-in_default : goal.returns-in_default
 returns-in_default c = λ q h caps theirs setup shows own keeps up reads shared.

@@ -1,6 +1,6 @@
 use Rattle.std.proofs.Common.{refl, ◌∙◌, ap, subst, sym, ℕ, arith}
 use Rattle.asking.proofs.Leading.{extended, measured_brings, rest_follows}
-use Rattle.asking.proofs.Lengths.{measured_short}
+use Rattle.requester_machine.proofs.ResponseLengths.{measured_short}
 use Rattle.asking.specs.Talk.{Seen, Shows}
 use Rattle.requester_machine.specs.Answers.{measured_led}
 use Rattle.requester_machine.specs.History.{connection_terms}

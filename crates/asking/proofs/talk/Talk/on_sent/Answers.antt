@@ -2,7 +2,7 @@ use Rattle.std.proofs.Common.{refl, ◌≡◌, ◌∙◌, ap, subst, sym, ℕ, L
 use Rattle.std.specs.Prelude.{Ok, Result}
 use Rattle.asking.proofs.Answered.{clear_request}
 use Rattle.asking.proofs.Carrying.{carried_by, other_ack}
-use Rattle.asking.proofs.Lengths.{ack_short}
+use Rattle.requester_machine.proofs.ResponseLengths.{ack_short}
 use Rattle.asking.specs.Led.{IsCarried}
 use Rattle.asking.specs.Outgoing.{IsCut}
 use Rattle.asking.specs.Talk.{Seen, Shows}

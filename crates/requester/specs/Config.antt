@@ -1,0 +1,23 @@
+-- Why a requester is not made of a configuration. This project's own limits.
+use Rattle.std.specs.Prelude.{[], ◌∷◌, Bool, Option, ◌==◌, ◌||◌, not, nat_lt, length}
+use Rattle.negotiate.specs.OwnSizes.{may_be_own}
+use Rattle.spdm_basis.specs.Tests.{first_of_tests}
+use Rattle.requester.specs.declared.config.ReqConfig.{ReqConfig}
+use Rattle.requester.specs.declared.fault.ReqConfigFault.{ReqConfigFault}
+use Rattle.requester.specs.declared.fault.ReqConfigFault.TheVariants.{SameEid, SizeRange}
+
+-- A size, the unit, the padding, the opaque data or the hint is out of its range.
+abbrev pub is_out_of_range : ReqConfig → Bool
+is_out_of_range c =
+    not (may_be_own (record { transfer = c.transfer; max = c.max }) c.flags.chunk)
+    || (nat_lt c.unit 64 || nat_lt 1024 c.unit)
+    || nat_lt 16 c.pad
+    || nat_lt 1024 (length c.opaque.now)
+    || nat_lt 64 (length c.hint.now)
+
+-- The first reason, in this order. Want of memory is none of them.
+abbrev pub config_fault : ReqConfig → Option ReqConfigFault
+config_fault c = first_of_tests (
+    (c.eid.number == c.responder.number, SameEid)
+    ∷ (is_out_of_range c, SizeRange)
+    ∷ [])
