@@ -28,13 +28,17 @@ abbrev pub has_same_psk : List Known → Bool
 has_same_psk [] = false
 has_same_psk (k ∷ others) = is_psk_of_one k.psk others || has_same_psk others
 
+-- A hint has more than 64 bytes.
+abbrev pub has_long_hint : List Known → Bool
+has_long_hint known = list_any (λ k. nat_lt 64 (length k.hint)) known
+
 -- A size, the unit, the opaque data or a hint is out of its range.
 abbrev pub is_out_of_range : RspConfig → Bool
 is_out_of_range c =
     not (may_be_own (record { transfer = c.transfer; max = c.max }) c.flags.chunk)
     || (nat_lt c.unit 64 || nat_lt 1024 c.unit)
     || nat_lt 1024 (length c.opaque.now)
-    || list_any (λ k. nat_lt 64 (length k.hint)) c.known.now
+    || has_long_hint c.known.now
 
 -- The first reason, whatever the measurements, in this order.
 abbrev pub set_up_fault : RspConfig → Option RspConfigFault

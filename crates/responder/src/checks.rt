@@ -1,6 +1,6 @@
 ghost use Rattle.std.specs.Prelude.{◌≡◌, None, IfOk, IfErr, OnOk};
 ghost use Rattle.measurements.specs.Blocks.{by_index};
-ghost use Rattle.responder.specs.Config.{IsCause, config_fault, has_same_eid, has_same_psk, is_eid_of_one, is_out_of_range, is_psk_of_one, set_up_fault};
+ghost use Rattle.responder.specs.Config.{IsCause, config_fault, has_long_hint, has_same_eid, has_same_psk, is_eid_of_one, is_out_of_range, is_psk_of_one, set_up_fault};
 
 use crate::{Known, RspConfig, RspConfigFault};
 use measurements::{Inventory, InventoryFault};
@@ -19,13 +19,13 @@ fn is_eid_of_one(eid: Eid, known: &[Known]) -> bool
 fn has_same_eid(eid: Eid, known: &[Known]) -> bool
     ensures { result ≡ has_same_eid eid.number known.now }
 {
-    let mut eid = eid;
+    let mut own = eid;
     let mut rest = known;
     while let [first, others @ ..] = rest {
-        if is_eid_of_one(eid, rest) {
+        if is_eid_of_one(own, rest) {
             return true;
         }
-        eid = first.eid;
+        own = first.eid;
         rest = others;
     }
     false
@@ -52,6 +52,13 @@ fn has_same_psk(known: &[Known]) -> bool
     false
 }
 
+// Whether a hint has more than 64 bytes.
+fn has_long_hint(known: &[Known]) -> bool
+    ensures { result ≡ has_long_hint known.now }
+{
+    known.iter().any(|known| known.hint.as_slice().len() > 64)
+}
+
 impl RspConfig<'_> {
     // Whether a size, the unit, the opaque data or a hint is out of its range.
     fn is_out_of_range(&self) -> bool
@@ -64,10 +71,7 @@ impl RspConfig<'_> {
         !sizes.may_be_own(self.flags.chunk)
             || (self.unit < 64 || self.unit > 1024)
             || self.opaque.len() > 1024
-            || self
-                .known
-                .iter()
-                .any(|known| known.hint.as_slice().len() > 64)
+            || has_long_hint(self.known)
     }
 
     // The first reason why it is no set-up of a responder whatever its measurements.

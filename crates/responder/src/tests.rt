@@ -79,8 +79,8 @@ fn first_fault_of_the_requesters(rt: HostRuntime) -> Result<(), Fail> {
 }
 
 // A change of a sound set-up that puts it out of its range.
-fn out_of_range(rt: &(impl Abort + Alloc), config: RspConfig<'_>) {
-    assert_eq!(rt; fault(rt.alloc(), &config), Some(RspConfigFault::SizeRange));
+fn out_of_range(rt: &impl Abort, alloc: Global, config: RspConfig<'_>) {
+    assert_eq!(rt; fault(alloc, &config), Some(RspConfigFault::SizeRange));
 }
 
 #[test]
@@ -92,23 +92,26 @@ fn ranges_of_a_set_up(rt: HostRuntime) -> Result<(), Fail> {
     };
     out_of_range(
         &rt,
+        rt.alloc(),
         RspConfig {
             transfer: 41,
             ..sound
         },
     );
-    out_of_range(&rt, RspConfig { max: 43, ..sound });
+    out_of_range(&rt, rt.alloc(), RspConfig { max: 43, ..sound });
     out_of_range(
         &rt,
+        rt.alloc(),
         RspConfig {
             max: 4097,
             flags: chunks,
             ..sound
         },
     );
-    out_of_range(&rt, RspConfig { unit: 63, ..sound });
+    out_of_range(&rt, rt.alloc(), RspConfig { unit: 63, ..sound });
     out_of_range(
         &rt,
+        rt.alloc(),
         RspConfig {
             unit: 1025,
             ..sound
@@ -116,6 +119,7 @@ fn ranges_of_a_set_up(rt: HostRuntime) -> Result<(), Fail> {
     );
     out_of_range(
         &rt,
+        rt.alloc(),
         RspConfig {
             opaque: &[0; 1025],
             ..sound
@@ -144,6 +148,6 @@ fn blocks_come_last(rt: HostRuntime) -> Result<(), Fail> {
     let sound = config(&[], &blocks)?;
     let index = Some(RspConfigFault::Inventory(InventoryFault::IndexOutOfRange));
     assert_eq!(rt; fault(rt.alloc(), &sound), index);
-    out_of_range(&rt, RspConfig { unit: 63, ..sound });
+    out_of_range(&rt, rt.alloc(), RspConfig { unit: 63, ..sound });
     Ok(())
 }

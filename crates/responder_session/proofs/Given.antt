@@ -33,7 +33,6 @@ chunk_within transfer handle message k low =
     let framed = chunk_framed transfer handle message k (omega (arith, low)) in
     simp length-append (omega (arith, framed))
 
-
 -- ---- What it does.
 
 abbrev the_chunk : ChunkMessage → ResponseMessage → ChunkMessage
