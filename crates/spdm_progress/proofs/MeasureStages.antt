@@ -57,12 +57,11 @@ use Rattle.spdm_machine.specs.Bodies.{clear_body}
 use Rattle.spdm_machine.proofs.Members.{some_same}
 use Rattle.responder_machine.proofs.Repeats.{kept_of-taken}
 use Rattle.responder_machine.proofs.Turns.{turn_of-effect, turn_of-refused}
-use Rattle.responder_machine.specs.Does.{IsMade, clear_does}
+use Rattle.responder_machine.specs.Does.{IsMade}
 use Rattle.responder_machine.specs.Handling.{goes_large}
 use Rattle.responder_machine.specs.History.Entry.{Clear, Sealed, Queued, Ticked, Dropped}
 use Rattle.responder_machine.specs.Refusal.{refusal}
-use Rattle.responder_machine.specs.Responder.{Outcome, after, body_of, kept_reply, on_clear}
-use Rattle.responder_machine.specs.Responder.Outcome.{Same}
+use Rattle.responder_machine.specs.Responder.{Outcome, after, body_of}
 use Rattle.responder_machine.specs.Responding.{data_of}
 use Rattle.responder_machine.specs.Turn.{Turn, is_taken}
 use Rattle.responder_machine.specs.Turn.Effect.{NoEffect}
@@ -75,7 +74,7 @@ use Rattle.spdm_progress.proofs.Accepted.{not_worn_told, told_done}
 use Rattle.spdm_progress.proofs.AtRequester.{led_plain}
 use Rattle.spdm_progress.proofs.RequesterStages.{Asks, Hears, hears_as, hears_by, reads}
 use Rattle.spdm_progress.proofs.ResponderBegins.{SameClear, is_none_none, refused_with}
-use Rattle.spdm_progress.proofs.ResponderStages.{Answered, Takes, adds, answers_by, not_large, not_too_long}
+use Rattle.spdm_progress.proofs.ResponderStages.{Answered, Takes, adds, answers_by, not_large, not_too_long, same_by}
 use Rattle.spdm_progress.proofs.ResponderTurns.{read_at, taken_at, taken_turn}
 
 -- ---- The two messages.
@@ -195,15 +194,11 @@ measure_turn q r h d tag op n drawn can has =
 abbrev IsAnswered : RspSetup → served.History → ℕ → ℕ → Negotiation → Draw → Type 0
 IsAnswered r h tag op n d = (nonce : List ℕ) × (length nonce ≡ 32) × Answered r h tag (get_measurements op) d (measurements r op nonce) (Served n)
 
-pub same_by : (r : RspSetup) (h : served.History) (tag op : ℕ) (d : Draw) (k : served.Kept) → served.kept_of h ≡ Some k → is_repeat (served.kept_of h) tag (get_measurements op) ≡ true → clear_does r h tag (get_measurements op) d ≡ Same (clear_body k.reply)
-unfolding on_clear
-same_by r h tag op d k is repeats = rw repeats (ap (λ (o : Option served.Kept). Same (clear_body (kept_reply o))) is)
-
 from_memory : (q : ReqSetup) (r : RspSetup) (h : served.History) (d : Draw) (tag op : ℕ) (n : Negotiation) → Serves r n tag op h → (o : Option served.Kept) → served.kept_of h ≡ o → is_repeat o tag (get_measurements op) ≡ true → IsAnswered r h tag op n d
 from_memory q r h d tag op n has None is repeats = absurd (false≢true repeats)
 from_memory q r h d tag op n has (Some k) is repeats =
     let found = has.again k is ((bytes_eq-Decides k.message (get_measurements op)).0 (and_second (k.tag == tag) (bytes_eq k.message (get_measurements op)) repeats)) in
-    let same = same_by r h tag op d k is (ap (λ (o : Option served.Kept). is_repeat o tag (get_measurements op)) is ∙ repeats) in (
+    let same = same_by r h tag (get_measurements op) d k is (ap (λ (o : Option served.Kept). is_repeat o tag (get_measurements op)) is ∙ repeats) in (
       found.0,
       found.1,
       record {

@@ -58,7 +58,7 @@ pub fn connects_quietly()
 
 /// An open, told where no packet waits and the two ends are quiet, is done once no packet waits
 /// again: the requester is told the id of a session that is open at both ends, in step, and the two
-/// ends are quiet. The answer to PSK_EXCHANGE may come by chunks.
+/// ends are quiet. PSK_EXCHANGE and its answer may go by chunks.
 pub fn open_completes()
     ensures { OpenCompletes }
 {}
