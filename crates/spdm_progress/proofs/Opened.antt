@@ -52,6 +52,7 @@ use Rattle.spdm_progress.specs.Opening.{CanOpen, OpenCompletes, exchange_rsp_siz
 use Rattle.spdm_progress.specs.SessionCommands.{IsDoneQuietly, IsToldQuietly, commanding}
 use Rattle.spdm_progress.proofs.Accepted.{not_worn_told, told_so}
 use Rattle.spdm_progress.proofs.OpenRounds.{OpenDone, OpenTalkAnswers, OpenTalkAsks, open_talk}
+use Rattle.spdm_progress.proofs.ChosenHash.{has_room}
 use Rattle.spdm_progress.proofs.ChunkCounts.{some_of}
 use Rattle.spdm_progress.proofs.ClearSend.{transfer_there}
 use Rattle.spdm_progress.proofs.FirstAgain.{first_right}
@@ -232,6 +233,11 @@ module _ (w : WorldSetup) (before : List Entry) (n : ℕ) (a : Requesting) (c : 
       let life = is_told.now.life.requester in
       omega (arith, own_number)
 
+  finish_room : 4 + hash_size (asked.connection_terms a.history).choice.hash ≤ c.setup.transfer
+  finish_room =
+      subst (λ (k : Negotiation). 4 + hash_size (terms_of k).choice.hash ≤ c.setup.transfer) (sym is_told.quiet.negotiation)
+      (has_room c.setup c.history here.responder.sizes.least is_told.quiet.made_there (sym is_told.quiet.phase ∙ phase))
+
   ready : CanExchange a.setup c.setup a.first summary a.history d x
   ready = record {
     is_x = refl;
@@ -246,7 +252,7 @@ module _ (w : WorldSetup) (before : List Entry) (n : ℕ) (a : Requesting) (c : 
     measures = needs_choice (summary == 0) (asked.connection_terms a.history).common.measure (asked.connection_terms a.history).choice.measure (passed 5);
     hint = sym here.hint;
     way = way;
-    finish_fits = subst (λ (k : ℕ). 4 + hash_size (asked.connection_terms a.history).choice.hash ≤ k) there can.finish_fits;
+    finish_fits = finish_room;
     asks = accepted.1;
     free = ap (λ (i : ℕ). steps.is_live (steps.session_of i a.history)) own_id ∙ free_id-free a.history room;
     context = own_context;

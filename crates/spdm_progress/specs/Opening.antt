@@ -1,5 +1,5 @@
 -- What an open comes to where its messages are delivered honestly. This project's own.
-use Rattle.std.specs.Prelude.{◌≢◌, ◌≤◌, ◌+◌, ◌==◌, ℕ, List, length, true, if◌then◌else◌}
+use Rattle.std.specs.Prelude.{◌≢◌, ◌+◌, ◌==◌, ℕ, List, length, true, if◌then◌else◌}
 use Rattle.requester_machine.specs.Does as asking
 use Rattle.requester_machine.specs.History as asked
 use Rattle.requester_machine.specs.Message.Command.{Open}
@@ -27,15 +27,13 @@ exchange_rsp_size r terms summary =
     12 + (if summary == 0 then 0 else hash_size terms.choice.hash) + hash_size terms.choice.hash
     + length r.opaque + hash_size terms.choice.hash
 
--- What an open needs. The answer to PSK_EXCHANGE can go to the requester, by chunks too; PSK_FINISH,
--- of 4 bytes and the verify data, fits the transfer size of the responder, since no request goes by
--- chunks in a session; and the responder holds fewer sessions than four. Of PSK_EXCHANGE nothing is
--- asked: an open that is answered `ok` sends one that can go to the responder, by chunks too.
+-- What an open needs. The answer to PSK_EXCHANGE can go to the requester, by chunks too, and the
+-- responder holds fewer sessions than four. Of the two requests nothing is asked: an open that is
+-- answered `ok` sends a PSK_EXCHANGE that can go to the responder, by chunks too; and no hash is
+-- chosen that leaves no room for PSK_FINISH, which does not go by chunks.
 pub record CanOpen (a : Requesting) (c : Connection) (summary : ℕ) : Type 0 where
   pub answer_goes : CanGo (terms_now a).common (terms_now a).common.to_requester
       (exchange_rsp_size c.setup (terms_now a) summary)
-  pub finish_fits : 4 + hash_size (terms_now a).choice.hash
-      ≤ (terms_now a).common.to_responder.transfer
   pub limit : serving.held_of c.history ≢ 4
 
 -- The session that is opened has the least free id of either end.
