@@ -23,9 +23,10 @@ use Rattle.requester_machine.specs.Answers.{is_done}
 use Rattle.requester_machine.specs.Does.{body_chosen, requester_hears}
 use Rattle.requester_machine.specs.History as asked
 use Rattle.requester_machine.specs.History.{Led, outstanding, negotiation_of}
-use Rattle.requester_machine.specs.History.Effect.{Answers}
+use Rattle.requester_machine.specs.History.Effect.{Answers, Grants, Nothing}
 use Rattle.requester_machine.specs.Setup.{ReqSetup}
-use Rattle.requester_machine.specs.Shown.{last_data, blocks_of}
+use Rattle.requester_machine.specs.Message.Ask.{AskMeasure}
+use Rattle.requester_machine.specs.Shown.{blocks_in, blocks_of, bytes_in, effect_in, last_data}
 use Rattle.responder_machine.specs.Answer.{answer_of}
 use Rattle.responder_machine.specs.Does.{chosen, clear_chosen}
 use Rattle.responder_machine.specs.Handling.{turn_of}
@@ -313,6 +314,18 @@ measured_led r op nonce = is_done (finished.Measured (number_for r op)) (Answers
 pub record_taken : (r : RspSetup) (h : asked.History) (tag op : ℕ) (m nonce : List ℕ) (d : Draw) → length nonce ≡ 32 → measurements_size r op ≤ 4138 → last_data (TookClear tag m (measured_led r op nonce) d ∷ h) ≡ record_for r op
 record_taken r h tag op m nonce d whole within =
     ap (λ (o : Option ResponseMessage). unwrap_or (option_or None (blocks_of o)) (last_data h)) (ap result_ok (reads h (Measurements (measured r op nonce)) 32 (measured_fits r op nonce) (measured_sound r op 32 nonce whole within)))
+
+-- What the newest entry brought about.
+abbrev pub newest_in : asked.History → asked.Effect
+newest_in [] = Nothing
+newest_in (entry ∷ older) = effect_in entry
+
+-- What is taken last behind an answer in a session.
+pub granted_record : (r : RspSetup) (op : ℕ) (nonce : List ℕ) (h : asked.History) → newest_in h ≡ Grants (AskMeasure op) (measurements r op nonce) → length nonce ≡ 32 → measurements_size r op ≤ 4138 → last_data h ≡ record_for r op
+granted_record r op nonce [] is whole within = absurd (cc)
+granted_record r op nonce (entry ∷ older) is whole within =
+    ap (λ (e : asked.Effect). unwrap_or (option_or (bytes_in e) (blocks_in e)) (last_data older)) is
+    ∙ ap (λ (o : Option ResponseMessage). unwrap_or (option_or None (blocks_of o)) (last_data older)) (ap result_ok (reads older (Measurements (measured r op nonce)) 32 (measured_fits r op nonce) (measured_sound r op 32 nonce whole within)))
 
 pub measure_outcome : (q : ReqSetup) (r : RspSetup) (h : asked.History) (tag op : ℕ) (n : Negotiation) (nonce : List ℕ) (d : Draw) → length nonce ≡ 32 → CanServe q r op n → Asks q tag (GetMeasurements op) (get_measurements op) n h
     → requester_hears q h false tag (clear_body (measurements r op nonce)) d ≡ Adds (TookClear tag (measurements r op nonce) (measured_led r op nonce) d)

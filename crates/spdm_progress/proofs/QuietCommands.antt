@@ -333,8 +333,10 @@ quiet_commands_complete w before n a c command told can line behind none honest 
     (each w before n a c line behind none (λ later. Unit {0}) (nothing_aside (pair_of n a c)) tt command can (record { told = told; honest = honest; still = inl still; chance = chance })).0
 
 pub quiet_measures_complete : QuietMeasuresComplete
-quiet_measures_complete w before n a c op told can line behind none honest still chance =
+quiet_measures_complete w before n a c None op told can line behind none honest still chance =
     recorded w before n a c line behind none (λ later. Unit {0}) (nothing_aside (pair_of n a c)) tt op can (record { told = told; honest = honest; still = inl still; chance = chance })
+quiet_measures_complete w before n a c (Some id) op told can line behind none honest still chance =
+    sessions.recorded w before n a c line behind none (λ later. Unit {0}) (nothing_aside (pair_of n a c)) tt id op can (record { told = told; honest = honest; still = inl still; chance = chance })
 
 pub pumps_are_enough : PumpsAreEnough
 unfolding happens

@@ -36,7 +36,9 @@ use Rattle.requester_machine.proofs.HoldsTold.{somewhere}
 use Rattle.responder_machine.specs.History as served
 use Rattle.responder_machine.specs.Responding.{Connection}
 use Rattle.responder_machine.specs.Turn.{Turn}
-use Rattle.spdm_progress.specs.Measuring.{measurements_size, number_for}
+use Rattle.requester_machine.specs.History.Effect.{Grants}
+use Rattle.requester_machine.specs.Message.Ask.{AskMeasure}
+use Rattle.spdm_progress.specs.Measuring.{IsMeasured as IsTaken, measurements_size, number_for}
 use Rattle.transcript.specs.Transcripts.{Negotiation}
 use Rattle.world_machine.specs.Chance.{NoChance}
 use Rattle.world_machine.specs.Happenings.{Entry}
@@ -59,6 +61,8 @@ use Rattle.spdm_progress.proofs.LargeAnswers.{GoesLarge}
 use Rattle.spdm_progress.proofs.ClearFetch.{transfer_in}
 use Rattle.spdm_progress.proofs.SessionLarge.{IsUnder, large_asking}
 use Rattle.spdm_progress.proofs.SessionMeasure as by_chunks
+use Rattle.responder_machine.specs.Responder.{inner_reply}
+use Rattle.spdm_progress.proofs.MeasureStages.{granted_record}
 use Rattle.spdm_progress.proofs.SessionRounds.{Asking, IsAsked, sealed_length}
 use Rattle.spdm_progress.proofs.SingleRound.{AnswersOnce, AsksOnce, IsLast, Quiet, once_talk}
 use Rattle.spdm_progress.proofs.Talk as talk
@@ -394,6 +398,69 @@ module _ (w : WorldSetup) (before : List Entry) (n : ℕ) (a : Requesting) (c : 
             few = one_packet;
             is = is_asked w before n a c measuring o.told.now line behind none o.honest o.still o.chance Aside aside beside o.told id x one refl refl (omega arith) (λ turns. tt) refl (IsUnder pair id op under goes) refl;
           }))
+
+    -- ---- The record that is taken.
+
+    abbrev Taken : Type 0
+    Taken = IsTaken n c.setup op (world_from (After measuring) behind) (lines_from (After measuring) behind)
+
+    reply_is : (t : Turn) (m : List ℕ) → inner_reply t ≡ 5 ∷ m → t.reply ≡ m
+    reply_is t m is = cc
+
+    record_whole : measurements_size c.setup op ≤ (steps.session_terms (session_at a id)).common.to_requester.transfer → Taken
+    record_whole fits =
+        let one = of_session measuring (λ j n sent s. refl) refl in
+        let result = event.Done (finished.Measured (number_for c.setup op)) in
+        let own : measurements_size c.setup op ≤ a.setup.transfer = subst (λ (size : ℕ). measurements_size c.setup op ≤ size) sizes.transfer fits in
+        let is_talk = once_talk pair key id (measure_asking op) (CanMeasure pair key id sid here.requester here.responder op) (IsMeasured pair key id sid here.requester here.responder op) result (measure_last pair key id sid here.requester here.responder op) in
+        let e = runs w before n a c measuring o.told.now line behind none o.honest o.still o.chance Aside aside beside wear_limit (all_lives w before n a c measuring o.told.now line behind none o.honest o.still o.chance Aside aside beside) o.told.now.life.requester o.told.now.life.responder (AsksOnce pair key id (measure_asking op) (CanMeasure pair key id sid here.requester here.responder op) (IsMeasured pair key id sid here.requester here.responder op) result)
+        (AnswersOnce pair key id (measure_asking op) (CanMeasure pair key id sid here.requester here.responder op) (IsMeasured pair key id sid here.requester here.responder op) result) (Quiet pair key id (measure_asking op) (CanMeasure pair key id sid here.requester here.responder op) (IsMeasured pair key id sid here.requester here.responder op) result)
+        (finished.Measured (number_for c.setup op)) is_talk (λ more. 66) (λ more. 66)
+        (all_short pair (AsksOnce pair key id (measure_asking op) (CanMeasure pair key id sid here.requester here.responder op) (IsMeasured pair key id sid here.requester here.responder op) result)
+        (AnswersOnce pair key id (measure_asking op) (CanMeasure pair key id sid here.requester here.responder op) (IsMeasured pair key id sid here.requester here.responder op) result) (Quiet pair key id (measure_asking op) (CanMeasure pair key id sid here.requester here.responder op) (IsMeasured pair key id sid here.requester here.responder op) result) result is_talk)
+        0 (three_few 0 (omega arith)) (sent_for a.setup a.history id (measure_asking op) (command_chosen a.setup a.history (asking.next_draw a)).pad) (step_so w before n a c measuring o.told.now line behind none o.honest o.still o.chance Aside aside beside o.told id (measure_asking op) one refl refl (omega arith) (λ turns. tt) refl)
+        (record {
+          is = is_asked w before n a c measuring o.told.now line behind none o.honest o.still o.chance Aside aside beside o.told id (measure_asking op) one refl refl (omega arith) (λ turns. tt) refl (CanMeasure pair key id sid here.requester here.responder op)
+              (record { byte = can.0; block = can.1; chosen = measure_chosen; fits = fits; fits_own = own });
+        }) in
+        let brought = e.0.done.brought in
+        let good = brought.good in
+        record {
+          told = contained (lines_from (After measuring) behind) _ e.1;
+          requester = asker pair e.0.view.given e.0.view.commands e.0.view.asked;
+          is_requester = e.0.shows.is_requester;
+          none = e.0.done.quiet.none;
+          taken = granted_record c.setup op good.nonce e.0.view.asked (brought.newest ∙ ap (λ (m : List ℕ). Grants (AskMeasure op) m) (reply_is brought.turn _ good.inner)) good.whole
+              (let most = here.requester.sizes.most in let ordered = here.requester.sizes.ordered in omega (arith, own, most, ordered));
+        }
+
+    record_by_chunks : (large : (steps.session_terms (session_at a id)).common.to_requester.transfer < measurements_size c.setup op) → Taken
+    record_by_chunks large =
+        let one = of_session measuring (λ j n sent s. refl) refl in
+        let gone = goes large in
+        let parts = counts large in
+        let e = runs w before n a c measuring o.told.now line behind none o.honest o.still o.chance Aside aside beside wear_limit (all_lives w before n a c measuring o.told.now line behind none o.honest o.still o.chance Aside aside beside) o.told.now.life.requester o.told.now.life.responder (by_chunks.MeasureAsked pair key id op under gone) (by_chunks.MeasureAnswered pair key id op under gone) (by_chunks.Quiet pair key id op under gone) (finished.Measured (number_for c.setup op))
+        (by_chunks.session_talk pair key id op under gone) (λ more. 1) (λ more. parts.each) (by_chunks.are_short pair key id op under gone parts.each parts.fits) (by_chunks.count pair key id op under gone) (few_by_chunks (transfer_in under) (measurements_size c.setup op) parts)
+        (first_sent large) (step_so w before n a c measuring o.told.now line behind none o.honest o.still o.chance Aside aside beside o.told id (x large) one refl refl (omega arith) (λ turns. tt) refl)
+        (inl (record {
+          more_is = refl;
+          few = one_packet large;
+          is = is_asked w before n a c measuring o.told.now line behind none o.honest o.still o.chance Aside aside beside o.told id (x large) one refl refl (omega arith) (λ turns. tt) refl (IsUnder pair id op under gone) refl;
+        })) in
+        record {
+          told = contained (lines_from (After measuring) behind) _ e.1;
+          requester = asker pair e.0.view.given e.0.view.commands e.0.view.asked;
+          is_requester = e.0.shows.is_requester;
+          none = e.0.done.quiet.none;
+          taken = e.0.done.taken;
+        }
+
+    pub recorded : Taken
+    recorded = by_size (nat_le (measurements_size c.setup op) (steps.session_terms (session_at a id)).common.to_requester.transfer) refl
+      where
+        by_size : (b : Bool) → nat_le (measurements_size c.setup op) (steps.session_terms (session_at a id)).common.to_requester.transfer ≡ b → Taken
+        by_size true is = record_whole (leb-true _ _ is)
+        by_size false is = record_by_chunks (leb-false _ _ is)
 
     sent_measure : Result measuring id
     sent_measure = by_size (nat_le (measurements_size c.setup op) (steps.session_terms (session_at a id)).common.to_requester.transfer) refl

@@ -36,13 +36,14 @@ use Rattle.spdm_machine.specs.Keys.{Draw}
 use Rattle.spdm_machine.specs.TagLog.{Log}
 use Rattle.transcript.specs.Transcripts.{Negotiation}
 use Rattle.world_machine.specs.Chance.{NoChance}
+use Rattle.requester_machine.specs.Shown.{last_data}
 use Rattle.spdm_progress.specs.InStep.{AreQuiet}
-use Rattle.spdm_progress.specs.Measuring.{measurements_size, number_for}
+use Rattle.spdm_progress.specs.Measuring.{measurements_size, number_for, record_for}
 use Rattle.spdm_progress.proofs.FurtherRound as further
 use Rattle.spdm_progress.proofs.ClearFetch.{IsPending, chunk_is_few, transfer_in}
 use Rattle.spdm_progress.proofs.LargeAnswers.{GoesLarge}
 use Rattle.spdm_progress.proofs.ManyPackets.{before_it}
-use Rattle.spdm_progress.proofs.MeasureStages.{measurements, measurements_are}
+use Rattle.spdm_progress.proofs.MeasureStages.{granted_record, measurements, measurements_are}
 use Rattle.spdm_progress.proofs.PacketSteps.{Pair}
 use Rattle.spdm_progress.proofs.RecordHeard.{came_as}
 use Rattle.spdm_progress.proofs.RecordRounds.{quiet_still}
@@ -134,10 +135,11 @@ module _ (p : Pair) (same_key : p.requester.psk ≡ p.responder.psk) (id op : �
   abbrev pub MeasureAnswered : ℕ → ℕ → List ℕ → Log → asked.History → served.History → Type 0
   MeasureAnswered more tag body log h g = FirstAnswered more tag body log h g ⊎ ChunkAnswered more tag body log h g
 
-  -- All is quiet again, and the session goes on.
+  -- All is quiet again, the session goes on, and the record was taken.
   pub record Quiet (log : Log) (h : asked.History) (g : served.History) : Type 0 where
     pub quiet : AreQuiet q r p.first log h g
     pub session : steps.is_live (steps.session_of id h) ≡ true
+    pub taken : last_data h ≡ record_for r op
 
   -- ---- The bodies.
 
@@ -247,6 +249,7 @@ module _ (p : Pair) (same_key : p.requester.psk ≡ p.responder.psk) (id op : �
           (Over refl refl (record {
             quiet = quiet_then q r p.first id x Under (Chunk more y.which) tag log h g d body z told None (last_so last) acts refl refl at_end;
             session = live_then q r p.first id x Under (Chunk more y.which) tag log h g d body z told None (last_so last) true refl refl;
+            taken = granted_record r op y.which.nonce (entry q r p.first id x Under (Chunk more y.which) tag log h g d body z told None ∷ h) (ap (fetched op w) last) y.which.whole (let fits = can.fetch.fits_max in let max = can.fetch.max in let most = can.fetch.most in omega (arith, fits, max, most));
           }))
 
       positive : (m : ℕ) → (m ≡ 0 → ⊥) → 0 < m
@@ -310,7 +313,7 @@ module _ (p : Pair) (same_key : p.requester.psk ≡ p.responder.psk) (id op : �
     hears = hears;
     asks_still = asks_on;
     answers_still = answers_on;
-    done_still = λ log h g later alike y. record { quiet = quiet_still q r p.first log h g later alike y.quiet; session = y.session };
+    done_still = λ log h g later alike y. record { quiet = quiet_still q r p.first log h g later alike y.quiet; session = y.session; taken = y.taken };
   }
     where
       asks_on : (more tag : ℕ) (body : List ℕ) (log : Log) (h : asked.History) (g later : served.History) → AreAlike r g later → MeasureAsked more tag body log h g → MeasureAsked more tag body log h later

@@ -1,5 +1,5 @@
 -- Each command of an honest script comes to its result. This project's own.
-use Rattle.std.specs.Prelude.{◌≡◌, ◌<◌, ◌≤◌, ◌+◌, ◌*◌, ◌^◌, ℕ, List, [], ◌∷◌, length, if◌then◌else◌, false, true, Some, None, Contains}
+use Rattle.std.specs.Prelude.{◌≡◌, ◌<◌, ◌≤◌, ◌+◌, ◌*◌, ◌^◌, ℕ, List, [], ◌∷◌, length, if◌then◌else◌, false, true, Option, Some, None, Contains}
 use Rattle.measurements.specs.Records.{is_missing}
 use Rattle.negotiate.specs.Capabilities.{shared}
 use Rattle.requester_machine.specs.Message.{Command}
@@ -115,19 +115,20 @@ QuietCommandsComplete =
     (world_from (commanding (world_after w before) line n command) behind)
     (lines_from (commanding (world_after w before) line n command) behind)
 
--- Behind a clear measure among them, by chunks too, the record that the requester took last is the
--- one that the responder is set up with.
+-- Behind a measure among them, in the clear or in a session, by chunks too, the record that the
+-- requester took last is the one that the responder is set up with.
 abbrev pub QuietMeasuresComplete : Type 0
 QuietMeasuresComplete =
-    (w : WorldSetup) (before : List Entry) (n : ℕ) (a : Requesting) (c : Connection) (op : ℕ)
-    → IsToldQuietly w before n a c (Measure None op) → CanDo a c (Measure None op)
+    (w : WorldSetup) (before : List Entry) (n : ℕ) (a : Requesting) (c : Connection)
+    (id : Option ℕ) (op : ℕ)
+    → IsToldQuietly w before n a c (Measure id op) → CanDo a c (Measure id op)
     → (line : ℕ) (behind : List Entry) → HaveNoCommand behind
-    → AreHonest (commanding (world_after w before) line n (Measure None op)) behind
-    → NothingWaits (world_from (commanding (world_after w before) line n (Measure None op)) behind)
-    → NoChance (world_from (commanding (world_after w before) line n (Measure None op)) behind).log
+    → AreHonest (commanding (world_after w before) line n (Measure id op)) behind
+    → NothingWaits (world_from (commanding (world_after w before) line n (Measure id op)) behind)
+    → NoChance (world_from (commanding (world_after w before) line n (Measure id op)) behind).log
     → IsMeasured n c.setup op
-    (world_from (commanding (world_after w before) line n (Measure None op)) behind)
-    (lines_from (commanding (world_after w before) line n (Measure None op)) behind)
+    (world_from (commanding (world_after w before) line n (Measure id op)) behind)
+    (lines_from (commanding (world_after w before) line n (Measure id op)) behind)
 
 -- A pump of so many packets or more behind such a command leaves none that waits, so an honest
 -- script can always go on.

@@ -76,8 +76,8 @@ pub fn quiet_commands_complete()
     ensures { QuietCommandsComplete }
 {}
 
-/// Behind a clear measure among them, by chunks too, the requester took the record that the
-/// responder is set up with.
+/// Behind a measure among them, in the clear or in a session, by chunks too, the requester took the
+/// record that the responder is set up with.
 pub fn quiet_measures_complete()
     ensures { QuietMeasuresComplete }
 {}
