@@ -38,6 +38,7 @@ use Rattle.responder_machine.specs.Responding.{Connection}
 use Rattle.responder_machine.specs.Turn.{Turn}
 use Rattle.requester_machine.specs.History.Effect.{Grants}
 use Rattle.requester_machine.specs.Message.Ask.{AskMeasure}
+use Rattle.responder_machine.specs.Session as events
 use Rattle.spdm_progress.specs.Measuring.{IsMeasured as IsTaken, measurements_size, number_for}
 use Rattle.transcript.specs.Transcripts.{Negotiation}
 use Rattle.world_machine.specs.Chance.{NoChance}
@@ -47,8 +48,8 @@ use Rattle.world_machine.specs.Setup.{WorldSetup}
 use Rattle.world_machine.specs.Trace.{lines_from, world_after, world_from}
 use Rattle.world_machine.specs.World.{World, WorldStep, entry_step, happens, pumps, requester_of, told_by}
 use Rattle.spdm_progress.specs.Honest.{AreHonest, HaveNoCommand, NothingWaits}
-use Rattle.spdm_progress.specs.InStep.{AreQuiet}
-use Rattle.spdm_progress.specs.SessionCommands.{CanAsk, IsDoneQuietly, IsTold, IsToldQuietly, SessionCommandsComplete, commanding, goes_on, most_asked, most_packets, most_served, result_of, session_at}
+use Rattle.spdm_progress.specs.InStep.{AreQuiet, rsp_id}
+use Rattle.spdm_progress.specs.SessionCommands.{CanAsk, EndedAtBothEnds, IsDoneQuietly, IsGoneThere, IsTold, IsToldQuietly, SessionCommandsComplete, commanding, goes_on, most_asked, most_packets, most_served, result_of, session_at}
 use Rattle.spdm_progress.proofs.AlikeSessions.{is_kept}
 use Rattle.spdm_progress.proofs.Accepted.{not_worn_told, told_so}
 use Rattle.spdm_progress.proofs.Aside.{IsAside, nothing_aside}
@@ -310,6 +311,29 @@ module _ (w : WorldSetup) (before : List Entry) (n : ℕ) (a : Requesting) (c : 
       once_completes w before n a c command o.told.now line behind none o.honest o.still o.chance Aside aside beside o.told id end_asking (of_session command (λ j n sent s. refl) refl) refl refl (omega arith) (λ turns. tt) refl
       (IsNamed pair key id sid here.requester here.responder) (IsSpdm pair key id sid here.requester here.responder (canonical_response EndSessionAck)) (finished.Ended sid) (end_last pair key id sid here.requester here.responder) (record { named = refl })
 
+  -- And the responder holds it no more.
+  pub gone_there : (id : ℕ) → IsOver (End id) → IsGoneThere a.setup (rsp_id (session_at a id)) (world_from (After (End id)) behind)
+  gone_there id o =
+      let command = End id in
+      let here = placed w before n a c command o.told.now line behind none o.honest o.still o.chance Aside aside beside in
+      let key = one_key w before n a c command o.told.now line behind none o.honest o.still o.chance Aside aside beside in
+      let sid = steps.session_id (session_at a id) in
+      let one = of_session command (λ j n sent s. refl) refl in
+      let result = event.Done (finished.Ended sid) in
+      let asks : Stage = AsksOnce pair key id end_asking (IsNamed pair key id sid here.requester here.responder) (IsSpdm pair key id sid here.requester here.responder (canonical_response EndSessionAck)) result in
+      let answers : Stage = AnswersOnce pair key id end_asking (IsNamed pair key id sid here.requester here.responder) (IsSpdm pair key id sid here.requester here.responder (canonical_response EndSessionAck)) result in
+      let is_talk = once_talk pair key id end_asking (IsNamed pair key id sid here.requester here.responder) (IsSpdm pair key id sid here.requester here.responder (canonical_response EndSessionAck)) result (end_last pair key id sid here.requester here.responder) in
+      let e = runs w before n a c command o.told.now line behind none o.honest o.still o.chance Aside aside beside wear_limit (all_lives w before n a c command o.told.now line behind none o.honest o.still o.chance Aside aside beside) o.told.now.life.requester o.told.now.life.responder asks answers (Quiet pair key id end_asking (IsNamed pair key id sid here.requester here.responder) (IsSpdm pair key id sid here.requester here.responder (canonical_response EndSessionAck)) result)
+      (finished.Ended sid) is_talk (λ more. 66) (λ more. 66)
+      (all_short pair asks answers (Quiet pair key id end_asking (IsNamed pair key id sid here.requester here.responder) (IsSpdm pair key id sid here.requester here.responder (canonical_response EndSessionAck)) result) result is_talk)
+      0 (three_few 0 (omega arith)) (sent_for a.setup a.history id end_asking (command_chosen a.setup a.history (asking.next_draw a)).pad) (step_so w before n a c command o.told.now line behind none o.honest o.still o.chance Aside aside beside o.told id end_asking one refl refl (omega arith) (λ turns. tt) refl)
+      (record { is = is_asked w before n a c command o.told.now line behind none o.honest o.still o.chance Aside aside beside o.told id end_asking one refl refl (omega arith) (λ turns. tt) refl (IsNamed pair key id sid here.requester here.responder) (record { named = refl }) }) in
+      record {
+        connection = server pair e.0.view.served;
+        is_connection = e.0.shows.is_connection;
+        gone = subst (λ (rsp : ℕ). events.is_live (events.session_of rsp e.0.view.served) ≡ false) (ap (λ (i : SessionId). i.rsp) e.0.done.brought.fit.named) e.0.done.there;
+      }
+
   module _ (id op : ℕ) (can : CanAsk a c (Measure (Some id) op)) (o : IsOver (Measure (Some id) op)) where
     abbrev measuring : Command
     measuring = Measure (Some id) op
@@ -497,3 +521,6 @@ module _ (w : WorldSetup) (before : List Entry) (n : ℕ) (a : Requesting) (c : 
 
 pub session_commands_complete : SessionCommandsComplete
 session_commands_complete w before n a c command id told can named line behind none honest still chance = (each w before n a c line behind none (λ later. Unit {0}) (nothing_aside (pair_of n a c)) tt command id can named (record { told = told; honest = honest; still = inl still; chance = chance })).0
+
+pub ended_at_both_ends : EndedAtBothEnds
+ended_at_both_ends w before n a c id told line behind none honest still chance = gone_there w before n a c line behind none (λ later. Unit {0}) (nothing_aside (pair_of n a c)) tt id (record { told = told; honest = honest; still = inl still; chance = chance })

@@ -1,6 +1,6 @@
 -- A round in a session: a record that asks something of it is on its way to the responder, and then the record that
 -- answers it is on its way back.
-use Rattle.std.proofs.Common.{◌≡◌, ◌≢◌, ◌∙◌, ℕ, ◌<◌, ◌≤◌, ◌+◌, List, [], ◌∷◌, ◌++◌, length, Bool, true, false, Option, Some, None, Result, Ok, Contains, refl, sym, ap, subst, inl, inr, arith, eq-eqb}
+use Rattle.std.proofs.Common.{◌≡◌, ◌==◌, ◌≢◌, ◌∙◌, ℕ, ◌<◌, ◌≤◌, ◌+◌, List, [], ◌∷◌, ◌++◌, length, Bool, true, false, Option, Some, None, Result, Ok, Contains, refl, sym, ap, subst, inl, inr, arith, eq-eqb}
 use Rattle.std.specs.Prelude.{if◌then◌else◌}
 use Rattle.std.proofs.lemmas.Bool.{false≢true, ne_eqb}
 use Rattle.std.proofs.lemmas.List.Elements.{Contains-append_left, Contains-append_right, Contains-push}
@@ -49,13 +49,14 @@ use Rattle.responder_machine.specs.Session as events
 use Rattle.responder_machine.specs.Session.{Events, after_record, id_in_record, when_live}
 use Rattle.responder_machine.specs.Session.Event.{Heard}
 use Rattle.responder_machine.specs.Setup.{RspSetup}
-use Rattle.responder_machine.specs.Turn.{Turn}
+use Rattle.responder_machine.specs.Turn.{Effect as TurnEffect, Turn, code_in, takes}
+use Rattle.spdm_grammar.specs.declared.names.request_code.TheConstants.{END_SESSION}
 use Rattle.world_machine.specs.Chance.{NoChance}
 use Rattle.spdm_progress.specs.InStep.{AreInStep, AreQuiet, AreResting, WasSealed, rsp_id}
 use Rattle.spdm_progress.proofs.AlikeSessions.{IsAnswerTo, IsFetched, MayBring, behind, is_kept, still_in_step}
 use Rattle.spdm_progress.proofs.ManyPackets.{IsBody}
 use Rattle.spdm_progress.proofs.RecordHeard.{asking_in, came_as, heard}
-use Rattle.spdm_progress.proofs.RecordRounds.{Beside, KeepsBeside, beside_on, earlier_on, last_waited, moves_so, quiet_from, turns_waited}
+use Rattle.spdm_progress.proofs.RecordRounds.{Beside, KeepsBeside, beside_on, earlier_on, last_waited, live_waited, moves_so, quiet_from, turns_waited}
 use Rattle.spdm_progress.proofs.RecordServed.{served as taken}
 use Rattle.spdm_progress.proofs.RecordsBetween.{names_session, no_copy, opens, record_length, tag_is}
 use Rattle.spdm_progress.proofs.StillKept.{AreAlike}
@@ -134,6 +135,7 @@ module _ (q : ReqSetup) (r : RspSetup) (first id : ℕ) (x : Asking) where
     pub kept : is_kept x.ask ≡ true → AreInStep (took_steps s pad t) (events.session_of (rsp_id s) g)
     pub last : is_kept x.ask ≡ true → (k : KeptRecord) → events.last_of (events.session_of (rsp_id s) g) ≡ Some k → k.sealed ≡ sealed_for s pad
     pub newest : is_kept x.ask ≡ true → IsNewest t (events.turns_of (events.session_of (rsp_id s) g))
+    pub gone : is_kept x.ask ≡ false → events.is_live (events.session_of (rsp_id s) g) ≡ false
     pub made : Contains log (Made (request_purpose q.psk s) (record_input (steps.request_next s) (sealed_for s pad)) (tag_part (sealed_for s pad)))
     pub beside : Beside q r first id (rsp_id s) log h g
 
@@ -213,6 +215,7 @@ module _ (q : ReqSetup) (r : RspSetup) (first id : ℕ) (x : Asking) where
     kept = λ kept. still_in_step _ _ _ (alike.sessions (rsp_id y.s)) (y.kept kept);
     last = λ kept k is. y.last kept k (sym (last_waited _ _ (alike.sessions (rsp_id y.s))) ∙ is);
     newest = λ kept. subst (IsNewest y.t) (sym (turns_waited _ _ (alike.sessions (rsp_id y.s)))) (y.newest kept);
+    gone = λ ends. live_waited _ _ (alike.sessions (rsp_id y.s)) ∙ y.gone ends;
     made = y.made;
     beside = still_beside log h g later (rsp_id y.s) alike y.beside;
   }
@@ -238,6 +241,22 @@ module _ (q : ReqSetup) (r : RspSetup) (first id : ℕ) (x : Asking) where
   is_new log s pad (Some k) true chance short was is =
       absurd (no_copy q.psk log s (steps.session_terms s).choice (sealed_for s pad) k.sealed chance (own_tag s pad short) (was k refl) ((bytes_eq-Decides k.sealed (sealed_for s pad)).0 is))
   is_new log s pad (Some k) false chance short was is = refl
+
+  -- END_SESSION ends the session.
+  is_end : (ask : Ask) (inner : List ℕ) (t : Turn) → is_kept ask ≡ false → IsAnswerTo ask inner t → takes END_SESSION t ≡ true
+  is_end AskEnd inner t ends is = ap (λ (e : TurnEffect). code_in e == END_SESSION) is
+  is_end AskFinish inner t ends is = absurd (false≢true (sym ends))
+  is_end AskData inner t ends is = absurd (false≢true (sym ends))
+  is_end AskBeat inner t ends is = absurd (false≢true (sym ends))
+  is_end (AskUpdate all) inner t ends is = absurd (false≢true (sym ends))
+  is_end AskVerify inner t ends is = absurd (false≢true (sym ends))
+  is_end (AskMeasure op) inner t ends is = absurd (false≢true (sym ends))
+  is_end (AskChunk op handle number before) inner t ends is = absurd (false≢true (sym ends))
+
+  -- The responder holds the session behind it, unless it is ended.
+  pub held_then : (Fit : Steps → Type 0) (Good : Steps → Turn → Type 0) (tag : ℕ) (body : List ℕ) (log : Log) (h : asked.History) (g : served.History) (y : IsAnswered Fit Good tag body log h g) → (k : Bool) → is_kept x.ask ≡ k → events.is_live (events.session_of (rsp_id y.s) g) ≡ k
+  held_then Fit Good tag body log h g y true kept = (y.kept kept).live
+  held_then Fit Good tag body log h g y false ends = y.gone ends
 
   module _ (same_key : q.psk ≡ r.psk) (Fit : Steps → Type 0) (Good : Steps → Turn → Type 0) (answers : AreAnswered Fit Good) where
     -- What was just answered.
@@ -343,6 +362,7 @@ module _ (q : ReqSetup) (r : RspSetup) (first id : ℕ) (x : Asking) where
             kept = λ kept. subst (AreInStep (took_steps s y.pad t)) (sym (heard_is kept)) (behind (x.inner s) sealed (answer_for s t) t s e y.in_step x.ask (x.brings t) (x.may t) kept a.0);
             last = λ kept k is. sym (ap (λ (z : KeptRecord). z.sealed) (some_same _ k (sym (ap events.last_of (heard_is kept)) ∙ is)));
             newest = λ kept. record { earlier = events.turns_of e; is = ap events.turns_of (heard_is kept); known = y.known };
+            gone = λ ends. ap events.is_live (session_new ∙ ap (λ (b : Bool). if b then [] else events.when_live e (Heard sealed t (answer_for s t))) (is_end x.ask (x.inner s) t ends a.0));
             made = own_made acts;
             beside = beside_on q r first id (rsp_id s) acts log h h g new keeps_beside y.beside;
           }

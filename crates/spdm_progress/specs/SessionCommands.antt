@@ -9,6 +9,7 @@ use Rattle.requester_machine.specs.Commands.{session_in}
 use Rattle.requester_machine.specs.Session.{Steps, is_live, session_id, session_of, session_terms}
 use Rattle.requester_machine.specs.Setup.{ReqSetup}
 use Rattle.responder_machine.specs.Responding.{Connection, Responding, connection_of}
+use Rattle.responder_machine.specs.Session as serving
 use Rattle.responder_machine.specs.Setup.{RspSetup, inventory_of}
 use Rattle.spdm_agreement.specs.Configured.{IsConfigured}
 use Rattle.spdm_grammar.specs.Lines.{Line}
@@ -24,7 +25,7 @@ use Rattle.world_machine.specs.Trace.{lines_from, world_after, world_from}
 use Rattle.world_machine.specs.World.{World, entry_step, requester_of}
 use Rattle.spdm_progress.specs.Fitting.{CanGo}
 use Rattle.spdm_progress.specs.Honest.{AreHonest, HaveNoCommand, NothingWaits}
-use Rattle.spdm_progress.specs.InStep.{AreQuiet}
+use Rattle.spdm_progress.specs.InStep.{AreQuiet, rsp_id}
 use Rattle.spdm_progress.specs.Measuring.{measurements_size, number_for}
 
 -- The session with this ReqSessionID of a requester.
@@ -139,3 +140,21 @@ SessionCommandsComplete =
     (command : Command) (id : ℕ) → IsToldQuietly w before n a c command → CanAsk a c command
     → session_in command ≡ Some id
     → CompletesQuietly w before n a c command (result_of a c command) id (goes_on command)
+
+-- The responder's connection with this requester holds no session with this RspSessionID.
+pub record IsGoneThere (q : ReqSetup) (rsp : ℕ) (world : World) : Type 0 where
+  pub connection : Connection
+  pub is_connection : connection_of q.eid world.responder.connections ≡ Some connection
+  pub gone : serving.is_live (serving.session_of rsp connection.history) ≡ false
+
+-- Behind an end of a session among them, the responder does not hold it either.
+abbrev pub EndedAtBothEnds : Type 0
+EndedAtBothEnds =
+    (w : WorldSetup) (before : List Entry) (n : ℕ) (a : Requesting) (c : Connection) (id : ℕ)
+    → IsToldQuietly w before n a c (End id)
+    → (line : ℕ) (behind : List Entry) → HaveNoCommand behind
+    → AreHonest (commanding (world_after w before) line n (End id)) behind
+    → NothingWaits (world_from (commanding (world_after w before) line n (End id)) behind)
+    → NoChance (world_from (commanding (world_after w before) line n (End id)) behind).log
+    → IsGoneThere a.setup (rsp_id (session_at a id))
+    (world_from (commanding (world_after w before) line n (End id)) behind)

@@ -17,7 +17,7 @@ ghost use Rattle.spdm_progress.specs.Scripts.{
   QuietMeasuresComplete,
   QuietWorldsComplete,
 };
-ghost use Rattle.spdm_progress.specs.SessionCommands.{SessionCommandsComplete};
+ghost use Rattle.spdm_progress.specs.SessionCommands.{EndedAtBothEnds, SessionCommandsComplete};
 
 /// A connect that is told where no packet waits is done once no packet waits again, whatever an
 /// honest script says in between: the requester is told so, and both ends hold one negotiation. It
@@ -69,6 +69,11 @@ pub fn open_completes()
 /// leaves the two ends quiet.
 pub fn session_commands_complete()
     ensures { SessionCommandsComplete }
+{}
+
+/// Behind an end of a session among them, the responder does not hold it either.
+pub fn ended_at_both_ends()
+    ensures { EndedAtBothEnds }
 {}
 
 /// The same of every command that quiet ends answer `ok`, in the clear or in a session.
