@@ -1,5 +1,5 @@
 -- What takes one round in a session: application data, HEARTBEAT, GET_MEASUREMENTS and END_SESSION.
-use Rattle.std.proofs.Common.{◌≡◌, ◌∙◌, ℕ, ◌<◌, ◌≤◌, ◌==◌, List, ◌∷◌, length, true, false, Result, Ok, refl, sym, ap, subst, inr, arith}
+use Rattle.std.proofs.Common.{◌≡◌, ◌++◌, ◌∙◌, ℕ, ◌<◌, ◌≤◌, ◌==◌, List, ◌∷◌, length, true, false, Result, Ok, refl, sym, ap, subst, inr, arith, []}
 use Rattle.std.proofs.lemmas.Bool.{false≢true}
 use Rattle.measurements.specs.Records.{asked as blocks_asked, is_missing}
 use Rattle.requester_machine.specs.Does.{body_chosen}
@@ -12,7 +12,7 @@ use Rattle.requester_machine.specs.Session as steps
 use Rattle.requester_machine.specs.Session.{Steps}
 use Rattle.responder_machine.specs.Answer.{Free, answer_of}
 use Rattle.responder_machine.specs.Does as serving_does
-use Rattle.responder_machine.specs.Does.{chosen, record_chosen}
+use Rattle.responder_machine.specs.Does.{chosen, first_queued, record_chosen}
 use Rattle.responder_machine.specs.History as served
 use Rattle.responder_machine.specs.Place.{session_place}
 use Rattle.responder_machine.specs.Responder.{inner_reply}
@@ -46,11 +46,24 @@ use Rattle.spdm_progress.proofs.SessionTurns.{TakesInSession, answer_read, beat_
 use Rattle.spdm_progress.proofs.SingleRound.{IsLast}
 
 -- What is asked.
-abbrev pub data_asking : List ℕ → Asking
-data_asking bytes = record { ask = AskData; inner = λ s. inner_data bytes; brings = λ t. Grants AskData t.reply; may = λ t. refl; before = λ turns. Unit {0} }
+abbrev pub data_asking : (queue : List (List ℕ)) → List ℕ → Asking
+data_asking queue bytes = record { ask = AskData; inner = λ s. inner_data bytes; brings = λ t. Grants AskData t.reply; may = λ t. refl; before = λ turns. Unit {0}; queue = queue }
+
+-- Where data waited, these are the first of them.
+abbrev pub StandFirst : (queue : List (List ℕ)) → List ℕ → Type 0
+StandFirst [] data_taken = Unit {0}
+StandFirst (first ∷ others) data_taken = data_taken ≡ first
+
+stand_first : (queue more : List (List ℕ)) → StandFirst queue (first_queued (queue ++ more))
+stand_first [] more = tt
+stand_first (first ∷ others) more = refl
+
+chosen_first : (r : RspSetup) (g : served.History) (sealed : List ℕ) (d : Draw) → (record_chosen r g sealed d).reply ≡ first_queued (served.queue_of g)
+unfolding chosen
+chosen_first r g sealed d = refl
 
 abbrev pub beat_asking : Asking
-beat_asking = record { ask = AskBeat; inner = λ s. inner_request Heartbeat; brings = λ t. Grants AskBeat t.reply; may = λ t. refl; before = λ turns. Unit {0} }
+beat_asking = record { ask = AskBeat; inner = λ s. inner_request Heartbeat; brings = λ t. Grants AskBeat t.reply; may = λ t. refl; before = λ turns. Unit {0}; queue = [] }
 
 abbrev pub measure_asking : ℕ → Asking
 measure_asking op = record {
@@ -59,10 +72,11 @@ measure_asking op = record {
   brings = λ t. Grants (AskMeasure op) t.reply;
   may = λ t. inr (op, t.reply, refl);
   before = λ turns. Unit {0};
+  queue = [];
 }
 
 abbrev pub end_asking : Asking
-end_asking = record { ask = AskEnd; inner = λ s. inner_request EndSession; brings = λ t. Grants AskEnd t.reply; may = λ t. refl; before = λ turns. Unit {0} }
+end_asking = record { ask = AskEnd; inner = λ s. inner_request EndSession; brings = λ t. Grants AskEnd t.reply; may = λ t. refl; before = λ turns. Unit {0}; queue = [] }
 
 module _ (p : Pair) (same_key : p.requester.psk ≡ p.responder.psk) (id : ℕ) (sid : SessionId) (asker : IsRequester p.requester) (server : IsResponder p.responder) where
   abbrev r : RspSetup
@@ -89,9 +103,10 @@ module _ (p : Pair) (same_key : p.requester.psk ≡ p.responder.psk) (id : ℕ) 
   pub record IsSpdm (answer : List ℕ) (s : Steps) (t : Turn) : Type 0 where
     pub inner : inner_reply t ≡ 5 ∷ answer
 
-  pub record IsData (s : Steps) (t : Turn) : Type 0 where
+  pub record IsData (queue : List (List ℕ)) (s : Steps) (t : Turn) : Type 0 where
     pub inner : inner_reply t ≡ 1 ∷ t.reply
     pub short : length t.reply ≤ 1024
+    pub first : StandFirst queue t.reply
 
   pub record IsMeasured (op : ℕ) (s : Steps) (t : Turn) : Type 0 where
     pub nonce : List ℕ
@@ -120,7 +135,7 @@ module _ (p : Pair) (same_key : p.requester.psk ≡ p.responder.psk) (id : ℕ) 
 
   beat_answered : AreAnswered p.requester r p.first id beat_asking CanBeat (IsSpdm (canonical_response HeartbeatAck))
   beat_answered = record {
-    turns = λ g s e f sealed d fit at k made drawn here is known.
+    turns = λ g s e f sealed d fit at k made drawn here is known queued.
         subst (IsGood beat_asking (IsSpdm (canonical_response HeartbeatAck)) s)
         (sym (beat_turn r e f room (sym k.stage ∙ at) (ap (λ (t : Terms). t.common.heartbeat) (sym (same_terms s e k)) ∙ fit.flag) (small_takes g e (id_in_record sealed) here made k.live)))
         (refl, record { inner = refl }, (omega arith));
@@ -140,7 +155,7 @@ module _ (p : Pair) (same_key : p.requester.psk ≡ p.responder.psk) (id : ℕ) 
 
   end_answered : AreAnswered p.requester r p.first id end_asking IsNamed (IsSpdm (canonical_response EndSessionAck))
   end_answered = record {
-    turns = λ g s e f sealed d fit at k made drawn here is known.
+    turns = λ g s e f sealed d fit at k made drawn here is known queued.
         subst (IsGood end_asking (IsSpdm (canonical_response EndSessionAck)) s) (sym (end_turn r e f room (sym k.stage ∙ at) (small_takes g e (id_in_record sealed) here made k.live))) (refl, record { inner = refl }, (omega arith));
   }
 
@@ -160,18 +175,20 @@ module _ (p : Pair) (same_key : p.requester.psk ≡ p.responder.psk) (id : ℕ) 
     pub named : steps.session_id s ≡ sid
     pub short : length bytes ≤ 1024
 
-  data_answered : (bytes : List ℕ) → AreAnswered p.requester r p.first id (data_asking bytes) (CanSend bytes) IsData
-  data_answered bytes = record {
-    turns = λ g s e f sealed d fit at k made drawn here is known.
+  data_answered : (queue : List (List ℕ)) (bytes : List ℕ) → AreAnswered p.requester r p.first id (data_asking queue bytes) (CanSend bytes) (IsData queue)
+  data_answered queue bytes = record {
+    turns = λ g s e f sealed d fit at k made drawn here is known queued.
         let short : length f.reply ≤ 1024 = subst (λ (z : Free). length z.reply ≤ 1024) (sym is) (chosen_short r g sealed d made) in
-        subst (IsGood (data_asking bytes) IsData s) (sym (data_turn_in r e bytes f (sym k.stage ∙ at) fit.short)) (refl, record { inner = refl; short = short }, (omega arith));
+        let taken : f.reply ≡ first_queued (queue ++ queued.0) = ap (λ (z : Free). z.reply) is ∙ chosen_first r g sealed d ∙ ap first_queued queued.1 in
+        let first : StandFirst queue f.reply = subst (StandFirst queue) (sym taken) (stand_first queue queued.0) in
+        subst (IsGood (data_asking queue bytes) (IsData queue) s) (sym (data_turn_in r e bytes f (sym k.stage ∙ at) fit.short)) (refl, record { inner = refl; short = short; first = first }, (omega arith));
   }
 
-  pub data_last : (bytes : List ℕ) → IsLast p same_key id (data_asking bytes) (CanSend bytes) IsData (event.Done (finished.Answered sid))
-  data_last bytes = record {
-    answers = data_answered bytes;
+  pub data_last : (queue : List (List ℕ)) (bytes : List ℕ) → IsLast p same_key id (data_asking queue bytes) (CanSend bytes) (IsData queue) (event.Done (finished.Answered sid))
+  data_last queue bytes = record {
+    answers = data_answered queue bytes;
     leads = λ h d s pad t fit good is.
-        data_read p.requester h (body_chosen p.requester h d) (came_as h id (answer_for p.requester r p.first id (data_asking bytes) s t) (inner_reply t)) AskData t.reply good.inner good.short
+        data_read p.requester h (body_chosen p.requester h d) (came_as h id (answer_for p.requester r p.first id (data_asking queue bytes) s t) (inner_reply t)) AskData t.reply good.inner good.short
         ∙ ap (λ (n : SessionId). let l : Result Led BadReply = Ok (is_done (finished.Answered n) (Grants AskData t.reply)) in l) (ap steps.session_id is ∙ fit.named);
     at_end = λ s pad t at kept. at;
   }
@@ -189,7 +206,7 @@ module _ (p : Pair) (same_key : p.requester.psk ≡ p.responder.psk) (id : ℕ) 
 
   measure_answered : (op : ℕ) → AreAnswered p.requester r p.first id (measure_asking op) (CanMeasure op) (IsMeasured op)
   measure_answered op = record {
-    turns = λ g s e f sealed d fit at k made drawn here is known.
+    turns = λ g s e f sealed d fit at k made drawn here is known queued.
         let answer = ap (λ (z : Free). canonical_response (answer_of r (session_place e) (canonical_request (GetMeasurements op)) z (GetMeasurements op))) is ∙ measured_in r g e sealed d op in
         let size = ap length answer ∙ measurements_are r op d.bytes drawn in
         let fits : measurements_size r op ≤ (events.session_terms e).common.to_requester.transfer = subst (λ (t : Terms). measurements_size r op ≤ t.common.to_requester.transfer) (same_terms s e k) fit.fits in

@@ -25,7 +25,7 @@ use Rattle.requester_machine.specs.History as asked
 use Rattle.requester_machine.specs.History.{Led, outstanding, negotiation_of}
 use Rattle.requester_machine.specs.History.Effect.{Answers, Grants, Nothing}
 use Rattle.requester_machine.specs.Setup.{ReqSetup}
-use Rattle.requester_machine.specs.Message.Ask.{AskMeasure}
+use Rattle.requester_machine.specs.Message.Ask.{AskData, AskMeasure}
 use Rattle.requester_machine.specs.Shown.{blocks_in, blocks_of, bytes_in, effect_in, last_data}
 use Rattle.responder_machine.specs.Answer.{answer_of}
 use Rattle.responder_machine.specs.Does.{chosen, clear_chosen}
@@ -326,6 +326,10 @@ granted_record r op nonce [] is whole within = absurd (cc)
 granted_record r op nonce (entry ∷ older) is whole within =
     ap (λ (e : asked.Effect). unwrap_or (option_or (bytes_in e) (blocks_in e)) (last_data older)) is
     ∙ ap (λ (o : Option ResponseMessage). unwrap_or (option_or None (blocks_of o)) (last_data older)) (ap result_ok (reads older (Measurements (measured r op nonce)) 32 (measured_fits r op nonce) (measured_sound r op 32 nonce whole within)))
+
+pub granted_data : (h : asked.History) (bytes : List ℕ) → newest_in h ≡ Grants AskData bytes → last_data h ≡ bytes
+granted_data [] bytes is = absurd (cc)
+granted_data (entry ∷ older) bytes is = ap (λ (e : asked.Effect). unwrap_or (option_or (bytes_in e) (blocks_in e)) (last_data older)) is
 
 pub measure_outcome : (q : ReqSetup) (r : RspSetup) (h : asked.History) (tag op : ℕ) (n : Negotiation) (nonce : List ℕ) (d : Draw) → length nonce ≡ 32 → CanServe q r op n → Asks q tag (GetMeasurements op) (get_measurements op) n h
     → requester_hears q h false tag (clear_body (measurements r op nonce)) d ≡ Adds (TookClear tag (measurements r op nonce) (measured_led r op nonce) d)

@@ -1,6 +1,6 @@
 -- A round in a session: a record that asks something of it is on its way to the responder, and then the record that
 -- answers it is on its way back.
-use Rattle.std.proofs.Common.{◌≡◌, ◌==◌, ◌≢◌, ◌∙◌, ℕ, ◌<◌, ◌≤◌, ◌+◌, List, [], ◌∷◌, ◌++◌, length, Bool, true, false, Option, Some, None, Result, Ok, Contains, refl, sym, ap, subst, inl, inr, arith, eq-eqb}
+use Rattle.std.proofs.Common.{◌≡◌, ◌==◌, ◌≢◌, ◌∙◌, ℕ, ◌<◌, ◌≤◌, ◌+◌, List, [], ◌∷◌, ◌++◌, length, Bool, true, false, Option, Some, None, Result, Ok, Contains, refl, sym, ap, subst, inl, inr, arith, eq-eqb, append_assoc}
 use Rattle.std.specs.Prelude.{if◌then◌else◌}
 use Rattle.std.proofs.lemmas.Bool.{false≢true, ne_eqb}
 use Rattle.std.proofs.lemmas.List.Elements.{Contains-append_left, Contains-append_right, Contains-push}
@@ -59,18 +59,20 @@ use Rattle.spdm_progress.proofs.RecordHeard.{asking_in, came_as, heard}
 use Rattle.spdm_progress.proofs.RecordRounds.{Beside, KeepsBeside, beside_on, earlier_on, last_waited, live_waited, moves_so, quiet_from, turns_waited}
 use Rattle.spdm_progress.proofs.RecordServed.{served as taken}
 use Rattle.spdm_progress.proofs.RecordsBetween.{names_session, no_copy, opens, record_length, tag_is}
-use Rattle.spdm_progress.proofs.StillKept.{AreAlike}
+use Rattle.spdm_progress.proofs.StillKept.{AreAlike, WaitMore}
 use Rattle.spdm_progress.proofs.Talk.{IsSendable}
 use Rattle.spdm_progress.proofs.RecordStages.{answer_count, answer_under, awaited_under, live_heard, no_pad, not_end, opens_there, replies_so, sealed_elsewhere, sealed_here, updates_all}
 
 -- What is asked of a session: the ask and its inner message, by the session as it stands; what its answer brings about at
--- the requester, by the turn that answered; and what is known of the turns before it at the responder.
+-- the requester, by the turn that answered; what is known of the turns before it at the responder; and data that wait
+-- there in front.
 pub record Asking : Type 1 where
   pub ask : Ask
   pub inner : Steps → List ℕ
   pub brings : Turn → asked.Effect
   pub may : (t : Turn) → MayBring ask t.reply (brings t)
   pub before : List Turn → Type 0
+  pub queue : List (List ℕ)
 
 module _ (q : ReqSetup) (r : RspSetup) (first id : ℕ) (x : Asking) where
   abbrev pub sealed_for : Steps → List ℕ → List ℕ
@@ -108,6 +110,7 @@ module _ (q : ReqSetup) (r : RspSetup) (first id : ℕ) (x : Asking) where
     pub log_is : log ≡ made_for s pad older
     pub last : (k : KeptRecord) → events.last_of (events.session_of (rsp_id s) g) ≡ Some k → WasSealed q.psk older s k.sealed
     pub known : x.before (events.turns_of (events.session_of (rsp_id s) g))
+    pub queued : WaitMore x.queue (served.queue_of g)
     pub beside : Beside q r first id (rsp_id s) log h g
 
   -- The turn is the newest of these, behind some of which this was known.
@@ -193,6 +196,7 @@ module _ (q : ReqSetup) (r : RspSetup) (first id : ℕ) (x : Asking) where
     log_is = y.log_is;
     last = λ k is. y.last k (sym (last_waited _ _ (alike.sessions (rsp_id y.s))) ∙ is);
     known = subst x.before (sym (turns_waited _ _ (alike.sessions (rsp_id y.s)))) y.known;
+    queued = (y.queued.0 ++ alike.queue.0, alike.queue.1 ∙ ap (λ (l : List (List ℕ)). l ++ alike.queue.0) y.queued.1 ∙ append_assoc x.queue y.queued.0 alike.queue.0);
     beside = still_beside log h g later (rsp_id y.s) alike y.beside;
   }
 
@@ -224,7 +228,7 @@ module _ (q : ReqSetup) (r : RspSetup) (first id : ℕ) (x : Asking) where
 
   -- What the responder makes of the record: a turn that answers it, of which this is known.
   pub record AreAnswered (Fit : Steps → Type 0) (Good : Steps → Turn → Type 0) : Type 0 where
-    pub turns : (g : served.History) (s : Steps) (e : Events) (f : Free) (sealed : List ℕ) (d : Draw) → Fit s → steps.stage_of s ≡ stage_for x.ask → AreInStep s e → serving_does.IsMade r g → length d.bytes ≡ 32 → events.session_of (id_in_record sealed) g ≡ e → f ≡ record_chosen r g sealed d → x.before (events.turns_of e)
+    pub turns : (g : served.History) (s : Steps) (e : Events) (f : Free) (sealed : List ℕ) (d : Draw) → Fit s → steps.stage_of s ≡ stage_for x.ask → AreInStep s e → serving_does.IsMade r g → length d.bytes ≡ 32 → events.session_of (id_in_record sealed) g ≡ e → f ≡ record_chosen r g sealed d → x.before (events.turns_of e) → WaitMore x.queue (served.queue_of g)
         → IsAnswerTo x.ask (x.inner s) (session_turn r e (x.inner s) f) × Good s (session_turn r e (x.inner s) f) × (length (session_turn r e (x.inner s) f).reply ≤ 4133)
 
   names : (s : Steps) (pad : List ℕ) → rsp_id s < 65536 → id_in_record (sealed_for s pad) ≡ rsp_id s
@@ -296,7 +300,7 @@ module _ (q : ReqSetup) (r : RspSetup) (first id : ℕ) (x : Asking) where
 
       reply_is : reply_record r.psk e t (inner_reply t) f.pad ≡ answer_for s t
       reply_is =
-          let a = answers.turns g s e f sealed d y.fit y.at y.in_step y.beside.made_there drawn here refl y.known in
+          let a = answers.turns g s e f sealed d y.fit y.at y.in_step y.beside.made_there drawn here refl y.known y.queued in
           ap (reply_record r.psk e t (inner_reply t)) (no_pad r g sealed d)
           ∙ ap (λ (psk : List ℕ). reply_record psk e t (inner_reply t) []) (sym same_key)
           ∙ replies_so q.psk s e y.in_step t (asks_all x.ask) (inner_reply t) [] (updates_all x.ask (x.inner s) t a.0)
@@ -332,7 +336,7 @@ module _ (q : ReqSetup) (r : RspSetup) (first id : ℕ) (x : Asking) where
 
       heard_is : is_kept x.ask ≡ true → events.session_of (rsp_id s) new ≡ Heard sealed t (answer_for s t) ∷ e
       heard_is kept =
-          let a = answers.turns g s e f sealed d y.fit y.at y.in_step y.beside.made_there drawn here refl y.known in
+          let a = answers.turns g s e f sealed d y.fit y.at y.in_step y.beside.made_there drawn here refl y.known y.queued in
           session_new ∙ live_heard e sealed (answer_for s t) t y.in_step.live (not_end x.ask (x.inner s) t kept a.0)
 
       own_made : (acts : Log) → Contains (acts ++ log) (Made (request_purpose q.psk s) (record_input (steps.request_next s) sealed) (tag_part sealed))
@@ -344,7 +348,7 @@ module _ (q : ReqSetup) (r : RspSetup) (first id : ℕ) (x : Asking) where
 
       after_here : After tag h g log sealed (AddsThere (WasSealedThere tag sealed t (answer_for s t) d))
       after_here =
-          let a = answers.turns g s e f sealed d y.fit y.at y.in_step y.beside.made_there drawn here refl y.known in record {
+          let a = answers.turns g s e f sealed d y.fit y.at y.in_step y.beside.made_there drawn here refl y.known y.queued in record {
             s = s;
             pad = y.pad;
             t = t;

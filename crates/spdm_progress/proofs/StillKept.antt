@@ -1,5 +1,5 @@
 -- Queued data and time that ends no session leave the sessions of a connection as they were, but for the seconds waited.
-use Rattle.std.proofs.Common.{◌≡◌, ◌⊎◌, ◌∙◌, ℕ, ◌<◌, ◌≤◌, ◌+◌, ◌*◌, ◌==◌, List, [], ◌∷◌, length, Bool, true, false, cond, nat_lt, nat_le, not, Option, Some, None, refl, sym, ap, subst, inl, inr, eqb-true}
+use Rattle.std.proofs.Common.{◌≡◌, ◌⊎◌, ◌∙◌, ℕ, ◌<◌, ◌≤◌, ◌+◌, ◌*◌, ◌==◌, List, [], ◌∷◌, ◌++◌, append-nil, length, Bool, true, false, cond, nat_lt, nat_le, not, Option, Some, None, refl, sym, ap, subst, inl, inr, eqb-true}
 use Rattle.std.specs.Prelude.{if◌then◌else◌}
 use Rattle.std.proofs.lemmas.Bool.{false≢true, leb-false, ltb-false}
 use Rattle.spdm_grammar.specs.declared.heard.ReplyFault.{ReplyFault}
@@ -24,6 +24,10 @@ use Rattle.spdm_progress.proofs.Told.{contained}
 abbrev pub IsSameSession : Events → Events → Type 0
 IsSameSession old new = (new ≡ old) ⊎ ((seconds : ℕ) × (is_live old ≡ true) × (new ≡ Waited seconds ∷ old))
 
+-- The data that wait are those of before, and maybe more behind them.
+abbrev pub WaitMore : (before now : List (List ℕ)) → Type 0
+WaitMore before now = (more : List (List ℕ)) × (now ≡ before ++ more)
+
 -- Two histories of one connection between which nothing came but queued data and time that ended no session.
 pub record AreAlike (r : RspSetup) (old new : served.History) : Type 0 where
   pub clear : SameClear old new
@@ -31,9 +35,10 @@ pub record AreAlike (r : RspSetup) (old new : served.History) : Type 0 where
   pub made : IsMade r old → IsMade r new
   pub ended : served.ended_of new ≡ served.ended_of old
   pub sessions : (id : ℕ) → IsSameSession (session_of id old) (session_of id new)
+  pub queue : WaitMore (served.queue_of old) (served.queue_of new)
 
 pub alike_itself : (r : RspSetup) (h : served.History) → AreAlike r h h
-alike_itself r h = record { clear = same_clear h; turns = refl; made = λ m. m; ended = refl; sessions = λ id. inl refl }
+alike_itself r h = record { clear = same_clear h; turns = refl; made = λ m. m; ended = refl; sessions = λ id. inl refl; queue = ([], sym (append-nil (served.queue_of h))) }
 
 -- ---- Queued data.
 
@@ -49,7 +54,7 @@ queued_within c bytes is = go (nat_lt 1024 (length bytes)) (nat_le 16 (length (s
 
 queued_alike : (r : RspSetup) (h : served.History) (bytes : List ℕ) → length bytes ≤ 1024 → length (served.queue_of h) < 16 → AreAlike r h (Queued bytes ∷ h)
 unfolding session_of
-queued_alike r h bytes short room = record { clear = queued_same h bytes; turns = refl; made = λ m. (short, room, m); ended = refl; sessions = λ id. inl refl }
+queued_alike r h bytes short room = record { clear = queued_same h bytes; turns = refl; made = λ m. (short, room, m); ended = refl; sessions = λ id. inl refl; queue = (bytes ∷ [], refl) }
 
 -- ---- Time.
 
@@ -65,7 +70,7 @@ ticked_session (e ∷ s) seconds lives = ticked_by (is_timed (e ∷ s)) (nat_le 
 
 ticked_alike : (r : RspSetup) (h : served.History) (seconds : ℕ) → ((id : ℕ) → is_live (session_of id h) ≡ true → is_live (after_tick (session_of id h) seconds) ≡ true) → AreAlike r h (Ticked seconds ∷ h)
 unfolding session_of
-ticked_alike r h seconds lives = record { clear = ticked_same h seconds; turns = refl; made = λ m. m; ended = refl; sessions = λ id. ticked_session (session_of id h) seconds (lives id) }
+ticked_alike r h seconds lives = record { clear = ticked_same h seconds; turns = refl; made = λ m. m; ended = refl; sessions = λ id. ticked_session (session_of id h) seconds (lives id); queue = ([], sym (append-nil (served.queue_of h))) }
 
 -- ---- The connection of a pair.
 

@@ -1,6 +1,6 @@
 -- What is asked of an open session where its messages are delivered honestly: each command comes to
 -- its result. This project's own.
-use Rattle.std.specs.Prelude.{◌≡◌, ◌<◌, ◌≤◌, ◌+◌, ℕ, List, length, Bool, true, false, Some, None, Contains}
+use Rattle.std.specs.Prelude.{◌≡◌, ◌<◌, ◌≤◌, ◌+◌, ◌∷◌, ℕ, List, length, Bool, true, false, Some, None, Contains}
 use Rattle.measurements.specs.Records.{is_missing}
 use Rattle.requester_machine.specs.Message.{Command}
 use Rattle.requester_machine.specs.Message.Command.{Beat, Connect, End, Measure, Open, Retry, Send, Update}
@@ -9,6 +9,8 @@ use Rattle.requester_machine.specs.Commands.{session_in}
 use Rattle.requester_machine.specs.Session.{Steps, is_live, session_id, session_of, session_terms}
 use Rattle.requester_machine.specs.Setup.{ReqSetup}
 use Rattle.responder_machine.specs.Responding.{Connection, Responding, connection_of}
+use Rattle.requester_machine.specs.Shown.{last_data}
+use Rattle.responder_machine.specs.History as served
 use Rattle.responder_machine.specs.Session as serving
 use Rattle.responder_machine.specs.Setup.{RspSetup, inventory_of}
 use Rattle.spdm_agreement.specs.Configured.{IsConfigured}
@@ -158,3 +160,22 @@ EndedAtBothEnds =
     → NoChance (world_from (commanding (world_after w before) line n (End id)) behind).log
     → IsGoneThere a.setup (rsp_id (session_at a id))
     (world_from (commanding (world_after w before) line n (End id)) behind)
+
+-- Requester n took these data last.
+pub record TookLast (n : ℕ) (bytes : List ℕ) (world : World) : Type 0 where
+  pub requester : Requesting
+  pub is_requester : requester_of n world ≡ Some requester
+  pub taken : last_data requester.history ≡ bytes
+
+-- Behind a send among them, where data waited at the responder when it was told, the requester took
+-- the first of them.
+abbrev pub AnswersWaitFirst : Type 0
+AnswersWaitFirst =
+    (w : WorldSetup) (before : List Entry) (n : ℕ) (a : Requesting) (c : Connection) (id : ℕ)
+    (bytes : List ℕ) → IsToldQuietly w before n a c (Send id bytes)
+    → (first : List ℕ) (others : List (List ℕ)) → served.queue_of c.history ≡ first ∷ others
+    → (line : ℕ) (behind : List Entry) → HaveNoCommand behind
+    → AreHonest (commanding (world_after w before) line n (Send id bytes)) behind
+    → NothingWaits (world_from (commanding (world_after w before) line n (Send id bytes)) behind)
+    → NoChance (world_from (commanding (world_after w before) line n (Send id bytes)) behind).log
+    → TookLast n first (world_from (commanding (world_after w before) line n (Send id bytes)) behind)

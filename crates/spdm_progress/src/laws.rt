@@ -17,7 +17,11 @@ ghost use Rattle.spdm_progress.specs.Scripts.{
   QuietMeasuresComplete,
   QuietWorldsComplete,
 };
-ghost use Rattle.spdm_progress.specs.SessionCommands.{EndedAtBothEnds, SessionCommandsComplete};
+ghost use Rattle.spdm_progress.specs.SessionCommands.{
+  AnswersWaitFirst,
+  EndedAtBothEnds,
+  SessionCommandsComplete,
+};
 
 /// A connect that is told where no packet waits is done once no packet waits again, whatever an
 /// honest script says in between: the requester is told so, and both ends hold one negotiation. It
@@ -69,6 +73,12 @@ pub fn open_completes()
 /// leaves the two ends quiet.
 pub fn session_commands_complete()
     ensures { SessionCommandsComplete }
+{}
+
+/// Behind a send among them, where data waited at the responder when it was told, the requester took
+/// the first of them.
+pub fn answers_wait_first()
+    ensures { AnswersWaitFirst }
 {}
 
 /// Behind an end of a session among them, the responder does not hold it either.
