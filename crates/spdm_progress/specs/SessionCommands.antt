@@ -178,4 +178,5 @@ AnswersWaitFirst =
     → AreHonest (commanding (world_after w before) line n (Send id bytes)) behind
     → NothingWaits (world_from (commanding (world_after w before) line n (Send id bytes)) behind)
     → NoChance (world_from (commanding (world_after w before) line n (Send id bytes)) behind).log
-    → TookLast n first (world_from (commanding (world_after w before) line n (Send id bytes)) behind)
+    → TookLast n first
+    (world_from (commanding (world_after w before) line n (Send id bytes)) behind)

@@ -75,8 +75,8 @@ pub fn session_commands_complete()
     ensures { SessionCommandsComplete }
 {}
 
-/// Behind a send among them, where data waited at the responder when it was told, the requester took
-/// the first of them.
+/// Behind a send among them, where data waited at the responder when it was told, the requester
+/// took the first of them.
 pub fn answers_wait_first()
     ensures { AnswersWaitFirst }
 {}
