@@ -1,5 +1,5 @@
 -- What takes one round in a session: application data, HEARTBEAT, GET_MEASUREMENTS and END_SESSION.
-use Rattle.std.proofs.Common.{◌≡◌, ◌++◌, ◌∙◌, ℕ, ◌<◌, ◌≤◌, ◌==◌, List, ◌∷◌, length, true, false, Result, Ok, refl, sym, ap, subst, inr, arith, []}
+use Rattle.std.proofs.Common.{◌≡◌, ◌∙◌, ℕ, ◌<◌, ◌≤◌, ◌==◌, List, ◌∷◌, length, true, false, Result, Ok, refl, sym, ap, subst, inr, arith}
 use Rattle.std.proofs.lemmas.Bool.{false≢true}
 use Rattle.measurements.specs.Records.{asked as blocks_asked, is_missing}
 use Rattle.requester_machine.specs.Does.{body_chosen}
@@ -36,6 +36,8 @@ use Rattle.spdm_grammar.specs.declared.event.Finished.TheVariants as finished
 use Rattle.spdm_machine.specs.Keys.{Draw}
 use Rattle.spdm_machine.specs.Terms.{Terms, hash_len}
 use Rattle.spdm_progress.specs.Measuring.{measurements_size, number_for}
+use Rattle.spdm_progress.specs.SessionCommands.{OnlyWaited}
+use Rattle.spdm_progress.proofs.StillKept.{only_further}
 use Rattle.spdm_progress.proofs.AlikeSessions.{IsAnswerTo, same_terms}
 use Rattle.spdm_progress.proofs.MeasureStages.{measured, measured_fits, measured_sound, measurements, measurements_are, told_number}
 use Rattle.spdm_progress.proofs.PacketSteps.{Pair}
@@ -46,24 +48,24 @@ use Rattle.spdm_progress.proofs.SessionTurns.{TakesInSession, answer_read, beat_
 use Rattle.spdm_progress.proofs.SingleRound.{IsLast}
 
 -- What is asked.
-abbrev pub data_asking : (queue : List (List ℕ)) → List ℕ → Asking
-data_asking queue bytes = record { ask = AskData; inner = λ s. inner_data bytes; brings = λ t. Grants AskData t.reply; may = λ t. refl; before = λ turns. Unit {0}; queue = queue }
-
--- Where data waited, these are the first of them.
-abbrev pub StandFirst : (queue : List (List ℕ)) → List ℕ → Type 0
-StandFirst [] data_taken = Unit {0}
-StandFirst (first ∷ others) data_taken = data_taken ≡ first
-
-stand_first : (queue more : List (List ℕ)) → StandFirst queue (first_queued (queue ++ more))
-stand_first [] more = tt
-stand_first (first ∷ others) more = refl
+abbrev pub data_asking : (begun : served.History) → List ℕ → Asking
+data_asking begun bytes = record {
+  ask = AskData;
+  inner = λ s. inner_data bytes;
+  brings = λ t. Grants AskData t.reply;
+  may = λ t. refl;
+  before = λ turns. Unit {0};
+  there = λ g. OnlyWaited begun g;
+  there_on = λ r g later alike z. only_further begun g later alike.between z;
+  knows = λ g t. t.reply ≡ first_queued (served.queue_of g);
+}
 
 chosen_first : (r : RspSetup) (g : served.History) (sealed : List ℕ) (d : Draw) → (record_chosen r g sealed d).reply ≡ first_queued (served.queue_of g)
 unfolding chosen
 chosen_first r g sealed d = refl
 
 abbrev pub beat_asking : Asking
-beat_asking = record { ask = AskBeat; inner = λ s. inner_request Heartbeat; brings = λ t. Grants AskBeat t.reply; may = λ t. refl; before = λ turns. Unit {0}; queue = [] }
+beat_asking = record { ask = AskBeat; inner = λ s. inner_request Heartbeat; brings = λ t. Grants AskBeat t.reply; may = λ t. refl; before = λ turns. Unit {0}; there = λ g. Unit {0}; there_on = λ r g later alike z. tt; knows = λ g t. Unit {0} }
 
 abbrev pub measure_asking : ℕ → Asking
 measure_asking op = record {
@@ -72,11 +74,13 @@ measure_asking op = record {
   brings = λ t. Grants (AskMeasure op) t.reply;
   may = λ t. inr (op, t.reply, refl);
   before = λ turns. Unit {0};
-  queue = [];
+  there = λ g. Unit {0};
+  there_on = λ r g later alike z. tt;
+  knows = λ g t. Unit {0};
 }
 
 abbrev pub end_asking : Asking
-end_asking = record { ask = AskEnd; inner = λ s. inner_request EndSession; brings = λ t. Grants AskEnd t.reply; may = λ t. refl; before = λ turns. Unit {0}; queue = [] }
+end_asking = record { ask = AskEnd; inner = λ s. inner_request EndSession; brings = λ t. Grants AskEnd t.reply; may = λ t. refl; before = λ turns. Unit {0}; there = λ g. Unit {0}; there_on = λ r g later alike z. tt; knows = λ g t. Unit {0} }
 
 module _ (p : Pair) (same_key : p.requester.psk ≡ p.responder.psk) (id : ℕ) (sid : SessionId) (asker : IsRequester p.requester) (server : IsResponder p.responder) where
   abbrev r : RspSetup
@@ -103,10 +107,9 @@ module _ (p : Pair) (same_key : p.requester.psk ≡ p.responder.psk) (id : ℕ) 
   pub record IsSpdm (answer : List ℕ) (s : Steps) (t : Turn) : Type 0 where
     pub inner : inner_reply t ≡ 5 ∷ answer
 
-  pub record IsData (queue : List (List ℕ)) (s : Steps) (t : Turn) : Type 0 where
+  pub record IsData (s : Steps) (t : Turn) : Type 0 where
     pub inner : inner_reply t ≡ 1 ∷ t.reply
     pub short : length t.reply ≤ 1024
-    pub first : StandFirst queue t.reply
 
   pub record IsMeasured (op : ℕ) (s : Steps) (t : Turn) : Type 0 where
     pub nonce : List ℕ
@@ -135,6 +138,7 @@ module _ (p : Pair) (same_key : p.requester.psk ≡ p.responder.psk) (id : ℕ) 
 
   beat_answered : AreAnswered p.requester r p.first id beat_asking CanBeat (IsSpdm (canonical_response HeartbeatAck))
   beat_answered = record {
+    there = λ g s e f sealed d fit at k is. tt;
     turns = λ g s e f sealed d fit at k made drawn here is known queued.
         subst (IsGood beat_asking (IsSpdm (canonical_response HeartbeatAck)) s)
         (sym (beat_turn r e f room (sym k.stage ∙ at) (ap (λ (t : Terms). t.common.heartbeat) (sym (same_terms s e k)) ∙ fit.flag) (small_takes g e (id_in_record sealed) here made k.live)))
@@ -155,6 +159,7 @@ module _ (p : Pair) (same_key : p.requester.psk ≡ p.responder.psk) (id : ℕ) 
 
   end_answered : AreAnswered p.requester r p.first id end_asking IsNamed (IsSpdm (canonical_response EndSessionAck))
   end_answered = record {
+    there = λ g s e f sealed d fit at k is. tt;
     turns = λ g s e f sealed d fit at k made drawn here is known queued.
         subst (IsGood end_asking (IsSpdm (canonical_response EndSessionAck)) s) (sym (end_turn r e f room (sym k.stage ∙ at) (small_takes g e (id_in_record sealed) here made k.live))) (refl, record { inner = refl }, (omega arith));
   }
@@ -175,20 +180,20 @@ module _ (p : Pair) (same_key : p.requester.psk ≡ p.responder.psk) (id : ℕ) 
     pub named : steps.session_id s ≡ sid
     pub short : length bytes ≤ 1024
 
-  data_answered : (queue : List (List ℕ)) (bytes : List ℕ) → AreAnswered p.requester r p.first id (data_asking queue bytes) (CanSend bytes) (IsData queue)
-  data_answered queue bytes = record {
+  data_answered : (begun : served.History) (bytes : List ℕ) → AreAnswered p.requester r p.first id (data_asking begun bytes) (CanSend bytes) IsData
+  data_answered begun bytes = record {
+    there = λ g s e f sealed d fit at k is.
+        subst (λ (t : Turn). t.reply ≡ first_queued (served.queue_of g)) (sym (data_turn_in r e bytes f (sym k.stage ∙ at) fit.short)) (ap (λ (z : Free). z.reply) is ∙ chosen_first r g sealed d);
     turns = λ g s e f sealed d fit at k made drawn here is known queued.
         let short : length f.reply ≤ 1024 = subst (λ (z : Free). length z.reply ≤ 1024) (sym is) (chosen_short r g sealed d made) in
-        let taken : f.reply ≡ first_queued (queue ++ queued.0) = ap (λ (z : Free). z.reply) is ∙ chosen_first r g sealed d ∙ ap first_queued queued.1 in
-        let first : StandFirst queue f.reply = subst (StandFirst queue) (sym taken) (stand_first queue queued.0) in
-        subst (IsGood (data_asking queue bytes) (IsData queue) s) (sym (data_turn_in r e bytes f (sym k.stage ∙ at) fit.short)) (refl, record { inner = refl; short = short; first = first }, (omega arith));
+        subst (IsGood (data_asking begun bytes) IsData s) (sym (data_turn_in r e bytes f (sym k.stage ∙ at) fit.short)) (refl, record { inner = refl; short = short }, (omega arith));
   }
 
-  pub data_last : (queue : List (List ℕ)) (bytes : List ℕ) → IsLast p same_key id (data_asking queue bytes) (CanSend bytes) (IsData queue) (event.Done (finished.Answered sid))
-  data_last queue bytes = record {
-    answers = data_answered queue bytes;
+  pub data_last : (begun : served.History) (bytes : List ℕ) → IsLast p same_key id (data_asking begun bytes) (CanSend bytes) IsData (event.Done (finished.Answered sid))
+  data_last begun bytes = record {
+    answers = data_answered begun bytes;
     leads = λ h d s pad t fit good is.
-        data_read p.requester h (body_chosen p.requester h d) (came_as h id (answer_for p.requester r p.first id (data_asking queue bytes) s t) (inner_reply t)) AskData t.reply good.inner good.short
+        data_read p.requester h (body_chosen p.requester h d) (came_as h id (answer_for p.requester r p.first id (data_asking begun bytes) s t) (inner_reply t)) AskData t.reply good.inner good.short
         ∙ ap (λ (n : SessionId). let l : Result Led BadReply = Ok (is_done (finished.Answered n) (Grants AskData t.reply)) in l) (ap steps.session_id is ∙ fit.named);
     at_end = λ s pad t at kept. at;
   }
@@ -206,6 +211,7 @@ module _ (p : Pair) (same_key : p.requester.psk ≡ p.responder.psk) (id : ℕ) 
 
   measure_answered : (op : ℕ) → AreAnswered p.requester r p.first id (measure_asking op) (CanMeasure op) (IsMeasured op)
   measure_answered op = record {
+    there = λ g s e f sealed d fit at k is. tt;
     turns = λ g s e f sealed d fit at k made drawn here is known queued.
         let answer = ap (λ (z : Free). canonical_response (answer_of r (session_place e) (canonical_request (GetMeasurements op)) z (GetMeasurements op))) is ∙ measured_in r g e sealed d op in
         let size = ap length answer ∙ measurements_are r op d.bytes drawn in

@@ -260,7 +260,7 @@ module _ (p : Pair) (same_key : p.requester.psk ≡ p.responder.psk) (asker : Is
           log_is = acts_are;
           last = λ k is. absurd (none_some k (sym y.made.last ∙ ap (λ (i : ℕ). events.last_of (events.session_of i g)) (sym y.made.id_told) ∙ is));
           known = tt;
-          queued = (served.queue_of g, refl);
+          queued = tt;
           beside = subst (λ (k : ℕ). Beside q r first id k (acts ++ log) h2 g) (sym y.made.id_told) (beside_on q r first id rid acts log h h2 g g (record {
             made = (hears_reply, y.made.beside.made);
             made_there = y.made.beside.made_there;

@@ -30,7 +30,6 @@ use Rattle.transcript.specs.Transcripts.{Negotiation}
 use Rattle.world_machine.specs.Happenings.Happening.{Told}
 use Rattle.world_machine.specs.World.{World, first_waiting, happens, requester_of, told, told_by, with_sent}
 use Rattle.spdm_progress.specs.InStep.{AreQuiet, rsp_id}
-use Rattle.spdm_progress.proofs.StillKept.{WaitMore}
 use Rattle.spdm_progress.proofs.Aside.{IsAside}
 use Rattle.spdm_progress.proofs.ManyPackets.{idle_waits, sent_waits}
 use Rattle.spdm_progress.proofs.PacketSteps.{asker}
@@ -113,7 +112,7 @@ pub record AsksOfSession (command : Command) : Type 0 where
 
 module _ (q : ReqSetup) (r : RspSetup) (first id : ℕ) (x : Asking) (Fit : Steps → Type 0) (command : Command) (one : AsksOfSession command) (log : Log) (h : asked.History) (g : served.History) (d : Draw) (pad : List ℕ)
     (quiet : AreQuiet q r first log h g) (live : steps.is_live (steps.session_of id h) ≡ true) (plain : stage_for x.ask ≡ stage.Open) (fit : Fit (steps.session_of id h)) (short : length (x.inner (steps.session_of id h)) + length pad ≤ 4134)
-    (asks : requester_asks false q h command d ≡ Adds (WasTold command (sent_for q h id x pad) d)) (known : (turns : List Turn) → x.before turns) (queued : WaitMore x.queue (served.queue_of g)) where
+    (asks : requester_asks false q h command d ≡ Adds (WasTold command (sent_for q h id x pad) d)) (known : (turns : List Turn) → x.before turns) (queued : x.there g) where
   abbrev s : Steps
   s = steps.session_of id h
 

@@ -1,5 +1,5 @@
 -- Each command that asks something of an open session comes to its result.
-use Rattle.std.proofs.Common.{◌≡◌, ◌⊎◌, ◌∙◌, ℕ, zero, suc, ◌<◌, ◌≤◌, ◌+◌, ◌-◌, ◌*◌, nat_le, List, [], ◌∷◌, length, Bool, true, false, Some, None, refl, sym, ap, subst, inl, inr, arith, append-nil}
+use Rattle.std.proofs.Common.{◌≡◌, ◌⊎◌, ◌∙◌, ℕ, zero, suc, ◌<◌, ◌≤◌, ◌+◌, ◌-◌, ◌*◌, nat_le, List, [], ◌∷◌, length, Bool, true, false, Some, None, refl, sym, ap, subst, inl, inr, arith, append-nil, append_assoc, ◌++◌}
 use Rattle.std.proofs.Math.Nat.{min-le_left}
 use Rattle.std.proofs.lemmas.Bool.{leb-false, leb-true, ltb-false, not-false}
 use Rattle.std.specs.Int.{div_ceil}
@@ -49,12 +49,13 @@ use Rattle.world_machine.specs.Trace.{lines_from, world_after, world_from}
 use Rattle.world_machine.specs.World.{World, WorldStep, entry_step, happens, pumps, requester_of, told_by}
 use Rattle.spdm_progress.specs.Honest.{AreHonest, HaveNoCommand, NothingWaits}
 use Rattle.spdm_progress.specs.InStep.{AreQuiet, rsp_id}
-use Rattle.spdm_progress.specs.SessionCommands.{AnswersWaitFirst, CanAsk, EndedAtBothEnds, IsDoneQuietly, IsGoneThere, IsTold, IsToldQuietly, SessionCommandsComplete, TookLast, commanding, goes_on, most_asked, most_packets, most_served, result_of, session_at}
-use Rattle.spdm_progress.proofs.StillKept.{WaitMore}
+use Rattle.spdm_progress.specs.SessionCommands.{AnswersAreQueued, AnswersWaitFirst, CanAsk, EndedAtBothEnds, IsDoneQuietly, IsGoneThere, IsTold, IsToldQuietly, OnlyWaits, SessionCommandsComplete, TookQueued, commanding, goes_on, most_asked, most_packets, most_served, result_of, session_at}
+use Rattle.responder_machine.specs.Does.{first_queued}
+use Rattle.responder_machine.specs.History.Entry.{Clear, Dropped, Queued, Sealed, Ticked}
 use Rattle.spdm_progress.proofs.AlikeSessions.{is_kept}
 use Rattle.spdm_progress.proofs.Accepted.{not_worn_told, told_so}
 use Rattle.spdm_progress.proofs.Aside.{IsAside, nothing_aside}
-use Rattle.spdm_progress.proofs.AskedOnce.{StandFirst, CanBeat, CanMeasure, CanSend, IsData, IsMeasured, IsNamed, IsSpdm, beat_asking, beat_last, data_asking, data_last, end_asking, end_last, measure_asking, measure_last}
+use Rattle.spdm_progress.proofs.AskedOnce.{CanBeat, CanMeasure, CanSend, IsData, IsMeasured, IsNamed, IsSpdm, beat_asking, beat_last, data_asking, data_last, end_asking, end_last, measure_asking, measure_last}
 use Rattle.spdm_progress.proofs.ManyPackets.{waits_idle}
 use Rattle.spdm_progress.proofs.PacketSteps.{Pair, asker, not_worn, server}
 use Rattle.spdm_progress.proofs.SessionBegins.{AsksOfSession, asked_now, sends, sent_for, shows_at, shows_told, told_is, told_view}
@@ -243,22 +244,18 @@ module _ (w : WorldSetup) (before : List Entry) (n : ℕ) (a : Requesting) (c : 
       pub live_so : steps.is_live (session_at a id) ≡ true
       live_so = somewhere a.setup a.history command (command_chosen a.setup a.history (asking.next_draw a)) id (told_so a command fresh quietly.accepted).0 named
 
-      pub is_asked : (Fit : Steps → Type 0) → Fit (session_at a id) → WaitMore x.queue (served.queue_of c.history) → IsAsked a.setup c.setup a.first id x Fit sent.tag (body_of sent.content) (told_view world a c command sent).log (told_view world a c command sent).asked c.history
+      pub is_asked : (Fit : Steps → Type 0) → Fit (session_at a id) → x.there c.history → IsAsked a.setup c.setup a.first id x Fit sent.tag (body_of sent.content) (told_view world a c command sent).log (told_view world a c command sent).asked c.history
       is_asked Fit fit queued =
           asked_now a.setup c.setup a.first id x Fit command one world.log a.history c.history (asking.next_draw a) (command_chosen a.setup a.history (asking.next_draw a)).pad quietly.quiet live_so plain fit (omega (arith, pad_short, small)) asks_so known queued
 
       -- It takes one round.
-      pub once_completes : (Fit : Steps → Type 0) (Good : Steps → Turn → Type 0) (result : Finished) → IsLast p one_key id x Fit Good (event.Done result) → Fit (session_at a id) → WaitMore x.queue (served.queue_of c.history)
+      pub once_completes : (Fit : Steps → Type 0) (Good : Steps → Turn → Type 0) (result : Finished) → IsLast p one_key id x Fit Good (event.Done result) → Fit (session_at a id) → x.there c.history
           → IsDoneQuietly n a.setup c.setup result id (is_kept x.ask) (world_from (commanding world line n command) behind) (lines_from (commanding world line n command) behind) × Idle world n a Aside (world_from (commanding world line n command) behind)
       once_completes Fit Good result last fit queued =
           completes_by (AsksOnce p one_key id x Fit Good (event.Done result)) (AnswersOnce p one_key id x Fit Good (event.Done result)) (Quiet p one_key id x Fit Good (event.Done result)) result id (is_kept x.ask) (λ log h g z. (z.quiet, z.session)) (once_talk p one_key id x Fit Good (event.Done result) last) 0 (omega arith) sent step_so
           (record { is = is_asked Fit fit queued })
 
 -- ---- Each command.
-
--- The data that wait at the responder.
-abbrev waiting : Connection → List (List ℕ)
-waiting c = served.queue_of c.history
 
 -- Such a command says nothing else of its session.
 of_session : (command : Command) → ((j : ℕ) (n : Negotiation) (sent : Sent) (s : Steps) → steps.after_command j n command sent s ≡ steps.with_sent j (Some sent) s) → asked.is_connect command ≡ false → AsksOfSession command
@@ -294,12 +291,12 @@ module _ (w : WorldSetup) (before : List Entry) (n : ℕ) (a : Requesting) (c : 
       let key = one_key w before n a c command o.told.now line behind none o.honest o.still o.chance Aside aside beside in
       let short = ltb-false 1024 (length bytes) (passed command o 8) in
       let sid = steps.session_id (session_at a id) in
-      once_completes w before n a c command o.told.now line behind none o.honest o.still o.chance Aside aside beside o.told id (data_asking (waiting c) bytes) (of_session command (λ j n sent s. refl) refl) refl refl (omega arith) (λ turns. tt) refl
-      (CanSend pair key id sid here.requester here.responder bytes) (IsData pair key id sid here.requester here.responder (waiting c)) (finished.Answered sid) (data_last pair key id sid here.requester here.responder (waiting c) bytes) (record { named = refl; short = short }) ([], sym (append-nil (waiting c)))
+      once_completes w before n a c command o.told.now line behind none o.honest o.still o.chance Aside aside beside o.told id (data_asking c.history bytes) (of_session command (λ j n sent s. refl) refl) refl refl (omega arith) (λ turns. tt) refl
+      (CanSend pair key id sid here.requester here.responder bytes) (IsData pair key id sid here.requester here.responder) (finished.Answered sid) (data_last pair key id sid here.requester here.responder c.history bytes) (record { named = refl; short = short }) ([], refl, tt)
 
-  -- What was taken is what waited first.
-  pub first_taken : (id : ℕ) (bytes : List ℕ) (first : List ℕ) (others : List (List ℕ)) → waiting c ≡ first ∷ others → IsOver (Send id bytes) → TookLast n first (world_from (After (Send id bytes)) behind)
-  first_taken id bytes first others waits o =
+  -- What was taken is what was first in the queue.
+  pub queued_taken : (id : ℕ) (bytes : List ℕ) → IsOver (Send id bytes) → TookQueued n a.setup c (world_from (After (Send id bytes)) behind)
+  queued_taken id bytes o =
       let command = Send id bytes in
       let here = placed w before n a c command o.told.now line behind none o.honest o.still o.chance Aside aside beside in
       let key = one_key w before n a c command o.told.now line behind none o.honest o.still o.chance Aside aside beside in
@@ -307,20 +304,26 @@ module _ (w : WorldSetup) (before : List Entry) (n : ℕ) (a : Requesting) (c : 
       let sid = steps.session_id (session_at a id) in
       let one = of_session command (λ j n sent s. refl) refl in
       let result = event.Done (finished.Answered sid) in
-      let asks : Stage = AsksOnce pair key id (data_asking (waiting c) bytes) (CanSend pair key id sid here.requester here.responder bytes) (IsData pair key id sid here.requester here.responder (waiting c)) result in
-      let answers : Stage = AnswersOnce pair key id (data_asking (waiting c) bytes) (CanSend pair key id sid here.requester here.responder bytes) (IsData pair key id sid here.requester here.responder (waiting c)) result in
-      let is_talk = once_talk pair key id (data_asking (waiting c) bytes) (CanSend pair key id sid here.requester here.responder bytes) (IsData pair key id sid here.requester here.responder (waiting c)) result (data_last pair key id sid here.requester here.responder (waiting c) bytes) in
-      let e = runs w before n a c command o.told.now line behind none o.honest o.still o.chance Aside aside beside wear_limit (all_lives w before n a c command o.told.now line behind none o.honest o.still o.chance Aside aside beside) o.told.now.life.requester o.told.now.life.responder asks answers (Quiet pair key id (data_asking (waiting c) bytes) (CanSend pair key id sid here.requester here.responder bytes) (IsData pair key id sid here.requester here.responder (waiting c)) result)
+      let asks : Stage = AsksOnce pair key id (data_asking c.history bytes) (CanSend pair key id sid here.requester here.responder bytes) (IsData pair key id sid here.requester here.responder) result in
+      let answers : Stage = AnswersOnce pair key id (data_asking c.history bytes) (CanSend pair key id sid here.requester here.responder bytes) (IsData pair key id sid here.requester here.responder) result in
+      let is_talk = once_talk pair key id (data_asking c.history bytes) (CanSend pair key id sid here.requester here.responder bytes) (IsData pair key id sid here.requester here.responder) result (data_last pair key id sid here.requester here.responder c.history bytes) in
+      let e = runs w before n a c command o.told.now line behind none o.honest o.still o.chance Aside aside beside wear_limit (all_lives w before n a c command o.told.now line behind none o.honest o.still o.chance Aside aside beside) o.told.now.life.requester o.told.now.life.responder asks answers (Quiet pair key id (data_asking c.history bytes) (CanSend pair key id sid here.requester here.responder bytes) (IsData pair key id sid here.requester here.responder) result)
       (finished.Answered sid) is_talk (λ more. 66) (λ more. 66)
-      (all_short pair asks answers (Quiet pair key id (data_asking (waiting c) bytes) (CanSend pair key id sid here.requester here.responder bytes) (IsData pair key id sid here.requester here.responder (waiting c)) result) result is_talk)
-      0 (three_few 0 (omega arith)) (sent_for a.setup a.history id (data_asking (waiting c) bytes) (command_chosen a.setup a.history (asking.next_draw a)).pad) (step_so w before n a c command o.told.now line behind none o.honest o.still o.chance Aside aside beside o.told id (data_asking (waiting c) bytes) one refl refl (omega arith) (λ turns. tt) refl)
-      (record { is = is_asked w before n a c command o.told.now line behind none o.honest o.still o.chance Aside aside beside o.told id (data_asking (waiting c) bytes) one refl refl (omega arith) (λ turns. tt) refl (CanSend pair key id sid here.requester here.responder bytes) (record { named = refl; short = short }) ([], sym (append-nil (waiting c))) }) in
+      (all_short pair asks answers (Quiet pair key id (data_asking c.history bytes) (CanSend pair key id sid here.requester here.responder bytes) (IsData pair key id sid here.requester here.responder) result) result is_talk)
+      0 (three_few 0 (omega arith)) (sent_for a.setup a.history id (data_asking c.history bytes) (command_chosen a.setup a.history (asking.next_draw a)).pad) (step_so w before n a c command o.told.now line behind none o.honest o.still o.chance Aside aside beside o.told id (data_asking c.history bytes) one refl refl (omega arith) (λ turns. tt) refl)
+      (record { is = is_asked w before n a c command o.told.now line behind none o.honest o.still o.chance Aside aside beside o.told id (data_asking c.history bytes) one refl refl (omega arith) (λ turns. tt) refl (CanSend pair key id sid here.requester here.responder bytes) (record { named = refl; short = short }) ([], refl, tt) }) in
       let brought = e.0.done.brought in
-      let found : StandFirst (first ∷ others) brought.turn.reply = subst (λ (queue : List (List ℕ)). StandFirst queue brought.turn.reply) waits brought.good.first in
+      let came = e.0.done.came in
       record {
         requester = asker pair e.0.view.given e.0.view.commands e.0.view.asked;
         is_requester = e.0.shows.is_requester;
-        taken = granted_data e.0.view.asked brought.turn.reply brought.newest ∙ found;
+        connection = server pair e.0.view.served;
+        is_connection = e.0.shows.is_connection;
+        until = came.until;
+        between = came.between;
+        entry = came.entry;
+        since = came.since;
+        taken = granted_data e.0.view.asked brought.turn.reply brought.newest ∙ came.knows;
       }
 
   sent_beat : (id : ℕ) → IsOver (Beat id) → Result (Beat id) id
@@ -331,7 +334,7 @@ module _ (w : WorldSetup) (before : List Entry) (n : ℕ) (a : Requesting) (c : 
       let sid = steps.session_id (session_at a id) in
       once_completes w before n a c command o.told.now line behind none o.honest o.still o.chance Aside aside beside o.told id beat_asking (of_session command (λ j n sent s. refl) refl) refl refl (omega arith) (λ turns. tt) refl
       (CanBeat pair key id sid here.requester here.responder) (IsSpdm pair key id sid here.requester here.responder (canonical_response HeartbeatAck)) (finished.Alive sid) (beat_last pair key id sid here.requester here.responder)
-      (record { named = refl; flag = not-false _ (passed command o 5) }) (served.queue_of c.history, refl)
+      (record { named = refl; flag = not-false _ (passed command o 5) }) tt
 
   sent_end : (id : ℕ) → IsOver (End id) → Result (End id) id
   sent_end id o =
@@ -340,7 +343,7 @@ module _ (w : WorldSetup) (before : List Entry) (n : ℕ) (a : Requesting) (c : 
       let key = one_key w before n a c command o.told.now line behind none o.honest o.still o.chance Aside aside beside in
       let sid = steps.session_id (session_at a id) in
       once_completes w before n a c command o.told.now line behind none o.honest o.still o.chance Aside aside beside o.told id end_asking (of_session command (λ j n sent s. refl) refl) refl refl (omega arith) (λ turns. tt) refl
-      (IsNamed pair key id sid here.requester here.responder) (IsSpdm pair key id sid here.requester here.responder (canonical_response EndSessionAck)) (finished.Ended sid) (end_last pair key id sid here.requester here.responder) (record { named = refl }) (served.queue_of c.history, refl)
+      (IsNamed pair key id sid here.requester here.responder) (IsSpdm pair key id sid here.requester here.responder (canonical_response EndSessionAck)) (finished.Ended sid) (end_last pair key id sid here.requester here.responder) (record { named = refl }) tt
 
   -- And the responder holds it no more.
   pub gone_there : (id : ℕ) → IsOver (End id) → IsGoneThere a.setup (rsp_id (session_at a id)) (world_from (After (End id)) behind)
@@ -358,7 +361,7 @@ module _ (w : WorldSetup) (before : List Entry) (n : ℕ) (a : Requesting) (c : 
       (finished.Ended sid) is_talk (λ more. 66) (λ more. 66)
       (all_short pair asks answers (Quiet pair key id end_asking (IsNamed pair key id sid here.requester here.responder) (IsSpdm pair key id sid here.requester here.responder (canonical_response EndSessionAck)) result) result is_talk)
       0 (three_few 0 (omega arith)) (sent_for a.setup a.history id end_asking (command_chosen a.setup a.history (asking.next_draw a)).pad) (step_so w before n a c command o.told.now line behind none o.honest o.still o.chance Aside aside beside o.told id end_asking one refl refl (omega arith) (λ turns. tt) refl)
-      (record { is = is_asked w before n a c command o.told.now line behind none o.honest o.still o.chance Aside aside beside o.told id end_asking one refl refl (omega arith) (λ turns. tt) refl (IsNamed pair key id sid here.requester here.responder) (record { named = refl }) (served.queue_of c.history, refl) }) in
+      (record { is = is_asked w before n a c command o.told.now line behind none o.honest o.still o.chance Aside aside beside o.told id end_asking one refl refl (omega arith) (λ turns. tt) refl (IsNamed pair key id sid here.requester here.responder) (record { named = refl }) tt }) in
       record {
         connection = server pair e.0.view.served;
         is_connection = e.0.shows.is_connection;
@@ -394,7 +397,7 @@ module _ (w : WorldSetup) (before : List Entry) (n : ℕ) (a : Requesting) (c : 
     measured_whole fits =
         once_completes w before n a c measuring o.told.now line behind none o.honest o.still o.chance Aside aside beside o.told id (measure_asking op) (of_session measuring (λ j n sent s. refl) refl) refl refl (omega arith) (λ turns. tt) refl
         (CanMeasure pair key id sid here.requester here.responder op) (IsMeasured pair key id sid here.requester here.responder op) (finished.Measured (number_for c.setup op)) (measure_last pair key id sid here.requester here.responder op)
-        (record { byte = can.0; block = can.1; chosen = measure_chosen; fits = fits; fits_own = subst (λ (size : ℕ). measurements_size c.setup op ≤ size) sizes.transfer fits }) (served.queue_of c.history, refl)
+        (record { byte = can.0; block = can.1; chosen = measure_chosen; fits = fits; fits_own = subst (λ (size : ℕ). measurements_size c.setup op ≤ size) sizes.transfer fits }) tt
 
     -- The answer goes by chunks.
     module _ (large : (steps.session_terms (session_at a id)).common.to_requester.transfer < measurements_size c.setup op) where
@@ -451,7 +454,7 @@ module _ (w : WorldSetup) (before : List Entry) (n : ℕ) (a : Requesting) (c : 
           (inl (record {
             more_is = refl;
             few = one_packet;
-            is = is_asked w before n a c measuring o.told.now line behind none o.honest o.still o.chance Aside aside beside o.told id x one refl refl (omega arith) (λ turns. tt) refl (IsUnder pair id op under goes) refl (served.queue_of c.history, refl);
+            is = is_asked w before n a c measuring o.told.now line behind none o.honest o.still o.chance Aside aside beside o.told id x one refl refl (omega arith) (λ turns. tt) refl (IsUnder pair id op under goes) refl tt;
           }))
 
     -- ---- The record that is taken.
@@ -476,7 +479,7 @@ module _ (w : WorldSetup) (before : List Entry) (n : ℕ) (a : Requesting) (c : 
         0 (three_few 0 (omega arith)) (sent_for a.setup a.history id (measure_asking op) (command_chosen a.setup a.history (asking.next_draw a)).pad) (step_so w before n a c measuring o.told.now line behind none o.honest o.still o.chance Aside aside beside o.told id (measure_asking op) one refl refl (omega arith) (λ turns. tt) refl)
         (record {
           is = is_asked w before n a c measuring o.told.now line behind none o.honest o.still o.chance Aside aside beside o.told id (measure_asking op) one refl refl (omega arith) (λ turns. tt) refl (CanMeasure pair key id sid here.requester here.responder op)
-              (record { byte = can.0; block = can.1; chosen = measure_chosen; fits = fits; fits_own = own }) (served.queue_of c.history, refl);
+              (record { byte = can.0; block = can.1; chosen = measure_chosen; fits = fits; fits_own = own }) tt;
         }) in
         let brought = e.0.done.brought in
         let good = brought.good in
@@ -500,7 +503,7 @@ module _ (w : WorldSetup) (before : List Entry) (n : ℕ) (a : Requesting) (c : 
         (inl (record {
           more_is = refl;
           few = one_packet large;
-          is = is_asked w before n a c measuring o.told.now line behind none o.honest o.still o.chance Aside aside beside o.told id (x large) one refl refl (omega arith) (λ turns. tt) refl (IsUnder pair id op under gone) refl (served.queue_of c.history, refl);
+          is = is_asked w before n a c measuring o.told.now line behind none o.honest o.still o.chance Aside aside beside o.told id (x large) one refl refl (omega arith) (λ turns. tt) refl (IsUnder pair id op under gone) refl tt;
         })) in
         record {
           told = contained (lines_from (After measuring) behind) _ e.1;
@@ -536,7 +539,7 @@ module _ (w : WorldSetup) (before : List Entry) (n : ℕ) (a : Requesting) (c : 
       (inl (
         refl,
         is_asked w before n a c command o.told.now line behind none o.honest o.still o.chance Aside aside beside o.told id (update_asking all) one refl refl (omega arith) (λ turns. tt) refl (CanUpdate pair key id sid here.requester here.responder all)
-            (record { named = refl; flag = not-false _ (passed command o 5) }) (served.queue_of c.history, refl),
+            (record { named = refl; flag = not-false _ (passed command o 5) }) tt,
       ))
 
   pub each : (command : Command) (id : ℕ) → CanAsk a c command → session_in command ≡ Some id → IsOver command → Result command id
@@ -556,5 +559,24 @@ session_commands_complete w before n a c command id told can named line behind n
 pub ended_at_both_ends : EndedAtBothEnds
 ended_at_both_ends w before n a c id told line behind none honest still chance = gone_there w before n a c line behind none (λ later. Unit {0}) (nothing_aside (pair_of n a c)) tt id (record { told = told; honest = honest; still = inl still; chance = chance })
 
+pub answers_are_queued : AnswersAreQueued
+answers_are_queued w before n a c id bytes told line behind none honest still chance = queued_taken w before n a c line behind none (λ later. Unit {0}) (nothing_aside (pair_of n a c)) tt id bytes (record { told = told; honest = honest; still = inl still; chance = chance })
+
+-- Data that waited stay in front.
+more_behind : (entries : List served.Entry) (h : served.History) → OnlyWaits entries → (more : List (List ℕ)) × (served.queue_of (entries ++ h) ≡ served.queue_of h ++ more)
+more_behind [] h only = ([], sym (append-nil (served.queue_of h)))
+more_behind (Queued bytes ∷ entries) h only = (let x = more_behind entries h only in (x.0 ++ bytes ∷ [], ap (λ (q : List (List ℕ)). q ++ bytes ∷ []) x.1 ∙ append_assoc (served.queue_of h) x.0 (bytes ∷ [])))
+more_behind (Ticked seconds ∷ entries) h only = more_behind entries h only
+more_behind (Clear tag t d ∷ entries) h only = absurd only
+more_behind (Sealed tag m t reply d ∷ entries) h only = absurd only
+more_behind (Dropped id ∷ entries) h only = absurd only
+
 pub answers_wait_first : AnswersWaitFirst
-answers_wait_first w before n a c id bytes told first others waits line behind none honest still chance = first_taken w before n a c line behind none (λ later. Unit {0}) (nothing_aside (pair_of n a c)) tt id bytes first others waits (record { told = told; honest = honest; still = inl still; chance = chance })
+answers_wait_first w before n a c id bytes told first others waits line behind none honest still chance =
+    let x = answers_are_queued w before n a c id bytes told line behind none honest still chance in
+    let more = more_behind x.between.0 c.history x.between.2 in
+    record {
+      requester = x.requester;
+      is_requester = x.is_requester;
+      taken = x.taken ∙ ap first_queued (ap served.queue_of x.between.1 ∙ more.1 ∙ ap (λ (q : List (List ℕ)). q ++ more.0) waits);
+    }

@@ -208,7 +208,7 @@ module _ (p : Pair) (same_key : p.requester.psk ≡ p.responder.psk) (id op : �
           (Further next fewer.0 (sym fewer.1) refl (inr (record {
             which = which;
             few = omega (arith, long);
-            is = further.asked_then q r p.first id first_asking x Under Under Large tag log h g d body z event.Progress leads refl z.fit z.at (omega arith) known (served.queue_of g, refl);
+            is = further.asked_then q r p.first id first_asking x Under Under Large tag log h g d body z event.Progress leads refl z.fit z.at (omega arith) known tt;
           })))
 
     module _ (y : ChunkAnswered more tag body log h g) where
@@ -288,7 +288,7 @@ module _ (p : Pair) (same_key : p.requester.psk ≡ p.responder.psk) (id op : �
             (Further next fewer (sym one) refl (inr (record {
               which = next_which fewer one;
               few = omega (arith, long);
-              is = further.asked_then q r p.first id x x' Under Under (Chunk more y.which) tag log h g d body z event.Progress next_so refl z.fit at_end (omega arith) known (served.queue_of g, refl);
+              is = further.asked_then q r p.first id x x' Under Under (Chunk more y.which) tag log h g d body z event.Progress next_so refl z.fit at_end (omega arith) known tt;
             })))
 
       chunk_heard : (b : Bool) → ends ≡ b → LeadsTo (requester_hears q h false tag body d)

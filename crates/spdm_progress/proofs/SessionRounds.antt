@@ -1,6 +1,6 @@
 -- A round in a session: a record that asks something of it is on its way to the responder, and then the record that
 -- answers it is on its way back.
-use Rattle.std.proofs.Common.{◌≡◌, ◌==◌, ◌≢◌, ◌∙◌, ℕ, ◌<◌, ◌≤◌, ◌+◌, List, [], ◌∷◌, ◌++◌, length, Bool, true, false, Option, Some, None, Result, Ok, Contains, refl, sym, ap, subst, inl, inr, arith, eq-eqb, append_assoc}
+use Rattle.std.proofs.Common.{◌≡◌, ◌==◌, ◌≢◌, ◌∙◌, ℕ, ◌<◌, ◌≤◌, ◌+◌, List, [], ◌∷◌, ◌++◌, length, Bool, true, false, Option, Some, None, Result, Ok, Contains, refl, sym, ap, subst, inl, inr, arith, eq-eqb}
 use Rattle.std.specs.Prelude.{if◌then◌else◌}
 use Rattle.std.proofs.lemmas.Bool.{false≢true, ne_eqb}
 use Rattle.std.proofs.lemmas.List.Elements.{Contains-append_left, Contains-append_right, Contains-push}
@@ -53,26 +53,29 @@ use Rattle.responder_machine.specs.Turn.{Effect as TurnEffect, Turn, code_in, ta
 use Rattle.spdm_grammar.specs.declared.names.request_code.TheConstants.{END_SESSION}
 use Rattle.world_machine.specs.Chance.{NoChance}
 use Rattle.spdm_progress.specs.InStep.{AreInStep, AreQuiet, AreResting, WasSealed, rsp_id}
+use Rattle.spdm_progress.specs.SessionCommands.{OnlyWaited}
 use Rattle.spdm_progress.proofs.AlikeSessions.{IsAnswerTo, IsFetched, MayBring, behind, is_kept, still_in_step}
 use Rattle.spdm_progress.proofs.ManyPackets.{IsBody}
 use Rattle.spdm_progress.proofs.RecordHeard.{asking_in, came_as, heard}
 use Rattle.spdm_progress.proofs.RecordRounds.{Beside, KeepsBeside, beside_on, earlier_on, last_waited, live_waited, moves_so, quiet_from, turns_waited}
 use Rattle.spdm_progress.proofs.RecordServed.{served as taken}
 use Rattle.spdm_progress.proofs.RecordsBetween.{names_session, no_copy, opens, record_length, tag_is}
-use Rattle.spdm_progress.proofs.StillKept.{AreAlike, WaitMore}
+use Rattle.spdm_progress.proofs.StillKept.{AreAlike, only_further}
 use Rattle.spdm_progress.proofs.Talk.{IsSendable}
 use Rattle.spdm_progress.proofs.RecordStages.{answer_count, answer_under, awaited_under, live_heard, no_pad, not_end, opens_there, replies_so, sealed_elsewhere, sealed_here, updates_all}
 
 -- What is asked of a session: the ask and its inner message, by the session as it stands; what its answer brings about at
--- the requester, by the turn that answered; what is known of the turns before it at the responder; and data that wait
--- there in front.
+-- the requester, by the turn that answered; what is known of the turns before it at the responder, and of its
+-- connection.
 pub record Asking : Type 1 where
   pub ask : Ask
   pub inner : Steps → List ℕ
   pub brings : Turn → asked.Effect
   pub may : (t : Turn) → MayBring ask t.reply (brings t)
   pub before : List Turn → Type 0
-  pub queue : List (List ℕ)
+  pub there : served.History → Type 0
+  pub there_on : (r : RspSetup) (g later : served.History) → AreAlike r g later → there g → there later
+  pub knows : served.History → Turn → Type 0
 
 module _ (q : ReqSetup) (r : RspSetup) (first id : ℕ) (x : Asking) where
   abbrev pub sealed_for : Steps → List ℕ → List ℕ
@@ -110,7 +113,7 @@ module _ (q : ReqSetup) (r : RspSetup) (first id : ℕ) (x : Asking) where
     pub log_is : log ≡ made_for s pad older
     pub last : (k : KeptRecord) → events.last_of (events.session_of (rsp_id s) g) ≡ Some k → WasSealed q.psk older s k.sealed
     pub known : x.before (events.turns_of (events.session_of (rsp_id s) g))
-    pub queued : WaitMore x.queue (served.queue_of g)
+    pub queued : x.there g
     pub beside : Beside q r first id (rsp_id s) log h g
 
   -- The turn is the newest of these, behind some of which this was known.
@@ -118,6 +121,17 @@ module _ (q : ReqSetup) (r : RspSetup) (first id : ℕ) (x : Asking) where
     pub earlier : List Turn
     pub is : turns ≡ t ∷ earlier
     pub known : x.before earlier
+
+  -- The record of this turn was the last that came to the connection, behind this history.
+  pub record CameThere (t : Turn) (g : served.History) : Type 0 where
+    pub until : served.History
+    pub between : x.there until
+    pub knows : x.knows until t
+    pub entry : served.Entry
+    pub since : OnlyWaited (entry ∷ until) g
+
+  pub came_still : (t : Turn) (g later : served.History) → AreAlike r g later → CameThere t g → CameThere t later
+  came_still t g later alike y = record { until = y.until; between = y.between; knows = y.knows; entry = y.entry; since = only_further (y.entry ∷ y.until) g later alike.between y.since }
 
   -- Its answer is on its way: a turn of which this is known.
   pub record IsAnswered (Fit : Steps → Type 0) (Good : Steps → Turn → Type 0) (tag : ℕ) (body : List ℕ) (log : Log) (h : asked.History) (g : served.History) : Type 0 where
@@ -139,6 +153,7 @@ module _ (q : ReqSetup) (r : RspSetup) (first id : ℕ) (x : Asking) where
     pub last : is_kept x.ask ≡ true → (k : KeptRecord) → events.last_of (events.session_of (rsp_id s) g) ≡ Some k → k.sealed ≡ sealed_for s pad
     pub newest : is_kept x.ask ≡ true → IsNewest t (events.turns_of (events.session_of (rsp_id s) g))
     pub gone : is_kept x.ask ≡ false → events.is_live (events.session_of (rsp_id s) g) ≡ false
+    pub came : CameThere t g
     pub made : Contains log (Made (request_purpose q.psk s) (record_input (steps.request_next s) (sealed_for s pad)) (tag_part (sealed_for s pad)))
     pub beside : Beside q r first id (rsp_id s) log h g
 
@@ -196,7 +211,7 @@ module _ (q : ReqSetup) (r : RspSetup) (first id : ℕ) (x : Asking) where
     log_is = y.log_is;
     last = λ k is. y.last k (sym (last_waited _ _ (alike.sessions (rsp_id y.s))) ∙ is);
     known = subst x.before (sym (turns_waited _ _ (alike.sessions (rsp_id y.s)))) y.known;
-    queued = (y.queued.0 ++ alike.queue.0, alike.queue.1 ∙ ap (λ (l : List (List ℕ)). l ++ alike.queue.0) y.queued.1 ∙ append_assoc x.queue y.queued.0 alike.queue.0);
+    queued = x.there_on r g later alike y.queued;
     beside = still_beside log h g later (rsp_id y.s) alike y.beside;
   }
 
@@ -220,6 +235,7 @@ module _ (q : ReqSetup) (r : RspSetup) (first id : ℕ) (x : Asking) where
     last = λ kept k is. y.last kept k (sym (last_waited _ _ (alike.sessions (rsp_id y.s))) ∙ is);
     newest = λ kept. subst (IsNewest y.t) (sym (turns_waited _ _ (alike.sessions (rsp_id y.s)))) (y.newest kept);
     gone = λ ends. live_waited _ _ (alike.sessions (rsp_id y.s)) ∙ y.gone ends;
+    came = came_still y.t g later alike y.came;
     made = y.made;
     beside = still_beside log h g later (rsp_id y.s) alike y.beside;
   }
@@ -228,8 +244,9 @@ module _ (q : ReqSetup) (r : RspSetup) (first id : ℕ) (x : Asking) where
 
   -- What the responder makes of the record: a turn that answers it, of which this is known.
   pub record AreAnswered (Fit : Steps → Type 0) (Good : Steps → Turn → Type 0) : Type 0 where
-    pub turns : (g : served.History) (s : Steps) (e : Events) (f : Free) (sealed : List ℕ) (d : Draw) → Fit s → steps.stage_of s ≡ stage_for x.ask → AreInStep s e → serving_does.IsMade r g → length d.bytes ≡ 32 → events.session_of (id_in_record sealed) g ≡ e → f ≡ record_chosen r g sealed d → x.before (events.turns_of e) → WaitMore x.queue (served.queue_of g)
+    pub turns : (g : served.History) (s : Steps) (e : Events) (f : Free) (sealed : List ℕ) (d : Draw) → Fit s → steps.stage_of s ≡ stage_for x.ask → AreInStep s e → serving_does.IsMade r g → length d.bytes ≡ 32 → events.session_of (id_in_record sealed) g ≡ e → f ≡ record_chosen r g sealed d → x.before (events.turns_of e) → x.there g
         → IsAnswerTo x.ask (x.inner s) (session_turn r e (x.inner s) f) × Good s (session_turn r e (x.inner s) f) × (length (session_turn r e (x.inner s) f).reply ≤ 4133)
+    pub there : (g : served.History) (s : Steps) (e : Events) (f : Free) (sealed : List ℕ) (d : Draw) → Fit s → steps.stage_of s ≡ stage_for x.ask → AreInStep s e → f ≡ record_chosen r g sealed d → x.knows g (session_turn r e (x.inner s) f)
 
   names : (s : Steps) (pad : List ℕ) → rsp_id s < 65536 → id_in_record (sealed_for s pad) ≡ rsp_id s
   unfolding sealed_next
@@ -367,6 +384,7 @@ module _ (q : ReqSetup) (r : RspSetup) (first id : ℕ) (x : Asking) where
             last = λ kept k is. sym (ap (λ (z : KeptRecord). z.sealed) (some_same _ k (sym (ap events.last_of (heard_is kept)) ∙ is)));
             newest = λ kept. record { earlier = events.turns_of e; is = ap events.turns_of (heard_is kept); known = y.known };
             gone = λ ends. ap events.is_live (session_new ∙ ap (λ (b : Bool). if b then [] else events.when_live e (Heard sealed t (answer_for s t))) (is_end x.ask (x.inner s) t ends a.0));
+            came = record { until = g; between = y.queued; knows = answers.there g s e f sealed d y.fit y.at y.in_step refl; entry = WasSealedThere tag sealed t (answer_for s t) d; since = ([], refl, tt) };
             made = own_made acts;
             beside = beside_on q r first id (rsp_id s) acts log h h g new keeps_beside y.beside;
           }

@@ -25,7 +25,7 @@ use Rattle.spdm_progress.proofs.MeasureStages.{newest_in}
 use Rattle.spdm_progress.proofs.PacketSteps.{Pair}
 use Rattle.spdm_progress.proofs.RecordHeard.{came_as}
 use Rattle.spdm_progress.proofs.RecordRounds.{live_waited, quiet_still}
-use Rattle.spdm_progress.proofs.SessionRounds.{AreAnswered, Asking, IsAnswered, IsAsked, answer_for, answered_sent, answered_still, asked_sent, asked_steps, asked_still, entry, held_then, hears_so, live_then, quiet_gone, quiet_then, serves_so, took_steps}
+use Rattle.spdm_progress.proofs.SessionRounds.{AreAnswered, Asking, CameThere, IsAnswered, IsAsked, answer_for, answered_sent, answered_still, asked_sent, asked_steps, asked_still, came_still, entry, held_then, hears_so, live_then, quiet_gone, quiet_then, serves_so, took_steps}
 use Rattle.spdm_progress.proofs.Talk.{IsTalk, Leads, Over}
 
 module _ (p : Pair) (same_key : p.requester.psk ≡ p.responder.psk) (id : ℕ) (x : Asking) (Fit : Steps → Type 0) (Good : Steps → Turn → Type 0) (told : Event) where
@@ -50,6 +50,7 @@ module _ (p : Pair) (same_key : p.requester.psk ≡ p.responder.psk) (id : ℕ) 
     pub session : steps.is_live (steps.session_of id h) ≡ is_kept x.ask
     pub brought : HasBrought h
     pub there : events.is_live (events.session_of (rsp_id brought.before) g) ≡ is_kept x.ask
+    pub came : CameThere p.requester p.responder p.first id x brought.turn g
 
   -- The responder's answer is the one that the command waits for, and behind it the session is open or ended.
   pub record IsLast : Type 0 where
@@ -76,6 +77,7 @@ module _ (p : Pair) (same_key : p.requester.psk ≡ p.responder.psk) (id : ℕ) 
         session = live_then p.requester p.responder p.first id x Fit Good tag log h g d body z.is told None (last.leads h d z.is.s z.is.pad z.is.t z.is.fit z.is.good z.is.steps_are) (is_kept x.ask) refl refl;
         brought = record { before = z.is.s; turn = z.is.t; fit = z.is.fit; good = z.is.good; newest = refl };
         there = held_then p.requester p.responder p.first id x Fit Good tag body log h g z.is (is_kept x.ask) refl;
+        came = z.is.came;
       }))
 
   pub once_talk : IsLast → IsTalk p AsksOnce AnswersOnce Quiet told
@@ -86,5 +88,5 @@ module _ (p : Pair) (same_key : p.requester.psk ≡ p.responder.psk) (id : ℕ) 
     hears = λ more tag body log h g d chance z. once_heard last more tag body log h g d z;
     asks_still = λ more tag body log h g later alike z. record { is = asked_still p.requester p.responder p.first id x Fit tag body log h g later alike z.is };
     answers_still = λ more tag body log h g later alike z. record { is = answered_still p.requester p.responder p.first id x Fit Good tag body log h g later alike z.is };
-    done_still = λ log h g later alike z. record { quiet = quiet_still p.requester p.responder p.first log h g later alike z.quiet; session = z.session; brought = z.brought; there = live_waited _ _ (alike.sessions (rsp_id z.brought.before)) ∙ z.there };
+    done_still = λ log h g later alike z. record { quiet = quiet_still p.requester p.responder p.first log h g later alike z.quiet; session = z.session; brought = z.brought; there = live_waited _ _ (alike.sessions (rsp_id z.brought.before)) ∙ z.there; came = came_still p.requester p.responder p.first id x z.brought.turn g later alike z.came };
   }

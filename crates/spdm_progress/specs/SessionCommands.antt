@@ -1,6 +1,6 @@
 -- What is asked of an open session where its messages are delivered honestly: each command comes to
 -- its result. This project's own.
-use Rattle.std.specs.Prelude.{◌≡◌, ◌<◌, ◌≤◌, ◌+◌, ◌∷◌, ℕ, List, length, Bool, true, false, Some, None, Contains}
+use Rattle.std.specs.Prelude.{◌≡◌, ◌<◌, ◌≤◌, ◌+◌, ◌∷◌, ◌++◌, ℕ, List, [], length, Bool, true, false, Some, None, Contains}
 use Rattle.measurements.specs.Records.{is_missing}
 use Rattle.requester_machine.specs.Message.{Command}
 use Rattle.requester_machine.specs.Message.Command.{Beat, Connect, End, Measure, Open, Retry, Send, Update}
@@ -10,7 +10,9 @@ use Rattle.requester_machine.specs.Session.{Steps, is_live, session_id, session_
 use Rattle.requester_machine.specs.Setup.{ReqSetup}
 use Rattle.responder_machine.specs.Responding.{Connection, Responding, connection_of}
 use Rattle.requester_machine.specs.Shown.{last_data}
+use Rattle.responder_machine.specs.Does.{first_queued}
 use Rattle.responder_machine.specs.History as served
+use Rattle.responder_machine.specs.History.Entry.{Queued, Ticked}
 use Rattle.responder_machine.specs.Session as serving
 use Rattle.responder_machine.specs.Setup.{RspSetup, inventory_of}
 use Rattle.spdm_agreement.specs.Configured.{IsConfigured}
@@ -161,14 +163,51 @@ EndedAtBothEnds =
     → IsGoneThere a.setup (rsp_id (session_at a id))
     (world_from (commanding (world_after w before) line n (End id)) behind)
 
+-- Queued data and time alone.
+abbrev pub OnlyWaits : List served.Entry → Type 0
+OnlyWaits [] = Unit {0}
+OnlyWaits (Queued bytes ∷ entries) = OnlyWaits entries
+OnlyWaits (Ticked seconds ∷ entries) = OnlyWaits entries
+OnlyWaits (_ ∷ entries) = ⊥
+
+-- Nothing else came to a connection between these two histories.
+abbrev pub OnlyWaited : (before now : served.History) → Type 0
+OnlyWaited before now =
+    (entries : List served.Entry) × (now ≡ entries ++ before) × OnlyWaits entries
+
+-- One record came to the connection of a requester since, and beside it nothing but queued data and
+-- time. What requester n took last is what was first in the queue before that record: the first
+-- data that waited, and no bytes where none did.
+pub record TookQueued (n : ℕ) (q : ReqSetup) (c : Connection) (world : World) : Type 0 where
+  pub requester : Requesting
+  pub is_requester : requester_of n world ≡ Some requester
+  pub connection : Connection
+  pub is_connection : connection_of q.eid world.responder.connections ≡ Some connection
+  pub until : served.History
+  pub between : OnlyWaited c.history until
+  pub entry : served.Entry
+  pub since : OnlyWaited (entry ∷ until) connection.history
+  pub taken : last_data requester.history ≡ first_queued (served.queue_of until)
+
+-- So it is behind a send among them.
+abbrev pub AnswersAreQueued : Type 0
+AnswersAreQueued =
+    (w : WorldSetup) (before : List Entry) (n : ℕ) (a : Requesting) (c : Connection) (id : ℕ)
+    (bytes : List ℕ) → IsToldQuietly w before n a c (Send id bytes)
+    → (line : ℕ) (behind : List Entry) → HaveNoCommand behind
+    → AreHonest (commanding (world_after w before) line n (Send id bytes)) behind
+    → NothingWaits (world_from (commanding (world_after w before) line n (Send id bytes)) behind)
+    → NoChance (world_from (commanding (world_after w before) line n (Send id bytes)) behind).log
+    → TookQueued n a.setup c
+    (world_from (commanding (world_after w before) line n (Send id bytes)) behind)
+
 -- Requester n took these data last.
 pub record TookLast (n : ℕ) (bytes : List ℕ) (world : World) : Type 0 where
   pub requester : Requesting
   pub is_requester : requester_of n world ≡ Some requester
   pub taken : last_data requester.history ≡ bytes
 
--- Behind a send among them, where data waited at the responder when it was told, the requester took
--- the first of them.
+-- Where data waited already when it was told, these are the first of them.
 abbrev pub AnswersWaitFirst : Type 0
 AnswersWaitFirst =
     (w : WorldSetup) (before : List Entry) (n : ℕ) (a : Requesting) (c : Connection) (id : ℕ)

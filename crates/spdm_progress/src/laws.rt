@@ -18,6 +18,7 @@ ghost use Rattle.spdm_progress.specs.Scripts.{
   QuietWorldsComplete,
 };
 ghost use Rattle.spdm_progress.specs.SessionCommands.{
+  AnswersAreQueued,
   AnswersWaitFirst,
   EndedAtBothEnds,
   SessionCommandsComplete,
@@ -75,8 +76,13 @@ pub fn session_commands_complete()
     ensures { SessionCommandsComplete }
 {}
 
-/// Behind a send among them, where data waited at the responder when it was told, the requester
-/// took the first of them.
+/// Behind a send among them, one record came to the responder, and what the requester took is what
+/// was first in the queue before it: the first data that waited, and no bytes where none did.
+pub fn answers_are_queued()
+    ensures { AnswersAreQueued }
+{}
+
+/// Where data waited already when it was told, these are the first of them.
 pub fn answers_wait_first()
     ensures { AnswersWaitFirst }
 {}
