@@ -35,6 +35,7 @@ use Rattle.spdm_grammar.specs.declared.event.Event.TheVariants as event
 use Rattle.spdm_grammar.specs.declared.event.Finished.TheVariants as finished
 use Rattle.spdm_machine.specs.Keys.{Draw}
 use Rattle.spdm_machine.specs.Terms.{Terms, hash_len}
+use Rattle.responder_machine.specs.Turn.Effect.{TookData}
 use Rattle.spdm_progress.specs.Measuring.{measurements_size, number_for}
 use Rattle.spdm_progress.specs.SessionCommands.{OnlyWaited}
 use Rattle.spdm_progress.proofs.StillKept.{only_further}
@@ -57,7 +58,7 @@ data_asking begun bytes = record {
   before = λ turns. Unit {0};
   there = λ g. OnlyWaited begun g;
   there_on = λ r g later alike z. only_further begun g later alike.between z;
-  knows = λ g t. t.reply ≡ first_queued (served.queue_of g);
+  knows = λ g t. (t.effect ≡ TookData bytes (first_queued (served.queue_of g))) × (t.reply ≡ first_queued (served.queue_of g));
 }
 
 chosen_first : (r : RspSetup) (g : served.History) (sealed : List ℕ) (d : Draw) → (record_chosen r g sealed d).reply ≡ first_queued (served.queue_of g)
@@ -183,7 +184,8 @@ module _ (p : Pair) (same_key : p.requester.psk ≡ p.responder.psk) (id : ℕ) 
   data_answered : (begun : served.History) (bytes : List ℕ) → AreAnswered p.requester r p.first id (data_asking begun bytes) (CanSend bytes) IsData
   data_answered begun bytes = record {
     there = λ g s e f sealed d fit at k is.
-        subst (λ (t : Turn). t.reply ≡ first_queued (served.queue_of g)) (sym (data_turn_in r e bytes f (sym k.stage ∙ at) fit.short)) (ap (λ (z : Free). z.reply) is ∙ chosen_first r g sealed d);
+        let first : f.reply ≡ first_queued (served.queue_of g) = ap (λ (z : Free). z.reply) is ∙ chosen_first r g sealed d in
+        subst (λ (t : Turn). (t.effect ≡ TookData bytes (first_queued (served.queue_of g))) × (t.reply ≡ first_queued (served.queue_of g))) (sym (data_turn_in r e bytes f (sym k.stage ∙ at) fit.short)) (ap (TookData bytes) first, first);
     turns = λ g s e f sealed d fit at k made drawn here is known queued.
         let short : length f.reply ≤ 1024 = subst (λ (z : Free). length z.reply ≤ 1024) (sym is) (chosen_short r g sealed d made) in
         subst (IsGood (data_asking begun bytes) IsData s) (sym (data_turn_in r e bytes f (sym k.stage ∙ at) fit.short)) (refl, record { inner = refl; short = short }, (omega arith));

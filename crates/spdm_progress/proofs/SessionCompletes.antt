@@ -295,7 +295,7 @@ module _ (w : WorldSetup) (before : List Entry) (n : ℕ) (a : Requesting) (c : 
       (CanSend pair key id sid here.requester here.responder bytes) (IsData pair key id sid here.requester here.responder) (finished.Answered sid) (data_last pair key id sid here.requester here.responder c.history bytes) (record { named = refl; short = short }) ([], refl, tt)
 
   -- What was taken is what was first in the queue.
-  pub queued_taken : (id : ℕ) (bytes : List ℕ) → IsOver (Send id bytes) → TookQueued n a.setup c (world_from (After (Send id bytes)) behind)
+  pub queued_taken : (id : ℕ) (bytes : List ℕ) → IsOver (Send id bytes) → TookQueued n a.setup c bytes (world_from (After (Send id bytes)) behind)
   queued_taken id bytes o =
       let command = Send id bytes in
       let here = placed w before n a c command o.told.now line behind none o.honest o.still o.chance Aside aside beside in
@@ -321,9 +321,14 @@ module _ (w : WorldSetup) (before : List Entry) (n : ℕ) (a : Requesting) (c : 
         is_connection = e.0.shows.is_connection;
         until = came.until;
         between = came.between;
-        entry = came.entry;
+        tag = came.tag;
+        sealed = came.sealed;
+        turn = brought.turn;
+        reply = came.reply;
+        draw = came.draw;
         since = came.since;
-        taken = granted_data e.0.view.asked brought.turn.reply brought.newest ∙ came.knows;
+        brought = came.knows.0;
+        taken = granted_data e.0.view.asked brought.turn.reply brought.newest ∙ came.knows.1;
       }
 
   sent_beat : (id : ℕ) → IsOver (Beat id) → Result (Beat id) id

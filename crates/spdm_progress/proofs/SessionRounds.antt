@@ -127,11 +127,14 @@ module _ (q : ReqSetup) (r : RspSetup) (first id : ℕ) (x : Asking) where
     pub until : served.History
     pub between : x.there until
     pub knows : x.knows until t
-    pub entry : served.Entry
-    pub since : OnlyWaited (entry ∷ until) g
+    pub tag : ℕ
+    pub sealed : List ℕ
+    pub reply : List ℕ
+    pub draw : Draw
+    pub since : OnlyWaited (WasSealedThere tag sealed t reply draw ∷ until) g
 
   pub came_still : (t : Turn) (g later : served.History) → AreAlike r g later → CameThere t g → CameThere t later
-  came_still t g later alike y = record { until = y.until; between = y.between; knows = y.knows; entry = y.entry; since = only_further (y.entry ∷ y.until) g later alike.between y.since }
+  came_still t g later alike y = record { until = y.until; between = y.between; knows = y.knows; tag = y.tag; sealed = y.sealed; reply = y.reply; draw = y.draw; since = only_further (WasSealedThere y.tag y.sealed t y.reply y.draw ∷ y.until) g later alike.between y.since }
 
   -- Its answer is on its way: a turn of which this is known.
   pub record IsAnswered (Fit : Steps → Type 0) (Good : Steps → Turn → Type 0) (tag : ℕ) (body : List ℕ) (log : Log) (h : asked.History) (g : served.History) : Type 0 where
@@ -384,7 +387,7 @@ module _ (q : ReqSetup) (r : RspSetup) (first id : ℕ) (x : Asking) where
             last = λ kept k is. sym (ap (λ (z : KeptRecord). z.sealed) (some_same _ k (sym (ap events.last_of (heard_is kept)) ∙ is)));
             newest = λ kept. record { earlier = events.turns_of e; is = ap events.turns_of (heard_is kept); known = y.known };
             gone = λ ends. ap events.is_live (session_new ∙ ap (λ (b : Bool). if b then [] else events.when_live e (Heard sealed t (answer_for s t))) (is_end x.ask (x.inner s) t ends a.0));
-            came = record { until = g; between = y.queued; knows = answers.there g s e f sealed d y.fit y.at y.in_step refl; entry = WasSealedThere tag sealed t (answer_for s t) d; since = ([], refl, tt) };
+            came = record { until = g; between = y.queued; knows = answers.there g s e f sealed d y.fit y.at y.in_step refl; tag = tag; sealed = sealed; reply = answer_for s t; draw = d; since = ([], refl, tt) };
             made = own_made acts;
             beside = beside_on q r first id (rsp_id s) acts log h h g new keeps_beside y.beside;
           }

@@ -12,7 +12,10 @@ use Rattle.responder_machine.specs.Responding.{Connection, Responding, connectio
 use Rattle.requester_machine.specs.Shown.{last_data}
 use Rattle.responder_machine.specs.Does.{first_queued}
 use Rattle.responder_machine.specs.History as served
-use Rattle.responder_machine.specs.History.Entry.{Queued, Ticked}
+use Rattle.responder_machine.specs.History.Entry.{Queued, Sealed, Ticked}
+use Rattle.responder_machine.specs.Turn.{Turn}
+use Rattle.responder_machine.specs.Turn.Effect.{TookData}
+use Rattle.spdm_machine.specs.Keys.{Draw}
 use Rattle.responder_machine.specs.Session as serving
 use Rattle.responder_machine.specs.Setup.{RspSetup, inventory_of}
 use Rattle.spdm_agreement.specs.Configured.{IsConfigured}
@@ -176,17 +179,23 @@ OnlyWaited before now =
     (entries : List served.Entry) × (now ≡ entries ++ before) × OnlyWaits entries
 
 -- One record came to the connection of a requester since, and beside it nothing but queued data and
--- time. What requester n took last is what was first in the queue before that record: the first
--- data that waited, and no bytes where none did.
-pub record TookQueued (n : ℕ) (q : ReqSetup) (c : Connection) (world : World) : Type 0 where
+-- time. It brought these bytes, and took what was first in the queue before it: the first data that
+-- waited, and no bytes where none did. This is what requester n took last.
+pub record TookQueued (n : ℕ) (q : ReqSetup) (c : Connection) (bytes : List ℕ)
+    (world : World) : Type 0 where
   pub requester : Requesting
   pub is_requester : requester_of n world ≡ Some requester
   pub connection : Connection
   pub is_connection : connection_of q.eid world.responder.connections ≡ Some connection
   pub until : served.History
   pub between : OnlyWaited c.history until
-  pub entry : served.Entry
-  pub since : OnlyWaited (entry ∷ until) connection.history
+  pub tag : ℕ
+  pub sealed : List ℕ
+  pub turn : Turn
+  pub reply : List ℕ
+  pub draw : Draw
+  pub since : OnlyWaited (Sealed tag sealed turn reply draw ∷ until) connection.history
+  pub brought : turn.effect ≡ TookData bytes (first_queued (served.queue_of until))
   pub taken : last_data requester.history ≡ first_queued (served.queue_of until)
 
 -- So it is behind a send among them.
@@ -198,7 +207,7 @@ AnswersAreQueued =
     → AreHonest (commanding (world_after w before) line n (Send id bytes)) behind
     → NothingWaits (world_from (commanding (world_after w before) line n (Send id bytes)) behind)
     → NoChance (world_from (commanding (world_after w before) line n (Send id bytes)) behind).log
-    → TookQueued n a.setup c
+    → TookQueued n a.setup c bytes
     (world_from (commanding (world_after w before) line n (Send id bytes)) behind)
 
 -- Requester n took these data last.
