@@ -111,12 +111,20 @@ in_few transfer size low high few =
       chunks = chunks;
     }
 
+pub not_zero : (z : ℕ) → (z ≡ 0 → ⊥) → 1 ≤ z
+not_zero zero other = absurd (other refl)
+not_zero (suc z) other = omega arith
+
+-- One that is not the last is followed by another.
+pub next_below : (j z : ℕ) → j < z → (j + 1 ≡ z → ⊥) → suc j < z
+next_below j z within other = by_case (nat_le z (suc j)) refl
+  where
+    by_case : (b : Bool) → nat_le z (suc j) ≡ b → suc j < z
+    by_case true is = (let few = leb-true _ _ is in absurd (other (omega (arith, few, within))))
+    by_case false is = leb-false _ _ is
+
 -- A message that has bytes has a chunk.
 pub some_of : (size unit : ℕ) → 0 < size → 0 < unit → 1 ≤ div_ceil size unit
 some_of size unit some wide =
     let around = div_ceil_times size unit wide in
-    by_zero (div_ceil size unit) (λ e. (let none : size ≤ 0 * unit = subst (λ (z : ℕ). size ≤ z * unit) e around.0 in omega (arith, none, some)))
-  where
-    by_zero : (z : ℕ) → (z ≡ 0 → ⊥) → 1 ≤ z
-    by_zero zero other = absurd (other refl)
-    by_zero (suc z) other = omega arith
+    not_zero (div_ceil size unit) (λ e. (let none : size ≤ 0 * unit = subst (λ (z : ℕ). size ≤ z * unit) e around.0 in omega (arith, none, some)))

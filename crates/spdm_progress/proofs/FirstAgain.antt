@@ -1,5 +1,5 @@
 -- The first chunk of a large request that looks like a repeat: the responder answers it from memory, as it would anew.
-use Rattle.std.proofs.Common.{◌≡◌, ◌∙◌, ℕ, zero, suc, ◌<◌, ◌+◌, ◌*◌, ◌-◌, ◌==◌, List, [], ◌∷◌, length, Bool, true, false, Option, Some, None, refl, sym, ap, subst, arith}
+use Rattle.std.proofs.Common.{◌≡◌, ◌∙◌, ℕ, suc, ◌<◌, ◌+◌, ◌*◌, ◌-◌, ◌==◌, List, [], ◌∷◌, length, Bool, true, false, Option, Some, None, refl, sym, ap, subst, arith}
 use Rattle.std.specs.Prelude.{if◌then◌else◌}
 use Rattle.std.proofs.lemmas.Bool.{false≢true, ne_eqb}
 use Rattle.std.proofs.lemmas.Grind.{div_ceil_times}
@@ -28,6 +28,7 @@ use Rattle.spdm_grammar.specs.declared.error_code.ErrorCode.{ErrorCode}
 use Rattle.spdm_machine.proofs.Members.{none_some, some_same}
 use Rattle.spdm_machine.specs.Keys.{Draw}
 use Rattle.transcript.specs.Transcripts.{Negotiation}
+use Rattle.spdm_progress.proofs.ChunkCounts.{some_of}
 use Rattle.spdm_progress.proofs.ChunkRules.{fits_chunk, sound_chunk}
 use Rattle.spdm_progress.proofs.ClearSend as send
 use Rattle.spdm_progress.proofs.ClearSend.{CanSend, ack_of, chunk_taken, send_chunk, transfer_there}
@@ -74,15 +75,7 @@ module _ (q : ReqSetup) (r : RspSetup) (v : RequestMessage) (n : Negotiation) (c
       ne_eqb 1 count (several (length m + 4) (transfer_there n - 12) (omega (arith, least, is)) (omega (arith, large)))
 
   some : 0 < count
-  some =
-      let least = can.least in
-      let is = can.transfer in
-      let around = div_ceil_times (length m + 4) (transfer_there n - 12) (omega (arith, least, is)) in
-      by_zero count (λ none. (let times : count * (transfer_there n - 12) ≡ 0 * (transfer_there n - 12) = ap (λ (z : ℕ). z * (transfer_there n - 12)) none in omega (arith, around.0, times)))
-    where
-      by_zero : (z : ℕ) → (z ≡ 0 → ⊥) → 0 < z
-      by_zero zero other = absurd (other refl)
-      by_zero (suc z) other = omega arith
+  some = (let least = can.least in let is = can.transfer in some_of (length m + 4) (transfer_there n - 12) (omega arith) (omega (arith, least, is)))
 
   reads : (place : Place) → request_at place text ≡ Some (ChunkSend (piece 0))
   reads place = read_at place (ChunkSend (piece 0)) (fits_chunk r.max (transfer_there n) handle m (send.collectable q r v n can handle small) 0 small some) (sound_chunk r.max (transfer_there n) handle m (send.collectable q r v n can handle small) 0)

@@ -14,7 +14,7 @@ use Rattle.spdm_machine.specs.Keys.{Draw}
 use Rattle.spdm_machine.specs.TagLog.{Log}
 use Rattle.spdm_machine.specs.Bodies.{clear_body}
 use Rattle.transcript.specs.Transcripts.{Negotiation}
-use Rattle.spdm_progress.proofs.ChunkCounts.{InFewChunks, in_few, some_of}
+use Rattle.spdm_progress.proofs.ChunkCounts.{InFewChunks, in_few, next_below, some_of}
 use Rattle.spdm_progress.proofs.ClearFetch.{CanFetchIn}
 use Rattle.spdm_progress.proofs.ClearSend.{transfer_there}
 use Rattle.spdm_progress.proofs.ExchangeStages.{hash_few}
@@ -245,7 +245,7 @@ module _ (p : Pair) (same_key : p.requester.psk ≡ p.responder.psk) (asker : Is
       body_size _ body (64 * each_by can.way more) y.body_is (omega (arith, few, so, fits))
   answers_short more tag body log h g (inr (inl y)) =
       let left = y.left in
-      let within = opens.below p same_key asker server summary h0 d0 x rid can y.j sends y.within (eqb-false (y.j + 1) sends y.again) in
+      let within = next_below y.j sends y.within (eqb-false (y.j + 1) sends y.again) in
       let so : each_by can.way more ≡ 1 = ap (λ (w : OfWay). each_by w more) y.way_is ∙ early_in y.way.answer more (omega (arith, left, within)) in
       body_size _ body (64 * each_by can.way more) y.body_is (omega (arith, so))
   answers_short more tag body log h g (inr (inr (inl y))) =

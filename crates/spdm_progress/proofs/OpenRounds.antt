@@ -1,8 +1,7 @@
 -- An open takes two rounds: PSK_EXCHANGE in the clear, and then PSK_FINISH in the session that it begins.
-use Rattle.std.proofs.Common.{◌≡◌, ◌≢◌, ◌⊎◌, ◌∙◌, ℕ, zero, suc, nat_le, ◌<◌, ◌≤◌, ◌+◌, ◌*◌, ◌-◌, ◌==◌, List, [], ◌∷◌, ◌++◌, length, Bool, true, false, not, Some, Result, Ok, Err, refl, sym, ap, ap₂, subst, inl, inr, arith, add-one, eq-eqb}
+use Rattle.std.proofs.Common.{◌≡◌, ◌≢◌, ◌⊎◌, ◌∙◌, ℕ, suc, ◌<◌, ◌≤◌, ◌+◌, ◌-◌, ◌==◌, List, [], ◌∷◌, ◌++◌, length, Bool, true, false, not, Some, Result, Ok, Err, refl, sym, ap, ap₂, subst, inl, inr, arith, add-one, eq-eqb}
 use Rattle.std.specs.Prelude.{bytes_eq, if◌then◌else◌}
-use Rattle.std.proofs.lemmas.Bool.{eqb-false, eqb-true, leb-false, leb-true, ne_eqb}
-use Rattle.std.proofs.lemmas.Grind.{div_ceil_times}
+use Rattle.std.proofs.lemmas.Bool.{eqb-false, eqb-true, ne_eqb}
 use Rattle.std.specs.Int.{div_ceil}
 use Rattle.chunking.specs.Cutting.{chunk_count, chunks_before, nth_chunk}
 use Rattle.std.proofs.lemmas.Slice.Eq.{bytes_eq-Decides}
@@ -63,6 +62,7 @@ use Rattle.transcript.specs.Transcripts.{Negotiation}
 use Rattle.world_machine.specs.Chance.{NoChance}
 use Rattle.spdm_progress.specs.InStep.{AreInStep, AreQuiet}
 use Rattle.spdm_progress.specs.Opening.{exchange_rsp_size}
+use Rattle.spdm_progress.proofs.ChunkCounts.{next_below, not_zero, some_of}
 use Rattle.spdm_progress.proofs.AskedOnce.{IsSpdm}
 use Rattle.spdm_progress.proofs.ClearFetch.{CanFetchIn, chunk_response, fetching, get_chunk, gets_differ, heard_more, transfer_in}
 use Rattle.spdm_progress.proofs.ClearSend.{ack_of, heard_more as ack_more, piece_here_at, send_chunk, sending, transfer_there}
@@ -308,16 +308,8 @@ module _ (p : Pair) (same_key : p.requester.psk ≡ p.responder.psk) (asker : Is
     }) y.beside;
   }
 
-  by_zero : (z : ℕ) → (z ≡ 0 → ⊥) → 1 ≤ z
-  by_zero zero other = absurd (other refl)
-  by_zero (suc z) other = omega arith
-
   pub some_chunks : {round : ℕ} → CanFetchIn round q r size n → 1 ≤ count
-  some_chunks fetch =
-      let least = fetch.least in
-      let is = fetch.transfer in
-      let around = div_ceil_times (size + 4) (transfer - 12) (omega (arith, least, is)) in
-      by_zero count (λ e. (let none : (size + 4) ≤ 0 * (transfer - 12) = subst (λ (z : ℕ). (size + 4) ≤ z * (transfer - 12)) e around.0 in omega (arith, none)))
+  some_chunks fetch = (let least = fetch.least in let is = fetch.transfer in some_of (size + 4) (transfer - 12) (omega arith) (omega (arith, least, is)))
 
   large_heard : (more tag : ℕ) (body : List ℕ) (log : Log) (h : asked.History) (g : served.History) (d : Draw) (y : (stages.LargeTold p same_key asker server summary h0 d0 x rid can) more tag body log h g) → Leading more (clear_body y.message) log h g (requester_hears q h false tag (clear_body y.message) d)
   large_heard more tag body log h g d y =
@@ -366,7 +358,7 @@ module _ (p : Pair) (same_key : p.requester.psk ≡ p.responder.psk) (asker : Is
         gets_are = y.gets_are;
         k = y.k + 1;
         left = omega (arith, fewer.1, left);
-        some = by_zero fewer.0 (λ none. other (omega (arith, none, fewer.1, left)));
+        some = not_zero fewer.0 (λ none. other (omega (arith, none, fewer.1, left)));
         reply = y.reply;
         long = y.long;
         handle = y.handle;
@@ -382,13 +374,6 @@ module _ (p : Pair) (same_key : p.requester.psk ≡ p.responder.psk) (asker : Is
       })))))
 
   -- ---- The requester sends a further chunk.
-
-  pub below : (j z : ℕ) → j < z → (j + 1 ≡ z → ⊥) → suc j < z
-  below j z within other = by_case (nat_le z (suc j)) refl
-    where
-      by_case : (b : Bool) → nat_le z (suc j) ≡ b → suc j < z
-      by_case true is = (let few = leb-true _ _ is in absurd (other (omega (arith, few, within))))
-      by_case false is = leb-false _ _ is
 
   ready_on : (acts log : Log) (h : asked.History) (g : served.History) (tag handle k : ℕ) (message : List ℕ) (d : Draw) → requester_hears q h false tag (clear_body message) d ≡ Adds (TookClear tag message (goes_on Nothing (piece_sent (asked.connection_terms h).common h (PskExchange x) handle k)) d)
       → (stages.IsReady p same_key asker server summary h0 d0 x rid can) log h g → (stages.IsReady p same_key asker server summary h0 d0 x rid can) (acts ++ log) (TookClear tag message (goes_on Nothing (piece_sent (asked.connection_terms h).common h (PskExchange x) handle k)) d ∷ h) g
@@ -418,8 +403,8 @@ module _ (p : Pair) (same_key : p.requester.psk ≡ p.responder.psk) (asker : Is
       let after = piece_sent (asked.connection_terms h).common h (PskExchange x) y.handle (y.j + 1) in
       let acts = asked_log.acts_of q h (clear_body text) (Adds (TookClear tag text (goes_on Nothing after) d)) in
       let left = y.left in
-      let within = below y.j pieces y.within (eqb-false (y.j + 1) pieces y.again) in
-      let fewer = before_it more (by_zero more (λ none. absurd (omega (arith, none, left, within)))) in
+      let within = next_below y.j pieces y.within (eqb-false (y.j + 1) pieces y.again) in
+      let fewer = before_it more (not_zero more (λ none. absurd (omega (arith, none, left, within)))) in
       let there : nth_chunk (asked.connection_terms h).common.to_responder.transfer y.handle m (y.j + 1) ≡ piece y.handle (suc y.j) =
       piece_here_at q r (PskExchange x) n y.way.send y.handle y.handle_small h y.ready.since.negotiation (y.j + 1) ∙ ap (piece y.handle) (add-one y.j) in
       subst (Leading more (clear_body text) log h g) (sym is)

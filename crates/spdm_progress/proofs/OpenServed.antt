@@ -71,7 +71,7 @@ use Rattle.spdm_progress.proofs.PacketSteps.{Pair}
 use Rattle.spdm_progress.proofs.RecordRounds.{beside_on, earlier_on}
 use Rattle.spdm_progress.proofs.ResponderStages.{LastTook, Takes, adds, not_large, not_too_long, same_by}
 use Rattle.spdm_progress.proofs.ResponderTurns.{taken_turn}
-use Rattle.spdm_progress.proofs.LargeAlgorithms.{get_no_exchange}
+use Rattle.spdm_progress.proofs.LargeAlgorithms.{get_no_exchange, send_no_exchange}
 use Rattle.spdm_progress.proofs.OpenStages as stages
 use Rattle.spdm_progress.proofs.OpenStages.{CanExchange, GoesWhole, SendsWhole, exchange_sent, own_handle, plainly, resting_held, same_context}
 
@@ -371,9 +371,6 @@ module _ (p : Pair) (same_key : p.requester.psk ≡ p.responder.psk) (asker : Is
     abbrev acts_on : answering.Outcome → Log
     acts_on o = served_log.acts_of r g (clear_body text) o
 
-    no_exchange : (z : ExchangeMessage) → text ≡ canonical_request (PskExchange z) → ⊥
-    no_exchange z e = (let code : slice_index text 1 ≡ slice_index (canonical_request (PskExchange z)) 1 = ap (λ (l : List ℕ). slice_index l 1) e in omega (arith, code))
-
     abbrev Further : answering.Outcome → Type 0
     Further o = (stages.PieceAnswered p same_key asker server summary h0 d0 x rid can) more tag (answering.body_of o) (acts_on o ++ log) h (answering.after g o)
 
@@ -437,7 +434,7 @@ module _ (p : Pair) (same_key : p.requester.psk ≡ p.responder.psk) (asker : Is
         phase_there = refl;
         negotiation = refl;
         negotiation_there = refl;
-        earlier = λ e. record { kept = λ k is z w fits told context whole above below message. no_exchange z (ap (λ (o : served.Kept). o.message) (some_same _ k is) ∙ message) };
+        earlier = λ e. record { kept = λ k is z w fits told context whole above below message. send_no_exchange c z (ap (λ (o : served.Kept). o.message) (some_same _ k is) ∙ message) };
         same = λ j other. refl;
         same_there = λ j other past. inl refl;
       }) y.ready.beside;
@@ -508,7 +505,7 @@ module _ (p : Pair) (same_key : p.requester.psk ≡ p.responder.psk) (asker : Is
       behind large = later log h g d drawn y.ready tag text (Some c) (large_in large) (ack_of c (sent_in large))
 
       taken_chunk_earlier : (large : Bool) → TookEarlier q first h (behind large)
-      taken_chunk_earlier large = record { kept = λ k is z e fits told context whole above below message. no_exchange z (ap (λ (o : served.Kept). o.message) (some_same _ k is) ∙ message) }
+      taken_chunk_earlier large = record { kept = λ k is z e fits told context whole above below message. send_no_exchange c z (ap (λ (o : served.Kept). o.message) (some_same _ k is) ∙ message) }
 
       made_behind : (large : Bool) → goes_large (inside (clear_place g)) reply ≡ large → (acts : Log) → (stages.IsMadeThere p same_key asker server summary h0 d0 x rid can) reply (acts ++ log) h (behind large)
       made_behind large goes acts = made_now log h g d drawn y.ready tag text (Some c) (large_in large) (ack_of c (sent_in large)) (last_does large goes) (taken_chunk_earlier large) acts

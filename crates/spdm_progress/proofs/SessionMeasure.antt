@@ -1,9 +1,8 @@
 -- A measure in a session whose answer goes by chunks: one round for each chunk behind the first, and it leaves quiet ends
 -- quiet.
-use Rattle.std.proofs.Common.{◌≡◌, ◌⊎◌, ◌∙◌, ℕ, zero, suc, ◌<◌, ◌≤◌, ◌+◌, ◌*◌, ◌-◌, ◌==◌, List, [], ◌∷◌, ◌++◌, length, Bool, true, false, Some, None, Ok, refl, sym, ap, subst, inl, inr, arith, add-one}
+use Rattle.std.proofs.Common.{◌≡◌, ◌⊎◌, ◌∙◌, ℕ, suc, ◌<◌, ◌≤◌, ◌+◌, ◌*◌, ◌-◌, ◌==◌, List, [], ◌∷◌, ◌++◌, length, Bool, true, false, Some, None, Ok, refl, sym, ap, subst, inl, inr, arith, add-one}
 use Rattle.std.specs.Int.{div_ceil}
 use Rattle.std.proofs.lemmas.Bool.{eqb-false}
-use Rattle.std.proofs.lemmas.Grind.{div_ceil_times}
 use Rattle.chunking.specs.Cutting.{chunk_count, chunks_before, nth_chunk}
 use Rattle.requester_machine.specs.Asking.{Outcome}
 use Rattle.requester_machine.specs.Asking.Outcome.{Adds}
@@ -39,6 +38,7 @@ use Rattle.world_machine.specs.Chance.{NoChance}
 use Rattle.requester_machine.specs.Shown.{last_data}
 use Rattle.spdm_progress.specs.InStep.{AreQuiet}
 use Rattle.spdm_progress.specs.Measuring.{measurements_size, number_for, record_for}
+use Rattle.spdm_progress.proofs.ChunkCounts.{not_zero, some_of}
 use Rattle.spdm_progress.proofs.FurtherRound as further
 use Rattle.spdm_progress.proofs.ClearFetch.{IsPending, chunk_is_few, transfer_in}
 use Rattle.spdm_progress.proofs.LargeAnswers.{GoesLarge}
@@ -73,15 +73,7 @@ module _ (p : Pair) (same_key : p.requester.psk ≡ p.responder.psk) (id op : �
   count_is nonce whole = ap (λ (size : ℕ). div_ceil (size + 4) (transfer - 12)) (measurements_are r op nonce whole)
 
   some_chunks : 0 < count
-  some_chunks =
-      let least = can.fetch.least in
-      let is = can.fetch.transfer in
-      let around = div_ceil_times (measurements_size r op + 4) (transfer - 12) (omega (arith, least, is)) in
-      by_zero count (λ e. (let none : (measurements_size r op + 4) ≤ 0 * (transfer - 12) = subst (λ (z : ℕ). (measurements_size r op + 4) ≤ z * (transfer - 12)) e around.0 in omega (arith, none)))
-    where
-      by_zero : (z : ℕ) → (z ≡ 0 → ⊥) → 0 < z
-      by_zero zero other = absurd (other refl)
-      by_zero (suc z) other = omega arith
+  some_chunks = (let least = can.fetch.least in let is = can.fetch.transfer in some_of (measurements_size r op + 4) (transfer - 12) (omega arith) (omega (arith, least, is)))
 
   pub within : (more k : ℕ) (nonce : List ℕ) → length nonce ≡ 32 → more + suc k ≡ count → k < chunk_count transfer (measurements r op nonce)
   within more k nonce whole left = subst (λ (z : ℕ). k < z) (sym (count_is nonce whole)) (omega (arith, left))
@@ -252,10 +244,6 @@ module _ (p : Pair) (same_key : p.requester.psk ≡ p.responder.psk) (id op : �
             taken = granted_record r op y.which.nonce (entry q r p.first id x Under (Chunk more y.which) tag log h g d body z told None ∷ h) (ap (fetched op w) last) y.which.whole (let fits = can.fetch.fits_max in let max = can.fetch.max in let most = can.fetch.most in omega (arith, fits, max, most));
           }))
 
-      positive : (m : ℕ) → (m ≡ 0 → ⊥) → 0 < m
-      positive zero other = absurd (other refl)
-      positive (suc m) other = omega arith
-
       next_which : (fewer : ℕ) → suc fewer ≡ more → Fetching fewer
       next_which fewer one = (let v = y.which in let left = v.left in record { k = v.k + 1; left = omega (arith, one, left); nonce = v.nonce; whole = v.whole; handle = v.handle; small = v.small })
 
@@ -297,7 +285,7 @@ module _ (p : Pair) (same_key : p.requester.psk ≡ p.responder.psk) (id op : �
           let v = y.which in
           let left = v.left in
           let other = eqb-false (v.k + 1) (chunk_count transfer w) is in
-          let fewer = before_it more (positive more (λ none. other (omega (arith, none, left) ∙ sym (count_is v.nonce v.whole)))) in
+          let fewer = before_it more (not_zero more (λ none. other (omega (arith, none, left) ∙ sym (count_is v.nonce v.whole)))) in
           next_heard is fewer.0 fewer.1
 
   hears : (more tag : ℕ) (body : List ℕ) (log : Log) (h : asked.History) (g : served.History) (d : Draw) → NoChance log → MeasureAnswered more tag body log h g

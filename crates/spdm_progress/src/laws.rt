@@ -77,8 +77,8 @@ pub fn session_commands_complete()
 {}
 
 /// Behind a send among them, one record came to the responder. It brought the bytes that were sent,
-/// and what the requester took is what was first in the queue before it: the first data that waited,
-/// and no bytes where none did.
+/// and what the requester took is what was first in the queue before it: the first data that
+/// waited, and no bytes where none did.
 pub fn answers_are_queued()
     ensures { AnswersAreQueued }
 {}
