@@ -93,7 +93,8 @@ pub fn ended_at_both_ends()
     ensures { EndedAtBothEnds }
 {}
 
-/// The same of every command that quiet ends answer `ok`, in the clear or in a session.
+/// The same of every command that quiet ends answer `ok`, in the clear or in a session, with what
+/// its result means at either end.
 pub fn quiet_commands_complete()
     ensures { QuietCommandsComplete }
 {}
@@ -110,7 +111,8 @@ pub fn pumps_are_enough()
 {}
 
 /// From a quiet world on, each command of an honest script that is answered `ok` and has what it
-/// needs is done before the next one, and the world behind them is quiet.
+/// needs is done before the next one, with what its result means, and the world behind them is
+/// quiet.
 pub fn quiet_worlds_complete()
     ensures { QuietWorldsComplete }
 {}
