@@ -108,8 +108,8 @@ pub record Holds (n id : ℕ) (live : Bool) (world : World) : Type 0 where
   pub is_requester : requester_of n world ≡ Some requester
   pub session : is_live (session_at requester id) ≡ live
 
--- What a result means, beside that the two ends are quiet, by which each session of the requester is
--- open at both ends and in step. After a connect both hold one negotiation; after an open the
+-- What a result means, beside that the two ends are quiet, so that each session of the requester
+-- is open at both ends and in step. After a connect both hold one negotiation; after an open the
 -- requester holds the session, as it does after a heartbeat and an update; a send brought its bytes
 -- and took what was first in the queue; the record that was taken is the one configured; and a
 -- session that was ended is held by neither end.
