@@ -1,7 +1,7 @@
 -- The last rounds of a connect: NEGOTIATE_ALGORITHMS and its answer, each of which goes whole or by chunks.
-use Rattle.std.proofs.Common.{◌≡◌, ◌⊎◌, ◌∙◌, ℕ, zero, suc, ◌<◌, ◌≤◌, ◌+◌, ◌-◌, ◌==◌, List, [], ◌∷◌, ◌++◌, length, nat_le, Bool, true, false, Some, None, refl, sym, ap, subst, inl, inr, arith, add-one, eqb-true}
+use Rattle.std.proofs.Common.{◌≡◌, ◌⊎◌, ◌∙◌, ℕ, suc, ◌<◌, ◌≤◌, ◌+◌, ◌-◌, ◌==◌, List, [], ◌∷◌, ◌++◌, length, Bool, true, false, Some, None, refl, sym, ap, subst, inl, inr, arith, add-one, eqb-true}
 use Rattle.std.specs.Prelude.{bytes_eq, slice_index}
-use Rattle.std.proofs.lemmas.Bool.{eqb-false, leb-false, leb-true}
+use Rattle.std.proofs.lemmas.Bool.{eqb-false}
 use Rattle.chunking.specs.Cutting.{chunk_count, chunks_before, nth_chunk}
 use Rattle.requester_machine.specs.Does.{requester_hears}
 use Rattle.requester_machine.specs.History as asked
@@ -28,13 +28,13 @@ use Rattle.spdm_machine.specs.Bodies.{clear_body}
 use Rattle.spdm_machine.specs.Keys.{Draw}
 use Rattle.spdm_machine.specs.TagLog.{Log}
 use Rattle.world_machine.specs.Chance.{NoChance}
-use Rattle.spdm_progress.proofs.ChunkCounts.{chunks_within, some_of}
+use Rattle.spdm_progress.proofs.ChunkCounts.{chunks_within, next_below, not_zero, some_of}
 use Rattle.spdm_progress.proofs.ClearFetch.{CanFetchIn, chunk_is_few, chunk_response, get_chunk, gets_differ, transfer_in}
 use Rattle.spdm_progress.proofs.ClearSend.{ack_of, few_bytes, piece_here_at, pieces_differ, send_chunk, transfer_there}
 use Rattle.spdm_progress.proofs.SentAlgorithms as sent
 use Rattle.spdm_progress.proofs.SentAlgorithms.{HasPieces, Sends}
 use Rattle.spdm_progress.proofs.ClearRounds.{ClearOver, ClearWay, way_answered, way_ends, way_kept, way_leads, way_sent, way_still}
-use Rattle.spdm_progress.proofs.LargeAlgorithms.{Fetches, Holds, asks_differ, chunk_answered, get_no_exchange, holds_still, large_answered, large_heard, last_heard, next_heard, own_handle}
+use Rattle.spdm_progress.proofs.LargeAlgorithms.{Fetches, Holds, asks_differ, chunk_answered, get_no_exchange, holds_still, large_answered, large_heard, last_heard, next_heard, own_handle, send_no_exchange}
 use Rattle.spdm_progress.proofs.ManyPackets.{before_it}
 use Rattle.spdm_progress.proofs.PacketSteps.{Pair}
 use Rattle.spdm_progress.proofs.RequesterStages.{Asks as AsksRequest, Hears, IsOver, algorithms_heard, next_small}
@@ -271,9 +271,6 @@ module _ (p : Pair) (offer : OfferMessage) (choice : Choice) (can : CanMeet p.re
   no_exchange : (x : ExchangeMessage) → m ≡ canonical_request (PskExchange x) → ⊥
   no_exchange x e = (let code : slice_index m 1 ≡ slice_index (canonical_request (PskExchange x)) 1 = ap (λ (l : List ℕ). slice_index l 1) e in omega (arith, code))
 
-  send_no_exchange : (c : ChunkMessage) (x : ExchangeMessage) → send_chunk c ≡ canonical_request (PskExchange x) → ⊥
-  send_no_exchange c x e = (let code : slice_index (send_chunk c) 1 ≡ slice_index (canonical_request (PskExchange x)) 1 = ap (λ (l : List ℕ). slice_index l 1) e in omega (arith, code))
-
   agreed_by : (last : List ℕ) → ((x : ExchangeMessage) → last ≡ canonical_request (PskExchange x) → ⊥) → (message : List ℕ) (Asked : ℕ → asked.History → Type 0) (tag : ℕ) (body : List ℕ) (log : Log) (h : asked.History) (g : served.History)
       → ClearWay p message Asked (λ k. Stands Negotiated (three_pairs q r offer) last k) tag body log h g → ClearWay p message Any HasAgreed tag body log h g
   agreed_by last other message Asked tag body log h g y = record {
@@ -392,10 +389,6 @@ module _ (p : Pair) (offer : OfferMessage) (choice : Choice) (can : CanMeet p.re
       → LeadsTo (ClearWay p (get_chunk handle k) (Fetches q r offer handle k) (Holds q r offer handle k last)) (requester_hears q h false tag body d) (asked_log.acts_of q h body (requester_hears q h false tag body d) ++ log) h g → Leading more tag body log h g d
   fetches_on {round} more fewer k handle tag body log h g d fetch small last other one_less left x = Further x.next fewer one_less x.sends (inr (inr (record { round = round; fetch = fetch; handle = handle; small = small; k = k; left = left; last = last; other = other; is = x.asks })))
 
-  positive : (z : ℕ) → (z ≡ 0 → ⊥) → 1 ≤ z
-  positive zero other = absurd (other refl)
-  positive (suc z) other = omega arith
-
   chunk_heard : (more tag : ℕ) (body : List ℕ) (log : Log) (h : asked.History) (g : served.History) (d : Draw) (y : ChunkAnswered more tag body log h g) (b : Bool) → (y.k + 1 == count) ≡ b → Leading more tag body log h g d
   chunk_heard more tag body log h g d y true last =
       way_ends p (chunk_response transfer y.handle w y.k) (Fetches q r offer y.handle y.k) Ended (Holds q r offer y.handle (y.k + 1) (get_chunk y.handle y.k)) HasAgreed told AlgorithmsAsks more tag body log h g d
@@ -404,7 +397,7 @@ module _ (p : Pair) (offer : OfferMessage) (choice : Choice) (can : CanMeet p.re
   chunk_heard more tag body log h g d y false again =
       let left = y.left in
       let other = eqb-false (y.k + 1) count again in
-      let fewer = before_it more (positive more (λ none. other (omega (arith, none, left)))) in
+      let fewer = before_it more (not_zero more (λ none. other (omega (arith, none, left)))) in
       let before = nth_chunk transfer y.handle w y.k ∷ chunks_before transfer y.handle w y.k in
       fetches_on more fewer.0 (y.k + 1) y.handle tag body log h g d y.fetch y.small (get_chunk y.handle y.k) (ap (λ (k : ℕ). bytes_eq (get_chunk y.handle y.k) (get_chunk y.handle k)) (add-one y.k) ∙ gets_differ y.handle y.k) (sym fewer.1) (omega (arith, fewer.1, left))
       (way_leads p (chunk_response transfer y.handle w y.k) (get_chunk y.handle (y.k + 1)) (Fetches q r offer y.handle y.k) (Fetches q r offer y.handle (y.k + 1)) (Holds q r offer y.handle (y.k + 1) (get_chunk y.handle y.k)) event.Progress tag body log h g d (get_sent h (NegotiateAlgorithms offer) y.handle (y.k + 1) before)
@@ -415,8 +408,8 @@ module _ (p : Pair) (offer : OfferMessage) (choice : Choice) (can : CanMeet p.re
       let left = y.left in
       let within = y.within in
       let other = eqb-false (y.j + 1) pieces y.again in
-      let next_within : suc y.j < pieces = below y.j pieces within other in
-      let fewer = before_it more (positive more (λ none. (absurd (omega (arith, none, left, next_within))))) in
+      let next_within : suc y.j < pieces = next_below y.j pieces within other in
+      let fewer = before_it more (not_zero more (λ none. (absurd (omega (arith, none, left, next_within))))) in
       let at = transfer_there (two_pairs q r) in
       let c = nth_chunk at y.handle m y.j in
       let following = piece_sent (asked.connection_terms h).common h (NegotiateAlgorithms offer) y.handle (y.j + 1) in
@@ -435,13 +428,6 @@ module _ (p : Pair) (offer : OfferMessage) (choice : Choice) (can : CanMeet p.re
         other = pieces_differ q r (NegotiateAlgorithms offer) (two_pairs q r) y.way.send y.handle y.small y.j;
         is = x.asks;
       })))
-    where
-      below : (j z : ℕ) → j < z → (j + 1 ≡ z → ⊥) → suc j < z
-      below j z within other = by_case (nat_le z (suc j)) refl
-        where
-          by_case : (b : Bool) → nat_le z (suc j) ≡ b → suc j < z
-          by_case true is = (let few = leb-true _ _ is in absurd (other (omega (arith, few, within))))
-          by_case false is = leb-false _ _ is
 
   hears : (more tag : ℕ) (body : List ℕ) (log : Log) (h : asked.History) (g : served.History) (d : Draw) → NoChance log → AlgorithmsAnswers more tag body log h g → Leading more tag body log h g d
   hears more tag body log h g d chance (inl y) = piece_heard more tag body log h g d y

@@ -12,7 +12,7 @@ use Rattle.requester_machine.specs.Session as steps
 use Rattle.requester_machine.specs.Session.{Steps}
 use Rattle.responder_machine.specs.Answer.{Free, answer_of}
 use Rattle.responder_machine.specs.Does as serving_does
-use Rattle.responder_machine.specs.Does.{chosen, record_chosen}
+use Rattle.responder_machine.specs.Does.{chosen, first_queued, record_chosen}
 use Rattle.responder_machine.specs.History as served
 use Rattle.responder_machine.specs.Place.{session_place}
 use Rattle.responder_machine.specs.Responder.{inner_reply}
@@ -35,7 +35,10 @@ use Rattle.spdm_grammar.specs.declared.event.Event.TheVariants as event
 use Rattle.spdm_grammar.specs.declared.event.Finished.TheVariants as finished
 use Rattle.spdm_machine.specs.Keys.{Draw}
 use Rattle.spdm_machine.specs.Terms.{Terms, hash_len}
+use Rattle.responder_machine.specs.Turn.Effect.{TookData}
 use Rattle.spdm_progress.specs.Measuring.{measurements_size, number_for}
+use Rattle.spdm_progress.specs.SessionCommands.{OnlyWaited}
+use Rattle.spdm_progress.proofs.StillKept.{only_further}
 use Rattle.spdm_progress.proofs.AlikeSessions.{IsAnswerTo, same_terms}
 use Rattle.spdm_progress.proofs.MeasureStages.{measured, measured_fits, measured_sound, measurements, measurements_are, told_number}
 use Rattle.spdm_progress.proofs.PacketSteps.{Pair}
@@ -46,11 +49,24 @@ use Rattle.spdm_progress.proofs.SessionTurns.{TakesInSession, answer_read, beat_
 use Rattle.spdm_progress.proofs.SingleRound.{IsLast}
 
 -- What is asked.
-abbrev pub data_asking : List ℕ → Asking
-data_asking bytes = record { ask = AskData; inner = λ s. inner_data bytes; brings = λ t. Grants AskData t.reply; may = λ t. refl; before = λ turns. Unit {0} }
+abbrev pub data_asking : (begun : served.History) → List ℕ → Asking
+data_asking begun bytes = record {
+  ask = AskData;
+  inner = λ s. inner_data bytes;
+  brings = λ t. Grants AskData t.reply;
+  may = λ t. refl;
+  before = λ turns. Unit {0};
+  there = λ g. OnlyWaited begun g;
+  there_on = λ r g later alike z. only_further begun g later alike.between z;
+  knows = λ g t. (t.effect ≡ TookData bytes (first_queued (served.queue_of g))) × (t.reply ≡ first_queued (served.queue_of g));
+}
+
+chosen_first : (r : RspSetup) (g : served.History) (sealed : List ℕ) (d : Draw) → (record_chosen r g sealed d).reply ≡ first_queued (served.queue_of g)
+unfolding chosen
+chosen_first r g sealed d = refl
 
 abbrev pub beat_asking : Asking
-beat_asking = record { ask = AskBeat; inner = λ s. inner_request Heartbeat; brings = λ t. Grants AskBeat t.reply; may = λ t. refl; before = λ turns. Unit {0} }
+beat_asking = record { ask = AskBeat; inner = λ s. inner_request Heartbeat; brings = λ t. Grants AskBeat t.reply; may = λ t. refl; before = λ turns. Unit {0}; there = λ g. Unit {0}; there_on = λ r g later alike z. tt; knows = λ g t. Unit {0} }
 
 abbrev pub measure_asking : ℕ → Asking
 measure_asking op = record {
@@ -59,10 +75,13 @@ measure_asking op = record {
   brings = λ t. Grants (AskMeasure op) t.reply;
   may = λ t. inr (op, t.reply, refl);
   before = λ turns. Unit {0};
+  there = λ g. Unit {0};
+  there_on = λ r g later alike z. tt;
+  knows = λ g t. Unit {0};
 }
 
 abbrev pub end_asking : Asking
-end_asking = record { ask = AskEnd; inner = λ s. inner_request EndSession; brings = λ t. Grants AskEnd t.reply; may = λ t. refl; before = λ turns. Unit {0} }
+end_asking = record { ask = AskEnd; inner = λ s. inner_request EndSession; brings = λ t. Grants AskEnd t.reply; may = λ t. refl; before = λ turns. Unit {0}; there = λ g. Unit {0}; there_on = λ r g later alike z. tt; knows = λ g t. Unit {0} }
 
 module _ (p : Pair) (same_key : p.requester.psk ≡ p.responder.psk) (id : ℕ) (sid : SessionId) (asker : IsRequester p.requester) (server : IsResponder p.responder) where
   abbrev r : RspSetup
@@ -120,7 +139,8 @@ module _ (p : Pair) (same_key : p.requester.psk ≡ p.responder.psk) (id : ℕ) 
 
   beat_answered : AreAnswered p.requester r p.first id beat_asking CanBeat (IsSpdm (canonical_response HeartbeatAck))
   beat_answered = record {
-    turns = λ g s e f sealed d fit at k made drawn here is known.
+    there = λ g s e f sealed d fit at k is. tt;
+    turns = λ g s e f sealed d fit at k made drawn here is known queued.
         subst (IsGood beat_asking (IsSpdm (canonical_response HeartbeatAck)) s)
         (sym (beat_turn r e f room (sym k.stage ∙ at) (ap (λ (t : Terms). t.common.heartbeat) (sym (same_terms s e k)) ∙ fit.flag) (small_takes g e (id_in_record sealed) here made k.live)))
         (refl, record { inner = refl }, (omega arith));
@@ -140,7 +160,8 @@ module _ (p : Pair) (same_key : p.requester.psk ≡ p.responder.psk) (id : ℕ) 
 
   end_answered : AreAnswered p.requester r p.first id end_asking IsNamed (IsSpdm (canonical_response EndSessionAck))
   end_answered = record {
-    turns = λ g s e f sealed d fit at k made drawn here is known.
+    there = λ g s e f sealed d fit at k is. tt;
+    turns = λ g s e f sealed d fit at k made drawn here is known queued.
         subst (IsGood end_asking (IsSpdm (canonical_response EndSessionAck)) s) (sym (end_turn r e f room (sym k.stage ∙ at) (small_takes g e (id_in_record sealed) here made k.live))) (refl, record { inner = refl }, (omega arith));
   }
 
@@ -160,18 +181,21 @@ module _ (p : Pair) (same_key : p.requester.psk ≡ p.responder.psk) (id : ℕ) 
     pub named : steps.session_id s ≡ sid
     pub short : length bytes ≤ 1024
 
-  data_answered : (bytes : List ℕ) → AreAnswered p.requester r p.first id (data_asking bytes) (CanSend bytes) IsData
-  data_answered bytes = record {
-    turns = λ g s e f sealed d fit at k made drawn here is known.
+  data_answered : (begun : served.History) (bytes : List ℕ) → AreAnswered p.requester r p.first id (data_asking begun bytes) (CanSend bytes) IsData
+  data_answered begun bytes = record {
+    there = λ g s e f sealed d fit at k is.
+        let first : f.reply ≡ first_queued (served.queue_of g) = ap (λ (z : Free). z.reply) is ∙ chosen_first r g sealed d in
+        subst (λ (t : Turn). (t.effect ≡ TookData bytes (first_queued (served.queue_of g))) × (t.reply ≡ first_queued (served.queue_of g))) (sym (data_turn_in r e bytes f (sym k.stage ∙ at) fit.short)) (ap (TookData bytes) first, first);
+    turns = λ g s e f sealed d fit at k made drawn here is known queued.
         let short : length f.reply ≤ 1024 = subst (λ (z : Free). length z.reply ≤ 1024) (sym is) (chosen_short r g sealed d made) in
-        subst (IsGood (data_asking bytes) IsData s) (sym (data_turn_in r e bytes f (sym k.stage ∙ at) fit.short)) (refl, record { inner = refl; short = short }, (omega arith));
+        subst (IsGood (data_asking begun bytes) IsData s) (sym (data_turn_in r e bytes f (sym k.stage ∙ at) fit.short)) (refl, record { inner = refl; short = short }, (omega arith));
   }
 
-  pub data_last : (bytes : List ℕ) → IsLast p same_key id (data_asking bytes) (CanSend bytes) IsData (event.Done (finished.Answered sid))
-  data_last bytes = record {
-    answers = data_answered bytes;
+  pub data_last : (begun : served.History) (bytes : List ℕ) → IsLast p same_key id (data_asking begun bytes) (CanSend bytes) IsData (event.Done (finished.Answered sid))
+  data_last begun bytes = record {
+    answers = data_answered begun bytes;
     leads = λ h d s pad t fit good is.
-        data_read p.requester h (body_chosen p.requester h d) (came_as h id (answer_for p.requester r p.first id (data_asking bytes) s t) (inner_reply t)) AskData t.reply good.inner good.short
+        data_read p.requester h (body_chosen p.requester h d) (came_as h id (answer_for p.requester r p.first id (data_asking begun bytes) s t) (inner_reply t)) AskData t.reply good.inner good.short
         ∙ ap (λ (n : SessionId). let l : Result Led BadReply = Ok (is_done (finished.Answered n) (Grants AskData t.reply)) in l) (ap steps.session_id is ∙ fit.named);
     at_end = λ s pad t at kept. at;
   }
@@ -189,7 +213,8 @@ module _ (p : Pair) (same_key : p.requester.psk ≡ p.responder.psk) (id : ℕ) 
 
   measure_answered : (op : ℕ) → AreAnswered p.requester r p.first id (measure_asking op) (CanMeasure op) (IsMeasured op)
   measure_answered op = record {
-    turns = λ g s e f sealed d fit at k made drawn here is known.
+    there = λ g s e f sealed d fit at k is. tt;
+    turns = λ g s e f sealed d fit at k made drawn here is known queued.
         let answer = ap (λ (z : Free). canonical_response (answer_of r (session_place e) (canonical_request (GetMeasurements op)) z (GetMeasurements op))) is ∙ measured_in r g e sealed d op in
         let size = ap length answer ∙ measurements_are r op d.bytes drawn in
         let fits : measurements_size r op ≤ (events.session_terms e).common.to_requester.transfer = subst (λ (t : Terms). measurements_size r op ≤ t.common.to_requester.transfer) (same_terms s e k) fit.fits in

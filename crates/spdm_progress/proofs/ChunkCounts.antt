@@ -76,12 +76,55 @@ chunks_within transfer size low few =
         let thirties : c * 30 ≤ c * unit = mul-le c 30 c unit (omega arith) wide in
         omega (arith, units, spare, thirties)
 
+-- A message of at most 1,228 bytes in chunks in the clear: so many packets of each chunk, and so many of all of them.
+pub record InFewChunks (transfer size : ℕ) : Type 0 where
+  pub fits : transfer + 1 ≤ 64 * div_ceil (transfer + 1) 64
+  pub few : div_ceil (transfer + 1) 64 * div_ceil (size + 4) (transfer - 12) ≤ 84
+  pub chunks : div_ceil (size + 4) (transfer - 12) ≤ 42
+
+small_in_all : (e c unit : ℕ) → e ≤ 20 → 64 * e ≤ unit + 76 → c * unit ≤ 1231 → c ≤ 41 → e * suc c ≤ 84
+small_in_all zero c unit few upper within chunks = omega arith
+small_in_all (suc zero) c unit few upper within chunks = omega (arith, chunks)
+small_in_all (suc (suc e)) c unit few upper within chunks =
+    let wide : 52 ≤ unit = omega (arith, upper) in
+    let wider : c * 52 ≤ c * unit = mul-le c 52 c unit (omega arith) wide in
+    let all : (64 * suc (suc e)) * c ≤ (unit + 76) * c = mul-le (64 * suc (suc e)) c (unit + 76) c upper (omega arith) in
+    let left : (64 * suc (suc e)) * c ≡ 64 * (suc (suc e) * c) = grind arith in
+    let right : (unit + 76) * c ≡ c * unit + 76 * c = grind arith in
+    let whole : suc (suc e) * suc c ≡ suc (suc e) * c + suc (suc e) = grind arith in
+    omega (arith, wider, all, left, right, whole, few, within)
+
+small_by : (e q unit : ℕ) → e ≤ 20 → 64 * e ≤ unit + 76 → q * unit ≤ 1231 + unit → q ≤ 42 → e * q ≤ 84
+small_by e zero unit few upper spare chunks = omega arith
+small_by e (suc c) unit few upper spare chunks =
+    let units : suc c * unit ≡ c * unit + unit = grind arith in
+    small_in_all e c unit few upper (omega (arith, units, spare)) (omega (arith, chunks))
+
+pub in_few : (transfer size : ℕ) → MIN_DATA_TRANSFER_SIZE ≤ transfer → transfer ≤ 1233 → size ≤ 1228 → InFewChunks transfer size
+in_few transfer size low high few =
+    let around = div_ceil_times (transfer + 1) 64 (omega arith) in
+    let spare = div_ceil_times (size + 4) (transfer - 12) (omega (arith, low)) in
+    let chunks = chunks_within transfer size low few in
+    record {
+      fits = omega (arith, around.0);
+      few = small_by (div_ceil (transfer + 1) 64) (div_ceil (size + 4) (transfer - 12)) (transfer - 12) (omega (arith, around.1, high)) (omega (arith, around.1, low)) (omega (arith, spare.1, few)) chunks;
+      chunks = chunks;
+    }
+
+pub not_zero : (z : ℕ) → (z ≡ 0 → ⊥) → 1 ≤ z
+not_zero zero other = absurd (other refl)
+not_zero (suc z) other = omega arith
+
+-- One that is not the last is followed by another.
+pub next_below : (j z : ℕ) → j < z → (j + 1 ≡ z → ⊥) → suc j < z
+next_below j z within other = by_case (nat_le z (suc j)) refl
+  where
+    by_case : (b : Bool) → nat_le z (suc j) ≡ b → suc j < z
+    by_case true is = (let few = leb-true _ _ is in absurd (other (omega (arith, few, within))))
+    by_case false is = leb-false _ _ is
+
 -- A message that has bytes has a chunk.
 pub some_of : (size unit : ℕ) → 0 < size → 0 < unit → 1 ≤ div_ceil size unit
 some_of size unit some wide =
     let around = div_ceil_times size unit wide in
-    by_zero (div_ceil size unit) (λ e. (let none : size ≤ 0 * unit = subst (λ (z : ℕ). size ≤ z * unit) e around.0 in omega (arith, none, some)))
-  where
-    by_zero : (z : ℕ) → (z ≡ 0 → ⊥) → 1 ≤ z
-    by_zero zero other = absurd (other refl)
-    by_zero (suc z) other = omega arith
+    not_zero (div_ceil size unit) (λ e. (let none : size ≤ 0 * unit = subst (λ (z : ℕ). size ≤ z * unit) e around.0 in omega (arith, none, some)))

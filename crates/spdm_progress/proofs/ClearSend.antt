@@ -83,7 +83,7 @@ chunk_flag : (terms : Terms) → terms.common.chunk ≡ true → lacks_flag term
 chunk_flag terms e = rw e refl
 
 -- A chunk that is taken.
-chunk_taken : (r : RspSetup) (p : Place) (m : List ℕ) (f : Free) (c : ChunkMessage) → request_at p m ≡ Some (ChunkSend c) → refusal r p m f ≡ None → turn_of r p m f ≡ chunk_turn r p m f c
+pub chunk_taken : (r : RspSetup) (p : Place) (m : List ℕ) (f : Free) (c : ChunkMessage) → request_at p m ≡ Some (ChunkSend c) → refusal r p m f ≡ None → turn_of r p m f ≡ chunk_turn r p m f c
 unfolding turn_of
 chunk_taken r p m f c is taken =
     ap (λ (o : Option ErrorCode). turn_by r p m f o (chunk_in (request_at p m))) taken
@@ -165,9 +165,11 @@ module _ (q : ReqSetup) (r : RspSetup) (v : RequestMessage) (n : Negotiation) (c
   few_bytes j = (let transfer = can.transfer in let least = can.least in subst (λ (k : ℕ). length (send_chunk (piece j)) ≤ k) transfer (get_fits (transfer_there n) handle j m (omega (arith, transfer, least))))
 
   -- Each differs from the one before it.
+  pub pieces_other : (j : ℕ) → send_chunk (piece j) ≡ send_chunk (piece (suc j)) → ⊥
+  pieces_other j e = (let number : slice_index (send_chunk (piece j)) 4 ≡ slice_index (send_chunk (piece (suc j))) 4 = ap (λ (l : List ℕ). slice_index l 4) e in omega (arith, number))
+
   pub pieces_differ : (j : ℕ) → bytes_eq (send_chunk (piece j)) (send_chunk (piece (suc j))) ≡ false
-  pieces_differ j = differ (send_chunk (piece j)) (send_chunk (piece (suc j))) (bytes_eq (send_chunk (piece j)) (send_chunk (piece (suc j)))) refl
-      (λ e. (let number : slice_index (send_chunk (piece j)) 4 ≡ slice_index (send_chunk (piece (suc j))) 4 = ap (λ (l : List ℕ). slice_index l 4) e in omega (arith, number)))
+  pieces_differ j = differ (send_chunk (piece j)) (send_chunk (piece (suc j))) (bytes_eq (send_chunk (piece j)) (send_chunk (piece (suc j)))) refl (pieces_other j)
 
   -- ---- The responder.
 

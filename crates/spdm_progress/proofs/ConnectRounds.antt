@@ -1,6 +1,6 @@
 -- A connect takes three rounds, and one for each further chunk where NEGOTIATE_ALGORITHMS or ALGORITHMS goes by chunks; it
 -- leaves two quiet ends.
-use Rattle.std.proofs.Common.{◌≡◌, ◌⊎◌, ◌∙◌, ℕ, suc, ◌<◌, ◌≤◌, List, ◌∷◌, ◌++◌, length, Bool, false, Some, refl, sym, ap, subst, inl, inr, arith}
+use Rattle.std.proofs.Common.{◌≡◌, ◌⊎◌, ◌∙◌, ℕ, suc, ◌≤◌, List, ◌∷◌, ◌++◌, length, Bool, false, Some, refl, sym, ap, subst, inl, inr, arith}
 use Rattle.std.proofs.lemmas.Bool.{false≢true}
 use Rattle.std.specs.Prelude.{if◌then◌else◌}
 use Rattle.chunking.specs.Cutting.{nth_chunk}
@@ -57,7 +57,7 @@ use Rattle.spdm_progress.proofs.SentAlgorithms.{HasPieces, Sends}
 use Rattle.spdm_progress.proofs.ClearRounds.{ClearWay, way_heard, way_leads, way_sent, way_served, way_still}
 use Rattle.spdm_progress.proofs.PacketSteps.{Pair, asker, server}
 use Rattle.spdm_progress.proofs.SessionBegins.{told_view}
-use Rattle.spdm_progress.proofs.RequesterStages.{Asks as AsksRequest, asks_version, capabilities_sends, next_small, told_connect, version_heard}
+use Rattle.spdm_progress.proofs.RequesterStages.{Asks as AsksRequest, asks_version, capabilities_sends, handle_few, next_small, told_connect, version_heard}
 use Rattle.spdm_progress.proofs.ResponderBegins.{awaits_on, awaits_version, stands_on}
 use Rattle.spdm_progress.proofs.ResponderStages.{AwaitsVersion, HasCapabilities, HasVersion, capabilities, capabilities_answered, first_pair, get_capabilities, get_version, negotiate_algorithms, two_pairs, version, version_answered}
 use Rattle.spdm_progress.proofs.SessionCompletes.{AreFew, Idle, Rests, completes_within, fresh, no_chance_from, placed, runs, times_each}
@@ -80,9 +80,6 @@ module _ (p : Pair) (offer : OfferMessage) (choice : Choice) (can : CanMeet p.re
   -- How many rounds follow that of NEGOTIATE_ALGORITHMS.
   abbrev pub rounds : ℕ
   rounds = rounds_of p offer choice can can.way
-
-  handle_small : (h : asked.History) → asked.next_handle h < 256
-  handle_small h = omega arith
 
   -- ---- The first rounds.
 
@@ -136,7 +133,7 @@ module _ (p : Pair) (offer : OfferMessage) (choice : Choice) (can : CanMeet p.re
       let sent = piece_sent common h v handle 0 in
       let goes : request_sent common h v ≡ sent = ap (λ (b : Bool). if b then sent else plain_sent h v) chunks.split in
       let same : piece_of common v handle 0 ≡ nth_chunk (transfer_there (two_pairs q r)) handle (negotiate_algorithms offer) 0 = ap (λ (c : Common). nth_chunk c.to_responder.transfer handle (negotiate_algorithms offer) 0) (sym can.common_is) in
-      let small = handle_small h in
+      let small = handle_few h in
       let first = nth_chunk (transfer_there (two_pairs q r)) handle (negotiate_algorithms offer) 0 in
       let some = some_pieces p offer choice can chunks in
       let on = way_leads p (capabilities r) (send_chunk first) AsksCapabilities (Sends q r offer chunks.send handle small 0) (HasPieces q r offer chunks.send handle small 0 (get_capabilities q)) event.Progress tag body log h g d sent

@@ -9,15 +9,16 @@ use Rattle.responder_machine.proofs.Ids.{free_id-range}
 use Rattle.responder_machine.proofs.VerifyLength.{length_verify}
 use Rattle.responder_machine.specs.Answer.{Free, request_at, summary_answer, t1_with}
 use Rattle.responder_machine.specs.Does.{chosen, clear_chosen, clear_does}
-use Rattle.responder_machine.specs.Handling.{goes_large, turn_of}
+use Rattle.responder_machine.specs.Handling.{goes_large, large_response, request_effect, request_reply, turn_of}
 use Rattle.responder_machine.specs.History as served
 use Rattle.responder_machine.specs.History.Entry.{Clear}
-use Rattle.responder_machine.specs.Place.{clear_place, free_id, held_of, place_terms}
-use Rattle.responder_machine.specs.Refusal.{is_answer_too_long, has_pending, is_exchange_refused, phase_allows}
+use Rattle.responder_machine.specs.Place.{clear_place, free_id, held_of, inside, place_terms}
+use Rattle.responder_machine.specs.Refusal.{is_answer_too_long, has_pending, is_exchange_refused, phase_allows, refusal}
 use Rattle.responder_machine.specs.Responder.{is_repeat}
 use Rattle.responder_machine.specs.Responder.Outcome.{Adds}
 use Rattle.responder_machine.specs.Setup.{RspSetup}
 use Rattle.responder_machine.specs.Turn.{Turn}
+use Rattle.responder_machine.specs.Turn.Effect.{Took}
 use Rattle.running_hash.specs.Hash.{hash_of}
 use Rattle.spdm_agreement.specs.Configured.{IsResponder}
 use Rattle.spdm_agreement.proofs.Responder.Exchange.{answer_parts, before_verify, front_of, length_summary, own_verify}
@@ -42,7 +43,7 @@ use Rattle.spdm_machine.specs.Terms.{Terms}
 use Rattle.transcript.specs.Transcripts.{vca_of, without_verify}
 use Rattle.spdm_progress.specs.Opening.{exchange_rsp_size}
 use Rattle.spdm_progress.proofs.ResponderStages.{adds}
-use Rattle.spdm_progress.proofs.ResponderTurns.{contents_passed, form_passed, not_refused as passes_all, read_at, taken_somehow, turn_with}
+use Rattle.spdm_progress.proofs.ResponderTurns.{contents_passed, effect_so, form_passed, not_refused as passes_all, read_at, reply_so, taken_somehow, turn_with}
 
 pub hash_few : (hash : HashAlg) → (32 ≤ hash_size hash) × (hash_size hash ≤ 48)
 hash_few Sha256 = ((omega arith), (omega arith))
@@ -223,6 +224,47 @@ module _ (r : RspSetup) (g : served.History) (d : Draw) (x : ExchangeMessage) wh
           limit = limit;
         })))
         ∙ ap turn_as goes
+
+    -- So it is inside of its chunks.
+    pub exchange_inside : served.phase_of (served.clear_turns g) ≡ Negotiated → length m ≤ r.max → x.hint ≡ r.hint → (not (x.summary == 0) && not terms.choice.measure) ≡ false → is_answer_too_long (inside (clear_place g)) answer ≡ false → (held_of g == 4) ≡ false
+        → refusal r (inside (clear_place g)) m f ≡ None
+    exchange_inside phase fits hint summary long limit =
+        let k = exchange_fits hash x is in
+        let place = inside (clear_place g) in
+        let reads_there : request_at place m ≡ Some (PskExchange x) = read_at place (PskExchange x) k.0 k.1 in
+        passes_all r place m f
+        (form_passed r place m (PskExchange x) reads_there (record {
+          long = lt_false (length m) 4 (omega (arith, exchange_length x));
+          short = lt_false r.max (length m) fits;
+          known = refl;
+          outside = refl;
+          whole = refl;
+          placed = refl;
+          allowed = ap (λ (p : Phase). phase_allows p (has_pending place) PSK_EXCHANGE) phase;
+          version = refl;
+        }))
+        (contents_passed r place m f (PskExchange x) reads_there (record {
+          flags = refl;
+          caps = refl;
+          offer = refl;
+          block = refl;
+          exchange = not_refused hint (x.summary == 0) terms.choice.measure refl refl summary;
+          verify = refl;
+          update = refl;
+          chunk = refl;
+          get = refl;
+          fits = long;
+          limit = limit;
+        }))
+
+    -- Its effect, and what is sent for it.
+    pub inside_leads : (large : Bool) → goes_large (inside (clear_place g)) answer ≡ large
+        → (request_effect r (inside (clear_place g)) m f ≡ Took (PskExchange x) m answer (if large then Some f.handle else None)) × (request_reply r (inside (clear_place g)) m f ≡ (if large then large_response f.handle else answer))
+    inside_leads large goes =
+        let k = exchange_fits hash x is in
+        let place = inside (clear_place g) in
+        let reads_there : request_at place m ≡ Some (PskExchange x) = read_at place (PskExchange x) k.0 k.1 in
+        (effect_so r place m f (PskExchange x) large reads_there goes, reply_so r place m f (PskExchange x) large reads_there goes)
 
     new_there : (o : Option served.Kept) (tag : ℕ) (b : Bool) → ((k : served.Kept) → o ≡ Some k → k.message ≢ m) → is_repeat o tag m ≡ b → b ≡ false
     new_there None tag b new is_so = sym is_so

@@ -50,7 +50,7 @@ use Rattle.spdm_progress.proofs.SessionTurns.{TakesInSession, answer_read, not_l
 use Rattle.spdm_progress.proofs.SingleRound.{IsLast}
 
 abbrev pub finish_asking : List ℕ → Asking
-finish_asking psk = record { ask = AskFinish; inner = λ s. inner_request (PskFinish (finish_verify psk s)); brings = λ t. Grants AskFinish t.reply; may = λ t. refl; before = λ turns. Unit {0} }
+finish_asking psk = record { ask = AskFinish; inner = λ s. inner_request (PskFinish (finish_verify psk s)); brings = λ t. Grants AskFinish t.reply; may = λ t. refl; before = λ turns. Unit {0}; there = λ g. Unit {0}; there_on = λ r g later alike z. tt; knows = λ g t. Unit {0} }
 
 -- ---- The responder.
 
@@ -118,7 +118,8 @@ module _ (p : Pair) (same_key : p.requester.psk ≡ p.responder.psk) (id : ℕ) 
 
   finish_answered : AreAnswered p.requester p.responder p.first id x CanFinish (IsSpdm p same_key id sid asker server (canonical_response PskFinishRsp))
   finish_answered = record {
-    turns = λ g s e f sealed d fit at k made drawn here is known.
+    there = λ g s e f sealed d fit at k is. tt;
+    turns = λ g s e f sealed d fit at k made drawn here is known queued.
         let verify = finish_verify p.requester.psk s in
         let own = length_verify (steps.session_terms s).choice p.requester.psk (steps.t1_of s) direction.Request (finish_input s) in
         let fits = fit.fits in

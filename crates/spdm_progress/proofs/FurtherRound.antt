@@ -40,7 +40,7 @@ module _ (q : ReqSetup) (r : RspSetup) (first id : ℕ) (x x' : Asking) (Fit Fit
   abbrev pub next : Sent
   next = record_sent q h id s x'.ask (x'.inner s) []
 
-  module _ (leads : inner_led q h (body_chosen q h d) (came_as h id (answer_for q r first id x y.s y.t) (inner_reply y.t)) x.ask ≡ Ok (led q r first id x Fit Good tag log h g d body y event (Some next))) (kept : is_kept x.ask ≡ true) (fit : Fit' s) (at : steps.stage_of s ≡ stage_for x'.ask) (short : length (x'.inner s) + 0 ≤ 4134) (known : x'.before (events.turns_of (events.session_of (rsp_id y.s) g))) where
+  module _ (leads : inner_led q h (body_chosen q h d) (came_as h id (answer_for q r first id x y.s y.t) (inner_reply y.t)) x.ask ≡ Ok (led q r first id x Fit Good tag log h g d body y event (Some next))) (kept : is_kept x.ask ≡ true) (fit : Fit' s) (at : steps.stage_of s ≡ stage_for x'.ask) (short : length (x'.inner s) + 0 ≤ 4134) (known : x'.before (events.turns_of (events.session_of (rsp_id y.s) g))) (queued : x'.there g) where
     abbrev pub sealed : List ℕ
     sealed = sealed_next q.psk s (x'.inner s) []
 
@@ -77,6 +77,7 @@ module _ (q : ReqSetup) (r : RspSetup) (first id : ℕ) (x x' : Asking) (Fit Fit
       older = checks ++ log;
       log_is = acts_are;
       known = known;
+      queued = queued;
       last = last_then q r first id x Fit Good tag log h g d body y event (Some next) leads checks kept;
       beside = beside_then q r first id x Fit Good tag log h g d body y event (Some next) leads acts;
     }

@@ -19,7 +19,7 @@ use Rattle.responder_machine.specs.Place.{clear_place}
 use Rattle.responder_machine.specs.Refusal.{sizes_are_known}
 use Rattle.responder_machine.specs.Setup.{RspSetup, policy_of}
 use Rattle.spdm_grammar.specs.Message.{ChunkMessage, ExchangeMessage, OfferMessage, RequestMessage}
-use Rattle.spdm_grammar.specs.Message.RequestMessage.{ChunkGet, NegotiateAlgorithms, PskExchange}
+use Rattle.spdm_grammar.specs.Message.RequestMessage.{ChunkGet, ChunkSend, NegotiateAlgorithms, PskExchange}
 use Rattle.spdm_grammar.specs.Requests.{FitsRequest, IsSoundRequest, canonical_request}
 use Rattle.spdm_grammar.specs.declared.choice.Choice.{Choice}
 use Rattle.spdm_grammar.specs.declared.event.Event.TheVariants as event
@@ -33,7 +33,10 @@ use Rattle.spdm_progress.proofs.ResponderStages.{Answered, HasCapabilities, Stan
 use Rattle.spdm_progress.proofs.ResponderTurns.{read_at, taken_somehow, taken_turn, turn_with}
 use Rattle.spdm_progress.proofs.StillKept.{AreAlike}
 
--- CHUNK_GET is no PSK_EXCHANGE.
+-- CHUNK_SEND is no PSK_EXCHANGE, and CHUNK_GET is none.
+pub send_no_exchange : (c : ChunkMessage) (x : ExchangeMessage) → canonical_request (ChunkSend c) ≡ canonical_request (PskExchange x) → ⊥
+send_no_exchange c x e = (let code : slice_index (canonical_request (ChunkSend c)) 1 ≡ slice_index (canonical_request (PskExchange x)) 1 = ap (λ (l : List ℕ). slice_index l 1) e in omega (arith, code))
+
 pub get_no_exchange : (handle k : ℕ) (x : ExchangeMessage) → get_chunk handle k ≡ canonical_request (PskExchange x) → ⊥
 get_no_exchange handle k x e = (let code : slice_index (get_chunk handle k) 1 ≡ slice_index (canonical_request (PskExchange x)) 1 = ap (λ (l : List ℕ). slice_index l 1) e in omega (arith, code))
 

@@ -49,10 +49,10 @@ use Rattle.spdm_progress.specs.Measuring.{measurements_size}
 use Rattle.measurements.specs.Records.{asked as blocks_asked}
 use Rattle.spdm_progress.proofs.ClearFetch.{CanFetch, IsPending, differ, get_chunk, gets_differ, large_fits, large_goes}
 use Rattle.spdm_progress.proofs.Drawn.{AreDrawn}
-use Rattle.spdm_progress.proofs.MeasureStages.{answer_at, answer_is, get_measurements, measured, measured_fits, measured_led, measured_sound, measurements, measurements_are, measures_flag, same_by, same_negotiation, some_turn, taken_so, told_number, unchanged}
+use Rattle.spdm_progress.proofs.MeasureStages.{answer_at, answer_is, get_measurements, measured, measured_fits, measured_led, measured_sound, measurements, measurements_are, measures_flag, same_negotiation, some_turn, taken_so, told_number, unchanged}
 use Rattle.spdm_progress.proofs.RequesterStages.{reads}
 use Rattle.spdm_progress.proofs.ResponderBegins.{is_none_none, refused_with}
-use Rattle.spdm_progress.proofs.ResponderStages.{LastTook, adds}
+use Rattle.spdm_progress.proofs.ResponderStages.{LastTook, adds, same_by}
 use Rattle.spdm_progress.proofs.ResponderTurns.{contents_passed, form_passed, not_refused, read_at, taken_somehow}
 
 -- ---- The messages.
@@ -167,7 +167,7 @@ module _ (q : ReqSetup) (r : RspSetup) (op : ℕ) (n : Negotiation) (can : GoesL
   from_memory g tag d again (Some k) is repeats =
       let message = (bytes_eq-Decides k.message m).0 (and_second (k.tag == tag) (bytes_eq k.message m) repeats) in
       let found = again k is message in
-      let same = same_by r g tag op d k is (ap (λ (o : Option served.Kept). is_repeat o tag m) is ∙ repeats) in record {
+      let same = same_by r g tag m d k is (ap (λ (o : Option served.Kept). is_repeat o tag m) is ∙ repeats) in record {
         nonce = found.nonce;
         whole = found.whole;
         handle = found.handle;

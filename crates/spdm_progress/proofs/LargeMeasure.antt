@@ -1,9 +1,8 @@
 -- A clear measure whose answer goes by chunks: one round for each chunk behind the first, and it leaves quiet ends quiet.
-use Rattle.std.proofs.Common.{◌≡◌, ◌⊎◌, ◌∙◌, ℕ, zero, suc, ◌<◌, ◌≤◌, ◌+◌, ◌*◌, ◌-◌, ◌==◌, List, [], ◌∷◌, ◌++◌, length, Bool, true, false, Some, None, refl, sym, ap, subst, inl, inr, arith, add-one}
+use Rattle.std.proofs.Common.{◌≡◌, ◌⊎◌, ◌∙◌, ℕ, suc, ◌<◌, ◌≤◌, ◌+◌, ◌*◌, ◌-◌, ◌==◌, List, [], ◌∷◌, ◌++◌, length, Bool, true, false, Some, None, refl, sym, ap, subst, inl, inr, arith, add-one}
 use Rattle.std.specs.Int.{div_ceil}
 use Rattle.std.specs.Prelude.{slice_index}
 use Rattle.std.proofs.lemmas.Bool.{eqb-false}
-use Rattle.std.proofs.lemmas.Grind.{div_ceil_times}
 use Rattle.chunking.specs.Cutting.{chunk_count, chunks_before, nth_chunk}
 use Rattle.requester_machine.specs.Answers.{goes_on}
 use Rattle.requester_machine.specs.Asking.{Outcome}
@@ -47,6 +46,7 @@ use Rattle.transcript.specs.Transcripts.{Negotiation}
 use Rattle.world_machine.specs.Chance.{NoChance}
 use Rattle.spdm_progress.specs.InStep.{AreQuiet, TookEarlier}
 use Rattle.spdm_progress.specs.Measuring.{measurements_size, number_for, record_for}
+use Rattle.spdm_progress.proofs.ChunkCounts.{not_zero, some_of}
 use Rattle.spdm_progress.proofs.ClearFetch.{IsPending, chunk_is_few, chunk_response, fetching, get_chunk, gives_chunk, heard_large, heard_more, heard_whole, pending_next, served_chunk, transfer_in}
 use Rattle.spdm_progress.proofs.LargeAlgorithms.{get_no_exchange}
 use Rattle.spdm_progress.proofs.LargeAnswers.{GoesLarge, LargeAgain, again_at, before_differs, before_get, heard_last, served_large}
@@ -98,15 +98,7 @@ module _ (p : Pair) (op : ℕ) (h0 : asked.History) (d0 : Draw) (can : GoesLarge
   count_is nonce whole = ap (λ (size : ℕ). div_ceil (size + 4) (transfer - 12)) (measurements_are r op nonce whole)
 
   some_chunks : 0 < count
-  some_chunks =
-      let least = can.fetch.least in
-      let is = can.fetch.transfer in
-      let around = div_ceil_times (measurements_size r op + 4) (transfer - 12) (omega (arith, least, is)) in
-      by_zero count (λ e. (let none : (measurements_size r op + 4) ≤ 0 * (transfer - 12) = subst (λ (z : ℕ). (measurements_size r op + 4) ≤ z * (transfer - 12)) e around.0 in omega (arith, none)))
-    where
-      by_zero : (z : ℕ) → (z ≡ 0 → ⊥) → 0 < z
-      by_zero zero other = absurd (other refl)
-      by_zero (suc z) other = omega arith
+  some_chunks = (let least = can.fetch.least in let is = can.fetch.transfer in some_of (measurements_size r op + 4) (transfer - 12) (omega arith) (omega (arith, least, is)))
 
   -- The requester, since the command: it took nothing that counts.
   pub record Since (h : asked.History) : Type 0 where
@@ -380,7 +372,7 @@ module _ (p : Pair) (op : ℕ) (h0 : asked.History) (d0 : Draw) (can : GoesLarge
         let made = TookClear tag (chunk_response transfer handle text k) (goes_on Nothing next) d in
         let acts = asked_log.acts_of q h reply_body (Adds made) in
         let other = eqb-false (k + 1) (chunk_count transfer text) again in
-        let fewer = before_it more (positive more (λ none. other (omega (arith, none, left) ∙ sym (count_is nonce whole)))) in
+        let fewer = before_it more (not_zero more (λ none. other (omega (arith, none, left) ∙ sym (count_is nonce whole)))) in
         let so = sym (add-one k) in
         subst LeadsTo (sym is)
         (Further next fewer.0 (sym fewer.1) refl (inr (record {
@@ -398,10 +390,6 @@ module _ (p : Pair) (op : ℕ) (h0 : asked.History) (d0 : Draw) (can : GoesLarge
           pending = pending;
           last = subst (λ (z : ℕ). LastTook (before_get op handle z) g) so last;
         })))
-      where
-        positive : (z : ℕ) → (z ≡ 0 → ⊥) → 0 < z
-        positive zero other = absurd (other refl)
-        positive (suc z) other = omega arith
 
     last_heard : (k + 1 == chunk_count transfer text) ≡ true → LeadsTo (requester_hears q h false tag reply_body d)
     unfolding steps.session_of

@@ -48,6 +48,8 @@ pub mod ChunkRules
 pub mod ChunkCounts
 pub mod ClearFetch
 pub mod ClearSend
+pub mod FirstAgain
+pub mod ChosenHash
 pub mod LargeAlgorithms
 pub mod LargeAnswers
 pub mod LargeMeasure

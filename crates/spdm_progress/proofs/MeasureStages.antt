@@ -23,9 +23,10 @@ use Rattle.requester_machine.specs.Answers.{is_done}
 use Rattle.requester_machine.specs.Does.{body_chosen, requester_hears}
 use Rattle.requester_machine.specs.History as asked
 use Rattle.requester_machine.specs.History.{Led, outstanding, negotiation_of}
-use Rattle.requester_machine.specs.History.Effect.{Answers}
+use Rattle.requester_machine.specs.History.Effect.{Answers, Grants, Nothing}
 use Rattle.requester_machine.specs.Setup.{ReqSetup}
-use Rattle.requester_machine.specs.Shown.{last_data, blocks_of}
+use Rattle.requester_machine.specs.Message.Ask.{AskData, AskMeasure}
+use Rattle.requester_machine.specs.Shown.{blocks_in, blocks_of, bytes_in, effect_in, last_data}
 use Rattle.responder_machine.specs.Answer.{answer_of}
 use Rattle.responder_machine.specs.Does.{chosen, clear_chosen}
 use Rattle.responder_machine.specs.Handling.{turn_of}
@@ -57,12 +58,11 @@ use Rattle.spdm_machine.specs.Bodies.{clear_body}
 use Rattle.spdm_machine.proofs.Members.{some_same}
 use Rattle.responder_machine.proofs.Repeats.{kept_of-taken}
 use Rattle.responder_machine.proofs.Turns.{turn_of-effect, turn_of-refused}
-use Rattle.responder_machine.specs.Does.{IsMade, clear_does}
+use Rattle.responder_machine.specs.Does.{IsMade}
 use Rattle.responder_machine.specs.Handling.{goes_large}
 use Rattle.responder_machine.specs.History.Entry.{Clear, Sealed, Queued, Ticked, Dropped}
 use Rattle.responder_machine.specs.Refusal.{refusal}
-use Rattle.responder_machine.specs.Responder.{Outcome, after, body_of, kept_reply, on_clear}
-use Rattle.responder_machine.specs.Responder.Outcome.{Same}
+use Rattle.responder_machine.specs.Responder.{Outcome, after, body_of}
 use Rattle.responder_machine.specs.Responding.{data_of}
 use Rattle.responder_machine.specs.Turn.{Turn, is_taken}
 use Rattle.responder_machine.specs.Turn.Effect.{NoEffect}
@@ -75,7 +75,7 @@ use Rattle.spdm_progress.proofs.Accepted.{not_worn_told, told_done}
 use Rattle.spdm_progress.proofs.AtRequester.{led_plain}
 use Rattle.spdm_progress.proofs.RequesterStages.{Asks, Hears, hears_as, hears_by, reads}
 use Rattle.spdm_progress.proofs.ResponderBegins.{SameClear, is_none_none, refused_with}
-use Rattle.spdm_progress.proofs.ResponderStages.{Answered, Takes, adds, answers_by, not_large, not_too_long}
+use Rattle.spdm_progress.proofs.ResponderStages.{Answered, Takes, adds, answers_by, not_large, not_too_long, same_by}
 use Rattle.spdm_progress.proofs.ResponderTurns.{read_at, taken_at, taken_turn}
 
 -- ---- The two messages.
@@ -195,15 +195,11 @@ measure_turn q r h d tag op n drawn can has =
 abbrev IsAnswered : RspSetup → served.History → ℕ → ℕ → Negotiation → Draw → Type 0
 IsAnswered r h tag op n d = (nonce : List ℕ) × (length nonce ≡ 32) × Answered r h tag (get_measurements op) d (measurements r op nonce) (Served n)
 
-pub same_by : (r : RspSetup) (h : served.History) (tag op : ℕ) (d : Draw) (k : served.Kept) → served.kept_of h ≡ Some k → is_repeat (served.kept_of h) tag (get_measurements op) ≡ true → clear_does r h tag (get_measurements op) d ≡ Same (clear_body k.reply)
-unfolding on_clear
-same_by r h tag op d k is repeats = rw repeats (ap (λ (o : Option served.Kept). Same (clear_body (kept_reply o))) is)
-
 from_memory : (q : ReqSetup) (r : RspSetup) (h : served.History) (d : Draw) (tag op : ℕ) (n : Negotiation) → Serves r n tag op h → (o : Option served.Kept) → served.kept_of h ≡ o → is_repeat o tag (get_measurements op) ≡ true → IsAnswered r h tag op n d
 from_memory q r h d tag op n has None is repeats = absurd (false≢true repeats)
 from_memory q r h d tag op n has (Some k) is repeats =
     let found = has.again k is ((bytes_eq-Decides k.message (get_measurements op)).0 (and_second (k.tag == tag) (bytes_eq k.message (get_measurements op)) repeats)) in
-    let same = same_by r h tag op d k is (ap (λ (o : Option served.Kept). is_repeat o tag (get_measurements op)) is ∙ repeats) in (
+    let same = same_by r h tag (get_measurements op) d k is (ap (λ (o : Option served.Kept). is_repeat o tag (get_measurements op)) is ∙ repeats) in (
       found.0,
       found.1,
       record {
@@ -318,6 +314,22 @@ measured_led r op nonce = is_done (finished.Measured (number_for r op)) (Answers
 pub record_taken : (r : RspSetup) (h : asked.History) (tag op : ℕ) (m nonce : List ℕ) (d : Draw) → length nonce ≡ 32 → measurements_size r op ≤ 4138 → last_data (TookClear tag m (measured_led r op nonce) d ∷ h) ≡ record_for r op
 record_taken r h tag op m nonce d whole within =
     ap (λ (o : Option ResponseMessage). unwrap_or (option_or None (blocks_of o)) (last_data h)) (ap result_ok (reads h (Measurements (measured r op nonce)) 32 (measured_fits r op nonce) (measured_sound r op 32 nonce whole within)))
+
+-- What the newest entry brought about.
+abbrev pub newest_in : asked.History → asked.Effect
+newest_in [] = Nothing
+newest_in (entry ∷ older) = effect_in entry
+
+-- What is taken last behind an answer in a session.
+pub granted_record : (r : RspSetup) (op : ℕ) (nonce : List ℕ) (h : asked.History) → newest_in h ≡ Grants (AskMeasure op) (measurements r op nonce) → length nonce ≡ 32 → measurements_size r op ≤ 4138 → last_data h ≡ record_for r op
+granted_record r op nonce [] is whole within = absurd (cc)
+granted_record r op nonce (entry ∷ older) is whole within =
+    ap (λ (e : asked.Effect). unwrap_or (option_or (bytes_in e) (blocks_in e)) (last_data older)) is
+    ∙ ap (λ (o : Option ResponseMessage). unwrap_or (option_or None (blocks_of o)) (last_data older)) (ap result_ok (reads older (Measurements (measured r op nonce)) 32 (measured_fits r op nonce) (measured_sound r op 32 nonce whole within)))
+
+pub granted_data : (h : asked.History) (bytes : List ℕ) → newest_in h ≡ Grants AskData bytes → last_data h ≡ bytes
+granted_data [] bytes is = absurd (cc)
+granted_data (entry ∷ older) bytes is = ap (λ (e : asked.Effect). unwrap_or (option_or (bytes_in e) (blocks_in e)) (last_data older)) is
 
 pub measure_outcome : (q : ReqSetup) (r : RspSetup) (h : asked.History) (tag op : ℕ) (n : Negotiation) (nonce : List ℕ) (d : Draw) → length nonce ≡ 32 → CanServe q r op n → Asks q tag (GetMeasurements op) (get_measurements op) n h
     → requester_hears q h false tag (clear_body (measurements r op nonce)) d ≡ Adds (TookClear tag (measurements r op nonce) (measured_led r op nonce) d)

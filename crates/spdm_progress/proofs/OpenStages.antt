@@ -1,10 +1,11 @@
 -- An open begins: what holds of the two ends while PSK_EXCHANGE, its answer or a chunk of it is on its way.
-use Rattle.std.proofs.Common.{◌≡◌, ◌≢◌, ◌⊎◌, ◌∙◌, ℕ, zero, suc, ◌<◌, ◌≤◌, ◌+◌, ◌-◌, ◌^◌, ◌==◌, ◌&&◌, List, [], ◌∷◌, ◌++◌, length, Bool, true, false, not, Some, None, Ok, refl, sym, ap, ap₂, subst, inl, inr, arith, eq-eqb}
-use Rattle.std.specs.Prelude.{if◌then◌else◌}
+use Rattle.std.proofs.Common.{◌≡◌, ◌≢◌, ◌⊎◌, ◌∙◌, ℕ, suc, nat_lt, ◌<◌, ◌≤◌, ◌+◌, ◌-◌, ◌^◌, ◌==◌, ◌&&◌, List, [], ◌∷◌, ◌++◌, length, Bool, true, false, not, Option, Some, None, Ok, refl, sym, ap, ap₂, subst, inl, inr, arith, eq-eqb}
+use Rattle.std.specs.Prelude.{bytes_eq, if◌then◌else◌}
 use Rattle.std.proofs.lemmas.Bool.{ne_eqb}
 use Rattle.std.specs.Int.{div_ceil}
-use Rattle.chunking.specs.Cutting.{chunk_count, chunks_before}
+use Rattle.chunking.specs.Cutting.{chunk_count, chunks_before, nth_chunk}
 use Rattle.key_schedule.specs.declared.direction.Direction.TheVariants as direction
+use Rattle.requester_machine.specs.Answers.{goes_on}
 use Rattle.requester_machine.specs.Asking.Outcome.{Adds}
 use Rattle.requester_machine.specs.ClearAnswers.{carried_by, clear_led, read_led, reading_of}
 use Rattle.requester_machine.specs.Commands.{Free as AskerFree, exchange_for}
@@ -14,15 +15,16 @@ use Rattle.requester_machine.specs.History as asked
 use Rattle.requester_machine.specs.History.{Led, outstanding}
 use Rattle.requester_machine.specs.History.Effect.{Answers, Nothing}
 use Rattle.requester_machine.specs.History.Entry.{Told, TookClear}
+use Rattle.requester_machine.specs.Message.{Sent, asked_in}
 use Rattle.requester_machine.specs.Message.Aim.{Plain}
 use Rattle.requester_machine.specs.Message.Command.{Open}
-use Rattle.requester_machine.specs.Sending.{plain_sent}
+use Rattle.requester_machine.specs.Message.Content.{Clear as ClearContent}
+use Rattle.requester_machine.specs.Sending.{get_sent, piece_sent, plain_sent, request_sent}
 use Rattle.requester_machine.specs.Session as steps
 use Rattle.requester_machine.specs.Session.{Steps}
 use Rattle.requester_machine.specs.Session.Step.{Accepted, Asked, Started}
 use Rattle.requester_machine.specs.Setup.{ReqSetup}
 use Rattle.responder_machine.specs.Does.{chosen as chosen_there, clear_chosen}
-use Rattle.responder_machine.specs.Handling.{large_response}
 use Rattle.responder_machine.specs.History as served
 use Rattle.responder_machine.specs.History.Entry.{Clear}
 use Rattle.responder_machine.specs.Place.{free_id, held_of, is_held}
@@ -34,9 +36,10 @@ use Rattle.running_hash.specs.Hash.{hash_of}
 use Rattle.spdm_agreement.specs.Configured.{IsRequester, IsResponder}
 use Rattle.spdm_basis.specs.Sizes.{hash_size}
 use Rattle.spdm_grammar.specs.declared.names.TheConstants.{MAX_MESSAGE_SIZE}
-use Rattle.spdm_grammar.specs.Message.{ExchangeMessage, ExchangeRspMessage, RequestMessage}
+use Rattle.spdm_grammar.specs.Message.{ChunkMessage, ExchangeMessage, ExchangeRspMessage, RequestMessage}
 use Rattle.spdm_grammar.specs.Message.RequestMessage.{PskExchange}
 use Rattle.spdm_grammar.specs.Message.ResponseMessage.{PskExchangeRsp}
+use Rattle.spdm_grammar.specs.Requests.{canonical_request}
 use Rattle.spdm_grammar.specs.Responses.{response_reading}
 use Rattle.spdm_grammar.specs.declared.phase.Phase.TheVariants.{Negotiated}
 use Rattle.spdm_machine.specs.Bodies.{clear_body}
@@ -47,10 +50,13 @@ use Rattle.spdm_machine.specs.Terms.{Terms, terms_of}
 use Rattle.transcript.specs.Transcripts.{Negotiation, vca_of, without_verify}
 use Rattle.spdm_progress.specs.InStep.{AreInStep, AreQuiet, AreResting, rsp_id}
 use Rattle.spdm_progress.specs.Opening.{exchange_rsp_size}
-use Rattle.spdm_progress.proofs.ClearFetch.{CanFetch, IsPending, chunk_is_few, chunk_response, fetching, get_chunk, transfer_in}
+use Rattle.spdm_progress.proofs.AtRequester.{asking}
+use Rattle.spdm_progress.proofs.ClearSend.{AreHeld, CanSend, ack_of, few_bytes as piece_bytes, send_chunk, sending, transfer_there}
+use Rattle.spdm_progress.proofs.ClearFetch.{CanFetchIn, IsPending, chunk_is_few, chunk_response, fetching, get_chunk, transfer_in}
 use Rattle.spdm_progress.proofs.LargeMeasure.{last_on}
 use Rattle.spdm_progress.proofs.ExchangeStages.{IsExchange, exchange_bytes, exchange_length, hash_few}
 use Rattle.spdm_progress.proofs.FinishRound.{finish_asking}
+use Rattle.spdm_progress.proofs.FirstAgain.{IsKeptRight, right_still}
 use Rattle.spdm_progress.proofs.ManyPackets.{clear_is_body}
 use Rattle.spdm_progress.proofs.PacketSteps.{Pair}
 use Rattle.spdm_progress.proofs.RecordRounds.{Beside, last_waited, quiet_still, resting_past}
@@ -100,10 +106,33 @@ plainly q h f v m = refl
 
 -- ---- What an open begins with.
 
--- The answer fits one message.
-pub record GoesWhole (q : ReqSetup) (n : Negotiation) (size : ℕ) : Type 0 where
-  pub fits : size ≤ (terms_of n).common.to_requester.transfer
-  pub own : size ≤ q.transfer
+-- The answer, with so many bytes round it, fits one message.
+pub record GoesWhole (round : ℕ) (q : ReqSetup) (n : Negotiation) (size : ℕ) : Type 0 where
+  pub fits : round + size ≤ (terms_of n).common.to_requester.transfer
+  pub own : round + size ≤ q.transfer
+
+-- It goes whole, or by chunks.
+abbrev pub AnswerGoes : (round : ℕ) → ReqSetup → RspSetup → Negotiation → (size : ℕ) → Type 0
+AnswerGoes round q r n size = GoesWhole round q n size ⊎ CanFetchIn round q r size n
+
+-- PSK_EXCHANGE goes whole, or by chunks; its answer goes with nothing or with 6 bytes round it.
+pub record SendsWhole (q : ReqSetup) (r : RspSetup) (n : Negotiation) (v : RequestMessage) (size : ℕ) : Type 0 where
+  pub request_fits : length (canonical_request v) ≤ r.transfer
+  pub whole : nat_lt (transfer_there n) (length (canonical_request v)) ≡ false
+  pub answer : AnswerGoes 0 q r n size
+
+pub record SendsChunks (q : ReqSetup) (r : RspSetup) (n : Negotiation) (v : RequestMessage) (size : ℕ) : Type 0 where
+  pub send : CanSend q r (canonical_request v) n
+  pub split : nat_lt (transfer_there n) (length (canonical_request v)) ≡ true
+  pub answer_max : size ≤ (terms_of n).common.to_requester.max
+  pub answer : AnswerGoes 6 q r n size
+
+abbrev pub Way : ReqSetup → RspSetup → Negotiation → RequestMessage → (size : ℕ) → Type 0
+Way q r n v size = SendsWhole q r n v size ⊎ SendsChunks q r n v size
+
+-- What the command sends.
+abbrev pub exchange_sent : asked.History → ExchangeMessage → Sent
+exchange_sent h x = request_sent (asked.connection_terms h).common h (PskExchange x)
 
 -- A requester that was told to open, with this history and this draw.
 pub record CanExchange (q : ReqSetup) (r : RspSetup) (first summary : ℕ) (h : asked.History) (d : Draw) (x : ExchangeMessage) : Type 0 where
@@ -112,10 +141,9 @@ pub record CanExchange (q : ReqSetup) (r : RspSetup) (first summary : ℕ) (h : 
   pub sound : IsExchange (asked.connection_terms h).choice.hash x
   pub measures : (not (x.summary == 0) && not (asked.connection_terms h).choice.measure) ≡ false
   pub hint : x.hint ≡ r.hint
-  pub request_fits : length (exchange_bytes x) ≤ r.transfer
-  pub way : GoesWhole q (asked.negotiation_of h) (exchange_rsp_size r (asked.connection_terms h) x.summary) ⊎ CanFetch q r (exchange_rsp_size r (asked.connection_terms h) x.summary) (asked.negotiation_of h)
+  pub way : Way q r (asked.negotiation_of h) (PskExchange x) (exchange_rsp_size r (asked.connection_terms h) x.summary)
   pub finish_fits : 4 + hash_size (asked.connection_terms h).choice.hash ≤ r.transfer
-  pub asks : requester_asks false q h (Open summary) d ≡ Adds (Told (Open summary) (plain_sent h (PskExchange x)) d)
+  pub asks : requester_asks false q h (Open summary) d ≡ Adds (Told (Open summary) (exchange_sent h x) d)
   pub free : steps.is_live (steps.session_of x.req_id h) ≡ false
   pub context : x.context ≡ context_of (asked.connection_terms h).choice.hash d
   pub drawn : length d.bytes ≡ 32
@@ -146,15 +174,43 @@ module _ (p : Pair) (same_key : p.requester.psk ≡ p.responder.psk) (asker : Is
 
   -- The history behind the command.
   abbrev pub h1 : asked.History
-  h1 = Told (Open summary) (plain_sent h0 (PskExchange x)) d0 ∷ h0
+  h1 = Told (Open summary) (exchange_sent h0 x) d0 ∷ h0
+
+  asks_exchange : (b : Bool) → asked_in (if b then piece_sent terms.common h0 (PskExchange x) (asked.next_handle h0) 0 else plain_sent h0 (PskExchange x)).aim ≡ Some (PskExchange x)
+  asks_exchange true = refl
+  asks_exchange false = refl
+
+  is_asked : asked_in (exchange_sent h0 x).aim ≡ Some (PskExchange x)
+  is_asked = asks_exchange (nat_lt (transfer_there n) (length m))
 
   pub begun_here : steps.session_of id h1 ≡ Started n m ∷ []
   unfolding steps.session_of
-  begun_here = ap (λ (b : Bool). if b then Started n m ∷ [] else steps.session_of id h0) (eq-eqb id id refl)
+  begun_here =
+      ap (λ (o : Option RequestMessage). steps.begun id n o (steps.session_of id h0)) is_asked
+      ∙ ap (λ (b : Bool). if b then Started n m ∷ [] else steps.session_of id h0) (eq-eqb id id refl)
 
   pub others_same : (j : ℕ) → j ≢ id → steps.session_of j h1 ≡ steps.session_of j h0
   unfolding steps.session_of
-  others_same j other = ap (λ (b : Bool). if b then Started n m ∷ [] else steps.session_of j h0) (ne_eqb id j (λ same. other (sym same)))
+  others_same j other =
+      ap (λ (o : Option RequestMessage). steps.begun j n o (steps.session_of j h0)) is_asked
+      ∙ ap (λ (b : Bool). if b then Started n m ∷ [] else steps.session_of j h0) (ne_eqb id j (λ same. other (sym same)))
+
+  -- What is outstanding, whole or the first chunk.
+  pub sent_plain : nat_lt (transfer_there n) (length m) ≡ false → exchange_sent h0 x ≡ plain_sent h0 (PskExchange x)
+  sent_plain whole = ap (λ (b : Bool). if b then piece_sent terms.common h0 (PskExchange x) (asked.next_handle h0) 0 else plain_sent h0 (PskExchange x)) whole
+
+  pub sent_whole : (tag : ℕ) → nat_lt (transfer_there n) (length m) ≡ false → tag ≡ asked.next_tag h0 → outstanding h1 ≡ Some (asking tag (ClearContent m) (PskExchange x))
+  sent_whole tag whole tag_is =
+      ap (λ (s : Sent). let o : Option Sent = Some s in o) (sent_plain whole)
+      ∙ ap (λ (t : ℕ). let o : Option Sent = Some (asking t (ClearContent m) (PskExchange x)) in o) (sym tag_is)
+
+  pub sent_first : nat_lt (transfer_there n) (length m) ≡ true → exchange_sent h0 x ≡ piece_sent terms.common h0 (PskExchange x) (asked.next_handle h0) 0
+  sent_first split = ap (λ (b : Bool). if b then piece_sent terms.common h0 (PskExchange x) (asked.next_handle h0) 0 else plain_sent h0 (PskExchange x)) split
+
+  pub outstanding_first : nat_lt (transfer_there n) (length m) ≡ true → outstanding h1 ≡ Some (sending (PskExchange x) (exchange_sent h0 x).tag (asked.next_handle h0) 0 (nth_chunk (transfer_there n) (asked.next_handle h0) m 0))
+  outstanding_first split =
+      ap (λ (s : Sent). let o : Option Sent = Some s in o) (sent_first split)
+      ∙ ap (λ (t : ℕ). let o : Option Sent = Some (sending (PskExchange x) t (asked.next_handle h0) 0 (nth_chunk (transfer_there n) (asked.next_handle h0) m 0)) in o) (sym (ap (λ (s : Sent). s.tag) (sent_first split)))
 
   -- ---- The stages.
 
@@ -168,16 +224,46 @@ module _ (p : Pair) (same_key : p.requester.psk ≡ p.responder.psk) (asker : Is
   abbrev pub count : ℕ
   count = div_ceil (size + 4) (transfer - 12)
 
-  -- How many rounds follow the one of PSK_EXCHANGE.
-  abbrev pub rounds_of : GoesWhole q n size ⊎ CanFetch q r size n → ℕ
-  rounds_of (inl whole) = 1
-  rounds_of (inr fetch) = suc count
+  -- How many chunks the request has, where it goes by chunks, and one of them.
+  abbrev pub pieces : ℕ
+  pieces = chunk_count (transfer_there n) m
+
+  abbrev pub piece : (handle j : ℕ) → ChunkMessage
+  piece handle j = nth_chunk (transfer_there n) handle m j
+
+  abbrev pub OfWay : Type 0
+  OfWay = Way q r n (PskExchange x) size
+
+  -- How many chunks of the answer are asked for.
+  abbrev pub gets_in : {round : ℕ} → AnswerGoes round q r n size → ℕ
+  gets_in (inl whole) = 0
+  gets_in (inr fetch) = count
+
+  abbrev pub gets_of : OfWay → ℕ
+  gets_of (inl whole) = gets_in whole.answer
+  gets_of (inr chunks) = gets_in chunks.answer
+
+  -- How many rounds there are before those.
+  abbrev pub sends_of : OfWay → ℕ
+  sends_of (inl whole) = 1
+  sends_of (inr chunks) = pieces
+
+  -- How many rounds follow the first.
+  abbrev pub rounds_of : OfWay → ℕ
+  rounds_of way = gets_of way + sends_of way
 
   -- The requester, since the command: the session was begun, and nothing was settled anew.
   pub record Since (h : asked.History) : Type 0 where
     pub phase : asked.phase_of h ≡ Negotiated
     pub negotiation : asked.negotiation_of h ≡ n
     pub begun : steps.session_of id h ≡ Started n m ∷ []
+
+  -- The responder holds no session of this command yet.
+  pub record IsReady (log : Log) (h : asked.History) (g : served.History) : Type 0 where
+    pub since : Since h
+    pub beside : Beside q r first id rid log h g
+    pub id_is : free_id g ≡ rid
+    pub limit : (held_of g == 4) ≡ false
 
   -- The responder took PSK_EXCHANGE, and made this answer.
   pub record IsMadeThere (reply : List ℕ) (log : Log) (h : asked.History) (g : served.History) : Type 0 where
@@ -191,15 +277,49 @@ module _ (p : Pair) (same_key : p.requester.psk ≡ p.responder.psk) (asker : Is
     pub last : events.last_of (events.session_of rid g) ≡ None
     pub beside : Beside q r first id rid log h g
 
-  -- PSK_EXCHANGE is on its way.
+  -- PSK_EXCHANGE is on its way, whole.
   pub record OpenAsked (more tag : ℕ) (body : List ℕ) (log : Log) (h : asked.History) (g : served.History) : Type 0 where
-    pub more_is : more ≡ rounds_of can.way
+    pub way : SendsWhole q r n (PskExchange x) size
+    pub way_is : can.way ≡ inl way
+    pub more_is : more ≡ gets_in way.answer + 1
     pub h_is : h ≡ h1
     pub tag_is : tag ≡ asked.next_tag h0
     pub body_is : body ≡ clear_body m
     pub quiet : AreQuiet q r first log h0 g
     pub id_is : free_id g ≡ rid
     pub limit : (held_of g == 4) ≡ false
+
+  -- CHUNK_SEND with one of its chunks is on its way, and the acknowledgement of one that is not the last on its way back.
+  pub record PieceAsked (more tag : ℕ) (body : List ℕ) (log : Log) (h : asked.History) (g : served.History) : Type 0 where
+    pub way : SendsChunks q r n (PskExchange x) size
+    pub way_is : can.way ≡ inr way
+    pub handle : ℕ
+    pub handle_small : handle < 256
+    pub j : ℕ
+    pub left : more + j ≡ gets_in way.answer + pieces
+    pub within : j < pieces
+    pub low : tag < 8
+    pub waits : outstanding h ≡ Some (sending (PskExchange x) tag handle j (piece handle j))
+    pub body_is : body ≡ clear_body (send_chunk (piece handle j))
+    pub ready : IsReady log h g
+    pub kept : IsKeptRight q r (PskExchange x) n way.send handle handle_small j g
+    pub held : AreHeld q r (PskExchange x) n way.send handle handle_small j (served.clear_turns g)
+
+  pub record PieceAnswered (more tag : ℕ) (body : List ℕ) (log : Log) (h : asked.History) (g : served.History) : Type 0 where
+    pub way : SendsChunks q r n (PskExchange x) size
+    pub way_is : can.way ≡ inr way
+    pub handle : ℕ
+    pub handle_small : handle < 256
+    pub j : ℕ
+    pub left : more + j ≡ gets_in way.answer + pieces
+    pub within : j < pieces
+    pub again : (j + 1 == pieces) ≡ false
+    pub low : tag < 8
+    pub waits : outstanding h ≡ Some (sending (PskExchange x) tag handle j (piece handle j))
+    pub body_is : body ≡ clear_body (ack_of (piece handle j) [])
+    pub ready : IsReady log h g
+    pub kept : IsKeptRight q r (PskExchange x) n way.send handle handle_small (suc j) g
+    pub held : AreHeld q r (PskExchange x) n way.send handle handle_small (suc j) (served.clear_turns g)
 
   -- Its answer is on its way, whole in this message or with the last chunk in it.
   pub record OpenAnswered (more tag : ℕ) (body : List ℕ) (log : Log) (h : asked.History) (g : served.History) : Type 0 where
@@ -210,31 +330,35 @@ module _ (p : Pair) (same_key : p.requester.psk ≡ p.responder.psk) (asker : Is
     pub message : List ℕ
     pub body_is : body ≡ clear_body message
     pub few : length message ≤ q.transfer
-    pub carries : (d : Draw) → requester_hears q h false tag (clear_body message) d ≡ clear_outcome tag message d (read_led q h (body_chosen q h d) 0 (PskExchange x) reply (reading_of h (PskExchange x) reply))
+    pub at : ℕ
+    pub carries : (d : Draw) → requester_hears q h false tag (clear_body message) d ≡ clear_outcome tag message d (read_led q h (body_chosen q h d) at (PskExchange x) reply (reading_of h (PskExchange x) reply))
 
-  -- LargeResponse is on its way.
+  -- A message with LargeResponse in it is on its way.
   pub record LargeTold (more tag : ℕ) (body : List ℕ) (log : Log) (h : asked.History) (g : served.History) : Type 0 where
-    pub fetch : CanFetch q r size n
+    pub round : ℕ
+    pub fetch : CanFetchIn round q r size n
+    pub gets_are : gets_of can.way ≡ count
     pub more_is : more ≡ suc count
-    pub h_is : h ≡ h1
-    pub tag_is : tag ≡ asked.next_tag h0
+    pub low : tag < 8
     pub reply : List ℕ
     pub long : length reply ≡ size
     pub handle : ℕ
     pub handle_small : handle < 256
-    pub body_is : body ≡ clear_body (large_response handle)
+    pub message : List ℕ
+    pub short : length message ≤ 63
+    pub body_is : body ≡ clear_body message
+    pub carries : (d : Draw) → requester_hears q h false tag (clear_body message) d ≡ Adds (TookClear tag message (goes_on Nothing (get_sent h (PskExchange x) handle 0 [])) d)
     pub made : IsMadeThere reply log h g
     pub pending : IsPending reply handle 0 (served.clear_turns g)
-    pub took : LastTook m g
-
-  -- The clear request before a CHUNK_GET.
-  abbrev pub before_chunk : (handle k : ℕ) → List ℕ
-  before_chunk handle zero = m
-  before_chunk handle (suc k) = get_chunk handle k
+    pub last : List ℕ
+    pub other : bytes_eq last (get_chunk handle 0) ≡ false
+    pub took : LastTook last g
 
   -- CHUNK_GET for one of the chunks is on its way, and one that is not the last on its way back.
   pub record ChunkAsked (more tag : ℕ) (body : List ℕ) (log : Log) (h : asked.History) (g : served.History) : Type 0 where
-    pub fetch : CanFetch q r size n
+    pub round : ℕ
+    pub fetch : CanFetchIn round q r size n
+    pub gets_are : gets_of can.way ≡ count
     pub k : ℕ
     pub left : more + k ≡ count
     pub some : 1 ≤ more
@@ -247,10 +371,14 @@ module _ (p : Pair) (same_key : p.requester.psk ≡ p.responder.psk) (asker : Is
     pub body_is : body ≡ clear_body (get_chunk handle k)
     pub made : IsMadeThere reply log h g
     pub pending : IsPending reply handle k (served.clear_turns g)
-    pub took : LastTook (before_chunk handle k) g
+    pub last : List ℕ
+    pub other : bytes_eq last (get_chunk handle k) ≡ false
+    pub took : LastTook last g
 
   pub record ChunkAnswered (more tag : ℕ) (body : List ℕ) (log : Log) (h : asked.History) (g : served.History) : Type 0 where
-    pub fetch : CanFetch q r size n
+    pub round : ℕ
+    pub fetch : CanFetchIn round q r size n
+    pub gets_are : gets_of can.way ≡ count
     pub k : ℕ
     pub left : more + k ≡ count
     pub again : (k + 1 == count) ≡ false
@@ -266,12 +394,12 @@ module _ (p : Pair) (same_key : p.requester.psk ≡ p.responder.psk) (asker : Is
     pub pending : IsPending reply handle (k + 1) (served.clear_turns g)
     pub took : LastTook (get_chunk handle k) g
 
-  pub exchange_short : length m < 4161
-  exchange_short =
+  pub exchange_most : length m ≤ 1215
+  exchange_most =
       let hint = can.sound.hint in
       let opaque = can.sound.opaque in
       let few = hash_few terms.choice.hash in
-      omega (arith, exchange_length x, can.sound.context, few.1)
+      omega (arith, exchange_length x, can.sound.context, few.1, hint, opaque)
 
   pub sendable : (tag : ℕ) (message body : List ℕ) → tag < 8 → length message < 4161 → body ≡ clear_body message → IsSendable tag body
   sendable tag message body low short is = subst (IsSendable tag) (sym is) (record { small = low; whole = clear_is_body message short; typed = refl })
@@ -282,14 +410,28 @@ module _ (p : Pair) (same_key : p.requester.psk ≡ p.responder.psk) (asker : Is
   pub within : (more k : ℕ) (reply : List ℕ) → length reply ≡ size → more + k ≡ count → 1 ≤ more → k < chunk_count transfer reply
   within more k reply long left some = subst (λ (z : ℕ). k < z) (ap (λ (z : ℕ). div_ceil (z + 4) (transfer - 12)) (sym long)) (omega (arith, left, some))
 
-  pub few_bytes : (more k handle : ℕ) (reply : List ℕ) → CanFetch q r size n → length reply ≡ size → handle < 256 → more + k ≡ count → 1 ≤ more → length (chunk_response transfer handle reply k) ≤ q.transfer
+  pub few_bytes : {round : ℕ} (more k handle : ℕ) (reply : List ℕ) → CanFetchIn round q r size n → length reply ≡ size → handle < 256 → more + k ≡ count → 1 ≤ more → length (chunk_response transfer handle reply k) ≤ q.transfer
   few_bytes more k handle reply fetch long small left some =
       (let few = chunk_is_few q r size n fetch reply long handle k small (within more k reply long left some) in let is = fetch.transfer in omega (arith, few, is))
+
+  pub few_piece : (way : SendsChunks q r n (PskExchange x) size) (handle : ℕ) → handle < 256 → (j : ℕ) → length (send_chunk (piece handle j)) ≤ r.transfer
+  few_piece way handle small j = piece_bytes q r (PskExchange x) n way.send handle small j
 
   pub own_most : q.transfer ≤ MAX_MESSAGE_SIZE
   own_most = (let most = asker.sizes.most in let ordered = asker.sizes.ordered in omega arith)
 
+  pub their_most : r.transfer ≤ MAX_MESSAGE_SIZE
+  their_most = (let most = server.sizes.most in let ordered = server.sizes.ordered in omega arith)
+
   -- ---- Queued data and time.
+
+  pub ready_still : (log : Log) (h : asked.History) (g later : served.History) → AreAlike r g later → IsReady log h g → IsReady log h later
+  ready_still log h g later alike y = record {
+    since = y.since;
+    beside = still_beside q r first id (finish_asking q.psk) log h g later rid alike y.beside;
+    id_is = free_still r g later alike ∙ y.id_is;
+    limit = ap (λ (k : ℕ). k == 4) (count_still r g later alike) ∙ y.limit;
+  }
 
   pub made_still : (reply : List ℕ) (log : Log) (h : asked.History) (g later : served.History) → AreAlike r g later → IsMadeThere reply log h g → IsMadeThere reply log h later
   made_still reply log h g later alike y = record {
@@ -306,6 +448,8 @@ module _ (p : Pair) (same_key : p.requester.psk ≡ p.responder.psk) (asker : Is
 
   pub asked_still : (more tag : ℕ) (body : List ℕ) (log : Log) (h : asked.History) (g later : served.History) → AreAlike r g later → OpenAsked more tag body log h g → OpenAsked more tag body log h later
   asked_still more tag body log h g later alike y = record {
+    way = y.way;
+    way_is = y.way_is;
     more_is = y.more_is;
     h_is = y.h_is;
     tag_is = y.tag_is;
@@ -315,28 +459,71 @@ module _ (p : Pair) (same_key : p.requester.psk ≡ p.responder.psk) (asker : Is
     limit = ap (λ (k : ℕ). k == 4) (count_still r g later alike) ∙ y.limit;
   }
 
+  pub piece_still : (more tag : ℕ) (body : List ℕ) (log : Log) (h : asked.History) (g later : served.History) → AreAlike r g later → PieceAsked more tag body log h g → PieceAsked more tag body log h later
+  piece_still more tag body log h g later alike y = record {
+    way = y.way;
+    way_is = y.way_is;
+    handle = y.handle;
+    handle_small = y.handle_small;
+    j = y.j;
+    left = y.left;
+    within = y.within;
+    low = y.low;
+    waits = y.waits;
+    body_is = y.body_is;
+    ready = ready_still log h g later alike y.ready;
+    kept = right_still q r (PskExchange x) n y.way.send y.handle y.handle_small y.j g later alike.clear.kept alike.turns y.kept;
+    held = subst (AreHeld q r (PskExchange x) n y.way.send y.handle y.handle_small y.j) (sym alike.turns) y.held;
+  }
+
+  pub ack_still : (more tag : ℕ) (body : List ℕ) (log : Log) (h : asked.History) (g later : served.History) → AreAlike r g later → PieceAnswered more tag body log h g → PieceAnswered more tag body log h later
+  ack_still more tag body log h g later alike y = record {
+    way = y.way;
+    way_is = y.way_is;
+    handle = y.handle;
+    handle_small = y.handle_small;
+    j = y.j;
+    left = y.left;
+    within = y.within;
+    again = y.again;
+    low = y.low;
+    waits = y.waits;
+    body_is = y.body_is;
+    ready = ready_still log h g later alike y.ready;
+    kept = right_still q r (PskExchange x) n y.way.send y.handle y.handle_small (suc y.j) g later alike.clear.kept alike.turns y.kept;
+    held = subst (AreHeld q r (PskExchange x) n y.way.send y.handle y.handle_small (suc y.j)) (sym alike.turns) y.held;
+  }
+
   pub answered_still : (more tag : ℕ) (body : List ℕ) (log : Log) (h : asked.History) (g later : served.History) → AreAlike r g later → OpenAnswered more tag body log h g → OpenAnswered more tag body log h later
-  answered_still more tag body log h g later alike y = record { more_is = y.more_is; low = y.low; reply = y.reply; made = made_still y.reply log h g later alike y.made; message = y.message; body_is = y.body_is; few = y.few; carries = y.carries }
+  answered_still more tag body log h g later alike y = record { more_is = y.more_is; low = y.low; reply = y.reply; made = made_still y.reply log h g later alike y.made; message = y.message; body_is = y.body_is; few = y.few; at = y.at; carries = y.carries }
 
   pub told_still : (more tag : ℕ) (body : List ℕ) (log : Log) (h : asked.History) (g later : served.History) → AreAlike r g later → LargeTold more tag body log h g → LargeTold more tag body log h later
   told_still more tag body log h g later alike y = record {
+    round = y.round;
     fetch = y.fetch;
+    gets_are = y.gets_are;
     more_is = y.more_is;
-    h_is = y.h_is;
-    tag_is = y.tag_is;
+    low = y.low;
     reply = y.reply;
     long = y.long;
     handle = y.handle;
     handle_small = y.handle_small;
+    message = y.message;
+    short = y.short;
     body_is = y.body_is;
+    carries = y.carries;
     made = made_still y.reply log h g later alike y.made;
     pending = subst (IsPending y.reply y.handle 0) (sym alike.turns) y.pending;
-    took = last_on m g later alike.clear.kept y.took;
+    last = y.last;
+    other = y.other;
+    took = last_on y.last g later alike.clear.kept y.took;
   }
 
   pub get_still : (more tag : ℕ) (body : List ℕ) (log : Log) (h : asked.History) (g later : served.History) → AreAlike r g later → ChunkAsked more tag body log h g → ChunkAsked more tag body log h later
   get_still more tag body log h g later alike y = record {
+    round = y.round;
     fetch = y.fetch;
+    gets_are = y.gets_are;
     k = y.k;
     left = y.left;
     some = y.some;
@@ -349,12 +536,16 @@ module _ (p : Pair) (same_key : p.requester.psk ≡ p.responder.psk) (asker : Is
     body_is = y.body_is;
     made = made_still y.reply log h g later alike y.made;
     pending = subst (IsPending y.reply y.handle y.k) (sym alike.turns) y.pending;
-    took = last_on (before_chunk y.handle y.k) g later alike.clear.kept y.took;
+    last = y.last;
+    other = y.other;
+    took = last_on y.last g later alike.clear.kept y.took;
   }
 
   pub chunk_still : (more tag : ℕ) (body : List ℕ) (log : Log) (h : asked.History) (g later : served.History) → AreAlike r g later → ChunkAnswered more tag body log h g → ChunkAnswered more tag body log h later
   chunk_still more tag body log h g later alike y = record {
+    round = y.round;
     fetch = y.fetch;
+    gets_are = y.gets_are;
     k = y.k;
     left = y.left;
     again = y.again;

@@ -22,9 +22,9 @@ use Rattle.spdm_progress.specs.Honest.{AreHonest, HaveNoCommand, NothingWaits}
 use Rattle.spdm_progress.proofs.SomethingWaits.{something_waits}
 use Rattle.spdm_progress.proofs.PacketSteps.{not_worn}
 use Rattle.spdm_progress.specs.InStep.{AreQuiet}
-use Rattle.spdm_progress.specs.Scripts.{CanDo, HaveTaken, IsDone, IsQuietWorld, result_for}
+use Rattle.spdm_progress.specs.Scripts.{CanDo, HaveTaken, IsDone, IsQuietWorld, Means, result_for}
 use Rattle.spdm_progress.specs.SessionCommands.{LivesToAnswer, commanding, most_asked}
-use Rattle.spdm_progress.proofs.Aside.{OthersAreQuiet, both_aside, others_aside}
+use Rattle.spdm_progress.proofs.Aside.{IsAside, OthersAreQuiet, both_aside, others_aside}
 use Rattle.spdm_progress.proofs.Connected.{each_is_connected}
 use Rattle.spdm_agreement.proofs.Worlds.AllEvents.{requester_in}
 use Rattle.spdm_progress.proofs.Places.{AllDiffer}
@@ -127,20 +127,28 @@ module _ (w : WorldSetup) (configured : IsConfigured w) (before : List Entry) (p
   abbrev Ended : Requesting → Connection → Type 0
   Ended a c = Done a c × Idle world p.n a (Others a.setup.eid) (world_behind world p)
 
-  accepted : (a : Requesting) (c : Connection) → requester_of p.n world ≡ Some a → connection_of a.setup.eid world.responder.connections ≡ Some c → (requester_told a p.command).fault ≡ None → CanDo a c p.command → Ended a c
-  accepted a c is connected ok can =
+  beside_of : (a : Requesting) (c : Connection) → requester_of p.n world ≡ Some a → connection_of a.setup.eid world.responder.connections ≡ Some c → IsAside (pair_of p.n a c) (Others a.setup.eid)
+  beside_of a c is connected =
       let placed = are_placed w before p.n a c configured (no_chance_from world (entries_of p) chance) is connected in
       let pair = pair_of p.n a c in
-      commands.each w before p.n a c p.line p.behind none (Others a.setup.eid) (both_aside pair (OthersAreQuiet a.setup.eid) (OthersTook a.setup.eid most) (others_aside pair placed.ends.peer) (others_took pair most)) (others_now a.setup.eid) p.command can (record {
-        told = record {
-          now = record { configured = configured; idle = ready.0.idle; is_requester = is; is_connection = connected; life = lives a is };
-          quiet = ready.0.quiet p.n a c is connected;
-          accepted = ok;
-        };
-        honest = honest;
-        still = still;
-        chance = chance;
-      })
+      both_aside pair (OthersAreQuiet a.setup.eid) (OthersTook a.setup.eid most) (others_aside pair placed.ends.peer) (others_took pair most)
+
+  over : (a : Requesting) (c : Connection) (is : requester_of p.n world ≡ Some a) (connected : connection_of a.setup.eid world.responder.connections ≡ Some c) → (requester_told a p.command).fault ≡ None
+      → commands.IsOver w before p.n a c p.line p.behind none (Others a.setup.eid) (beside_of a c is connected) (others_now a.setup.eid) p.command
+  over a c is connected ok = record {
+    told = record {
+      now = record { configured = configured; idle = ready.0.idle; is_requester = is; is_connection = connected; life = lives a is };
+      quiet = ready.0.quiet p.n a c is connected;
+      accepted = ok;
+    };
+    honest = honest;
+    still = still;
+    chance = chance;
+  }
+
+  accepted : (a : Requesting) (c : Connection) → requester_of p.n world ≡ Some a → connection_of a.setup.eid world.responder.connections ≡ Some c → (requester_told a p.command).fault ≡ None → CanDo a c p.command → Ended a c
+  accepted a c is connected ok can =
+      commands.each w before p.n a c p.line p.behind none (Others a.setup.eid) (beside_of a c is connected) (others_now a.setup.eid) p.command can (over a c is connected ok)
 
   done_quiet : (a : Requesting) (c : Connection) → Ended a c → IsQuietWorld (world_behind world p)
   done_quiet a c x =
@@ -193,8 +201,12 @@ module _ (w : WorldSetup) (configured : IsConfigured w) (before : List Entry) (p
   pub paragraph_ready : Can → IsReady (most + most_asked) (world_behind world p)
   paragraph_ready can = by_requester can (requester_of p.n world) refl
 
-  pub paragraph_done : Can → (a : Requesting) (c : Connection) → requester_of p.n world ≡ Some a → connection_of a.setup.eid world.responder.connections ≡ Some c → (requester_told a p.command).fault ≡ None → Done a c
-  paragraph_done can a c is connected ok = (accepted a c is connected ok (can a c is connected ok)).0
+  pub paragraph_done : Can → (a : Requesting) (c : Connection) → requester_of p.n world ≡ Some a → connection_of a.setup.eid world.responder.connections ≡ Some c → (requester_told a p.command).fault ≡ None
+      → Done a c × Means p.n a c p.command (world_behind world p) (lines_behind world p)
+  paragraph_done can a c is connected ok = (
+    (accepted a c is connected ok (can a c is connected ok)).0,
+    commands.means w before p.n a c p.line p.behind none (Others a.setup.eid) (beside_of a c is connected) (others_now a.setup.eid) p.command (can a c is connected ok) (over a c is connected ok),
+  )
 
 -- ---- The beginning.
 

@@ -41,10 +41,11 @@ use Rattle.world_machine.specs.Trace.{lines_from, world_after, world_from}
 use Rattle.world_machine.specs.World.{World, happens}
 use Rattle.spdm_machine.specs.Packets.{wear_limit}
 use Rattle.spdm_grammar.specs.declared.event.Event.TheVariants as event
+use Rattle.spdm_grammar.specs.Lines.{Line}
 use Rattle.spdm_progress.proofs.Talk.{all_short}
 use Rattle.spdm_progress.specs.Honest.{AreHonest, HaveNoCommand}
 use Rattle.spdm_progress.specs.Measuring.{measurements_size, number_for, IsMeasured}
-use Rattle.spdm_progress.specs.Scripts.{CanDo, IsDone, PumpsAreEnough, QuietCommandsComplete, result_for, QuietMeasuresComplete}
+use Rattle.spdm_progress.specs.Scripts.{CanDo, Holds, IsDone, Means, PumpsAreEnough, QuietCommandsComplete, QuietMeasuresComplete, result_for}
 use Rattle.spdm_progress.specs.SessionCommands.{CanAsk, IsDoneQuietly, IsToldQuietly, commanding, goes_on, result_of}
 use Rattle.spdm_progress.specs.Opening.{opened_id}
 use Rattle.spdm_progress.proofs.Accepted.{not_worn_told, told_so}
@@ -328,13 +329,40 @@ module _ (w : WorldSetup) (before : List Entry) (n : ℕ) (a : Requesting) (c : 
   each (End id) can o = in_session (End id) id can refl refl o
   each Retry can o = no_retry o
 
+  -- ---- What each means.
+
+  held : (result : Finished) (id : ℕ) (left : Bool) (world : World) (lines : List Line) → IsDoneQuietly n a.setup c.setup result id left world lines → Holds n id left world
+  held result id left world lines x = record { requester = x.requester; is_requester = x.is_requester; session = x.session }
+
+  over : (command : Command) → IsOver command → sessions.IsOver w before n a c line behind none Aside aside beside command
+  over command o = record { told = o.told; honest = o.honest; still = o.still; chance = o.chance }
+
+  in_session_held : (command : Command) (id : ℕ) → CanAsk a c command → session_in command ≡ Some id → IsOver command → Holds n id (goes_on command) (world_from (After command) behind)
+  in_session_held command id can named o = held (result_of a c command) id (goes_on command) (world_from (After command) behind) (lines_from (After command) behind) (sessions.each w before n a c line behind none Aside aside beside command id can named (over command o)).0
+
+  pub means : (command : Command) → CanDo a c command → IsOver command → Means n a c command (world_from (After command) behind) (lines_from (After command) behind)
+  means Connect can o = (can.choice, connects.settled w before n a c o.told.now can line behind none o.honest o.still o.chance Aside aside beside)
+  means (Open summary) can o =
+      held (finished.Opened (opened_id a c)) (free_id a.history) true (world_from (After (Open summary)) behind) (lines_from (After (Open summary)) behind) (opens.opened w before n a c summary o.told can line behind none o.honest o.still o.chance Aside aside beside).0
+  means (Send id bytes) can o = (in_session_held (Send id bytes) id can refl o, sessions.queued_taken w before n a c line behind none Aside aside beside id bytes (over (Send id bytes) o))
+  means (Beat id) can o = in_session_held (Beat id) id can refl o
+  means (Update id all) can o = in_session_held (Update id all) id can refl o
+  means (Measure None op) can o = recorded op can o
+  means (Measure (Some id) op) can o = (in_session_held (Measure (Some id) op) id can refl o, sessions.recorded w before n a c line behind none Aside aside beside id op can (over (Measure (Some id) op) o))
+  means (End id) can o = (in_session_held (End id) id can refl o, sessions.gone_there w before n a c line behind none Aside aside beside id (over (End id) o))
+  means Retry can o = tt
+
 pub quiet_commands_complete : QuietCommandsComplete
-quiet_commands_complete w before n a c command told can line behind none honest still chance =
-    (each w before n a c line behind none (λ later. Unit {0}) (nothing_aside (pair_of n a c)) tt command can (record { told = told; honest = honest; still = inl still; chance = chance })).0
+quiet_commands_complete w before n a c command told can line behind none honest still chance = (
+  (each w before n a c line behind none (λ later. Unit {0}) (nothing_aside (pair_of n a c)) tt command can (record { told = told; honest = honest; still = inl still; chance = chance })).0,
+  means w before n a c line behind none (λ later. Unit {0}) (nothing_aside (pair_of n a c)) tt command can (record { told = told; honest = honest; still = inl still; chance = chance }),
+)
 
 pub quiet_measures_complete : QuietMeasuresComplete
-quiet_measures_complete w before n a c op told can line behind none honest still chance =
+quiet_measures_complete w before n a c None op told can line behind none honest still chance =
     recorded w before n a c line behind none (λ later. Unit {0}) (nothing_aside (pair_of n a c)) tt op can (record { told = told; honest = honest; still = inl still; chance = chance })
+quiet_measures_complete w before n a c (Some id) op told can line behind none honest still chance =
+    sessions.recorded w before n a c line behind none (λ later. Unit {0}) (nothing_aside (pair_of n a c)) tt id op can (record { told = told; honest = honest; still = inl still; chance = chance })
 
 pub pumps_are_enough : PumpsAreEnough
 unfolding happens

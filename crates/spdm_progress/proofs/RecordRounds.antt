@@ -48,6 +48,10 @@ pub last_waited : (old new : Events) → IsSameSession old new → events.last_o
 last_waited old new (inl same) = ap events.last_of same
 last_waited old new (inr x) = ap events.last_of x.2
 
+pub live_waited : (old new : Events) → IsSameSession old new → events.is_live new ≡ events.is_live old
+live_waited old new (inl same) = ap events.is_live same
+live_waited old new (inr x) = ap events.is_live x.2 ∙ sym x.1
+
 pub turns_waited : (old new : Events) → IsSameSession old new → events.turns_of new ≡ events.turns_of old
 turns_waited old new (inl same) = ap events.turns_of same
 turns_waited old new (inr x) = ap events.turns_of x.2

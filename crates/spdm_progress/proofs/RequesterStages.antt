@@ -29,7 +29,7 @@ use Rattle.requester_machine.specs.ClearAnswers.{clear_led, read_led, reading_of
 use Rattle.requester_machine.specs.Commands.{Free}
 use Rattle.requester_machine.specs.Does.{requester_hears, body_chosen}
 use Rattle.requester_machine.specs.Hearing.{clear_outcome}
-use Rattle.requester_machine.specs.History.{History, Led, outstanding, negotiation_of, phase_of, next_tag}
+use Rattle.requester_machine.specs.History.{History, Led, outstanding, negotiation_of, next_handle, phase_of, next_tag}
 use Rattle.requester_machine.specs.History.Effect.{Answers}
 use Rattle.requester_machine.specs.History.Entry.{TookClear}
 use Rattle.requester_machine.specs.Message.{Sent}
@@ -87,6 +87,9 @@ hears_by q h tag answer d led P is holds = record {
   sends = ap sent_by is;
   leaves = subst (λ (o : Outcome). P (after h o)) (sym is) holds;
 }
+
+pub handle_few : (h : History) → next_handle h < 256
+handle_few h = omega arith
 
 pub next_small : (h : History) → next_tag h < 8
 next_small h = omega arith

@@ -287,15 +287,16 @@ pub record AwaitsVersion (h : History) : Type 0 where
 pub took_version : (r : RspSetup) (h : History) (f : Free) (tag : ℕ) (d : Draw) → HasVersion (Clear tag (taken_turn r (clear_place h) get_version f GetVersion) d ∷ h)
 took_version r h f tag d = record { phase_is = refl; negotiation = refl; last = record { kept = record { tag = tag; message = get_version; reply = version }; is = refl; message = refl } }
 
-same_by : (r : RspSetup) (h : History) (tag : ℕ) (d : Draw) (k : Kept) → kept_of h ≡ Some k → is_repeat (kept_of h) tag get_version ≡ true → clear_does r h tag get_version d ≡ Same (clear_body k.reply)
+-- A repeat of the last one is answered from memory.
+pub same_by : (r : RspSetup) (h : History) (tag : ℕ) (m : List ℕ) (d : Draw) (k : Kept) → kept_of h ≡ Some k → is_repeat (kept_of h) tag m ≡ true → clear_does r h tag m d ≡ Same (clear_body k.reply)
 unfolding on_clear
-same_by r h tag d k is repeats = rw repeats (ap (λ (o : Option Kept). Same (clear_body (kept_reply o))) is)
+same_by r h tag m d k is repeats = rw repeats (ap (λ (o : Option Kept). Same (clear_body (kept_reply o))) is)
 
 repeated : (r : RspSetup) (h : History) (tag : ℕ) (d : Draw) → AwaitsVersion h → (o : Option Kept) → kept_of h ≡ o → is_repeat o tag get_version ≡ true → Answered r h tag get_version d version HasVersion
 repeated r h tag d awaits None is repeats = absurd (false≢true repeats)
 repeated r h tag d awaits (Some k) is repeats =
     let found = awaits.again k is ((bytes_eq-Decides k.message get_version).0 (and_second (k.tag == tag) (bytes_eq k.message get_version) repeats)) in
-    let same = same_by r h tag d k is (ap (λ (o : Option Kept). is_repeat o tag get_version) is ∙ repeats) in record {
+    let same = same_by r h tag get_version d k is (ap (λ (o : Option Kept). is_repeat o tag get_version) is ∙ repeats) in record {
       body = ap body_of same ∙ ap clear_body found.1;
       leaves = subst (λ (o : Outcome). HasVersion (after h o)) (sym same) found.0;
       nothing = ap data_of same;

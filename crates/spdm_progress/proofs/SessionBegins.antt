@@ -112,7 +112,7 @@ pub record AsksOfSession (command : Command) : Type 0 where
 
 module _ (q : ReqSetup) (r : RspSetup) (first id : ℕ) (x : Asking) (Fit : Steps → Type 0) (command : Command) (one : AsksOfSession command) (log : Log) (h : asked.History) (g : served.History) (d : Draw) (pad : List ℕ)
     (quiet : AreQuiet q r first log h g) (live : steps.is_live (steps.session_of id h) ≡ true) (plain : stage_for x.ask ≡ stage.Open) (fit : Fit (steps.session_of id h)) (short : length (x.inner (steps.session_of id h)) + length pad ≤ 4134)
-    (asks : requester_asks false q h command d ≡ Adds (WasTold command (sent_for q h id x pad) d)) (known : (turns : List Turn) → x.before turns) where
+    (asks : requester_asks false q h command d ≡ Adds (WasTold command (sent_for q h id x pad) d)) (known : (turns : List Turn) → x.before turns) (queued : x.there g) where
   abbrev s : Steps
   s = steps.session_of id h
 
@@ -157,6 +157,7 @@ module _ (q : ReqSetup) (r : RspSetup) (first id : ℕ) (x : Asking) (Fit : Step
         log_is = refl;
         last = resting.last;
         known = known (events.turns_of (events.session_of (rsp_id s) g));
+        queued = queued;
         beside = beside_on q r first id (rsp_id s) (made_for q r first id x s pad []) log h new g g (record {
           made = (asks, quiet.made);
           made_there = quiet.made_there;

@@ -1,5 +1,5 @@
 -- Each command that asks something of an open session comes to its result.
-use Rattle.std.proofs.Common.{◌≡◌, ◌⊎◌, ◌∙◌, ℕ, zero, suc, ◌<◌, ◌≤◌, ◌+◌, ◌-◌, ◌*◌, nat_le, List, [], ◌∷◌, length, Bool, true, false, Some, None, refl, sym, ap, subst, inl, inr, arith}
+use Rattle.std.proofs.Common.{◌≡◌, ◌⊎◌, ◌∙◌, ℕ, zero, suc, ◌<◌, ◌≤◌, ◌+◌, ◌-◌, ◌*◌, nat_le, List, [], ◌∷◌, length, Bool, true, false, Some, None, refl, sym, ap, subst, inl, inr, arith, append-nil, append_assoc, ◌++◌}
 use Rattle.std.proofs.Math.Nat.{min-le_left}
 use Rattle.std.proofs.lemmas.Bool.{leb-false, leb-true, ltb-false, not-false}
 use Rattle.std.specs.Int.{div_ceil}
@@ -36,7 +36,10 @@ use Rattle.requester_machine.proofs.HoldsTold.{somewhere}
 use Rattle.responder_machine.specs.History as served
 use Rattle.responder_machine.specs.Responding.{Connection}
 use Rattle.responder_machine.specs.Turn.{Turn}
-use Rattle.spdm_progress.specs.Measuring.{measurements_size, number_for}
+use Rattle.requester_machine.specs.History.Effect.{Grants}
+use Rattle.requester_machine.specs.Message.Ask.{AskMeasure}
+use Rattle.responder_machine.specs.Session as events
+use Rattle.spdm_progress.specs.Measuring.{IsMeasured as IsTaken, measurements_size, number_for}
 use Rattle.transcript.specs.Transcripts.{Negotiation}
 use Rattle.world_machine.specs.Chance.{NoChance}
 use Rattle.world_machine.specs.Happenings.{Entry}
@@ -45,8 +48,10 @@ use Rattle.world_machine.specs.Setup.{WorldSetup}
 use Rattle.world_machine.specs.Trace.{lines_from, world_after, world_from}
 use Rattle.world_machine.specs.World.{World, WorldStep, entry_step, happens, pumps, requester_of, told_by}
 use Rattle.spdm_progress.specs.Honest.{AreHonest, HaveNoCommand, NothingWaits}
-use Rattle.spdm_progress.specs.InStep.{AreQuiet}
-use Rattle.spdm_progress.specs.SessionCommands.{CanAsk, IsDoneQuietly, IsTold, IsToldQuietly, SessionCommandsComplete, commanding, goes_on, most_asked, most_packets, most_served, result_of, session_at}
+use Rattle.spdm_progress.specs.InStep.{AreQuiet, rsp_id}
+use Rattle.spdm_progress.specs.SessionCommands.{AnswersAreQueued, AnswersWaitFirst, CanAsk, EndedAtBothEnds, IsDoneQuietly, IsGoneThere, IsTold, IsToldQuietly, OnlyWaits, SessionCommandsComplete, TookQueued, commanding, goes_on, most_asked, most_packets, most_served, result_of, session_at}
+use Rattle.responder_machine.specs.Does.{first_queued}
+use Rattle.responder_machine.specs.History.Entry.{Clear, Dropped, Queued, Sealed, Ticked}
 use Rattle.spdm_progress.proofs.AlikeSessions.{is_kept}
 use Rattle.spdm_progress.proofs.Accepted.{not_worn_told, told_so}
 use Rattle.spdm_progress.proofs.Aside.{IsAside, nothing_aside}
@@ -59,6 +64,8 @@ use Rattle.spdm_progress.proofs.LargeAnswers.{GoesLarge}
 use Rattle.spdm_progress.proofs.ClearFetch.{transfer_in}
 use Rattle.spdm_progress.proofs.SessionLarge.{IsUnder, large_asking}
 use Rattle.spdm_progress.proofs.SessionMeasure as by_chunks
+use Rattle.responder_machine.specs.Responder.{inner_reply}
+use Rattle.spdm_progress.proofs.MeasureStages.{granted_data, granted_record}
 use Rattle.spdm_progress.proofs.SessionRounds.{Asking, IsAsked, sealed_length}
 use Rattle.spdm_progress.proofs.SingleRound.{AnswersOnce, AsksOnce, IsLast, Quiet, once_talk}
 use Rattle.spdm_progress.proofs.Talk as talk
@@ -237,16 +244,16 @@ module _ (w : WorldSetup) (before : List Entry) (n : ℕ) (a : Requesting) (c : 
       pub live_so : steps.is_live (session_at a id) ≡ true
       live_so = somewhere a.setup a.history command (command_chosen a.setup a.history (asking.next_draw a)) id (told_so a command fresh quietly.accepted).0 named
 
-      pub is_asked : (Fit : Steps → Type 0) → Fit (session_at a id) → IsAsked a.setup c.setup a.first id x Fit sent.tag (body_of sent.content) (told_view world a c command sent).log (told_view world a c command sent).asked c.history
-      is_asked Fit fit =
-          asked_now a.setup c.setup a.first id x Fit command one world.log a.history c.history (asking.next_draw a) (command_chosen a.setup a.history (asking.next_draw a)).pad quietly.quiet live_so plain fit (omega (arith, pad_short, small)) asks_so known
+      pub is_asked : (Fit : Steps → Type 0) → Fit (session_at a id) → x.there c.history → IsAsked a.setup c.setup a.first id x Fit sent.tag (body_of sent.content) (told_view world a c command sent).log (told_view world a c command sent).asked c.history
+      is_asked Fit fit queued =
+          asked_now a.setup c.setup a.first id x Fit command one world.log a.history c.history (asking.next_draw a) (command_chosen a.setup a.history (asking.next_draw a)).pad quietly.quiet live_so plain fit (omega (arith, pad_short, small)) asks_so known queued
 
       -- It takes one round.
-      pub once_completes : (Fit : Steps → Type 0) (Good : Steps → Turn → Type 0) (result : Finished) → IsLast p one_key id x Fit Good (event.Done result) → Fit (session_at a id)
+      pub once_completes : (Fit : Steps → Type 0) (Good : Steps → Turn → Type 0) (result : Finished) → IsLast p one_key id x Fit Good (event.Done result) → Fit (session_at a id) → x.there c.history
           → IsDoneQuietly n a.setup c.setup result id (is_kept x.ask) (world_from (commanding world line n command) behind) (lines_from (commanding world line n command) behind) × Idle world n a Aside (world_from (commanding world line n command) behind)
-      once_completes Fit Good result last fit =
+      once_completes Fit Good result last fit queued =
           completes_by (AsksOnce p one_key id x Fit Good (event.Done result)) (AnswersOnce p one_key id x Fit Good (event.Done result)) (Quiet p one_key id x Fit Good (event.Done result)) result id (is_kept x.ask) (λ log h g z. (z.quiet, z.session)) (once_talk p one_key id x Fit Good (event.Done result) last) 0 (omega arith) sent step_so
-          (record { is = is_asked Fit fit })
+          (record { is = is_asked Fit fit queued })
 
 -- ---- Each command.
 
@@ -284,8 +291,45 @@ module _ (w : WorldSetup) (before : List Entry) (n : ℕ) (a : Requesting) (c : 
       let key = one_key w before n a c command o.told.now line behind none o.honest o.still o.chance Aside aside beside in
       let short = ltb-false 1024 (length bytes) (passed command o 8) in
       let sid = steps.session_id (session_at a id) in
-      once_completes w before n a c command o.told.now line behind none o.honest o.still o.chance Aside aside beside o.told id (data_asking bytes) (of_session command (λ j n sent s. refl) refl) refl refl (omega arith) (λ turns. tt) refl
-      (CanSend pair key id sid here.requester here.responder bytes) (IsData pair key id sid here.requester here.responder) (finished.Answered sid) (data_last pair key id sid here.requester here.responder bytes) (record { named = refl; short = short })
+      once_completes w before n a c command o.told.now line behind none o.honest o.still o.chance Aside aside beside o.told id (data_asking c.history bytes) (of_session command (λ j n sent s. refl) refl) refl refl (omega arith) (λ turns. tt) refl
+      (CanSend pair key id sid here.requester here.responder bytes) (IsData pair key id sid here.requester here.responder) (finished.Answered sid) (data_last pair key id sid here.requester here.responder c.history bytes) (record { named = refl; short = short }) ([], refl, tt)
+
+  -- What was taken is what was first in the queue.
+  pub queued_taken : (id : ℕ) (bytes : List ℕ) → IsOver (Send id bytes) → TookQueued n a.setup c bytes (world_from (After (Send id bytes)) behind)
+  queued_taken id bytes o =
+      let command = Send id bytes in
+      let here = placed w before n a c command o.told.now line behind none o.honest o.still o.chance Aside aside beside in
+      let key = one_key w before n a c command o.told.now line behind none o.honest o.still o.chance Aside aside beside in
+      let short = ltb-false 1024 (length bytes) (passed command o 8) in
+      let sid = steps.session_id (session_at a id) in
+      let one = of_session command (λ j n sent s. refl) refl in
+      let result = event.Done (finished.Answered sid) in
+      let asks : Stage = AsksOnce pair key id (data_asking c.history bytes) (CanSend pair key id sid here.requester here.responder bytes) (IsData pair key id sid here.requester here.responder) result in
+      let answers : Stage = AnswersOnce pair key id (data_asking c.history bytes) (CanSend pair key id sid here.requester here.responder bytes) (IsData pair key id sid here.requester here.responder) result in
+      let is_talk = once_talk pair key id (data_asking c.history bytes) (CanSend pair key id sid here.requester here.responder bytes) (IsData pair key id sid here.requester here.responder) result (data_last pair key id sid here.requester here.responder c.history bytes) in
+      let e = runs w before n a c command o.told.now line behind none o.honest o.still o.chance Aside aside beside wear_limit (all_lives w before n a c command o.told.now line behind none o.honest o.still o.chance Aside aside beside) o.told.now.life.requester o.told.now.life.responder asks answers (Quiet pair key id (data_asking c.history bytes) (CanSend pair key id sid here.requester here.responder bytes) (IsData pair key id sid here.requester here.responder) result)
+      (finished.Answered sid) is_talk (λ more. 66) (λ more. 66)
+      (all_short pair asks answers (Quiet pair key id (data_asking c.history bytes) (CanSend pair key id sid here.requester here.responder bytes) (IsData pair key id sid here.requester here.responder) result) result is_talk)
+      0 (three_few 0 (omega arith)) (sent_for a.setup a.history id (data_asking c.history bytes) (command_chosen a.setup a.history (asking.next_draw a)).pad) (step_so w before n a c command o.told.now line behind none o.honest o.still o.chance Aside aside beside o.told id (data_asking c.history bytes) one refl refl (omega arith) (λ turns. tt) refl)
+      (record { is = is_asked w before n a c command o.told.now line behind none o.honest o.still o.chance Aside aside beside o.told id (data_asking c.history bytes) one refl refl (omega arith) (λ turns. tt) refl (CanSend pair key id sid here.requester here.responder bytes) (record { named = refl; short = short }) ([], refl, tt) }) in
+      let brought = e.0.done.brought in
+      let came = e.0.done.came in
+      record {
+        requester = asker pair e.0.view.given e.0.view.commands e.0.view.asked;
+        is_requester = e.0.shows.is_requester;
+        connection = server pair e.0.view.served;
+        is_connection = e.0.shows.is_connection;
+        until = came.until;
+        between = came.between;
+        tag = came.tag;
+        sealed = came.sealed;
+        turn = brought.turn;
+        reply = came.reply;
+        draw = came.draw;
+        since = came.since;
+        brought = came.knows.0;
+        taken = granted_data e.0.view.asked brought.turn.reply brought.newest ∙ came.knows.1;
+      }
 
   sent_beat : (id : ℕ) → IsOver (Beat id) → Result (Beat id) id
   sent_beat id o =
@@ -295,7 +339,7 @@ module _ (w : WorldSetup) (before : List Entry) (n : ℕ) (a : Requesting) (c : 
       let sid = steps.session_id (session_at a id) in
       once_completes w before n a c command o.told.now line behind none o.honest o.still o.chance Aside aside beside o.told id beat_asking (of_session command (λ j n sent s. refl) refl) refl refl (omega arith) (λ turns. tt) refl
       (CanBeat pair key id sid here.requester here.responder) (IsSpdm pair key id sid here.requester here.responder (canonical_response HeartbeatAck)) (finished.Alive sid) (beat_last pair key id sid here.requester here.responder)
-      (record { named = refl; flag = not-false _ (passed command o 5) })
+      (record { named = refl; flag = not-false _ (passed command o 5) }) tt
 
   sent_end : (id : ℕ) → IsOver (End id) → Result (End id) id
   sent_end id o =
@@ -304,7 +348,30 @@ module _ (w : WorldSetup) (before : List Entry) (n : ℕ) (a : Requesting) (c : 
       let key = one_key w before n a c command o.told.now line behind none o.honest o.still o.chance Aside aside beside in
       let sid = steps.session_id (session_at a id) in
       once_completes w before n a c command o.told.now line behind none o.honest o.still o.chance Aside aside beside o.told id end_asking (of_session command (λ j n sent s. refl) refl) refl refl (omega arith) (λ turns. tt) refl
-      (IsNamed pair key id sid here.requester here.responder) (IsSpdm pair key id sid here.requester here.responder (canonical_response EndSessionAck)) (finished.Ended sid) (end_last pair key id sid here.requester here.responder) (record { named = refl })
+      (IsNamed pair key id sid here.requester here.responder) (IsSpdm pair key id sid here.requester here.responder (canonical_response EndSessionAck)) (finished.Ended sid) (end_last pair key id sid here.requester here.responder) (record { named = refl }) tt
+
+  -- And the responder holds it no more.
+  pub gone_there : (id : ℕ) → IsOver (End id) → IsGoneThere a.setup (rsp_id (session_at a id)) (world_from (After (End id)) behind)
+  gone_there id o =
+      let command = End id in
+      let here = placed w before n a c command o.told.now line behind none o.honest o.still o.chance Aside aside beside in
+      let key = one_key w before n a c command o.told.now line behind none o.honest o.still o.chance Aside aside beside in
+      let sid = steps.session_id (session_at a id) in
+      let one = of_session command (λ j n sent s. refl) refl in
+      let result = event.Done (finished.Ended sid) in
+      let asks : Stage = AsksOnce pair key id end_asking (IsNamed pair key id sid here.requester here.responder) (IsSpdm pair key id sid here.requester here.responder (canonical_response EndSessionAck)) result in
+      let answers : Stage = AnswersOnce pair key id end_asking (IsNamed pair key id sid here.requester here.responder) (IsSpdm pair key id sid here.requester here.responder (canonical_response EndSessionAck)) result in
+      let is_talk = once_talk pair key id end_asking (IsNamed pair key id sid here.requester here.responder) (IsSpdm pair key id sid here.requester here.responder (canonical_response EndSessionAck)) result (end_last pair key id sid here.requester here.responder) in
+      let e = runs w before n a c command o.told.now line behind none o.honest o.still o.chance Aside aside beside wear_limit (all_lives w before n a c command o.told.now line behind none o.honest o.still o.chance Aside aside beside) o.told.now.life.requester o.told.now.life.responder asks answers (Quiet pair key id end_asking (IsNamed pair key id sid here.requester here.responder) (IsSpdm pair key id sid here.requester here.responder (canonical_response EndSessionAck)) result)
+      (finished.Ended sid) is_talk (λ more. 66) (λ more. 66)
+      (all_short pair asks answers (Quiet pair key id end_asking (IsNamed pair key id sid here.requester here.responder) (IsSpdm pair key id sid here.requester here.responder (canonical_response EndSessionAck)) result) result is_talk)
+      0 (three_few 0 (omega arith)) (sent_for a.setup a.history id end_asking (command_chosen a.setup a.history (asking.next_draw a)).pad) (step_so w before n a c command o.told.now line behind none o.honest o.still o.chance Aside aside beside o.told id end_asking one refl refl (omega arith) (λ turns. tt) refl)
+      (record { is = is_asked w before n a c command o.told.now line behind none o.honest o.still o.chance Aside aside beside o.told id end_asking one refl refl (omega arith) (λ turns. tt) refl (IsNamed pair key id sid here.requester here.responder) (record { named = refl }) tt }) in
+      record {
+        connection = server pair e.0.view.served;
+        is_connection = e.0.shows.is_connection;
+        gone = subst (λ (rsp : ℕ). events.is_live (events.session_of rsp e.0.view.served) ≡ false) (ap (λ (i : SessionId). i.rsp) e.0.done.brought.fit.named) e.0.done.there;
+      }
 
   module _ (id op : ℕ) (can : CanAsk a c (Measure (Some id) op)) (o : IsOver (Measure (Some id) op)) where
     abbrev measuring : Command
@@ -335,7 +402,7 @@ module _ (w : WorldSetup) (before : List Entry) (n : ℕ) (a : Requesting) (c : 
     measured_whole fits =
         once_completes w before n a c measuring o.told.now line behind none o.honest o.still o.chance Aside aside beside o.told id (measure_asking op) (of_session measuring (λ j n sent s. refl) refl) refl refl (omega arith) (λ turns. tt) refl
         (CanMeasure pair key id sid here.requester here.responder op) (IsMeasured pair key id sid here.requester here.responder op) (finished.Measured (number_for c.setup op)) (measure_last pair key id sid here.requester here.responder op)
-        (record { byte = can.0; block = can.1; chosen = measure_chosen; fits = fits; fits_own = subst (λ (size : ℕ). measurements_size c.setup op ≤ size) sizes.transfer fits })
+        (record { byte = can.0; block = can.1; chosen = measure_chosen; fits = fits; fits_own = subst (λ (size : ℕ). measurements_size c.setup op ≤ size) sizes.transfer fits }) tt
 
     -- The answer goes by chunks.
     module _ (large : (steps.session_terms (session_at a id)).common.to_requester.transfer < measurements_size c.setup op) where
@@ -392,8 +459,71 @@ module _ (w : WorldSetup) (before : List Entry) (n : ℕ) (a : Requesting) (c : 
           (inl (record {
             more_is = refl;
             few = one_packet;
-            is = is_asked w before n a c measuring o.told.now line behind none o.honest o.still o.chance Aside aside beside o.told id x one refl refl (omega arith) (λ turns. tt) refl (IsUnder pair id op under goes) refl;
+            is = is_asked w before n a c measuring o.told.now line behind none o.honest o.still o.chance Aside aside beside o.told id x one refl refl (omega arith) (λ turns. tt) refl (IsUnder pair id op under goes) refl tt;
           }))
+
+    -- ---- The record that is taken.
+
+    abbrev Taken : Type 0
+    Taken = IsTaken n c.setup op (world_from (After measuring) behind) (lines_from (After measuring) behind)
+
+    reply_is : (t : Turn) (m : List ℕ) → inner_reply t ≡ 5 ∷ m → t.reply ≡ m
+    reply_is t m is = cc
+
+    record_whole : measurements_size c.setup op ≤ (steps.session_terms (session_at a id)).common.to_requester.transfer → Taken
+    record_whole fits =
+        let one = of_session measuring (λ j n sent s. refl) refl in
+        let result = event.Done (finished.Measured (number_for c.setup op)) in
+        let own : measurements_size c.setup op ≤ a.setup.transfer = subst (λ (size : ℕ). measurements_size c.setup op ≤ size) sizes.transfer fits in
+        let is_talk = once_talk pair key id (measure_asking op) (CanMeasure pair key id sid here.requester here.responder op) (IsMeasured pair key id sid here.requester here.responder op) result (measure_last pair key id sid here.requester here.responder op) in
+        let e = runs w before n a c measuring o.told.now line behind none o.honest o.still o.chance Aside aside beside wear_limit (all_lives w before n a c measuring o.told.now line behind none o.honest o.still o.chance Aside aside beside) o.told.now.life.requester o.told.now.life.responder (AsksOnce pair key id (measure_asking op) (CanMeasure pair key id sid here.requester here.responder op) (IsMeasured pair key id sid here.requester here.responder op) result)
+        (AnswersOnce pair key id (measure_asking op) (CanMeasure pair key id sid here.requester here.responder op) (IsMeasured pair key id sid here.requester here.responder op) result) (Quiet pair key id (measure_asking op) (CanMeasure pair key id sid here.requester here.responder op) (IsMeasured pair key id sid here.requester here.responder op) result)
+        (finished.Measured (number_for c.setup op)) is_talk (λ more. 66) (λ more. 66)
+        (all_short pair (AsksOnce pair key id (measure_asking op) (CanMeasure pair key id sid here.requester here.responder op) (IsMeasured pair key id sid here.requester here.responder op) result)
+        (AnswersOnce pair key id (measure_asking op) (CanMeasure pair key id sid here.requester here.responder op) (IsMeasured pair key id sid here.requester here.responder op) result) (Quiet pair key id (measure_asking op) (CanMeasure pair key id sid here.requester here.responder op) (IsMeasured pair key id sid here.requester here.responder op) result) result is_talk)
+        0 (three_few 0 (omega arith)) (sent_for a.setup a.history id (measure_asking op) (command_chosen a.setup a.history (asking.next_draw a)).pad) (step_so w before n a c measuring o.told.now line behind none o.honest o.still o.chance Aside aside beside o.told id (measure_asking op) one refl refl (omega arith) (λ turns. tt) refl)
+        (record {
+          is = is_asked w before n a c measuring o.told.now line behind none o.honest o.still o.chance Aside aside beside o.told id (measure_asking op) one refl refl (omega arith) (λ turns. tt) refl (CanMeasure pair key id sid here.requester here.responder op)
+              (record { byte = can.0; block = can.1; chosen = measure_chosen; fits = fits; fits_own = own }) tt;
+        }) in
+        let brought = e.0.done.brought in
+        let good = brought.good in
+        record {
+          told = contained (lines_from (After measuring) behind) _ e.1;
+          requester = asker pair e.0.view.given e.0.view.commands e.0.view.asked;
+          is_requester = e.0.shows.is_requester;
+          none = e.0.done.quiet.none;
+          taken = granted_record c.setup op good.nonce e.0.view.asked (brought.newest ∙ ap (λ (m : List ℕ). Grants (AskMeasure op) m) (reply_is brought.turn _ good.inner)) good.whole
+              (let most = here.requester.sizes.most in let ordered = here.requester.sizes.ordered in omega (arith, own, most, ordered));
+        }
+
+    record_by_chunks : (large : (steps.session_terms (session_at a id)).common.to_requester.transfer < measurements_size c.setup op) → Taken
+    record_by_chunks large =
+        let one = of_session measuring (λ j n sent s. refl) refl in
+        let gone = goes large in
+        let parts = counts large in
+        let e = runs w before n a c measuring o.told.now line behind none o.honest o.still o.chance Aside aside beside wear_limit (all_lives w before n a c measuring o.told.now line behind none o.honest o.still o.chance Aside aside beside) o.told.now.life.requester o.told.now.life.responder (by_chunks.MeasureAsked pair key id op under gone) (by_chunks.MeasureAnswered pair key id op under gone) (by_chunks.Quiet pair key id op under gone) (finished.Measured (number_for c.setup op))
+        (by_chunks.session_talk pair key id op under gone) (λ more. 1) (λ more. parts.each) (by_chunks.are_short pair key id op under gone parts.each parts.fits) (by_chunks.count pair key id op under gone) (few_by_chunks (transfer_in under) (measurements_size c.setup op) parts)
+        (first_sent large) (step_so w before n a c measuring o.told.now line behind none o.honest o.still o.chance Aside aside beside o.told id (x large) one refl refl (omega arith) (λ turns. tt) refl)
+        (inl (record {
+          more_is = refl;
+          few = one_packet large;
+          is = is_asked w before n a c measuring o.told.now line behind none o.honest o.still o.chance Aside aside beside o.told id (x large) one refl refl (omega arith) (λ turns. tt) refl (IsUnder pair id op under gone) refl tt;
+        })) in
+        record {
+          told = contained (lines_from (After measuring) behind) _ e.1;
+          requester = asker pair e.0.view.given e.0.view.commands e.0.view.asked;
+          is_requester = e.0.shows.is_requester;
+          none = e.0.done.quiet.none;
+          taken = e.0.done.taken;
+        }
+
+    pub recorded : Taken
+    recorded = by_size (nat_le (measurements_size c.setup op) (steps.session_terms (session_at a id)).common.to_requester.transfer) refl
+      where
+        by_size : (b : Bool) → nat_le (measurements_size c.setup op) (steps.session_terms (session_at a id)).common.to_requester.transfer ≡ b → Taken
+        by_size true is = record_whole (leb-true _ _ is)
+        by_size false is = record_by_chunks (leb-false _ _ is)
 
     sent_measure : Result measuring id
     sent_measure = by_size (nat_le (measurements_size c.setup op) (steps.session_terms (session_at a id)).common.to_requester.transfer) refl
@@ -414,7 +544,7 @@ module _ (w : WorldSetup) (before : List Entry) (n : ℕ) (a : Requesting) (c : 
       (inl (
         refl,
         is_asked w before n a c command o.told.now line behind none o.honest o.still o.chance Aside aside beside o.told id (update_asking all) one refl refl (omega arith) (λ turns. tt) refl (CanUpdate pair key id sid here.requester here.responder all)
-            (record { named = refl; flag = not-false _ (passed command o 5) }),
+            (record { named = refl; flag = not-false _ (passed command o 5) }) tt,
       ))
 
   pub each : (command : Command) (id : ℕ) → CanAsk a c command → session_in command ≡ Some id → IsOver command → Result command id
@@ -430,3 +560,28 @@ module _ (w : WorldSetup) (before : List Entry) (n : ℕ) (a : Requesting) (c : 
 
 pub session_commands_complete : SessionCommandsComplete
 session_commands_complete w before n a c command id told can named line behind none honest still chance = (each w before n a c line behind none (λ later. Unit {0}) (nothing_aside (pair_of n a c)) tt command id can named (record { told = told; honest = honest; still = inl still; chance = chance })).0
+
+pub ended_at_both_ends : EndedAtBothEnds
+ended_at_both_ends w before n a c id told line behind none honest still chance = gone_there w before n a c line behind none (λ later. Unit {0}) (nothing_aside (pair_of n a c)) tt id (record { told = told; honest = honest; still = inl still; chance = chance })
+
+pub answers_are_queued : AnswersAreQueued
+answers_are_queued w before n a c id bytes told line behind none honest still chance = queued_taken w before n a c line behind none (λ later. Unit {0}) (nothing_aside (pair_of n a c)) tt id bytes (record { told = told; honest = honest; still = inl still; chance = chance })
+
+-- Data that waited stay in front.
+more_behind : (entries : List served.Entry) (h : served.History) → OnlyWaits entries → (more : List (List ℕ)) × (served.queue_of (entries ++ h) ≡ served.queue_of h ++ more)
+more_behind [] h only = ([], sym (append-nil (served.queue_of h)))
+more_behind (Queued bytes ∷ entries) h only = (let x = more_behind entries h only in (x.0 ++ bytes ∷ [], ap (λ (q : List (List ℕ)). q ++ bytes ∷ []) x.1 ∙ append_assoc (served.queue_of h) x.0 (bytes ∷ [])))
+more_behind (Ticked seconds ∷ entries) h only = more_behind entries h only
+more_behind (Clear tag t d ∷ entries) h only = absurd only
+more_behind (Sealed tag m t reply d ∷ entries) h only = absurd only
+more_behind (Dropped id ∷ entries) h only = absurd only
+
+pub answers_wait_first : AnswersWaitFirst
+answers_wait_first w before n a c id bytes told first others waits line behind none honest still chance =
+    let x = answers_are_queued w before n a c id bytes told line behind none honest still chance in
+    let more = more_behind x.between.0 c.history x.between.2 in
+    record {
+      requester = x.requester;
+      is_requester = x.is_requester;
+      taken = x.taken ∙ ap first_queued (ap served.queue_of x.between.1 ∙ more.1 ∙ ap (λ (q : List (List ℕ)). q ++ more.0) waits);
+    }

@@ -117,6 +117,9 @@ module _ (p : Pair) (id op : ℕ) (n : Negotiation) (can : GoesLarge p.requester
     brings = λ t. Nothing;
     may = λ t. inl refl;
     before = λ turns. Unit {0};
+    there = λ g. Unit {0};
+    there_on = λ r g later alike z. tt;
+    knows = λ g t. Unit {0};
   }
 
   pub record IsLarge (s : Steps) (t : Turn) : Type 0 where
@@ -190,7 +193,8 @@ module _ (p : Pair) (id op : ℕ) (n : Negotiation) (can : GoesLarge p.requester
 
   pub large_answered : AreAnswered q r p.first id large_asking IsUnder IsLarge
   large_answered = record {
-    turns = λ g s e f sealed d fit at k made drawn here is known.
+    there = λ g s e f sealed d fit at k is. tt;
+    turns = λ g s e f sealed d fit at k made drawn here is known queued.
         let answer_is = ap (λ (z : Free). canonical_response (answer_of r (session_place e) (get_measurements op) z (GetMeasurements op))) is ∙ measured_in r g e sealed d op in
         subst (IsGood large_asking IsLarge s) (sym (large_turn e f (sym k.negotiation ∙ fit) (sym k.stage ∙ at) (ap length answer_is ∙ measurements_are r op d.bytes drawn))) (large_is_good g s e f sealed d drawn is);
   }
@@ -229,6 +233,9 @@ module _ (p : Pair) (id op : ℕ) (n : Negotiation) (can : GoesLarge p.requester
       brings = λ t. fetched op w is_last;
       may = λ t. may_fetch op w is_last;
       before = IsPending w handle k;
+      there = λ g. Unit {0};
+      there_on = λ r g later alike z. tt;
+      knows = λ g t. Unit {0};
     }
 
     pub record IsChunk (s : Steps) (t : Turn) : Type 0 where
@@ -297,7 +304,8 @@ module _ (p : Pair) (id op : ℕ) (n : Negotiation) (can : GoesLarge p.requester
 
     pub chunk_answered : AreAnswered q r p.first id chunk_asking IsUnder IsChunk
     chunk_answered = record {
-      turns = λ g s e f sealed d fit at k_in made drawn here is known.
+      there = λ g s e f sealed d fit at k is. tt;
+      turns = λ g s e f sealed d fit at k_in made drawn here is known queued.
           subst (IsGood chunk_asking IsChunk s) (sym (chunk_turn e f (sym k_in.negotiation ∙ fit) (sym k_in.stage ∙ at) known)) (chunk_is_good e f (sym k_in.negotiation ∙ fit) (sym k_in.stage ∙ at) known s);
     }
 

@@ -1,9 +1,8 @@
 -- A measure in a session whose answer goes by chunks: one round for each chunk behind the first, and it leaves quiet ends
 -- quiet.
-use Rattle.std.proofs.Common.{◌≡◌, ◌⊎◌, ◌∙◌, ℕ, zero, suc, ◌<◌, ◌≤◌, ◌+◌, ◌*◌, ◌-◌, ◌==◌, List, [], ◌∷◌, ◌++◌, length, Bool, true, false, Some, None, Ok, refl, sym, ap, subst, inl, inr, arith, add-one}
+use Rattle.std.proofs.Common.{◌≡◌, ◌⊎◌, ◌∙◌, ℕ, suc, ◌<◌, ◌≤◌, ◌+◌, ◌*◌, ◌-◌, ◌==◌, List, [], ◌∷◌, ◌++◌, length, Bool, true, false, Some, None, Ok, refl, sym, ap, subst, inl, inr, arith, add-one}
 use Rattle.std.specs.Int.{div_ceil}
 use Rattle.std.proofs.lemmas.Bool.{eqb-false}
-use Rattle.std.proofs.lemmas.Grind.{div_ceil_times}
 use Rattle.chunking.specs.Cutting.{chunk_count, chunks_before, nth_chunk}
 use Rattle.requester_machine.specs.Asking.{Outcome}
 use Rattle.requester_machine.specs.Asking.Outcome.{Adds}
@@ -36,13 +35,15 @@ use Rattle.spdm_machine.specs.Keys.{Draw}
 use Rattle.spdm_machine.specs.TagLog.{Log}
 use Rattle.transcript.specs.Transcripts.{Negotiation}
 use Rattle.world_machine.specs.Chance.{NoChance}
+use Rattle.requester_machine.specs.Shown.{last_data}
 use Rattle.spdm_progress.specs.InStep.{AreQuiet}
-use Rattle.spdm_progress.specs.Measuring.{measurements_size, number_for}
+use Rattle.spdm_progress.specs.Measuring.{measurements_size, number_for, record_for}
+use Rattle.spdm_progress.proofs.ChunkCounts.{not_zero, some_of}
 use Rattle.spdm_progress.proofs.FurtherRound as further
 use Rattle.spdm_progress.proofs.ClearFetch.{IsPending, chunk_is_few, transfer_in}
 use Rattle.spdm_progress.proofs.LargeAnswers.{GoesLarge}
 use Rattle.spdm_progress.proofs.ManyPackets.{before_it}
-use Rattle.spdm_progress.proofs.MeasureStages.{measurements, measurements_are}
+use Rattle.spdm_progress.proofs.MeasureStages.{granted_record, measurements, measurements_are}
 use Rattle.spdm_progress.proofs.PacketSteps.{Pair}
 use Rattle.spdm_progress.proofs.RecordHeard.{came_as}
 use Rattle.spdm_progress.proofs.RecordRounds.{quiet_still}
@@ -72,15 +73,7 @@ module _ (p : Pair) (same_key : p.requester.psk ≡ p.responder.psk) (id op : �
   count_is nonce whole = ap (λ (size : ℕ). div_ceil (size + 4) (transfer - 12)) (measurements_are r op nonce whole)
 
   some_chunks : 0 < count
-  some_chunks =
-      let least = can.fetch.least in
-      let is = can.fetch.transfer in
-      let around = div_ceil_times (measurements_size r op + 4) (transfer - 12) (omega (arith, least, is)) in
-      by_zero count (λ e. (let none : (measurements_size r op + 4) ≤ 0 * (transfer - 12) = subst (λ (z : ℕ). (measurements_size r op + 4) ≤ z * (transfer - 12)) e around.0 in omega (arith, none)))
-    where
-      by_zero : (z : ℕ) → (z ≡ 0 → ⊥) → 0 < z
-      by_zero zero other = absurd (other refl)
-      by_zero (suc z) other = omega arith
+  some_chunks = (let least = can.fetch.least in let is = can.fetch.transfer in some_of (measurements_size r op + 4) (transfer - 12) (omega arith) (omega (arith, least, is)))
 
   pub within : (more k : ℕ) (nonce : List ℕ) → length nonce ≡ 32 → more + suc k ≡ count → k < chunk_count transfer (measurements r op nonce)
   within more k nonce whole left = subst (λ (z : ℕ). k < z) (sym (count_is nonce whole)) (omega (arith, left))
@@ -134,10 +127,11 @@ module _ (p : Pair) (same_key : p.requester.psk ≡ p.responder.psk) (id op : �
   abbrev pub MeasureAnswered : ℕ → ℕ → List ℕ → Log → asked.History → served.History → Type 0
   MeasureAnswered more tag body log h g = FirstAnswered more tag body log h g ⊎ ChunkAnswered more tag body log h g
 
-  -- All is quiet again, and the session goes on.
+  -- All is quiet again, the session goes on, and the record was taken.
   pub record Quiet (log : Log) (h : asked.History) (g : served.History) : Type 0 where
     pub quiet : AreQuiet q r p.first log h g
     pub session : steps.is_live (steps.session_of id h) ≡ true
+    pub taken : last_data h ≡ record_for r op
 
   -- ---- The bodies.
 
@@ -206,7 +200,7 @@ module _ (p : Pair) (same_key : p.requester.psk ≡ p.responder.psk) (id op : �
           (Further next fewer.0 (sym fewer.1) refl (inr (record {
             which = which;
             few = omega (arith, long);
-            is = further.asked_then q r p.first id first_asking x Under Under Large tag log h g d body z event.Progress leads refl z.fit z.at (omega arith) known;
+            is = further.asked_then q r p.first id first_asking x Under Under Large tag log h g d body z event.Progress leads refl z.fit z.at (omega arith) known tt;
           })))
 
     module _ (y : ChunkAnswered more tag body log h g) where
@@ -247,11 +241,8 @@ module _ (p : Pair) (same_key : p.requester.psk ≡ p.responder.psk) (id op : �
           (Over refl refl (record {
             quiet = quiet_then q r p.first id x Under (Chunk more y.which) tag log h g d body z told None (last_so last) acts refl refl at_end;
             session = live_then q r p.first id x Under (Chunk more y.which) tag log h g d body z told None (last_so last) true refl refl;
+            taken = granted_record r op y.which.nonce (entry q r p.first id x Under (Chunk more y.which) tag log h g d body z told None ∷ h) (ap (fetched op w) last) y.which.whole (let fits = can.fetch.fits_max in let max = can.fetch.max in let most = can.fetch.most in omega (arith, fits, max, most));
           }))
-
-      positive : (m : ℕ) → (m ≡ 0 → ⊥) → 0 < m
-      positive zero other = absurd (other refl)
-      positive (suc m) other = omega arith
 
       next_which : (fewer : ℕ) → suc fewer ≡ more → Fetching fewer
       next_which fewer one = (let v = y.which in let left = v.left in record { k = v.k + 1; left = omega (arith, one, left); nonce = v.nonce; whole = v.whole; handle = v.handle; small = v.small })
@@ -285,7 +276,7 @@ module _ (p : Pair) (same_key : p.requester.psk ≡ p.responder.psk) (id op : �
             (Further next fewer (sym one) refl (inr (record {
               which = next_which fewer one;
               few = omega (arith, long);
-              is = further.asked_then q r p.first id x x' Under Under (Chunk more y.which) tag log h g d body z event.Progress next_so refl z.fit at_end (omega arith) known;
+              is = further.asked_then q r p.first id x x' Under Under (Chunk more y.which) tag log h g d body z event.Progress next_so refl z.fit at_end (omega arith) known tt;
             })))
 
       chunk_heard : (b : Bool) → ends ≡ b → LeadsTo (requester_hears q h false tag body d)
@@ -294,7 +285,7 @@ module _ (p : Pair) (same_key : p.requester.psk ≡ p.responder.psk) (id op : �
           let v = y.which in
           let left = v.left in
           let other = eqb-false (v.k + 1) (chunk_count transfer w) is in
-          let fewer = before_it more (positive more (λ none. other (omega (arith, none, left) ∙ sym (count_is v.nonce v.whole)))) in
+          let fewer = before_it more (not_zero more (λ none. other (omega (arith, none, left) ∙ sym (count_is v.nonce v.whole)))) in
           next_heard is fewer.0 fewer.1
 
   hears : (more tag : ℕ) (body : List ℕ) (log : Log) (h : asked.History) (g : served.History) (d : Draw) → NoChance log → MeasureAnswered more tag body log h g
@@ -310,7 +301,7 @@ module _ (p : Pair) (same_key : p.requester.psk ≡ p.responder.psk) (id op : �
     hears = hears;
     asks_still = asks_on;
     answers_still = answers_on;
-    done_still = λ log h g later alike y. record { quiet = quiet_still q r p.first log h g later alike y.quiet; session = y.session };
+    done_still = λ log h g later alike y. record { quiet = quiet_still q r p.first log h g later alike y.quiet; session = y.session; taken = y.taken };
   }
     where
       asks_on : (more tag : ℕ) (body : List ℕ) (log : Log) (h : asked.History) (g later : served.History) → AreAlike r g later → MeasureAsked more tag body log h g → MeasureAsked more tag body log h later

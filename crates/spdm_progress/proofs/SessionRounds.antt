@@ -1,6 +1,6 @@
 -- A round in a session: a record that asks something of it is on its way to the responder, and then the record that
 -- answers it is on its way back.
-use Rattle.std.proofs.Common.{◌≡◌, ◌≢◌, ◌∙◌, ℕ, ◌<◌, ◌≤◌, ◌+◌, List, [], ◌∷◌, ◌++◌, length, Bool, true, false, Option, Some, None, Result, Ok, Contains, refl, sym, ap, subst, inl, inr, arith, eq-eqb}
+use Rattle.std.proofs.Common.{◌≡◌, ◌==◌, ◌≢◌, ◌∙◌, ℕ, ◌<◌, ◌≤◌, ◌+◌, List, [], ◌∷◌, ◌++◌, length, Bool, true, false, Option, Some, None, Result, Ok, Contains, refl, sym, ap, subst, inl, inr, arith, eq-eqb}
 use Rattle.std.specs.Prelude.{if◌then◌else◌}
 use Rattle.std.proofs.lemmas.Bool.{false≢true, ne_eqb}
 use Rattle.std.proofs.lemmas.List.Elements.{Contains-append_left, Contains-append_right, Contains-push}
@@ -49,27 +49,33 @@ use Rattle.responder_machine.specs.Session as events
 use Rattle.responder_machine.specs.Session.{Events, after_record, id_in_record, when_live}
 use Rattle.responder_machine.specs.Session.Event.{Heard}
 use Rattle.responder_machine.specs.Setup.{RspSetup}
-use Rattle.responder_machine.specs.Turn.{Turn}
+use Rattle.responder_machine.specs.Turn.{Effect as TurnEffect, Turn, code_in, takes}
+use Rattle.spdm_grammar.specs.declared.names.request_code.TheConstants.{END_SESSION}
 use Rattle.world_machine.specs.Chance.{NoChance}
 use Rattle.spdm_progress.specs.InStep.{AreInStep, AreQuiet, AreResting, WasSealed, rsp_id}
+use Rattle.spdm_progress.specs.SessionCommands.{OnlyWaited}
 use Rattle.spdm_progress.proofs.AlikeSessions.{IsAnswerTo, IsFetched, MayBring, behind, is_kept, still_in_step}
 use Rattle.spdm_progress.proofs.ManyPackets.{IsBody}
 use Rattle.spdm_progress.proofs.RecordHeard.{asking_in, came_as, heard}
-use Rattle.spdm_progress.proofs.RecordRounds.{Beside, KeepsBeside, beside_on, earlier_on, last_waited, moves_so, quiet_from, turns_waited}
+use Rattle.spdm_progress.proofs.RecordRounds.{Beside, KeepsBeside, beside_on, earlier_on, last_waited, live_waited, moves_so, quiet_from, turns_waited}
 use Rattle.spdm_progress.proofs.RecordServed.{served as taken}
 use Rattle.spdm_progress.proofs.RecordsBetween.{names_session, no_copy, opens, record_length, tag_is}
-use Rattle.spdm_progress.proofs.StillKept.{AreAlike}
+use Rattle.spdm_progress.proofs.StillKept.{AreAlike, only_further}
 use Rattle.spdm_progress.proofs.Talk.{IsSendable}
 use Rattle.spdm_progress.proofs.RecordStages.{answer_count, answer_under, awaited_under, live_heard, no_pad, not_end, opens_there, replies_so, sealed_elsewhere, sealed_here, updates_all}
 
 -- What is asked of a session: the ask and its inner message, by the session as it stands; what its answer brings about at
--- the requester, by the turn that answered; and what is known of the turns before it at the responder.
+-- the requester, by the turn that answered; what is known of the turns before it at the responder, and of its
+-- connection.
 pub record Asking : Type 1 where
   pub ask : Ask
   pub inner : Steps → List ℕ
   pub brings : Turn → asked.Effect
   pub may : (t : Turn) → MayBring ask t.reply (brings t)
   pub before : List Turn → Type 0
+  pub there : served.History → Type 0
+  pub there_on : (r : RspSetup) (g later : served.History) → AreAlike r g later → there g → there later
+  pub knows : served.History → Turn → Type 0
 
 module _ (q : ReqSetup) (r : RspSetup) (first id : ℕ) (x : Asking) where
   abbrev pub sealed_for : Steps → List ℕ → List ℕ
@@ -107,6 +113,7 @@ module _ (q : ReqSetup) (r : RspSetup) (first id : ℕ) (x : Asking) where
     pub log_is : log ≡ made_for s pad older
     pub last : (k : KeptRecord) → events.last_of (events.session_of (rsp_id s) g) ≡ Some k → WasSealed q.psk older s k.sealed
     pub known : x.before (events.turns_of (events.session_of (rsp_id s) g))
+    pub queued : x.there g
     pub beside : Beside q r first id (rsp_id s) log h g
 
   -- The turn is the newest of these, behind some of which this was known.
@@ -114,6 +121,20 @@ module _ (q : ReqSetup) (r : RspSetup) (first id : ℕ) (x : Asking) where
     pub earlier : List Turn
     pub is : turns ≡ t ∷ earlier
     pub known : x.before earlier
+
+  -- The record of this turn was the last that came to the connection, behind this history.
+  pub record CameThere (t : Turn) (g : served.History) : Type 0 where
+    pub until : served.History
+    pub between : x.there until
+    pub knows : x.knows until t
+    pub tag : ℕ
+    pub sealed : List ℕ
+    pub reply : List ℕ
+    pub draw : Draw
+    pub since : OnlyWaited (WasSealedThere tag sealed t reply draw ∷ until) g
+
+  pub came_still : (t : Turn) (g later : served.History) → AreAlike r g later → CameThere t g → CameThere t later
+  came_still t g later alike y = record { until = y.until; between = y.between; knows = y.knows; tag = y.tag; sealed = y.sealed; reply = y.reply; draw = y.draw; since = only_further (WasSealedThere y.tag y.sealed t y.reply y.draw ∷ y.until) g later alike.between y.since }
 
   -- Its answer is on its way: a turn of which this is known.
   pub record IsAnswered (Fit : Steps → Type 0) (Good : Steps → Turn → Type 0) (tag : ℕ) (body : List ℕ) (log : Log) (h : asked.History) (g : served.History) : Type 0 where
@@ -134,6 +155,8 @@ module _ (q : ReqSetup) (r : RspSetup) (first id : ℕ) (x : Asking) where
     pub kept : is_kept x.ask ≡ true → AreInStep (took_steps s pad t) (events.session_of (rsp_id s) g)
     pub last : is_kept x.ask ≡ true → (k : KeptRecord) → events.last_of (events.session_of (rsp_id s) g) ≡ Some k → k.sealed ≡ sealed_for s pad
     pub newest : is_kept x.ask ≡ true → IsNewest t (events.turns_of (events.session_of (rsp_id s) g))
+    pub gone : is_kept x.ask ≡ false → events.is_live (events.session_of (rsp_id s) g) ≡ false
+    pub came : CameThere t g
     pub made : Contains log (Made (request_purpose q.psk s) (record_input (steps.request_next s) (sealed_for s pad)) (tag_part (sealed_for s pad)))
     pub beside : Beside q r first id (rsp_id s) log h g
 
@@ -191,6 +214,7 @@ module _ (q : ReqSetup) (r : RspSetup) (first id : ℕ) (x : Asking) where
     log_is = y.log_is;
     last = λ k is. y.last k (sym (last_waited _ _ (alike.sessions (rsp_id y.s))) ∙ is);
     known = subst x.before (sym (turns_waited _ _ (alike.sessions (rsp_id y.s)))) y.known;
+    queued = x.there_on r g later alike y.queued;
     beside = still_beside log h g later (rsp_id y.s) alike y.beside;
   }
 
@@ -213,6 +237,8 @@ module _ (q : ReqSetup) (r : RspSetup) (first id : ℕ) (x : Asking) where
     kept = λ kept. still_in_step _ _ _ (alike.sessions (rsp_id y.s)) (y.kept kept);
     last = λ kept k is. y.last kept k (sym (last_waited _ _ (alike.sessions (rsp_id y.s))) ∙ is);
     newest = λ kept. subst (IsNewest y.t) (sym (turns_waited _ _ (alike.sessions (rsp_id y.s)))) (y.newest kept);
+    gone = λ ends. live_waited _ _ (alike.sessions (rsp_id y.s)) ∙ y.gone ends;
+    came = came_still y.t g later alike y.came;
     made = y.made;
     beside = still_beside log h g later (rsp_id y.s) alike y.beside;
   }
@@ -221,8 +247,9 @@ module _ (q : ReqSetup) (r : RspSetup) (first id : ℕ) (x : Asking) where
 
   -- What the responder makes of the record: a turn that answers it, of which this is known.
   pub record AreAnswered (Fit : Steps → Type 0) (Good : Steps → Turn → Type 0) : Type 0 where
-    pub turns : (g : served.History) (s : Steps) (e : Events) (f : Free) (sealed : List ℕ) (d : Draw) → Fit s → steps.stage_of s ≡ stage_for x.ask → AreInStep s e → serving_does.IsMade r g → length d.bytes ≡ 32 → events.session_of (id_in_record sealed) g ≡ e → f ≡ record_chosen r g sealed d → x.before (events.turns_of e)
+    pub turns : (g : served.History) (s : Steps) (e : Events) (f : Free) (sealed : List ℕ) (d : Draw) → Fit s → steps.stage_of s ≡ stage_for x.ask → AreInStep s e → serving_does.IsMade r g → length d.bytes ≡ 32 → events.session_of (id_in_record sealed) g ≡ e → f ≡ record_chosen r g sealed d → x.before (events.turns_of e) → x.there g
         → IsAnswerTo x.ask (x.inner s) (session_turn r e (x.inner s) f) × Good s (session_turn r e (x.inner s) f) × (length (session_turn r e (x.inner s) f).reply ≤ 4133)
+    pub there : (g : served.History) (s : Steps) (e : Events) (f : Free) (sealed : List ℕ) (d : Draw) → Fit s → steps.stage_of s ≡ stage_for x.ask → AreInStep s e → f ≡ record_chosen r g sealed d → x.knows g (session_turn r e (x.inner s) f)
 
   names : (s : Steps) (pad : List ℕ) → rsp_id s < 65536 → id_in_record (sealed_for s pad) ≡ rsp_id s
   unfolding sealed_next
@@ -238,6 +265,22 @@ module _ (q : ReqSetup) (r : RspSetup) (first id : ℕ) (x : Asking) where
   is_new log s pad (Some k) true chance short was is =
       absurd (no_copy q.psk log s (steps.session_terms s).choice (sealed_for s pad) k.sealed chance (own_tag s pad short) (was k refl) ((bytes_eq-Decides k.sealed (sealed_for s pad)).0 is))
   is_new log s pad (Some k) false chance short was is = refl
+
+  -- END_SESSION ends the session.
+  is_end : (ask : Ask) (inner : List ℕ) (t : Turn) → is_kept ask ≡ false → IsAnswerTo ask inner t → takes END_SESSION t ≡ true
+  is_end AskEnd inner t ends is = ap (λ (e : TurnEffect). code_in e == END_SESSION) is
+  is_end AskFinish inner t ends is = absurd (false≢true (sym ends))
+  is_end AskData inner t ends is = absurd (false≢true (sym ends))
+  is_end AskBeat inner t ends is = absurd (false≢true (sym ends))
+  is_end (AskUpdate all) inner t ends is = absurd (false≢true (sym ends))
+  is_end AskVerify inner t ends is = absurd (false≢true (sym ends))
+  is_end (AskMeasure op) inner t ends is = absurd (false≢true (sym ends))
+  is_end (AskChunk op handle number before) inner t ends is = absurd (false≢true (sym ends))
+
+  -- The responder holds the session behind it, unless it is ended.
+  pub held_then : (Fit : Steps → Type 0) (Good : Steps → Turn → Type 0) (tag : ℕ) (body : List ℕ) (log : Log) (h : asked.History) (g : served.History) (y : IsAnswered Fit Good tag body log h g) → (k : Bool) → is_kept x.ask ≡ k → events.is_live (events.session_of (rsp_id y.s) g) ≡ k
+  held_then Fit Good tag body log h g y true kept = (y.kept kept).live
+  held_then Fit Good tag body log h g y false ends = y.gone ends
 
   module _ (same_key : q.psk ≡ r.psk) (Fit : Steps → Type 0) (Good : Steps → Turn → Type 0) (answers : AreAnswered Fit Good) where
     -- What was just answered.
@@ -277,7 +320,7 @@ module _ (q : ReqSetup) (r : RspSetup) (first id : ℕ) (x : Asking) where
 
       reply_is : reply_record r.psk e t (inner_reply t) f.pad ≡ answer_for s t
       reply_is =
-          let a = answers.turns g s e f sealed d y.fit y.at y.in_step y.beside.made_there drawn here refl y.known in
+          let a = answers.turns g s e f sealed d y.fit y.at y.in_step y.beside.made_there drawn here refl y.known y.queued in
           ap (reply_record r.psk e t (inner_reply t)) (no_pad r g sealed d)
           ∙ ap (λ (psk : List ℕ). reply_record psk e t (inner_reply t) []) (sym same_key)
           ∙ replies_so q.psk s e y.in_step t (asks_all x.ask) (inner_reply t) [] (updates_all x.ask (x.inner s) t a.0)
@@ -313,7 +356,7 @@ module _ (q : ReqSetup) (r : RspSetup) (first id : ℕ) (x : Asking) where
 
       heard_is : is_kept x.ask ≡ true → events.session_of (rsp_id s) new ≡ Heard sealed t (answer_for s t) ∷ e
       heard_is kept =
-          let a = answers.turns g s e f sealed d y.fit y.at y.in_step y.beside.made_there drawn here refl y.known in
+          let a = answers.turns g s e f sealed d y.fit y.at y.in_step y.beside.made_there drawn here refl y.known y.queued in
           session_new ∙ live_heard e sealed (answer_for s t) t y.in_step.live (not_end x.ask (x.inner s) t kept a.0)
 
       own_made : (acts : Log) → Contains (acts ++ log) (Made (request_purpose q.psk s) (record_input (steps.request_next s) sealed) (tag_part sealed))
@@ -325,7 +368,7 @@ module _ (q : ReqSetup) (r : RspSetup) (first id : ℕ) (x : Asking) where
 
       after_here : After tag h g log sealed (AddsThere (WasSealedThere tag sealed t (answer_for s t) d))
       after_here =
-          let a = answers.turns g s e f sealed d y.fit y.at y.in_step y.beside.made_there drawn here refl y.known in record {
+          let a = answers.turns g s e f sealed d y.fit y.at y.in_step y.beside.made_there drawn here refl y.known y.queued in record {
             s = s;
             pad = y.pad;
             t = t;
@@ -343,6 +386,8 @@ module _ (q : ReqSetup) (r : RspSetup) (first id : ℕ) (x : Asking) where
             kept = λ kept. subst (AreInStep (took_steps s y.pad t)) (sym (heard_is kept)) (behind (x.inner s) sealed (answer_for s t) t s e y.in_step x.ask (x.brings t) (x.may t) kept a.0);
             last = λ kept k is. sym (ap (λ (z : KeptRecord). z.sealed) (some_same _ k (sym (ap events.last_of (heard_is kept)) ∙ is)));
             newest = λ kept. record { earlier = events.turns_of e; is = ap events.turns_of (heard_is kept); known = y.known };
+            gone = λ ends. ap events.is_live (session_new ∙ ap (λ (b : Bool). if b then [] else events.when_live e (Heard sealed t (answer_for s t))) (is_end x.ask (x.inner s) t ends a.0));
+            came = record { until = g; between = y.queued; knows = answers.there g s e f sealed d y.fit y.at y.in_step refl; tag = tag; sealed = sealed; reply = answer_for s t; draw = d; since = ([], refl, tt) };
             made = own_made acts;
             beside = beside_on q r first id (rsp_id s) acts log h h g new keeps_beside y.beside;
           }

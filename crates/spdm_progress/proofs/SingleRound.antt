@@ -1,5 +1,5 @@
 -- A command that takes one round in a session, from when it is told to its result.
-use Rattle.std.proofs.Common.{◌≡◌, ℕ, List, ◌∷◌, ◌++◌, Bool, true, false, None, Ok, refl, sym, subst}
+use Rattle.std.proofs.Common.{◌≡◌, ◌∙◌, ℕ, List, ◌∷◌, ◌++◌, Bool, true, false, None, Ok, refl, sym, subst}
 use Rattle.spdm_grammar.specs.declared.event.Event.{Event}
 use Rattle.spdm_grammar.specs.declared.phase.Stage.TheVariants as stage
 use Rattle.spdm_machine.specs.Keys.{Draw}
@@ -18,12 +18,14 @@ use Rattle.requester_machine.specs.Session.{Steps}
 use Rattle.responder_machine.specs.History as served
 use Rattle.responder_machine.specs.Responder.{inner_reply}
 use Rattle.responder_machine.specs.Turn.{Turn}
-use Rattle.spdm_progress.specs.InStep.{AreQuiet}
+use Rattle.responder_machine.specs.Session as events
+use Rattle.spdm_progress.specs.InStep.{AreQuiet, rsp_id}
 use Rattle.spdm_progress.proofs.AlikeSessions.{is_kept}
+use Rattle.spdm_progress.proofs.MeasureStages.{newest_in}
 use Rattle.spdm_progress.proofs.PacketSteps.{Pair}
 use Rattle.spdm_progress.proofs.RecordHeard.{came_as}
-use Rattle.spdm_progress.proofs.RecordRounds.{quiet_still}
-use Rattle.spdm_progress.proofs.SessionRounds.{AreAnswered, Asking, IsAnswered, IsAsked, answer_for, answered_sent, answered_still, asked_sent, asked_steps, asked_still, entry, hears_so, live_then, quiet_gone, quiet_then, serves_so, took_steps}
+use Rattle.spdm_progress.proofs.RecordRounds.{live_waited, quiet_still}
+use Rattle.spdm_progress.proofs.SessionRounds.{AreAnswered, Asking, CameThere, IsAnswered, IsAsked, answer_for, answered_sent, answered_still, asked_sent, asked_steps, asked_still, came_still, entry, held_then, hears_so, live_then, quiet_gone, quiet_then, serves_so, took_steps}
 use Rattle.spdm_progress.proofs.Talk.{IsTalk, Leads, Over}
 
 module _ (p : Pair) (same_key : p.requester.psk ≡ p.responder.psk) (id : ℕ) (x : Asking) (Fit : Steps → Type 0) (Good : Steps → Turn → Type 0) (told : Event) where
@@ -34,10 +36,21 @@ module _ (p : Pair) (same_key : p.requester.psk ≡ p.responder.psk) (id : ℕ) 
   pub record AnswersOnce (more tag : ℕ) (body : List ℕ) (log : Log) (h : asked.History) (g : served.History) : Type 0 where
     pub is : IsAnswered p.requester p.responder p.first id x Fit Good tag body log h g
 
-  -- The two ends are quiet, and the session goes on unless it is ended.
+  -- The newest entry is what the ask brings about, in a turn of which so much is known.
+  pub record HasBrought (h : asked.History) : Type 0 where
+    pub before : Steps
+    pub turn : Turn
+    pub fit : Fit before
+    pub good : Good before turn
+    pub newest : newest_in h ≡ x.brings turn
+
+  -- The two ends are quiet, and the session goes on at both unless it is ended.
   pub record Quiet (log : Log) (h : asked.History) (g : served.History) : Type 0 where
     pub quiet : AreQuiet p.requester p.responder p.first log h g
     pub session : steps.is_live (steps.session_of id h) ≡ is_kept x.ask
+    pub brought : HasBrought h
+    pub there : events.is_live (events.session_of (rsp_id brought.before) g) ≡ is_kept x.ask
+    pub came : CameThere p.requester p.responder p.first id x brought.turn g
 
   -- The responder's answer is the one that the command waits for, and behind it the session is open or ended.
   pub record IsLast : Type 0 where
@@ -62,6 +75,9 @@ module _ (p : Pair) (same_key : p.requester.psk ≡ p.responder.psk) (id : ℕ) 
       (Over refl refl (record {
         quiet = quiet_behind (is_kept x.ask) refl last more tag body log h g d z.is (asked_log.acts_of p.requester h body (Adds e));
         session = live_then p.requester p.responder p.first id x Fit Good tag log h g d body z.is told None (last.leads h d z.is.s z.is.pad z.is.t z.is.fit z.is.good z.is.steps_are) (is_kept x.ask) refl refl;
+        brought = record { before = z.is.s; turn = z.is.t; fit = z.is.fit; good = z.is.good; newest = refl };
+        there = held_then p.requester p.responder p.first id x Fit Good tag body log h g z.is (is_kept x.ask) refl;
+        came = z.is.came;
       }))
 
   pub once_talk : IsLast → IsTalk p AsksOnce AnswersOnce Quiet told
@@ -72,5 +88,5 @@ module _ (p : Pair) (same_key : p.requester.psk ≡ p.responder.psk) (id : ℕ) 
     hears = λ more tag body log h g d chance z. once_heard last more tag body log h g d z;
     asks_still = λ more tag body log h g later alike z. record { is = asked_still p.requester p.responder p.first id x Fit tag body log h g later alike z.is };
     answers_still = λ more tag body log h g later alike z. record { is = answered_still p.requester p.responder p.first id x Fit Good tag body log h g later alike z.is };
-    done_still = λ log h g later alike z. record { quiet = quiet_still p.requester p.responder p.first log h g later alike z.quiet; session = z.session };
+    done_still = λ log h g later alike z. record { quiet = quiet_still p.requester p.responder p.first log h g later alike z.quiet; session = z.session; brought = z.brought; there = live_waited _ _ (alike.sessions (rsp_id z.brought.before)) ∙ z.there; came = came_still p.requester p.responder p.first id x z.brought.turn g later alike z.came };
   }

@@ -1,5 +1,5 @@
 -- Queued data and time that ends no session leave the sessions of a connection as they were, but for the seconds waited.
-use Rattle.std.proofs.Common.{◌≡◌, ◌⊎◌, ◌∙◌, ℕ, ◌<◌, ◌≤◌, ◌+◌, ◌*◌, ◌==◌, List, [], ◌∷◌, length, Bool, true, false, cond, nat_lt, nat_le, not, Option, Some, None, refl, sym, ap, subst, inl, inr, eqb-true}
+use Rattle.std.proofs.Common.{◌≡◌, ◌⊎◌, ◌∙◌, ℕ, ◌<◌, ◌≤◌, ◌+◌, ◌*◌, ◌==◌, List, [], ◌∷◌, ◌++◌, append_assoc, length, Bool, true, false, cond, nat_lt, nat_le, not, Option, Some, None, refl, sym, ap, subst, inl, inr, eqb-true}
 use Rattle.std.specs.Prelude.{if◌then◌else◌}
 use Rattle.std.proofs.lemmas.Bool.{false≢true, leb-false, ltb-false}
 use Rattle.spdm_grammar.specs.declared.heard.ReplyFault.{ReplyFault}
@@ -8,12 +8,13 @@ use Rattle.spdm_machine.proofs.Members.{found_in, none_some}
 use Rattle.responder_machine.proofs.Connected.{changed_keeps}
 use Rattle.responder_machine.specs.Does.{IsMade}
 use Rattle.responder_machine.specs.History as served
-use Rattle.responder_machine.specs.History.Entry.{Queued, Ticked}
+use Rattle.responder_machine.specs.History.Entry.{Clear, Dropped, Queued, Sealed, Ticked}
 use Rattle.responder_machine.specs.Responding.{Connection, Responding, connection_of, changed, changed_if, queues, reply_fault_of}
 use Rattle.responder_machine.specs.Session.{Events, session_of, is_live, is_timed, period_of, idle_of, after_tick}
 use Rattle.responder_machine.specs.Session.Event.{Waited}
 use Rattle.responder_machine.specs.Setup.{RspSetup}
 use Rattle.world_machine.specs.World.{World}
+use Rattle.spdm_progress.specs.SessionCommands.{OnlyWaited, OnlyWaits}
 use Rattle.spdm_progress.proofs.Between.{IsStill}
 use Rattle.spdm_progress.proofs.ClearKept.{found_mapped, same_clear}
 use Rattle.spdm_progress.proofs.PacketSteps.{Pair, server}
@@ -24,6 +25,18 @@ use Rattle.spdm_progress.proofs.Told.{contained}
 abbrev pub IsSameSession : Events → Events → Type 0
 IsSameSession old new = (new ≡ old) ⊎ ((seconds : ℕ) × (is_live old ≡ true) × (new ≡ Waited seconds ∷ old))
 
+pub waits_both : (later entries : List served.Entry) → OnlyWaits later → OnlyWaits entries → OnlyWaits (later ++ entries)
+waits_both [] entries a b = b
+waits_both (Queued bytes ∷ later) entries a b = waits_both later entries a b
+waits_both (Ticked seconds ∷ later) entries a b = waits_both later entries a b
+waits_both (Clear tag t d ∷ later) entries a b = absurd a
+waits_both (Sealed tag m t reply d ∷ later) entries a b = absurd a
+waits_both (Dropped id ∷ later) entries a b = absurd a
+
+pub only_further : (first before now : served.History) → OnlyWaited before now → OnlyWaited first before → OnlyWaited first now
+only_further first before now x y =
+    (x.0 ++ y.0, x.1 ∙ ap (λ (h : served.History). x.0 ++ h) y.1 ∙ sym (append_assoc x.0 y.0 first), waits_both x.0 y.0 x.2 y.2)
+
 -- Two histories of one connection between which nothing came but queued data and time that ended no session.
 pub record AreAlike (r : RspSetup) (old new : served.History) : Type 0 where
   pub clear : SameClear old new
@@ -31,9 +44,10 @@ pub record AreAlike (r : RspSetup) (old new : served.History) : Type 0 where
   pub made : IsMade r old → IsMade r new
   pub ended : served.ended_of new ≡ served.ended_of old
   pub sessions : (id : ℕ) → IsSameSession (session_of id old) (session_of id new)
+  pub between : OnlyWaited old new
 
 pub alike_itself : (r : RspSetup) (h : served.History) → AreAlike r h h
-alike_itself r h = record { clear = same_clear h; turns = refl; made = λ m. m; ended = refl; sessions = λ id. inl refl }
+alike_itself r h = record { clear = same_clear h; turns = refl; made = λ m. m; ended = refl; sessions = λ id. inl refl; between = ([], refl, tt) }
 
 -- ---- Queued data.
 
@@ -49,7 +63,7 @@ queued_within c bytes is = go (nat_lt 1024 (length bytes)) (nat_le 16 (length (s
 
 queued_alike : (r : RspSetup) (h : served.History) (bytes : List ℕ) → length bytes ≤ 1024 → length (served.queue_of h) < 16 → AreAlike r h (Queued bytes ∷ h)
 unfolding session_of
-queued_alike r h bytes short room = record { clear = queued_same h bytes; turns = refl; made = λ m. (short, room, m); ended = refl; sessions = λ id. inl refl }
+queued_alike r h bytes short room = record { clear = queued_same h bytes; turns = refl; made = λ m. (short, room, m); ended = refl; sessions = λ id. inl refl; between = (Queued bytes ∷ [], refl, tt) }
 
 -- ---- Time.
 
@@ -65,7 +79,7 @@ ticked_session (e ∷ s) seconds lives = ticked_by (is_timed (e ∷ s)) (nat_le 
 
 ticked_alike : (r : RspSetup) (h : served.History) (seconds : ℕ) → ((id : ℕ) → is_live (session_of id h) ≡ true → is_live (after_tick (session_of id h) seconds) ≡ true) → AreAlike r h (Ticked seconds ∷ h)
 unfolding session_of
-ticked_alike r h seconds lives = record { clear = ticked_same h seconds; turns = refl; made = λ m. m; ended = refl; sessions = λ id. ticked_session (session_of id h) seconds (lives id) }
+ticked_alike r h seconds lives = record { clear = ticked_same h seconds; turns = refl; made = λ m. m; ended = refl; sessions = λ id. ticked_session (session_of id h) seconds (lives id); between = (Ticked seconds ∷ [], refl, tt) }
 
 -- ---- The connection of a pair.
 

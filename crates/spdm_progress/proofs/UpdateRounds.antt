@@ -45,10 +45,10 @@ use Rattle.spdm_progress.proofs.Talk.{IsTalk}
 use Rattle.spdm_progress.proofs.TwoRounds.{Answers, Asks, IsFirst, OneStage, two_talk}
 
 abbrev pub update_asking : Bool → Asking
-update_asking all = record { ask = AskUpdate all; inner = λ s. inner_request (key_update s (operation_of all)); brings = λ t. Grants (AskUpdate all) t.reply; may = λ t. refl; before = λ turns. Unit {0} }
+update_asking all = record { ask = AskUpdate all; inner = λ s. inner_request (key_update s (operation_of all)); brings = λ t. Grants (AskUpdate all) t.reply; may = λ t. refl; before = λ turns. Unit {0}; there = λ g. Unit {0}; there_on = λ r g later alike z. tt; knows = λ g t. Unit {0} }
 
 abbrev pub verify_asking : Asking
-verify_asking = record { ask = AskVerify; inner = λ s. inner_request (key_update s 3); brings = λ t. Grants AskVerify t.reply; may = λ t. refl; before = λ turns. Unit {0} }
+verify_asking = record { ask = AskVerify; inner = λ s. inner_request (key_update s 3); brings = λ t. Grants AskVerify t.reply; may = λ t. refl; before = λ turns. Unit {0}; there = λ g. Unit {0}; there_on = λ r g later alike z. tt; knows = λ g t. Unit {0} }
 
 operations : (all : Bool) → (1 ≤ operation_of all) × (operation_of all ≤ 3) × (fits_stage stage.Open (operation_of all) ≡ true)
 operations true = ((omega arith), (omega arith), refl)
@@ -89,7 +89,8 @@ module _ (p : Pair) (same_key : p.requester.psk ≡ p.responder.psk) (id : ℕ) 
 
   update_answered : AreAnswered p.requester r p.first id (update_asking all) CanUpdate (IsAcknowledged (operation_of all))
   update_answered = record {
-    turns = λ g s e f sealed d fit at k made drawn here is known.
+    there = λ g s e f sealed d fit at k is. tt;
+    turns = λ g s e f sealed d fit at k made drawn here is known queued.
         let ops = operations all in
         let there = sym k.stage ∙ at in
         subst (IsGoodHere (update_asking all) (IsAcknowledged (operation_of all)) s)
@@ -125,7 +126,8 @@ module _ (p : Pair) (same_key : p.requester.psk ≡ p.responder.psk) (id : ℕ) 
 
   verify_answered : AreAnswered p.requester r p.first id verify_asking CanUpdate (IsAcknowledged 3)
   verify_answered = record {
-    turns = λ g s e f sealed d fit at k made drawn here is known.
+    there = λ g s e f sealed d fit at k is. tt;
+    turns = λ g s e f sealed d fit at k made drawn here is known queued.
         let there = sym k.stage ∙ at in
         subst (IsGoodHere verify_asking (IsAcknowledged 3) s)
         (sym (update_turn r e f 3 (update_tag s) (room p same_key id sid asker server) (omega arith) (omega arith) (omega arith) (past_verifying (events.stage_of e) there) (ap (λ (g : Stage). fits_stage g 3) there) (flag_there s e k fit)
@@ -165,7 +167,7 @@ module _ (p : Pair) (same_key : p.requester.psk ≡ p.responder.psk) (id : ℕ) 
     serves = λ tag body log h g d drawn chance z. serves_so p.requester r p.first id (update_asking all) same_key CanUpdate (IsAcknowledged (operation_of all)) update_answered tag log h g d drawn body z chance;
     hears = λ tag body log h g d chance z.
         let on = follows p.requester r p.first id (update_asking all) verify_asking CanUpdate CanUpdate (IsAcknowledged (operation_of all)) tag log h g d body z event.Progress (update_leads h d z.s z.pad z.t z.good z.steps_are) refl
-        (record { named = z.fit.named; flag = z.fit.flag }) refl (omega arith) tt in
+        (record { named = z.fit.named; flag = z.fit.flag }) refl (omega arith) tt tt in
         record { next = on.next; sends = on.sends; asks = record { is = on.asks } };
     asks_still = λ tag body log h g later alike z. asked_still p.requester r p.first id (update_asking all) CanUpdate tag body log h g later alike z;
     answers_still = λ tag body log h g later alike z. answered_still p.requester r p.first id (update_asking all) CanUpdate (IsAcknowledged (operation_of all)) tag body log h g later alike z;

@@ -1,18 +1,14 @@
 -- What an open comes to where its messages are delivered honestly. This project's own.
-use Rattle.std.specs.Prelude.{◌≢◌, ◌≤◌, ◌+◌, ◌==◌, ℕ, List, length, true, if◌then◌else◌}
-use Rattle.requester_machine.specs.Commands.{exchange_for}
+use Rattle.std.specs.Prelude.{◌≢◌, ◌+◌, ◌==◌, ℕ, List, length, true, if◌then◌else◌}
 use Rattle.requester_machine.specs.Does as asking
-use Rattle.requester_machine.specs.Does.{command_chosen}
 use Rattle.requester_machine.specs.History as asked
 use Rattle.requester_machine.specs.Message.Command.{Open}
-use Rattle.requester_machine.specs.Requesting.{Requesting, next_draw}
+use Rattle.requester_machine.specs.Requesting.{Requesting}
 use Rattle.responder_machine.specs.Place as serving
 use Rattle.responder_machine.specs.Responding.{Connection}
 use Rattle.responder_machine.specs.Setup.{RspSetup}
 use Rattle.spdm_basis.specs.Sizes.{hash_size}
 use Rattle.spdm_basis.specs.declared.session_id.SessionId.{SessionId}
-use Rattle.spdm_grammar.specs.Message.{RequestMessage}
-use Rattle.spdm_grammar.specs.Requests.{canonical_request}
 use Rattle.spdm_grammar.specs.declared.event.Finished.TheVariants as finished
 use Rattle.spdm_machine.specs.Terms.{Terms}
 use Rattle.world_machine.specs.Happenings.{Entry}
@@ -24,11 +20,6 @@ use Rattle.spdm_progress.specs.SessionCommands.{CompletesQuietly, IsToldQuietly}
 abbrev pub terms_now : Requesting → Terms
 terms_now a = asked.connection_terms a.history
 
--- The PSK_EXCHANGE that a requester sends next, for a summary of this kind.
-abbrev pub exchange_now : Requesting → (summary : ℕ) → RequestMessage
-exchange_now a summary =
-    exchange_for a.setup (command_chosen a.setup a.history (next_draw a)) summary
-
 -- PSK_EXCHANGE_RSP has 12 bytes beside the summary, where one is asked for, the context, the opaque
 -- data and the verify data; the summary, the context and the verify data are as long as the hash.
 abbrev pub exchange_rsp_size : RspSetup → Terms → (summary : ℕ) → ℕ
@@ -36,16 +27,13 @@ exchange_rsp_size r terms summary =
     12 + (if summary == 0 then 0 else hash_size terms.choice.hash) + hash_size terms.choice.hash
     + length r.opaque + hash_size terms.choice.hash
 
--- What an open needs. PSK_EXCHANGE and PSK_FINISH, of 4 bytes and the verify data, fit the transfer
--- size of the responder, so that they need no chunks; the answer to PSK_EXCHANGE can go to the
--- requester, by chunks too; and the responder holds fewer sessions than four.
+-- What an open needs. The answer to PSK_EXCHANGE can go to the requester, by chunks too, and the
+-- responder holds fewer sessions than four. Of the two requests nothing is asked: an open that is
+-- answered `ok` sends a PSK_EXCHANGE that can go to the responder, by chunks too; and no hash is
+-- chosen that leaves no room for PSK_FINISH, which does not go by chunks.
 pub record CanOpen (a : Requesting) (c : Connection) (summary : ℕ) : Type 0 where
-  pub request_fits : length (canonical_request (exchange_now a summary))
-      ≤ (terms_now a).common.to_responder.transfer
   pub answer_goes : CanGo (terms_now a).common (terms_now a).common.to_requester
       (exchange_rsp_size c.setup (terms_now a) summary)
-  pub finish_fits : 4 + hash_size (terms_now a).choice.hash
-      ≤ (terms_now a).common.to_responder.transfer
   pub limit : serving.held_of c.history ≢ 4
 
 -- The session that is opened has the least free id of either end.

@@ -1,10 +1,11 @@
 -- Each command of an honest script comes to its result. This project's own.
-use Rattle.std.specs.Prelude.{◌≡◌, ◌<◌, ◌≤◌, ◌+◌, ◌*◌, ◌^◌, ℕ, List, [], ◌∷◌, length, if◌then◌else◌, false, true, Some, None, Contains}
+use Rattle.std.specs.Prelude.{◌≡◌, ◌<◌, ◌≤◌, ◌+◌, ◌*◌, ◌^◌, ℕ, List, [], ◌∷◌, length, if◌then◌else◌, false, true, Option, Some, None, Contains, Bool}
 use Rattle.measurements.specs.Records.{is_missing}
 use Rattle.negotiate.specs.Capabilities.{shared}
 use Rattle.requester_machine.specs.Message.{Command}
 use Rattle.requester_machine.specs.Message.Command.{Beat, Connect, End, Measure, Open, Retry, Send, Update}
 use Rattle.requester_machine.specs.Requesting.{Requesting, requester_told}
+use Rattle.requester_machine.specs.Session.{is_live}
 use Rattle.requester_machine.specs.Setup.{ReqSetup, requester_caps}
 use Rattle.responder_machine.specs.Responding.{Connection, connection_of}
 use Rattle.responder_machine.specs.Setup.{RspSetup, inventory_of, responder_caps}
@@ -24,10 +25,10 @@ use Rattle.world_machine.specs.World.{World, entry_step, happens, new_world, req
 use Rattle.spdm_progress.specs.Connecting.{CanConnect, IsConnected}
 use Rattle.spdm_progress.specs.Fitting.{CanGo}
 use Rattle.spdm_progress.specs.Honest.{AreHonest, HaveNoCommand, NothingWaits, is_command}
-use Rattle.spdm_progress.specs.InStep.{AreQuiet}
+use Rattle.spdm_progress.specs.InStep.{AreQuiet, rsp_id}
 use Rattle.spdm_progress.specs.Measuring.{CanMeasure, IsMeasured, measurements_size}
 use Rattle.spdm_progress.specs.Opening.{CanOpen, opened_id, terms_now}
-use Rattle.spdm_progress.specs.SessionCommands.{CanAsk, CompletesQuietly, IsTold, IsToldQuietly, commanding, most_packets, result_of}
+use Rattle.spdm_progress.specs.SessionCommands.{CanAsk, CompletesQuietly, IsGoneThere, IsTold, IsToldQuietly, TookQueued, commanding, most_packets, result_of, session_at}
 
 -- ---- Each command.
 
@@ -101,8 +102,34 @@ pub record IsDone (n : ℕ) (q : ReqSetup) (r : RspSetup) (result : Finished) (w
   pub responder_setup : connection.setup ≡ r
   pub quiet : AreQuiet q r requester.first world.log requester.history connection.history
 
--- Each command that quiet ends answer `ok` comes to its result. No retry is among them, since
--- nothing is outstanding.
+-- Requester n holds a session with this ReqSessionID, or holds none.
+pub record Holds (n id : ℕ) (live : Bool) (world : World) : Type 0 where
+  pub requester : Requesting
+  pub is_requester : requester_of n world ≡ Some requester
+  pub session : is_live (session_at requester id) ≡ live
+
+-- What a result means, beside that the two ends are quiet, so that each session of the requester
+-- is open at both ends and in step. After a connect both hold one negotiation; after an open the
+-- requester holds the session, as it does after a heartbeat and an update; a send brought its bytes
+-- and took what was first in the queue; the record that was taken is the one configured; and a
+-- session that was ended is held by neither end.
+abbrev pub Means : (n : ℕ) → Requesting → Connection → Command → World → List Line → Type 0
+Means n a c Connect world lines =
+    (choice : Choice) × IsConnected n a.setup c.setup choice world lines
+Means n a c (Open summary) world lines = Holds n (opened_id a c).req true world
+Means n a c (Send id bytes) world lines =
+    Holds n id true world × TookQueued n a.setup c bytes world
+Means n a c (Beat id) world lines = Holds n id true world
+Means n a c (Update id all) world lines = Holds n id true world
+Means n a c (Measure None op) world lines = IsMeasured n c.setup op world lines
+Means n a c (Measure (Some id) op) world lines =
+    Holds n id true world × IsMeasured n c.setup op world lines
+Means n a c (End id) world lines =
+    Holds n id false world × IsGoneThere a.setup (rsp_id (session_at a id)) world
+Means n a c Retry world lines = Unit {0}
+
+-- Each command that quiet ends answer `ok` comes to its result, with what it means. No retry is
+-- among them, since nothing is outstanding.
 abbrev pub QuietCommandsComplete : Type 0
 QuietCommandsComplete =
     (w : WorldSetup) (before : List Entry) (n : ℕ) (a : Requesting) (c : Connection)
@@ -114,20 +141,23 @@ QuietCommandsComplete =
     → IsDone n a.setup c.setup (result_for a c command)
     (world_from (commanding (world_after w before) line n command) behind)
     (lines_from (commanding (world_after w before) line n command) behind)
+    × Means n a c command (world_from (commanding (world_after w before) line n command) behind)
+    (lines_from (commanding (world_after w before) line n command) behind)
 
--- Behind a clear measure among them, by chunks too, the record that the requester took last is the
--- one that the responder is set up with.
+-- Behind a measure among them, in the clear or in a session, by chunks too, the record that the
+-- requester took last is the one that the responder is set up with.
 abbrev pub QuietMeasuresComplete : Type 0
 QuietMeasuresComplete =
-    (w : WorldSetup) (before : List Entry) (n : ℕ) (a : Requesting) (c : Connection) (op : ℕ)
-    → IsToldQuietly w before n a c (Measure None op) → CanDo a c (Measure None op)
+    (w : WorldSetup) (before : List Entry) (n : ℕ) (a : Requesting) (c : Connection)
+    (id : Option ℕ) (op : ℕ)
+    → IsToldQuietly w before n a c (Measure id op) → CanDo a c (Measure id op)
     → (line : ℕ) (behind : List Entry) → HaveNoCommand behind
-    → AreHonest (commanding (world_after w before) line n (Measure None op)) behind
-    → NothingWaits (world_from (commanding (world_after w before) line n (Measure None op)) behind)
-    → NoChance (world_from (commanding (world_after w before) line n (Measure None op)) behind).log
+    → AreHonest (commanding (world_after w before) line n (Measure id op)) behind
+    → NothingWaits (world_from (commanding (world_after w before) line n (Measure id op)) behind)
+    → NoChance (world_from (commanding (world_after w before) line n (Measure id op)) behind).log
     → IsMeasured n c.setup op
-    (world_from (commanding (world_after w before) line n (Measure None op)) behind)
-    (lines_from (commanding (world_after w before) line n (Measure None op)) behind)
+    (world_from (commanding (world_after w before) line n (Measure id op)) behind)
+    (lines_from (commanding (world_after w before) line n (Measure id op)) behind)
 
 -- A pump of so many packets or more behind such a command leaves none that waits, so an honest
 -- script can always go on.
@@ -177,7 +207,7 @@ CanBeDone world line n command behind =
     → (requester_told a command).fault ≡ None
     → CanDo a c command
 
--- A command that is answered `ok` is done before the next one.
+-- A command that is answered `ok` is done before the next one, with what it means.
 abbrev pub WillBeDone : World → (line n : ℕ) → Command → List Entry → Type 0
 WillBeDone world line n command behind =
     (a : Requesting) (c : Connection) → requester_of n world ≡ Some a
@@ -185,6 +215,8 @@ WillBeDone world line n command behind =
     → (requester_told a command).fault ≡ None
     → IsDone n a.setup c.setup (result_for a c command)
     (world_from (commanding world line n command) behind)
+    (lines_from (commanding world line n command) behind)
+    × Means n a c command (world_from (commanding world line n command) behind)
     (lines_from (commanding world line n command) behind)
 
 -- Each end has taken so many packets and commands at most. It takes 2^40.

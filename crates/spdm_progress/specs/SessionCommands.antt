@@ -1,6 +1,6 @@
 -- What is asked of an open session where its messages are delivered honestly: each command comes to
 -- its result. This project's own.
-use Rattle.std.specs.Prelude.{◌≡◌, ◌<◌, ◌≤◌, ◌+◌, ℕ, List, length, Bool, true, false, Some, None, Contains}
+use Rattle.std.specs.Prelude.{◌≡◌, ◌<◌, ◌≤◌, ◌+◌, ◌∷◌, ◌++◌, ℕ, List, [], length, Bool, true, false, Some, None, Contains}
 use Rattle.measurements.specs.Records.{is_missing}
 use Rattle.requester_machine.specs.Message.{Command}
 use Rattle.requester_machine.specs.Message.Command.{Beat, Connect, End, Measure, Open, Retry, Send, Update}
@@ -9,6 +9,14 @@ use Rattle.requester_machine.specs.Commands.{session_in}
 use Rattle.requester_machine.specs.Session.{Steps, is_live, session_id, session_of, session_terms}
 use Rattle.requester_machine.specs.Setup.{ReqSetup}
 use Rattle.responder_machine.specs.Responding.{Connection, Responding, connection_of}
+use Rattle.requester_machine.specs.Shown.{last_data}
+use Rattle.responder_machine.specs.Does.{first_queued}
+use Rattle.responder_machine.specs.History as served
+use Rattle.responder_machine.specs.History.Entry.{Queued, Sealed, Ticked}
+use Rattle.responder_machine.specs.Turn.{Turn}
+use Rattle.responder_machine.specs.Turn.Effect.{TookData}
+use Rattle.spdm_machine.specs.Keys.{Draw}
+use Rattle.responder_machine.specs.Session as serving
 use Rattle.responder_machine.specs.Setup.{RspSetup, inventory_of}
 use Rattle.spdm_agreement.specs.Configured.{IsConfigured}
 use Rattle.spdm_grammar.specs.Lines.{Line}
@@ -24,7 +32,7 @@ use Rattle.world_machine.specs.Trace.{lines_from, world_after, world_from}
 use Rattle.world_machine.specs.World.{World, entry_step, requester_of}
 use Rattle.spdm_progress.specs.Fitting.{CanGo}
 use Rattle.spdm_progress.specs.Honest.{AreHonest, HaveNoCommand, NothingWaits}
-use Rattle.spdm_progress.specs.InStep.{AreQuiet}
+use Rattle.spdm_progress.specs.InStep.{AreQuiet, rsp_id}
 use Rattle.spdm_progress.specs.Measuring.{measurements_size, number_for}
 
 -- The session with this ReqSessionID of a requester.
@@ -139,3 +147,84 @@ SessionCommandsComplete =
     (command : Command) (id : ℕ) → IsToldQuietly w before n a c command → CanAsk a c command
     → session_in command ≡ Some id
     → CompletesQuietly w before n a c command (result_of a c command) id (goes_on command)
+
+-- The responder's connection with this requester holds no session with this RspSessionID.
+pub record IsGoneThere (q : ReqSetup) (rsp : ℕ) (world : World) : Type 0 where
+  pub connection : Connection
+  pub is_connection : connection_of q.eid world.responder.connections ≡ Some connection
+  pub gone : serving.is_live (serving.session_of rsp connection.history) ≡ false
+
+-- Behind an end of a session among them, the responder does not hold it either.
+abbrev pub EndedAtBothEnds : Type 0
+EndedAtBothEnds =
+    (w : WorldSetup) (before : List Entry) (n : ℕ) (a : Requesting) (c : Connection) (id : ℕ)
+    → IsToldQuietly w before n a c (End id)
+    → (line : ℕ) (behind : List Entry) → HaveNoCommand behind
+    → AreHonest (commanding (world_after w before) line n (End id)) behind
+    → NothingWaits (world_from (commanding (world_after w before) line n (End id)) behind)
+    → NoChance (world_from (commanding (world_after w before) line n (End id)) behind).log
+    → IsGoneThere a.setup (rsp_id (session_at a id))
+    (world_from (commanding (world_after w before) line n (End id)) behind)
+
+-- Queued data and time alone.
+abbrev pub OnlyWaits : List served.Entry → Type 0
+OnlyWaits [] = Unit {0}
+OnlyWaits (Queued bytes ∷ entries) = OnlyWaits entries
+OnlyWaits (Ticked seconds ∷ entries) = OnlyWaits entries
+OnlyWaits (_ ∷ entries) = ⊥
+
+-- Nothing else came to a connection between these two histories.
+abbrev pub OnlyWaited : (before now : served.History) → Type 0
+OnlyWaited before now =
+    (entries : List served.Entry) × (now ≡ entries ++ before) × OnlyWaits entries
+
+-- One record came to the connection of a requester since, and beside it nothing but queued data and
+-- time. It brought these bytes, and took what was first in the queue before it: the first data that
+-- waited, and no bytes where none did. This is what requester n took last.
+pub record TookQueued (n : ℕ) (q : ReqSetup) (c : Connection) (bytes : List ℕ)
+    (world : World) : Type 0 where
+  pub requester : Requesting
+  pub is_requester : requester_of n world ≡ Some requester
+  pub connection : Connection
+  pub is_connection : connection_of q.eid world.responder.connections ≡ Some connection
+  pub until : served.History
+  pub between : OnlyWaited c.history until
+  pub tag : ℕ
+  pub sealed : List ℕ
+  pub turn : Turn
+  pub reply : List ℕ
+  pub draw : Draw
+  pub since : OnlyWaited (Sealed tag sealed turn reply draw ∷ until) connection.history
+  pub brought : turn.effect ≡ TookData bytes (first_queued (served.queue_of until))
+  pub taken : last_data requester.history ≡ first_queued (served.queue_of until)
+
+-- So it is behind a send among them.
+abbrev pub AnswersAreQueued : Type 0
+AnswersAreQueued =
+    (w : WorldSetup) (before : List Entry) (n : ℕ) (a : Requesting) (c : Connection) (id : ℕ)
+    (bytes : List ℕ) → IsToldQuietly w before n a c (Send id bytes)
+    → (line : ℕ) (behind : List Entry) → HaveNoCommand behind
+    → AreHonest (commanding (world_after w before) line n (Send id bytes)) behind
+    → NothingWaits (world_from (commanding (world_after w before) line n (Send id bytes)) behind)
+    → NoChance (world_from (commanding (world_after w before) line n (Send id bytes)) behind).log
+    → TookQueued n a.setup c bytes
+    (world_from (commanding (world_after w before) line n (Send id bytes)) behind)
+
+-- Requester n took these data last.
+pub record TookLast (n : ℕ) (bytes : List ℕ) (world : World) : Type 0 where
+  pub requester : Requesting
+  pub is_requester : requester_of n world ≡ Some requester
+  pub taken : last_data requester.history ≡ bytes
+
+-- Where data waited already when it was told, these are the first of them.
+abbrev pub AnswersWaitFirst : Type 0
+AnswersWaitFirst =
+    (w : WorldSetup) (before : List Entry) (n : ℕ) (a : Requesting) (c : Connection) (id : ℕ)
+    (bytes : List ℕ) → IsToldQuietly w before n a c (Send id bytes)
+    → (first : List ℕ) (others : List (List ℕ)) → served.queue_of c.history ≡ first ∷ others
+    → (line : ℕ) (behind : List Entry) → HaveNoCommand behind
+    → AreHonest (commanding (world_after w before) line n (Send id bytes)) behind
+    → NothingWaits (world_from (commanding (world_after w before) line n (Send id bytes)) behind)
+    → NoChance (world_from (commanding (world_after w before) line n (Send id bytes)) behind).log
+    → TookLast n first
+    (world_from (commanding (world_after w before) line n (Send id bytes)) behind)

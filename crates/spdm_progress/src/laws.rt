@@ -17,7 +17,12 @@ ghost use Rattle.spdm_progress.specs.Scripts.{
   QuietMeasuresComplete,
   QuietWorldsComplete,
 };
-ghost use Rattle.spdm_progress.specs.SessionCommands.{SessionCommandsComplete};
+ghost use Rattle.spdm_progress.specs.SessionCommands.{
+  AnswersAreQueued,
+  AnswersWaitFirst,
+  EndedAtBothEnds,
+  SessionCommandsComplete,
+};
 
 /// A connect that is told where no packet waits is done once no packet waits again, whatever an
 /// honest script says in between: the requester is told so, and both ends hold one negotiation. It
@@ -58,7 +63,7 @@ pub fn connects_quietly()
 
 /// An open, told where no packet waits and the two ends are quiet, is done once no packet waits
 /// again: the requester is told the id of a session that is open at both ends, in step, and the two
-/// ends are quiet. The answer to PSK_EXCHANGE may come by chunks.
+/// ends are quiet. PSK_EXCHANGE and its answer may go by chunks.
 pub fn open_completes()
     ensures { OpenCompletes }
 {}
@@ -71,13 +76,31 @@ pub fn session_commands_complete()
     ensures { SessionCommandsComplete }
 {}
 
-/// The same of every command that quiet ends answer `ok`, in the clear or in a session.
+/// Behind a send among them, one record came to the responder. It brought the bytes that were sent,
+/// and what the requester took is what was first in the queue before it: the first data that
+/// waited, and no bytes where none did.
+pub fn answers_are_queued()
+    ensures { AnswersAreQueued }
+{}
+
+/// Where data waited already when it was told, these are the first of them.
+pub fn answers_wait_first()
+    ensures { AnswersWaitFirst }
+{}
+
+/// Behind an end of a session among them, the responder does not hold it either.
+pub fn ended_at_both_ends()
+    ensures { EndedAtBothEnds }
+{}
+
+/// The same of every command that quiet ends answer `ok`, in the clear or in a session, with what
+/// its result means at either end.
 pub fn quiet_commands_complete()
     ensures { QuietCommandsComplete }
 {}
 
-/// Behind a clear measure among them, by chunks too, the requester took the record that the responder
-/// is set up with.
+/// Behind a measure among them, in the clear or in a session, by chunks too, the requester took the
+/// record that the responder is set up with.
 pub fn quiet_measures_complete()
     ensures { QuietMeasuresComplete }
 {}
@@ -88,7 +111,8 @@ pub fn pumps_are_enough()
 {}
 
 /// From a quiet world on, each command of an honest script that is answered `ok` and has what it
-/// needs is done before the next one, and the world behind them is quiet.
+/// needs is done before the next one, with what its result means, and the world behind them is
+/// quiet.
 pub fn quiet_worlds_complete()
     ensures { QuietWorldsComplete }
 {}

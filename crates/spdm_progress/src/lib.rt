@@ -5,8 +5,9 @@
 mod laws;
 
 pub use laws::{
-    connect_completes, connected_can_measure, connects_quietly, each_is_connected,
-    honest_scripts_complete, measure_completes, open_completes, pumped_scripts_are_honest,
-    pumps_are_enough, quiet_commands_complete, quiet_measures_complete, quiet_worlds_complete,
+    answers_are_queued, answers_wait_first, connect_completes, connected_can_measure,
+    connects_quietly, each_is_connected, ended_at_both_ends, honest_scripts_complete,
+    measure_completes, open_completes, pumped_scripts_are_honest, pumps_are_enough,
+    quiet_commands_complete, quiet_measures_complete, quiet_worlds_complete,
     session_commands_complete, six_packets_are_enough,
 };
