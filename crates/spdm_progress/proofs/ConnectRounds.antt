@@ -41,7 +41,7 @@ use Rattle.world_machine.specs.Happenings.Happening.{Told}
 use Rattle.world_machine.specs.Setup.{WorldSetup}
 use Rattle.world_machine.specs.Trace.{lines_from, world_after, world_from}
 use Rattle.spdm_progress.specs.Connecting.{CanConnect, IsConnected}
-use Rattle.requester_machine.proofs.CapsRead.{common_stays}
+use Rattle.spdm_machine.proofs.Settling.{algorithms_keep}
 use Rattle.spdm_machine.specs.Packets.{wear_limit}
 use Rattle.spdm_machine.specs.Terms.{terms_of}
 use Rattle.transcript.specs.Transcripts.{Negotiation}
@@ -315,7 +315,7 @@ module _ (w : WorldSetup) (before : List Entry) (n : ℕ) (a : Requesting) (c : 
         responder_phase = z.serves.stands.phase_is;
         same = z.asks.negotiation ∙ sym z.serves.stands.negotiation;
         chosen = ap (λ (x : Negotiation). (terms_of x).choice) z.asks.negotiation ∙ talks.choice_is;
-        common = ap (λ (x : Negotiation). (terms_of x).common) z.asks.negotiation ∙ common_stays (two_pairs q r) _ _ ∙ talks.common_is;
+        common = ap (λ (x : Negotiation). (terms_of x).common) z.asks.negotiation ∙ algorithms_keep (two_pairs q r) _ _ ∙ talks.common_is;
       }
 
 pub connects_quietly : ConnectsQuietly

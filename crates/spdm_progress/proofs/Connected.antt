@@ -30,7 +30,7 @@ use Rattle.spdm_progress.proofs.RequesterStages.{told_connect, asks_version}
 use Rattle.spdm_progress.proofs.ResponderBegins.{awaits_version}
 use Rattle.spdm_progress.proofs.ResponderStages.{get_version, AwaitsVersion}
 use Rattle.spdm_progress.proofs.SetUps.{CanTalk, can_talk}
-use Rattle.requester_machine.proofs.CapsRead.{common_stays}
+use Rattle.spdm_machine.proofs.Settling.{algorithms_keep}
 use Rattle.spdm_progress.proofs.ResponderStages.{two_pairs}
 use Rattle.spdm_progress.proofs.Told.{ArePlaced, are_placed, contained, fits_always, pair_of}
 use Rattle.spdm_progress.proofs.UnderWay as under_way
@@ -125,7 +125,7 @@ module _ (w : WorldSetup) (before : List Entry) (n : ℕ) (a : Requesting) (c : 
     responder_phase = d.pair.serves.phase_is;
     same = d.pair.asks.negotiation ∙ sym d.pair.serves.negotiation;
     chosen = ap (λ (x : Negotiation). (terms_of x).choice) d.pair.asks.negotiation ∙ talks.choice_is;
-    common = ap (λ (x : Negotiation). (terms_of x).common) d.pair.asks.negotiation ∙ common_stays (two_pairs a.setup c.setup) _ _ ∙ talks.common_is;
+    common = ap (λ (x : Negotiation). (terms_of x).common) d.pair.asks.negotiation ∙ algorithms_keep (two_pairs a.setup c.setup) _ _ ∙ talks.common_is;
   }
 
   pub completes : (line : ℕ) (behind : List Entry) → HaveNoCommand behind → AreHonest (connecting world line n) behind → NothingWaits (world_from (connecting world line n) behind)

@@ -3,7 +3,7 @@ use Rattle.std.proofs.Common.{◌≡◌, ◌∙◌, ℕ, ◌<◌, ◌≤◌, ◌
 use Rattle.std.specs.Prelude.{bytes_eq, slice_index}
 use Rattle.chunking.specs.Cutting.{chunk_count, chunks_before, nth_chunk}
 use Rattle.negotiate.specs.Choosing.{selected}
-use Rattle.requester_machine.proofs.CapsRead.{common_stays}
+use Rattle.spdm_machine.proofs.Settling.{algorithms_keep}
 use Rattle.requester_machine.specs.Answers.{goes_on}
 use Rattle.requester_machine.specs.Does.{body_chosen}
 use Rattle.requester_machine.specs.Hearing.{clear_outcome}
@@ -84,7 +84,7 @@ module _ (q : ReqSetup) (r : RspSetup) (offer : OfferMessage) where
   module _ {round : ℕ} (fetch : CanFetchIn round q r size (two_pairs q r)) where
     -- The sizes were settled by the capabilities alone.
     same_transfer : transfer_in (three_pairs q r offer) ≡ transfer
-    same_transfer = ap (λ (c : _). c.to_requester.transfer) (common_stays (two_pairs q r) m w)
+    same_transfer = ap (λ (c : _). c.to_requester.transfer) (algorithms_keep (two_pairs q r) m w)
 
     fetch_there : CanFetchIn round q r size (three_pairs q r offer)
     fetch_there =
@@ -92,12 +92,12 @@ module _ (q : ReqSetup) (r : RspSetup) (offer : OfferMessage) where
         let most = fetch.fits_max in
         record {
           room = fetch.room;
-          chunk = ap (λ (c : _). c.chunk) (common_stays (two_pairs q r) m w) ∙ fetch.chunk;
+          chunk = ap (λ (c : _). c.chunk) (algorithms_keep (two_pairs q r) m w) ∙ fetch.chunk;
           large = subst (λ (k : ℕ). k < round + size) (sym same_transfer) large;
           few = fetch.few;
-          fits_max = subst (λ (k : ℕ). size ≤ k) (sym (ap (λ (c : _). c.to_requester.max) (common_stays (two_pairs q r) m w))) most;
+          fits_max = subst (λ (k : ℕ). size ≤ k) (sym (ap (λ (c : _). c.to_requester.max) (algorithms_keep (two_pairs q r) m w))) most;
           transfer = same_transfer ∙ fetch.transfer;
-          max = ap (λ (c : _). c.to_requester.max) (common_stays (two_pairs q r) m w) ∙ fetch.max;
+          max = ap (λ (c : _). c.to_requester.max) (algorithms_keep (two_pairs q r) m w) ∙ fetch.max;
           least = fetch.least;
           ordered = fetch.ordered;
           most = fetch.most;
