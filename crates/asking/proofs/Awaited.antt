@@ -63,21 +63,21 @@ nothing_waits None e = refl
 nothing_waits (Some sent) e = nothing_aim sent.tag sent.aim e
 
 -- A record of a session is outstanding.
-pub record InSessionOf (o : Option Sent) (tag : ℕ) : Type 0 where
+pub record InSessionOf (o : Option Sent) (tag id : ℕ) : Type 0 where
   pub sent : Sent
   pub is : o ≡ Some sent
   pub tag_is : sent.tag ≡ tag
-  pub of : IsOfSession sent
+  pub of : IsOfSession id sent
 
-session_aim : (sent : Sent) (aim : Aim) (tag : ℕ) → sent.aim ≡ aim → waits.InSession tag ≡ waiting_for sent.tag aim → InSessionOf (Some sent) tag
-session_aim sent (Plain request) tag aims e = absurd (cc e)
-session_aim sent (ByChunks request handle number) tag aims e = absurd (cc e)
-session_aim sent (ForChunk request handle number before) tag aims e = absurd (cc e)
-session_aim sent (InSession id ask) tag aims e = record { sent = sent; is = refl; tag_is = cc e; of = (id, ask, aims) }
+session_aim : (sent : Sent) (aim : Aim) (tag id : ℕ) → sent.aim ≡ aim → waits.InSession tag id ≡ waiting_for sent.tag aim → InSessionOf (Some sent) tag id
+session_aim sent (Plain request) tag id aims e = absurd (cc e)
+session_aim sent (ByChunks request handle number) tag id aims e = absurd (cc e)
+session_aim sent (ForChunk request handle number before) tag id aims e = absurd (cc e)
+session_aim sent (InSession of ask) tag id aims e = (let same : of ≡ id = cc e in record { sent = sent; is = refl; tag_is = cc e; of = (ask, aims ∙ ap (λ (n : ℕ). InSession n ask) same) })
 
-pub in_session : (o : Option Sent) (tag : ℕ) → waits.InSession tag ≡ waiting_of o → InSessionOf o tag
-in_session None tag e = absurd (cc e)
-in_session (Some sent) tag e = session_aim sent sent.aim tag refl e
+pub in_session : (o : Option Sent) (tag id : ℕ) → waits.InSession tag id ≡ waiting_of o → InSessionOf o tag id
+in_session None tag id e = absurd (cc e)
+in_session (Some sent) tag id e = session_aim sent sent.aim tag id refl e
 
 -- ---- Retry.
 

@@ -15,7 +15,7 @@ use Rattle.requester_machine.specs.History.Effect.{Nothing}
 use Rattle.requester_machine.specs.Holds.{Holds, Waits}
 use Rattle.requester_machine.specs.Sending.{piece_sent}
 use Rattle.requester_machine.specs.Message.{Aim, Sent}
-use Rattle.requester_machine.specs.Message.Aim.{ByChunks, ForChunk, InSession, Plain}
+use Rattle.requester_machine.specs.Message.Aim.{ForChunk}
 use Rattle.requester_machine.specs.Setup.{ReqSetup}
 use Rattle.requester_machine.specs.UnderWay.{AreUnderWay, IsOutstanding}
 use Rattle.spdm_grammar.specs.Message.{ChunkMessage, RequestMessage, ResponseMessage, response_message}
@@ -33,6 +33,7 @@ use Rattle.asking.specs.Talk.{Seen}
 use Rattle.asking.specs.declared.led.Led as seen_led
 use Rattle.asking.specs.declared.led.Led.TheVariants as seen
 use Rattle.asking.proofs.Answered.{any_free}
+use Rattle.asking.proofs.NoGets.{no_get_gathers}
 use Rattle.asking.proofs.Taken.{carried_leads}
 
 -- ---- Which chunk it is.
@@ -75,12 +76,6 @@ other_get q h request handle number before (responses.ChunkResponse chunk) no_er
 other_get q h request handle number before _ no_error no_chunk = refl
 
 -- ---- What is gathered.
-
-no_get_gathers : (aim : Aim) (g : keeping.Kept) → is_no_get aim ≡ true → IsGathered aim g
-no_get_gathers (Plain asked) g is = tt
-no_get_gathers (ByChunks asked handle number) g is = tt
-no_get_gathers (ForChunk asked handle number before) g is = absurd (false≢true is)
-no_get_gathers (InSession id ask) g is = tt
 
 pub gathered_as : (q : ReqSetup) (h : History) (sent : Sent) (request : RequestMessage) (m : List ℕ) (led : seen_led.Led) (old new : Seen) (out : List ℕ) (before after : keeping.Kept)
     → IsTaken q h sent request m led old new out → Leaves q (carried_by q h m sent.aim) led before after → is_large led ≡ false → Gathered q h sent request m led before after

@@ -1,3 +1,4 @@
+pub mod NoGets
 pub mod Pieces
 pub mod Started
 pub mod Awaited
@@ -7,4 +8,7 @@ pub mod Answered
 pub mod Carrying
 pub mod Taken
 pub mod Fetched
-pub mod ExchangeTaken
+pub mod SessionsKept
+pub mod WholeBodies
+pub mod InSession
+pub mod Brought

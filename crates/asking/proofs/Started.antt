@@ -31,7 +31,7 @@ use Rattle.spdm_grammar.specs.declared.phase.Phase.TheVariants.{Fresh}
 use Rattle.spdm_machine.specs.Keys.{Draw}
 use Rattle.spdm_machine.specs.Terms.{Terms, hash_len, no_choice, no_common, no_negotiation, no_terms, terms_of}
 use Rattle.transcript.specs.Transcripts.{Negotiation}
-use Rattle.asking.specs.Commands.{IsDone, IsFailed}
+use Rattle.asking.specs.Commands.{IsDone, IsFailed, request_for}
 use Rattle.asking.specs.Free.{IsFree}
 use Rattle.asking.specs.Setup.{IsSetUp}
 use Rattle.asking.specs.declared.free_values.FreeValues.{FreeValues}
@@ -44,6 +44,7 @@ use Rattle.asking.specs.Talk.{Seen, Shows, StandsFor}
 use Rattle.asking.specs.declared.waiting.Asked.TheVariants as asked_kinds
 use Rattle.asking.specs.declared.waiting.Waiting.TheVariants as waits
 use Rattle.asking.specs.declared.waiting.Way.TheVariants as ways
+use Rattle.asking.proofs.NoGets.{gathers_any, request_no_get}
 
 -- ---- Nothing was said.
 
@@ -129,6 +130,7 @@ connect_done q h f d tag old begun kept new out stands begins keeps is sends wri
       outcome = connect_asks q h f d;
       tag_is = sym (is ∙ was);
       content = ap Clear (sym (written ∙ holds_request));
+      asks = refl;
       stands = record {
         holds = told_holds q h Connect f d (plain_sent h GetVersion) (connect_fault q h f) refl stands.holds;
         shows = record {
@@ -143,6 +145,7 @@ connect_done q h f d tag old begun kept new out stands begins keeps is sends wri
           brought = stands.shows.brought;
         };
       };
+      gathers = gathers_any q (plain_sent h GetVersion) refl;
     }
 
 -- ---- Requests behind the negotiation.
@@ -173,18 +176,20 @@ told_shows h command x d request old sending new tag out other asks up shows tag
 
 -- A request that goes out by a command.
 pub told_done : (q : ReqSetup) (h : History) (command : Command) (f : Free) (d : Draw) (common : Common) (request : RequestMessage) (old : Seen) (sending new : outgoing.Seen) (tag : ℕ) (out : List ℕ)
-    → is_connect command ≡ false → ((n : Negotiation) → IsUpTo request n) → command_fault false q h command f ≡ None → done q h command f d ≡ Adds (Told command (request_sent common h request) d)
+    → is_connect command ≡ false → request_for q command f ≡ Some request → ((n : Negotiation) → IsUpTo request n) → command_fault false q h command f ≡ None → done q h command f d ≡ Adds (Told command (request_sent common h request) d)
     → StandsFor old q h → sending.tag ≡ old.outgoing.tag → sending.handle ≡ old.outgoing.handle → sending.request ≡ canonical_request request → Sends (request_sent common h request) sending new tag out
     → IsDone q h command f d tag (record old { outgoing = new }) out
-told_done q h command f d common request old sending new tag out other up none does stands tags handles keeps sends = record {
+told_done q h command f d common request old sending new tag out other is_asked up none does stands tags handles keeps sends = record {
   sent = request_sent common h request;
   outcome = told_does q h command f d none ∙ does;
   tag_is = sends.tag_is;
   content = sends.content;
+  asks = request_sent-asks common h request ∙ sym is_asked;
   stands = record {
     holds = told_holds q h command f d (request_sent common h request) none does stands.holds;
     shows = told_shows h command (request_sent common h request) d request old sending new tag out other (request_sent-asks common h request) up stands.shows tags handles keeps sends;
   };
+  gathers = gathers_any q (request_sent common h request) (request_no_get common h request);
 }
 
 -- The sizes of the responder where there is a connection.

@@ -7,4 +7,5 @@ pub mod Talk
 pub mod Commands
 pub mod Led
 pub mod Gathering
-pub mod Accepting
+pub mod Hearing
+pub mod InSession

@@ -27,7 +27,7 @@ waiting_for tag (ByChunks asked handle number) = waits.InClear tag (kind_of aske
     handle number)
 waiting_for tag (ForChunk asked handle number before) = waits.InClear tag (kind_of asked)
     (ways.ForChunk handle number)
-waiting_for tag (InSession id ask) = waits.InSession tag
+waiting_for tag (InSession id ask) = waits.InSession tag id
 
 -- By the outstanding message, if there is one.
 abbrev pub waiting_of : Option Sent → Waiting

@@ -77,7 +77,9 @@ impl Waiting {
     {
         match self {
             Waiting::Nothing => false,
-            Waiting::InClear { tag: sent, .. } | Waiting::InSession { tag: sent } => sent == tag,
+            Waiting::InClear { tag: sent, .. } | Waiting::InSession { tag: sent, .. } => {
+                sent == tag
+            }
         }
     }
 

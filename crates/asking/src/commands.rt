@@ -57,14 +57,14 @@ fn exchange_len(setup: &Setup<'_>, free: &FreeValues<'_>) -> usize
 
 impl Talk {
     // Whether something is outstanding.
-    fn is_busy(&self) -> bool
+    pub(crate) fn is_busy(&self) -> bool
         ensures { (h : History) → Shows self.now h → result ≡ is_some (outstanding h) }
     {
         !matches!(self.outgoing.waiting(), Waiting::Nothing)
     }
 
     // Whether there is a connection.
-    fn is_connected(&self) -> bool
+    pub(crate) fn is_connected(&self) -> bool
         ensures { (h : History) → Shows self.now h → result ≡ is_negotiated (phase_of h) }
     {
         matches!(self.negotiating.phase(), Phase::Negotiated)
@@ -212,7 +212,7 @@ impl Talk {
     {
         match self.outgoing.waiting() {
             Waiting::Nothing => Err(CommandFault::NothingToRetry),
-            Waiting::InSession { tag } => Ok(Again::InSession { tag }),
+            Waiting::InSession { tag, id } => Ok(Again::InSession { tag, id }),
             Waiting::InClear { tag, way, .. } => {
                 let transfer = self.negotiating.common().to_responder.transfer;
                 self.outgoing.write(way, transfer, out);

@@ -2,7 +2,6 @@
 //! how far the negotiation has come, what was settled, and what is outstanding.
 #![tactic(auto)]
 
-mod accepting;
 mod acknowledged;
 mod again;
 mod answering;
@@ -11,6 +10,9 @@ mod bodies;
 mod commands;
 mod free_values;
 mod gathering;
+mod heard;
+mod hearing;
+mod in_session;
 mod led;
 mod negotiating;
 mod outgoing;
@@ -20,6 +22,7 @@ mod waiting;
 
 pub use again::Again;
 pub use free_values::FreeValues;
+pub use heard::Heard;
 pub use led::Led;
 pub use negotiating::Negotiating;
 pub use outgoing::Outgoing;

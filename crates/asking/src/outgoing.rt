@@ -88,16 +88,16 @@ impl Outgoing {
         tag
     }
 
-    /// A record of a session is sent, and outstanding: its tag.
-    pub fn send_record(&mut self) -> u8
+    /// A record of the session with this ReqSessionID is sent, and outstanding: its tag.
+    pub fn send_record(&mut self, id: u16) -> u8
         ensures tag { result ≡ self.old.tag }
         ensures new { self.new ≡ record self.old {
           tag = tag_after self.old.tag;
-          waiting = waits.InSession self.old.tag;
+          waiting = waits.InSession self.old.tag id;
         } }
     {
         let tag = self.take_tag();
-        self.waiting = Waiting::InSession { tag };
+        self.waiting = Waiting::InSession { tag, id };
         tag
     }
 

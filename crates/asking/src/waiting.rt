@@ -27,8 +27,8 @@ pub enum Waiting {
     Nothing,
     /// A request in the clear is outstanding, in a message with this tag.
     InClear { tag: u8, asked: Asked, way: Way },
-    /// A record of a session is outstanding, in a message with this tag.
-    InSession { tag: u8 },
+    /// A record of the session with this ReqSessionID is outstanding, in a message with this tag.
+    InSession { tag: u8, id: u16 },
 }
 
 impl Asked {

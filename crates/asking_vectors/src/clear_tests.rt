@@ -1,32 +1,33 @@
-use asking::{Led, Setup, Talk};
+use crate::support::{next_tag, setup};
+use asking::{Heard, Talk};
 use chunking::Collector;
 use spdm_basis::Frame;
-use spdm_grammar::{ChunkFault, CommandFault, Event, Finished, FlagSet, Pick, ReqIgnored, Suites};
+use spdm_grammar::{ChunkFault, CommandFault, Event, Finished, ReqIgnored};
 use std::test::Fail;
 
-// An answer, what comes of it, and the message that is sent next, if one is, in hexadecimal.
-type Turn = (&'static str, Led, &'static str);
+// The body of an answer, what comes of it, and the message that was sent last, in hexadecimal.
+type Turn = (&'static str, Heard, &'static str);
 
 // A negotiation in whole messages.
 const WHOLE: [Turn; 4] = [
     (
-        "120400000001",
-        Led::Ignored(ReqIgnored::Malformed(1)),
+        "05120400000001",
+        Heard::Ignored(ReqIgnored::Malformed(1)),
         "10840000",
     ),
     (
-        "1004000000010012",
-        Led::Sends { tag: 1 },
+        "051004000000010012",
+        Heard::Sends { tag: 1 },
         "12e1000000000000c06402000004000000100000",
     ),
     (
-        "1261000000000000c86802000004000000100000",
-        Led::Sends { tag: 2 },
+        "051261000000000000c86802000004000000100000",
+        Heard::Sends { tag: 2 },
         "12e304003000010200000000010000000000000000000000000000000000000002200000032001000420000005200100",
     ),
     (
-        "12630400340001020200000000000000010000000000000000000000000000000000000002200000032001000420000005200100",
-        Led::Rests(Event::Done(Finished::Connected)),
+        "0512630400340001020200000000000000010000000000000000000000000000000000000002200000032001000420000005200100",
+        Heard::Rests(Event::Done(Finished::Connected)),
         "12e304003000010200000000010000000000000000000000000000000000000002200000032001000420000005200100",
     ),
 ];
@@ -35,65 +36,46 @@ const WHOLE: [Turn; 4] = [
 // another handle and a whole that does not read are ignored.
 const BY_CHUNKS: [Turn; 8] = [
     (
-        "1004000000010012",
-        Led::Sends { tag: 1 },
+        "051004000000010012",
+        Heard::Sends { tag: 1 },
         "12e1000000000000c06402002a00000000100000",
     ),
     (
-        "1261000000000000c86802002a00000000100000",
-        Led::Sends { tag: 2 },
+        "051261000000000000c86802002a00000000100000",
+        Heard::Sends { tag: 2 },
         "12850000000000001a0000003000000012e3040030000102000000000100000000000000000000000000",
     ),
     (
-        "120500000000",
-        Led::Sends { tag: 3 },
+        "05120500000000",
+        Heard::Sends { tag: 3 },
         "12850100010000001600000000000000000002200000032001000420000005200100",
     ),
     (
-        "120500000100127f0f0000",
-        Led::Large { tag: 4 },
+        "05120500000100127f0f0000",
+        Heard::Sends { tag: 4 },
         "128600000000",
     ),
     (
-        "12060000000000001a000000340000001263040034000102020000000000000001000000000000000000",
-        Led::More { tag: 5 },
+        "0512060000000000001a000000340000001263040034000102020000000000000001000000000000000000",
+        Heard::Sends { tag: 5 },
         "128600000100",
     ),
     (
-        "12060001010000001a0000000000000000000000000002200000032001000420000005200100",
-        Led::Ignored(ReqIgnored::Chunk(ChunkFault::WrongHandle)),
+        "0512060001010000001a0000000000000000000000000002200000032001000420000005200100",
+        Heard::Ignored(ReqIgnored::Chunk(ChunkFault::WrongHandle)),
         "128600000100",
     ),
     (
-        "12060100010000001a0000000000000000000000000002300000032001000420000005200100",
-        Led::Ignored(ReqIgnored::Malformed(37)),
+        "0512060100010000001a0000000000000000000000000002300000032001000420000005200100",
+        Heard::Ignored(ReqIgnored::Malformed(37)),
         "128600000100",
     ),
     (
-        "12060100010000001a0000000000000000000000000002200000032001000420000005200100",
-        Led::Rests(Event::Done(Finished::Connected)),
+        "0512060100010000001a0000000000000000000000000002200000032001000420000005200100",
+        Heard::Rests(Event::Done(Finished::Connected)),
         "128600000100",
     ),
 ];
-
-// The requester that the other program was given.
-fn setup(transfer: u32) -> Setup<'static> {
-    Setup {
-        transfer,
-        max: 4096,
-        flags: FlagSet {
-            measure: false,
-            heartbeat: true,
-            key_update: true,
-            chunk: true,
-        },
-        suites: Suites {
-            hash: Pick::Small,
-            aead: Pick::Small,
-        },
-        hint: &[0x71],
-    }
-}
 
 #[test]
 fn negotiation_completes(rt: HostRuntime) -> Result<(), Fail> {
@@ -103,12 +85,14 @@ fn negotiation_completes(rt: HostRuntime) -> Result<(), Fail> {
     let mut out = Frame::new();
     assert_eq!(rt; talk.measure(0, &mut out), Err(CommandFault::NotConnected));
     assert_eq!(rt; talk.connect(&mut out), 0);
-    for (answer, led, sent) in &WHOLE {
-        let message = hex::decode(rt.alloc(), *answer)?;
+    let mut tag = 0;
+    for (body, heard, sent) in &WHOLE {
+        let body = hex::decode(rt.alloc(), *body)?;
         assert_eq!(rt;
-            talk.on_clear(&setup, &mut gathered, &message, &mut out),
-            *led
+            talk.on_body(&setup, &mut gathered, false, tag, &body, &mut out),
+            *heard
         );
+        tag = next_tag(tag, *heard);
         let text = hex::encode(rt.alloc(), out.as_slice())?;
         assert_eq!(rt; text.as_str(), *sent);
     }
@@ -122,12 +106,14 @@ fn negotiation_by_chunks(rt: HostRuntime) -> Result<(), Fail> {
     let mut gathered = Collector::new(setup.max);
     let mut out = Frame::new();
     assert_eq!(rt; talk.connect(&mut out), 0);
-    for (answer, led, sent) in &BY_CHUNKS {
-        let message = hex::decode(rt.alloc(), *answer)?;
+    let mut tag = 0;
+    for (body, heard, sent) in &BY_CHUNKS {
+        let body = hex::decode(rt.alloc(), *body)?;
         assert_eq!(rt;
-            talk.on_clear(&setup, &mut gathered, &message, &mut out),
-            *led
+            talk.on_body(&setup, &mut gathered, false, tag, &body, &mut out),
+            *heard
         );
+        tag = next_tag(tag, *heard);
         let text = hex::encode(rt.alloc(), out.as_slice())?;
         assert_eq!(rt; text.as_str(), *sent);
     }

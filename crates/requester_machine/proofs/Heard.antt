@@ -31,7 +31,7 @@ use Rattle.requester_machine.proofs.RecordLeads.RecordLeads.{ByEnd, ByAnswer, By
 
 -- ---- The tests of a body.
 
-abbrev test_at : ℕ → List (Bool × ReqIgnored) → Bool
+abbrev pub test_at : ℕ → List (Bool × ReqIgnored) → Bool
 test_at n [] = false
 test_at zero (t ∷ ts) = t.0
 test_at (suc n) (t ∷ ts) = test_at n ts
@@ -45,7 +45,7 @@ tests_are_false [] h n = refl
 tests_are_false (t ∷ ts) h zero = (both t.0 t.1 _ h).0
 tests_are_false (t ∷ ts) h (suc n) = tests_are_false ts (both t.0 t.1 _ h).1 n
 
-test_is_false : (q : ReqSetup) (waiting : Option Sent) (owner : Bool) (tag : ℕ) (body : List ℕ) → body_fault q waiting owner tag body ≡ None → (n : ℕ) → test_at n (tests_of_body q waiting owner tag body) ≡ false
+pub test_is_false : (q : ReqSetup) (waiting : Option Sent) (owner : Bool) (tag : ℕ) (body : List ℕ) → body_fault q waiting owner tag body ≡ None → (n : ℕ) → test_at n (tests_of_body q waiting owner tag body) ≡ false
 unfolding body_fault
 test_is_false q waiting owner tag body is n = tests_are_false (tests_of_body q waiting owner tag body) is n
 
@@ -54,7 +54,7 @@ either_type : (a b : Bool) → not (a || b) ≡ false → b ≡ false → a ≡ 
 either_type true b is other = refl
 either_type false b is other = absurd (false≢true (sym is ∙ ap not other))
 
-clear_type : (q : ReqSetup) (sent : Sent) (owner : Bool) (tag : ℕ) (body : List ℕ) → body_fault q (Some sent) owner tag body ≡ None → is_record body ≡ false → is_clear body ≡ true
+pub clear_type : (q : ReqSetup) (sent : Sent) (owner : Bool) (tag : ℕ) (body : List ℕ) → body_fault q (Some sent) owner tag body ≡ None → is_record body ≡ false → is_clear body ≡ true
 clear_type q sent owner tag body is other = either_type (is_clear body) (is_record body) (test_is_false q (Some sent) owner tag body is 3) other
 
 tag_type : (q : ReqSetup) (sent : Sent) (owner : Bool) (tag : ℕ) (body : List ℕ) → body_fault q (Some sent) owner tag body ≡ None → sent.tag ≡ tag

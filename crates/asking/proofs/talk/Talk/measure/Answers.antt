@@ -25,4 +25,4 @@ returns c = λ q h f d sizes stands.
     let sends = c.send_request.ensures h (GetMeasurements c.args.op) (connection_terms h).common (ap (λ (s : outgoing.Seen). s.tag) kept ∙ stood.shows.outgoing.tag) (ap (λ (s : outgoing.Seen). s.handle) kept ∙ stood.shows.outgoing.handle)
     (ap (λ (s : outgoing.Seen). s.request) kept) refl transfer (subst (λ (n : ℕ). MIN_DATA_TRANSFER_SIZE ≤ n) transfer room.least) (subst (λ (n : ℕ). n ≤ MAX_MESSAGE_SIZE) transfer room.most) in
     told_done q h (Measure None c.args.op) f d (connection_terms h).common (GetMeasurements c.args.op) before c.keep.new.self c.send_request.new.self c.send_request.result c.send_request.new.out
-    refl (λ n. tt) none refl stood (ap (λ (s : outgoing.Seen). s.tag) kept) (ap (λ (s : outgoing.Seen). s.handle) kept) (ap (λ (s : outgoing.Seen). s.request) kept) sends
+    refl refl (λ n. tt) none refl stood (ap (λ (s : outgoing.Seen). s.tag) kept) (ap (λ (s : outgoing.Seen). s.handle) kept) (ap (λ (s : outgoing.Seen). s.request) kept) sends

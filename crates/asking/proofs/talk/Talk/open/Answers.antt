@@ -43,4 +43,4 @@ returns c = λ q h f d setup free allowed live stands.
     let sends = c.send_request.ensures h (exchange_for q f summary) (connection_terms h).common (ap (λ (s : outgoing.Seen). s.tag) kept ∙ stood.shows.outgoing.tag) (ap (λ (s : outgoing.Seen). s.handle) kept ∙ stood.shows.outgoing.handle)
     request (ap (λ (n : ℕ). asks.Exchange n summary) free.id) transfer (subst (λ (n : ℕ). MIN_DATA_TRANSFER_SIZE ≤ n) transfer room.least) (subst (λ (n : ℕ). n ≤ MAX_MESSAGE_SIZE) transfer room.most) in
     told_done q h (Open summary) f d (connection_terms h).common (exchange_for q f summary) before c.keep.new.self c.send_request.new.self c.send_request.result c.send_request.new.out
-    refl (λ n. tt) none refl stood (ap (λ (s : outgoing.Seen). s.tag) kept) (ap (λ (s : outgoing.Seen). s.handle) kept) request sends
+    refl refl (λ n. tt) none refl stood (ap (λ (s : outgoing.Seen). s.tag) kept) (ap (λ (s : outgoing.Seen). s.handle) kept) request sends

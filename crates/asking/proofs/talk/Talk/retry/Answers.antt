@@ -17,7 +17,7 @@ pub returns-in-InSession : goal.returns-in-InSession
 returns-in-InSession c = λ q h f d sizes stands.
     let before : Seen = record { negotiating = c.self.inside.negotiating; outgoing = c.self.inside.outgoing; brought = c.self.inside.brought } in
     let stood = subst (λ (s : Seen). StandsFor s q h) (sym c.self.view_is) stands in
-    let waits = in_session (outstanding h) c.in-InSession.tag (c.in-InSession.ensures ∙ stood.shows.outgoing.waiting) in
+    let waits = in_session (outstanding h) c.in-InSession.tag c.in-InSession.id (c.in-InSession.ensures ∙ stood.shows.outgoing.waiting) in
     (record { sent = waits.sent; outcome = again q h f d waits.sent waits.is; tag_is = waits.tag_is }, waits.of)
 
 pub returns-in-InClear : goal.returns-in-InClear
