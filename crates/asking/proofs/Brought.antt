@@ -40,7 +40,7 @@ use Rattle.requester_machine.specs.Setup.{ReqSetup}
 use Rattle.requester_machine.specs.Shown.{blocks_in, blocks_of, bytes_in}
 use Rattle.requester_machine.specs.UnderWay.{AreBehind, HasSizes, IsOutstanding}
 use Rattle.asking.specs.InSession.{brought_by}
-use Rattle.asking.proofs.Lengths.{measured_short, measured_value}
+use Rattle.requester_machine.proofs.ResponseLengths.{measured_short, measured_value}
 
 -- ---- A large answer.
 
