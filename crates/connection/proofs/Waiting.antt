@@ -1,5 +1,5 @@
 -- Sessions that wait, and sessions that were dropped unseen.
-use Rattle.std.proofs.Common.{refl, ◌∙◌, ◌≡◌, ◌≢◌, ℕ, zero, suc, List, [], ◌∷◌, true, false, Bool, Option, Some, None, ap, sym, subst, arith}
+use Rattle.std.proofs.Common.{refl, ◌∙◌, ◌≡◌, ◌≢◌, ℕ, zero, suc, [], ◌∷◌, true, false, Bool, Option, None, ap, sym, subst, arith}
 use Rattle.std.proofs.lemmas.Bool.{false≢true, eq-eqb, eqb-false}
 use Rattle.std.proofs.lemmas.Bool.Decides.{nat_tests}
 use Rattle.std.specs.Prelude.{◌==◌, ◌-◌, ◌||◌, nat_lt, slice_index_or, if◌then◌else◌}
@@ -9,7 +9,7 @@ use Rattle.connection.specs.Sessions.{StandsFor, slot_of}
 use Rattle.connection.specs.declared.live.Live.{Live}
 use Rattle.connection.specs.declared.sessions.Sessions.{Sessions}
 use Rattle.responder_machine.proofs.Entries.{session_of-Ticked}
-use Rattle.responder_machine.specs.History.{History, ended_of}
+use Rattle.responder_machine.specs.History.{History}
 use Rattle.responder_machine.specs.History.Entry.{Dropped, Ticked}
 use Rattle.responder_machine.specs.Session.{Events, after_tick, session_of}
 use Rattle.responder_machine.specs.Setup.{RspSetup}
