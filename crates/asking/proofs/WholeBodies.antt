@@ -1,5 +1,5 @@
 -- A whole body, by what it leads to.
-use Rattle.std.proofs.Common.{refl, ◌≡◌, ◌≤◌, ◌∙◌, ◌∷◌, ℕ, List, Bool, true, false, Option, Some, None, ap, sym, arith}
+use Rattle.std.proofs.Common.{refl, ◌≡◌, ◌≤◌, ◌∙◌, ◌∷◌, ℕ, List, Bool, true, false, Option, Some, None, ap, sym, arith, [], subst}
 use Rattle.std.specs.Prelude.{drop, if◌then◌else◌, length, nat_lt, unwrap_or, Result, Ok, Err}
 use Rattle.std.proofs.lemmas.Bool.Decides.{nat_tests}
 use Rattle.std.proofs.lemmas.Option.{none-some, same_Some}
@@ -13,19 +13,22 @@ use Rattle.requester_machine.specs.ClearAnswers.{carried_by, clear_led, read_led
 use Rattle.requester_machine.specs.ClearAnswers.Carried.{Whole}
 use Rattle.requester_machine.specs.Commands.{Free}
 use Rattle.requester_machine.specs.Hearing.{clear_outcome, hears, hears_by, hears_to, on_record}
-use Rattle.requester_machine.specs.History.{Entry, History, Led, outstanding}
+use Rattle.requester_machine.specs.History.{Entry, History, Led, negotiation_of, outstanding}
 use Rattle.requester_machine.specs.History.Effect.{Nothing, Refuses}
 use Rattle.requester_machine.specs.History.Entry.{TookClear}
+use Rattle.requester_machine.specs.Holds.{Holds}
 use Rattle.requester_machine.specs.Message.{Aim, Ask, Sent, asked_in}
 use Rattle.requester_machine.specs.Message.Aim.{ByChunks, ForChunk, InSession, Plain}
 use Rattle.requester_machine.specs.Session.{after_clear, session_of}
 use Rattle.requester_machine.specs.Setup.{ReqSetup}
-use Rattle.requester_machine.specs.UnderWay.{HasSizes}
+use Rattle.requester_machine.specs.Session.Step.{Started}
+use Rattle.requester_machine.specs.UnderWay.{HasSizes, IsAwaited}
 use Rattle.spdm_basis.proofs.Bools.{and_rest}
 use Rattle.spdm_grammar.specs.Message.{RequestMessage, ResponseMessage}
 use Rattle.spdm_grammar.specs.Message.RequestMessage.{PskExchange}
 use Rattle.spdm_grammar.specs.Message.ResponseMessage.{PskExchangeRsp}
 use Rattle.spdm_grammar.specs.declared.malformed.Malformed.{Malformed}
+use Rattle.spdm_grammar.specs.Requests.{canonical_request}
 use Rattle.spdm_grammar.specs.declared.event.Event.{Event}
 use Rattle.spdm_grammar.specs.declared.event.ReqIgnored.{ReqIgnored}
 use Rattle.spdm_grammar.specs.declared.event.ReqIgnored.TheVariants as ignored
@@ -44,7 +47,7 @@ use Rattle.asking.specs.declared.waiting.Asked.{Asked}
 use Rattle.asking.specs.declared.waiting.Asked.TheVariants as asks
 use Rattle.asking.proofs.Answered.{any_free}
 use Rattle.asking.proofs.SessionsKept.{rests_sessions, sends_sessions}
-use Rattle.asking.proofs.Taken.{carried_leads}
+use Rattle.asking.proofs.Taken.{awaited_here, carried_leads}
 
 -- ---- What a body leads to.
 
@@ -131,15 +134,16 @@ exchange_leads q h f sent request m answer place old new out whole x =
     ∙ ap (λ (r : Result ResponseMessage Malformed). read_led q h f place request answer r) x.reads
     ∙ ap (λ (r : RequestMessage). answer_led q h f place r answer (PskExchangeRsp x.rsp)) x.asks
 
-exchange_heard : (q : ReqSetup) (h : History) (owner : Bool) (tag : ℕ) (body : List ℕ) (sent : Sent) (request : RequestMessage) (answer : List ℕ) (place : ℕ) (old new : Seen) (out : List ℕ) → outstanding h ≡ Some sent → asked_in sent.aim ≡ Some request
+exchange_heard : (q : ReqSetup) (h : History) (owner : Bool) (tag : ℕ) (body : List ℕ) (sent : Sent) (request : RequestMessage) (answer : List ℕ) (place : ℕ) (old new : Seen) (out : List ℕ) → IsAwaited q h request → outstanding h ≡ Some sent → asked_in sent.aim ≡ Some request
     → ((f : Free) (d : Draw) → hears q h owner tag body f d ≡ clear_outcome tag (drop 1 body) d (clear_led q h f sent.aim request (drop 1 body)))
     → carried_by q h (drop 1 body) sent.aim ≡ Whole answer place → IsExchange h request answer old new out → IsExchangeFor q h owner tag body (exchange_id (kind_of request)) old new out
-exchange_heard q h owner tag body sent request answer place old new out waits asks is whole x = record {
+exchange_heard q h owner tag body sent request answer place old new out awaits waits asks is whole x = record {
   sent = sent;
   waits = waits;
   exchange = x.exchange;
   asks = asks ∙ ap Some x.asks;
   id_is = sym (ap (λ (r : RequestMessage). exchange_id (kind_of r)) x.asks);
+  session = subst (λ (n : ℕ). session_of n h ≡ Started (negotiation_of h) (canonical_request (PskExchange x.exchange)) ∷ []) (sym (ap (λ (r : RequestMessage). exchange_id (kind_of r)) x.asks)) (subst (IsAwaited q h) x.asks awaits).1;
   place = place;
   whole = whole ∙ ap (λ (a : List ℕ). Whole a place) (sym x.written);
   rsp = x.rsp;
@@ -162,12 +166,12 @@ rest_heard q h owner tag body _ event old new out rests = λ f d.
     record { led = r.led; event = r.event; next = r.next; sessions = r.sessions; entered = r.entered }
 
 -- What the clear part says of it, in terms of the whole body.
-pub clear_heard : (q : ReqSetup) (h : History) (owner : Bool) (tag : ℕ) (body : List ℕ) (sent : Sent) (request : RequestMessage) (led : seen_led.Led) (old new : Seen) (out : List ℕ) → outstanding h ≡ Some sent → asked_in sent.aim ≡ Some request
+pub clear_heard : (q : ReqSetup) (h : History) (owner : Bool) (tag : ℕ) (body : List ℕ) (sent : Sent) (request : RequestMessage) (led : seen_led.Led) (old new : Seen) (out : List ℕ) → Holds q h → outstanding h ≡ Some sent → asked_in sent.aim ≡ Some request
     → ((f : Free) (d : Draw) → hears q h owner tag body f d ≡ clear_outcome tag (drop 1 body) d (clear_led q h f sent.aim request (drop 1 body)))
     → led_specs.IsTaken q h sent request (drop 1 body) led old new out → IsHeard q h owner tag body (heard_of (kind_of request) led) old new out
-clear_heard q h owner tag body sent request (seen.Ignored cause) old new out waits asks is taken =
+clear_heard q h owner tag body sent request (seen.Ignored cause) old new out holds waits asks is taken =
     (λ f d. is f d ∙ ap (clear_outcome tag (drop 1 body) d) (taken f).0.0, (taken any_free).0.1)
-clear_heard q h owner tag body sent request (seen.Rests event) old new out waits asks is taken =
+clear_heard q h owner tag body sent request (seen.Rests event) old new out holds waits asks is taken =
     rest_heard q h owner tag body request event old new out (λ f d.
     let t = taken f in
     record {
@@ -177,7 +181,7 @@ clear_heard q h owner tag body sent request (seen.Rests event) old new out waits
       sessions = rests_sessions q h f sent.aim (drop 1 body) request t.0.0 tag d (clear_leads q h f sent.aim (drop 1 body) request t.0.0 asks t.0.1) t.0.2.next;
       entered = entered q h owner tag body f d _ t.0.0 new (is f d) t.0.1 t.1;
     })
-clear_heard q h owner tag body sent request (seen.Sends its) old new out waits asks is taken = λ f d.
+clear_heard q h owner tag body sent request (seen.Sends its) old new out holds waits asks is taken = λ f d.
     let t = taken f in
     record {
       led = t.0.0;
@@ -189,7 +193,7 @@ clear_heard q h owner tag body sent request (seen.Sends its) old new out waits a
       sessions = sends_sessions q h f sent.aim (drop 1 body) request t.0.0 t.0.2 out tag d (clear_leads q h f sent.aim (drop 1 body) request t.0.0 asks t.0.1) t.0.4.next t.0.4.content;
       entered = entered q h owner tag body f d _ t.0.0 new (is f d) t.0.1 t.1;
     }
-clear_heard q h owner tag body sent request (seen.Large its) old new out waits asks is taken = λ f d.
+clear_heard q h owner tag body sent request (seen.Large its) old new out holds waits asks is taken = λ f d.
     let t = taken f in
     record {
       led = t.0.0;
@@ -201,7 +205,7 @@ clear_heard q h owner tag body sent request (seen.Large its) old new out waits a
       sessions = sends_sessions q h f sent.aim (drop 1 body) request t.0.0 t.0.2 out tag d (clear_leads q h f sent.aim (drop 1 body) request t.0.0 asks t.0.1) t.0.4.next t.0.4.content;
       entered = entered q h owner tag body f d _ t.0.0 new (is f d) t.0.1 t.1;
     }
-clear_heard q h owner tag body sent request (seen.More its) old new out waits asks is taken = λ f d. record {
+clear_heard q h owner tag body sent request (seen.More its) old new out holds waits asks is taken = λ f d. record {
   led = goes_on Nothing taken.0;
   event = taken.2.event;
   sent = taken.0;
@@ -211,8 +215,8 @@ clear_heard q h owner tag body sent request (seen.More its) old new out waits as
   sessions = sends_sessions q h f sent.aim (drop 1 body) request (goes_on Nothing taken.0) taken.0 out tag d (clear_leads q h f sent.aim (drop 1 body) request (goes_on Nothing taken.0) asks (taken.1 f)) taken.2.next taken.2.content;
   entered = entered q h owner tag body f d _ (goes_on Nothing taken.0) new (is f d) (taken.1 f) (taken.3 f);
 }
-clear_heard q h owner tag body sent request seen.Exchange old new out waits asks is taken =
-    exchange_heard q h owner tag body sent request taken.0 taken.1 old new out waits asks is taken.2 taken.3
+clear_heard q h owner tag body sent request seen.Exchange old new out holds waits asks is taken =
+    exchange_heard q h owner tag body sent request taken.0 taken.1 old new out (awaited_here q h sent request holds waits asks) waits asks is taken.2 taken.3
 
 -- ---- What is gathered.
 

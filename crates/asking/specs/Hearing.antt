@@ -17,16 +17,18 @@ use Rattle.requester_machine.specs.ClearAnswers.{carried_by, reading_of}
 use Rattle.requester_machine.specs.ClearAnswers.Carried.{Whole}
 use Rattle.requester_machine.specs.Commands.{Free}
 use Rattle.requester_machine.specs.Hearing.{clear_outcome, hears, on_record}
-use Rattle.requester_machine.specs.History.{Entry, History, Led, outstanding}
+use Rattle.requester_machine.specs.History.{Entry, History, Led, negotiation_of, outstanding}
 use Rattle.requester_machine.specs.History.Entry.{TookClear}
 use Rattle.requester_machine.specs.Message.{Ask, Sent, asked_in}
 use Rattle.requester_machine.specs.Message.Aim.{InSession}
 use Rattle.requester_machine.specs.Message.Content.{Clear}
 use Rattle.requester_machine.specs.Session.{session_of}
+use Rattle.requester_machine.specs.Session.Step.{Started}
 use Rattle.requester_machine.specs.Setup.{ReqSetup}
 use Rattle.spdm_grammar.specs.Message.{ExchangeMessage, ExchangeRspMessage}
 use Rattle.spdm_grammar.specs.Message.RequestMessage.{PskExchange}
 use Rattle.spdm_grammar.specs.Message.ResponseMessage.{PskExchangeRsp}
+use Rattle.spdm_grammar.specs.Requests.{canonical_request}
 use Rattle.spdm_grammar.specs.declared.event.Event.{Event}
 use Rattle.spdm_grammar.specs.declared.event.Event.TheVariants as event
 use Rattle.spdm_machine.specs.Keys.{Draw}
@@ -98,8 +100,9 @@ pub record GoesOn (q : ReqSetup) (h : History) (owner : Bool) (tag : ℕ) (body 
   pub sessions : KeepsSessions h (TookClear tag (drop 1 body) led d)
   pub entered : IsEntered q h owner tag body f d led new
 
--- The body carries, from this place on, the PSK_EXCHANGE_RSP to the outstanding PSK_EXCHANGE of
--- this ReqSessionID. That is written, and its verify data decide what the body leads to.
+-- The body carries, from this place on, the PSK_EXCHANGE_RSP to the outstanding PSK_EXCHANGE, which
+-- began the session with this ReqSessionID. That is written, and its verify data decide what the
+-- body leads to.
 pub record IsExchangeFor (q : ReqSetup) (h : History) (owner : Bool) (tag : ℕ) (body : List ℕ)
     (id : ℕ) (old new : Seen) (out : List ℕ) : Type 0 where
   pub sent : Sent
@@ -107,6 +110,8 @@ pub record IsExchangeFor (q : ReqSetup) (h : History) (owner : Bool) (tag : ℕ)
   pub exchange : ExchangeMessage
   pub asks : asked_in sent.aim ≡ Some (PskExchange exchange)
   pub id_is : exchange.req_id ≡ id
+  pub session : session_of id h
+      ≡ Started (negotiation_of h) (canonical_request (PskExchange exchange)) ∷ []
   pub place : ℕ
   pub whole : carried_by q h (drop 1 body) sent.aim ≡ Whole out place
   pub rsp : ExchangeRspMessage

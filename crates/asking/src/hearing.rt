@@ -14,7 +14,7 @@ use spdm_grammar::{Event, ReqIgnored};
 
 impl Asked {
     // The ReqSessionID of a PSK_EXCHANGE, and 0 for any other request.
-    pub(crate) fn exchange_id(self) -> u16
+    fn exchange_id(self) -> u16
         ensures { result ≡ exchange_id self }
     {
         match self {

@@ -50,7 +50,7 @@ returns-in-InClear-clause-heard c = λ q h setup stands gathers.
     (c.on_clear.ensures.taken q h waits.sent waits.request setup stands waits.is gathers waits.asks short) in
     subst (λ (r : seen_heard.Heard). IsHeard q h owner tag body r c.args.self.now c.on_clear.new.self c.on_clear.new.out) (sym c.heard.ensures)
     (subst (λ (a : Asked). IsHeard q h owner tag body (heard_of a c.on_clear.result) c.args.self.now c.on_clear.new.self c.on_clear.new.out) waits.kind
-    (clear_heard q h owner tag body waits.sent waits.request c.on_clear.result c.args.self.now c.on_clear.new.self c.on_clear.new.out waits.is waits.asks (λ f d. hears_clear q h owner tag body f d waits.sent waits.request waits.is none waits.asks) taken))
+    (clear_heard q h owner tag body waits.sent waits.request c.on_clear.result c.args.self.now c.on_clear.new.self c.on_clear.new.out stood.holds waits.is waits.asks (λ f d. hears_clear q h owner tag body f d waits.sent waits.request waits.is none waits.asks) taken))
 
 pub returns-in-InClear-clause-gathered : goal.returns-in-InClear-clause-gathered
 returns-in-InClear-clause-gathered c = λ q h setup stands gathers.
