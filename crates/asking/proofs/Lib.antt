@@ -9,3 +9,8 @@ pub mod Carrying
 pub mod Taken
 pub mod Fetched
 pub mod ExchangeTaken
+pub mod SlotLaws
+pub mod SessionsAsked
+pub mod SessionsRecorded
+pub mod SessionsBegun
+pub mod SessionsApart

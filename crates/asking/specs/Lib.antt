@@ -8,3 +8,8 @@ pub mod Commands
 pub mod Led
 pub mod Gathering
 pub mod Accepting
+pub mod Slot
+pub mod SessionLed
+pub mod SlotSteps
+pub mod Sessions
+pub mod SessionSteps

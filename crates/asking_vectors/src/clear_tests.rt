@@ -5,10 +5,10 @@ use spdm_grammar::{ChunkFault, CommandFault, Event, Finished, FlagSet, Pick, Req
 use std::test::Fail;
 
 // An answer, what comes of it, and the message that is sent next, if one is, in hexadecimal.
-type Turn = (&'static str, Led, &'static str);
+pub type Turn = (&'static str, Led, &'static str);
 
 // A negotiation in whole messages.
-const WHOLE: [Turn; 4] = [
+pub const WHOLE: [Turn; 4] = [
     (
         "120400000001",
         Led::Ignored(ReqIgnored::Malformed(1)),
@@ -77,7 +77,7 @@ const BY_CHUNKS: [Turn; 8] = [
 ];
 
 // The requester that the other program was given.
-fn setup(transfer: u32) -> Setup<'static> {
+pub fn setup(transfer: u32) -> Setup<'static> {
     Setup {
         transfer,
         max: 4096,

@@ -1,6 +1,8 @@
-//! The clear part of a requester that is given the answers of a connection, beside what another program sends and
+//! A requester that is given the answers of a connection, beside what another program sends and
 //! tells. There is nothing here but tests.
 #![tactic(auto)]
 
 #[cfg(test)]
 mod clear_tests;
+#[cfg(test)]
+mod session_tests;
