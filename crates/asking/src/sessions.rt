@@ -53,7 +53,7 @@ impl Sessions {
     ghost use Rattle.asking.specs.Sessions.{IsNamed, StandsFor, session_for, slot_of};
     ghost use Rattle.asking.specs.Slot.{IsSlotOf, shown_of};
     ghost use Rattle.asking.specs.SlotSteps.{IsAcceptedBy, IsAskedOf};
-    ghost use Rattle.asking.specs.Talk as talk;
+    ghost use Rattle.asking.specs.Talk as clear_part;
     ghost use Rattle.asking.specs.declared.slot.Slot.TheVariants as slot;
     ghost use Rattle.psk_session.specs.AskLaws.{command_at};
     ghost use Rattle.psk_session.specs.Data.{data_of};
@@ -282,7 +282,7 @@ impl Sessions {
         ensures { (q : ReqSetup) (h : History) (f : Free) (d : Draw) (sent : Sent)
             → q.psk ≡ psk.now → f.id ≡ id
             → asks false q h (Open summary) f d ≡ Adds (Told (Open summary) sent d)
-            → talk.StandsFor talk.now q (Told (Open summary) sent d ∷ h)
+            → clear_part.StandsFor talk.now q (Told (Open summary) sent d ∷ h)
             → StandsFor self.old q h → StandsFor self.new q (Told (Open summary) sent d ∷ h) }
     {
         let terms = SessionTerms {
