@@ -257,11 +257,12 @@ told_to old new q h f d id a pad padded stands none phase asked_is others named 
 pub failed_to : (old new : Sessions) (q : ReqSetup) (h : History) (f : Free) (d : Draw) (id : ℕ) (a : Ask) (pad : List ℕ) (cause : CommandFault) → StandsFor old q h → outstanding h ≡ None → is_negotiated (phase_of h) ≡ true
     → IsAskedOf q.psk (session_of id h) a pad (slot_of new id) (Err cause) → ((i : ℕ) → i ≢ id → slot_of new i ≡ slot_of old i) → new.id ≡ old.id
     → IsToldTo q h (command_at id a) f d (Err cause) new
-failed_to old new q h f d id a pad cause stands none phase asked_is others named =
-    (fails_as q h f d id a (is_live (session_of id h)) (ask_fault (session_of id h) a) cause none phase refl refl asked_is.0,
-    record {
-      holds = stands.holds;
-      orders = stands.orders;
-      slots = of_each (λ i. IsSlotOf (slot_of new i) q.psk (session_of i h)) id asked_is.1 (λ i ne. subst (λ (x : Slot). IsSlotOf x q.psk (session_of i h)) (sym (others i ne)) (stands.slots i));
-      named = subst (IsNamed (session_for (outstanding h))) (sym named) stands.named;
-    })
+failed_to old new q h f d id a pad cause stands none phase asked_is others named = (
+  fails_as q h f d id a (is_live (session_of id h)) (ask_fault (session_of id h) a) cause none phase refl refl asked_is.0,
+  record {
+    holds = stands.holds;
+    orders = stands.orders;
+    slots = of_each (λ i. IsSlotOf (slot_of new i) q.psk (session_of i h)) id asked_is.1 (λ i ne. subst (λ (x : Slot). IsSlotOf x q.psk (session_of i h)) (sym (others i ne)) (stands.slots i));
+    named = subst (IsNamed (session_for (outstanding h))) (sym named) stands.named;
+  },
+)

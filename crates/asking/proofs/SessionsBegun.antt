@@ -155,17 +155,21 @@ module _ (q : ReqSetup) (h : History) (f : Free) (tag : ℕ) (d : Draw) (sent : 
       let a = subst (AnswersExchange q h f tag d n exchange answer) accepts.0 (answers old stands) in
       let led : Led = a.0 in
       let leads : clear_led q h f sent.aim (PskExchange exchange) m ≡ Ok led = exchange_leads ∙ sym exchange_plain ∙ a.2 in
-      let own = subst (λ (p : List ℕ). IsSlotOf (slot_of new id) q.psk (finishing q.psk n x answer p)) (sym padded) accepts.1 in
-      (led, leads, ap (λ (l : Led). l.effect) a.1, record {
-        holds = clear_holds q h f tag m led d sent (PskExchange exchange) b.waits b.asks (clear_leads q h f sent.aim m (PskExchange exchange) led b.asks leads) stands.holds;
-        orders = λ i. clear_orders q h f tag m led d sent (PskExchange exchange) i b.waits b.asks leads (stands.orders i);
-        slots = of_each (λ i. IsSlotOf (slot_of new i) q.psk (session_of i (TookClear tag m led d ∷ h))) id
-            (subst (IsSlotOf (slot_of new id) q.psk) (sym a.3 ∙ message_apart h tag m answer led d id) own)
-            (λ i ne. subst (λ (y : Slot). IsSlotOf y q.psk (session_of i (TookClear tag m led d ∷ h))) (sym (others i ne))
-            (subst (IsSlotOf (slot_of old i) q.psk)
-            (sym (ap (λ (l : Led). session_of i (TookClear tag m l d ∷ h)) a.1 ∙ others_begun q h f tag m answer d exchange (accepted n x answer) i ne)) (stands.slots i)));
-        named = subst (λ (l : Led). IsNamed (session_for l.next) new.id) (sym a.1) (named ∙ begun_named old stands);
-      })
+      let own = subst (λ (p : List ℕ). IsSlotOf (slot_of new id) q.psk (finishing q.psk n x answer p)) (sym padded) accepts.1 in (
+        led,
+        leads,
+        ap (λ (l : Led). l.effect) a.1,
+        record {
+          holds = clear_holds q h f tag m led d sent (PskExchange exchange) b.waits b.asks (clear_leads q h f sent.aim m (PskExchange exchange) led b.asks leads) stands.holds;
+          orders = λ i. clear_orders q h f tag m led d sent (PskExchange exchange) i b.waits b.asks leads (stands.orders i);
+          slots = of_each (λ i. IsSlotOf (slot_of new i) q.psk (session_of i (TookClear tag m led d ∷ h))) id
+              (subst (IsSlotOf (slot_of new id) q.psk) (sym a.3 ∙ message_apart h tag m answer led d id) own)
+              (λ i ne. subst (λ (y : Slot). IsSlotOf y q.psk (session_of i (TookClear tag m led d ∷ h))) (sym (others i ne))
+              (subst (IsSlotOf (slot_of old i) q.psk)
+              (sym (ap (λ (l : Led). session_of i (TookClear tag m l d ∷ h)) a.1 ∙ others_begun q h f tag m answer d exchange (accepted n x answer) i ne)) (stands.slots i)));
+          named = subst (λ (l : Led). IsNamed (session_for l.next) new.id) (sym a.1) (named ∙ begun_named old stands);
+        },
+      )
 
   refused_by : (old : Sessions) (cause : OpenFault) → AnswersExchange q h f tag d (negotiation_of h) exchange answer (Some cause) → clear_led q h f (Plain (PskExchange exchange)) (PskExchange exchange) answer ≡ Err ignored.BadVerify
   refused_by old BadVerify is = is
@@ -174,9 +178,11 @@ module _ (q : ReqSetup) (h : History) (f : Free) (tag : ℕ) (d : Draw) (sent : 
   pub refuses_by : (old new : Sessions) (pad : List ℕ) (cause : OpenFault) → StandsFor old q h
       → IsAcceptedBy q.psk (negotiation_of h) (canonical_request (PskExchange exchange)) answer pad (slot_of new exchange.req_id) (Err cause)
       → ((i : ℕ) → i ≢ exchange.req_id → slot_of new i ≡ slot_of old i) → new.id ≡ old.id → IsBegunBy q h f tag d sent m answer exchange (Err ignored.BadVerify) new
-  refuses_by old new pad cause stands refused others named =
-      (exchange_leads ∙ sym exchange_plain ∙ refused_by old cause (subst (AnswersExchange q h f tag d (negotiation_of h) exchange answer) refused.0 (answers old stands)), refl,
-      unchanged old new q h exchange.req_id stands (subst (IsSlotOf (slot_of new exchange.req_id) q.psk) (sym (begun_steps old stands)) refused.1) others named)
+  refuses_by old new pad cause stands refused others named = (
+    exchange_leads ∙ sym exchange_plain ∙ refused_by old cause (subst (AnswersExchange q h f tag d (negotiation_of h) exchange answer) refused.0 (answers old stands)),
+    refl,
+    unchanged old new q h exchange.req_id stands (subst (IsSlotOf (slot_of new exchange.req_id) q.psk) (sym (begun_steps old stands)) refused.1) others named,
+  )
 
 -- ---- PSK_EXCHANGE.
 

@@ -87,42 +87,54 @@ finishing_live x psk s f = ap is_live f.steps
 pub stepped_by : (psk : List ℕ) (s : Steps) (a : Ask) (sealed pad : List ℕ) (old new : ReqSession) (t : Told) (id : SessionId) → id ≡ session_id s → IsAwaiting old psk s a
     → IsToldOf old psk s a sealed pad new t → IsStepped psk s a sealed pad (settled (told_led id t) (slot.Live new)) (told_led id t)
 stepped_by psk s a sealed pad old new (told.Stay f) id is awaits p = (p.0, inr (record { ask = a; stands = subst (λ (x : ReqSession). IsAwaiting x psk s a) (sym p.1) awaits }))
-stepped_by psk s a sealed pad old new (told.Bad f) id is awaits p =
-    ([], inl (record {
-      course = Lost f;
-      takes = subst (TakesCourse psk s a sealed) p.2 p.1;
-      outlives = tt;
-      told = ap (λ (i : SessionId). seen.Ends (event.Lost i f)) is;
-      steps = refl;
-    }), refl)
-stepped_by psk s a sealed pad old new told.Ended id is awaits p =
-    ([], inl (record {
-      course = Ended;
-      takes = subst (TakesCourse psk s a sealed) p.2 p.1;
-      outlives = tt;
-      told = ap (λ (i : SessionId). seen.Ends (event.Done (finished.Ended i))) is;
-      steps = refl;
-    }), refl)
+stepped_by psk s a sealed pad old new (told.Bad f) id is awaits p = (
+  [],
+  inl (record {
+    course = Lost f;
+    takes = subst (TakesCourse psk s a sealed) p.2 p.1;
+    outlives = tt;
+    told = ap (λ (i : SessionId). seen.Ends (event.Lost i f)) is;
+    steps = refl;
+  }),
+  refl,
+)
+stepped_by psk s a sealed pad old new told.Ended id is awaits p = (
+  [],
+  inl (record {
+    course = Ended;
+    takes = subst (TakesCourse psk s a sealed) p.2 p.1;
+    outlives = tt;
+    told = ap (λ (i : SessionId). seen.Ends (event.Done (finished.Ended i))) is;
+    steps = refl;
+  }),
+  refl,
+)
 stepped_by psk s a sealed pad old new (told.Answer reply) id is awaits p =
-    let effect = p.2.0 in
-    (with_taken psk s a sealed effect, inl (record {
-      course = Answered reply effect;
-      takes = subst (TakesCourse psk s a sealed) p.2.1 p.1;
-      outlives = p.2.2;
-      told = ap (λ (i : SessionId). seen.Rests (event_of i reply)) is;
-      steps = refl;
-    }), inl (record { idle = refl; stands = p.2.3 }))
+    let effect = p.2.0 in (
+      with_taken psk s a sealed effect,
+      inl (record {
+        course = Answered reply effect;
+        takes = subst (TakesCourse psk s a sealed) p.2.1 p.1;
+        outlives = p.2.2;
+        told = ap (λ (i : SessionId). seen.Rests (event_of i reply)) is;
+        steps = refl;
+      }),
+      inl (record { idle = refl; stands = p.2.3 }),
+    )
 stepped_by psk s a sealed pad old new told.Next id is awaits p =
     let effect = p.2.0 in
     let next = p.2.1 in
-    let inner = p.2.2 in
-    (with_asked psk (with_taken psk s a sealed effect) next inner pad, inl (record {
-      course = GoesOn effect next inner;
-      takes = subst (TakesCourse psk s a sealed) p.2.3 p.1;
-      outlives = p.2.4;
-      told = refl;
-      steps = refl;
-    }), inr (record { ask = next; stands = p.2.5 }))
+    let inner = p.2.2 in (
+      with_asked psk (with_taken psk s a sealed effect) next inner pad,
+      inl (record {
+        course = GoesOn effect next inner;
+        takes = subst (TakesCourse psk s a sealed) p.2.3 p.1;
+        outlives = p.2.4;
+        told = refl;
+        steps = refl;
+      }),
+      inr (record { ask = next; stands = p.2.5 }),
+    )
 
 -- ---- A record for a session that awaits PSK_FINISH_RSP.
 
@@ -141,24 +153,30 @@ session_shows s view is = shown_id s view is
 module _ (psk : List ℕ) (s : Steps) (sealed pad : List ℕ) (id : SessionId) (id_is : id ≡ session_id s) where
   pub finish_opened : (x : ReqSession) → IsJudged psk s sealed None → IsOpen x psk (finished_by psk s sealed)
       → IsStepped psk s AskFinish sealed pad (slot.Live x) (seen.Rests (event.Done (finished.Opened id)))
-  finish_opened x judged stands =
-      (finished_by psk s sealed, inr (record {
-        asks = refl;
-        verdict = None;
-        judged = judged;
-        told = ap (λ (i : SessionId). seen.Rests (event.Done (finished.Opened i))) id_is;
-        steps = refl;
-      }), inl (record { idle = refl; stands = stands }))
+  finish_opened x judged stands = (
+    finished_by psk s sealed,
+    inr (record {
+      asks = refl;
+      verdict = None;
+      judged = judged;
+      told = ap (λ (i : SessionId). seen.Rests (event.Done (finished.Opened i))) id_is;
+      steps = refl;
+    }),
+    inl (record { idle = refl; stands = stands }),
+  )
 
   pub finish_lost : (bad : BadReply) → IsJudged psk s sealed (Some bad) → IsStepped psk s AskFinish sealed pad slot.Empty (seen.Ends (event.Lost id bad))
-  finish_lost bad judged =
-      ([], inr (record {
-        asks = refl;
-        verdict = Some bad;
-        judged = judged;
-        told = ap (λ (i : SessionId). seen.Ends (event.Lost i bad)) id_is;
-        steps = refl;
-      }), refl)
+  finish_lost bad judged = (
+    [],
+    inr (record {
+      asks = refl;
+      verdict = Some bad;
+      judged = judged;
+      told = ap (λ (i : SessionId). seen.Ends (event.Lost i bad)) id_is;
+      steps = refl;
+    }),
+    refl,
+  )
 
 pub finish_stays : (psk : List ℕ) (s : Steps) (sealed pad : List ℕ) (old new : Finishing) (cause : RecordFault) → answer_fault psk s AskFinish sealed ≡ Some cause → new ≡ old → IsFinishing old psk s
     → IsStepped psk s AskFinish sealed pad (slot.Finishing new) (seen.Ignored cause)

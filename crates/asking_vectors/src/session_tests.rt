@@ -8,8 +8,12 @@ use std::process::Abort;
 use std::test::Fail;
 
 // PSK_EXCHANGE under the pre-shared key "1234567890123456", and its answer, in hexadecimal.
-const EXCHANGE: &str = "12e6000001000100200000007164eb37f3486e56a0ec73452bc8c3257db4ee0e51add31ff60000000000000000";
-const ANSWER: &str = "12661e00010000002000000022e63c38fed4ab1af9bbbb8bed806961f05f0b955765fd9900000000000000002391e8312a48f5c3804021241deac75ac7480b3ca72f2b89a102a5aaf8165108";
+const EXCHANGE: &str =
+    "12e6000001000100200000007164eb37f3486e56a0ec73452bc8c3257db4ee0e51add31ff60000000000000000";
+
+const ANSWER: &str =
+    "12661e00010000002000000022e63c38fed4ab1af9bbbb8bed806961f05f0b955765fd9900000000000000002391e8312a48f5c3804021241deac75ac7480b3ca72f2b89a102a5aaf8165108";
+
 const CONTEXT: &str = "64eb37f3486e56a0ec73452bc8c3257db4ee0e51add31ff60000000000000000";
 
 const ID: SessionId = SessionId { req: 1, rsp: 1 };
@@ -100,13 +104,19 @@ fn session_from_first_to_last(rt: HostRuntime) -> Result<(), Fail> {
     let mut out = Frame::new();
     let mut talk = connected(&rt, &mut out)?;
     let mut sessions = Sessions::new();
-    assert_eq!(rt; sessions.ask(1, Ask::Beat, &[]), Err(CommandFault::NoSuchSession));
+    assert_eq!(rt;
+        sessions.ask(1, Ask::Beat, &[]),
+        Err(CommandFault::NoSuchSession)
+    );
     let free = FreeValues {
         id: 1,
         context: context.as_slice(),
         opaque: &[],
     };
-    assert_eq!(rt; talk.open(&setup, sessions.count(), 0, &free, &mut out), Ok(3));
+    assert_eq!(rt;
+        talk.open(&setup, sessions.count(), 0, &free, &mut out),
+        Ok(3)
+    );
     expect_bytes(&rt, out.as_slice(), EXCHANGE)?;
     sessions.open(&talk, &psk, 1, 0);
     assert!(rt; sessions.count() == 1 && sessions.free_id() == 2);

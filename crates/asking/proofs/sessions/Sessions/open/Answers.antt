@@ -21,6 +21,6 @@ returns c = λ q h f d sent key its adds told stands.
     let request = c.request.ensures.value ∙ ap (λ (s : Seen). s.outgoing.request) c.talk.view_is ∙ open_request c.args.talk.now q h f d sent summary adds told.shows in
     let terms : SessionTerms = record { choice = c.choice.result; common = c.common.result.now; summary = not (summary == 0); req_id = c.args.id } in
     let are = open_terms q h f summary c.args.id terms its c.requires.most (c.choice.ensures later told.shows) (c.common.ensures later told.shows) refl refl in
-    let begins = c.start.ensures.stands n (c.vca.ensures later told.shows) (subst (λ (e : List ℕ). AreTermsOf terms n e) (sym request) are) in
-    let stands_for = subst (λ (k : List ℕ). opening.StandsFor c.start.result k n x) (sym key) (subst (λ (e : List ℕ). opening.StandsFor c.start.result c.args.psk.now n e) request begins) in
-    opens c.args.self.now c.put.new.self q h f d sent summary c.args.id c.start.result its adds stands stands_for c.put.ensures.own c.put.ensures.others c.put.ensures.id
+    let begins = c.start-state.ensures.stands n (c.vca.ensures later told.shows) (subst (λ (e : List ℕ). AreTermsOf terms n e) (sym request) are) in
+    let stands_for = subst (λ (k : List ℕ). opening.StandsFor c.start-state.result k n x) (sym key) (subst (λ (e : List ℕ). opening.StandsFor c.start-state.result c.args.psk.now n e) request begins) in
+    opens c.args.self.now c.put.new.self q h f d sent summary c.args.id c.start-state.result its adds stands stands_for c.put.ensures.own c.put.ensures.others c.put.ensures.id
