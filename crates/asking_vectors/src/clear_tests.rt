@@ -6,10 +6,10 @@ use spdm_grammar::{ChunkFault, CommandFault, Event, Finished, ReqIgnored};
 use std::test::Fail;
 
 // The body of an answer, what comes of it, and the message that was sent last, in hexadecimal.
-type Turn = (&'static str, Heard, &'static str);
+pub type Turn = (&'static str, Heard, &'static str);
 
 // A negotiation in whole messages.
-const WHOLE: [Turn; 4] = [
+pub const WHOLE: [Turn; 4] = [
     (
         "05120400000001",
         Heard::Ignored(ReqIgnored::Malformed(1)),

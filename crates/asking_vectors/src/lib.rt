@@ -5,6 +5,8 @@
 #[cfg(test)]
 mod clear_tests;
 #[cfg(test)]
+mod record_tests;
+#[cfg(test)]
 mod session_tests;
 #[cfg(test)]
 mod support;
