@@ -3,7 +3,7 @@ use Rattle.std.proofs.Common.{refl, ◌≡◌, ◌≢◌, ◌∙◌, ℕ, List, 
 use Rattle.std.specs.Prelude.{⊤, ◌==◌, nat_lt, if◌then◌else◌, length, Ok, Err}
 use Rattle.std.proofs.lemmas.Bool.{false≢true}
 use Rattle.asking.proofs.SessionsAsked.{is_other, of_each}
-use Rattle.asking.proofs.SessionsBegun.{at_begun, clear_orders, clear_steps, sent_by_size}
+use Rattle.asking.proofs.SessionsBegun.{at_begun, clear_orders, clear_steps}
 use Rattle.asking.specs.SessionSteps.{ClearPasses, IsRefusedBy, MeasurePasses, is_apart}
 use Rattle.asking.specs.Sessions.{IsNamed, StandsFor, session_begun, session_for, slot_of}
 use Rattle.asking.specs.Slot.{IsSlotOf}
@@ -32,6 +32,7 @@ use Rattle.requester_machine.specs.Setup.{ReqSetup}
 use Rattle.spdm_grammar.specs.Message.{ExchangeMessage, RequestMessage}
 use Rattle.spdm_grammar.specs.Message.RequestMessage.{GetMeasurements, NegotiateAlgorithms, PskExchange}
 use Rattle.spdm_machine.specs.Keys.{Draw}
+use Rattle.requester_machine.proofs.MadeOrder.{sent_by_size}
 
 -- ---- What a message leads to that is apart from the sessions.
 

@@ -11,7 +11,7 @@ use Rattle.asking.specs.SlotSteps.{IsAskedOf, fault_in}
 use Rattle.asking.specs.declared.sessions.Sessions.{Sessions}
 use Rattle.asking.specs.declared.slot.Slot.{Slot}
 use Rattle.asking.specs.declared.slot.Slot.TheVariants as slot
-use Rattle.psk_session.proofs.AskCommands.{ask_is_command}
+use Rattle.psk_session.proofs.AskCommands.{ask_is_command, made, sent_for}
 use Rattle.psk_session.specs.AskLaws.{LeadsBy, command_at, command_fault_of}
 use Rattle.psk_session.specs.Asking.{ask_fault, asked, asked_of, inner_for, is_long}
 use Rattle.psk_session.specs.declared.ask.Ask.{Ask}
@@ -117,18 +117,6 @@ pub is_other : (id i : ℕ) → i ≢ id → (id == i) ≡ false
 is_other id i ne = other_way id i (id == i) refl ne
 
 -- ---- What is asked of a session.
-
-sent_for : (q : ReqSetup) (h : History) (f : Free) (id : ℕ) (a : Ask) → Sent
-sent_for q h f id a = asked_sent q h f id (asked_of a) (inner_for (session_of id h) a)
-
-made : (q : ReqSetup) (h : History) (f : Free) (d : Draw) (id : ℕ) (a : Ask) → done q h (command_at id a) f d ≡ Adds (Told (command_at id a) (sent_for q h f id a) d)
-unfolding sent_for
-made q h f d id (Data bytes) = refl
-made q h f d id Beat = refl
-made q h f d id UpdateKey = refl
-made q h f d id UpdateAll = refl
-made q h f d id (Measure op) = refl
-made q h f d id End = refl
 
 asked_open : (a : Ask) → stage.Open ≡ stage_for (asked_of a)
 asked_open (Data bytes) = refl

@@ -30,7 +30,7 @@ use Rattle.requester_machine.proofs.FewMade.{waits_clear}
 use Rattle.requester_machine.proofs.Holds.{awaited}
 use Rattle.requester_machine.proofs.HoldsClear.{clear_holds}
 use Rattle.requester_machine.proofs.HoldsTold.{told_holds, told_sent}
-use Rattle.requester_machine.proofs.MadeOrder.{rests}
+use Rattle.requester_machine.proofs.MadeOrder.{rests, begun-good, sent_by_size}
 use Rattle.requester_machine.proofs.Steps.{Good, either_good}
 use Rattle.requester_machine.specs.Answers.{answer_verify, exchange_led, goes_on, with_answer}
 use Rattle.requester_machine.specs.Asking.{asks}
@@ -187,20 +187,6 @@ module _ (q : ReqSetup) (h : History) (f : Free) (tag : ℕ) (d : Draw) (sent : 
 -- ---- PSK_EXCHANGE.
 
 -- A property of a request that is sent, whole or by chunks.
-pub sent_by_size : (P : Sent → Type 0) (common : Common) (h : History) (asked : RequestMessage) → P (piece_sent common h asked (next_handle h) 0) → P (plain_sent h asked) → P (request_sent common h asked)
-sent_by_size P common h asked a c = by_size (nat_lt common.to_responder.transfer (length (canonical_request asked)))
-  where
-    by_size : (b : Bool) → P (if b then piece_sent common h asked (next_handle h) 0 else plain_sent h asked)
-    by_size true = a
-    by_size false = c
-
-open_good : (h : History) (q : ReqSetup) (f : Free) (id summary : ℕ) (common : Common) → Good Rests (session_of id h)
-    → Good (waits_aim id ((request_sent common h (exchange_for q f summary)).aim)) (begun id (negotiation_of h) (asked_in ((request_sent common h (exchange_for q f summary)).aim)) (session_of id h))
-open_good h q f id summary common good =
-    sent_by_size (λ sent. Good (waits_aim id sent.aim) (begun id (negotiation_of h) (asked_in sent.aim) (session_of id h))) common h (exchange_for q f summary)
-    (either_good (f.id == id) ForExchange Rests _ (session_of id h) (refl, refl) good)
-    (either_good (f.id == id) ForExchange Rests _ (session_of id h) (refl, refl) good)
-
 open_steps : (h : History) (summary : ℕ) (sent : Sent) (d : Draw) (i : ℕ) → session_of i (Told (Open summary) sent d ∷ h) ≡ begun i (negotiation_of h) (asked_in sent.aim) (session_of i h)
 unfolding session_of
 open_steps h summary sent d i = refl
@@ -226,7 +212,7 @@ opens old new q h f d sent summary id state its adds stands begins own others na
     record {
       holds = told_holds q h (Open summary) f d sent is.0 is.1 stands.holds;
       orders = λ i.
-          let good = open_good h q f i summary common (rests Good q h i (Open summary) f is.0 refl ((stands.orders i).ordered, (stands.orders i).fits)) in
+          let good = begun-good h q f i summary common (rests Good q h i (Open summary) f is.0 refl ((stands.orders i).ordered, (stands.orders i).fits)) in
           let now = subst (λ (x : Sent). Good (waits_aim i x.aim) (begun i (negotiation_of h) (asked_in x.aim) (session_of i h))) same good in
           record { ordered = subst IsOrdered (sym (open_steps h summary sent d i)) now.0; fits = subst (FitsWaits (waits_aim i sent.aim)) (sym (open_steps h summary sent d i)) now.1 };
       slots = of_each (λ i. IsSlotOf (slot_of new i) q.psk (session_of i (Told (Open summary) sent d ∷ h))) id

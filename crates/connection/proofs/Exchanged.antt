@@ -5,7 +5,7 @@ use Rattle.std.proofs.lemmas.Bool.Decides.{nat_tests}
 use Rattle.std.proofs.lemmas.List.{length-append}
 use Rattle.std.specs.Prelude.{◌==◌, ◌&&◌, ◌||◌, IfSome, if◌then◌else◌, is_some, not, unwrap_or}
 use Rattle.connection.proofs.Chunked.{last_turn}
-use Rattle.connection.proofs.Passing.{settled_at}
+use Rattle.connection.proofs.Passing.{settled_at, not_long}
 use Rattle.connection.proofs.Table.{phase_allowed}
 use Rattle.connection.proofs.Taken.{effect_is}
 use Rattle.connection.specs.Beginning.{IsBeginningAt}
@@ -101,11 +101,6 @@ exchange_known Fresh common pending settled allowed = absurd (false≢true allow
 exchange_known Versioned common pending settled allowed = absurd (false≢true allowed)
 exchange_known Capable common pending settled allowed = absurd (false≢true allowed)
 exchange_known Negotiated common pending settled allowed = (refl, settled)
-
-not_long : (a b c : Bool) → a ≡ true → (a && (b || c)) ≡ false → b ≡ false
-not_long true true c known h = absurd (false≢true (sym h))
-not_long true false c known h = refl
-not_long false b c known h = absurd (false≢true known)
 
 pub exchange_fits : (r : RspSetup) (p : Place) (m : List ℕ) (f : Free) (asked : ExchangeMessage) → IsClear p.at → IsSettledAt p → refused_form r p m ≡ None → request_at p m ≡ Some (PskExchange asked) → refusal r p m f ≡ None
     → length (answer_bytes r p m f) ≤ MAX_MESSAGE_SIZE

@@ -34,6 +34,7 @@ use Rattle.spdm_grammar.specs.declared.heard.Heard.{Heard}
 use Rattle.spdm_grammar.specs.declared.heard.Heard.TheVariants as heard
 use Rattle.spdm_machine.specs.Bodies.{clear_body, record_body}
 use Rattle.spdm_machine.specs.Keys.{Draw}
+use Rattle.responder_machine.proofs.Turns.{carried-refused, either-refused}
 
 same_body : (a b : List ℕ) (n : ℕ) → n ∷ a ≡ n ∷ b → a ≡ b
 same_body a b n is = ap (λ (l : List ℕ). drop 1 l) is
@@ -83,19 +84,11 @@ not_unopened t id None is = false≢true (sym (ap is_unopened is ∙ taken_opene
 record IsRefused (r : RspSetup) (p : Place) (f : Free) (e : ErrorCode) (t : Turn) : Type 0 where
   sent : t.reply ≡ error_bytes r p t.message f e
 
-either_kept : (b : Bool) (t u : Turn) → t.refused ≡ None → u.refused ≡ None → (if b then t else u).refused ≡ None
-either_kept true t u x y = x
-either_kept false t u x y = y
-
-carried_kept : (r : RspSetup) (p : Place) (m : List ℕ) (f : Free) (c : ChunkMessage) (whole : List ℕ) (x : Option ErrorCode) → (carried_turn r p m f c whole x).refused ≡ None
-carried_kept r p m f c whole (Some e) = refl
-carried_kept r p m f c whole None = refl
-
 by_refusal : (r : RspSetup) (p : Place) (m : List ℕ) (f : Free) (e : ErrorCode) (x : Option ErrorCode) (c : Option ChunkMessage) → (turn_by r p m f x c).refused ≡ Some e → (x ≡ Some e) × IsRefused r p f e (turn_by r p m f x c)
 by_refusal r p m f e (Some g) c is = (is, record { sent = ap (λ (k : ErrorCode). error_bytes r p m f k) (same_Some g e is) })
 by_refusal r p m f e None None is = absurd (none-some e is)
 by_refusal r p m f e None (Some c) is =
-    absurd (none-some e (sym (either_kept c.last (last_chunk_turn r (inside p) m f c (completed_at p c)) (taken_chunk m c NoEffect []) (carried_kept r (inside p) m f c (completed_at p c) (refusal r (inside p) (completed_at p c) f)) refl) ∙ is))
+    absurd (none-some e (sym (either-refused c.last (last_chunk_turn r (inside p) m f c (completed_at p c)) (taken_chunk m c NoEffect []) (carried-refused r (inside p) m f c (completed_at p c) (refusal r (inside p) (completed_at p c) f)) refl) ∙ is))
 
 turn_refused : (r : RspSetup) (p : Place) (m : List ℕ) (f : Free) (e : ErrorCode) → (turn_of r p m f).refused ≡ Some e → (refusal r p m f ≡ Some e) × IsRefused r p f e (turn_of r p m f)
 unfolding turn_of

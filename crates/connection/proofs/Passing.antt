@@ -136,7 +136,7 @@ is_short r p m f (ChunkSend chunk) clear settled form is =
 is_short r p m f _ clear settled form is = tt
 
 -- An answer that is made here, and is not too long, has 4,096 bytes at most.
-not_long : (a b c : Bool) → a ≡ true → (a && (b || c)) ≡ false → b ≡ false
+pub not_long : (a b c : Bool) → a ≡ true → (a && (b || c)) ≡ false → b ≡ false
 not_long true true c known h = absurd (false≢true (sym h))
 not_long true false c known h = refl
 not_long false b c known h = absurd (false≢true known)

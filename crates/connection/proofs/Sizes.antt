@@ -13,8 +13,8 @@ use Rattle.connection.specs.Refused.{IsClear}
 use Rattle.negotiate.specs.Capabilities.{common_of, protects, psk_is, shared, sizes_of}
 use Rattle.negotiate.specs.declared.shared.Common.{Common}
 use Rattle.responder_machine.proofs.Settled.{common_settled}
-use Rattle.responder_machine.proofs.Sizes.{common_sized}
-use Rattle.responder_machine.proofs.Tests.{contents_shown, none_of_both}
+use Rattle.responder_machine.proofs.Sizes.{common_sized, caps_fit, common_has_sizes}
+use Rattle.responder_machine.proofs.Tests.{contents_shown, none_of_both, form_passed}
 use Rattle.responder_machine.specs.Answer.{Free, answer_bytes, request_at}
 use Rattle.responder_machine.specs.Handling.{carried_turn, chunk_in, effect_of, handle_for, last_chunk_turn, taken_chunk, turn_by, turn_of}
 use Rattle.responder_machine.specs.History.{History, clear_turns, negotiation_of, phase_of}
@@ -42,53 +42,12 @@ use Rattle.spdm_machine.specs.Terms.{terms_of}
 
 -- ---- What capabilities settle.
 
-shared_is : (caps told : Caps) (common : Common) → result_ok (common_of caps told) ≡ Some common → shared caps told ≡ common
-shared_is caps told common is =
-    of_chain (nat_lt caps.transfer MIN_DATA_TRANSFER_SIZE || nat_lt told.transfer MIN_DATA_TRANSFER_SIZE) (nat_lt caps.max caps.transfer || nat_lt told.max told.transfer)
-    (not (psk_is PSK_CAP caps.flags && psk_is PSK_CAP_WITH_CONTEXT told.flags)) (not (protects caps.flags && protects told.flags)) is
-  where
-    of_chain : (a b c d : Bool)
-        → result_ok (if a then Err SizeTooSmall else (if b then Err SizesCrossed else (if c then Err NoPsk else (if d then Err NoProtection else Ok (shared caps told))))) ≡ Some common
-        → shared caps told ≡ common
-    of_chain true b c d h = absurd (none-some common h)
-    of_chain false true c d h = absurd (none-some common h)
-    of_chain false false true d h = absurd (none-some common h)
-    of_chain false false false true h = absurd (none-some common h)
-    of_chain false false false false h = same_Some (shared caps told) common h
-
-flag_few : (b : Bool) (n : ℕ) → (if b then n else 0) ≤ n
-flag_few true n = omega arith
-flag_few false n = omega arith
-
-caps_fit : (r : RspSetup) → r.transfer ≤ r.max → r.max ≤ MAX_MESSAGE_SIZE → FitsCaps (responder_caps r)
-caps_fit r ordered most =
-    let measure = flag_few r.flags.measure MEAS_CAP in
-    let heartbeat = flag_few r.flags.heartbeat HBEAT_CAP in
-    let key_update = flag_few r.flags.key_update KEY_UPD_CAP in
-    let chunk = flag_few r.flags.chunk CHUNK_CAP in
-    record { ct = omega arith; flags = omega arith; transfer = omega arith; max = omega arith }
-
-own_sizes : (r : RspSetup) → r.transfer ≤ MAX_MESSAGE_SIZE → r.max ≤ MAX_MESSAGE_SIZE → sizes_of (responder_caps r) ≡ record { transfer = r.transfer; max = r.max }
-own_sizes r transfer max = rw (min-eq_left transfer, min-eq_left max) refl
-
-settled_sizes : (r : RspSetup) (caps : Caps) (common : Common) → r.transfer ≤ r.max → r.max ≤ MAX_MESSAGE_SIZE → result_ok (common_of caps (responder_caps r)) ≡ Some common → HasSizes r common
-settled_sizes r caps common ordered most is =
-    let told = responder_caps r in
-    let same = shared_is caps told common is in
-    let sized = common_sized caps told common is in
-    record {
-      own = ap (λ (c : Common). c.to_responder) (sym same) ∙ own_sizes r (omega arith) most;
-      least = sized.0;
-      crossed = sized.1;
-      most = subst (λ (c : Common). c.to_requester.max ≤ MAX_MESSAGE_SIZE) same (min-le_right caps.max MAX_MESSAGE_SIZE);
-    }
-
 caps_sizes : (r : RspSetup) (p : Place) (m : List ℕ) (f : Free) (caps : Caps) (turns : List Turn) (x : Option Common) → r.transfer ≤ r.max → r.max ≤ MAX_MESSAGE_SIZE
     → request_at p m ≡ Some (GetCapabilities caps) → result_ok (common_of caps (responder_caps r)) ≡ x → is_none x ≡ false
     → HasSizes r (terms_of (record (negotiation_of turns) { get_capabilities = m; capabilities = answer_bytes r p m f })).common
 caps_sizes r p m f caps turns None ordered most is agreed some = absurd (false≢true (sym some))
 caps_sizes r p m f caps turns (Some common) ordered most is agreed some =
-    subst (HasSizes r) (sym (common_settled r p m f caps common (negotiation_of turns) (caps_fit r ordered most) is agreed)) (settled_sizes r caps common ordered most agreed)
+    subst (HasSizes r) (sym (common_settled r p m f caps common (negotiation_of turns) (caps_fit r (omega (arith, ordered, most)) (omega (arith, most))) is agreed)) (common_has_sizes r caps common (omega (arith, ordered, most)) most agreed)
 
 -- ---- What a request leaves of them.
 
@@ -97,10 +56,6 @@ offer_knows Fresh pending h = absurd (false≢true h)
 offer_knows Versioned pending h = absurd (false≢true h)
 offer_knows Capable pending h = refl
 offer_knows Negotiated pending h = refl
-
-pub form_passed : (r : RspSetup) (p : Place) (m : List ℕ) (f : Free) → refusal r p m f ≡ None → refused_form r p m ≡ None
-unfolding refusal
-form_passed r p m f taken = (none_of_both (refused_form r p m) (refused_contents r p m f) taken).0
 
 -- A turn of this effect.
 abbrev turn_with : Turn → Effect → Turn

@@ -66,10 +66,10 @@ faults q h f id (Measure op) o n l =
 faults q h f id End o n l =
     tests (is_some (outstanding h)) (not (is_negotiated (phase_of h))) (not (is_live (session_of id h))) (lacks (session_terms (session_of id h)) (command_at id End)) (is_spent (session_of id h) (command_at id End)) false (idle h o) (ap not n) (ap not l)
 
-sent_for : (q : ReqSetup) (h : History) (f : Free) (id : ℕ) (a : Ask) → Sent
+pub sent_for : (q : ReqSetup) (h : History) (f : Free) (id : ℕ) (a : Ask) → Sent
 sent_for q h f id a = asked_sent q h f id (asked_of a) (inner_for (session_of id h) a)
 
-made : (q : ReqSetup) (h : History) (f : Free) (d : Draw) (id : ℕ) (a : Ask) → done q h (command_at id a) f d ≡ Adds (Told (command_at id a) (sent_for q h f id a) d)
+pub made : (q : ReqSetup) (h : History) (f : Free) (d : Draw) (id : ℕ) (a : Ask) → done q h (command_at id a) f d ≡ Adds (Told (command_at id a) (sent_for q h f id a) d)
 unfolding sent_for
 made q h f d id (Data bytes) = refl
 made q h f d id Beat = refl

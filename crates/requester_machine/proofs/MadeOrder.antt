@@ -106,14 +106,14 @@ rests P q h id command f none needs good =
     subst (λ w. P w (session_of id h)) (nothing_waits id (outstanding h) (and_rest (needs_connection command) (is_some (outstanding h)) (test_is_false false q h command f none 1) needs)) good
 
 -- A property of a request that is sent, whole or by chunks.
-sent_by_size : (P : Sent → Type 0) (common : Common) (h : History) (asked : RequestMessage) → P (piece_sent common h asked (next_handle h) 0) → P (plain_sent h asked) → P (request_sent common h asked)
+pub sent_by_size : (P : Sent → Type 0) (common : Common) (h : History) (asked : RequestMessage) → P (piece_sent common h asked (next_handle h) 0) → P (plain_sent h asked) → P (request_sent common h asked)
 sent_by_size P common h asked a c = by_size (nat_lt common.to_responder.transfer (length (canonical_request asked)))
   where
     by_size : (b : Bool) → P (if b then piece_sent common h asked (next_handle h) 0 else plain_sent h asked)
     by_size true = a
     by_size false = c
 
-begun-good : (h : History) (q : ReqSetup) (f : Free) (id summary : ℕ) (common : Common) → Good Rests (session_of id h)
+pub begun-good : (h : History) (q : ReqSetup) (f : Free) (id summary : ℕ) (common : Common) → Good Rests (session_of id h)
     → Good (waits_aim id ((request_sent common h (exchange_for q f summary)).aim)) (begun id (negotiation_of h) (asked_in ((request_sent common h (exchange_for q f summary)).aim)) (session_of id h))
 begun-good h q f id summary common good =
     sent_by_size (λ sent. Good (waits_aim id sent.aim) (begun id (negotiation_of h) (asked_in sent.aim) (session_of id h))) common h (exchange_for q f summary)

@@ -62,7 +62,7 @@ flag_most true n = omega arith
 flag_most false n = omega arith
 
 -- Capabilities that fit, where their sizes do.
-caps_fit : (r : RspSetup) → r.transfer < 2 ^ 32 → r.max < 2 ^ 32 → FitsCaps (responder_caps r)
+pub caps_fit : (r : RspSetup) → r.transfer < 2 ^ 32 → r.max < 2 ^ 32 → FitsCaps (responder_caps r)
 caps_fit r transfer max =
     let measure = flag_most r.flags.measure MEAS_CAP in
     let heartbeat = flag_most r.flags.heartbeat HBEAT_CAP in
@@ -73,7 +73,7 @@ caps_fit r transfer max =
 sizes_kept : (r : RspSetup) → r.transfer ≤ MAX_MESSAGE_SIZE → r.max ≤ MAX_MESSAGE_SIZE → sizes_of (responder_caps r) ≡ record { transfer = r.transfer; max = r.max }
 sizes_kept r transfer max = rw (min-eq_left transfer, min-eq_left max) refl
 
-common_has_sizes : (r : RspSetup) (caps : Caps) (common : Common) → r.transfer ≤ MAX_MESSAGE_SIZE → r.max ≤ MAX_MESSAGE_SIZE → result_ok (common_of caps (responder_caps r)) ≡ Some common → HasSizes r common
+pub common_has_sizes : (r : RspSetup) (caps : Caps) (common : Common) → r.transfer ≤ MAX_MESSAGE_SIZE → r.max ≤ MAX_MESSAGE_SIZE → result_ok (common_of caps (responder_caps r)) ≡ Some common → HasSizes r common
 common_has_sizes r caps common transfer max is =
     let told = responder_caps r in
     let passed = both_passed (nat_lt caps.transfer MIN_DATA_TRANSFER_SIZE || nat_lt told.transfer MIN_DATA_TRANSFER_SIZE) (nat_lt caps.max caps.transfer || nat_lt told.max told.transfer) (not (psk_is PSK_CAP caps.flags && psk_is PSK_CAP_WITH_CONTEXT told.flags)) (not (protects caps.flags && protects told.flags)) (shared caps told) common is in

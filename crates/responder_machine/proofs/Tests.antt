@@ -30,6 +30,11 @@ pub none_of_both : (a b : Option ErrorCode) → option_or a b ≡ None → (a �
 none_of_both (Some e) b h = absurd (none-some e (sym h))
 none_of_both None b h = (refl, h)
 
+-- A message that is not refused is not refused for its form.
+pub form_passed : (r : RspSetup) (p : Place) (m : List ℕ) (f : Free) → refusal r p m f ≡ None → refused_form r p m ≡ None
+unfolding refusal
+form_passed r p m f taken = (none_of_both (refused_form r p m) (refused_contents r p m f) taken).0
+
 pub form_shown : (r : RspSetup) (p : Place) (m : List ℕ) (f : Free) → refusal r p m f ≡ None → (n : ℕ) → test_at n (tests_of_form r p m) ≡ false
 unfolding refusal refused_form
 form_shown r p m f h n = tests_are_false (tests_of_form r p m) (none_of_both (refused_form r p m) (refused_contents r p m f) h).0 n

@@ -41,11 +41,11 @@ turn_of-chunk r p m f c taken is =
     ∙ ap (λ (q : Option RequestMessage). turn_by r p m f None (chunk_in q)) is
 
 -- A taken chunk is not refused, whatever it carries.
-carried-refused : (r : RspSetup) (p : Place) (m : List ℕ) (f : Free) (c : ChunkMessage) (whole : List ℕ) (x : Option ErrorCode) → (carried_turn r p m f c whole x).refused ≡ None
+pub carried-refused : (r : RspSetup) (p : Place) (m : List ℕ) (f : Free) (c : ChunkMessage) (whole : List ℕ) (x : Option ErrorCode) → (carried_turn r p m f c whole x).refused ≡ None
 carried-refused r p m f c whole (Some e) = refl
 carried-refused r p m f c whole None = refl
 
-either-refused : (b : Bool) (t u : Turn) → t.refused ≡ None → u.refused ≡ None → (if b then t else u).refused ≡ None
+pub either-refused : (b : Bool) (t u : Turn) → t.refused ≡ None → u.refused ≡ None → (if b then t else u).refused ≡ None
 either-refused true t u x y = x
 either-refused false t u x y = y
 

@@ -36,6 +36,7 @@ use Rattle.spdm_agreement.proofs.Messages.RequestCodes.{code_read}
 use Rattle.spdm_agreement.proofs.Responder.OpenSessions.{EndsByFinish, IsSteady}
 use Rattle.spdm_grammar.specs.declared.names.request_code.TheConstants.{GET_VERSION, CHUNK_SEND, GET_CAPABILITIES, NEGOTIATE_ALGORITHMS, PSK_EXCHANGE, PSK_FINISH}
 use Rattle.std.proofs.lemmas.Bool.{not-false}
+use Rattle.responder_machine.proofs.Tests.{form_passed}
 
 -- ---- What was not refused for its form.
 
@@ -69,14 +70,6 @@ Takes r s m effect =
     ((code_in effect ≡ 0) × (asked_in effect ≡ None))
     ⊎ ((v : RequestMessage) × (request_at (session_place s) m ≡ Some v) × (refused_form r (session_place s) m ≡ None) × ((code_in effect ≡ code_for v) ⊎ (code_for v ≡ CHUNK_SEND)))
 
-or_none : (a b : Option ErrorCode) → option_or a b ≡ None → a ≡ None
-or_none None b e = refl
-or_none (Some x) b e = absurd (cc)
-
-pub form_of : (r : RspSetup) (p : Place) (m : List ℕ) (f : Free) → refusal r p m f ≡ None → refused_form r p m ≡ None
-unfolding refusal
-form_of r p m f e = or_none (refused_form r p m) (refused_contents r p m f) e
-
 takes_plain : (r : RspSetup) (s : Events) (m : List ℕ) (f : Free) (o : Option RequestMessage) → request_at (session_place s) m ≡ o → refused_form r (session_place s) m ≡ None
     → Takes r s m (effect_of o m (answer_bytes r (session_place s) m f) (handle_for (session_place s) f (answer_bytes r (session_place s) m f)))
 takes_plain r s m f None is form = inl (refl, refl)
@@ -84,9 +77,9 @@ takes_plain r s m f (Some v) is form = inr (v, is, form, inl refl)
 
 takes_by : (r : RspSetup) (s : Events) (m : List ℕ) (f : Free) (o : Option ErrorCode) (v : Option RequestMessage) → refusal r (session_place s) m f ≡ o → request_at (session_place s) m ≡ v → Takes r s m (turn_by r (session_place s) m f o (chunk_in v)).effect
 takes_by r s m f (Some e) v refused is = inl (refl, refl)
-takes_by r s m f None None refused is = takes_plain r s m f (request_at (session_place s) m) refl (form_of r (session_place s) m f refused)
-takes_by r s m f None (Some (ChunkSend c)) refused is = inr (ChunkSend c, is, form_of r (session_place s) m f refused, inr refl)
-takes_by r s m f None (Some v) refused is = takes_plain r s m f (request_at (session_place s) m) refl (form_of r (session_place s) m f refused)
+takes_by r s m f None None refused is = takes_plain r s m f (request_at (session_place s) m) refl (form_passed r (session_place s) m f refused)
+takes_by r s m f None (Some (ChunkSend c)) refused is = inr (ChunkSend c, is, form_passed r (session_place s) m f refused, inr refl)
+takes_by r s m f None (Some v) refused is = takes_plain r s m f (request_at (session_place s) m) refl (form_passed r (session_place s) m f refused)
 
 takes_turn : (r : RspSetup) (s : Events) (m : List ℕ) (f : Free) → Takes r s m (turn_of r (session_place s) m f).effect
 unfolding turn_of

@@ -19,8 +19,9 @@ use Rattle.responder_machine.specs.Turn.{Turn}
 use Rattle.spdm_grammar.specs.Codes.{code_for}
 use Rattle.responder_machine.specs.Turn.Effect.{Took}
 use Rattle.spdm_agreement.proofs.Messages.RequestCodes.{code_read}
-use Rattle.spdm_agreement.proofs.Responder.FinishPlace.{form_of, sound_form}
+use Rattle.spdm_agreement.proofs.Responder.FinishPlace.{sound_form}
 use Rattle.spdm_grammar.specs.declared.names.request_code.TheConstants.{GET_VERSION, CHUNK_SEND, GET_CAPABILITIES, NEGOTIATE_ALGORITHMS, PSK_EXCHANGE}
+use Rattle.responder_machine.proofs.Tests.{form_passed}
 
 -- Application data is taken.
 pub record TakesData (s : Events) (inner : List ℕ) (f : Free) (t : Turn) : Type 0 where
@@ -90,7 +91,7 @@ spelled_by r s inner f (Some v) typed is form =
 refused_by : (r : RspSetup) (s : Events) (inner : List ℕ) (f : Free) (o : Option ErrorCode) → (slice_index inner 0 == 5) ≡ true → refusal r (session_place s) (drop 1 inner) f ≡ o
     → TurnIs r s inner f (turn_by r (session_place s) (drop 1 inner) f o (chunk_in (request_at (session_place s) (drop 1 inner))))
 refused_by r s inner f (Some e) typed is = inl (record { error = e; is = refl })
-refused_by r s inner f None typed is = spelled_by r s inner f (request_at (session_place s) (drop 1 inner)) typed refl (form_of r (session_place s) (drop 1 inner) f is)
+refused_by r s inner f None typed is = spelled_by r s inner f (request_at (session_place s) (drop 1 inner)) typed refl (form_passed r (session_place s) (drop 1 inner) f is)
 
 typed_by : (r : RspSetup) (s : Events) (inner : List ℕ) (f : Free) (b : Bool) → (slice_index inner 0 == 5) ≡ b → inner_refusal (stage_of s) inner ≡ None
     → TurnIs r s inner f (cond b (turn_of r (session_place s) (drop 1 inner) f) (data_turn f (drop 1 inner)))
