@@ -69,7 +69,8 @@ impl Report {
 
 // What is written of a bad line.
 fn bad_text(alloc: Global, line: u32, name: &str, help: &str) -> Result<String, AllocError>
-    ensures { IfOk result (λ text. string_bytes text ≡ codes "line " ++ decimal line ++ codes ": " ++ name.now ++ 10 ∷ [] ++ help.now ++ 10 ∷ []) }
+    ensures { IfOk result (λ text. string_bytes text ≡ codes "line " ++ decimal line
+        ++ codes ": " ++ name.now ++ 10 ∷ [] ++ help.now ++ 10 ∷ []) }
 {
     let mut text = String::from_str(alloc, "line ")?;
     text.push_str(line.to_string(alloc)?.as_str())?;
