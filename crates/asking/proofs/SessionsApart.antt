@@ -1,6 +1,6 @@
 -- Messages in the clear that touch no session, or that refuse PSK_EXCHANGE.
-use Rattle.std.proofs.Common.{refl, ◌≡◌, ◌≢◌, ◌∙◌, ℕ, List, [], ◌∷◌, true, false, Bool, Option, Some, None, ap, sym, subst, eq-eqb}
-use Rattle.std.specs.Prelude.{⊤, ◌==◌, nat_lt, if◌then◌else◌, length, Ok, Err}
+use Rattle.std.proofs.Common.{refl, ◌≡◌, ◌≢◌, ◌∙◌, ℕ, List, [], ◌∷◌, true, false, Option, Some, None, ap, sym, subst, eq-eqb}
+use Rattle.std.specs.Prelude.{◌==◌}
 use Rattle.std.proofs.lemmas.Bool.{false≢true}
 use Rattle.asking.proofs.SessionsAsked.{is_other, of_each}
 use Rattle.asking.proofs.SessionsBegun.{at_begun, clear_orders, clear_steps}
@@ -19,12 +19,12 @@ use Rattle.requester_machine.proofs.MadeOrder.{rests}
 use Rattle.requester_machine.proofs.Steps.{Good}
 use Rattle.requester_machine.specs.Answers.{is_refused}
 use Rattle.requester_machine.specs.Commands.{Free}
-use Rattle.requester_machine.specs.History.{Effect, History, Led, connection_terms, outstanding}
-use Rattle.requester_machine.specs.History.Effect.{Answers, Refuses}
+use Rattle.requester_machine.specs.History.{History, Led, connection_terms, outstanding}
+use Rattle.requester_machine.specs.History.Effect.{Refuses}
 use Rattle.requester_machine.specs.History.Entry.{Told, TookClear}
 use Rattle.requester_machine.specs.Message.{Aim, Sent, asked_in}
 use Rattle.requester_machine.specs.Message.Command.{Measure}
-use Rattle.requester_machine.specs.Order.{FitsWaits, IsInOrder, IsOrdered, waits_aim}
+use Rattle.requester_machine.specs.Order.{FitsWaits, IsOrdered, waits_aim}
 use Rattle.requester_machine.specs.Order.Waits.{Rests}
 use Rattle.requester_machine.specs.Sending.{request_sent}
 use Rattle.requester_machine.specs.Session.{Steps, after_clear, session_of, with_sent}

@@ -1,6 +1,6 @@
 -- Sessions that begin at a requester.
-use Rattle.std.proofs.Common.{refl, ◌≡◌, ◌≢◌, ◌∙◌, ◌≤◌, ℕ, List, [], ◌∷◌, true, false, Bool, Option, Some, None, ap, sym, subst, eq-eqb, arith}
-use Rattle.std.specs.Prelude.{⊤, ◌==◌, not, nat_lt, if◌then◌else◌, length, Result, Ok, Err, bytes_eq}
+use Rattle.std.proofs.Common.{refl, ◌≡◌, ◌≢◌, ◌∙◌, ◌≤◌, ℕ, List, ◌∷◌, true, false, Bool, Option, Some, ap, sym, subst, eq-eqb, arith}
+use Rattle.std.specs.Prelude.{◌==◌, not, if◌then◌else◌, Result, Ok, Err, bytes_eq}
 use Rattle.std.proofs.lemmas.Option.{none-some, same_Some}
 use Rattle.asking.proofs.SessionsAsked.{is_other, of_each}
 use Rattle.asking.proofs.SessionsRecorded.{unchanged}
@@ -14,7 +14,6 @@ use Rattle.asking.specs.declared.sessions.Sessions.{Sessions}
 use Rattle.asking.specs.declared.slot.Slot.{Slot}
 use Rattle.asking.specs.declared.slot.Slot.TheVariants as slot
 use Rattle.asking.specs.Talk as talk
-use Rattle.negotiate.specs.declared.shared.Common.{Common}
 use Rattle.psk_session.proofs.Entries.{opening_is_answer}
 use Rattle.psk_session.specs.Opening as opening
 use Rattle.psk_session.specs.Opening.{accepted, finishing, open_fault, started}
@@ -30,15 +29,15 @@ use Rattle.requester_machine.proofs.FewMade.{waits_clear}
 use Rattle.requester_machine.proofs.Holds.{awaited}
 use Rattle.requester_machine.proofs.HoldsClear.{clear_holds}
 use Rattle.requester_machine.proofs.HoldsTold.{told_holds, told_sent}
-use Rattle.requester_machine.proofs.MadeOrder.{rests, begun-good, sent_by_size}
-use Rattle.requester_machine.proofs.Steps.{Good, either_good}
+use Rattle.requester_machine.proofs.MadeOrder.{rests, begun-good}
+use Rattle.requester_machine.proofs.Steps.{Good}
 use Rattle.requester_machine.specs.Answers.{answer_verify, exchange_led, goes_on, with_answer}
 use Rattle.requester_machine.specs.Asking.{asks}
 use Rattle.requester_machine.specs.Asking.Outcome.{Adds}
 use Rattle.requester_machine.specs.ClearAnswers.{carried_by, clear_led, read_led, reading_of}
 use Rattle.requester_machine.specs.ClearAnswers.Carried.{Whole}
 use Rattle.requester_machine.specs.Commands.{Free, exchange_for}
-use Rattle.requester_machine.specs.History.{History, Led, connection_terms, negotiation_of, next_handle, outstanding}
+use Rattle.requester_machine.specs.History.{History, Led, connection_terms, negotiation_of, outstanding}
 use Rattle.requester_machine.specs.History.Effect.{Answers}
 use Rattle.requester_machine.specs.History.Entry.{Told, TookClear}
 use Rattle.requester_machine.specs.Holds.{Waits}
@@ -48,14 +47,11 @@ use Rattle.requester_machine.specs.Message.Command.{Open}
 use Rattle.requester_machine.specs.Order.{FitsWaits, IsInOrder, IsOrdered, waits_aim, waits_asked, waits_for}
 use Rattle.requester_machine.specs.Order as order
 use Rattle.requester_machine.specs.Order.Waits.{ForExchange, Rests}
-use Rattle.requester_machine.specs.Sending.{finish_sent, piece_sent, plain_sent, request_sent}
-use Rattle.requester_machine.specs.Session.{Steps, after_clear, begun, session_of, when_live, with_sent}
-use Rattle.requester_machine.specs.Session.Step.{Accepted, Started}
+use Rattle.requester_machine.specs.Sending.{finish_sent, request_sent}
+use Rattle.requester_machine.specs.Session.{Steps, after_clear, begun, session_of, with_sent}
 use Rattle.requester_machine.specs.Setup.{ReqSetup}
-use Rattle.requester_machine.specs.UnderWay.{IsOutstanding}
 use Rattle.spdm_grammar.specs.Message.{ExchangeMessage, RequestMessage, ResponseMessage}
 use Rattle.spdm_grammar.specs.Message.RequestMessage.{PskExchange}
-use Rattle.spdm_grammar.specs.Message.ResponseMessage.{PskExchangeRsp}
 use Rattle.spdm_grammar.specs.Requests.{canonical_request}
 use Rattle.spdm_grammar.specs.declared.event.ReqIgnored.{ReqIgnored}
 use Rattle.spdm_grammar.specs.declared.event.ReqIgnored.TheVariants as ignored

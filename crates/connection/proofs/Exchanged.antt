@@ -1,9 +1,9 @@
 -- A PSK_EXCHANGE that begins a session, in the clear or by chunks.
-use Rattle.std.proofs.Common.{refl, ◌∙◌, ◌≡◌, ◌≤◌, ℕ, List, [], true, false, Bool, Option, Some, None, length, ap, sym, subst, arith}
+use Rattle.std.proofs.Common.{refl, ◌∙◌, ◌≡◌, ◌≤◌, ℕ, List, [], true, Bool, Option, Some, None, length, ap, sym, subst, arith}
 use Rattle.std.proofs.lemmas.Bool.{false≢true, ltb-false}
 use Rattle.std.proofs.lemmas.Bool.Decides.{nat_tests}
 use Rattle.std.proofs.lemmas.List.{length-append}
-use Rattle.std.specs.Prelude.{◌==◌, ◌&&◌, ◌||◌, IfSome, if◌then◌else◌, is_some, not, unwrap_or}
+use Rattle.std.specs.Prelude.{◌==◌, ◌||◌, IfSome, if◌then◌else◌, is_some, not, unwrap_or}
 use Rattle.connection.proofs.Chunked.{last_turn}
 use Rattle.connection.proofs.Passing.{settled_at, not_long}
 use Rattle.connection.proofs.Table.{phase_allowed}

@@ -11,7 +11,7 @@ use Rattle.responder_machine.proofs.Making.{turn_message}
 use Rattle.responder_machine.proofs.Opened.{taken_record_opened}
 use Rattle.responder_machine.proofs.Refused.{refused_clear, refused_record}
 use Rattle.responder_machine.specs.Answer.{Free, request_at}
-use Rattle.responder_machine.specs.Handling.{carried_turn, chunk_in, error_bytes, last_chunk_turn, taken_chunk, turn_by, turn_of}
+use Rattle.responder_machine.specs.Handling.{chunk_in, error_bytes, last_chunk_turn, taken_chunk, turn_by, turn_of}
 use Rattle.responder_machine.specs.Heard.{heard_in, heard_of, no_id, record_id}
 use Rattle.responder_machine.specs.History.{History}
 use Rattle.responder_machine.specs.History.Entry.{Sealed}

@@ -1,40 +1,35 @@
 -- The sizes that both ends settled, turn by turn.
-use Rattle.std.proofs.Common.{refl, ◌∙◌, ◌≡◌, ◌≤◌, ℕ, List, [], ◌∷◌, true, false, Bool, Option, Some, None, Ok, Err, ap, sym, subst, arith}
-use Rattle.std.proofs.Math.Nat.{min-eq_left, min-le_right}
+use Rattle.std.proofs.Common.{refl, ◌∙◌, ◌≡◌, ◌≤◌, ℕ, List, [], ◌∷◌, true, false, Bool, Option, Some, None, ap, sym, subst, arith}
 use Rattle.std.proofs.lemmas.Bool.{false≢true}
-use Rattle.std.proofs.lemmas.Option.{none-some, same_Some}
-use Rattle.std.specs.Prelude.{◌||◌, ◌&&◌, if◌then◌else◌, is_none, nat_lt, not}
+use Rattle.std.specs.Prelude.{if◌then◌else◌, is_none}
 use Rattle.std.specs.Result.{result_ok}
 use Rattle.spdm_machine.proofs.Settling.{algorithms_keep}
 use Rattle.connection.proofs.Table.{phase_allowed}
 use Rattle.connection.proofs.Outcomes.{by_clear}
 use Rattle.connection.specs.Connected.{HasSizesAt}
 use Rattle.connection.specs.Refused.{IsClear}
-use Rattle.negotiate.specs.Capabilities.{common_of, protects, psk_is, shared, sizes_of}
+use Rattle.negotiate.specs.Capabilities.{common_of}
 use Rattle.negotiate.specs.declared.shared.Common.{Common}
 use Rattle.responder_machine.proofs.Settled.{common_settled}
-use Rattle.responder_machine.proofs.Sizes.{common_sized, caps_fit, common_has_sizes}
-use Rattle.responder_machine.proofs.Tests.{contents_shown, none_of_both, form_passed}
+use Rattle.responder_machine.proofs.Sizes.{caps_fit, common_has_sizes}
+use Rattle.responder_machine.proofs.Tests.{contents_shown, form_passed}
 use Rattle.responder_machine.specs.Answer.{Free, answer_bytes, request_at}
 use Rattle.responder_machine.specs.Handling.{carried_turn, chunk_in, effect_of, handle_for, last_chunk_turn, taken_chunk, turn_by, turn_of}
 use Rattle.responder_machine.specs.History.{History, clear_turns, negotiation_of, phase_of}
 use Rattle.responder_machine.specs.Laws.{completed_at}
 use Rattle.responder_machine.specs.Place.{Place, clear_place, inside}
-use Rattle.responder_machine.specs.Refusal.{are_caps_refused, has_pending, phase_allows, refusal, refused_contents, refused_form, sizes_are_known}
+use Rattle.responder_machine.specs.Refusal.{are_caps_refused, has_pending, phase_allows, refusal, sizes_are_known}
 use Rattle.responder_machine.specs.Responder.{Outcome, after, on_clear}
 use Rattle.responder_machine.specs.Setup.{RspSetup, responder_caps}
 use Rattle.responder_machine.specs.SizeLaws.{HasSizes}
 use Rattle.responder_machine.specs.Turn.{Effect, Turn}
 use Rattle.responder_machine.specs.Turn.Effect.{NoEffect}
-use Rattle.spdm_grammar.specs.Fields.{FitsCaps}
 use Rattle.spdm_grammar.specs.Message.{ChunkMessage, RequestMessage}
 use Rattle.spdm_grammar.specs.Message.RequestMessage.{GetCapabilities, GetVersion, NegotiateAlgorithms}
 use Rattle.spdm_grammar.specs.declared.capabilities.Caps.{Caps}
 use Rattle.spdm_grammar.specs.declared.error_code.ErrorCode.{ErrorCode}
-use Rattle.spdm_grammar.specs.declared.names.TheConstants.{MAX_MESSAGE_SIZE, MIN_DATA_TRANSFER_SIZE}
-use Rattle.spdm_grammar.specs.declared.names.capability.TheConstants.{CHUNK_CAP, HBEAT_CAP, KEY_UPD_CAP, MEAS_CAP, PSK_CAP, PSK_CAP_WITH_CONTEXT}
+use Rattle.spdm_grammar.specs.declared.names.TheConstants.{MAX_MESSAGE_SIZE}
 use Rattle.spdm_grammar.specs.declared.names.request_code.TheConstants.{NEGOTIATE_ALGORITHMS}
-use Rattle.spdm_grammar.specs.declared.part_faults.CapsFault.TheVariants.{NoProtection, NoPsk, SizeTooSmall, SizesCrossed}
 use Rattle.spdm_grammar.specs.declared.phase.Phase.{Phase}
 use Rattle.spdm_grammar.specs.declared.phase.Phase.TheVariants.{Capable, Fresh, Negotiated, Versioned}
 use Rattle.spdm_machine.specs.Keys.{Draw}

@@ -66,7 +66,7 @@ faults q h f id (Measure op) o n l =
 faults q h f id End o n l =
     tests (is_some (outstanding h)) (not (is_negotiated (phase_of h))) (not (is_live (session_of id h))) (lacks (session_terms (session_of id h)) (command_at id End)) (is_spent (session_of id h) (command_at id End)) false (idle h o) (ap not n) (ap not l)
 
-pub sent_for : (q : ReqSetup) (h : History) (f : Free) (id : ℕ) (a : Ask) → Sent
+unfoldable pub sent_for : (q : ReqSetup) (h : History) (f : Free) (id : ℕ) (a : Ask) → Sent
 sent_for q h f id a = asked_sent q h f id (asked_of a) (inner_for (session_of id h) a)
 
 pub made : (q : ReqSetup) (h : History) (f : Free) (d : Draw) (id : ℕ) (a : Ask) → done q h (command_at id a) f d ≡ Adds (Told (command_at id a) (sent_for q h f id a) d)
