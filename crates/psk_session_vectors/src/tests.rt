@@ -1,5 +1,5 @@
-use crate::psk_suites::{SUITES, Suite};
-use crate::psk_talks::{HELLO, LARGE, NO_ANSWERS, REFUSED_CHUNKS, TALKS, Turn, UNOPENED};
+use crate::suites::{SUITES, Suite};
+use crate::talks::{HELLO, LARGE, NO_ANSWERS, REFUSED_CHUNKS, TALKS, Turn, UNOPENED};
 use negotiate::{Common, Sizes};
 use psk_session::{
     Ask, AskFault, FinishTook, Finishing, OpenFault, Opening, Reply, ReqOpen, SessionTerms, Took,

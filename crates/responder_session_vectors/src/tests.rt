@@ -1,6 +1,6 @@
 ghost use Rattle.std.specs.Prelude.{◌≡◌, false};
 
-use crate::responder_suites::{
+use crate::suites::{
     ALTERED, HOSTILE, MEASURED, REFUSED_IN_HANDSHAKE, REFUSED_IN_OPEN, SUITES, Suite,
 };
 use hmac_hkdf::Drawn;

@@ -1,0 +1,10 @@
+//! Sessions of a requester beside values that were computed outside this repository. There is
+//! nothing here but tests.
+#![tactic(auto)]
+
+#[cfg(test)]
+mod suites;
+#[cfg(test)]
+mod talks;
+#[cfg(test)]
+mod tests;
