@@ -1,5 +1,5 @@
 -- How long answers are, told without their bytes.
-use Rattle.std.proofs.Common.{refl, ◌≡◌, ◌≤◌, ◌+◌, ◌-◌, ◌<◌, ◌^◌, ℕ, zero, suc, List, [], ◌∷◌, true, false, Bool, Some, None, length, slice_range, ap, arith}
+use Rattle.std.proofs.Common.{refl, ◌≡◌, ◌≤◌, ◌+◌, ◌-◌, ◌<◌, ◌^◌, ℕ, zero, suc, List, [], true, false, Bool, Some, None, length, slice_range, ap, arith}
 use Rattle.std.proofs.lemmas.Bool.Decides.{nat_tests}
 use Rattle.std.proofs.lemmas.List.{length-append, length-drop, length-take}
 use Rattle.std.specs.Prelude.{if◌then◌else◌, ◌==◌, ◌||◌, is_some, unwrap_or}
@@ -18,7 +18,6 @@ use Rattle.spdm_grammar.specs.Fields.{IsSoundChunk, large_bytes}
 use Rattle.spdm_grammar.specs.Message.{ExchangeMessage}
 use Rattle.spdm_grammar.specs.Message.ResponseMessage.{ChunkResponse}
 use Rattle.spdm_grammar.specs.Responses.{canonical_response}
-use Rattle.spdm_grammar.specs.declared.block_spec.BlockSpec.{BlockSpec}
 
 summary_answer_long : (r : RspSetup) (p : Place) (kind : ℕ)
     → length (summary_answer r p kind) ≡ (if kind == 1 || kind == 255 then hash_size (place_terms p).choice.hash else 0)

@@ -1,5 +1,5 @@
 -- How long the messages of a negotiation are.
-use Rattle.std.proofs.Common.{◌∙◌, ◌≡◌, ◌≤◌, ◌+◌, ℕ, List, [], ◌∷◌, ◌++◌, Some, length, ap, sym, subst, arith}
+use Rattle.std.proofs.Common.{◌∙◌, ◌≡◌, ◌≤◌, ◌+◌, ℕ, List, [], ◌∷◌, ◌++◌, true, Some, length, ap, sym, subst, arith}
 use Rattle.std.proofs.lemmas.List.{length-append}
 use Rattle.std.specs.Prelude.{slice_index}
 use Rattle.byteorder.specs.Endian.{little_number}
@@ -7,21 +7,21 @@ use Rattle.negotiate.proofs.Answered.{four_each}
 use Rattle.negotiate.proofs.FewKinds.{few_kinds}
 use Rattle.negotiate.specs.Reply.{answered_kinds, reply_of}
 use Rattle.responder_machine.proofs.Codes.{one_byte, sized-code}
-use Rattle.responder_machine.specs.Answer.{Free, answer_bytes, answer_of, answer_to, request_at}
+use Rattle.responder_machine.specs.Answer.{request_at}
 use Rattle.responder_machine.specs.Place.{Place, place_terms}
 use Rattle.responder_machine.specs.Refusal.{code_of}
-use Rattle.responder_machine.specs.Setup.{RspSetup}
 use Rattle.spdm_grammar.proofs.Spellings.{read_iff}
 use Rattle.spdm_grammar.specs.Codes.{code_for}
+use Rattle.spdm_grammar.specs.Fields.{is_summary}
 use Rattle.spdm_grammar.specs.Layout.{IsSpelling}
-use Rattle.spdm_grammar.specs.Message.{OfferMessage, RequestMessage}
-use Rattle.spdm_grammar.specs.Message.RequestMessage.{GetCapabilities, GetVersion}
+use Rattle.spdm_grammar.specs.Message.{ExchangeMessage, OfferMessage, RequestMessage}
+use Rattle.spdm_grammar.specs.Message.RequestMessage.{GetCapabilities, GetVersion, PskExchange}
 use Rattle.spdm_grammar.specs.Message.ResponseMessage.{Algorithms}
-use Rattle.spdm_grammar.specs.Requests.{IsRequestSpelling, request_in, get_capabilities_layout, get_version_layout, request_body, request_layout}
+use Rattle.spdm_grammar.specs.Requests.{IsRequestSpelling, request_in, get_capabilities_layout, get_version_layout, psk_exchange_layout, request_body, request_layout}
 use Rattle.spdm_grammar.specs.Responses.{canonical_response}
 use Rattle.spdm_grammar.specs.declared.capabilities.Caps.{Caps}
 use Rattle.spdm_grammar.specs.declared.choice.Choice.{Choice}
-use Rattle.spdm_grammar.specs.declared.names.request_code.TheConstants.{GET_CAPABILITIES, GET_VERSION}
+use Rattle.spdm_grammar.specs.declared.names.request_code.TheConstants.{GET_CAPABILITIES, GET_VERSION, PSK_EXCHANGE}
 use Rattle.spdm_machine.specs.Terms.{hash_len}
 
 -- What stands behind the code of a request that these bytes spell.
@@ -102,3 +102,60 @@ algorithms_long offer choice =
     let tables = four_each choice (answered_kinds offer) in
     let few = few_kinds offer in
     simp length-append (omega arith)
+
+-- ---- The kind of summary that PSK_EXCHANGE asks for.
+
+-- It is the third byte.
+third : (version code field others : List ℕ) → length version ≡ 1 → length code ≡ 1 → length field ≡ 1 → slice_index (version ++ (code ++ (field ++ others))) 2 ≡ little_number 1 field
+third [] code field others v c f = absurd (omega arith)
+third (x ∷ y ∷ rest) code field others v c f = absurd (omega arith)
+third (x ∷ []) [] field others v c f = absurd (omega arith)
+third (x ∷ []) (y ∷ z ∷ rest) field others v c f = absurd (omega arith)
+third (x ∷ []) (y ∷ []) [] others v c f = absurd (omega arith)
+third (x ∷ []) (y ∷ []) (z ∷ w ∷ rest) others v c f = absurd (omega arith)
+third (x ∷ []) (y ∷ []) (z ∷ []) others v c f = sym (one_byte z [])
+
+-- The kind of summary; 0 for any other request.
+abbrev summary_in : RequestMessage → ℕ
+summary_in (PskExchange exchange) = exchange.summary
+summary_in _ = 0
+
+-- What the first field behind the code shows.
+record IsKind (asked : RequestMessage) (others : List ℕ) : Type 0 where
+  field : List ℕ
+  behind : List ℕ
+  is : others ≡ field ++ behind
+  long : length field ≡ 1
+  sound : is_summary (little_number 1 field) ≡ true
+  told : summary_in asked ≡ little_number 1 field
+
+kind_spelled : (size : ℕ) (others : List ℕ) (asked : RequestMessage) → IsSpelling (request_body size PSK_EXCHANGE) 2 asked others → IsKind asked others
+unfolding request_body psk_exchange_layout
+kind_spelled size others asked s =
+    let reserved = s.5 in
+    let req_id = reserved.4 in
+    let hint_len = req_id.5 in
+    let context_len = hint_len.5 in
+    let opaque_len = context_len.5 in
+    let hint = opaque_len.5 in
+    let context = hint.4 in
+    let opaque = context.4 in
+    let whole = opaque.4 in
+    record { field = s.0; behind = s.1; is = s.2; long = s.3; sound = s.4; told = ap summary_in whole.0 }
+
+-- PSK_EXCHANGE asks for a kind that there is.
+pub exchange_kind : (p : Place) (m : List ℕ) (asked : ExchangeMessage) → request_at p m ≡ Some (PskExchange asked) → (slice_index m 2 ≡ asked.summary) × (is_summary (slice_index m 2) ≡ true)
+unfolding behind_code
+exchange_kind p m asked is = by_spelling ((read_iff (request_layout size) (PskExchange asked) m).0 is)
+  where
+    size : ℕ
+    size = hash_len (place_terms p)
+
+    by_spelling : IsRequestSpelling size (PskExchange asked) m → (slice_index m 2 ≡ asked.summary) × (is_summary (slice_index m 2) ≡ true)
+    by_spelling s =
+        let b = behind_code size m (PskExchange asked) s in
+        let kind = kind_spelled size b.others (PskExchange asked) (body_of size m (PskExchange asked) is b) in
+        let byte : slice_index m 2 ≡ little_number 1 kind.field =
+        ap (λ (bytes : List ℕ). slice_index bytes 2) s.2 ∙ ap (λ (bytes : List ℕ). slice_index (s.0 ++ bytes) 2) s.5.2 ∙ ap (λ (bytes : List ℕ). slice_index (s.0 ++ (s.5.0 ++ bytes)) 2) kind.is
+        ∙ third s.0 s.5.0 kind.field kind.behind s.3 s.5.3 kind.long in
+        (byte ∙ sym kind.told, ap is_summary byte ∙ kind.sound)

@@ -10,3 +10,11 @@ pub mod Slots
 pub mod Recorded
 pub mod Waiting
 pub mod Starting
+pub mod NoExchange
+pub mod Outcomes
+pub mod Sizes
+pub mod Followed
+pub mod Exchanged
+pub mod Shown
+pub mod Harmless
+pub mod Queued

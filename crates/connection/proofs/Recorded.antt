@@ -1,9 +1,9 @@
 -- Records, as the sessions of a connection take them.
-use Rattle.std.proofs.Common.{refl, ◌∙◌, ◌≡◌, ◌≢◌, ◌⊎◌, ◌≤◌, inl, inr, ℕ, zero, suc, List, [], ◌∷◌, true, false, Bool, Option, Some, None, length, ap, sym, subst, arith}
+use Rattle.std.proofs.Common.{refl, ◌∙◌, ◌≡◌, ◌≢◌, ◌≤◌, inl, inr, ℕ, zero, suc, List, [], ◌∷◌, true, false, Bool, Option, Some, None, length, ap, sym, subst, arith}
 use Rattle.std.proofs.lemmas.Bool.{false≢true}
 use Rattle.std.proofs.lemmas.Bool.Decides.{nat_tests}
 use Rattle.std.proofs.lemmas.Option.{none-some}
-use Rattle.std.specs.Prelude.{◌==◌, ◌<◌, ◌-◌, ◌^◌, ◌||◌, not, nat_lt, take, drop, bytes_eq, slice_index_or, if◌then◌else◌}
+use Rattle.std.specs.Prelude.{◌==◌, ◌<◌, ◌-◌, ◌^◌, ◌||◌, nat_lt, take, drop, bytes_eq, slice_index_or, if◌then◌else◌}
 use Rattle.byteorder.specs.Endian.{little_bytes}
 use Rattle.connection.specs.Live as lives
 use Rattle.connection.specs.Live.{IsSlotOf, IsTaken, IsTakenIn}
@@ -20,7 +20,7 @@ use Rattle.responder_machine.specs.History.Entry.{Sealed}
 use Rattle.responder_machine.specs.Records.{opening_fault}
 use Rattle.responder_machine.specs.Responder.{Outcome, after, body_of, decrypt_error, kept_record, on_record, repeats, to_session}
 use Rattle.responder_machine.specs.Responder.Outcome.{Same, Unopened}
-use Rattle.responder_machine.specs.Session.{Events, after_record, id_bytes, id_in_record, is_live, is_spent, last_of, period_of, request_next, session_of, session_terms, when_live}
+use Rattle.responder_machine.specs.Session.{Events, after_record, id_bytes, id_in_record, is_live, is_spent, period_of, request_next, session_of, session_terms, when_live}
 use Rattle.responder_machine.specs.Session.Event.{Heard as HeardIn}
 use Rattle.responder_machine.specs.Setup.{RspSetup}
 use Rattle.responder_machine.specs.Turn.{Turn, takes}

@@ -1,5 +1,5 @@
 -- A live session that takes a record, or waits.
-use Rattle.std.proofs.Common.{refl, ◌∙◌, ◌≡◌, ◌⊎◌, inl, inr, ℕ, List, [], ◌∷◌, true, false, Bool, Option, Some, None, ap, sym, subst}
+use Rattle.std.proofs.Common.{refl, ◌∙◌, ◌≡◌, inl, inr, ℕ, List, true, Option, Some, None, ap}
 use Rattle.std.proofs.lemmas.Bool.{false≢true}
 use Rattle.connection.specs.Live.{IsTaken, StandsFor}
 use Rattle.connection.specs.declared.live.Live.{Live}

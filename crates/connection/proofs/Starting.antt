@@ -2,7 +2,7 @@
 use Rattle.std.proofs.Common.{refl, ◌∙◌, ◌≡◌, ◌≢◌, ℕ, List, [], ◌∷◌, true, false, Bool, Option, Some, None, ap, sym, subst, arith}
 use Rattle.std.proofs.lemmas.Bool.Decides.{nat_tests}
 use Rattle.std.specs.Prelude.{◌==◌, ◌||◌, if◌then◌else◌, slice_index}
-use Rattle.connection.proofs.Recorded.{empty_slots, standing_with}
+use Rattle.connection.proofs.Recorded.{standing_with}
 use Rattle.connection.proofs.Waiting.{Visits, all_visited}
 use Rattle.connection.specs.Beginning.{IsBeginningAt, held_part}
 use Rattle.connection.specs.Live as lives
@@ -11,10 +11,9 @@ use Rattle.connection.specs.Sessions.{StandsFor, slot_of}
 use Rattle.connection.specs.declared.live.Live.{Live}
 use Rattle.connection.specs.declared.sessions.Sessions.{Sessions}
 use Rattle.responder_machine.proofs.Entries.{session_of-Clear}
-use Rattle.responder_machine.specs.History.{History, KeptRecord, clear_turns, ended_of, negotiation_of}
+use Rattle.responder_machine.specs.History.{History, clear_turns, ended_of, negotiation_of}
 use Rattle.responder_machine.specs.History.Entry.{Clear}
 use Rattle.responder_machine.specs.Session.{Events, after_clear, after_exchange, session_of}
-use Rattle.responder_machine.specs.Session.Event.{Began}
 use Rattle.responder_machine.specs.Setup.{RspSetup}
 use Rattle.responder_machine.specs.Turn.{Turn, answer_in, code_in, request_in, takes}
 use Rattle.responder_session.specs.Exchange.{begun}
@@ -72,9 +71,23 @@ began r h tag t d id session answer live v w x y z new is stands first second th
     (all_visited r held_part v w x y z nothing_held first second third fourth i (session_of i h) (stands.slots i))))
     (ended ∙ sym (ap (λ (b : Bool). if b || takes PSK_EXCHANGE t then None else ended_of h) (other_code (code_in t.effect) is.is_exchange) ∙ ap (λ (b : Bool). if b then None else ended_of h) is.is_exchange))
 
-pub cleared : (r : RspSetup) (h : History) (tag : ℕ) (t : Turn) (d : Draw) (ended : Option KeptRecord) → ended ≡ None → takes GET_VERSION t ≡ true → StandsFor (record { slots = None ∷ None ∷ None ∷ None ∷ []; ended = ended }) r (Clear tag t d ∷ h)
-cleared r h tag t d ended none version = record {
-  slots = λ id. subst (λ (x : Option Live). IsSlotOf x r (session_of id (Clear tag t d ∷ h))) (sym (empty_slots ended id))
-      (session_of-Clear id tag t d h ∙ ap (λ (b : Bool). if b then [] else (if takes PSK_EXCHANGE t then after_exchange id (session_of id h) t (negotiation_of (clear_turns h)) else session_of id h)) version);
-  ended = none ∙ sym (ap (λ (b : Bool). if b || takes PSK_EXCHANGE t then None else ended_of h) version);
+-- GET_VERSION ends all of them.
+
+abbrev pub no_events : Events → Events
+no_events s = []
+
+pub emptied : (r : RspSetup) (id : ℕ) (old new : Sessions) → slot_of new id ≡ None → ((i : ℕ) → i ≢ id → slot_of new i ≡ slot_of old i) → Visits r no_events id old new
+emptied r id old new own others = record {
+  own = λ s slot. subst (λ (x : Option Live). IsSlotOf x r []) (sym own) refl;
+  others = others;
+}
+
+pub cleared : (r : RspSetup) (h : History) (tag : ℕ) (t : Turn) (d : Draw) (a b c e g new : Sessions) → takes GET_VERSION t ≡ true → StandsFor a r h
+    → Visits r no_events 1 a b → Visits r no_events 2 b c → Visits r no_events 3 c e → Visits r no_events 4 e g
+    → ((i : ℕ) → slot_of new i ≡ slot_of g i) → new.ended ≡ None → StandsFor new r (Clear tag t d ∷ h)
+cleared r h tag t d a b c e g new version stands first second third fourth slots ended = record {
+  slots = λ id. subst (λ (s : Events). IsSlotOf (slot_of new id) r s)
+      (sym (session_of-Clear id tag t d h ∙ ap (λ (b : Bool). if b then [] else (if takes PSK_EXCHANGE t then after_exchange id (session_of id h) t (negotiation_of (clear_turns h)) else session_of id h)) version))
+      (subst (λ (x : Option Live). IsSlotOf x r []) (sym (slots id)) (all_visited r no_events a b c e g refl first second third fourth id (session_of id h) (stands.slots id)));
+  ended = ended ∙ sym (ap (λ (b : Bool). if b || takes PSK_EXCHANGE t then None else ended_of h) version);
 }

@@ -9,7 +9,7 @@ use Rattle.connection.specs.Sessions.{StandsFor, slot_of}
 use Rattle.connection.specs.declared.live.Live.{Live}
 use Rattle.connection.specs.declared.sessions.Sessions.{Sessions}
 use Rattle.responder_machine.proofs.Entries.{session_of-Ticked}
-use Rattle.responder_machine.specs.History.{History, ended_of}
+use Rattle.responder_machine.specs.History.{History}
 use Rattle.responder_machine.specs.History.Entry.{Dropped, Ticked}
 use Rattle.responder_machine.specs.Session.{Events, after_tick, session_of}
 use Rattle.responder_machine.specs.Setup.{RspSetup}

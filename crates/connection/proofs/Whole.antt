@@ -70,7 +70,7 @@ pub is_anew : (r : RspSetup) (h : History) (tag : ℕ) (m : List ℕ) (f : Free)
 unfolding on_clear
 is_anew r h tag m f d anew = ap (λ (b : Bool). if b then Same (clear_body (kept_reply (kept_of h))) else Adds (Clear tag (turn_of r (clear_place h) m f) d)) anew
 
-is_again : (r : RspSetup) (h : History) (tag : ℕ) (m : List ℕ) (f : Free) (d : Draw) → is_repeat (kept_of h) tag m ≡ true → on_clear r h tag m f d ≡ Same (clear_body (kept_reply (kept_of h)))
+pub is_again : (r : RspSetup) (h : History) (tag : ℕ) (m : List ℕ) (f : Free) (d : Draw) → is_repeat (kept_of h) tag m ≡ true → on_clear r h tag m f d ≡ Same (clear_body (kept_reply (kept_of h)))
 unfolding on_clear
 is_again r h tag m f d again = ap (λ (b : Bool). if b then Same (clear_body (kept_reply (kept_of h))) else Adds (Clear tag (turn_of r (clear_place h) m f) d)) again
 

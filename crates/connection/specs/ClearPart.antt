@@ -8,10 +8,14 @@ use Rattle.connection.specs.declared.told.Told.TheVariants as told
 use Rattle.responder_machine.specs.Answer.{Free}
 use Rattle.responder_machine.specs.Heard.{heard_of}
 use Rattle.responder_machine.specs.History.{History, Kept, clear_turns, kept_of}
+use Rattle.responder_machine.specs.History.Entry.{Clear}
 use Rattle.responder_machine.specs.Place.{clear_place}
-use Rattle.responder_machine.specs.Responder.{after, body_of, is_repeat, on_clear}
+use Rattle.responder_machine.specs.Responder.{Outcome, after, body_of, is_repeat, on_clear}
+use Rattle.responder_machine.specs.Responder.Outcome.{Adds}
 use Rattle.responder_machine.specs.Setup.{RspSetup}
+use Rattle.responder_machine.specs.Turn.{takes}
 use Rattle.spdm_grammar.specs.declared.heard.Heard.{Heard}
+use Rattle.spdm_grammar.specs.declared.names.request_code.TheConstants.{PSK_EXCHANGE}
 use Rattle.spdm_machine.specs.Bodies.{clear_body}
 use Rattle.spdm_machine.specs.Keys.{Draw}
 
@@ -38,7 +42,12 @@ pub record IsBeginning (r : RspSetup) (h : History) (tag : ℕ) (m : List ℕ) (
   pub begins : IsBegun r (clear_place h) m f begun new.requests
   pub kept : new.kept ≡ kept_of h
 
--- The one or the other.
+-- It takes no PSK_EXCHANGE.
+abbrev pub BeginsNone : Outcome → Type 0
+BeginsNone (Adds (Clear tag t d)) = takes PSK_EXCHANGE t ≡ false
+BeginsNone _ = Unit {0}
+
+-- The one or the other: what is answered begins no session.
 abbrev pub IsTold : RspSetup → History → (tag : ℕ) → List ℕ → Free → Draw → Told → (new : Seen) → (out : List ℕ) → Type 0
-IsTold r h tag m f d (told.Heard heard) new out = IsAnswered r h tag m f d heard new out
+IsTold r h tag m f d (told.Heard heard) new out = IsAnswered r h tag m f d heard new out × BeginsNone (on_clear r h tag m f d)
 IsTold r h tag m f d (told.Begins begun) new out = IsBeginning r h tag m f begun new

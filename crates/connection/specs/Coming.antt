@@ -1,5 +1,5 @@
 -- What comes of a request in the clear, with the chunks of large requests.
-use Rattle.std.specs.Prelude.{◌≡◌, ◌∷◌, ℕ, List, true, None, Some}
+use Rattle.std.specs.Prelude.{◌≡◌, ◌∷◌, ℕ, List, true, false, None, Some}
 use Rattle.chunking.specs.Keeping as keeping
 use Rattle.connection.specs.Standing as standing
 use Rattle.connection.specs.Standing.{place_at}
@@ -14,9 +14,10 @@ use Rattle.responder_machine.specs.Laws.{completed_at}
 use Rattle.responder_machine.specs.Place.{Place, inside}
 use Rattle.responder_machine.specs.Refusal.{refusal, refused_form}
 use Rattle.responder_machine.specs.Setup.{RspSetup}
-use Rattle.responder_machine.specs.Turn.{Turn}
+use Rattle.responder_machine.specs.Turn.{Turn, takes}
 use Rattle.spdm_grammar.specs.Message.{ChunkMessage, ExchangeMessage}
 use Rattle.spdm_grammar.specs.Message.RequestMessage.{ChunkSend, PskExchange}
+use Rattle.spdm_grammar.specs.declared.names.request_code.TheConstants.{PSK_EXCHANGE}
 
 -- What is kept, as contracts see it: how the clear part stands, its collector, and the large request that was completed
 -- last.
@@ -72,10 +73,14 @@ pub record IsTurned (r : RspSetup) (p : Place) (m : List ℕ) (f : Free) (new : 
   pub reply : out ≡ (turn_of r p m f).reply
   pub stands : StandsFor new r (turn_of r p m f ∷ p.turns)
 
--- By what is told of it: it is refused with this code; it is answered; or it begins a session.
+-- It is not refused, and its turn was made.
+abbrev pub IsTakenTurn : RspSetup → Place → List ℕ → Free → (new : Seen) → (out : List ℕ) → Type 0
+IsTakenTurn r p m f new out = ((turn_of r p m f).refused ≡ None) × IsTurned r p m f new out
+
+-- By what is told of it: it is refused with this code; it is answered, and takes no PSK_EXCHANGE; or it begins a session.
 abbrev pub IsCome : RspSetup → Place → List ℕ → Free → Came → (new : Seen) → (out : List ℕ) → Type 0
 IsCome r p m f (came.Refused code) new out = ((turn_of r p m f).refused ≡ Some code) × IsTurned r p m f new out
-IsCome r p m f came.Answered new out = ((turn_of r p m f).refused ≡ None) × IsTurned r p m f new out
+IsCome r p m f came.Answered new out = IsTakenTurn r p m f new out × (takes PSK_EXCHANGE (turn_of r p m f) ≡ false)
 IsCome r p m f (came.Begins begun) new out = IsBegun r p m f begun new
 
 -- The bytes of the PSK_EXCHANGE that begins, and the place that it came to.

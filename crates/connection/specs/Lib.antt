@@ -13,3 +13,6 @@ pub mod ClearPart
 pub mod Live
 pub mod Sessions
 pub mod Beginning
+pub mod Starting
+pub mod Connected
+pub mod Harmless

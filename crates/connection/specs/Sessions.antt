@@ -1,20 +1,23 @@
 -- The sessions of a connection, as the program keeps them.
-use Rattle.std.specs.Prelude.{◌≡◌, ◌≢◌, ◌≤◌, ◌==◌, ◌||◌, ◌-◌, nat_lt, if◌then◌else◌, ℕ, List, false, length, Option, None, Some, slice_index_or}
+use Rattle.std.specs.Prelude.{◌≡◌, ◌≢◌, ◌≤◌, ◌==◌, ◌&&◌, ◌||◌, ◌-◌, nat_lt, if◌then◌else◌, ℕ, List, [], Bool, true, false, length, Option, None, Some, slice_index_or}
 use Rattle.connection.specs.Live.{IsSlotOf, IsTakenIn}
 use Rattle.connection.specs.declared.live.Live.{Live}
 use Rattle.connection.specs.declared.sessions.Sessions.{Sessions}
 use Rattle.responder_machine.specs.Answer.{Free}
-use Rattle.responder_machine.specs.Heard.{heard_of}
+use Rattle.responder_machine.specs.Heard.{heard_of, view_of}
 use Rattle.responder_machine.specs.History.{History, ended_of}
 use Rattle.responder_machine.specs.Responder.{after, body_of, on_record, repeats}
-use Rattle.responder_machine.specs.Session.{Events, id_in_record, session_of}
+use Rattle.responder_machine.specs.Session.{Events, id_in_record, is_live, session_of, stage_of}
 use Rattle.responder_machine.specs.Setup.{RspSetup}
 use Rattle.responder_session.specs.Session.{IsEnded}
 use Rattle.responder_session.specs.declared.told.RspTold.{RspTold}
 use Rattle.spdm_grammar.specs.declared.heard.Heard.{Heard}
 use Rattle.spdm_grammar.specs.declared.heard.Heard.TheVariants as heard
+use Rattle.spdm_grammar.specs.declared.names.request_code.TheConstants.{GET_VERSION}
+use Rattle.spdm_grammar.specs.declared.session_view.SessionView.{SessionView}
 use Rattle.spdm_machine.specs.Bodies.{clear_body, record_body}
 use Rattle.spdm_machine.specs.Keys.{Draw}
+use Rattle.spdm_machine.specs.Sessions.{is_past_handshake}
 
 -- The slot of a RspSessionID; none where it is 0 or above 4.
 abbrev pub slot_of : Sessions → ℕ → Option Live
@@ -25,6 +28,20 @@ slot_of seen id = if id == 0 || nat_lt 4 id then None else slice_index_or seen.s
 pub record StandsFor (seen : Sessions) (r : RspSetup) (h : History) : Type 0 where
   pub slots : (id : ℕ) → IsSlotOf (slot_of seen id) r (session_of id h)
   pub ended : seen.ended ≡ ended_of h
+
+-- The answer tells GET_VERSION, which ends all sessions.
+abbrev pub tells_version : Heard → Bool
+tells_version (heard.Answered code) = code == GET_VERSION
+tells_version _ = false
+
+-- There is a session, and it is past its handshake.
+abbrev pub is_held_in : Events → Bool
+is_held_in s = is_live s && is_past_handshake (stage_of s)
+
+-- A live session is shown so; where there is none, nothing is.
+abbrev pub IsViewOf : Option SessionView → Events → Type 0
+IsViewOf None s = s ≡ []
+IsViewOf (Some view) s = (is_live s ≡ true) × (view ≡ view_of s)
 
 -- The body of an answer to a record: ERROR comes in the clear where no session opens it, and all
 -- else is a record.

@@ -1,10 +1,12 @@
-ghost use Rattle.std.specs.Prelude.{◌≡◌, [], if◌then◌else◌, ℕ, List, unwrap_or};
+ghost use Rattle.std.specs.Prelude.{◌≡◌, ◌==◌, ◌||◌, [], if◌then◌else◌, ℕ, List, IfSome, is_some, length, unwrap_or};
+ghost use Rattle.spdm_basis.specs.Sizes.{hash_size};
 ghost use Rattle.responder_machine.specs.Answer.{summary_answer};
 ghost use Rattle.responder_machine.specs.History.{History, clear_turns, negotiation_of, phase_of};
 ghost use Rattle.responder_machine.specs.LargeMessages.{next_handle};
 ghost use Rattle.responder_machine.specs.Place.{Where, place_terms};
 ghost use Rattle.responder_machine.specs.Setup.{RspSetup};
 ghost use Rattle.responder_machine.specs.Turn.{Turn};
+ghost use Rattle.spdm_machine.specs.Terms.{terms_of};
 ghost use Rattle.transcript.specs.Transcripts.{vca_of};
 ghost use Rattle.connection.specs.ClearPart as clear_parts;
 ghost use Rattle.connection.specs.Coming.{exchange_bytes};
@@ -13,7 +15,7 @@ ghost use Rattle.connection.specs.Standing.{StandsFor, place_at};
 
 use crate::{Begun, ClearPart, Setup, Standing};
 use spdm_basis::HashBytes;
-use spdm_grammar::Phase;
+use spdm_grammar::{Choice, Phase};
 
 impl Standing {
     /// The messages of the negotiation, one behind the other; VCA in phase Negotiated (DSP0274, "Transcript
@@ -42,9 +44,12 @@ impl Standing {
     /// MeasurementSummaryHash of PSK_EXCHANGE_RSP, where a PSK_EXCHANGE asks for this kind: the hash of the
     /// blocks of the trusted computing base for 1, and of all for 255; none for another kind.
     pub fn summary(&self, setup: &Setup<'_>, kind: u8) -> Option<HashBytes>
-        ensures { (r : RspSetup) (at : Where) (turns : List Turn) (held : ℕ) → IsSetUp setup.now r
-            → StandsFor self.now turns
+        ensures value { (r : RspSetup) (at : Where) (turns : List Turn) (held : ℕ)
+            → IsSetUp setup.now r → StandsFor self.now turns
             → unwrap_or result [] ≡ summary_answer r (place_at at turns held) kind }
+        ensures size { IfSome result (λ summary. length summary
+            ≡ hash_size self.now.negotiating.choice.hash) }
+        ensures asked { is_some result ≡ (kind == 1 || kind == 255) }
     {
         setup
             .inventory
@@ -56,6 +61,14 @@ impl Standing {
         ensures { (turns : List Turn) → StandsFor self.now turns → result ≡ next_handle turns }
     {
         self.large.next_handle()
+    }
+
+    /// The algorithms that were chosen.
+    pub fn choice(&self) -> Choice
+        ensures { (turns : List Turn) → StandsFor self.now turns
+            → result ≡ (terms_of (negotiation_of turns)).choice }
+    {
+        self.negotiating.choice()
     }
 
     /// How far the connection has come.

@@ -35,7 +35,7 @@ impl Model for ClearPart {
 }
 
 // The request code of a message of at least two bytes; 0 for a shorter one.
-fn code_at(message: &[u8]) -> u8
+pub fn code_at(message: &[u8]) -> u8
     ensures { result ≡ refusals.code_of message.now }
 {
     match message {

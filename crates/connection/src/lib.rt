@@ -1,5 +1,6 @@
 //! A responder's side of the connection with one requester (DSP0274, section 10), with every free value
-//! handed in: the clear part, which holds how far the negotiation has come and what was settled.
+//! handed in: the clear part, which holds how far the negotiation has come and what was settled; the sessions;
+//! and the application data that waits to be sent in answer.
 #![tactic(auto)]
 
 mod answering;
@@ -7,6 +8,7 @@ mod answers;
 mod beginning;
 mod came;
 mod clear_part;
+mod connected;
 mod contents;
 mod ended;
 mod exchange;
@@ -24,12 +26,15 @@ mod requests;
 mod sessions;
 mod setup;
 mod standing;
+mod start;
 mod taking;
 mod tested;
 mod told;
+mod views;
 
 pub use came::{Begun, Came};
 pub use clear_part::ClearPart;
+pub use connected::Connection;
 pub use ended::EndedRecord;
 pub use free_values::FreeValues;
 pub use handled::Handled;

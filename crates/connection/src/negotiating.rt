@@ -102,6 +102,13 @@ impl Negotiating {
         self.choice
     }
 
+    /// Its messages so far; in phase Negotiated the whole VCA.
+    pub fn vca(&self) -> &Vca
+        ensures { result.now ≡ self.now.messages }
+    {
+        &self.messages
+    }
+
     /// The bytes of its messages so far, one behind the other; in phase Negotiated the whole VCA.
     pub fn messages(&self) -> &[u8]
         ensures { result.now ≡ self.now.messages }

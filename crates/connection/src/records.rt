@@ -4,6 +4,7 @@ ghost use Rattle.responder_machine.specs.Heard.{record_id};
 ghost use Rattle.responder_machine.specs.Responder.{decrypt_error};
 ghost use Rattle.spdm_machine.specs.Bodies.{clear_body};
 
+use byteorder::{ByteOrder, LittleEndian};
 use session_keys::byte_at;
 use spdm_basis::{RecordFrame, SessionId};
 use spdm_grammar::names::response_code::ERROR;
@@ -23,8 +24,8 @@ pub fn record_id(sealed: &[u8]) -> SessionId
     ensures { result ≡ record_id sealed.now }
 {
     SessionId {
-        req: byte_at(sealed, 0) as u16 + 256 * byte_at(sealed, 1) as u16,
-        rsp: byte_at(sealed, 2) as u16 + 256 * byte_at(sealed, 3) as u16,
+        req: LittleEndian::read_u16(&[byte_at(sealed, 0), byte_at(sealed, 1)]),
+        rsp: LittleEndian::read_u16(&[byte_at(sealed, 2), byte_at(sealed, 3)]),
     }
 }
 

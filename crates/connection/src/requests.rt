@@ -11,8 +11,7 @@ ghost use Rattle.responder_machine.specs.Turn.{Turn};
 ghost use Rattle.spdm_grammar.specs.Message.{chunk_message};
 ghost use Rattle.spdm_grammar.specs.Message.RequestMessage.{ChunkSend};
 ghost use Rattle.spdm_grammar.specs.declared.names.TheConstants.{MAX_MESSAGE_SIZE};
-ghost use Rattle.connection.specs.declared.came.Came.TheVariants.{Answered};
-ghost use Rattle.connection.specs.Coming.{Completes, IsBegun, IsCome, IsTurned, StandsFor, exchange_bytes, exchange_place};
+ghost use Rattle.connection.specs.Coming.{Completes, IsBegun, IsCome, IsTakenTurn, IsTurned, StandsFor, exchange_bytes, exchange_place};
 ghost use Rattle.connection.specs.Free.{IsFree};
 ghost use Rattle.connection.specs.Refused.{chunk_refusal};
 ghost use Rattle.connection.specs.Setup.{IsSetUp};
@@ -196,7 +195,7 @@ impl Requests {
             → IsBegun r (place_at InClear turns held) m f begun self.old
             → answer.now ≡ answer_bytes r (exchange_place begun (place_at InClear turns held))
             (exchange_bytes begun m self.old) f
-            → IsCome r (place_at InClear turns held) m f Answered self.new out.new }
+            → IsTakenTurn r (place_at InClear turns held) m f self.new out.new }
     {
         match begun {
             Begun::InClear => {

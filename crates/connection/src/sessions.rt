@@ -1,12 +1,15 @@
-ghost use Rattle.std.specs.Prelude.{◌≡◌};
+ghost use Rattle.std.specs.Prelude.{◌≡◌, ◌≤◌};
+ghost use Rattle.connection.specs.Sessions.{tells_version};
 ghost use Rattle.responder_session.specs.Laws.{told_as};
+ghost use Rattle.spdm_machine.specs.Sessions.{one_if};
 
 use crate::records::{record_id, replace_record, write_decrypt_error};
 use crate::{EndedRecord, Live};
 use measurements::Inventory;
 use responder_session::{RecordFree, RspAct, RspSession, RspTold, Work};
 use spdm_basis::{RecordFrame, SessionId};
-use spdm_grammar::{Heard, Phase};
+use spdm_grammar::names::request_code::GET_VERSION;
+use spdm_grammar::{Heard, Phase, SessionView};
 
 /// The sessions of a connection: a slot for each RspSessionID from 1 to 4, and the last record of
 /// the one ended session. They lie in place.
@@ -27,21 +30,46 @@ fn heard_as(id: SessionId, act: RspAct) -> Heard
     }
 }
 
+// Whether an answer tells GET_VERSION.
+fn tells_version(heard: Heard) -> bool
+    ensures { result ≡ tells_version heard }
+{
+    match heard {
+        Heard::Answered(code) => code == GET_VERSION,
+        _ => false,
+    }
+}
+
+// 1 where a test holds, and 0 where it does not.
+fn one_if(holds: bool) -> u8
+    ensures value { result ≡ one_if holds }
+    ensures most { result ≤ 1 }
+{
+    if holds { 1 } else { 0 }
+}
+
 impl Sessions {
-    ghost use Rattle.std.specs.Prelude.{◌≡◌, ◌≢◌, ◌≤◌, ◌<◌, ◌^◌, ◌-◌, ◌∷◌, [], None, Some, ℕ, List, length};
+    ghost use Rattle.std.specs.Prelude.{◌≡◌, ◌≢◌, ◌≤◌, ◌<◌, ◌^◌, ◌-◌, ◌∷◌, [], None, Some, ℕ, List, MatchOption, true, length};
     ghost use Rattle.responder_machine.specs.Answer.{Free};
     ghost use Rattle.responder_machine.specs.BoundLaws.{messages_of};
     ghost use Rattle.responder_machine.specs.History.{History, clear_turns, phase_of};
     ghost use Rattle.responder_machine.specs.History.Entry.{Clear, Dropped, Ticked};
-    ghost use Rattle.responder_machine.specs.Turn.{Turn};
+    ghost use Rattle.responder_machine.specs.Heard.{heard_of};
+    ghost use Rattle.responder_machine.specs.Place.{free_id, held_of};
+    ghost use Rattle.responder_machine.specs.Responder.{after, on_clear};
+    ghost use Rattle.responder_machine.specs.Turn.{Turn, takes};
+    ghost use Rattle.connection.specs.ClearPart.{BeginsNone};
     ghost use Rattle.connection.specs.Beginning.{IsBeginningAt, held_part};
-    ghost use Rattle.responder_machine.specs.Session.{Events, after_tick};
+    ghost use Rattle.responder_machine.specs.LargeMessages.{next_handle};
+    ghost use Rattle.responder_machine.specs.Session.{Events, after_tick, session_of, turns_of};
+    ghost use Rattle.responder_session.specs.Data.{data_of};
     ghost use Rattle.responder_machine.specs.Setup.{RspSetup, inventory_of};
     ghost use Rattle.responder_session.specs.Deeds.{AreFree};
     ghost use Rattle.responder_session.specs.Updates.{HasEpochs};
+    ghost use Rattle.spdm_grammar.specs.declared.names.request_code.TheConstants.{GET_VERSION};
     ghost use Rattle.spdm_machine.specs.Keys.{Draw};
     ghost use Rattle.connection.specs.Live.{IsSlotOf, IsTakenIn};
-    ghost use Rattle.connection.specs.Sessions.{IsAnswered, IsDelivered, StandsFor, slot_of};
+    ghost use Rattle.connection.specs.Sessions.{IsAnswered, IsDelivered, IsViewOf, StandsFor, is_held_in, slot_of};
     ghost use Rattle.connection.specs.declared.live.Live.{Live};
     ghost use Rattle.responder_session.specs.Session.{IsEnded};
 
@@ -254,6 +282,119 @@ impl Sessions {
         self.leave(4);
         self.ended.clear();
         self.put(id, Live::begin(session, answer));
+    }
+
+    /// GET_VERSION was taken: all sessions are gone, and so is the last record of an ended one.
+    pub fn clear(&mut self)
+        ensures { (r : RspSetup) (h : History) (tag : ℕ) (t : Turn) (d : Draw)
+            → takes GET_VERSION t ≡ true → StandsFor self.old r h
+            → StandsFor self.new r (Clear tag t d ∷ h) }
+    {
+        self.empty(1);
+        self.empty(2);
+        self.empty(3);
+        self.empty(4);
+        self.ended.clear();
+    }
+
+    /// A clear message that begins no session was answered so: GET_VERSION ends all sessions, and nothing else
+    /// changes one.
+    pub fn follow(&mut self, heard: Heard)
+        ensures { (r : RspSetup) (h : History) (tag : ℕ) (m : List ℕ) (f : Free) (d : Draw)
+            → heard ≡ heard_of (on_clear r h tag m f d) → BeginsNone (on_clear r h tag m f d)
+            → StandsFor self.old r h
+            → StandsFor self.new r (after h (on_clear r h tag m f d)) }
+    {
+        if tells_version(heard) {
+            self.clear();
+        }
+    }
+
+    // Whether there is a session of this RspSessionID, past its handshake.
+    fn is_held(&self, id: u16) -> bool
+        ensures { (r : RspSetup) (s : Events) → IsSlotOf (slot_of self.now id) r s
+            → result ≡ is_held_in s }
+    {
+        match self.session(id) {
+            Some(live) => live.is_held(),
+            None => false,
+        }
+    }
+
+    // The session of this RspSessionID; none where there is none.
+    fn session(&self, id: u16) -> Option<&Live>
+        ensures { MatchOption result (slot_of self.now id ≡ None)
+            (λ live. slot_of self.now id ≡ Some live.now) }
+    {
+        if id == 0 || id > 4 {
+            return None;
+        }
+        self.slots[usize::from(id) - 1].as_ref()
+    }
+
+    /// The session of this RspSessionID as it is shown, where fewer than 2^64 messages came; none where there is
+    /// none.
+    pub fn view(&self, id: u16) -> Option<SessionView>
+        ensures { (r : RspSetup) (h : History) → StandsFor self.now r h → messages_of h < 2 ^ 64
+            → IsViewOf result (session_of id h) }
+    {
+        match self.session(id) {
+            Some(live) => live.session.view(),
+            None => None,
+        }
+    }
+
+    /// The application data that the session of this RspSessionID took last; no bytes before the first, and where
+    /// there is no session.
+    pub fn data(&self, id: u16) -> &[u8]
+        ensures { (r : RspSetup) (h : History) → StandsFor self.now r h
+            → result.now ≡ data_of (session_of id h) }
+    {
+        match self.session(id) {
+            Some(live) => live.session.data(),
+            None => &[],
+        }
+    }
+
+    /// The handle that is given to the next large answer of the session of this RspSessionID; 0 where there is
+    /// none.
+    pub fn next_handle(&self, id: u16) -> u8
+        ensures { (r : RspSetup) (h : History) → StandsFor self.now r h
+            → result ≡ next_handle (turns_of (session_of id h)) }
+    {
+        match self.session(id) {
+            Some(live) => live.session.next_handle(),
+            None => 0,
+        }
+    }
+
+    /// How many sessions are past their handshake.
+    pub fn held(&self) -> u8
+        ensures value { (r : RspSetup) (h : History) → StandsFor self.now r h → held_of h ≡ result }
+        ensures most { result ≤ 4 }
+    {
+        one_if(self.is_held(1))
+            + one_if(self.is_held(2))
+            + one_if(self.is_held(3))
+            + one_if(self.is_held(4))
+    }
+
+    /// The least RspSessionID that no session past its handshake has; 4 where all four have one.
+    pub fn free_id(&self) -> u16
+        ensures value { (r : RspSetup) (h : History) → StandsFor self.now r h → result ≡ free_id h }
+        ensures least { 1 ≤ result }
+        ensures most { result ≤ 4 }
+    {
+        if !self.is_held(1) {
+            return 1;
+        }
+        if !self.is_held(2) {
+            return 2;
+        }
+        if !self.is_held(3) {
+            return 3;
+        }
+        4
     }
 
     // Puts a session into the slot of this RspSessionID.

@@ -1,6 +1,8 @@
-//! A clear part that is given the requests of a connection, beside the answers that another program gives to
-//! them. There is nothing here but tests.
+//! A clear part that is given the requests of a connection, and a connection with its session, beside the answers
+//! that another program gives to them. There is nothing here but tests.
 #![tactic(auto)]
 
 #[cfg(test)]
 mod clear_tests;
+#[cfg(test)]
+mod connection_tests;

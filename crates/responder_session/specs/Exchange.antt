@@ -1,6 +1,6 @@
 -- The answer to PSK_EXCHANGE (DSP0274, "PSK_EXCHANGE_RSP"), from the parts that the responder puts
 -- into it.
-use Rattle.std.specs.Prelude.{◌≡◌, ◌≤◌, ℕ, List, [], ◌∷◌, ◌++◌, length, if◌then◌else◌}
+use Rattle.std.specs.Prelude.{◌≡◌, ◌≤◌, ◌<◌, ◌^◌, ℕ, List, [], ◌∷◌, ◌++◌, length, if◌then◌else◌}
 use Rattle.key_schedule.specs.declared.direction.Direction.TheVariants.{Response}
 use Rattle.responder_machine.specs.Session.{Events}
 use Rattle.responder_machine.specs.Session.Event.{Began}
@@ -8,16 +8,17 @@ use Rattle.session_keys.specs.declared.terms.SessionTerms.{SessionTerms}
 use Rattle.spdm_basis.specs.Sizes.{hash_size}
 use Rattle.spdm_grammar.specs.Message.ResponseMessage.{PskExchangeRsp}
 use Rattle.spdm_grammar.specs.Responses.{canonical_response}
+use Rattle.spdm_grammar.specs.declared.names.TheConstants.{MAX_MESSAGE_SIZE}
 use Rattle.spdm_machine.specs.Keys.{verify_data}
 use Rattle.spdm_machine.specs.Terms.{terms_of}
 use Rattle.transcript.specs.Transcripts.{Negotiation, vca_of}
 use Rattle.responder_session.specs.declared.parts.ExchangeParts.{ExchangeParts}
 
--- The parts fit the terms: the context is as long as the hash, a summary stands exactly where one
--- was asked for, and the opaque data have at most 1,024 bytes.
+-- The parts fit their fields: a summary stands exactly where one was asked for, the context has
+-- below 65,536 bytes, and the opaque data have at most 1,024.
 pub record AreParts (terms : SessionTerms) (parts : ExchangeParts) : Type 0 where
   pub summary : length parts.summary.now ≡ (if terms.summary then hash_size terms.choice.hash else 0)
-  pub context : length parts.context.now ≡ hash_size terms.choice.hash
+  pub context : length parts.context.now < 2 ^ 16
   pub opaque : length parts.opaque.now ≤ 1024
 
 -- PSK_EXCHANGE_RSP with these parts and verify data.
@@ -30,6 +31,12 @@ answer_with parts verify = canonical_response (PskExchangeRsp (record {
   opaque = parts.opaque.now;
   verify = verify;
 }))
+
+-- They make an answer: the context is at least as long as the hash, and with verify data as long as
+-- the hash the whole answer has at most 4,096 bytes.
+pub record AreAnswered (terms : SessionTerms) (parts : ExchangeParts) : Type 0 where
+  pub context : hash_size terms.choice.hash ≤ length parts.context.now
+  pub most : (verify : List ℕ) → length verify ≡ hash_size terms.choice.hash → length (answer_with parts verify) ≤ MAX_MESSAGE_SIZE
 
 -- T1: VCA, PSK_EXCHANGE, and the answer without verify data.
 abbrev pub t1_with : Negotiation → List ℕ → ExchangeParts → List ℕ

@@ -6,7 +6,7 @@ ghost use Rattle.spdm_machine.specs.Terms.{terms_of};
 ghost use Rattle.transcript.specs.Lane as lanes;
 ghost use Rattle.transcript.specs.Lane.{lane_hash};
 ghost use Rattle.transcript.specs.Transcripts.{Negotiation, vca_of};
-ghost use Rattle.responder_session.specs.Exchange.{AreParts, answer_with, t1_with};
+ghost use Rattle.responder_session.specs.Exchange.{AreAnswered, AreParts, answer_with, t1_with};
 
 use crate::ExchangeParts;
 use session_keys::{Handshake, SessionTerms, same_bytes, without_verify};
@@ -15,7 +15,8 @@ use spdm_codec::write_response;
 use spdm_grammar::{ExchangeRsp, Response};
 use transcript::Lane;
 
-// Writes PSK_EXCHANGE_RSP with these verify data, in place of what `out` holds.
+// Writes PSK_EXCHANGE_RSP with these verify data, in place of what `out` holds: none where
+// the context is shorter than the hash, and one that passes 4,096 bytes is not whole.
 pub fn write_answer(
     parts: &ExchangeParts<'_>,
     terms: SessionTerms,
@@ -24,8 +25,13 @@ pub fn write_answer(
 )
     requires parts { AreParts terms parts.now }
     requires verify { length verify.now ≡ hash_size terms.choice.hash }
-    ensures { out.new ≡ answer_with parts.now verify.now }
+    ensures { AreAnswered terms parts.now → out.new ≡ answer_with parts.now verify.now }
 {
+    out.clear();
+    let hash_len = terms.choice.hash.size();
+    if parts.context.len() < hash_len {
+        return;
+    }
     let answer = ExchangeRsp {
         heartbeat: parts.heartbeat,
         rsp_id: parts.rsp_id,
@@ -35,7 +41,7 @@ pub fn write_answer(
         verify: verify.as_slice(),
     };
     let response = Response::PskExchangeRsp(answer);
-    let _ = write_response(&response, terms.choice.hash.size(), terms.summary, out);
+    let _ = write_response(&response, hash_len, terms.summary, out);
 }
 
 // A lane that was given what this lane was, and more.
@@ -72,7 +78,7 @@ pub fn handshake_with(
     requires parts { AreParts terms parts.now }
     ensures hash { result.keys.hash ≡ terms.choice.hash }
     ensures value { (n : Negotiation) (exchange : List ℕ) → AreTermsOf terms n exchange
-        → lanes.StandsFor lane.now (vca_of n ++ exchange)
+        → AreAnswered terms parts.now → lanes.StandsFor lane.now (vca_of n ++ exchange)
         → IsHandshakeOf result (terms_of n).choice psk.now (t1_with n exchange parts.now) }
 {
     let choice = terms.choice;

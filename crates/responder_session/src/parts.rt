@@ -7,7 +7,7 @@ pub struct ExchangeParts<'a> {
     pub rsp_id: u16,
     /// MeasurementSummaryHash: a hash where one was asked for, else no bytes.
     pub summary: &'a [u8],
-    /// ResponderContext: as many bytes as the hash has.
+    /// ResponderContext: below 65,536 bytes, at least as many as the hash has.
     pub context: &'a [u8],
     /// OpaqueData: at most 1,024 bytes.
     pub opaque: &'a [u8],

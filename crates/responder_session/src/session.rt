@@ -66,14 +66,14 @@ impl RspSession {
     ghost use Rattle.transcript.specs.Transcripts.{Negotiation, vca_of};
     ghost use Rattle.responder_session.specs.Deeds.{AreGiven};
     ghost use Rattle.responder_session.specs.EndedTook.{IsEndedTold};
-    ghost use Rattle.responder_session.specs.Exchange.{AreParts, answer_for, begun};
+    ghost use Rattle.responder_session.specs.Exchange.{AreAnswered, AreParts, answer_for, begun};
     ghost use Rattle.responder_session.specs.Reply.{kept_reply, last_reply};
     ghost use Rattle.responder_session.specs.Session.{StandsFor, IsEnded};
     ghost use Rattle.responder_session.specs.Took.{IsTold};
 
     /// The session that a PSK_EXCHANGE begins, after the messages of a negotiation and under its
-    /// terms; writes the whole PSK_EXCHANGE_RSP with these parts (DSP0274), in place of what `out`
-    /// holds.
+    /// terms; writes the whole PSK_EXCHANGE_RSP with these parts (DSP0274), of at most 4,096 bytes, in
+    /// place of what `out` holds. The context is at least as long as the hash.
     pub fn start(
         vca: &Vca,
         psk: &Psk,
@@ -84,8 +84,10 @@ impl RspSession {
     ) -> RspSession
         requires { AreParts terms parts.now }
         ensures answer { (n : Negotiation) → vca.now ≡ vca_of n → AreTermsOf terms n exchange.now
+            → AreAnswered terms parts.now
             → out.new ≡ answer_for psk.now n exchange.now parts.now }
         ensures stands { (n : Negotiation) → vca.now ≡ vca_of n → AreTermsOf terms n exchange.now
+            → AreAnswered terms parts.now
             → StandsFor result psk.now (begun n exchange.now out.new) }
     {
         let mut lane = Lane::new(terms.choice.hash);

@@ -9,11 +9,11 @@ use Rattle.responder_session.proofs.Answered.{unverified}
 use Rattle.responder_session.proofs.exchange.handshake_with.Goals as goal
 
 pub returns-clause-value : goal.returns-clause-value
-returns-clause-value c = λ n exchange terms pushed.
+returns-clause-value c = λ n exchange terms fits pushed.
     let hash = c.args.terms.choice.hash in
     let given = vca_of n ++ exchange in
     let cut = c.without_verify.ensures
-    ∙ ap (λ (x : List ℕ). without_verify (hash_of hash) x) (c.as_slice.ensures.value ∙ c.write_answer.ensures)
+    ∙ ap (λ (x : List ℕ). without_verify (hash_of hash) x) (c.as_slice.ensures.value ∙ c.write_answer.ensures fits)
     ∙ unverified hash c.args.parts.now c.blank.result c.blank.ensures in
     c.new.ensures.stands (terms_of n).choice (t1_with n exchange c.args.parts.now) (ap (λ (x : Choice). x.hash) terms.choice) (ap (λ (x : Choice). x.aead) terms.choice)
     (c.finish.ensures.value (given ++ c.without_verify.result.now) (c.lane_with-lane.ensures.pushed given pushed)

@@ -1,6 +1,7 @@
 use Rattle.std.proofs.Common.{◌≡◌, ◌∙◌, sym, subst, ap, List, ℕ, Option, arith}
 use Rattle.chunking.specs.Keeping as keeping
 use Rattle.connection.proofs.Chunked.{chunk_code, rule_more, rule_refused, rule_whole, turned_more, turned_refused}
+use Rattle.connection.proofs.NoExchange.{more_takes_none}
 use Rattle.connection.specs.Coming.{Seen, StandsFor}
 use Rattle.connection.specs.Refused.{chunk_refusal}
 use Rattle.connection.specs.Standing.{place_at}
@@ -47,8 +48,11 @@ returns-in-More c = λ r turns f setup free stands form asked_is refused.
     let own : broken_rule r.max (under_way (chunks_of turns)) chunk ≡ rule = ap (λ (n : ℕ). broken_rule n (under_way (chunks_of turns)) chunk) (sym stood.max) in
     let more = rule_more rule chunk (joined_with (under_way (chunks_of turns)) chunk) (c.in-More.ensures.answer (chunks_of turns) stood.collector) in
     let collector = subst (λ (x : Option ChunkFault). keeping.StandsFor c.gather.new.collector (accepted_unless x (chunks_of turns) chunk)) more.0 (c.in-More.ensures.stands (chunks_of turns) stood.collector) in
-    turned_more r InClear turns c.args.held m f chunk (record gathered { standing = c.take_nothing.new.self }) c.write_acknowledgement.new.out asked_is (refused ∙ ap chunk_refusal (own ∙ more.0)) more.1
-    (λ t taken nothing. c.take_nothing.ensures turns t stood.standing taken nothing) collector (c.in-More.ensures.max ∙ stood.max) (c.write_acknowledgement.ensures (omega arith))
+    let taken_is = refused ∙ ap chunk_refusal (own ∙ more.0) in (
+      turned_more r InClear turns c.args.held m f chunk (record gathered { standing = c.take_nothing.new.self }) c.write_acknowledgement.new.out asked_is taken_is more.1
+          (λ t taken nothing. c.take_nothing.ensures turns t stood.standing taken nothing) collector (c.in-More.ensures.max ∙ stood.max) (c.write_acknowledgement.ensures (omega arith)),
+      more_takes_none r p m f chunk asked_is taken_is more.1,
+    )
 
 pub returns-in-Whole : goal.returns-in-Whole
 returns-in-Whole c = λ r turns f setup free stands form asked_is refused.

@@ -1,5 +1,6 @@
 use Rattle.std.proofs.Common.{refl, ◌≡◌, ◌∙◌, sym, subst, List, ℕ}
 use Rattle.connection.proofs.Chunked.{standing_now, turned_plain, turned_refused}
+use Rattle.connection.proofs.NoExchange.{plain_takes_none}
 use Rattle.connection.specs.Coming.{Seen, StandsFor}
 use Rattle.connection.specs.Standing as standing
 use Rattle.connection.specs.Standing.{place_at}
@@ -40,5 +41,7 @@ returns-in-Answered c = λ r turns f setup free stands.
     let same : c.args.self.now ≡ before = sym c.self.view_is in
     let stood = subst (λ (s : Seen). StandsFor s r turns) same stands in
     let handled = c.in-Answered.ensures r turns f setup free stood.standing tt in
-    let now : Seen = record { standing = c.handle.new.self; collector = c.clear.new.self; whole = c.self.inside.whole } in
-    turned_plain r InClear turns c.args.held m f now c.handle.new.out handled.0 handled.1 (handled.2 (plain_turn r p m f) refl refl) c.clear.ensures.stands (c.clear.ensures.max ∙ stood.max) handled.3
+    let now : Seen = record { standing = c.handle.new.self; collector = c.clear.new.self; whole = c.self.inside.whole } in (
+      turned_plain r InClear turns c.args.held m f now c.handle.new.out handled.0 handled.1 (handled.2 (plain_turn r p m f) refl refl) c.clear.ensures.stands (c.clear.ensures.max ∙ stood.max) handled.3,
+      plain_takes_none r p m f handled.0 handled.1 handled.4,
+    )

@@ -1,5 +1,7 @@
-use Rattle.std.proofs.Common.{true, refl, ◌≡◌, ◌∙◌, ◌+◌, ◌≤◌, ◌∷◌, sym, subst, ap, List, ℕ, Some, None, length}
+use Rattle.std.proofs.Common.{true, false, refl, ◌≡◌, ◌∙◌, ◌+◌, ◌≤◌, ◌∷◌, sym, subst, ap, List, ℕ, Some, None, length}
+use Rattle.std.specs.Prelude.{◌==◌}
 use Rattle.connection.proofs.Chunked.{chunk_known, error_fits, no_chunk_inside, reply_fits, standing_now, turned_last_refused, turned_last_taken}
+use Rattle.connection.proofs.NoExchange.{last_refused_takes_none, last_taken_takes_none}
 use Rattle.connection.proofs.Passing.{settled_at}
 use Rattle.connection.specs.Coming.{Completes, Seen}
 use Rattle.connection.specs.Standing as standing
@@ -8,11 +10,12 @@ use Rattle.responder_machine.specs.Answer.{request_at}
 use Rattle.responder_machine.specs.Handling.{acknowledged, error_bytes, request_effect, request_reply}
 use Rattle.responder_machine.specs.Place.{Place}
 use Rattle.responder_machine.specs.Place.Where.{InChunks, InClear}
-use Rattle.responder_machine.specs.Refusal.{refusal, refused_form}
+use Rattle.responder_machine.specs.Refusal.{code_of, refusal, refused_form}
 use Rattle.responder_machine.specs.Turn.{Turn, is_taken}
 use Rattle.spdm_grammar.specs.Message.{ChunkMessage, chunk_message}
 use Rattle.spdm_grammar.specs.Message.RequestMessage.{PskExchange}
 use Rattle.spdm_grammar.specs.declared.names.TheConstants.{MAX_MESSAGE_SIZE}
+use Rattle.spdm_grammar.specs.declared.names.request_code.TheConstants.{PSK_EXCHANGE}
 use Rattle.connection.proofs.requests.Requests.on_whole.Goals as goal
 use Rattle.spdm_grammar.specs.Message.{exchange_message}
 
@@ -33,9 +36,11 @@ returns-in-Refused c = λ r turns m f setup free completes.
     let written = subst (λ (w : List ℕ). c.handle.new.out ≡ error_bytes r within w f code) bytes handled.2 in
     let stood = subst (λ (s : standing.Seen). standing.StandsFor s turns) (sym handled.1) done.standing in
     let response = c.as_slice.ensures.value ∙ written in
-    let fits = subst (λ (a : List ℕ). length a + 6 ≤ MAX_MESSAGE_SIZE) (sym response) (error_fits r within before.whole f code) in
-    turned_last_refused r InClear turns c.args.held m f chunk before c.take_nothing.new.self code c.write_acknowledgement.new.out done refused (λ t taken nothing. c.take_nothing.ensures turns t stood taken nothing)
-    (c.write_acknowledgement.ensures fits ∙ ap (acknowledged chunk) response)
+    let fits = subst (λ (a : List ℕ). length a + 6 ≤ MAX_MESSAGE_SIZE) (sym response) (error_fits r within before.whole f code) in (
+      turned_last_refused r InClear turns c.args.held m f chunk before c.take_nothing.new.self code c.write_acknowledgement.new.out done refused (λ t taken nothing. c.take_nothing.ensures turns t stood taken nothing)
+          (c.write_acknowledgement.ensures fits ∙ ap (acknowledged chunk) response),
+      last_refused_takes_none r p m f chunk before code done refused,
+    )
 
 pub returns-in-Answered : goal.returns-in-Answered
 returns-in-Answered c = λ r turns m f setup free completes.
@@ -54,8 +59,11 @@ returns-in-Answered c = λ r turns m f setup free completes.
     let written = subst (λ (w : List ℕ). c.handle.new.out ≡ request_reply r within w f) bytes handled.3 in
     let response = c.as_slice-in-Answered.ensures.value ∙ written in
     let fits = subst (λ (a : List ℕ). length a + 6 ≤ MAX_MESSAGE_SIZE) (sym response) (reply_fits r p before.whole f known.0 known.1) in
-    turned_last_taken r InClear turns c.args.held m f chunk before c.handle.new.self c.write_acknowledgement-in-Answered.new.out done taken takes
-    (c.write_acknowledgement-in-Answered.ensures fits ∙ ap (acknowledged chunk) response)
+    let other = subst (λ (w : List ℕ). (code_of w == PSK_EXCHANGE) ≡ false) bytes handled.4 in (
+      turned_last_taken r InClear turns c.args.held m f chunk before c.handle.new.self c.write_acknowledgement-in-Answered.new.out done taken takes
+          (c.write_acknowledgement-in-Answered.ensures fits ∙ ap (acknowledged chunk) response),
+      last_taken_takes_none r p m f chunk before done taken other,
+    )
 
 pub returns-in-Exchange : goal.returns-in-Exchange
 returns-in-Exchange c = λ r turns m f setup free completes.

@@ -1,9 +1,8 @@
-use Rattle.std.proofs.Common.{◌≡◌, ◌∙◌, ap, subst, List, ℕ, Some}
+use Rattle.std.proofs.Common.{◌∙◌, ap, subst, List, ℕ, Some}
 use Rattle.connection.proofs.Recorded.{moved, not_opened, session_again}
 use Rattle.connection.proofs.sessions.Sessions.answer.Goals as goal
 use Rattle.connection.specs.Sessions.{IsDelivered, IsSettled}
 use Rattle.responder_machine.specs.Responder.{decrypt_error}
-use Rattle.responder_machine.specs.Session.{id_in_record}
 use Rattle.responder_session.specs.Laws.{told_as}
 use Rattle.responder_session.specs.declared.told.RspTold.{RspTold}
 use Rattle.spdm_basis.specs.declared.session_id.SessionId.{SessionId}

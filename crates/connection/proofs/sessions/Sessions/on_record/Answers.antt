@@ -1,4 +1,4 @@
-use Rattle.std.proofs.Common.{true, false, ◌≡◌, ◌≢◌, ◌∙◌, ap, sym, subst, List, ℕ, Option, Some, None}
+use Rattle.std.proofs.Common.{◌∙◌, ap, sym, List, ℕ, Option, Some, None}
 use Rattle.connection.proofs.Recorded.{delivered, ended_again, no_session}
 use Rattle.connection.proofs.sessions.Sessions.on_record.Goals as goal
 use Rattle.responder_machine.specs.History.{KeptRecord}

@@ -1,14 +1,18 @@
 use Rattle.std.proofs.Common.{refl, ◌≡◌, ◌∙◌, sym, subst, ap, List, ℕ}
+use Rattle.std.specs.Prelude.{◌==◌}
+use Rattle.connection.proofs.NoExchange.{other_request}
 use Rattle.connection.proofs.Taken.{effect_is, message_short, plain_is}
 use Rattle.connection.proofs.standing.Standing.handle.Goals as goal
 use Rattle.connection.specs.Refused.{IsClear, IsPassed, IsRefused}
 use Rattle.connection.specs.Standing.{place_at}
 use Rattle.connection.specs.Taking.{IsTaking}
 use Rattle.request_rules.specs.Place.{IsPlace, where_of}
+use Rattle.responder_machine.proofs.Codes.{asked-code}
 use Rattle.responder_machine.specs.Answer.{answer_bytes}
 use Rattle.responder_machine.specs.Handling.{chunk_in, sent_for}
 use Rattle.responder_machine.specs.Place.{Place, Where}
 use Rattle.spdm_grammar.specs.Message.{RequestMessage, request_message}
+use Rattle.spdm_grammar.specs.declared.names.request_code.TheConstants.{PSK_EXCHANGE}
 use Rattle.spdm_grammar.specs.declared.request.Request.{Request}
 
 pub returns-in-Err : goal.returns-in-Err
@@ -76,4 +80,5 @@ returns-in_default c = λ r turns f setup free stands clear.
             effect = took ∙ effect;
           }))),
       c.answer.ensures.sent p f place free.handle ∙ ap (sent_for p f) answered,
+      ap (λ (n : ℕ). n == PSK_EXCHANGE) (sym (asked-code p m asked passed.asked_is)) ∙ other_request asked plain.here,
     )
