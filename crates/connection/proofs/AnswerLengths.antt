@@ -1,8 +1,8 @@
 -- How long answers are, told without their bytes.
-use Rattle.std.proofs.Common.{refl, ◌≡◌, ◌≤◌, ◌+◌, ◌-◌, ◌<◌, ◌^◌, ℕ, zero, suc, List, [], true, false, Bool, Some, None, length, slice_range, ap, arith}
+use Rattle.std.proofs.Common.{refl, ◌≡◌, ◌≤◌, ◌+◌, ℕ, List, [], true, false, Bool, Some, None, length, arith}
 use Rattle.std.proofs.lemmas.Bool.Decides.{nat_tests}
-use Rattle.std.proofs.lemmas.List.{length-append, length-drop, length-take}
-use Rattle.std.specs.Prelude.{if◌then◌else◌, ◌==◌, ◌||◌, is_some, unwrap_or}
+use Rattle.std.proofs.lemmas.List.{length-append}
+use Rattle.std.specs.Prelude.{if◌then◌else◌, ◌==◌, ◌||◌, unwrap_or}
 use Rattle.chunking.proofs.ChunkLengths.{chunk_framed}
 use Rattle.chunking.specs.Cutting.{nth_chunk}
 use Rattle.key_schedule.specs.declared.direction.Direction.TheVariants as direction
@@ -14,7 +14,6 @@ use Rattle.responder_machine.specs.Setup.{RspSetup, inventory_of}
 use Rattle.running_hash.specs.Hash.{hash_of}
 use Rattle.spdm_basis.specs.Sizes.{hash_size}
 use Rattle.spdm_basis.specs.declared.hash_alg.HashAlg.{HashAlg}
-use Rattle.spdm_grammar.specs.Fields.{IsSoundChunk, large_bytes}
 use Rattle.spdm_grammar.specs.Message.{ExchangeMessage}
 use Rattle.spdm_grammar.specs.Message.ResponseMessage.{ChunkResponse}
 use Rattle.spdm_grammar.specs.Responses.{canonical_response}

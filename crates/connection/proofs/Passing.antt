@@ -1,9 +1,9 @@
 -- What a message shows that passes the tests of the clear part, and why one is refused that does not.
 use Rattle.std.proofs.Common.{refl, ◌∙◌, ◌≡◌, ◌≤◌, ◌+◌, ℕ, List, [], ◌∷◌, true, false, Bool, Option, Some, None, length, ap, sym, subst, arith}
 use Rattle.std.proofs.lemmas.Bool.{false≢true, ltb-false}
-use Rattle.std.proofs.lemmas.Option.{none-some, same_Some}
+use Rattle.std.proofs.lemmas.Option.{none-some}
 use Rattle.std.specs.Option.{option_or}
-use Rattle.std.specs.Prelude.{◌==◌, ◌&&◌, ◌||◌, if◌then◌else◌, nat_lt, not, unwrap_or}
+use Rattle.std.specs.Prelude.{◌==◌, ◌&&◌, ◌||◌, nat_lt, not, unwrap_or}
 use Rattle.negotiate.specs.declared.shared.Common.{Common}
 use Rattle.request_rules.specs.LargeAnswer as large_answer
 use Rattle.responder_machine.proofs.Tests.{tests_are_false}

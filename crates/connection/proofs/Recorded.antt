@@ -3,8 +3,7 @@ use Rattle.std.proofs.Common.{refl, ◌∙◌, ◌≡◌, ◌≢◌, ◌≤◌, 
 use Rattle.std.proofs.lemmas.Bool.{false≢true}
 use Rattle.std.proofs.lemmas.Bool.Decides.{nat_tests}
 use Rattle.std.proofs.lemmas.Option.{none-some}
-use Rattle.std.specs.Prelude.{◌==◌, ◌<◌, ◌-◌, ◌^◌, ◌||◌, nat_lt, take, drop, bytes_eq, slice_index_or, if◌then◌else◌}
-use Rattle.byteorder.specs.Endian.{little_bytes}
+use Rattle.std.specs.Prelude.{◌==◌, ◌<◌, ◌-◌, ◌^◌, ◌||◌, nat_lt, slice_index_or, if◌then◌else◌}
 use Rattle.connection.specs.Live as lives
 use Rattle.connection.specs.Live.{IsSlotOf, IsTaken, IsTakenIn}
 use Rattle.connection.specs.Sessions.{IsAnswered, IsDelivered, IsSettled, StandsFor, body_by, slot_of}
@@ -29,8 +28,7 @@ use Rattle.responder_session.specs.Laws.{told_as}
 use Rattle.responder_session.specs.Session as sessions
 use Rattle.responder_session.specs.Took.{IsSessionAfter, reply_in, turn_in}
 use Rattle.responder_machine.specs.SizeLaws.{HasSizes}
-use Rattle.secured_record.proofs.Records.{header_of_none}
-use Rattle.secured_record.specs.Faults.{fault_behind, fault_of, header_fault}
+use Rattle.secured_record.specs.Faults.{fault_behind, fault_of}
 use Rattle.spdm_machine.specs.Keys.{record_fault}
 use Rattle.spdm_basis.specs.declared.session_id.SessionId.{SessionId}
 use Rattle.spdm_basis.specs.declared.record_fault.RecordFault.TheVariants.{KeySpent}

@@ -5,7 +5,7 @@ use Rattle.std.proofs.lemmas.Bool.{false≢true}
 use Rattle.std.proofs.lemmas.Option.{none-some, same_Some}
 use Rattle.std.specs.Prelude.{◌||◌, ◌&&◌, if◌then◌else◌, is_none, nat_lt, not}
 use Rattle.std.specs.Result.{result_ok}
-use Rattle.connection.proofs.Reached.{algorithms_keep}
+use Rattle.spdm_machine.proofs.Settling.{algorithms_keep}
 use Rattle.connection.proofs.Table.{phase_allowed}
 use Rattle.connection.proofs.Outcomes.{by_clear}
 use Rattle.connection.specs.Connected.{HasSizesAt}

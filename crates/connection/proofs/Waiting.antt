@@ -1,5 +1,5 @@
 -- Sessions that wait, and sessions that were dropped unseen.
-use Rattle.std.proofs.Common.{refl, ◌∙◌, ◌≡◌, ◌≢◌, ℕ, zero, suc, List, [], ◌∷◌, true, false, Bool, Option, Some, None, ap, sym, subst, arith}
+use Rattle.std.proofs.Common.{refl, ◌∙◌, ◌≡◌, ◌≢◌, ℕ, zero, suc, [], ◌∷◌, true, false, Bool, Option, None, ap, sym, subst, arith}
 use Rattle.std.proofs.lemmas.Bool.{false≢true, eq-eqb, eqb-false}
 use Rattle.std.proofs.lemmas.Bool.Decides.{nat_tests}
 use Rattle.std.specs.Prelude.{◌==◌, ◌-◌, ◌||◌, nat_lt, slice_index_or, if◌then◌else◌}
