@@ -8,3 +8,4 @@ pub mod Reached
 pub mod Steps
 pub mod Taking
 pub mod Making
+pub mod Waiting

@@ -7,7 +7,7 @@ use Rattle.mctp_framing.specs.Cutting.{RouteFields}
 use Rattle.mctp_framing.specs.Gathering.{Gathered, gathered}
 use Rattle.mctp_framing.specs.Gathering.Gathered.{Dropped, More, Whole}
 use Rattle.mctp_framing.specs.Packet.{PacketFields, parsed}
-use Rattle.responder.proofs.Found.{Hit, none_here, none_known, others_stand}
+use Rattle.responder.proofs.Found.{Hit, none_here, none_known, others_stand, others_without}
 use Rattle.responder.proofs.Reached.{after_reached, all_draws_after, apart_stays}
 use Rattle.responder.specs.Came.{Came, IsFollowed, IsMet, came_of, came_whole, data_or, draws_in, history_after, last_after, sent_of, step_of, told_of}
 use Rattle.responder.specs.Came.Came.{Does, Told}
@@ -64,7 +64,7 @@ step_sent r c packet (Told told) = refl
 step_sent r c packet (Does route body o) = refl
 
 -- Where nothing has an outcome the connections are what they were.
-unchanged : (eid : ℕ) (cs : List Connection) → with_history eid (λ h. h) cs ≡ cs
+pub unchanged : (eid : ℕ) (cs : List Connection) → with_history eid (λ h. h) cs ≡ cs
 unchanged eid [] = refl
 unchanged eid (c ∷ others) = ap (λ (d : Connection). d ∷ with_history eid (λ h. h) others) (same (c.setup.peer == eid)) ∙ ap (λ (ds : List Connection). c ∷ ds) (unchanged eid others)
   where
@@ -243,7 +243,7 @@ drawn_next : (old : Responder) (r : Responding) → StandsFor old r → next_dra
 unfolding next_draw
 drawn_next old r stands = ap (λ (s : List ℕ). draw_of s (r.first + all_draws r.connections)) (sym stands.seed) ∙ ap (draw_of old.shared.draws.seed) (sym stands.number)
 
-pub taken_step : (r : Responding) (packet : List ℕ) (fields : PacketFields) (old new : Responder) (place : ℕ) (hit : Hit r.part (fields_in r.given) fields 0 place old.peers.items r.connections) (peer : Peer) (told : Heard) (out : List (List ℕ)) → StandsFor old r
+pub taken_step : (r : Responding) (packet : List ℕ) (fields : PacketFields) (old new : Responder) (place : ℕ) (hit : Hit r.part (fields_in r.given) fields.from 0 place old.peers.items r.connections) (peer : Peer) (told : Heard) (out : List (List ℕ)) → StandsFor old r
     → parsed packet ≡ Ok fields → fields.to ≡ old.part.eid.number → old.given < 2 ^ 40 → new.part ≡ old.part → new.given ≡ old.given + 1 → new.peers.items ≡ slice_set old.peers.items place peer
     → IsTaken r.part (fields_in r.given) hit.c fields told out peer old.shared new.shared → IsStep (hears_packet r (next_draw r) packet (parsed packet)) told out new
 taken_step r packet fields old new place hit peer told out stands is own few part given items taken =
@@ -268,6 +268,6 @@ taken_step r packet fields old new place hit peer told out stands is own few par
         given = given;
         shared = taken.met.shared;
         peers = subst (λ (xs : List Peer). ArePeers xs r.part (fields ∷ fields_in r.given) (with_history c.setup.peer (λ h. history_after h x) r.connections)) (ap (λ (n : ℕ). slice_set old.peers.items n peer) there ∙ sym items)
-            (hit.change peer (λ h. history_after h x) taken.stands);
+            (hit.change (fields ∷ fields_in r.given) (others_without r.part (fields_in r.given) fields) peer (λ h. history_after h x) taken.stands);
       }) reached;
     })

@@ -1,6 +1,7 @@
 -- The whole responder, as the program keeps it.
-use Rattle.std.specs.Prelude.{◌≡◌, ◌≢◌, ◌≤◌, ◌+◌, ◌-◌, ◌*◌, ◌^◌, ◌==◌, Bool, ℕ, List, [], ◌∷◌, length}
+use Rattle.std.specs.Prelude.{◌≡◌, ◌≢◌, ◌≤◌, ◌+◌, ◌-◌, ◌*◌, ◌^◌, ◌==◌, Bool, ℕ, List, [], ◌∷◌, length, Option, Some, None}
 use Rattle.std.specs.List.{AllByRecursion}
+use Rattle.connection.specs.Sessions.{IsViewOf}
 use Rattle.mctp_framing.specs.Packet.{PacketFields}
 use Rattle.responder.specs.Peers as peers
 use Rattle.responder.specs.SetUp.{IsPart}
@@ -8,8 +9,10 @@ use Rattle.responder.specs.declared.peer.Peer.{Peer}
 use Rattle.responder.specs.declared.serving.Responder.{Responder}
 use Rattle.responder_machine.specs.Independence.{AreKnownApart, Given, run_of}
 use Rattle.responder_machine.specs.Responding.{Connection, Responding, RspStep, all_draws, last_data}
+use Rattle.responder_machine.specs.Session.{session_of}
 use Rattle.responder_machine.specs.Setup.{RspEnd, RspPart}
 use Rattle.spdm_grammar.specs.declared.heard.Heard.{Heard}
+use Rattle.spdm_grammar.specs.declared.session_view.SessionView.{SessionView}
 use Rattle.spdm_machine.specs.Packets.{fields_in}
 
 -- The requester has this end point.
@@ -56,3 +59,8 @@ pub record IsStep (step : RspStep) (tells : Heard) (sends : List (List ℕ)) (ne
   pub told : tells ≡ step.heard
   pub sent : sends ≡ step.sent
   pub stands : StandsFor new step.after
+
+-- The session of an id of a connection is shown so; where there is no connection, none is.
+abbrev pub IsSessionAt : Option SessionView → ℕ → Option Connection → Type 0
+IsSessionAt view id None = view ≡ None
+IsSessionAt view id (Some c) = IsViewOf view (session_of id c.history)

@@ -9,8 +9,10 @@ mod fault;
 mod hearing;
 mod part;
 mod peer;
+mod queueing;
 mod serving;
 mod shared;
+mod views;
 mod whole;
 
 pub use config::{Known, RspConfig};

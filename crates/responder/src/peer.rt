@@ -1,11 +1,12 @@
-ghost use Rattle.std.specs.Prelude.{◌≡◌, ◌<◌, ◌-◌, ◌^◌, [], List, IfOk};
+ghost use Rattle.std.specs.Prelude.{◌≡◌, ◌<◌, ◌-◌, ◌^◌, ◌∷◌, [], List, IfOk, MatchResult};
 ghost use Rattle.mctp_framing.specs.Packet.{PacketFields, view_of};
-ghost use Rattle.responder.specs.Peers.{IsTaken, StandsFor};
+ghost use Rattle.responder.specs.Peers.{IsNotQueued, IsQueued, IsTaken, StandsFor};
 ghost use Rattle.responder.specs.SetUp.{IsPart, known_of};
 ghost use Rattle.responder_machine.specs.BoundLaws.{messages_of};
 ghost use Rattle.responder_machine.specs.Does.{IsMade};
+ghost use Rattle.responder_machine.specs.History.Entry.{Ticked};
 ghost use Rattle.responder_machine.specs.Responding as responding;
-ghost use Rattle.responder_machine.specs.Responding.{new_connection};
+ghost use Rattle.responder_machine.specs.Responding.{changed, new_connection};
 ghost use Rattle.responder_machine.specs.Setup.{RspPart};
 
 use crate::Known;
@@ -14,8 +15,9 @@ use crate::shared::Shared;
 use crate::whole::hear_whole;
 use connection::Connection;
 use mctp_framing::{Assembler, Fed, PacketList, PacketView};
+use responder_session::QueueFault;
 use spdm_basis::{Bytes, OutOfMemory, Psk};
-use spdm_grammar::{Heard, RspIgnored};
+use spdm_grammar::{Heard, ReplyFault, RspIgnored};
 use std::alloc::Global;
 
 // How long a body may be: its type and a record of 4,160 bytes.
@@ -91,5 +93,28 @@ impl Peer {
             Fed::More => Heard::More,
             Fed::Dropped(cause) => Heard::Ignored(RspIgnored::Dropped(cause)),
         }
+    }
+
+    // Application data waits to be sent to this requester in answer. A refusal changes nothing.
+    pub(crate) fn queue(&mut self, bytes: &[u8]) -> Result<(), ReplyFault>
+        ensures { (p : RspPart) (given : List PacketFields) (c : responding.Connection)
+            → StandsFor self.old p given c
+            → MatchResult result (λ _. IsQueued p given c bytes.now self.new)
+            (λ fault. IsNotQueued p given c bytes.now fault self.new) }
+    {
+        match self.connection.queue(bytes) {
+            Ok(()) => Ok(()),
+            Err(QueueFault::TooLong) => Err(ReplyFault::TooLong),
+            Err(QueueFault::Full) => Err(ReplyFault::Full),
+        }
+    }
+
+    // Seconds pass for this requester.
+    pub(crate) fn tick(&mut self, seconds: u32)
+        ensures { (p : RspPart) (given : List PacketFields) (c : responding.Connection)
+            → StandsFor self.old p given c
+            → StandsFor self.new p given (changed (λ h. Ticked seconds ∷ h) c) }
+    {
+        self.connection.tick(seconds);
     }
 }

@@ -123,7 +123,7 @@ impl Responder {
     }
 
     // The place of the requester with this end point, if there is one.
-    fn place_of(&self, eid: u8) -> Option<usize>
+    pub(crate) fn place_of(&self, eid: u8) -> Option<usize>
         ensures place { result ≡ position_from (has_eid eid) 0 self.now.peers.items }
         ensures inside { IfSome result (λ place. place < length self.now.peers.items) }
     {

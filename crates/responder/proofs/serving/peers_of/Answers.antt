@@ -17,4 +17,4 @@ loop-known-preserved c = λ p is.
     let more = more_peers p i c.loop-known.peers.items known x c.known-item.result c.loop-known-test.true (c.loop-known.invariant p is) stands in
     let next : suc i ≡ i + 1 = omega arith in
     subst (λ (n : ℕ). ArePeers c.push.new.self.items p [] (map (new_connection p) (map known_of (take n known)))) next
-    (subst (λ (xs : List Peer). ArePeers xs p [] (map (new_connection p) (map known_of (take (suc i) known)))) (sym c.in-Ok-push.ensures.items) more)
+    (subst (λ (xs : List Peer). ArePeers xs p [] (map (new_connection p) (map known_of (take (suc i) known)))) (sym {A = List Peer} c.in-Ok-push.ensures.items) more)

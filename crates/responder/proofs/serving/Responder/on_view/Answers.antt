@@ -25,7 +25,7 @@ pub returns-in-Some-get_mut : goal.returns-in-Some-get_mut
 returns-in-Some-get_mut c = λ r packet is empty stands.
     let fields : PacketFields = view_of c.args.view in
     let own : c.args.view.to ≡ c.args.self.now.part.eid.number = search rules in
-    let found = hit r.part (fields_in r.given) fields 0 c.in-Some.place c.args.self.now.peers.items r.connections stands.peers stands.apart (sym c.in-Some.ensures.place) in
+    let found = hit r.part (fields_in r.given) c.args.view.from 0 c.in-Some.place c.args.self.now.peers.items r.connections stands.peers stands.apart (sym c.in-Some.ensures.place) in
     let item = c.in-Some-get_mut.ensures.item in
     let seen : Peer = c.in-Some-get_mut.peer.now in
     let at = found.at in
