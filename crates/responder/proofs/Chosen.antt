@@ -1,5 +1,5 @@
 -- The values that are handed to a connection are those that the responder chooses.
-use Rattle.std.proofs.Common.{refl, ◌≡◌, ℕ, List, [], sym}
+use Rattle.std.proofs.Common.{◌≡◌, ℕ, List, [], sym}
 use Rattle.connection.specs.Free.{IsFree}
 use Rattle.connection.specs.declared.free_values.FreeValues.{FreeValues}
 use Rattle.responder_machine.specs.Does.{chosen, clear_chosen, first_queued, record_chosen}

@@ -1,9 +1,8 @@
 -- The application data that a body brings are those that its session keeps.
-use Rattle.std.proofs.Common.{refl, ◌∙◌, ◌≡◌, ◌≤◌, ◌<◌, ℕ, List, [], ◌∷◌, length, true, false, Bool, Option, Some, None, ap, sym, subst, arith, eq-eqb, drop}
+use Rattle.std.proofs.Common.{refl, ◌∙◌, ◌≡◌, ◌≤◌, ℕ, List, [], ◌∷◌, length, true, false, Bool, Option, Some, None, ap, sym, subst, arith, eq-eqb, drop}
 use Rattle.std.proofs.lemmas.Bool.{false≢true, ltb-false}
-use Rattle.std.proofs.lemmas.Option.{none-some}
 use Rattle.std.proofs.lemmas.List.{length-drop}
-use Rattle.std.specs.Prelude.{◌==◌, ◌&&◌, ◌||◌, ◌-◌, nat_lt, not, if◌then◌else◌, slice_index}
+use Rattle.std.specs.Prelude.{◌==◌, ◌&&◌, ◌||◌, nat_lt, not, if◌then◌else◌, slice_index}
 use Rattle.connection.proofs.Outcomes.{by_clear, by_record}
 use Rattle.connection.proofs.Whole.{no_data}
 use Rattle.responder.specs.Came.{IsShort, data_or, last_for}
@@ -14,7 +13,7 @@ use Rattle.responder_machine.proofs.Turns.{session_turn-effect}
 use Rattle.responder_machine.specs.Answer.{Free}
 use Rattle.responder_machine.specs.Does.{clear_chosen, clear_does, record_chosen, record_does, responder_does}
 use Rattle.responder_machine.specs.Handling.{turn_of}
-use Rattle.responder_machine.specs.Heard.{heard_in, heard_of, no_id, record_id}
+use Rattle.responder_machine.specs.Heard.{heard_of, no_id}
 use Rattle.responder_machine.specs.History.{History}
 use Rattle.responder_machine.specs.History.Entry.{Clear, Sealed}
 use Rattle.responder_machine.specs.Place.{clear_place, session_place}
@@ -76,15 +75,14 @@ and_off false b h is = absurd (false≢true is)
 short_by : (stage : Stage) (inner : List ℕ) → inner_refusal stage inner ≡ None → (slice_index inner 0 == 5) ≡ false → length (drop 1 inner) ≤ 1024
 short_by stage inner none other =
     let tests : List (Bool × ErrorCode) =
-        (length inner == 0, InvalidRequest)
-        ∷ (not (slice_index inner 0 == 5 || slice_index inner 0 == 1), InvalidRequest)
-        ∷ (slice_index inner 0 == 1 && not (is_open stage), UnexpectedRequest)
-        ∷ (slice_index inner 0 == 1 && nat_lt 1025 (length inner), RequestTooLarge)
-        ∷ [] in
+    (length inner == 0, InvalidRequest)
+    ∷ (not (slice_index inner 0 == 5 || slice_index inner 0 == 1), InvalidRequest)
+    ∷ (slice_index inner 0 == 1 && not (is_open stage), UnexpectedRequest)
+    ∷ (slice_index inner 0 == 1 && nat_lt 1025 (length inner), RequestTooLarge)
+    ∷ [] in
     let one = either_off (slice_index inner 0 == 5) (slice_index inner 0 == 1) (tests_are_false tests none 1) other in
     let fits = ltb-false 1025 (length inner) (and_off (slice_index inner 0 == 1) (nat_lt 1025 (length inner)) (tests_are_false tests none 3) one) in
     subst (λ (n : ℕ). n ≤ 1024) (sym (length-drop 1 inner)) (omega (arith, fits))
-
 
 by_type : (r : RspSetup) (s : Events) (inner : List ℕ) (f : Free) (b : Bool) (bytes answer : List ℕ) → (slice_index inner 0 == 5) ≡ b → inner_refusal (stage_of s) inner ≡ None
     → (if b then turn_of r (session_place s) (drop 1 inner) f else data_turn f (drop 1 inner)).effect ≡ TookData bytes answer → length bytes ≤ 1024
@@ -129,14 +127,14 @@ pub record_data : (r : RspSetup) (h : History) (tag : ℕ) (sealed : List ℕ) (
 record_data r h tag sealed f d before =
     by_record r h tag sealed f d (λ (o : Outcome). on_record r h tag sealed f d ≡ o → TellsData h before o) (λ body is. record { short = tt; same = refl }) (λ body is. record { short = tt; same = refl })
     (λ s inner reply is.
-      (let t : Turn = session_turn r s inner f in
-      let opened = taken_record_opened r h tag sealed f d t reply is in
-      record_entry tag sealed t.message t.refused t.chunk t.effect t.reply reply d h before (λ e refused. session_turn-effect r s inner f e refused)
-      (λ bytes sent took. (
-        short_turn r s inner f bytes sent took,
-        ap sessions.data_of (session_of-Sealed (id_in_record sealed) tag sealed t reply d h ∙ ap (λ (b : Bool). if b then after_record (session_of (id_in_record sealed) h) sealed t reply else session_of (id_in_record sealed) h) (eq-eqb (id_in_record sealed) (id_in_record sealed) refl))
-            ∙ kept_in (session_of (id_in_record sealed) h) sealed t reply bytes sent opened.1 took,
-      )))) refl
+    (let t : Turn = session_turn r s inner f in
+    let opened = taken_record_opened r h tag sealed f d t reply is in
+    record_entry tag sealed t.message t.refused t.chunk t.effect t.reply reply d h before (λ e refused. session_turn-effect r s inner f e refused)
+    (λ bytes sent took. (
+      short_turn r s inner f bytes sent took,
+      ap sessions.data_of (session_of-Sealed (id_in_record sealed) tag sealed t reply d h ∙ ap (λ (b : Bool). if b then after_record (session_of (id_in_record sealed) h) sealed t reply else session_of (id_in_record sealed) h) (eq-eqb (id_in_record sealed) (id_in_record sealed) refl))
+          ∙ kept_in (session_of (id_in_record sealed) h) sealed t reply bytes sent opened.1 took,
+    )))) refl
 
 either_data : (h : History) (before : List ℕ) (b : Bool) (x y : Outcome) → TellsData h before x → TellsData h before y → TellsData h before (if b then x else y)
 either_data h before true x y a b = a

@@ -1,9 +1,9 @@
 -- Which of the requesters a packet comes from, and what becomes of the others.
-use Rattle.std.proofs.Common.{refl, ◌≡◌, ◌≢◌, ◌∙◌, ◌+◌, ◌<◌, ℕ, zero, suc, List, [], ◌∷◌, length, Bool, true, false, cond, Option, Some, None, ap, sym, subst, arith, filter, slice_set, get_or, eq-eqb, eqb-true, ne_eqb, find}
-use Rattle.std.proofs.lemmas.Bool.{and_right, eqb-false, true≢false}
+use Rattle.std.proofs.Common.{refl, ◌≡◌, ◌≢◌, ◌∙◌, ◌+◌, ◌<◌, ℕ, suc, List, [], ◌∷◌, length, Bool, true, false, cond, Some, None, ap, sym, subst, arith, filter, slice_set, get_or, eq-eqb, eqb-true, ne_eqb}
+use Rattle.std.proofs.lemmas.Bool.{and_right, eqb-false}
 use Rattle.std.proofs.lemmas.Option.{none-some, same_Some}
 use Rattle.std.specs.List.{AllByRecursion, position_from}
-use Rattle.std.specs.Prelude.{◌==◌, ◌&&◌, if◌then◌else◌}
+use Rattle.std.specs.Prelude.{◌==◌, ◌&&◌}
 use Rattle.mctp_framing.specs.Assembling.{StandsForGroup}
 use Rattle.mctp_framing.specs.Gathering.{Receiver, group_of, is_ours}
 use Rattle.mctp_framing.specs.Packet.{PacketFields}
@@ -12,7 +12,7 @@ use Rattle.responder.specs.Standing.{AreApart, ArePeers, has_eid}
 use Rattle.responder.specs.declared.peer.Peer.{Peer}
 use Rattle.responder_machine.specs.EndLaws.{receiver_of}
 use Rattle.responder_machine.specs.History.{History}
-use Rattle.responder_machine.specs.Responding.{Connection, changed, changed_if, connection_of, with_history}
+use Rattle.responder_machine.specs.Responding.{Connection, changed, connection_of, with_history}
 use Rattle.responder_machine.specs.Setup.{RspPart, RspSetup}
 
 -- The end point of a connection is that of its requester.

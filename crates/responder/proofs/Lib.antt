@@ -9,3 +9,4 @@ pub mod Steps
 pub mod Taking
 pub mod Making
 pub mod Waiting
+pub mod Harmless

@@ -1,15 +1,13 @@
 -- What a configuration has shown that has no fault.
-use Rattle.std.proofs.Common.{refl, ◌≡◌, ◌≤◌, ◌<◌, ℕ, List, [], ◌∷◌, length, true, false, Bool, Option, Some, None, sym, arith}
+use Rattle.std.proofs.Common.{refl, ◌≡◌, ◌≤◌, ℕ, length, true, false, Bool, Option, Some, None, sym}
 use Rattle.std.proofs.lemmas.Bool.{false≢true, leb-true, ltb-false}
 use Rattle.std.proofs.lemmas.Option.{none-some}
 use Rattle.std.specs.Option.{option_or, option_map}
-use Rattle.std.specs.Prelude.{◌==◌, ◌&&◌, ◌||◌, nat_le, nat_lt, not, if◌then◌else◌}
+use Rattle.std.specs.Prelude.{◌||◌, nat_lt, not, if◌then◌else◌}
 use Rattle.measurements.specs.Faults.{inventory_fault}
-use Rattle.negotiate.specs.OwnSizes.{may_be_own}
 use Rattle.spdm_basis.proofs.Bools.{and_first, and_second}
-use Rattle.responder.specs.Config.{config_fault, has_long_hint, has_same_eid, is_out_of_range, set_up_fault}
+use Rattle.responder.specs.Config.{config_fault, has_same_eid, set_up_fault}
 use Rattle.responder.specs.declared.config.RspConfig.{RspConfig}
-use Rattle.responder.specs.declared.fault.RspConfigFault.{RspConfigFault}
 use Rattle.responder.specs.declared.fault.RspConfigFault.TheVariants.{Inventory}
 use Rattle.spdm_grammar.specs.declared.names.TheConstants.{MAX_MESSAGE_SIZE}
 

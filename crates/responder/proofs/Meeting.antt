@@ -4,7 +4,7 @@ use Rattle.std.specs.Prelude.{◌==◌, ◌||◌, not, if◌then◌else◌}
 use Rattle.hmac_hkdf.specs.Draw.{draw}
 use Rattle.hmac_hkdf.specs.declared.draws.Drawn.{Drawn}
 use Rattle.mctp_framing.specs.Cutting.{RouteFields}
-use Rattle.responder.specs.Came.{Came, came_whole}
+use Rattle.responder.specs.Came.{came_whole}
 use Rattle.responder.specs.Came.Came.{Does, Told}
 use Rattle.responder.specs.Drawing.{draw_as}
 use Rattle.responder_machine.specs.Does.{responder_does}

@@ -1,5 +1,5 @@
 -- What a responder keeps over every step.
-use Rattle.std.proofs.Common.{refl, ◌≡◌, ◌≢◌, ◌≤◌, ◌<◌, ◌∙◌, ◌+◌, ◌-◌, ◌^◌, ℕ, List, [], ◌∷◌, length, Bool, true, false, cond, map, ap, sym, subst, inl, inr, arith, lit<}
+use Rattle.std.proofs.Common.{refl, ◌≡◌, ◌≢◌, ◌≤◌, ◌<◌, ◌∙◌, ◌+◌, ◌-◌, ◌^◌, ℕ, List, [], ◌∷◌, Bool, true, false, cond, map, ap, sym, subst, inl, inr, arith, lit<}
 use Rattle.std.specs.List.{AllByRecursion}
 use Rattle.connection.specs.ClearPart.{is_drawn}
 use Rattle.responder.specs.Came.{Came, drawn_by, draws_in, history_after}
@@ -16,7 +16,7 @@ use Rattle.responder_machine.specs.Independence.{Given, IsRun, after_given}
 use Rattle.responder_machine.specs.Responder.{Outcome, after}
 use Rattle.responder_machine.specs.Responder.Outcome.{Adds, Same, Unopened}
 use Rattle.responder_machine.specs.Responding.{Connection, Responding, all_draws, over_all, with_history}
-use Rattle.responder_machine.specs.Setup.{RspEnd, RspSetup}
+use Rattle.responder_machine.specs.Setup.{RspSetup}
 use Rattle.responder_machine.specs.Turn.{takes_draw}
 use Rattle.spdm_machine.proofs.Members.{IsIn}
 

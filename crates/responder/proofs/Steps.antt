@@ -1,15 +1,15 @@
 -- The steps of a responder, by what comes of a packet at a connection.
-use Rattle.std.proofs.Common.{refl, ◌≡◌, ◌≢◌, ◌≤◌, ◌<◌, ◌∙◌, ◌+◌, ◌-◌, ◌^◌, ℕ, List, [], ◌∷◌, length, Bool, true, false, cond, not, nat_le, map, Option, Some, None, Result, Ok, Err, ap, sym, subst, arith, slice_set, eq-eqb, ne_eqb}
+use Rattle.std.proofs.Common.{refl, ◌≡◌, ◌≢◌, ◌≤◌, ◌<◌, ◌∙◌, ◌+◌, ◌^◌, ℕ, List, [], ◌∷◌, length, Bool, true, false, cond, not, Option, Some, None, Result, Ok, Err, ap, sym, subst, arith, slice_set, eq-eqb, ne_eqb}
 use Rattle.std.proofs.lemmas.Bool.Decides.{nat_tests}
 use Rattle.std.specs.List.{position_from}
-use Rattle.std.specs.Prelude.{◌==◌, ◌||◌, if◌then◌else◌}
+use Rattle.std.specs.Prelude.{◌==◌, ◌||◌}
 use Rattle.mctp_framing.specs.Cutting.{RouteFields}
 use Rattle.mctp_framing.specs.Gathering.{Gathered, gathered}
 use Rattle.mctp_framing.specs.Gathering.Gathered.{Dropped, More, Whole}
 use Rattle.mctp_framing.specs.Packet.{PacketFields, parsed}
 use Rattle.responder.proofs.Found.{Hit, none_here, none_known, others_stand, others_without}
 use Rattle.responder.proofs.Reached.{after_reached, all_draws_after, apart_stays}
-use Rattle.responder.specs.Came.{Came, IsFollowed, IsMet, came_of, came_whole, data_or, draws_in, history_after, last_after, sent_of, step_of, told_of}
+use Rattle.responder.specs.Came.{Came, IsFollowed, came_of, came_whole, data_or, history_after, sent_of, step_of, told_of}
 use Rattle.responder.specs.Came.Came.{Does, Told}
 use Rattle.responder.specs.Peers.{IsTaken, gathered_at}
 use Rattle.responder.specs.SetUp.{IsPart}
@@ -21,11 +21,10 @@ use Rattle.responder.specs.declared.shared.Shared.{Shared}
 use Rattle.responder_machine.proofs.Connected.{changed_keeps}
 use Rattle.responder_machine.specs.Does.{responder_does}
 use Rattle.responder_machine.specs.EndLaws.{receiver_of}
-use Rattle.responder_machine.specs.History.{History}
 use Rattle.responder_machine.specs.Independence.Given.{Packet}
-use Rattle.responder_machine.specs.Responder.{Outcome, after}
-use Rattle.responder_machine.specs.Responding.{Connection, Responding, RspStep, all_draws, answers, changed, changed_if, connection_of, data_of, hears_from, hears_gathered, hears_packet, hears_whole, ignores, is_worn, last_data, next_draw, responder_hears, with_history, with_taken, worn_step}
-use Rattle.responder_machine.specs.Setup.{RspPart, RspSetup}
+use Rattle.responder_machine.specs.Responder.{after}
+use Rattle.responder_machine.specs.Responding.{Connection, Responding, RspStep, all_draws, changed, changed_if, connection_of, data_of, hears_from, hears_gathered, hears_packet, hears_whole, ignores, is_worn, last_data, next_draw, responder_hears, with_history, with_taken, worn_step}
+use Rattle.responder_machine.specs.Setup.{RspSetup}
 use Rattle.spdm_basis.specs.declared.DropCause.TheVariants.{NotOurs}
 use Rattle.spdm_basis.specs.declared.PacketFault.{PacketFault}
 use Rattle.spdm_basis.specs.declared.session_id.SessionId.{SessionId}
@@ -34,7 +33,7 @@ use Rattle.spdm_grammar.specs.declared.heard.Heard.TheVariants as heard
 use Rattle.spdm_grammar.specs.declared.heard.RspIgnored.TheVariants as ignored
 use Rattle.spdm_machine.proofs.Members.{IsIn, found_in}
 use Rattle.spdm_machine.specs.Keys.{Draw, draw_of}
-use Rattle.spdm_machine.specs.Packets.{body_type, fields_in, fields_with, gathered_from, wear_limit}
+use Rattle.spdm_machine.specs.Packets.{body_type, fields_in, fields_with, gathered_from}
 
 -- ---- A step is told, sent and left as what came says.
 

@@ -1,5 +1,5 @@
 -- A packet of a requester, where its bodies are gathered.
-use Rattle.std.proofs.Common.{refl, ◌≡◌, ◌∙◌, ◌+◌, ℕ, List, [], ◌∷◌, Bool, true, false, cond, not, Option, Some, None, ap, sym, subst, arith, eqb-true, filter}
+use Rattle.std.proofs.Common.{refl, ◌≡◌, ◌∙◌, ℕ, List, [], ◌∷◌, Bool, true, false, cond, not, Option, Some, None, ap, sym, arith, eqb-true, filter}
 use Rattle.std.specs.Prelude.{◌==◌}
 use Rattle.connection.specs.Connected as connected
 use Rattle.connection.specs.declared.connected.Connection as kept
@@ -7,7 +7,7 @@ use Rattle.mctp_framing.specs.Gathering.{Gathered, Receiver, answer_from, answer
 use Rattle.mctp_framing.specs.Gathering.Gathered.{Dropped, More, Whole}
 use Rattle.mctp_framing.specs.Packet.{PacketFields}
 use Rattle.responder.proofs.Found.{peer_of}
-use Rattle.responder.specs.Came.{Came, IsMet, came_of}
+use Rattle.responder.specs.Came.{IsMet}
 use Rattle.responder.specs.Came.Came.{Told}
 use Rattle.responder.specs.Peers.{StandsFor, gathered_at}
 use Rattle.responder.specs.declared.peer.Peer.{Peer}
@@ -19,7 +19,6 @@ use Rattle.spdm_basis.proofs.Bools.{and_first, and_second}
 use Rattle.spdm_basis.specs.declared.DropCause.{DropCause}
 use Rattle.spdm_basis.specs.declared.DropCause.TheVariants.{NoStart, NotOurs}
 use Rattle.spdm_grammar.specs.declared.heard.Heard.{Heard}
-use Rattle.spdm_machine.specs.Keys.{Draw}
 
 -- A whole body goes from the peer to the own end point.
 abbrev pub EndsAt : Receiver → Gathered → Type 0
@@ -43,8 +42,8 @@ pub ends_at : (r : Receiver) (earlier : List PacketFields) (p : PacketFields) �
 ends_at r earlier p =
     let group : List PacketFields = group_of (filter (is_ours r) earlier) in
     by_owner r p (is_ours r p) _ refl (λ ends.
-      either r p.start (answer_of r.limit p []) (cond (belongs_to r.limit p group) (answer_of r.limit p group) (Dropped NoStart)) (by_rule r p (broken_rule r.limit (p ∷ [])) (joined (p ∷ [])) ends)
-          (either r (belongs_to r.limit p group) (answer_of r.limit p group) (Dropped NoStart) (by_rule r p (broken_rule r.limit (p ∷ group)) (joined (p ∷ group)) ends) tt))
+    either r p.start (answer_of r.limit p []) (cond (belongs_to r.limit p group) (answer_of r.limit p group) (Dropped NoStart)) (by_rule r p (broken_rule r.limit (p ∷ [])) (joined (p ∷ [])) ends)
+    (either r (belongs_to r.limit p group) (answer_of r.limit p group) (Dropped NoStart) (by_rule r p (broken_rule r.limit (p ∷ group)) (joined (p ∷ group)) ends) tt))
 
 -- What the assembler tells is what comes of the packet.
 pub gathered_is : (x : Peer) (p : RspPart) (given : List PacketFields) (c : Connection) (packet : PacketFields) (g : Gathered) → StandsFor x p given c → g ≡ gathered x.assembler.receiver given packet → g ≡ gathered_at p given c packet

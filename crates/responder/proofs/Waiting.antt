@@ -1,5 +1,5 @@
 -- Application data that are queued, and seconds that pass.
-use Rattle.std.proofs.Common.{refl, ◌≡◌, ◌≢◌, ◌≤◌, ◌<◌, ◌∙◌, ◌+◌, ℕ, zero, suc, List, [], ◌∷◌, length, Bool, true, false, cond, map, Option, Some, None, Result, Ok, Err, nat_le, nat_lt, ap, sym, subst, arith, slice_set, get_or}
+use Rattle.std.proofs.Common.{refl, ◌≡◌, ◌<◌, ◌∙◌, ◌+◌, ℕ, zero, suc, List, [], ◌∷◌, length, Bool, true, false, cond, map, Option, Some, None, Result, Ok, Err, nat_le, nat_lt, ap, sym, subst, arith, slice_set, get_or}
 use Rattle.std.specs.Prelude.{◌==◌, MatchResult}
 use Rattle.mctp_framing.specs.Packet.{PacketFields}
 use Rattle.responder.proofs.Found.{Hit}

@@ -4,3 +4,4 @@ pub mod Drawing
 pub mod Peers
 pub mod SetUp
 pub mod Standing
+pub mod Unharmed

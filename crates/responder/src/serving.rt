@@ -29,11 +29,7 @@ pub struct Responder {
 }
 
 // What is kept of the requesters from which nothing came yet.
-fn peers_of(
-    alloc: Global,
-    part: &Part,
-    config: &RspConfig<'_>,
-) -> Result<Vec<Peer>, OutOfMemory>
+fn peers_of(alloc: Global, part: &Part, config: &RspConfig<'_>) -> Result<Vec<Peer>, OutOfMemory>
     ensures { (p : RspPart) → IsPart part.now p
         → IfOk result (λ peers. ArePeers peers.items p []
         (map (new_connection p) (map known_of config.now.known.now))) }
@@ -55,6 +51,7 @@ impl Responder {
     ghost use Rattle.responder.specs.Config.{IsCause, config_fault};
     ghost use Rattle.responder.specs.SetUp.{end_of};
     ghost use Rattle.responder.specs.Standing.{IsStep, StandsFor, has_eid};
+    ghost use Rattle.responder.specs.Unharmed.{IsHarmless};
     ghost use Rattle.std.specs.List.{position_from};
     ghost use Rattle.responder_machine.specs.Responding.{Responding, hears_packet, is_worn, new_responding, next_draw, responder_hears};
 
@@ -104,10 +101,14 @@ impl Responder {
     }
 
     /// A packet is given to the responder. The packets that answer it are put in place of what `out` holds. It
-    /// takes no memory.
+    /// takes no memory. A refused request changes no session but for the numbers, the kept reply and the clock of
+    /// the one that its record names, and nothing of another connection; where nothing is taken no connection
+    /// changes.
     pub fn on_packet(&mut self, packet: &[u8], out: &mut PacketList) -> Heard
-        ensures { (r : Responding) → StandsFor self.old r
+        ensures step { (r : Responding) → StandsFor self.old r
             → IsStep (responder_hears r packet.now) result out.new self.new }
+        ensures harmless { (r : Responding) → StandsFor self.old r
+            → IsHarmless r packet.now result }
     {
         out.clear();
         if self.given >= WEAR_LIMIT {
@@ -127,7 +128,9 @@ impl Responder {
         ensures place { result ≡ position_from (has_eid eid) 0 self.now.peers.items }
         ensures inside { IfSome result (λ place. place < length self.now.peers.items) }
     {
-        self.peers.iter().position(|peer| peer.known.eid.number() == eid)
+        self.peers
+            .iter()
+            .position(|peer| peer.known.eid.number() == eid)
     }
 
     // A packet is given to the responder, which is not worn.

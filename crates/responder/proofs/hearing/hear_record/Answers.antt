@@ -1,4 +1,4 @@
-use Rattle.std.proofs.Common.{◌≡◌, ◌∙◌, ℕ, List, ap, refl}
+use Rattle.std.proofs.Common.{◌∙◌, ℕ, List, ap, refl}
 use Rattle.connection.specs.Sessions.{body_by}
 use Rattle.responder.proofs.Chosen.{record_are}
 use Rattle.responder.proofs.hearing.hear_record.Goals as goal

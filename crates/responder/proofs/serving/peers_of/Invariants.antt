@@ -1,5 +1,4 @@
 use Rattle.std.proofs.Common.{map, take}
-use Rattle.mctp_framing.specs.Packet.{PacketFields}
 use Rattle.responder.proofs.serving.peers_of.Given as goal
 use Rattle.responder.specs.SetUp.{IsPart, known_of}
 use Rattle.responder.specs.Standing.{ArePeers}

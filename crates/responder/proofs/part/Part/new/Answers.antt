@@ -1,4 +1,4 @@
-use Rattle.std.proofs.Common.{◌≤◌, ◌≡◌, ℕ, List, length, subst, sym}
+use Rattle.std.proofs.Common.{◌≤◌, ℕ, List, length, subst, sym}
 use Rattle.responder.proofs.Limits.{limits}
 use Rattle.responder.proofs.part.Part.new.Goals as goal
 

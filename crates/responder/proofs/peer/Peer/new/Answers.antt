@@ -1,4 +1,4 @@
-use Rattle.std.proofs.Common.{◌≡◌, ◌∙◌, ℕ, ap, subst, sym}
+use Rattle.std.proofs.Common.{◌∙◌, ℕ, ap, subst, sym}
 use Rattle.connection.specs.Setup.{IsSetUp}
 use Rattle.responder.proofs.peer.Peer.new.Goals as goal
 use Rattle.responder.specs.SetUp.{known_of}

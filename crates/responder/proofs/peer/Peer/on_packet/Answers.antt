@@ -1,4 +1,4 @@
-use Rattle.std.proofs.Common.{◌≡◌, ◌∙◌, ℕ, List, ap, refl, subst, sym}
+use Rattle.std.proofs.Common.{◌∙◌, ap, subst, sym}
 use Rattle.connection.specs.Setup.{IsSetUp}
 use Rattle.mctp_framing.specs.Cutting.{route_of}
 use Rattle.mctp_framing.specs.Gathering.{Gathered}
@@ -8,10 +8,8 @@ use Rattle.responder.proofs.Found.{peer_of}
 use Rattle.responder.proofs.Taking.{EndsAt, ends_at, gathered_is, told_met}
 use Rattle.responder.proofs.peer.Peer.on_packet.Goals as goal
 use Rattle.responder.specs.Came.{Came, IsMet, came_of}
-use Rattle.responder.specs.Peers.{gathered_at}
 use Rattle.responder.specs.SetUp.{known_of}
 use Rattle.responder_machine.specs.EndLaws.{receiver_of}
-use Rattle.responder_machine.specs.Setup.{RspSetup}
 use Rattle.spdm_grammar.specs.declared.heard.Heard.TheVariants as heard
 use Rattle.spdm_grammar.specs.declared.heard.RspIgnored.TheVariants as ignored
 use Rattle.spdm_machine.specs.Keys.{Draw, draw_of}

@@ -1,4 +1,4 @@
-use Rattle.std.proofs.Common.{rules, refl, ◌≡◌, ◌≢◌, ◌∙◌, ◌<◌, ◌-◌, ◌^◌, ℕ, List, ap, subst, sym, arith, get_or}
+use Rattle.std.proofs.Common.{rules, refl, ◌≡◌, ◌≢◌, ◌∙◌, ◌<◌, ◌-◌, ◌^◌, ℕ, ap, subst, sym, arith, get_or}
 use Rattle.mctp_framing.specs.Packet.{PacketFields, view_of}
 use Rattle.responder.proofs.Found.{hit}
 use Rattle.responder.proofs.Reached.{made_in, messages_few, number_few, run_is}

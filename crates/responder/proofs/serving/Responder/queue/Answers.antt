@@ -1,4 +1,4 @@
-use Rattle.std.proofs.Common.{refl, ◌≡◌, ◌∙◌, ℕ, List, Option, Some, None, ap, subst, sym}
+use Rattle.std.proofs.Common.{refl, ◌≡◌, ℕ, List, Option, Some, None, ap, subst, sym}
 use Rattle.responder.proofs.Found.{hit, none_found}
 use Rattle.responder.proofs.Waiting.{queue_stands, queue_told, seen_stands, unknown_stands}
 use Rattle.responder.proofs.serving.Responder.queue.Goals as goal

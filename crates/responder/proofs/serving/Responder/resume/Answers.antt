@@ -1,4 +1,4 @@
-use Rattle.std.proofs.Common.{refl, ◌≡◌, ◌≤◌, ◌*◌, ◌^◌, ◌∙◌, ℕ, List, [], ap, arith, map}
+use Rattle.std.proofs.Common.{refl, ◌*◌, ◌^◌, [], ap, arith, map}
 use Rattle.hmac_hkdf.specs.Draw.{Draws}
 use Rattle.responder.proofs.Limits.{limits}
 use Rattle.responder.proofs.Making.{known_apart, new_apart, no_draws}

@@ -1,4 +1,4 @@
-use Rattle.std.proofs.Common.{◌≡◌, ◌≤◌, ◌∙◌, ℕ, List, ap, length, subst, sym}
+use Rattle.std.proofs.Common.{◌≤◌, ◌∙◌, ℕ, List, ap, length, subst, sym}
 use Rattle.responder.proofs.Filled.{filled}
 use Rattle.responder.proofs.shared.Shared.follow.Goals as goal
 use Rattle.responder.specs.Came.{IsShort, last_for}
