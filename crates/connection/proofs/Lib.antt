@@ -18,3 +18,4 @@ pub mod Exchanged
 pub mod Shown
 pub mod Harmless
 pub mod Queued
+pub mod Draws

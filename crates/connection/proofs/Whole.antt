@@ -49,7 +49,7 @@ by_no_data r p m f None None = effect_no_data (request_at p m) m (answer_bytes r
 by_no_data r p m f None (Some c) =
     either_no_data c.last (last_chunk_turn r (inside p) m f c (completed_at p c)) (taken_chunk m c NoEffect []) (carried_no_data r (inside p) m f c (completed_at p c) (refusal r (inside p) (completed_at p c) f)) refl
 
-no_data : (r : RspSetup) (p : Place) (m : List ℕ) (f : Free) → is_data (turn_of r p m f).effect ≡ false
+pub no_data : (r : RspSetup) (p : Place) (m : List ℕ) (f : Free) → is_data (turn_of r p m f).effect ≡ false
 unfolding turn_of
 no_data r p m f = by_no_data r p m f (refusal r p m f) (chunk_in (request_at p m))
 

@@ -1,5 +1,5 @@
 -- The clear part of a connection, as the program keeps it.
-use Rattle.std.specs.Prelude.{◌≡◌, ℕ, List, false, Option}
+use Rattle.std.specs.Prelude.{◌≡◌, ℕ, List, Bool, false, Option}
 use Rattle.connection.specs.Coming as coming
 use Rattle.connection.specs.Coming.{IsBegun}
 use Rattle.connection.specs.declared.came.Begun.{Begun}
@@ -8,12 +8,12 @@ use Rattle.connection.specs.declared.told.Told.TheVariants as told
 use Rattle.responder_machine.specs.Answer.{Free}
 use Rattle.responder_machine.specs.Heard.{heard_of}
 use Rattle.responder_machine.specs.History.{History, Kept, clear_turns, kept_of}
-use Rattle.responder_machine.specs.History.Entry.{Clear}
+use Rattle.responder_machine.specs.History.Entry.{Clear, Sealed}
 use Rattle.responder_machine.specs.Place.{clear_place}
 use Rattle.responder_machine.specs.Responder.{Outcome, after, body_of, is_repeat, on_clear}
 use Rattle.responder_machine.specs.Responder.Outcome.{Adds}
 use Rattle.responder_machine.specs.Setup.{RspSetup}
-use Rattle.responder_machine.specs.Turn.{takes}
+use Rattle.responder_machine.specs.Turn.{takes, takes_draw}
 use Rattle.spdm_grammar.specs.declared.heard.Heard.{Heard}
 use Rattle.spdm_grammar.specs.declared.names.request_code.TheConstants.{PSK_EXCHANGE}
 use Rattle.spdm_machine.specs.Bodies.{clear_body}
@@ -42,6 +42,12 @@ pub record IsBeginning (r : RspSetup) (h : History) (tag : ℕ) (m : List ℕ) (
   pub begins : IsBegun r (clear_place h) m f begun new.requests
   pub kept : new.kept ≡ kept_of h
 
+-- The entry that it adds takes a draw.
+abbrev pub is_drawn : Outcome → Bool
+is_drawn (Adds (Clear tag t d)) = takes_draw t
+is_drawn (Adds (Sealed tag m t reply d)) = takes_draw t
+is_drawn _ = false
+
 -- It takes no PSK_EXCHANGE.
 abbrev pub BeginsNone : Outcome → Type 0
 BeginsNone (Adds (Clear tag t d)) = takes PSK_EXCHANGE t ≡ false
@@ -49,5 +55,5 @@ BeginsNone _ = Unit {0}
 
 -- The one or the other: what is answered begins no session.
 abbrev pub IsTold : RspSetup → History → (tag : ℕ) → List ℕ → Free → Draw → Told → (new : Seen) → (out : List ℕ) → Type 0
-IsTold r h tag m f d (told.Heard heard) new out = IsAnswered r h tag m f d heard new out × BeginsNone (on_clear r h tag m f d)
+IsTold r h tag m f d (told.Heard heard drawn) new out = IsAnswered r h tag m f d heard new out × BeginsNone (on_clear r h tag m f d) × (drawn ≡ is_drawn (on_clear r h tag m f d))
 IsTold r h tag m f d (told.Begins begun) new out = IsBeginning r h tag m f begun new

@@ -1,5 +1,5 @@
 -- A responder's connection with one requester, as the program keeps it.
-use Rattle.std.specs.Prelude.{◌≡◌, ℕ, List, drop, true}
+use Rattle.std.specs.Prelude.{◌≡◌, ◌==◌, ℕ, List, drop, Bool, true, false}
 use Rattle.connection.specs.ClearPart as clear_parts
 use Rattle.connection.specs.Sessions as sessions
 use Rattle.connection.specs.declared.connected.Connection.{Connection}
@@ -12,6 +12,7 @@ use Rattle.responder_machine.specs.SizeLaws.{HasSizes}
 use Rattle.responder_machine.specs.Turn.{Turn}
 use Rattle.spdm_grammar.specs.declared.heard.Heard.{Heard}
 use Rattle.spdm_grammar.specs.declared.heard.Heard.TheVariants as heard
+use Rattle.spdm_grammar.specs.declared.names.request_code.TheConstants.{GET_MEASUREMENTS}
 use Rattle.spdm_machine.specs.Terms.{terms_of}
 
 -- From phase Capable on, the sizes of messages are those that were settled at a responder with its own.
@@ -42,3 +43,8 @@ pub record IsDone (r : RspSetup) (h : History) (o : Outcome) (hears : Heard) (se
 abbrev pub queue_left : Heard → List (List ℕ) → List (List ℕ)
 queue_left (heard.Taken id) waiting = drop 1 waiting
 queue_left _ waiting = waiting
+
+-- What is told of a record whose request takes a draw.
+abbrev pub tells_measured : Heard → Bool
+tells_measured (heard.Answered code) = code == GET_MEASUREMENTS
+tells_measured _ = false

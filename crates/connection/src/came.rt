@@ -14,8 +14,8 @@ pub enum Begun {
 pub enum Came {
     /// It is refused with this code.
     Refused(ErrorCode),
-    /// It is answered.
-    Answered,
+    /// It is answered; whether a draw was taken for its nonce.
+    Answered { drawn: bool },
     /// It begins a session, whose PSK_EXCHANGE_RSP is still to be made.
     Begins(Begun),
 }

@@ -80,13 +80,22 @@ impl ClearPart {
     {
         if self.kept.is_repeat(tag, message) {
             replace(out, self.kept.reply());
-            return Told::Heard(Heard::Same);
+            return Told::Heard {
+                heard: Heard::Same,
+                drawn: false,
+            };
         }
         match self.requests.on_request(setup, held, message, free, out) {
-            Came::Refused(code) => Told::Heard(Heard::Refused(code.number())),
-            Came::Answered => {
+            Came::Refused(code) => Told::Heard {
+                heard: Heard::Refused(code.number()),
+                drawn: false,
+            },
+            Came::Answered { drawn } => {
                 self.kept.keep(tag, message, out.as_slice());
-                Told::Heard(Heard::Answered(code_at(message)))
+                Told::Heard {
+                    heard: Heard::Answered(code_at(message)),
+                    drawn,
+                }
             }
             Came::Begins(begun) => Told::Begins(begun),
         }

@@ -1,11 +1,12 @@
 ghost use Rattle.std.specs.Prelude.{◌≡◌};
-ghost use Rattle.connection.specs.Connected.{queue_left};
+ghost use Rattle.connection.specs.Connected.{queue_left, tells_measured};
 
 use crate::clear_part::code_at;
 use crate::{Begun, ClearPart, FreeValues, Sessions, Setup, Told};
 use responder_session::{AppQueue, QueueFault, RecordFree, Work};
 use spdm_basis::{Frame, RecordFrame};
 use spdm_grammar::Heard;
+use spdm_grammar::names::request_code::GET_MEASUREMENTS;
 
 /// A responder's connection with one requester (DSP0274, section 10), with every free value handed in: the
 /// clear part, the sessions by RspSessionID, and the application data that waits to be sent in answer. It lies
@@ -15,6 +16,8 @@ pub struct Connection {
     pub(crate) clear: ClearPart,
     pub(crate) sessions: Sessions,
     pub(crate) queue: AppQueue,
+    // Whether the body that came last took a draw.
+    pub(crate) drawn: bool,
 }
 
 // Application data that was taken uses up what waits first.
@@ -23,6 +26,16 @@ fn use_up(queue: &mut AppQueue, heard: Heard)
 {
     if let Heard::Taken(_) = heard {
         queue.advance();
+    }
+}
+
+// Whether what is told of a record tells GET_MEASUREMENTS, which takes a draw.
+fn tells_measured(heard: Heard) -> bool
+    ensures { result ≡ tells_measured heard }
+{
+    match heard {
+        Heard::Answered(code) => code == GET_MEASUREMENTS,
+        _ => false,
     }
 }
 
@@ -40,7 +53,7 @@ impl Connection {
     ghost use Rattle.responder_session.specs.Queue.{queue_fault};
     ghost use Rattle.spdm_machine.specs.Bodies.{clear_body};
     ghost use Rattle.spdm_machine.specs.Keys.{Draw};
-    ghost use Rattle.connection.specs.ClearPart.{IsBeginning};
+    ghost use Rattle.connection.specs.ClearPart.{IsBeginning, is_drawn};
     ghost use Rattle.connection.specs.Connected.{IsDone, StandsBeside, StandsFor};
     ghost use Rattle.connection.specs.Free.{IsFree};
     ghost use Rattle.connection.specs.Harmless.{IsClearHarmless, IsRecordHarmless};
@@ -55,6 +68,7 @@ impl Connection {
             clear: ClearPart::new(setup),
             sessions: Sessions::new(),
             queue: AppQueue::new(),
+            drawn: false,
         }
     }
 
@@ -74,6 +88,9 @@ impl Connection {
         ensures done { (r : RspSetup) (h : History) (f : Free) (d : Draw) → IsSetUp setup.now r
             → IsFree free.now f → IsAllowed h (clear_place h) f → StandsFor self.old r h
             → IsDone r h (on_clear r h tag message.now f d) result (clear_body out.new) self.new }
+        ensures drawn { (r : RspSetup) (h : History) (f : Free) (d : Draw) → IsSetUp setup.now r
+            → IsFree free.now f → IsAllowed h (clear_place h) f → StandsFor self.old r h
+            → self.new.drawn ≡ is_drawn (on_clear r h tag message.now f d) }
         ensures harmless { (r : RspSetup) (h : History) (f : Free) (d : Draw)
             → IsSetUp setup.now r → IsFree free.now f → IsAllowed h (clear_place h) f
             → StandsFor self.old r h
@@ -81,8 +98,9 @@ impl Connection {
     {
         let held = self.sessions.held();
         match self.clear.on_clear(setup, held, tag, message, free, out) {
-            Told::Heard(heard) => {
+            Told::Heard { heard, drawn } => {
                 self.sessions.follow(heard);
+                self.drawn = drawn;
                 heard
             }
             Told::Begins(begun) => self.begin(begun, setup, tag, message, free, out),
@@ -101,10 +119,14 @@ impl Connection {
     ) -> Heard
         requires least { 1 ≤ free.now.id }
         requires most { free.now.id ≤ 4 }
-        ensures { (r : RspSetup) (h : History) (f : Free) (d : Draw) → IsSetUp setup.now r
+        ensures done { (r : RspSetup) (h : History) (f : Free) (d : Draw) → IsSetUp setup.now r
             → IsFree free.now f → IsAllowed h (clear_place h) f
             → IsBeginning r h tag message.now f begun self.old.clear → StandsBeside self.old r h
             → IsDone r h (on_clear r h tag message.now f d) result (clear_body out.new) self.new }
+        ensures drawn { (r : RspSetup) (h : History) (f : Free) (d : Draw) → IsSetUp setup.now r
+            → IsFree free.now f → IsAllowed h (clear_place h) f
+            → IsBeginning r h tag message.now f begun self.old.clear → StandsBeside self.old r h
+            → self.new.drawn ≡ is_drawn (on_clear r h tag message.now f d) }
     {
         let mut answer = Frame::new();
         let session = self.clear.start(begun, setup, message, free, &mut answer);
@@ -112,6 +134,7 @@ impl Connection {
         self.clear
             .begin(begun, tag, message, bytes, free.handle, out);
         self.sessions.begin(free.id, session, bytes);
+        self.drawn = true;
         Heard::Answered(code_at(message))
     }
 
@@ -134,6 +157,10 @@ impl Connection {
             → IsSetUp setup.now r → AreFree free.now f → messages_of h < 2 ^ 64 - 1
             → StandsFor self.old r h → IsDone r h (on_record r h tag sealed.now f d) result
             (body_by result out.new) self.new }
+        ensures drawn { (r : RspSetup) (h : History) (tag : ℕ) (f : Free) (d : Draw)
+            → IsSetUp setup.now r → AreFree free.now f → messages_of h < 2 ^ 64 - 1
+            → StandsFor self.old r h
+            → self.new.drawn ≡ is_drawn (on_record r h tag sealed.now f d) }
         ensures harmless { (r : RspSetup) (h : History) (tag : ℕ) (f : Free) (d : Draw)
             → IsSetUp setup.now r → AreFree free.now f → messages_of h < 2 ^ 64 - 1
             → StandsFor self.old r h
@@ -144,6 +171,7 @@ impl Connection {
             .sessions
             .on_record(phase, sealed, setup.inventory, free, work, out);
         use_up(&mut self.queue, heard);
+        self.drawn = tells_measured(heard);
         heard
     }
 

@@ -42,6 +42,7 @@ pub use kept::KeptReply;
 pub use laws::others_keep_the_clear_part;
 pub use live::Live;
 pub use negotiating::Negotiating;
+pub use records::record_id;
 pub use refused::Refused;
 pub use requests::Requests;
 pub use sessions::Sessions;

@@ -19,11 +19,13 @@ ghost use Rattle.connection.specs.Standing as standings;
 ghost use Rattle.connection.specs.Standing.{place_at};
 
 use crate::answers::write_acknowledgement;
+use crate::clear_part::code_at;
 use crate::gathering::{Gathered, gather};
 use crate::{Begun, Came, FreeValues, Handled, Setup, Standing};
 use chunking::Collector;
 use request_rules::Where;
 use spdm_basis::Frame;
+use spdm_grammar::names::request_code::GET_MEASUREMENTS;
 use spdm_grammar::{ChunkFault, ChunkView, ErrorCode};
 use std::marker::Model;
 
@@ -107,18 +109,19 @@ impl Requests {
             Handled::Refused(_) => {
                 self.standing.take_nothing();
                 write_acknowledgement(chunk.handle, chunk.number, response.as_slice(), out);
-                Came::Answered
+                Came::Answered { drawn: false }
             }
             Handled::Answered => {
+                let drawn = code_at(whole) == GET_MEASUREMENTS;
                 write_acknowledgement(chunk.handle, chunk.number, response.as_slice(), out);
-                Came::Answered
+                Came::Answered { drawn }
             }
             Handled::Exchange(_) => Came::Begins(Begun::InChunks {
                 handle: chunk.handle,
                 number: chunk.number,
             }),
             // No chunk comes inside a large request.
-            Handled::Chunk(_) => Came::Answered,
+            Handled::Chunk(_) => Came::Answered { drawn: false },
         }
     }
 
@@ -151,7 +154,7 @@ impl Requests {
             Gathered::More => {
                 self.standing.take_nothing();
                 write_acknowledgement(chunk.handle, chunk.number, &[], out);
-                Came::Answered
+                Came::Answered { drawn: false }
             }
             Gathered::Whole => self.on_whole(setup, held, chunk, free, out),
         }
@@ -179,7 +182,9 @@ impl Requests {
             Handled::Refused(code) => Came::Refused(code),
             Handled::Answered => {
                 self.collector.clear();
-                Came::Answered
+                Came::Answered {
+                    drawn: code_at(message) == GET_MEASUREMENTS,
+                }
             }
             Handled::Exchange(_) => Came::Begins(Begun::InClear),
             Handled::Chunk(chunk) => self.on_chunk(setup, held, chunk, message, free, out),

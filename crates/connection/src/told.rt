@@ -4,8 +4,8 @@ use spdm_grammar::Heard;
 /// What is told of a clear message.
 #[derive(Clone, Copy, Debug, PartialEq, Eq)]
 pub enum Told {
-    /// It was answered, or refused.
-    Heard(Heard),
+    /// It was answered, or refused; whether it took a draw.
+    Heard { heard: Heard, drawn: bool },
     /// It begins a session, whose PSK_EXCHANGE_RSP is still to be made.
     Begins(Begun),
 }

@@ -24,6 +24,14 @@ impl Connection {
         self.clear.standing().phase()
     }
 
+    /// Whether the body that came last took a draw: for the context of PSK_EXCHANGE_RSP, or for the nonce of
+    /// MEASUREMENTS.
+    pub fn is_drawn(&self) -> bool
+        ensures { result ≡ self.now.drawn }
+    {
+        self.drawn
+    }
+
     /// The algorithms that were chosen.
     pub fn choice(&self) -> Choice
         ensures { (r : RspSetup) (h : History) → StandsFor self.now r h

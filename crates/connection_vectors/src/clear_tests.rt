@@ -141,6 +141,10 @@ fn requests_are_answered(rt: HostRuntime) -> Result<(), Fail> {
         assert_eq!(rt; text.as_str(), *answer);
     }
     let told = clear.on_clear(&setup, 0, 1, &[0x12, 0x85], &free(2), &mut out);
-    assert_eq!(rt; told, Told::Heard(Heard::Refused(1)));
+    let refused = Told::Heard {
+        heard: Heard::Refused(1),
+        drawn: false,
+    };
+    assert_eq!(rt; told, refused);
     Ok(())
 }

@@ -1,0 +1,12 @@
+pub mod Limits
+pub mod Filled
+pub mod Chosen
+pub mod Data
+pub mod Meeting
+pub mod Found
+pub mod Reached
+pub mod Steps
+pub mod Taking
+pub mod Making
+pub mod Waiting
+pub mod Harmless

@@ -1,1 +1,7 @@
+pub mod Came
 pub mod Config
+pub mod Drawing
+pub mod Peers
+pub mod SetUp
+pub mod Standing
+pub mod Unharmed

@@ -1,13 +1,25 @@
-//! A responder of the profile (DSP0274, section 10): packets in, packets out. What stands of it is
-//! how it is set up, and why it is not.
+//! A responder of the profile (DSP0274, section 10): packets in, packets out.
 #![tactic(auto)]
 
+mod body;
 mod checks;
 mod config;
+mod context;
 mod fault;
+mod hearing;
+mod part;
+mod peer;
+mod queueing;
+mod serving;
+mod shared;
+mod views;
+mod whole;
 
 pub use config::{Known, RspConfig};
 pub use fault::RspConfigFault;
+pub use serving::Responder;
 
+#[cfg(test)]
+mod packets;
 #[cfg(test)]
 mod tests;

@@ -1,4 +1,5 @@
 use Rattle.std.proofs.Common.{true, false, ◌≡◌, ◌∙◌, sym, subst, ap, List, ℕ, ◌≤◌, length, Option, Some}
+use Rattle.connection.proofs.Draws.{drawn_again, drawn_anew, drawn_refused}
 use Rattle.connection.proofs.NoExchange.{begins_none, refused_begins_none, repeat_begins_none}
 use Rattle.connection.proofs.Whole.{refused_answered, repeated, taken_answered, turn_short}
 use Rattle.connection.specs.ClearPart.{Seen, StandsFor}
@@ -21,7 +22,7 @@ returns-then-is_repeat c = λ r h f d setup free stands held.
     let same : c.args.self.now ≡ before = sym c.self.view_is in
     let stood = subst (λ (s : Seen). StandsFor s r h) same stands in
     let again : is_repeat (kept_of h) tag m ≡ true = ap (λ (k : Option Kept). is_repeat k tag m) (sym stood.kept) ∙ sym c.if-is_repeat.ensures in
-    (repeated r h tag m f d c.args.self.now c.replace.new.out again stands (c.replace.ensures ∙ c.reply.ensures.value ∙ ap kept_reply stood.kept), repeat_begins_none r h tag m f d again)
+    (repeated r h tag m f d c.args.self.now c.replace.new.out again stands (c.replace.ensures ∙ c.reply.ensures.value ∙ ap kept_reply stood.kept), repeat_begins_none r h tag m f d again, sym (drawn_again r h tag m f d again))
 
 pub returns-in-Refused : goal.returns-in-Refused
 returns-in-Refused c = λ r h f d setup free stands held.
@@ -35,6 +36,7 @@ returns-in-Refused c = λ r h f d setup free stands held.
     let come = subst (λ (n : ℕ). IsCome r (place_at InClear (clear_turns h) n) m f (came.Refused c.in-Refused.code) c.on_request.new.self c.on_request.new.out) (sym held) (c.in-Refused.ensures r (clear_turns h) f setup free stood.requests) in (
       subst (λ (n : ℕ). IsAnswered r h tag m f d (hearing.Refused n) now c.on_request.new.out) (sym c.number.ensures) (refused_answered r h tag m f d c.in-Refused.code now c.on_request.new.out anew come.0 come.1 stood.kept),
       refused_begins_none r h tag m f d c.in-Refused.code anew come.0,
+      sym (drawn_refused r h tag m f d c.in-Refused.code anew come.0),
     )
 
 pub returns-in-Answered : goal.returns-in-Answered
@@ -46,9 +48,10 @@ returns-in-Answered c = λ r h f d setup free stands held.
     let stood = subst (λ (s : Seen). StandsFor s r h) same stands in
     let anew : is_repeat (kept_of h) tag m ≡ false = ap (λ (k : Option Kept). is_repeat k tag m) (sym stood.kept) ∙ sym c.if-is_repeat.ensures in
     let now : Seen = record { requests = c.on_request.new.self; kept = c.keep.new.self } in
-    let come = subst (λ (n : ℕ). IsCome r (place_at InClear (clear_turns h) n) m f came.Answered c.on_request.new.self c.on_request.new.out) (sym held) (c.in-Answered.ensures r (clear_turns h) f setup free stood.requests) in
+    let come = subst (λ (n : ℕ). IsCome r (place_at InClear (clear_turns h) n) m f (came.Answered c.in-Answered.drawn) c.on_request.new.self c.on_request.new.out) (sym held) (c.in-Answered.ensures r (clear_turns h) f setup free stood.requests) in
     let short = turn_short r h m f setup.ordered setup.most come.0.0 in
     let kept = c.keep.ensures short (subst (λ (a : List ℕ). length a ≤ MAX_MESSAGE_SIZE) (sym c.as_slice.ensures.value) c.as_slice.ensures.fits) ∙ ap (λ (reply : List ℕ). Some (record { tag = tag; message = m; reply = reply })) c.as_slice.ensures.value in (
       subst (λ (n : ℕ). IsAnswered r h tag m f d (hearing.Answered n) now c.on_request.new.out) (sym c.code_at.ensures) (taken_answered r h tag m f d now c.on_request.new.out anew come.0.0 come.0.1 kept),
       begins_none r h tag m f d anew come.1,
+      come.2 ∙ sym (drawn_anew r h tag m f d anew),
     )

@@ -1,4 +1,8 @@
 use Rattle.std.proofs.Common.{◌∙◌, sym, subst, ap, List, ℕ}
+use Rattle.std.specs.Prelude.{◌||◌, Bool}
+use Rattle.connection.proofs.Draws.{drawn_anew}
+use Rattle.responder_machine.specs.Turn.{takes}
+use Rattle.spdm_grammar.specs.declared.names.request_code.TheConstants.{GET_MEASUREMENTS}
 use Rattle.connection.proofs.Exchanged.{beginning_at}
 use Rattle.connection.proofs.Outcomes.{queue_after_clear}
 use Rattle.connection.proofs.Sizes.{sizes_after}
@@ -13,8 +17,8 @@ use Rattle.responder_machine.specs.Responder.{Outcome, after}
 use Rattle.responder_machine.specs.Turn.{Turn}
 use Rattle.spdm_grammar.specs.declared.heard.Heard.TheVariants as heard
 
-pub returns : goal.returns
-returns c = λ r h f d setup free allowed beginning beside.
+pub returns-clause-done : goal.returns-clause-done
+returns-clause-done c = λ r h f d setup free allowed beginning beside.
     let m : List ℕ = c.args.message.now in
     let tag : ℕ = c.args.tag in
     let t : Turn = turn_of r (clear_place h) m f in
@@ -34,3 +38,12 @@ returns c = λ r h f d setup free allowed beginning beside.
         sizes = sizes_after r h tag m f d setup.ordered setup.most beside.sizes;
       };
     }
+
+pub returns-clause-drawn : goal.returns-clause-drawn
+returns-clause-drawn c = λ r h f d setup free allowed beginning beside.
+    let m : List ℕ = c.args.message.now in
+    let t : Turn = turn_of r (clear_place h) m f in
+    let bytes = c.as_slice-bytes.ensures.value in
+    let started = subst (λ (a : List ℕ). IsStartedAt r h m f c.args.begun c.args.self.now.clear.requests c.start-session.result a) (sym bytes) (c.start-session.ensures r h c.args.tag f setup free allowed beginning) in
+    let starts = beginning_at r h m f c.args.begun c.args.self.now.clear.requests c.start-session.result c.as_slice-bytes.result.now allowed.most beginning.begins started beside.sizes in
+    sym (drawn_anew r h c.args.tag m f d beginning.anew ∙ ap (λ (b : Bool). b || takes GET_MEASUREMENTS t) starts.is_exchange)

@@ -22,7 +22,16 @@ returns-in-Heard-clause-done c = λ r h f d setup free allowed stands.
 
 pub returns-in-Begins-clause-done : goal.returns-in-Begins-clause-done
 returns-in-Begins-clause-done c = λ r h f d setup free allowed stands.
-    c.begin.ensures r h f d setup free allowed (c.in-Begins.ensures r h f d setup free stands.clear (c.held-held.ensures.value r h stands.sessions))
+    c.begin.ensures.done r h f d setup free allowed (c.in-Begins.ensures r h f d setup free stands.clear (c.held-held.ensures.value r h stands.sessions))
+    (record { sessions = stands.sessions; queue = stands.queue; sizes = stands.sizes })
+
+pub returns-in-Heard-clause-drawn : goal.returns-in-Heard-clause-drawn
+returns-in-Heard-clause-drawn c = λ r h f d setup free allowed stands.
+    (c.in-Heard.ensures r h f d setup free stands.clear (c.held-held.ensures.value r h stands.sessions)).2
+
+pub returns-in-Begins-clause-drawn : goal.returns-in-Begins-clause-drawn
+returns-in-Begins-clause-drawn c = λ r h f d setup free allowed stands.
+    c.begin.ensures.drawn r h f d setup free allowed (c.in-Begins.ensures r h f d setup free stands.clear (c.held-held.ensures.value r h stands.sessions))
     (record { sessions = stands.sessions; queue = stands.queue; sizes = stands.sizes })
 
 pub returns-in-Heard-clause-harmless : goal.returns-in-Heard-clause-harmless

@@ -1,10 +1,11 @@
 use Rattle.std.proofs.Common.{◌∙◌, subst, ap, List, ℕ}
+use Rattle.connection.proofs.Draws.{record_tells}
 use Rattle.connection.proofs.Harmless.{record_harmless}
 use Rattle.connection.proofs.Outcomes.{kept_after_record, queue_after_record, turns_after_record}
 use Rattle.connection.proofs.connected.Connection.on_record.Goals as goal
 use Rattle.connection.specs.Coming as coming
 use Rattle.connection.specs.Sessions.{body_by}
-use Rattle.connection.specs.Connected.{HasSizesAt, queue_left}
+use Rattle.connection.specs.Connected.{HasSizesAt, queue_left, tells_measured}
 use Rattle.responder_machine.specs.History.{clear_turns, queue_of}
 use Rattle.responder_machine.specs.Turn.{Turn}
 use Rattle.spdm_grammar.specs.declared.heard.Heard.{Heard}
@@ -36,3 +37,8 @@ returns-clause-harmless c = λ r h tag f d setup free few stands.
     let done = returns-clause-done c r h tag f d setup free few stands in
     let out : List ℕ = c.on_record-heard.new.out in
     record_harmless r h tag c.args.sealed.now f d c.on_record-heard.result (body_by c.on_record-heard.result out) out done.told done.body (λ code is. ap (λ (x : Heard). body_by x out) is)
+
+pub returns-clause-drawn : goal.returns-clause-drawn
+returns-clause-drawn c = λ r h tag f d setup free few stands.
+    let done = returns-clause-done c r h tag f d setup free few stands in
+    c.tells_measured-self.ensures ∙ ap tells_measured done.told ∙ record_tells r h tag c.args.sealed.now f d

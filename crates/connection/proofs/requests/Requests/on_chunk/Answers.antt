@@ -1,6 +1,7 @@
 use Rattle.std.proofs.Common.{◌≡◌, ◌∙◌, sym, subst, ap, List, ℕ, Option, arith}
 use Rattle.chunking.specs.Keeping as keeping
 use Rattle.connection.proofs.Chunked.{chunk_code, rule_more, rule_refused, rule_whole, turned_more, turned_refused}
+use Rattle.connection.proofs.Draws.{more_draws}
 use Rattle.connection.proofs.NoExchange.{more_takes_none}
 use Rattle.connection.specs.Coming.{Seen, StandsFor}
 use Rattle.connection.specs.Refused.{chunk_refusal}
@@ -52,6 +53,7 @@ returns-in-More c = λ r turns f setup free stands form asked_is refused.
       turned_more r InClear turns c.args.held m f chunk (record gathered { standing = c.take_nothing.new.self }) c.write_acknowledgement.new.out asked_is taken_is more.1
           (λ t taken nothing. c.take_nothing.ensures turns t stood.standing taken nothing) collector (c.in-More.ensures.max ∙ stood.max) (c.write_acknowledgement.ensures (omega arith)),
       more_takes_none r p m f chunk asked_is taken_is more.1,
+      sym (more_draws r p m f chunk asked_is taken_is more.1),
     )
 
 pub returns-in-Whole : goal.returns-in-Whole

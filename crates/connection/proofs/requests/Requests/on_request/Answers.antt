@@ -1,5 +1,9 @@
-use Rattle.std.proofs.Common.{refl, ◌≡◌, ◌∙◌, sym, subst, List, ℕ}
+use Rattle.std.proofs.Common.{refl, ◌≡◌, ◌∙◌, ap, sym, subst, List, ℕ}
 use Rattle.connection.proofs.Chunked.{standing_now, turned_plain, turned_refused}
+use Rattle.std.specs.Prelude.{◌==◌}
+use Rattle.connection.proofs.Draws.{draws_beside, plain_draws}
+use Rattle.responder_machine.specs.Refusal.{code_of}
+use Rattle.spdm_grammar.specs.declared.names.request_code.TheConstants.{GET_MEASUREMENTS}
 use Rattle.connection.proofs.NoExchange.{plain_takes_none}
 use Rattle.connection.specs.Coming.{Seen, StandsFor}
 use Rattle.connection.specs.Standing as standing
@@ -44,4 +48,5 @@ returns-in-Answered c = λ r turns f setup free stands.
     let now : Seen = record { standing = c.handle.new.self; collector = c.clear.new.self; whole = c.self.inside.whole } in (
       turned_plain r InClear turns c.args.held m f now c.handle.new.out handled.0 handled.1 (handled.2 (plain_turn r p m f) refl refl) c.clear.ensures.stands (c.clear.ensures.max ∙ stood.max) handled.3,
       plain_takes_none r p m f handled.0 handled.1 handled.4,
+      ap (λ (n : ℕ). n == GET_MEASUREMENTS) c.code_at.ensures ∙ sym (plain_draws r p m f handled.0 handled.1 ∙ draws_beside (code_of m) handled.4),
     )

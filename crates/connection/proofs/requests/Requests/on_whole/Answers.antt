@@ -1,6 +1,7 @@
 use Rattle.std.proofs.Common.{true, false, refl, ◌≡◌, ◌∙◌, ◌+◌, ◌≤◌, ◌∷◌, sym, subst, ap, List, ℕ, Some, None, length}
 use Rattle.std.specs.Prelude.{◌==◌}
 use Rattle.connection.proofs.Chunked.{chunk_known, error_fits, no_chunk_inside, reply_fits, standing_now, turned_last_refused, turned_last_taken}
+use Rattle.connection.proofs.Draws.{draws_beside, last_refused_draws, last_taken_draws}
 use Rattle.connection.proofs.NoExchange.{last_refused_takes_none, last_taken_takes_none}
 use Rattle.connection.proofs.Passing.{settled_at}
 use Rattle.connection.specs.Coming.{Completes, Seen}
@@ -15,7 +16,7 @@ use Rattle.responder_machine.specs.Turn.{Turn, is_taken}
 use Rattle.spdm_grammar.specs.Message.{ChunkMessage, chunk_message}
 use Rattle.spdm_grammar.specs.Message.RequestMessage.{PskExchange}
 use Rattle.spdm_grammar.specs.declared.names.TheConstants.{MAX_MESSAGE_SIZE}
-use Rattle.spdm_grammar.specs.declared.names.request_code.TheConstants.{PSK_EXCHANGE}
+use Rattle.spdm_grammar.specs.declared.names.request_code.TheConstants.{GET_MEASUREMENTS, PSK_EXCHANGE}
 use Rattle.connection.proofs.requests.Requests.on_whole.Goals as goal
 use Rattle.spdm_grammar.specs.Message.{exchange_message}
 
@@ -40,6 +41,7 @@ returns-in-Refused c = λ r turns m f setup free completes.
       turned_last_refused r InClear turns c.args.held m f chunk before c.take_nothing.new.self code c.write_acknowledgement.new.out done refused (λ t taken nothing. c.take_nothing.ensures turns t stood taken nothing)
           (c.write_acknowledgement.ensures fits ∙ ap (acknowledged chunk) response),
       last_refused_takes_none r p m f chunk before code done refused,
+      sym (last_refused_draws r p m f chunk before code done refused),
     )
 
 pub returns-in-Answered : goal.returns-in-Answered
@@ -63,6 +65,7 @@ returns-in-Answered c = λ r turns m f setup free completes.
       turned_last_taken r InClear turns c.args.held m f chunk before c.handle.new.self c.write_acknowledgement-in-Answered.new.out done taken takes
           (c.write_acknowledgement-in-Answered.ensures fits ∙ ap (acknowledged chunk) response),
       last_taken_takes_none r p m f chunk before done taken other,
+      ap (λ (n : ℕ). n == GET_MEASUREMENTS) (c.code_at-drawn.ensures ∙ ap code_of bytes) ∙ sym (last_taken_draws r p m f chunk before done taken ∙ draws_beside (code_of before.whole) other),
     )
 
 pub returns-in-Exchange : goal.returns-in-Exchange

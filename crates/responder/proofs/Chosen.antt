@@ -1,0 +1,33 @@
+-- The values that are handed to a connection are those that the responder chooses.
+use Rattle.std.proofs.Common.{◌≡◌, ℕ, List, [], sym}
+use Rattle.connection.specs.Free.{IsFree}
+use Rattle.connection.specs.declared.free_values.FreeValues.{FreeValues}
+use Rattle.responder_machine.specs.Does.{chosen, clear_chosen, first_queued, record_chosen}
+use Rattle.responder_machine.specs.History.{History, clear_turns, negotiation_of, queue_of}
+use Rattle.responder_machine.specs.LargeMessages.{next_handle}
+use Rattle.responder_machine.specs.Place.{free_id}
+use Rattle.responder_machine.specs.Session.{id_in_record, session_of, turns_of}
+use Rattle.responder_machine.specs.Setup.{RspSetup}
+use Rattle.responder_session.specs.Deeds.{AreFree}
+use Rattle.responder_session.specs.declared.deed.RecordFree.{RecordFree}
+use Rattle.spdm_machine.specs.Keys.{Draw, context_of}
+use Rattle.spdm_machine.specs.Terms.{terms_of}
+
+pub clear_is : (r : RspSetup) (h : History) (d : Draw) (seen : FreeValues) → seen.id ≡ free_id h → seen.context.now ≡ context_of (terms_of (negotiation_of (clear_turns h))).choice.hash d → r.opaque ≡ seen.exchange_opaque.now
+    → seen.nonce ≡ d.bytes → seen.measured_opaque.now ≡ [] → seen.handle ≡ next_handle (clear_turns h) → seen.reply.now ≡ first_queued (queue_of h) → seen.pad.now ≡ [] → IsFree seen (clear_chosen r h d)
+unfolding chosen
+clear_is r h d seen id context exchange_opaque nonce measured_opaque handle reply pad = record {
+  id = sym id;
+  context = sym context;
+  exchange_opaque = exchange_opaque;
+  nonce = sym nonce;
+  measured_opaque = sym measured_opaque;
+  handle = sym handle;
+  reply = sym reply;
+  pad = sym pad;
+}
+
+pub record_are : (r : RspSetup) (h : History) (sealed : List ℕ) (d : Draw) (seen : RecordFree) → seen.nonce.now ≡ d.bytes → seen.opaque.now ≡ [] → seen.handle ≡ next_handle (turns_of (session_of (id_in_record sealed) h))
+    → seen.reply.now ≡ first_queued (queue_of h) → seen.pad.now ≡ [] → AreFree seen (record_chosen r h sealed d)
+unfolding chosen
+record_are r h sealed d seen nonce measured_opaque handle reply pad = record { nonce = sym nonce; opaque = sym measured_opaque; handle = sym handle; reply = sym reply; pad = sym pad }

@@ -1,0 +1,35 @@
+ghost use Rattle.std.specs.Prelude.{◌≡◌, ◌≤◌, ◌∷◌, length};
+ghost use Rattle.connection.specs.Sessions.{body_by};
+
+use spdm_basis::Buffer;
+use spdm_grammar::Heard;
+
+/// The body of an MCTP message: its type, and an SPDM message or a record.
+pub(crate) type Body = Buffer<4161>;
+
+/// The type of an SPDM message in the clear (DSP0275).
+pub(crate) const SPDM: u8 = 5;
+
+/// The type of a secured message (DSP0276).
+pub(crate) const SECURED: u8 = 6;
+
+/// Writes a type and a message of at most 4,160 bytes in place of what a body holds.
+pub(crate) fn write_body(kind: u8, message: &[u8], body: &mut Body)
+    requires { length message.now ≤ 4160 }
+    ensures { body.new ≡ kind ∷ message.now }
+{
+    body.clear();
+    let _ = body.extend(&[kind]);
+    let _ = body.extend(message);
+}
+
+/// Writes what answers a record: ERROR comes in the clear where no session opens it, and all else is a record.
+pub(crate) fn write_reply(heard: Heard, reply: &[u8], body: &mut Body)
+    requires { length reply.now ≤ 4160 }
+    ensures { body.new ≡ body_by heard reply.now }
+{
+    match heard {
+        Heard::Unopened => write_body(SPDM, reply, body),
+        _ => write_body(SECURED, reply, body),
+    }
+}

@@ -1,0 +1,100 @@
+ghost use Rattle.std.specs.Prelude.{◌≡◌, ◌≤◌, ◌<◌, ◌^◌, ◌-◌, ℕ, length};
+ghost use Rattle.connection.specs.ClearPart.{is_drawn};
+ghost use Rattle.connection.specs.Connected.{IsDone, StandsFor};
+ghost use Rattle.connection.specs.Setup.{IsSetUp};
+ghost use Rattle.responder.specs.Drawing.{draw_as};
+ghost use Rattle.responder_machine.specs.BoundLaws.{messages_of};
+ghost use Rattle.responder_machine.specs.Does.{IsMade, clear_does, first_queued, record_does};
+ghost use Rattle.responder_machine.specs.History.{History, queue_of};
+ghost use Rattle.responder_machine.specs.Setup.{RspSetup};
+
+use crate::body::{Body, SPDM, write_body, write_reply};
+use crate::context::context_of;
+use connection::{Connection, FreeValues, Setup, record_id};
+use hmac_hkdf::Drawn;
+use responder_session::{RecordFree, Work};
+use spdm_basis::{Buffer, Frame, RecordFrame};
+use spdm_grammar::Heard;
+
+// Application data: up to 1,024 bytes.
+type Reply = Buffer<1024>;
+
+// The application data that is sent next in answer.
+fn next_reply(connection: &Connection) -> Reply
+    ensures { (r : RspSetup) (h : History) → StandsFor connection.now r h
+        → result ≡ first_queued (queue_of h) }
+{
+    let mut reply = Reply::new();
+    let _ = reply.extend(connection.next_reply());
+    reply
+}
+
+/// A clear message came with a tag, while this draw stands next. The body that answers it is written in place
+/// of what `body` holds.
+pub(crate) fn hear_clear(
+    connection: &mut Connection,
+    setup: &Setup<'_>,
+    tag: u8,
+    message: &[u8],
+    drawn: &Drawn,
+    body: &mut Body,
+) -> Heard
+    requires { length setup.now.opaque.now ≤ 1024 }
+    ensures done { (r : RspSetup) (h : History) → IsSetUp setup.now r → IsMade r h
+        → StandsFor connection.old r h
+        → IsDone r h (clear_does r h tag message.now (draw_as drawn.now)) result body.new
+        connection.new }
+    ensures drawn { (r : RspSetup) (h : History) → IsSetUp setup.now r → IsMade r h
+        → StandsFor connection.old r h → connection.new.drawn
+        ≡ is_drawn (clear_does r h tag message.now (draw_as drawn.now)) }
+    ensures filled { 0 < length body.new }
+{
+    let context = context_of(connection.choice().hash, drawn);
+    let reply = next_reply(connection);
+    let free = FreeValues {
+        id: connection.free_id(),
+        context: context.as_slice(),
+        exchange_opaque: setup.opaque,
+        nonce: drawn.bytes,
+        measured_opaque: &[],
+        handle: connection.next_handle(),
+        reply: reply.as_slice(),
+        pad: &[],
+    };
+    let mut answer = Frame::new();
+    let heard = connection.on_clear(setup, tag, message, &free, &mut answer);
+    write_body(SPDM, answer.as_slice(), body);
+    heard
+}
+
+/// A record came, while this draw stands next. The body that answers it is written in place of what `body`
+/// holds.
+pub(crate) fn hear_record(
+    connection: &mut Connection,
+    setup: &Setup<'_>,
+    sealed: &[u8],
+    drawn: &Drawn,
+    body: &mut Body,
+) -> Heard
+    ensures done { (r : RspSetup) (h : History) (tag : ℕ) → IsSetUp setup.now r
+        → messages_of h < 2 ^ 64 - 1 → StandsFor connection.old r h
+        → IsDone r h (record_does r h tag sealed.now (draw_as drawn.now)) result body.new
+        connection.new }
+    ensures drawn { (r : RspSetup) (h : History) (tag : ℕ) → IsSetUp setup.now r
+        → messages_of h < 2 ^ 64 - 1 → StandsFor connection.old r h → connection.new.drawn
+        ≡ is_drawn (record_does r h tag sealed.now (draw_as drawn.now)) }
+    ensures filled { 0 < length body.new }
+{
+    let reply = next_reply(connection);
+    let free = RecordFree {
+        nonce: &drawn.bytes,
+        opaque: &[],
+        handle: connection.next_handle_in(record_id(sealed).rsp),
+        reply: reply.as_slice(),
+        pad: &[],
+    };
+    let mut answer = RecordFrame::new();
+    let heard = connection.on_record(setup, sealed, &free, &mut Work::new(), &mut answer);
+    write_reply(heard, answer.as_slice(), body);
+    heard
+}

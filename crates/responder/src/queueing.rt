@@ -1,0 +1,43 @@
+use crate::Responder;
+use spdm_basis::Eid;
+use spdm_grammar::ReplyFault;
+
+// Application data that wait to be sent in answer, and time.
+impl Responder {
+    ghost use Rattle.std.specs.Prelude.{◌≡◌, None, Some, MatchResult};
+    ghost use Rattle.responder.specs.Standing.{StandsFor};
+    ghost use Rattle.responder_machine.specs.Independence.{after_reply};
+    ghost use Rattle.responder_machine.specs.Responding.{Responding, connection_of, reply_fault_of, ticks};
+
+    /// Application data waits to be sent in answer to this end point. `ReplyFault` lists the faults in the order
+    /// in which they are tested; after one of them nothing has changed. It takes no memory.
+    pub fn queue(&mut self, eid: Eid, bytes: &[u8]) -> Result<(), ReplyFault>
+        ensures fault { (r : Responding) → StandsFor self.old r → MatchResult result
+            (λ _. reply_fault_of (connection_of eid.number r.connections) bytes.now ≡ None)
+            (λ fault. reply_fault_of (connection_of eid.number r.connections) bytes.now
+            ≡ Some fault) }
+        ensures stands { (r : Responding) → StandsFor self.old r
+            → StandsFor self.new (after_reply eid.number bytes.now r) }
+    {
+        match self.place_of(eid.number()) {
+            Some(place) => match self.peers.get_mut(place) {
+                Some(peer) => peer.queue(bytes),
+                None => unreachable!(),
+            },
+            None => Err(ReplyFault::UnknownPeer),
+        }
+    }
+
+    /// Seconds pass for all connections: a session past its handshake that has waited for twice its
+    /// HeartbeatPeriod is gone (DSP0274, "HEARTBEAT"). It takes no memory.
+    pub fn tick(&mut self, seconds: u32)
+        ensures { (r : Responding) → StandsFor self.old r → StandsFor self.new (ticks r seconds) }
+    {
+        for place in 0..self.peers.len() {
+            match self.peers.get_mut(place) {
+                Some(peer) => peer.tick(seconds),
+                None => unreachable!(),
+            }
+        }
+    }
+}

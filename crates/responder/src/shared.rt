@@ -1,0 +1,37 @@
+ghost use Rattle.std.specs.Prelude.{◌≡◌, ◌<◌, ◌+◌, ◌-◌, ◌^◌};
+ghost use Rattle.connection.specs.Connected.{StandsFor};
+ghost use Rattle.responder.specs.Came.{IsShort, drawn_by, last_for};
+ghost use Rattle.responder_machine.specs.History.{History};
+ghost use Rattle.responder_machine.specs.Setup.{RspSetup};
+
+use connection::Connection;
+use hmac_hkdf::DrawStream;
+use spdm_basis::Buffer;
+use spdm_grammar::Heard;
+
+// What all connections of a responder share: the draws, and the application data that was taken last.
+#[derive(Drop)]
+pub struct Shared {
+    pub(crate) draws: DrawStream,
+    pub(crate) last: Buffer<1024>,
+}
+
+impl Shared {
+    // A body came to a connection, of which this is told: the draw that it took is gone, and the data that it
+    // brought is kept.
+    pub(crate) fn follow(&mut self, connection: &Connection, heard: Heard)
+        ensures seed { self.new.draws.seed ≡ self.old.draws.seed }
+        ensures number { self.old.draws.number < 2 ^ 64 - 1
+            → self.new.draws.number ≡ self.old.draws.number + drawn_by connection.now.drawn }
+        ensures last { (r : RspSetup) (h : History) → StandsFor connection.now r h
+            → IsShort heard h → self.new.last ≡ last_for heard h self.old.last }
+    {
+        if connection.is_drawn() {
+            let _ = self.draws.advance();
+        }
+        if let Heard::Taken(id) = heard {
+            self.last.clear();
+            let _ = self.last.extend(connection.data(id.rsp));
+        }
+    }
+}

@@ -1,0 +1,102 @@
+ghost use Rattle.std.specs.Prelude.{◌≡◌, ◌≤◌, ◌<◌, ◌-◌, ◌^◌, ◌==◌, ◌||◌, [], true, false, length, IfSome, MatchOption};
+ghost use Rattle.connection.specs.ClearPart.{is_drawn};
+ghost use Rattle.connection.specs.Connected.{IsDone, StandsFor};
+ghost use Rattle.connection.specs.Setup.{IsSetUp};
+ghost use Rattle.mctp_framing.specs.Cutting.{route_of};
+ghost use Rattle.responder.specs.Came.{IsMet, came_whole};
+ghost use Rattle.responder.specs.Drawing.{draw_as};
+ghost use Rattle.responder.specs.SetUp.{IsPart};
+ghost use Rattle.responder_machine.specs.BoundLaws.{messages_of};
+ghost use Rattle.responder_machine.specs.Does.{IsMade, responder_does};
+ghost use Rattle.responder_machine.specs.History.{History};
+ghost use Rattle.responder_machine.specs.Responding as responding;
+ghost use Rattle.responder_machine.specs.Setup.{Known, RspPart, RspSetup, towards};
+ghost use Rattle.spdm_machine.specs.Keys.{draw_of};
+ghost use Rattle.spdm_machine.specs.Packets.{body_type};
+
+use crate::body::{Body, SECURED, SPDM};
+use crate::hearing::{hear_clear, hear_record};
+use crate::part::Part;
+use crate::shared::Shared;
+use connection::{Connection, Setup};
+use hmac_hkdf::Drawn;
+use mctp_framing::{PacketList, Route};
+use spdm_grammar::{Heard, RspIgnored};
+
+/// The route of an answer.
+fn reversed(route: Route) -> Route
+    ensures { route_of result
+        ≡ record { to = route.from.number; from = route.to.number; owner = false; tag = route.tag } }
+{
+    Route {
+        to: route.from,
+        from: route.to,
+        owner: false,
+        tag: route.tag,
+    }
+}
+
+/// A whole body came with a tag, while this draw stands next; it is `None` where its type is another than those
+/// of SPDM messages and records. The body that answers it is written in place of what `body` holds.
+fn hear_body(
+    connection: &mut Connection,
+    setup: &Setup<'_>,
+    tag: u8,
+    bytes: &[u8],
+    drawn: &Drawn,
+    body: &mut Body,
+) -> Option<Heard>
+    requires { length setup.now.opaque.now ≤ 1024 }
+    ensures known { MatchOption result
+        ((body_type bytes.now == 5 || body_type bytes.now == 6) ≡ false × (connection.new ≡ connection.old))
+        (λ heard. (body_type bytes.now == 5 || body_type bytes.now == 6) ≡ true) }
+    ensures done { (r : RspSetup) (h : History) → IsSetUp setup.now r → IsMade r h
+        → messages_of h < 2 ^ 64 - 1 → StandsFor connection.old r h
+        → IfSome result (λ heard. IsDone r h (responder_does r h tag bytes.now (draw_as drawn.now))
+        heard body.new connection.new) }
+    ensures drawn { (r : RspSetup) (h : History) → IsSetUp setup.now r → IsMade r h
+        → messages_of h < 2 ^ 64 - 1 → StandsFor connection.old r h
+        → IfSome result (λ heard. connection.new.drawn
+        ≡ is_drawn (responder_does r h tag bytes.now (draw_as drawn.now))) }
+    ensures filled { IfSome result (λ heard. 0 < length body.new) }
+{
+    match bytes {
+        [SPDM, message @ ..] => Some(hear_clear(connection, setup, tag, message, drawn, body)),
+        [SECURED, sealed @ ..] => Some(hear_record(connection, setup, sealed, drawn, body)),
+        _ => None,
+    }
+}
+
+/// A whole body came by a route. The packets that answer it are put in place of what `out` holds; where nothing
+/// answers it, `out` stays.
+pub(crate) fn hear_whole(
+    connection: &mut Connection,
+    part: &Part,
+    setup: &Setup<'_>,
+    shared: &mut Shared,
+    route: Route,
+    bytes: &[u8],
+    out: &mut PacketList,
+) -> Heard
+    requires { length setup.now.opaque.now ≤ 1024 }
+    ensures { (p : RspPart) (q : Known) (c : responding.Connection) → IsPart part.now p
+        → IsSetUp setup.now c.setup → c.setup ≡ towards p q → IsMade c.setup c.history
+        → messages_of c.history < 2 ^ 64 - 1 → shared.old.draws.number < 2 ^ 64 - 1
+        → route.to.number ≡ p.eid → route.from.number ≡ q.eid → out.old ≡ []
+        → StandsFor connection.old c.setup c.history
+        → IsMet c
+        (came_whole c (draw_of shared.old.draws.seed shared.old.draws.number) (route_of route) bytes.now)
+        result out.new connection.new shared.old shared.new }
+{
+    if !route.owner {
+        return Heard::Ignored(RspIgnored::NotRequest);
+    }
+    let drawn = shared.draws.peek();
+    let mut body = Body::new();
+    let Some(heard) = hear_body(connection, setup, route.tag, bytes, &drawn, &mut body) else {
+        return Heard::Ignored(RspIgnored::OtherType);
+    };
+    shared.follow(connection, heard);
+    out.fill(body.as_slice(), usize::from(part.unit), reversed(route));
+    heard
+}
