@@ -1,9 +1,8 @@
 -- A packet whose request is refused is harmless, and one of which nothing is taken changes no connection.
-use Rattle.std.proofs.Common.{refl, ◌≡◌, ◌∙◌, ℕ, List, [], ◌∷◌, drop, Bool, true, false, cond, not, Option, Some, None, Result, Ok, Err, ap, sym, subst}
+use Rattle.std.proofs.Common.{refl, ◌≡◌, ◌∙◌, ℕ, List, [], ◌∷◌, drop, Bool, true, false, cond, not, Option, Some, None, ap, sym, subst}
 use Rattle.std.specs.Prelude.{◌==◌, ◌||◌, slice_index}
 use Rattle.connection.proofs.Harmless.{clear_harmless, record_harmless}
 use Rattle.connection.proofs.Outcomes.{by_clear, by_record}
-use Rattle.mctp_framing.specs.Cutting.{RouteFields}
 use Rattle.mctp_framing.specs.Gathering.{Gathered}
 use Rattle.mctp_framing.specs.Gathering.Gathered.{Dropped, More, Whole}
 use Rattle.mctp_framing.specs.Packet.{PacketFields, fields_of, packet_fault, fault_or, parsed}

@@ -26,7 +26,12 @@ use spdm_grammar::{Heard, RspIgnored};
 /// The route of an answer.
 fn reversed(route: Route) -> Route
     ensures { route_of result
-        ≡ record { to = route.from.number; from = route.to.number; owner = false; tag = route.tag } }
+        ≡ record {
+          to = route.from.number;
+          from = route.to.number;
+          owner = false;
+          tag = route.tag;
+        } }
 {
     Route {
         to: route.from,
@@ -48,7 +53,8 @@ fn hear_body(
 ) -> Option<Heard>
     requires { length setup.now.opaque.now ≤ 1024 }
     ensures known { MatchOption result
-        ((body_type bytes.now == 5 || body_type bytes.now == 6) ≡ false × (connection.new ≡ connection.old))
+        ((body_type bytes.now == 5 || body_type bytes.now == 6) ≡ false
+        × (connection.new ≡ connection.old))
         (λ heard. (body_type bytes.now == 5 || body_type bytes.now == 6) ≡ true) }
     ensures done { (r : RspSetup) (h : History) → IsSetUp setup.now r → IsMade r h
         → messages_of h < 2 ^ 64 - 1 → StandsFor connection.old r h
@@ -85,7 +91,8 @@ pub(crate) fn hear_whole(
         → route.to.number ≡ p.eid → route.from.number ≡ q.eid → out.old ≡ []
         → StandsFor connection.old c.setup c.history
         → IsMet c
-        (came_whole c (draw_of shared.old.draws.seed shared.old.draws.number) (route_of route) bytes.now)
+        (came_whole c (draw_of shared.old.draws.seed shared.old.draws.number) (route_of route)
+        bytes.now)
         result out.new connection.new shared.old shared.new }
 {
     if !route.owner {
