@@ -12,3 +12,8 @@ pub mod SessionsKept
 pub mod WholeBodies
 pub mod InSession
 pub mod Brought
+pub mod SlotLaws
+pub mod SessionsAsked
+pub mod SessionsRecorded
+pub mod SessionsBegun
+pub mod SessionsApart

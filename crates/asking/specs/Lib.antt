@@ -9,3 +9,8 @@ pub mod Led
 pub mod Gathering
 pub mod Hearing
 pub mod InSession
+pub mod Slot
+pub mod SessionLed
+pub mod SlotSteps
+pub mod Sessions
+pub mod SessionSteps

@@ -9,7 +9,7 @@ use std::test::Fail;
 type Turn = (&'static str, Heard, &'static str);
 
 // A negotiation in whole messages.
-const WHOLE: [Turn; 4] = [
+pub const WHOLE: [Turn; 4] = [
     (
         "05120400000001",
         Heard::Ignored(ReqIgnored::Malformed(1)),

@@ -1,0 +1,5 @@
+use Rattle.asking.proofs.SessionsAsked.{cleared}
+use Rattle.asking.proofs.sessions.Sessions.clear.Goals as goal
+
+pub returns : goal.returns
+returns c = λ q h f d sent stands adds. cleared c.args.self.now c.none.result q h f d sent stands adds c.none.ensures
