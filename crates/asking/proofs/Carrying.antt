@@ -2,7 +2,6 @@
 use Rattle.std.proofs.Common.{refl, ◌≡◌, ◌≤◌, ◌<◌, ◌+◌, ◌-◌, ◌^◌, ℕ, List, Bool, false, length, arith, min}
 use Rattle.std.specs.Prelude.{◌==◌, ◌/◌, ◌%◌, Ok}
 use Rattle.std.proofs.Math.Nat.{div-le_self}
-use Rattle.std.proofs.lemmas.Bool.Decides.{nat_tests}
 use Rattle.asking.specs.Led.{IsAnswered, IsCarried, IsLed}
 use Rattle.asking.specs.Talk.{Seen}
 use Rattle.asking.specs.declared.led.Led as seen_led

@@ -37,7 +37,7 @@ use Rattle.spdm_grammar.specs.declared.event.Event.{Event}
 use Rattle.spdm_grammar.specs.declared.names.TheConstants.{MAX_MESSAGE_SIZE}
 use Rattle.spdm_grammar.specs.declared.phase.Phase.{Phase}
 use Rattle.spdm_grammar.specs.declared.phase.Phase.TheVariants.{Capable, Negotiated, Versioned}
-use Rattle.spdm_machine.specs.Terms.{Terms, choice_from, hash_len, no_choice, no_negotiation, offer_in, reply_in, request_value, response_value, terms_of}
+use Rattle.spdm_machine.specs.Terms.{Terms, hash_len, no_choice, no_negotiation, request_value, response_value, terms_of}
 use Rattle.transcript.specs.Transcripts.{Negotiation, vca_of}
 use Rattle.asking.specs.Led.{Follows, SendsNext, is_no_get}
 use Rattle.asking.specs.Negotiating as negotiating
@@ -52,7 +52,7 @@ use Rattle.asking.specs.declared.waiting.Way.{Way}
 use Rattle.asking.specs.declared.waiting.Way.TheVariants as ways
 use Rattle.requester_machine.proofs.ResponseLengths.{measured_value}
 use Rattle.asking.proofs.Started.{sends_shown}
-use Rattle.spdm_machine.proofs.Settling.{algorithms_keep, capabilities_keep, capabilities_up, choice_by, with_algorithms, with_capabilities}
+use Rattle.spdm_machine.proofs.Settling.{algorithms_keep, capabilities_keep, choice_by, with_algorithms, with_capabilities}
 
 -- ---- Messages that are sent.
 

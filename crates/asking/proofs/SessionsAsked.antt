@@ -1,13 +1,13 @@
 -- What is told to the sessions of a requester.
 use Rattle.std.proofs.Common.{refl, ◌≡◌, ◌≢◌, ◌∙◌, ◌<◌, ℕ, zero, suc, List, [], ◌∷◌, true, false, Bool, Option, Some, None, ap, sym, subst, eq-eqb, eqb-true, arith}
-use Rattle.std.specs.Prelude.{◌+◌, ◌==◌, ◌||◌, ◌-◌, ◌^◌, ◌≤◌, not, nat_lt, if◌then◌else◌, Result, Ok, Err, is_some, length, slice_index_or}
+use Rattle.std.specs.Prelude.{◌+◌, ◌==◌, ◌||◌, ◌-◌, ◌^◌, not, nat_lt, if◌then◌else◌, Ok, Err, is_some, length, slice_index_or}
 use Rattle.std.specs.Option.{option_map}
 use Rattle.std.proofs.lemmas.Bool.{false≢true}
 use Rattle.std.proofs.lemmas.Option.{none-some, same_Some}
 use Rattle.asking.specs.SessionSteps.{IsToldTo}
 use Rattle.asking.specs.Sessions.{IsNamed, StandsFor, session_for, slot_of}
 use Rattle.asking.specs.Slot.{IsSlotOf}
-use Rattle.asking.specs.SlotSteps.{IsAskedOf, fault_in}
+use Rattle.asking.specs.SlotSteps.{IsAskedOf}
 use Rattle.asking.specs.declared.sessions.Sessions.{Sessions}
 use Rattle.asking.specs.declared.slot.Slot.{Slot}
 use Rattle.asking.specs.declared.slot.Slot.TheVariants as slot
@@ -26,16 +26,15 @@ use Rattle.requester_machine.specs.Asking.{asked_sent, asks, asks_by, done}
 use Rattle.requester_machine.specs.Asking.Outcome.{Adds, Fails}
 use Rattle.requester_machine.specs.Commands.{Free, command_fault, is_negotiated, is_spent, lacks, live_count}
 use Rattle.requester_machine.specs.Does.{free_id}
-use Rattle.requester_machine.specs.History.{History, Entry, outstanding, phase_of}
+use Rattle.requester_machine.specs.History.{History, outstanding, phase_of}
 use Rattle.requester_machine.specs.History.Entry.{Told}
-use Rattle.requester_machine.specs.Message as message
-use Rattle.requester_machine.specs.Message.{Command, Sent}
+use Rattle.requester_machine.specs.Message.{Sent}
 use Rattle.requester_machine.specs.Message.Command.{Connect}
 use Rattle.requester_machine.specs.Order.{FitsWaits, IsInOrder, Waits, stage_for, waits_for}
 use Rattle.requester_machine.specs.Order.Waits.{ForRecord, Rests}
 use Rattle.requester_machine.specs.Records.{sealed_next}
 use Rattle.requester_machine.specs.Sending.{plain_sent}
-use Rattle.requester_machine.specs.Session.{Steps, is_live, response_epoch, session_of, session_terms, when_live}
+use Rattle.requester_machine.specs.Session.{is_live, response_epoch, session_of, session_terms, when_live}
 use Rattle.requester_machine.specs.Session.Step.{Asked}
 use Rattle.requester_machine.specs.Setup.{ReqSetup}
 use Rattle.spdm_basis.specs.Tests.{first_of_tests}

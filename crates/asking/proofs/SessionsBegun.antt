@@ -1,6 +1,6 @@
 -- Sessions that begin at a requester.
-use Rattle.std.proofs.Common.{refl, ◌≡◌, ◌≢◌, ◌∙◌, ◌≤◌, ℕ, List, [], ◌∷◌, true, false, Bool, Option, Some, None, ap, sym, subst, eq-eqb, arith}
-use Rattle.std.specs.Prelude.{⊤, ◌==◌, not, nat_lt, if◌then◌else◌, length, Result, Ok, Err, bytes_eq}
+use Rattle.std.proofs.Common.{refl, ◌≡◌, ◌≢◌, ◌∙◌, ◌≤◌, ℕ, List, ◌∷◌, true, false, Bool, Option, Some, ap, sym, subst, eq-eqb, arith}
+use Rattle.std.specs.Prelude.{◌==◌, not, nat_lt, if◌then◌else◌, length, Result, Ok, Err, bytes_eq}
 use Rattle.std.proofs.lemmas.Option.{none-some, same_Some}
 use Rattle.asking.proofs.SessionsAsked.{is_other, of_each}
 use Rattle.asking.proofs.SessionsRecorded.{unchanged}
@@ -49,13 +49,10 @@ use Rattle.requester_machine.specs.Order.{FitsWaits, IsInOrder, IsOrdered, waits
 use Rattle.requester_machine.specs.Order as order
 use Rattle.requester_machine.specs.Order.Waits.{ForExchange, Rests}
 use Rattle.requester_machine.specs.Sending.{finish_sent, piece_sent, plain_sent, request_sent}
-use Rattle.requester_machine.specs.Session.{Steps, after_clear, begun, session_of, when_live, with_sent}
-use Rattle.requester_machine.specs.Session.Step.{Accepted, Started}
+use Rattle.requester_machine.specs.Session.{Steps, after_clear, begun, session_of, with_sent}
 use Rattle.requester_machine.specs.Setup.{ReqSetup}
-use Rattle.requester_machine.specs.UnderWay.{IsOutstanding}
 use Rattle.spdm_grammar.specs.Message.{ExchangeMessage, RequestMessage, ResponseMessage}
 use Rattle.spdm_grammar.specs.Message.RequestMessage.{PskExchange}
-use Rattle.spdm_grammar.specs.Message.ResponseMessage.{PskExchangeRsp}
 use Rattle.spdm_grammar.specs.Requests.{canonical_request}
 use Rattle.spdm_grammar.specs.declared.event.ReqIgnored.{ReqIgnored}
 use Rattle.spdm_grammar.specs.declared.event.ReqIgnored.TheVariants as ignored
@@ -133,7 +130,7 @@ module _ (q : ReqSetup) (h : History) (f : Free) (tag : ℕ) (d : Draw) (sent : 
   pub begun_slot : (old : Sessions) → StandsFor old q h → IsSlotOf (slot_of old exchange.req_id) q.psk (started (negotiation_of h) (canonical_request (PskExchange exchange)))
   begun_slot old stands = subst (IsSlotOf (slot_of old exchange.req_id) q.psk) (begun_steps old stands) (stands.slots exchange.req_id)
 
-  exchange_leads : clear_led q h f sent.aim (PskExchange exchange) m ≡ exchange_led q h f exchange answer b.rsp
+  pub exchange_leads : clear_led q h f sent.aim (PskExchange exchange) m ≡ exchange_led q h f exchange answer b.rsp
   exchange_leads =
       carried_leads q h f sent (PskExchange exchange) m (Whole answer b.place) b.whole
       ∙ ap (λ (r : Result ResponseMessage Malformed). read_led q h f b.place (PskExchange exchange) answer r) b.reads

@@ -1,6 +1,6 @@
 -- A record that comes to the sessions of a requester.
-use Rattle.std.proofs.Common.{refl, ◌≡◌, ◌≢◌, ◌∙◌, ◌⊎◌, inl, inr, ℕ, List, [], ◌∷◌, true, false, Bool, Option, Some, None, ap, sym, subst, eq-eqb, arith}
-use Rattle.std.specs.Prelude.{◌==◌, ◌<◌, ◌-◌, ◌^◌, ◌≤◌, if◌then◌else◌, is_some, length, Result, Ok, Err}
+use Rattle.std.proofs.Common.{refl, ◌≡◌, ◌≢◌, ◌∙◌, inl, inr, ℕ, List, ◌∷◌, true, Bool, Option, Some, None, ap, sym, subst, arith}
+use Rattle.std.specs.Prelude.{◌==◌, ◌<◌, ◌-◌, ◌^◌, if◌then◌else◌, is_some, length, Result}
 use Rattle.asking.proofs.SessionsAsked.{is_other, of_each}
 use Rattle.asking.specs.SessionLed.{IsStepped, LeadsTo, finish_led_by, led_by}
 use Rattle.asking.specs.SessionSteps.{IsAdded, IsRecordOf, IsRecorded, event_by, is_sent}
@@ -20,31 +20,27 @@ use Rattle.requester_machine.proofs.Bounded.{sessions}
 use Rattle.requester_machine.proofs.HoldsRecord.{record_holds}
 use Rattle.requester_machine.proofs.RecordLeads.{RecordLeads, record_leads}
 use Rattle.requester_machine.proofs.RecordOrder.{GoodRecord, record-good}
-use Rattle.requester_machine.specs.Asking.{Outcome}
-use Rattle.requester_machine.specs.Asking.Outcome.{Adds}
 use Rattle.requester_machine.specs.Commands.{Free}
 use Rattle.requester_machine.specs.Hearing.{came_to, on_record}
-use Rattle.requester_machine.specs.History.{History, Led, connection_terms, negotiation_of, outstanding, phase_of}
+use Rattle.requester_machine.specs.History.{History, Led, outstanding}
 use Rattle.requester_machine.specs.History.Entry.{TookRecord}
 use Rattle.requester_machine.specs.Holds.{Holds, Waits}
 use Rattle.requester_machine.specs.InnerMessages.{Came, inner_led, or_lost}
-use Rattle.requester_machine.specs.Message.{Aim, Ask, Content, Sent}
+use Rattle.requester_machine.specs.Message.{Aim, Ask, Sent}
 use Rattle.requester_machine.specs.Message.Aim.{InSession}
 use Rattle.requester_machine.specs.Message.Ask.{AskFinish}
 use Rattle.requester_machine.specs.Message.Content.{Sealed}
 use Rattle.requester_machine.specs.Order.{FitsWaits, IsInOrder, waiting_ask, waits_aim, waits_for}
 use Rattle.requester_machine.specs.Order as orders
 use Rattle.requester_machine.specs.Order.Waits.{ForRecord, Rests}
-use Rattle.requester_machine.specs.Records.{answer_fault, answer_inner}
-use Rattle.requester_machine.specs.Session.{Steps, after_record, is_live, request_epoch, session_id, session_negotiation, session_of, session_terms, taken_of, with_sent}
+use Rattle.requester_machine.specs.Records.{answer_inner}
+use Rattle.requester_machine.specs.Session.{Steps, after_record, is_live, request_epoch, session_id, session_of, session_terms, taken_of, with_sent}
 use Rattle.requester_machine.specs.Session.Step.{Asked}
 use Rattle.requester_machine.specs.Setup.{ReqSetup}
 use Rattle.requester_machine.specs.UnderWay.{HasSizes, IsCommon, IsOutstanding, IsSealed, is_capable}
-use Rattle.spdm_basis.specs.declared.record_fault.RecordFault.{RecordFault}
 use Rattle.spdm_grammar.specs.declared.event.BadReply.{BadReply}
-use Rattle.spdm_grammar.specs.declared.phase.Phase.{Phase}
 use Rattle.spdm_machine.specs.Keys.{Draw}
-use Rattle.spdm_machine.specs.Terms.{Terms, terms_of}
+use Rattle.spdm_machine.specs.Terms.{terms_of}
 use Rattle.transcript.specs.Transcripts.{Negotiation}
 
 -- ---- What the outstanding record shows.

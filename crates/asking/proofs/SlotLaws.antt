@@ -1,32 +1,23 @@
 -- The session of one ReqSessionID: what its slot tells of it, and what is done with it.
-use Rattle.std.proofs.Common.{refl, ◌≡◌, ◌∙◌, ◌⊎◌, inl, inr, ℕ, List, [], ◌∷◌, true, false, Bool, Option, Some, None, ap, sym, subst}
-use Rattle.std.specs.Prelude.{not, if◌then◌else◌, Result, Ok, Err}
-use Rattle.std.specs.Option.{option_map}
+use Rattle.std.proofs.Common.{refl, ◌≡◌, ◌∙◌, inl, inr, ℕ, List, [], ◌∷◌, true, Bool, Some, None, ap, sym, subst}
+use Rattle.std.specs.Prelude.{if◌then◌else◌, Ok, Err}
 use Rattle.std.proofs.lemmas.Bool.{false≢true}
 use Rattle.std.proofs.lemmas.Option.{none-some, same_Some}
-use Rattle.asking.specs.SessionLed.{IsCourse, IsStepped, IsVerdict, settled, told_led}
+use Rattle.asking.specs.SessionLed.{IsStepped, settled, told_led}
 use Rattle.asking.specs.Slot.{IsAsked, IsFinishing, IsOpening, IsResting, IsSlotOf, shown_of}
-use Rattle.asking.specs.SlotSteps.{IsAcceptedBy, IsAskedOf, fault_in}
-use Rattle.asking.specs.declared.session_led.SessionLed.{SessionLed}
+use Rattle.asking.specs.SlotSteps.{IsAcceptedBy}
 use Rattle.asking.specs.declared.session_led.SessionLed.TheVariants as seen
-use Rattle.asking.specs.declared.slot.Slot.{Slot}
 use Rattle.asking.specs.declared.slot.Slot.TheVariants as slot
 use Rattle.psk_session.proofs.Taking.{newest_waits}
-use Rattle.psk_session.specs.AskLaws.{command_fault_of}
-use Rattle.psk_session.specs.Asking.{ask_fault, asked, asked_of}
-use Rattle.psk_session.specs.Course.{Course, TakesCourse, event_of, with_asked, with_taken}
+use Rattle.psk_session.specs.Course.{TakesCourse, event_of, with_asked, with_taken}
 use Rattle.psk_session.specs.Course.Course.{Answered, Ended, GoesOn, Lost}
-use Rattle.psk_session.specs.Finished.{IsFinishTook, IsJudged, finished_by}
+use Rattle.psk_session.specs.Finished.{IsJudged, finished_by}
 use Rattle.psk_session.specs.Finishing as finishing
-use Rattle.psk_session.specs.Opened.{IsTaken}
 use Rattle.psk_session.specs.Opening as opening
 use Rattle.psk_session.specs.Opening.{open_fault, started}
 use Rattle.psk_session.specs.ReqSession.{IsAwaiting, IsOpen}
-use Rattle.psk_session.specs.Stepped.{IsAskedBy, IsToldOf}
+use Rattle.psk_session.specs.Stepped.{IsToldOf}
 use Rattle.psk_session.specs.Waiting.{IsNewest}
-use Rattle.psk_session.specs.declared.ask.Ask as declared
-use Rattle.psk_session.specs.declared.ask_fault.AskFault.{AskFault}
-use Rattle.psk_session.specs.declared.finish_took.FinishTook.TheVariants as finish_took
 use Rattle.psk_session.specs.declared.finishing.Finishing.{Finishing}
 use Rattle.psk_session.specs.declared.open_fault.OpenFault.{OpenFault}
 use Rattle.psk_session.specs.declared.opening.Opening.{Opening}
@@ -43,12 +34,9 @@ use Rattle.requester_machine.specs.Session.{Steps, exchange_of, is_accepted, is_
 use Rattle.requester_machine.specs.Shown.{view_of}
 use Rattle.spdm_basis.specs.declared.record_fault.RecordFault.{RecordFault}
 use Rattle.spdm_basis.specs.declared.session_id.SessionId.{SessionId}
-use Rattle.spdm_grammar.specs.declared.command_fault.CommandFault.{CommandFault}
-use Rattle.spdm_grammar.specs.declared.command_fault.CommandFault.TheVariants as fault
 use Rattle.spdm_grammar.specs.declared.event.BadReply.{BadReply}
 use Rattle.spdm_grammar.specs.declared.event.Event.TheVariants as event
 use Rattle.spdm_grammar.specs.declared.event.Finished.TheVariants as finished
-use Rattle.spdm_grammar.specs.declared.phase.Stage.{Stage}
 use Rattle.spdm_grammar.specs.declared.phase.Stage.TheVariants as stage
 use Rattle.spdm_grammar.specs.declared.session_view.SessionView.{SessionView}
 use Rattle.transcript.specs.Transcripts.{Negotiation}

@@ -1,4 +1,4 @@
-use Rattle.std.proofs.Common.{refl, subst}
+use Rattle.std.proofs.Common.{refl}
 use Rattle.asking.proofs.SessionsAsked.{failed_to, few_epochs, resting, told_to}
 use Rattle.asking.specs.declared.sessions.Sessions.{Sessions}
 use Rattle.requester_machine.specs.Session.{session_of}

@@ -1,4 +1,4 @@
-use Rattle.std.proofs.Common.{◌≡◌, ◌≢◌, ℕ, Some, subst, sym, refl}
+use Rattle.std.proofs.Common.{◌≡◌, ◌≢◌, ℕ, subst, sym}
 use Rattle.std.specs.Prelude.{Err, Ok}
 use Rattle.asking.proofs.SessionsBegun.{begins_by, begun_named, begun_slot, refuses_by}
 use Rattle.asking.specs.SlotSteps.{IsAcceptedBy}
