@@ -3,6 +3,8 @@
 #![tactic(auto)]
 
 #[cfg(test)]
+mod asking_tests;
+#[cfg(test)]
 mod clear_tests;
 #[cfg(test)]
 mod session_tests;
