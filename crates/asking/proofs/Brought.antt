@@ -82,7 +82,7 @@ joined_short max handle number before c told is =
 -- ---- What a record leads to.
 
 -- The data of an effect.
-abbrev brings : Effect → Option (List ℕ)
+abbrev pub brings : Effect → Option (List ℕ)
 brings effect = option_or (bytes_in effect) (blocks_in effect)
 
 record Short (led : Led) : Type 0 where

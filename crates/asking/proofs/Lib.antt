@@ -17,3 +17,6 @@ pub mod SessionsAsked
 pub mod SessionsRecorded
 pub mod SessionsBegun
 pub mod SessionsApart
+pub mod DataBrought
+pub mod Joining
+pub mod BodiesJoined

@@ -1,10 +1,10 @@
 -- Messages in the clear that touch no session, or that refuse PSK_EXCHANGE.
-use Rattle.std.proofs.Common.{refl, ◌≡◌, ◌≢◌, ◌∙◌, ℕ, List, [], ◌∷◌, true, false, Option, Some, None, ap, sym, subst, eq-eqb}
-use Rattle.std.specs.Prelude.{◌==◌}
-use Rattle.std.proofs.lemmas.Bool.{false≢true}
+use Rattle.std.proofs.Common.{refl, ◌≡◌, ◌≢◌, ◌∙◌, ℕ, List, [], ◌∷◌, false, Bool, Option, Some, None, ap, sym, subst, eq-eqb, inl, inr}
+use Rattle.std.specs.Prelude.{drop, if◌then◌else◌, Ok}
 use Rattle.asking.proofs.SessionsAsked.{is_other, of_each}
-use Rattle.asking.proofs.SessionsBegun.{at_begun, clear_orders, clear_steps}
-use Rattle.asking.specs.SessionSteps.{ClearPasses, IsRefusedBy, MeasurePasses, is_apart}
+use Rattle.asking.proofs.SessionsBegun.{at_begun, clear_orders}
+use Rattle.asking.specs.Hearing.{ClosesSession}
+use Rattle.asking.specs.SessionSteps.{ClearPasses, MeasurePasses}
 use Rattle.asking.specs.Sessions.{IsNamed, StandsFor, session_begun, session_for, slot_of}
 use Rattle.asking.specs.Slot.{IsSlotOf}
 use Rattle.asking.specs.declared.sessions.Sessions.{Sessions}
@@ -13,72 +13,99 @@ use Rattle.asking.specs.declared.slot.Slot.TheVariants as slot
 use Rattle.requester_machine.proofs.ClearLeads.{ClearLeads, clear_leads}
 use Rattle.requester_machine.proofs.ClearLeads.ClearLeads.{ByCaps, ByChoice, ByExchange, ByGet, ByLarge, ByMeasured, ByRefusal, BySend, ByStop, ByVersion}
 use Rattle.requester_machine.proofs.Entries as entries
+use Rattle.requester_machine.proofs.Heard.{Heard, IsTaken, heard}
 use Rattle.requester_machine.proofs.HoldsClear.{clear_holds}
 use Rattle.requester_machine.proofs.HoldsTold.{told_holds, told_sent}
 use Rattle.requester_machine.proofs.MadeOrder.{rests}
 use Rattle.requester_machine.proofs.Steps.{Good}
-use Rattle.requester_machine.specs.Answers.{is_refused}
+use Rattle.requester_machine.specs.Asking.Outcome.{Adds}
+use Rattle.requester_machine.specs.ClearAnswers.{clear_led}
 use Rattle.requester_machine.specs.Commands.{Free}
-use Rattle.requester_machine.specs.History.{History, Led, connection_terms, outstanding}
-use Rattle.requester_machine.specs.History.Effect.{Refuses}
-use Rattle.requester_machine.specs.History.Entry.{Told, TookClear}
+use Rattle.requester_machine.specs.Hearing.{hears}
+use Rattle.requester_machine.specs.History.{Entry, History, Led, connection_terms, outstanding}
+use Rattle.requester_machine.specs.History.Entry.{Told, TookClear, TookRecord}
 use Rattle.requester_machine.specs.Message.{Aim, Sent, asked_in}
 use Rattle.requester_machine.specs.Message.Command.{Measure}
 use Rattle.requester_machine.specs.Order.{FitsWaits, IsOrdered, waits_aim}
 use Rattle.requester_machine.specs.Order.Waits.{Rests}
 use Rattle.requester_machine.specs.Sending.{request_sent}
-use Rattle.requester_machine.specs.Session.{Steps, after_clear, session_of, with_sent}
+use Rattle.requester_machine.specs.Session.{session_of, with_sent}
 use Rattle.requester_machine.specs.Setup.{ReqSetup}
-use Rattle.spdm_grammar.specs.Message.{ExchangeMessage, RequestMessage}
-use Rattle.spdm_grammar.specs.Message.RequestMessage.{GetMeasurements, NegotiateAlgorithms, PskExchange}
+use Rattle.spdm_grammar.specs.Message.{RequestMessage}
+use Rattle.spdm_grammar.specs.Message.RequestMessage.{GetMeasurements, NegotiateAlgorithms}
 use Rattle.spdm_machine.specs.Keys.{Draw}
 use Rattle.requester_machine.proofs.MadeOrder.{sent_by_size}
 
--- ---- What a message leads to that is apart from the sessions.
-
--- It touches no session, and the session that is named stays so.
-record Passes (kept : ℕ) (led : Led) : Type 0 where
-  steps : (i : ℕ) (s : Steps) → with_sent i led.next (after_clear i led.effect s) ≡ s
-  named : IsNamed (session_for led.next) kept
-
-refused_apart : (asked : RequestMessage) → is_apart (Refuses asked) ≡ true → (i : ℕ) (s : Steps) → after_clear i (Refuses asked) s ≡ s
-refused_apart (PskExchange exchange) apart i s = absurd (false≢true apart)
-refused_apart _ apart i s = refl
+-- ---- What a message in the clear leads to.
 
 module _ (q : ReqSetup) (h : History) (f : Free) (aim : Aim) (m : List ℕ) (asked : RequestMessage) (kept : ℕ) (named : IsNamed (session_begun asked) kept) where
-  as_led : (x led : Led) → led ≡ x → Passes kept x → Passes kept led
-  as_led x led is p = subst (Passes kept) (sym is) p
+  as_led : (x led : Led) → led ≡ x → IsNamed (session_for x.next) kept → IsNamed (session_for led.next) kept
+  as_led x led is p = subst (λ (l : Led). IsNamed (session_for l.next) kept) (sym is) p
 
-  passes : (led : Led) → ClearLeads q h f aim m asked led → is_apart led.effect ≡ true → Passes kept led
-  passes led (ByRefusal code is) apart = as_led _ led is (record { steps = refused_apart asked (subst (λ (l : Led). is_apart l.effect ≡ true) is apart); named = tt })
-  passes led (ByLarge handle may is) apart = as_led _ led is (record { steps = λ i s. refl; named = named })
-  passes led (BySend handle number aims more is) apart = as_led _ led is (record { steps = λ i s. refl; named = named })
-  passes led (ByGet handle number before c aims none more is) apart = as_led _ led is (record { steps = λ i s. refl; named = named })
-  passes led (ByStop why negotiation is) apart = as_led _ led is (record { steps = λ i s. refl; named = tt })
-  passes led (ByVersion answer was is) apart = as_led _ led is (record { steps = λ i s. refl; named = tt })
-  passes led (ByCaps caps theirs answer common offer was read shared offered short is) apart =
-      as_led _ led is (record {
-        steps = λ i s. sent_by_size (λ (x : Sent). with_sent i (Some x) s ≡ s) common h (NegotiateAlgorithms offer) refl refl;
-        named = sent_by_size (λ (x : Sent). IsNamed (session_for (Some x)) kept) common h (NegotiateAlgorithms offer) tt tt;
-      })
-  passes led (ByChoice offer answer was is) apart = as_led _ led is (record { steps = λ i s. refl; named = tt })
-  passes led (ByMeasured op answer finish was is) apart = as_led _ led is (record { steps = λ i s. refl; named = tt })
-  passes led (ByExchange exchange answer rsp was read right is) apart = absurd (false≢true (subst (λ (l : Led). is_apart l.effect ≡ true) is apart))
+  -- The session that is named stays so.
+  named_next : (led : Led) → ClearLeads q h f aim m asked led → IsNamed (session_for led.next) kept
+  named_next led (ByRefusal code is) = as_led _ led is tt
+  named_next led (ByLarge handle may is) = as_led _ led is named
+  named_next led (BySend handle number aims more is) = as_led _ led is named
+  named_next led (ByGet handle number before c aims none more is) = as_led _ led is named
+  named_next led (ByStop why negotiation is) = as_led _ led is tt
+  named_next led (ByVersion answer was is) = as_led _ led is tt
+  named_next led (ByCaps caps theirs answer common offer was read shared offered short is) =
+      as_led _ led is (sent_by_size (λ (x : Sent). IsNamed (session_for (Some x)) kept) common h (NegotiateAlgorithms offer) tt tt)
+  named_next led (ByChoice offer answer was is) = as_led _ led is tt
+  named_next led (ByMeasured op answer finish was is) = as_led _ led is tt
+  named_next led (ByExchange exchange answer rsp was read right is) = as_led _ led is (subst (λ (r : RequestMessage). IsNamed (session_begun r) kept) was named)
 
 -- The session that is named is that of the request.
 named_of : (x : Sessions) (q : ReqSetup) (h : History) (sent : Sent) (request : RequestMessage) → StandsFor x q h → outstanding h ≡ Some sent → asked_in sent.aim ≡ Some request → IsNamed (session_begun request) x.id
 named_of x q h sent request stands waits asks = subst (λ (o : Option ℕ). IsNamed o x.id) (ap session_for waits ∙ at_begun sent.aim request asks) stands.named
 
+module _ (q : ReqSetup) (h : History) (f : Free) (owner : Bool) (tag : ℕ) (body : List ℕ) (d : Draw) (led : Led) (adds : hears q h owner tag body f d ≡ Adds (TookClear tag (drop 1 body) led d)) where
+  abbrev entry : Entry
+  entry = TookClear tag (drop 1 body) led d
+
+  not_opened : (x : Led) (id : ℕ) (sealed inner : List ℕ) → entry ≡ TookRecord tag id sealed inner x d → ⊥
+  not_opened x id sealed inner is = absurd (cc is)
+
+  entered_by : Heard q h tag body f d entry → IsTaken q h tag body f d entry
+  entered_by (inl t) = t
+  entered_by (inr o) = absurd (not_opened _ o.1.id (drop 1 body) _ o.1.is)
+
+  pub entered : IsTaken q h tag body f d entry
+  entered = entered_by (heard q h owner tag body f d entry adds)
+
+  led_is : entered.led ≡ led
+  led_is = sym (led_of entered.led entered.is)
+    where
+      led_of : (x : Led) → entry ≡ TookClear tag (drop 1 body) x d → led ≡ x
+      led_of x is = cc is
+
+  leads : clear_led q h f entered.sent.aim entered.asked (drop 1 body) ≡ Ok led
+  leads = entered.leads ∙ ap (λ (l : Led). Ok l) led_is
+
+  by_what : ClearLeads q h f entered.sent.aim (drop 1 body) entered.asked led
+  by_what = clear_leads q h f entered.sent.aim (drop 1 body) entered.asked led entered.asks leads
+
+  -- The sessions whose slots have the sessions behind the message are those of the history with it.
+  stands_by : (old new : Sessions) → StandsFor old q h → new.id ≡ old.id → ((i : ℕ) → IsSlotOf (slot_of new i) q.psk (session_of i (entry ∷ h))) → StandsFor new q (entry ∷ h)
+  stands_by old new stands named slots = record {
+    holds = clear_holds q h f tag (drop 1 body) led d entered.sent entered.asked entered.waits entered.asks by_what stands.holds;
+    orders = λ i. clear_orders q h f tag (drop 1 body) led d entered.sent entered.asked i entered.waits entered.asks leads (stands.orders i);
+    slots = slots;
+    named = subst (IsNamed (session_for led.next)) (sym named) (named_next q h f entered.sent.aim (drop 1 body) entered.asked old.id (named_of old q h entered.sent entered.asked stands entered.waits entered.asks) led by_what);
+  }
+
+  pub closed_stands : (old new : Sessions) (of : ℕ) → ClosesSession of h entry → StandsFor old q h → slot_of new of ≡ slot.Empty → ((i : ℕ) → i ≢ of → slot_of new i ≡ slot_of old i) → new.id ≡ old.id → StandsFor new q (entry ∷ h)
+  closed_stands old new of closes stands own others named =
+      stands_by old new stands named
+      (of_each (λ i. IsSlotOf (slot_of new i) q.psk (session_of i (entry ∷ h))) of
+      (subst (λ (y : Slot). IsSlotOf y q.psk (session_of of (entry ∷ h))) (sym own) (closes of ∙ ap (λ (b : Bool). if b then [] else session_of of h) (eq-eqb of of refl)))
+      (λ i ne. subst (λ (y : Slot). IsSlotOf y q.psk (session_of i (entry ∷ h))) (sym (others i ne))
+      (subst (IsSlotOf (slot_of old i) q.psk) (sym (closes i ∙ ap (λ (b : Bool). if b then [] else session_of i h) (is_other of i ne))) (stands.slots i))))
+
 pub clear_passes : ClearPasses
-clear_passes x q h f tag d sent request m led waits asks leads apart stands =
-    let by = clear_leads q h f sent.aim m request led asks leads in
-    let p = passes q h f sent.aim m request x.id (named_of x q h sent request stands waits asks) led by apart in
-    record {
-      holds = clear_holds q h f tag m led d sent request waits asks by stands.holds;
-      orders = λ i. clear_orders q h f tag m led d sent request i waits asks leads (stands.orders i);
-      slots = λ i. subst (IsSlotOf (slot_of x i) q.psk) (sym (clear_steps h tag m led d i ∙ p.steps i (session_of i h))) (stands.slots i);
-      named = p.named;
-    }
+clear_passes x q h f owner tag body d led adds keeps stands =
+    stands_by q h f owner tag body d led adds x x stands refl (λ i. subst (IsSlotOf (slot_of x i) q.psk) (sym (keeps i)) (stands.slots i))
 
 -- ---- GET_MEASUREMENTS in the clear.
 
@@ -102,30 +129,4 @@ measure_passes x q h f d op sent adds stands =
           record { ordered = subst IsOrdered (sym (quiet i)) good.0; fits = subst (FitsWaits (waits_aim i sent.aim)) (sym (quiet i)) fits };
       slots = λ i. subst (IsSlotOf (slot_of x i) q.psk) (sym (quiet i)) (stands.slots i);
       named = subst (λ (y : Sent). IsNamed (session_for (Some y)) x.id) same (sent_by_size (λ (y : Sent). IsNamed (session_for (Some y)) x.id) common h (GetMeasurements op) tt tt);
-    }
-
--- ---- PSK_EXCHANGE is refused.
-
-refused_own : (h : History) (tag : ℕ) (m : List ℕ) (code : ℕ) (d : Draw) (exchange : ExchangeMessage) → (exchange.req_id == exchange.req_id) ≡ true → session_of exchange.req_id (TookClear tag m (is_refused code (Refuses (PskExchange exchange))) d ∷ h) ≡ []
-unfolding session_of
-refused_own h tag m code d exchange is = rw is refl
-
-refused_other : (h : History) (tag : ℕ) (m : List ℕ) (code : ℕ) (d : Draw) (exchange : ExchangeMessage) (i : ℕ) → i ≢ exchange.req_id
-    → session_of i (TookClear tag m (is_refused code (Refuses (PskExchange exchange))) d ∷ h) ≡ session_of i h
-unfolding session_of
-refused_other h tag m code d exchange i ne = rw (is_other exchange.req_id i ne) refl
-
-pub refused_stands : (old new : Sessions) (q : ReqSetup) (h : History) (f : Free) (tag : ℕ) (d : Draw) (sent : Sent) (m : List ℕ) (exchange : ExchangeMessage) (code : ℕ) → IsRefusedBy q h f sent m exchange code → StandsFor old q h
-    → slot_of new old.id ≡ slot.Empty → ((i : ℕ) → i ≢ old.id → slot_of new i ≡ slot_of old i) → StandsFor new q (TookClear tag m (is_refused code (Refuses (PskExchange exchange))) d ∷ h)
-refused_stands old new q h f tag d sent m exchange code r stands own others =
-    let led : Led = is_refused code (Refuses (PskExchange exchange)) in
-    let its : old.id ≡ exchange.req_id = named_of old q h sent (PskExchange exchange) stands r.waits r.asks in
-    record {
-      holds = clear_holds q h f tag m led d sent (PskExchange exchange) r.waits r.asks (clear_leads q h f sent.aim m (PskExchange exchange) led r.asks r.leads) stands.holds;
-      orders = λ i. clear_orders q h f tag m led d sent (PskExchange exchange) i r.waits r.asks r.leads (stands.orders i);
-      slots = of_each (λ i. IsSlotOf (slot_of new i) q.psk (session_of i (TookClear tag m led d ∷ h))) exchange.req_id
-          (subst (λ (y : Slot). IsSlotOf y q.psk (session_of exchange.req_id (TookClear tag m led d ∷ h))) (sym (subst (λ (n : ℕ). slot_of new n ≡ slot.Empty) its own)) (refused_own h tag m code d exchange (eq-eqb exchange.req_id exchange.req_id refl)))
-          (λ i ne. subst (λ (y : Slot). IsSlotOf y q.psk (session_of i (TookClear tag m led d ∷ h))) (sym (others i (λ e. ne (e ∙ its))))
-          (subst (IsSlotOf (slot_of old i) q.psk) (sym (refused_other h tag m code d exchange i ne)) (stands.slots i)));
-      named = tt;
     }

@@ -129,7 +129,7 @@ module _ (q : ReqSetup) (h : History) (f : Free) (tag : ℕ) (d : Draw) (sent : 
   pub begun_slot : (old : Sessions) → StandsFor old q h → IsSlotOf (slot_of old exchange.req_id) q.psk (started (negotiation_of h) (canonical_request (PskExchange exchange)))
   begun_slot old stands = subst (IsSlotOf (slot_of old exchange.req_id) q.psk) (begun_steps old stands) (stands.slots exchange.req_id)
 
-  exchange_leads : clear_led q h f sent.aim (PskExchange exchange) m ≡ exchange_led q h f exchange answer b.rsp
+  pub exchange_leads : clear_led q h f sent.aim (PskExchange exchange) m ≡ exchange_led q h f exchange answer b.rsp
   exchange_leads =
       carried_leads q h f sent (PskExchange exchange) m (Whole answer b.place) b.whole
       ∙ ap (λ (r : Result ResponseMessage Malformed). read_led q h f b.place (PskExchange exchange) answer r) b.reads

@@ -14,3 +14,4 @@ pub mod SessionLed
 pub mod SlotSteps
 pub mod Sessions
 pub mod SessionSteps
+pub mod Joined

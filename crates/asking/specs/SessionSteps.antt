@@ -1,24 +1,25 @@
 -- What comes of a command and of a record at the sessions of a requester.
-use Rattle.std.specs.Prelude.{◌≡◌, ◌∷◌, ℕ, List, Bool, true, false, Some, None, is_some, Result, Ok, Err}
+use Rattle.std.specs.Prelude.{◌≡◌, ◌∷◌, ℕ, List, Bool, true, false, Some, None, drop, is_some, Result, Ok, Err}
+use Rattle.asking.specs.Hearing.{KeepsSessions}
 use Rattle.asking.specs.Sessions.{StandsFor}
 use Rattle.asking.specs.declared.session_led.SessionLed.{SessionLed}
 use Rattle.asking.specs.declared.session_led.SessionLed.TheVariants as seen
 use Rattle.asking.specs.declared.sessions.Sessions.{Sessions}
-use Rattle.requester_machine.specs.Answers.{is_refused}
 use Rattle.requester_machine.specs.Asking.{Outcome, asks}
 use Rattle.requester_machine.specs.Asking.Outcome.{Adds, Fails, Ignores}
 use Rattle.requester_machine.specs.ClearAnswers.{carried_by, clear_led, reading_of}
 use Rattle.requester_machine.specs.ClearAnswers.Carried.{Whole}
 use Rattle.requester_machine.specs.Commands.{Free}
-use Rattle.requester_machine.specs.History.{Effect, Entry, History, Led, outstanding, sent_in}
-use Rattle.requester_machine.specs.History.Effect.{Answers, Refuses}
+use Rattle.requester_machine.specs.Hearing.{hears}
+use Rattle.requester_machine.specs.History.{Entry, History, Led, outstanding, sent_in}
+use Rattle.requester_machine.specs.History.Effect.{Answers}
 use Rattle.requester_machine.specs.History.Entry.{Told, TookClear}
 use Rattle.requester_machine.specs.Message.{Command, Content, Sent, asked_in}
 use Rattle.requester_machine.specs.Message.Command.{Measure}
 use Rattle.requester_machine.specs.Message.Content.{Sealed}
 use Rattle.requester_machine.specs.Setup.{ReqSetup}
 use Rattle.requester_machine.specs.Shown.{event_in}
-use Rattle.spdm_grammar.specs.Message.{ExchangeMessage, ExchangeRspMessage, RequestMessage}
+use Rattle.spdm_grammar.specs.Message.{ExchangeMessage, ExchangeRspMessage}
 use Rattle.spdm_grammar.specs.Message.RequestMessage.{PskExchange}
 use Rattle.spdm_grammar.specs.Message.ResponseMessage.{PskExchangeRsp}
 use Rattle.spdm_grammar.specs.declared.command_fault.CommandFault.{CommandFault}
@@ -98,31 +99,17 @@ IsBegunBy q h f tag d sent m answer exchange (Err cause) new =
     (clear_led q h f sent.aim (PskExchange exchange) m ≡ Err cause) × (cause ≡ ignored.BadVerify)
     × StandsFor new q h
 
--- A message in the clear refuses the PSK_EXCHANGE whose answer is awaited, with this code.
-pub record IsRefusedBy (q : ReqSetup) (h : History) (f : Free) (sent : Sent) (m : List ℕ)
-    (exchange : ExchangeMessage) (code : ℕ) : Type 0 where
-  pub waits : outstanding h ≡ Some sent
-  pub asks : asked_in sent.aim ≡ Some (PskExchange exchange)
-  pub leads : clear_led q h f sent.aim (PskExchange exchange) m
-      ≡ Ok (is_refused code (Refuses (PskExchange exchange)))
-
 -- ---- Messages in the clear that touch no session.
 
--- It neither answers PSK_EXCHANGE nor refuses it.
-abbrev pub is_apart : Effect → Bool
-is_apart (Answers (PskExchange exchange) answer) = false
-is_apart (Refuses (PskExchange exchange)) = false
-is_apart _ = true
-
--- The sessions are the same behind a message in the clear that is apart from them.
+-- The sessions are the same behind a message in the clear that was taken and changes none,
 abbrev pub ClearPasses : Type 0
-ClearPasses = (x : Sessions) (q : ReqSetup) (h : History) (f : Free) (tag : ℕ) (d : Draw)
-    (sent : Sent) (request : RequestMessage) (m : List ℕ) (led : Led)
-    → outstanding h ≡ Some sent → asked_in sent.aim ≡ Some request
-    → clear_led q h f sent.aim request m ≡ Ok led → is_apart led.effect ≡ true → StandsFor x q h
-    → StandsFor x q (TookClear tag m led d ∷ h)
+ClearPasses = (x : Sessions) (q : ReqSetup) (h : History) (f : Free) (owner : Bool) (tag : ℕ)
+    (body : List ℕ) (d : Draw) (led : Led)
+    → hears q h owner tag body f d ≡ Adds (TookClear tag (drop 1 body) led d)
+    → KeepsSessions h (TookClear tag (drop 1 body) led d) → StandsFor x q h
+    → StandsFor x q (TookClear tag (drop 1 body) led d ∷ h)
 
--- And behind GET_MEASUREMENTS that is sent in the clear.
+-- and behind GET_MEASUREMENTS that is sent in the clear.
 abbrev pub MeasurePasses : Type 0
 MeasurePasses = (x : Sessions) (q : ReqSetup) (h : History) (f : Free) (d : Draw) (op : ℕ)
     (sent : Sent) → asks false q h (Measure None op) f d ≡ Adds (Told (Measure None op) sent d)

@@ -1,10 +1,10 @@
-ghost use Rattle.std.specs.Prelude.{◌≡◌, ◌∷◌, ℕ, List, Bool, None, Some, false, true};
+ghost use Rattle.std.specs.Prelude.{◌≡◌, ◌∷◌, ℕ, List, Bool, None, Some, false, true, is_some};
 ghost use Rattle.std.specs.Option.{option_or};
 ghost use Rattle.requester_machine.specs.Asking.{asks};
 ghost use Rattle.requester_machine.specs.Asking.Outcome.{Adds};
-ghost use Rattle.requester_machine.specs.Commands.{Free, command_fault};
+ghost use Rattle.requester_machine.specs.Commands.{Free, command_fault, is_negotiated};
 ghost use Rattle.requester_machine.specs.Hearing.{hears};
-ghost use Rattle.requester_machine.specs.History.{Entry, History, asks_session, sent_in};
+ghost use Rattle.requester_machine.specs.History.{Entry, History, asks_session, outstanding, phase_of, sent_in};
 ghost use Rattle.requester_machine.specs.History.Entry.{Told};
 ghost use Rattle.requester_machine.specs.Message.{Ask, Command, Sent};
 ghost use Rattle.requester_machine.specs.Message.Aim.{InSession};
@@ -22,9 +22,13 @@ impl Talk {
     /// the session: `Busy`, then `NotConnected`.
     #[tactic(auto, unfolding(requester_machine::specs::Commands::command_fault))]
     pub fn session_fault(&self) -> Option<CommandFault>
-        ensures { (q : ReqSetup) (h : History) (command : Command) (f : Free) → Shows self.now h
-            → asks_session command ≡ true
+        ensures fault { (q : ReqSetup) (h : History) (command : Command) (f : Free)
+            → Shows self.now h → asks_session command ≡ true
             → command_fault false q h command f ≡ option_or result (session_fault q h command f) }
+        ensures idle { (h : History) → Shows self.now h → result ≡ None
+            → is_some (outstanding h) ≡ false }
+        ensures connected { (h : History) → Shows self.now h → result ≡ None
+            → is_negotiated (phase_of h) ≡ true }
     {
         if self.is_busy() {
             return Some(CommandFault::Busy);

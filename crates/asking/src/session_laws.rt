@@ -1,6 +1,6 @@
 ghost use Rattle.asking.specs.SessionSteps.{ClearPasses, MeasurePasses};
 
-/// A message in the clear that neither answers PSK_EXCHANGE nor refuses it touches no session.
+/// A message in the clear that changes no session leaves the sessions as they are.
 pub fn clear_passes()
     ensures { ClearPasses }
 {}

@@ -1,4 +1,4 @@
-ghost use Rattle.std.specs.Prelude.{◌≡◌, ◌+◌, not, if◌then◌else◌};
+ghost use Rattle.std.specs.Prelude.{◌≡◌, ◌≤◌, ◌+◌, not, if◌then◌else◌};
 ghost use Rattle.spdm_machine.specs.Sessions as sessions;
 
 use crate::{SessionLed, Slot, Talk};
@@ -31,8 +31,10 @@ fn count_of(first: bool, second: bool, third: bool, fourth: bool) -> u8
 
 // The first of four ids that has no live session; the last where these three have.
 fn least_free(first: bool, second: bool, third: bool) -> u16
-    ensures { result ≡ (if not first then 1 else (if not second then 2
+    ensures value { result ≡ (if not first then 1 else (if not second then 2
         else (if not third then 3 else 4))) }
+    ensures least { 1 ≤ result }
+    ensures most { result ≤ 4 }
 {
     if !first {
         return 1;
@@ -47,9 +49,9 @@ fn least_free(first: bool, second: bool, third: bool) -> u16
 }
 
 impl Sessions {
-    ghost use Rattle.std.specs.Prelude.{◌≡◌, ◌≢◌, ◌≤◌, ◌<◌, ◌^◌, ◌-◌, ◌∷◌, [], None, Some, false, true, ℕ, List, length};
+    ghost use Rattle.std.specs.Prelude.{◌≡◌, ◌≢◌, ◌≤◌, ◌<◌, ◌^◌, ◌-◌, ◌∷◌, [], None, Some, Bool, false, true, ℕ, List, drop, length};
     ghost use Rattle.asking.specs.SessionLed.{IsStepped};
-    ghost use Rattle.asking.specs.SessionSteps.{BringsExchange, IsBegunBy, IsRecordOf, IsRecorded, IsRefusedBy, IsToldTo};
+    ghost use Rattle.asking.specs.SessionSteps.{BringsExchange, IsBegunBy, IsRecordOf, IsRecorded, IsToldTo};
     ghost use Rattle.asking.specs.Sessions.{IsNamed, StandsFor, session_for, slot_of};
     ghost use Rattle.asking.specs.Slot.{IsSlotOf, shown_of};
     ghost use Rattle.asking.specs.SlotSteps.{IsAcceptedBy, IsAskedOf};
@@ -59,14 +61,13 @@ impl Sessions {
     ghost use Rattle.psk_session.specs.Data.{data_of};
     ghost use Rattle.psk_session.specs.Opening.{started};
     ghost use Rattle.psk_session.specs.Waiting.{IsNewest};
-    ghost use Rattle.requester_machine.specs.Answers.{is_refused};
     ghost use Rattle.requester_machine.specs.Asking.{asks};
     ghost use Rattle.requester_machine.specs.Asking.Outcome.{Adds};
     ghost use Rattle.requester_machine.specs.Commands.{Free, is_negotiated, live_count};
     ghost use Rattle.requester_machine.specs.Does.{free_id};
-    ghost use Rattle.requester_machine.specs.Hearing.{on_record};
-    ghost use Rattle.requester_machine.specs.History.{History, outstanding, phase_of};
-    ghost use Rattle.requester_machine.specs.History.Effect.{Refuses};
+    ghost use Rattle.asking.specs.Hearing.{ClosesSession};
+    ghost use Rattle.requester_machine.specs.Hearing.{hears, on_record};
+    ghost use Rattle.requester_machine.specs.History.{History, Led, outstanding, phase_of};
     ghost use Rattle.requester_machine.specs.History.Entry.{Told, TookClear};
     ghost use Rattle.requester_machine.specs.Message as message;
     ghost use Rattle.requester_machine.specs.Message.{Sent};
@@ -124,7 +125,10 @@ impl Sessions {
 
     /// The least ReqSessionID that no session has; 4 where there is none.
     pub fn free_id(&self) -> u16
-        ensures { (q : ReqSetup) (h : History) → StandsFor self.now q h → result ≡ free_id h }
+        ensures value { (q : ReqSetup) (h : History) → StandsFor self.now q h
+            → result ≡ free_id h }
+        ensures least { 1 ≤ result }
+        ensures most { result ≤ 4 }
     {
         least_free(self.is_live(1), self.is_live(2), self.is_live(3))
     }
@@ -203,9 +207,10 @@ impl Sessions {
 
     /// The outstanding record.
     pub fn record(&self) -> &[u8]
-        ensures { (q : ReqSetup) (h : History) (sent : Sent) (id : ℕ) (ask : message.Ask)
+        ensures bytes { (q : ReqSetup) (h : History) (sent : Sent) (id : ℕ) (ask : message.Ask)
             → outstanding h ≡ Some sent → sent.aim ≡ InSession id ask → StandsFor self.now q h
             → IsRecordOf result.now sent.content }
+        ensures fits { length result.now ≤ 4160 }
     {
         self.record_at(self.id)
     }
@@ -213,9 +218,10 @@ impl Sessions {
     // The record of the session of this ReqSessionID that awaits its answer.
     #[tactic(auto, using(crate::proofs::SlotLaws::empty_asks))]
     fn record_at(&self, id: u16) -> &[u8]
-        ensures { (psk : List ℕ) (s : Steps) (a : message.Ask)
+        ensures newest { (psk : List ℕ) (s : Steps) (a : message.Ask)
             → IsSlotOf (slot_of self.now id) psk s → waiting_ask s ≡ Some a
             → IsNewest a result.now s }
+        ensures fits { length result.now ≤ 4160 }
     {
         if id == 0 || id > 4 {
             return &[];
@@ -337,15 +343,14 @@ impl Sessions {
         }
     }
 
-    /// PSK_EXCHANGE was refused with an ERROR: its session is gone.
-    pub fn refuse(&mut self)
-        ensures { (q : ReqSetup) (h : History) (f : Free) (tag : ℕ) (d : Draw) (sent : Sent)
-            (m : List ℕ) (exchange : ExchangeMessage) (code : ℕ)
-            → IsRefusedBy q h f sent m exchange code → StandsFor self.old q h
-            → StandsFor self.new q (TookClear tag m
-            (is_refused code (Refuses (PskExchange exchange))) d ∷ h) }
+    /// PSK_EXCHANGE was refused with an ERROR: the session of this ReqSessionID is gone.
+    pub fn close(&mut self, id: u16)
+        ensures { (q : ReqSetup) (h : History) (f : Free) (owner : Bool) (tag : ℕ) (body : List ℕ)
+            (d : Draw) (led : Led) → hears q h owner tag body f d
+            ≡ Adds (TookClear tag (drop 1 body) led d)
+            → ClosesSession id h (TookClear tag (drop 1 body) led d) → StandsFor self.old q h
+            → StandsFor self.new q (TookClear tag (drop 1 body) led d ∷ h) }
     {
-        let id = self.id;
         self.empty(id);
     }
 }

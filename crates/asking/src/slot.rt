@@ -215,8 +215,9 @@ impl Slot {
 
     /// The record that awaits its answer; no bytes where there is none.
     pub fn record(&self) -> &[u8]
-        ensures { (psk : List ℕ) (s : Steps) (a : message.Ask) → IsSlotOf self.now psk s
+        ensures newest { (psk : List ℕ) (s : Steps) (a : message.Ask) → IsSlotOf self.now psk s
             → waiting_ask s ≡ Some a → IsNewest a result.now s }
+        ensures fits { length result.now ≤ 4160 }
     {
         match self {
             Slot::Empty | Slot::Opening(_) => &[],

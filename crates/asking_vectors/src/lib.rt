@@ -3,9 +3,9 @@
 #![tactic(auto)]
 
 #[cfg(test)]
-mod clear_tests;
+mod asking_tests;
 #[cfg(test)]
-mod record_tests;
+mod clear_tests;
 #[cfg(test)]
 mod session_tests;
 #[cfg(test)]

@@ -123,7 +123,8 @@ impl Finishing {
 
     /// The record of PSK_FINISH.
     pub fn again(&self) -> &[u8]
-        ensures { result.now ≡ self.now.sent }
+        ensures value { result.now ≡ self.now.sent }
+        ensures fits { length result.now ≤ 4160 }
     {
         self.sent.as_slice()
     }

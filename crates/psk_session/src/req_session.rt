@@ -117,7 +117,8 @@ impl ReqSession {
 
     /// The record last made, while an answer is awaited.
     pub fn again(&self) -> &[u8]
-        ensures { result.now ≡ (waiting_of self.now).sent }
+        ensures value { result.now ≡ (waiting_of self.now).sent }
+        ensures fits { length result.now ≤ 4160 }
     {
         self.sent.as_slice()
     }
