@@ -1,0 +1,4 @@
+pub mod Limits
+pub mod Tags
+pub mod Chosen
+pub mod Steps

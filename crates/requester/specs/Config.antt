@@ -1,10 +1,10 @@
 -- Why a requester is not made of a configuration. This project's own limits.
-use Rattle.std.specs.Prelude.{[], ◌∷◌, Bool, Option, ◌==◌, ◌||◌, not, nat_lt, length}
+use Rattle.std.specs.Prelude.{[], ◌∷◌, Bool, Option, Some, None, ◌≡◌, ◌==◌, ◌||◌, not, nat_lt, length}
 use Rattle.negotiate.specs.OwnSizes.{may_be_own}
 use Rattle.spdm_basis.specs.Tests.{first_of_tests}
 use Rattle.requester.specs.declared.config.ReqConfig.{ReqConfig}
 use Rattle.requester.specs.declared.fault.ReqConfigFault.{ReqConfigFault}
-use Rattle.requester.specs.declared.fault.ReqConfigFault.TheVariants.{SameEid, SizeRange}
+use Rattle.requester.specs.declared.fault.ReqConfigFault.TheVariants.{OutOfMemory, SameEid, SizeRange}
 
 -- A size, the unit, the padding, the opaque data or the hint is out of its range.
 abbrev pub is_out_of_range : ReqConfig → Bool
@@ -21,3 +21,8 @@ config_fault c = first_of_tests (
     (c.eid.number == c.responder.number, SameEid)
     ∷ (is_out_of_range c, SizeRange)
     ∷ [])
+
+-- Why a configuration is refused: its first fault; or there was no memory, and it has none.
+abbrev pub IsCause : ReqConfig → ReqConfigFault → Type 0
+IsCause c OutOfMemory = config_fault c ≡ None
+IsCause c fault = config_fault c ≡ Some fault

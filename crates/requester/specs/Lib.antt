@@ -1,1 +1,4 @@
 pub mod Config
+pub mod Drawing
+pub mod SetUp
+pub mod Standing

@@ -1,12 +1,16 @@
-//! A requester of the profile (DSP0274, section 10): commands and packets in, packets out. What
-//! stands of it is how it is set up, and why it is not.
+//! A requester of the profile (DSP0274, section 10): packets in, packets out. Commands are to come.
 #![tactic(auto)]
 
 mod config;
 mod fault;
+mod hearing;
+mod part;
+mod sending;
+mod whole;
 
 pub use config::ReqConfig;
 pub use fault::ReqConfigFault;
+pub use whole::Requester;
 
 #[cfg(test)]
 mod tests;

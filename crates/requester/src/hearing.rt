@@ -1,0 +1,68 @@
+ghost use Rattle.std.specs.Prelude.{◌≡◌, ◌<◌, ◌^◌, ◌-◌, [], ℕ, List, Ok, length};
+ghost use Rattle.asking.specs.Joined as joined;
+ghost use Rattle.mctp_framing.specs.Packet.{parsed, view_of};
+ghost use Rattle.requester.specs.SetUp.{IsPart};
+ghost use Rattle.requester.specs.Standing.{IsCounted, IsGiven, IsHeard, StandsFor};
+ghost use Rattle.requester_machine.specs.Does.{IsMade, requester_hears};
+ghost use Rattle.requester_machine.specs.History.{History};
+ghost use Rattle.requester_machine.specs.Requesting.{Requesting, hears_packet, requester_given};
+ghost use Rattle.requester_machine.specs.Setup.{ReqSetup};
+ghost use Rattle.spdm_machine.specs.Keys.{Draw};
+
+use crate::Requester;
+use crate::part::Part;
+use crate::sending::send;
+use crate::whole::WEAR_LIMIT;
+use asking::{Asking, Body};
+use mctp_framing::{Fed, Packet, PacketList, PacketView, Route};
+use spdm_grammar::{Event, ReqIgnored};
+
+// A whole body came by a route. The packets that are sent next are put in place of what `out` holds; where nothing
+// is sent, `out` stays. Records that are sent have no padding.
+fn hear(asking: &mut Asking, part: &Part, route: Route, bytes: &[u8], out: &mut PacketList) -> Event
+    ensures { (q : ReqSetup) (h : History) (d : Draw) → IsPart part.now q → IsMade q h
+        → length h < 2 ^ 64 - 1 → out.old ≡ [] → joined.StandsFor asking.old q h
+        → IsHeard q h (requester_hears q h route.owner route.tag bytes.now d) result out.new asking.new }
+{
+    let mut body = Body::new();
+    let reaction = asking.on_body(&part.setup(), route.owner, route.tag, bytes, &[], &mut body);
+    if let Some(tag) = reaction.tag {
+        send(part, tag, body.as_slice(), out);
+    }
+    reaction.event
+}
+
+impl Requester {
+    /// A packet is given to the requester. The packets that are sent upon it are put in place of what `out` holds.
+    /// `ReqIgnored` lists in which order a packet and its body are tested; after `Ignored` the outstanding request
+    /// stands. It takes no memory.
+    pub fn on_packet(&mut self, packet: &[u8], out: &mut PacketList) -> Event
+        ensures { (a : Requesting) → StandsFor self.old a
+            → IsGiven (requester_given a packet.now) result out.new self.new }
+    {
+        out.clear();
+        if self.taken >= WEAR_LIMIT {
+            return Event::Ignored(ReqIgnored::Worn);
+        }
+        self.taken += 1;
+        match Packet::parse(packet) {
+            Ok(view) => self.on_view(view, out),
+            Err(fault) => Event::Ignored(ReqIgnored::Packet(fault)),
+        }
+    }
+
+    // A packet that was counted, as its fields.
+    fn on_view(&mut self, view: PacketView<'_>, out: &mut PacketList) -> Event
+        requires sequence { view.sequence < 4 }
+        requires tag { view.tag < 8 }
+        ensures { (a : Requesting) (packet : List ℕ) → parsed packet ≡ Ok (view_of view.entry)
+            → out.old ≡ [] → IsCounted self.old a
+            → IsGiven (hears_packet a packet (parsed packet)) result out.new self.new }
+    {
+        match self.assembler.take(view) {
+            Fed::Whole(route, body) => hear(&mut self.asking, &self.part, route, body, out),
+            Fed::More => Event::More,
+            Fed::Dropped(cause) => Event::Ignored(ReqIgnored::Dropped(cause)),
+        }
+    }
+}

@@ -1,0 +1,18 @@
+ghost use Rattle.std.specs.Prelude.{◌≡◌, ◌≤◌, ◌<◌, [], true, length};
+ghost use Rattle.requester.specs.SetUp.{IsPart};
+ghost use Rattle.requester_machine.specs.Setup.{ReqSetup};
+ghost use Rattle.spdm_machine.specs.Packets.{packets_to};
+
+use crate::part::Part;
+use mctp_framing::PacketList;
+
+// The packets of a message with this tag, in place of what `out` holds. A body has its type at least.
+pub(crate) fn send(part: &Part, tag: u8, body: &[u8], out: &mut PacketList)
+    requires { length body.now ≤ 4161 }
+    ensures { (q : ReqSetup) → IsPart part.now q → tag < 8 → 0 < length body.now
+        → out.new ≡ packets_to q.responder q.eid true tag q.unit body.now }
+{
+    if !body.is_empty() {
+        out.fill(body, usize::from(part.unit), part.route(tag));
+    }
+}

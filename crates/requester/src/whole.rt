@@ -1,0 +1,93 @@
+use crate::part::Part;
+use crate::{ReqConfig, ReqConfigFault};
+use asking::Asking;
+use hmac_hkdf::DrawStream;
+use mctp_framing::Assembler;
+use spdm_grammar::Phase;
+use std::alloc::Global;
+
+/// How many packets and commands a requester takes.
+pub(crate) const WEAR_LIMIT: u64 = 1_099_511_627_776;
+
+// How long a body may be: its type and a record of 4,160 bytes.
+const BODY_LIMIT: usize = 4161;
+
+/// A requester of one responder (DSP0274, section 10): commands and packets in, packets out. All its memory is
+/// taken when it is made.
+#[derive(Drop)]
+pub struct Requester {
+    pub(crate) part: Part,
+    pub(crate) asking: Asking,
+    pub(crate) assembler: Assembler,
+    pub(crate) draws: DrawStream,
+    // How many packets and commands were taken.
+    pub(crate) taken: u64,
+}
+
+impl Requester {
+    ghost use Rattle.std.specs.Prelude.{◌≡◌, ◌≤◌, ◌*◌, ◌-◌, ◌^◌, None, IfErr, IfOk, OnOk};
+    ghost use Rattle.requester.specs.Config.{IsCause, config_fault};
+    ghost use Rattle.requester.specs.SetUp.{end_of};
+    ghost use Rattle.requester.specs.Standing.{StandsFor};
+    ghost use Rattle.requester_machine.specs.History.{phase_of};
+    ghost use Rattle.requester_machine.specs.Requesting.{Requesting, new_requesting};
+    ghost use Rattle.requester_machine.specs.Shown.{last_data};
+
+    /// A requester that was told and given nothing yet. `ReqConfigFault` lists the faults in the order in which they
+    /// are tested.
+    pub fn new(
+        alloc: Global,
+        config: &ReqConfig<'_>,
+        seed: [u8; 32],
+    ) -> Result<Requester, ReqConfigFault>
+        ensures stands { IfOk result
+            (λ requester. StandsFor requester (new_requesting (end_of config.now seed 0))) }
+        ensures sound { OnOk result (config_fault config.now ≡ None) }
+        ensures fault { IfErr result (λ fault. IsCause config.now fault) }
+    {
+        Requester::resume(alloc, config, seed, 0)
+    }
+
+    /// A requester that was told and given nothing yet, after so many boots with the same seed: at most 2^24 - 2.
+    /// The draws of each boot are its own. The faults are those of `new`.
+    pub fn resume(
+        alloc: Global,
+        config: &ReqConfig<'_>,
+        seed: [u8; 32],
+        boot: u32,
+    ) -> Result<Requester, ReqConfigFault>
+        requires { boot ≤ 2 ^ 24 - 2 }
+        ensures stands { IfOk result (λ requester. StandsFor requester
+            (new_requesting (end_of config.now seed (boot * 2 ^ 40)))) }
+        ensures sound { OnOk result (config_fault config.now ≡ None) }
+        ensures fault { IfErr result (λ fault. IsCause config.now fault) }
+    {
+        let part = Part::new(alloc, config)?;
+        let Ok(assembler) = Assembler::new(alloc, part.eid, part.responder, BODY_LIMIT) else {
+            return Err(ReqConfigFault::OutOfMemory);
+        };
+        let asking = Asking::new(part.max);
+        let draws = DrawStream::from_number(seed, u64::from(boot) * WEAR_LIMIT);
+        Ok(Requester {
+            part,
+            asking,
+            assembler,
+            draws,
+            taken: 0,
+        })
+    }
+
+    /// How far the negotiation has come.
+    pub fn phase(&self) -> Phase
+        ensures { (a : Requesting) → StandsFor self.now a → result ≡ phase_of a.history }
+    {
+        self.asking.phase()
+    }
+
+    /// The last application data or measurement record that came, whichever came later; no bytes before the first.
+    pub fn last_data(&self) -> &[u8]
+        ensures { (a : Requesting) → StandsFor self.now a → result.now ≡ last_data a.history }
+    {
+        self.asking.last_data()
+    }
+}
