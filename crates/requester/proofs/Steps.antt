@@ -1,5 +1,5 @@
 -- The steps of a requester.
-use Rattle.std.proofs.Common.{refl, ◌≡◌, ◌≤◌, ◌<◌, ◌∙◌, ◌+◌, ◌^◌, ℕ, List, [], ◌∷◌, length, Bool, true, false, cond, Option, Some, None, Result, Ok, Err, ap, sym, subst, arith}
+use Rattle.std.proofs.Common.{refl, ◌≡◌, ◌≤◌, ◌<◌, ◌∙◌, ◌+◌, ◌^◌, ℕ, List, [], ◌∷◌, length, Bool, true, false, cond, Option, Result, Ok, Err, ap, sym, subst, arith}
 use Rattle.std.proofs.lemmas.Bool.Decides.{nat_tests}
 use Rattle.std.specs.Prelude.{unwrap_or}
 use Rattle.asking.specs.Joined as joined
@@ -19,7 +19,7 @@ use Rattle.requester_machine.specs.Asking.Outcome.{Adds, Fails, Ignores, Resends
 use Rattle.requester_machine.specs.Does.{IsMade, requester_hears}
 use Rattle.requester_machine.specs.History.{History, draws_of}
 use Rattle.requester_machine.specs.Requesting.{PacketStep, Requesting, hears_gathered, hears_packet, ignores, is_worn, next_draw, requester_given, worn_step}
-use Rattle.requester_machine.specs.Shown.{after, event_of}
+use Rattle.requester_machine.specs.Shown.{after}
 use Rattle.spdm_basis.specs.declared.DropCause.{DropCause}
 use Rattle.spdm_basis.specs.declared.PacketFault.{PacketFault}
 use Rattle.spdm_grammar.specs.declared.event.Event.{Event}
@@ -162,7 +162,7 @@ dropped_step a packet fields cause out old new is empty feeds =
     rests a packet (event.Ignored (ignored.Dropped cause)) out old new is (feeds_takes a packet fields (Dropped cause) a.history old new feeds) empty (hears_is a packet fields (Dropped cause) old is feeds.parses feeds.told)
 
 -- An outcome adds one entry at most.
-one_more : (h : History) (o : Outcome) → length (after h o) ≤ length h + 1
+pub one_more : (h : History) (o : Outcome) → length (after h o) ≤ length h + 1
 one_more h (Fails fault) = omega arith
 one_more h (Ignores cause) = omega arith
 one_more h (Warns code) = omega arith

@@ -1,5 +1,5 @@
 -- The tags of the messages that a requester sends are below 8.
-use Rattle.std.proofs.Common.{refl, ◌≡◌, ◌∙◌, ◌<◌, ◌%◌, ℕ, List, [], ◌∷◌, Bool, false, Option, Some, None, ap, sym, subst, arith, inl, inr}
+use Rattle.std.proofs.Common.{refl, ◌≡◌, ◌∙◌, ◌<◌, ◌%◌, ℕ, List, [], ◌∷◌, false, Some, None, ap, sym, arith, inl, inr}
 use Rattle.std.specs.Prelude.{drop, length, nat_lt}
 use Rattle.std.proofs.lemmas.Option.{none-some, same_Some}
 use Rattle.negotiate.specs.declared.shared.Common.{Common}
@@ -25,7 +25,7 @@ use Rattle.requester_machine.specs.Sending.{piece_sent, plain_sent, request_sent
 use Rattle.requester_machine.specs.Setup.{ReqSetup}
 use Rattle.requester_machine.specs.Shown.{after, event_of, sent_by}
 use Rattle.spdm_grammar.specs.Message.{RequestMessage}
-use Rattle.spdm_grammar.specs.Message.RequestMessage.{GetMeasurements, GetVersion, NegotiateAlgorithms}
+use Rattle.spdm_grammar.specs.Message.RequestMessage.{GetMeasurements, NegotiateAlgorithms}
 use Rattle.spdm_grammar.specs.Requests.{canonical_request}
 use Rattle.spdm_grammar.specs.declared.event.Event.{Event}
 use Rattle.spdm_machine.specs.Bodies.{clear_body, record_body}

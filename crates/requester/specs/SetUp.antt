@@ -1,5 +1,5 @@
 -- The requester of the definitions that a configuration sets up, and what the program keeps of it.
-use Rattle.std.specs.Prelude.{◌≡◌, ◌≤◌, ℕ, List, length}
+use Rattle.std.specs.Prelude.{◌≡◌, ℕ, List}
 use Rattle.requester.specs.declared.config.ReqConfig.{ReqConfig}
 use Rattle.requester.specs.declared.part.Part.{Part}
 use Rattle.requester_machine.specs.May as may

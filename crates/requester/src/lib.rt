@@ -1,13 +1,16 @@
-//! A requester of the profile (DSP0274, section 10): packets in, packets out. Commands are to come.
+//! A requester of the profile (DSP0274, section 10): commands and packets in, packets out.
 #![tactic(auto)]
 
 mod config;
+mod context;
 mod fault;
 mod hearing;
 mod part;
 mod sending;
+mod telling;
 mod whole;
 
+pub use asking::Command;
 pub use config::ReqConfig;
 pub use fault::ReqConfigFault;
 pub use whole::Requester;

@@ -1,4 +1,4 @@
-use Rattle.std.proofs.Common.{refl, ◌≤◌, ◌<◌, ◌^◌, ◌-◌, ◌+◌, length, arith}
+use Rattle.std.proofs.Common.{refl, ◌<◌, ◌^◌, ◌-◌, length, arith}
 use Rattle.mctp_framing.specs.Cutting.{route_of}
 use Rattle.mctp_framing.specs.Packet.{view_of}
 use Rattle.requester.proofs.Steps.{counts_few, dropped_step, more_step, whole_step}

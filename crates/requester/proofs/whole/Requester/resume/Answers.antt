@@ -1,4 +1,4 @@
-use Rattle.std.proofs.Common.{refl, ◌*◌, ◌+◌, ◌^◌, ℕ, ap, arith, sym, ◌∙◌}
+use Rattle.std.proofs.Common.{refl, ℕ, ap, arith, sym, ◌∙◌}
 use Rattle.hmac_hkdf.specs.Draw.{Draws}
 use Rattle.mctp_framing.specs.Gathering.{Receiver}
 use Rattle.requester.proofs.whole.Requester.resume.Goals as goal

@@ -1,0 +1,31 @@
+ghost use Rattle.std.specs.Prelude.{◌≡◌};
+ghost use Rattle.requester.specs.Drawing.{draw_as};
+ghost use Rattle.spdm_machine.specs.Keys.{context_of};
+
+use byteorder::{ByteOrder, LittleEndian};
+use hmac_hkdf::Drawn;
+use spdm_basis::{Buffer, HashAlg};
+
+/// RequesterContext of PSK_EXCHANGE.
+pub(crate) type Context = Buffer<48>;
+
+/// The context of a draw, as long as the hash: it holds the number of the draw, so that no two are equal.
+pub(crate) fn context_of(hash: HashAlg, drawn: &Drawn) -> Context
+    ensures { result ≡ context_of hash (draw_as drawn.now) }
+{
+    let mut number = [0; 8];
+    LittleEndian::write_u64(&mut number, drawn.number);
+    let mut context = Context::new();
+    match hash {
+        HashAlg::Sha256 => {
+            let _ = context.extend(&drawn.bytes[..24]);
+            let _ = context.extend(&number);
+        }
+        HashAlg::Sha384 => {
+            let _ = context.extend(&drawn.bytes);
+            let _ = context.extend(&number);
+            let _ = context.extend(&[0; 8]);
+        }
+    }
+    context
+}

@@ -1,0 +1,102 @@
+ghost use Rattle.std.specs.Prelude.{◌≡◌, ◌≤◌, ◌<◌, ◌^◌, ◌+◌, ◌-◌, [], false, length};
+ghost use Rattle.asking.specs.Joined.{IsCommanded, command_of};
+ghost use Rattle.asking.specs.Joined as joined;
+ghost use Rattle.requester.specs.Drawing.{draw_as, drawn_by};
+ghost use Rattle.requester.specs.SetUp.{IsPart};
+ghost use Rattle.requester.specs.Standing.{IsTold, StandsFor};
+ghost use Rattle.requester_machine.specs.Does.{requester_asks};
+ghost use Rattle.requester_machine.specs.History as history;
+ghost use Rattle.requester_machine.specs.History.{History};
+ghost use Rattle.requester_machine.specs.Requesting.{Requesting, requester_told};
+ghost use Rattle.requester_machine.specs.Setup.{ReqSetup};
+
+use crate::Requester;
+use crate::context::context_of;
+use crate::part::Part;
+use crate::sending::send;
+use crate::whole::WEAR_LIMIT;
+use asking::{Asking, Body, Command, FreeValues};
+use hmac_hkdf::{DrawStream, Drawn};
+use mctp_framing::PacketList;
+use spdm_grammar::CommandFault;
+
+// Whether a command that is done takes a draw.
+fn takes_draw(command: Command<'_>, pad: u8) -> bool
+    ensures { (q : ReqSetup) → q.pad ≡ pad → result ≡ history.takes_draw q (command_of command.entry) }
+{
+    match command {
+        Command::Open { .. } => true,
+        Command::Send { .. }
+        | Command::Beat { .. }
+        | Command::Update { .. }
+        | Command::Measure {
+            session: Some(_),
+            ..
+        }
+        | Command::End { .. } => pad != 0,
+        Command::Connect | Command::Measure { session: None, .. } | Command::Retry => false,
+    }
+}
+
+// Does a command with the values of the draw that stands next. The body that is sent is written in place of what
+// `body` holds.
+fn tell(
+    asking: &mut Asking,
+    part: &Part,
+    command: Command<'_>,
+    drawn: &Drawn,
+    body: &mut Body,
+) -> Result<u8, CommandFault>
+    ensures { (q : ReqSetup) (h : History) → IsPart part.now q → length h < 2 ^ 64 - 1
+        → joined.StandsFor asking.old q h → IsCommanded q h
+        (requester_asks false q h (command_of command.entry) (draw_as drawn.now)) result body.new asking.new }
+{
+    let context = context_of(asking.choice().hash, drawn);
+    let free = FreeValues {
+        id: asking.free_id(),
+        context: context.as_slice(),
+        opaque: part.opaque.as_slice(),
+    };
+    let pad = &drawn.bytes[..usize::from(part.pad)];
+    asking.command(&part.setup(), &part.psk, command, &free, pad, body)
+}
+
+// The draw that stands next is gone, where it was taken.
+fn take_draw(draws: &mut DrawStream, is_taken: bool)
+    ensures { draws.old.number < 2 ^ 64 - 1 → draws.new
+        ≡ record draws.old { number = draws.old.number + drawn_by is_taken } }
+{
+    if is_taken {
+        let _ = draws.advance();
+    }
+}
+
+impl Requester {
+    /// Does a command. The packets that are sent are put in place of what `out` holds; after a fault there are
+    /// none, and nothing but the count of commands has changed. `CommandFault` lists the faults in the order in
+    /// which they are tested. It takes no memory.
+    pub fn command(
+        &mut self,
+        command: Command<'_>,
+        out: &mut PacketList,
+    ) -> Result<(), CommandFault>
+        ensures { (a : Requesting) → StandsFor self.old a
+            → IsTold (requester_told a (command_of command.entry)) result out.new self.new }
+    {
+        out.clear();
+        if self.taken >= WEAR_LIMIT {
+            return Err(CommandFault::Worn);
+        }
+        self.taken += 1;
+        let drawn = self.draws.peek();
+        let mut body = Body::new();
+        match tell(&mut self.asking, &self.part, command, &drawn, &mut body) {
+            Err(fault) => Err(fault),
+            Ok(tag) => {
+                take_draw(&mut self.draws, takes_draw(command, self.part.pad));
+                send(&self.part, tag, body.as_slice(), out);
+                Ok(())
+            }
+        }
+    }
+}
