@@ -22,7 +22,8 @@ use spdm_grammar::{Event, ReqIgnored};
 fn hear(asking: &mut Asking, part: &Part, route: Route, bytes: &[u8], out: &mut PacketList) -> Event
     ensures { (q : ReqSetup) (h : History) (d : Draw) → IsPart part.now q → IsMade q h
         → length h < 2 ^ 64 - 1 → out.old ≡ [] → joined.StandsFor asking.old q h
-        → IsHeard q h (requester_hears q h route.owner route.tag bytes.now d) result out.new asking.new }
+        → IsHeard q h (requester_hears q h route.owner route.tag bytes.now d) result out.new
+        asking.new }
 {
     let mut body = Body::new();
     let reaction = asking.on_body(&part.setup(), route.owner, route.tag, bytes, &[], &mut body);

@@ -22,7 +22,8 @@ use spdm_grammar::CommandFault;
 
 // Whether a command that is done takes a draw.
 fn takes_draw(command: Command<'_>, pad: u8) -> bool
-    ensures { (q : ReqSetup) → q.pad ≡ pad → result ≡ history.takes_draw q (command_of command.entry) }
+    ensures { (q : ReqSetup) → q.pad ≡ pad
+        → result ≡ history.takes_draw q (command_of command.entry) }
 {
     match command {
         Command::Open { .. } => true,
@@ -49,7 +50,8 @@ fn tell(
 ) -> Result<u8, CommandFault>
     ensures { (q : ReqSetup) (h : History) → IsPart part.now q → length h < 2 ^ 64 - 1
         → joined.StandsFor asking.old q h → IsCommanded q h
-        (requester_asks false q h (command_of command.entry) (draw_as drawn.now)) result body.new asking.new }
+        (requester_asks false q h (command_of command.entry) (draw_as drawn.now)) result body.new
+        asking.new }
 {
     let context = context_of(asking.choice().hash, drawn);
     let free = FreeValues {
