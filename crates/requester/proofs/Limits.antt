@@ -1,8 +1,8 @@
 -- What a configuration has shown that has no fault.
 use Rattle.std.proofs.Common.{refl, ◌≡◌, ◌≤◌, ℕ, length, true, false, Bool, Option, Some, None, sym, arith}
-use Rattle.std.proofs.lemmas.Bool.{false≢true, leb-true, ltb-false}
+use Rattle.std.proofs.lemmas.Bool.{leb-true, ltb-false, not-false, or_parts}
 use Rattle.std.proofs.lemmas.Option.{none-some}
-use Rattle.std.specs.Prelude.{◌||◌, nat_lt, not, if◌then◌else◌}
+use Rattle.std.specs.Prelude.{if◌then◌else◌}
 use Rattle.spdm_basis.proofs.Bools.{and_first, and_second}
 use Rattle.requester.specs.Config.{config_fault}
 use Rattle.requester.specs.declared.config.ReqConfig.{ReqConfig}
@@ -21,17 +21,6 @@ both : {A : Type 0} (b : Bool) (x : A) (rest : Option A) → (if b then Some x e
 both true x rest h = absurd (none-some x (sym h))
 both false x rest h = (refl, h)
 
-either : (a b : Bool) → (a || b) ≡ false → (a ≡ false) × (b ≡ false)
-either true b h = absurd (false≢true (sym h))
-either false b h = (refl, h)
-
-negated : (b : Bool) → not b ≡ false → b ≡ true
-negated true h = refl
-negated false h = absurd (false≢true (sym h))
-
-at_most : (a b : ℕ) → nat_lt a b ≡ false → b ≤ a
-at_most a b h = ltb-false a b h
-
 fits : {a b n : ℕ} → a ≤ b → b ≤ n → a ≤ n
 fits ordered most = omega (arith, ordered, most)
 
@@ -39,21 +28,21 @@ pub limits : (c : ReqConfig) → config_fault c ≡ None → HasLimits c
 limits c h =
     let first = both _ _ _ h in
     let second = both _ _ _ first.1 in
-    let hint = either _ _ second.0 in
-    let opaque = either _ _ hint.0 in
-    let pad = either _ _ opaque.0 in
-    let sizes = either _ _ pad.0 in
-    let unit = either _ _ sizes.1 in
-    let own = and_first _ _ (negated _ sizes.0) in
+    let hint = or_parts _ _ second.0 in
+    let opaque = or_parts _ _ hint.0 in
+    let pad = or_parts _ _ opaque.0 in
+    let sizes = or_parts _ _ pad.0 in
+    let unit = or_parts _ _ sizes.1 in
+    let own = and_first _ _ (not-false _ sizes.0) in
     let upper = and_second _ _ own in
     let ordered : c.transfer ≤ c.max = leb-true c.transfer c.max (and_first _ _ upper) in
     let most : c.max ≤ MAX_MESSAGE_SIZE = leb-true c.max MAX_MESSAGE_SIZE (and_second _ _ upper) in
     record {
       transfer = fits ordered most;
       max = most;
-      unit_low = at_most c.unit 64 unit.0;
-      unit_high = at_most 1024 c.unit unit.1;
-      pad = at_most 16 c.pad pad.1;
-      opaque = at_most 1024 (length c.opaque.now) opaque.1;
-      hint = at_most 64 (length c.hint.now) hint.1;
+      unit_low = ltb-false c.unit 64 unit.0;
+      unit_high = ltb-false 1024 c.unit unit.1;
+      pad = ltb-false 16 c.pad pad.1;
+      opaque = ltb-false 1024 (length c.opaque.now) opaque.1;
+      hint = ltb-false 64 (length c.hint.now) hint.1;
     }

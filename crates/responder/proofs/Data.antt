@@ -34,6 +34,7 @@ use Rattle.spdm_grammar.specs.declared.heard.Heard.TheVariants as heard
 use Rattle.spdm_grammar.specs.declared.names.request_code.TheConstants.{END_SESSION}
 use Rattle.spdm_grammar.specs.declared.phase.Stage.{Stage}
 use Rattle.spdm_machine.specs.Keys.{Draw}
+use Rattle.spdm_basis.proofs.Bools.{and_rest}
 
 -- What is told of an outcome tells the data that it brought, as they are kept after it.
 pub record TellsData (h : History) (before : List ℕ) (o : Outcome) : Type 0 where
@@ -68,10 +69,6 @@ either_off a true h n = refl
 either_off true false h n = absurd (false≢true (sym n))
 either_off false false h n = absurd (false≢true (sym h))
 
-and_off : (a b : Bool) → (a && b) ≡ false → a ≡ true → b ≡ false
-and_off true b h is = h
-and_off false b h is = absurd (false≢true is)
-
 short_by : (stage : Stage) (inner : List ℕ) → inner_refusal stage inner ≡ None → (slice_index inner 0 == 5) ≡ false → length (drop 1 inner) ≤ 1024
 short_by stage inner none other =
     let tests : List (Bool × ErrorCode) =
@@ -81,7 +78,7 @@ short_by stage inner none other =
     ∷ (slice_index inner 0 == 1 && nat_lt 1025 (length inner), RequestTooLarge)
     ∷ [] in
     let one = either_off (slice_index inner 0 == 5) (slice_index inner 0 == 1) (tests_are_false tests none 1) other in
-    let fits = ltb-false 1025 (length inner) (and_off (slice_index inner 0 == 1) (nat_lt 1025 (length inner)) (tests_are_false tests none 3) one) in
+    let fits = ltb-false 1025 (length inner) (and_rest (slice_index inner 0 == 1) (nat_lt 1025 (length inner)) (tests_are_false tests none 3) one) in
     subst (λ (n : ℕ). n ≤ 1024) (sym (length-drop 1 inner)) (omega (arith, fits))
 
 by_type : (r : RspSetup) (s : Events) (inner : List ℕ) (f : Free) (b : Bool) (bytes answer : List ℕ) → (slice_index inner 0 == 5) ≡ b → inner_refusal (stage_of s) inner ≡ None
