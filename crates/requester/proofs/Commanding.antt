@@ -132,12 +132,13 @@ pub record Counts (old new : Requester) : Type 0 where
   pub assembler : new.assembler ≡ old.assembler
   pub seed : new.draws.seed ≡ old.draws.seed
 
-told_after : (a : Requesting) (h : History) (old new : Requester) → StandsFor old a → Counts old new → new.draws.number ≡ a.first + draws_of a.setup h → joined.StandsFor new.asking a.setup h → IsMade a.setup h → length h ≤ length a.history + 1
+told_after : (a : Requesting) (h : History) (old new : Requester) → StandsFor old a → is_worn a ≡ false → Counts old new → new.draws.number ≡ a.first + draws_of a.setup h → joined.StandsFor new.asking a.setup h → IsMade a.setup h → length h ≤ length a.history + 1
     → StandsFor new (record a { commands = a.commands + 1; history = h })
-told_after a h old new stands counts number asking made more =
+told_after a h old new stands fresh counts number asking made more =
     let count = stands.count in
     let taken = counts.taken in
     let entries = stands.entries in
+    let below = counts_few a fresh in
     record {
       part = subst (λ (part : Part). IsPart part a.setup) (sym counts.part) stands.part;
       seed = counts.seed ∙ stands.seed;
@@ -148,6 +149,7 @@ told_after a h old new stands counts number asking made more =
       asking = asking;
       made = made;
       entries = omega (arith, entries, more);
+      limit = omega (arith, below);
       first = stands.first;
     }
 
@@ -157,7 +159,7 @@ failed_step a command why out old new stands fresh empty counts same fails =
     subst (λ (s : CommandStep). IsTold s (Err why) out new) (sym (fresh_told a command fresh ∙ ap (commanded_by a) fails.0)) (record {
       fault = refl;
       sent = empty;
-      stands = told_after a a.history old new stands counts (same ∙ stands.number) fails.1 stands.made (omega arith);
+      stands = told_after a a.history old new stands fresh counts (same ∙ stands.number) fails.1 stands.made (omega arith);
     })
 
 pub done_step : (a : Requesting) (command : Command) (tag : ℕ) (body : List ℕ) (out : List (List ℕ)) (old new : Requester) → StandsFor old a → is_worn a ≡ false → Counts old new
@@ -175,5 +177,5 @@ done_step a command tag body out old new stands fresh counts drawn did sends =
     subst (λ (s : CommandStep). IsTold s (Ok tt) out new) (sym (fresh_told a command fresh)) (record {
       fault = sym did.fault;
       sent = packets_are q did.sent tag body out did.tag_is did.body_is (out_fits q h o did.sent stands.made made (λ x. waits q h command f d x) did.sends) sends ∙ ap (packets_of_sent q) (sym did.sends);
-      stands = told_after a (after h o) old new stands counts (omega (arith, drawn, number, draws)) did.stands made (one_more h o);
+      stands = told_after a (after h o) old new stands fresh counts (omega (arith, drawn, number, draws)) did.stands made (one_more h o);
     })

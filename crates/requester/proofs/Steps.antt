@@ -66,6 +66,7 @@ counted old a stands fresh = record {
     asking = stands.asking;
     made = stands.made;
     entries = stands.entries;
+    limit = stands.limit;
     first = stands.first;
   };
 }
@@ -88,6 +89,7 @@ given_after a packet h old new is takes made more drawn =
     let count = is.count in
     let taken = takes.taken in
     let entries = stands.entries in
+    let below = counts_few a is.fresh in
     record {
       part = subst (λ (part : Part). IsPart part a.setup) (sym takes.part) stands.part;
       seed = ap (λ (d : Draws). d.seed) takes.draws ∙ stands.seed;
@@ -98,6 +100,7 @@ given_after a packet h old new is takes made more drawn =
       asking = takes.asking;
       made = made;
       entries = omega (arith, entries, more);
+      limit = omega (arith, below);
       first = stands.first;
     }
 

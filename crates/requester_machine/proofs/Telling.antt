@@ -1,5 +1,5 @@
 -- What a requester does that is told a command, as long as it is not worn.
-use Rattle.std.proofs.Common.{◌≡◌, cond, false, Bool, Option, Some, None, ap}
+use Rattle.std.proofs.Common.{◌≡◌, cond, true, false, Bool, Option, Some, None, ap}
 use Rattle.requester_machine.specs.Asking.{Outcome, resent}
 use Rattle.requester_machine.specs.Asking.Outcome.{Resends}
 use Rattle.requester_machine.specs.Does.{requester_asks}

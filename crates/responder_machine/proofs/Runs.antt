@@ -10,13 +10,13 @@ use Rattle.responder_machine.proofs.Connected.{PeersDiffer, changed_keeps, count
 use Rattle.responder_machine.proofs.Making.{does_made}
 use Rattle.responder_machine.specs.BoundLaws.{messages_of}
 use Rattle.responder_machine.specs.Does.{IsMade, responder_does}
-use Rattle.responder_machine.specs.History.{History, queue_of}
+use Rattle.responder_machine.specs.History.{History, draws_of, queue_of}
 use Rattle.responder_machine.specs.History.Entry.{Clear, Sealed, Queued, Ticked, Dropped}
 use Rattle.responder_machine.specs.Independence.{AreKnownApart, Given, IsRun, RunsAreBounded, run_of}
 use Rattle.responder_machine.specs.Independence.Given.{Packet, Reply, Seconds}
 use Rattle.responder_machine.specs.Responder.{Outcome, after}
 use Rattle.responder_machine.specs.Responder.Outcome.{Same, Unopened, Adds}
-use Rattle.responder_machine.specs.Responding.{Connection, Responding, RspStep, answers, changed, changed_if, connection_of, data_of, hears_from, hears_gathered, hears_packet, ignores, is_worn, new_connection, next_draw, over_all, queues, reply_fault_of, responder_hears, ticks, with_history, with_taken, worn_step}
+use Rattle.responder_machine.specs.Responding.{Connection, Responding, RspStep, all_draws, answers, changed, changed_if, connection_of, data_of, hears_from, hears_gathered, hears_packet, ignores, is_worn, new_connection, next_draw, over_all, queues, reply_fault_of, responder_hears, ticks, with_history, with_taken, worn_step}
 use Rattle.responder_machine.specs.Setup.{Known, RspEnd, RspPart}
 use Rattle.spdm_basis.specs.declared.DropCause.TheVariants.{NotOurs}
 use Rattle.spdm_basis.specs.declared.PacketFault.{PacketFault}
