@@ -2,7 +2,7 @@ use Rattle.std.proofs.Common.{rules, refl, ◌∙◌, ◌≤◌, ◌<◌, ◌^�
 use Rattle.asking.specs.Joined.{IsCommanded, command_of}
 use Rattle.hmac_hkdf.specs.Draw.{Draws}
 use Rattle.requester.proofs.Steps.{counts_few, fresh_is, worn_now}
-use Rattle.requester.proofs.Commanding.{done_step, draw_is, drawn_next, failed_step, number_few, worn_told}
+use Rattle.requester.proofs.Commanding.{done_step, drawn_next, failed_step, number_few, worn_told}
 use Rattle.requester.proofs.whole.Requester.command.Goals as goal
 use Rattle.session_keys.specs.Drawing.{drawn_by}
 use Rattle.requester.specs.Standing.{IsTold}
@@ -13,6 +13,7 @@ use Rattle.spdm_grammar.specs.declared.command_fault.CommandFault.TheVariants as
 use Rattle.spdm_machine.specs.Keys.{Draw}
 use Rattle.spdm_machine.specs.Packets.{packets_to}
 use Rattle.std.specs.Prelude.{Err, Ok}
+use Rattle.session_keys.proofs.Draws.{draw_is}
 
 pub returns-then-self-ge-WEAR_LIMIT : goal.returns-then-self-ge-WEAR_LIMIT
 returns-then-self-ge-WEAR_LIMIT c = λ a stands.

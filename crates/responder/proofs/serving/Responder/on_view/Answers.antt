@@ -35,6 +35,6 @@ returns-in-Some-get_mut c = λ r packet is empty stands.
     let m = (found_in (λ (y : Connection). y.setup.peer == fields.from) r.connections found.c found.found).0 in
     let run = run_is r stands.reached in
     let below = subst (λ (n : ℕ). n < 2 ^ 64 - 1) (sym stands.number) (number_few r stands.reached stands.first) in
-    let taken = c.on_packet.ensures r.part (fields_in r.given) found.c stands.part (made_in r.connections found.c run.made m) (messages_few r stands.reached found.c m) below empty
+    let taken = c.on_packet.ensures r.part (fields_in r.given) found.c stands.part (made_in r.connections run.made found.c m) (messages_few r stands.reached found.c m) below empty
     (subst (λ (x : Peer). peers.StandsFor x r.part (fields_in r.given) found.c) (sym same) found.stands) in
     taken_step r packet fields c.args.self.now _ c.in-Some.place found c.on_packet.new.self c.on_packet.result c.on_packet.new.out stands is own c.requires.fresh refl refl refl taken
