@@ -235,10 +235,6 @@ exchange_is q f summary setup free is_setup is_free = rw (is_setup.hint, is_free
 
 -- ---- What may be there.
 
-pub none_if : {A : Type 0} (o : Option A) → is_some o ≡ false → o ≡ None
-none_if None e = refl
-none_if (Some a) e = absurd (false≢true (sym e))
-
 pub some_if : {A : Type 0} (o : Option A) → is_some o ≡ true → (a : A) × (o ≡ Some a)
 some_if None e = absurd (false≢true e)
 some_if (Some a) e = (a, refl)

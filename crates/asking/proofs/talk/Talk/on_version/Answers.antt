@@ -1,7 +1,7 @@
 use Rattle.std.proofs.Common.{refl, ◌≡◌, ◌∙◌, ap, subst, sym, ℕ, List, Option, None, arith}
 use Rattle.std.specs.Prelude.{Ok}
 use Rattle.asking.proofs.Leading.{next_led, plain_small, small_sends, version_stands, version_up}
-use Rattle.asking.proofs.Started.{none_if, some_if}
+use Rattle.asking.proofs.Started.{some_if}
 use Rattle.asking.specs.Led.{IsLed, SendsNext}
 use Rattle.asking.specs.Outgoing as outgoing
 use Rattle.asking.specs.Talk.{Seen, Shows}
@@ -16,10 +16,11 @@ use Rattle.spdm_grammar.specs.declared.capabilities.Caps.{Caps}
 use Rattle.asking.specs.declared.waiting.Asked.TheVariants as asks
 use Rattle.asking.specs.declared.waiting.Way.TheVariants as ways
 use Rattle.asking.proofs.talk.Talk.on_version.Goals as goal
+use Rattle.spdm_basis.proofs.Options.{none_out}
 
 pub returns-then-is_none : goal.returns-then-is_none
 returns-then-is_none c = λ q h setup shows keeps up short.
-    let none : c.choose_version.result ≡ None = none_if c.choose_version.result c.if-is_none.ensures in
+    let none : c.choose_version.result ≡ None = none_out c.choose_version.result c.if-is_none.ensures in
     subst (λ (o : Option ℕ). IsLed h (Ok (version_led q h c.args.answer.now o)) c.stop.result c.args.self.now c.stop.new.self c.args.out.now) (sym none ∙ c.choose_version.ensures) (c.stop.ensures h c.args.out.now shows)
 
 pub returns : goal.returns
