@@ -2,7 +2,7 @@
 use Rattle.std.specs.Prelude.{ℕ, List, Option, Some, None, codes, if◌then◌else◌}
 use Rattle.std.specs.Str.{bytes_eq}
 use Rattle.spdm_bench.specs.declared.work.Kind.{Kind}
-use Rattle.spdm_bench.specs.declared.work.Kind.TheVariants.{Gcm, Hmac, Session, Records}
+use Rattle.spdm_bench.specs.declared.work.Kind.TheVariants.{Gcm, Hmac, Session, Records, Ends}
 
 -- The kind of work that a word names.
 abbrev pub kind_named : List ℕ → Option Kind
@@ -11,4 +11,5 @@ kind_named word =
     else if bytes_eq word (codes "hmac") then Some Hmac
     else if bytes_eq word (codes "session") then Some Session
     else if bytes_eq word (codes "records") then Some Records
+    else if bytes_eq word (codes "ends") then Some Ends
     else None

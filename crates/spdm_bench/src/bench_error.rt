@@ -6,7 +6,7 @@ use thiserror::Error;
 #[derive(Debug, Drop, Error)]
 pub enum BenchError {
     /// The words ask for no work.
-    #[error("usage: spdm_bench gcm|hmac|session|records SIZE COUNT")]
+    #[error("usage: spdm_bench gcm|hmac|session|records|ends SIZE COUNT")]
     Usage,
     /// The handshake opened no session.
     #[error("no session")]

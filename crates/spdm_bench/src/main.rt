@@ -5,12 +5,14 @@
 
 mod answer;
 mod bench_error;
+mod ends;
 mod repeat;
 mod talk;
 mod work;
 
 use answer::{last_code, last_tag};
 use bench_error::BenchError;
+use ends::last_of_ends;
 use std::env;
 use std::rt::Env;
 use talk::{last_of_records, last_of_session};
@@ -25,6 +27,7 @@ fn main(rt: HostRuntime) -> Result<(), BenchError> {
         Kind::Hmac => last_code(rt.alloc(), work.size, work.count)?,
         Kind::Session => last_of_session(rt.alloc(), work.size, few(work.count)?)?,
         Kind::Records => last_of_records(rt.alloc(), work.size, few(work.count)?)?,
+        Kind::Ends => last_of_ends(rt.alloc(), work.size, work.count)?,
     };
     println!(rt; "{last}")?;
     Ok(())

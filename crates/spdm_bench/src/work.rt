@@ -12,6 +12,8 @@ pub enum Kind {
     Session,
     /// The records of that are sealed and opened alone.
     Records,
+    /// Requesters send it in turn as application data to one responder, over packets.
+    Ends,
 }
 
 fn kind_named(word: &str) -> Option<Kind>
@@ -22,6 +24,7 @@ fn kind_named(word: &str) -> Option<Kind>
         "hmac" => Some(Kind::Hmac),
         "session" => Some(Kind::Session),
         "records" => Some(Kind::Records),
+        "ends" => Some(Kind::Ends),
         _ => None,
     }
 }
@@ -31,7 +34,7 @@ fn kind_named(word: &str) -> Option<Kind>
 pub struct Work {
     /// What is done to each message.
     pub kind: Kind,
-    /// How many bytes a message has.
+    /// How many bytes a message has; of `ends`, how many requesters there are.
     pub size: usize,
     /// How many messages there are.
     pub count: u64,
@@ -39,8 +42,8 @@ pub struct Work {
 }
 
 impl Work {
-    /// The work of the words `KIND SIZE COUNT`, where the kind is `gcm`, `hmac`, `session` or
-    /// `records`, with a size of at most 65,535 and both numbers in decimal, and `None` for others.
+    /// The work of the words `KIND SIZE COUNT`, where the kind is `gcm`, `hmac`, `session`,
+    /// `records` or `ends`, with a size of at most 65,535 and both numbers in decimal, and `None` for others.
     pub fn of(words: &[String]) -> Option<Work>
         ensures kind { IfSome result (λ work. kind_named (slice_index_or
             (map string_bytes words.now) 0 []) ≡ Some work.kind) }
