@@ -1,7 +1,7 @@
 use crate::transcripts::Start;
 
 // How the transcripts below begin.
-pub const STARTS: [Start; 15] = [
+pub const STARTS: [Start; 16] = [
     Start {
         name: "fresh",
         config: "\
@@ -97,6 +97,20 @@ pump 2
         config: "\
 seed 0000000000000000000000000000000000000000000000000000000000000000
 responder 8 1024 1024 64 0 -
+requester 9 1024 4096 64 0 hkc 71 31323334353637383930313233343536 -
+",
+        events: "\
+q1 connect
+pump 6
+q1 open 0
+pump 6
+",
+    },
+    Start {
+        name: "unmeasured",
+        config: "\
+seed 0000000000000000000000000000000000000000000000000000000000000000
+responder 8 1024 4096 64 30 hkc
 requester 9 1024 4096 64 0 hkc 71 31323334353637383930313233343536 -
 ",
         events: "\
@@ -219,7 +233,7 @@ pump 6
 ];
 
 // How many transcripts there are.
-pub const COUNT: u32 = 21;
+pub const COUNT: u32 = 22;
 
 // Requests that are refused at each place, each behind a line with its name and that of its start: events,
 // and behind `> ` what an independent program tells of them.
@@ -1442,6 +1456,17 @@ show
 > state q1 negotiated
 > state r q1 negotiated
 > session r q1 01000100 open 0 0 0 0 0 1217f3232c945c556137d831e4fdfa0301b1eea34e79f067767739ebff298d6d
+=refused_unmeasured_in_chunks unmeasured
+inject 010809cf051285010300000000040000000400000012e00000
+> to r answered 85
+> packet 12 010908c705120500030000127f07e0
+inject 010809cf0512850103000000002d0000002d00000012e6ff000100010020000000710000000000000000000000000000000000000000000000000000000000000000
+> to r answered 85
+> packet 13 010908c705120500030000127f0100
+show
+> state q1 negotiated
+> state r q1 negotiated
+> session r q1 01000100 open 0 0 0 0 0 5788fe8df6225a449b626982a88e5fd33b7c39c5ec8987d0d2f67a30f416bf9c
 =refused_answer_pending answer_pending
 inject 010809cf0512e1000000000000c06402000004000000100000
 > to r refused 04
