@@ -3,7 +3,7 @@ use Rattle.std.proofs.Common.{refl, ◌≡◌, ◌∙◌, ◌∷◌, ℕ, List, 
 use Rattle.std.specs.Prelude.{drop, is_some, Result, Ok, Err}
 use Rattle.std.proofs.lemmas.Bool.{false≢true}
 use Rattle.asking.proofs.DataBrought.{record_aims}
-use Rattle.asking.proofs.Joining.{clear_out, none_out, record_out}
+use Rattle.asking.proofs.Joining.{clear_out, record_out}
 use Rattle.asking.proofs.SessionsApart.{clear_passes}
 use Rattle.asking.proofs.SessionsBegun.{exchange_leads}
 use Rattle.chunking.specs.Keeping as keeping
@@ -39,6 +39,7 @@ use Rattle.spdm_grammar.specs.declared.event.Event.TheVariants as event
 use Rattle.spdm_grammar.specs.declared.event.ReqIgnored.{ReqIgnored}
 use Rattle.spdm_machine.specs.Bodies.{clear_body, record_body}
 use Rattle.spdm_machine.specs.Keys.{Draw}
+use Rattle.spdm_basis.proofs.Options.{none_out}
 
 -- ---- What is told and sent.
 

@@ -199,7 +199,7 @@ module _ (q : ReqSetup) (h : History) (owner : Bool) (tag : ℕ) (body : List �
 
 -- ---- What is sent upon a record.
 
-next_is : (led x : Led) (sent : Sent) → led ≡ x → led.next ≡ Some sent → x.next ≡ Some sent
+pub next_is : (led x : Led) (sent : Sent) → led ≡ x → led.next ≡ Some sent → x.next ≡ Some sent
 next_is led x sent is next = ap (λ (l : Led). l.next) (sym is) ∙ next
 
 aim_is : (led : Led) (effect : Effect) (y sent : Sent) (id : ℕ) (a : Ask) → led ≡ goes_on effect y → led.next ≡ Some sent → y.aim ≡ InSession id a → sent.aim ≡ InSession id a

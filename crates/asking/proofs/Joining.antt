@@ -29,6 +29,7 @@ use Rattle.asking.specs.SessionSteps.{IsRecordOf}
 use Rattle.asking.specs.Sessions as sessions
 use Rattle.asking.specs.Talk as talk
 use Rattle.asking.specs.declared.joined.Asking.{Asking}
+use Rattle.requester_machine.proofs.Telling.{resent_is}
 
 -- ---- What goes out.
 
@@ -86,9 +87,6 @@ asks_is : (q : ReqSetup) (h : History) (command : Command) (f : Free) (d : Draw)
 unfolding asks
 asks_is q h command f d = refl
 
-pub fails_by : (q : ReqSetup) (h : History) (command : Command) (f : Free) (d : Draw) (fault : CommandFault) → command_fault false q h command f ≡ Some fault → asks false q h command f d ≡ Fails fault
-fails_by q h command f d fault is = asks_is q h command f d ∙ ap (asks_by q h command f d) is
-
 pub asks_it : (id : ℕ) (a : declared.Ask) → asks_session (command_at id a) ≡ true
 asks_it id (ask.Data bytes) = refl
 asks_it id ask.Beat = refl
@@ -96,10 +94,6 @@ asks_it id ask.UpdateKey = refl
 asks_it id ask.UpdateAll = refl
 asks_it id (ask.Measure op) = refl
 asks_it id ask.End = refl
-
-pub none_out : (o : Option Sent) → is_some o ≡ false → o ≡ None
-none_out None is = refl
-none_out (Some sent) is = absurd (false≢true (sym is))
 
 -- ---- What is asked of a session.
 
@@ -122,13 +116,9 @@ ask_aims q h f d id a sent adds = aims_by a (entries.asked false q h (command_at
 pub resent_waits : (q : ReqSetup) (h : History) (f : Free) (d : Draw) (sent : Sent) → asks false q h Retry f d ≡ Resends sent → outstanding h ≡ Some sent
 resent_waits q h f d sent is = by_fault (command_fault false q h Retry f) (sym (asks_is q h Retry f d) ∙ is)
   where
-    by_out : (o : Option Sent) → resent o ≡ Resends sent → o ≡ Some sent
-    by_out None other = absurd (cc other)
-    by_out (Some other) same = (let it : other ≡ sent = cc same in ap Some it)
-
     by_fault : (fault : Option CommandFault) → asks_by q h Retry f d fault ≡ Resends sent → outstanding h ≡ Some sent
     by_fault (Some fault) other = absurd (cc other)
-    by_fault None same = by_out (outstanding h) same
+    by_fault None same = resent_is sent (outstanding h) same
 
 -- A command in the clear that fails leaves the clear part as it was.
 pub clear_fails : (q : ReqSetup) (h : History) (command : Command) (f : Free) (d : Draw) (fault : CommandFault) (old : Asking) (seen : talk.Seen) → commands.IsFailed q h command f d fault old.talk seen → StandsFor old q h

@@ -20,3 +20,4 @@ pub mod SessionsApart
 pub mod DataBrought
 pub mod Joining
 pub mod BodiesJoined
+pub mod Listed

@@ -1,6 +1,6 @@
 use crate::{Sessions, Talk};
 use chunking::Collector;
-use spdm_grammar::{Choice, Phase, SessionView};
+use spdm_grammar::{Choice, Phase, SessionList, SessionView};
 
 /// A requester (DSP0274, section 10), with every free value handed in: the clear part, what is
 /// gathered of a large answer in the clear, and the sessions. It lies in place, and takes no memory.
@@ -20,7 +20,7 @@ impl Asking {
     ghost use Rattle.requester_machine.specs.History.{History, connection_terms, phase_of};
     ghost use Rattle.requester_machine.specs.Session.{session_of};
     ghost use Rattle.requester_machine.specs.Setup.{ReqSetup};
-    ghost use Rattle.requester_machine.specs.Shown.{last_data};
+    ghost use Rattle.requester_machine.specs.Shown.{last_data, views_of};
 
     /// Where nothing was told and nothing came yet, at a requester that takes messages of up to
     /// this length.
@@ -65,6 +65,14 @@ impl Asking {
             → result ≡ shown_of (session_of id h) }
     {
         self.sessions.view(id)
+    }
+
+    /// The sessions as they are shown, by rising ReqSessionID.
+    pub fn sessions(&self) -> SessionList
+        ensures { (q : ReqSetup) (h : History) → StandsFor self.now q h → length h < 2 ^ 64 - 1
+            → result ≡ views_of h }
+    {
+        SessionList::of(self.view(1), self.view(2), self.view(3), self.view(4))
     }
 
     /// The last application data or measurement record that came, whichever came later; no bytes

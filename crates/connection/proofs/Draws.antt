@@ -31,6 +31,7 @@ use Rattle.spdm_grammar.specs.declared.error_code.ErrorCode.{ErrorCode}
 use Rattle.spdm_grammar.specs.declared.heard.Heard.TheVariants as heard
 use Rattle.spdm_grammar.specs.declared.names.request_code.TheConstants.{CHUNK_SEND, GET_CAPABILITIES, GET_MEASUREMENTS, GET_VERSION, NEGOTIATE_ALGORITHMS, PSK_EXCHANGE}
 use Rattle.spdm_machine.specs.Keys.{Draw}
+use Rattle.responder_machine.proofs.Staged.{no_chunk}
 
 -- A request of this code takes a draw.
 abbrev pub draws_for : ℕ → Bool
@@ -81,14 +82,6 @@ drawn_refused r h tag m f d e anew refused = drawn_anew r h tag m f d anew ∙ a
 -- ---- Outcomes of records.
 
 -- A chunk has the code of CHUNK_SEND, and is refused in a session.
-chunk_code : (p : Place) (m : List ℕ) (c : ChunkMessage) (q : Option RequestMessage) → request_at p m ≡ q → chunk_in q ≡ Some c → CHUNK_SEND ≡ code_of m
-chunk_code p m c None is chunk = absurd (none-some c chunk)
-chunk_code p m c (Some (ChunkSend other)) is chunk = asked-code p m (ChunkSend other) is
-chunk_code p m c (Some _) is chunk = absurd (none-some c chunk)
-
-no_chunk : (r : RspSetup) (s : Events) (m : List ℕ) (f : Free) (c : ChunkMessage) → refusal r (session_place s) m f ≡ None → chunk_in (request_at (session_place s) m) ≡ Some c → ⊥
-no_chunk r s m f c taken is =
-    false≢true (sym (form_shown r (session_place s) m f taken 4) ∙ sym (ap (λ (code : ℕ). code == CHUNK_SEND) (chunk_code (session_place s) m c (request_at (session_place s) m) refl is)))
 
 -- No PSK_EXCHANGE is taken in a session.
 fourth : (a b c d : Bool) → (a || (b || (c || (d || false)))) ≡ false → d ≡ false

@@ -19,3 +19,4 @@ pub mod Shown
 pub mod Harmless
 pub mod Queued
 pub mod Draws
+pub mod Listed

@@ -1,5 +1,5 @@
 use crate::Connection;
-use spdm_grammar::{Choice, Phase, SessionView};
+use spdm_grammar::{Choice, Phase, SessionList, SessionView};
 
 // What is seen of a connection.
 impl Connection {
@@ -8,6 +8,7 @@ impl Connection {
     ghost use Rattle.connection.specs.Sessions.{IsViewOf};
     ghost use Rattle.responder_machine.specs.BoundLaws.{messages_of};
     ghost use Rattle.responder_machine.specs.Does.{first_queued};
+    ghost use Rattle.responder_machine.specs.Heard.{views_of};
     ghost use Rattle.responder_machine.specs.History.{History, clear_turns, negotiation_of, phase_of, queue_of};
     ghost use Rattle.responder_machine.specs.LargeMessages.{next_handle};
     ghost use Rattle.responder_machine.specs.Place.{free_id, held_of};
@@ -88,6 +89,14 @@ impl Connection {
             → IsViewOf result (session_of id h) }
     {
         self.sessions.view(id)
+    }
+
+    /// The sessions as they are shown, by rising RspSessionID. Fewer than 2^64 messages came.
+    pub fn sessions(&self) -> SessionList
+        ensures { (r : RspSetup) (h : History) → StandsFor self.now r h → messages_of h < 2 ^ 64
+            → result ≡ views_of h }
+    {
+        SessionList::of(self.view(1), self.view(2), self.view(3), self.view(4))
     }
 
     /// The application data that the session of this RspSessionID took last; no bytes before the first, and where

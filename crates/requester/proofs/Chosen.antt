@@ -5,7 +5,7 @@ use Rattle.asking.specs.Free.{IsFree}
 use Rattle.asking.specs.Joined.{IsSentAs}
 use Rattle.asking.specs.declared.free_values.FreeValues.{FreeValues}
 use Rattle.requester_machine.specs.Does.{body_chosen, chosen, command_chosen, free_id}
-use Rattle.requester_machine.proofs.Choosing.{context-length, free_id-free, free_id-in_range}
+use Rattle.requester_machine.proofs.Choosing.{allowed, padding-short}
 use Rattle.requester_machine.specs.May.{IsAllowed, IsSetUp}
 use Rattle.spdm_basis.specs.Sizes.{hash_size}
 use Rattle.spdm_basis.specs.declared.hash_alg.HashAlg.{HashAlg}
@@ -24,42 +24,14 @@ pub free_is : (q : ReqSetup) (h : History) (d : Draw) (seen : FreeValues) → se
 unfolding chosen
 free_is q h d seen id context own = record { id = sym id; context = sym context; opaque = own }
 
-hash_size-small : (hash : HashAlg) → hash_size hash ≤ 48
-hash_size-small Sha256 = omega arith
-hash_size-small Sha384 = omega arith
-
-exchange-short : (hint context opaque size : ℕ) → hint ≤ 64 → opaque ≤ 1024 → context ≡ size → size ≤ 48 → 12 + hint + context + opaque ≤ MAX_MESSAGE_SIZE
-exchange-short hint context opaque size a b c e = omega arith
-
-padding-short : (pad : ℕ) (bytes : List ℕ) → pad ≤ 16 → length (take pad bytes) ≤ 16
-padding-short pad bytes few = grind (arith, common_steps)
-
 -- They are allowed.
 pub command_allowed : (q : ReqSetup) (h : History) (d : Draw) → IsSetUp q → length d.bytes ≡ 32 → IsAllowed q h (command_chosen q h d)
 unfolding chosen
-command_allowed q h d set_up bytes = record {
-  least = (free_id-in_range h).0;
-  most = (free_id-in_range h).1;
-  unused = free_id-free h;
-  context = long;
-  opaque = set_up.opaque;
-  exchange = exchange-short (length q.hint) (length (context_of (connection_terms h).choice.hash d)) (length q.opaque) (hash_size (connection_terms h).choice.hash) set_up.hint set_up.opaque (context-length (connection_terms h).choice.hash d bytes) (hash_size-small (connection_terms h).choice.hash);
-  pad = padding-short q.pad d.bytes set_up.pad;
-}
-  where
-    equal : length (context_of (connection_terms h).choice.hash d) ≡ hash_size (connection_terms h).choice.hash
-    equal = context-length (connection_terms h).choice.hash d bytes
-
-    long : hash_size (connection_terms h).choice.hash ≤ length (context_of (connection_terms h).choice.hash d)
-    long = omega (arith, equal)
+command_allowed q h d set_up bytes = allowed q h d (take q.pad d.bytes) set_up bytes (padding-short q.pad d.bytes set_up.pad)
 
 pub command_pad : (q : ReqSetup) (h : History) (d : Draw) → (command_chosen q h d).pad ≡ take q.pad d.bytes
 unfolding chosen
 command_pad q h d = refl
-
-pub body_pad : (q : ReqSetup) (h : History) (d : Draw) → (body_chosen q h d).pad ≡ []
-unfolding chosen
-body_pad q h d = refl
 
 -- ---- What is sent.
 

@@ -6,9 +6,9 @@ use Rattle.hmac_hkdf.specs.Draw.{draw}
 use Rattle.hmac_hkdf.specs.declared.draws.Drawn.{Drawn}
 use Rattle.mctp_framing.specs.Assembling as assembling
 use Rattle.requester.proofs.Chosen.{packets_are}
-use Rattle.requester.proofs.Steps.{counts_few, one_more}
+use Rattle.requester.proofs.Steps.{counts_few}
 use Rattle.requester.proofs.Tags.{tag_fits}
-use Rattle.requester.specs.Drawing.{draw_as, drawn_by}
+use Rattle.session_keys.specs.Drawing.{draw_as, drawn_by}
 use Rattle.requester.specs.SetUp.{IsPart}
 use Rattle.requester.specs.Standing.{IsTold, StandsFor, last_first}
 use Rattle.requester.specs.declared.part.Part.{Part}
@@ -29,12 +29,11 @@ use Rattle.spdm_grammar.specs.declared.command_fault.CommandFault.{CommandFault}
 use Rattle.spdm_grammar.specs.declared.command_fault.CommandFault.TheVariants as fault
 use Rattle.spdm_machine.specs.Keys.{Draw, draw_of}
 use Rattle.spdm_machine.specs.Packets.{fields_in, packets_to}
+use Rattle.requester_machine.proofs.Runs.{one_more}
+use Rattle.requester_machine.proofs.Telling.{fresh_told, resent_is}
+use Rattle.session_keys.proofs.Draws.{counted_as, draw_is}
 
 -- ---- Worn or not.
-
-pub fresh_told : (a : Requesting) (command : Command) → is_worn a ≡ false → requester_told a command ≡ commanded_by a (requester_asks false a.setup a.history command (next_draw a))
-unfolding requester_told
-fresh_told a command fresh = ap (λ (b : Bool). cond b (worn_command a (requester_asks true a.setup a.history command (next_draw a))) (commanded_by a (requester_asks false a.setup a.history command (next_draw a)))) fresh
 
 asks_worn : (q : ReqSetup) (h : History) (command : Command) (f : Free) (d : Draw) → asks true q h command f d ≡ Fails fault.Worn
 unfolding asks command_fault
@@ -47,10 +46,6 @@ worn_told a command worn =
     ∙ ap (worn_command a) (asks_worn a.setup a.history command (command_chosen a.setup a.history (next_draw a)) (next_draw a))
 
 -- ---- Draws.
-
-counted_as : (b : Bool) (n : ℕ) → cond b (n + 1) n ≡ n + drawn_by b
-counted_as true n = refl
-counted_as false n = omega arith
 
 resent_draws : (q : ReqSetup) (h : History) (o : Option Sent) → fault_of (resent o) ≡ None → draws_of q (after h (resent o)) ≡ draws_of q h + 0
 resent_draws q h None none = absurd (none-some fault.NothingToRetry (sym none))
@@ -96,11 +91,6 @@ number_few old a stands fresh =
     let few = draws_few a.setup a.history in
     omega (arith, number, first, entries, below, few)
 
-pub draw_is : (drawn : Drawn) (seed : List ℕ) (n : ℕ) → drawn.number ≡ n → drawn.bytes ≡ draw seed n → draw_as drawn ≡ draw_of seed n
-draw_is drawn seed n number bytes =
-    let of : ℕ → List ℕ → Draw = λ m xs. record { number = m; bytes = xs } in
-    ap (λ (m : ℕ). of m drawn.bytes) number ∙ ap (λ (xs : List ℕ). of n xs) bytes
-
 pub drawn_next : (old : Requester) (a : Requesting) → StandsFor old a → draw_of old.draws.seed old.draws.number ≡ next_draw a
 unfolding next_draw
 drawn_next old a stands = ap (λ (s : List ℕ). draw_of s old.draws.number) stands.seed ∙ ap (draw_of a.seed) stands.number
@@ -116,11 +106,7 @@ done_waits q h (Update id all) f d sent is = absurd (cc is)
 done_waits q h (Measure None op) f d sent is = absurd (cc is)
 done_waits q h (Measure (Some id) op) f d sent is = absurd (cc is)
 done_waits q h (End id) f d sent is = absurd (cc is)
-done_waits q h Retry f d sent is = by_out (outstanding h) is
-  where
-    by_out : (o : Option Sent) → resent o ≡ Resends sent → o ≡ Some sent
-    by_out None other = absurd (cc other)
-    by_out (Some other) same = (let it : other ≡ sent = cc same in ap Some it)
+done_waits q h Retry f d sent is = resent_is sent (outstanding h) is
 
 waits_by : (q : ReqSetup) (h : History) (command : Command) (f : Free) (d : Draw) (sent : Sent) (o : Option CommandFault) → asks_by q h command f d o ≡ Resends sent → outstanding h ≡ Some sent
 waits_by q h command f d sent (Some why) is = absurd (cc is)
@@ -146,12 +132,13 @@ pub record Counts (old new : Requester) : Type 0 where
   pub assembler : new.assembler ≡ old.assembler
   pub seed : new.draws.seed ≡ old.draws.seed
 
-told_after : (a : Requesting) (h : History) (old new : Requester) → StandsFor old a → Counts old new → new.draws.number ≡ a.first + draws_of a.setup h → joined.StandsFor new.asking a.setup h → IsMade a.setup h → length h ≤ length a.history + 1
+told_after : (a : Requesting) (h : History) (old new : Requester) → StandsFor old a → is_worn a ≡ false → Counts old new → new.draws.number ≡ a.first + draws_of a.setup h → joined.StandsFor new.asking a.setup h → IsMade a.setup h → length h ≤ length a.history + 1
     → StandsFor new (record a { commands = a.commands + 1; history = h })
-told_after a h old new stands counts number asking made more =
+told_after a h old new stands fresh counts number asking made more =
     let count = stands.count in
     let taken = counts.taken in
     let entries = stands.entries in
+    let below = counts_few a fresh in
     record {
       part = subst (λ (part : Part). IsPart part a.setup) (sym counts.part) stands.part;
       seed = counts.seed ∙ stands.seed;
@@ -162,6 +149,7 @@ told_after a h old new stands counts number asking made more =
       asking = asking;
       made = made;
       entries = omega (arith, entries, more);
+      limit = omega (arith, below);
       first = stands.first;
     }
 
@@ -171,7 +159,7 @@ failed_step a command why out old new stands fresh empty counts same fails =
     subst (λ (s : CommandStep). IsTold s (Err why) out new) (sym (fresh_told a command fresh ∙ ap (commanded_by a) fails.0)) (record {
       fault = refl;
       sent = empty;
-      stands = told_after a a.history old new stands counts (same ∙ stands.number) fails.1 stands.made (omega arith);
+      stands = told_after a a.history old new stands fresh counts (same ∙ stands.number) fails.1 stands.made (omega arith);
     })
 
 pub done_step : (a : Requesting) (command : Command) (tag : ℕ) (body : List ℕ) (out : List (List ℕ)) (old new : Requester) → StandsFor old a → is_worn a ≡ false → Counts old new
@@ -189,5 +177,5 @@ done_step a command tag body out old new stands fresh counts drawn did sends =
     subst (λ (s : CommandStep). IsTold s (Ok tt) out new) (sym (fresh_told a command fresh)) (record {
       fault = sym did.fault;
       sent = packets_are q did.sent tag body out did.tag_is did.body_is (out_fits q h o did.sent stands.made made (λ x. waits q h command f d x) did.sends) sends ∙ ap (packets_of_sent q) (sym did.sends);
-      stands = told_after a (after h o) old new stands counts (omega (arith, drawn, number, draws)) did.stands made (one_more h o);
+      stands = told_after a (after h o) old new stands fresh counts (omega (arith, drawn, number, draws)) did.stands made (one_more h o);
     })

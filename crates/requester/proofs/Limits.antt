@@ -7,6 +7,7 @@ use Rattle.spdm_basis.proofs.Bools.{and_first, and_second}
 use Rattle.requester.specs.Config.{config_fault}
 use Rattle.requester.specs.declared.config.ReqConfig.{ReqConfig}
 use Rattle.spdm_grammar.specs.declared.names.TheConstants.{MAX_MESSAGE_SIZE}
+use Rattle.spdm_basis.proofs.Options.{both}
 
 pub record HasLimits (c : ReqConfig) : Type 0 where
   pub transfer : c.transfer ≤ MAX_MESSAGE_SIZE
@@ -16,10 +17,6 @@ pub record HasLimits (c : ReqConfig) : Type 0 where
   pub pad : c.pad ≤ 16
   pub opaque : length c.opaque.now ≤ 1024
   pub hint : length c.hint.now ≤ 64
-
-both : {A : Type 0} (b : Bool) (x : A) (rest : Option A) → (if b then Some x else rest) ≡ None → (b ≡ false) × (rest ≡ None)
-both true x rest h = absurd (none-some x (sym h))
-both false x rest h = (refl, h)
 
 fits : {a b n : ℕ} → a ≤ b → b ≤ n → a ≤ n
 fits ordered most = omega (arith, ordered, most)

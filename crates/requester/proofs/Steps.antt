@@ -26,6 +26,7 @@ use Rattle.spdm_grammar.specs.declared.event.Event.{Event}
 use Rattle.spdm_grammar.specs.declared.event.Event.TheVariants as event
 use Rattle.spdm_grammar.specs.declared.event.ReqIgnored.TheVariants as ignored
 use Rattle.spdm_machine.specs.Packets.{fields_in, fields_with, gathered_from}
+use Rattle.requester_machine.proofs.Runs.{one_more}
 
 -- ---- Worn or not.
 
@@ -65,6 +66,7 @@ counted old a stands fresh = record {
     asking = stands.asking;
     made = stands.made;
     entries = stands.entries;
+    limit = stands.limit;
     first = stands.first;
   };
 }
@@ -87,6 +89,7 @@ given_after a packet h old new is takes made more drawn =
     let count = is.count in
     let taken = takes.taken in
     let entries = stands.entries in
+    let below = counts_few a is.fresh in
     record {
       part = subst (λ (part : Part). IsPart part a.setup) (sym takes.part) stands.part;
       seed = ap (λ (d : Draws). d.seed) takes.draws ∙ stands.seed;
@@ -97,6 +100,7 @@ given_after a packet h old new is takes made more drawn =
       asking = takes.asking;
       made = made;
       entries = omega (arith, entries, more);
+      limit = omega (arith, below);
       first = stands.first;
     }
 
@@ -160,14 +164,6 @@ pub dropped_step : (a : Requesting) (packet : List ℕ) (fields : PacketFields) 
     → IsGiven (hears_packet a packet (parsed packet)) (event.Ignored (ignored.Dropped cause)) out new
 dropped_step a packet fields cause out old new is empty feeds =
     rests a packet (event.Ignored (ignored.Dropped cause)) out old new is (feeds_takes a packet fields (Dropped cause) a.history old new feeds) empty (hears_is a packet fields (Dropped cause) old is feeds.parses feeds.told)
-
--- An outcome adds one entry at most.
-pub one_more : (h : History) (o : Outcome) → length (after h o) ≤ length h + 1
-one_more h (Fails fault) = omega arith
-one_more h (Ignores cause) = omega arith
-one_more h (Warns code) = omega arith
-one_more h (Resends sent) = omega arith
-one_more h (Adds entry) = omega arith
 
 abbrev pub hears_route : Requesting → RouteFields → List ℕ → Outcome
 hears_route a route body = requester_hears a.setup a.history route.owner route.tag body (next_draw a)

@@ -30,6 +30,7 @@ use Rattle.spdm_grammar.specs.Requests.{canonical_request}
 use Rattle.spdm_grammar.specs.declared.event.Event.{Event}
 use Rattle.spdm_machine.specs.Bodies.{clear_body, record_body}
 use Rattle.spdm_machine.specs.Keys.{Draw}
+use Rattle.asking.proofs.DataBrought.{next_is}
 
 request_tag : (common : Common) (h : History) (asked : RequestMessage) → (request_sent common h asked).tag ≡ next_tag h
 request_tag common h asked = either (λ (s : Sent). s.tag ≡ next_tag h) (nat_lt common.to_responder.transfer (length (canonical_request asked))) (piece_sent common h asked (next_handle h) 0) (plain_sent h asked) refl refl
@@ -47,9 +48,6 @@ told_tag q h (Measure None op) f d sent is = same_tag h (Measure None op) _ sent
 told_tag q h (Measure (Some id) op) f d sent is = same_tag h (Measure (Some id) op) _ sent d refl is
 told_tag q h (End id) f d sent is = same_tag h (End id) _ sent d refl is
 told_tag q h Retry f d sent is = resent_adds (outstanding h) (Told Retry sent d) is
-
-next_is : (led x : Led) (sent : Sent) → led ≡ x → led.next ≡ Some sent → x.next ≡ Some sent
-next_is led x sent is next = ap (λ (l : Led). l.next) (sym is) ∙ next
 
 goes_tag : (h : History) (led : Led) (effect : Effect) (y sent : Sent) → led ≡ goes_on effect y → led.next ≡ Some sent → y.tag ≡ next_tag h → sent.tag ≡ next_tag h
 goes_tag h led effect y sent is next tag = sym (ap (λ (s : Sent). s.tag) (same_Some y sent (next_is led (goes_on effect y) sent is next))) ∙ tag

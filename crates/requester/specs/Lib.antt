@@ -1,4 +1,3 @@
 pub mod Config
-pub mod Drawing
 pub mod SetUp
 pub mod Standing

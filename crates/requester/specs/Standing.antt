@@ -13,7 +13,7 @@ use Rattle.requester_machine.specs.Setup.{ReqSetup}
 use Rattle.requester_machine.specs.Shown.{after, event_of, sent_by}
 use Rattle.spdm_grammar.specs.declared.command_fault.CommandFault.{CommandFault}
 use Rattle.spdm_grammar.specs.declared.event.Event.{Event}
-use Rattle.spdm_machine.specs.Packets.{body_limit, fields_in}
+use Rattle.spdm_machine.specs.Packets.{body_limit, fields_in, wear_limit}
 
 -- The greatest number of a first draw: that of the last boot. This project's own limit.
 abbrev pub last_first : ℕ
@@ -30,6 +30,7 @@ pub record StandsFor (seen : Requester) (a : Requesting) : Type 0 where
   pub asking : joined.StandsFor seen.asking a.setup a.history
   pub made : IsMade a.setup a.history
   pub entries : length a.history ≤ length a.given + a.commands
+  pub limit : length a.given + a.commands ≤ wear_limit
   pub first : a.first ≤ last_first
 
 -- The fault of a command, if it has one.

@@ -2,7 +2,6 @@
 #![tactic(auto)]
 
 mod config;
-mod context;
 mod fault;
 mod hearing;
 mod part;

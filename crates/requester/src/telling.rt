@@ -1,7 +1,7 @@
 ghost use Rattle.std.specs.Prelude.{◌≡◌, ◌≤◌, ◌<◌, ◌^◌, ◌+◌, ◌-◌, [], false, length};
 ghost use Rattle.asking.specs.Joined.{IsCommanded, command_of};
 ghost use Rattle.asking.specs.Joined as joined;
-ghost use Rattle.requester.specs.Drawing.{draw_as, drawn_by};
+ghost use Rattle.session_keys.specs.Drawing.{draw_as, drawn_by};
 ghost use Rattle.requester.specs.SetUp.{IsPart};
 ghost use Rattle.requester.specs.Standing.{IsTold, StandsFor};
 ghost use Rattle.requester_machine.specs.Does.{requester_asks};
@@ -11,7 +11,7 @@ ghost use Rattle.requester_machine.specs.Requesting.{Requesting, requester_told}
 ghost use Rattle.requester_machine.specs.Setup.{ReqSetup};
 
 use crate::Requester;
-use crate::context::context_of;
+use session_keys::context_of;
 use crate::part::Part;
 use crate::sending::send;
 use crate::whole::WEAR_LIMIT;

@@ -3,7 +3,7 @@ use crate::{ReqConfig, ReqConfigFault};
 use asking::Asking;
 use hmac_hkdf::DrawStream;
 use mctp_framing::Assembler;
-use spdm_grammar::Phase;
+use spdm_grammar::{Phase, SessionList};
 use std::alloc::Global;
 
 /// How many packets and commands a requester takes.
@@ -31,7 +31,7 @@ impl Requester {
     ghost use Rattle.requester.specs.Standing.{StandsFor};
     ghost use Rattle.requester_machine.specs.History.{phase_of};
     ghost use Rattle.requester_machine.specs.Requesting.{Requesting, new_requesting};
-    ghost use Rattle.requester_machine.specs.Shown.{last_data};
+    ghost use Rattle.requester_machine.specs.Shown.{last_data, views_of};
 
     /// A requester that was told and given nothing yet. `ReqConfigFault` lists the faults in the order in which they
     /// are tested.
@@ -82,6 +82,13 @@ impl Requester {
         ensures { (a : Requesting) → StandsFor self.now a → result ≡ phase_of a.history }
     {
         self.asking.phase()
+    }
+
+    /// The sessions as they are shown, by rising ReqSessionID: those that PSK_EXCHANGE_RSP has come for.
+    pub fn sessions(&self) -> SessionList
+        ensures { (a : Requesting) → StandsFor self.now a → result ≡ views_of a.history }
+    {
+        self.asking.sessions()
     }
 
     /// The last application data or measurement record that came, whichever came later; no bytes before the first.

@@ -51,7 +51,7 @@ hash_size-small Sha384 = omega arith
 exchange-short : (hint context opaque size : ℕ) → hint ≤ 64 → opaque ≤ 1024 → context ≡ size → size ≤ 48 → 12 + hint + context + opaque ≤ MAX_MESSAGE_SIZE
 exchange-short hint context opaque size a b c e = omega arith
 
-allowed : (q : ReqSetup) (h : History) (d : Draw) (pad : List ℕ) → IsSetUp q → length d.bytes ≡ 32 → length pad ≤ 16 → IsAllowed q h (chosen q h d pad)
+pub allowed : (q : ReqSetup) (h : History) (d : Draw) (pad : List ℕ) → IsSetUp q → length d.bytes ≡ 32 → length pad ≤ 16 → IsAllowed q h (chosen q h d pad)
 unfolding chosen
 allowed q h d pad set_up bytes few = record {
   least = (free_id-in_range h).0;
@@ -69,7 +69,7 @@ allowed q h d pad set_up bytes few = record {
     long : hash_size (connection_terms h).choice.hash ≤ length (context_of (connection_terms h).choice.hash d)
     long = omega (arith, equal)
 
-padding-short : (pad : ℕ) (bytes : List ℕ) → pad ≤ 16 → length (take pad bytes) ≤ 16
+pub padding-short : (pad : ℕ) (bytes : List ℕ) → pad ≤ 16 → length (take pad bytes) ≤ 16
 padding-short pad bytes few = grind (arith, common_steps)
 
 pub command_allowed : CommandIsAllowed
@@ -77,3 +77,9 @@ command_allowed worn q h command d set_up bytes = (command_chosen q h d, allowed
 
 pub body_allowed : BodyIsAllowed
 body_allowed q h owner tag body d set_up bytes = (body_chosen q h d, allowed q h d [] set_up bytes (omega arith), refl)
+
+-- ---- The padding of what goes out for a body.
+
+pub body_pad : (q : ReqSetup) (h : History) (d : Draw) → (body_chosen q h d).pad ≡ []
+unfolding chosen
+body_pad q h d = refl

@@ -14,6 +14,7 @@ use Rattle.spdm_basis.specs.Tests.{first_of_tests}
 use Rattle.requester_machine.specs.History.{History, Entry}
 use Rattle.requester_machine.specs.Message.{Command, Sent, asked_in}
 use Rattle.requester_machine.specs.Sending.{request_sent, piece_sent, plain_sent}
+use Rattle.spdm_basis.proofs.Options.{both}
 
 -- The entry that an outcome adds.
 abbrev pub entry_in : Outcome → Option Entry
@@ -43,10 +44,6 @@ abbrev pub test_at : ℕ → List (Bool × CommandFault) → Bool
 test_at n [] = false
 test_at zero (t ∷ ts) = t.0
 test_at (suc n) (t ∷ ts) = test_at n ts
-
-both : (b : Bool) (c : CommandFault) (rest : Option CommandFault) → (if b then Some c else rest) ≡ None → (b ≡ false) × (rest ≡ None)
-both true c rest h = absurd (none-some c (sym h))
-both false c rest h = (refl, h)
 
 -- Each of them is false where there is no fault.
 pub tests_are_false : (ts : List (Bool × CommandFault)) → first_of_tests ts ≡ None → (n : ℕ) → test_at n ts ≡ false

@@ -28,6 +28,7 @@ use Rattle.requester_machine.specs.Shown.{effect_in}
 use Rattle.requester_machine.proofs.ClearLeads.{IsExchanged, clear_leads, exchanged}
 use Rattle.requester_machine.proofs.RecordLeads.{RecordLeads, record_leads}
 use Rattle.requester_machine.proofs.RecordLeads.RecordLeads.{ByEnd, ByAnswer, ByUpdate, ByFirst, ByChunk}
+use Rattle.spdm_basis.proofs.Options.{both}
 
 -- ---- The tests of a body.
 
@@ -35,10 +36,6 @@ abbrev pub test_at : ℕ → List (Bool × ReqIgnored) → Bool
 test_at n [] = false
 test_at zero (t ∷ ts) = t.0
 test_at (suc n) (t ∷ ts) = test_at n ts
-
-both : (b : Bool) (c : ReqIgnored) (rest : Option ReqIgnored) → (if b then Some c else rest) ≡ None → (b ≡ false) × (rest ≡ None)
-both true c rest h = absurd (none-some c (sym h))
-both false c rest h = (refl, h)
 
 tests_are_false : (ts : List (Bool × ReqIgnored)) → first_cause ts ≡ None → (n : ℕ) → test_at n ts ≡ false
 tests_are_false [] h n = refl

@@ -19,7 +19,7 @@ use Rattle.spdm_basis.specs.declared.PacketFault.{PacketFault}
 use Rattle.spdm_machine.specs.Packets.{gathered_from, wear_limit}
 
 -- An outcome adds one entry at most.
-one_more : (h : History) (o : Outcome) → length (after h o) ≤ length h + 1
+pub one_more : (h : History) (o : Outcome) → length (after h o) ≤ length h + 1
 one_more h (Fails fault) = omega arith
 one_more h (Ignores cause) = omega arith
 one_more h (Warns code) = omega arith

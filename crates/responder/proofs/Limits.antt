@@ -10,6 +10,7 @@ use Rattle.responder.specs.Config.{config_fault, has_same_eid, set_up_fault}
 use Rattle.responder.specs.declared.config.RspConfig.{RspConfig}
 use Rattle.responder.specs.declared.fault.RspConfigFault.TheVariants.{Inventory}
 use Rattle.spdm_grammar.specs.declared.names.TheConstants.{MAX_MESSAGE_SIZE}
+use Rattle.spdm_basis.proofs.Options.{both}
 
 pub record HasLimits (c : RspConfig) : Type 0 where
   pub known : length c.known.now ≤ 8
@@ -23,10 +24,6 @@ pub record HasLimits (c : RspConfig) : Type 0 where
 first_none : {A : Type 0} (a b : Option A) → option_or a b ≡ None → a ≡ None
 first_none (Some x) b h = absurd (none-some x (sym h))
 first_none None b h = refl
-
-both : {A : Type 0} (b : Bool) (x : A) (rest : Option A) → (if b then Some x else rest) ≡ None → (b ≡ false) × (rest ≡ None)
-both true x rest h = absurd (none-some x (sym h))
-both false x rest h = (refl, h)
 
 limits_of : (c : RspConfig) → set_up_fault c ≡ None → HasLimits c
 limits_of c h =

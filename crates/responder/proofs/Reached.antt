@@ -2,7 +2,7 @@
 use Rattle.std.proofs.Common.{refl, ◌≡◌, ◌≢◌, ◌≤◌, ◌<◌, ◌∙◌, ◌+◌, ◌-◌, ◌^◌, ℕ, List, [], ◌∷◌, Bool, true, false, cond, map, ap, sym, subst, inl, inr, arith, lit<}
 use Rattle.std.specs.List.{AllByRecursion}
 use Rattle.connection.specs.ClearPart.{is_drawn}
-use Rattle.responder.specs.Came.{Came, drawn_by, draws_in, history_after}
+use Rattle.responder.specs.Came.{Came, draws_in, history_after}
 use Rattle.responder.specs.Came.Came.{Does, Told}
 use Rattle.responder.specs.Standing.{AreApart, IsReached, last_first}
 use Rattle.responder_machine.proofs.Connected.{KeepsSetup, PeersDiffer, count_changed}
@@ -19,16 +19,14 @@ use Rattle.responder_machine.specs.Responding.{Connection, Responding, all_draws
 use Rattle.responder_machine.specs.Setup.{RspSetup}
 use Rattle.responder_machine.specs.Turn.{takes_draw}
 use Rattle.spdm_machine.proofs.Members.{IsIn}
+use Rattle.session_keys.proofs.Draws.{counted_as}
+use Rattle.session_keys.specs.Drawing.{drawn_by}
 
 pub run_is : (r : Responding) (x : IsReached r) → IsRun x.end r
 run_is r x = subst (IsRun x.end) (sym x.is) (runs_bounded x.end x.all x.apart)
 
 pub after_reached : (r : Responding) (g : Given) → IsReached r → IsReached (after_given g r)
 after_reached r g x = record { end = x.end; all = g ∷ x.all; apart = x.apart; is = ap (after_given g) x.is }
-
-pub made_in : (cs : List Connection) (c : Connection) → AllByRecursion (λ (d : Connection). IsMade d.setup d.history) cs → IsIn cs c → IsMade c.setup c.history
-made_in [] c all m = absurd m
-made_in (d ∷ others) c all m = elim m [ inl e ↦ subst (λ (x : Connection). IsMade x.setup x.history) (sym e) all.0 | inr l ↦ made_in others c all.1 l ]
 
 pub count_in : (count : History → ℕ) (cs : List Connection) (c : Connection) → IsIn cs c → count c.history ≤ over_all count cs
 count_in count [] c m = absurd m
@@ -58,15 +56,11 @@ apart_stays f (c ∷ others) keeps apart = (
 
 -- ---- Draws.
 
-drawn_more : (b : Bool) (n : ℕ) → cond b (n + 1) n ≡ n + drawn_by b
-drawn_more true n = refl
-drawn_more false n = omega arith
-
 pub draws_after : (h : History) (o : Outcome) → draws_of (after h o) ≡ draws_of h + drawn_by (is_drawn o)
 draws_after h (Same body) = omega arith
 draws_after h (Unopened body) = omega arith
-draws_after h (Adds (Clear tag t d)) = drawn_more (takes_draw t) (draws_of h)
-draws_after h (Adds (Sealed tag m t reply d)) = drawn_more (takes_draw t) (draws_of h)
+draws_after h (Adds (Clear tag t d)) = counted_as (takes_draw t) (draws_of h)
+draws_after h (Adds (Sealed tag m t reply d)) = counted_as (takes_draw t) (draws_of h)
 draws_after h (Adds (Queued bytes)) = omega arith
 draws_after h (Adds (Ticked seconds)) = omega arith
 draws_after h (Adds (Dropped id)) = omega arith

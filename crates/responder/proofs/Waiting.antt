@@ -27,6 +27,7 @@ use Rattle.spdm_grammar.specs.declared.heard.ReplyFault.{ReplyFault}
 use Rattle.spdm_grammar.specs.declared.heard.ReplyFault.TheVariants as reply
 use Rattle.spdm_machine.proofs.Members.{found_in}
 use Rattle.spdm_machine.specs.Packets.{fields_in}
+use Rattle.responder_machine.proofs.Runs.{ticked_draws}
 
 -- The faults of a connection's queue, as those of the responder.
 abbrev pub as_reply : Option QueueFault → Option ReplyFault
@@ -150,10 +151,6 @@ tick_all p given seconds [] [] are = are
 tick_all p given seconds [] (c ∷ cs) are = absurd are
 tick_all p given seconds (x ∷ xs) [] are = are
 tick_all p given seconds (x ∷ xs) (c ∷ cs) are = (are.0, tick_all p given seconds xs cs are.1)
-
-ticked_draws : (seconds : ℕ) (cs : List Connection) → all_draws (map (changed (λ h. Ticked seconds ∷ h)) cs) ≡ all_draws cs
-ticked_draws seconds [] = refl
-ticked_draws seconds (c ∷ others) = ap (λ (n : ℕ). draws_of c.history + n) (ticked_draws seconds others)
 
 pub ticks_stand : (r : Responding) (seconds : ℕ) (old new : Responder) → StandsFor old r → IsBeside old new → ArePeers new.peers.items r.part (fields_in r.given) (map (changed (λ h. Ticked seconds ∷ h)) r.connections) → StandsFor new (ticks r seconds)
 ticks_stand r seconds old new stands beside peers = record {

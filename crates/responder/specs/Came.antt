@@ -20,6 +20,7 @@ use Rattle.spdm_grammar.specs.declared.heard.Heard.TheVariants as heard
 use Rattle.spdm_grammar.specs.declared.heard.RspIgnored.TheVariants as ignored
 use Rattle.spdm_machine.specs.Keys.{Draw}
 use Rattle.spdm_machine.specs.Packets.{body_type, packets_to}
+use Rattle.session_keys.specs.Drawing.{drawn_by}
 
 -- This is told of it and nothing else comes of it, or it completes a body that has an outcome.
 pub data Came : Type 0 where
@@ -57,10 +58,6 @@ sent_of c (Does route body outcome) = packets_to c.setup.peer c.setup.eid false 
 abbrev pub history_after : History → Came → History
 history_after h (Told told) = h
 history_after h (Does route body outcome) = after h outcome
-
--- How many draws it took.
-abbrev pub drawn_by : Bool → ℕ
-drawn_by drawn = if drawn then 1 else 0
 
 abbrev pub draws_in : Came → ℕ
 draws_in (Told told) = 0

@@ -1,6 +1,5 @@
 pub mod Came
 pub mod Config
-pub mod Drawing
 pub mod Peers
 pub mod SetUp
 pub mod Standing

@@ -14,6 +14,7 @@ use Rattle.responder_machine.specs.Setup.{RspEnd, RspPart}
 use Rattle.spdm_grammar.specs.declared.heard.Heard.{Heard}
 use Rattle.spdm_grammar.specs.declared.session_view.SessionView.{SessionView}
 use Rattle.spdm_machine.specs.Packets.{fields_in}
+use Rattle.responder_machine.specs.Heard.{views_of}
 
 -- The requester has this end point.
 abbrev pub has_eid : ℕ → Peer → Bool
@@ -64,3 +65,8 @@ pub record IsStep (step : RspStep) (tells : Heard) (sends : List (List ℕ)) (ne
 abbrev pub IsSessionAt : Option SessionView → ℕ → Option Connection → Type 0
 IsSessionAt view id None = view ≡ None
 IsSessionAt view id (Some c) = IsViewOf view (session_of id c.history)
+
+-- The sessions of a connection as they are shown; where there is no connection, none is.
+abbrev pub views_at : Option Connection → List SessionView
+views_at None = []
+views_at (Some c) = views_of c.history

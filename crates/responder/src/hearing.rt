@@ -2,14 +2,14 @@ ghost use Rattle.std.specs.Prelude.{◌≡◌, ◌≤◌, ◌<◌, ◌^◌, ◌-
 ghost use Rattle.connection.specs.ClearPart.{is_drawn};
 ghost use Rattle.connection.specs.Connected.{IsDone, StandsFor};
 ghost use Rattle.connection.specs.Setup.{IsSetUp};
-ghost use Rattle.responder.specs.Drawing.{draw_as};
+ghost use Rattle.session_keys.specs.Drawing.{draw_as};
 ghost use Rattle.responder_machine.specs.BoundLaws.{messages_of};
 ghost use Rattle.responder_machine.specs.Does.{IsMade, clear_does, first_queued, record_does};
 ghost use Rattle.responder_machine.specs.History.{History, queue_of};
 ghost use Rattle.responder_machine.specs.Setup.{RspSetup};
 
 use crate::body::{Body, SPDM, write_body, write_reply};
-use crate::context::context_of;
+use session_keys::context_of;
 use connection::{Connection, FreeValues, Setup, record_id};
 use hmac_hkdf::Drawn;
 use responder_session::{RecordFree, Work};

@@ -4,7 +4,6 @@
 mod body;
 mod checks;
 mod config;
-mod context;
 mod fault;
 mod hearing;
 mod part;

@@ -1,6 +1,7 @@
 ghost use Rattle.std.specs.Prelude.{◌≡◌, ◌<◌, ◌+◌, ◌-◌, ◌^◌};
 ghost use Rattle.connection.specs.Connected.{StandsFor};
-ghost use Rattle.responder.specs.Came.{IsShort, drawn_by, last_for};
+ghost use Rattle.responder.specs.Came.{IsShort, last_for};
+ghost use Rattle.session_keys.specs.Drawing.{drawn_by};
 ghost use Rattle.responder_machine.specs.History.{History};
 ghost use Rattle.responder_machine.specs.Setup.{RspSetup};
 

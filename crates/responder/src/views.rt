@@ -1,12 +1,12 @@
 use crate::Responder;
 use spdm_basis::Eid;
-use spdm_grammar::{Phase, SessionView};
+use spdm_grammar::{Phase, SessionList, SessionView};
 
 // What is seen of a responder.
 impl Responder {
     ghost use Rattle.std.specs.Prelude.{◌≡◌};
     ghost use Rattle.std.specs.Option.{option_map};
-    ghost use Rattle.responder.specs.Standing.{IsSessionAt, StandsFor};
+    ghost use Rattle.responder.specs.Standing.{IsSessionAt, StandsFor, views_at};
     ghost use Rattle.responder_machine.specs.History.{clear_turns, phase_of};
     ghost use Rattle.responder_machine.specs.Responding.{Responding, connection_of, last_data};
 
@@ -30,6 +30,18 @@ impl Responder {
         match self.place_of(eid.number()) {
             Some(place) => self.peers[place].connection.view(id),
             None => None,
+        }
+    }
+
+    /// The sessions with this end point as they are shown, by rising RspSessionID; none where no requester has
+    /// it.
+    pub fn sessions(&self, eid: Eid) -> SessionList
+        ensures { (r : Responding) → StandsFor self.now r
+            → result ≡ views_at (connection_of eid.number r.connections) }
+    {
+        match self.place_of(eid.number()) {
+            Some(place) => self.peers[place].connection.sessions(),
+            None => SessionList::new(),
         }
     }
 

@@ -4,7 +4,7 @@ ghost use Rattle.connection.specs.Connected.{IsDone, StandsFor};
 ghost use Rattle.connection.specs.Setup.{IsSetUp};
 ghost use Rattle.mctp_framing.specs.Cutting.{route_of};
 ghost use Rattle.responder.specs.Came.{IsMet, came_whole};
-ghost use Rattle.responder.specs.Drawing.{draw_as};
+ghost use Rattle.session_keys.specs.Drawing.{draw_as};
 ghost use Rattle.responder.specs.SetUp.{IsPart};
 ghost use Rattle.responder_machine.specs.BoundLaws.{messages_of};
 ghost use Rattle.responder_machine.specs.Does.{IsMade, responder_does};

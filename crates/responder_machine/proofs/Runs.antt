@@ -10,13 +10,13 @@ use Rattle.responder_machine.proofs.Connected.{PeersDiffer, changed_keeps, count
 use Rattle.responder_machine.proofs.Making.{does_made}
 use Rattle.responder_machine.specs.BoundLaws.{messages_of}
 use Rattle.responder_machine.specs.Does.{IsMade, responder_does}
-use Rattle.responder_machine.specs.History.{History, queue_of}
+use Rattle.responder_machine.specs.History.{History, draws_of, queue_of}
 use Rattle.responder_machine.specs.History.Entry.{Clear, Sealed, Queued, Ticked, Dropped}
 use Rattle.responder_machine.specs.Independence.{AreKnownApart, Given, IsRun, RunsAreBounded, run_of}
 use Rattle.responder_machine.specs.Independence.Given.{Packet, Reply, Seconds}
 use Rattle.responder_machine.specs.Responder.{Outcome, after}
 use Rattle.responder_machine.specs.Responder.Outcome.{Same, Unopened, Adds}
-use Rattle.responder_machine.specs.Responding.{Connection, Responding, RspStep, answers, changed, changed_if, connection_of, data_of, hears_from, hears_gathered, hears_packet, ignores, is_worn, new_connection, next_draw, over_all, queues, reply_fault_of, responder_hears, ticks, with_history, with_taken, worn_step}
+use Rattle.responder_machine.specs.Responding.{Connection, Responding, RspStep, all_draws, answers, changed, changed_if, connection_of, data_of, hears_from, hears_gathered, hears_packet, ignores, is_worn, new_connection, next_draw, over_all, queues, reply_fault_of, responder_hears, ticks, with_history, with_taken, worn_step}
 use Rattle.responder_machine.specs.Setup.{Known, RspEnd, RspPart}
 use Rattle.spdm_basis.specs.declared.DropCause.TheVariants.{NotOurs}
 use Rattle.spdm_basis.specs.declared.PacketFault.{PacketFault}
@@ -32,7 +32,7 @@ use Rattle.spdm_machine.specs.Packets.{body_type, gathered_from, wear_limit}
 abbrev AreMade : List Connection → Type 0
 AreMade cs = AllByRecursion (λ (c : Connection). IsMade c.setup c.history) cs
 
-made_in : (cs : List Connection) → AreMade cs → (c : Connection) → IsIn cs c → IsMade c.setup c.history
+pub made_in : (cs : List Connection) → AreMade cs → (c : Connection) → IsIn cs c → IsMade c.setup c.history
 made_in [] all c m = absurd m
 made_in (d ∷ others) all c m = elim m [ inl e ↦ subst (λ (x : Connection). IsMade x.setup x.history) (sym e) all.0 | inr l ↦ made_in others all.1 c l ]
 
@@ -198,3 +198,8 @@ module _ (e : RspEnd) where
 
 pub runs_bounded : RunsAreBounded
 runs_bounded e given apart = (runs e apart given).run
+
+-- Seconds for every connection take no draw.
+pub ticked_draws : (seconds : ℕ) (cs : List Connection) → all_draws (map (changed (λ h. Ticked seconds ∷ h)) cs) ≡ all_draws cs
+ticked_draws seconds [] = refl
+ticked_draws seconds (c ∷ others) = ap (λ (n : ℕ). draws_of c.history + n) (ticked_draws seconds others)

@@ -77,7 +77,7 @@ chunk_code p m c (Some (ChunkSend other)) is chunk = asked-code p m (ChunkSend o
 chunk_code p m c (Some _) is chunk = absurd (none-some c chunk)
 
 -- No chunk is taken in a session.
-no_chunk : (r : RspSetup) (s : Events) (m : List ℕ) (f : Free) (c : ChunkMessage) → refusal r (session_place s) m f ≡ None → chunk_in (request_at (session_place s) m) ≡ Some c → ⊥
+pub no_chunk : (r : RspSetup) (s : Events) (m : List ℕ) (f : Free) (c : ChunkMessage) → refusal r (session_place s) m f ≡ None → chunk_in (request_at (session_place s) m) ≡ Some c → ⊥
 no_chunk r s m f c taken chunk =
     false≢true (sym (form_shown r (session_place s) m f taken 4) ∙ sym (ap (λ (code : ℕ). code == CHUNK_SEND) (chunk_code (session_place s) m c (request_at (session_place s) m) refl chunk)))
 

@@ -9,16 +9,13 @@ use Rattle.responder_machine.specs.Refusal.{refusal, refused_form, refused_conte
 use Rattle.spdm_basis.specs.Tests.{first_of_tests}
 use Rattle.std.specs.Option.{option_or}
 use Rattle.responder_machine.specs.Setup.{RspSetup}
+use Rattle.spdm_basis.proofs.Options.{both}
 
 -- The test of this number in a table, counted from 0.
 abbrev pub test_at : ℕ → List (Bool × ErrorCode) → Bool
 test_at n [] = false
 test_at zero (t ∷ ts) = t.0
 test_at (suc n) (t ∷ ts) = test_at n ts
-
-both : (b : Bool) (c : ErrorCode) (rest : Option ErrorCode) → (if b then Some c else rest) ≡ None → (b ≡ false) × (rest ≡ None)
-both true c rest h = absurd (none-some c (sym h))
-both false c rest h = (refl, h)
 
 -- Each test of a table is false where no code comes.
 pub tests_are_false : (ts : List (Bool × ErrorCode)) → first_of_tests ts ≡ None → (n : ℕ) → test_at n ts ≡ false

@@ -1,3 +1,4 @@
 pub mod Keys
 pub mod Handshake
 pub mod Terms
+pub mod Drawing

@@ -1,8 +1,8 @@
--- What contracts see of a source and a sink in memory. This project's own.
+-- What contracts see of a source, a sink and seeds in memory. This project's own.
 use Rattle.std.specs.Prelude.{ℕ, List, Bool, ◌==◌, ◌+◌, ◌-◌, ◌^◌, min}
 use Rattle.std.specs.List.{list_any}
 
--- The calls of a source or a sink so far: how many were made and how many of them failed, and which are to fail, counted from 0.
+-- The calls of a source, a sink or of seeds so far: how many were made and how many of them failed, and which are to fail, counted from 0.
 pub record Calls : Type 0 where
   pub made : ℕ
   pub failing : List ℕ
@@ -25,4 +25,9 @@ pub record Remaining : Type 0 where
 pub record Contents : Type 0 where
   pub held : List ℕ
   pub limit : ℕ
+  pub calls : Calls
+
+-- Seeds: those that are left, and the calls.
+pub record SeedsLeft : Type 0 where
+  pub left : List (List ℕ)
   pub calls : Calls

@@ -1,5 +1,5 @@
--- What a source gives and a sink takes, and when they fail. This project's own.
-use Rattle.std.specs.Prelude.{◌≡◌, ◌-◌, ◌<◌, ◌^◌, ◌⊎◌, ◌++◌, ℕ, List, [], Option, Some}
+-- What a source and seeds give and a sink takes, and when they fail. This project's own.
+use Rattle.std.specs.Prelude.{◌≡◌, ◌-◌, ◌<◌, ◌^◌, ◌⊎◌, ◌++◌, ◌∷◌, ℕ, List, [], Option, Some, None}
 
 -- A source that tells what it has left gave these bytes, the first of them, and has the others left.
 abbrev pub Gives : Option (List ℕ) → List ℕ → Option (List ℕ) → Type 0
@@ -20,6 +20,14 @@ Takes old bytes new = (held : List ℕ) → old ≡ Some held → new ≡ Some (
 -- It took a prefix of these bytes.
 abbrev pub TakesPrefix : Option (List ℕ) → List ℕ → Option (List ℕ) → Type 0
 TakesPrefix old bytes new = (written : List ℕ) × (rest : List ℕ) × (bytes ≡ written ++ rest) × Takes old written new
+
+-- Seeds that tell what they have left gave this one, the first of them, and have the others left.
+abbrev pub GivesSeed : Option (List (List ℕ)) → List ℕ → Option (List (List ℕ)) → Type 0
+GivesSeed old seed new = (left : List (List ℕ)) → old ≡ Some left → (rest : List (List ℕ)) × (new ≡ Some rest) × (left ≡ seed ∷ rest)
+
+-- Seeds that tell nothing of what they have left.
+abbrev pub untold : Option (List (List ℕ))
+untold = None
 
 -- A count of faults shows one in a call: it rose, or it stands at the last number of 64 bits.
 abbrev pub HasFault : ℕ → ℕ → Type 0

@@ -1,12 +1,12 @@
 ghost use Rattle.std.specs.Prelude.{◌≡◌, ◌≤◌, ◌<◌, ◌-◌, ◌++◌, ◌==◌, ◌||◌, ◌↔◌, min, [], Some, None, take, drop, length, IfOk, OnOk, OnErr, is_err, is_ok};
-ghost use Rattle.spdm_basis.specs.Stream.{Gives, IsAtEnd, HasFault, Takes};
+ghost use Rattle.spdm_basis.specs.Stream.{Gives, GivesSeed, IsAtEnd, HasFault, Takes};
 ghost use Rattle.spdm_basis.specs.Memory.{fails_next, one_more};
 
-use crate::{Failed, OutOfMemory, Sink, Source};
+use crate::{Failed, OutOfMemory, Seeds, Sink, Source};
 use std::alloc::Global;
 use std::marker::Model;
 
-// The calls of a source or a sink in memory, and which of them fail.
+// The calls of a source, a sink or of seeds in memory, and which of them fail.
 #[derive(Drop)]
 struct CallLog {
     made: u64,
@@ -215,5 +215,68 @@ impl Sink for NullSink {
         ensures whole { result ≡ Ok (length from.now) }
     {
         Ok(from.len())
+    }
+}
+
+/// Seeds in memory, in order, of which chosen calls fail.
+#[derive(Drop)]
+pub struct MemSeeds {
+    seeds: Vec<[u8; 32]>,
+    at: usize,
+    calls: CallLog,
+}
+
+impl Model for MemSeeds {
+    ghost use Rattle.std.specs.Prelude.{◌≤◌, drop, length};
+    ghost use Rattle.spdm_basis.specs.Memory.{SeedsLeft};
+
+    ghost Value = { SeedsLeft };
+
+    ghost view = { λ s. record { left = drop s.at s.seeds.items; calls = s.calls } };
+
+    ghost invariant = { λ s. s.at ≤ length s.seeds.items };
+}
+
+impl MemSeeds {
+    /// These seeds. The calls of `seed` with the numbers of `failing` fail, counted from 0, and so does each
+    /// call when no seed is left.
+    pub fn new(alloc: Global, seeds: &[[u8; 32]], failing: &[u64]) -> Result<MemSeeds, OutOfMemory>
+        ensures left { IfOk result (λ kept. kept.left ≡ seeds.now) }
+        ensures made { IfOk result (λ kept. kept.calls.made ≡ 0) }
+        ensures failing { IfOk result (λ kept. kept.calls.failing ≡ failing.now) }
+        ensures faults { IfOk result (λ kept. kept.calls.faults ≡ 0) }
+    {
+        let calls = CallLog::new(alloc, failing)?;
+        let seeds = Vec::from_slice(alloc, seeds).map_err(|_| OutOfMemory)?;
+        Ok(MemSeeds {
+            seeds,
+            at: 0,
+            calls,
+        })
+    }
+}
+
+impl Seeds for MemSeeds {
+    ghost left = { λ s. Some s.left };
+
+    ghost faults = { λ s. s.calls.faults };
+
+    fn seed(&mut self) -> Result<[u8; 32], Failed>
+        ensures gives { IfOk result (λ seed. GivesSeed (Some self.old.left) seed
+            (Some self.new.left)) }
+        ensures later { self.old.calls.faults ≤ self.new.calls.faults }
+        ensures fault { OnErr result (HasFault self.old.calls.faults self.new.calls.faults) }
+        ensures same { OnErr result (self.new.left ≡ self.old.left) }
+
+        ensures fails { is_err result ≡ (fails_next self.old.calls || length self.old.left == 0) }
+        ensures made { self.new.calls.made ≡ one_more self.old.calls.made }
+        ensures failing { self.new.calls.failing ≡ self.old.calls.failing }
+        ensures counted { OnErr result (self.new.calls.faults ≡ one_more self.old.calls.faults) }
+        ensures quiet { OnOk result (self.new.calls.faults ≡ self.old.calls.faults) }
+    {
+        self.calls.next(self.at == self.seeds.len())?;
+        let seed = self.seeds[self.at];
+        self.at += 1;
+        Ok(seed)
     }
 }

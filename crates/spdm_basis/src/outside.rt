@@ -1,11 +1,11 @@
 ghost use Rattle.std.specs.Prelude.{◌≡◌, ◌<◌, ◌≤◌, ℕ, List, Option, length, take, IfOk, OnOk, OnErr};
-ghost use Rattle.spdm_basis.specs.Stream.{Gives, IsAtEnd, HasFault, Takes};
+ghost use Rattle.spdm_basis.specs.Stream.{Gives, GivesSeed, IsAtEnd, HasFault, Takes};
 
 use thiserror::Error;
 
-/// A call of a source or a sink failed.
+/// A call of a source, a sink or of seeds failed.
 #[derive(Clone, Copy, Debug, PartialEq, Eq, Error)]
-#[error("reading or writing failed")]
+#[error("reading, writing or taking a seed failed")]
 pub struct Failed;
 
 /// Where bytes come from.
@@ -48,4 +48,20 @@ pub trait Sink {
         ensures later { faults self.old ≤ faults self.new }
         ensures fault { OnErr result (HasFault (faults self.old) (faults self.new)) }
         ensures same { OnErr result (contents self.new ≡ contents self.old) };
+}
+
+/// Where seeds come from.
+pub trait Seeds {
+    /// The seeds that it has left, where it tells that.
+    ghost left: { Self → Option (List (List ℕ)) };
+
+    /// How often it has failed. The count never falls, and stands still at the last number of 64 bits.
+    ghost faults: { Self → ℕ };
+
+    /// The next seed. After `Failed` it has left what it had left.
+    fn seed(&mut self) -> Result<[u8; 32], Failed>
+        ensures gives { IfOk result (λ seed. GivesSeed (left self.old) seed (left self.new)) }
+        ensures later { faults self.old ≤ faults self.new }
+        ensures fault { OnErr result (HasFault (faults self.old) (faults self.new)) }
+        ensures same { OnErr result (left self.new ≡ left self.old) };
 }

@@ -1,5 +1,6 @@
 use crate::{
-    Bytes, Eid, Frame, InFault, MemSink, MemSource, OutFault, Psk, SessionId, read_all, write_all,
+    Bytes, Eid, Failed, FileSeeds, Frame, InFault, MemSeeds, MemSink, MemSource, OutFault, Psk,
+    Seeds, SessionId, read_all, write_all,
 };
 use std::test::Fail;
 
@@ -69,5 +70,24 @@ fn lent_bytes_are_written_in_place(rt: HostRuntime) -> Result<(), Fail> {
     frame.extend(b"abc")?;
     frame.as_mut_slice().reverse();
     assert_eq!(rt; frame.as_slice(), b"cba".as_slice());
+    Ok(())
+}
+
+#[test]
+fn seeds_in_their_order(rt: HostRuntime) -> Result<(), Fail> {
+    let mut seeds = MemSeeds::new(rt.alloc(), &[[1; 32], [2; 32]], &[1])?;
+    assert_eq!(rt; seeds.seed(), Ok([1; 32]));
+    assert_eq!(rt; seeds.seed(), Err(Failed));
+    assert_eq!(rt; seeds.seed(), Ok([2; 32]));
+    assert_eq!(rt; seeds.seed(), Err(Failed));
+    Ok(())
+}
+
+// Two seeds of the system are two.
+#[test]
+fn seeds_of_the_system(rt: HostRuntime) -> Result<(), Fail> {
+    let mut seeds = FileSeeds::new(&rt);
+    let first = seeds.seed()?;
+    assert!(rt; seeds.seed()? != first);
     Ok(())
 }

@@ -1,5 +1,5 @@
 -- The requests: which bytes spell which one (DSP0274, section 10). A number is spelled with its low byte first.
-use Rattle.std.specs.Prelude.{◌≡◌, ◌<◌, ◌≤◌, ◌^◌, ◌+◌, ◌*◌, ◌/◌, ◌%◌, ◌==◌, ◌||◌, ℕ, Bool, true, nat_le, if◌then◌else◌, List, [], ◌∷◌, ◌++◌, length, Option, Result}
+use Rattle.std.specs.Prelude.{◌≡◌, ◌<◌, ◌≤◌, ◌^◌, ◌+◌, ◌*◌, ◌/◌, ◌%◌, ◌==◌, ◌||◌, ℕ, true, nat_le, if◌then◌else◌, List, [], ◌∷◌, ◌++◌, length, Option, Result}
 use Rattle.std.specs.Result.{result_ok, result_err}
 use Rattle.byteorder.specs.Endian.{little_bytes}
 use Rattle.spdm_grammar.specs.declared.malformed.Malformed.{Malformed}

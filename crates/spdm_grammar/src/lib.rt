@@ -20,6 +20,7 @@ mod part_faults;
 mod phase;
 mod request;
 mod response;
+mod session_list;
 mod session_view;
 mod tables;
 
@@ -44,5 +45,6 @@ pub use part_faults::{CapsFault, ChunkFault};
 pub use phase::{Phase, Stage};
 pub use request::Request;
 pub use response::Response;
+pub use session_list::SessionList;
 pub use session_view::SessionView;
 pub use spdm_basis::{AeadAlg, HashAlg};

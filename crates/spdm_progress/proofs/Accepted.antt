@@ -11,6 +11,7 @@ use Rattle.requester_machine.specs.Message.{Command}
 use Rattle.requester_machine.specs.Requesting.{Requesting, CommandStep, commanded_by, is_worn, next_draw, requester_told}
 use Rattle.requester_machine.specs.Setup.{ReqSetup}
 use Rattle.requester_machine.specs.Shown.{fault_of}
+use Rattle.requester_machine.proofs.Telling.{fresh_told}
 
 pub fault_none : (q : ReqSetup) (h : asked.History) (command : Command) (f : Free) (d : Draw) (o : Option CommandFault) → fault_of (asks_by q h command f d o) ≡ None → o ≡ None
 fault_none q h command f d None e = refl
@@ -21,15 +22,11 @@ unfolding asks
 told_done q h command d e =
     ap (asks_by q h command (command_chosen q h d) d) (fault_none q h command (command_chosen q h d) d (command_fault false q h command (command_chosen q h d)) e)
 
-pub not_worn_told : (a : Requesting) (command : Command) → is_worn a ≡ false → requester_told a command ≡ commanded_by a (requester_asks false a.setup a.history command (next_draw a))
-unfolding requester_told
-not_worn_told a command fresh = rw fresh refl
-
 -- A command without a fault that is done so.
 pub told_so : (a : Requesting) (command : Command) → is_worn a ≡ false → (requester_told a command).fault ≡ None
     → (command_fault false a.setup a.history command (command_chosen a.setup a.history (next_draw a)) ≡ None)
     × (requester_asks false a.setup a.history command (next_draw a) ≡ done a.setup a.history command (command_chosen a.setup a.history (next_draw a)) (next_draw a))
 unfolding asks
 told_so a command fresh accepted =
-    let fine = sym (ap (λ (s : CommandStep). s.fault) (not_worn_told a command fresh)) ∙ accepted in
+    let fine = sym (ap (λ (s : CommandStep). s.fault) (fresh_told a command fresh)) ∙ accepted in
     (fault_none a.setup a.history command (command_chosen a.setup a.history (next_draw a)) (next_draw a) (command_fault false a.setup a.history command (command_chosen a.setup a.history (next_draw a))) fine, told_done a.setup a.history command (next_draw a) fine)

@@ -71,12 +71,13 @@ use Rattle.spdm_progress.proofs.Drawn.{AreDrawn}
 use Rattle.spdm_progress.proofs.ResponderTurns.{taken_somehow, turn_with}
 use Rattle.transcript.specs.Transcripts.{Negotiation}
 use Rattle.spdm_progress.specs.Measuring.{record_for, number_for, measurements_size}
-use Rattle.spdm_progress.proofs.Accepted.{not_worn_told, told_done}
+use Rattle.spdm_progress.proofs.Accepted.{told_done}
 use Rattle.spdm_progress.proofs.AtRequester.{led_plain}
 use Rattle.spdm_progress.proofs.RequesterStages.{Asks, Hears, hears_as, hears_by, reads}
 use Rattle.spdm_progress.proofs.ResponderBegins.{SameClear, is_none_none, refused_with}
 use Rattle.spdm_progress.proofs.ResponderStages.{Answered, Takes, adds, answers_by, not_large, not_too_long, same_by}
 use Rattle.spdm_progress.proofs.ResponderTurns.{read_at, taken_at, taken_turn}
+use Rattle.requester_machine.proofs.Telling.{fresh_told}
 
 -- ---- The two messages.
 
@@ -364,7 +365,7 @@ sent_whole common h op room = rw (lt_false common.to_responder.transfer 4 room) 
 pub told_measure : (a : Requesting) (op : ℕ) → is_worn a ≡ false → (requester_told a (Measure None op)).fault ≡ None → 4 ≤ (connection_terms a.history).common.to_responder.transfer
     → requester_told a (Measure None op) ≡ commanded_by a (Adds (Told (Measure None op) (plain_sent a.history (GetMeasurements op)) (next_draw a)))
 told_measure a op fresh accepted room =
-    let step = not_worn_told a (Measure None op) fresh in
+    let step = fresh_told a (Measure None op) fresh in
     step
     ∙ ap (commanded_by a) (told_done a.setup a.history (Measure None op) (next_draw a) (sym (ap (λ (s : CommandStep). s.fault) step) ∙ accepted)
     ∙ ap (λ (sent : Sent). Adds (Told (Measure None op) sent (next_draw a))) (sent_whole (connection_terms a.history).common a.history op room))

@@ -50,7 +50,7 @@ use Rattle.spdm_progress.specs.Fitting.{CanGo}
 use Rattle.spdm_progress.specs.Honest.{AreHonest, HaveNoCommand}
 use Rattle.spdm_progress.specs.Opening.{CanOpen, OpenCompletes, exchange_rsp_size}
 use Rattle.spdm_progress.specs.SessionCommands.{IsDoneQuietly, IsToldQuietly, commanding}
-use Rattle.spdm_progress.proofs.Accepted.{not_worn_told, told_so}
+use Rattle.spdm_progress.proofs.Accepted.{told_so}
 use Rattle.spdm_progress.proofs.OpenRounds.{OpenDone, OpenTalkAnswers, OpenTalkAsks, open_talk}
 use Rattle.spdm_progress.proofs.ChosenHash.{has_room}
 use Rattle.spdm_progress.proofs.ChunkCounts.{some_of}
@@ -66,6 +66,7 @@ use Rattle.spdm_progress.proofs.PacketSteps.{Pair}
 use Rattle.spdm_progress.proofs.SessionCompletes.{Idle, Rests, completes_within, fresh, no_chance_from, placed}
 use Rattle.spdm_progress.proofs.Aside.{IsAside, nothing_aside}
 use Rattle.spdm_progress.proofs.Told.{ArePlaced, fits_always, pair_of}
+use Rattle.requester_machine.proofs.Telling.{fresh_told}
 
 -- The draw that stands next has 32 bytes.
 draws_next : (a : Requesting) → length (asking.next_draw a).bytes ≡ 32
@@ -323,7 +324,7 @@ module _ (w : WorldSetup) (before : List Entry) (n : ℕ) (a : Requesting) (c : 
       (OpenDone p here.key here.requester here.responder summary a.history d x rid ready) (finished.Opened (record { req = f.id; rsp = rid })) f.id true (λ log h g z. (z.quiet, z.session)) (open_talk p here.key here.requester here.responder summary a.history d x rid ready)
       (there_by p here.key here.requester here.responder summary a.history d x rid ready ready.way) (each_by p here.key here.requester here.responder summary a.history d x rid ready ready.way) (open_short p here.key here.requester here.responder summary a.history d x rid ready)
       (rounds_of p here.key here.requester here.responder summary a.history d x rid ready ready.way) (open_few p here.key here.requester here.responder summary a.history d x rid ready)
-      (exchange_sent a.history x) (not_worn_told a (Open summary) (fresh w before n a c (Open summary) is_told.now line behind none honest still chance Aside aside beside) ∙ ap (commanded_by a) accepted.1)
+      (exchange_sent a.history x) (fresh_told a (Open summary) (fresh w before n a c (Open summary) is_told.now line behind none honest still chance Aside aside beside) ∙ ap (commanded_by a) accepted.1)
       (begins ready.way refl)
 
   pub opened : Result (free_id a.history)

@@ -48,7 +48,7 @@ use Rattle.spdm_progress.specs.Measuring.{measurements_size, number_for, IsMeasu
 use Rattle.spdm_progress.specs.Scripts.{CanDo, Holds, IsDone, Means, PumpsAreEnough, QuietCommandsComplete, QuietMeasuresComplete, result_for}
 use Rattle.spdm_progress.specs.SessionCommands.{CanAsk, IsDoneQuietly, IsToldQuietly, commanding, goes_on, result_of}
 use Rattle.spdm_progress.specs.Opening.{opened_id}
-use Rattle.spdm_progress.proofs.Accepted.{not_worn_told, told_so}
+use Rattle.spdm_progress.proofs.Accepted.{told_so}
 use Rattle.spdm_progress.proofs.Aside.{IsAside, nothing_aside}
 use Rattle.spdm_progress.proofs.ConnectRounds as connects
 use Rattle.spdm_progress.proofs.ChunkCounts.{InChunks, in_chunks}
@@ -62,6 +62,7 @@ use Rattle.spdm_progress.proofs.PacketSteps.{Pair, asker}
 use Rattle.spdm_progress.proofs.SessionCompletes as sessions
 use Rattle.spdm_progress.proofs.SessionCompletes.{Idle, Rests, completes_by, completes_within, few_by_chunks, fresh, placed, runs, three_few}
 use Rattle.spdm_progress.proofs.Told.{ArePlaced, pair_of, contained}
+use Rattle.requester_machine.proofs.Telling.{fresh_told}
 
 module _ (w : WorldSetup) (before : List Entry) (n : ℕ) (a : Requesting) (c : Connection) (line : ℕ) (behind : List Entry) (none : HaveNoCommand behind) (Aside : World → Type 0) (aside : IsAside (pair_of n a c) Aside) (beside : Aside (world_after w before)) where
   abbrev After : Command → World
@@ -188,7 +189,7 @@ module _ (w : WorldSetup) (before : List Entry) (n : ℕ) (a : Requesting) (c : 
           plainly command (finished.Measured (number_for c.setup op)) 0 false refl
           (completes_by w before n a c command o.told.now line behind none o.honest o.still o.chance Aside aside beside (measures.MeasureAsked pair op a.history d serves phase asks) (measures.MeasureAnswered pair op a.history d serves phase asks)
           (measures.Quiet pair op a.history d serves phase asks) (finished.Measured (number_for c.setup op)) 0 false (λ log h g z. (z.0, zero_free h z.0.made (steps.is_live (steps.session_of 0 h)) refl)) (measures.measure_talk pair op a.history d serves phase asks) 0 (omega arith)
-          (plain_sent a.history (GetMeasurements op)) (not_worn_told a command unworn ∙ ap (commanded_by a) asks)
+          (plain_sent a.history (GetMeasurements op)) (fresh_told a command unworn ∙ ap (commanded_by a) asks)
           (record {
             h_is = refl;
             tag_is = refl;
@@ -203,7 +204,7 @@ module _ (w : WorldSetup) (before : List Entry) (n : ℕ) (a : Requesting) (c : 
           let e = runs w before n a c command o.told.now line behind none o.honest o.still o.chance Aside aside beside wear_limit all_fits o.told.now.life.requester o.told.now.life.responder (measures.MeasureAsked pair op a.history d serves phase asks) (measures.MeasureAnswered pair op a.history d serves phase asks)
           (measures.Quiet pair op a.history d serves phase asks) (finished.Measured (number_for c.setup op)) talk (λ more. 66) (λ more. 66)
           (all_short pair (measures.MeasureAsked pair op a.history d serves phase asks) (measures.MeasureAnswered pair op a.history d serves phase asks) (measures.Quiet pair op a.history d serves phase asks) (event.Done (finished.Measured (number_for c.setup op))) talk) 0 (three_few 0 (omega arith))
-          (plain_sent a.history (GetMeasurements op)) (not_worn_told a command unworn ∙ ap (commanded_by a) asks)
+          (plain_sent a.history (GetMeasurements op)) (fresh_told a command unworn ∙ ap (commanded_by a) asks)
           (record {
             h_is = refl;
             tag_is = refl;
@@ -263,7 +264,7 @@ module _ (w : WorldSetup) (before : List Entry) (n : ℕ) (a : Requesting) (c : 
           (completes_within w before n a c command o.told.now line behind none o.honest o.still o.chance Aside aside beside (larges.MeasureAsked pair op a.history d goes phase asks) (larges.MeasureAnswered pair op a.history d goes phase asks)
           (larges.Quiet pair op a.history d goes phase asks) (finished.Measured (number_for c.setup op)) 0 false (λ log h g z. (z.0, zero_free h z.0.made (steps.is_live (steps.session_of 0 h)) refl)) (larges.large_talk pair op a.history d goes phase asks)
           (λ more. 1) (λ more. counts.each) (larges.are_short pair op a.history d goes phase asks counts.each counts.fits) (larges.count pair op a.history d goes phase asks) (few_by_chunks (transfer_in (asked.negotiation_of a.history)) (measurements_size c.setup op) counts)
-          (plain_sent a.history (GetMeasurements op)) (not_worn_told a command unworn ∙ ap (commanded_by a) asks)
+          (plain_sent a.history (GetMeasurements op)) (fresh_told a command unworn ∙ ap (commanded_by a) asks)
           (inl (record {
             more_is = refl;
             h_is = refl;
@@ -278,7 +279,7 @@ module _ (w : WorldSetup) (before : List Entry) (n : ℕ) (a : Requesting) (c : 
           let e = runs w before n a c command o.told.now line behind none o.honest o.still o.chance Aside aside beside wear_limit all_fits o.told.now.life.requester o.told.now.life.responder (larges.MeasureAsked pair op a.history d goes phase asks) (larges.MeasureAnswered pair op a.history d goes phase asks)
           (larges.Quiet pair op a.history d goes phase asks) (finished.Measured (number_for c.setup op)) (larges.large_talk pair op a.history d goes phase asks)
           (λ more. 1) (λ more. counts.each) (larges.are_short pair op a.history d goes phase asks counts.each counts.fits) (larges.count pair op a.history d goes phase asks) (few_by_chunks (transfer_in (asked.negotiation_of a.history)) (measurements_size c.setup op) counts)
-          (plain_sent a.history (GetMeasurements op)) (not_worn_told a command unworn ∙ ap (commanded_by a) asks)
+          (plain_sent a.history (GetMeasurements op)) (fresh_told a command unworn ∙ ap (commanded_by a) asks)
           (inl (record {
             more_is = refl;
             h_is = refl;

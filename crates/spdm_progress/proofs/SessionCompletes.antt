@@ -53,7 +53,7 @@ use Rattle.spdm_progress.specs.SessionCommands.{AnswersAreQueued, AnswersWaitFir
 use Rattle.responder_machine.specs.Does.{first_queued}
 use Rattle.responder_machine.specs.History.Entry.{Clear, Dropped, Queued, Sealed, Ticked}
 use Rattle.spdm_progress.proofs.AlikeSessions.{is_kept}
-use Rattle.spdm_progress.proofs.Accepted.{not_worn_told, told_so}
+use Rattle.spdm_progress.proofs.Accepted.{told_so}
 use Rattle.spdm_progress.proofs.Aside.{IsAside, nothing_aside}
 use Rattle.spdm_progress.proofs.AskedOnce.{CanBeat, CanMeasure, CanSend, IsData, IsMeasured, IsNamed, IsSpdm, beat_asking, beat_last, data_asking, data_last, end_asking, end_last, measure_asking, measure_last}
 use Rattle.spdm_progress.proofs.ManyPackets.{waits_idle}
@@ -73,6 +73,7 @@ use Rattle.spdm_progress.proofs.Talk.{AreShort, IsTalk, sum_to, Stage, all_short
 use Rattle.spdm_progress.proofs.Told.{ArePlaced, are_placed, contained, pair_of}
 use Rattle.spdm_progress.proofs.UpdateRounds.{CanUpdate, UpdateDone, UpdateTalkAnswers, UpdateTalkAsks, update_asking, update_talk}
 use Rattle.spdm_progress.proofs.Views.{Shows, View}
+use Rattle.requester_machine.proofs.Telling.{fresh_told}
 
 -- Nothing agreed by chance at the beginning of what an honest script says.
 pub no_chance_from : (world : World) (entries : List Entry) → NoChance (world_from world entries).log → NoChance world.log
@@ -239,7 +240,7 @@ module _ (w : WorldSetup) (before : List Entry) (n : ℕ) (a : Requesting) (c : 
       asks_so = (told_so a command fresh quietly.accepted).1 ∙ asks
 
       pub step_so : requester_told a command ≡ sends a command sent
-      step_so = not_worn_told a command fresh ∙ ap (commanded_by a) asks_so
+      step_so = fresh_told a command fresh ∙ ap (commanded_by a) asks_so
 
       pub live_so : steps.is_live (session_at a id) ≡ true
       live_so = somewhere a.setup a.history command (command_chosen a.setup a.history (asking.next_draw a)) id (told_so a command fresh quietly.accepted).0 named

@@ -19,9 +19,10 @@ use Rattle.spdm_machine.proofs.Members.{none_some}
 use Rattle.world_machine.specs.World.{World, WorldStep, first_waiting, happens, requester_of, with_sent}
 use Rattle.spdm_progress.specs.Honest.{NothingWaits}
 use Rattle.spdm_progress.specs.SessionCommands.{commanding}
-use Rattle.spdm_progress.proofs.Accepted.{not_worn_told, told_so}
+use Rattle.spdm_progress.proofs.Accepted.{told_so}
 use Rattle.spdm_progress.proofs.ManyPackets.{idle_waits, packets_within, sent_waits, waiting_in}
 use Rattle.spdm_progress.proofs.SessionBegins.{told_is}
+use Rattle.requester_machine.proofs.Telling.{fresh_told}
 
 sends_one : (q : ReqSetup) (h : asked.History) (command : Command) (f : Free) (d : Draw) → asked.outstanding h ≡ None → fault_of (done q h command f d) ≡ None → (sent : Sent) × (done q h command f d ≡ Adds (WasTold command sent d))
 sends_one q h Connect f d none fine = (_, refl)
@@ -54,9 +55,9 @@ pub something_waits : (world : World) (line n : ℕ) (a : Requesting) (command :
 unfolding happens
 something_waits world line n a command is wide fresh none accepted idle =
     let step = told_so a command fresh accepted in
-    let fine = sym (ap fault_of step.1) ∙ sym (ap (λ (s : CommandStep). s.fault) (not_worn_told a command fresh)) ∙ accepted in
+    let fine = sym (ap fault_of step.1) ∙ sym (ap (λ (s : CommandStep). s.fault) (fresh_told a command fresh)) ∙ accepted in
     let one = sends_one a.setup a.history command (command_chosen a.setup a.history (next_draw a)) (next_draw a) none fine in
-    let told = told_is world n a command one.0 is (not_worn_told a command fresh ∙ ap (commanded_by a) (step.1 ∙ one.1)) in
+    let told = told_is world n a command one.0 is (fresh_told a command fresh ∙ ap (commanded_by a) (step.1 ∙ one.1)) in
     let packets = packets_of_sent a.setup (Some one.0) in
     let waits : first_waiting (with_sent world.sent packets) ≡ None = subst (λ (s : WorldStep). first_waiting s.after.sent ≡ None) told idle in
     some_packets (record { to = a.setup.responder; from = a.setup.eid; owner = true; tag = one.0.tag }) a.setup.unit (body_of one.0.content) wide (filled one.0.content) (append_none (waiting_in world.sent) packets (sym (sent_waits world.sent packets) ∙ idle_waits (with_sent world.sent packets) waits))

@@ -23,6 +23,7 @@ use Rattle.world_machine.specs.CapturedRequests.{Tells}
 use Rattle.world_machine.specs.Rounds.{no_draw}
 use Rattle.world_machine.proofs.AskTells.{Kind, kind_of, IsSent, sent_by_kind, same_sent, no_again}
 use Rattle.world_machine.proofs.AskTells.Kind.{InClear, OfSession, Again}
+use Rattle.spdm_basis.proofs.Options.{none_out}
 
 either_tag : (b : Bool) (h : History) (common : Common) (a : RequestMessage) → (cond b (piece_sent common h a (next_handle h) 0) (plain_sent h a)).tag ≡ next_tag h
 either_tag true h common a = refl
@@ -44,19 +45,16 @@ pub asked_tag : (q : ReqSetup) (h : History) (f : Free) (c : Command) (s : Sent)
 asked_tag q h f c s d e = sent_tag q h f c s d (asked false q h c f d (Told c s d) e).1
 
 -- A command begins a large request only where nothing is outstanding.
-none_waits : (o : Option Sent) → is_some o ≡ false → o ≡ None
-none_waits None e = refl
-none_waits (Some s) e = absurd (false≢true (sym e))
 
 pub large_free : (q : ReqSetup) (h : History) (f : Free) (c : Command) (s : Sent) (d : Draw) → asks false q h c f d ≡ Adds (Told c s d) → begins_large s.aim ≡ true → outstanding h ≡ None
 large_free q h f Connect s d e large =
     absurd (false≢true (ap (λ (m : Sent). begins_large m.aim) (same_sent Connect (plain_sent h GetVersion) s d (asked false q h Connect f d (Told Connect s d) e).1) ∙ large))
-large_free q h f (Open summary) s d e large = none_waits _ (test_is_false false q h (Open summary) f (asked false q h (Open summary) f d (Told (Open summary) s d) e).0 1)
-large_free q h f (Send id bytes) s d e large = none_waits _ (test_is_false false q h (Send id bytes) f (asked false q h (Send id bytes) f d (Told (Send id bytes) s d) e).0 1)
-large_free q h f (Beat id) s d e large = none_waits _ (test_is_false false q h (Beat id) f (asked false q h (Beat id) f d (Told (Beat id) s d) e).0 1)
-large_free q h f (Update id all) s d e large = none_waits _ (test_is_false false q h (Update id all) f (asked false q h (Update id all) f d (Told (Update id all) s d) e).0 1)
-large_free q h f (Measure o op) s d e large = none_waits _ (test_is_false false q h (Measure o op) f (asked false q h (Measure o op) f d (Told (Measure o op) s d) e).0 1)
-large_free q h f (End id) s d e large = none_waits _ (test_is_false false q h (End id) f (asked false q h (End id) f d (Told (End id) s d) e).0 1)
+large_free q h f (Open summary) s d e large = none_out _ (test_is_false false q h (Open summary) f (asked false q h (Open summary) f d (Told (Open summary) s d) e).0 1)
+large_free q h f (Send id bytes) s d e large = none_out _ (test_is_false false q h (Send id bytes) f (asked false q h (Send id bytes) f d (Told (Send id bytes) s d) e).0 1)
+large_free q h f (Beat id) s d e large = none_out _ (test_is_false false q h (Beat id) f (asked false q h (Beat id) f d (Told (Beat id) s d) e).0 1)
+large_free q h f (Update id all) s d e large = none_out _ (test_is_false false q h (Update id all) f (asked false q h (Update id all) f d (Told (Update id all) s d) e).0 1)
+large_free q h f (Measure o op) s d e large = none_out _ (test_is_false false q h (Measure o op) f (asked false q h (Measure o op) f d (Told (Measure o op) s d) e).0 1)
+large_free q h f (End id) s d e large = none_out _ (test_is_false false q h (End id) f (asked false q h (End id) f d (Told (End id) s d) e).0 1)
 large_free q h f Retry s d e large = absurd (no_again (outstanding h) Retry s d (asked false q h Retry f d (Told Retry s d) e).1)
 
 -- ---- No command has the body of CHUNK_SEND.

@@ -33,10 +33,7 @@ use Rattle.spdm_agreement.proofs.Worlds.EndSteps.{OwnLeads, AskedStep, AskedRead
 use Rattle.spdm_agreement.proofs.Messages.Beginnings.{reading_of}
 use Rattle.requester_machine.proofs.Steps.{asked_stage}
 use Rattle.spdm_agreement.proofs.Requester.RecordMoves.{asks_past}
-
-no_pad : (q : ReqSetup) (h : History) (d : Draw) → (body_chosen q h d).pad ≡ []
-unfolding chosen
-no_pad q h d = refl
+use Rattle.requester_machine.proofs.Choosing.{body_pad}
 
 clear_next : (h : History) (effect : Effect) (m : List marks.Asked) → next_asked (clear_marks h effect ++ m) ≡ next_asked m
 clear_next h (Answers (PskExchange exchange) answer) m = refl
@@ -55,7 +52,7 @@ clear_leads q h d served log body m led k kept = elim k.led_to [
   | inl x ↦ subst (λ (l : Led). ClearLeads q h served log m l.effect l.next (clear_check q h m (outstanding h))) (sym x.is)
       (subst (λ (c : List Act). ClearLeads q h served log m (Answers (PskExchange x.exchange) x.answer) (Some (finish_sent q h x.exchange.req_id (with_answer h x.exchange x.answer) (body_chosen q h d).pad)) c)
       (sym (exchange_checked q h m k.sent x.exchange x.answer x.place x.rsp k.waits (k.asks ∙ ap (λ (r : RequestMessage). Some r) x.asks) x.carries x.reads))
-      (subst (λ (pad : List ℕ). ClearLeads q h served log m (Answers (PskExchange x.exchange) x.answer) (Some (finish_sent q h x.exchange.req_id (with_answer h x.exchange x.answer) pad)) (answer_check q.psk (with_answer h x.exchange x.answer) x.rsp ∷ [])) (sym (no_pad q h d))
+      (subst (λ (pad : List ℕ). ClearLeads q h served log m (Answers (PskExchange x.exchange) x.answer) (Some (finish_sent q h x.exchange.req_id (with_answer h x.exchange x.answer) pad)) (answer_check q.psk (with_answer h x.exchange x.answer) x.rsp ∷ [])) (sym (body_pad q h d))
       (exchanged_leads q h x.exchange x.answer x.rsp served log (subst (λ (r : RequestMessage). ClearKept q h (Some r)) x.asks (waited q h k.sent k.asked k.waits k.asks kept)) x.reads x.right)))
 ]
 

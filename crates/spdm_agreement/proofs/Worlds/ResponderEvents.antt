@@ -40,6 +40,7 @@ use Rattle.responder_machine.proofs.Connected.{count_changed}
 use Rattle.spdm_agreement.proofs.Worlds.ResponderChanges.{responder_goes, still_apart}
 use Rattle.responder_machine.proofs.Making.{does_made}
 use Rattle.spdm_agreement.proofs.Messages.Beginnings.{reading_of}
+use Rattle.responder_machine.proofs.Runs.{ticked_draws}
 
 module _ (KeptAsked : ReqSetup → asked.History → Type 0) (KeptServed : RspSetup → served.History → Type 0) (world : World) (k : Fits KeptAsked KeptServed world) (does_well : DoesWell KeptServed) (waits : Waits KeptServed) where
   abbrev connections : List Connection
@@ -187,11 +188,6 @@ module _ (KeptAsked : ReqSetup → asked.History → Type 0) (KeptServed : RspSe
 
   pub sent_stays : (sent : List SentPacket) → Fits KeptAsked KeptServed (record world { sent = sent })
   sent_stays sent = stays sent
-
--- Seconds for every connection take no draw.
-ticked_draws : (seconds : ℕ) (cs : List Connection) → all_draws (map (changed (λ h. Ticked seconds ∷ h)) cs) ≡ all_draws cs
-ticked_draws seconds [] = refl
-ticked_draws seconds (x ∷ others) = ap (λ (n : ℕ). draws_of x.history + n) (ticked_draws seconds others)
 
 module _ (KeptAsked : ReqSetup → asked.History → Type 0) (KeptServed : RspSetup → served.History → Type 0) (world : World) (k : Fits KeptAsked KeptServed world) (waits : Waits KeptServed) (seconds : ℕ) where
   abbrev cs : List Connection

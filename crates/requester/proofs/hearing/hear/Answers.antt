@@ -1,12 +1,13 @@
 use Rattle.std.proofs.Common.{rules, ◌≡◌, ◌∙◌, ◌<◌, ℕ, List, Option, Some, None, ap, length, subst, sym, true}
 use Rattle.asking.specs.Joined.{IsSentAs}
-use Rattle.requester.proofs.Chosen.{body_pad, none_upon, sent_upon}
+use Rattle.requester.proofs.Chosen.{none_upon, sent_upon}
 use Rattle.requester.proofs.Tags.{heard_fits}
 use Rattle.requester.proofs.hearing.hear.Goals as goal
 use Rattle.requester_machine.proofs.Making.{hears_made}
 use Rattle.requester_machine.specs.Does.{body_chosen, requester_hears}
 use Rattle.requester_machine.specs.Shown.{sent_by}
 use Rattle.spdm_machine.specs.Packets.{packets_to}
+use Rattle.requester_machine.proofs.Choosing.{body_pad}
 
 pub returns-in-Some : goal.returns-in-Some
 returns-in-Some c = λ q h d part made few empty stands.

@@ -2,7 +2,7 @@ use Rattle.std.proofs.Common.{rules, ◌≡◌, ◌∙◌, ℕ, ap, length, sym}
 use Rattle.std.specs.Prelude.{take}
 use Rattle.requester.proofs.Chosen.{command_allowed, command_pad, free_is}
 use Rattle.requester.proofs.telling.tell.Goals as goal
-use Rattle.requester.specs.Drawing.{draw_as}
+use Rattle.session_keys.specs.Drawing.{draw_as}
 use Rattle.requester_machine.specs.Does.{command_chosen}
 use Rattle.spdm_grammar.specs.declared.choice.Choice.{Choice}
 use Rattle.spdm_machine.specs.Keys.{Draw, context_of}

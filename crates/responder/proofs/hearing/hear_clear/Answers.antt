@@ -1,7 +1,7 @@
 use Rattle.std.proofs.Common.{rules, ◌≡◌, ◌∙◌, ap, length, refl}
 use Rattle.responder.proofs.Chosen.{clear_is}
 use Rattle.responder.proofs.hearing.hear_clear.Goals as goal
-use Rattle.responder.specs.Drawing.{draw_as}
+use Rattle.session_keys.specs.Drawing.{draw_as}
 use Rattle.responder_machine.proofs.Does.{chosen_allowed}
 use Rattle.responder_machine.specs.Does.{clear_chosen}
 use Rattle.responder_machine.specs.Place.{clear_place}

@@ -2,7 +2,7 @@ use Rattle.std.proofs.Common.{◌∙◌, ℕ, List, ap, refl}
 use Rattle.connection.specs.Sessions.{body_by}
 use Rattle.responder.proofs.Chosen.{record_are}
 use Rattle.responder.proofs.hearing.hear_record.Goals as goal
-use Rattle.responder.specs.Drawing.{draw_as}
+use Rattle.session_keys.specs.Drawing.{draw_as}
 use Rattle.responder_machine.specs.Does.{record_chosen}
 use Rattle.responder_machine.specs.LargeMessages.{next_handle}
 use Rattle.responder_machine.specs.Session.{session_of, turns_of}

@@ -3,14 +3,16 @@ use Rattle.connection.specs.Connected.{IsDone}
 use Rattle.connection.specs.ClearPart.{is_drawn}
 use Rattle.mctp_framing.specs.Cutting.{RouteFields, packets_of, route_of}
 use Rattle.responder.proofs.Data.{body_data}
-use Rattle.responder.proofs.Meeting.{does_whole, draw_is}
+use Rattle.responder.proofs.Meeting.{does_whole}
 use Rattle.responder.proofs.whole.hear_whole.Goals as goal
-use Rattle.responder.specs.Came.{Came, IsMet, IsShort, drawn_by, last_for}
+use Rattle.responder.specs.Came.{Came, IsMet, IsShort, last_for}
 use Rattle.responder_machine.specs.Does.{responder_does}
 use Rattle.responder_machine.specs.Responder.{Outcome, after, body_of}
 use Rattle.responder_machine.specs.Setup.{RspSetup}
 use Rattle.spdm_grammar.specs.declared.heard.Heard.{Heard}
 use Rattle.spdm_machine.specs.Keys.{Draw, draw_of}
+use Rattle.session_keys.proofs.Draws.{draw_is}
+use Rattle.session_keys.specs.Drawing.{drawn_by}
 
 pub returns : goal.returns
 returns c = λ p q k part set towards_is made few below to from empty stands.

@@ -1,16 +1,18 @@
 use Rattle.std.proofs.Common.{refl, ◌∙◌, ap, Option}
 use Rattle.std.specs.Option.{option_or}
-use Rattle.asking.proofs.Joining.{ask_aims, asks_it, fails_by, none_out, record_done}
+use Rattle.asking.proofs.Joining.{ask_aims, asks_it, record_done}
 use Rattle.asking.specs.InSession.{session_fault}
 use Rattle.psk_session.specs.AskLaws.{command_at}
 use Rattle.requester_machine.specs.History.{outstanding}
 use Rattle.spdm_grammar.specs.declared.command_fault.CommandFault.{CommandFault}
 use Rattle.asking.proofs.joined.Asking.ask.Goals as goal
+use Rattle.spdm_basis.proofs.Options.{none_out}
+use Rattle.asking.proofs.Started.{told_fails}
 
 pub returns-in-Some : goal.returns-in-Some
 returns-in-Some c = λ q h f d padded short stands.
     let command = command_at c.args.id c.args.ask in (
-      fails_by q h command f d c.in-Some.fault
+      told_fails q h command f d c.in-Some.fault
           (c.session_fault.ensures.fault q h command f stands.talk.shows (asks_it c.args.id c.args.ask) ∙ ap (λ (o : Option CommandFault). option_or o (session_fault q h command f)) c.in-Some.is),
       stands,
     )

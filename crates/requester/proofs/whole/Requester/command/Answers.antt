@@ -4,7 +4,7 @@ use Rattle.hmac_hkdf.specs.Draw.{Draws}
 use Rattle.requester.proofs.Steps.{counts_few, fresh_is, worn_now}
 use Rattle.requester.proofs.Commanding.{done_step, draw_is, drawn_next, failed_step, number_few, worn_told}
 use Rattle.requester.proofs.whole.Requester.command.Goals as goal
-use Rattle.requester.specs.Drawing.{drawn_by}
+use Rattle.session_keys.specs.Drawing.{drawn_by}
 use Rattle.requester.specs.Standing.{IsTold}
 use Rattle.requester_machine.specs.Does.{requester_asks}
 use Rattle.requester_machine.specs.Message as message

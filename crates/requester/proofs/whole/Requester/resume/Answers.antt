@@ -23,5 +23,6 @@ returns-clause-stands c =
       asking = c.new-asking.ensures (setup_of config) part.max;
       made = tt;
       entries = omega arith;
+      limit = omega arith;
       first = omega (arith, few);
     }

@@ -1,7 +1,7 @@
 use Rattle.std.proofs.Common.{rules, refl, ◌≡◌, ◌≢◌, ◌∙◌, ◌<◌, ◌-◌, ◌^◌, ℕ, ap, subst, sym, arith, get_or}
 use Rattle.mctp_framing.specs.Packet.{PacketFields, view_of}
 use Rattle.responder.proofs.Found.{hit}
-use Rattle.responder.proofs.Reached.{made_in, messages_few, number_few, run_is}
+use Rattle.responder.proofs.Reached.{messages_few, number_few, run_is}
 use Rattle.responder.proofs.Steps.{another_step, taken_step, unknown_step}
 use Rattle.responder.proofs.serving.Responder.on_view.Goals as goal
 use Rattle.responder.specs.Peers as peers
@@ -10,6 +10,7 @@ use Rattle.responder_machine.specs.Responding.{Connection}
 use Rattle.spdm_machine.proofs.Members.{found_in}
 use Rattle.spdm_machine.specs.Packets.{fields_in}
 use Rattle.std.specs.Prelude.{◌==◌}
+use Rattle.responder_machine.proofs.Runs.{made_in}
 
 pub returns-then-view-number : goal.returns-then-view-number
 returns-then-view-number c = λ r packet is empty stands.

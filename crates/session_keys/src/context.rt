@@ -1,16 +1,16 @@
 ghost use Rattle.std.specs.Prelude.{◌≡◌};
-ghost use Rattle.responder.specs.Drawing.{draw_as};
+ghost use Rattle.session_keys.specs.Drawing.{draw_as};
 ghost use Rattle.spdm_machine.specs.Keys.{context_of};
 
 use byteorder::{ByteOrder, LittleEndian};
 use hmac_hkdf::Drawn;
 use spdm_basis::{Buffer, HashAlg};
 
-/// ResponderContext of PSK_EXCHANGE_RSP.
-pub(crate) type Context = Buffer<48>;
+/// RequesterContext of PSK_EXCHANGE, or ResponderContext of PSK_EXCHANGE_RSP: 32 or 48 bytes.
+pub type Context = Buffer<48>;
 
 /// The context of a draw, as long as the hash: it holds the number of the draw, so that no two are equal.
-pub(crate) fn context_of(hash: HashAlg, drawn: &Drawn) -> Context
+pub fn context_of(hash: HashAlg, drawn: &Drawn) -> Context
     ensures { result ≡ context_of hash (draw_as drawn.now) }
 {
     let mut number = [0; 8];

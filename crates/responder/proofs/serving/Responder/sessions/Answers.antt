@@ -1,0 +1,31 @@
+use Rattle.std.proofs.Common.{rules, arith, get_or, refl, ◌≡◌, ℕ, List, Some, None, subst, sym, ap, ◌∙◌}
+use Rattle.responder.proofs.Found.{hit, none_found}
+use Rattle.responder.proofs.Reached.{messages_few}
+use Rattle.responder.proofs.Waiting.{seen_stands}
+use Rattle.responder.proofs.serving.Responder.sessions.Goals as goal
+use Rattle.responder.specs.Standing.{has_eid, views_at}
+use Rattle.responder.specs.declared.peer.Peer.{Peer}
+use Rattle.responder_machine.specs.Responding.{Connection}
+use Rattle.spdm_machine.proofs.Members.{found_in}
+use Rattle.spdm_machine.specs.Packets.{fields_in}
+use Rattle.std.specs.List.{position_from}
+use Rattle.std.specs.Prelude.{◌==◌}
+
+pub returns-in-Some : goal.returns-in-Some
+returns-in-Some c = λ r stands.
+    let eid : ℕ = c.args.eid.number in
+    let items : List Peer = c.args.self.now.peers.items in
+    let here : position_from (has_eid eid) 0 items ≡ Some c.in-Some.place = subst (λ (n : ℕ). position_from (has_eid n) 0 items ≡ Some c.in-Some.place) c.number.ensures.value (sym c.in-Some.ensures.place) in
+    let found = hit r.part (fields_in r.given) eid 0 c.in-Some.place items r.connections stands.peers stands.apart here in
+    let seen : Peer = c.index.result.now in
+    let is : seen ≡ get_or items c.in-Some.place seen = search rules in
+    let peer = seen_stands r eid items c.in-Some.place found seen is in
+    let m = (found_in (λ (y : Connection). y.setup.peer == eid) r.connections found.c found.found).0 in
+    let few = messages_few r stands.reached found.c m in
+    c.sessions.ensures found.c.setup found.c.history peer.connection (omega (arith, few)) ∙ ap views_at (sym found.found)
+
+pub returns-in-None : goal.returns-in-None
+returns-in-None c = λ r stands.
+    let items : List Peer = c.args.self.now.peers.items in
+    let nothing = none_found r.part (fields_in r.given) c.args.eid.number 0 items r.connections stands.peers (subst (λ (n : ℕ). position_from (has_eid n) 0 items ≡ None) c.number.ensures.value (sym c.in-None.ensures.place)) in
+    c.new.ensures ∙ ap views_at (sym nothing)
