@@ -5,7 +5,7 @@ The program is the Python package `spdm_reference`, which is no part of this rep
     python3 tests/transcripts.py
 
 writes crates/ends_vectors/src/{rows,refusals,answers}.rt anew. docs/FORMATS.md has the language of scripts and the
-lines that are told. `session` lines of a requester are left out.
+lines that are told.
 """
 import copy
 import os
@@ -38,7 +38,7 @@ class Ends:
         (_, entries) = parse_script((self.text + "end\n" + line + "\n").encode())
         self.world.out = []
         self.world.step(*entries[0])
-        return [t.rstrip("\n") for t in self.world.out if not t.startswith(("@", "session q"))]
+        return [t.rstrip("\n") for t in self.world.out if not t.startswith("@")]
 
     def sent(self, number):
         return self.world.sent[number - 1]

@@ -8,7 +8,7 @@ use script_text::{
     line_no_packet, line_nobody, line_packet, line_record, line_reply, line_session, line_state,
 };
 use spdm_basis::{Bytes, Eid, Line, Psk, SessionId};
-use spdm_grammar::{Event, Finished, Heard};
+use spdm_grammar::{Event, Finished, Heard, Phase, SessionList};
 use std::alloc::Global;
 use std::process::Abort;
 use std::test::Fail;
@@ -313,22 +313,33 @@ impl Ends {
         self.send(rt)
     }
 
-    // The phases of both ends of a requester, and its sessions at the responder.
+    // The phases and the sessions of a requester, and those of the responder with it.
     fn show(&mut self, q: u8) -> Result<(), Fail> {
         let place = usize::from(q).wrapping_sub(1);
         let eid = self.eid(q)?;
-        let mut line = Line::new();
-        let phase = self.requesters.get(place).ok_or("no requester")?.phase();
-        line_state(q, false, phase, &mut line);
-        self.put(&line)?;
+        let requester = self.requesters.get(place).ok_or("no requester")?;
+        let phase = requester.phase();
+        let sessions = requester.sessions();
+        self.show_end(q, false, phase, &sessions)?;
         let phase = self.responder.phase(eid).ok_or("no requester")?;
-        line_state(q, true, phase, &mut line);
+        let sessions = self.responder.sessions(eid);
+        self.show_end(q, true, phase, &sessions)
+    }
+
+    // The phase and the sessions of an end.
+    fn show_end(
+        &mut self,
+        q: u8,
+        is_responder: bool,
+        phase: Phase,
+        sessions: &SessionList,
+    ) -> Result<(), Fail> {
+        let mut line = Line::new();
+        line_state(q, is_responder, phase, &mut line);
         self.put(&line)?;
-        for id in 1..5 {
-            if let Some(view) = self.responder.session(eid, id) {
-                line_session(q, true, &view, &mut line);
-                self.put(&line)?;
-            }
+        for view in sessions.as_slice() {
+            line_session(q, is_responder, view, &mut line);
+            self.put(&line)?;
         }
         Ok(())
     }

@@ -153,6 +153,7 @@ pump 3
 > packet 10 010809cc060100010000003700d1f7e8c0c7c58c0a8f577f56da14fedf43dca1cbf47b1904eb2ea9125aae9cab0356ff1576a02adad120452b7f9e0f2600b5f6ea6add12
 show
 > state q1 negotiated
+> session q1 01000100 handshake 0 0 1 0 0 d3017f9e044932d673b398f65866425eb57e159cf36cef4158b79de62ec446b9
 > state r q1 negotiated
 > session r q1 01000100 handshake 0 0 0 0 0 d3017f9e044932d673b398f65866425eb57e159cf36cef4158b79de62ec446b9
 pump 3
@@ -161,6 +162,7 @@ pump 3
 > to q1 done opened 01000100
 show
 > state q1 negotiated
+> session q1 01000100 open 0 0 0 0 0 5ddcd350a2caa76e8c9a70aae22a180489d8866ddc61039d7d14f8353aaad73a
 > state r q1 negotiated
 > session r q1 01000100 open 0 0 0 0 0 5ddcd350a2caa76e8c9a70aae22a180489d8866ddc61039d7d14f8353aaad73a
 =new_exchange_replaces_handshake connected
@@ -196,6 +198,7 @@ deliver 13
 > packet 14 010908c405127f0600
 show
 > state q1 negotiated
+> session q1 01000100 handshake 0 0 1 0 0 d3017f9e044932d673b398f65866425eb57e159cf36cef4158b79de62ec446b9
 > state r q1 negotiated
 > session r q1 01000100 handshake 0 0 0 0 0 fa7441319f064e7b0a03ed52e77994a56924d203bfc3a4e0e008b2d5035fc790
 =altered_algorithms_fail_verify plain
@@ -245,6 +248,7 @@ pump 4
 lose 11
 show
 > state q1 negotiated
+> session q1 01000100 handshake 0 0 1 0 0 d3017f9e044932d673b398f65866425eb57e159cf36cef4158b79de62ec446b9
 > state r q1 negotiated
 > session r q1 01000100 open 0 0 0 0 0 5ddcd350a2caa76e8c9a70aae22a180489d8866ddc61039d7d14f8353aaad73a
 q1 retry
@@ -256,6 +260,7 @@ pump 2
 > to q1 done opened 01000100
 show
 > state q1 negotiated
+> session q1 01000100 open 0 0 0 0 0 5ddcd350a2caa76e8c9a70aae22a180489d8866ddc61039d7d14f8353aaad73a
 > state r q1 negotiated
 > session r q1 01000100 open 0 0 0 0 0 5ddcd350a2caa76e8c9a70aae22a180489d8866ddc61039d7d14f8353aaad73a
 =heartbeat_record opened
@@ -301,6 +306,7 @@ pump 2
 > data q1 01000100 -
 show
 > state q1 negotiated
+> session q1 01000100 open 0 0 3 3 3 5ddcd350a2caa76e8c9a70aae22a180489d8866ddc61039d7d14f8353aaad73a
 > state r q1 negotiated
 > session r q1 01000100 open 0 0 3 3 3 5ddcd350a2caa76e8c9a70aae22a180489d8866ddc61039d7d14f8353aaad73a
 =update_answer_lost opened
@@ -324,6 +330,7 @@ pump 4
 > to q1 done updated 01000100
 show
 > state q1 negotiated
+> session q1 01000100 open 1 1 1 2 0 5ddcd350a2caa76e8c9a70aae22a180489d8866ddc61039d7d14f8353aaad73a
 > state r q1 negotiated
 > session r q1 01000100 open 1 1 1 2 0 5ddcd350a2caa76e8c9a70aae22a180489d8866ddc61039d7d14f8353aaad73a
 =altered_tag_changes_nothing opened
@@ -333,6 +340,7 @@ q1 send 1 61
 lose 12
 show
 > state q1 negotiated
+> session q1 01000100 open 0 0 1 0 0 5ddcd350a2caa76e8c9a70aae22a180489d8866ddc61039d7d14f8353aaad73a
 > state r q1 negotiated
 > session r q1 01000100 open 0 0 0 0 0 5ddcd350a2caa76e8c9a70aae22a180489d8866ddc61039d7d14f8353aaad73a
 inject 010809cd0601000100000014007ca9fe1d2848fbc6d9a6efa69dfaad73d2a664ad
@@ -340,6 +348,7 @@ inject 010809cd0601000100000014007ca9fe1d2848fbc6d9a6efa69dfaad73d2a664ad
 > packet 13 010908c505127f0600
 show
 > state q1 negotiated
+> session q1 01000100 open 0 0 1 0 0 5ddcd350a2caa76e8c9a70aae22a180489d8866ddc61039d7d14f8353aaad73a
 > state r q1 negotiated
 > session r q1 01000100 open 0 0 0 0 0 5ddcd350a2caa76e8c9a70aae22a180489d8866ddc61039d7d14f8353aaad73a
 deliver 12
@@ -352,6 +361,7 @@ pump 2
 > data q1 01000100 -
 show
 > state q1 negotiated
+> session q1 01000100 open 0 0 1 1 1 5ddcd350a2caa76e8c9a70aae22a180489d8866ddc61039d7d14f8353aaad73a
 > state r q1 negotiated
 > session r q1 01000100 open 0 0 1 1 1 5ddcd350a2caa76e8c9a70aae22a180489d8866ddc61039d7d14f8353aaad73a
 =session_limit pair
@@ -404,12 +414,17 @@ pump 6
 > to q2 done opened 01000100
 show
 > state q1 negotiated
+> session q1 01000100 open 0 0 0 0 0 5ddcd350a2caa76e8c9a70aae22a180489d8866ddc61039d7d14f8353aaad73a
+> session q1 02000200 open 0 0 0 0 0 d5ec05a4c3298e9b6557451903c5b84cbf6e2c8470c68b829cab99ce695029d6
+> session q1 03000300 open 0 0 0 0 0 4dc60beba9d35c71bf57d53848f7ff8327a07e926774952539f96e22292aa14c
+> session q1 04000400 open 0 0 0 0 0 2e2218e8ed35fc865b6953ae49be5721e9c37a83ed0ca8077d8b832d224d0842
 > state r q1 negotiated
 > session r q1 01000100 open 0 0 0 0 0 5ddcd350a2caa76e8c9a70aae22a180489d8866ddc61039d7d14f8353aaad73a
 > session r q1 02000200 open 0 0 0 0 0 d5ec05a4c3298e9b6557451903c5b84cbf6e2c8470c68b829cab99ce695029d6
 > session r q1 03000300 open 0 0 0 0 0 4dc60beba9d35c71bf57d53848f7ff8327a07e926774952539f96e22292aa14c
 > session r q1 04000400 open 0 0 0 0 0 2e2218e8ed35fc865b6953ae49be5721e9c37a83ed0ca8077d8b832d224d0842
 > state q2 negotiated
+> session q2 01000100 open 0 0 0 0 0 7be6a91598bb36a874402974a3368f6f016a55ec13a461e15cc6a6362d9c0d45
 > state r q2 negotiated
 > session r q2 01000100 open 0 0 0 0 0 7be6a91598bb36a874402974a3368f6f016a55ec13a461e15cc6a6362d9c0d45
 =negotiation_by_chunks chunks
@@ -472,6 +487,7 @@ pump 100
 > to q1 done opened 01000100
 show
 > state q1 negotiated
+> session q1 01000100 open 0 0 0 0 0 36c6e02bd3efc7dac549ea002c03b11cd5dac583dd0127479112b9975fa85fdd
 > state r q1 negotiated
 > session r q1 01000100 open 0 0 0 0 0 36c6e02bd3efc7dac549ea002c03b11cd5dac583dd0127479112b9975fa85fdd
 =large_suite_chosen large
@@ -507,6 +523,7 @@ pump 20
 > to q1 done opened 01000100
 show
 > state q1 negotiated
+> session q1 01000100 open 0 0 0 0 0 99aea04128d51ac0918d816db630c2be0c43cb1b901b5718c5d03e18c6ba323192c748910f91e6dc14d676ebc888704d
 > state r q1 negotiated
 > session r q1 01000100 open 0 0 0 0 0 99aea04128d51ac0918d816db630c2be0c43cb1b901b5718c5d03e18c6ba323192c748910f91e6dc14d676ebc888704d
 q1 send 1 6869
@@ -520,6 +537,7 @@ pump 4
 > data q1 01000100 -
 show
 > state q1 negotiated
+> session q1 01000100 open 0 0 1 1 1 99aea04128d51ac0918d816db630c2be0c43cb1b901b5718c5d03e18c6ba323192c748910f91e6dc14d676ebc888704d
 > state r q1 negotiated
 > session r q1 01000100 open 0 0 1 1 1 99aea04128d51ac0918d816db630c2be0c43cb1b901b5718c5d03e18c6ba323192c748910f91e6dc14d676ebc888704d
 =large_hash_needs_room narrow
@@ -638,6 +656,7 @@ show
 pub const SPENT: &str = "\
 show
 > state q1 negotiated
+> session q1 01000100 open 0 0 65535 65535 65535 5ddcd350a2caa76e8c9a70aae22a180489d8866ddc61039d7d14f8353aaad73a
 > state r q1 negotiated
 > session r q1 01000100 open 0 0 65535 65535 65535 5ddcd350a2caa76e8c9a70aae22a180489d8866ddc61039d7d14f8353aaad73a
 q1 send 1 61
@@ -670,6 +689,7 @@ pump 2
 > data q1 01000100 -
 show
 > state q1 negotiated
+> session q1 01000100 open 1 1 2 3 65536 5ddcd350a2caa76e8c9a70aae22a180489d8866ddc61039d7d14f8353aaad73a
 > state r q1 negotiated
 > session r q1 01000100 open 1 1 2 3 65536 5ddcd350a2caa76e8c9a70aae22a180489d8866ddc61039d7d14f8353aaad73a
 ";
