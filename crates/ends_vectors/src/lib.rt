@@ -3,4 +3,16 @@
 #![tactic(auto)]
 
 #[cfg(test)]
+mod answers;
+#[cfg(test)]
+mod ends;
+#[cfg(test)]
+mod refusals;
+#[cfg(test)]
+mod row_tests;
+#[cfg(test)]
+mod rows;
+#[cfg(test)]
 mod tests;
+#[cfg(test)]
+mod transcripts;
