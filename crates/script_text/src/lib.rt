@@ -65,6 +65,7 @@ pub use script_lines::parse_script;
 pub use script_printing::print_script;
 pub use shown::{Shown, ShownAs, ShownKind, ShownList};
 pub use shown_text::parse_shown;
+pub use text_words::{add_hex, add_number, add_requester, add_word, end_text_line};
 pub use trace_lines::{
     line_at, line_command, line_data, line_event, line_heard, line_no_packet, line_nobody,
     line_packet, line_record, line_reply, line_session, line_state,
