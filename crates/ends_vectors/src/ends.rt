@@ -171,17 +171,17 @@ impl Ends {
         id: SessionId,
     ) -> Result<(), Fail> {
         let mut line = Line::new();
-        let data = if at_responder {
-            self.responder.last_data()
+        if at_responder {
+            let data = self.responder.last_data();
+            assert!(rt; data.len() <= DATA_LIMIT);
+            line_data(q, true, id, data, &mut line);
         } else {
             let place = usize::from(q).wrapping_sub(1);
-            self.requesters
-                .get(place)
-                .ok_or("no requester")?
-                .last_data()
-        };
-        assert!(rt; data.len() <= DATA_LIMIT);
-        line_data(q, at_responder, id, data, &mut line);
+            let requester = self.requesters.get(place).ok_or("no requester")?;
+            let data = requester.last_data();
+            assert!(rt; data.len() <= DATA_LIMIT);
+            line_data(q, false, id, data, &mut line);
+        }
         self.put(&line)
     }
 
