@@ -1,0 +1,25 @@
+//! What the packets of a capture fix of all walks over them, each law as the contract of a function
+//! that does nothing.
+
+ghost use Rattle.trace_check.specs.Laws.{OneRound, OrderIsReason, OrderRefuses, OrderTells};
+
+/// The round under way between two ends is a function of the packets: all walks over them have it.
+pub fn one_round()
+    ensures { OneRound }
+{}
+
+/// A packet for which the order gives a reason does not conform, whatever the ends hold.
+pub fn order_refuses()
+    ensures { OrderRefuses }
+{}
+
+/// Behind packets that conform that is the reason, unless the verify data of a packet alone are
+/// wrong.
+pub fn order_is_reason()
+    ensures { OrderIsReason }
+{}
+
+/// Each of the three reasons of the order is given by the order.
+pub fn order_tells()
+    ensures { OrderTells }
+{}
