@@ -96,18 +96,18 @@ abbrev pub behind : (own : ℕ) → List (List ℕ) → Result PacketFields Pack
 behind own older p eid = round_after own eid older (round_of own eid older) p
 
 -- What a packet for the responder makes of a round.
-asked_is : (own eid : ℕ) (older : List (List ℕ)) (round : Option Round) (p : PacketFields) → (p.to == own) ≡ true → (p.from == eid) ≡ true
+pub asked_is : (own eid : ℕ) (older : List (List ℕ)) (round : Option Round) (p : PacketFields) → (p.to == own) ≡ true → (p.from == eid) ≡ true
     → round_after own eid older round (Ok p) ≡ round_by_request round (gathered_from own eid older p)
 asked_is own eid older round p to from =
     let is : is_request own eid p ≡ true = ap (λ (b : Bool). b && p.from == eid) to ∙ from in
     ap (λ (b : Bool). cond b (round_by_request round (gathered_from own eid older p)) (cond (is_answer own eid p) (round_by_answer round (gathered_from eid own older p)) round)) is
 
-stays : (own eid : ℕ) (older : List (List ℕ)) (round : Option Round) (p : PacketFields) → is_request own eid p ≡ false → is_answer own eid p ≡ false → round_after own eid older round (Ok p) ≡ round
+pub stays : (own eid : ℕ) (older : List (List ℕ)) (round : Option Round) (p : PacketFields) → is_request own eid p ≡ false → is_answer own eid p ≡ false → round_after own eid older round (Ok p) ≡ round
 stays own eid older round p ask other =
     ap (λ (b : Bool). cond b (round_by_request round (gathered_from own eid older p)) (cond (is_answer own eid p) (round_by_answer round (gathered_from eid own older p)) round)) ask
     ∙ ap (λ (b : Bool). cond b (round_by_answer round (gathered_from eid own older p)) round) other
 
-answered_is : (own eid : ℕ) (older : List (List ℕ)) (round : Option Round) (p : PacketFields) → (p.to == own) ≡ false → (p.from == own) ≡ true → (p.to == eid) ≡ true
+pub answered_is : (own eid : ℕ) (older : List (List ℕ)) (round : Option Round) (p : PacketFields) → (p.to == own) ≡ false → (p.from == own) ≡ true → (p.to == eid) ≡ true
     → round_after own eid older round (Ok p) ≡ round_by_answer round (gathered_from eid own older p)
 answered_is own eid older round p to from at =
     let none : is_request own eid p ≡ false = ap (λ (b : Bool). b && p.from == eid) to in

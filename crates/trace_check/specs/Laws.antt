@@ -1,5 +1,9 @@
 -- What the packets of a capture fix of all walks over them. This project's own.
-use Rattle.std.specs.Prelude.{◌≡◌, ℕ, List, ◌∷◌, true, Option, Some, None}
+use Rattle.std.specs.Prelude.{◌≡◌, ◌<◌, ℕ, List, ◌∷◌, length, true, Some}
+use Rattle.key_schedule.specs.Purpose.{Purpose}
+use Rattle.spdm_basis.specs.SessionIdBytes.{session_id_bytes}
+use Rattle.spdm_grammar.specs.declared.choice.Choice.{Choice}
+use Rattle.spdm_machine.specs.Keys.{sealed_of}
 use Rattle.trace_check.specs.Order.{round_of, order_why, is_of_order}
 use Rattle.world_machine.specs.Capture.{Leads}
 use Rattle.world_machine.specs.Difference.{Why, IsReason, IsVerifyApart}
@@ -25,3 +29,13 @@ OrderIsReason = (w : Configuration) (older : List (List ℕ)) (packet : List ℕ
 abbrev pub OrderTells : Type 0
 OrderTells = (w : Configuration) (older : List (List ℕ)) (packet : List ℕ) (why : Why)
     → is_of_order why ≡ true → IsReason w older packet why → order_why w older packet ≡ Some why
+
+-- ---- Records.
+
+-- A record that is sealed under one key, number and id tells its inner message and its padding. An inner message is
+-- below 65,536 bytes.
+abbrev pub SealedTells : Type 0
+SealedTells = (choice : Choice) (p : Purpose) (number req rsp : ℕ) (inner other pad padding : List ℕ)
+    → length inner < 65536 → length other < 65536
+    → sealed_of choice p number (session_id_bytes req rsp) inner pad ≡ sealed_of choice p number (session_id_bytes req rsp) other padding
+    → (inner ≡ other) × (pad ≡ padding)

@@ -1,3 +1,4 @@
 pub mod Order
 pub mod Judged
 pub mod Laws
+pub mod Verdict

@@ -1,7 +1,10 @@
 //! What the packets of a capture fix of all walks over them, each law as the contract of a function
 //! that does nothing.
 
-ghost use Rattle.trace_check.specs.Laws.{OneRound, OrderIsReason, OrderRefuses, OrderTells};
+ghost use Rattle.trace_check.specs.Laws.{OneRound, OrderIsReason, OrderRefuses, OrderTells, SealedTells};
+ghost use Rattle.trace_check.specs.Verdict.{OneVerdict};
+
+use world_machine::{beginning_conforms, conforming_has_table, one_reason, one_table};
 
 /// The round under way between two ends is a function of the packets: all walks over them have it.
 pub fn one_round()
@@ -23,3 +26,18 @@ pub fn order_is_reason()
 pub fn order_tells()
     ensures { OrderTells }
 {}
+
+/// A record under one key, number and id tells its inner message and its padding.
+pub fn sealed_tells()
+    ensures { SealedTells }
+{}
+
+/// No capture has two verdicts.
+pub fn one_verdict()
+    ensures { OneVerdict }
+{
+    beginning_conforms();
+    conforming_has_table();
+    one_table();
+    one_reason();
+}
