@@ -51,13 +51,13 @@ pub record Hit (own : ℕ) (older : List (List ℕ)) (eid n i : ℕ) (xs : List 
   pub change : (packet : List ℕ) (p : PacketFields) → parsed packet ≡ Ok p → IsOfOne own p eid → (new : Pair) → IsPair new own eid (packet ∷ older) → ArePairs (slice_set xs k new) own (packet ∷ older) qs
 
 -- No end point of the others is that of the one which was found.
+first_is : (eid : ℕ) (q o : ReqSetup) (qs : List ReqSetup) (b : Bool) → (o.eid == eid) ≡ b → o.eid ≢ q.eid → q.eid ≡ eid → (is_known eid qs ≡ true → ⊥) → (b || is_known eid qs) ≡ true → ⊥
+first_is eid q o qs true e other same next known = other (eqb-true _ _ e ∙ sym same)
+first_is eid q o qs false e other same next known = next known
+
 not_first : (eid : ℕ) (q : ReqSetup) (qs : List ReqSetup) → AllByRecursion (λ (other : ReqSetup). other.eid ≢ q.eid) qs → is_known eid qs ≡ true → q.eid ≢ eid
 not_first eid q [] others known same = absurd (cc)
-not_first eid q (o ∷ qs) others known same = by_first (o.eid == eid) refl known
-  where
-    by_first : (b : Bool) → (o.eid == eid) ≡ b → (b || is_known eid qs) ≡ true → ⊥
-    by_first true e known = others.0 (eqb-true _ _ e ∙ sym same)
-    by_first false e known = not_first eid q qs others.1 known same
+not_first eid q (o ∷ qs) others known same = first_is eid q o qs (o.eid == eid) refl others.0 same (λ k. not_first eid q qs others.1 k same) known
 
 first_hit : (own : ℕ) (older : List (List ℕ)) (eid n i : ℕ) (x : Pair) (xs : List Pair) (q : ReqSetup) (qs : List ReqSetup) → IsPair x own q.eid older → ArePairs xs own older qs → AreApart own (q ∷ qs) → has_eid eid x ≡ true → Some n ≡ Some i
     → Hit own older eid n i (x ∷ xs) (q ∷ qs)

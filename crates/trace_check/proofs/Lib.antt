@@ -5,3 +5,4 @@ pub mod Kept
 pub mod Found
 pub mod Telling
 pub mod Exclusive
+pub mod Alone

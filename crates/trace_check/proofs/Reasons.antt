@@ -79,7 +79,7 @@ goes_told r d (Dropped cause) why told = told
 -- ---- Which requester.
 
 -- The same of a known requester: its round, and what comes of the packet, are read off the packets.
-coming_is : (w : Configuration) (older : List (List ℕ)) (p : PacketFields) (ds : List Dialogue) (d : Dialogue) → AreOf (before w.responder.eid older) w.requesters ds → dialogue_at p.from ds ≡ Some d
+pub coming_is : (w : Configuration) (older : List (List ℕ)) (p : PacketFields) (ds : List Dialogue) (d : Dialogue) → AreOf (before w.responder.eid older) w.requesters ds → dialogue_at p.from ds ≡ Some d
     → asked_why d.round (gathered_from w.responder.eid d.setup.eid older p) ≡ coming_why w.responder.eid older p (is_known p.from w.requesters)
 coming_is w older p ds d are at =
     let own : ℕ = w.responder.eid in
@@ -88,7 +88,7 @@ coming_is w older p ds d are at =
     ∙ ap (λ (n : ℕ). asked_why (round_of own p.from older) (gathered_from own n older p)) has.eid
     ∙ ap (coming_why own older p) (sym has.known)
 
-going_is : (w : Configuration) (older : List (List ℕ)) (p : PacketFields) (ds : List Dialogue) (d : Dialogue) → AreOf (before w.responder.eid older) w.requesters ds → dialogue_at p.to ds ≡ Some d
+pub going_is : (w : Configuration) (older : List (List ℕ)) (p : PacketFields) (ds : List Dialogue) (d : Dialogue) → AreOf (before w.responder.eid older) w.requesters ds → dialogue_at p.to ds ≡ Some d
     → answered_why d.round (gathered_from d.setup.eid w.responder.eid older p) ≡ going_why w.responder.eid older p (is_known p.to w.requesters)
 going_is w older p ds d are at =
     let own : ℕ = w.responder.eid in
@@ -188,7 +188,7 @@ in_turn : (d : Dialogue) (tag : ℕ) (body : List ℕ) (next : Dialogue) → Cop
 in_turn d tag body next (inl c) = inl (copy_is d.round c.0 tag body c.1 c.2 c.3)
 in_turn d tag body next (inr c) = inr (eq-eqb _ _ c.1, begin_comes d.round body c.0)
 
-right_by : (other wrong : Bool) → other ≡ false → wrong ≡ false → ordered_by other wrong ≡ None
+pub right_by : (other wrong : Bool) → other ≡ false → wrong ≡ false → ordered_by other wrong ≡ None
 right_by other wrong n m = ap (λ (b : Bool). ordered_by b wrong) n ∙ ap (λ (b : Bool). ordered_by false b) m
 
 asks_right : (d : Dialogue) (g : Gathered) (next : Dialogue) → AsksBy d g next → asked_why d.round g ≡ None

@@ -1,7 +1,7 @@
 //! What the packets of a capture fix of all walks over them, each law as the contract of a function
 //! that does nothing.
 
-ghost use Rattle.trace_check.specs.Laws.{OneRound, OrderIsReason, OrderRefuses, OrderTells, SealedTells};
+ghost use Rattle.trace_check.specs.Laws.{OneRound, OrderIsAlone, OrderIsReason, OrderRefuses, OrderTells, SealedTells};
 ghost use Rattle.trace_check.specs.Verdict.{OneVerdict};
 
 use world_machine::{beginning_conforms, conforming_has_table, one_reason, one_table};
@@ -20,6 +20,11 @@ pub fn order_refuses()
 /// wrong.
 pub fn order_is_reason()
     ensures { OrderIsReason }
+{}
+
+/// Verify data are not alone wrong there, unless the packet is an answer of another type.
+pub fn order_is_alone()
+    ensures { OrderIsAlone }
 {}
 
 /// Each of the three reasons of the order is given by the order.

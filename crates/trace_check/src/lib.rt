@@ -10,7 +10,7 @@ mod verdict;
 
 pub use brought::Brought;
 pub use laws::{
-    one_round, one_verdict, order_is_reason, order_refuses, order_tells, sealed_tells,
+    one_round, one_verdict, order_is_alone, order_is_reason, order_refuses, order_tells, sealed_tells,
 };
 pub use order::Order;
 pub use pair::Pair;

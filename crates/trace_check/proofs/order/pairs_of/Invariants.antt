@@ -4,4 +4,4 @@ use Rattle.trace_check.specs.Judged.{AreNew}
 
 -- those of the requesters so far
 abbrev pub invariant-loop-eid : goal.invariant-loop-eid
-invariant-loop-eid l = AreNew l.pairs.items l.own.number (take l.eid-index l.fn.requesters.now)
+invariant-loop-eid l = AreNew l.pairs.items l.own.number (take l.eid-index l.fn.requesters)
