@@ -1,10 +1,11 @@
 -- Where the order gives a reason, verify data are not alone wrong, but for an answer of another type.
-use Rattle.std.proofs.Common.{◌≡◌, ◌==◌, ◌&&◌, ◌||◌, not, ℕ, List, refl, sym, ap, ◌∙◌, Bool, true, false, Option, Some, None, Result, Ok, Err}
+use Rattle.std.proofs.Common.{◌≡◌, ◌==◌, ◌&&◌, ◌||◌, not, ℕ, List, refl, sym, ap, ◌∙◌, drop, Bool, true, false, Option, Some, None, Result, Ok, Err}
 use Rattle.std.specs.Prelude.{MatchBool, if◌then◌else◌}
 use Rattle.std.proofs.lemmas.Option.{none-some}
 use Rattle.mctp_framing.specs.Gathering.{Gathered}
 use Rattle.mctp_framing.specs.Gathering.Gathered.{Whole, More, Dropped}
 use Rattle.mctp_framing.specs.Packet.{PacketFields, parsed}
+use Rattle.requester_machine.specs.History.{outstanding}
 use Rattle.responder_machine.specs.Setup.{RspSetup, towards}
 use Rattle.spdm_basis.proofs.Bools.{and_first}
 use Rattle.spdm_basis.specs.declared.PacketFault.{PacketFault}
@@ -13,7 +14,8 @@ use Rattle.trace_check.specs.Laws.{OrderIsAlone}
 use Rattle.trace_check.specs.Order.{asked_why, answered_why, asks_wrong, replies_wrong, coming_why, going_why, is_known, is_strange, is_strange_by, ordered_why, order_why}
 use Rattle.trace_check.proofs.Ordering.{AreOf, before, found, leads_are}
 use Rattle.trace_check.proofs.Reasons.{coming_is, going_is, right_by}
-use Rattle.world_machine.specs.Difference.{Why, IsVerifyApart, IsApartBy, ComesApartFrom, GoesApartTo, ComesApart, GoesApart, is_other_type}
+use Rattle.world_machine.specs.Difference.{Why, IsVerifyApart, IsApartBy, ComesApartFrom, GoesApartTo, ComesApart, GoesApart, is_finish_apart, finish_in, is_other_type}
+use Rattle.world_machine.specs.CapturedRequests.{owes}
 use Rattle.world_machine.specs.Difference.Why.{UnknownEnd}
 use Rattle.world_machine.specs.Rounds.{Dialogue, dialogue_at}
 use Rattle.world_machine.specs.Setup.{Configuration, known_of}
@@ -23,13 +25,15 @@ or_true true = refl
 or_true false = refl
 
 -- A record is of no other type.
-of_six : (body : List ℕ) (rest : Bool) → (body_type body == 6 && rest) ≡ true → is_other_type body ≡ false
-of_six body rest is =
-    let six : (body_type body == 6) ≡ true = and_first (body_type body == 6) rest is in
+of_six : (body : List ℕ) → (body_type body == 6) ≡ true → is_other_type body ≡ false
+of_six body six =
     ap (λ (b : Bool). not (body_type body == 5 || b)) six ∙ ap not (or_true (body_type body == 5))
 
 comes_none : (d : Dialogue) (g : Gathered) → ComesApart d g → asked_why d.round g ≡ None
-comes_none d (Whole route body) c = right_by (is_other_type body) (asks_wrong d.round route.owner route.tag body) (of_six body _ c.1) c.0
+comes_none d (Whole route body) c =
+    let record_owed : (body_type body == 6 && owes d) ≡ true = and_first (body_type body == 6 && owes d) (is_finish_apart d (drop 1 body) (finish_in (outstanding d.requester))) c.1 in
+    let six : (body_type body == 6) ≡ true = and_first (body_type body == 6) (owes d) record_owed in
+    right_by (is_other_type body) (asks_wrong d.round route.owner route.tag body) (of_six body six) c.0
 comes_none d More c = refl
 comes_none d (Dropped cause) c = absurd c
 

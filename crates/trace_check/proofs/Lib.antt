@@ -6,3 +6,4 @@ pub mod Found
 pub mod Telling
 pub mod Exclusive
 pub mod Alone
+mod OrderRows

@@ -23,7 +23,7 @@ coming_told own qs older p result to known told =
     let brings : Brought = asked_of p.from (round_of own p.from older) (gathered_from own p.from older p) in
     let K : Bool → Type 0 = λ k. IsTold (coming_why own older p k) brings result in
     let T : Bool → Type 0 = λ b. IsTold (cond b (coming_why own older p (is_known p.from qs)) (cond (p.from == own) (going_why own older p (is_known p.to qs)) (Some UnknownEnd)))
-        (cond b brings (answered_of p.to (gathered_from p.to own older p))) result in
+    (cond b brings (answered_of p.to (gathered_from p.to own older p))) result in
     subst T (sym to) (subst K (sym known) told)
 
 pub coming_unknown : (own : ℕ) (qs : List ReqSetup) (older : List (List ℕ)) (p : PacketFields) → (p.to == own) ≡ true → is_known p.from qs ≡ false → ordered_why own qs older (Ok p) ≡ Some UnknownEnd
@@ -49,7 +49,7 @@ going_told own qs older p result to from known told =
     let K : Bool → Type 0 = λ k. IsTold (going_why own older p k) brings result in
     let F : Bool → Type 0 = λ b. IsTold (cond b (going_why own older p (is_known p.to qs)) (Some UnknownEnd)) brings result in
     let T : Bool → Type 0 = λ b. IsTold (cond b (coming_why own older p (is_known p.from qs)) (cond (p.from == own) (going_why own older p (is_known p.to qs)) (Some UnknownEnd)))
-        (cond b (asked_of p.from (round_of own p.from older) (gathered_from own p.from older p)) brings) result in
+    (cond b (asked_of p.from (round_of own p.from older) (gathered_from own p.from older p)) brings) result in
     subst T (sym to) (subst F (sym from) (subst K (sym known) told))
 
 pub going_unknown : (own : ℕ) (qs : List ReqSetup) (older : List (List ℕ)) (p : PacketFields) → (p.to == own) ≡ false → (p.from == own) ≡ true → is_known p.to qs ≡ false → ordered_why own qs older (Ok p) ≡ Some UnknownEnd

@@ -52,7 +52,8 @@ answered_of eid _ = brought.More
 abbrev pub brought_by : (own : ℕ) → List (List ℕ) → Result PacketFields PacketFault → Brought
 brought_by own older (Err fault) = brought.More
 brought_by own older (Ok packet) =
-    if packet.to == own then asked_of packet.from (round_of own packet.from older) (gathered_from own packet.from older packet)
+    if packet.to == own
+    then asked_of packet.from (round_of own packet.from older) (gathered_from own packet.from older packet)
     else answered_of packet.to (gathered_from packet.to own older packet)
 
 -- ---- What is kept.
@@ -80,7 +81,8 @@ ArePairs _ own older _ = ⊥
 -- The end points of the responder and of the requesters differ.
 abbrev pub AreApart : (own : ℕ) → List ReqSetup → Type 0
 AreApart own [] = Unit {0}
-AreApart own (q ∷ others) = (q.eid ≢ own) × AllByRecursion (λ (other : ReqSetup). other.eid ≢ q.eid) others × AreApart own others
+AreApart own (q ∷ others) =
+    (q.eid ≢ own) × AllByRecursion (λ (other : ReqSetup). other.eid ≢ q.eid) others × AreApart own others
 
 -- What is kept of requesters with these end points where no packet came yet.
 abbrev pub AreNew : List Pair → (own : ℕ) → List Eid → Type 0
@@ -90,7 +92,8 @@ AreNew _ own _ = ⊥
 
 -- The end points are those of the configuration, in its order.
 abbrev pub AreEnds : Configuration → (own : ℕ) → List Eid → Type 0
-AreEnds w own ends = (w.responder.eid ≡ own) × (map (λ (q : ReqSetup). q.eid) w.requesters ≡ map (λ (e : Eid). e.number) ends)
+AreEnds w own ends =
+    (w.responder.eid ≡ own) × (map (λ (q : ReqSetup). q.eid) w.requesters ≡ map (λ (e : Eid). e.number) ends)
 
 -- The requester has this end point.
 abbrev pub has_eid : ℕ → Pair → Bool

@@ -24,12 +24,14 @@ OrderRefuses = (w : Configuration) (older : List (List ℕ)) (packet : List ℕ)
 -- Where the packets before it conform, that is the reason, unless its verify data alone are wrong.
 abbrev pub OrderIsReason : Type 0
 OrderIsReason = (w : Configuration) (older : List (List ℕ)) (packet : List ℕ) (ds : List Dialogue) (why : Why)
-    → Leads w older ds → order_why w older packet ≡ Some why → (IsVerifyApart w older packet → ⊥) → IsReason w older packet why
+    → Leads w older ds → order_why w older packet ≡ Some why → (IsVerifyApart w older packet → ⊥)
+    → IsReason w older packet why
 
 -- Verify data are not alone wrong there, unless the packet is an answer of another type than 5 and 6.
 abbrev pub OrderIsAlone : Type 0
 OrderIsAlone = (w : Configuration) (older : List (List ℕ)) (packet : List ℕ) (why : Why)
-    → order_why w older packet ≡ Some why → is_strange w.responder.eid older (parsed packet) ≡ false → IsVerifyApart w older packet → ⊥
+    → order_why w older packet ≡ Some why → is_strange w.responder.eid older (parsed packet) ≡ false
+    → IsVerifyApart w older packet → ⊥
 
 -- A reason of the order is given by the order.
 abbrev pub OrderTells : Type 0
@@ -43,5 +45,6 @@ OrderTells = (w : Configuration) (older : List (List ℕ)) (packet : List ℕ) (
 abbrev pub SealedTells : Type 0
 SealedTells = (choice : Choice) (p : Purpose) (number req rsp : ℕ) (inner other pad padding : List ℕ)
     → length inner < 65536 → length other < 65536
-    → sealed_of choice p number (session_id_bytes req rsp) inner pad ≡ sealed_of choice p number (session_id_bytes req rsp) other padding
+    → sealed_of choice p number (session_id_bytes req rsp) inner pad
+    ≡ sealed_of choice p number (session_id_bytes req rsp) other padding
     → (inner ≡ other) × (pad ≡ padding)

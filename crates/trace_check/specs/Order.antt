@@ -18,7 +18,8 @@ use Rattle.world_machine.specs.Setup.{Configuration}
 abbrev pub round_asked : Option Round → (tag : ℕ) → (body : List ℕ) → Option Round
 round_asked None tag body = Some (new_round tag body)
 round_asked (Some round) tag body =
-    if is_copy (Some round) tag body then Some (record round { waiting = round.waiting + 1 }) else Some (new_round tag body)
+    if is_copy (Some round) tag body then Some (record round { waiting = round.waiting + 1 })
+    else Some (new_round tag body)
 
 -- An answer is to one of the requests of the last round that have none.
 abbrev pub round_answered : Option Round → Option Round
@@ -96,12 +97,14 @@ is_known eid (q ∷ others) = q.eid == eid || is_known eid others
 -- It comes from a requester that is set up, or from none.
 abbrev pub coming_why : (own : ℕ) → List (List ℕ) → PacketFields → Bool → Option Why
 coming_why own older packet false = Some UnknownEnd
-coming_why own older packet true = asked_why (round_of own packet.from older) (gathered_from own packet.from older packet)
+coming_why own older packet true =
+    asked_why (round_of own packet.from older) (gathered_from own packet.from older packet)
 
 -- It goes to a requester that is set up, or to none.
 abbrev pub going_why : (own : ℕ) → List (List ℕ) → PacketFields → Bool → Option Why
 going_why own older packet false = Some UnknownEnd
-going_why own older packet true = answered_why (round_of own packet.to older) (gathered_from packet.to own older packet)
+going_why own older packet true =
+    answered_why (round_of own packet.to older) (gathered_from packet.to own older packet)
 
 -- Bytes that parse, or do not.
 abbrev pub ordered_why : (own : ℕ) → List ReqSetup → List (List ℕ) → Result PacketFields PacketFault → Option Why
@@ -134,4 +137,5 @@ is_strange_by _ = false
 -- It completes such an answer.
 abbrev pub is_strange : (own : ℕ) → List (List ℕ) → Result PacketFields PacketFault → Bool
 is_strange own older (Err fault) = false
-is_strange own older (Ok packet) = not (packet.to == own) && (packet.from == own && is_strange_by (gathered_from packet.to own older packet))
+is_strange own older (Ok packet) =
+    not (packet.to == own) && (packet.from == own && is_strange_by (gathered_from packet.to own older packet))

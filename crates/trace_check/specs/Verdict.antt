@@ -10,7 +10,14 @@ use Rattle.world_machine.specs.Setup.{Configuration}
 
 -- An entry of the table as the program tells it.
 abbrev pub seen_of : declared.Seen → Seen
-seen_of s = record { requester = s.requester; id = s.id; stage = s.stage; hash = s.hash; sent = s.sent; answered = s.answered }
+seen_of s = record {
+  requester = s.requester;
+  id = s.id;
+  stage = s.stage;
+  hash = s.hash;
+  sent = s.sent;
+  answered = s.answered;
+}
 
 -- The capture conforms and has this table, or this packet is its first difference, for this reason.
 abbrev pub IsVerdict : Configuration → (packets : List (List ℕ)) → Verdict → Type 0
@@ -25,4 +32,5 @@ IsSame _ _ = ⊥
 
 -- No capture has two verdicts.
 abbrev pub OneVerdict : Type 0
-OneVerdict = (w : Configuration) (packets : List (List ℕ)) (one other : Verdict) → IsVerdict w packets one → IsVerdict w packets other → IsSame one other
+OneVerdict = (w : Configuration) (packets : List (List ℕ)) (one other : Verdict)
+    → IsVerdict w packets one → IsVerdict w packets other → IsSame one other

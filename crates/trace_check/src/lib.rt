@@ -1,4 +1,5 @@
-//! What a capture shows, judged against what the two ends may have sent: so far the order of its packets.
+//! What a capture shows, judged against what the two ends may have sent: so far the order of its
+//! packets.
 #![tactic(auto)]
 
 mod brought;
@@ -10,7 +11,8 @@ mod verdict;
 
 pub use brought::Brought;
 pub use laws::{
-    one_round, one_verdict, order_is_alone, order_is_reason, order_refuses, order_tells, sealed_tells,
+    one_round, one_verdict, order_is_alone, order_is_reason, order_refuses, order_tells,
+    sealed_tells,
 };
 pub use order::Order;
 pub use pair::Pair;

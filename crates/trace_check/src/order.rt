@@ -39,7 +39,8 @@ impl Order {
     ghost use Rattle.trace_check.specs.Order.{order_why, ordered_why};
     ghost use Rattle.world_machine.specs.Setup.{Configuration};
 
-    /// Where no packet came yet between the responder, whose end point is `own`, and these requesters.
+    /// Where no packet came yet between the responder, whose end point is `own`, and these
+    /// requesters.
     pub fn new(alloc: Global, own: Eid, requesters: &[Eid]) -> Result<Order, OutOfMemory>
         ensures { (w : Configuration) → AreEnds w own.number requesters.now
             → AreApart w.responder.eid w.requesters
@@ -54,9 +55,7 @@ impl Order {
         ensures place { result ≡ position_from (has_eid eid) 0 self.now.pairs.items }
         ensures inside { IfSome result (λ place. place < length self.now.pairs.items) }
     {
-        self.pairs
-            .iter()
-            .position(|pair| pair.eid.number() == eid)
+        self.pairs.iter().position(|pair| pair.eid.number() == eid)
     }
 
     /// The next packet of the capture. A reason why it does not conform is told where the order of

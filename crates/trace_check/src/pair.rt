@@ -18,10 +18,11 @@ const BODY_LIMIT: usize = 4161;
 
 // The types of a body: an SPDM message in the clear (DSP0275), and a secured record (DSP0276).
 const CLEAR: u8 = 5;
+
 const SECURED: u8 = 6;
 
-/// What is kept of a requester and the responder: the bodies that are gathered in both directions, and
-/// the round under way.
+/// What is kept of a requester and the responder: the bodies that are gathered in both directions,
+/// and the round under way.
 #[derive(Drop)]
 pub struct Pair {
     pub(crate) eid: Eid,
@@ -96,9 +97,10 @@ impl Pair {
         requires sequence { view.sequence < 4 }
         requires tag { view.tag < 8 }
         ensures told { (own eid : ℕ) (older : List (List ℕ)) → IsPair self.old own eid older
-            → IsTold (asked_why (round_of own eid older) (gathered_from own eid older (view_of view.entry)))
-            (asked_of eid (round_of own eid older) (gathered_from own eid older (view_of view.entry)))
-            result }
+            → IsTold (asked_why (round_of own eid older)
+            (gathered_from own eid older (view_of view.entry)))
+            (asked_of eid (round_of own eid older)
+            (gathered_from own eid older (view_of view.entry))) result }
         ensures stands { (own eid : ℕ) (older : List (List ℕ)) (packet : List ℕ)
             → IsPair self.old own eid older → parsed packet ≡ Ok (view_of view.entry)
             → is_request own eid (view_of view.entry) ≡ true → eid ≢ own

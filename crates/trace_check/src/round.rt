@@ -16,8 +16,8 @@ const CLEAR: u8 = 5;
 // How many bytes the hash has that messages are read with before one is chosen.
 const LEAST_HASH: usize = 32;
 
-/// The round under way between the responder and a requester: the request that began it, how many of
-/// it and its copies have no answer yet, and whether one has. Contracts see it as that of the
+/// The round under way between the responder and a requester: the request that began it, how many
+/// of it and its copies have no answer yet, and whether one has. Contracts see it as that of the
 /// definitions, or none where nothing was asked yet.
 #[derive(Drop)]
 pub struct Round {

@@ -3,15 +3,20 @@ use spdm_basis::Eid;
 use std::process::Abort;
 use std::test::Fail;
 
-// Packets of a responder at end point 8 and a requester at 9: GET_VERSION under tags 0 and 1, VERSION, and
-// GET_CAPABILITIES under tags 1 and 2.
+// Packets of a responder at end point 8 and a requester at 9: GET_VERSION under tags 0 and 1, VERSION,
+// and GET_CAPABILITIES under tags 1 and 2.
 const GET_VERSION: &str = "010809c80510840000";
+
 const VERSION: &str = "010908c0051004000000010012";
+
 const AGAIN: &str = "010809c90510840000";
+
 const CAPABILITIES: &str = "010809c90512e1000000000000c06402000004000000100000";
+
 const TOO_SOON: &str = "010809ca0512e1000000000000c06402000004000000100000";
 
-// A packet brings this, or does not conform for this reason, as another program judges the same capture.
+// A packet brings this, or does not conform for this reason, as another program judges the same
+// capture.
 fn gives(
     rt: &(impl Abort + AllocGlobal),
     order: &mut Order,
