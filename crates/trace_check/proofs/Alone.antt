@@ -1,6 +1,7 @@
 -- Where the order gives a reason, verify data are not alone wrong, but for an answer of another type.
 use Rattle.std.proofs.Common.{◌≡◌, ◌==◌, ◌&&◌, ◌||◌, not, ℕ, List, refl, sym, ap, ◌∙◌, drop, Bool, true, false, Option, Some, None, Result, Ok, Err}
 use Rattle.std.specs.Prelude.{MatchBool, if◌then◌else◌}
+use Rattle.std.proofs.lemmas.Bool.{or_right}
 use Rattle.std.proofs.lemmas.Option.{none-some}
 use Rattle.mctp_framing.specs.Gathering.{Gathered}
 use Rattle.mctp_framing.specs.Gathering.Gathered.{Whole, More, Dropped}
@@ -20,14 +21,10 @@ use Rattle.world_machine.specs.Difference.Why.{UnknownEnd}
 use Rattle.world_machine.specs.Rounds.{Dialogue, dialogue_at}
 use Rattle.world_machine.specs.Setup.{Configuration, known_of}
 
-or_true : (b : Bool) → (b || true) ≡ true
-or_true true = refl
-or_true false = refl
-
 -- A record is of no other type.
 of_six : (body : List ℕ) → (body_type body == 6) ≡ true → is_other_type body ≡ false
 of_six body six =
-    ap (λ (b : Bool). not (body_type body == 5 || b)) six ∙ ap not (or_true (body_type body == 5))
+    ap (λ (b : Bool). not (body_type body == 5 || b)) six ∙ ap not (or_right (body_type body == 5) true refl)
 
 comes_none : (d : Dialogue) (g : Gathered) → ComesApart d g → asked_why d.round g ≡ None
 comes_none d (Whole route body) c =
@@ -47,8 +44,8 @@ from_none : (w : Configuration) (older : List (List ℕ)) (p : PacketFields) (ds
 from_none w older p ds None are at c = absurd c
 from_none w older p ds (Some d) are at c = sym (coming_is w older p ds d are at) ∙ comes_none d (gathered_from w.responder.eid d.setup.eid older p) c
 
-to_none : (w : Configuration) (older : List (List ℕ)) (p : PacketFields) (ds : List Dialogue) (o : Option Dialogue) → AreOf (before w.responder.eid older) w.requesters ds → dialogue_at p.to ds ≡ o
-    → is_strange_by (gathered_from p.to w.responder.eid older p) ≡ false → GoesApartTo w older p o
+to_none : (w : Configuration) (older : List (List ℕ)) (p : PacketFields) (ds : List Dialogue) (o : Option Dialogue) → AreOf (before w.responder.eid older) w.requesters ds → dialogue_at p.to ds ≡ o → is_strange_by (gathered_from p.to w.responder.eid older p) ≡ false
+    → GoesApartTo w older p o
     → going_why w.responder.eid older p (is_known p.to w.requesters) ≡ None
 to_none w older p ds None are at plain c = absurd c
 to_none w older p ds (Some d) are at plain c =

@@ -1,6 +1,6 @@
 -- Which requester a packet is of, and what becomes of the others.
 use Rattle.std.proofs.Common.{refl, ◌≡◌, ◌≢◌, ◌∙◌, ◌+◌, ◌<◌, ◌==◌, ◌||◌, ℕ, suc, List, [], ◌∷◌, length, Bool, true, false, cond, Some, None, Ok, ap, sym, subst, arith, slice_set, get_or, eq-eqb, eqb-true, ne_eqb}
-use Rattle.std.proofs.lemmas.Bool.{eqb-false}
+use Rattle.std.proofs.lemmas.Bool.{eqb-false, or_right}
 use Rattle.std.proofs.lemmas.Option.{none-some, same_Some}
 use Rattle.std.specs.List.{AllByRecursion, position_from}
 use Rattle.mctp_framing.specs.Packet.{PacketFields, parsed}
@@ -86,15 +86,11 @@ later_hit own older eid n i x xs q qs s apart hit =
       there = hit.there;
       pair = hit.pair;
       apart = hit.apart;
-      known = either (q.eid == eid) (is_known eid qs) hit.known;
+      known = or_right (q.eid == eid) (is_known eid qs) hit.known;
       change = λ packet p parses of new pair.
           let none = of q.eid (not_first eid q qs apart.1 hit.known) in
           (stays_pair x own q.eid older packet p parses apart.0 none.0 none.1 s, hit.change packet p parses of new pair);
     }
-  where
-    either : (a b : Bool) → b ≡ true → (a || b) ≡ true
-    either true b is = refl
-    either false b is = is
 
 pub hit : (own : ℕ) (older : List (List ℕ)) (eid n i : ℕ) (xs : List Pair) (qs : List ReqSetup) → ArePairs xs own older qs → AreApart own qs → position_from (has_eid eid) n xs ≡ Some i → Hit own older eid n i xs qs
 hit own older eid n i [] [] are apart is = absurd (none-some i is)

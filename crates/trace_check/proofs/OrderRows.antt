@@ -46,7 +46,7 @@ abbrev heartbeat : List ℕ
 heartbeat = 0x01 ∷ 0x08 ∷ 0x09 ∷ 0xc9 ∷ 0x05 ∷ 0x12 ∷ 0xe8 ∷ 0x00 ∷ 0x00 ∷ []
 
 -- The first request, its copy, two answers, and the next round: they are in order.
-first_in_order : why [] get_version ≡ None
+pub first_in_order : why [] get_version ≡ None
 unfolding gathered_from
 first_in_order = refl
 

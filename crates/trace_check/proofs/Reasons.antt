@@ -1,7 +1,7 @@
 -- The reasons that the order of the packets gives are those that a walk gives.
 use Rattle.std.proofs.Common.{◌≡◌, ◌==◌, ◌&&◌, ◌||◌, ◌⊎◌, not, ℕ, List, [], ◌∷◌, refl, sym, ap, ◌∙◌, subst, drop, Bool, true, false, Option, Some, None, Result, Ok, Err, cond, inl, inr, eq-eqb, lt-ltb}
 use Rattle.std.specs.Prelude.{MatchBool, bytes_eq, nat_lt, ◌<◌}
-use Rattle.std.proofs.lemmas.Bool.{false≢true}
+use Rattle.std.proofs.lemmas.Bool.{and_right, false≢true}
 use Rattle.std.proofs.lemmas.Option.{none-some, same_Some}
 use Rattle.std.proofs.lemmas.Slice.Eq.{bytes_eq-Decides}
 use Rattle.mctp_framing.specs.Gathering.{Gathered}
@@ -174,14 +174,10 @@ begin_comes : (o : Option Round) (body : List ℕ) → may_begin o body ≡ true
 begin_comes None body may = refl
 begin_comes (Some round) body may = come_by round.answered (bytes_eq body (clear_body (canonical_request GetVersion))) body refl may
 
-and_off : (b : Bool) → (b && false) ≡ false
-and_off true = refl
-and_off false = refl
-
 turn_by : (owner copy next come : Bool) → owner ≡ true → (copy ≡ true) ⊎ ((next ≡ true) × (come ≡ true)) → (not owner || (not copy && (not next || not come))) ≡ false
 turn_by owner copy next come is (inl c) = ap (λ (b : Bool). not b || (not copy && (not next || not come))) is ∙ ap (λ (b : Bool). not b && (not next || not come)) c
 turn_by owner copy next come is (inr c) =
-    ap (λ (b : Bool). not b || (not copy && (not next || not come))) is ∙ ap (λ (b : Bool). not copy && (not b || not come)) c.0 ∙ ap (λ (b : Bool). not copy && not b) c.1 ∙ and_off (not copy)
+    ap (λ (b : Bool). not b || (not copy && (not next || not come))) is ∙ ap (λ (b : Bool). not copy && (not b || not come)) c.0 ∙ ap (λ (b : Bool). not copy && not b) c.1 ∙ and_right (not copy) false refl
 
 in_turn : (d : Dialogue) (tag : ℕ) (body : List ℕ) (next : Dialogue) → Copies d tag body next ⊎ Begins d tag body next
     → (is_copy d.round tag body ≡ true) ⊎ (((tag == following_tag d.round) ≡ true) × (may_come d.round body ≡ true))

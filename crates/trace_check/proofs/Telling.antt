@@ -1,5 +1,6 @@
 -- What is told of a packet, by its ends.
 use Rattle.std.proofs.Common.{◌≡◌, ◌≢◌, ◌<◌, ◌==◌, ◌&&◌, ◌++◌, not, ℕ, zero, suc, List, [], ◌∷◌, refl, sym, ap, ◌∙◌, subst, length, get_or, take, map, arith, Bool, true, false, Some, Result, Ok, Err, cond, eq-eqb, ne_eqb}
+use Rattle.std.proofs.lemmas.Bool.{and_right}
 use Rattle.mctp_framing.specs.Packet.{PacketFields, parsed}
 use Rattle.requester_machine.specs.Setup.{ReqSetup}
 use Rattle.script_text.specs.declared.why.Why as declared
@@ -62,15 +63,10 @@ of_none own qs older p to from =
     ap (λ (b : Bool). cond b (coming_why own older p (is_known p.from qs)) (cond (p.from == own) (going_why own older p (is_known p.to qs)) (Some UnknownEnd))) to
     ∙ ap (λ (b : Bool). cond b (going_why own older p (is_known p.to qs)) (Some UnknownEnd)) from
 
-and_none : (a b : Bool) → (a && (b && false)) ≡ false
-and_none true true = refl
-and_none true false = refl
-and_none false b = refl
-
 pub answer_of_one : (own : ℕ) (p : PacketFields) → (p.to == own) ≡ false → IsOfOne own p p.to
 answer_of_one own p to n other = (
   ap (λ (b : Bool). b && p.from == n) to,
-  ap (λ (b : Bool). not (p.to == own) && (p.from == own && b)) (ne_eqb p.to n (λ same. other (sym same))) ∙ and_none (not (p.to == own)) (p.from == own),
+  ap (λ (b : Bool). not (p.to == own) && (p.from == own && b)) (ne_eqb p.to n (λ same. other (sym same))) ∙ and_right (not (p.to == own)) _ (and_right (p.from == own) false refl),
 )
 
 pub is_its_answer : (own : ℕ) (p : PacketFields) → (p.to == own) ≡ false → (p.from == own) ≡ true → is_answer own p.to p ≡ true
