@@ -4,7 +4,7 @@ use Rattle.std.proofs.Common.{◌≡◌, refl, ℕ, List, [], ◌∷◌, Option,
 use Rattle.mctp_framing.specs.Packet.{parsed}
 use Rattle.requester_machine.specs.Setup.{ReqSetup}
 use Rattle.spdm_grammar.specs.Reading.{field_at, number_at}
-use Rattle.spdm_grammar.specs.Requests.{request_body, get_version_layout}
+use Rattle.spdm_grammar.specs.Requests.{request_body, get_version_layout, heartbeat_layout}
 use Rattle.spdm_grammar.specs.declared.choice.Pick.TheVariants.{Small}
 use Rattle.spdm_machine.specs.Packets.{gathered_from}
 use Rattle.trace_check.specs.Order.{ordered_why, round_of}
@@ -46,7 +46,7 @@ abbrev heartbeat : List ℕ
 heartbeat = 0x01 ∷ 0x08 ∷ 0x09 ∷ 0xc9 ∷ 0x05 ∷ 0x12 ∷ 0xe8 ∷ 0x00 ∷ 0x00 ∷ []
 
 -- The first request, its copy, two answers, and the next round: they are in order.
-pub first_in_order : why [] get_version ≡ None
+first_in_order : why [] get_version ≡ None
 unfolding gathered_from
 first_in_order = refl
 
@@ -77,7 +77,7 @@ unfolding gathered_from field_at number_at request_body get_version_layout
 version_before_answer = refl
 
 other_before_answer : why (get_version ∷ []) heartbeat ≡ Some WrongTurn
-unfolding gathered_from field_at number_at request_body get_version_layout
+unfolding gathered_from field_at number_at request_body heartbeat_layout
 other_before_answer = refl
 
 -- From another end, to another, of another type, without a header.

@@ -1,4 +1,3 @@
-use Rattle.trace_check.proofs.OrderRows.{first_in_order}
 use Rattle.trace_check.proofs.Reasons.{order_tells}
 use Rattle.trace_check.proofs.laws.order_tells.Goals as goal
 
