@@ -1,9 +1,8 @@
 -- A capture that conforms has no first difference, so no capture has two verdicts.
-use Rattle.std.proofs.Common.{◌≡◌, ◌<◌, ◌+◌, ◌++◌, ℕ, List, sym, subst, take, drop, length}
+use Rattle.std.proofs.Common.{ℕ, List, sym, subst, take, drop}
 use Rattle.std.proofs.lemmas.List.{take-append-drop}
 use Rattle.trace_check.specs.Judged.{why_of}
-use Rattle.trace_check.specs.Verdict.{IsVerdict, IsSame, OneVerdict, seen_of}
-use Rattle.trace_check.specs.declared.verdict.Verdict.{Verdict}
+use Rattle.trace_check.specs.Verdict.{OneVerdict, seen_of}
 use Rattle.trace_check.specs.declared.verdict.Verdict.TheVariants as verdict
 use Rattle.std.specs.Prelude.{map}
 use Rattle.world_machine.specs.Capture.{BeginningConforms, Conforms}

@@ -1,5 +1,5 @@
 -- What is kept of a requester, and what a packet makes of it.
-use Rattle.std.proofs.Common.{◌≡◌, ◌≢◌, ◌≤◌, ◌+◌, ◌-◌, ◌==◌, ◌&&◌, not, ℕ, List, [], ◌∷◌, refl, sym, ap, ◌∙◌, subst, length, filter, Bool, true, false, Option, Some, None, Result, Ok, Err, cond, arith, eqb-true, ne_eqb}
+use Rattle.std.proofs.Common.{◌≡◌, ◌≢◌, ◌≤◌, ◌+◌, ◌==◌, ◌&&◌, not, ℕ, List, [], ◌∷◌, refl, sym, ap, ◌∙◌, subst, length, filter, Bool, true, false, Option, Some, None, Result, Ok, Err, cond, arith, eqb-true, ne_eqb}
 use Rattle.mctp_framing.specs.Assembling.{Assembly, StandsForGroup, StandsFor}
 use Rattle.mctp_framing.specs.Gathering.{Gathered, Receiver, gathered, group_of, is_ours}
 use Rattle.mctp_framing.specs.Gathering.Gathered.{Whole, More, Dropped}

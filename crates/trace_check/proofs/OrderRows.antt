@@ -10,7 +10,6 @@ use Rattle.spdm_machine.specs.Packets.{gathered_from}
 use Rattle.trace_check.specs.Order.{ordered_why, round_of}
 use Rattle.world_machine.specs.Difference.{Why}
 use Rattle.world_machine.specs.Difference.Why.{BadPacket, UnknownEnd, WrongTurn}
-use Rattle.world_machine.specs.Rounds.{Round}
 
 -- A requester at end point 9.
 abbrev other : ReqSetup

@@ -8,9 +8,9 @@ use Rattle.spdm_basis.specs.declared.PacketFault.{PacketFault}
 use Rattle.spdm_machine.specs.Packets.{gathered_from}
 use Rattle.trace_check.specs.Laws.{OneRound}
 use Rattle.trace_check.specs.Order.{round_by_request, round_by_answer, round_after, round_of, is_request, is_answer, is_known}
-use Rattle.trace_check.proofs.Rounded.{Turned, request_turned, answer_turned}
-use Rattle.world_machine.specs.Capture.{Leads, Follows, FollowsBy, ComesFrom, GoesTo, AsksBy, RepliesBy}
-use Rattle.world_machine.specs.Rounds.{Dialogue, Round, new_dialogue, is_at, dialogue_at, with_dialogue}
+use Rattle.trace_check.proofs.Rounded.{request_turned, answer_turned}
+use Rattle.world_machine.specs.Capture.{Leads, Follows, FollowsBy, ComesFrom, GoesTo}
+use Rattle.world_machine.specs.Rounds.{Dialogue, Round, new_dialogue, dialogue_at, with_dialogue}
 use Rattle.world_machine.specs.Setup.{Configuration}
 
 -- The dialogues are those of these requesters, in their order, with these rounds by their end points.

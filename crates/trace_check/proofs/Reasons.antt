@@ -1,5 +1,5 @@
 -- The reasons that the order of the packets gives are those that a walk gives.
-use Rattle.std.proofs.Common.{◌≡◌, ◌==◌, ◌&&◌, ◌||◌, ◌⊎◌, not, ℕ, List, [], ◌∷◌, refl, sym, ap, ◌∙◌, subst, drop, Bool, true, false, Option, Some, None, Result, Ok, Err, cond, inl, inr, eq-eqb, lt-ltb}
+use Rattle.std.proofs.Common.{◌≡◌, ◌==◌, ◌&&◌, ◌||◌, ◌⊎◌, not, ℕ, List, ◌∷◌, refl, sym, ap, ◌∙◌, drop, Bool, true, false, Option, Some, None, Result, Ok, Err, cond, inl, inr, eq-eqb, lt-ltb}
 use Rattle.std.specs.Prelude.{MatchBool, bytes_eq, nat_lt, ◌<◌}
 use Rattle.std.proofs.lemmas.Bool.{and_right, false≢true}
 use Rattle.std.proofs.lemmas.Option.{none-some, same_Some}
@@ -20,8 +20,8 @@ use Rattle.trace_check.specs.Laws.{OrderIsReason, OrderRefuses, OrderTells}
 use Rattle.trace_check.specs.Order.{asks_wrong, replies_wrong, asked_why, answered_why, coming_why, going_why, ordered_why, order_why, round_of, is_known, is_of_order}
 use Rattle.trace_check.proofs.Ordering.{AreOf, before, found, unknown, leads_are}
 use Rattle.trace_check.proofs.Rounded.{copy_is}
-use Rattle.world_machine.specs.Capture.{Leads, Follows, FollowsBy, ComesFrom, GoesTo, AsksBy, RepliesBy, Replies, Copies, Begins, may_begin}
-use Rattle.world_machine.specs.Difference.{Why, IsReason, IsVerifyApart, IsOtherwiseWrong, why_by, from_why, to_why, comes_why, goes_why, request_why, reply_why, is_get_version, may_come, is_copy, is_waiting, is_other_type}
+use Rattle.world_machine.specs.Capture.{Leads, Follows, FollowsBy, ComesFrom, GoesTo, AsksBy, RepliesBy, Copies, Begins, may_begin}
+use Rattle.world_machine.specs.Difference.{Why, IsReason, IsOtherwiseWrong, why_by, from_why, to_why, comes_why, goes_why, request_why, reply_why, is_get_version, may_come, is_copy, is_waiting, is_other_type}
 use Rattle.world_machine.specs.Difference.Why.{BadPacket, UnknownEnd, WrongTurn, BadRequest, BadReply, BadVerify, BadRecord}
 use Rattle.world_machine.specs.Rounds.{Dialogue, Round, dialogue_at, following_tag}
 use Rattle.world_machine.specs.Setup.{Configuration, known_of}

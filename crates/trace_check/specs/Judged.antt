@@ -1,10 +1,10 @@
 -- What the program keeps of a capture's order, and what it tells of a packet. This project's own.
-use Rattle.std.specs.Prelude.{◌≡◌, ◌≢◌, ◌∷◌, ◌==◌, ℕ, List, [], map, if◌then◌else◌, Option, Some, None, Bool, true, false, Result, Ok, Err}
+use Rattle.std.specs.Prelude.{◌≡◌, ◌≢◌, ◌∷◌, ◌==◌, ℕ, List, [], map, if◌then◌else◌, Option, Some, None, Bool, Result, Ok, Err}
 use Rattle.std.specs.List.{AllByRecursion}
 use Rattle.mctp_framing.specs.Assembling as assembling
 use Rattle.mctp_framing.specs.Gathering.{Gathered, Receiver}
-use Rattle.mctp_framing.specs.Gathering.Gathered.{Whole, More, Dropped}
-use Rattle.mctp_framing.specs.Packet.{PacketFields, parsed}
+use Rattle.mctp_framing.specs.Gathering.Gathered.{Whole}
+use Rattle.mctp_framing.specs.Packet.{PacketFields}
 use Rattle.requester_machine.specs.Setup.{ReqSetup}
 use Rattle.script_text.specs.declared.why.Why as declared
 use Rattle.script_text.specs.declared.why.Why.TheVariants as why

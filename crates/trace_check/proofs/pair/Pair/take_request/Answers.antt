@@ -1,4 +1,4 @@
-use Rattle.std.proofs.Common.{◌≡◌, ◌≤◌, ◌<◌, ◌-◌, ◌^◌, refl, sym, subst, ℕ, length, Option, arith}
+use Rattle.std.proofs.Common.{◌≤◌, ◌<◌, ◌-◌, ◌^◌, refl, sym, subst, ℕ, length, Option, arith}
 use Rattle.std.proofs.lemmas.Result.{on_ok_weaker}
 use Rattle.mctp_framing.specs.Cutting.{route_of}
 use Rattle.mctp_framing.specs.Gathering.{Receiver}
