@@ -3,8 +3,8 @@ use spdm_basis::Eid;
 use std::process::Abort;
 use std::test::Fail;
 
-// Packets of a responder at end point 8 and a requester at 9: GET_VERSION under tags 0 and 1, VERSION,
-// and GET_CAPABILITIES under tags 1 and 2.
+// Packets of a responder at end point 8 and a requester at 9: GET_VERSION under tags 0 and 1,
+// VERSION, and GET_CAPABILITIES under tags 1 and 2.
 const GET_VERSION: &str = "010809c80510840000";
 
 const VERSION: &str = "010908c0051004000000010012";
