@@ -7,3 +7,4 @@ pub mod Telling
 pub mod Exclusive
 pub mod Alone
 mod OrderRows
+pub mod Unfinished

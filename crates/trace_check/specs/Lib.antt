@@ -2,3 +2,4 @@ pub mod Order
 pub mod Judged
 pub mod Laws
 pub mod Verdict
+pub mod Awaits

@@ -1,6 +1,7 @@
 //! What the packets of a capture fix of all walks over them, each law as the contract of a function
 //! that does nothing.
 
+ghost use Rattle.trace_check.specs.Awaits.{MoreConforms};
 ghost use Rattle.trace_check.specs.Laws.{OneRound, OrderIsAlone, OrderIsReason, OrderRefuses, OrderTells, SealedTells};
 ghost use Rattle.trace_check.specs.Verdict.{OneVerdict};
 
@@ -25,6 +26,11 @@ pub fn order_is_reason()
 /// Verify data are not alone wrong there, unless the packet is an answer of another type.
 pub fn order_is_alone()
     ensures { OrderIsAlone }
+{}
+
+/// A packet in order that brings a part of a body conforms behind packets that do.
+pub fn more_conforms()
+    ensures { MoreConforms }
 {}
 
 /// Each of the three reasons of the order is given by the order.

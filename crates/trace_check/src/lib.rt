@@ -11,8 +11,8 @@ mod verdict;
 
 pub use brought::Brought;
 pub use laws::{
-    one_round, one_verdict, order_is_alone, order_is_reason, order_refuses, order_tells,
-    sealed_tells,
+    more_conforms, one_round, one_verdict, order_is_alone, order_is_reason, order_refuses,
+    order_tells, sealed_tells,
 };
 pub use order::Order;
 pub use pair::Pair;
