@@ -1,5 +1,5 @@
 -- A part of a body conforms.
-use Rattle.std.proofs.Common.{◌≡◌, ◌==◌, ℕ, List, ◌∷◌, refl, sym, ap, ◌∙◌, subst, Bool, true, false, Option, Some, None, Result, Ok, Err, cond}
+use Rattle.std.proofs.Common.{◌≡◌, ◌==◌, ℕ, List, refl, sym, ap, ◌∙◌, subst, Bool, true, false, Option, Some, None, Result, Ok, Err, cond}
 use Rattle.std.specs.Prelude.{MatchBool}
 use Rattle.std.proofs.lemmas.Option.{none-some}
 use Rattle.mctp_framing.specs.Gathering.{Gathered}
@@ -12,7 +12,7 @@ use Rattle.trace_check.specs.Judged.{answered_of, asked_of, brought_by}
 use Rattle.trace_check.specs.Order.{answered_why, asked_why, coming_why, going_why, is_known, order_why, ordered_why, round_of}
 use Rattle.trace_check.specs.declared.brought.Brought.TheVariants as brought
 use Rattle.trace_check.proofs.Ordering.{AreOf, before, found, leads_are, unknown}
-use Rattle.world_machine.specs.Capture.{AsksBy, ComesFrom, Follows, FollowsBy, GoesTo, Leads, RepliesBy}
+use Rattle.world_machine.specs.Capture.{AsksBy, ComesFrom, Follows, FollowsBy, GoesTo, RepliesBy}
 use Rattle.world_machine.specs.Difference.Why.{BadPacket, UnknownEnd}
 use Rattle.world_machine.specs.Rounds.{Dialogue, Round, dialogue_at, with_dialogue}
 use Rattle.world_machine.specs.Setup.{Configuration}
