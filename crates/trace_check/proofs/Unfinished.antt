@@ -33,8 +33,7 @@ replies_stays w eid o d (Dropped cause) none more = absurd (none-some BadPacket 
 
 -- ---- Of which requester.
 
-comes_more : (w : Configuration) (older : List (List ℕ)) (p : PacketFields) (ds : List Dialogue) (o : Option Dialogue) → AreOf (before w.responder.eid older) w.requesters ds → dialogue_at p.from ds ≡ o
-    → coming_why w.responder.eid older p (is_known p.from w.requesters) ≡ None
+comes_more : (w : Configuration) (older : List (List ℕ)) (p : PacketFields) (ds : List Dialogue) (o : Option Dialogue) → AreOf (before w.responder.eid older) w.requesters ds → dialogue_at p.from ds ≡ o → coming_why w.responder.eid older p (is_known p.from w.requesters) ≡ None
     → asked_of p.from (round_of w.responder.eid p.from older) (gathered_from w.responder.eid p.from older p) ≡ brought.More
     → (after : List Dialogue) × ComesFrom w older p ds after o
 comes_more w older p ds None are at none more =
@@ -46,8 +45,7 @@ comes_more w older p ds (Some d) are at none more =
     let G : ℕ → Type 0 = λ n. AsksBy d (gathered_from own n older p) d in
     (with_dialogue d ds, (d, subst G (sym has.eid) (asks_stays p.from (round_of own p.from older) d (gathered_from own p.from older p) right more), refl))
 
-goes_more : (w : Configuration) (older : List (List ℕ)) (p : PacketFields) (ds : List Dialogue) (o : Option Dialogue) → AreOf (before w.responder.eid older) w.requesters ds → dialogue_at p.to ds ≡ o
-    → going_why w.responder.eid older p (is_known p.to w.requesters) ≡ None
+goes_more : (w : Configuration) (older : List (List ℕ)) (p : PacketFields) (ds : List Dialogue) (o : Option Dialogue) → AreOf (before w.responder.eid older) w.requesters ds → dialogue_at p.to ds ≡ o → going_why w.responder.eid older p (is_known p.to w.requesters) ≡ None
     → answered_of p.to (gathered_from p.to w.responder.eid older p) ≡ brought.More
     → (after : List Dialogue) × GoesTo w older p ds after o
 goes_more w older p ds None are at none more =
