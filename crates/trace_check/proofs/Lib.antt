@@ -1,0 +1,10 @@
+pub mod Rounded
+pub mod Ordering
+pub mod Reasons
+pub mod Kept
+pub mod Found
+pub mod Telling
+pub mod Exclusive
+pub mod Alone
+mod OrderRows
+pub mod Unfinished

@@ -1,0 +1,5 @@
+pub mod Order
+pub mod Judged
+pub mod Laws
+pub mod Verdict
+pub mod Awaits

@@ -1,0 +1,54 @@
+//! What the packets of a capture fix of all walks over them, each law as the contract of a function
+//! that does nothing.
+
+ghost use Rattle.trace_check.specs.Awaits.{MoreConforms};
+ghost use Rattle.trace_check.specs.Laws.{OneRound, OrderIsAlone, OrderIsReason, OrderRefuses, OrderTells, SealedTells};
+ghost use Rattle.trace_check.specs.Verdict.{OneVerdict};
+
+use world_machine::{beginning_conforms, conforming_has_table, one_reason, one_table};
+
+/// The round under way between two ends is a function of the packets: all walks over them have it.
+pub fn one_round()
+    ensures { OneRound }
+{}
+
+/// A packet for which the order gives a reason does not conform, whatever the ends hold.
+pub fn order_refuses()
+    ensures { OrderRefuses }
+{}
+
+/// Behind packets that conform that is the reason, unless the verify data of a packet alone are
+/// wrong.
+pub fn order_is_reason()
+    ensures { OrderIsReason }
+{}
+
+/// Verify data are not alone wrong there, unless the packet is an answer of another type.
+pub fn order_is_alone()
+    ensures { OrderIsAlone }
+{}
+
+/// A packet in order that brings a part of a body conforms behind packets that do.
+pub fn more_conforms()
+    ensures { MoreConforms }
+{}
+
+/// Each of the three reasons of the order is given by the order.
+pub fn order_tells()
+    ensures { OrderTells }
+{}
+
+/// A record under one key, number and id tells its inner message and its padding.
+pub fn sealed_tells()
+    ensures { SealedTells }
+{}
+
+/// No capture has two verdicts.
+pub fn one_verdict()
+    ensures { OneVerdict }
+{
+    beginning_conforms();
+    conforming_has_table();
+    one_table();
+    one_reason();
+}

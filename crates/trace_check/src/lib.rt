@@ -1,0 +1,24 @@
+//! What a capture shows, judged against what the two ends may have sent: so far the order of its
+//! packets.
+#![tactic(auto)]
+
+mod brought;
+mod laws;
+mod order;
+mod pair;
+mod round;
+mod verdict;
+
+pub use brought::Brought;
+pub use laws::{
+    more_conforms, one_round, one_verdict, order_is_alone, order_is_reason, order_refuses,
+    order_tells, sealed_tells,
+};
+pub use order::Order;
+pub use pair::Pair;
+pub use round::Round;
+pub use script_text::Why;
+pub use verdict::{Seen, SessionTable, Verdict};
+
+#[cfg(test)]
+mod tests;
