@@ -471,6 +471,10 @@ def answers():
         ("sealed_chunk", less, OPEN + "q1 measure 1 1\npump 3\n", chunk),
         ("end_answer", plain, OPEN + "q1 end 1\npump 1\n", ()),
     ]
+    return taken_at(places[:10], header), taken_at(places[10:], header)
+
+
+def taken_at(places, header):
     starts, cases = [], []
     for name, text, events, fields in places:
         place = Waiting(Start(name, text, events), header + fields)
@@ -493,6 +497,16 @@ def spent(opened):
         "\n".join(case.lines) + "\n")
 
 
+# Texts in parts of some 4,000 bytes, since a long constant takes long to prove.
+def parts_of(texts):
+    parts = [""]
+    for text in texts:
+        if parts[-1] and len(parts[-1]) + len(text) > 4000:
+            parts.append("")
+        parts[-1] += text
+    return parts
+
+
 def write(name, what, starts, cases, more=""):
     path = os.path.join(os.path.dirname(__file__), "..", "crates", "ends_vectors", "src", name + ".rt")
     with open(path, "w") as out:
@@ -500,9 +514,11 @@ def write(name, what, starts, cases, more=""):
         out.write("pub const STARTS: [Start; %d] = [\n" % len(starts))
         out.write("".join(s.constant() for s in starts) + "];\n\n")
         out.write("// How many transcripts there are.\npub const COUNT: u32 = %d;\n\n" % len(cases))
-        out.write("// %s, each behind a line with its name and that of its start: events,\n" % what)
-        out.write("// and behind `> ` what an independent program tells of them.\n")
-        out.write('pub const TABLE: &str = "\\\n' + "".join(case.text() for case in cases) + '";\n')
+        out.write("// %s, in parts, each behind a line with its name and that of its start:\n" % what)
+        out.write("// events, and behind `> ` what an independent program tells of them.\n")
+        parts = parts_of([case.text() for case in cases])
+        out.write("pub const TABLE: [&str; %d] = [\n" % len(parts))
+        out.write("".join('    "\\\n' + part + '",\n' for part in parts) + "];\n")
         out.write(more)
     print(name, len(cases), "cases,", os.path.getsize(path), "bytes")
 
@@ -511,4 +527,6 @@ if __name__ == "__main__":
     starts, cases = rows()
     write("rows", "Transcripts of both ends", starts, cases, spent(starts[2]))
     write("refusals", "Requests that are refused at each place", *refusals())
-    write("answers", "Answers that a requester takes or not", *answers())
+    opening, opened = answers()
+    write("opening_answers", "Answers that a requester takes or not before its session is open", *opening)
+    write("session_answers", "Answers that a requester takes or not in an open session", *opened)

@@ -3,15 +3,17 @@
 #![tactic(auto)]
 
 #[cfg(test)]
-mod answers;
-#[cfg(test)]
 mod ends;
+#[cfg(test)]
+mod opening_answers;
 #[cfg(test)]
 mod refusals;
 #[cfg(test)]
 mod row_tests;
 #[cfg(test)]
 mod rows;
+#[cfg(test)]
+mod session_answers;
 #[cfg(test)]
 mod tests;
 #[cfg(test)]

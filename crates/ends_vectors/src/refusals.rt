@@ -235,9 +235,10 @@ pump 6
 // How many transcripts there are.
 pub const COUNT: u32 = 22;
 
-// Requests that are refused at each place, each behind a line with its name and that of its start: events,
-// and behind `> ` what an independent program tells of them.
-pub const TABLE: &str = "\
+// Requests that are refused at each place, in parts, each behind a line with its name and that of its start:
+// events, and behind `> ` what an independent program tells of them.
+pub const TABLE: [&str; 17] = [
+    "\
 =refused_fresh fresh
 inject 010809cf05
 > to r refused 01
@@ -332,6 +333,8 @@ show
 q1 connect
 > q1 ok
 > packet 30 010809c80510840000
+",
+    "\
 =refused_versioned versioned
 inject 010809cf05
 > to r refused 01
@@ -450,6 +453,8 @@ show
 deliver 3
 > to r answered e1
 > packet 41 010908c1051261000000000000c86802000004000000100000
+",
+    "\
 =refused_capable capable
 inject 010809cf05
 > to r refused 01
@@ -598,6 +603,8 @@ show
 deliver 5
 > to r answered e3
 > packet 53 010908c20512630400340001020200000000000000010000000000000000000000000000000000000002200000032001000420000005200100
+",
+    "\
 =refused_negotiated negotiated
 inject 010809cf05
 > to r refused 01
@@ -758,6 +765,8 @@ show
 q1 open 0
 > q1 ok
 > packet 58 010809cb0512e6000001000100200000007164eb37f3486e56a0ec73452bc8c3257db4ee0e51add31ff60000000000000000
+",
+    "\
 =refused_capable_in_chunks capable
 inject 010809cf051285010300000000010000000100000010
 > to r answered 85
@@ -870,6 +879,8 @@ show
 deliver 5
 > to r answered e3
 > packet 41 010908c20512630400340001020200000000000000010000000000000000000000000000000000000002200000032001000420000005200100
+",
+    "\
 =refused_negotiated_in_chunks negotiated
 inject 010809cf051285010300000000010000000100000010
 > to r answered 85
@@ -991,6 +1002,8 @@ inject 010809cf051285010300000000410000004100000012e6000001000100200084037100000
 show
 > state q1 negotiated
 > state r q1 negotiated
+",
+    "\
 =refused_handshake handshake
 inject 010809cf060100010000001300f5f7e8aa6d4d63e608d1d95e0c74ae0215ec20
 > to r refused 01
@@ -1107,6 +1120,8 @@ show
 > session q1 01000100 handshake 0 0 1 0 0 d3017f9e044932d673b398f65866425eb57e159cf36cef4158b79de62ec446b9
 > state r q1 negotiated
 > session r q1 01000100 open 0 0 0 0 0 5ddcd350a2caa76e8c9a70aae22a180489d8866ddc61039d7d14f8353aaad73a
+",
+    "\
 =refused_open open
 inject 010809cf0601000100000013007fa9fa015fd760a7ad385877d67a0bca315839
 > to r refused 01
@@ -1255,6 +1270,8 @@ show
 > session q1 01000100 open 0 0 0 0 0 5ddcd350a2caa76e8c9a70aae22a180489d8866ddc61039d7d14f8353aaad73a
 > state r q1 negotiated
 > session r q1 01000100 open 0 0 45 45 0 5ddcd350a2caa76e8c9a70aae22a180489d8866ddc61039d7d14f8353aaad73a
+",
+    "\
 =refused_verifying verifying
 inject 010809cf0601000100000013005675a70f5a081c1f236b6c50459b5bddd46df9
 > to r refused 01
@@ -1380,6 +1397,8 @@ show
 > session q1 01000100 verifying 1 0 1 1 0 5ddcd350a2caa76e8c9a70aae22a180489d8866ddc61039d7d14f8353aaad73a
 > state r q1 negotiated
 > session r q1 01000100 open 1 0 38 39 0 5ddcd350a2caa76e8c9a70aae22a180489d8866ddc61039d7d14f8353aaad73a
+",
+    "\
 =refused_flagless flagless
 inject 010809cf06010001000000170079079540abb99cac428d061519825225cb14a42c0130eb
 > to r refused 07
@@ -1426,6 +1445,8 @@ show
 > state q1 negotiated
 > session q1 01000100 open 0 0 0 0 0 1217f3232c945c556137d831e4fdfa0301b1eea34e79f067767739ebff298d6d
 > state r q1 negotiated
+",
+    "\
 =refused_flagless_in_the_clear flagless
 inject 010809cf0512e1000000000000c06402000004000000100000
 > to r refused 04
@@ -1518,6 +1539,8 @@ pump 2
 > to q1 progress
 > packet 18 010809cb05128600000000
 > to q1 ignored wrong-tag
+",
+    "\
 =refused_answer_pending_in_session answer_pending_in_session
 inject 010809cf0601000100010019008409da1350e5eb625b0a4b1a55cec82aa39db8a7d8eada430d
 > to r refused 01
@@ -1575,6 +1598,8 @@ show
 > session q1 01000100 open 0 0 1 0 0 af034efbf2a78e381aa2c0336745194c22ba51c6144e28fdc4460f4ff7bce119
 > state r q1 negotiated
 > session r q1 01000100 open 0 0 16 16 0 af034efbf2a78e381aa2c0336745194c22ba51c6144e28fdc4460f4ff7bce119
+",
+    "\
 =refused_request_under_way request_under_way
 inject 010809cf0512e1000000000000c06402000004000000100000
 > to r refused 04
@@ -1662,6 +1687,8 @@ show
 > session q1 01000100 open 0 0 0 0 0 33bcd76defa2150fb34b58e1cb256152a7fc22c165acc11e679f06d403225f32
 > state r q1 negotiated
 > session r q1 01000100 open 0 0 0 0 0 33bcd76defa2150fb34b58e1cb256152a7fc22c165acc11e679f06d403225f32
+",
+    "\
 =refused_narrow narrow
 inject 010809cf060100010000003e00d20764130670c9700def0c6218a496f78464514d1ddca5988046de1881b0adffd4155e8c886d035631ea05dd0ecc93b95560f84d311590cebbe709852930
 > to r refused 0e
@@ -1727,6 +1754,8 @@ show
 > session r q1 02000200 open 0 0 0 0 0 78c52d3a0f1a7cc811b814f2350e2783329a8cb7e4ea9cd28da6cc71f00e8db8
 > session r q1 03000300 open 0 0 0 0 0 9da49fe1b5671686506d92526a84d21d0509a852414d390e3ff86b838f74b835
 > session r q1 04000400 open 0 0 0 0 0 dca62902ab1f200303c7d1595f8ba4fa8e76657cd53ed065a83cabe1b460e203
+",
+    "\
 =refused_full full
 inject 010809cf060100010000001700db472c650cab9e15b4e55476ec27c3f50a728aca3e4af6
 > to r refused 0d
@@ -1770,6 +1799,8 @@ show
 > session r q1 02000200 open 0 0 0 0 0 78c52d3a0f1a7cc811b814f2350e2783329a8cb7e4ea9cd28da6cc71f00e8db8
 > session r q1 03000300 open 0 0 0 0 0 9da49fe1b5671686506d92526a84d21d0509a852414d390e3ff86b838f74b835
 > session r q1 04000400 open 0 0 0 0 0 dca62902ab1f200303c7d1595f8ba4fa8e76657cd53ed065a83cabe1b460e203
+",
+    "\
 =refused_full_by_chunks full_by_chunks
 inject 010809cf051285010300000000040000000400000012e000ff
 > to r answered 85
@@ -1791,6 +1822,8 @@ show
 > session r q1 02000200 open 0 0 0 0 0 18c5fbd06edee2664919968b3aaa1d436c04354ad1cc8fdc6a61c8576a088c41
 > session r q1 03000300 open 0 0 0 0 0 d329de73ba5c175273cbd97c2728ebc113c7efd54842c06966c02f3c4cc99d0e
 > session r q1 04000400 open 0 0 0 0 0 342563805d85faa29407e2a1a79c269572f8be8da8d7dcb24d0d4f21e425e138
+",
+    "\
 =unopened_records open
 inject 010809cf06
 > to r unopened
@@ -1855,4 +1888,5 @@ inject 010809cf0601000100000015007da9fe145f6a1136b8edf8603081a3cddecc00d6fc
 > to r taken 01000100
 > data r q1 01000100 6869
 > packet 30 010908c7060100010000001300f65aefc25daccee7a68cf82dcf9940e35d3023
-";
+",
+];

@@ -1,25 +1,32 @@
 use crate::transcripts::{begin, follow, follow_all, start_of};
-use crate::{answers, refusals, rows};
+use crate::{opening_answers, refusals, rows, session_answers};
 use std::test::Fail;
 
 #[test]
 fn rows_are_told_as_by_another_program(rt: HostRuntime) -> Result<(), Fail> {
-    let count = follow_all(&rt, &rows::STARTS, rows::TABLE)?;
+    let count = follow_all(&rt, &rows::STARTS, &rows::TABLE)?;
     assert_eq!(rt; count, rows::COUNT);
     Ok(())
 }
 
 #[test]
 fn requests_are_refused_as_by_another_program(rt: HostRuntime) -> Result<(), Fail> {
-    let count = follow_all(&rt, &refusals::STARTS, refusals::TABLE)?;
+    let count = follow_all(&rt, &refusals::STARTS, &refusals::TABLE)?;
     assert_eq!(rt; count, refusals::COUNT);
     Ok(())
 }
 
 #[test]
-fn answers_are_taken_as_by_another_program(rt: HostRuntime) -> Result<(), Fail> {
-    let count = follow_all(&rt, &answers::STARTS, answers::TABLE)?;
-    assert_eq!(rt; count, answers::COUNT);
+fn opening_answers_are_taken_as_by_another_program(rt: HostRuntime) -> Result<(), Fail> {
+    let count = follow_all(&rt, &opening_answers::STARTS, &opening_answers::TABLE)?;
+    assert_eq!(rt; count, opening_answers::COUNT);
+    Ok(())
+}
+
+#[test]
+fn session_answers_are_taken_as_by_another_program(rt: HostRuntime) -> Result<(), Fail> {
+    let count = follow_all(&rt, &session_answers::STARTS, &session_answers::TABLE)?;
+    assert_eq!(rt; count, session_answers::COUNT);
     Ok(())
 }
 

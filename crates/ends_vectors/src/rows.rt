@@ -108,9 +108,10 @@ suite q1 384 both
 // How many transcripts there are.
 pub const COUNT: u32 = 16;
 
-// Transcripts of both ends, each behind a line with its name and that of its start: events,
-// and behind `> ` what an independent program tells of them.
-pub const TABLE: &str = "\
+// Transcripts of both ends, in parts, each behind a line with its name and that of its start:
+// events, and behind `> ` what an independent program tells of them.
+pub const TABLE: [&str; 7] = [
+    "\
 =negotiation_completes plain
 q1 connect
 > q1 ok
@@ -201,6 +202,8 @@ show
 > session q1 01000100 handshake 0 0 1 0 0 d3017f9e044932d673b398f65866425eb57e159cf36cef4158b79de62ec446b9
 > state r q1 negotiated
 > session r q1 01000100 handshake 0 0 0 0 0 fa7441319f064e7b0a03ed52e77994a56924d203bfc3a4e0e008b2d5035fc790
+",
+    "\
 =altered_algorithms_fail_verify plain
 q1 connect
 > q1 ok
@@ -271,6 +274,8 @@ pump 2
 > to r answered e8
 > packet 13 010908c5060100010000001700f25aeb69e551d4497f046ca2cce4bce55633d8f18ff858
 > to q1 done alive 01000100
+",
+    "\
 =three_sends_with_repeat opened
 q1 send 1 61
 > q1 ok
@@ -364,6 +369,8 @@ show
 > session q1 01000100 open 0 0 1 1 1 5ddcd350a2caa76e8c9a70aae22a180489d8866ddc61039d7d14f8353aaad73a
 > state r q1 negotiated
 > session r q1 01000100 open 0 0 1 1 1 5ddcd350a2caa76e8c9a70aae22a180489d8866ddc61039d7d14f8353aaad73a
+",
+    "\
 =session_limit pair
 q1 open 0
 > q1 ok
@@ -427,6 +434,8 @@ show
 > session q2 01000100 open 0 0 0 0 0 7be6a91598bb36a874402974a3368f6f016a55ec13a461e15cc6a6362d9c0d45
 > state r q2 negotiated
 > session r q2 01000100 open 0 0 0 0 0 7be6a91598bb36a874402974a3368f6f016a55ec13a461e15cc6a6362d9c0d45
+",
+    "\
 =negotiation_by_chunks chunks
 q1 connect
 > q1 ok
@@ -490,6 +499,8 @@ show
 > session q1 01000100 open 0 0 0 0 0 36c6e02bd3efc7dac549ea002c03b11cd5dac583dd0127479112b9975fa85fdd
 > state r q1 negotiated
 > session r q1 01000100 open 0 0 0 0 0 36c6e02bd3efc7dac549ea002c03b11cd5dac583dd0127479112b9975fa85fdd
+",
+    "\
 =large_suite_chosen large
 q1 connect
 > q1 ok
@@ -571,6 +582,8 @@ pump 20
 show
 > state q1 fresh
 > state r q1 capable
+",
+    "\
 =session_from_first_to_last connected
 q1 open 0
 > q1 ok
@@ -650,7 +663,8 @@ pump 2
 show
 > state q1 negotiated
 > state r q1 negotiated
-";
+",
+];
 
 // What is told behind 65,535 application messages.
 pub const SPENT: &str = "\

@@ -81,20 +81,30 @@ pub fn start_of<'a>(starts: &'a [Start], name: &str) -> Result<&'a Start, Fail> 
     Ok(found.ok_or("no such start")?)
 }
 
-// All transcripts of a table, each of which begins with `=`, its name and that of its start; how many there are.
-pub fn follow_all(
-    rt: &(impl Abort + AllocGlobal),
-    starts: &[Start],
-    table: &str,
-) -> Result<u32, Fail> {
+// The transcripts of one part of a table; how many there are.
+fn follow_part(rt: &(impl Abort + AllocGlobal), starts: &[Start], part: &str) -> Result<u32, Fail> {
     let mut count = 0u32;
-    for case in table.split('=') {
+    for case in part.split('=') {
         if let Some((head, transcript)) = case.split_once('\n') {
             let start = start_of(starts, head.split(' ').last().ok_or("no start")?)?;
             let mut ends = begin(rt, start)?;
             follow(rt, &mut ends, start, head, transcript)?;
             count = count.saturating_add(1);
         }
+    }
+    Ok(count)
+}
+
+// All transcripts of the parts of a table, each of which begins with `=`, its name and that of its start; how many
+// there are.
+pub fn follow_all(
+    rt: &(impl Abort + AllocGlobal),
+    starts: &[Start],
+    table: &[&str],
+) -> Result<u32, Fail> {
+    let mut count = 0u32;
+    for part in table {
+        count = count.saturating_add(follow_part(rt, starts, part)?);
     }
     Ok(count)
 }
