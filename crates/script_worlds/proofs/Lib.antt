@@ -1,0 +1,5 @@
+pub mod ReadLines
+pub mod Words
+pub mod EventsRead
+pub mod ConfigRead
+pub mod ScriptRead
