@@ -1,0 +1,44 @@
+//! What holds of every script that a text is, each law as the contract of a function that does nothing.
+
+ghost use Rattle.script_worlds.specs.Laws.{ReadScriptIsSound};
+ghost use Rattle.script_worlds.specs.Worlds.{AgreesIn, DeliversIn, MatchesIn, ReadSetUpIsConfigured, SealsOnceIn, ShowsAlikeIn};
+ghost use Rattle.std.specs.Prelude.{ℕ, List};
+
+/// A script that a text is has its configuration and its events in range.
+pub fn read_script_is_sound()
+    ensures { ReadScriptIsSound }
+{}
+
+/// What a script sets up keeps all limits that agreement asks for.
+pub fn script_is_configured()
+    ensures { ReadSetUpIsConfigured }
+{}
+
+/// After each beginning of the events of a script without chance, where both ends of a pair hold open a
+/// session of one id, the two have equal T2, equal choices and equal common capabilities.
+pub fn script_agrees()
+    ensures { (text : List ℕ) → AgreesIn text }
+{}
+
+/// In each such world the application data that an end took under a T2 is the beginning of what the
+/// other end sealed under it, in both directions.
+pub fn script_delivers()
+    ensures { (text : List ℕ) → DeliversIn text }
+{}
+
+/// In each such world a session that a requester holds open was opened at the responder with the same
+/// T2, and different ones have different T2.
+pub fn script_matches()
+    ensures { (text : List ℕ) → MatchesIn text }
+{}
+
+/// In each such world, where both ends of a pair hold open a session with one T2, the hashes that they
+/// show of it are equal.
+pub fn script_shows_alike()
+    ensures { (text : List ℕ) → ShowsAlikeIn text }
+{}
+
+/// In each such world no two different records are sealed under one purpose and number.
+pub fn script_seals_once()
+    ensures { (text : List ℕ) → SealsOnceIn text }
+{}

@@ -1,0 +1,11 @@
+//! What scripts lead to: the world that a script sets up, its events and its trace, and what holds of
+//! them. Nothing here runs: the definitions are in `specs/`, and each function below has a law about
+//! them as its contract.
+#![tactic(auto)]
+
+mod laws;
+
+pub use laws::{
+    read_script_is_sound, script_agrees, script_delivers, script_is_configured, script_matches,
+    script_seals_once, script_shows_alike,
+};
