@@ -471,7 +471,7 @@ def answers():
         ("sealed_chunk", less, OPEN + "q1 measure 1 1\npump 3\n", chunk),
         ("end_answer", plain, OPEN + "q1 end 1\npump 1\n", ()),
     ]
-    return taken_at(places[:10], header), taken_at(places[10:], header)
+    return taken_at(places[:10], header), taken_at(places[10:14], header), taken_at(places[14:], header)
 
 
 def taken_at(places, header):
@@ -527,6 +527,7 @@ if __name__ == "__main__":
     starts, cases = rows()
     write("rows", "Transcripts of both ends", starts, cases, spent(starts[2]))
     write("refusals", "Requests that are refused at each place", *refusals())
-    opening, opened = answers()
+    opening, updating, opened = answers()
     write("opening_answers", "Answers that a requester takes or not before its session is open", *opening)
-    write("session_answers", "Answers that a requester takes or not in an open session", *opened)
+    write("update_answers", "Answers to data, heartbeats and updates that a requester takes or not", *updating)
+    write("session_answers", "Answers in a session to other requests that a requester takes or not", *opened)

@@ -18,3 +18,5 @@ mod session_answers;
 mod tests;
 #[cfg(test)]
 mod transcripts;
+#[cfg(test)]
+mod update_answers;

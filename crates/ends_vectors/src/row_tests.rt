@@ -1,5 +1,5 @@
 use crate::transcripts::{begin, follow, follow_all, start_of};
-use crate::{opening_answers, refusals, rows, session_answers};
+use crate::{opening_answers, refusals, rows, session_answers, update_answers};
 use std::test::Fail;
 
 #[test]
@@ -27,6 +27,13 @@ fn opening_answers_are_taken_as_by_another_program(rt: HostRuntime) -> Result<()
 fn session_answers_are_taken_as_by_another_program(rt: HostRuntime) -> Result<(), Fail> {
     let count = follow_all(&rt, &session_answers::STARTS, &session_answers::TABLE)?;
     assert_eq!(rt; count, session_answers::COUNT);
+    Ok(())
+}
+
+#[test]
+fn update_answers_are_taken_as_by_another_program(rt: HostRuntime) -> Result<(), Fail> {
+    let count = follow_all(&rt, &update_answers::STARTS, &update_answers::TABLE)?;
+    assert_eq!(rt; count, update_answers::COUNT);
     Ok(())
 }
 
