@@ -1,31 +1,29 @@
 -- What the ends are made of that a configuration in range sets up has no fault.
-use Rattle.std.proofs.Common.{◌≡◌, ◌∙◌, ◌+◌, ◌<◌, ◌≤◌, ◌==◌, ◌||◌, ◌&&◌, ◌++◌, ℕ, zero, suc, List, [], ◌∷◌, length, map, refl, sym, ap, subst, Bool, true, false, nat_lt, nat_eq, arith, append_assoc, eq-eqb, Option, Some, None, Contains}
+use Rattle.std.proofs.Common.{◌≡◌, ◌∙◌, ◌==◌, ◌||◌, ◌&&◌, ◌++◌, ℕ, List, [], ◌∷◌, length, map, refl, sym, ap, Bool, true, false, nat_lt, nat_eq, arith, append_assoc, eq-eqb, None, Contains}
 use Rattle.std.specs.List.{AllByRecursion, list_any}
-use Rattle.std.specs.Prelude.{nat_le, not, bytes_eq}
-use Rattle.std.proofs.lemmas.Bool.{le-leb, eqb-false, ne_eqb, or_parts, false≢true}
+use Rattle.std.specs.Prelude.{bytes_eq}
+use Rattle.std.proofs.lemmas.Bool.{le-leb, eqb-false, ne_eqb}
 use Rattle.std.proofs.lemmas.List.{length-map}
 use Rattle.std.proofs.lemmas.List.Elements.{All-contains, All-from_recursion}
 use Rattle.std.proofs.lemmas.Slice.Eq.{bytes_eq-Decides}
 use Rattle.negotiate.specs.OwnSizes.{may_be_own}
 use Rattle.requester.specs.Config as asking
-use Rattle.requester.specs.SetUp.{setup_of}
 use Rattle.requester.specs.declared.config.ReqConfig.{ReqConfig}
 use Rattle.requester_machine.specs.Setup.{ReqSetup}
-use Rattle.responder.specs.Config.{config_fault, has_long_hint, has_same_eid, has_same_psk, is_eid_of_one, is_out_of_range, is_psk_of_one}
+use Rattle.responder.specs.Config.{config_fault, has_long_hint, has_same_eid, has_same_psk, is_eid_of_one, is_psk_of_one}
 use Rattle.responder.specs.SetUp as answering
 use Rattle.responder.specs.declared.config.Known.{Known}
 use Rattle.responder.specs.declared.config.RspConfig.{RspConfig}
 use Rattle.responder_machine.specs.Setup as machine
 use Rattle.responder_machine.specs.Setup.{RspPart}
 use Rattle.script_text.specs.Configuring.{has_psk, requester_has_eid}
-use Rattle.script_text.specs.ScriptText.{script_in}
 use Rattle.script_text.specs.Sound.{IsSoundConfig, are_bytes_in, are_sound_requesters, is_sound_end, is_sound_requester}
 use Rattle.script_text.specs.declared.config.ReqPart.{ReqPart}
 use Rattle.script_text.specs.declared.config.ScriptConfig.{ScriptConfig}
 use Rattle.script_worlds.proofs.ScriptRead.{script_sound}
 use Rattle.script_worlds.proofs.SetUpRight.{are_few, at_most, differ, eid_among, has_sizes, is_fine, no_fault, own_fits, psk_among}
-use Rattle.script_worlds.specs.Configured.{configuration_in, requester_in, responder_in}
-use Rattle.script_worlds.specs.Ends.{HasNoFault, ReadEndsHaveNoFault, SetsUpRequester, SetsUpResponder}
+use Rattle.script_worlds.specs.Configured.{requester_in}
+use Rattle.script_worlds.specs.Ends.{ReadEndsHaveNoFault, SetsUpRequester, SetsUpResponder}
 use Rattle.spdm_agreement.specs.Configured.{HasSizes}
 use Rattle.spdm_basis.proofs.Bools.{and_first, and_second, lt_false}
 use Rattle.spdm_grammar.specs.declared.choice.FlagSet.{FlagSet}
@@ -173,8 +171,8 @@ responder_fine c sound config up =
     let known = config.known.now in
     let few = are_few e [] c.requesters sound.requesters (omega arith) in
     let count : length known ≡ length c.requesters =
-        sym (length-map known answering.known_of) ∙ ap (λ (ks : List machine.Known). length ks) up.known
-        ∙ length-map (map (requester_in e) c.requesters) known_of ∙ length-map c.requesters (requester_in e) in
+    sym (length-map known answering.known_of) ∙ ap (λ (ks : List machine.Known). length ks) up.known
+    ∙ length-map (map (requester_in e) c.requesters) known_of ∙ length-map c.requesters (requester_in e) in
     let eid : config.eid.number ≡ e = ap (λ (p : RspPart). p.eid) up.part in
     let transfer : config.transfer ≡ r.transfer = ap (λ (p : RspPart). p.transfer) up.part in
     let max : config.max ≡ r.max = ap (λ (p : RspPart). p.max) up.part in

@@ -1,5 +1,5 @@
 -- What is told as refused gets an ERROR of its code, and what the table refuses is told as refused.
-use Rattle.std.proofs.Common.{◌≡◌, ◌∙◌, ◌==◌, ◌||◌, ◌⊎◌, inl, inr, ℕ, List, [], ◌∷◌, drop, refl, sym, ap, subst, Bool, true, false, not, Option, Some, None}
+use Rattle.std.proofs.Common.{◌≡◌, ◌∙◌, ◌==◌, ◌||◌, inl, inr, ℕ, List, [], ◌∷◌, drop, refl, sym, ap, subst, Bool, true, false, not, Option, Some, None}
 use Rattle.std.specs.Option.{option_or, unwrap_or}
 use Rattle.std.specs.Prelude.{if◌then◌else◌, slice_index}
 use Rattle.std.proofs.lemmas.Bool.{true≢false, false≢true}
@@ -11,7 +11,7 @@ use Rattle.responder.proofs.Harmless.{harmless}
 use Rattle.responder_machine.specs.Answer.{Free, answer_bytes}
 use Rattle.responder_machine.specs.Does.{clear_chosen, clear_does, record_chosen, record_does, responder_does}
 use Rattle.responder_machine.specs.EndLaws.{source_of}
-use Rattle.responder_machine.specs.Handling.{carried_turn, chunk_in, chunk_turn, detail_of, error_bytes, extended_of, plain_turn, refused_turn, turn_by, turn_of, version_in}
+use Rattle.responder_machine.specs.Handling.{carried_turn, chunk_in, detail_of, extended_of, plain_turn, refused_turn, turn_by, turn_of, version_in}
 use Rattle.responder_machine.specs.Answer.{request_at}
 use Rattle.responder_machine.specs.Heard.{heard_in, heard_of, no_id, record_id}
 use Rattle.responder_machine.specs.History.{History, clear_turns, ended_of, kept_of, phase_of}
@@ -20,12 +20,12 @@ use Rattle.responder_machine.specs.Place.{Place, clear_place, session_place}
 use Rattle.responder_machine.specs.Records.{opened, opening_fault, reply_record}
 use Rattle.responder_machine.specs.Refusal.{code_of, refusal}
 use Rattle.responder_machine.specs.Responder.{Outcome, body_of, data_turn, in_session, in_session_by, inner_refusal, inner_reply, is_repeat, kept_record, kept_reply, on_clear, on_record, repeats, session_turn, session_turn_by, to_session}
-use Rattle.responder_machine.specs.Responder.Outcome.{Adds, Same, Unopened}
+use Rattle.responder_machine.specs.Responder.Outcome.{Adds, Same}
 use Rattle.responder_machine.specs.Responding.{Connection, Responding, RspStep, answers, connection_of, hears_from, hears_gathered, hears_packet, ignores, is_worn, next_draw, responder_hears, worn_step}
 use Rattle.responder_machine.specs.Session.{Events, id_in_record, last_of, session_of, stage_of}
 use Rattle.responder_machine.specs.Setup.{RspSetup}
-use Rattle.responder_machine.specs.Turn.{Effect, Turn, is_data}
-use Rattle.script_worlds.specs.Refused.{GetsError, GetsErrorBy, IsClearError, IsError, IsErrorMessage, IsRefusedRecord, IsRefusedHarmlessly, IsSealedError, RefusesIn, TableRefusesClear, TableRefusesRecord, inner_code, is_empty}
+use Rattle.responder_machine.specs.Turn.{Turn, is_data}
+use Rattle.script_worlds.specs.Refused.{GetsErrorBy, IsError, IsErrorMessage, IsRefusedHarmlessly, IsSealedError, RefusesIn, TableRefusesClear, TableRefusesRecord, inner_code, is_empty}
 use Rattle.spdm_basis.specs.declared.DropCause.TheVariants.{NotOurs}
 use Rattle.spdm_basis.specs.declared.PacketFault.{PacketFault}
 use Rattle.spdm_basis.specs.declared.record_fault.RecordFault.{RecordFault}
@@ -40,7 +40,6 @@ use Rattle.spdm_grammar.specs.declared.phase.Phase.{Phase}
 use Rattle.spdm_machine.specs.Bodies.{clear_body, record_body}
 use Rattle.spdm_machine.specs.Keys.{Draw}
 use Rattle.spdm_machine.specs.Packets.{body_type, gathered_from, packets_to}
-use Rattle.world_machine.specs.World.{World}
 
 -- ---- Turns.
 
@@ -283,14 +282,16 @@ IsRefusedIn r s e o = (heard_of o ≡ heard.Refused (error_number e)) × IsSeale
 entry_refused : (r : RspSetup) (s : Events) (f : Free) (tag : ℕ) (sealed : List ℕ) (d : Draw) (e : ErrorCode) (t : Turn) → t.refused ≡ Some e → AlwaysReplies t →
     IsRefusedIn r s e (Adds (Sealed tag sealed t (reply_record r.psk s t (inner_reply t) f.pad) d))
 entry_refused r s f tag sealed d e t is replies =
-    let fact = replies e is in
-    (ap (heard_in t (record_id sealed)) is, record {
-      message = t.reply;
-      error = fact.error;
-      turn = t;
-      pad = f.pad;
-      sealed = ap (λ (inner : List ℕ). record_body (reply_record r.psk s t inner f.pad)) (inner_five t fact.plain);
-    })
+    let fact = replies e is in (
+      ap (heard_in t (record_id sealed)) is,
+      record {
+        message = t.reply;
+        error = fact.error;
+        turn = t;
+        pad = f.pad;
+        sealed = ap (λ (inner : List ℕ). record_body (reply_record r.psk s t inner f.pad)) (inner_five t fact.plain);
+      },
+    )
 
 session_refused : (r : RspSetup) (phase : Phase) (s : Events) (f : Free) (tag : ℕ) (sealed : List ℕ) (d : Draw) (e : ErrorCode) → is_empty s ≡ false → repeats (last_of s) sealed ≡ false →
     opening_fault r.psk s sealed ≡ None → inner_code r s (opened r.psk s sealed) f ≡ Some e → IsRefusedIn r s e (to_session r phase s f tag sealed d)

@@ -3,7 +3,6 @@ use Rattle.std.specs.Prelude.{◌≡◌, ℕ, List, map, None, Ok, Contains}
 use Rattle.requester.specs.Config as asking
 use Rattle.requester.specs.SetUp.{setup_of}
 use Rattle.requester.specs.declared.config.ReqConfig.{ReqConfig}
-use Rattle.requester_machine.specs.Setup.{ReqSetup}
 use Rattle.responder.specs.Config as answering
 use Rattle.responder.specs.SetUp as answering_set_up
 use Rattle.responder.specs.declared.config.RspConfig.{RspConfig}

@@ -1,8 +1,8 @@
 -- Which packets an event gives to the ends. This project's own.
-use Rattle.std.specs.Prelude.{◌≡◌, ◌⊎◌, ℕ, zero, suc, List, Option, Some, None}
+use Rattle.std.specs.Prelude.{◌≡◌, ◌⊎◌, ℕ, zero, suc, List, Some}
 use Rattle.world_machine.specs.Happenings.{Happening}
 use Rattle.world_machine.specs.Happenings.Happening.{Deliver, Inject, Pump}
-use Rattle.world_machine.specs.World.{World, SentPacket, delivers, first_waiting, packet_of, without_waiting}
+use Rattle.world_machine.specs.World.{World, delivers, first_waiting, packet_of, without_waiting}
 
 -- The packet of a number is given in this world, in which it waits no longer.
 pub record IsDelivered (world : World) (number : ℕ) (between : World) (packet : List ℕ) : Type 0 where
