@@ -1,14 +1,14 @@
 -- What the lines of a configuration said so far is in range, and stays so with each line without a fault.
-use Rattle.std.proofs.Common.{◌≡◌, ◌∙◌, ◌+◌, ◌<◌, ◌≤◌, ◌==◌, ◌||◌, ◌&&◌, ◌++◌, ℕ, zero, suc, List, [], ◌∷◌, length, map, refl, sym, ap, Bool, true, false, nat_lt, nat_eq, arith, append_assoc, Option, Some, None}
-use Rattle.std.specs.Prelude.{if◌then◌else◌, nat_le, not, is_none, bytes_eq}
-use Rattle.std.proofs.lemmas.Bool.{not-false, not-true, leb-true, ltb-false, leb-false, le-leb, lt-ltb, eqb-false, ne_eqb, or_parts, false≢true}
+use Rattle.std.proofs.Common.{◌≡◌, ◌∙◌, ◌+◌, ◌==◌, ◌||◌, ◌&&◌, ◌++◌, ℕ, zero, suc, List, [], ◌∷◌, length, map, refl, sym, ap, Bool, true, false, nat_lt, nat_eq, arith, append_assoc, Option, Some, None}
+use Rattle.std.specs.Prelude.{nat_le, not, is_none, bytes_eq}
+use Rattle.std.proofs.lemmas.Bool.{not-false, not-true, ltb-false, leb-false, le-leb, lt-ltb, eqb-false, ne_eqb, or_parts, false≢true}
 use Rattle.std.proofs.lemmas.List.{append-nil, map-append, length-map}
 use Rattle.spdm_basis.proofs.Bools.{and_first, and_second}
 use Rattle.spdm_grammar.specs.declared.block_spec.BlockSpec.{BlockSpec}
 use Rattle.spdm_grammar.specs.declared.choice.Suites.{Suites}
 use Rattle.spdm_grammar.specs.declared.names.TheConstants.{MIN_DATA_TRANSFER_SIZE, MAX_MESSAGE_SIZE}
 use Rattle.script_text.specs.Choices.{flags_of, is_flags, small_suites}
-use Rattle.script_text.specs.Configuring.{config_fault, after_config, nothing_given, seed_fault, after_seed, opaque_fault, after_opaque, has_block, block_of, block_fault, after_block, has_numbers, has_flags, numbers_of, responder_has_eid, requester_has_eid, has_eid, has_psk, responder_fault, after_responder, requester_fault, requester_of, after_requester, suite_fault, after_suite, after_suite_of, suite_end, suites_in, with_suites, end_fault, after_end}
+use Rattle.script_text.specs.Configuring.{config_fault, after_config, nothing_given, seed_fault, after_seed, opaque_fault, after_opaque, has_block, block_of, block_fault, after_block, has_numbers, has_flags, numbers_of, responder_has_eid, requester_has_eid, has_psk, responder_fault, after_responder, requester_fault, requester_of, after_requester, suite_fault, after_suite, after_suite_of, suite_end, suites_in, with_suites, end_fault, after_end}
 use Rattle.script_text.specs.HexWords.{bytes_of, is_hex_in, most_bytes}
 use Rattle.script_text.specs.Lines.{has_words, word}
 use Rattle.script_text.specs.Measured.{block_size, sizes_of}
@@ -323,7 +323,7 @@ all_small : (e : ℕ) (before qs : List ReqPart) → are_sound_requesters e (map
 all_small e before [] = refl
 all_small e before (q ∷ qs) =
     let behind : are_sound_requesters e (map small before ++ small q ∷ []) (map small qs) ≡ are_sound_requesters e (before ++ q ∷ []) qs =
-        ap (λ front. are_sound_requesters e front (map small qs)) (sym (map-append small before (q ∷ []))) ∙ all_small e (before ++ q ∷ []) qs in
+    ap (λ front. are_sound_requesters e front (map small qs)) (sym (map-append small before (q ∷ []))) ∙ all_small e (before ++ q ∷ []) qs in
     rw (length-map before small, any_small q.eid.number before, psk_small q.psk before, behind) refl
 
 small_with : (n : ℕ) (suites : Suites) (qs : List ReqPart) → map small (with_suites n suites qs) ≡ map small qs

@@ -1,15 +1,15 @@
 -- An event that was taken is in range.
-use Rattle.std.proofs.Common.{◌≡◌, ◌∙◌, ◌^◌, ◌-◌, ◌<◌, ◌≤◌, ◌==◌, ◌||◌, ◌&&◌, ℕ, List, refl, sym, ap, Bool, true, false, nat_lt, arith, Option, Some, None}
+use Rattle.std.proofs.Common.{◌≡◌, ◌∙◌, ◌^◌, ◌-◌, ◌≤◌, ◌==◌, ◌||◌, ◌&&◌, ℕ, List, refl, sym, ap, Bool, true, false, nat_lt, arith, Option, Some, None}
 use Rattle.std.specs.Option.{option_map, unwrap_or}
 use Rattle.std.specs.Prelude.{if◌then◌else◌, bytes_eq, codes, length, nat_le, not, slice_index}
 use Rattle.std.proofs.lemmas.Bool.{not-false, leb-true, ltb-false, le-leb, lt-ltb, false≢true}
 use Rattle.spdm_basis.proofs.Bools.{and_first, and_second}
 use Rattle.script_text.specs.Choices.{requester_in}
-use Rattle.script_text.specs.Commands.{command_kind, command_fault, command_of, plain_fault, open_fault, send_fault, session_fault, update_fault, measure_fault, is_session, is_summary, place_of, says_all, says_key}
+use Rattle.script_text.specs.Commands.{command_kind, command_fault, command_of, plain_fault, open_fault, send_fault, session_fault, update_fault, measure_fault, is_session, place_of, says_all, says_key}
 use Rattle.script_text.specs.EventLines.{event_kind, kind_behind, other_kind, event_fault, event_of, reply_fault, number_fault, inject_fault, is_configured, named}
 use Rattle.script_text.specs.HexWords.{bytes_of, is_none_word}
 use Rattle.script_text.specs.Lines.{has_words, word}
-use Rattle.script_text.specs.Numbers.{value_of, is_number_in}
+use Rattle.script_text.specs.Numbers.{value_of}
 use Rattle.script_text.specs.Sound.{is_sound_event, is_sound_place, is_within, fits_word}
 use Rattle.script_text.specs.declared.command.CommandKind.{CommandKind}
 use Rattle.script_text.specs.declared.command.CommandKind.TheVariants as command

@@ -5,4 +5,6 @@ pub mod ConfigRead
 pub mod ScriptRead
 pub mod SetUpRight
 pub mod WorldsRight
+pub mod EndsRight
+pub mod RefusedRight
 pub mod Traces

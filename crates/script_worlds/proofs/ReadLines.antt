@@ -1,15 +1,11 @@
 -- What holds of a reader before its first line, and is kept by each line without a fault, holds at the end.
-use Rattle.std.proofs.Common.{◌≡◌, ◌∙◌, ℕ, ◌+◌, List, [], ◌∷◌, refl, sym, ap, Bool, true, false, Option, Some, None, Result, Ok, Err}
-use Rattle.std.specs.Option.{unwrap_or}
+use Rattle.std.proofs.Common.{◌≡◌, ℕ, ◌+◌, List, [], ◌∷◌, refl, ap, Bool, true, false, Option, Some, None, Result, Ok}
 use Rattle.std.specs.Prelude.{if◌then◌else◌}
 use Rattle.std.specs.Result.{result_unwrap_or}
-use Rattle.std.proofs.lemmas.Option.{none-some}
-use Rattle.script_text.specs.Lines.{is_too_long, is_passed_over}
-use Rattle.script_text.specs.Reading.{read_lines, line_fault, after_line, unless_bad, whole_or_missing, fault_at}
+use Rattle.script_text.specs.Lines.{is_passed_over}
+use Rattle.script_text.specs.Reading.{read_lines, line_fault, after_line, unless_bad, whole_or_missing}
 use Rattle.script_text.specs.declared.faults.LineFault.{LineFault}
-use Rattle.script_text.specs.declared.faults.LineFault.TheVariants.{LineTooLong, Incomplete}
 use Rattle.script_text.specs.declared.faults.ScriptFault.{ScriptFault}
-use Rattle.script_text.specs.declared.faults.ScriptFault.TheVariants as fault
 use Rattle.spdm_basis.proofs.Options.{both}
 
 -- a test is passed, and so are those behind it

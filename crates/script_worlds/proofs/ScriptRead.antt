@@ -1,5 +1,5 @@
 -- A script that a text is has its configuration and its events in range.
-use Rattle.std.proofs.Common.{◌≡◌, ◌∙◌, ◌<◌, ◌||◌, ◌&&◌, ◌++◌, ℕ, List, [], ◌∷◌, length, refl, sym, ap, subst, Bool, true, false, nat_eq, nat_lt, arith, Option, Some, None, Ok}
+use Rattle.std.proofs.Common.{◌≡◌, ◌∙◌, ◌||◌, ◌&&◌, ◌++◌, ℕ, List, [], ◌∷◌, length, refl, sym, ap, subst, Bool, true, false, nat_eq, nat_lt, arith, Option, Some, None, Ok}
 use Rattle.std.specs.Option.{option_map, unwrap_or}
 use Rattle.std.specs.Prelude.{if◌then◌else◌, not, is_none}
 use Rattle.std.proofs.lemmas.Bool.{not-false, not-true, eqb-false, or_parts, false≢true}
@@ -20,7 +20,7 @@ use Rattle.script_text.specs.declared.given.Given.{Given}
 use Rattle.script_text.specs.declared.given.RspLine.{RspLine}
 use Rattle.script_text.specs.declared.script.Script.{Script}
 use Rattle.script_text.specs.declared.script_lines.ScriptReader.{ScriptReader}
-use Rattle.script_worlds.proofs.ConfigRead.{IsRight, IsWhole, of_some, is_apart, is_sound_line, nothing_right, config_open, config_kept, requester_fits, other_way}
+use Rattle.script_worlds.proofs.ConfigRead.{IsRight, of_some, is_apart, is_sound_line, nothing_right, config_open, config_kept, requester_fits, other_way}
 use Rattle.script_worlds.proofs.EventsRead.{event_sound}
 use Rattle.script_worlds.proofs.ReadLines.{held}
 use Rattle.spdm_basis.proofs.Options.{both}

@@ -1,5 +1,5 @@
 -- What a configuration in range sets up keeps the limits of a world.
-use Rattle.std.proofs.Common.{◌≡◌, ◌≢◌, ◌∙◌, ◌+◌, ◌<◌, ◌≤◌, ◌==◌, ◌||◌, ◌&&◌, ◌++◌, ℕ, List, [], ◌∷◌, length, map, refl, sym, ap, subst, All, Bool, true, false, nat_lt, nat_eq, arith, append_assoc, length-append, None}
+use Rattle.std.proofs.Common.{◌≡◌, ◌≢◌, ◌∙◌, ◌+◌, ◌<◌, ◌≤◌, ◌==◌, ◌||◌, ◌&&◌, ◌++◌, ℕ, List, [], ◌∷◌, length, map, refl, sym, All, Bool, true, false, nat_lt, nat_eq, arith, append_assoc, length-append, None}
 use Rattle.std.specs.List.{AllByRecursion}
 use Rattle.std.specs.Prelude.{nat_le, not, bytes_eq}
 use Rattle.std.proofs.lemmas.Bool.{not-true, leb-true, ltb-true, eqb-false, ne_eqb, or_parts, false≢true, true≢false}
@@ -157,15 +157,17 @@ others_differ : (e : ℕ) (front : List ReqPart) (q : ReqPart) (back qs : List R
 others_differ e front q back [] h = tt
 others_differ e front q back (x ∷ qs) h =
     let fine = is_fine e (front ++ q ∷ back) x (and_first _ _ h) in
-    let rest : are_sound_requesters e ((front ++ q ∷ back) ++ x ∷ []) qs ≡ true = and_second _ _ h in
-    ((eqb-false q.eid.number x.eid.number (eid_among x.eid.number front q back fine.new_eid), differ q.psk x.psk (psk_among x.psk front q back fine.new_psk)),
-    others_differ e front q (back ++ x ∷ []) qs (rw (append_assoc front (q ∷ back) (x ∷ [])) at rest))
+    let rest : are_sound_requesters e ((front ++ q ∷ back) ++ x ∷ []) qs ≡ true = and_second _ _ h in (
+      (eqb-false q.eid.number x.eid.number (eid_among x.eid.number front q back fine.new_eid), differ q.psk x.psk (psk_among x.psk front q back fine.new_psk)),
+      others_differ e front q (back ++ x ∷ []) qs (rw (append_assoc front (q ∷ back) (x ∷ [])) at rest),
+    )
 
 are_apart : (e : ℕ) (before qs : List ReqPart) → are_sound_requesters e before qs ≡ true → AreApart (map (requester_in e) qs)
 are_apart e before [] h = tt
-are_apart e before (q ∷ qs) h =
-    (All-from_recursion (IsOther (requester_in e q)) (map (requester_in e) qs) (others_differ e before q [] qs (and_second _ _ h)),
-    are_apart e (before ++ q ∷ []) qs (and_second _ _ h))
+are_apart e before (q ∷ qs) h = (
+  All-from_recursion (IsOther (requester_in e q)) (map (requester_in e) qs) (others_differ e before q [] qs (and_second _ _ h)),
+  are_apart e (before ++ q ∷ []) qs (and_second _ _ h),
+)
 
 -- ---- Measurements.
 

@@ -84,7 +84,7 @@ all_ends_room r n [] = refl
 all_ends_room r n (a ∷ others) =
     both_room (end_lines r n a) (all_end_lines r (n + 1) others)
     (both_room (session_lines (Whose.Requester n) (requester_shown.views_of a.history)) (connection_lines n (connection_of a.setup.eid r.connections))
-      (session_room (Whose.Requester n) (requester_shown.views_of a.history)) (connection_room n (connection_of a.setup.eid r.connections)))
+    (session_room (Whose.Requester n) (requester_shown.views_of a.history)) (connection_room n (connection_of a.setup.eid r.connections)))
     (all_ends_room r (n + 1) others)
 
 -- what is written begins with the ends as they are at first

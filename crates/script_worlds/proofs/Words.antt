@@ -1,5 +1,5 @@
 -- Words of a line that are bytes or numbers in a range.
-use Rattle.std.proofs.Common.{◌≡◌, ℕ, zero, suc, ◌+◌, ◌<◌, ◌≤◌, List, [], ◌∷◌, length, refl, Bool, true, false, ◌&&◌, ◌||◌, nat_lt, arith, Result, Ok, Err}
+use Rattle.std.proofs.Common.{◌≡◌, ℕ, zero, suc, ◌<◌, List, [], ◌∷◌, length, refl, true, nat_lt, Result, Ok, Err}
 use Rattle.std.specs.Prelude.{nat_le}
 use Rattle.std.specs.Result.{result_unwrap_or}
 use Rattle.std.proofs.lemmas.Bool.{lt-ltb}
@@ -7,8 +7,8 @@ use Rattle.hex.specs.Hex.{decode_of, IsBytes}
 use Rattle.hex.specs.declared.error.FromHexError.{FromHexError}
 use Rattle.hex.proofs.HexLemmas.{decode_of-ok}
 use Rattle.spdm_basis.proofs.Bools.{and_first, and_second}
-use Rattle.script_text.specs.HexWords.{bytes_of, is_hex_in, is_none_word, is_pairs, most_bytes}
-use Rattle.script_text.specs.Numbers.{is_number, is_number_in, value_of}
+use Rattle.script_text.specs.HexWords.{bytes_of, is_hex_in, most_bytes}
+use Rattle.script_text.specs.Numbers.{is_number_in, value_of}
 use Rattle.script_text.specs.Sound.{are_bytes, are_bytes_in, fits_word, is_within}
 use Rattle.spdm_agreement.proofs.Responder.Exchange.{both_hold}
 

@@ -1,6 +1,5 @@
 -- The ends that the configuration of a script sets up. This project's own.
-use Rattle.std.specs.Prelude.{ℕ, List, [], map}
-use Rattle.std.specs.Option.{unwrap_or}
+use Rattle.std.specs.Prelude.{ℕ, map}
 use Rattle.requester_machine.specs.Setup.{ReqSetup}
 use Rattle.responder_machine.specs.Setup.{RspPart}
 use Rattle.script_text.specs.declared.config.ReqPart.{ReqPart}

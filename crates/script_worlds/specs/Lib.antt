@@ -4,3 +4,6 @@ pub mod Events
 pub mod Written
 pub mod Scripts
 pub mod Worlds
+pub mod Given
+pub mod Refused
+pub mod Ends

@@ -1,6 +1,8 @@
 //! What holds of every script that a text is, each law as the contract of a function that does nothing.
 
+ghost use Rattle.script_worlds.specs.Ends.{ReadEndsHaveNoFault};
 ghost use Rattle.script_worlds.specs.Laws.{ReadScriptIsSound};
+ghost use Rattle.script_worlds.specs.Refused.{RefusesIn, TableRefusesClear, TableRefusesRecord};
 ghost use Rattle.script_worlds.specs.Worlds.{AgreesIn, DeliversIn, MatchesIn, ReadSetUpIsConfigured, SealsOnceIn, ShowsAlikeIn};
 ghost use Rattle.std.specs.Prelude.{ℕ, List};
 
@@ -12,6 +14,11 @@ pub fn read_script_is_sound()
 /// What a script sets up keeps all limits that agreement asks for.
 pub fn script_is_configured()
     ensures { ReadSetUpIsConfigured }
+{}
+
+/// No end of a script is refused, whatever it is made of that sets it up.
+pub fn ends_have_no_fault()
+    ensures { ReadEndsHaveNoFault }
 {}
 
 /// After each beginning of the events of a script without chance, where both ends of a pair hold open a
@@ -41,4 +48,23 @@ pub fn script_shows_alike()
 /// In each such world no two different records are sealed under one purpose and number.
 pub fn script_seals_once()
     ensures { (text : List ℕ) → SealsOnceIn text }
+{}
+
+/// At each packet that an event of a script gives to the responder, a request that is refused gets its
+/// ERROR and changes no session, apart from the counts of records, the kept reply and the clock of the
+/// one whose record carried it.
+pub fn script_refuses()
+    ensures { (text : List ℕ) → RefusesIn text }
+{}
+
+/// A clear request that comes anew and that the table refuses is told as refused, and gets the ERROR of
+/// the table.
+pub fn table_refuses_clear()
+    ensures { TableRefusesClear }
+{}
+
+/// A message in a record that comes anew and opens, and that the table refuses, is told as refused, and
+/// gets a record with the ERROR of the table.
+pub fn table_refuses_record()
+    ensures { TableRefusesRecord }
 {}
