@@ -2,7 +2,7 @@
 use Rattle.std.proofs.Common.{◌≡◌, ◌∙◌, ◌==◌, ◌||◌, ◌&&◌, ◌++◌, ℕ, List, [], ◌∷◌, length, map, refl, sym, ap, Bool, true, false, nat_lt, nat_eq, arith, append_assoc, eq-eqb, None, Contains}
 use Rattle.std.specs.List.{AllByRecursion, list_any}
 use Rattle.std.specs.Prelude.{bytes_eq}
-use Rattle.std.proofs.lemmas.Bool.{le-leb, eqb-false, ne_eqb}
+use Rattle.std.proofs.lemmas.Bool.{le-leb}
 use Rattle.std.proofs.lemmas.List.{length-map}
 use Rattle.std.proofs.lemmas.List.Elements.{All-contains, All-from_recursion}
 use Rattle.std.proofs.lemmas.Slice.Eq.{bytes_eq-Decides}
@@ -29,6 +29,7 @@ use Rattle.spdm_basis.proofs.Bools.{and_first, and_second, lt_false}
 use Rattle.spdm_grammar.specs.declared.choice.FlagSet.{FlagSet}
 use Rattle.spdm_grammar.specs.declared.names.TheConstants.{MIN_DATA_TRANSFER_SIZE, MAX_MESSAGE_SIZE}
 use Rattle.world_machine.specs.Setup.{known_of}
+use Rattle.script_worlds.proofs.ConfigRead.{other_way}
 
 -- ---- Sizes.
 
@@ -42,9 +43,6 @@ own_sizes transfer max unit flags sizes =
 
 -- ---- Requesters apart.
 
-flipped : (a b : ℕ) → nat_eq a b ≡ false → nat_eq b a ≡ false
-flipped a b h = ne_eqb b a (λ e. eqb-false a b h (sym e))
-
 not_equal : (xs ys : List ℕ) (b : Bool) → bytes_eq xs ys ≡ b → (xs ≡ ys → ⊥) → b ≡ false
 not_equal xs ys true e fails = absurd (fails ((bytes_eq-Decides xs ys).0 e))
 not_equal xs ys false e fails = refl
@@ -55,7 +53,7 @@ none_has_eid e front q back [] h = refl
 none_has_eid e front q back (x ∷ qs) h =
     let fine = is_fine e (front ++ q ∷ back) x (and_first _ _ h) in
     let rest : are_sound_requesters e ((front ++ q ∷ back) ++ x ∷ []) qs ≡ true = and_second _ _ h in
-    rw (flipped q.eid.number x.eid.number (eid_among x.eid.number front q back fine.new_eid)) (none_has_eid e front q (back ++ x ∷ []) qs (rw (append_assoc front (q ∷ back) (x ∷ [])) at rest))
+    rw (other_way q.eid.number x.eid.number (eid_among x.eid.number front q back fine.new_eid)) (none_has_eid e front q (back ++ x ∷ []) qs (rw (append_assoc front (q ∷ back) (x ∷ [])) at rest))
 
 none_has_psk : (e : ℕ) (front : List ReqPart) (q : ReqPart) (back qs : List ReqPart) → are_sound_requesters e (front ++ q ∷ back) qs ≡ true → has_psk q.psk qs ≡ false
 none_has_psk e front q back [] h = refl
@@ -71,7 +69,7 @@ none_is e before [] h = refl
 none_is e before (q ∷ qs) h =
     let fine = is_fine e before q (and_first _ _ h) in
     let rest : are_sound_requesters e (before ++ q ∷ []) qs ≡ true = and_second _ _ h in
-    rw (flipped e q.eid.number fine.other) (none_is e (before ++ q ∷ []) qs rest)
+    rw (other_way e q.eid.number fine.other) (none_is e (before ++ q ∷ []) qs rest)
 
 -- ---- What a responder knows of them, as these lists.
 
@@ -227,7 +225,7 @@ requester_fine c sound config up =
     let flags : config.flags ≡ q.flags = ap (λ (s : ReqSetup). s.flags) up.sets_up in
     let hint : config.hint.now ≡ q.hint = ap (λ (s : ReqSetup). s.hint) up.sets_up in
     let opaque : config.opaque.now ≡ q.opaque = ap (λ (s : ReqSetup). s.opaque) up.sets_up in
-    let other : nat_eq config.eid.number config.responder.number ≡ false = rw (eid, responder) (flipped e q.eid.number fine.1) in
+    let other : nat_eq config.eid.number config.responder.number ≡ false = rw (eid, responder) (other_way e q.eid.number fine.1) in
     let own : may_be_own (record { transfer = config.transfer; max = config.max }) config.flags.chunk ≡ true = rw (transfer, max, flags) (own_sizes q.transfer q.max q.unit q.flags sizes) in
     let unit_low : nat_lt config.unit 64 ≡ false = rw unit (lt_false q.unit 64 sizes.payload) in
     let unit_high : nat_lt 1024 config.unit ≡ false = rw unit (lt_false 1024 q.unit sizes.payload_most) in
