@@ -11,13 +11,13 @@ ghost use Rattle.requester_machine.specs.Requesting.{Requesting, requester_told}
 ghost use Rattle.requester_machine.specs.Setup.{ReqSetup};
 
 use crate::Requester;
-use session_keys::context_of;
 use crate::part::Part;
 use crate::sending::send;
 use crate::whole::WEAR_LIMIT;
 use asking::{Asking, Body, Command, FreeValues};
 use hmac_hkdf::{DrawStream, Drawn};
 use mctp_framing::PacketList;
+use session_keys::context_of;
 use spdm_grammar::CommandFault;
 
 // Whether a command that is done takes a draw.

@@ -9,10 +9,10 @@ ghost use Rattle.responder_machine.specs.History.{History, queue_of};
 ghost use Rattle.responder_machine.specs.Setup.{RspSetup};
 
 use crate::body::{Body, SPDM, write_body, write_reply};
-use session_keys::context_of;
 use connection::{Connection, FreeValues, Setup, record_id};
 use hmac_hkdf::Drawn;
 use responder_session::{RecordFree, Work};
+use session_keys::context_of;
 use spdm_basis::{Buffer, Frame, RecordFrame};
 use spdm_grammar::Heard;
 
