@@ -1,0 +1,33 @@
+-- The packets that were sent, as the program keeps them: one behind the other in one memory.
+use Rattle.std.specs.Prelude.{⊤, ◌≡◌, ◌≢◌, ◌≤◌, ℕ, zero, suc, List, [], ◌∷◌, map, length, slice_range, false}
+use Rattle.link_world.specs.declared.sent.Place.{Place}
+use Rattle.link_world.specs.declared.sent.SendFault.{SendFault}
+use Rattle.link_world.specs.declared.sent.SendFault.TheVariants.{LinkFull, OutOfMemory}
+use Rattle.world_machine.specs.World.{SentPacket}
+
+-- How many packets a link takes. This project's own.
+abbrev pub packet_limit : ℕ
+packet_limit = 65536
+
+-- The packet at a place of these bytes.
+abbrev pub packet_in : List ℕ → Place → SentPacket
+packet_in bytes p = record { bytes = slice_range bytes p.start p.end; waits = p.waits }
+
+abbrev pub sent_of : List ℕ → List Place → List SentPacket
+sent_of bytes places = map (packet_in bytes) places
+
+-- The places lie within so many bytes.
+abbrev pub AreWithin : ℕ → List Place → Type 0
+AreWithin count [] = ⊤
+AreWithin count (p ∷ others) = (p.start ≤ p.end) × (p.end ≤ count) × AreWithin count others
+
+-- None of the first so many waits.
+abbrev pub NoneWaits : ℕ → List Place → Type 0
+NoneWaits zero places = ⊤
+NoneWaits (suc count) [] = ⊤
+NoneWaits (suc count) (p ∷ others) = (p.waits ≡ false) × NoneWaits count others
+
+-- The cause of a fault: want of memory comes only where the link is not full.
+abbrev pub IsCause : List SentPacket → SendFault → Type 0
+IsCause sent LinkFull = length sent ≡ packet_limit
+IsCause sent OutOfMemory = length sent ≢ packet_limit

@@ -1,0 +1,25 @@
+-- The exit status and the name of each outcome. This project's own.
+use Rattle.std.specs.Prelude.{ℕ, List, codes}
+use Rattle.spdm_cmd.specs.declared.outcome.Outcome.{Outcome}
+use Rattle.spdm_cmd.specs.declared.outcome.Outcome.TheVariants.{Done, Usage, BadScript, ReadFault, WriteFault, OutOfMemory, TooLong, LinkFull}
+
+abbrev pub status_of : Outcome → ℕ
+status_of Done = 0
+status_of Usage = 2
+status_of (BadScript line fault) = 3
+status_of ReadFault = 4
+status_of WriteFault = 5
+status_of OutOfMemory = 6
+status_of TooLong = 8
+status_of (LinkFull line) = 9
+
+-- The name of the variant, without its fields.
+abbrev pub name_of : Outcome → List ℕ
+name_of Done = codes "Done"
+name_of Usage = codes "Usage"
+name_of (BadScript line fault) = codes "BadScript"
+name_of ReadFault = codes "ReadFault"
+name_of WriteFault = codes "WriteFault"
+name_of OutOfMemory = codes "OutOfMemory"
+name_of TooLong = codes "TooLong"
+name_of (LinkFull line) = codes "LinkFull"

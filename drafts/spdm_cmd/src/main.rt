@@ -1,0 +1,41 @@
+//! The command `spdm`: it runs requesters and a responder over a scripted link, and writes their trace.
+#![tactic(auto)]
+
+mod outcome;
+mod output;
+mod run;
+#[cfg(test)]
+mod tests;
+mod words;
+
+use outcome::Outcome;
+use spdm_basis::{FileSeeds, StdinSource, StdoutSink};
+use std::process::ExitCode;
+
+/// Runs the command with the words behind the program's name, over standard input and output. The name of
+/// each outcome but `Done` is printed to standard error, and the status is that of the outcome.
+fn main(rt: HostRuntime) -> ExitCode {
+    let outcome = command(&rt);
+    if outcome != Outcome::Done {
+        let _ = rt.eprintln(outcome.name());
+    }
+    ExitCode::from(outcome.status())
+}
+
+fn command(rt: &HostRuntime) -> Outcome {
+    let Ok(words) = words::given(rt) else {
+        return Outcome::OutOfMemory;
+    };
+    let mut source = StdinSource::new(rt.stdin());
+    let mut sink = StdoutSink::new(rt.stdout());
+    let mut seeds = FileSeeds::new(rt);
+    let mut left = None;
+    run::spdm(
+        rt.alloc(),
+        words.as_slice(),
+        &mut source,
+        &mut sink,
+        &mut seeds,
+        &mut left,
+    )
+}

@@ -1,0 +1,129 @@
+ghost use Rattle.std.specs.Prelude.{◌≡◌, ◌≤◌, ℕ, Err, None, Ok, Some, length, IfOk, IsErrOf, OnErr, OnOk};
+ghost use Rattle.link_world.specs.Standing.{StandsFor};
+ghost use Rattle.script_text.specs.ScriptText.{script_in};
+ghost use Rattle.script_text.specs.declared.faults.LineFault.{LineFault};
+ghost use Rattle.script_worlds.specs.Scripts.{entries_in, full_from, full_line, last_world, set_up, written_in};
+ghost use Rattle.spdm_basis.specs.Stream.{HasFault, Takes, TakesPrefix};
+ghost use Rattle.spdm_cmd.specs.Answer.{IsLastWorld, bad_line_of, full_of, output_of};
+ghost use Rattle.spdm_cmd.specs.declared.words.Command.TheVariants.{Run, Show};
+ghost use Rattle.world_machine.specs.World as machine;
+
+use link_world::{StepFault, World, WorldFault};
+use script_text::{LineFault, Script, ScriptFault, TEXT_LIMIT, parse_script};
+use spdm_basis::{OutFault, Sink};
+use spdm_show::{ShowFault, show};
+use std::alloc::Global;
+use thiserror::Error;
+
+/// Why a command did not write its whole output for a text.
+#[derive(Clone, Copy, Debug, PartialEq, Eq, Error)]
+pub enum TextFault {
+    /// The first bad line, counted from 1, and its first fault. Nothing was written.
+    #[error("line {0}: {1}")]
+    Line(u32, LineFault),
+    /// The event on this line sends a packet for which the link has no room. All that stands before the
+    /// line of the packet was written.
+    #[error("line {0}: a full link")]
+    LinkFull(u32),
+    /// Writing failed, behind a part of the output.
+    #[error("writing failed")]
+    WriteFault,
+    /// Memory ran out, maybe behind a part of the output.
+    #[error("out of memory")]
+    OutOfMemory,
+}
+
+/// Runs a script of at most 4 MiB, and gives its world as it is after all events.
+pub fn run<K: Sink>(alloc: Global, text: &[u8], sink: &mut K) -> Result<World, TextFault>
+    requires { length text.now ≤ TEXT_LIMIT }
+    ensures whole { OnOk result (Takes (K.contents sink.old) (output_of Run text.now)
+        (K.contents sink.new)) }
+    ensures last { IfOk result (λ world. IsLastWorld (script_in text.now) world) }
+    ensures prefix { TakesPrefix (K.contents sink.old) (output_of Run text.now)
+        (K.contents sink.new) }
+    ensures nothing_written { (line : ℕ) (f : LineFault) → result ≡ Err (TextFault.Line line f)
+        → sink.new ≡ sink.old }
+    ensures bad_line { (line : ℕ) (f : LineFault) → result ≡ Err (TextFault.Line line f)
+        → bad_line_of Run text.now ≡ Some (record { line = line; fault = f }) }
+    ensures good { OnOk result ((bad_line_of Run text.now ≡ None) × (full_of Run text.now ≡ None)) }
+    ensures link_full { (line : ℕ) → result ≡ Err (TextFault.LinkFull line)
+        → (bad_line_of Run text.now ≡ None) × (full_of Run text.now ≡ Some line)
+        × Takes (K.contents sink.old) (output_of Run text.now) (K.contents sink.new) }
+    ensures readable { IsErrOf result TextFault.WriteFault → bad_line_of Run text.now ≡ None }
+    ensures write_fault { IsErrOf result TextFault.WriteFault
+        → HasFault (K.faults sink.old) (K.faults sink.new) }
+    ensures later { K.faults sink.old ≤ K.faults sink.new }
+{
+    let script = match parse_script(alloc, text) {
+        Ok(script) => script,
+        Err(ScriptFault::Line(line, fault)) => return Err(TextFault::Line(line, fault)),
+        Err(ScriptFault::TooManyEvents(line)) => {
+            return Err(TextFault::Line(line, LineFault::TooManyEvents));
+        }
+        Err(ScriptFault::OutOfMemory) => return Err(TextFault::OutOfMemory),
+    };
+    run_script(alloc, &script, sink)
+}
+
+// Runs a script that a text is: its world is never refused.
+fn run_script<K: Sink>(alloc: Global, script: &Script, sink: &mut K) -> Result<World, TextFault>
+    requires { (text : List ℕ) × (script_in text ≡ Ok script.now) }
+    ensures whole { OnOk result (Takes (K.contents sink.old) (written_in script.now)
+        (K.contents sink.new)) }
+    ensures last { IfOk result (λ world. StandsFor world (last_world script.now)) }
+    ensures room { OnOk result (full_line script.now ≡ None) }
+    ensures prefix { TakesPrefix (K.contents sink.old) (written_in script.now)
+        (K.contents sink.new) }
+    ensures link_full { (line : ℕ) → result ≡ Err (TextFault.LinkFull line)
+        → (full_line script.now ≡ Some line)
+        × Takes (K.contents sink.old) (written_in script.now) (K.contents sink.new) }
+    ensures no_line { (line : ℕ) (f : LineFault) → result ≡ Err (TextFault.Line line f) → ⊥ }
+    ensures write_fault { IsErrOf result TextFault.WriteFault
+        → HasFault (K.faults sink.old) (K.faults sink.new) }
+    ensures later { K.faults sink.old ≤ K.faults sink.new }
+{
+    let mut world = match World::new(alloc, &script.config) {
+        Ok(world) => world,
+        Err(WorldFault::OutOfMemory) => return Err(TextFault::OutOfMemory),
+        Err(WorldFault::Responder(_)) | Err(WorldFault::Requester(_)) => unreachable!(),
+    };
+    match world.start(sink) {
+        Ok(()) => {}
+        Err(OutFault::WriteFault) => return Err(TextFault::WriteFault),
+    }
+    for entry in script.events.as_slice() {
+        match world.step(entry.line, &entry.event, sink) {
+            Ok(()) => {}
+            Err(StepFault::LinkFull) => return Err(TextFault::LinkFull(entry.line)),
+            Err(StepFault::WriteFault) => return Err(TextFault::WriteFault),
+            Err(StepFault::OutOfMemory) => return Err(TextFault::OutOfMemory),
+        }
+    }
+    Ok(world)
+}
+
+/// Shows the messages of a text of at most 4 MiB.
+pub fn show_messages<K: Sink>(alloc: Global, text: &[u8], sink: &mut K) -> Result<(), TextFault>
+    requires { length text.now ≤ TEXT_LIMIT }
+    ensures whole { OnOk result (Takes (K.contents sink.old) (output_of Show text.now)
+        (K.contents sink.new)) }
+    ensures prefix { TakesPrefix (K.contents sink.old) (output_of Show text.now)
+        (K.contents sink.new) }
+    ensures nothing_written { (line : ℕ) (f : LineFault) → result ≡ Err (TextFault.Line line f)
+        → sink.new ≡ sink.old }
+    ensures bad_line { (line : ℕ) (f : LineFault) → result ≡ Err (TextFault.Line line f)
+        → bad_line_of Show text.now ≡ Some (record { line = line; fault = f }) }
+    ensures good { OnOk result (bad_line_of Show text.now ≡ None) }
+    ensures room { (line : ℕ) → result ≡ Err (TextFault.LinkFull line) → ⊥ }
+    ensures readable { IsErrOf result TextFault.WriteFault → bad_line_of Show text.now ≡ None }
+    ensures write_fault { IsErrOf result TextFault.WriteFault
+        → HasFault (K.faults sink.old) (K.faults sink.new) }
+    ensures later { K.faults sink.old ≤ K.faults sink.new }
+{
+    match show(alloc, text, sink) {
+        Ok(()) => Ok(()),
+        Err(ShowFault::Line(line, fault)) => Err(TextFault::Line(line, fault)),
+        Err(ShowFault::WriteFault) => Err(TextFault::WriteFault),
+        Err(ShowFault::OutOfMemory) => Err(TextFault::OutOfMemory),
+    }
+}

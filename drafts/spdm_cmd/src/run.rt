@@ -1,0 +1,125 @@
+ghost use Rattle.std.specs.Prelude.{◌≡◌, ◌≢◌, ◌≤◌, ◌<◌, ◌↔◌, ◌⊎◌, [], ℕ, List, Some, None, IsSome, true, map, length, string_bytes};
+ghost use Rattle.script_text.specs.declared.faults.LineFault.{LineFault};
+ghost use Rattle.script_worlds.specs.Refused.{RefusesIn};
+ghost use Rattle.script_worlds.specs.Worlds.{AgreesIn, DeliversIn, MatchesIn, SealsOnceIn, ShowsAlikeIn};
+ghost use Rattle.spdm_basis.specs.Stream.{HasFault, IsQuiet, Takes, TakesPrefix};
+ghost use Rattle.spdm_cmd.specs.Answer.{IsLeft, answer_to, bad_line_by, full_by, output_by, ran, text_limit, writes_nothing};
+ghost use Rattle.spdm_cmd.specs.Words.{command_of};
+
+use crate::outcome::Outcome;
+use crate::output::{TextFault, run, show_messages};
+use crate::words::{Command, command_of};
+use link_world::World;
+use script_text::TEXT_LIMIT;
+use spdm_basis::{InFault, Seeds, Sink, Source, read_all};
+use std::alloc::Global;
+
+/// The command `spdm` with these words. The word `run` reads a script, runs its requesters and its
+/// responder over its link, writes their trace, and leaves their world in `left`. The word `show` reads
+/// messages, one a line, and writes their names and lengths. Neither takes a seed.
+pub fn spdm<S: Source, K: Sink, E: Seeds>(
+    alloc: Global,
+    words: &[String],
+    source: &mut S,
+    sink: &mut K,
+    seeds: &mut E,
+    left: &mut Option<World>,
+) -> Outcome
+    // Done: the source was read to its end, and the sink holds what it held and then the whole output.
+    ensures read_to_end { result ≡ Outcome.Done → (text : List ℕ)
+        → S.remaining source.old ≡ Some text → S.remaining source.new ≡ Some [] }
+    ensures whole_output { result ≡ Outcome.Done → (text : List ℕ)
+        → S.remaining source.old ≡ Some text
+        → Takes (K.contents sink.old) (output_by (command_of (map string_bytes words.now)) text)
+        (K.contents sink.new) }
+
+    // With any answer the sink holds what it held and a prefix of the output, and with some of them nothing more.
+    ensures prefix { (text : List ℕ) → S.remaining source.old ≡ Some text
+        → TakesPrefix (K.contents sink.old)
+        (output_by (command_of (map string_bytes words.now)) text) (K.contents sink.new) }
+    ensures nothing_written { writes_nothing result ≡ true → sink.new ≡ sink.old }
+
+    // Where a packet finds the link full, all that stands before its line was written.
+    ensures link_full { (line : ℕ) → result ≡ Outcome.LinkFull line → (text : List ℕ)
+        → S.remaining source.old ≡ Some text
+        → full_by (command_of (map string_bytes words.now)) text ≡ Some line }
+    ensures before_full { (line : ℕ) → result ≡ Outcome.LinkFull line → (text : List ℕ)
+        → S.remaining source.old ≡ Some text
+        → Takes (K.contents sink.old) (output_by (command_of (map string_bytes words.now)) text)
+        (K.contents sink.new) }
+    ensures room { result ≡ Outcome.Done → (text : List ℕ) → S.remaining source.old ≡ Some text
+        → full_by (command_of (map string_bytes words.now)) text ≡ None }
+
+    // What is left stands for the last world of the script; with any other answer it is as before.
+    ensures left { result ≡ Outcome.Done → (text : List ℕ) → S.remaining source.old ≡ Some text
+        → IsLeft (command_of (map string_bytes words.now)) text left.old left.new }
+    ensures left_as_before { result ≢ Outcome.Done → left.new ≡ left.old }
+    ensures no_seed { seeds.new ≡ seeds.old }
+
+    // The headline, of each script that the source has: after each beginning of its events, without chance up
+    // to there; and at each of its events.
+    ensures agreement { (text : List ℕ) → S.remaining source.old ≡ Some text
+        → AgreesIn text × ShowsAlikeIn text }
+    ensures data_prefix { (text : List ℕ) → S.remaining source.old ≡ Some text → DeliversIn text }
+    ensures matched { (text : List ℕ) → S.remaining source.old ≡ Some text → MatchesIn text }
+    ensures sealed_once { (text : List ℕ) → S.remaining source.old ≡ Some text → SealsOnceIn text }
+    ensures refused { (text : List ℕ) → S.remaining source.old ≡ Some text → RefusesIn text }
+
+    // Each answer comes at its cause.
+    ensures usage { (result ≡ Outcome.Usage) ↔ (command_of (map string_bytes words.now) ≡ None) }
+    ensures nothing_read { result ≡ Outcome.Usage → source.new ≡ source.old }
+    ensures bad_script { (line : ℕ) (fault : LineFault) → result ≡ Outcome.BadScript line fault
+        → (text : List ℕ) → S.remaining source.old ≡ Some text → (length text ≤ text_limit)
+        × (bad_line_by (command_of (map string_bytes words.now)) text
+        ≡ Some (record { line = line; fault = fault })) }
+    ensures script { ran result ≡ true → (text : List ℕ) → S.remaining source.old ≡ Some text
+        → (length text ≤ text_limit)
+        × (bad_line_by (command_of (map string_bytes words.now)) text ≡ None) }
+    ensures too_long { result ≡ Outcome.TooLong → (text : List ℕ)
+        → S.remaining source.old ≡ Some text → text_limit < length text }
+    ensures read_fault { result ≡ Outcome.ReadFault
+        → HasFault (S.faults source.old) (S.faults source.new) }
+    ensures write_fault { result ≡ Outcome.WriteFault
+        → HasFault (K.faults sink.old) (K.faults sink.new) }
+
+    // Where nothing fails, the answer is that to the words and the text, unless memory runs out.
+    ensures exact { (text : List ℕ) → S.remaining source.old ≡ Some text
+        → IsQuiet (S.faults source.old) (S.faults source.new)
+        → IsQuiet (K.faults sink.old) (K.faults sink.new)
+        → (result ≡ Outcome.OutOfMemory)
+        ⊎ (result ≡ answer_to (command_of (map string_bytes words.now)) text) }
+    ensures complete { (text : List ℕ) → S.remaining source.old ≡ Some text
+        → IsQuiet (S.faults source.old) (S.faults source.new)
+        → IsQuiet (K.faults sink.old) (K.faults sink.new)
+        → IsSome (command_of (map string_bytes words.now)) → length text ≤ text_limit
+        → bad_line_by (command_of (map string_bytes words.now)) text ≡ None
+        → full_by (command_of (map string_bytes words.now)) text ≡ None
+        → (result ≡ Outcome.Done) ⊎ (result ≡ Outcome.OutOfMemory) }
+{
+    let Some(command) = command_of(words) else {
+        return Outcome::Usage;
+    };
+    let text = match read_all(alloc, source, TEXT_LIMIT) {
+        Ok(text) => text,
+        Err(InFault::ReadFault) => return Outcome::ReadFault,
+        Err(InFault::TooLong) => return Outcome::TooLong,
+        Err(InFault::OutOfMemory) => return Outcome::OutOfMemory,
+    };
+    let done = match command {
+        Command::Run => match run(alloc, text.as_slice(), sink) {
+            Ok(world) => {
+                *left = Some(world);
+                Ok(())
+            }
+            Err(fault) => Err(fault),
+        },
+        Command::Show => show_messages(alloc, text.as_slice(), sink),
+    };
+    match done {
+        Ok(()) => Outcome::Done,
+        Err(TextFault::Line(line, fault)) => Outcome::BadScript { line, fault },
+        Err(TextFault::LinkFull(line)) => Outcome::LinkFull { line },
+        Err(TextFault::WriteFault) => Outcome::WriteFault,
+        Err(TextFault::OutOfMemory) => Outcome::OutOfMemory,
+    }
+}
