@@ -26,7 +26,7 @@ pub record IsKept (w : Configuration) (R : Dialogue → Dialogue → Type 0) : T
   pub goes : (r : RspSetup) (d e : Dialogue) (g : Gathered) → R d e → goes_why r d g ≡ goes_why r e g
 
 -- Dialogues, one after another, are related.
-abbrev All : (R : Dialogue → Dialogue → Type 0) → List Dialogue → List Dialogue → Type 0
+abbrev pub All : (R : Dialogue → Dialogue → Type 0) → List Dialogue → List Dialogue → Type 0
 All R [] [] = Unit {0}
 All R (d ∷ ds) (e ∷ es) = R d e × All R ds es
 All R _ _ = ⊥
@@ -113,7 +113,7 @@ follows_all R w k older (Ok p) ds es after other all c h = either_all R w k olde
 
 -- ---- All packets.
 
-leads_all : (R : Dialogue → Dialogue → Type 0) (w : Configuration) → IsKept w R → (packets : List (List ℕ)) (ds es : List Dialogue) → Leads w packets ds → Leads w packets es → All R ds es
+pub leads_all : (R : Dialogue → Dialogue → Type 0) (w : Configuration) → IsKept w R → (packets : List (List ℕ)) (ds es : List Dialogue) → Leads w packets ds → Leads w packets es → All R ds es
 unfolding Follows
 leads_all R w k [] ds es c h =
     let P : List Dialogue → Type 0 = λ l. All R l es in

@@ -6,7 +6,7 @@ use Rattle.mctp_framing.specs.Gathering.{Gathered}
 use Rattle.mctp_framing.specs.Gathering.Gathered.{Whole, More, Dropped}
 use Rattle.responder_machine.specs.History.{History}
 use Rattle.responder_machine.specs.Setup.{RspSetup, towards}
-use Rattle.world_machine.specs.Capture.{RepliesBy, Replies}
+use Rattle.world_machine.specs.Capture.{Leads, RepliesBy, Replies}
 use Rattle.world_machine.specs.CapturedAnswers.{Answers}
 use Rattle.world_machine.specs.Difference.{Why, IsReason, IsVerifyApart, IsOtherwiseWrong, OneReason}
 use Rattle.world_machine.specs.Difference.Why.{BadPacket, UnknownEnd, WrongTurn, BadRequest, BadReply, BadVerify, BadRecord}
@@ -20,7 +20,7 @@ use Rattle.world_machine.proofs.Captures.{one_is_first}
 use Rattle.world_machine.proofs.FetchedTold.{Stands, fetched_told}
 use Rattle.world_machine.proofs.Fetching.{IsSound, begins_sound, asks_sound, replies_sound, stands_of}
 use Rattle.world_machine.proofs.RepliesAlike.{replied, replied_by, answer_moved, same_rounds}
-use Rattle.world_machine.proofs.Walks.{IsKept, one_table_by, one_reason_by}
+use Rattle.world_machine.proofs.Walks.{IsKept, All, leads_all, one_table_by, one_reason_by}
 
 -- The dialogues are alike, and each is sound by itself.
 pub record BothAlike (d e : Dialogue) : Type 0 where
@@ -70,7 +70,7 @@ replies_alike w d e More next other both c k =
 replies_alike w d e (Dropped cause) next other both c k = absurd c
 
 -- Each step keeps it.
-kept : (w : Configuration) → IsKept w BothAlike
+pub kept : (w : Configuration) → IsKept w BothAlike
 kept w = record {
   setups = λ d e both. both.alike.setup;
   begins = λ q. record { alike = begins_alike q; one = begins_sound q; other = begins_sound q };
@@ -82,6 +82,10 @@ kept w = record {
 }
 
 -- ---- The laws.
+
+-- All walks over the same packets are alike.
+pub leads_alike : (w : Configuration) (older : List (List ℕ)) (ds es : List Dialogue) → Leads w older ds → Leads w older es → All BothAlike ds es
+leads_alike w older ds es one other = leads_all BothAlike w (kept w) older ds es one other
 
 pub one_table : OneTable
 one_table w packets one other has had = one_table_by BothAlike w (kept w) packets one other has had
