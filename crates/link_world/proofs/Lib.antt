@@ -1,1 +1,11 @@
+pub mod Askers
+pub mod Brings
+pub mod Changing
+pub mod GivenTo
+pub mod Made
+pub mod Packets
 pub mod Places
+pub mod Shown
+pub mod Telling
+pub mod Texts
+pub mod Writing

@@ -1,4 +1,4 @@
-ghost use Rattle.std.specs.Prelude.{◌≡◌, ◌≤◌, ◌++◌, ◌∷◌, [], ℕ, List, length, IfErr, OnOk, OnErr};
+ghost use Rattle.std.specs.Prelude.{◌≡◌, ◌≤◌, ◌<◌, ◌++◌, ◌∷◌, [], ℕ, List, length, IfErr, OnOk, OnErr};
 ghost use Rattle.std.specs.Option.{option_map};
 ghost use Rattle.world_machine.specs.World.{SentPacket, first_waiting, packet_of, stopped_of, waiting};
 ghost use Rattle.link_world.specs.Sent.{AreWithin, IsCause, NoneWaits, packet_limit, sent_of};
@@ -71,6 +71,7 @@ impl SentPackets {
     /// A packet is sent, and waits. After a fault they are as before.
     pub fn push(&mut self, packet: &[u8]) -> Result<(), SendFault>
         ensures sent { OnOk result (self.new ≡ self.old ++ waiting packet.now ∷ []) }
+        ensures room { OnOk result (length self.old < packet_limit) }
         ensures fault { IfErr result (λ fault. IsCause self.old fault) }
         ensures kept { OnErr result (self.new ≡ self.old) }
     {
@@ -112,7 +113,8 @@ impl SentPackets {
         }
     }
 
-    /// The least number of a packet that waits, if one waits. What it has passed it does not look at
+    /// The least number of a packet that waits, if one waits. What it has passed it does not look
+    /// at
     /// again.
     pub fn first_waiting(&mut self) -> Option<u32>
         ensures first { result ≡ first_waiting self.old }

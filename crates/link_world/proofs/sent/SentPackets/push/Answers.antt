@@ -1,4 +1,6 @@
-use Rattle.std.proofs.Common.{◌∙◌, ◌++◌, ◌∷◌, [], ℕ, List, ap, arith, true}
+use Rattle.std.proofs.Common.{◌∙◌, ◌<◌, ◌++◌, ◌∷◌, [], ℕ, List, ap, arith, length, subst, true}
+use Rattle.std.proofs.lemmas.List.{length-map}
+use Rattle.link_world.specs.Sent.{packet_in, packet_limit}
 use Rattle.link_world.proofs.Places.{IsPushed, added, pushed_kept, pushed_sent}
 use Rattle.link_world.specs.declared.sent.Place.{Place}
 use Rattle.world_machine.specs.World.{SentPacket, waiting}
@@ -25,3 +27,10 @@ pub returns-clause-sent : goal.returns-clause-sent
 returns-clause-sent c =
     pushed_sent _ _ _ _ _ (is_pushed c) c.self.invariant.0
     ∙ ap (λ (l : List SentPacket). l ++ waiting c.args.packet.now ∷ []) c.self.view_is
+
+pub returns-clause-room : goal.returns-clause-room
+returns-clause-room c =
+    let inv = c.self.invariant in
+    let len = c.len.ensures in
+    let most = inv.3 in
+    subst (λ (l : List SentPacket). length l < packet_limit) c.self.view_is (omega (arith, most, c.if-len-eq-PACKET_LIMIT.false, len, length-map c.self.inside.places.items (packet_in c.self.inside.bytes.items)))

@@ -1,0 +1,196 @@
+-- The lines of a packet that was given to an end, by what is told and the data that came last.
+use Rattle.std.proofs.Common.{refl, ◌≡◌, ◌∙◌, ◌∷◌, ◌++◌, ℕ, List, [], Bool, true, false, Option, Some, None, ap, sym, subst}
+use Rattle.std.proofs.lemmas.Bool.{false≢true}
+use Rattle.std.specs.Prelude.{◌==◌, if◌then◌else◌, is_some, not, unwrap_or, Result, Ok, Err}
+use Rattle.std.specs.Option.{option_or}
+use Rattle.link_world.proofs.Brings.{Agrees, EntryAgrees, entry_agrees, is_answered, is_measured}
+use Rattle.link_world.proofs.Changing.{whole_either}
+use Rattle.link_world.specs.Told.{event_data, event_lines, heard_data, heard_lines}
+use Rattle.mctp_framing.specs.Cutting.{RouteFields}
+use Rattle.mctp_framing.specs.Gathering.{Gathered}
+use Rattle.mctp_framing.specs.Gathering.Gathered.{Dropped, More, Whole}
+use Rattle.mctp_framing.specs.Packet.{PacketFields, parsed}
+use Rattle.requester_machine.specs.Asking.{Outcome}
+use Rattle.requester_machine.specs.Asking.{Outcome as asked}
+use Rattle.requester_machine.specs.Does.{requester_hears, body_chosen}
+use Rattle.requester_machine.specs.History as asking
+use Rattle.requester_machine.specs.History.Entry.{Told, TookClear, TookRecord}
+use Rattle.requester_machine.specs.Requesting as requesting
+use Rattle.requester_machine.specs.Requesting.{PacketStep, Requesting, requester_given}
+use Rattle.requester_machine.specs.Shown as shown
+use Rattle.responder.proofs.Data.{TellsData, body_data}
+use Rattle.responder.specs.Came.{data_or, last_for}
+use Rattle.responder_machine.specs.Does.{responder_does}
+use Rattle.responder_machine.specs.Heard.{heard_of}
+use Rattle.responder_machine.specs.History as served
+use Rattle.responder_machine.specs.History.{Entry as entry}
+use Rattle.responder_machine.specs.Responder as answering
+use Rattle.responder_machine.specs.Responder.{Outcome as outcome}
+use Rattle.responder_machine.specs.Responding as responding
+use Rattle.responder_machine.specs.Responding.{Connection, Responding, RspStep, connection_of, data_of, last_data, responder_hears, with_taken}
+use Rattle.responder_machine.specs.Turn.{Effect}
+use Rattle.responder_machine.specs.Turn.{Effect as effect}
+use Rattle.spdm_basis.specs.declared.PacketFault.{PacketFault}
+use Rattle.spdm_basis.specs.declared.drop_cause.DropCause.TheVariants.{NotOurs}
+use Rattle.spdm_basis.specs.declared.session_id.SessionId.{SessionId}
+use Rattle.spdm_grammar.specs.Lines.{Line, Whose}
+use Rattle.spdm_grammar.specs.Lines.Line.{ToRequester, ToResponder}
+use Rattle.spdm_grammar.specs.Message.{ChunkMessage}
+use Rattle.spdm_grammar.specs.declared.error_code.ErrorCode.{ErrorCode}
+use Rattle.spdm_grammar.specs.declared.event.Event.{Event}
+use Rattle.spdm_grammar.specs.declared.event.Event.TheVariants as event
+use Rattle.spdm_grammar.specs.declared.event.Finished.TheVariants as finished
+use Rattle.spdm_grammar.specs.declared.heard.Heard.{Heard}
+use Rattle.spdm_grammar.specs.declared.heard.Heard.TheVariants as heard
+use Rattle.spdm_grammar.specs.declared.heard.RspIgnored.TheVariants as ignored
+use Rattle.spdm_machine.specs.Keys.{Draw}
+use Rattle.spdm_machine.specs.Packets.{gathered_from}
+use Rattle.world_machine.specs.World.{data_lines, id_in_event, record_lines, taken_lines}
+
+-- ---- The responder.
+
+-- The lines are those of what is told and of the data.
+abbrev pub HeardAs : ℕ → Heard → (last : List ℕ) → Option (SessionId × List ℕ) → Type 0
+HeardAs n told last taken = heard_lines n told last ≡ ToResponder told ∷ taken_lines n taken
+
+-- The first of them, where there is one.
+abbrev last_of : Responding → (taken : List (List ℕ)) → List ℕ
+last_of r taken = last_data (record r { taken = taken })
+
+-- What is told of a turn in which data do not come: no data would be told.
+not_both : (x : List ℕ) → x ≡ [] → x ≡ 0 ∷ [] → ⊥
+not_both x a b = cc (a, b)
+
+-- An entry in the clear, of which no data are kept.
+clear_entry : (n : ℕ) (last : List ℕ) (tag : ℕ) (m : List ℕ) (x : Option ErrorCode) (chunk : Option ChunkMessage) (g : Effect) (reply : List ℕ) (d : Draw) (h : served.History)
+    → ((before : List ℕ) → last_for (heard_of (outcome.Adds (entry.Clear tag (record { message = m; refused = x; chunk = chunk; effect = g; reply = reply }) d))) h before ≡ before)
+    → heard_data n (heard_of (outcome.Adds (entry.Clear tag (record { message = m; refused = x; chunk = chunk; effect = g; reply = reply }) d))) last ≡ []
+clear_entry n last tag m (Some e) chunk g reply d h none = refl
+clear_entry n last tag m None chunk (effect.NoEffect) reply d h none = refl
+clear_entry n last tag m None chunk (effect.Took asked request whole large) reply d h none = refl
+clear_entry n last tag m None chunk (effect.TookData bytes sent) reply d h none = absurd (not_both _ (none []) (none (0 ∷ [])))
+
+-- A record, whose data are the last.
+record_entry : (n : ℕ) (r : Responding) (tag : ℕ) (sealed m : List ℕ) (x : Option ErrorCode) (chunk : Option ChunkMessage) (g : Effect) (answer reply : List ℕ) (d : Draw) (h : served.History)
+    → ((before : List ℕ) → last_for (heard_of (outcome.Adds (entry.Sealed tag sealed (record { message = m; refused = x; chunk = chunk; effect = g; reply = answer }) reply d))) h before
+        ≡ data_or before (responding.data_in sealed g))
+    → HeardAs n (heard_of (outcome.Adds (entry.Sealed tag sealed (record { message = m; refused = x; chunk = chunk; effect = g; reply = answer }) reply d))) (last_of r (with_taken (responding.data_in sealed g) r.taken)) (responding.data_in sealed g)
+record_entry n r tag sealed m (Some e) chunk (effect.NoEffect) answer reply d h same = refl
+record_entry n r tag sealed m (Some e) chunk (effect.Took asked request whole large) answer reply d h same = refl
+record_entry n r tag sealed m (Some e) chunk (effect.TookData bytes sent) answer reply d h same = absurd (not_both bytes (sym (same [])) (sym (same (0 ∷ []))))
+record_entry n r tag sealed m None chunk (effect.NoEffect) answer reply d h same = refl
+record_entry n r tag sealed m None chunk (effect.Took asked request whole large) answer reply d h same = refl
+record_entry n r tag sealed m None chunk (effect.TookData bytes sent) answer reply d h same = refl
+
+outcome_tells : (n : ℕ) (r : Responding) (h : served.History) (o : answering.Outcome) → ((before : List ℕ) → TellsData h before o) → HeardAs n (heard_of o) (last_of r (with_taken (data_of o) r.taken)) (data_of o)
+outcome_tells n r h (outcome.Same body) tells = refl
+outcome_tells n r h (outcome.Unopened body) tells = refl
+outcome_tells n r h (outcome.Adds (entry.Clear tag t d)) tells =
+    ap (λ (l : List Line). ToResponder (heard_of (outcome.Adds (entry.Clear tag t d))) ∷ l)
+    (clear_entry n (last_of r r.taken) tag t.message t.refused t.chunk t.effect t.reply d (answering.after h (outcome.Adds (entry.Clear tag t d))) (λ before. (tells before).same))
+outcome_tells n r h (outcome.Adds (entry.Sealed tag sealed t reply d)) tells =
+    record_entry n r tag sealed t.message t.refused t.chunk t.effect t.reply reply d (answering.after h (outcome.Adds (entry.Sealed tag sealed t reply d))) (λ before. (tells before).same)
+outcome_tells n r h (outcome.Adds (entry.Queued bytes)) tells = refl
+outcome_tells n r h (outcome.Adds (entry.Ticked seconds)) tells = refl
+outcome_tells n r h (outcome.Adds _) tells = refl
+
+-- The step of a packet tells its data.
+abbrev pub StepTells : ℕ → RspStep → Type 0
+StepTells n step = HeardAs n step.heard (last_data step.after) step.taken
+
+either_step : (n : ℕ) (b : Bool) (x y : RspStep) → StepTells n x → StepTells n y → StepTells n (if b then x else y)
+either_step n true x y a b = a
+either_step n false x y a b = b
+
+whole_tells : (n : ℕ) (r : Responding) (d : Draw) (c : Connection) (packet : List ℕ) (route : RouteFields) (body : List ℕ) → StepTells n (responding.hears_whole r d c packet route body)
+whole_tells n r d c packet route body =
+    whole_either (StepTells n) r d c packet route body refl refl (outcome_tells n r c.history (responder_does c.setup c.history route.tag body d) (body_data c.setup c.history route.tag body d))
+
+gathered_tells : (n : ℕ) (r : Responding) (d : Draw) (c : Connection) (packet : List ℕ) (gathered : Gathered) → StepTells n (responding.hears_gathered r d c packet gathered)
+gathered_tells n r d c packet (Whole route body) = whole_tells n r d c packet route body
+gathered_tells n r d c packet More = refl
+gathered_tells n r d c packet (Dropped cause) = refl
+
+from_tells : (n : ℕ) (r : Responding) (d : Draw) (packet : List ℕ) (fields : PacketFields) (c : Option Connection) → StepTells n (responding.hears_from r d packet fields c)
+from_tells n r d packet fields None = refl
+from_tells n r d packet fields (Some c) = gathered_tells n r d c packet (gathered_from c.setup.eid c.setup.peer r.given fields)
+
+packet_tells : (n : ℕ) (r : Responding) (d : Draw) (packet : List ℕ) (fields : Result PacketFields PacketFault) → StepTells n (responding.hears_packet r d packet fields)
+packet_tells n r d packet (Err fault) = refl
+packet_tells n r d packet (Ok fields) = either_step n (not (fields.to == r.part.eid)) (responding.ignores r packet (heard.Ignored (ignored.Dropped NotOurs))) (responding.hears_from r d packet fields (connection_of fields.from r.connections)) refl (from_tells n r d packet fields (connection_of fields.from r.connections))
+
+pub responder_tells : (n : ℕ) (r : Responding) (packet : List ℕ) → StepTells n (responder_hears r packet)
+unfolding responder_hears
+responder_tells n r packet = either_step n (responding.is_worn r) _ _ refl (packet_tells n r (responding.next_draw r) packet (parsed packet))
+
+-- ---- A requester.
+
+-- The lines are those of what is told, of the data and of the measurement record.
+abbrev pub GivenAs : ℕ → Event → (last : List ℕ) → (taken measured : Option (List ℕ)) → Type 0
+GivenAs n told last taken measured = event_lines n told last ≡ ToRequester n told ∷ data_lines (Whose.Requester n) (id_in_event told) taken ++ record_lines n measured
+
+neither : (P : Option (List ℕ) → Option (List ℕ) → Type 0) (taken measured : Option (List ℕ)) → is_some taken ≡ false → is_some measured ≡ false → P None None → P taken measured
+neither P None None a b p = p
+neither P None (Some x) a b p = absurd (false≢true (sym b))
+neither P (Some x) measured a b p = absurd (false≢true (sym a))
+
+by_event : (n : ℕ) (told : Event) (older : List ℕ) (taken measured : Option (List ℕ)) → is_some taken ≡ is_answered told → is_some measured ≡ is_measured told
+    → GivenAs n told (unwrap_or (option_or taken measured) older) taken measured
+by_event n (event.Done (finished.Answered id)) older (Some bytes) None a b = refl
+by_event n (event.Done (finished.Answered id)) older None measured a b = absurd (false≢true a)
+by_event n (event.Done (finished.Answered id)) older (Some bytes) (Some more) a b = absurd (false≢true (sym b))
+by_event n (event.Done (finished.Measured number)) older None (Some bytes) a b = refl
+by_event n (event.Done (finished.Measured number)) older taken None a b = absurd (false≢true b)
+by_event n (event.Done (finished.Measured number)) older (Some bytes) (Some more) a b = absurd (false≢true (sym a))
+by_event n (event.Done finished.Connected) older taken measured a b = neither (λ t m. GivenAs n (event.Done finished.Connected) (unwrap_or (option_or t m) older) t m) taken measured a b refl
+by_event n (event.Done (finished.Opened id)) older taken measured a b = neither (λ t m. GivenAs n (event.Done (finished.Opened id)) (unwrap_or (option_or t m) older) t m) taken measured a b refl
+by_event n (event.Done (finished.Alive id)) older taken measured a b = neither (λ t m. GivenAs n (event.Done (finished.Alive id)) (unwrap_or (option_or t m) older) t m) taken measured a b refl
+by_event n (event.Done (finished.Updated id)) older taken measured a b = neither (λ t m. GivenAs n (event.Done (finished.Updated id)) (unwrap_or (option_or t m) older) t m) taken measured a b refl
+by_event n (event.Done (finished.Ended id)) older taken measured a b = neither (λ t m. GivenAs n (event.Done (finished.Ended id)) (unwrap_or (option_or t m) older) t m) taken measured a b refl
+by_event n event.Progress older taken measured a b = neither (λ t m. GivenAs n event.Progress (unwrap_or (option_or t m) older) t m) taken measured a b refl
+by_event n event.More older taken measured a b = neither (λ t m. GivenAs n event.More (unwrap_or (option_or t m) older) t m) taken measured a b refl
+by_event n (event.Refused code) older taken measured a b = neither (λ t m. GivenAs n (event.Refused code) (unwrap_or (option_or t m) older) t m) taken measured a b refl
+by_event n (event.Warned code) older taken measured a b = neither (λ t m. GivenAs n (event.Warned code) (unwrap_or (option_or t m) older) t m) taken measured a b refl
+by_event n (event.Stopped why) older taken measured a b = neither (λ t m. GivenAs n (event.Stopped why) (unwrap_or (option_or t m) older) t m) taken measured a b refl
+by_event n (event.Lost id why) older taken measured a b = neither (λ t m. GivenAs n (event.Lost id why) (unwrap_or (option_or t m) older) t m) taken measured a b refl
+by_event n (event.Ignored why) older taken measured a b = neither (λ t m. GivenAs n (event.Ignored why) (unwrap_or (option_or t m) older) t m) taken measured a b refl
+
+by_led : (n : ℕ) (older : asking.History) (led : asking.Led) → Agrees led
+    → GivenAs n led.event (unwrap_or (option_or (shown.bytes_in led.effect) (shown.blocks_in led.effect)) (shown.last_data older)) (shown.bytes_in led.effect) (shown.blocks_in led.effect)
+by_led n older led agrees = by_event n led.event (shown.last_data older) (shown.bytes_in led.effect) (shown.blocks_in led.effect) agrees.bytes agrees.blocks
+
+by_entry : (n : ℕ) (h : asking.History) (e : asking.Entry) → EntryAgrees e → GivenAs n (unwrap_or (shown.event_in e) event.More) (shown.last_data (e ∷ h)) (shown.bytes_in (shown.effect_in e)) (shown.blocks_in (shown.effect_in e))
+by_entry n h (Told command sent d) agrees = refl
+by_entry n h (TookClear tag m led d) agrees = by_led n h led agrees
+by_entry n h (TookRecord tag id sealed inner led d) agrees = by_led n h led agrees
+
+by_outcome : (n : ℕ) (h : asking.History) (o : Outcome) → ((e : asking.Entry) → o ≡ asked.Adds e → EntryAgrees e)
+    → GivenAs n (unwrap_or (shown.event_of o) event.More) (shown.last_data (shown.after h o)) (shown.data_of o) (shown.record_of o)
+by_outcome n h (asked.Fails fault) agrees = refl
+by_outcome n h (asked.Ignores cause) agrees = refl
+by_outcome n h (asked.Warns code) agrees = refl
+by_outcome n h (asked.Resends sent) agrees = refl
+by_outcome n h (asked.Adds e) agrees = by_entry n h e (agrees e refl)
+
+-- The step of a packet tells what came.
+abbrev pub GivenTells : ℕ → PacketStep → Type 0
+GivenTells n step = GivenAs n step.event (shown.last_data step.after.history) step.taken step.measured
+
+either_given : (n : ℕ) (b : Bool) (x y : PacketStep) → GivenTells n x → GivenTells n y → GivenTells n (if b then x else y)
+either_given n true x y a b = a
+either_given n false x y a b = b
+
+gathered_given : (n : ℕ) (a : Requesting) (packet : List ℕ) (gathered : Gathered) → GivenTells n (requesting.hears_gathered a packet gathered)
+gathered_given n a packet (Whole route body) =
+    by_outcome n a.history (requester_hears a.setup a.history route.owner route.tag body (requesting.next_draw a))
+    (λ e is. entry_agrees a.setup a.history route.owner route.tag body (body_chosen a.setup a.history (requesting.next_draw a)) (requesting.next_draw a) e is)
+gathered_given n a packet More = refl
+gathered_given n a packet (Dropped cause) = refl
+
+packet_given : (n : ℕ) (a : Requesting) (packet : List ℕ) (fields : Result PacketFields PacketFault) → GivenTells n (requesting.hears_packet a packet fields)
+packet_given n a packet (Err fault) = refl
+packet_given n a packet (Ok fields) = gathered_given n a packet _
+
+pub requester_tells : (n : ℕ) (a : Requesting) (packet : List ℕ) → GivenTells n (requester_given a packet)
+unfolding requester_given
+requester_tells n a packet = either_given n (requesting.is_worn a) _ _ refl (packet_given n a packet (parsed packet))

@@ -1,0 +1,135 @@
+ghost use Rattle.std.specs.Prelude.{◌≡◌, slice_index};
+
+use crate::ends::{Ends, number_of_place};
+use crate::lines::{push_command, push_event, push_heard, push_nobody, push_reply};
+use mctp_framing::PacketList;
+use requester::Command;
+use spdm_basis::{Bytes, OutOfMemory};
+
+// The source of a packet, and 0 where it is too short to have one.
+fn source(packet: &[u8]) -> u8
+    ensures { result ≡ slice_index packet.now 2 }
+{
+    packet.get(2).copied().unwrap_or(0)
+}
+
+// What the ends do. The lines of it, but for those of the packets that are sent upon it, are added
+// at the end of a
+// text, and these packets are put in place of what `out` holds.
+impl Ends {
+    ghost use Rattle.std.specs.Prelude.{◌≡◌, ◌<◌, Some, OnOk, length};
+    ghost use Rattle.asking.specs.Joined.{command_of};
+    ghost use Rattle.link_world.specs.Standing.{AreEnds, IsDone, IsGivenTo};
+    ghost use Rattle.responder_machine.specs.Responding.{responder_hears, ticks};
+    ghost use Rattle.requester_machine.specs.Requesting.{Requesting, requester_given};
+    ghost use Rattle.world_machine.specs.World.{World, given, given_to_requester, given_to_responder, replied, requester_at, requester_of, told, number_at};
+
+    /// A requester is told a command. Nothing happens where there is none of this number.
+    pub(crate) fn tell(
+        &mut self,
+        q: u8,
+        command: Command<'_>,
+        out: &mut PacketList,
+        text: &mut Bytes,
+    ) -> Result<(), OutOfMemory>
+        ensures { (w : World) → AreEnds self.old w → OnOk result (IsGivenTo w
+            (told w q (command_of command.entry) (requester_of q w)) text.old text.new out.new
+            self.new) }
+    {
+        out.clear();
+        let Some(place) = usize::from(q).checked_sub(1) else {
+            return Ok(());
+        };
+        let Some(asker) = self.requesters.get_mut(place) else {
+            return Ok(());
+        };
+        let answer = asker.requester.command(command, out);
+        push_command(q, &answer, text)
+    }
+
+    /// A packet is given to the end that its byte 1 names.
+    pub(crate) fn give(
+        &mut self,
+        packet: &[u8],
+        out: &mut PacketList,
+        text: &mut Bytes,
+    ) -> Result<(), OutOfMemory>
+        ensures { (w : World) → AreEnds self.old w → OnOk result
+            (IsGivenTo w (given w packet.now) text.old text.new out.new self.new) }
+    {
+        out.clear();
+        if packet.len() < 2 {
+            return push_nobody(text);
+        }
+        let to = packet[1];
+        if to == self.eid.number() {
+            return self.give_responder(packet, out, text);
+        }
+        match self.place_of(to) {
+            Some(place) => self.give_requester(place, packet, out, text),
+            None => push_nobody(text),
+        }
+    }
+
+    // A packet is given to the responder.
+    fn give_responder(
+        &mut self,
+        packet: &[u8],
+        out: &mut PacketList,
+        text: &mut Bytes,
+    ) -> Result<(), OutOfMemory>
+        ensures { (w : World) → AreEnds self.old w → OnOk result (IsGivenTo w
+            (given_to_responder w packet.now (responder_hears w.responder packet.now)) text.old
+            text.new out.new self.new) }
+    {
+        let heard = self.responder.on_packet(packet, out);
+        let q = self.number_of(source(packet));
+        push_heard(q, heard, self.responder.last_data(), text)
+    }
+
+    // A packet is given to the requester at a place.
+    fn give_requester(
+        &mut self,
+        place: usize,
+        packet: &[u8],
+        out: &mut PacketList,
+        text: &mut Bytes,
+    ) -> Result<(), OutOfMemory>
+        requires { place < length self.old.requesters.items }
+        ensures { (w : World) (a : Requesting) → AreEnds self.old w
+            → requester_at place w.requesters ≡ Some a → OnOk result (IsGivenTo w
+            (given_to_requester w (number_at a.setup.eid w) (requester_given a packet.now))
+            text.old text.new out.new self.new) }
+    {
+        let Some(asker) = self.requesters.get_mut(place) else {
+            unreachable!()
+        };
+        let event = asker.requester.on_packet(packet, out);
+        push_event(number_of_place(place), event, asker.requester.last_data(), text)
+    }
+
+    /// Application data is queued for a requester at the responder. Nothing happens where there is
+    /// none of this
+    /// number.
+    pub(crate) fn reply(&mut self, q: u8, bytes: &[u8], text: &mut Bytes) -> Result<(), OutOfMemory>
+        ensures { (w : World) → AreEnds self.old w → OnOk result
+            (IsDone w (replied w bytes.now (requester_of q w)) text.old text.new self.new) }
+    {
+        let Some(place) = usize::from(q).checked_sub(1) else {
+            return Ok(());
+        };
+        let Some(asker) = self.requesters.get(place) else {
+            return Ok(());
+        };
+        let answer = self.responder.queue(asker.eid, bytes);
+        push_reply(&answer, text)
+    }
+
+    /// Seconds pass at the responder.
+    pub(crate) fn tick(&mut self, seconds: u32)
+        ensures { (w : World) → AreEnds self.old w
+            → AreEnds self.new (record w { responder = ticks w.responder seconds }) }
+    {
+        self.responder.tick(seconds);
+    }
+}

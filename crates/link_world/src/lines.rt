@@ -1,0 +1,162 @@
+ghost use Rattle.std.specs.Prelude.{◌≡◌, ◌++◌, OnOk};
+ghost use Rattle.link_world.specs.Told.{event_lines, heard_lines};
+ghost use Rattle.link_world.specs.Written.{text_of};
+ghost use Rattle.script_text.specs.TraceLines.{line_text};
+ghost use Rattle.script_text.specs.Whose.{fault_of};
+ghost use Rattle.spdm_grammar.specs.Lines.Whose.{Requester, Responder};
+ghost use Rattle.spdm_grammar.specs.Lines.Line.{At, Command, Data, NoPacket, Packet, Record, Reply, ToNobody, ToRequester, ToResponder};
+
+use script_text::{
+    add_hex, add_number, add_requester, add_word, end_text_line, line_at, line_command, line_event,
+    line_heard, line_no_packet, line_nobody, line_reply,
+};
+use spdm_basis::{Bytes, Line, OutOfMemory, SessionId};
+use spdm_grammar::{CommandFault, Event, Finished, Heard, ReplyFault};
+
+/// Adds the line in front of an event.
+pub(crate) fn push_at(number: u32, text: &mut Bytes) -> Result<(), OutOfMemory>
+    ensures { OnOk result (text.new ≡ text.old ++ line_text (At number)) }
+{
+    let mut line = Line::new();
+    line_at(number, &mut line);
+    text.extend(line.as_slice())
+}
+
+/// Adds the line of a command of requester `q`.
+pub(crate) fn push_command(
+    q: u8,
+    answer: &Result<(), CommandFault>,
+    text: &mut Bytes,
+) -> Result<(), OutOfMemory>
+    ensures { OnOk result (text.new ≡ text.old ++ line_text (Command q (fault_of answer.now))) }
+{
+    let mut line = Line::new();
+    line_command(q, answer, &mut line);
+    text.extend(line.as_slice())
+}
+
+/// Adds the line of application data that were queued, or not.
+pub(crate) fn push_reply(
+    answer: &Result<(), ReplyFault>,
+    text: &mut Bytes,
+) -> Result<(), OutOfMemory>
+    ensures { OnOk result (text.new ≡ text.old ++ line_text (Reply (fault_of answer.now))) }
+{
+    let mut line = Line::new();
+    line_reply(answer, &mut line);
+    text.extend(line.as_slice())
+}
+
+/// Adds the line of a packet that is for no end.
+pub(crate) fn push_nobody(text: &mut Bytes) -> Result<(), OutOfMemory>
+    ensures { OnOk result (text.new ≡ text.old ++ line_text ToNobody) }
+{
+    let mut line = Line::new();
+    line_nobody(&mut line);
+    text.extend(line.as_slice())
+}
+
+/// Adds the line of a packet that was never sent.
+pub(crate) fn push_no_packet(number: u32, text: &mut Bytes) -> Result<(), OutOfMemory>
+    ensures { OnOk result (text.new ≡ text.old ++ line_text (NoPacket number)) }
+{
+    let mut line = Line::new();
+    line_no_packet(number, &mut line);
+    text.extend(line.as_slice())
+}
+
+/// Adds the line of a packet that was sent.
+#[tactic(auto, unfolding(script_text::specs::TraceLines::line_text))]
+pub(crate) fn push_packet(number: u32, bytes: &[u8], text: &mut Bytes) -> Result<(), OutOfMemory>
+    ensures { OnOk result (text.new ≡ text.old ++ line_text (Packet number bytes.now)) }
+{
+    text.extend(b"packet")?;
+    add_number(u64::from(number), text)?;
+    add_hex(bytes, text)?;
+    end_text_line(text)
+}
+
+// Adds the line of application data that the responder took in a session with requester `q`.
+#[tactic(
+    auto,
+    using(crate::proofs::Texts::id_is),
+    unfolding(script_text::specs::TraceLines::line_text)
+)]
+fn push_taken(q: u8, id: SessionId, bytes: &[u8], text: &mut Bytes) -> Result<(), OutOfMemory>
+    ensures { OnOk result (text.new ≡ text.old ++ line_text (Data (Responder q) id bytes.now)) }
+{
+    text.extend(b"data")?;
+    add_word(b"r", text)?;
+    add_requester(q, text)?;
+    add_hex(&id.bytes(), text)?;
+    add_hex(bytes, text)?;
+    end_text_line(text)
+}
+
+// Adds the line of application data that requester `q` took in a session.
+#[tactic(
+    auto,
+    using(crate::proofs::Texts::id_is),
+    unfolding(script_text::specs::TraceLines::line_text)
+)]
+fn push_answer(q: u8, id: SessionId, bytes: &[u8], text: &mut Bytes) -> Result<(), OutOfMemory>
+    ensures { OnOk result (text.new ≡ text.old ++ line_text (Data (Requester q) id bytes.now)) }
+{
+    text.extend(b"data")?;
+    add_requester(q, text)?;
+    add_hex(&id.bytes(), text)?;
+    add_hex(bytes, text)?;
+    end_text_line(text)
+}
+
+// Adds the line of a measurement record that requester `q` took.
+#[tactic(auto, unfolding(script_text::specs::TraceLines::line_text))]
+fn push_record(q: u8, bytes: &[u8], text: &mut Bytes) -> Result<(), OutOfMemory>
+    ensures { OnOk result (text.new ≡ text.old ++ line_text (Record q bytes.now)) }
+{
+    text.extend(b"record")?;
+    add_requester(q, text)?;
+    add_hex(bytes, text)?;
+    end_text_line(text)
+}
+
+/// Adds the lines of a packet that was given to the responder, from requester `q`. `last` are the
+/// application data
+/// that the responder took last.
+pub(crate) fn push_heard(
+    q: u8,
+    heard: Heard,
+    last: &[u8],
+    text: &mut Bytes,
+) -> Result<(), OutOfMemory>
+    ensures { OnOk result (text.new ≡ text.old ++ text_of (heard_lines q heard last.now)) }
+{
+    let mut line = Line::new();
+    line_heard(&heard, &mut line);
+    text.extend(line.as_slice())?;
+    match heard {
+        Heard::Taken(id) => push_taken(q, id, last, text),
+        _ => Ok(()),
+    }
+}
+
+/// Adds the lines of a packet that was given to requester `q`. `last` are the application data or
+/// the measurement
+/// record that it took last.
+pub(crate) fn push_event(
+    q: u8,
+    event: Event,
+    last: &[u8],
+    text: &mut Bytes,
+) -> Result<(), OutOfMemory>
+    ensures { OnOk result (text.new ≡ text.old ++ text_of (event_lines q event last.now)) }
+{
+    let mut line = Line::new();
+    line_event(q, &event, &mut line);
+    text.extend(line.as_slice())?;
+    match event {
+        Event::Done(Finished::Answered(id)) => push_answer(q, id, last, text),
+        Event::Done(Finished::Measured(_)) => push_record(q, last, text),
+        _ => Ok(()),
+    }
+}

@@ -1,0 +1,12 @@
+use crate::SentPackets;
+use crate::ends::Ends;
+use mctp_framing::PacketList;
+
+/// The ends of a world, and the packets that were sent between them.
+#[derive(Drop)]
+pub struct Link {
+    pub(crate) ends: Ends,
+    pub(crate) sent: SentPackets,
+    // The packets of one message.
+    pub(crate) out: PacketList,
+}

@@ -1,0 +1,177 @@
+ghost use Rattle.std.specs.Prelude.{◌≡◌};
+ghost use Rattle.link_world.specs.Events.{is_show};
+
+use crate::lines::push_at;
+use crate::link::Link;
+use crate::making::link_of;
+use crate::{SendFault, StepFault, WorldFault};
+use requester::Requester;
+use responder::Responder;
+use script_text::{LinkEvent, ScriptConfig};
+use spdm_basis::{Bytes, OutFault, Sink, write_all};
+use std::alloc::Global;
+
+/// A responder, its requesters and the packets that were sent between them. It is changed by `step`
+/// alone.
+#[derive(Drop)]
+pub struct World {
+    pub(crate) link: Link,
+    // Memory for the lines of an event.
+    pub(crate) text: Bytes,
+}
+
+// Whether the ends are shown.
+fn is_show(event: &LinkEvent) -> bool
+    ensures { result ≡ is_show event.now }
+{
+    matches!(event, LinkEvent::Show)
+}
+
+impl World {
+    ghost use Rattle.std.specs.Prelude.{◌≡◌, ◌≤◌, ◌-◌, ◌^◌, ℕ, List, Some, true, false, IfErr, IfOk, IsErrOf, IsSome, OnErr, OnOk};
+    ghost use Rattle.std.specs.Option.{option_map};
+    ghost use Rattle.link_world.specs.Configured.{IsCause, IsSound, configuration_in};
+    ghost use Rattle.link_world.specs.Events.{entry_of};
+    ghost use Rattle.link_world.specs.Standing.{IsSeen};
+    ghost use Rattle.link_world.specs.Worlds.{StandsFor};
+    ghost use Rattle.link_world.specs.Written.{before_full, has_full, text_of};
+    ghost use Rattle.responder.specs.Standing as answering;
+    ghost use Rattle.spdm_basis.specs.Stream.{HasFault, Takes, TakesPrefix};
+    ghost use Rattle.world_machine.specs.Setup.{script_world};
+    ghost use Rattle.world_machine.specs.World as machine;
+
+    /// The world of a configuration, in which nothing has happened yet. Its one seed gives those of
+    /// the ends. `WorldFault` lists the faults in the order in which they are tested.
+    pub fn new(alloc: Global, config: &ScriptConfig) -> Result<World, WorldFault>
+        requires { IsSome config.now.seed }
+        ensures stands { (seed : List ℕ) → config.now.seed ≡ Some seed
+            → IfOk result (λ world. StandsFor world
+            (machine.new_world (script_world (configuration_in config.now) seed 0))) }
+        ensures sound { OnOk result (IsSound config.now) }
+        ensures fault { IfErr result (λ fault. IsCause config.now fault) }
+    {
+        World::resume(alloc, config, 0)
+    }
+
+    /// The same after so many boots with the same seed: at most 2^24 - 2. The draws of each boot
+    /// are
+    /// its own. The faults are those of `new`.
+    pub fn resume(alloc: Global, config: &ScriptConfig, boot: u32) -> Result<World, WorldFault>
+        requires seed { IsSome config.now.seed }
+        requires boot { boot ≤ 2 ^ 24 - 2 }
+        ensures stands { (seed : List ℕ) → config.now.seed ≡ Some seed
+            → IfOk result (λ world. StandsFor world
+            (machine.new_world (script_world (configuration_in config.now) seed boot))) }
+        ensures sound { OnOk result (IsSound config.now) }
+        ensures fault { IfErr result (λ fault. IsCause config.now fault) }
+    {
+        Ok(World {
+            link: link_of(alloc, config, boot)?,
+            text: Bytes::new(alloc),
+        })
+    }
+
+    /// Writes the lines by which the world is shown: the phase and the sessions of each end. It
+    /// takes
+    /// no memory.
+    pub fn start<K: Sink>(&self, sink: &mut K) -> Result<(), OutFault>
+        ensures written { (w : machine.World) → StandsFor self.now w
+            → OnOk result (Takes (K.contents sink.old) (text_of (machine.shown_lines w))
+            (K.contents sink.new)) }
+        ensures prefix { (w : machine.World) → StandsFor self.now w
+            → OnErr result (TakesPrefix (K.contents sink.old) (text_of (machine.shown_lines w))
+            (K.contents sink.new)) }
+        ensures write_fault { OnErr result (HasFault (K.faults sink.old) (K.faults sink.new)) }
+        ensures later { K.faults sink.old ≤ K.faults sink.new }
+    {
+        self.link.ends.show(sink)
+    }
+
+    /// An event on this line of the script happens, and its lines are written. An event for a
+    /// requester that is not configured does nothing. After `LinkFull` the lines in front of that
+    /// of
+    /// the packet for which there was no room were written, and after any other fault a prefix of
+    /// these; the world is not used again.
+    pub fn step<K: Sink>(
+        &mut self,
+        line: u32,
+        event: &LinkEvent,
+        sink: &mut K,
+    ) -> Result<(), StepFault>
+        ensures written { (w : machine.World) → StandsFor self.old w
+            → OnOk result (Takes (K.contents sink.old)
+            (text_of (machine.entry_step w (entry_of line event.now)).lines)
+            (K.contents sink.new)) }
+        ensures stands { (w : machine.World) → StandsFor self.old w
+            → OnOk result (StandsFor self.new
+            (machine.entry_step w (entry_of line event.now)).after) }
+        ensures fits { (w : machine.World) → StandsFor self.old w
+            → OnOk result (has_full (machine.entry_step w (entry_of line event.now)).lines
+            ≡ false) }
+        ensures link_full { (w : machine.World) → StandsFor self.old w
+            → IsErrOf result StepFault.LinkFull
+            → has_full (machine.entry_step w (entry_of line event.now)).lines ≡ true }
+        ensures before_full { (w : machine.World) → StandsFor self.old w
+            → IsErrOf result StepFault.LinkFull
+            → Takes (K.contents sink.old)
+            (text_of (before_full (machine.entry_step w (entry_of line event.now)).lines))
+            (K.contents sink.new) }
+        ensures prefix { (w : machine.World) → StandsFor self.old w
+            → OnErr result (TakesPrefix (K.contents sink.old)
+            (text_of (before_full (machine.entry_step w (entry_of line event.now)).lines))
+            (K.contents sink.new)) }
+        ensures write_fault { IsErrOf result StepFault.WriteFault
+            → HasFault (K.faults sink.old) (K.faults sink.new) }
+        ensures later { K.faults sink.old ≤ K.faults sink.new }
+    {
+        self.text.clear();
+        push_at(line, &mut self.text).map_err(|_| StepFault::OutOfMemory)?;
+        if is_show(event) {
+            self.write(sink)?;
+            return self.link.ends.show(sink).map_err(|_| StepFault::WriteFault);
+        }
+        match self.link.happen(event, &mut self.text) {
+            Ok(()) => self.write(sink),
+            Err(SendFault::LinkFull) => {
+                self.write(sink)?;
+                Err(StepFault::LinkFull)
+            }
+            Err(SendFault::OutOfMemory) => Err(StepFault::OutOfMemory),
+        }
+    }
+
+    // Writes the lines that were gathered.
+    fn write<K: Sink>(&self, sink: &mut K) -> Result<(), StepFault>
+        ensures whole { OnOk result (Takes (K.contents sink.old) self.now.text
+            (K.contents sink.new)) }
+        ensures prefix { OnErr result (TakesPrefix (K.contents sink.old) self.now.text
+            (K.contents sink.new)) }
+        ensures fault { OnErr result (HasFault (K.faults sink.old) (K.faults sink.new)) }
+        ensures kind { IfErr result (λ fault. fault ≡ StepFault.WriteFault) }
+        ensures later { K.faults sink.old ≤ K.faults sink.new }
+    {
+        write_all(sink, self.text.as_slice()).map_err(|_| StepFault::WriteFault)
+    }
+
+    /// The requester of this index, counted from 0; `None` exactly where the index is not below
+    /// their
+    /// count.
+    pub fn requester(&self, index: usize) -> Option<&Requester>
+        ensures { (w : machine.World) → StandsFor self.now w
+            → IsSeen (option_map (λ requester. requester.now) result)
+            (machine.requester_at index w.requesters) }
+    {
+        match self.link.ends.requesters.get(index) {
+            Some(asker) => Some(&asker.requester),
+            None => None,
+        }
+    }
+
+    /// The responder.
+    pub fn responder(&self) -> &Responder
+        ensures { (w : machine.World) → StandsFor self.now w
+            → answering.StandsFor result.now w.responder }
+    {
+        &self.link.ends.responder
+    }
+}
