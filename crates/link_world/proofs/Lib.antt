@@ -1,11 +1,15 @@
 pub mod Askers
 pub mod Brings
 pub mod Changing
+pub mod Entered
+pub mod Full
 pub mod GivenTo
 pub mod Made
 pub mod Packets
 pub mod Places
 pub mod Shown
+pub mod Stepped
+pub mod Stopping
 pub mod Telling
 pub mod Texts
 pub mod Writing

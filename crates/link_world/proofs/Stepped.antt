@@ -1,7 +1,8 @@
 -- What comes of a step, from what the ends did and what was sent; and steps one behind the other.
 use Rattle.std.proofs.Common.{refl, ◌≡◌, ◌∙◌, ◌≤◌, ◌<◌, ◌+◌, ◌-◌, ◌++◌, ◌∷◌, [], ℕ, zero, suc, List, Bool, true, false, Option, Some, None, ap, sym, subst, length, arith, append_assoc}
 use Rattle.std.proofs.lemmas.List.{append-nil}
-use Rattle.std.specs.Prelude.{Result, Ok, Err}
+use Rattle.std.specs.Prelude.{Result, Ok, Err, IfErr, OnOk, is_ok}
+use Rattle.link_world.proofs.Stopping.{not_there, stopped_link}
 use Rattle.link_world.proofs.Texts.{before_behind, before_still, has_behind, has_still, text_append}
 use Rattle.link_world.specs.Sending.{IsSent}
 use Rattle.link_world.specs.Standing.{AreEnds, IsCutOff, IsDone, IsGivenTo, IsLink, IsStepped, IsWhole}
@@ -10,9 +11,12 @@ use Rattle.link_world.specs.declared.ends.Ends.{Ends}
 use Rattle.link_world.specs.declared.link.Link.{Link}
 use Rattle.link_world.specs.declared.sent.SendFault.{SendFault}
 use Rattle.link_world.specs.declared.sent.SendFault.TheVariants.{LinkFull, OutOfMemory}
+use Rattle.responder_machine.specs.Responding.{ticks}
+use Rattle.script_text.specs.TraceLines.{line_text}
 use Rattle.spdm_grammar.specs.Lines.{Line}
+use Rattle.spdm_grammar.specs.Lines.Line.{NoPacket}
 use Rattle.world_machine.specs.Trace.{packets_max}
-use Rattle.world_machine.specs.World.{SentPacket, World, WorldStep, behind, delivers, first_waiting, packet_lines, packet_of, pumps, rests, turn}
+use Rattle.world_machine.specs.World.{SentPacket, World, WorldStep, behind, delivers, first_waiting, loses, packet_lines, packet_of, pumps, rests, stopped_of, turn}
 
 -- ---- The ends did something, and the packets of it were sent.
 
@@ -40,6 +44,12 @@ module _ (w : World) (step : WorldStep) (old middle : List ℕ) (sends : List (L
   }
   stepped new after seen (Err OutOfMemory) its_ends its_sent s = tt
 
+pub given_steps : (w : World) (step : WorldStep) (old middle new : List ℕ) (sends : List (List ℕ)) (link seen : Link) (result : Result Unit SendFault) → IsLink link w → IsGivenTo w step old middle sends seen.ends
+    → (length link.sent ≤ packets_max → IsSent link.sent sends middle seen.sent new result) → IsStepped step result old new seen
+given_steps w step old middle new sends link seen result l g s =
+    stepped w step old middle sends seen.ends g new seen.sent seen result refl refl
+    (subst (λ (sent : List SentPacket). IsSent sent sends middle seen.sent new result) l.sent (s (subst (λ (sent : List SentPacket). length sent ≤ packets_max) (sym l.sent) l.within)))
+
 -- Nothing was sent.
 pub done_steps : (w : World) (step : WorldStep) (old new : List ℕ) (ends : Ends) (seen : Link) → IsDone w step old new ends → seen.ends ≡ ends → seen.sent ≡ w.sent → length w.sent ≤ packets_max → IsWhole step old new seen
 done_steps w step old new ends seen d its_ends its_sent within = record {
@@ -51,6 +61,55 @@ done_steps w step old new ends seen d its_ends its_sent within = record {
     within = subst (λ (l : List SentPacket). length l ≤ packets_max) (sym d.sent) within;
   };
 }
+
+-- A line was added, or there was no memory for it.
+pub line_steps : {E : Type 0} (step : WorldStep) (r : Result Unit E) (q : Result Unit SendFault) (old new : List ℕ) (seen : Link) (P : Type 0) → is_ok q ≡ is_ok r → IfErr q (λ fault. fault ≡ OutOfMemory) → OnOk r P → (P → IsWhole step old new seen)
+    → IsStepped step q old new seen
+line_steps step (Ok x) (Ok y) old new seen P same none p whole = whole p
+line_steps step (Err e) (Ok y) old new seen P same none p whole = cc
+line_steps step r (Err fault) old new seen P same none p whole = subst (λ (f : SendFault). IsStepped step (Err f) old new seen) (sym none) tt
+
+-- There is no packet of this number.
+abbrev pub nowhere : World → ℕ → WorldStep
+nowhere w number = record { lines = NoPacket number ∷ []; after = w }
+
+pub nowhere_steps : (w : World) (number : ℕ) (old new : List ℕ) (link seen : Link) → IsLink link w → seen.ends ≡ link.ends → seen.sent ≡ stopped_of number link.sent → packet_of number w.sent ≡ None → new ≡ old ++ line_text (NoPacket number)
+    → IsWhole (nowhere w number) old new seen
+nowhere_steps w number old new link seen l ends sent none text = record {
+  fits = refl;
+  text = text ∙ ap (λ (t : List ℕ). old ++ t) (sym (append-nil (line_text (NoPacket number))));
+  stands = record {
+    ends = subst (λ (e : Ends). AreEnds e w) (sym ends) l.ends;
+    sent = sent ∙ ap (stopped_of number) l.sent ∙ not_there number w.sent none;
+    within = l.within;
+  };
+}
+
+-- The packet of this number waits no longer.
+pub lost_steps : (w : World) (number : ℕ) (packet text : List ℕ) (link seen : Link) → IsLink link w → seen.ends ≡ link.ends → seen.sent ≡ stopped_of number link.sent → Some packet ≡ packet_of number w.sent
+    → IsWhole (loses w number (packet_of number w.sent)) text text seen
+lost_steps w number packet text link seen l ends sent some = subst (λ (p : Option (List ℕ)). IsWhole (loses w number p) text text seen) some (record {
+  fits = refl;
+  text = sym (append-nil text);
+  stands = stopped_link w number link seen l ends sent;
+})
+
+-- Seconds passed.
+pub ticks_steps : (w : World) (seconds : ℕ) (text : List ℕ) (link seen : Link) → IsLink link w → AreEnds seen.ends (record w { responder = ticks w.responder seconds }) → seen.sent ≡ link.sent
+    → IsWhole (rests (record w { responder = ticks w.responder seconds })) text text seen
+ticks_steps w seconds text link seen l ends sent = record {
+  fits = refl;
+  text = sym (append-nil text);
+  stands = record { ends = ends; sent = sent ∙ l.sent; within = l.within };
+}
+
+-- ---- The same ends and packets.
+
+pub same_link : (w : World) (link seen : Link) → seen.ends ≡ link.ends → seen.sent ≡ link.sent → IsLink link w → IsLink seen w
+same_link w link seen ends sent l = record { ends = subst (λ (e : Ends). AreEnds e w) (sym ends) l.ends; sent = sent ∙ l.sent; within = l.within }
+
+pub same_whole : (step : WorldStep) (old new : List ℕ) (link seen : Link) → seen.ends ≡ link.ends → seen.sent ≡ link.sent → IsWhole step old new link → IsWhole step old new seen
+same_whole step old new link seen ends sent s = record { fits = s.fits; text = s.text; stands = same_link step.after link seen ends sent s.stands }
 
 -- ---- Packets that are given one after another.
 

@@ -45,3 +45,6 @@ stopped_link w number old new s ends sent = record {
   sent = sent ∙ ap (stopped_of number) s.sent;
   within = subst (λ (n : ℕ). n ≤ packets_max) (sym (same_length number w.sent)) s.within;
 }
+
+pub packet_stopped : (w : World) (number : ℕ) (link : Link) (sent : List SentPacket) → IsLink link w → sent ≡ stopped_of number link.sent → packet_of number sent ≡ packet_of number w.sent
+packet_stopped w number link sent l is = ap (packet_of number) (is ∙ ap (stopped_of number) l.sent) ∙ still_there number w.sent

@@ -1,4 +1,4 @@
-ghost use Rattle.std.specs.Prelude.{◌≡◌};
+ghost use Rattle.std.specs.Prelude.{◌≡◌, IfErr, is_ok};
 
 use crate::lines::push_no_packet;
 use crate::link::Link;
@@ -13,6 +13,17 @@ fn no_memory(_: OutOfMemory) -> SendFault
     ensures { result ≡ SendFault.OutOfMemory }
 {
     SendFault::OutOfMemory
+}
+
+// A line was added, or there was no memory for it.
+fn line_added(done: Result<(), OutOfMemory>) -> Result<(), SendFault>
+    ensures same { is_ok result ≡ is_ok done }
+    ensures fault { IfErr result (λ fault. fault ≡ SendFault.OutOfMemory) }
+{
+    match done {
+        Ok(()) => Ok(()),
+        Err(_) => Err(SendFault::OutOfMemory),
+    }
 }
 
 impl Link {
@@ -53,7 +64,7 @@ impl Link {
     {
         self.sent.stop(number);
         let Some(packet) = self.sent.get(number) else {
-            return push_no_packet(number, text).map_err(no_memory);
+            return line_added(push_no_packet(number, text));
         };
         self.ends
             .give(packet, &mut self.out, text)
@@ -69,7 +80,7 @@ impl Link {
         self.sent.stop(number);
         match self.sent.get(number) {
             Some(_) => Ok(()),
-            None => push_no_packet(number, text).map_err(no_memory),
+            None => line_added(push_no_packet(number, text)),
         }
     }
 
@@ -78,7 +89,7 @@ impl Link {
         ensures { (w : World) → IsLink self.old w
             → IsStepped (pumps count w) result text.old text.new self.new }
     {
-        for _ in 0..count {
+        for turn in 0..count {
             let Some(number) = self.sent.first_waiting() else {
                 return Ok(());
             };
@@ -92,7 +103,7 @@ impl Link {
         ensures { (w : World) → IsLink self.old w → IsStepped
             (replied w bytes.now (requester_of q w)) result text.old text.new self.new }
     {
-        self.ends.reply(q, bytes, text).map_err(no_memory)
+        line_added(self.ends.reply(q, bytes, text))
     }
 
     /// An event happens, and its lines are added at the end of a text. The ends are not shown here.

@@ -5,15 +5,20 @@
 mod ends;
 mod fault;
 mod giving;
+mod happening;
 mod lines;
 mod link;
 mod making;
 mod sending;
 mod sent;
 mod showing;
+mod world;
 
-pub use fault::WorldFault;
+pub use fault::{StepFault, WorldFault};
 pub use sent::{SendFault, SentPackets};
+pub use world::World;
 
+#[cfg(test)]
+mod rows;
 #[cfg(test)]
 mod tests;

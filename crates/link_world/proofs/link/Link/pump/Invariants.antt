@@ -5,7 +5,7 @@ use Rattle.link_world.specs.Standing.{IsLink}
 use Rattle.world_machine.specs.World.{World}
 
 -- From each world that it stood for, so many turns were made.
-abbrev pub invariant-loop : goal.invariant-loop
-invariant-loop l = record {
-  midway : (w : World) → IsLink l.fn.self w → IsMidway l.count (l.count - l.counter) w l.fn.text l.text l.self;
+abbrev pub invariant-loop-turn : goal.invariant-loop-turn
+invariant-loop-turn l = record {
+  midway : (w : World) → IsLink l.fn.self w → IsMidway l.count (l.count - l.turn) w l.fn.text l.text l.self;
 }
