@@ -1,9 +1,9 @@
 ghost use Rattle.std.specs.Prelude.{◌≡◌, IfErr, is_ok};
 
+use crate::SendFault;
 use crate::lines::push_no_packet;
 use crate::link::Link;
 use crate::sending::send_packets;
-use crate::SendFault;
 use requester::Command;
 use script_text::LinkEvent;
 use spdm_basis::{Bytes, OutOfMemory};
