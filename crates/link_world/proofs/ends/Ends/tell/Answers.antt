@@ -6,7 +6,7 @@ use Rattle.link_world.proofs.GivenTo.{asker_told, nothing_told}
 use Rattle.link_world.specs.declared.ends.Asker.{Asker}
 use Rattle.requester.specs.Standing as asking
 use Rattle.world_machine.specs.World.{requester_of}
-use Rattle.link_world.proofs.giving.Ends.tell.Goals as goal
+use Rattle.link_world.proofs.ends.Ends.tell.Goals as goal
 
 pub returns-in_default-get_mut : goal.returns-in_default-get_mut
 returns-in_default-get_mut c = λ w e.

@@ -9,7 +9,7 @@ use Rattle.requester_machine.specs.Requesting.{Requesting}
 use Rattle.responder_machine.specs.Responding.{connection_of}
 use Rattle.spdm_basis.specs.Stream.{Takes}
 use Rattle.world_machine.specs.World.{all_end_lines, connection_lines, shown_lines}
-use Rattle.link_world.proofs.showing.Ends.show.Goals as goal
+use Rattle.link_world.proofs.ends.Ends.show.Goals as goal
 
 pub loop-asker-init : goal.loop-asker-init
 loop-asker-init g c = record { taken = λ w s. takes_none (g.K.Sink.contents c.args.sink.now); number = λ w s. refl; later = omega arith }

@@ -7,7 +7,7 @@ use Rattle.link_world.specs.declared.ends.Asker.{Asker}
 use Rattle.requester.specs.Standing as asking
 use Rattle.requester_machine.specs.Requesting.{Requesting, requester_given}
 use Rattle.world_machine.specs.World.{given_to_requester, number_at}
-use Rattle.link_world.proofs.giving.Ends.give_requester.Goals as goal
+use Rattle.link_world.proofs.ends.Ends.give_requester.Goals as goal
 
 pub returns : goal.returns
 returns c = λ w a e is.

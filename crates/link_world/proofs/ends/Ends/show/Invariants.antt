@@ -1,5 +1,5 @@
 use Rattle.std.proofs.Common.{◌≡◌, ◌≤◌, take}
-use Rattle.link_world.proofs.showing.Ends.show.Given as goal
+use Rattle.link_world.proofs.ends.Ends.show.Given as goal
 use Rattle.link_world.specs.Standing.{AreEnds}
 use Rattle.link_world.specs.Written.{text_of}
 use Rattle.spdm_basis.specs.Stream.{Takes}

@@ -5,7 +5,7 @@ use Rattle.link_world.proofs.GivenTo.{asker_replied, nothing_replied, reply_faul
 use Rattle.link_world.specs.declared.ends.Asker.{Asker}
 use Rattle.responder_machine.specs.Responding.{connection_of, reply_fault_of}
 use Rattle.world_machine.specs.World.{requester_of}
-use Rattle.link_world.proofs.giving.Ends.reply.Goals as goal
+use Rattle.link_world.proofs.ends.Ends.reply.Goals as goal
 
 pub returns-in_default-get : goal.returns-in_default-get
 returns-in_default-get c = λ w e.

@@ -5,7 +5,7 @@ use Rattle.link_world.proofs.Changing.{responder_changed, responder_keeps}
 use Rattle.link_world.proofs.GivenTo.{responder_given}
 use Rattle.responder_machine.specs.Responding.{responder_hears}
 use Rattle.world_machine.specs.World.{number_at}
-use Rattle.link_world.proofs.giving.Ends.give_responder.Goals as goal
+use Rattle.link_world.proofs.ends.Ends.give_responder.Goals as goal
 
 pub returns : goal.returns
 returns c = λ w e.
