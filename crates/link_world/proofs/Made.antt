@@ -95,7 +95,7 @@ sound_few c s =
     let many = first_off (nat_lt 8 (length o.known.now)) _ _ none in
     let same = first_off (has_same_eid o.eid.number o.known.now) _ _ many.1 in
     let count : length o.known.now ≡ length c.requesters =
-        sym (length-map o.known.now known.known_of) ∙ ap length s.known ∙ length-map (map (requester_in c.responder.eid.number) c.requesters) known_of ∙ length-map c.requesters (requester_in c.responder.eid.number) in
+    sym (length-map o.known.now known.known_of) ∙ ap length s.known ∙ length-map (map (requester_in c.responder.eid.number) c.requesters) known_of ∙ length-map c.requesters (requester_in c.responder.eid.number) in
     let few : length c.requesters ≤ 8 = subst (λ (n : ℕ). n ≤ 8) count (ltb-false 8 (length o.known.now) many.0) in
     record {
       few = few;

@@ -17,12 +17,7 @@ use spdm_basis::{Eid, Line, OutFault, Sink, write_all};
 use spdm_grammar::{Phase, SessionView};
 
 // Writes the phase of an end.
-fn show_phase<K: Sink>(
-    q: u8,
-    responder: bool,
-    phase: Phase,
-    sink: &mut K,
-) -> Result<(), OutFault>
+fn show_phase<K: Sink>(q: u8, responder: bool, phase: Phase, sink: &mut K) -> Result<(), OutFault>
     ensures whole { OnOk result (Takes (K.contents sink.old)
         (text_of (State (whose_of q responder) phase ∷ [])) (K.contents sink.new)) }
     ensures prefix { OnErr result (TakesPrefix (K.contents sink.old)

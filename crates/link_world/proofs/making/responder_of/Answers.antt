@@ -24,8 +24,8 @@ pub returns : goal.returns
 returns c =
     let eid = c.args.config.now.responder.eid.number in
     let knows = ap (λ (l : List Known). map answering.known_of l) (c.responder_config-own.ensures.known ∙ c.as_slice-2.ensures.value)
-        ∙ c.in-Ok.ensures eid
-        ∙ ap (λ (qs : List ReqPart). map known_of (map (requester_in eid) qs)) c.as_slice.ensures in
+    ∙ c.in-Ok.ensures eid
+    ∙ ap (λ (qs : List ReqPart). map known_of (map (requester_in eid) qs)) c.as_slice.ensures in
     record {
       stands = tt;
       sound = tt;
