@@ -119,7 +119,7 @@ module _ (w : World) (k : ℕ) (old new : Ends) (asker : Asker) (e : AreEnds old
       let middle : List Line = data_lines (Whose.Requester n) (id_in_event step.event) step.taken in
       let records : List Line = record_lines n step.measured in
       let own : event_lines n tells last ≡ Line.ToRequester n step.event ∷ middle ++ records =
-          ap (λ (t : Event). event_lines n t last) g.event ∙ ap (event_lines n step.event) last_is ∙ requester_tells n h.a packet in
+      ap (λ (t : Event). event_lines n t last) g.event ∙ ap (event_lines n step.event) last_is ∙ requester_tells n h.a packet in
       record {
         front = event_lines n tells last;
         plain = event_plain_data n tells last;
@@ -147,7 +147,7 @@ responder_given w old new q packet told last sends before after e same eid s num
     let step = responder_hears w.responder packet in
     let n : ℕ = number_at (slice_index packet 2) w in
     let own : heard_lines q told last ≡ Line.ToResponder step.heard ∷ taken_lines n step.taken =
-        ap (λ (m : ℕ). heard_lines m told last) number ∙ ap (λ (t : Heard). heard_lines n t last) s.told ∙ ap (heard_lines n step.heard) last_is ∙ responder_tells n w.responder packet in
+    ap (λ (m : ℕ). heard_lines m told last) number ∙ ap (λ (t : Heard). heard_lines n t last) s.told ∙ ap (heard_lines n step.heard) last_is ∙ responder_tells n w.responder packet in
     record {
       front = heard_lines q told last;
       plain = heard_plain_data q told last;

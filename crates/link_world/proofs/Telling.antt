@@ -73,7 +73,7 @@ clear_entry n last tag m None chunk (effect.TookData bytes sent) reply d h none 
 -- A record, whose data are the last.
 record_entry : (n : ℕ) (r : Responding) (tag : ℕ) (sealed m : List ℕ) (x : Option ErrorCode) (chunk : Option ChunkMessage) (g : Effect) (answer reply : List ℕ) (d : Draw) (h : served.History)
     → ((before : List ℕ) → last_for (heard_of (outcome.Adds (entry.Sealed tag sealed (record { message = m; refused = x; chunk = chunk; effect = g; reply = answer }) reply d))) h before
-        ≡ data_or before (responding.data_in sealed g))
+    ≡ data_or before (responding.data_in sealed g))
     → HeardAs n (heard_of (outcome.Adds (entry.Sealed tag sealed (record { message = m; refused = x; chunk = chunk; effect = g; reply = answer }) reply d))) (last_of r (with_taken (responding.data_in sealed g) r.taken)) (responding.data_in sealed g)
 record_entry n r tag sealed m (Some e) chunk (effect.NoEffect) answer reply d h same = refl
 record_entry n r tag sealed m (Some e) chunk (effect.Took asked request whole large) answer reply d h same = refl

@@ -105,7 +105,12 @@ impl Ends {
             unreachable!()
         };
         let event = asker.requester.on_packet(packet, out);
-        push_event(number_of_place(place), event, asker.requester.last_data(), text)
+        push_event(
+            number_of_place(place),
+            event,
+            asker.requester.last_data(),
+            text,
+        )
     }
 
     /// Application data is queued for a requester at the responder. Nothing happens where there is

@@ -1,6 +1,7 @@
 ghost use Rattle.std.specs.Prelude.{◌≡◌, ◌++◌, OnOk};
 ghost use Rattle.link_world.specs.Told.{event_lines, heard_lines};
 ghost use Rattle.link_world.specs.Written.{text_of};
+ghost use Rattle.script_text.specs.Spelling.{id_word, with_word};
 ghost use Rattle.script_text.specs.TraceLines.{line_text};
 ghost use Rattle.script_text.specs.Whose.{fault_of};
 ghost use Rattle.spdm_grammar.specs.Lines.Whose.{Requester, Responder};
@@ -76,35 +77,34 @@ pub(crate) fn push_packet(number: u32, bytes: &[u8], text: &mut Bytes) -> Result
     end_text_line(text)
 }
 
+// Puts the id of a session behind the words of the last line of a text.
+fn add_id(id: SessionId, text: &mut Bytes) -> Result<(), OutOfMemory>
+    ensures { OnOk result (text.new ≡ with_word text.old (id_word id)) }
+{
+    add_hex(&id.bytes(), text)
+}
+
 // Adds the line of application data that the responder took in a session with requester `q`.
-#[tactic(
-    auto,
-    using(crate::proofs::Texts::id_is),
-    unfolding(script_text::specs::TraceLines::line_text)
-)]
+#[tactic(auto, unfolding(script_text::specs::TraceLines::line_text))]
 fn push_taken(q: u8, id: SessionId, bytes: &[u8], text: &mut Bytes) -> Result<(), OutOfMemory>
     ensures { OnOk result (text.new ≡ text.old ++ line_text (Data (Responder q) id bytes.now)) }
 {
     text.extend(b"data")?;
     add_word(b"r", text)?;
     add_requester(q, text)?;
-    add_hex(&id.bytes(), text)?;
+    add_id(id, text)?;
     add_hex(bytes, text)?;
     end_text_line(text)
 }
 
 // Adds the line of application data that requester `q` took in a session.
-#[tactic(
-    auto,
-    using(crate::proofs::Texts::id_is),
-    unfolding(script_text::specs::TraceLines::line_text)
-)]
+#[tactic(auto, unfolding(script_text::specs::TraceLines::line_text))]
 fn push_answer(q: u8, id: SessionId, bytes: &[u8], text: &mut Bytes) -> Result<(), OutOfMemory>
     ensures { OnOk result (text.new ≡ text.old ++ line_text (Data (Requester q) id bytes.now)) }
 {
     text.extend(b"data")?;
     add_requester(q, text)?;
-    add_hex(&id.bytes(), text)?;
+    add_id(id, text)?;
     add_hex(bytes, text)?;
     end_text_line(text)
 }

@@ -20,8 +20,8 @@ returns c = λ w a e is.
     let same : h.a ≡ a = same_Some h.a a (sym h.at ∙ is) in
     let step = c.on_packet-event.ensures h.a (subst (λ (x : Asker). asking.StandsFor x.requester h.a) (sym seen) h.stands.stands) in
     let number : c.number_of_place.result ≡ number_at (eid_of h.a) w =
-        c.number_of_place.ensures (few_places k ends w e item.3.0) ∙ omega arith ∙ sym (h.number 1) in
+    c.number_of_place.ensures (few_places k ends w e item.3.0) ∙ omega arith ∙ sym (h.number 1) in
     let asker : Asker = record { eid = c.in-Some.asker.now.eid; requester = c.on_packet-event.new.self } in
     on_ok_weaker c.push_event.result (asker_given_at w k ends _ asker e h (record { items = refl; eid = refl; responder = refl }) (ap (λ (x : Asker). x.eid) seen) a same c.number_of_place.result number packet
-        c.on_packet-event.result c.last_data.result.now c.on_packet-event.new.out c.args.text.now c.push_event.new.text step (c.last_data.ensures (requester_given h.a packet).after step.stands))
+    c.on_packet-event.result c.last_data.result.now c.on_packet-event.new.out c.args.text.now c.push_event.new.text step (c.last_data.ensures (requester_given h.a packet).after step.stands))
     c.push_event.ensures

@@ -13,9 +13,9 @@ returns c = λ w e.
     let packet : List ℕ = c.args.packet.now in
     let step = c.on_packet-heard.ensures.step w.responder e.responder in
     let number : c.number_of-q.result ≡ number_at (slice_index packet 2) w =
-        c.number_of-q.ensures (record w { responder = (responder_hears w.responder packet).after })
-        (responder_changed w ends (record ends { responder = c.on_packet-heard.new.self }) (responder_hears w.responder packet).after w.sent w.log e refl refl step.stands (responder_keeps w.responder packet))
-        ∙ ap (λ (n : ℕ). number_at n w) c.source.ensures in
+    c.number_of-q.ensures (record w { responder = (responder_hears w.responder packet).after })
+    (responder_changed w ends (record ends { responder = c.on_packet-heard.new.self }) (responder_hears w.responder packet).after w.sent w.log e refl refl step.stands (responder_keeps w.responder packet))
+    ∙ ap (λ (n : ℕ). number_at n w) c.source.ensures in
     on_ok_weaker c.push_heard.result (responder_given w ends _ c.number_of-q.result packet c.on_packet-heard.result c.last_data.result.now c.on_packet-heard.new.out c.args.text.now c.push_heard.new.text e refl refl step number
-        (c.last_data.ensures (responder_hears w.responder packet).after step.stands))
+    (c.last_data.ensures (responder_hears w.responder packet).after step.stands))
     c.push_heard.ensures
