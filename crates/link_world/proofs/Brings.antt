@@ -1,5 +1,5 @@
 -- What a requester tells of a body is whether it brought application data, or a measurement record.
-use Rattle.std.proofs.Common.{refl, ◌≡◌, ◌⊎◌, ◌∷◌, ℕ, List, [], Bool, true, false, Option, Some, None, ap, sym, subst, inl, inr}
+use Rattle.std.proofs.Common.{refl, ◌≡◌, ℕ, List, [], Bool, true, false, Option, Some, None, ap, sym, subst, inl, inr}
 use Rattle.std.specs.Prelude.{⊤, ◌==◌, ◌&&◌, not, if◌then◌else◌, is_some, slice_index, bytes_eq, Result, Ok, Err}
 use Rattle.chunking.specs.Collecting.{joined_with}
 use Rattle.negotiate.specs.Capabilities.{common_of}
@@ -25,18 +25,16 @@ use Rattle.spdm_grammar.specs.declared.part_faults.ChunkFault.{ChunkFault}
 use Rattle.spdm_machine.specs.Keys.{Draw}
 use Rattle.spdm_machine.specs.Terms.{hash_len}
 use Rattle.requester_machine.proofs.ClearLeads.{either}
-use Rattle.requester_machine.proofs.Heard.{IsTaken, heard}
+use Rattle.requester_machine.proofs.Heard.{heard}
 use Rattle.requester_machine.proofs.ResponseLengths.{measured_value}
-use Rattle.requester_machine.specs.AcceptedLaws.{IsOpened}
-use Rattle.requester_machine.specs.Answers.{goes_on, is_done, is_refused, stopped, error_led, version_led, offer_led, caps_led, algorithms_led, exchange_led, answer_led, answer_verify, with_answer, may_be_large, measured_led}
+use Rattle.requester_machine.specs.Answers.{goes_on, is_refused, stopped, error_led, version_led, offer_led, caps_led, algorithms_led, exchange_led, answer_led, answer_verify, with_answer, may_be_large, measured_led}
 use Rattle.requester_machine.specs.Asking.Outcome.{Adds}
-use Rattle.requester_machine.specs.Bodies.{is_clear}
 use Rattle.requester_machine.specs.ClearAnswers.{Carried, carried_by, carried_led, clear_led, get_fault}
 use Rattle.requester_machine.specs.ClearAnswers as clear
 use Rattle.requester_machine.specs.ClearAnswers.Carried.{Ignored, Refused, Further, Whole}
 use Rattle.requester_machine.specs.Commands.{Free, has_reached}
 use Rattle.requester_machine.specs.Hearing.{came_to, hears}
-use Rattle.requester_machine.specs.History.{Effect, Entry, History, Led, connection_terms}
+use Rattle.requester_machine.specs.History.{Entry, History, Led, connection_terms}
 use Rattle.requester_machine.specs.History.Effect.{Answers, Grants, Nothing, Refuses}
 use Rattle.requester_machine.specs.History.Entry.{Told, TookClear, TookRecord}
 use Rattle.requester_machine.specs.InnerMessages.{Came}

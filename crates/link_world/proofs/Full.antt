@@ -1,6 +1,6 @@
 -- The lines of an event name a packet for which there is no room exactly where more packets stand behind it than a run
 -- may send.
-use Rattle.std.proofs.Common.{refl, ◌≡◌, ◌∙◌, ◌≤◌, ◌<◌, ◌+◌, ◌++◌, ◌∷◌, [], ℕ, zero, suc, List, Bool, true, false, Option, Some, None, ap, sym, length, arith, append_assoc, map}
+use Rattle.std.proofs.Common.{refl, ◌≡◌, ◌∙◌, ◌≤◌, ◌+◌, ◌++◌, ◌∷◌, [], ℕ, zero, suc, List, Bool, true, false, Option, Some, None, ap, sym, length, arith, map}
 use Rattle.std.proofs.lemmas.Bool.{le-ltb, lt-ltb, ltb-true}
 use Rattle.std.proofs.lemmas.List.{length-append, length-map}
 use Rattle.std.specs.Prelude.{◌||◌, ◌==◌, nat_lt, if◌then◌else◌, find, slice_index}
@@ -73,14 +73,12 @@ told_joins w n command (Some a) = sends w.sent (Line.Command n (requester_told a
 requester_plain : (n : ℕ) (id : SessionId) (taken measured : Option (List ℕ)) → has_full (data_lines (Whose.Requester n) id taken ++ record_lines n measured) ≡ false
 requester_plain n id None None = refl
 requester_plain n id None (Some bytes) = refl
-requester_plain n id (Some data) None = refl
-requester_plain n id (Some data) (Some bytes) = refl
+requester_plain n id (Some bytes) None = refl
+requester_plain n id (Some bytes) (Some more) = refl
 
 requester_joins : (w : World) (n : ℕ) (step : PacketStep) → Joins w (given_to_requester w n step)
 requester_joins w n step =
-    ap (λ (l : List Line). beyond w.sent || has_full (Line.ToRequester n step.event ∷ l))
-    (sym (append_assoc (data_lines (Whose.Requester n) (id_in_event step.event) step.taken) (record_lines n step.measured) (packet_lines (length w.sent) step.sent)))
-    ∙ sends w.sent (Line.ToRequester n step.event ∷ (data_lines (Whose.Requester n) (id_in_event step.event) step.taken ++ record_lines n step.measured)) step.sent
+    sends w.sent (Line.ToRequester n step.event ∷ (data_lines (Whose.Requester n) (id_in_event step.event) step.taken ++ record_lines n step.measured)) step.sent
     (requester_plain n (id_in_event step.event) step.taken step.measured)
 
 responder_plain : (n : ℕ) (taken : Option (SessionId × List ℕ)) → has_full (taken_lines n taken) ≡ false

@@ -1,5 +1,5 @@
 -- What the ends did is what the definitions do.
-use Rattle.std.proofs.Common.{refl, ◌≡◌, ◌∙◌, ◌≤◌, ◌<◌, ◌+◌, ◌++◌, ◌∷◌, [], ℕ, suc, List, Bool, true, false, Option, Some, None, ap, sym, subst, length, arith, slice_set, append_assoc}
+use Rattle.std.proofs.Common.{refl, ◌≡◌, ◌∙◌, ◌++◌, ◌∷◌, [], ℕ, List, Bool, true, false, Option, Some, None, ap, sym, subst, length, slice_set}
 use Rattle.std.proofs.lemmas.List.{append-nil}
 use Rattle.std.specs.Prelude.{◌==◌, if◌then◌else◌, find, nat_lt, slice_index, MatchResult, Result, Ok, Err}
 use Rattle.link_world.proofs.Askers.{Hit, eid_of}
@@ -18,7 +18,7 @@ use Rattle.requester_machine.specs.Shown as shown
 use Rattle.spdm_basis.specs.declared.eid.Eid.{Eid}
 use Rattle.responder.specs.Standing as answering
 use Rattle.responder_machine.specs.Independence.{after_reply}
-use Rattle.responder_machine.specs.Responding.{Connection, Responding, connection_of, last_data, queues, reply_fault_of, responder_hears}
+use Rattle.responder_machine.specs.Responding.{Responding, connection_of, last_data, queues, reply_fault_of, responder_hears}
 use Rattle.script_text.specs.TraceLines.{line_text}
 use Rattle.script_text.specs.Whose.{fault_of}
 use Rattle.spdm_grammar.specs.Lines.{Line, Whose}
@@ -29,7 +29,7 @@ use Rattle.spdm_grammar.specs.declared.event.Finished.TheVariants as finished
 use Rattle.spdm_grammar.specs.declared.heard.Heard.{Heard}
 use Rattle.spdm_grammar.specs.declared.heard.Heard.TheVariants as heard
 use Rattle.spdm_grammar.specs.declared.heard.ReplyFault.{ReplyFault}
-use Rattle.world_machine.specs.World.{World, data_lines, is_at, given, given_to, given_to_requester, given_to_responder, id_in_event, number_at, packet_lines, record_lines, replied, replied_by, requester_at, requester_of, taken_lines, told, told_by, with_sent}
+use Rattle.world_machine.specs.World.{World, data_lines, is_at, given, given_to, given_to_requester, given_to_responder, id_in_event, number_at, packet_lines, record_lines, replied, replied_by, taken_lines, told, with_sent}
 
 -- ---- No line of what is told is that of a packet.
 

@@ -2,10 +2,10 @@
 use Rattle.std.proofs.Common.{refl, ◌≡◌, ◌≢◌, ◌∙◌, ◌≤◌, ◌<◌, ◌+◌, ◌++◌, ◌∷◌, [], ℕ, zero, suc, List, Bool, true, false, Option, Some, None, ap, sym, subst, length, arith, get_or, map, take, inl, inr}
 use Rattle.std.proofs.lemmas.Bool.{eqb-false, false≢true, ltb-false}
 use Rattle.std.proofs.lemmas.List.{length-map}
-use Rattle.std.proofs.lemmas.Option.{none-some, same_Some}
+use Rattle.std.proofs.lemmas.Option.{none-some}
 use Rattle.std.specs.List.{AllByRecursion}
 use Rattle.std.specs.Option.{option_map, option_or}
-use Rattle.std.specs.Prelude.{◌==◌, ◌||◌, if◌then◌else◌, nat_lt, Result, IsErrAnd, IfErr, Ok, Err}
+use Rattle.std.specs.Prelude.{◌==◌, ◌||◌, if◌then◌else◌, nat_lt}
 use Rattle.link_world.specs.Configured.{IsCause, HasRequesterFault, HasResponderFault, HaveFirstFault, HaveNoFault, configuration_in, requester_in, responder_in}
 use Rattle.link_world.specs.Making.{AreAskersFault, IsAskerFault, of_requester, of_responder}
 use Rattle.link_world.specs.Standing.{AreApart, AreAskers, IsAsker}

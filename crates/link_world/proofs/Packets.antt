@@ -1,7 +1,7 @@
 -- Packets that are sent one behind the other.
-use Rattle.std.proofs.Common.{refl, ◌≡◌, ◌∙◌, ◌≤◌, ◌<◌, ◌+◌, ◌++◌, ◌∷◌, [], ℕ, zero, suc, List, Some, drop, Bool, true, false, cond, ap, sym, subst, length, arith, append_assoc, map}
-use Rattle.std.proofs.lemmas.List.{append-nil, length-append, length-map}
-use Rattle.std.specs.Prelude.{nat_lt, ◌||◌}
+use Rattle.std.proofs.Common.{refl, ◌≡◌, ◌∙◌, ◌≤◌, ◌+◌, ◌++◌, ◌∷◌, [], ℕ, zero, suc, List, Some, drop, Bool, cond, ap, sym, subst, length, arith, append_assoc, map}
+use Rattle.std.proofs.lemmas.List.{append-nil, length-append}
+use Rattle.std.specs.Prelude.{◌||◌}
 use Rattle.std.proofs.lemmas.Option.{none-some, same_Some}
 use Rattle.std.specs.List.{slice_get}
 use Rattle.std.specs.Prelude.{Err}
@@ -10,9 +10,8 @@ use Rattle.link_world.specs.Sent.{IsCause}
 use Rattle.link_world.specs.declared.sent.SendFault.{SendFault}
 use Rattle.link_world.specs.declared.sent.SendFault.TheVariants.{LinkFull, OutOfMemory}
 use Rattle.link_world.specs.Written.{before_full, has_full, text_of}
-use Rattle.link_world.proofs.Texts.{first_fits, first_is_beyond, none_full}
+use Rattle.link_world.proofs.Texts.{first_fits, first_is_beyond}
 use Rattle.script_text.specs.TraceLines.{line_text}
-use Rattle.spdm_grammar.specs.Lines.{Line}
 use Rattle.spdm_grammar.specs.Lines.Line.{Packet}
 use Rattle.world_machine.specs.Trace.{packets_max}
 use Rattle.world_machine.specs.World.{SentPacket, packet_lines, waiting, with_sent}

@@ -1,5 +1,5 @@
 -- A packet that waits no longer is the same packet.
-use Rattle.std.proofs.Common.{refl, ◌≡◌, ◌∙◌, ◌≤◌, ◌∷◌, [], ℕ, zero, suc, List, Option, Some, None, ap, sym, subst, length}
+use Rattle.std.proofs.Common.{refl, ◌≡◌, ◌∙◌, ◌≤◌, ◌∷◌, [], ℕ, zero, suc, List, None, ap, sym, subst, length}
 use Rattle.std.proofs.lemmas.Option.{none-some}
 use Rattle.link_world.specs.Standing.{AreEnds, IsLink}
 use Rattle.link_world.specs.declared.ends.Ends.{Ends}

@@ -1,11 +1,11 @@
 -- The lines of a packet that was given to an end, by what is told and the data that came last.
-use Rattle.std.proofs.Common.{refl, ◌≡◌, ◌∙◌, ◌∷◌, ◌++◌, ℕ, List, [], Bool, true, false, Option, Some, None, ap, sym, subst}
+use Rattle.std.proofs.Common.{refl, ◌≡◌, ◌∷◌, ◌++◌, ℕ, List, [], Bool, true, false, Option, Some, None, ap, sym}
 use Rattle.std.proofs.lemmas.Bool.{false≢true}
 use Rattle.std.specs.Prelude.{◌==◌, if◌then◌else◌, is_some, not, unwrap_or, Result, Ok, Err}
 use Rattle.std.specs.Option.{option_or}
 use Rattle.link_world.proofs.Brings.{Agrees, EntryAgrees, entry_agrees, is_answered, is_measured}
 use Rattle.link_world.proofs.Changing.{whole_either}
-use Rattle.link_world.specs.Told.{event_data, event_lines, heard_data, heard_lines}
+use Rattle.link_world.specs.Told.{event_lines, heard_data, heard_lines}
 use Rattle.mctp_framing.specs.Cutting.{RouteFields}
 use Rattle.mctp_framing.specs.Gathering.{Gathered}
 use Rattle.mctp_framing.specs.Gathering.Gathered.{Dropped, More, Whole}

@@ -1,5 +1,5 @@
 -- The ends that the configuration of a script sets up, and why there are none. This project's own.
-use Rattle.std.specs.Prelude.{◌≡◌, ◌≢◌, ◌⊎◌, ℕ, List, [], ◌∷◌, map, Option, Some, None}
+use Rattle.std.specs.Prelude.{◌≡◌, ◌⊎◌, ℕ, List, [], ◌∷◌, map, Option, Some, None}
 use Rattle.link_world.specs.declared.fault.WorldFault.{WorldFault}
 use Rattle.link_world.specs.declared.fault.WorldFault.TheVariants.{OutOfMemory, Requester, Responder}
 use Rattle.requester.specs.Config as asking

@@ -2,7 +2,7 @@ use Rattle.std.proofs.Common.{◌∷◌, []}
 use Rattle.link_world.proofs.Made.{known_more}
 use Rattle.link_world.proofs.Places.{added}
 use Rattle.responder.specs.declared.config.Known.{Known}
-use Rattle.std.proofs.Common.{◌≡◌, ◌∙◌, List, map, ap}
+use Rattle.std.proofs.Common.{◌∙◌, List, map, ap}
 use Rattle.responder.specs.SetUp as answering
 use Rattle.link_world.proofs.making.all_known.Goals as goal
 

@@ -1,13 +1,11 @@
-use Rattle.std.proofs.Common.{◌+◌, ◌%◌, ◌∷◌, [], List, length, subst, sym}
+use Rattle.std.proofs.Common.{◌+◌, ◌%◌, ◌∷◌, [], length, subst, sym}
 use Rattle.std.proofs.lemmas.Result.{err_from_is_err_and}
 use Rattle.link_world.proofs.Made.{askers_fault, askers_more, sound_more}
 use Rattle.link_world.proofs.Places.{added}
 use Rattle.link_world.proofs.Shown.{next_number}
-use Rattle.link_world.specs.Making.{AreAskersFault, IsAskerFault}
-use Rattle.link_world.specs.Standing.{AreAskers}
+use Rattle.link_world.specs.Making.{IsAskerFault}
 use Rattle.link_world.specs.declared.ends.Asker.{Asker}
 use Rattle.link_world.specs.declared.fault.WorldFault.{WorldFault}
-use Rattle.requester_machine.specs.Requesting.{new_requesting}
 use Rattle.link_world.proofs.making.askers_of.Goals as goal
 
 pub returns-in_err-asker-clause-fault : goal.returns-in_err-asker-clause-fault

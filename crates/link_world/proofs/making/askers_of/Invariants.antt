@@ -1,4 +1,4 @@
-use Rattle.std.proofs.Common.{◌≡◌, ◌≤◌, ℕ, map, take, length}
+use Rattle.std.proofs.Common.{◌≡◌, map, take}
 use Rattle.link_world.proofs.making.askers_of.Given as goal
 use Rattle.link_world.specs.Configured.{HaveNoFault, requester_in}
 use Rattle.link_world.specs.Standing.{AreAskers}

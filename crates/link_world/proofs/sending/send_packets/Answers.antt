@@ -1,4 +1,4 @@
-use Rattle.std.proofs.Common.{rules, refl, ◌≡◌, ◌∙◌, ◌≤◌, ◌<◌, ◌+◌, ◌++◌, ◌∷◌, [], ℕ, List, Some, length, ap, subst, sym, drop, arith}
+use Rattle.std.proofs.Common.{rules, ◌≡◌, ◌<◌, ◌++◌, ◌∷◌, [], ℕ, List, Some, length, subst, sym, arith}
 use Rattle.std.specs.List.{slice_get}
 use Rattle.std.specs.Prelude.{Result, Err}
 use Rattle.link_world.proofs.Packets.{IsUnderWay, goes_on, next_packet, not_sent}
@@ -7,7 +7,7 @@ use Rattle.link_world.specs.declared.sent.SendFault.{SendFault}
 use Rattle.script_text.specs.TraceLines.{line_text}
 use Rattle.spdm_grammar.specs.Lines.Line.{Packet}
 use Rattle.world_machine.specs.Trace.{packets_max}
-use Rattle.world_machine.specs.World.{SentPacket, waiting}
+use Rattle.world_machine.specs.World.{waiting}
 use Rattle.link_world.proofs.sending.send_packets.Goals as goal
 
 pub returns-in_err-push : goal.returns-in_err-push

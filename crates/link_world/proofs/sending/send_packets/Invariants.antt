@@ -1,4 +1,4 @@
-use Rattle.std.proofs.Common.{◌≡◌, ◌≤◌, length, drop}
+use Rattle.std.proofs.Common.{◌≤◌, length, drop}
 use Rattle.link_world.proofs.Packets.{IsUnderWay}
 use Rattle.link_world.proofs.sending.send_packets.Given as goal
 use Rattle.world_machine.specs.Trace.{packets_max}

@@ -3,7 +3,6 @@ use Rattle.link_world.proofs.Writing.{err_lines, ok_lines, on_err, prefix_lines}
 use Rattle.link_world.specs.Showing.{asker_lines}
 use Rattle.requester_machine.specs.History.{phase_of}
 use Rattle.requester_machine.specs.Shown.{views_of}
-use Rattle.spdm_grammar.specs.Lines.{Line}
 use Rattle.spdm_grammar.specs.Lines.Line.{State}
 use Rattle.spdm_grammar.specs.Lines.Whose.{Requester}
 use Rattle.spdm_grammar.specs.declared.phase.Phase.{Phase}

@@ -1,4 +1,4 @@
-use Rattle.std.proofs.Common.{◌≡◌, ◌+◌, ◌∷◌, [], ℕ, List, ap, sym, subst, arith, take}
+use Rattle.std.proofs.Common.{◌≡◌, ◌+◌, ◌∷◌, [], List, sym, subst, arith, take}
 use Rattle.std.proofs.lemmas.Grind.{common_steps}
 use Rattle.link_world.proofs.Shown.{sessions_begin, sessions_more}
 use Rattle.link_world.proofs.Writing.{both_lines, both_prefix, on_err, prefix_lines, takes_none}

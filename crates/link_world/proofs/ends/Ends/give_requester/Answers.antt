@@ -1,12 +1,12 @@
-use Rattle.std.proofs.Common.{rules, refl, ◌≡◌, ◌∙◌, ◌<◌, ◌+◌, ℕ, List, get_or, length, ap, sym, subst, arith, Some}
+use Rattle.std.proofs.Common.{refl, ◌≡◌, ◌∙◌, ℕ, List, ap, sym, subst, arith}
 use Rattle.std.proofs.lemmas.Option.{same_Some}
 use Rattle.std.proofs.lemmas.Result.{on_ok_weaker}
 use Rattle.link_world.proofs.Askers.{eid_of, ends_hit, few_places}
 use Rattle.link_world.proofs.GivenTo.{asker_given_at}
 use Rattle.link_world.specs.declared.ends.Asker.{Asker}
 use Rattle.requester.specs.Standing as asking
-use Rattle.requester_machine.specs.Requesting.{Requesting, requester_given}
-use Rattle.world_machine.specs.World.{given_to_requester, number_at}
+use Rattle.requester_machine.specs.Requesting.{requester_given}
+use Rattle.world_machine.specs.World.{number_at}
 use Rattle.link_world.proofs.ends.Ends.give_requester.Goals as goal
 
 pub returns : goal.returns

@@ -1,4 +1,4 @@
-use Rattle.std.proofs.Common.{rules, refl, ◌≡◌, ◌∙◌, ℕ, List, ap, sym, subst}
+use Rattle.std.proofs.Common.{refl, ◌≡◌, ◌∙◌, ℕ, List, ap}
 use Rattle.std.proofs.lemmas.Result.{on_ok_weaker}
 use Rattle.std.specs.Prelude.{slice_index}
 use Rattle.link_world.proofs.Changing.{responder_changed, responder_keeps}

@@ -1,4 +1,4 @@
-use Rattle.std.proofs.Common.{rules, ◌≡◌, ◌∙◌, ◌<◌, ◌≤◌, ◌+◌, ℕ, length, ap, sym, arith, Some, None}
+use Rattle.std.proofs.Common.{rules, ◌≡◌, ◌∙◌, sym, Some, None}
 use Rattle.std.specs.List.{position_from}
 use Rattle.link_world.proofs.Askers.{few_places, found_at, unplaced}
 use Rattle.link_world.specs.Standing.{has_eid}

@@ -1,4 +1,4 @@
-use Rattle.std.proofs.Common.{rules, refl, ◌≡◌, ◌∙◌, ◌<◌, ◌≤◌, ◌+◌, ℕ, List, get_or, length, ap, sym, subst, arith, Some, None}
+use Rattle.std.proofs.Common.{rules, refl, ◌≡◌, ◌∙◌, ◌<◌, ◌≤◌, ◌+◌, List, get_or, length, ap, sym}
 use Rattle.std.proofs.lemmas.Result.{on_ok_weaker}
 use Rattle.link_world.proofs.Askers.{eid_of, ends_hit, none_numbered, requester_numbered}
 use Rattle.link_world.proofs.GivenTo.{asker_replied, nothing_replied, reply_fault_is}

@@ -1,4 +1,4 @@
-use Rattle.std.proofs.Common.{rules, refl, ◌≡◌, ◌∙◌, ◌<◌, ◌≤◌, ◌+◌, ℕ, List, [], get_or, length, ap, sym, subst, arith, Some, None}
+use Rattle.std.proofs.Common.{rules, refl, ◌≡◌, ◌∙◌, ◌≤◌, ◌+◌, length, ap, sym, subst}
 use Rattle.std.proofs.lemmas.Result.{on_ok_weaker}
 use Rattle.asking.specs.Joined.{command_of}
 use Rattle.link_world.proofs.Askers.{ends_hit, none_numbered, requester_numbered}

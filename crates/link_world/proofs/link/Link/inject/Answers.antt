@@ -1,4 +1,3 @@
-use Rattle.std.proofs.Common.{refl}
 use Rattle.link_world.proofs.Entered.{ok_through}
 use Rattle.link_world.proofs.Stepped.{given_steps}
 use Rattle.world_machine.specs.World.{given}

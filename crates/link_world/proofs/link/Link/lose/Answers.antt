@@ -1,4 +1,4 @@
-use Rattle.std.proofs.Common.{refl, ◌≡◌, ◌∙◌, ℕ, List, Option, Some, None, sym, subst}
+use Rattle.std.proofs.Common.{refl, ◌≡◌, ◌∙◌, ℕ, List, Option, None, sym, subst}
 use Rattle.link_world.proofs.Stepped.{line_steps, lost_steps, nowhere, nowhere_steps}
 use Rattle.link_world.proofs.Stopping.{packet_stopped}
 use Rattle.link_world.specs.Standing.{IsStepped}

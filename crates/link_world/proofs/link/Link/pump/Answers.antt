@@ -1,4 +1,4 @@
-use Rattle.std.proofs.Common.{rules, refl, ◌≡◌, ◌∙◌, ◌<◌, ◌≤◌, ◌+◌, ◌-◌, ℕ, suc, Some, None, ap, sym, subst, arith}
+use Rattle.std.proofs.Common.{rules, refl, ◌≡◌, ◌∙◌, ◌<◌, ◌≤◌, ◌+◌, ◌-◌, suc, Some, ap, sym, subst, arith}
 use Rattle.std.specs.Prelude.{Result, Err}
 use Rattle.link_world.proofs.Stepped.{midway_fault, midway_first, midway_idle, midway_last, midway_next, same_link, same_whole}
 use Rattle.link_world.specs.Standing.{IsStepped}

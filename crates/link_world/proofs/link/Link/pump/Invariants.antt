@@ -1,4 +1,4 @@
-use Rattle.std.proofs.Common.{◌≡◌, ◌-◌}
+use Rattle.std.proofs.Common.{◌-◌}
 use Rattle.link_world.proofs.Stepped.{IsMidway}
 use Rattle.link_world.proofs.link.Link.pump.Given as goal
 use Rattle.link_world.specs.Standing.{IsLink}
