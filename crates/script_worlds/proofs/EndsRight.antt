@@ -22,7 +22,7 @@ use Rattle.script_text.specs.declared.config.ReqPart.{ReqPart}
 use Rattle.script_text.specs.declared.config.ScriptConfig.{ScriptConfig}
 use Rattle.script_worlds.proofs.ScriptRead.{script_sound}
 use Rattle.script_worlds.proofs.SetUpRight.{are_few, at_most, differ, eid_among, has_sizes, is_fine, no_fault, own_fits, psk_among}
-use Rattle.script_worlds.specs.Configured.{requester_in}
+use Rattle.link_world.specs.Configured.{requester_in}
 use Rattle.script_worlds.specs.Ends.{ReadEndsHaveNoFault, SetsUpRequester, SetsUpResponder}
 use Rattle.spdm_agreement.specs.Configured.{HasSizes}
 use Rattle.spdm_basis.proofs.Bools.{and_first, and_second, lt_false}

@@ -8,3 +8,4 @@ pub mod WorldsRight
 pub mod EndsRight
 pub mod RefusedRight
 pub mod Traces
+pub mod Going

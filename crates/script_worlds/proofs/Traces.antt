@@ -9,7 +9,7 @@ use Rattle.script_text.specs.TraceLines.{line_text}
 use Rattle.script_text.specs.declared.script.Script.{Script}
 use Rattle.spdm_basis.proofs.Options.{both}
 use Rattle.script_worlds.specs.Scripts.{entries_in, full_from, full_line, set_up, trace_in, written_in}
-use Rattle.script_worlds.specs.Written.{before_full, has_full, is_beyond, text_of}
+use Rattle.link_world.specs.Written.{before_full, has_full, is_beyond, text_of}
 use Rattle.spdm_grammar.specs.Lines.{Line, Whose}
 use Rattle.spdm_grammar.specs.declared.session_view.SessionView.{SessionView}
 use Rattle.world_machine.specs.Happenings.{Entry}

@@ -10,7 +10,7 @@ use Rattle.script_text.specs.ScriptText.{script_in}
 use Rattle.script_text.specs.declared.config.ReqPart.{ReqPart}
 use Rattle.script_text.specs.declared.config.ScriptConfig.{ScriptConfig}
 use Rattle.script_text.specs.declared.script.Script.{Script}
-use Rattle.script_worlds.specs.Configured.{configuration_in, requester_in, responder_in}
+use Rattle.link_world.specs.Configured.{configuration_in, requester_in, responder_in}
 use Rattle.world_machine.specs.Setup.{known_of}
 
 -- A responder is made of this, as the configuration of a script says it.

@@ -20,7 +20,7 @@ use Rattle.responder_machine.specs.Turn.{Turn}
 use Rattle.script_text.specs.ScriptText.{script_in}
 use Rattle.script_text.specs.declared.event.Entry.{Entry}
 use Rattle.script_text.specs.declared.script.Script.{Script}
-use Rattle.script_worlds.specs.Events.{happening_of}
+use Rattle.link_world.specs.Events.{happening_of}
 use Rattle.script_worlds.specs.Given.{IsGivenIn}
 use Rattle.script_worlds.specs.Scripts.{world_in}
 use Rattle.spdm_grammar.specs.ErrorNumber.{error_number}

@@ -4,9 +4,9 @@ use Rattle.std.specs.Option.{unwrap_or}
 use Rattle.script_text.specs.declared.config.ScriptConfig.{ScriptConfig}
 use Rattle.script_text.specs.declared.event.Entry.{Entry}
 use Rattle.script_text.specs.declared.script.Script.{Script}
-use Rattle.script_worlds.specs.Configured.{configuration_in}
-use Rattle.script_worlds.specs.Events.{entry_of}
-use Rattle.script_worlds.specs.Written.{before_full, has_full, text_of}
+use Rattle.link_world.specs.Configured.{configuration_in}
+use Rattle.link_world.specs.Events.{entry_of}
+use Rattle.link_world.specs.Written.{before_full, has_full, text_of}
 use Rattle.world_machine.specs.Happenings as machine
 use Rattle.world_machine.specs.Setup.{WorldSetup, script_world}
 use Rattle.world_machine.specs.Trace.{trace_lines, world_after}
