@@ -1,5 +1,5 @@
 use crate::World;
-use script_text::parse_script;
+use script_text::{TEXT_LIMIT, parse_script};
 use spdm_basis::{Bytes, MemSink};
 use std::process::Abort;
 use std::test::Fail;
@@ -133,6 +133,9 @@ const DATA_GO_BOTH_WAYS: (&str, &str) = (
 fn writes(rt: &(impl AllocGlobal + Abort), row: (&str, &str)) -> Result<(), Fail> {
     let mut text = Bytes::copy(rt.alloc(), SETTING.as_bytes())?;
     text.extend(row.0.as_bytes())?;
+    if text.as_slice().len() > TEXT_LIMIT {
+        return Err(Fail::from("a long script"));
+    }
     let script = parse_script(rt.alloc(), text.as_slice())?;
     if script.config.seed.is_none() {
         return Err(Fail::from("no seed"));
