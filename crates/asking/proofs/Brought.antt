@@ -8,6 +8,7 @@ use Rattle.std.proofs.lemmas.Grind.{common_steps}
 use Rattle.std.proofs.lemmas.Option.{none-some, same_Some}
 use Rattle.chunking.proofs.FewChunks.{most, not_too_large}
 use Rattle.chunking.specs.Collecting.{broken_rule, first_rule, joined, joined_with, later_rule, size_rule, told_by, told_size}
+use Rattle.spdm_basis.proofs.Options.{both}
 use Rattle.spdm_grammar.specs.Message.{ResponseMessage, ChunkMessage, MeasuredMessage}
 use Rattle.spdm_grammar.specs.Message.ResponseMessage.{Measurements, PskFinishRsp, HeartbeatAck, KeyUpdateAck, EndSessionAck, ChunkResponse, Error}
 use Rattle.spdm_grammar.specs.declared.event.BadReply.{BadReply}
@@ -44,10 +45,6 @@ use Rattle.requester_machine.proofs.ResponseLengths.{measured_short, measured_va
 
 -- ---- A large answer.
 
-not_both : {A : Type 0} (b : Bool) (fault : A) (rest : Option A) → (if b then Some fault else rest) ≡ None → (b ≡ false) × (rest ≡ None)
-not_both true fault rest is = absurd (none-some fault (sym is))
-not_both false fault rest is = (refl, is)
-
 -- A chunk that keeps the rule of sizes passes nothing.
 sized : (told held : ℕ) (c : ChunkMessage) → size_rule told held c ≡ None → held + length c.chunk ≤ told
 sized told held c is = grind (arith, common_steps)
@@ -63,8 +60,8 @@ later_short : (before : List ChunkMessage) (c : ChunkMessage) → told_size befo
 later_short [] c told is = absurd (none-some WrongNumber (sym is))
 later_short (d ∷ earlier) c told is =
     let rule = size_rule (told_size (d ∷ earlier)) (length (joined (d ∷ earlier))) c in
-    let handle = not_both (not (c.handle == d.handle)) WrongHandle (if not (c.number == d.number + 1) then Some WrongNumber else rule) is in
-    let number = not_both (not (c.number == d.number + 1)) WrongNumber rule handle.1 in
+    let handle = both (not (c.handle == d.handle)) WrongHandle (if not (c.number == d.number + 1) then Some WrongNumber else rule) is in
+    let number = both (not (c.number == d.number + 1)) WrongNumber rule handle.1 in
     let within = sized (told_size (d ∷ earlier)) (length (joined (d ∷ earlier))) c number.1 in
     omega (arith, length-append (joined (d ∷ earlier)) c.chunk, within, told)
 
@@ -75,8 +72,8 @@ joined_by max before c false told is = later_short before c told is
 joined_short : (max handle number : ℕ) (before : List ChunkMessage) (c : ChunkMessage) → told_size before ≤ MAX_MESSAGE_SIZE → get_fault max handle number before c ≡ None → length (joined_with before c) ≤ MAX_MESSAGE_SIZE
 joined_short max handle number before c told is =
     let rule = broken_rule max before c in
-    let of_handle = not_both (not (c.handle == handle)) WrongHandle (if not (c.number == number) then Some WrongNumber else rule) is in
-    let of_number = not_both (not (c.number == number)) WrongNumber rule of_handle.1 in
+    let of_handle = both (not (c.handle == handle)) WrongHandle (if not (c.number == number) then Some WrongNumber else rule) is in
+    let of_number = both (not (c.number == number)) WrongNumber rule of_handle.1 in
     joined_by max before c (c.number == 0) told of_number.1
 
 -- ---- What a record leads to.
@@ -160,9 +157,9 @@ module _ (q : ReqSetup) (h : History) (f : Free) (came : Came) where
       let spdm = slice_index came.inner 0 == 5 && nat_lt q.transfer (length (message_in came)) in
       let data_long = slice_index came.inner 0 == 1 && nat_lt 1024 (length (message_in came)) in
       let no_type = not (slice_index came.inner 0 == 5 || slice_index came.inner 0 == 1) in
-      let first = not_both spdm bad.TooLong (if data_long then Some bad.TooLong else (if no_type then Some (bad.Malformed 0) else None)) none in
-      let second = not_both data_long bad.TooLong (if no_type then Some (bad.Malformed 0) else None) first.1 in
-      let third = not_both no_type (bad.Malformed 0) None second.1 in
+      let first = both spdm bad.TooLong (if data_long then Some bad.TooLong else (if no_type then Some (bad.Malformed 0) else None)) none in
+      let second = both data_long bad.TooLong (if no_type then Some (bad.Malformed 0) else None) first.1 in
+      let third = both no_type (bad.Malformed 0) None second.1 in
       inner_short (slice_index came.inner 0 == 5) (slice_index came.inner 0 == 1) (nat_lt q.transfer (length (message_in came))) (nat_lt 1024 (length (message_in came))) (length (message_in came)) first.0 second.0 third.0
       (λ is. at_most q.transfer (length (message_in came)) is sizes.transfer) (λ is. at_most 1024 (length (message_in came)) is (omega arith))
     where

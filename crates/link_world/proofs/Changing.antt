@@ -27,33 +27,6 @@ use Rattle.spdm_machine.specs.Packets.{body_type, gathered_from}
 use Rattle.spdm_machine.specs.TagLog.{Log}
 use Rattle.world_machine.specs.World.{SentPacket, World, with_requester}
 
--- ---- A requester keeps its set-up.
-
-either_told : (a : Requesting) (b : Bool) (x y : CommandStep) → x.after.setup ≡ a.setup → y.after.setup ≡ a.setup → (if b then x else y).after.setup ≡ a.setup
-either_told a true x y p q = p
-either_told a false x y p q = q
-
-pub told_kept : (a : Requesting) (command : Command) → (requester_told a command).after.setup ≡ a.setup
-unfolding requester_told
-told_kept a command = either_told a (requesting.is_worn a) _ _ refl refl
-
-either_given : (a : Requesting) (b : Bool) (x y : PacketStep) → x.after.setup ≡ a.setup → y.after.setup ≡ a.setup → (if b then x else y).after.setup ≡ a.setup
-either_given a true x y p q = p
-either_given a false x y p q = q
-
-gathered_kept : (a : Requesting) (packet : List ℕ) (gathered : Gathered) → (requesting.hears_gathered a packet gathered).after.setup ≡ a.setup
-gathered_kept a packet (Whole route body) = refl
-gathered_kept a packet More = refl
-gathered_kept a packet (Dropped cause) = refl
-
-packet_kept : (a : Requesting) (packet : List ℕ) (fields : Result PacketFields PacketFault) → (requesting.hears_packet a packet fields).after.setup ≡ a.setup
-packet_kept a packet (Err fault) = refl
-packet_kept a packet (Ok fields) = gathered_kept a packet _
-
-pub given_kept : (a : Requesting) (packet : List ℕ) → (requester_given a packet).after.setup ≡ a.setup
-unfolding requester_given
-given_kept a packet = either_given a (requesting.is_worn a) _ _ refl (packet_kept a packet (parsed packet))
-
 -- ---- The responder keeps its set-up.
 
 -- A whole body: what holds of each of its three ends.

@@ -3,7 +3,7 @@ use Rattle.std.proofs.Common.{refl, ◌≡◌, ◌∙◌, ◌++◌, ◌∷◌, [
 use Rattle.std.proofs.lemmas.List.{append-nil}
 use Rattle.std.specs.Prelude.{◌==◌, if◌then◌else◌, find, nat_lt, slice_index, MatchResult, Result, Ok, Err}
 use Rattle.link_world.proofs.Askers.{Hit, eid_of}
-use Rattle.link_world.proofs.Changing.{given_kept, requester_changed, responder_changed, responder_keeps, told_kept}
+use Rattle.link_world.proofs.Changing.{requester_changed, responder_changed, responder_keeps}
 use Rattle.link_world.proofs.Telling.{requester_tells, responder_tells}
 use Rattle.link_world.specs.Standing.{AreEnds, IsAsker, IsDone, IsGivenTo}
 use Rattle.link_world.specs.Told.{event_data, event_lines, heard_data, heard_lines}
@@ -11,6 +11,7 @@ use Rattle.link_world.specs.Written.{has_full, text_of}
 use Rattle.link_world.specs.declared.ends.Asker.{Asker}
 use Rattle.link_world.specs.declared.ends.Ends.{Ends}
 use Rattle.requester.specs.Standing as asking
+use Rattle.requester_machine.proofs.SetUpKept.{given_setup, told_setup}
 use Rattle.requester_machine.specs.Message.{Command}
 use Rattle.requester_machine.specs.Requesting.{Requesting, requester_given, requester_told}
 use Rattle.requester_machine.specs.Setup.{ReqSetup}
@@ -99,7 +100,7 @@ module _ (w : World) (k : ℕ) (old new : Ends) (asker : Asker) (e : AreEnds old
   asker_told n command answer sends None before after is t text = absurd (cc is)
   asker_told n command answer sends (Some a) before after is t text =
       let step = requester_told h.a command in
-      let kept = told_kept h.a command in
+      let kept = told_setup h.a command in
       subst (λ (o : Option Requesting). IsGivenTo w (told w n command o) before after sends new) (sym is)
       (record {
         front = Line.Command n step.fault ∷ [];
@@ -115,7 +116,7 @@ module _ (w : World) (k : ℕ) (old new : Ends) (asker : Asker) (e : AreEnds old
       → after ≡ before ++ text_of (event_lines n tells last) → IsGivenTo w (given_to_requester w n (requester_given h.a packet)) before after sends new
   asker_given n packet tells last sends before after g last_is text =
       let step = requester_given h.a packet in
-      let kept = given_kept h.a packet in
+      let kept = given_setup h.a packet in
       let middle : List Line = data_lines (Whose.Requester n) (id_in_event step.event) step.taken in
       let records : List Line = record_lines n step.measured in
       let own : event_lines n tells last ≡ Line.ToRequester n step.event ∷ middle ++ records =

@@ -1,6 +1,6 @@
 -- A world is made of ends that a configuration sets up.
 use Rattle.std.proofs.Common.{refl, ◌≡◌, ◌≢◌, ◌∙◌, ◌≤◌, ◌<◌, ◌+◌, ◌++◌, ◌∷◌, [], ℕ, zero, suc, List, Bool, true, false, Option, Some, None, ap, sym, subst, length, arith, get_or, map, take, inl, inr}
-use Rattle.std.proofs.lemmas.Bool.{eqb-false, false≢true, ltb-false}
+use Rattle.std.proofs.lemmas.Bool.{eqb-false, ltb-false, or_parts}
 use Rattle.std.proofs.lemmas.List.{length-map}
 use Rattle.std.proofs.lemmas.Option.{none-some}
 use Rattle.std.specs.List.{AllByRecursion}
@@ -19,6 +19,7 @@ use Rattle.requester.specs.declared.fault.ReqConfigFault.{ReqConfigFault}
 use Rattle.requester.specs.declared.fault.ReqConfigFault.TheVariants as reqfault
 use Rattle.measurements.specs.Faults.{inventory_fault}
 use Rattle.requester_machine.specs.Requesting.{Requesting, new_requesting}
+use Rattle.responder.proofs.Limits.{first_none}
 use Rattle.responder.specs.Config as answering
 use Rattle.responder.specs.Config.{config_fault, has_same_eid, is_eid_of_one, set_up_fault}
 use Rattle.responder.specs.SetUp as known
@@ -29,6 +30,7 @@ use Rattle.responder.specs.declared.fault.RspConfigFault.TheVariants as rspfault
 use Rattle.responder_machine.specs.Setup as machine
 use Rattle.script_text.specs.declared.config.ReqPart.{ReqPart}
 use Rattle.script_text.specs.declared.config.ScriptConfig.{ScriptConfig}
+use Rattle.spdm_basis.proofs.Options.{both}
 use Rattle.world_machine.specs.Setup.{ends_from, first_draw, known_of, requester_seed}
 
 -- ---- The end points of the requesters differ.
@@ -44,10 +46,6 @@ abbrev tail_of : List machine.Known → List machine.Known
 tail_of [] = []
 tail_of (k ∷ others) = others
 
-either_off : (a b : Bool) → (a || b) ≡ false → (a ≡ false) × (b ≡ false)
-either_off true b off = absurd (false≢true (sym off))
-either_off false b off = (refl, off)
-
 module _ (responder : ℕ) (seed : List ℕ) (boot : ℕ) where
   abbrev made : ℕ → List ReqPart → List Requesting
   made n qs = map new_requesting (ends_from n seed boot (map (requester_in responder) qs))
@@ -56,7 +54,7 @@ module _ (responder : ℕ) (seed : List ℕ) (boot : ℕ) where
   no_eid eid n ks [] same none = tt
   no_eid eid n [] (q ∷ qs) same none = absurd (cc same)
   no_eid eid n (k ∷ ks) (q ∷ qs) same none =
-      let off = either_off (k.eid.number == eid) (is_eid_of_one eid ks) none in
+      let off = or_parts (k.eid.number == eid) (is_eid_of_one eid ks) none in
       let its : k.eid.number ≡ q.eid.number = ap head_eid same in
       (λ e. eqb-false _ _ off.0 (its ∙ e), no_eid eid (n + 1) ks qs (ap tail_of same) off.1)
 
@@ -64,7 +62,7 @@ module _ (responder : ℕ) (seed : List ℕ) (boot : ℕ) where
   made_apart eid n ks [] same none = (tt, tt)
   made_apart eid n [] (q ∷ qs) same none = absurd (cc same)
   made_apart eid n (k ∷ ks) (q ∷ qs) same none =
-      let off = either_off (is_eid_of_one eid (k ∷ ks)) (has_same_eid k.eid.number ks) none in
+      let off = or_parts (is_eid_of_one eid (k ∷ ks)) (has_same_eid k.eid.number ks) none in
       let its : k.eid.number ≡ q.eid.number = ap head_eid same in
       let rest = made_apart k.eid.number (n + 1) ks qs (ap tail_of same) off.1 in
       (no_eid eid n (k ∷ ks) (q ∷ qs) same off.0, (subst (λ (e : ℕ). AllByRecursion (λ (b : Requesting). b.setup.eid ≢ e) (made (n + 1) qs)) its rest.0, rest.1))
@@ -75,14 +73,6 @@ module _ (responder : ℕ) (seed : List ℕ) (boot : ℕ) where
 
 -- ---- What a sound configuration tells.
 
-none_of : {A : Type 0} (a b : Option A) → option_or a b ≡ None → a ≡ None
-none_of None b none = refl
-none_of (Some x) b none = absurd (none-some x (sym none))
-
-first_off : {A : Type 0} (b : Bool) (fault : A) (rest : Option A) → (if b then Some fault else rest) ≡ None → (b ≡ false) × (rest ≡ None)
-first_off true fault rest none = absurd (none-some fault (sym none))
-first_off false fault rest none = (refl, none)
-
 pub record IsFew (c : ScriptConfig) : Type 0 where
   pub few : length c.requesters ≤ 8
   pub made_few : (seed : List ℕ) (boot : ℕ) → length (map new_requesting (ends_from 1 seed boot (map (requester_in c.responder.eid.number) c.requesters))) ≤ 8
@@ -91,9 +81,9 @@ pub record IsFew (c : ScriptConfig) : Type 0 where
 pub sound_few : (c : ScriptConfig) → HasResponderFault c None → IsFew c
 sound_few c s =
     let o : RspConfig = s.config in
-    let none = none_of (set_up_fault o) (option_map _ (inventory_fault o.blocks.now)) s.is in
-    let many = first_off (nat_lt 8 (length o.known.now)) _ _ none in
-    let same = first_off (has_same_eid o.eid.number o.known.now) _ _ many.1 in
+    let none = first_none (set_up_fault o) (option_map _ (inventory_fault o.blocks.now)) s.is in
+    let many = both (nat_lt 8 (length o.known.now)) _ _ none in
+    let same = both (has_same_eid o.eid.number o.known.now) _ _ many.1 in
     let count : length o.known.now ≡ length c.requesters =
     sym (length-map o.known.now known.known_of) ∙ ap length s.known ∙ length-map (map (requester_in c.responder.eid.number) c.requesters) known_of ∙ length-map c.requesters (requester_in c.responder.eid.number) in
     let few : length c.requesters ≤ 8 = subst (λ (n : ℕ). n ≤ 8) count (ltb-false 8 (length o.known.now) many.0) in

@@ -34,14 +34,14 @@ sessions_begin who (suc i) (v ∷ views) = (let t = sessions_begin who i views i
 
 -- ---- No line of these is that of a packet.
 
-plain_behind : (xs ys : List Line) → has_full xs ≡ false → has_full ys ≡ false → has_full (xs ++ ys) ≡ false
+pub plain_behind : (xs ys : List Line) → has_full xs ≡ false → has_full ys ≡ false → has_full (xs ++ ys) ≡ false
 plain_behind xs ys a b = has_behind xs ys a ∙ b
 
-sessions_plain : (who : Whose) (views : List SessionView) → has_full (session_lines who views) ≡ false
+pub sessions_plain : (who : Whose) (views : List SessionView) → has_full (session_lines who views) ≡ false
 sessions_plain who [] = refl
 sessions_plain who (v ∷ views) = sessions_plain who views
 
-connection_plain : (n : ℕ) (c : Option Connection) → has_full (connection_lines n c) ≡ false
+pub connection_plain : (n : ℕ) (c : Option Connection) → has_full (connection_lines n c) ≡ false
 connection_plain n None = refl
 connection_plain n (Some c) = sessions_plain (Whose.Responder n) (heard.views_of c.history)
 

@@ -21,7 +21,7 @@ pub record HasLimits (c : RspConfig) : Type 0 where
   pub unit_high : c.unit ≤ 1024
   pub opaque : length c.opaque.now ≤ 1024
 
-first_none : {A : Type 0} (a b : Option A) → option_or a b ≡ None → a ≡ None
+pub first_none : {A : Type 0} (a b : Option A) → option_or a b ≡ None → a ≡ None
 first_none (Some x) b h = absurd (none-some x (sym h))
 first_none None b h = refl
 

@@ -1,6 +1,6 @@
 -- A responder that was given nothing yet.
 use Rattle.std.proofs.Common.{refl, ◌≡◌, ◌≢◌, ◌<◌, ◌++◌, ℕ, zero, suc, List, [], ◌∷◌, length, map, take, get_or, Bool, true, false, sym, arith}
-use Rattle.std.proofs.lemmas.Bool.{eqb-false, false≢true}
+use Rattle.std.proofs.lemmas.Bool.{eqb-false, or_parts}
 use Rattle.std.specs.List.{AllByRecursion}
 use Rattle.std.specs.Prelude.{◌==◌, ◌||◌}
 use Rattle.responder.specs.Config.{has_same_eid, is_eid_of_one}
@@ -28,22 +28,18 @@ more_peers p (suc i) (y ∷ ys) (k ∷ known) x d few are stands = (are.0, more_
 
 -- ---- End points that differ.
 
-either_off : (a b : Bool) → (a || b) ≡ false → (a ≡ false) × (b ≡ false)
-either_off true b h = absurd (false≢true (sym h))
-either_off false b h = (refl, h)
-
 no_eid : (eid : ℕ) (known : List Known) → is_eid_of_one eid known ≡ false → AllByRecursion (λ (other : machine.Known). other.eid ≢ eid) (map known_of known)
 no_eid eid [] none = tt
-no_eid eid (k ∷ others) none = (let both = either_off (k.eid.number == eid) (is_eid_of_one eid others) none in (eqb-false _ _ both.0, no_eid eid others both.1))
+no_eid eid (k ∷ others) none = (let both = or_parts (k.eid.number == eid) (is_eid_of_one eid others) none in (eqb-false _ _ both.0, no_eid eid others both.1))
 
 none_of : (eid : ℕ) (known : List Known) → has_same_eid eid known ≡ false → is_eid_of_one eid known ≡ false
 none_of eid [] none = refl
-none_of eid (k ∷ others) none = (either_off (is_eid_of_one eid (k ∷ others)) (has_same_eid k.eid.number others) none).0
+none_of eid (k ∷ others) none = (or_parts (is_eid_of_one eid (k ∷ others)) (has_same_eid k.eid.number others) none).0
 
 pub known_apart : (eid : ℕ) (known : List Known) → has_same_eid eid known ≡ false → AreKnownApart (map known_of known)
 known_apart eid [] none = tt
 known_apart eid (k ∷ others) none =
-    let rest = (either_off (is_eid_of_one eid (k ∷ others)) (has_same_eid k.eid.number others) none).1 in
+    let rest = (or_parts (is_eid_of_one eid (k ∷ others)) (has_same_eid k.eid.number others) none).1 in
     (no_eid k.eid.number others (none_of k.eid.number others rest), known_apart k.eid.number others rest)
 
 all_apart : (p : RspPart) (eid : ℕ) (known : List machine.Known) → AllByRecursion (λ (other : machine.Known). other.eid ≢ eid) known → AllByRecursion (λ (d : Connection). d.setup.peer ≢ eid) (map (new_connection p) known)

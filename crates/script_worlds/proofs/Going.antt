@@ -3,19 +3,16 @@ use Rattle.std.proofs.Common.{◌≡◌, ◌∙◌, ◌+◌, ◌<◌, ◌++◌, 
 use Rattle.std.proofs.lemmas.Bool.{or_parts}
 use Rattle.std.proofs.lemmas.List.{append-nil}
 use Rattle.script_text.specs.declared.event.Entry.{Entry}
-use Rattle.script_worlds.proofs.Traces.{before_full-full, before_full-room, full_from-full, full_from-room}
+use Rattle.script_worlds.proofs.Traces.{full_from-full, full_from-room}
 use Rattle.script_worlds.specs.Scripts.{entries_in, entry_in, full_from}
+use Rattle.link_world.proofs.Shown.{plain_behind}
+use Rattle.link_world.proofs.Texts.{before_all, before_behind, before_still}
 use Rattle.link_world.specs.Written.{before_full, has_full, is_beyond}
 use Rattle.spdm_grammar.specs.Lines.{Line}
 use Rattle.world_machine.specs.Trace.{lines_from, world_from}
 use Rattle.world_machine.specs.World.{World, WorldStep, entry_step}
 
 -- ---- Lines.
-
--- lines with room, behind lines with room
-pub room_joined : (xs ys : List Line) → has_full xs ≡ false → has_full ys ≡ false → has_full (xs ++ ys) ≡ false
-room_joined [] ys first second = second
-room_joined (x ∷ xs) ys first second = let room = or_parts (is_beyond x) (has_full xs) first in rw room.0 (room_joined xs ys room.1 second)
 
 pub room_parts : (xs ys : List Line) → has_full (xs ++ ys) ≡ false → (has_full xs ≡ false) × (has_full ys ≡ false)
 room_parts [] ys h = (refl, h)
@@ -24,13 +21,10 @@ room_parts (x ∷ xs) ys h =
     let rest = room_parts xs ys room.1 in
     (rw room.0 rest.0, rest.1)
 
-before_room : (xs : List Line) → has_full xs ≡ false → before_full xs ≡ xs
-before_room xs h = ap before_full (sym (append-nil xs)) ∙ before_full-room xs [] h ∙ append-nil xs
-
 -- What is written of the first lines is the beginning of what is written of all.
 before_begins : (b : Bool) (xs ys : List Line) → has_full xs ≡ b → (more : List Line) × (before_full (xs ++ ys) ≡ before_full xs ++ more)
-before_begins true xs ys h = ([], before_full-full xs ys h ∙ sym (append-nil (before_full xs)))
-before_begins false xs ys h = (before_full ys, before_full-room xs ys h ∙ ap (λ (l : List Line). l ++ before_full ys) (sym (before_room xs h)))
+before_begins true xs ys h = ([], before_still xs ys h ∙ sym (append-nil (before_full xs)))
+before_begins false xs ys h = (before_full ys, before_behind xs ys h ∙ ap (λ (l : List Line). l ++ before_full ys) (sym (before_all xs h)))
 
 -- ---- After the first so many events.
 
@@ -64,7 +58,7 @@ world_more w (x ∷ xs) (suc i) e h =
 
 -- There is room for one event more.
 pub room_more : (w : World) (events : List Entry) (i : ℕ) (e : Entry) → i < length events → has_full (lines_to w events i) ≡ false → has_full (step_at w events i e).lines ≡ false → has_full (lines_to w events (i + 1)) ≡ false
-room_more w events i e h first second = ap has_full (lines_more w events i e h) ∙ room_joined (lines_to w events i) (step_at w events i e).lines first second
+room_more w events i e h first second = ap has_full (lines_more w events i e h) ∙ plain_behind (lines_to w events i) (step_at w events i e).lines first second
 
 -- What the first events wrote, and what the next one does, is the beginning of what is written of all.
 pub goes_on : (w : World) (events : List Entry) (i : ℕ) (e : Entry) → i < length events → has_full (lines_to w events i) ≡ false
@@ -78,7 +72,7 @@ goes_on w (x ∷ xs) (suc i) e h room =
     let parts = room_parts s.lines (lines_to s.after xs i) room in
     let rest = goes_on s.after xs i e (omega (arith, h)) parts.1 in (
       rest.0,
-      before_full-room s.lines (lines_from s.after (entries_in xs)) parts.0
+      before_behind s.lines (lines_from s.after (entries_in xs)) parts.0
           ∙ ap (λ (l : List Line). s.lines ++ l) rest.1
           ∙ sym (append_assoc s.lines (lines_to s.after xs i) (before_full (step_at s.after xs i e).lines ++ rest.0)),
     )
@@ -93,7 +87,7 @@ stops_at w [] i e h room full = absurd (omega (arith, h))
 stops_at w (x ∷ xs) zero e h room full =
     record {
       line = full_from-full w (entry_in x) (entries_in xs) full;
-      written = before_full-full (entry_step w (entry_in x)).lines (lines_from (entry_step w (entry_in x)).after (entries_in xs)) full;
+      written = before_still (entry_step w (entry_in x)).lines (lines_from (entry_step w (entry_in x)).after (entries_in xs)) full;
     }
 stops_at w (x ∷ xs) (suc i) e h room full =
     let s : WorldStep = entry_step w (entry_in x) in
@@ -101,7 +95,7 @@ stops_at w (x ∷ xs) (suc i) e h room full =
     let rest = stops_at s.after xs i e (omega (arith, h)) parts.1 full in
     record {
       line = full_from-room w (entry_in x) (entries_in xs) parts.0 ∙ rest.line;
-      written = before_full-room s.lines (lines_from s.after (entries_in xs)) parts.0
+      written = before_behind s.lines (lines_from s.after (entries_in xs)) parts.0
           ∙ ap (λ (l : List Line). s.lines ++ l) rest.written
           ∙ sym (append_assoc s.lines (lines_to s.after xs i) (before_full (step_at s.after xs i e).lines));
     }
@@ -119,4 +113,4 @@ none_full w (x ∷ xs) room =
     full_from-room w (entry_in x) (entries_in xs) parts.0 ∙ none_full s.after xs parts.1
 
 pub writes_all : (w : World) (events : List Entry) → has_full (lines_from w (entries_in events)) ≡ false → WritesAll w events
-writes_all w events room = record { none = none_full w events room; written = before_room (lines_from w (entries_in events)) room }
+writes_all w events room = record { none = none_full w events room; written = before_all (lines_from w (entries_in events)) room }

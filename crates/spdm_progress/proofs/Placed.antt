@@ -8,6 +8,7 @@ use Rattle.spdm_basis.specs.declared.PacketFault.{PacketFault}
 use Rattle.spdm_grammar.specs.declared.heard.ReplyFault.{ReplyFault}
 use Rattle.spdm_machine.specs.Packets.{gathered_from, body_type}
 use Rattle.spdm_machine.proofs.Members.{IsIn, in_map, found_in, all_in, map_in}
+use Rattle.requester_machine.proofs.SetUpKept.{given_setup, told_setup}
 use Rattle.requester_machine.specs.Message.{Command}
 use Rattle.requester_machine.specs.Requesting as asking
 use Rattle.requester_machine.specs.Requesting.{Requesting, requester_told, requester_given, new_requesting}
@@ -27,34 +28,7 @@ use Rattle.spdm_agreement.specs.Configured.{IsConfigured, setups_of}
 use Rattle.spdm_agreement.proofs.Worlds.AllEvents.{requester_in}
 use Rattle.world_machine.specs.World.{new_world, World, WorldStep, told, given, given_to, given_to_responder, delivers, loses, without_waiting, packet_of, turn, pumps, first_waiting, replied, requester_of, is_at, happens, entry_step, with_requester, replaced}
 
--- ---- The ends keep their set-up.
-
-either_told : (b : Bool) (s t : asking.CommandStep) (a : Requesting) → s.after.setup ≡ a.setup → t.after.setup ≡ a.setup → (cond b s t).after.setup ≡ a.setup
-either_told true s t a e f = e
-either_told false s t a e f = f
-
-pub told_setup : (a : Requesting) (command : Command) → (requester_told a command).after.setup ≡ a.setup
-unfolding requester_told
-told_setup a command = either_told (asking.is_worn a) _ _ a refl refl
-
-either_given : (b : Bool) (s t : asking.PacketStep) (a : Requesting) → s.after.setup ≡ a.setup → t.after.setup ≡ a.setup → (cond b s t).after.setup ≡ a.setup
-either_given true s t a e f = e
-either_given false s t a e f = f
-
-gathered_setup : (a : Requesting) (packet : List ℕ) (g : Gathered) → (asking.hears_gathered a packet g).after.setup ≡ a.setup
-gathered_setup a packet (Whole route body) = refl
-gathered_setup a packet More = refl
-gathered_setup a packet (Dropped cause) = refl
-
-packet_setup : (a : Requesting) (packet : List ℕ) (r : Result PacketFields PacketFault) → (asking.hears_packet a packet r).after.setup ≡ a.setup
-packet_setup a packet (Err fault) = refl
-packet_setup a packet (Ok fields) = gathered_setup a packet (gathered_from a.setup.eid a.setup.responder a.given fields)
-
-pub given_setup : (a : Requesting) (packet : List ℕ) → (requester_given a packet).after.setup ≡ a.setup
-unfolding requester_given
-given_setup a packet = either_given (asking.is_worn a) _ _ a refl (packet_setup a packet (parsed packet))
-
--- ---- The responder keeps its own, and the set-ups of its connections.
+-- ---- The responder keeps its own set-up, and those of its connections.
 
 pub record KeepsEnds (r s : Responding) : Type 0 where
   pub part : s.part ≡ r.part
