@@ -54,6 +54,7 @@ pub use faults::{LineFault, ScriptFault};
 pub use generator::{MOST_GENERATED, generate};
 pub use laws::{printed_events_are_read, printed_script_is_read};
 pub use lives_text::parse_lives;
+pub use numbers::{long_number, number};
 pub use other_lines::{
     line_conforms, line_cycle, line_differs, line_malformed, line_request, line_response,
     line_seen, line_summary,

@@ -23,7 +23,7 @@ use Rattle.script_text.specs.declared.config.ScriptConfig.{ScriptConfig}
 use Rattle.script_worlds.proofs.ScriptRead.{script_sound}
 use Rattle.script_worlds.proofs.SetUpRight.{are_few, at_most, differ, eid_among, has_sizes, is_fine, no_fault, own_fits, psk_among}
 use Rattle.link_world.specs.Configured.{requester_in}
-use Rattle.script_worlds.specs.Ends.{ReadEndsHaveNoFault, SetsUpRequester, SetsUpResponder}
+use Rattle.script_worlds.specs.Ends.{HasNoFault, ReadEndsHaveNoFault, SetsUpRequester, SetsUpResponder}
 use Rattle.spdm_agreement.specs.Configured.{HasSizes}
 use Rattle.spdm_basis.proofs.Bools.{and_first, and_second, lt_false}
 use Rattle.spdm_grammar.specs.declared.choice.FlagSet.{FlagSet}
@@ -234,7 +234,9 @@ requester_fine c sound config up =
     let hints : nat_lt 64 (length config.hint.now) ≡ false = rw hint (hint_fits q fine.0) in
     rw (other, own, unit_low, unit_high, padding, short, hints) refl
 
+-- Ends of a configuration in range have none.
+pub sound_has_no_fault : (c : ScriptConfig) → IsSoundConfig c → HasNoFault c
+sound_has_no_fault c sound = record { responder = responder_fine c sound; requester = requester_fine c sound }
+
 pub no_end_has_fault : ReadEndsHaveNoFault
-no_end_has_fault text script read =
-    let sound = (script_sound text script read).0 in
-    record { responder = responder_fine script.config sound; requester = requester_fine script.config sound }
+no_end_has_fault text script read = sound_has_no_fault script.config (script_sound text script read).0

@@ -6,12 +6,12 @@ use Rattle.script_text.specs.declared.faults.ScriptFault.TheVariants as fault
 use Rattle.script_text.specs.declared.shown.Shown.{Shown}
 use Rattle.spdm_show.specs.Shown.{IsBad}
 use Rattle.spdm_show.specs.declared.showing.ShowFault.TheVariants as told
-use Rattle.spdm_cmd.specs.Answer.{BadLine, bad_shown}
+use Rattle.spdm_cmd.specs.Answer.{BadLine, bad_line_in}
 use Rattle.spdm_cmd.specs.declared.output.TextFault.{TextFault}
 use Rattle.spdm_cmd.specs.declared.output.TextFault.TheVariants as output
 
 -- A fault that is told of a line is the first bad line.
-pub bad_told : (reading : Result (List Shown) ScriptFault) (line : ℕ) (f : LineFault) → IsBad reading (told.Line line f) → bad_shown reading ≡ Some (record { line = line; fault = f })
+pub bad_told : (reading : Result (List Shown) ScriptFault) (line : ℕ) (f : LineFault) → IsBad reading (told.Line line f) → bad_line_in reading ≡ Some (record { line = line; fault = f })
 bad_told (Ok shown) line f bad = absurd bad
 bad_told (Err (fault.Line number g)) line f bad = search
 bad_told (Err (fault.TooManyEvents number)) line f bad = search

@@ -1,16 +1,18 @@
--- What the commands write and answer, and when. This project's own.
-use Rattle.std.specs.Prelude.{ℕ, List, [], nat_lt, length, if◌then◌else◌, Bool, true, false, Option, Some, None, Result, Ok, Err}
+-- What the commands write and answer, what they leave, and when. This project's own.
+use Rattle.std.specs.Prelude.{◌≡◌, ℕ, List, [], nat_lt, length, if◌then◌else◌, Bool, true, false, Option, Some, None, Result, Ok, Err}
+use Rattle.link_world.specs.Worlds.{StandsFor}
+use Rattle.link_world.specs.declared.world.World.{World}
+use Rattle.script_text.specs.ScriptText.{script_in}
 use Rattle.script_text.specs.ShownText.{shown_in}
 use Rattle.script_text.specs.declared.faults.LineFault.{LineFault}
-use Rattle.script_text.specs.declared.faults.LineFault.TheVariants.{TooManyEvents, Unknown}
+use Rattle.script_text.specs.declared.faults.LineFault.TheVariants.{TooManyEvents}
 use Rattle.script_text.specs.declared.faults.ScriptFault.{ScriptFault}
 use Rattle.script_text.specs.declared.faults.ScriptFault.TheVariants as fault
-use Rattle.script_text.specs.declared.shown.Shown.{Shown}
+use Rattle.script_text.specs.declared.script.Script.{Script}
+use Rattle.script_worlds.specs.Scripts.{full_line, last_world, written_in}
 use Rattle.spdm_show.specs.Shown.{shown_text}
-use Rattle.spdm_cmd.specs.Script.{first_bad_line}
-use Rattle.spdm_cmd.specs.Trace.{trace}
 use Rattle.spdm_cmd.specs.declared.outcome.Outcome.{Outcome}
-use Rattle.spdm_cmd.specs.declared.outcome.Outcome.TheVariants.{Done, Usage, BadScript, ReadFault, WriteFault, OutOfMemory, TooLong}
+use Rattle.spdm_cmd.specs.declared.outcome.Outcome.TheVariants.{Done, Usage, BadScript, ReadFault, WriteFault, OutOfMemory, TooLong, LinkFull}
 use Rattle.spdm_cmd.specs.declared.words.Command.{Command}
 use Rattle.spdm_cmd.specs.declared.words.Command.TheVariants.{Run, Show}
 
@@ -20,9 +22,14 @@ text_limit = 4194304
 
 -- ---- What is written.
 
--- The output of a command for a text of which no line is bad: the trace of a script, the lines of messages.
+-- The trace of a script, up to a packet for which the link has no room.
+abbrev pub run_text : Result Script ScriptFault → List ℕ
+run_text (Ok script) = written_in script
+run_text (Err f) = []
+
+-- The output of a command for a text: that of a script, or the lines of messages.
 abbrev pub output_of : Command → List ℕ → List ℕ
-output_of Run text = trace text
+output_of Run text = run_text (script_in text)
 output_of Show text = shown_text text
 
 -- The output that the words ask for.
@@ -36,37 +43,48 @@ pub record BadLine : Type 0 where
   pub line : ℕ
   pub fault : LineFault
 
--- A script has one reason to refuse a line.
-abbrev pub bad_script : Option ℕ → Option BadLine
-bad_script None = None
-bad_script (Some line) = Some (record { line = line; fault = Unknown })
-
--- The first bad line of a text of messages.
-abbrev pub bad_shown : Result (List Shown) ScriptFault → Option BadLine
-bad_shown (Ok shown) = None
-bad_shown (Err (fault.Line line f)) = Some (record { line = line; fault = f })
-bad_shown (Err (fault.TooManyEvents line)) = Some (record { line = line; fault = TooManyEvents })
-bad_shown (Err fault.OutOfMemory) = None
+-- The first bad line of a text that was read so.
+abbrev pub bad_line_in : {V : Type 0} → Result V ScriptFault → Option BadLine
+bad_line_in (Ok v) = None
+bad_line_in (Err (fault.Line line f)) = Some (record { line = line; fault = f })
+bad_line_in (Err (fault.TooManyEvents line)) = Some (record { line = line; fault = TooManyEvents })
+bad_line_in (Err fault.OutOfMemory) = None
 
 -- The first bad line of a text of a command.
 abbrev pub bad_line_of : Command → List ℕ → Option BadLine
-bad_line_of Run text = bad_script (first_bad_line text)
-bad_line_of Show text = bad_shown (shown_in text)
+bad_line_of Run text = bad_line_in (script_in text)
+bad_line_of Show text = bad_line_in (shown_in text)
 
 abbrev pub bad_line_by : Option Command → List ℕ → Option BadLine
 bad_line_by None text = None
 bad_line_by (Some command) text = bad_line_of command text
 
+-- ---- A full link.
+
+-- The line of the event of a script that finds the link full, if one does.
+abbrev pub full_in : Result Script ScriptFault → Option ℕ
+full_in (Ok script) = full_line script
+full_in (Err f) = None
+
+abbrev pub full_of : Command → List ℕ → Option ℕ
+full_of Run text = full_in (script_in text)
+full_of Show text = None
+
+abbrev pub full_by : Option Command → List ℕ → Option ℕ
+full_by None text = None
+full_by (Some command) text = full_of command text
+
 -- ---- What is answered.
 
--- A text without a bad line gets its whole output.
-abbrev pub outcome_for : Option BadLine → Outcome
-outcome_for None = Done
-outcome_for (Some bad) = BadScript bad.line bad.fault
+-- A bad line is told; else the line at which the link is full; else all is done.
+abbrev pub outcome_for : Option BadLine → Option ℕ → Outcome
+outcome_for (Some bad) full = BadScript bad.line bad.fault
+outcome_for None (Some line) = LinkFull line
+outcome_for None None = Done
 
 -- The answer to a text.
 abbrev pub answer_of : Command → List ℕ → Outcome
-answer_of command text = if nat_lt text_limit (length text) then TooLong else outcome_for (bad_line_of command text)
+answer_of command text = if nat_lt text_limit (length text) then TooLong else outcome_for (bad_line_of command text) (full_of command text)
 
 -- The answer to words and a text, where nothing fails and memory does not run out.
 abbrev pub answer_to : Option Command → List ℕ → Outcome
@@ -76,19 +94,35 @@ answer_to (Some command) text = answer_of command text
 -- Nothing is written with this outcome.
 abbrev pub writes_nothing : Outcome → Bool
 writes_nothing Usage = true
-writes_nothing (BadScript line fault) = true
+writes_nothing (BadScript line f) = true
 writes_nothing ReadFault = true
 writes_nothing TooLong = true
 writes_nothing Done = false
 writes_nothing WriteFault = false
+writes_nothing (LinkFull line) = false
 writes_nothing OutOfMemory = false
 
 -- No line of the text was bad with this outcome.
 abbrev pub ran : Outcome → Bool
 ran Done = true
 ran WriteFault = true
+ran (LinkFull line) = true
 ran Usage = false
-ran (BadScript line fault) = false
+ran (BadScript line f) = false
 ran ReadFault = false
 ran TooLong = false
 ran OutOfMemory = false
+
+-- ---- What is left.
+
+-- The world of a script, as it is after all its events.
+abbrev pub IsLastWorld : Result Script ScriptFault → World → Type 0
+IsLastWorld (Ok script) world = StandsFor world (last_world script)
+IsLastWorld (Err f) world = ⊥
+
+-- What is left after a command that is done: a script leaves its last world, and nothing else changes what was left.
+abbrev pub IsLeft : Option Command → List ℕ → (old new : Option World) → Type 0
+IsLeft (Some Run) text old (Some world) = IsLastWorld (script_in text) world
+IsLeft (Some Run) text old None = ⊥
+IsLeft (Some Show) text old new = new ≡ old
+IsLeft None text old new = new ≡ old

@@ -1,7 +1,7 @@
 -- The exit status and the name of each outcome. This project's own.
 use Rattle.std.specs.Prelude.{ℕ, List, codes}
 use Rattle.spdm_cmd.specs.declared.outcome.Outcome.{Outcome}
-use Rattle.spdm_cmd.specs.declared.outcome.Outcome.TheVariants.{Done, Usage, BadScript, ReadFault, WriteFault, OutOfMemory, TooLong}
+use Rattle.spdm_cmd.specs.declared.outcome.Outcome.TheVariants.{Done, Usage, BadScript, ReadFault, WriteFault, OutOfMemory, TooLong, LinkFull}
 
 abbrev pub status_of : Outcome → ℕ
 status_of Done = 0
@@ -11,6 +11,7 @@ status_of ReadFault = 4
 status_of WriteFault = 5
 status_of OutOfMemory = 6
 status_of TooLong = 8
+status_of (LinkFull line) = 9
 
 -- The name of the variant, without its fields.
 abbrev pub name_of : Outcome → List ℕ
@@ -21,3 +22,4 @@ name_of ReadFault = codes "ReadFault"
 name_of WriteFault = codes "WriteFault"
 name_of OutOfMemory = codes "OutOfMemory"
 name_of TooLong = codes "TooLong"
+name_of (LinkFull line) = codes "LinkFull"

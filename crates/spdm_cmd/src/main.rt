@@ -1,28 +1,15 @@
-//! The command `spdm`: it runs a requester and a responder over a scripted link, and writes their trace.
+//! The command `spdm`: it runs requesters and a responder over a scripted link, and writes their trace.
 #![tactic(auto)]
 
-mod body;
-mod ends;
-mod lines;
-mod link;
-mod numbers;
 mod outcome;
 mod output;
-mod packets;
-mod parse;
-mod requester;
-mod responder;
 mod run;
-mod script;
-mod setup;
 #[cfg(test)]
 mod tests;
-mod text;
 mod words;
-mod world;
 
 use outcome::Outcome;
-use spdm_basis::{StdinSource, StdoutSink};
+use spdm_basis::{FileSeeds, StdinSource, StdoutSink};
 use std::process::ExitCode;
 
 /// Runs the command with the words behind the program's name, over standard input and output. The name of
@@ -41,5 +28,14 @@ fn command(rt: &HostRuntime) -> Outcome {
     };
     let mut source = StdinSource::new(rt.stdin());
     let mut sink = StdoutSink::new(rt.stdout());
-    run::spdm(rt.alloc(), words.as_slice(), &mut source, &mut sink)
+    let mut seeds = FileSeeds::new(rt);
+    let mut left = None;
+    run::spdm(
+        rt.alloc(),
+        words.as_slice(),
+        &mut source,
+        &mut sink,
+        &mut seeds,
+        &mut left,
+    )
 }

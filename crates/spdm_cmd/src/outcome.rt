@@ -19,6 +19,9 @@ pub enum Outcome {
     OutOfMemory,
     /// The text is longer than 4 MiB. Nothing was written.
     TooLong,
+    /// The event on this line sends a packet for which the link has no room. All that stands before the
+    /// line of the packet was written.
+    LinkFull { line: u32 },
 }
 
 impl Outcome {
@@ -36,6 +39,7 @@ impl Outcome {
             Outcome::WriteFault => 5,
             Outcome::OutOfMemory => 6,
             Outcome::TooLong => 8,
+            Outcome::LinkFull { .. } => 9,
         }
     }
 
@@ -51,6 +55,7 @@ impl Outcome {
             Outcome::WriteFault => "WriteFault",
             Outcome::OutOfMemory => "OutOfMemory",
             Outcome::TooLong => "TooLong",
+            Outcome::LinkFull { .. } => "LinkFull",
         }
     }
 }

@@ -1,24 +1,29 @@
-ghost use Rattle.std.specs.Prelude.{◌≡◌, ◌≤◌, ◌<◌, ◌↔◌, ◌⊎◌, [], ℕ, List, Some, None, IsSome, true, map, length, string_bytes};
+ghost use Rattle.std.specs.Prelude.{◌≡◌, ◌≢◌, ◌≤◌, ◌<◌, ◌↔◌, ◌⊎◌, [], ℕ, List, Some, None, IsSome, true, map, length, string_bytes};
 ghost use Rattle.script_text.specs.declared.faults.LineFault.{LineFault};
+ghost use Rattle.script_worlds.specs.Refused.{RefusesIn};
+ghost use Rattle.script_worlds.specs.Worlds.{AgreesIn, DeliversIn, MatchesIn, SealsOnceIn, ShowsAlikeIn};
 ghost use Rattle.spdm_basis.specs.Stream.{HasFault, IsQuiet, Takes, TakesPrefix};
-ghost use Rattle.spdm_cmd.specs.Answer.{answer_to, bad_line_by, output_by, ran, text_limit, writes_nothing};
+ghost use Rattle.spdm_cmd.specs.Answer.{IsLeft, answer_to, bad_line_by, full_by, output_by, ran, text_limit, writes_nothing};
 ghost use Rattle.spdm_cmd.specs.Words.{command_of};
 
 use crate::outcome::Outcome;
-use crate::output::{TextFault, write_output};
-use crate::parse::TEXT_LIMIT;
-use crate::words::command_of;
-use spdm_basis::{InFault, Sink, Source, read_all};
+use crate::output::{TextFault, run, show_messages};
+use crate::words::{Command, command_of};
+use link_world::World;
+use script_text::TEXT_LIMIT;
+use spdm_basis::{InFault, Seeds, Sink, Source, read_all};
 use std::alloc::Global;
 
-/// The command `spdm` with these words. The word `run` reads a script, runs its requester and its
-/// responder over its link, and writes their trace. The word `show` reads messages, one a line, and writes
-/// their names and lengths.
-pub fn spdm<S: Source, K: Sink>(
+/// The command `spdm` with these words. The word `run` reads a script, runs its requesters and its
+/// responder over its link, writes their trace, and leaves their world in `left`. The word `show` reads
+/// messages, one a line, and writes their names and lengths. Neither takes a seed.
+pub fn spdm<S: Source, K: Sink, E: Seeds>(
     alloc: Global,
     words: &[String],
     source: &mut S,
     sink: &mut K,
+    seeds: &mut E,
+    left: &mut Option<World>,
 ) -> Outcome
     // Done: the source was read to its end, and the sink holds what it held and then the whole output.
     ensures read_to_end { result ≡ Outcome.Done → (text : List ℕ)
@@ -33,6 +38,32 @@ pub fn spdm<S: Source, K: Sink>(
         → TakesPrefix (K.contents sink.old)
         (output_by (command_of (map string_bytes words.now)) text) (K.contents sink.new) }
     ensures nothing_written { writes_nothing result ≡ true → sink.new ≡ sink.old }
+
+    // Where a packet finds the link full, all that stands before its line was written.
+    ensures link_full { (line : ℕ) → result ≡ Outcome.LinkFull line → (text : List ℕ)
+        → S.remaining source.old ≡ Some text
+        → full_by (command_of (map string_bytes words.now)) text ≡ Some line }
+    ensures before_full { (line : ℕ) → result ≡ Outcome.LinkFull line → (text : List ℕ)
+        → S.remaining source.old ≡ Some text
+        → Takes (K.contents sink.old) (output_by (command_of (map string_bytes words.now)) text)
+        (K.contents sink.new) }
+    ensures room { result ≡ Outcome.Done → (text : List ℕ) → S.remaining source.old ≡ Some text
+        → full_by (command_of (map string_bytes words.now)) text ≡ None }
+
+    // What is left stands for the last world of the script; with any other answer it is as before.
+    ensures left { result ≡ Outcome.Done → (text : List ℕ) → S.remaining source.old ≡ Some text
+        → IsLeft (command_of (map string_bytes words.now)) text left.old left.new }
+    ensures left_as_before { result ≢ Outcome.Done → left.new ≡ left.old }
+    ensures no_seed { seeds.new ≡ seeds.old }
+
+    // The headline, of each script that the source has: after each beginning of its events, without chance up
+    // to there; and at each of its events.
+    ensures agreement { (text : List ℕ) → S.remaining source.old ≡ Some text
+        → AgreesIn text × ShowsAlikeIn text }
+    ensures data_prefix { (text : List ℕ) → S.remaining source.old ≡ Some text → DeliversIn text }
+    ensures matched { (text : List ℕ) → S.remaining source.old ≡ Some text → MatchesIn text }
+    ensures sealed_once { (text : List ℕ) → S.remaining source.old ≡ Some text → SealsOnceIn text }
+    ensures refused { (text : List ℕ) → S.remaining source.old ≡ Some text → RefusesIn text }
 
     // Each answer comes at its cause.
     ensures usage { (result ≡ Outcome.Usage) ↔ (command_of (map string_bytes words.now) ≡ None) }
@@ -62,6 +93,7 @@ pub fn spdm<S: Source, K: Sink>(
         → IsQuiet (K.faults sink.old) (K.faults sink.new)
         → IsSome (command_of (map string_bytes words.now)) → length text ≤ text_limit
         → bad_line_by (command_of (map string_bytes words.now)) text ≡ None
+        → full_by (command_of (map string_bytes words.now)) text ≡ None
         → (result ≡ Outcome.Done) ⊎ (result ≡ Outcome.OutOfMemory) }
 {
     let Some(command) = command_of(words) else {
@@ -73,9 +105,20 @@ pub fn spdm<S: Source, K: Sink>(
         Err(InFault::TooLong) => return Outcome::TooLong,
         Err(InFault::OutOfMemory) => return Outcome::OutOfMemory,
     };
-    match write_output(alloc, command, text.as_slice(), sink) {
+    let done = match command {
+        Command::Run => match run(alloc, text.as_slice(), sink) {
+            Ok(world) => {
+                *left = Some(world);
+                Ok(())
+            }
+            Err(fault) => Err(fault),
+        },
+        Command::Show => show_messages(alloc, text.as_slice(), sink),
+    };
+    match done {
         Ok(()) => Outcome::Done,
         Err(TextFault::Line(line, fault)) => Outcome::BadScript { line, fault },
+        Err(TextFault::LinkFull(line)) => Outcome::LinkFull { line },
         Err(TextFault::WriteFault) => Outcome::WriteFault,
         Err(TextFault::OutOfMemory) => Outcome::OutOfMemory,
     }

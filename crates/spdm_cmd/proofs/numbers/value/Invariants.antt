@@ -1,6 +1,0 @@
-use Rattle.std.proofs.Common.{◌≡◌, ◌-◌, ◌^◌, min, take}
-use Rattle.spdm_cmd.specs.Numbers.{value_of}
-use Rattle.spdm_cmd.proofs.numbers.value.Given as goal
-
-abbrev pub invariant-loop-b : goal.invariant-loop-b
-invariant-loop-b l = l.value ≡ min (value_of (take l.b-index l.word)) (2 ^ 64 - 1)
