@@ -1,4 +1,4 @@
--- The ends of a script that was read are never refused.
+-- The ends of a configuration in range are never refused, and what is written of a script begins with them.
 use Rattle.std.proofs.Common.{◌≡◌, ◌∙◌, ◌∷◌, ◌+◌, ◌<◌, ◌++◌, [], ℕ, zero, suc, List, length, refl, sym, ap, subst, arith, Option, Some, None, Result, Ok, inl, inr, Contains}
 use Rattle.std.proofs.lemmas.Option.{none-some}
 use Rattle.std.specs.Option.{unwrap_or}
@@ -8,7 +8,6 @@ use Rattle.link_world.specs.Worlds.{StandsFor}
 use Rattle.link_world.specs.Written.{text_of}
 use Rattle.link_world.specs.declared.world.World as program
 use Rattle.script_text.specs.declared.event.Entry.{Entry}
-use Rattle.script_worlds.proofs.ScriptRead.{script_sound}
 use Rattle.script_worlds.proofs.Traces.{written_begins}
 use Rattle.script_worlds.specs.Scripts.{entries_in, full_from, full_line, last_world, set_up, written_in}
 use Rattle.spdm_basis.specs.Stream.{Takes, TakesPrefix}
@@ -20,15 +19,16 @@ use Rattle.link_world.specs.Configured.{configuration_in, HasRequesterFault, Has
 use Rattle.link_world.specs.declared.fault.WorldFault.TheVariants.{Requester, Responder}
 use Rattle.requester.specs.declared.fault.ReqConfigFault.{ReqConfigFault}
 use Rattle.responder.specs.declared.fault.RspConfigFault.{RspConfigFault}
-use Rattle.script_text.specs.ScriptText.{script_in}
+use Rattle.script_text.specs.Sound.{IsSoundConfig}
+use Rattle.script_text.specs.declared.config.ScriptConfig.{ScriptConfig}
 use Rattle.script_text.specs.declared.config.ReqPart.{ReqPart}
 use Rattle.script_text.specs.declared.script.Script.{Script}
-use Rattle.script_worlds.proofs.EndsRight.{no_end_has_fault}
+use Rattle.script_worlds.proofs.EndsRight.{sound_has_no_fault}
 use Rattle.script_worlds.specs.Ends.{HasNoFault}
 
-pub no_responder_fault : (text : List ℕ) (script : Script) → script_in text ≡ Ok script → (fault : RspConfigFault) → IsCause script.config (Responder fault) → ⊥
-no_responder_fault text script read fault cause =
-    none-some fault (sym ((no_end_has_fault text script read).responder cause.config (record { part = cause.part; known = cause.known })) ∙ cause.is)
+pub no_responder_fault : (c : ScriptConfig) → IsSoundConfig c → (fault : RspConfigFault) → IsCause c (Responder fault) → ⊥
+no_responder_fault c sound fault cause =
+    none-some fault (sym ((sound_has_no_fault c sound).responder cause.config (record { part = cause.part; known = cause.known })) ∙ cause.is)
 
 first_of : (q : ReqPart) (others : List ReqPart) → Contains (q ∷ others) q
 first_of q others = (zero, omega arith, refl)
@@ -36,24 +36,23 @@ first_of q others = (zero, omega arith, refl)
 behind : (q x : ReqPart) (others : List ReqPart) → Contains others x → Contains (q ∷ others) x
 behind q x others p = (suc p.0, omega (arith, p.1), p.2)
 
-first_fault : (text : List ℕ) (script : Script) → script_in text ≡ Ok script → (fault : ReqConfigFault) (qs : List ReqPart) → ((q : ReqPart) → Contains qs q → Contains script.config.requesters q)
-    → HaveFirstFault script.config.responder.eid.number qs fault → ⊥
-first_fault text script read fault [] all cause = absurd cause
-first_fault text script read fault (q ∷ others) all (inl one) =
-    none-some fault (sym ((no_end_has_fault text script read).requester one.config (record { q = q; is = all q (first_of q others); sets_up = one.sets_up })) ∙ one.is)
-first_fault text script read fault (q ∷ others) all (inr more) = first_fault text script read fault others (λ x is. all x (behind q x others is)) more.1
+first_fault : (c : ScriptConfig) → IsSoundConfig c → (fault : ReqConfigFault) (qs : List ReqPart) → ((q : ReqPart) → Contains qs q → Contains c.requesters q)
+    → HaveFirstFault c.responder.eid.number qs fault → ⊥
+first_fault c sound fault [] all cause = absurd cause
+first_fault c sound fault (q ∷ others) all (inl one) =
+    none-some fault (sym ((sound_has_no_fault c sound).requester one.config (record { q = q; is = all q (first_of q others); sets_up = one.sets_up })) ∙ one.is)
+first_fault c sound fault (q ∷ others) all (inr more) = first_fault c sound fault others (λ x is. all x (behind q x others is)) more.1
 
-pub no_requester_fault : (text : List ℕ) (script : Script) → script_in text ≡ Ok script → (fault : ReqConfigFault) → IsCause script.config (Requester fault) → ⊥
-no_requester_fault text script read fault cause = first_fault text script read fault script.config.requesters (λ q is. is) cause.1
+pub no_requester_fault : (c : ScriptConfig) → IsSoundConfig c → (fault : ReqConfigFault) → IsCause c (Requester fault) → ⊥
+no_requester_fault c sound fault cause = first_fault c sound fault c.requesters (λ q is. is) cause.1
 
 -- Its seed is that of its world.
-pub has_seed : (text : List ℕ) (script : Script) → script_in text ≡ Ok script → IsSome script.config.seed
-has_seed text script read = subst (λ (o : Option (List ℕ)). IsSome o) (sym (script_sound text script read).0.seed) refl
+pub has_seed : (c : ScriptConfig) → IsSoundConfig c → IsSome c.seed
+has_seed c sound = subst (λ (o : Option (List ℕ)). IsSome o) (sym sound.seed) refl
 
-pub first_stands : (text : List ℕ) (script : Script) → script_in text ≡ Ok script → (seen : program.World)
+pub first_stands : (script : Script) → IsSoundConfig script.config → (seen : program.World)
     → ((seed : List ℕ) → script.config.seed ≡ Some seed → StandsFor seen (new_world (script_world (configuration_in script.config) seed 0))) → StandsFor seen (new_world (set_up script))
-first_stands text script read seen stands =
-    let sound = (script_sound text script read).0 in
+first_stands script sound seen stands =
     subst (λ (x : List ℕ). StandsFor seen (new_world (script_world (configuration_in script.config) x 0))) (sym (ap (λ (o : Option (List ℕ)). unwrap_or o []) sound.seed)) (stands sound.seed_bytes sound.seed)
 
 -- What is written begins with the ends as they are at first.

@@ -4,6 +4,7 @@
 mod outcome;
 mod output;
 mod run;
+mod script_run;
 #[cfg(test)]
 mod tests;
 mod words;

@@ -1,18 +1,14 @@
-ghost use Rattle.std.specs.Prelude.{◌≡◌, ◌≤◌, ℕ, List, Err, None, Ok, Some, length, IfOk, IsErrOf, OnErr, OnOk};
-ghost use Rattle.link_world.specs.Worlds.{StandsFor};
-ghost use Rattle.script_text.specs.ScriptText.{script_in};
+ghost use Rattle.std.specs.Prelude.{◌≡◌, ◌≤◌, ℕ, Err, None, Some, length, IsErrOf, OnErr, OnOk};
 ghost use Rattle.script_text.specs.declared.faults.LineFault.{LineFault};
-ghost use Rattle.script_worlds.specs.Scripts.{entries_in, full_from, full_line, last_world, written_in};
-ghost use Rattle.spdm_cmd.specs.Going.{IsFullAt, text_from};
-ghost use Rattle.world_machine.specs.Trace.{world_from};
 ghost use Rattle.spdm_basis.specs.Stream.{HasFault, Takes, TakesPrefix};
-ghost use Rattle.spdm_cmd.specs.Answer.{IsLastWorld, bad_line_of, full_of, output_of};
+ghost use Rattle.spdm_cmd.specs.Answer.{IsLeft, bad_line_of, full_of, output_of};
 ghost use Rattle.spdm_cmd.specs.declared.words.Command.TheVariants.{Run, Show};
-ghost use Rattle.world_machine.specs.World as machine;
 
-use link_world::{StepFault, World, WorldFault};
-use script_text::{Entry, LineFault, Script, ScriptFault, TEXT_LIMIT, parse_script};
-use spdm_basis::{OutFault, Sink};
+use crate::script_run::run;
+use crate::words::Command;
+use link_world::World;
+use script_text::{LineFault, TEXT_LIMIT};
+use spdm_basis::Sink;
 use spdm_show::{ShowFault, show};
 use std::alloc::Global;
 use thiserror::Error;
@@ -35,102 +31,50 @@ pub enum TextFault {
     OutOfMemory,
 }
 
-/// Runs a script of at most 4 MiB, and gives its world as it is after all events.
-pub fn run<K: Sink>(alloc: Global, text: &[u8], sink: &mut K) -> Result<World, TextFault>
+/// Writes the output of a command for a text of at most 4 MiB. A script leaves its world in `left`, as it is
+/// after all events.
+pub fn write_output<K: Sink>(
+    alloc: Global,
+    command: Command,
+    text: &[u8],
+    sink: &mut K,
+    left: &mut Option<World>,
+) -> Result<(), TextFault>
     requires { length text.now ≤ TEXT_LIMIT }
-    ensures whole { OnOk result (Takes (K.contents sink.old) (output_of Run text.now)
+    ensures whole { OnOk result (Takes (K.contents sink.old) (output_of command text.now)
         (K.contents sink.new)) }
-    ensures last { IfOk result (λ world. IsLastWorld (script_in text.now) world) }
-    ensures prefix { TakesPrefix (K.contents sink.old) (output_of Run text.now)
+    ensures last { OnOk result (IsLeft (Some command) text.now left.old left.new) }
+    ensures as_before { OnErr result (left.new ≡ left.old) }
+    ensures prefix { TakesPrefix (K.contents sink.old) (output_of command text.now)
         (K.contents sink.new) }
     ensures nothing_written { (line : ℕ) (f : LineFault) → result ≡ Err (TextFault.Line line f)
         → sink.new ≡ sink.old }
     ensures bad_line { (line : ℕ) (f : LineFault) → result ≡ Err (TextFault.Line line f)
-        → bad_line_of Run text.now ≡ Some (record { line = line; fault = f }) }
-    ensures good { OnOk result ((bad_line_of Run text.now ≡ None) × (full_of Run text.now ≡ None)) }
+        → bad_line_of command text.now ≡ Some (record { line = line; fault = f }) }
+    ensures good { OnOk result ((bad_line_of command text.now ≡ None)
+        × (full_of command text.now ≡ None)) }
     ensures link_full { (line : ℕ) → result ≡ Err (TextFault.LinkFull line)
-        → (bad_line_of Run text.now ≡ None) × (full_of Run text.now ≡ Some line)
-        × Takes (K.contents sink.old) (output_of Run text.now) (K.contents sink.new) }
-    ensures readable { IsErrOf result TextFault.WriteFault → bad_line_of Run text.now ≡ None }
+        → (bad_line_of command text.now ≡ None) × (full_of command text.now ≡ Some line)
+        × Takes (K.contents sink.old) (output_of command text.now) (K.contents sink.new) }
+    ensures readable { IsErrOf result TextFault.WriteFault → bad_line_of command text.now ≡ None }
     ensures write_fault { IsErrOf result TextFault.WriteFault
         → HasFault (K.faults sink.old) (K.faults sink.new) }
     ensures later { K.faults sink.old ≤ K.faults sink.new }
 {
-    let script = match parse_script(alloc, text) {
-        Ok(script) => script,
-        Err(ScriptFault::Line(line, fault)) => return Err(TextFault::Line(line, fault)),
-        Err(ScriptFault::TooManyEvents(line)) => {
-            return Err(TextFault::Line(line, LineFault::TooManyEvents));
-        }
-        Err(ScriptFault::OutOfMemory) => return Err(TextFault::OutOfMemory),
-    };
-    run_script(alloc, &script, sink)
-}
-
-// Runs a script that a text is: its world is never refused.
-fn run_script<K: Sink>(alloc: Global, script: &Script, sink: &mut K) -> Result<World, TextFault>
-    requires { (text : List ℕ) × (script_in text ≡ Ok script.now) }
-    ensures whole { OnOk result (Takes (K.contents sink.old) (written_in script.now)
-        (K.contents sink.new)) }
-    ensures last { IfOk result (λ world. StandsFor world (last_world script.now)) }
-    ensures room { OnOk result (full_line script.now ≡ None) }
-    ensures prefix { TakesPrefix (K.contents sink.old) (written_in script.now)
-        (K.contents sink.new) }
-    ensures link_full { (line : ℕ) → result ≡ Err (TextFault.LinkFull line)
-        → (full_line script.now ≡ Some line)
-        × Takes (K.contents sink.old) (written_in script.now) (K.contents sink.new) }
-    ensures no_line { (line : ℕ) (f : LineFault) → result ≡ Err (TextFault.Line line f) → ⊥ }
-    ensures write_fault { IsErrOf result TextFault.WriteFault
-        → HasFault (K.faults sink.old) (K.faults sink.new) }
-    ensures later { K.faults sink.old ≤ K.faults sink.new }
-{
-    let mut world = match World::new(alloc, &script.config) {
-        Ok(world) => world,
-        Err(WorldFault::Responder(_)) => unreachable!(),
-        Err(WorldFault::Requester(_)) => unreachable!(),
-        Err(WorldFault::OutOfMemory) => return Err(TextFault::OutOfMemory),
-    };
-    match world.start(sink) {
-        Ok(()) => {}
-        Err(OutFault::WriteFault) => return Err(TextFault::WriteFault),
-    }
-    match run_events(&mut world, script.events.as_slice(), sink) {
-        Ok(()) => Ok(world),
-        Err(fault) => Err(fault),
+    match command {
+        Command::Run => match run(alloc, text, sink) {
+            Ok(world) => {
+                *left = Some(world);
+                Ok(())
+            }
+            Err(fault) => Err(fault),
+        },
+        Command::Show => show_messages(alloc, text, sink),
     }
 }
 
-// Lets events happen in a world, one after another, and writes their lines.
-fn run_events<K: Sink>(world: &mut World, events: &[Entry], sink: &mut K) -> Result<(), TextFault>
-    ensures whole { (w : machine.World) → StandsFor world.old w
-        → OnOk result (Takes (K.contents sink.old) (text_from w events.now) (K.contents sink.new)) }
-    ensures last { (w : machine.World) → StandsFor world.old w
-        → OnOk result (StandsFor world.new (world_from w (entries_in events.now))) }
-    ensures room { (w : machine.World) → StandsFor world.old w
-        → OnOk result (full_from w (entries_in events.now) ≡ None) }
-    ensures prefix { (w : machine.World) → StandsFor world.old w
-        → TakesPrefix (K.contents sink.old) (text_from w events.now) (K.contents sink.new) }
-    ensures link_full { (w : machine.World) → StandsFor world.old w → (line : ℕ)
-        → result ≡ Err (TextFault.LinkFull line) → IsFullAt w events.now line (K.contents sink.old)
-        (K.contents sink.new) }
-    ensures no_line { (line : ℕ) (f : LineFault) → result ≡ Err (TextFault.Line line f) → ⊥ }
-    ensures write_fault { IsErrOf result TextFault.WriteFault
-        → HasFault (K.faults sink.old) (K.faults sink.new) }
-    ensures later { K.faults sink.old ≤ K.faults sink.new }
-{
-    for entry in events {
-        match world.step(entry.line, &entry.event, sink) {
-            Ok(()) => {}
-            Err(StepFault::LinkFull) => return Err(TextFault::LinkFull(entry.line)),
-            Err(StepFault::WriteFault) => return Err(TextFault::WriteFault),
-            Err(StepFault::OutOfMemory) => return Err(TextFault::OutOfMemory),
-        }
-    }
-    Ok(())
-}
-
-/// Shows the messages of a text of at most 4 MiB.
-pub fn show_messages<K: Sink>(alloc: Global, text: &[u8], sink: &mut K) -> Result<(), TextFault>
+// Shows the messages of a text of at most 4 MiB.
+fn show_messages<K: Sink>(alloc: Global, text: &[u8], sink: &mut K) -> Result<(), TextFault>
     requires { length text.now ≤ TEXT_LIMIT }
     ensures whole { OnOk result (Takes (K.contents sink.old) (output_of Show text.now)
         (K.contents sink.new)) }

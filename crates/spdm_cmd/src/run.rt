@@ -7,8 +7,8 @@ ghost use Rattle.spdm_cmd.specs.Answer.{IsLeft, answer_to, bad_line_by, full_by,
 ghost use Rattle.spdm_cmd.specs.Words.{command_of};
 
 use crate::outcome::Outcome;
-use crate::output::{TextFault, run, show_messages};
-use crate::words::{Command, command_of};
+use crate::output::{TextFault, write_output};
+use crate::words::command_of;
 use link_world::World;
 use script_text::TEXT_LIMIT;
 use spdm_basis::{InFault, Seeds, Sink, Source, read_all};
@@ -17,6 +17,7 @@ use std::alloc::Global;
 /// The command `spdm` with these words. The word `run` reads a script, runs its requesters and its
 /// responder over its link, writes their trace, and leaves their world in `left`. The word `show` reads
 /// messages, one a line, and writes their names and lengths. Neither takes a seed.
+#[tactic(auto, using(crate::proofs::TopCall::read_is, script_worlds::proofs::WorldsRight::agrees, script_worlds::proofs::WorldsRight::shows_alike, script_worlds::proofs::WorldsRight::delivers, script_worlds::proofs::WorldsRight::matches, script_worlds::proofs::WorldsRight::seals_once, script_worlds::proofs::RefusedRight::refuses))]
 pub fn spdm<S: Source, K: Sink, E: Seeds>(
     alloc: Global,
     words: &[String],
@@ -105,17 +106,7 @@ pub fn spdm<S: Source, K: Sink, E: Seeds>(
         Err(InFault::TooLong) => return Outcome::TooLong,
         Err(InFault::OutOfMemory) => return Outcome::OutOfMemory,
     };
-    let done = match command {
-        Command::Run => match run(alloc, text.as_slice(), sink) {
-            Ok(world) => {
-                *left = Some(world);
-                Ok(())
-            }
-            Err(fault) => Err(fault),
-        },
-        Command::Show => show_messages(alloc, text.as_slice(), sink),
-    };
-    match done {
+    match write_output(alloc, command, text.as_slice(), sink, left) {
         Ok(()) => Outcome::Done,
         Err(TextFault::Line(line, fault)) => Outcome::BadScript { line, fault },
         Err(TextFault::LinkFull(line)) => Outcome::LinkFull { line },

@@ -1,35 +1,20 @@
-use Rattle.std.proofs.Common.{◌≡◌, refl, subst, ap, Err}
-use Rattle.link_world.specs.Configured.{IsCause}
-use Rattle.link_world.specs.declared.fault.WorldFault.{WorldFault}
+use Rattle.std.proofs.Common.{◌≡◌, refl, ap, Err}
 use Rattle.script_worlds.specs.Scripts.{set_up}
-use Rattle.spdm_cmd.proofs.NoFault.{all_happened, all_written, begun, first_stands, gone_on, has_seed, is_full_line, never_full, no_requester_fault, no_responder_fault}
+use Rattle.spdm_cmd.proofs.NoFault.{all_happened, all_written, begun, gone_on, is_full_line, never_full}
 use Rattle.world_machine.specs.World.{new_world}
-use Rattle.spdm_cmd.proofs.output.run_script.Goals as goal
-
-pub new-requires : goal.new-requires
-new-requires g c = has_seed c.requires.0 c.args.script.now c.requires.1
-
-pub unreachable-requires : goal.unreachable-requires
-unreachable-requires g c =
-    no_responder_fault c.requires.0 c.args.script.now c.requires.1 c.in-Err-Responder.field-0-0
-    (subst (λ (f : WorldFault). IsCause c.args.script.now.config f) c.in-Err-Responder.field-0-is c.in-Err-Responder.ensures.fault)
-
-pub unreachable-requires-in-Err-Requester : goal.unreachable-requires-in-Err-Requester
-unreachable-requires-in-Err-Requester g c =
-    no_requester_fault c.requires.0 c.args.script.now c.requires.1 c.in-Err-Requester.field-0-0
-    (subst (λ (f : WorldFault). IsCause c.args.script.now.config f) c.in-Err-Requester.field-0-is c.in-Err-Requester.ensures.fault)
+use Rattle.spdm_cmd.proofs.script_run.run_script.Goals as goal
 
 pub returns-in-Err-WriteFault-clause-prefix : goal.returns-in-Err-WriteFault-clause-prefix
 returns-in-Err-WriteFault-clause-prefix g c =
     let script = c.args.script.now in
-    let first = first_stands c.requires.0 script c.requires.1 c.in-Ok.world c.in-Ok.ensures.stands in
+    let first = c.in-Ok.ensures in
     let world = new_world (set_up script) in
     begun script script.events refl (g.K.Sink.contents c.args.sink.now) (g.K.Sink.contents c.start.new.sink) (g.K.Sink.contents c.start.new.sink) (c.in-Err-WriteFault.ensures.prefix world first)
 
 pub returns-in-Err-clause-prefix : goal.returns-in-Err-clause-prefix
 returns-in-Err-clause-prefix g c =
     let script = c.args.script.now in
-    let first = first_stands c.requires.0 script c.requires.1 c.in-Ok.world c.in-Ok.ensures.stands in
+    let first = c.in-Ok.ensures in
     let world = new_world (set_up script) in
     gone_on script c.as_slice.result.now c.as_slice.ensures (g.K.Sink.contents c.args.sink.now) (g.K.Sink.contents c.start.new.sink) (g.K.Sink.contents c.run_events.new.sink)
     (c.in-Ok-start.ensures.written world first) (c.in-Err.ensures.prefix world first)
@@ -37,7 +22,7 @@ returns-in-Err-clause-prefix g c =
 pub returns-in-Err-clause-link_full : goal.returns-in-Err-clause-link_full
 returns-in-Err-clause-link_full g c = λ line told.
     let script = c.args.script.now in
-    let first = first_stands c.requires.0 script c.requires.1 c.in-Ok.world c.in-Ok.ensures.stands in
+    let first = c.in-Ok.ensures in
     let world = new_world (set_up script) in
     is_full_line script c.as_slice.result.now c.as_slice.ensures (g.K.Sink.contents c.args.sink.now) (g.K.Sink.contents c.start.new.sink) (g.K.Sink.contents c.run_events.new.sink)
     line (c.in-Ok-start.ensures.written world first) (c.in-Err.ensures.link_full world first line (ap Err (cc told)))
@@ -45,7 +30,7 @@ returns-in-Err-clause-link_full g c = λ line told.
 pub returns-in-Ok-run_events-clause-whole : goal.returns-in-Ok-run_events-clause-whole
 returns-in-Ok-run_events-clause-whole g c =
     let script = c.args.script.now in
-    let first = first_stands c.requires.0 script c.requires.1 c.in-Ok.world c.in-Ok.ensures.stands in
+    let first = c.in-Ok.ensures in
     let world = new_world (set_up script) in
     all_written script c.as_slice.result.now c.as_slice.ensures (g.K.Sink.contents c.args.sink.now) (g.K.Sink.contents c.start.new.sink) (g.K.Sink.contents c.run_events.new.sink)
     (c.in-Ok-start.ensures.written world first) (c.in-Ok-run_events.ensures.whole world first)
@@ -53,21 +38,21 @@ returns-in-Ok-run_events-clause-whole g c =
 pub returns-in-Ok-run_events-clause-last : goal.returns-in-Ok-run_events-clause-last
 returns-in-Ok-run_events-clause-last g c =
     let script = c.args.script.now in
-    let first = first_stands c.requires.0 script c.requires.1 c.in-Ok.world c.in-Ok.ensures.stands in
+    let first = c.in-Ok.ensures in
     let world = new_world (set_up script) in
     all_happened script c.as_slice.result.now c.run_events.new.world c.as_slice.ensures (c.in-Ok-run_events.ensures.last world first)
 
 pub returns-in-Ok-run_events-clause-room : goal.returns-in-Ok-run_events-clause-room
 returns-in-Ok-run_events-clause-room g c =
     let script = c.args.script.now in
-    let first = first_stands c.requires.0 script c.requires.1 c.in-Ok.world c.in-Ok.ensures.stands in
+    let first = c.in-Ok.ensures in
     let world = new_world (set_up script) in
     never_full script c.as_slice.result.now c.as_slice.ensures (c.in-Ok-run_events.ensures.room world first)
 
 pub returns-in-Ok-run_events-clause-prefix : goal.returns-in-Ok-run_events-clause-prefix
 returns-in-Ok-run_events-clause-prefix g c =
     let script = c.args.script.now in
-    let first = first_stands c.requires.0 script c.requires.1 c.in-Ok.world c.in-Ok.ensures.stands in
+    let first = c.in-Ok.ensures in
     let world = new_world (set_up script) in
     gone_on script c.as_slice.result.now c.as_slice.ensures (g.K.Sink.contents c.args.sink.now) (g.K.Sink.contents c.start.new.sink) (g.K.Sink.contents c.run_events.new.sink)
     (c.in-Ok-start.ensures.written world first) (c.in-Ok-run_events.ensures.prefix world first)

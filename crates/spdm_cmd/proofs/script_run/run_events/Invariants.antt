@@ -1,7 +1,7 @@
 use Rattle.std.proofs.Common.{◌≤◌}
 use Rattle.link_world.specs.Worlds.{StandsFor}
 use Rattle.spdm_cmd.proofs.Going.{Went}
-use Rattle.spdm_cmd.proofs.output.run_events.Given as goal
+use Rattle.spdm_cmd.proofs.script_run.run_events.Given as goal
 use Rattle.world_machine.specs.World.{World}
 
 -- From each world that it stood for, the events so far happened.

@@ -4,7 +4,7 @@ use Rattle.script_text.specs.declared.event.Entry.{Entry}
 use Rattle.link_world.proofs.Writing.{whole_prefix}
 use Rattle.spdm_cmd.proofs.Going.{fills, goes, stops, went_all}
 use Rattle.spdm_cmd.specs.Going.{text_from}
-use Rattle.spdm_cmd.proofs.output.run_events.Goals as goal
+use Rattle.spdm_cmd.proofs.script_run.run_events.Goals as goal
 
 pub returns-in-Err-LinkFull-clause-prefix : goal.returns-in-Err-LinkFull-clause-prefix
 returns-in-Err-LinkFull-clause-prefix g c = λ w stood.
