@@ -3,3 +3,4 @@ pub mod TopCall
 pub mod ToldFaults
 pub mod NoFault
 pub mod Going
+mod GeneratedSound

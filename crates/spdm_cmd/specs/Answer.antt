@@ -2,6 +2,8 @@
 use Rattle.std.specs.Prelude.{◌≡◌, ℕ, List, [], nat_lt, length, if◌then◌else◌, Bool, true, false, Option, Some, None, Result, Ok, Err}
 use Rattle.link_world.specs.Worlds.{StandsFor}
 use Rattle.link_world.specs.declared.world.World.{World}
+use Rattle.script_text.specs.Generator.{generated}
+use Rattle.script_text.specs.OtherLines.{summary_text}
 use Rattle.script_text.specs.ScriptText.{script_in}
 use Rattle.script_text.specs.ShownText.{shown_in}
 use Rattle.script_text.specs.declared.faults.LineFault.{LineFault}
@@ -10,15 +12,43 @@ use Rattle.script_text.specs.declared.faults.ScriptFault.{ScriptFault}
 use Rattle.script_text.specs.declared.faults.ScriptFault.TheVariants as fault
 use Rattle.script_text.specs.declared.script.Script.{Script}
 use Rattle.script_worlds.specs.Scripts.{full_line, last_world, written_in}
+use Rattle.spdm_basis.specs.Stream.{IsQuiet}
 use Rattle.spdm_show.specs.Shown.{shown_text}
+use Rattle.world_machine.specs.Totals.{Totals, totals_of}
 use Rattle.spdm_cmd.specs.declared.outcome.Outcome.{Outcome}
 use Rattle.spdm_cmd.specs.declared.outcome.Outcome.TheVariants.{Done, Usage, BadScript, ReadFault, WriteFault, OutOfMemory, TooLong, LinkFull}
 use Rattle.spdm_cmd.specs.declared.words.Command.{Command}
-use Rattle.spdm_cmd.specs.declared.words.Command.TheVariants.{Run, Show}
+use Rattle.spdm_cmd.specs.declared.words.Command.TheVariants.{Gen, Run, Show}
 
 -- The longest text that is read: 4 MiB.
 abbrev pub text_limit : ℕ
 text_limit = 4194304
+
+-- ---- What is read.
+
+-- What a command reads: what the source has left. One that reads nothing has no bytes to read.
+abbrev pub input_of : Command → Option (List ℕ) → Option (List ℕ)
+input_of Run left = left
+input_of Show left = left
+input_of (Gen seed count) left = Some []
+
+abbrev pub input_by : Option Command → Option (List ℕ) → Option (List ℕ)
+input_by None left = left
+input_by (Some command) left = input_of command left
+
+-- The command reads.
+abbrev pub reads : Option Command → Bool
+reads None = false
+reads (Some Run) = true
+reads (Some Show) = true
+reads (Some (Gen seed count)) = false
+
+-- Where the command reads, the source's count of faults shows none.
+abbrev pub IsReadQuietly : Option Command → (before after : ℕ) → Type 0
+IsReadQuietly (Some (Gen seed count)) before after = Unit {0}
+IsReadQuietly None before after = IsQuiet before after
+IsReadQuietly (Some Run) before after = IsQuiet before after
+IsReadQuietly (Some Show) before after = IsQuiet before after
 
 -- ---- What is written.
 
@@ -27,10 +57,20 @@ abbrev pub run_text : Result Script ScriptFault → List ℕ
 run_text (Ok script) = written_in script
 run_text (Err f) = []
 
--- The output of a command for a text: that of a script, or the lines of messages.
+-- The line that tells what a world came to.
+abbrev pub summary_of : (seed count : ℕ) → Totals → List ℕ
+summary_of seed count t = summary_text seed count t.packets t.taken t.live
+
+-- The output for a generated script: its summary, and nothing where the link is full.
+abbrev pub generated_text : (full : Option ℕ) → List ℕ → List ℕ
+generated_text None summary = summary
+generated_text (Some line) summary = []
+
+-- The output of a command for a text: that of a script, the lines of messages, or the summary of a generated script.
 abbrev pub output_of : Command → List ℕ → List ℕ
 output_of Run text = run_text (script_in text)
 output_of Show text = shown_text text
+output_of (Gen seed count) text = generated_text (full_line (generated seed count)) (summary_of seed count (totals_of (last_world (generated seed count))))
 
 -- The output that the words ask for.
 abbrev pub output_by : Option Command → List ℕ → List ℕ
@@ -54,6 +94,7 @@ bad_line_in (Err fault.OutOfMemory) = None
 abbrev pub bad_line_of : Command → List ℕ → Option BadLine
 bad_line_of Run text = bad_line_in (script_in text)
 bad_line_of Show text = bad_line_in (shown_in text)
+bad_line_of (Gen seed count) text = None
 
 abbrev pub bad_line_by : Option Command → List ℕ → Option BadLine
 bad_line_by None text = None
@@ -69,6 +110,7 @@ full_in (Err f) = None
 abbrev pub full_of : Command → List ℕ → Option ℕ
 full_of Run text = full_in (script_in text)
 full_of Show text = None
+full_of (Gen seed count) text = full_line (generated seed count)
 
 abbrev pub full_by : Option Command → List ℕ → Option ℕ
 full_by None text = None
@@ -120,9 +162,11 @@ abbrev pub IsLastWorld : Result Script ScriptFault → World → Type 0
 IsLastWorld (Ok script) world = StandsFor world (last_world script)
 IsLastWorld (Err f) world = ⊥
 
--- What is left after a command that is done: a script leaves its last world, and nothing else changes what was left.
+-- What is left after a command that is done: a script leaves its last world, also a generated one, and nothing else changes what was left.
 abbrev pub IsLeft : Option Command → List ℕ → (old new : Option World) → Type 0
 IsLeft (Some Run) text old (Some world) = IsLastWorld (script_in text) world
 IsLeft (Some Run) text old None = ⊥
+IsLeft (Some (Gen seed count)) text old (Some world) = StandsFor world (last_world (generated seed count))
+IsLeft (Some (Gen seed count)) text old None = ⊥
 IsLeft (Some Show) text old new = new ≡ old
 IsLeft None text old new = new ≡ old

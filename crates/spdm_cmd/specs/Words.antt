@@ -1,7 +1,8 @@
 -- The words of the command line. This project's own.
-use Rattle.std.specs.Prelude.{List, [], ◌∷◌, bytes_eq, codes, ℕ, if◌then◌else◌, Option, Some, None}
+use Rattle.std.specs.Prelude.{List, [], ◌∷◌, ◌≤◌, ◌-◌, ◌^◌, ◌&&◌, bytes_eq, codes, ℕ, if◌then◌else◌, Option, Some, None}
+use Rattle.script_text.specs.Numbers.{is_number_in, value_of}
 use Rattle.spdm_cmd.specs.declared.words.Command.{Command}
-use Rattle.spdm_cmd.specs.declared.words.Command.TheVariants.{Run, Show}
+use Rattle.spdm_cmd.specs.declared.words.Command.TheVariants.{Gen, Run, Show}
 
 -- The command of one word.
 unfoldable pub command_named : List ℕ → Option Command
@@ -10,7 +11,20 @@ command_named word =
     else (if bytes_eq word (codes "show") then Some Show
     else None)
 
+-- The command of three words: a seed below 2^64, and a count from 1 to 20,000.
+unfoldable pub generator : List ℕ → List ℕ → List ℕ → Option Command
+generator word seed count =
+    if bytes_eq word (codes "gen") && is_number_in 0 (2 ^ 64 - 1) seed && is_number_in 1 20000 count then Some (Gen (value_of seed) (value_of count))
+    else None
+
+-- A count of events is at most the largest.
+abbrev pub IsInRange : Command → Type 0
+IsInRange (Gen seed count) = count ≤ 20000
+IsInRange Run = Unit {0}
+IsInRange Show = Unit {0}
+
 -- The command that the words are, each as its bytes.
 abbrev pub command_of : List (List ℕ) → Option Command
 command_of (word ∷ []) = command_named word
+command_of (word ∷ seed ∷ count ∷ []) = generator word seed count
 command_of _ = None

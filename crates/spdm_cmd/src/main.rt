@@ -1,8 +1,10 @@
 //! The command `spdm`: it runs requesters and a responder over a scripted link, and writes their trace.
 #![tactic(auto)]
 
+mod generated;
 mod outcome;
 mod output;
+mod reading;
 mod run;
 mod script_run;
 #[cfg(test)]

@@ -2,8 +2,10 @@ ghost use Rattle.std.specs.Prelude.{◌≡◌, ◌≤◌, ℕ, Err, None, Some, 
 ghost use Rattle.script_text.specs.declared.faults.LineFault.{LineFault};
 ghost use Rattle.spdm_basis.specs.Stream.{HasFault, Takes, TakesPrefix};
 ghost use Rattle.spdm_cmd.specs.Answer.{IsLeft, bad_line_of, full_of, output_of};
-ghost use Rattle.spdm_cmd.specs.declared.words.Command.TheVariants.{Run, Show};
+ghost use Rattle.spdm_cmd.specs.Words.{IsInRange};
+ghost use Rattle.spdm_cmd.specs.declared.words.Command.TheVariants.{Show};
 
+use crate::generated::summarize;
 use crate::script_run::run;
 use crate::words::Command;
 use link_world::World;
@@ -40,7 +42,8 @@ pub fn write_output<K: Sink>(
     sink: &mut K,
     left: &mut Option<World>,
 ) -> Result<(), TextFault>
-    requires { length text.now ≤ TEXT_LIMIT }
+    requires text { length text.now ≤ TEXT_LIMIT }
+    requires range { IsInRange command }
     ensures whole { OnOk result (Takes (K.contents sink.old) (output_of command text.now)
         (K.contents sink.new)) }
     ensures last { OnOk result (IsLeft (Some command) text.now left.old left.new) }
@@ -70,6 +73,13 @@ pub fn write_output<K: Sink>(
             Err(fault) => Err(fault),
         },
         Command::Show => show_messages(alloc, text, sink),
+        Command::Gen { seed, count } => match summarize(alloc, seed, count, sink) {
+            Ok(world) => {
+                *left = Some(world);
+                Ok(())
+            }
+            Err(fault) => Err(fault),
+        },
     }
 }
 

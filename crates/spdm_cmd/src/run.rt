@@ -3,20 +3,22 @@ ghost use Rattle.script_text.specs.declared.faults.LineFault.{LineFault};
 ghost use Rattle.script_worlds.specs.Refused.{RefusesIn};
 ghost use Rattle.script_worlds.specs.Worlds.{AgreesIn, DeliversIn, MatchesIn, SealsOnceIn, ShowsAlikeIn};
 ghost use Rattle.spdm_basis.specs.Stream.{HasFault, IsQuiet, Takes, TakesPrefix};
-ghost use Rattle.spdm_cmd.specs.Answer.{IsLeft, answer_to, bad_line_by, full_by, output_by, ran, text_limit, writes_nothing};
+ghost use Rattle.spdm_cmd.specs.Answer.{IsLeft, IsReadQuietly, answer_to, bad_line_by, full_by, input_by, output_by, ran, reads, text_limit, writes_nothing};
 ghost use Rattle.spdm_cmd.specs.Words.{command_of};
 
 use crate::outcome::Outcome;
 use crate::output::{TextFault, write_output};
+use crate::reading::read_text;
 use crate::words::command_of;
 use link_world::World;
-use script_text::TEXT_LIMIT;
-use spdm_basis::{InFault, Seeds, Sink, Source, read_all};
+use spdm_basis::{InFault, Seeds, Sink, Source};
 use std::alloc::Global;
 
 /// The command `spdm` with these words. The word `run` reads a script, runs its requesters and its
 /// responder over its link, writes their trace, and leaves their world in `left`. The word `show` reads
-/// messages, one a line, and writes their names and lengths. Neither takes a seed.
+/// messages, one a line, and writes their names and lengths. The words `gen SEED COUNT` run the generated
+/// script of a seed below 2^64 and a count of 1 to 20,000 events without its trace, write one line that tells
+/// what it came to, and leave its world. None of them takes a seed of `seeds`.
 #[tactic(auto, using(crate::proofs::TopCall::read_is, script_worlds::proofs::WorldsRight::agrees, script_worlds::proofs::WorldsRight::shows_alike, script_worlds::proofs::WorldsRight::delivers, script_worlds::proofs::WorldsRight::matches, script_worlds::proofs::WorldsRight::seals_once, script_worlds::proofs::RefusedRight::refuses))]
 pub fn spdm<S: Source, K: Sink, E: Seeds>(
     alloc: Global,
@@ -28,31 +30,32 @@ pub fn spdm<S: Source, K: Sink, E: Seeds>(
 ) -> Outcome
     // Done: the source was read to its end, and the sink holds what it held and then the whole output.
     ensures read_to_end { result ≡ Outcome.Done → (text : List ℕ)
-        → S.remaining source.old ≡ Some text → S.remaining source.new ≡ Some [] }
+        → input_by (command_of (map string_bytes words.now)) (S.remaining source.old) ≡ Some text
+        → input_by (command_of (map string_bytes words.now)) (S.remaining source.new) ≡ Some [] }
     ensures whole_output { result ≡ Outcome.Done → (text : List ℕ)
-        → S.remaining source.old ≡ Some text
+        → input_by (command_of (map string_bytes words.now)) (S.remaining source.old) ≡ Some text
         → Takes (K.contents sink.old) (output_by (command_of (map string_bytes words.now)) text)
         (K.contents sink.new) }
 
     // With any answer the sink holds what it held and a prefix of the output, and with some of them nothing more.
-    ensures prefix { (text : List ℕ) → S.remaining source.old ≡ Some text
+    ensures prefix { (text : List ℕ) → input_by (command_of (map string_bytes words.now)) (S.remaining source.old) ≡ Some text
         → TakesPrefix (K.contents sink.old)
         (output_by (command_of (map string_bytes words.now)) text) (K.contents sink.new) }
     ensures nothing_written { writes_nothing result ≡ true → sink.new ≡ sink.old }
 
     // Where a packet finds the link full, all that stands before its line was written.
     ensures link_full { (line : ℕ) → result ≡ Outcome.LinkFull line → (text : List ℕ)
-        → S.remaining source.old ≡ Some text
+        → input_by (command_of (map string_bytes words.now)) (S.remaining source.old) ≡ Some text
         → full_by (command_of (map string_bytes words.now)) text ≡ Some line }
     ensures before_full { (line : ℕ) → result ≡ Outcome.LinkFull line → (text : List ℕ)
-        → S.remaining source.old ≡ Some text
+        → input_by (command_of (map string_bytes words.now)) (S.remaining source.old) ≡ Some text
         → Takes (K.contents sink.old) (output_by (command_of (map string_bytes words.now)) text)
         (K.contents sink.new) }
-    ensures room { result ≡ Outcome.Done → (text : List ℕ) → S.remaining source.old ≡ Some text
+    ensures room { result ≡ Outcome.Done → (text : List ℕ) → input_by (command_of (map string_bytes words.now)) (S.remaining source.old) ≡ Some text
         → full_by (command_of (map string_bytes words.now)) text ≡ None }
 
     // What is left stands for the last world of the script; with any other answer it is as before.
-    ensures left { result ≡ Outcome.Done → (text : List ℕ) → S.remaining source.old ≡ Some text
+    ensures left { result ≡ Outcome.Done → (text : List ℕ) → input_by (command_of (map string_bytes words.now)) (S.remaining source.old) ≡ Some text
         → IsLeft (command_of (map string_bytes words.now)) text left.old left.new }
     ensures left_as_before { result ≢ Outcome.Done → left.new ≡ left.old }
     ensures no_seed { seeds.new ≡ seeds.old }
@@ -68,29 +71,30 @@ pub fn spdm<S: Source, K: Sink, E: Seeds>(
 
     // Each answer comes at its cause.
     ensures usage { (result ≡ Outcome.Usage) ↔ (command_of (map string_bytes words.now) ≡ None) }
-    ensures nothing_read { result ≡ Outcome.Usage → source.new ≡ source.old }
+    ensures nothing_read { reads (command_of (map string_bytes words.now)) ≡ false → source.new ≡ source.old }
     ensures bad_script { (line : ℕ) (fault : LineFault) → result ≡ Outcome.BadScript line fault
-        → (text : List ℕ) → S.remaining source.old ≡ Some text → (length text ≤ text_limit)
+        → (text : List ℕ) → input_by (command_of (map string_bytes words.now)) (S.remaining source.old) ≡ Some text → (length text ≤ text_limit)
         × (bad_line_by (command_of (map string_bytes words.now)) text
         ≡ Some (record { line = line; fault = fault })) }
-    ensures script { ran result ≡ true → (text : List ℕ) → S.remaining source.old ≡ Some text
+    ensures script { ran result ≡ true → (text : List ℕ) → input_by (command_of (map string_bytes words.now)) (S.remaining source.old) ≡ Some text
         → (length text ≤ text_limit)
         × (bad_line_by (command_of (map string_bytes words.now)) text ≡ None) }
     ensures too_long { result ≡ Outcome.TooLong → (text : List ℕ)
-        → S.remaining source.old ≡ Some text → text_limit < length text }
+        → input_by (command_of (map string_bytes words.now)) (S.remaining source.old) ≡ Some text → text_limit < length text }
     ensures read_fault { result ≡ Outcome.ReadFault
-        → HasFault (S.faults source.old) (S.faults source.new) }
+        → (reads (command_of (map string_bytes words.now)) ≡ true)
+        × HasFault (S.faults source.old) (S.faults source.new) }
     ensures write_fault { result ≡ Outcome.WriteFault
         → HasFault (K.faults sink.old) (K.faults sink.new) }
 
     // Where nothing fails, the answer is that to the words and the text, unless memory runs out.
-    ensures exact { (text : List ℕ) → S.remaining source.old ≡ Some text
-        → IsQuiet (S.faults source.old) (S.faults source.new)
+    ensures exact { (text : List ℕ) → input_by (command_of (map string_bytes words.now)) (S.remaining source.old) ≡ Some text
+        → IsReadQuietly (command_of (map string_bytes words.now)) (S.faults source.old) (S.faults source.new)
         → IsQuiet (K.faults sink.old) (K.faults sink.new)
         → (result ≡ Outcome.OutOfMemory)
         ⊎ (result ≡ answer_to (command_of (map string_bytes words.now)) text) }
-    ensures complete { (text : List ℕ) → S.remaining source.old ≡ Some text
-        → IsQuiet (S.faults source.old) (S.faults source.new)
+    ensures complete { (text : List ℕ) → input_by (command_of (map string_bytes words.now)) (S.remaining source.old) ≡ Some text
+        → IsReadQuietly (command_of (map string_bytes words.now)) (S.faults source.old) (S.faults source.new)
         → IsQuiet (K.faults sink.old) (K.faults sink.new)
         → IsSome (command_of (map string_bytes words.now)) → length text ≤ text_limit
         → bad_line_by (command_of (map string_bytes words.now)) text ≡ None
@@ -100,7 +104,7 @@ pub fn spdm<S: Source, K: Sink, E: Seeds>(
     let Some(command) = command_of(words) else {
         return Outcome::Usage;
     };
-    let text = match read_all(alloc, source, TEXT_LIMIT) {
+    let text = match read_text(alloc, command, source) {
         Ok(text) => text,
         Err(InFault::ReadFault) => return Outcome::ReadFault,
         Err(InFault::TooLong) => return Outcome::TooLong,

@@ -113,6 +113,13 @@ fn words_that_are_no_command(rt: HostRuntime) -> Result<(), Fail> {
         &["run", "run"],
         &["--help"],
         &["Run"],
+        &["gen", "7"],
+        &["gen", "7", "0"],
+        &["gen", "7", "20001"],
+        &["gen", "07", "1"],
+        &["gen", "+7", "1"],
+        &["gen", "18446744073709551616", "1"],
+        &["run", "7", "1"],
     ] {
         let (outcome, written) = run(&rt, words, "", (&[0], &[]))?;
         assert_eq!(rt; outcome, Outcome::Usage);
@@ -145,5 +152,33 @@ fn bad_script_lines(rt: HostRuntime) -> Result<(), Fail> {
     assert_eq!(rt; outcome, Outcome::BadScript { line, fault });
     assert_eq!(rt; outcome.status(), 3);
     assert_eq!(rt; written.len(), 0);
+    Ok(())
+}
+
+#[test]
+fn gen_is_repeatable(rt: HostRuntime) -> Result<(), Fail> {
+    for _ in 0..2 {
+        let (outcome, written) = run_text(&rt, &["gen", "1", "100"], "", (&[0], &[]))?;
+        assert_eq!(rt; outcome, Outcome::Done);
+        assert_eq!(rt;
+            written.as_slice(),
+            b"gen 1 100 packets 54 taken 16 open 4\n".as_slice()
+        );
+    }
+    Ok(())
+}
+
+#[test]
+fn gen_zero(rt: HostRuntime) -> Result<(), Fail> {
+    let (outcome, written) = run_text(&rt, &["gen", "0", "1"], "", (&[0], &[]))?;
+    assert_eq!(rt; outcome, Outcome::Done);
+    assert_eq!(rt;
+        written.as_slice(),
+        b"gen 0 1 packets 22 taken 0 open 4\n".as_slice()
+    );
+
+    let largest = "18446744073709551615";
+    let (outcome, _) = run_text(&rt, &["gen", largest, "1"], "", (&[0], &[0]))?;
+    assert_eq!(rt; outcome, Outcome::WriteFault);
     Ok(())
 }

@@ -1,6 +1,7 @@
-ghost use Rattle.std.specs.Prelude.{◌≡◌, map, string_bytes};
-ghost use Rattle.spdm_cmd.specs.Words.{command_named, command_of};
+ghost use Rattle.std.specs.Prelude.{◌≡◌, map, string_bytes, IfSome};
+ghost use Rattle.spdm_cmd.specs.Words.{IsInRange, command_named, command_of, generator};
 
+use script_text::{MOST_GENERATED, long_number, number};
 use std::rt::Env;
 use std::{env, io};
 
@@ -11,14 +12,19 @@ pub enum Command {
     Run,
     /// Messages are shown, a line for each.
     Show,
+    /// The script of a seed and a count of events is run without its trace, and a line tells what it came
+    /// to.
+    Gen { seed: u64, count: u32 },
 }
 
 /// The command that the words are.
 pub fn command_of(words: &[String]) -> Option<Command>
-    ensures { result ≡ command_of (map string_bytes words.now) }
+    ensures is { result ≡ command_of (map string_bytes words.now) }
+    ensures range { IfSome result (λ command. IsInRange command) }
 {
     match words {
         [word] => command_named(word.as_str()),
+        [word, seed, count] => generator(word.as_str(), seed.as_str(), count.as_str()),
         _ => None,
     }
 }
@@ -26,7 +32,8 @@ pub fn command_of(words: &[String]) -> Option<Command>
 // The command of one word.
 #[tactic(auto, unfolding(crate::specs::Words::command_named))]
 fn command_named(word: &str) -> Option<Command>
-    ensures { result ≡ command_named word.now }
+    ensures is { result ≡ command_named word.now }
+    ensures range { IfSome result (λ command. IsInRange command) }
 {
     if word == "run" {
         Some(Command::Run)
@@ -35,6 +42,20 @@ fn command_named(word: &str) -> Option<Command>
     } else {
         None
     }
+}
+
+// The command of three words.
+#[tactic(auto, unfolding(crate::specs::Words::generator))]
+fn generator(word: &str, seed: &str, count: &str) -> Option<Command>
+    ensures is { result ≡ generator word.now seed.now count.now }
+    ensures range { IfSome result (λ command. IsInRange command) }
+{
+    if word != "gen" {
+        return None;
+    }
+    let seed = long_number(seed.as_bytes())?;
+    let count = number(1, MOST_GENERATED, count.as_bytes())?;
+    Some(Command::Gen { seed, count })
 }
 
 /// The words that the program was started with, behind its name.

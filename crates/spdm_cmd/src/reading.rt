@@ -1,0 +1,34 @@
+ghost use Rattle.std.specs.Prelude.{◌≡◌, ◌≤◌, ◌<◌, ◌×◌, [], ℕ, List, Some, true, false, length, IfOk, IsErrOf, OnErr, OnOk};
+ghost use Rattle.spdm_basis.specs.Stream.{HasFault};
+ghost use Rattle.spdm_cmd.specs.Answer.{IsReadQuietly, input_of, reads, text_limit};
+
+use crate::words::Command;
+use script_text::TEXT_LIMIT;
+use spdm_basis::{Bytes, InFault, Source, read_all};
+use std::alloc::Global;
+
+/// Reads what a command reads, up to 4 MiB: no bytes for one that reads nothing.
+pub fn read_text<S: Source>(
+    alloc: Global,
+    command: Command,
+    source: &mut S,
+) -> Result<Bytes, InFault>
+    ensures whole { IfOk result (λ bytes. (text : List ℕ)
+        → input_of command (S.remaining source.old) ≡ Some text → bytes ≡ text) }
+    ensures within { IfOk result (λ bytes. length bytes ≤ text_limit) }
+    ensures end { OnOk result ((text : List ℕ) → input_of command (S.remaining source.old) ≡ Some text
+        → input_of command (S.remaining source.new) ≡ Some []) }
+    ensures nothing { reads (Some command) ≡ false → source.new ≡ source.old }
+    ensures too_long { IsErrOf result InFault.TooLong → (text : List ℕ)
+        → input_of command (S.remaining source.old) ≡ Some text → text_limit < length text }
+    ensures read_fault { IsErrOf result InFault.ReadFault → (reads (Some command) ≡ true)
+        × HasFault (S.faults source.old) (S.faults source.new) }
+    ensures noisy { IsErrOf result InFault.ReadFault
+        → IsReadQuietly (Some command) (S.faults source.old) (S.faults source.new) → ⊥ }
+{
+    match command {
+        Command::Run => read_all(alloc, source, TEXT_LIMIT),
+        Command::Show => read_all(alloc, source, TEXT_LIMIT),
+        Command::Gen { .. } => Ok(Bytes::new(alloc)),
+    }
+}
