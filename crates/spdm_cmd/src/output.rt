@@ -74,11 +74,11 @@ pub fn write_output<K: Sink>(
         },
         Command::Show => show_messages(alloc, text, sink),
         Command::Gen { seed, count } => match summarize(alloc, seed, count, sink) {
-            Ok(world) => {
-                *left = Some(world);
+            Ok(last) => {
+                *left = Some(last);
                 Ok(())
             }
-            Err(fault) => Err(fault),
+            Err(cause) => Err(cause),
         },
     }
 }
