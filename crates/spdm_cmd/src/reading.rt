@@ -16,7 +16,8 @@ pub fn read_text<S: Source>(
     ensures whole { IfOk result (λ bytes. (text : List ℕ)
         → input_of command (S.remaining source.old) ≡ Some text → bytes ≡ text) }
     ensures within { IfOk result (λ bytes. length bytes ≤ text_limit) }
-    ensures end { OnOk result ((text : List ℕ) → input_of command (S.remaining source.old) ≡ Some text
+    ensures end { OnOk result ((text : List ℕ)
+        → input_of command (S.remaining source.old) ≡ Some text
         → input_of command (S.remaining source.new) ≡ Some []) }
     ensures nothing { reads (Some command) ≡ false → source.new ≡ source.old }
     ensures too_long { IsErrOf result InFault.TooLong → (text : List ℕ)

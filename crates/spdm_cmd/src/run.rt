@@ -38,7 +38,8 @@ pub fn spdm<S: Source, K: Sink, E: Seeds>(
         (K.contents sink.new) }
 
     // With any answer the sink holds what it held and a prefix of the output, and with some of them nothing more.
-    ensures prefix { (text : List ℕ) → input_by (command_of (map string_bytes words.now)) (S.remaining source.old) ≡ Some text
+    ensures prefix { (text : List ℕ)
+        → input_by (command_of (map string_bytes words.now)) (S.remaining source.old) ≡ Some text
         → TakesPrefix (K.contents sink.old)
         (output_by (command_of (map string_bytes words.now)) text) (K.contents sink.new) }
     ensures nothing_written { writes_nothing result ≡ true → sink.new ≡ sink.old }
@@ -51,11 +52,13 @@ pub fn spdm<S: Source, K: Sink, E: Seeds>(
         → input_by (command_of (map string_bytes words.now)) (S.remaining source.old) ≡ Some text
         → Takes (K.contents sink.old) (output_by (command_of (map string_bytes words.now)) text)
         (K.contents sink.new) }
-    ensures room { result ≡ Outcome.Done → (text : List ℕ) → input_by (command_of (map string_bytes words.now)) (S.remaining source.old) ≡ Some text
+    ensures room { result ≡ Outcome.Done → (text : List ℕ)
+        → input_by (command_of (map string_bytes words.now)) (S.remaining source.old) ≡ Some text
         → full_by (command_of (map string_bytes words.now)) text ≡ None }
 
     // What is left stands for the last world of the script; with any other answer it is as before.
-    ensures left { result ≡ Outcome.Done → (text : List ℕ) → input_by (command_of (map string_bytes words.now)) (S.remaining source.old) ≡ Some text
+    ensures left { result ≡ Outcome.Done → (text : List ℕ)
+        → input_by (command_of (map string_bytes words.now)) (S.remaining source.old) ≡ Some text
         → IsLeft (command_of (map string_bytes words.now)) text left.old left.new }
     ensures left_as_before { result ≢ Outcome.Done → left.new ≡ left.old }
     ensures no_seed { seeds.new ≡ seeds.old }
@@ -71,16 +74,21 @@ pub fn spdm<S: Source, K: Sink, E: Seeds>(
 
     // Each answer comes at its cause.
     ensures usage { (result ≡ Outcome.Usage) ↔ (command_of (map string_bytes words.now) ≡ None) }
-    ensures nothing_read { reads (command_of (map string_bytes words.now)) ≡ false → source.new ≡ source.old }
+    ensures nothing_read { reads (command_of (map string_bytes words.now)) ≡ false
+        → source.new ≡ source.old }
     ensures bad_script { (line : ℕ) (fault : LineFault) → result ≡ Outcome.BadScript line fault
-        → (text : List ℕ) → input_by (command_of (map string_bytes words.now)) (S.remaining source.old) ≡ Some text → (length text ≤ text_limit)
+        → (text : List ℕ)
+        → input_by (command_of (map string_bytes words.now)) (S.remaining source.old) ≡ Some text
+        → (length text ≤ text_limit)
         × (bad_line_by (command_of (map string_bytes words.now)) text
         ≡ Some (record { line = line; fault = fault })) }
-    ensures script { ran result ≡ true → (text : List ℕ) → input_by (command_of (map string_bytes words.now)) (S.remaining source.old) ≡ Some text
+    ensures script { ran result ≡ true → (text : List ℕ)
+        → input_by (command_of (map string_bytes words.now)) (S.remaining source.old) ≡ Some text
         → (length text ≤ text_limit)
         × (bad_line_by (command_of (map string_bytes words.now)) text ≡ None) }
     ensures too_long { result ≡ Outcome.TooLong → (text : List ℕ)
-        → input_by (command_of (map string_bytes words.now)) (S.remaining source.old) ≡ Some text → text_limit < length text }
+        → input_by (command_of (map string_bytes words.now)) (S.remaining source.old) ≡ Some text
+        → text_limit < length text }
     ensures read_fault { result ≡ Outcome.ReadFault
         → (reads (command_of (map string_bytes words.now)) ≡ true)
         × HasFault (S.faults source.old) (S.faults source.new) }
@@ -88,12 +96,14 @@ pub fn spdm<S: Source, K: Sink, E: Seeds>(
         → HasFault (K.faults sink.old) (K.faults sink.new) }
 
     // Where nothing fails, the answer is that to the words and the text, unless memory runs out.
-    ensures exact { (text : List ℕ) → input_by (command_of (map string_bytes words.now)) (S.remaining source.old) ≡ Some text
+    ensures exact { (text : List ℕ)
+        → input_by (command_of (map string_bytes words.now)) (S.remaining source.old) ≡ Some text
         → IsReadQuietly (command_of (map string_bytes words.now)) (S.faults source.old) (S.faults source.new)
         → IsQuiet (K.faults sink.old) (K.faults sink.new)
         → (result ≡ Outcome.OutOfMemory)
         ⊎ (result ≡ answer_to (command_of (map string_bytes words.now)) text) }
-    ensures complete { (text : List ℕ) → input_by (command_of (map string_bytes words.now)) (S.remaining source.old) ≡ Some text
+    ensures complete { (text : List ℕ)
+        → input_by (command_of (map string_bytes words.now)) (S.remaining source.old) ≡ Some text
         → IsReadQuietly (command_of (map string_bytes words.now)) (S.faults source.old) (S.faults source.new)
         → IsQuiet (K.faults sink.old) (K.faults sink.new)
         → IsSome (command_of (map string_bytes words.now)) → length text ≤ text_limit
