@@ -3,6 +3,8 @@
 
 mod outcome;
 mod output;
+#[cfg(test)]
+mod rows;
 mod run;
 mod script_run;
 #[cfg(test)]
