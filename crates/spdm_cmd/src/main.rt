@@ -4,12 +4,9 @@
 mod generated;
 mod outcome;
 mod output;
-<<<<<<< HEAD
 mod reading;
-=======
 #[cfg(test)]
 mod rows;
->>>>>>> b462fdd6a38ff7fa325808d6a1bc2375b0a0f55a
 mod run;
 mod script_run;
 #[cfg(test)]
