@@ -17,7 +17,7 @@ use std::alloc::Global;
 /// The command `spdm` with these words. The word `run` reads a script, runs its requesters and its
 /// responder over its link, writes their trace, and leaves their world in `left`. The word `show` reads
 /// messages, one a line, and writes their names and lengths. Neither takes a seed.
-#[tactic(auto, using(crate::proofs::TopCall::read_is, script_worlds::proofs::WorldsRight::agrees, script_worlds::proofs::WorldsRight::shows_alike, script_worlds::proofs::WorldsRight::delivers, script_worlds::proofs::WorldsRight::matches, script_worlds::proofs::WorldsRight::seals_once, script_worlds::proofs::RefusedRight::refuses))]
+#[tactic(auto, using(crate::proofs::TopCall::read_is, script_worlds::proofs::RefusedRight::refuses))]
 pub fn spdm<S: Source, K: Sink, E: Seeds>(
     alloc: Global,
     words: &[String],
