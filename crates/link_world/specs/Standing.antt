@@ -56,7 +56,8 @@ taken_in requesters connections =
 abbrev pub counted : ℕ → ℕ
 counted n = min n (2 ^ 64 - 1)
 
--- They are the ends of this world.
+-- They are the ends of this world. The responder's connections are with the requesters, in order, and what all of them
+-- took is counted.
 pub record AreEnds (seen : Ends) (w : World) : Type 0 where
   pub requesters : AreAskers seen.requesters.items w.requesters
   pub apart : AreApart w.requesters

@@ -181,7 +181,7 @@ impl World {
         &self.link.ends.responder
     }
 
-    /// What is counted of the world.
+    /// What is counted of the world. It takes no memory.
     pub fn totals(&self) -> Totals
         ensures packets { (w : machine.World) → StandsFor self.now w
             → result.packets ≡ (totals_of w).packets }
