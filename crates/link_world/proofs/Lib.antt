@@ -17,3 +17,4 @@ pub mod Taken
 pub mod Telling
 pub mod Texts
 pub mod Writing
+mod FewTaken

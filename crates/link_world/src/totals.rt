@@ -16,8 +16,7 @@ use spdm_grammar::{Event, Finished, Heard, SessionView, Stage};
 pub struct Totals {
     /// How many packets were sent: at most 65,536.
     pub packets: u32,
-    /// How many application messages were taken at all ends, in sessions that are gone too. It stands
-    /// still at 2^64 - 1.
+    /// How many application messages were taken at all ends, in sessions that are gone too.
     pub taken: u64,
     /// How many sessions are held open, in stage Open or Verifying. One that both ends hold open
     /// counts twice.

@@ -28,7 +28,7 @@ fn is_show(event: &LinkEvent) -> bool
 }
 
 impl World {
-    ghost use Rattle.std.specs.Prelude.{◌≡◌, ◌≤◌, ◌-◌, ◌^◌, ℕ, List, Some, true, false, min, IfErr, IfOk, IsErrOf, IsSome, OnErr, OnOk};
+    ghost use Rattle.std.specs.Prelude.{◌≡◌, ◌≤◌, ◌-◌, ◌^◌, ℕ, List, Some, true, false, IfErr, IfOk, IsErrOf, IsSome, OnErr, OnOk};
     ghost use Rattle.std.specs.Option.{option_map};
     ghost use Rattle.link_world.specs.Configured.{IsCause, IsSound, configuration_in};
     ghost use Rattle.link_world.specs.Events.{entry_of};
@@ -188,7 +188,7 @@ impl World {
         ensures most { (w : machine.World) → StandsFor self.now w
             → result.packets ≤ packets_max }
         ensures taken { (w : machine.World) → StandsFor self.now w
-            → result.taken ≡ min (totals_of w).taken (2 ^ 64 - 1) }
+            → result.taken ≡ (totals_of w).taken }
         ensures live { (w : machine.World) → StandsFor self.now w
             → result.live ≡ (totals_of w).live }
     {
