@@ -3,7 +3,7 @@ use Rattle.std.proofs.Common.{refl, ◌≡◌, ◌≢◌, ◌∙◌, ◌+◌, �
 use Rattle.std.proofs.lemmas.Option.{none-some, same_Some}
 use Rattle.std.specs.List.{AllByRecursion, position_from}
 use Rattle.std.specs.Prelude.{◌==◌}
-use Rattle.link_world.specs.Standing.{AreApart, AreAskers, AreEnds, IsAsker, has_eid}
+use Rattle.link_world.specs.Standing.{AreApart, AreAskers, AreEnds, IsAsker, eids_of, has_eid}
 use Rattle.link_world.specs.declared.ends.Asker.{Asker}
 use Rattle.link_world.specs.declared.ends.Ends.{Ends}
 use Rattle.requester_machine.specs.Requesting.{Requesting}
@@ -49,7 +49,7 @@ first_hit x xs a rs are apart = record {
 }
 
 -- One behind the first has another end point.
-behind_first : (k : ℕ) (rs : List Requesting) (a b : Requesting) → requester_at k rs ≡ Some b → AllByRecursion (λ (c : Requesting). c.setup.eid ≢ eid_of a) rs → eid_of b ≢ eid_of a
+pub behind_first : (k : ℕ) (rs : List Requesting) (a b : Requesting) → requester_at k rs ≡ Some b → AllByRecursion (λ (c : Requesting). c.setup.eid ≢ eid_of a) rs → eid_of b ≢ eid_of a
 behind_first k [] a b is apart = absurd (none-some b is)
 behind_first zero (c ∷ rs) a b is apart = subst (λ (d : Requesting). eid_of d ≢ eid_of a) (same_Some c b is) apart.0
 behind_first (suc k) (c ∷ rs) a b is apart = behind_first k rs a b is apart.1
@@ -137,12 +137,18 @@ pub length_with : (new : Requesting) (rs : List Requesting) → length (with_req
 length_with new [] = refl
 length_with new (a ∷ rs) = ap suc (length_with new rs)
 
-same_eid : (new a : Requesting) → eid_of (replaced new a) ≡ eid_of a
+pub same_eid : (new a : Requesting) → eid_of (replaced new a) ≡ eid_of a
 same_eid new a = go (eid_of a == eid_of new) refl
   where
     go : (b : Bool) → (eid_of a == eid_of new) ≡ b → eid_of (cond b new a) ≡ eid_of a
     go true e = sym (eqb-true (eid_of a) (eid_of new) e)
     go false e = refl
+
+-- The end points stay.
+pub same_eids : (new : Requesting) (rs : List Requesting) → eids_of (with_requester new rs) ≡ eids_of rs
+same_eids new [] = refl
+same_eids new (a ∷ rs) =
+    ap (λ (n : ℕ). n ∷ eids_of (with_requester new rs)) (same_eid new a) ∙ ap (λ (l : List ℕ). eid_of a ∷ l) (same_eids new rs)
 
 apart_with : (new : Requesting) (rs : List Requesting) (eid : ℕ) → AllByRecursion (λ (b : Requesting). b.setup.eid ≢ eid) rs → AllByRecursion (λ (b : Requesting). b.setup.eid ≢ eid) (with_requester new rs)
 apart_with new [] eid all = tt

@@ -2,6 +2,7 @@
 use Rattle.std.proofs.Common.{refl, ◌≡◌, ℕ, List, [], Bool, true, false, Option, Some, None, ap, sym, subst, inl, inr}
 use Rattle.std.specs.Prelude.{⊤, ◌==◌, ◌&&◌, not, if◌then◌else◌, is_some, slice_index, bytes_eq, Result, Ok, Err}
 use Rattle.chunking.specs.Collecting.{joined_with}
+use Rattle.link_world.specs.Told.{is_answered}
 use Rattle.negotiate.specs.Capabilities.{common_of}
 use Rattle.negotiate.specs.Choosing.{agreed}
 use Rattle.negotiate.specs.Offer.{offer_of}
@@ -45,10 +46,6 @@ use Rattle.requester_machine.specs.Sending.{finish_sent, get_sent, is_too_long, 
 use Rattle.requester_machine.specs.Session.{session_terms}
 use Rattle.requester_machine.specs.Setup.{ReqSetup}
 use Rattle.requester_machine.specs.Shown.{blocks_in, blocks_of, bytes_in}
-
-abbrev pub is_answered : Event → Bool
-is_answered (event.Done (finished.Answered id)) = true
-is_answered _ = false
 
 abbrev pub is_measured : Event → Bool
 is_measured (event.Done (finished.Measured number)) = true

@@ -1,17 +1,15 @@
 -- What the ends of a world are after one of them did something.
 use Rattle.std.proofs.Common.{refl, ◌≡◌, ◌∙◌, ◌≤◌, ℕ, List, Bool, true, false, Option, Some, None, ap, sym, subst, slice_set}
 use Rattle.std.specs.Prelude.{◌==◌, ◌||◌, not, if◌then◌else◌, Result, Ok, Err}
-use Rattle.link_world.proofs.Askers.{Hit, eid_of, length_with, still_apart}
-use Rattle.link_world.specs.Standing.{AreAskers, AreEnds, IsAsker}
+use Rattle.link_world.proofs.Askers.{Hit, eid_of, length_with, same_eids, still_apart}
+use Rattle.link_world.specs.Standing.{AreAskers, AreEnds, IsAsker, counted, peers_of, taken_in}
 use Rattle.link_world.specs.declared.ends.Asker.{Asker}
 use Rattle.link_world.specs.declared.ends.Ends.{Ends}
 use Rattle.mctp_framing.specs.Cutting.{RouteFields}
 use Rattle.mctp_framing.specs.Gathering.{Gathered}
 use Rattle.mctp_framing.specs.Gathering.Gathered.{Dropped, More, Whole}
 use Rattle.mctp_framing.specs.Packet.{PacketFields, parsed}
-use Rattle.requester_machine.specs.Message.{Command}
-use Rattle.requester_machine.specs.Requesting as requesting
-use Rattle.requester_machine.specs.Requesting.{CommandStep, PacketStep, Requesting, requester_given, requester_told}
+use Rattle.requester_machine.specs.Requesting.{Requesting}
 use Rattle.responder.specs.Standing as answering
 use Rattle.responder.specs.declared.serving.Responder.{Responder}
 use Rattle.responder_machine.specs.Does.{responder_does}
@@ -69,23 +67,29 @@ responder_keeps r packet = either_keeps r (responding.is_worn r) _ _ refl (packe
 
 -- The responder has changed.
 pub responder_changed : (w : World) (old new : Ends) (after : Responding) (sent : List SentPacket) (log : Log) → AreEnds old w → new.requesters.items ≡ old.requesters.items → new.eid ≡ old.eid
-    → answering.StandsFor new.responder after → after.part ≡ w.responder.part → AreEnds new (record { requesters = w.requesters; responder = after; sent = sent; log = log })
-responder_changed w old new after sent log e same eid stands part = record {
+    → answering.StandsFor new.responder after → after.part ≡ w.responder.part → peers_of after.connections ≡ peers_of w.responder.connections
+    → new.taken ≡ counted (taken_in w.requesters after.connections) → AreEnds new (record { requesters = w.requesters; responder = after; sent = sent; log = log })
+responder_changed w old new after sent log e same eid stands part peers taken = record {
   requesters = subst (λ (l : List Asker). AreAskers l w.requesters) (sym same) e.requesters;
   apart = e.apart;
   few = e.few;
   eid = ap (λ (p : RspPart). p.eid) part ∙ e.eid ∙ ap (λ (n : Eid). n.number) (sym eid);
   responder = stands;
+  peers = peers ∙ e.peers;
+  taken = taken;
 }
 
 -- The requester at a place has changed.
 pub requester_changed : (w : World) (k : ℕ) (old new : Ends) (asker : Asker) (b : Requesting) (sent : List SentPacket) (log : Log) → AreEnds old w → (h : Hit k old.requesters.items w.requesters)
     → new.requesters.items ≡ slice_set old.requesters.items k asker → new.eid ≡ old.eid → new.responder ≡ old.responder → eid_of b ≡ eid_of h.a → IsAsker asker b
+    → new.taken ≡ counted (taken_in (with_requester b w.requesters) w.responder.connections)
     → AreEnds new (record { requesters = with_requester b w.requesters; responder = w.responder; sent = sent; log = log })
-requester_changed w k old new asker b sent log e h items eid same own stands = record {
+requester_changed w k old new asker b sent log e h items eid same own stands taken = record {
   requesters = subst (λ (l : List Asker). AreAskers l (with_requester b w.requesters)) (sym items) (h.change asker b own stands);
   apart = still_apart b w.requesters e.apart;
   few = subst (λ (n : ℕ). n ≤ 8) (sym (length_with b w.requesters)) e.few;
   eid = e.eid ∙ ap (λ (n : Eid). n.number) (sym eid);
   responder = subst (λ (s : Responder). answering.StandsFor s w.responder) (sym same) e.responder;
+  peers = e.peers ∙ sym (same_eids b w.requesters);
+  taken = taken;
 }

@@ -1,12 +1,14 @@
 -- What the ends did is what the definitions do.
-use Rattle.std.proofs.Common.{refl, ◌≡◌, ◌∙◌, ◌++◌, ◌∷◌, [], ℕ, List, Bool, true, false, Option, Some, None, ap, sym, subst, length, slice_set}
+use Rattle.std.proofs.Common.{refl, ◌≡◌, ◌∙◌, ◌+◌, ◌++◌, ◌∷◌, [], ℕ, List, Bool, true, false, Option, Some, None, ap, sym, subst, length, slice_set}
 use Rattle.std.proofs.lemmas.List.{append-nil}
 use Rattle.std.specs.Prelude.{◌==◌, if◌then◌else◌, find, nat_lt, slice_index, MatchResult, Result, Ok, Err}
 use Rattle.link_world.proofs.Askers.{Hit, eid_of}
 use Rattle.link_world.proofs.Changing.{requester_changed, responder_changed, responder_keeps}
+use Rattle.link_world.proofs.Counting.{asked_more, heard_more, heard_peers, kept_more, kept_same, queued_peers, queued_same, told_same}
+use Rattle.link_world.proofs.Taken.{requester_counts}
 use Rattle.link_world.proofs.Telling.{requester_tells, responder_tells}
-use Rattle.link_world.specs.Standing.{AreEnds, IsAsker, IsDone, IsGivenTo}
-use Rattle.link_world.specs.Told.{event_data, event_lines, heard_data, heard_lines}
+use Rattle.link_world.specs.Standing.{AreEnds, IsAsker, IsDone, IsGivenTo, counted, taken_in}
+use Rattle.link_world.specs.Told.{event_data, event_lines, heard_data, heard_lines, is_answered, is_taken}
 use Rattle.link_world.specs.Written.{has_full, text_of}
 use Rattle.link_world.specs.declared.ends.Asker.{Asker}
 use Rattle.link_world.specs.declared.ends.Ends.{Ends}
@@ -30,6 +32,7 @@ use Rattle.spdm_grammar.specs.declared.event.Finished.TheVariants as finished
 use Rattle.spdm_grammar.specs.declared.heard.Heard.{Heard}
 use Rattle.spdm_grammar.specs.declared.heard.Heard.TheVariants as heard
 use Rattle.spdm_grammar.specs.declared.heard.ReplyFault.{ReplyFault}
+use Rattle.spdm_machine.specs.Sessions.{one_if}
 use Rattle.world_machine.specs.World.{World, data_lines, is_at, given, given_to, given_to_requester, given_to_responder, id_in_event, number_at, packet_lines, record_lines, replied, replied_by, taken_lines, told, with_sent}
 
 -- ---- No line of what is told is that of a packet.
@@ -96,9 +99,9 @@ module _ (w : World) (k : ℕ) (old new : Ends) (asker : Asker) (e : AreEnds old
   }
 
   pub asker_told : (n : ℕ) (command : Command) (answer : Result Unit CommandFault) (sends : List (List ℕ)) (a : Option Requesting) (before after : List ℕ) → a ≡ Some h.a
-      → asking.IsTold (requester_told h.a command) answer sends asker.requester → after ≡ before ++ line_text (Line.Command n (fault_of answer)) → IsGivenTo w (told w n command a) before after sends new
-  asker_told n command answer sends None before after is t text = absurd (cc is)
-  asker_told n command answer sends (Some a) before after is t text =
+      → asking.IsTold (requester_told h.a command) answer sends asker.requester → new.taken ≡ old.taken → after ≡ before ++ line_text (Line.Command n (fault_of answer)) → IsGivenTo w (told w n command a) before after sends new
+  asker_told n command answer sends None before after is t count text = absurd (cc is)
+  asker_told n command answer sends (Some a) before after is t count text =
       let step = requester_told h.a command in
       let kept = told_setup h.a command in
       subst (λ (o : Option Requesting). IsGivenTo w (told w n command o) before after sends new) (sym is)
@@ -108,13 +111,14 @@ module _ (w : World) (k : ℕ) (old new : Ends) (asker : Asker) (e : AreEnds old
         lines = ap (λ (p : List (List ℕ)). Line.Command n step.fault ∷ packet_lines (length w.sent) p) (sym t.sent);
         text = text ∙ ap (λ (f : Option CommandFault). before ++ line_text (Line.Command n f)) (fault_is answer ∙ t.fault) ∙ ap (λ (t : List ℕ). before ++ t) (sym (append-nil (line_text (Line.Command n step.fault))));
         sent = ap (with_sent w.sent) (sym t.sent);
-        ends = requester_changed w k old new asker step.after _ _ e h r.items r.eid r.responder (ap (λ (s : ReqSetup). s.eid) kept) (renewed step.after kept t.stands);
+        ends = requester_changed w k old new asker step.after _ _ e h r.items r.eid r.responder (ap (λ (s : ReqSetup). s.eid) kept) (renewed step.after kept t.stands)
+            (kept_same old.taken (taken_in w.requesters w.responder.connections) new.taken _ count e.taken (told_same h.a command k w.requesters w.responder.connections h.at e.apart));
       })
 
   pub asker_given : (n : ℕ) (packet : List ℕ) (tells : Event) (last : List ℕ) (sends : List (List ℕ)) (before after : List ℕ)
       → asking.IsGiven (requester_given h.a packet) tells sends asker.requester → last ≡ shown.last_data (requester_given h.a packet).after.history
-      → after ≡ before ++ text_of (event_lines n tells last) → IsGivenTo w (given_to_requester w n (requester_given h.a packet)) before after sends new
-  asker_given n packet tells last sends before after g last_is text =
+      → new.taken ≡ counted (old.taken + one_if (is_answered tells)) → after ≡ before ++ text_of (event_lines n tells last) → IsGivenTo w (given_to_requester w n (requester_given h.a packet)) before after sends new
+  asker_given n packet tells last sends before after g last_is count text =
       let step = requester_given h.a packet in
       let kept = given_setup h.a packet in
       let middle : List Line = data_lines (Whose.Requester n) (id_in_event step.event) step.taken in
@@ -128,23 +132,25 @@ module _ (w : World) (k : ℕ) (old new : Ends) (asker : Asker) (e : AreEnds old
             ∙ ap (λ (l : List Line). l ++ packet_lines (length w.sent) sends) (sym own);
         text = text;
         sent = ap (with_sent w.sent) (sym g.sent);
-        ends = requester_changed w k old new asker step.after _ _ e h r.items r.eid r.responder (ap (λ (s : ReqSetup). s.eid) kept) (renewed step.after kept g.stands);
+        ends = requester_changed w k old new asker step.after _ _ e h r.items r.eid r.responder (ap (λ (s : ReqSetup). s.eid) kept) (renewed step.after kept g.stands)
+            (kept_more old.taken (taken_in w.requesters w.responder.connections) (one_if (is_answered step.event)) new.taken _ e.taken (count ∙ ap (λ (t : Event). counted (old.taken + one_if (is_answered t))) g.event)
+            (asked_more step.after h.a (one_if (is_answered step.event)) k w.requesters w.responder.connections h.at e.apart (ap (λ (s : ReqSetup). s.eid) kept) (requester_counts h.a packet)));
       }
 
   pub asker_given_at : (a : Requesting) → h.a ≡ a → (n : ℕ) → n ≡ number_at (eid_of h.a) w → (packet : List ℕ) (tells : Event) (last : List ℕ) (sends : List (List ℕ)) (before after : List ℕ)
       → asking.IsGiven (requester_given h.a packet) tells sends asker.requester → last ≡ shown.last_data (requester_given h.a packet).after.history
-      → after ≡ before ++ text_of (event_lines n tells last) → IsGivenTo w (given_to_requester w (number_at (eid_of a) w) (requester_given a packet)) before after sends new
-  asker_given_at a its n number packet tells last sends before after g last_is text =
+      → new.taken ≡ counted (old.taken + one_if (is_answered tells)) → after ≡ before ++ text_of (event_lines n tells last) → IsGivenTo w (given_to_requester w (number_at (eid_of a) w) (requester_given a packet)) before after sends new
+  asker_given_at a its n number packet tells last sends before after g last_is count text =
       subst (λ (b : Requesting). IsGivenTo w (given_to_requester w (number_at (eid_of b) w) (requester_given b packet)) before after sends new) its
-      (subst (λ (m : ℕ). IsGivenTo w (given_to_requester w m (requester_given h.a packet)) before after sends new) number (asker_given n packet tells last sends before after g last_is text))
+      (subst (λ (m : ℕ). IsGivenTo w (given_to_requester w m (requester_given h.a packet)) before after sends new) number (asker_given n packet tells last sends before after g last_is count text))
 
 -- ---- The responder.
 
 pub responder_given : (w : World) (old new : Ends) (q : ℕ) (packet : List ℕ) (told : Heard) (last : List ℕ) (sends : List (List ℕ)) (before after : List ℕ) → AreEnds old w
     → new.requesters.items ≡ old.requesters.items → new.eid ≡ old.eid → answering.IsStep (responder_hears w.responder packet) told sends new.responder
-    → q ≡ number_at (slice_index packet 2) w → last ≡ last_data (responder_hears w.responder packet).after → after ≡ before ++ text_of (heard_lines q told last)
+    → q ≡ number_at (slice_index packet 2) w → last ≡ last_data (responder_hears w.responder packet).after → new.taken ≡ counted (old.taken + one_if (is_taken told)) → after ≡ before ++ text_of (heard_lines q told last)
     → IsGivenTo w (given_to_responder w packet (responder_hears w.responder packet)) before after sends new
-responder_given w old new q packet told last sends before after e same eid s number last_is text =
+responder_given w old new q packet told last sends before after e same eid s number last_is count text =
     let step = responder_hears w.responder packet in
     let n : ℕ = number_at (slice_index packet 2) w in
     let own : heard_lines q told last ≡ Line.ToResponder step.heard ∷ taken_lines n step.taken =
@@ -156,7 +162,9 @@ responder_given w old new q packet told last sends before after e same eid s num
           ∙ ap (λ (l : List Line). l ++ packet_lines (length w.sent) sends) (sym own);
       text = text;
       sent = ap (with_sent w.sent) (sym s.sent);
-      ends = responder_changed w old new step.after _ _ e same eid s.stands (responder_keeps w.responder packet);
+      ends = responder_changed w old new step.after _ _ e same eid s.stands (responder_keeps w.responder packet) (heard_peers w.responder packet e.responder.apart)
+          (kept_more old.taken (taken_in w.requesters w.responder.connections) (one_if (is_taken step.heard)) new.taken _ e.taken (count ∙ ap (λ (t : Heard). counted (old.taken + one_if (is_taken t))) s.told)
+          (heard_more w.responder packet w.requesters e.responder.apart));
     }
 
 -- ---- Application data.
@@ -170,10 +178,10 @@ queues_part (Some fault) r eid bytes = refl
 queues_part None r eid bytes = refl
 
 pub asker_replied : (w : World) (k : ℕ) (old new : Ends) (eid : ℕ) (bytes : List ℕ) (answer : Result Unit ReplyFault) (a : Option Requesting) (before after : List ℕ) → AreEnds old w → (h : Hit k old.requesters.items w.requesters)
-    → a ≡ Some h.a → eid ≡ eid_of h.a → new.requesters.items ≡ old.requesters.items → new.eid ≡ old.eid → fault_of answer ≡ reply_fault_of (connection_of eid w.responder.connections) bytes
+    → a ≡ Some h.a → eid ≡ eid_of h.a → new.requesters.items ≡ old.requesters.items → new.eid ≡ old.eid → new.taken ≡ old.taken → fault_of answer ≡ reply_fault_of (connection_of eid w.responder.connections) bytes
     → answering.StandsFor new.responder (after_reply eid bytes w.responder) → after ≡ before ++ line_text (Line.Reply (fault_of answer)) → IsDone w (replied w bytes a) before after new
-asker_replied w k old new eid bytes answer None before after e h is own same its fault stands text = absurd (cc is)
-asker_replied w k old new eid bytes answer (Some a) before after e h is own same its fault stands text =
+asker_replied w k old new eid bytes answer None before after e h is own same its count fault stands text = absurd (cc is)
+asker_replied w k old new eid bytes answer (Some a) before after e h is own same its count fault stands text =
     let f : Option ReplyFault = reply_fault_of (connection_of eid w.responder.connections) bytes in
     subst (λ (o : Option Requesting). IsDone w (replied w bytes o) before after new) (sym is)
     (subst (λ (n : ℕ). IsDone w (replied_by w n bytes (connection_of n w.responder.connections)) before after new) own
@@ -181,7 +189,8 @@ asker_replied w k old new eid bytes answer (Some a) before after e h is own same
       plain = refl;
       text = text ∙ ap (λ (g : Option ReplyFault). before ++ line_text (Line.Reply g)) fault ∙ ap (λ (t : List ℕ). before ++ t) (sym (append-nil (line_text (Line.Reply f))));
       sent = refl;
-      ends = responder_changed w old new (after_reply eid bytes w.responder) _ _ e same its stands (queues_part f w.responder eid bytes);
+      ends = responder_changed w old new (after_reply eid bytes w.responder) _ _ e same its stands (queues_part f w.responder eid bytes) (queued_peers f w.responder eid bytes)
+          (count ∙ e.taken ∙ ap counted (sym (queued_same f w.responder eid bytes w.requesters)));
     }))
 
 pub reply_fault_is : (answer : Result Unit ReplyFault) (f : Option ReplyFault) → MatchResult answer (λ done. f ≡ None) (λ fault. f ≡ Some fault) → fault_of answer ≡ f

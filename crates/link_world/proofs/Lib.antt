@@ -1,15 +1,20 @@
 pub mod Askers
 pub mod Brings
 pub mod Changing
+pub mod Counting
 pub mod Entered
 pub mod Full
 pub mod GivenTo
+pub mod Held
 pub mod Made
 pub mod Packets
 pub mod Places
 pub mod Shown
 pub mod Stepped
 pub mod Stopping
+pub mod Sums
+pub mod Taken
 pub mod Telling
 pub mod Texts
 pub mod Writing
+mod FewTaken

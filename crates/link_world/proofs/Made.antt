@@ -1,14 +1,13 @@
 -- A world is made of ends that a configuration sets up.
-use Rattle.std.proofs.Common.{refl, ◌≡◌, ◌≢◌, ◌∙◌, ◌≤◌, ◌<◌, ◌+◌, ◌++◌, ◌∷◌, [], ℕ, zero, suc, List, Bool, true, false, Option, Some, None, ap, sym, subst, length, arith, get_or, map, take, inl, inr}
+use Rattle.std.proofs.Common.{refl, ◌≡◌, ◌≢◌, ◌∙◌, ◌≤◌, ◌<◌, ◌+◌, ◌++◌, ◌∷◌, [], ℕ, zero, suc, List, false, Some, None, ap, sym, subst, length, arith, get_or, map, take, inl, inr}
 use Rattle.std.proofs.lemmas.Bool.{eqb-false, ltb-false, or_parts}
 use Rattle.std.proofs.lemmas.List.{length-map}
-use Rattle.std.proofs.lemmas.Option.{none-some}
 use Rattle.std.specs.List.{AllByRecursion}
-use Rattle.std.specs.Option.{option_map, option_or}
-use Rattle.std.specs.Prelude.{◌==◌, ◌||◌, if◌then◌else◌, nat_lt}
+use Rattle.std.specs.Option.{option_map}
+use Rattle.std.specs.Prelude.{◌==◌, nat_lt}
 use Rattle.link_world.specs.Configured.{IsCause, HasRequesterFault, HasResponderFault, HaveFirstFault, HaveNoFault, configuration_in, requester_in, responder_in}
 use Rattle.link_world.specs.Making.{AreAskersFault, IsAskerFault, of_requester, of_responder}
-use Rattle.link_world.specs.Standing.{AreApart, AreAskers, IsAsker}
+use Rattle.link_world.specs.Standing.{AreApart, AreAskers, IsAsker, counted, eids_of, peers_of, taken_in}
 use Rattle.link_world.specs.declared.ends.Asker.{Asker}
 use Rattle.link_world.specs.declared.fault.WorldFault.{WorldFault}
 use Rattle.link_world.specs.declared.fault.WorldFault.TheVariants as world
@@ -27,11 +26,16 @@ use Rattle.responder.specs.declared.config.Known.{Known}
 use Rattle.responder.specs.declared.config.RspConfig.{RspConfig}
 use Rattle.responder.specs.declared.fault.RspConfigFault.{RspConfigFault}
 use Rattle.responder.specs.declared.fault.RspConfigFault.TheVariants as rspfault
+use Rattle.requester_machine.specs.Shown as asked
+use Rattle.responder_machine.specs.History as served
+use Rattle.responder_machine.specs.Responding.{new_connection}
 use Rattle.responder_machine.specs.Setup as machine
+use Rattle.responder_machine.specs.Setup.{RspPart}
 use Rattle.script_text.specs.declared.config.ReqPart.{ReqPart}
 use Rattle.script_text.specs.declared.config.ScriptConfig.{ScriptConfig}
 use Rattle.spdm_basis.proofs.Options.{both}
 use Rattle.world_machine.specs.Setup.{ends_from, first_draw, known_of, requester_seed}
+use Rattle.world_machine.specs.Totals.{over_connections, over_requesters}
 
 -- ---- The end points of the requesters differ.
 
@@ -70,6 +74,26 @@ module _ (responder : ℕ) (seed : List ℕ) (boot : ℕ) where
   pub made_count : (n : ℕ) (qs : List ReqPart) → length (made n qs) ≡ length qs
   made_count n [] = refl
   made_count n (q ∷ qs) = (let rest = made_count (n + 1) qs in omega (arith, rest))
+
+  -- The connections are with the requesters, in order.
+  pub made_peers : (part : RspPart) (n : ℕ) (qs : List ReqPart) → peers_of (map (new_connection part) (known_in responder qs)) ≡ eids_of (made n qs)
+  made_peers part n [] = refl
+  made_peers part n (q ∷ qs) = ap (λ (l : List ℕ). q.eid.number ∷ l) (made_peers part (n + 1) qs)
+
+  -- Nothing was taken yet.
+  none_asked : (n : ℕ) (qs : List ReqPart) → over_requesters (λ a. asked.all_taken a.history) (made n qs) ≡ 0
+  none_asked n [] = refl
+  none_asked n (q ∷ qs) = (let rest = none_asked (n + 1) qs in omega (arith, rest))
+
+  none_served : (part : RspPart) (ks : List machine.Known) → over_connections (λ c. served.all_taken c.history) (map (new_connection part) ks) ≡ 0
+  none_served part [] = refl
+  none_served part (k ∷ ks) = (let rest = none_served part ks in omega (arith, rest))
+
+  pub none_taken : (part : RspPart) (n : ℕ) (qs : List ReqPart) → 0 ≡ counted (taken_in (made n qs) (map (new_connection part) (known_in responder qs)))
+  none_taken part n qs =
+      let none = none_asked n qs in
+      let others = none_served part (known_in responder qs) in
+      omega (arith, none, others)
 
 -- ---- What a sound configuration tells.
 

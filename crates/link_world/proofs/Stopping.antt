@@ -36,7 +36,7 @@ same_length (suc k) sent = at_length k sent
 
 -- The ends do not speak of the packets.
 pub other_sent : (w : World) (sent : List SentPacket) (ends : Ends) → AreEnds ends w → AreEnds ends (record w { sent = sent })
-other_sent w sent ends e = record { requesters = e.requesters; apart = e.apart; few = e.few; eid = e.eid; responder = e.responder }
+other_sent w sent ends e = record { requesters = e.requesters; apart = e.apart; few = e.few; eid = e.eid; responder = e.responder; peers = e.peers; taken = e.taken }
 
 -- The link of the world in which it waits no longer.
 pub stopped_link : (w : World) (number : ℕ) (old new : Link) → IsLink old w → new.ends ≡ old.ends → new.sent ≡ stopped_of number old.sent → IsLink new (without_waiting number w)

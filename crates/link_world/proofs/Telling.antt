@@ -1,11 +1,11 @@
 -- The lines of a packet that was given to an end, by what is told and the data that came last.
-use Rattle.std.proofs.Common.{refl, ◌≡◌, ◌∷◌, ◌++◌, ℕ, List, [], Bool, true, false, Option, Some, None, ap, sym}
+use Rattle.std.proofs.Common.{refl, ◌≡◌, ◌∙◌, ◌∷◌, ◌++◌, ℕ, List, [], Bool, true, false, Option, Some, None, ap, sym}
 use Rattle.std.proofs.lemmas.Bool.{false≢true}
 use Rattle.std.specs.Prelude.{◌==◌, if◌then◌else◌, is_some, not, unwrap_or, Result, Ok, Err}
 use Rattle.std.specs.Option.{option_or}
-use Rattle.link_world.proofs.Brings.{Agrees, EntryAgrees, entry_agrees, is_answered, is_measured}
+use Rattle.link_world.proofs.Brings.{Agrees, EntryAgrees, entry_agrees, is_measured}
 use Rattle.link_world.proofs.Changing.{whole_either}
-use Rattle.link_world.specs.Told.{event_lines, heard_data, heard_lines}
+use Rattle.link_world.specs.Told.{event_lines, heard_data, heard_lines, is_answered, is_taken}
 use Rattle.mctp_framing.specs.Cutting.{RouteFields}
 use Rattle.mctp_framing.specs.Gathering.{Gathered}
 use Rattle.mctp_framing.specs.Gathering.Gathered.{Dropped, More, Whole}
@@ -122,6 +122,30 @@ packet_tells n r d packet (Ok fields) = either_step n (not (fields.to == r.part.
 pub responder_tells : (n : ℕ) (r : Responding) (packet : List ℕ) → StepTells n (responder_hears r packet)
 unfolding responder_hears
 responder_tells n r packet = either_step n (responding.is_worn r) _ _ refl (packet_tells n r (responding.next_draw r) packet (parsed packet))
+
+-- Data were taken where that is told, and nowhere else.
+abbrev has_second : List Line → Bool
+has_second [] = false
+has_second (first ∷ []) = false
+has_second (first ∷ (second ∷ others)) = true
+
+taken_second : (n : ℕ) (told : Heard) (taken : Option (SessionId × List ℕ)) → has_second (ToResponder told ∷ taken_lines n taken) ≡ is_some taken
+taken_second n told None = refl
+taken_second n told (Some taken) = refl
+
+heard_second : (n : ℕ) (told : Heard) (last : List ℕ) → has_second (heard_lines n told last) ≡ is_taken told
+heard_second n (heard.Taken id) last = refl
+heard_second n (heard.Answered code) last = refl
+heard_second n (heard.Refused code) last = refl
+heard_second n heard.Unopened last = refl
+heard_second n heard.Same last = refl
+heard_second n heard.More last = refl
+heard_second n (heard.Ignored cause) last = refl
+
+pub tells_taken : (r : Responding) (packet : List ℕ) → is_some (responder_hears r packet).taken ≡ is_taken (responder_hears r packet).heard
+tells_taken r packet =
+    let step = responder_hears r packet in
+    sym (taken_second 0 step.heard step.taken) ∙ sym (ap has_second (responder_tells 0 r packet)) ∙ heard_second 0 step.heard (last_data step.after)
 
 -- ---- A requester.
 

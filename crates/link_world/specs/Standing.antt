@@ -1,5 +1,5 @@
 -- The whole world, as the program keeps it.
-use Rattle.std.specs.Prelude.{◌≡◌, ◌≢◌, ◌≤◌, ◌==◌, ◌++◌, ℕ, List, [], ◌∷◌, length, Bool, true, false, Option, Some, None, Result, Ok, Err}
+use Rattle.std.specs.Prelude.{◌≡◌, ◌≢◌, ◌≤◌, ◌+◌, ◌-◌, ◌^◌, ◌==◌, ◌++◌, min, ℕ, List, [], ◌∷◌, length, map, Bool, true, false, Option, Some, None, Result, Ok, Err}
 use Rattle.std.specs.List.{AllByRecursion}
 use Rattle.link_world.specs.Written.{before_full, has_full, text_of}
 use Rattle.link_world.specs.declared.ends.Asker.{Asker}
@@ -11,7 +11,11 @@ use Rattle.requester.specs.Standing as asking
 use Rattle.requester.specs.declared.whole.Requester.{Requester}
 use Rattle.requester_machine.specs.Requesting.{Requesting}
 use Rattle.responder.specs.Standing as answering
+use Rattle.requester_machine.specs.Shown as asked
+use Rattle.responder_machine.specs.History.{all_taken}
+use Rattle.responder_machine.specs.Responding.{Connection}
 use Rattle.spdm_grammar.specs.Lines.{Line}
+use Rattle.world_machine.specs.Totals.{over_connections, over_requesters}
 use Rattle.world_machine.specs.Trace.{packets_max}
 use Rattle.world_machine.specs.World.{World, WorldStep, packet_lines, with_sent}
 
@@ -36,13 +40,32 @@ abbrev pub AreApart : List Requesting → Type 0
 AreApart [] = Unit {0}
 AreApart (a ∷ others) = AllByRecursion (λ (b : Requesting). b.setup.eid ≢ a.setup.eid) others × AreApart others
 
--- They are the ends of this world.
+-- The end points of the requesters, and of those that the responder has connections with, in order.
+abbrev pub eids_of : List Requesting → List ℕ
+eids_of requesters = map (λ (a : Requesting). a.setup.eid) requesters
+
+abbrev pub peers_of : List Connection → List ℕ
+peers_of connections = map (λ (c : Connection). c.setup.peer) connections
+
+-- How many application messages these requesters and connections ever took.
+abbrev pub taken_in : List Requesting → List Connection → ℕ
+taken_in requesters connections =
+    over_requesters (λ a. asked.all_taken a.history) requesters + over_connections (λ c. all_taken c.history) connections
+
+-- A count as the program keeps it: it stands still at 2^64 - 1.
+abbrev pub counted : ℕ → ℕ
+counted n = min n (2 ^ 64 - 1)
+
+-- They are the ends of this world. The responder's connections are with the requesters, in order, and what all of them
+-- took is counted.
 pub record AreEnds (seen : Ends) (w : World) : Type 0 where
   pub requesters : AreAskers seen.requesters.items w.requesters
   pub apart : AreApart w.requesters
   pub few : length w.requesters ≤ 8
   pub eid : w.responder.part.eid ≡ seen.eid.number
   pub responder : answering.StandsFor seen.responder w.responder
+  pub peers : peers_of w.responder.connections ≡ eids_of w.requesters
+  pub taken : seen.taken ≡ counted (taken_in w.requesters w.responder.connections)
 
 -- They are the ends of this world, and these packets were sent between them.
 pub record IsLink (seen : Link) (w : World) : Type 0 where

@@ -1,5 +1,6 @@
--- The lines of a packet that is given to an end, but for those of the packets that are sent upon it. This project's own.
-use Rattle.std.specs.Prelude.{ℕ, List, [], ◌∷◌}
+-- What is told of a packet that is given to an end: whether it brought application data, and its lines, but for those of
+-- the packets that are sent upon it. This project's own.
+use Rattle.std.specs.Prelude.{ℕ, List, [], ◌∷◌, Bool, true, false}
 use Rattle.spdm_grammar.specs.Lines.{Line, Whose}
 use Rattle.spdm_grammar.specs.Lines.Line.{Data, Record, ToRequester, ToResponder}
 use Rattle.spdm_grammar.specs.declared.event.Event.{Event}
@@ -7,6 +8,16 @@ use Rattle.spdm_grammar.specs.declared.event.Event.TheVariants as event
 use Rattle.spdm_grammar.specs.declared.event.Finished.TheVariants as finished
 use Rattle.spdm_grammar.specs.declared.heard.Heard.{Heard}
 use Rattle.spdm_grammar.specs.declared.heard.Heard.TheVariants as heard
+
+-- The responder took application data.
+abbrev pub is_taken : Heard → Bool
+is_taken (heard.Taken id) = true
+is_taken _ = false
+
+-- Application data of a requester were answered.
+abbrev pub is_answered : Event → Bool
+is_answered (event.Done (finished.Answered id)) = true
+is_answered _ = false
 
 -- The line of the data that the responder took from requester q, where it took any; these are the last that it took.
 abbrev pub heard_data : (q : ℕ) → Heard → (last : List ℕ) → List Line

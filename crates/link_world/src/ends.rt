@@ -18,6 +18,8 @@ pub struct Ends {
     /// The end point of the responder.
     pub(crate) eid: Eid,
     pub(crate) responder: Responder,
+    /// How many application messages were taken at all of them. It stands still at 2^64 - 1.
+    pub(crate) taken: u64,
 }
 
 // The number of the requester at a place. A world has fewer than 255 of them.

@@ -2,6 +2,7 @@ ghost use Rattle.std.specs.Prelude.{◌≡◌, slice_index};
 
 use crate::ends::{Ends, number_of_place};
 use crate::lines::{push_command, push_event, push_heard, push_nobody, push_reply};
+use crate::totals::{is_answered, is_taken, with_one};
 use mctp_framing::PacketList;
 use requester::Command;
 use spdm_basis::{Bytes, OutOfMemory};
@@ -82,8 +83,9 @@ impl Ends {
             (given_to_responder w packet.now (responder_hears w.responder packet.now)) text.old
             text.new out.new self.new) }
     {
-        let heard = self.responder.on_packet(packet, out);
         let q = self.number_of(source(packet));
+        let heard = self.responder.on_packet(packet, out);
+        self.taken = with_one(self.taken, is_taken(&heard));
         push_heard(q, heard, self.responder.last_data(), text)
     }
 
@@ -105,6 +107,7 @@ impl Ends {
             unreachable!()
         };
         let event = asker.requester.on_packet(packet, out);
+        self.taken = with_one(self.taken, is_answered(&event));
         push_event(
             number_of_place(place),
             event,

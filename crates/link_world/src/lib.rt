@@ -12,10 +12,12 @@ mod making;
 mod sending;
 mod sent;
 mod showing;
+mod totals;
 mod world;
 
 pub use fault::{StepFault, WorldFault};
 pub use sent::{SendFault, SentPackets};
+pub use totals::Totals;
 pub use world::World;
 
 #[cfg(test)]

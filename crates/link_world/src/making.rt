@@ -221,6 +221,7 @@ pub(crate) fn link_of(alloc: Global, config: &ScriptConfig, boot: u32) -> Result
         requesters,
         eid,
         responder,
+        taken: 0,
     };
     Ok(Link {
         ends,

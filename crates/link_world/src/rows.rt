@@ -1,4 +1,4 @@
-use crate::World;
+use crate::{Totals, World};
 use script_text::{TEXT_LIMIT, parse_script};
 use spdm_basis::{Bytes, MemSink};
 use std::process::Abort;
@@ -129,10 +129,45 @@ const DATA_GO_BOTH_WAYS: (&str, &str) = (
      nobody\n",
 );
 
-// That the world of these events writes these lines.
-fn writes(rt: &(impl AllocGlobal + Abort), row: (&str, &str)) -> Result<(), Fail> {
+// Application data are answered, a message is sent again, and the session is ended.
+const SESSION_ENDS: &str = "q1 connect\n\
+     pump 6\n\
+     q1 open 0\n\
+     pump 200\n\
+     q1 send 1 61\n\
+     pump 200\n\
+     q1 send 1 62\n\
+     pump 1\n\
+     lose 15\n\
+     q1 retry\n\
+     pump 200\n\
+     q1 end 1\n\
+     pump 200\n";
+
+// The answer to PSK_FINISH waits, so that the responder alone holds the session open.
+const ONE_END_IS_OPEN: &str = "q1 connect\n\
+     pump 6\n\
+     q1 open 0\n\
+     pump 4\n";
+
+// Two sessions are open, and data of the second are not answered yet.
+const TWO_SESSIONS: &str = "q1 connect\n\
+     pump 6\n\
+     q1 open 0\n\
+     pump 200\n\
+     q1 open 0\n\
+     pump 200\n\
+     q1 send 2 61\n\
+     pump 1\n";
+
+// The world after these events, whose lines are written.
+fn world_after(
+    rt: &(impl AllocGlobal + Abort),
+    events: &str,
+    sink: &mut MemSink,
+) -> Result<World, Fail> {
     let mut text = Bytes::copy(rt.alloc(), SETTING.as_bytes())?;
-    text.extend(row.0.as_bytes())?;
+    text.extend(events.as_bytes())?;
     if text.as_slice().len() > TEXT_LIMIT {
         return Err(Fail::from("a long script"));
     }
@@ -141,12 +176,38 @@ fn writes(rt: &(impl AllocGlobal + Abort), row: (&str, &str)) -> Result<(), Fail
         return Err(Fail::from("no seed"));
     }
     let mut world = World::new(rt.alloc(), &script.config)?;
-    let mut sink = MemSink::new(rt.alloc(), 10_000, &[])?;
-    world.start(&mut sink)?;
+    world.start(sink)?;
     for entry in script.events.as_slice() {
-        world.step(entry.line, &entry.event, &mut sink)?;
+        world.step(entry.line, &entry.event, sink)?;
     }
+    Ok(world)
+}
+
+// That the world of these events writes these lines.
+fn writes(rt: &(impl AllocGlobal + Abort), row: (&str, &str)) -> Result<(), Fail> {
+    let mut sink = MemSink::new(rt.alloc(), 10_000, &[])?;
+    world_after(rt, row.0, &mut sink)?;
     assert_eq!(rt; sink.as_slice(), row.1.as_bytes());
+    Ok(())
+}
+
+// That so many packets were sent by these events, so many application messages taken, and so many
+// sessions held open at last.
+fn counts(
+    rt: &(impl AllocGlobal + Abort),
+    events: &str,
+    packets: u32,
+    taken: u64,
+    live: u32,
+) -> Result<(), Fail> {
+    let mut sink = MemSink::new(rt.alloc(), 10_000, &[])?;
+    let world = world_after(rt, events, &mut sink)?;
+    let totals = Totals {
+        packets,
+        taken,
+        live,
+    };
+    assert_eq!(rt; world.totals(), totals);
     Ok(())
 }
 
@@ -168,4 +229,23 @@ fn negotiation_completes(rt: HostRuntime) -> Result<(), Fail> {
 #[test]
 fn data_go_both_ways(rt: HostRuntime) -> Result<(), Fail> {
     writes(&rt, DATA_GO_BOTH_WAYS)
+}
+
+#[test]
+fn negotiation_is_counted(rt: HostRuntime) -> Result<(), Fail> {
+    counts(&rt, DELIVER_ABSENT_PACKET.0, 0, 0, 0)?;
+    counts(&rt, VERSION_THEN_CAPABILITIES.0, 4, 0, 0)?;
+    counts(&rt, NEGOTIATION_COMPLETES.0, 6, 0, 0)
+}
+
+#[test]
+fn open_sessions_are_counted(rt: HostRuntime) -> Result<(), Fail> {
+    counts(&rt, DATA_GO_BOTH_WAYS.0, 13, 2, 2)?;
+    counts(&rt, ONE_END_IS_OPEN, 11, 0, 1)?;
+    counts(&rt, TWO_SESSIONS, 18, 1, 4)
+}
+
+#[test]
+fn ended_session_is_counted(rt: HostRuntime) -> Result<(), Fail> {
+    counts(&rt, SESSION_ENDS, 19, 4, 0)
 }

@@ -4,7 +4,7 @@ ghost use Rattle.link_world.specs.Events.{is_show};
 use crate::lines::push_at;
 use crate::link::Link;
 use crate::making::link_of;
-use crate::{SendFault, StepFault, WorldFault};
+use crate::{SendFault, StepFault, Totals, WorldFault};
 use requester::Requester;
 use responder::Responder;
 use script_text::{LinkEvent, ScriptConfig};
@@ -38,6 +38,8 @@ impl World {
     ghost use Rattle.responder.specs.Standing as answering;
     ghost use Rattle.spdm_basis.specs.Stream.{HasFault, Takes, TakesPrefix};
     ghost use Rattle.world_machine.specs.Setup.{script_world};
+    ghost use Rattle.world_machine.specs.Totals.{totals_of};
+    ghost use Rattle.world_machine.specs.Trace.{is_full, packets_max};
     ghost use Rattle.world_machine.specs.World as machine;
 
     /// The world of a configuration, in which nothing has happened yet. Its one seed gives those of
@@ -108,9 +110,13 @@ impl World {
         ensures fits { (w : machine.World) → StandsFor self.old w
             → OnOk result (has_full (machine.entry_step w (entry_of line event.now)).lines
             ≡ false) }
+        ensures has_room { (w : machine.World) → StandsFor self.old w
+            → OnOk result (is_full w (entry_of line event.now) ≡ false) }
         ensures link_full { (w : machine.World) → StandsFor self.old w
             → IsErrOf result StepFault.LinkFull
             → has_full (machine.entry_step w (entry_of line event.now)).lines ≡ true }
+        ensures is_full { (w : machine.World) → StandsFor self.old w
+            → IsErrOf result StepFault.LinkFull → is_full w (entry_of line event.now) ≡ true }
         ensures before_full { (w : machine.World) → StandsFor self.old w
             → IsErrOf result StepFault.LinkFull
             → Takes (K.contents sink.old)
@@ -173,5 +179,23 @@ impl World {
             → answering.StandsFor result.now w.responder }
     {
         &self.link.ends.responder
+    }
+
+    /// What is counted of the world. It takes no memory.
+    pub fn totals(&self) -> Totals
+        ensures packets { (w : machine.World) → StandsFor self.now w
+            → result.packets ≡ (totals_of w).packets }
+        ensures most { (w : machine.World) → StandsFor self.now w
+            → result.packets ≤ packets_max }
+        ensures taken { (w : machine.World) → StandsFor self.now w
+            → result.taken ≡ (totals_of w).taken }
+        ensures live { (w : machine.World) → StandsFor self.now w
+            → result.live ≡ (totals_of w).live }
+    {
+        Totals {
+            packets: self.link.sent.count(),
+            taken: self.link.ends.taken,
+            live: self.link.ends.live(),
+        }
     }
 }

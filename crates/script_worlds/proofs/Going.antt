@@ -1,5 +1,5 @@
 -- A run of a script goes on event by event: what was written and what comes next, after some of its first events.
-use Rattle.std.proofs.Common.{◌≡◌, ◌∙◌, ◌+◌, ◌<◌, ◌++◌, ◌∷◌, [], ℕ, zero, suc, List, length, take, get_or, refl, sym, ap, subst, arith, append_assoc, Bool, true, false, Option, Some, None}
+use Rattle.std.proofs.Common.{◌≡◌, ◌∙◌, ◌+◌, ◌<◌, ◌++◌, ◌∷◌, [], ℕ, zero, suc, List, length, take, get_or, refl, sym, ap, arith, append_assoc, Bool, true, false, Some, None}
 use Rattle.std.proofs.lemmas.Bool.{or_parts}
 use Rattle.std.proofs.lemmas.List.{append-nil}
 use Rattle.script_text.specs.declared.event.Entry.{Entry}

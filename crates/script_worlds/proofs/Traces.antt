@@ -1,22 +1,14 @@
 -- A trace grows event by event, up to a full link.
-use Rattle.std.proofs.Common.{◌≡◌, ◌∙◌, ◌+◌, ◌++◌, ◌||◌, ℕ, List, [], ◌∷◌, refl, sym, ap, Bool, true, false, append_assoc, cond, Option, Some, None}
-use Rattle.std.proofs.lemmas.Bool.{or_parts}
-use Rattle.requester_machine.specs.Requesting.{Requesting}
-use Rattle.requester_machine.specs.Shown as requester_shown
-use Rattle.responder_machine.specs.Heard.{views_of}
-use Rattle.responder_machine.specs.Responding.{Connection, Responding, connection_of}
-use Rattle.script_text.specs.TraceLines.{line_text}
+use Rattle.std.proofs.Common.{◌≡◌, ◌∙◌, ◌++◌, List, [], ◌∷◌, refl, ap, true, false, Some, None}
 use Rattle.script_text.specs.declared.script.Script.{Script}
 use Rattle.spdm_basis.proofs.Options.{both}
 use Rattle.script_worlds.specs.Scripts.{entries_in, full_from, full_line, set_up, trace_in, written_in}
 use Rattle.link_world.proofs.Shown.{shown_plain}
 use Rattle.link_world.proofs.Texts.{before_behind, before_still, text_append}
-use Rattle.link_world.specs.Written.{before_full, has_full, is_beyond, text_of}
-use Rattle.spdm_grammar.specs.Lines.{Line, Whose}
-use Rattle.spdm_grammar.specs.declared.session_view.SessionView.{SessionView}
+use Rattle.link_world.specs.Written.{before_full, has_full, text_of}
 use Rattle.world_machine.specs.Happenings.{Entry}
 use Rattle.world_machine.specs.Trace.{lines_from}
-use Rattle.world_machine.specs.World.{World, all_end_lines, connection_lines, end_lines, entry_step, new_world, session_lines, shown_lines}
+use Rattle.world_machine.specs.World.{World, entry_step, new_world, shown_lines}
 
 -- ---- One event.
 

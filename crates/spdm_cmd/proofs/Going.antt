@@ -1,11 +1,11 @@
 -- What stands after some of the events of a run.
-use Rattle.std.proofs.Common.{◌≡◌, ◌∙◌, ◌+◌, ◌<◌, ◌++◌, ◌∷◌, [], ℕ, List, length, take, get_or, refl, sym, ap, subst, Bool, true, false, Option, Some, None}
-use Rattle.link_world.proofs.Writing.{both_lines, prefix_lines, both_prefix, whole_prefix}
+use Rattle.std.proofs.Common.{◌≡◌, ◌∙◌, ◌+◌, ◌<◌, ◌++◌, ℕ, List, length, take, get_or, refl, sym, ap, subst, true, false, Option, None}
+use Rattle.link_world.proofs.Writing.{both_lines, prefix_lines, both_prefix}
 use Rattle.link_world.specs.Worlds.{StandsFor}
 use Rattle.link_world.specs.Written.{before_full, has_full, text_of}
 use Rattle.link_world.specs.declared.world.World as program
 use Rattle.script_text.specs.declared.event.Entry.{Entry}
-use Rattle.script_worlds.proofs.Going.{StopsAt, goes_on, lines_more, lines_to, room_more, step_at, stops_at, world_more, world_to, writes_all}
+use Rattle.script_worlds.proofs.Going.{goes_on, lines_more, lines_to, room_more, step_at, stops_at, world_more, world_to, writes_all}
 use Rattle.script_worlds.specs.Scripts.{entries_in, entry_in, full_from}
 use Rattle.spdm_basis.specs.Stream.{Takes, TakesPrefix}
 use Rattle.spdm_cmd.specs.Going.{IsFullAt, text_from}

@@ -1,5 +1,5 @@
 -- The ends of a configuration in range are never refused, and what is written of a script begins with them.
-use Rattle.std.proofs.Common.{◌≡◌, ◌∙◌, ◌∷◌, ◌+◌, ◌<◌, ◌++◌, [], ℕ, zero, suc, List, length, refl, sym, ap, subst, arith, Option, Some, None, Result, Ok, inl, inr, Contains}
+use Rattle.std.proofs.Common.{◌≡◌, ◌∙◌, ◌∷◌, ◌++◌, [], ℕ, zero, suc, List, refl, sym, ap, subst, arith, Option, Some, None, inl, inr, Contains}
 use Rattle.std.proofs.lemmas.Option.{none-some}
 use Rattle.std.specs.Option.{unwrap_or}
 use Rattle.std.specs.Prelude.{IsSome}
@@ -15,7 +15,7 @@ use Rattle.spdm_cmd.specs.Going.{IsFullAt, text_from}
 use Rattle.world_machine.specs.Setup.{script_world}
 use Rattle.world_machine.specs.Trace.{world_from}
 use Rattle.world_machine.specs.World.{new_world, shown_lines}
-use Rattle.link_world.specs.Configured.{configuration_in, HasRequesterFault, HasResponderFault, HaveFirstFault, IsCause}
+use Rattle.link_world.specs.Configured.{configuration_in, HaveFirstFault, IsCause}
 use Rattle.link_world.specs.declared.fault.WorldFault.TheVariants.{Requester, Responder}
 use Rattle.requester.specs.declared.fault.ReqConfigFault.{ReqConfigFault}
 use Rattle.responder.specs.declared.fault.RspConfigFault.{RspConfigFault}
@@ -24,7 +24,6 @@ use Rattle.script_text.specs.declared.config.ScriptConfig.{ScriptConfig}
 use Rattle.script_text.specs.declared.config.ReqPart.{ReqPart}
 use Rattle.script_text.specs.declared.script.Script.{Script}
 use Rattle.script_worlds.proofs.EndsRight.{sound_has_no_fault}
-use Rattle.script_worlds.specs.Ends.{HasNoFault}
 
 pub no_responder_fault : (c : ScriptConfig) → IsSoundConfig c → (fault : RspConfigFault) → IsCause c (Responder fault) → ⊥
 no_responder_fault c sound fault cause =

@@ -19,7 +19,7 @@ use std::alloc::Global;
 /// messages, one a line, and writes their names and lengths. The words `gen SEED COUNT` run the generated
 /// script of a seed below 2^64 and a count of 1 to 20,000 events without its trace, write one line that tells
 /// what it came to, and leave its world. None of them takes a seed of `seeds`.
-#[tactic(auto, using(crate::proofs::TopCall::read_is, script_worlds::proofs::WorldsRight::agrees, script_worlds::proofs::WorldsRight::shows_alike, script_worlds::proofs::WorldsRight::delivers, script_worlds::proofs::WorldsRight::matches, script_worlds::proofs::WorldsRight::seals_once, script_worlds::proofs::RefusedRight::refuses))]
+#[tactic(auto, using(crate::proofs::TopCall::read_is, script_worlds::proofs::RefusedRight::refuses))]
 pub fn spdm<S: Source, K: Sink, E: Seeds>(
     alloc: Global,
     words: &[String],

@@ -1,7 +1,7 @@
 use Rattle.std.proofs.Common.{◌∙◌, refl, sym, subst, arith, map, List}
 use Rattle.std.proofs.lemmas.Option.{same_Some}
-use Rattle.link_world.proofs.Made.{sound_few}
-use Rattle.link_world.specs.Configured.{requester_in}
+use Rattle.link_world.proofs.Made.{made_peers, none_taken, sound_few}
+use Rattle.link_world.specs.Configured.{requester_in, responder_in}
 use Rattle.link_world.specs.Standing.{AreAskers}
 use Rattle.requester_machine.specs.Requesting.{new_requesting}
 use Rattle.script_text.specs.declared.config.ReqPart.{ReqPart}
@@ -20,6 +20,8 @@ returns-clause-stands c = λ seed is.
         few = few.made_few own c.args.boot;
         eid = refl;
         responder = c.in_ok-responder.ensures.stands;
+        peers = made_peers eid own c.args.boot (responder_in c.args.config.now) 1 c.args.config.now.requesters;
+        taken = none_taken eid own c.args.boot (responder_in c.args.config.now) 1 c.args.config.now.requesters;
       };
       sent = c.new-2.ensures;
       within = omega arith;

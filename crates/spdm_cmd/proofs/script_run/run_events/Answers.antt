@@ -1,6 +1,5 @@
 use Rattle.std.proofs.Common.{◌≡◌, ap, arith, take, Err}
 use Rattle.std.proofs.lemmas.Grind.{common_steps}
-use Rattle.script_text.specs.declared.event.Entry.{Entry}
 use Rattle.link_world.proofs.Writing.{whole_prefix}
 use Rattle.spdm_cmd.proofs.Going.{fills, goes, stops, went_all}
 use Rattle.spdm_cmd.specs.Going.{text_from}

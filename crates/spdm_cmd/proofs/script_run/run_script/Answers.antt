@@ -1,4 +1,4 @@
-use Rattle.std.proofs.Common.{◌≡◌, refl, ap, Err}
+use Rattle.std.proofs.Common.{refl, ap, Err}
 use Rattle.script_worlds.specs.Scripts.{set_up}
 use Rattle.spdm_cmd.proofs.NoFault.{all_happened, all_written, begun, gone_on, is_full_line, never_full}
 use Rattle.world_machine.specs.World.{new_world}

@@ -25,6 +25,6 @@ returns c = λ w e.
     let own : c.in-Some-get.asker.now.eid.number ≡ eid_of h.a = ap (λ (x : Asker). x.eid.number) seen ∙ sym h.stands.eid in
     let fault = c.queue-answer.ensures.fault w.responder e.responder in
     on_ok_weaker c.push_reply.result (asker_replied w k ends _ c.in-Some-get.asker.now.eid.number c.args.bytes.now c.queue-answer.result (requester_of c.args.q w) c.args.text.now c.push_reply.new.text e h
-    (requester_numbered w ends c.args.q k h number) own refl refl (reply_fault_is c.queue-answer.result (reply_fault_of (connection_of c.in-Some-get.asker.now.eid.number w.responder.connections) c.args.bytes.now) fault)
+    (requester_numbered w ends c.args.q k h number) own refl refl refl (reply_fault_is c.queue-answer.result (reply_fault_of (connection_of c.in-Some-get.asker.now.eid.number w.responder.connections) c.args.bytes.now) fault)
     (c.queue-answer.ensures.stands w.responder e.responder))
     c.push_reply.ensures

@@ -26,5 +26,5 @@ returns c = λ w e.
     let told = c.command-answer.ensures h.a (subst (λ (x : Asker). asking.StandsFor x.requester h.a) (sym seen) h.stands.stands) in
     let asker : Asker = record { eid = c.in-Some-get_mut.asker.now.eid; requester = c.command-answer.new.self } in
     on_ok_weaker c.push_command.result (asker_told w k ends _ asker e h (record { items = refl; eid = refl; responder = refl }) (ap (λ (x : Asker). x.eid) seen) c.args.q (command_of c.args.command) c.command-answer.result c.command-answer.new.out
-    (requester_of c.args.q w) c.args.text.now c.push_command.new.text (requester_numbered w ends c.args.q k h number) told)
+    (requester_of c.args.q w) c.args.text.now c.push_command.new.text (requester_numbered w ends c.args.q k h number) told refl)
     c.push_command.ensures

@@ -1,9 +1,10 @@
 use Rattle.std.proofs.Common.{refl, ◌≡◌, ◌∙◌, ◌++◌, ◌∷◌, ℕ, List, false, ap, sym, subst}
 use Rattle.std.specs.Prelude.{Err}
 use Rattle.link_world.proofs.Entered.{cut_written, line_failed, ok_through, on_err_through, on_ok, on_ok_through, show_happens, shown_failed, shown_written, whole_failed}
+use Rattle.link_world.proofs.Full.{full_is}
 use Rattle.link_world.proofs.Shown.{shown_plain}
 use Rattle.link_world.proofs.Writing.{on_err, whole_prefix}
-use Rattle.link_world.specs.Events.{happening_of}
+use Rattle.link_world.specs.Events.{entry_of, happening_of}
 use Rattle.link_world.specs.Standing.{IsCutOff, IsLink, IsStepped, IsWhole}
 use Rattle.link_world.specs.Written.{before_full, has_full, text_of}
 use Rattle.link_world.specs.declared.sent.SendFault.{SendFault}
@@ -47,6 +48,12 @@ returns-then-is_show-clause-fits g c = λ w s.
     let shown = show_happens w c.args.event.now (sym c.is_show.ensures ∙ c.if-is_show.true) in
     on_ok c.map_err-then-is_show.result _ (subst (λ (t : WorldStep). has_full t.lines ≡ false) (sym shown) (shown_plain w))
 
+pub returns-then-is_show-clause-has_room : goal.returns-then-is_show-clause-has_room
+returns-then-is_show-clause-has_room g c = λ w s.
+    let shown = show_happens w c.args.event.now (sym c.is_show.ensures ∙ c.if-is_show.true) in
+    on_ok c.map_err-then-is_show.result _
+    (sym (full_is w (entry_of c.args.line c.args.event.now) s.within) ∙ subst (λ (t : WorldStep). has_full t.lines ≡ false) (sym shown) (shown_plain w))
+
 pub returns-then-is_show-clause-prefix : goal.returns-then-is_show-clause-prefix
 returns-then-is_show-clause-prefix g c = λ w s.
     let n = c.args.line in
@@ -85,3 +92,11 @@ returns-in_ok-write-in-Err-LinkFull-clause-prefix g c = λ w s.
     let stepped = subst (λ (fault : SendFault). IsStepped step (Err fault) c.push_at.new.text now c.happen.new.self) c.in-Err-LinkFull.field-0-is (c.in-Err-LinkFull.ensures w s) in
     let cut = subst (λ (t : List ℕ). IsCutOff step t now) text stepped in
     whole_prefix old new (text_of (before_full (At n ∷ step.lines))) (cut_written n step now c.happen.new.self old new cut c.in_ok-write-in-Err-LinkFull.ensures.whole)
+
+pub returns-in_ok-write-in-Err-LinkFull-clause-is_full :
+    goal.returns-in_ok-write-in-Err-LinkFull-clause-is_full
+returns-in_ok-write-in-Err-LinkFull-clause-is_full g c = λ w s told.
+    let now = c.happen.new.text in
+    let step = happens w (happening_of c.args.event.now) in
+    let stepped = subst (λ (fault : SendFault). IsStepped step (Err fault) c.push_at.new.text now c.happen.new.self) c.in-Err-LinkFull.field-0-is (c.in-Err-LinkFull.ensures w s) in
+    sym (full_is w (entry_of c.args.line c.args.event.now) s.within) ∙ stepped.full
