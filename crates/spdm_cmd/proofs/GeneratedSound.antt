@@ -1,8 +1,6 @@
 -- The configuration of every generated script is in range.
-use Rattle.std.proofs.Common.{◌≡◌, ◌++◌, ◌&&◌, ◌<◌, ◌%◌, ◌/◌, ℕ, List, [], ◌∷◌, length, refl, ap, arith, Bool, true, nat_lt, Some}
+use Rattle.std.proofs.Common.{◌≡◌, ◌++◌, ◌%◌, ◌/◌, ℕ, List, [], ◌∷◌, refl, arith, true, nat_lt}
 use Rattle.std.proofs.lemmas.Bool.{lt-ltb}
-use Rattle.std.specs.List.{list_all}
-use Rattle.std.specs.Int.{to_le_bytes, w64}
 use Rattle.spdm_basis.proofs.Bools.{and_first, and_second}
 use Rattle.script_text.specs.EndPoints.{eid_of}
 use Rattle.script_text.specs.Generator.{eight_bytes, four_times, generated_block, generated_config, generated_requester, generated_responder}

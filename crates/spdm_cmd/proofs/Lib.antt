@@ -4,3 +4,4 @@ pub mod ToldFaults
 pub mod NoFault
 pub mod Going
 mod GeneratedSound
+mod Generating

@@ -1,4 +1,4 @@
-ghost use Rattle.std.specs.Prelude.{◌≡◌, ◌≤◌, ◌<◌, ◌×◌, [], ℕ, List, Some, true, false, length, IfOk, IsErrOf, OnErr, OnOk};
+ghost use Rattle.std.specs.Prelude.{◌≡◌, ◌≤◌, ◌<◌, [], ℕ, List, Some, true, false, length, IfOk, IsErrOf, OnErr, OnOk};
 ghost use Rattle.spdm_basis.specs.Stream.{HasFault};
 ghost use Rattle.spdm_cmd.specs.Answer.{IsReadQuietly, input_of, reads, text_limit};
 

@@ -1,4 +1,4 @@
-ghost use Rattle.std.specs.Prelude.{◌≡◌, ◌≢◌, ◌≤◌, ◌<◌, ◌↔◌, ◌⊎◌, [], ℕ, List, Some, None, IsSome, true, map, length, string_bytes};
+ghost use Rattle.std.specs.Prelude.{◌≡◌, ◌≢◌, ◌≤◌, ◌<◌, ◌↔◌, ◌⊎◌, [], ℕ, List, Some, None, IsSome, true, false, map, length, string_bytes};
 ghost use Rattle.script_text.specs.declared.faults.LineFault.{LineFault};
 ghost use Rattle.script_worlds.specs.Refused.{RefusesIn};
 ghost use Rattle.script_worlds.specs.Worlds.{AgreesIn, DeliversIn, MatchesIn, SealsOnceIn, ShowsAlikeIn};
