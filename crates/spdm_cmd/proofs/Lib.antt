@@ -1,4 +1,3 @@
-pub mod Written
 pub mod TopCall
 pub mod ToldFaults
 pub mod NoFault
