@@ -1,11 +1,12 @@
 ghost use Rattle.std.specs.Prelude.{◌≡◌, slice_index};
 
 use crate::ends::{Ends, number_of_place};
+use crate::event_text::EventText;
 use crate::lines::{push_command, push_event, push_heard, push_nobody, push_reply};
 use crate::totals::{is_answered, is_taken, with_one};
 use mctp_framing::PacketList;
 use requester::Command;
-use spdm_basis::{Bytes, OutOfMemory};
+use spdm_basis::OutOfMemory;
 
 // The source of a packet, and 0 where it is too short to have one.
 fn source(packet: &[u8]) -> u8
@@ -31,7 +32,7 @@ impl Ends {
         q: u8,
         command: Command<'_>,
         out: &mut PacketList,
-        text: &mut Bytes,
+        text: &mut EventText,
     ) -> Result<(), OutOfMemory>
         ensures { (w : World) → AreEnds self.old w → OnOk result (IsGivenTo w
             (told w q (command_of command.entry) (requester_of q w)) text.old text.new out.new
@@ -53,7 +54,7 @@ impl Ends {
         &mut self,
         packet: &[u8],
         out: &mut PacketList,
-        text: &mut Bytes,
+        text: &mut EventText,
     ) -> Result<(), OutOfMemory>
         ensures { (w : World) → AreEnds self.old w → OnOk result
             (IsGivenTo w (given w packet.now) text.old text.new out.new self.new) }
@@ -77,7 +78,7 @@ impl Ends {
         &mut self,
         packet: &[u8],
         out: &mut PacketList,
-        text: &mut Bytes,
+        text: &mut EventText,
     ) -> Result<(), OutOfMemory>
         ensures { (w : World) → AreEnds self.old w → OnOk result (IsGivenTo w
             (given_to_responder w packet.now (responder_hears w.responder packet.now)) text.old
@@ -95,7 +96,7 @@ impl Ends {
         place: usize,
         packet: &[u8],
         out: &mut PacketList,
-        text: &mut Bytes,
+        text: &mut EventText,
     ) -> Result<(), OutOfMemory>
         requires { place < length self.old.requesters.items }
         ensures { (w : World) (a : Requesting) → AreEnds self.old w
@@ -119,7 +120,12 @@ impl Ends {
     /// Application data is queued for a requester at the responder. Nothing happens where there is
     /// none of this
     /// number.
-    pub(crate) fn reply(&mut self, q: u8, bytes: &[u8], text: &mut Bytes) -> Result<(), OutOfMemory>
+    pub(crate) fn reply(
+        &mut self,
+        q: u8,
+        bytes: &[u8],
+        text: &mut EventText,
+    ) -> Result<(), OutOfMemory>
         ensures { (w : World) → AreEnds self.old w → OnOk result
             (IsDone w (replied w bytes.now (requester_of q w)) text.old text.new self.new) }
     {

@@ -1,12 +1,13 @@
 ghost use Rattle.std.specs.Prelude.{◌≡◌, IfErr, is_ok};
 
 use crate::SendFault;
+use crate::event_text::EventText;
 use crate::lines::push_no_packet;
 use crate::link::Link;
 use crate::sending::send_packets;
 use requester::Command;
 use script_text::LinkEvent;
-use spdm_basis::{Bytes, OutOfMemory};
+use spdm_basis::OutOfMemory;
 
 // Want of memory for a line.
 fn no_memory(_: OutOfMemory) -> SendFault
@@ -34,7 +35,7 @@ impl Link {
     ghost use Rattle.world_machine.specs.World.{World, delivers, given, happens, loses, packet_of, pumps, replied, requester_of, told};
 
     // The requester of a number is told a command.
-    fn tell(&mut self, q: u8, command: Command<'_>, text: &mut Bytes) -> Result<(), SendFault>
+    fn tell(&mut self, q: u8, command: Command<'_>, text: &mut EventText) -> Result<(), SendFault>
         ensures { (w : World) → IsLink self.old w → IsStepped
             (told w q (command_of command.entry) (requester_of q w)) result text.old text.new
             self.new }
@@ -46,7 +47,7 @@ impl Link {
     }
 
     // Bytes are given to the end that they name.
-    fn inject(&mut self, bytes: &[u8], text: &mut Bytes) -> Result<(), SendFault>
+    fn inject(&mut self, bytes: &[u8], text: &mut EventText) -> Result<(), SendFault>
         ensures { (w : World) → IsLink self.old w
             → IsStepped (given w bytes.now) result text.old text.new self.new }
     {
@@ -58,7 +59,7 @@ impl Link {
 
     // The packet of a number is given to its end, also where it no longer waits. From then on it
     // waits no longer.
-    fn deliver(&mut self, number: u32, text: &mut Bytes) -> Result<(), SendFault>
+    fn deliver(&mut self, number: u32, text: &mut EventText) -> Result<(), SendFault>
         ensures { (w : World) → IsLink self.old w → IsStepped
             (delivers w number (packet_of number w.sent)) result text.old text.new self.new }
     {
@@ -73,7 +74,7 @@ impl Link {
     }
 
     // The packet of a number waits no longer.
-    fn lose(&mut self, number: u32, text: &mut Bytes) -> Result<(), SendFault>
+    fn lose(&mut self, number: u32, text: &mut EventText) -> Result<(), SendFault>
         ensures { (w : World) → IsLink self.old w → IsStepped
             (loses w number (packet_of number w.sent)) result text.old text.new self.new }
     {
@@ -85,7 +86,7 @@ impl Link {
     }
 
     // The waiting packet of least number is given to its end, so often at most.
-    fn pump(&mut self, count: u32, text: &mut Bytes) -> Result<(), SendFault>
+    fn pump(&mut self, count: u32, text: &mut EventText) -> Result<(), SendFault>
         ensures { (w : World) → IsLink self.old w
             → IsStepped (pumps count w) result text.old text.new self.new }
     {
@@ -99,7 +100,7 @@ impl Link {
     }
 
     // Application data is queued for a requester.
-    fn reply(&mut self, q: u8, bytes: &[u8], text: &mut Bytes) -> Result<(), SendFault>
+    fn reply(&mut self, q: u8, bytes: &[u8], text: &mut EventText) -> Result<(), SendFault>
         ensures { (w : World) → IsLink self.old w → IsStepped
             (replied w bytes.now (requester_of q w)) result text.old text.new self.new }
     {
@@ -110,7 +111,11 @@ impl Link {
     /// After
     /// `LinkFull` the lines in front of that of the packet for which there was no room were added.
     #[tactic(auto, unfolding(world_machine::specs::World::happens))]
-    pub(crate) fn happen(&mut self, event: &LinkEvent, text: &mut Bytes) -> Result<(), SendFault>
+    pub(crate) fn happen(
+        &mut self,
+        event: &LinkEvent,
+        text: &mut EventText,
+    ) -> Result<(), SendFault>
         requires { is_show event.now ≡ false }
         ensures { (w : World) → IsLink self.old w → IsStepped
             (happens w (happening_of event.now)) result text.old text.new self.new }

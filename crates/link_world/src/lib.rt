@@ -3,6 +3,7 @@
 #![tactic(auto)]
 
 mod ends;
+mod event_text;
 mod fault;
 mod giving;
 mod happening;

@@ -7,63 +7,64 @@ ghost use Rattle.script_text.specs.Whose.{fault_of};
 ghost use Rattle.spdm_grammar.specs.Lines.Whose.{Requester, Responder};
 ghost use Rattle.spdm_grammar.specs.Lines.Line.{At, Command, Data, NoPacket, Packet, Record, Reply, ToNobody, ToRequester, ToResponder};
 
+use crate::event_text::EventText;
 use script_text::{
     add_hex, add_number, add_requester, add_word, end_text_line, line_at, line_command, line_event,
     line_heard, line_no_packet, line_nobody, line_reply,
 };
-use spdm_basis::{Bytes, Line, OutOfMemory, SessionId};
+use spdm_basis::{Bytes, OutOfMemory, SessionId};
 use spdm_grammar::{CommandFault, Event, Finished, Heard, ReplyFault};
 
 /// Adds the line in front of an event.
-pub(crate) fn push_at(number: u32, text: &mut Bytes) -> Result<(), OutOfMemory>
+pub(crate) fn push_at(number: u32, text: &mut EventText) -> Result<(), OutOfMemory>
     ensures { OnOk result (text.new ≡ text.old ++ line_text (At number)) }
 {
-    let mut line = Line::new();
-    line_at(number, &mut line);
-    text.extend(line.as_slice())
+    text.line.clear();
+    line_at(number, &mut text.line);
+    text.text.extend(text.line.as_slice())
 }
 
 /// Adds the line of a command of requester `q`.
 pub(crate) fn push_command(
     q: u8,
     answer: &Result<(), CommandFault>,
-    text: &mut Bytes,
+    text: &mut EventText,
 ) -> Result<(), OutOfMemory>
     ensures { OnOk result (text.new ≡ text.old ++ line_text (Command q (fault_of answer.now))) }
 {
-    let mut line = Line::new();
-    line_command(q, answer, &mut line);
-    text.extend(line.as_slice())
+    text.line.clear();
+    line_command(q, answer, &mut text.line);
+    text.text.extend(text.line.as_slice())
 }
 
 /// Adds the line of application data that were queued, or not.
 pub(crate) fn push_reply(
     answer: &Result<(), ReplyFault>,
-    text: &mut Bytes,
+    text: &mut EventText,
 ) -> Result<(), OutOfMemory>
     ensures { OnOk result (text.new ≡ text.old ++ line_text (Reply (fault_of answer.now))) }
 {
-    let mut line = Line::new();
-    line_reply(answer, &mut line);
-    text.extend(line.as_slice())
+    text.line.clear();
+    line_reply(answer, &mut text.line);
+    text.text.extend(text.line.as_slice())
 }
 
 /// Adds the line of a packet that is for no end.
-pub(crate) fn push_nobody(text: &mut Bytes) -> Result<(), OutOfMemory>
+pub(crate) fn push_nobody(text: &mut EventText) -> Result<(), OutOfMemory>
     ensures { OnOk result (text.new ≡ text.old ++ line_text ToNobody) }
 {
-    let mut line = Line::new();
-    line_nobody(&mut line);
-    text.extend(line.as_slice())
+    text.line.clear();
+    line_nobody(&mut text.line);
+    text.text.extend(text.line.as_slice())
 }
 
 /// Adds the line of a packet that was never sent.
-pub(crate) fn push_no_packet(number: u32, text: &mut Bytes) -> Result<(), OutOfMemory>
+pub(crate) fn push_no_packet(number: u32, text: &mut EventText) -> Result<(), OutOfMemory>
     ensures { OnOk result (text.new ≡ text.old ++ line_text (NoPacket number)) }
 {
-    let mut line = Line::new();
-    line_no_packet(number, &mut line);
-    text.extend(line.as_slice())
+    text.line.clear();
+    line_no_packet(number, &mut text.line);
+    text.text.extend(text.line.as_slice())
 }
 
 /// Adds the line of a packet that was sent.
@@ -127,15 +128,15 @@ pub(crate) fn push_heard(
     q: u8,
     heard: Heard,
     last: &[u8],
-    text: &mut Bytes,
+    text: &mut EventText,
 ) -> Result<(), OutOfMemory>
     ensures { OnOk result (text.new ≡ text.old ++ text_of (heard_lines q heard last.now)) }
 {
-    let mut line = Line::new();
-    line_heard(&heard, &mut line);
-    text.extend(line.as_slice())?;
+    text.line.clear();
+    line_heard(&heard, &mut text.line);
+    text.text.extend(text.line.as_slice())?;
     match heard {
-        Heard::Taken(id) => push_taken(q, id, last, text),
+        Heard::Taken(id) => push_taken(q, id, last, &mut text.text),
         _ => Ok(()),
     }
 }
@@ -147,16 +148,16 @@ pub(crate) fn push_event(
     q: u8,
     event: Event,
     last: &[u8],
-    text: &mut Bytes,
+    text: &mut EventText,
 ) -> Result<(), OutOfMemory>
     ensures { OnOk result (text.new ≡ text.old ++ text_of (event_lines q event last.now)) }
 {
-    let mut line = Line::new();
-    line_event(q, &event, &mut line);
-    text.extend(line.as_slice())?;
+    text.line.clear();
+    line_event(q, &event, &mut text.line);
+    text.text.extend(text.line.as_slice())?;
     match event {
-        Event::Done(Finished::Answered(id)) => push_answer(q, id, last, text),
-        Event::Done(Finished::Measured(_)) => push_record(q, last, text),
+        Event::Done(Finished::Answered(id)) => push_answer(q, id, last, &mut text.text),
+        Event::Done(Finished::Measured(_)) => push_record(q, last, &mut text.text),
         _ => Ok(()),
     }
 }

@@ -2,6 +2,7 @@ ghost use Rattle.std.specs.Prelude.{◌≡◌, ◌≤◌, length};
 ghost use Rattle.link_world.specs.Sending.{IsSent};
 ghost use Rattle.world_machine.specs.Trace.{packets_max};
 
+use crate::event_text::EventText;
 use crate::lines::push_packet;
 use crate::{SendFault, SentPackets};
 use mctp_framing::PacketList;
@@ -10,6 +11,18 @@ use spdm_basis::Bytes;
 /// Packets are sent: they wait from now on, and their lines are added at the end of a text. After
 /// `LinkFull` those for which there was room were sent, and their lines were added.
 pub(crate) fn send_packets(
+    packets: &PacketList,
+    sent: &mut SentPackets,
+    text: &mut EventText,
+) -> Result<(), SendFault>
+    ensures { length sent.old ≤ packets_max
+        → IsSent sent.old packets.now text.old sent.new text.new result }
+{
+    send_each(packets, sent, &mut text.text)
+}
+
+// The same, over the text alone.
+fn send_each(
     packets: &PacketList,
     sent: &mut SentPackets,
     text: &mut Bytes,

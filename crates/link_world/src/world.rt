@@ -1,6 +1,7 @@
 ghost use Rattle.std.specs.Prelude.{◌≡◌};
 ghost use Rattle.link_world.specs.Events.{is_show};
 
+use crate::event_text::EventText;
 use crate::lines::push_at;
 use crate::link::Link;
 use crate::making::link_of;
@@ -8,7 +9,7 @@ use crate::{SendFault, StepFault, Totals, WorldFault};
 use requester::Requester;
 use responder::Responder;
 use script_text::{LinkEvent, ScriptConfig};
-use spdm_basis::{Bytes, OutFault, Sink, write_all};
+use spdm_basis::{OutFault, Sink, write_all};
 use std::alloc::Global;
 
 /// A responder, its requesters and the packets that were sent between them. It is changed by `step`
@@ -17,7 +18,7 @@ use std::alloc::Global;
 pub struct World {
     pub(crate) link: Link,
     // Memory for the lines of an event.
-    pub(crate) text: Bytes,
+    pub(crate) text: EventText,
 }
 
 // Whether the ends are shown.
@@ -69,7 +70,7 @@ impl World {
     {
         Ok(World {
             link: link_of(alloc, config, boot)?,
-            text: Bytes::new(alloc),
+            text: EventText::new(alloc),
         })
     }
 

@@ -1,6 +1,6 @@
 use Rattle.std.proofs.Common.{◌≤◌, length, drop}
 use Rattle.link_world.proofs.Packets.{IsUnderWay}
-use Rattle.link_world.proofs.sending.send_packets.Given as goal
+use Rattle.link_world.proofs.sending.send_each.Given as goal
 use Rattle.world_machine.specs.Trace.{packets_max}
 
 abbrev pub invariant-loop-index : goal.invariant-loop-index

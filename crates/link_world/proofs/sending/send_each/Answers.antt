@@ -8,7 +8,7 @@ use Rattle.script_text.specs.TraceLines.{line_text}
 use Rattle.spdm_grammar.specs.Lines.Line.{Packet}
 use Rattle.world_machine.specs.Trace.{packets_max}
 use Rattle.world_machine.specs.World.{waiting}
-use Rattle.link_world.proofs.sending.send_packets.Goals as goal
+use Rattle.link_world.proofs.sending.send_each.Goals as goal
 
 pub returns-in_err-push : goal.returns-in_err-push
 returns-in_err-push c = λ within.
