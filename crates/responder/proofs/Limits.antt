@@ -1,9 +1,8 @@
 -- What a configuration has shown that has no fault.
-use Rattle.std.proofs.Common.{refl, ◌≡◌, ◌≤◌, length, true, false, Bool, Option, Some, None, sym}
+use Rattle.std.proofs.Common.{refl, ◌≡◌, ◌≤◌, length, false, Option, Some, None, sym}
 use Rattle.std.proofs.lemmas.Bool.{leb-true, ltb-false, not-false, or_parts}
 use Rattle.std.proofs.lemmas.Option.{none-some}
 use Rattle.std.specs.Option.{option_or, option_map}
-use Rattle.std.specs.Prelude.{if◌then◌else◌}
 use Rattle.measurements.specs.Faults.{inventory_fault}
 use Rattle.spdm_basis.proofs.Bools.{and_first, and_second}
 use Rattle.responder.specs.Config.{config_fault, has_same_eid, set_up_fault}

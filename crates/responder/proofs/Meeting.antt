@@ -1,17 +1,14 @@
 -- A whole body that has an outcome.
 use Rattle.std.proofs.Common.{◌≡◌, ◌∙◌, ℕ, List, Bool, true, ap}
 use Rattle.std.specs.Prelude.{◌==◌, ◌||◌, not, if◌then◌else◌}
-use Rattle.hmac_hkdf.specs.Draw.{draw}
-use Rattle.hmac_hkdf.specs.declared.draws.Drawn.{Drawn}
 use Rattle.mctp_framing.specs.Cutting.{RouteFields}
 use Rattle.responder.specs.Came.{came_whole}
 use Rattle.responder.specs.Came.Came.{Does, Told}
-use Rattle.session_keys.specs.Drawing.{draw_as}
 use Rattle.responder_machine.specs.Does.{responder_does}
 use Rattle.responder_machine.specs.Responding.{Connection}
 use Rattle.spdm_grammar.specs.declared.heard.Heard.TheVariants as heard
 use Rattle.spdm_grammar.specs.declared.heard.RspIgnored.TheVariants as ignored
-use Rattle.spdm_machine.specs.Keys.{Draw, draw_of}
+use Rattle.spdm_machine.specs.Keys.{Draw}
 use Rattle.spdm_machine.specs.Packets.{body_type}
 
 pub does_whole : (c : Connection) (d : Draw) (route : RouteFields) (body : List ℕ) → route.owner ≡ true → (body_type body == 5 || body_type body == 6) ≡ true

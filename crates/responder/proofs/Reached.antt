@@ -1,5 +1,5 @@
 -- What a responder keeps over every step.
-use Rattle.std.proofs.Common.{refl, ◌≡◌, ◌≢◌, ◌≤◌, ◌<◌, ◌∙◌, ◌+◌, ◌-◌, ◌^◌, ℕ, List, [], ◌∷◌, Bool, true, false, cond, map, ap, sym, subst, inl, inr, arith, lit<}
+use Rattle.std.proofs.Common.{◌≡◌, ◌≢◌, ◌≤◌, ◌<◌, ◌∙◌, ◌+◌, ◌-◌, ◌^◌, ℕ, List, [], ◌∷◌, map, ap, sym, subst, inl, inr, arith, lit<}
 use Rattle.std.specs.List.{AllByRecursion}
 use Rattle.connection.specs.ClearPart.{is_drawn}
 use Rattle.responder.specs.Came.{Came, draws_in, history_after}
@@ -9,7 +9,6 @@ use Rattle.responder_machine.proofs.Connected.{KeepsSetup, PeersDiffer, count_ch
 use Rattle.responder_machine.proofs.Runs.{runs_bounded}
 use Rattle.responder_machine.proofs.Within.{connection_within}
 use Rattle.responder_machine.specs.BoundLaws.{messages_of}
-use Rattle.responder_machine.specs.Does.{IsMade}
 use Rattle.responder_machine.specs.History.{History, draws_of}
 use Rattle.responder_machine.specs.History.Entry.{Clear, Dropped, Queued, Sealed, Ticked}
 use Rattle.responder_machine.specs.Independence.{Given, IsRun, after_given}

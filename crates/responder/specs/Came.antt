@@ -1,5 +1,5 @@
 -- What a packet leads to at one connection.
-use Rattle.std.specs.Prelude.{◌≡◌, ◌==◌, ◌||◌, ◌+◌, ◌≤◌, length, not, false, ℕ, List, [], if◌then◌else◌, Bool, Option, Some, None}
+use Rattle.std.specs.Prelude.{◌≡◌, ◌==◌, ◌||◌, ◌+◌, ◌≤◌, length, not, false, ℕ, List, [], if◌then◌else◌, Option, Some, None}
 use Rattle.connection.specs.ClearPart.{is_drawn}
 use Rattle.connection.specs.Connected as connected
 use Rattle.connection.specs.declared.connected.Connection as kept

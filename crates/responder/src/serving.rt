@@ -4,6 +4,7 @@ ghost use Rattle.responder.specs.Standing.{ArePeers};
 ghost use Rattle.responder_machine.specs.Responding.{new_connection};
 ghost use Rattle.responder_machine.specs.Setup.{RspPart};
 
+use crate::body::Body;
 use crate::part::Part;
 use crate::peer::Peer;
 use crate::shared::Shared;
@@ -94,6 +95,7 @@ impl Responder {
             shared: Shared {
                 draws,
                 last: Buffer::new(),
+                body: Body::new(),
             },
             given: 0,
             peers,

@@ -99,11 +99,15 @@ pub(crate) fn hear_whole(
         return Heard::Ignored(RspIgnored::NotRequest);
     }
     let drawn = shared.draws.peek();
-    let mut body = Body::new();
-    let Some(heard) = hear_body(connection, setup, route.tag, bytes, &drawn, &mut body) else {
+    let body = &mut shared.body;
+    let Some(heard) = hear_body(connection, setup, route.tag, bytes, &drawn, body) else {
         return Heard::Ignored(RspIgnored::OtherType);
     };
     shared.follow(connection, heard);
-    out.fill(body.as_slice(), usize::from(part.unit), reversed(route));
+    out.fill(
+        shared.body.as_slice(),
+        usize::from(part.unit),
+        reversed(route),
+    );
     heard
 }

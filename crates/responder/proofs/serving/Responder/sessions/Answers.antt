@@ -1,4 +1,4 @@
-use Rattle.std.proofs.Common.{rules, arith, get_or, refl, ◌≡◌, ℕ, List, Some, None, subst, sym, ap, ◌∙◌}
+use Rattle.std.proofs.Common.{rules, arith, get_or, ◌≡◌, ℕ, List, Some, None, subst, sym, ap, ◌∙◌}
 use Rattle.responder.proofs.Found.{hit, none_found}
 use Rattle.responder.proofs.Reached.{messages_few}
 use Rattle.responder.proofs.Waiting.{seen_stands}
