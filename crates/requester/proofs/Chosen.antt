@@ -1,17 +1,12 @@
 -- The values that are handed to the parts below are those that the requester chooses.
-use Rattle.std.proofs.Common.{refl, ◌≡◌, ◌≤◌, ◌<◌, ◌+◌, ◌∙◌, ℕ, List, [], Option, Some, None, ap, sym, subst, arith, length}
+use Rattle.std.proofs.Common.{refl, ◌≡◌, ◌<◌, ◌∙◌, ℕ, List, [], Option, Some, None, ap, sym, subst, arith, length}
 use Rattle.std.specs.Prelude.{take, true}
 use Rattle.asking.specs.Free.{IsFree}
 use Rattle.asking.specs.Joined.{IsSentAs}
 use Rattle.asking.specs.declared.free_values.FreeValues.{FreeValues}
-use Rattle.requester_machine.specs.Does.{body_chosen, chosen, command_chosen, free_id}
+use Rattle.requester_machine.specs.Does.{chosen, command_chosen, free_id}
 use Rattle.requester_machine.proofs.Choosing.{allowed, padding-short}
 use Rattle.requester_machine.specs.May.{IsAllowed, IsSetUp}
-use Rattle.spdm_basis.specs.Sizes.{hash_size}
-use Rattle.spdm_basis.specs.declared.hash_alg.HashAlg.{HashAlg}
-use Rattle.spdm_basis.specs.declared.hash_alg.HashAlg.TheVariants.{Sha256, Sha384}
-use Rattle.spdm_grammar.specs.declared.names.TheConstants.{MAX_MESSAGE_SIZE}
-use Rattle.std.proofs.lemmas.Grind.{common_steps}
 use Rattle.requester_machine.specs.History.{History, connection_terms}
 use Rattle.requester_machine.specs.Message.{Content, Sent, body_of}
 use Rattle.requester_machine.specs.Message.Content.{Clear, Sealed}

@@ -2,13 +2,11 @@
 use Rattle.std.proofs.Common.{refl, ◌≡◌, ◌≤◌, ◌<◌, ◌∙◌, ◌+◌, ◌-◌, ◌^◌, ℕ, List, [], ◌∷◌, length, Bool, true, false, cond, Option, Some, None, Ok, Err, ap, sym, subst, arith}
 use Rattle.std.proofs.lemmas.Option.{none-some}
 use Rattle.asking.specs.Joined as joined
-use Rattle.hmac_hkdf.specs.Draw.{draw}
-use Rattle.hmac_hkdf.specs.declared.draws.Drawn.{Drawn}
 use Rattle.mctp_framing.specs.Assembling as assembling
 use Rattle.requester.proofs.Chosen.{packets_are}
 use Rattle.requester.proofs.Steps.{counts_few}
 use Rattle.requester.proofs.Tags.{tag_fits}
-use Rattle.session_keys.specs.Drawing.{draw_as, drawn_by}
+use Rattle.session_keys.specs.Drawing.{drawn_by}
 use Rattle.requester.specs.SetUp.{IsPart}
 use Rattle.requester.specs.Standing.{IsTold, StandsFor, last_first}
 use Rattle.requester.specs.declared.part.Part.{Part}
@@ -31,7 +29,7 @@ use Rattle.spdm_machine.specs.Keys.{Draw, draw_of}
 use Rattle.spdm_machine.specs.Packets.{fields_in, packets_to}
 use Rattle.requester_machine.proofs.Runs.{one_more}
 use Rattle.requester_machine.proofs.Telling.{fresh_told, resent_is}
-use Rattle.session_keys.proofs.Draws.{counted_as, draw_is}
+use Rattle.session_keys.proofs.Draws.{counted_as}
 
 -- ---- Worn or not.
 

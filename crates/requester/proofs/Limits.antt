@@ -1,8 +1,6 @@
 -- What a configuration has shown that has no fault.
-use Rattle.std.proofs.Common.{refl, ◌≡◌, ◌≤◌, ℕ, length, true, false, Bool, Option, Some, None, sym, arith}
+use Rattle.std.proofs.Common.{◌≡◌, ◌≤◌, ℕ, length, None, arith}
 use Rattle.std.proofs.lemmas.Bool.{leb-true, ltb-false, not-false, or_parts}
-use Rattle.std.proofs.lemmas.Option.{none-some}
-use Rattle.std.specs.Prelude.{if◌then◌else◌}
 use Rattle.spdm_basis.proofs.Bools.{and_first, and_second}
 use Rattle.requester.specs.Config.{config_fault}
 use Rattle.requester.specs.declared.config.ReqConfig.{ReqConfig}

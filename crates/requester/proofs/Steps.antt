@@ -15,7 +15,6 @@ use Rattle.requester.specs.declared.part.Part.{Part}
 use Rattle.requester.specs.declared.whole.Requester.{Requester}
 use Rattle.requester_machine.proofs.Making.{hears_made}
 use Rattle.requester_machine.specs.Asking.{Outcome}
-use Rattle.requester_machine.specs.Asking.Outcome.{Adds, Fails, Ignores, Resends, Warns}
 use Rattle.requester_machine.specs.Does.{IsMade, requester_hears}
 use Rattle.requester_machine.specs.History.{History, draws_of}
 use Rattle.requester_machine.specs.Requesting.{PacketStep, Requesting, hears_gathered, hears_packet, ignores, is_worn, next_draw, requester_given, worn_step}

@@ -18,15 +18,22 @@ use mctp_framing::{Fed, Packet, PacketList, PacketView, Route};
 use spdm_grammar::{Event, ReqIgnored};
 
 // A whole body came by a route. The packets that are sent next are put in place of what `out` holds; where nothing
-// is sent, `out` stays. Records that are sent have no padding.
-fn hear(asking: &mut Asking, part: &Part, route: Route, bytes: &[u8], out: &mut PacketList) -> Event
+// is sent, `out` stays. Records that are sent have no padding. The body that is sent is written in place of what `body`
+// holds.
+fn hear(
+    asking: &mut Asking,
+    part: &Part,
+    route: Route,
+    bytes: &[u8],
+    body: &mut Body,
+    out: &mut PacketList,
+) -> Event
     ensures { (q : ReqSetup) (h : History) (d : Draw) → IsPart part.now q → IsMade q h
         → length h < 2 ^ 64 - 1 → out.old ≡ [] → joined.StandsFor asking.old q h
         → IsHeard q h (requester_hears q h route.owner route.tag bytes.now d) result out.new
         asking.new }
 {
-    let mut body = Body::new();
-    let reaction = asking.on_body(&part.setup(), route.owner, route.tag, bytes, &[], &mut body);
+    let reaction = asking.on_body(&part.setup(), route.owner, route.tag, bytes, &[], body);
     if let Some(tag) = reaction.tag {
         send(part, tag, body.as_slice(), out);
     }
@@ -61,7 +68,14 @@ impl Requester {
             → IsGiven (hears_packet a packet (parsed packet)) result out.new self.new }
     {
         match self.assembler.take(view) {
-            Fed::Whole(route, body) => hear(&mut self.asking, &self.part, route, body, out),
+            Fed::Whole(route, bytes) => hear(
+                &mut self.asking,
+                &self.part,
+                route,
+                bytes,
+                &mut self.body,
+                out,
+            ),
             Fed::More => Event::More,
             Fed::Dropped(cause) => Event::Ignored(ReqIgnored::Dropped(cause)),
         }

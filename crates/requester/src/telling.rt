@@ -91,12 +91,17 @@ impl Requester {
         }
         self.taken += 1;
         let drawn = self.draws.peek();
-        let mut body = Body::new();
-        match tell(&mut self.asking, &self.part, command, &drawn, &mut body) {
+        match tell(
+            &mut self.asking,
+            &self.part,
+            command,
+            &drawn,
+            &mut self.body,
+        ) {
             Err(fault) => Err(fault),
             Ok(tag) => {
                 take_draw(&mut self.draws, takes_draw(command, self.part.pad));
-                send(&self.part, tag, body.as_slice(), out);
+                send(&self.part, tag, self.body.as_slice(), out);
                 Ok(())
             }
         }

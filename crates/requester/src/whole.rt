@@ -1,6 +1,6 @@
 use crate::part::Part;
 use crate::{ReqConfig, ReqConfigFault};
-use asking::Asking;
+use asking::{Asking, Body};
 use hmac_hkdf::DrawStream;
 use mctp_framing::Assembler;
 use spdm_grammar::{Phase, SessionList};
@@ -22,6 +22,8 @@ pub struct Requester {
     pub(crate) draws: DrawStream,
     // How many packets and commands were taken.
     pub(crate) taken: u64,
+    // Room for the body that is sent. It stands here so that no call clears a place of its own.
+    pub(crate) body: Body,
 }
 
 impl Requester {
@@ -74,6 +76,7 @@ impl Requester {
             assembler,
             draws,
             taken: 0,
+            body: Body::new(),
         })
     }
 

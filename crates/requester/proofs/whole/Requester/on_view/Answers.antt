@@ -14,7 +14,7 @@ returns-in-Whole c = λ a packet parses empty is.
     let below = counts_few a is.fresh in
     let few : length a.history < 2 ^ 64 - 1 = omega (arith, entries, below) in
     let heard = c.hear.ensures a.setup a.history (next_draw a) stands.part stands.made few empty stands.asking in
-    whole_step a packet (view_of c.args.view) (route_of c.in-Whole.route) c.in-Whole.body.now c.hear.result c.hear.new.out c.args.self.now _ is heard (record {
+    whole_step a packet (view_of c.args.view) (route_of c.in-Whole.route) c.in-Whole.bytes.now c.hear.result c.hear.new.out c.args.self.now _ is heard (record {
       parses = parses;
       told = c.in-Whole.ensures.fed (fields_in a.given) stands.assembler;
       part = refl;
