@@ -111,30 +111,34 @@ pub run_fault : (r : Responding) (old : FrameReader) (first held : Option (List 
     all.read_before ≤ n.read_before → n.read_before ≤ n.read_after → all.read_after ≡ n.read_after →
     all.written_before ≤ n.written_before → n.written_before ≤ n.written_after → all.written_after ≡ n.written_after →
     IsStepFault (after_frames r run.frames) mid before between n fault new after holds → IsCause r (left_of old first) held holds all fault
-run_fault r old first held mid before between n all fault.ReadFault new after holds fresh served run low high same low' high' same' (counted, kept) =
-    (subst (λ m. HasFault all.read_before m) (sym same) (fault_later all.read_before n.read_before n.read_after low high counted), record {
-      frames = run.frames;
-      stream = λ left e.
-          let given = run.gives left e in
-          record { rest = given.0; parts = given.2; allowed = run.allowed };
-      written = written_so_far held between holds (served_from r run.frames) kept run.written;
-    })
+run_fault r old first held mid before between n all fault.ReadFault new after holds fresh served run low high same low' high' same' (counted, kept) = (
+  subst (λ m. HasFault all.read_before m) (sym same) (fault_later all.read_before n.read_before n.read_after low high counted),
+  record {
+    frames = run.frames;
+    stream = λ left e.
+        let given = run.gives left e in
+        record { rest = given.0; parts = given.2; allowed = run.allowed };
+    written = written_so_far held between holds (served_from r run.frames) kept run.written;
+  },
+)
 run_fault r old first held mid before between n all fault.WriteFault new after holds fresh served run low high same low' high' same' (counted, part) =
     let frames = run.frames in
     let frame = part.frame in
-    let gives = gives_all (left_of old first) (left_of mid.reader before) (left_of new.reader after) (all_spelled frames) (spelled frame) run.gives part.read.gives in
-    (subst (λ m. HasFault all.written_before m) (sym same') (fault_later all.written_before n.written_before n.written_after low' high' counted), record {
-      frames = frames ++ frame ∷ [];
-      stream = λ left e.
-          let given = gives left e in
-          record {
-            rest = given.0;
-            parts = given.2 ∙ ap (λ (l : List ℕ). l ++ given.0) (sym (spelled_more frames frame));
-            allowed = allowed_more frames frame run.allowed (subst (λ (k : Kinds). IsFrame k frame) served part.read.allowed);
-          };
-      written = subst (λ (l : List ℕ). TakesPrefix held l holds) (sym (served_more r frames frame))
-          (takes_then_prefix held between holds (served_from r frames) (packet_frames (sent_for (after_frames r frames) frame)) run.written part.written);
-    })
+    let gives = gives_all (left_of old first) (left_of mid.reader before) (left_of new.reader after) (all_spelled frames) (spelled frame) run.gives part.read.gives in (
+      subst (λ m. HasFault all.written_before m) (sym same') (fault_later all.written_before n.written_before n.written_after low' high' counted),
+      record {
+        frames = frames ++ frame ∷ [];
+        stream = λ left e.
+            let given = gives left e in
+            record {
+              rest = given.0;
+              parts = given.2 ∙ ap (λ (l : List ℕ). l ++ given.0) (sym (spelled_more frames frame));
+              allowed = allowed_more frames frame run.allowed (subst (λ (k : Kinds). IsFrame k frame) served part.read.allowed);
+            };
+        written = subst (λ (l : List ℕ). TakesPrefix held l holds) (sym (served_more r frames frame))
+            (takes_then_prefix held between holds (served_from r frames) (packet_frames (sent_for (after_frames r frames) frame)) run.written part.written);
+      },
+    )
 run_fault r old first held mid before between n all fault.TooLong new after holds fresh served run low high same low' high' same' (cause, kept) = record {
   frames = run.frames;
   stream = stream_of r old first held mid before between fresh run TooLong cause;

@@ -49,8 +49,8 @@ unit_found test [] p given (d ∷ others) c peers found = absurd peers
 unit_found test (x ∷ seen) p given [] c peers found = absurd peers
 unit_found test (x ∷ seen) p given (d ∷ others) c peers found =
     elim (first_or_behind (test d) d c (find test others) found) [
-      inl e ↦ ap (λ (k : Connection). k.setup.unit) e ∙ ap (λ (s : RspSetup). s.unit) peers.0.setup
-    | inr e ↦ unit_found test seen p given others c peers.1 e
+      | inl e ↦ ap (λ (k : Connection). k.setup.unit) e ∙ ap (λ (s : RspSetup). s.unit) peers.0.setup
+      | inr e ↦ unit_found test seen p given others c peers.1 e
     ]
 
 short_whole : (r : Responding) (d : Draw) (c : Connection) (packet : List ℕ) (route : RouteFields) (body : List ℕ) → c.setup.unit ≤ 1024 → AreShort (hears_whole r d c packet route body).sent
@@ -82,5 +82,5 @@ short_sent seen r packet stands =
     let low : seen.part.unit ≤ 1024 = seen.part.unit_high in
     short_if (is_worn r) (worn_step r) _ tt
     (short_packet r (next_draw r) packet (parsed packet) (λ eid c found.
-        let unit : c.setup.unit ≡ r.part.unit = unit_found (λ (k : Connection). k.setup.peer == eid) seen.peers.items r.part (fields_in r.given) r.connections c stands.peers found in
-        omega (arith, unit, stands.part.unit, low)))
+    let unit : c.setup.unit ≡ r.part.unit = unit_found (λ (k : Connection). k.setup.peer == eid) seen.peers.items r.part (fields_in r.given) r.connections c stands.peers found in
+    omega (arith, unit, stands.part.unit, low)))

@@ -58,11 +58,7 @@ pub fn serve<S: Source, K: Sink>(
 }
 
 // Answers all frames.
-fn run<S: Source, K: Sink>(
-    server: Server,
-    source: &mut S,
-    sink: &mut K,
-) -> Result<(), ServeFault>
+fn run<S: Source, K: Sink>(server: Server, source: &mut S, sink: &mut K) -> Result<(), ServeFault>
     requires fresh { IsFresh server.reader }
     requires kept { IsKept server.responder }
     ensures served { (r : Responding) → StandsFor server.responder r → OnOk result

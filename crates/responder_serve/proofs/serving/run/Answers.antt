@@ -19,7 +19,7 @@ loop-server-preserved g c =
     let holds = g.K.Sink.contents c.answer_next.new.sink in
     let inv = c.loop-server.invariant in
     let stepped = λ (r : Responding) (stands : StandsFor mid.responder r).
-        subst (λ (b : Bool). IsStep r mid before between b new after holds) c.in-Ok-true.field-0-test (c.in-Ok-true.ensures.step r stands) in
+    subst (λ (b : Bool). IsStep r mid before between b new after holds) c.in-Ok-true.field-0-test (c.in-Ok-true.ensures.step r stands) in
     let kept = inv.run c.requires.kept.0 c.requires.kept.1 in
     let own = stepped (after_frames c.requires.kept.0 kept.frames) kept.stands in
     record {
@@ -40,9 +40,9 @@ returns-in-Ok-false-clause-served g c =
     let after = g.S.Source.remaining c.answer_next.new.source in
     let holds = g.K.Sink.contents c.answer_next.new.sink in
     λ r stands.
-        let run = c.loop-server.invariant.run r stands in
-        run_over r c.args.server.reader (g.S.Source.remaining c.args.source.now) (g.K.Sink.contents c.args.sink.now) mid before between new after holds c.requires.fresh run
-        (subst (λ (b : Bool). IsStep (after_frames r run.frames) mid before between b new after holds) c.in-Ok-false.field-0-test (c.in-Ok-false.ensures.step (after_frames r run.frames) run.stands))
+    let run = c.loop-server.invariant.run r stands in
+    run_over r c.args.server.reader (g.S.Source.remaining c.args.source.now) (g.K.Sink.contents c.args.sink.now) mid before between new after holds c.requires.fresh run
+    (subst (λ (b : Bool). IsStep (after_frames r run.frames) mid before between b new after holds) c.in-Ok-false.field-0-test (c.in-Ok-false.ensures.step (after_frames r run.frames) run.stands))
 
 pub returns-in-Ok-false-clause-end : goal.returns-in-Ok-false-clause-end
 returns-in-Ok-false-clause-end g c =
@@ -79,7 +79,7 @@ returns-in-Err-clause-fault g c =
       written_after = g.K.Sink.faults c.answer_next.new.sink;
     } in
     λ r stands.
-        let run = inv.run r stands in
-        run_fault r c.args.server.reader (g.S.Source.remaining c.args.source.now) (g.K.Sink.contents c.args.sink.now) mid before between n all c.in-Err.fault new after holds
-        c.requires.fresh inv.kinds run inv.read_later c.in-Err.ensures.read_later refl inv.written_later c.in-Err.ensures.written_later refl
-        (c.in-Err.ensures.fault (after_frames r run.frames) run.stands)
+    let run = inv.run r stands in
+    run_fault r c.args.server.reader (g.S.Source.remaining c.args.source.now) (g.K.Sink.contents c.args.sink.now) mid before between n all c.in-Err.fault new after holds
+    c.requires.fresh inv.kinds run inv.read_later c.in-Err.ensures.read_later refl inv.written_later c.in-Err.ensures.written_later refl
+    (c.in-Err.ensures.fault (after_frames r run.frames) run.stands)
