@@ -5,3 +5,4 @@ pub mod Fronts
 pub mod Moves
 pub mod Whole
 pub mod Stopped
+pub mod Unique

@@ -5,6 +5,7 @@ mod ahead;
 mod filling;
 mod frame_bytes;
 mod kinds;
+mod laws;
 mod line;
 mod reader;
 #[cfg(test)]
@@ -13,6 +14,7 @@ mod text;
 mod writing;
 
 pub use kinds::{FrameFault, FrameKind, Kinds};
+pub use laws::stream_is_determined;
 pub use reader::FrameReader;
 pub use text::{Text, read_text};
 pub use writing::{write_line_frame, write_packet_frame};

@@ -1,10 +1,10 @@
 -- What a fault that is told says of the call.
-use Rattle.std.proofs.Common.{◌≡◌, ◌∙◌, ℕ, List, Option, Some, refl}
+use Rattle.std.proofs.Common.{ℕ, List, Option, refl}
 use Rattle.responder.specs.Config.{IsCause}
 use Rattle.responder.specs.declared.config.RspConfig.{RspConfig}
 use Rattle.responder.specs.declared.fault.RspConfigFault.{RspConfigFault}
 use Rattle.responder.specs.declared.fault.RspConfigFault.TheVariants as answering
-use Rattle.responder_serve.specs.Configured.{HasFirstFault, SetsUp}
+use Rattle.responder_serve.specs.Configured.{SetsUp}
 use Rattle.responder_serve.specs.Standing as standing
 use Rattle.responder_serve.specs.Standing.{Counts, IsStepFault}
 use Rattle.responder_serve.specs.Told.{IsEarly, IsLate, IsRefusal, IsUnread, of_responder}

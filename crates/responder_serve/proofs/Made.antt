@@ -1,5 +1,5 @@
 -- What a responder knows of the requesters of a configuration.
-use Rattle.std.proofs.Common.{◌≡◌, ◌∙◌, ◌++◌, ◌+◌, ◌<◌, ℕ, zero, suc, List, [], ◌∷◌, length, map, take, get_or, refl, ap, sym, arith, Result, Ok, Err, Bool, true, false, add-one}
+use Rattle.std.proofs.Common.{◌≡◌, ◌∙◌, ◌++◌, ◌+◌, ◌<◌, ℕ, zero, suc, List, [], ◌∷◌, length, map, take, get_or, refl, ap, sym, arith, Result, Ok, Err, false, add-one}
 use Rattle.std.specs.Prelude.{is_ok, is_err, if◌then◌else◌}
 use Rattle.responder.specs.SetUp as answering
 use Rattle.responder.specs.declared.config.Known.{Known}

@@ -1,5 +1,5 @@
 -- Frames that are answered one after another.
-use Rattle.std.proofs.Common.{◌≡◌, ◌∙◌, ◌++◌, ◌+◌, ◌≤◌, ℕ, List, [], ◌∷◌, Option, Some, length, refl, ap, sym, subst, arith, append_assoc, append-nil, length-append}
+use Rattle.std.proofs.Common.{◌≡◌, ◌∙◌, ◌++◌, ◌≤◌, ℕ, List, [], ◌∷◌, Option, Some, length, refl, ap, sym, subst, arith, append_assoc, append-nil, length-append}
 use Rattle.frame_stream.specs.Frames.{AreFrames, Ending, Ends, GivenFrame, IsFrame, IsStream, all_spelled, spelled}
 use Rattle.frame_stream.proofs.Fronts.{behind_front, fault_later, in_front_of}
 use Rattle.frame_stream.proofs.Parts.{gives_all}

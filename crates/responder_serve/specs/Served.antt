@@ -1,5 +1,5 @@
 -- What a responder writes on a stream of frames. This project's own.
-use Rattle.std.specs.Prelude.{◌≡◌, ◌^◌, ◌++◌, ◌<◌, ℕ, List, [], ◌∷◌, true, false, length, Option, Some}
+use Rattle.std.specs.Prelude.{◌≡◌, ◌^◌, ◌++◌, ℕ, List, [], ◌∷◌, true, false, Option, Some}
 use Rattle.frame_stream.specs.Frames.{AreFrames, Ending, GivenFrame, IsStream, all_spelled, spelled}
 use Rattle.frame_stream.specs.Frames.GivenFrame.{PacketOf, TicksOf, CommandOf}
 use Rattle.frame_stream.specs.declared.kinds.Kinds.{Kinds}

@@ -1,5 +1,5 @@
 -- What stands while a stream is served, and what the calls answer. This project's own.
-use Rattle.std.specs.Prelude.{◌≡◌, ◌<◌, ◌≤◌, ◌+◌, ◌^◌, ◌++◌, ℕ, List, [], ◌∷◌, Bool, true, false, length, Option, Some, Result, Ok, Err}
+use Rattle.std.specs.Prelude.{◌≡◌, ◌<◌, ◌+◌, ◌^◌, ℕ, List, [], ◌∷◌, Bool, true, false, length, Option, Result, Ok, Err}
 use Rattle.frame_stream.specs.Frames.{AreFrames, GivenFrame, all_spelled}
 use Rattle.frame_stream.specs.Frames.Ending.{Bad, TooLong}
 use Rattle.frame_stream.specs.Standing as reading

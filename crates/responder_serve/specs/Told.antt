@@ -6,7 +6,7 @@ use Rattle.responder_serve.specs.declared.fault.ServeFault.{ServeFault}
 use Rattle.responder.specs.declared.fault.RspConfigFault.{RspConfigFault}
 use Rattle.responder.specs.declared.fault.RspConfigFault.TheVariants as answering
 use Rattle.responder_serve.specs.Configured.{HasFirstFault}
-use Rattle.responder_serve.specs.declared.fault.ServeFault.TheVariants.{BadFrame, OutOfMemory, ReadFault, Responder, TooLong, WriteFault}
+use Rattle.responder_serve.specs.declared.fault.ServeFault.TheVariants.{BadFrame, OutOfMemory, ReadFault, Responder, TooLong}
 use Rattle.script_text.specs.declared.config.ScriptConfig.{ScriptConfig}
 
 -- A fault of the stream.

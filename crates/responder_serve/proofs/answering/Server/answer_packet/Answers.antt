@@ -1,5 +1,4 @@
 use Rattle.std.proofs.Common.{List, ℕ, sym, subst}
-use Rattle.responder_machine.specs.Responding.{responder_hears}
 use Rattle.responder_serve.proofs.Short.{short_sent}
 use Rattle.responder_serve.specs.Standing.{AreShort}
 use Rattle.responder_serve.proofs.answering.Server.answer_packet.Goals as goal
