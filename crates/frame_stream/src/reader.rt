@@ -77,8 +77,8 @@ impl FrameReader {
     /// Reads the next frame, of which the bytes of a packet or a command lie in the reader then. `None` where the stream
     /// ends between two frames. `BadFrame` comes exactly where the next frame has a kind that is not among those of the
     /// reader or is cut by the end of input, in the bytes that are read at most; and `TooLong` exactly where it is neither
-    /// bad nor whole in these bytes, and the stream has one more. `ReadFault` comes only by the count of the source. It
-    /// takes no memory.
+    /// bad nor whole in these bytes, and the stream has one more. `ReadFault` comes only by the count of the source. After
+    /// a fault no clause says what the reader stands for. It takes no memory.
     pub fn next<S: Source>(&mut self, source: &mut S) -> Result<Option<FrameKind>, FrameFault>
         ensures next { IfOk result (λ kind. IsNext self.old (S.remaining source.old) kind self.new
             (S.remaining source.new)) }
