@@ -1,0 +1,6 @@
+pub mod Text
+pub mod Lines
+pub mod Parts
+pub mod Frames
+pub mod Causes
+pub mod Standing

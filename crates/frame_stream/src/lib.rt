@@ -1,0 +1,20 @@
+//! Streams of frames behind a text: what the commands share that read packets from a stream.
+#![tactic(auto)]
+
+mod ahead;
+mod filling;
+mod frame_bytes;
+mod kinds;
+mod laws;
+mod line;
+mod reader;
+#[cfg(test)]
+mod tests;
+mod text;
+mod writing;
+
+pub use kinds::{FrameFault, FrameKind, Kinds};
+pub use laws::stream_is_determined;
+pub use reader::FrameReader;
+pub use text::{Text, read_text};
+pub use writing::{write_line_frame, write_packet_frame};

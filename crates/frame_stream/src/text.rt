@@ -1,0 +1,65 @@
+ghost use Rattle.std.specs.Prelude.{◌≡◌, ◌<◌, ◌≤◌, ℕ, List, Some, length, IfOk, OnErr, IsErrOf};
+ghost use Rattle.spdm_basis.specs.Stream.{GivesSome, HasFault};
+ghost use Rattle.frame_stream.specs.Parts.{IsTextOf};
+ghost use Rattle.frame_stream.specs.Text.{text_of};
+
+use crate::line::{Place, own_part};
+use spdm_basis::{Buffer, Bytes, InFault, Source};
+use std::alloc::Global;
+
+// How many bytes are asked for at a time.
+const PIECE: usize = 4096;
+
+/// The text of an input, and the bytes of the stream behind it that were read with it.
+#[derive(Drop)]
+pub struct Text {
+    pub text: Bytes,
+    pub before: Buffer<4096>,
+}
+
+/// Reads the text of an input: its bytes up to and with the first line that is `end`, or all of them. It has at most
+/// `limit` bytes: `TooLong` comes exactly where there are more. After a fault the bytes read so far are gone from the
+/// source. `ReadFault` comes only by the count of the source.
+pub fn read_text<S: Source>(alloc: Global, source: &mut S, limit: usize) -> Result<Text, InFault>
+    ensures text { IfOk result (λ read. IsTextOf (S.remaining source.old) read.text read.before
+        (S.remaining source.new)) }
+    ensures within { IfOk result (λ read. length read.text ≤ limit) }
+
+    ensures read_fault { IsErrOf result InFault.ReadFault
+        → HasFault (S.faults source.old) (S.faults source.new) }
+    ensures too_long { IsErrOf result InFault.TooLong → (left : List ℕ)
+        → S.remaining source.old ≡ Some left → limit < length (text_of left) }
+    ensures gone { OnErr result (GivesSome (S.remaining source.old) (S.remaining source.new)) }
+    ensures later { S.faults source.old ≤ S.faults source.new }
+{
+    let mut text = Bytes::new(alloc);
+    let mut before = Buffer::new();
+    let mut place = Place::Begins;
+    let mut piece = [0u8; PIECE];
+    loop {
+        let Ok(count) = source.read(&mut piece) else {
+            return Err(InFault::ReadFault);
+        };
+        if count == 0 {
+            return Ok(Text { text, before });
+        }
+        let got = &piece[..count];
+        let (own, behind) = own_part(place, got);
+        if own > limit - text.as_slice().len() {
+            return Err(InFault::TooLong);
+        }
+        let (own, rest) = got.split_at(own);
+        let Ok(()) = text.extend(own) else {
+            return Err(InFault::OutOfMemory);
+        };
+        match behind {
+            Place::Ended => {
+                return match before.extend(rest) {
+                    Ok(()) => Ok(Text { text, before }),
+                    Err(_) => unreachable!(),
+                };
+            }
+            _ => place = behind,
+        }
+    }
+}

@@ -1,0 +1,5 @@
+pub mod Made
+pub mod Framed
+pub mod Short
+pub mod Runs
+pub mod Faults

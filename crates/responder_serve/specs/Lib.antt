@@ -1,0 +1,4 @@
+pub mod Configured
+pub mod Served
+pub mod Standing
+pub mod Told

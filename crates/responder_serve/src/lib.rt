@@ -1,0 +1,13 @@
+//! A responder on a stream of frames.
+#![tactic(auto)]
+
+mod answering;
+mod fault;
+mod making;
+mod serving;
+#[cfg(test)]
+mod tests;
+mod writing;
+
+pub use fault::ServeFault;
+pub use serving::serve;
