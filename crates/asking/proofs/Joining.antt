@@ -121,7 +121,7 @@ resent_waits q h f d sent is = by_fault (command_fault false q h Retry f) (sym (
     by_fault None same = resent_is sent (outstanding h) same
 
 -- A command in the clear that fails leaves the clear part as it was.
-pub clear_fails : (q : ReqSetup) (h : History) (command : Command) (f : Free) (d : Draw) (fault : CommandFault) (old : Asking) (seen : talk.Seen) → commands.IsFailed q h command f d fault old.talk seen → StandsFor old q h
-    → (asks false q h command f d ≡ Fails fault) × StandsFor (record { talk = seen; gathered = old.gathered; sessions = old.sessions }) q h
-clear_fails q h command f d fault old seen failed stands =
+pub clear_fails : (q : ReqSetup) (h : History) (command : Command) (f : Free) (d : Draw) (fault : CommandFault) (old : Asking) (seen : talk.Seen) (message : List ℕ) → commands.IsFailed q h command f d fault old.talk seen → StandsFor old q h
+    → (asks false q h command f d ≡ Fails fault) × StandsFor (record { talk = seen; gathered = old.gathered; sessions = old.sessions; message = message }) q h
+clear_fails q h command f d fault old seen message failed stands =
     (failed.outcome, record { talk = subst (λ (s : talk.Seen). talk.StandsFor s q h) (sym failed.same) stands.talk; sessions = stands.sessions; gathers = stands.gathers })

@@ -1,5 +1,6 @@
 use crate::{Sessions, Talk};
 use chunking::Collector;
+use spdm_basis::Frame;
 use spdm_grammar::{Choice, Phase, SessionList, SessionView};
 
 /// A requester (DSP0274, section 10), with every free value handed in: the clear part, what is
@@ -9,6 +10,9 @@ pub struct Asking {
     pub(crate) talk: Talk,
     pub(crate) gathered: Collector,
     pub(crate) sessions: Sessions,
+    // The message that was sent or came in the clear last, so that no call clears a place of its own. What it
+    // holds between two calls does not matter.
+    pub(crate) message: Frame,
 }
 
 impl Asking {
@@ -31,6 +35,7 @@ impl Asking {
             talk: Talk::new(),
             gathered: Collector::new(max),
             sessions: Sessions::new(),
+            message: Frame::new(),
         }
     }
 

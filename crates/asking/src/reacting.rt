@@ -19,7 +19,6 @@ ghost use Rattle.spdm_machine.specs.Keys.{Draw};
 use crate::bodies::message_in;
 use crate::body::{write_clear, write_record};
 use crate::{Asking, Body, Heard, Reaction, SessionLed, Setup};
-use spdm_basis::Frame;
 use spdm_grammar::{Event, Finished, ReqIgnored};
 
 // Whether data came with it.
@@ -78,8 +77,8 @@ impl Asking {
         }
     }
 
-    // The PSK_EXCHANGE_RSP that the session of this ReqSessionID awaits came.
-    fn begin(&mut self, id: u16, answer: &[u8], pad: &[u8], out: &mut Body) -> Reaction
+    // The PSK_EXCHANGE_RSP that the session of this ReqSessionID awaits came, as `message`.
+    fn begin(&mut self, id: u16, pad: &[u8], out: &mut Body) -> Reaction
         requires pad { length pad.now ≤ 16 }
         ensures { (q : ReqSetup) (h : History) (owner : Bool) (tag : ℕ) (body : List ℕ) (f : Free)
             (d : Draw) → f.pad ≡ pad.now
@@ -87,7 +86,7 @@ impl Asking {
             → StandsFor self.old q h
             → IsAnswered q h (hears q h owner tag body f d) result out.new self.new }
     {
-        match self.sessions.begin(answer, pad) {
+        match self.sessions.begin(self.message.as_slice(), pad) {
             Ok(()) => self.follow(id, out),
             Err(cause) => told(Event::Ignored(cause)),
         }
@@ -135,10 +134,9 @@ impl Asking {
             → f.pad ≡ pad.now → length h < 2 ^ 64 - 1 → StandsFor self.old q h
             → IsAnswered q h (hears q h owner tag body.now f d) result out.new self.new }
     {
-        let mut message = Frame::new();
         let heard = self
             .talk
-            .on_body(setup, &mut self.gathered, owner, tag, body, &mut message);
+            .on_body(setup, &mut self.gathered, owner, tag, body, &mut self.message);
         match heard {
             Heard::Ignored(cause) => told(Event::Ignored(cause)),
             Heard::Warned(code) => told(Event::Warned(code)),
@@ -148,10 +146,10 @@ impl Asking {
                 told(event)
             }
             Heard::Sends { tag } => {
-                write_clear(message.as_slice(), out);
+                write_clear(self.message.as_slice(), out);
                 sent(tag)
             }
-            Heard::Exchange { id } => self.begin(id, message.as_slice(), pad, out),
+            Heard::Exchange { id } => self.begin(id, pad, out),
             Heard::Record { id } => self.on_record(id, message_in(body), pad, out),
         }
     }

@@ -15,7 +15,7 @@ ghost use Rattle.spdm_machine.specs.Keys.{Draw};
 use crate::body::{write_clear, write_record};
 use crate::{Again, Asking, Body, Command, FreeValues, Setup};
 use psk_session::Ask;
-use spdm_basis::{Frame, Psk};
+use spdm_basis::Psk;
 use spdm_grammar::CommandFault;
 
 impl Asking {
@@ -24,10 +24,9 @@ impl Asking {
         ensures { (q : ReqSetup) (h : History) (f : Free) (d : Draw) → StandsFor self.old q h
             → IsDone q h (asks false q h Connect f d) result out.new self.new }
     {
-        let mut message = Frame::new();
-        let tag = self.talk.connect(&mut message);
+        let tag = self.talk.connect(&mut self.message);
         self.sessions.clear();
-        write_clear(message.as_slice(), out);
+        write_clear(self.message.as_slice(), out);
         tag
     }
 
@@ -46,13 +45,12 @@ impl Asking {
             → q.psk ≡ psk.now → IsFree free.now f → IsAllowed q h f → StandsFor self.old q h
             → IsCommanded q h (asks false q h (Open summary) f d) result out.new self.new }
     {
-        let mut message = Frame::new();
         let live = self.sessions.count();
-        match self.talk.open(setup, live, summary, free, &mut message) {
+        match self.talk.open(setup, live, summary, free, &mut self.message) {
             Err(fault) => Err(fault),
             Ok(tag) => {
                 self.sessions.open(&self.talk, psk, free.id, summary);
-                write_clear(message.as_slice(), out);
+                write_clear(self.message.as_slice(), out);
                 Ok(tag)
             }
         }
@@ -64,11 +62,10 @@ impl Asking {
             → StandsFor self.old q h
             → IsCommanded q h (asks false q h (Measure None op) f d) result out.new self.new }
     {
-        let mut message = Frame::new();
-        match self.talk.measure(op, &mut message) {
+        match self.talk.measure(op, &mut self.message) {
             Err(fault) => Err(fault),
             Ok(tag) => {
-                write_clear(message.as_slice(), out);
+                write_clear(self.message.as_slice(), out);
                 Ok(tag)
             }
         }
@@ -101,11 +98,10 @@ impl Asking {
             → StandsFor self.old q h
             → IsCommanded q h (asks false q h Retry f d) result out.new self.new }
     {
-        let mut message = Frame::new();
-        let again = self.talk.retry(&mut message)?;
+        let again = self.talk.retry(&mut self.message)?;
         match again {
             Again::InClear { tag } => {
-                write_clear(message.as_slice(), out);
+                write_clear(self.message.as_slice(), out);
                 Ok(tag)
             }
             Again::InSession { tag, .. } => {

@@ -8,49 +8,46 @@ ghost use Rattle.responder_machine.specs.Does.{IsMade, clear_does, first_queued,
 ghost use Rattle.responder_machine.specs.History.{History, queue_of};
 ghost use Rattle.responder_machine.specs.Setup.{RspSetup};
 
-use crate::body::{Body, SPDM, write_body, write_reply};
+use crate::body::{SPDM, write_body, write_reply};
+use crate::room::Room;
 use connection::{Connection, FreeValues, Setup, record_id};
 use hmac_hkdf::Drawn;
-use responder_session::{RecordFree, Work};
+use responder_session::RecordFree;
 use session_keys::context_of;
-use spdm_basis::{Buffer, Frame, RecordFrame};
+use spdm_basis::Buffer;
 use spdm_grammar::Heard;
 
-// Application data: up to 1,024 bytes.
-type Reply = Buffer<1024>;
-
-// The application data that is sent next in answer.
-fn next_reply(connection: &Connection) -> Reply
+// Writes the application data that is sent next in answer in place of what `reply` holds.
+fn write_next_reply(connection: &Connection, reply: &mut Buffer<1024>)
     ensures { (r : RspSetup) (h : History) → StandsFor connection.now r h
-        → result ≡ first_queued (queue_of h) }
+        → reply.new ≡ first_queued (queue_of h) }
 {
-    let mut reply = Reply::new();
+    reply.clear();
     let _ = reply.extend(connection.next_reply());
-    reply
 }
 
 /// A clear message came with a tag, while this draw stands next. The body that answers it is written in place
-/// of what `body` holds.
+/// of what the room's `body` holds.
 pub(crate) fn hear_clear(
     connection: &mut Connection,
     setup: &Setup<'_>,
     tag: u8,
     message: &[u8],
     drawn: &Drawn,
-    body: &mut Body,
+    room: &mut Room,
 ) -> Heard
     requires { length setup.now.opaque.now ≤ 1024 }
     ensures done { (r : RspSetup) (h : History) → IsSetUp setup.now r → IsMade r h
         → StandsFor connection.old r h
-        → IsDone r h (clear_does r h tag message.now (draw_as drawn.now)) result body.new
+        → IsDone r h (clear_does r h tag message.now (draw_as drawn.now)) result room.new.body
         connection.new }
     ensures drawn { (r : RspSetup) (h : History) → IsSetUp setup.now r → IsMade r h
         → StandsFor connection.old r h → connection.new.drawn
         ≡ is_drawn (clear_does r h tag message.now (draw_as drawn.now)) }
-    ensures filled { 0 < length body.new }
+    ensures filled { 0 < length room.new.body }
 {
     let context = context_of(connection.choice().hash, drawn);
-    let reply = next_reply(connection);
+    write_next_reply(connection, &mut room.reply);
     let free = FreeValues {
         id: connection.free_id(),
         context: context.as_slice(),
@@ -58,43 +55,41 @@ pub(crate) fn hear_clear(
         nonce: drawn.bytes,
         measured_opaque: &[],
         handle: connection.next_handle(),
-        reply: reply.as_slice(),
+        reply: room.reply.as_slice(),
         pad: &[],
     };
-    let mut answer = Frame::new();
-    let heard = connection.on_clear(setup, tag, message, &free, &mut answer);
-    write_body(SPDM, answer.as_slice(), body);
+    let heard = connection.on_clear(setup, tag, message, &free, &mut room.message);
+    write_body(SPDM, room.message.as_slice(), &mut room.body);
     heard
 }
 
-/// A record came, while this draw stands next. The body that answers it is written in place of what `body`
-/// holds.
+/// A record came, while this draw stands next. The body that answers it is written in place of what the
+/// room's `body` holds.
 pub(crate) fn hear_record(
     connection: &mut Connection,
     setup: &Setup<'_>,
     sealed: &[u8],
     drawn: &Drawn,
-    body: &mut Body,
+    room: &mut Room,
 ) -> Heard
     ensures done { (r : RspSetup) (h : History) (tag : ℕ) → IsSetUp setup.now r
         → messages_of h < 2 ^ 64 - 1 → StandsFor connection.old r h
-        → IsDone r h (record_does r h tag sealed.now (draw_as drawn.now)) result body.new
+        → IsDone r h (record_does r h tag sealed.now (draw_as drawn.now)) result room.new.body
         connection.new }
     ensures drawn { (r : RspSetup) (h : History) (tag : ℕ) → IsSetUp setup.now r
         → messages_of h < 2 ^ 64 - 1 → StandsFor connection.old r h → connection.new.drawn
         ≡ is_drawn (record_does r h tag sealed.now (draw_as drawn.now)) }
-    ensures filled { 0 < length body.new }
+    ensures filled { 0 < length room.new.body }
 {
-    let reply = next_reply(connection);
+    write_next_reply(connection, &mut room.reply);
     let free = RecordFree {
         nonce: &drawn.bytes,
         opaque: &[],
         handle: connection.next_handle_in(record_id(sealed).rsp),
-        reply: reply.as_slice(),
+        reply: room.reply.as_slice(),
         pad: &[],
     };
-    let mut answer = RecordFrame::new();
-    let heard = connection.on_record(setup, sealed, &free, &mut Work::new(), &mut answer);
-    write_reply(heard, answer.as_slice(), body);
+    let heard = connection.on_record(setup, sealed, &free, &mut room.work, &mut room.record);
+    write_reply(heard, room.record.as_slice(), &mut room.body);
     heard
 }

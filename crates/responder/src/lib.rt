@@ -9,6 +9,7 @@ mod hearing;
 mod part;
 mod peer;
 mod queueing;
+mod room;
 mod serving;
 mod shared;
 mod views;

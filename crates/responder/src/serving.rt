@@ -4,9 +4,9 @@ ghost use Rattle.responder.specs.Standing.{ArePeers};
 ghost use Rattle.responder_machine.specs.Responding.{new_connection};
 ghost use Rattle.responder_machine.specs.Setup.{RspPart};
 
-use crate::body::Body;
 use crate::part::Part;
 use crate::peer::Peer;
+use crate::room::Room;
 use crate::shared::Shared;
 use crate::{RspConfig, RspConfigFault};
 use hmac_hkdf::DrawStream;
@@ -95,7 +95,7 @@ impl Responder {
             shared: Shared {
                 draws,
                 last: Buffer::new(),
-                body: Body::new(),
+                room: Room::new(),
             },
             given: 0,
             peers,

@@ -5,19 +5,19 @@ ghost use Rattle.session_keys.specs.Drawing.{drawn_by};
 ghost use Rattle.responder_machine.specs.History.{History};
 ghost use Rattle.responder_machine.specs.Setup.{RspSetup};
 
-use crate::body::Body;
+use crate::room::Room;
 use connection::Connection;
 use hmac_hkdf::DrawStream;
 use spdm_basis::Buffer;
 use spdm_grammar::Heard;
 
 // What all connections of a responder share: the draws, the application data that was taken last, and room for
-// the body that answers, so that no packet clears a place of its own.
+// an answer.
 #[derive(Drop)]
 pub struct Shared {
     pub(crate) draws: DrawStream,
     pub(crate) last: Buffer<1024>,
-    pub(crate) body: Body,
+    pub(crate) room: Room,
 }
 
 impl Shared {
@@ -27,7 +27,7 @@ impl Shared {
         ensures seed { self.new.draws.seed ≡ self.old.draws.seed }
         ensures number { self.old.draws.number < 2 ^ 64 - 1
             → self.new.draws.number ≡ self.old.draws.number + drawn_by connection.now.drawn }
-        ensures body { self.new.body ≡ self.old.body }
+        ensures room { self.new.room ≡ self.old.room }
         ensures last { (r : RspSetup) (h : History) → StandsFor connection.now r h
             → IsShort heard h → self.new.last ≡ last_for heard h self.old.last }
     {

@@ -14,9 +14,10 @@ ghost use Rattle.responder_machine.specs.Setup.{Known, RspPart, RspSetup, toward
 ghost use Rattle.spdm_machine.specs.Keys.{draw_of};
 ghost use Rattle.spdm_machine.specs.Packets.{body_type};
 
-use crate::body::{Body, SECURED, SPDM};
+use crate::body::{SECURED, SPDM};
 use crate::hearing::{hear_clear, hear_record};
 use crate::part::Part;
+use crate::room::Room;
 use crate::shared::Shared;
 use connection::{Connection, Setup};
 use hmac_hkdf::Drawn;
@@ -42,14 +43,14 @@ fn reversed(route: Route) -> Route
 }
 
 /// A whole body came with a tag, while this draw stands next; it is `None` where its type is another than those
-/// of SPDM messages and records. The body that answers it is written in place of what `body` holds.
+/// of SPDM messages and records. The body that answers it is written in place of what the room's `body` holds.
 fn hear_body(
     connection: &mut Connection,
     setup: &Setup<'_>,
     tag: u8,
     bytes: &[u8],
     drawn: &Drawn,
-    body: &mut Body,
+    room: &mut Room,
 ) -> Option<Heard>
     requires { length setup.now.opaque.now ≤ 1024 }
     ensures known { MatchOption result
@@ -59,16 +60,16 @@ fn hear_body(
     ensures done { (r : RspSetup) (h : History) → IsSetUp setup.now r → IsMade r h
         → messages_of h < 2 ^ 64 - 1 → StandsFor connection.old r h
         → IfSome result (λ heard. IsDone r h (responder_does r h tag bytes.now (draw_as drawn.now))
-        heard body.new connection.new) }
+        heard room.new.body connection.new) }
     ensures drawn { (r : RspSetup) (h : History) → IsSetUp setup.now r → IsMade r h
         → messages_of h < 2 ^ 64 - 1 → StandsFor connection.old r h
         → IfSome result (λ heard. connection.new.drawn
         ≡ is_drawn (responder_does r h tag bytes.now (draw_as drawn.now))) }
-    ensures filled { IfSome result (λ heard. 0 < length body.new) }
+    ensures filled { IfSome result (λ heard. 0 < length room.new.body) }
 {
     match bytes {
-        [SPDM, message @ ..] => Some(hear_clear(connection, setup, tag, message, drawn, body)),
-        [SECURED, sealed @ ..] => Some(hear_record(connection, setup, sealed, drawn, body)),
+        [SPDM, message @ ..] => Some(hear_clear(connection, setup, tag, message, drawn, room)),
+        [SECURED, sealed @ ..] => Some(hear_record(connection, setup, sealed, drawn, room)),
         _ => None,
     }
 }
@@ -99,13 +100,13 @@ pub(crate) fn hear_whole(
         return Heard::Ignored(RspIgnored::NotRequest);
     }
     let drawn = shared.draws.peek();
-    let body = &mut shared.body;
-    let Some(heard) = hear_body(connection, setup, route.tag, bytes, &drawn, body) else {
+    let room = &mut shared.room;
+    let Some(heard) = hear_body(connection, setup, route.tag, bytes, &drawn, room) else {
         return Heard::Ignored(RspIgnored::OtherType);
     };
     shared.follow(connection, heard);
     out.fill(
-        shared.body.as_slice(),
+        shared.room.body.as_slice(),
         usize::from(part.unit),
         reversed(route),
     );

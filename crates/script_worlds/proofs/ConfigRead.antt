@@ -36,24 +36,24 @@ is_sound_line r = is_sound_end 255 r.transfer r.max r.unit r.beat r.flags
 abbrev pub is_apart : List ReqPart → RspLine → Bool
 is_apart requesters r = not (requester_has_eid r.eid.number requesters)
 
--- Nothing is missing.
-pub record IsWhole (given : Given) : Type 0 where
-  pub seed : is_none given.seed ≡ false
+-- Nothing is missing; a seed only where one is needed.
+pub record IsWhole (needs : Bool) (given : Given) : Type 0 where
+  pub seed : (needs && is_none given.seed) ≡ false
   pub responder : is_none given.responder ≡ false
   pub some : nat_eq (length given.requesters) 0 ≡ false
 
 -- No end point is 0, so that requesters are apart from that one wherever they are apart.
-pub record IsRight (given : Given) : Type 0 where
+pub record IsRight (needs : Bool) (given : Given) : Type 0 where
   pub seed : of_some (are_bytes_in 32 32) given.seed ≡ true
   pub opaque : of_some (are_bytes_in 0 1024) given.opaque ≡ true
   pub responder : of_some is_sound_line given.responder ≡ true
   pub apart : of_some (is_apart given.requesters) given.responder ≡ true
   pub blocks : are_sound_blocks [] given.blocks ≡ true
   pub requesters : are_sound_requesters 0 [] given.requesters ≡ true
-  pub whole : given.ended ≡ true → IsWhole given
+  pub whole : given.ended ≡ true → IsWhole needs given
 
-pub nothing_right : IsRight nothing_given
-nothing_right = record {
+pub nothing_right : (needs : Bool) → IsRight needs nothing_given
+nothing_right needs = record {
   seed = refl;
   opaque = refl;
   responder = refl;
@@ -68,9 +68,9 @@ is_not b fails holds = absurd (false≢true (sym fails ∙ holds))
 
 -- ---- Seed and opaque data.
 
-seed_kept : (given : Given) (line : List ℕ) → seed_fault given line ≡ None → IsRight given → IsRight (after_seed given line)
+seed_kept : (needs : Bool) (given : Given) (line : List ℕ) → seed_fault given line ≡ None → IsRight needs given → IsRight needs (after_seed given line)
 unfolding seed_fault after_seed
-seed_kept given line h is =
+seed_kept needs given line h is =
     let a = both _ _ _ h in
     let b = both _ _ _ a.1 in
     let c = both _ _ _ b.1 in
@@ -84,9 +84,9 @@ seed_kept given line h is =
       whole = λ e. is_not given.ended a.0 e;
     }
 
-opaque_kept : (given : Given) (line : List ℕ) → opaque_fault given line ≡ None → IsRight given → IsRight (after_opaque given line)
+opaque_kept : (needs : Bool) (given : Given) (line : List ℕ) → opaque_fault given line ≡ None → IsRight needs given → IsRight needs (after_opaque given line)
 unfolding opaque_fault after_opaque
-opaque_kept given line h is =
+opaque_kept needs given line h is =
     let a = both _ _ _ h in
     let b = both _ _ _ a.1 in
     let c = both _ _ _ b.1 in
@@ -146,9 +146,9 @@ block_sound given line is =
     both_hold (is_sound_block (block_of line) && not (has_block index given.blocks)) (nat_le (sizes_of given.blocks + block_size (block_of line)) 4054) new
     (le-leb (sizes_of given.blocks + block_size (block_of line)) 4054 (ltb-false 4054 (sizes_of given.blocks + block_size (block_of line)) is.room))
 
-block_kept : (given : Given) (line : List ℕ) → block_fault given line ≡ None → IsRight given → IsRight (after_block given line)
+block_kept : (needs : Bool) (given : Given) (line : List ℕ) → block_fault given line ≡ None → IsRight needs given → IsRight needs (after_block given line)
 unfolding after_block
-block_kept given line h is = let new = is_new_block given line h in record {
+block_kept needs given line h is = let new = is_new_block given line h in record {
   seed = is.seed;
   opaque = is.opaque;
   responder = is.responder;
@@ -186,9 +186,9 @@ end_sound limit line numbers flags =
     (both_hold (t_is && m_is && u_is) (nat_le o limit) (both_hold (t_is && m_is) u_is (both_hold t_is m_is transfer max) unit) (and_second (nat_le 0 o) (nat_le o limit) own))
     (and_second (is_flags (word 6 line)) wide flags)
 
-responder_kept : (given : Given) (line : List ℕ) → responder_fault given line ≡ None → IsRight given → IsRight (after_responder given line)
+responder_kept : (needs : Bool) (given : Given) (line : List ℕ) → responder_fault given line ≡ None → IsRight needs given → IsRight needs (after_responder given line)
 unfolding responder_fault after_responder
-responder_kept given line h is =
+responder_kept needs given line h is =
     let a = both _ _ _ h in
     let b = both _ _ _ a.1 in
     let c = both _ _ _ b.1 in
@@ -289,9 +289,9 @@ requester_eid : (line : List ℕ) → (requester_of line).eid ≡ (numbers_of li
 unfolding requester_of
 requester_eid line = refl
 
-requester_kept : (given : Given) (line : List ℕ) → requester_fault given line ≡ None → IsRight given → IsRight (after_requester given line)
+requester_kept : (needs : Bool) (given : Given) (line : List ℕ) → requester_fault given line ≡ None → IsRight needs given → IsRight needs (after_requester given line)
 unfolding after_requester
-requester_kept given line h is =
+requester_kept needs given line h is =
     let new = is_new given line h in
     let q = requester_of line in
     let other : responder_has_eid q.eid.number given.responder ≡ false = rw (requester_eid line) new.responder_eid in
@@ -342,8 +342,8 @@ suite_open : (given : Given) (line : List ℕ) → suite_fault given line ≡ No
 unfolding suite_fault
 suite_open given line h = let a = both _ _ _ h in (both _ _ _ a.1).0
 
-suite_kept_of : (end : ℕ) (suites : Suites) (given : Given) → given.ended ≡ false → IsRight given → IsRight (after_suite_of end suites given)
-suite_kept_of zero suites given open_ is = record {
+suite_kept_of : (needs : Bool) (end : ℕ) (suites : Suites) (given : Given) → given.ended ≡ false → IsRight needs given → IsRight needs (after_suite_of end suites given)
+suite_kept_of needs zero suites given open_ is = record {
   seed = is.seed;
   opaque = is.opaque;
   responder = is.responder;
@@ -352,7 +352,7 @@ suite_kept_of zero suites given open_ is = record {
   requesters = is.requesters;
   whole = λ e. is_not given.ended open_ e;
 }
-suite_kept_of (suc n) suites given open_ is = record {
+suite_kept_of needs (suc n) suites given open_ is = record {
   seed = is.seed;
   opaque = is.opaque;
   responder = is.responder;
@@ -366,20 +366,20 @@ suite_kept_of (suc n) suites given open_ is = record {
   whole = λ e. is_not given.ended open_ e;
 }
 
-suite_kept : (given : Given) (line : List ℕ) → suite_fault given line ≡ None → IsRight given → IsRight (after_suite given line)
+suite_kept : (needs : Bool) (given : Given) (line : List ℕ) → suite_fault given line ≡ None → IsRight needs given → IsRight needs (after_suite given line)
 unfolding after_suite
-suite_kept given line h is = suite_kept_of (suite_end line) (suites_in line) given (suite_open given line h) is
+suite_kept needs given line h is = suite_kept_of needs (suite_end line) (suites_in line) given (suite_open given line h) is
 
 -- ---- The end.
 
-end_kept : (given : Given) (line : List ℕ) → end_fault true given line ≡ None → IsRight given → IsRight (after_end given)
+end_kept : (needs : Bool) (given : Given) (line : List ℕ) → end_fault needs given line ≡ None → IsRight needs given → IsRight needs (after_end given)
 unfolding end_fault after_end
-end_kept given line h is =
-    let missing = is_none given.responder || nat_eq (length given.requesters) 0 || is_none given.seed in
+end_kept needs given line h is =
+    let missing = is_none given.responder || nat_eq (length given.requesters) 0 || needs && is_none given.seed in
     let a = both given.ended Order _ h in
     let b = both (not (has_words 1 line)) Words _ a.1 in
     let c = both missing Incomplete None b.1 in
-    let d = or_parts (is_none given.responder || nat_eq (length given.requesters) 0) (is_none given.seed) c.0 in
+    let d = or_parts (is_none given.responder || nat_eq (length given.requesters) 0) (needs && is_none given.seed) c.0 in
     let e = or_parts (is_none given.responder) (nat_eq (length given.requesters) 0) d.0 in
     record {
       seed = is.seed;
@@ -393,21 +393,21 @@ end_kept given line h is =
 
 -- ---- A line of any kind.
 
-pub config_open : (given : Given) (k : ConfigKind) (line : List ℕ) → config_fault true given k line ≡ None → given.ended ≡ false
+pub config_open : (needs : Bool) (given : Given) (k : ConfigKind) (line : List ℕ) → config_fault needs given k line ≡ None → given.ended ≡ false
 unfolding seed_fault responder_fault opaque_fault block_fault requester_fault end_fault
-config_open given kind.Seed line h = (both _ _ _ h).0
-config_open given kind.Responder line h = (both _ _ _ h).0
-config_open given kind.Opaque line h = (both _ _ _ h).0
-config_open given kind.Block line h = (both _ _ _ h).0
-config_open given kind.Requester line h = (both _ _ _ h).0
-config_open given kind.Suite line h = suite_open given line h
-config_open given kind.End line h = (both _ _ _ h).0
+config_open needs given kind.Seed line h = (both _ _ _ h).0
+config_open needs given kind.Responder line h = (both _ _ _ h).0
+config_open needs given kind.Opaque line h = (both _ _ _ h).0
+config_open needs given kind.Block line h = (both _ _ _ h).0
+config_open needs given kind.Requester line h = (both _ _ _ h).0
+config_open needs given kind.Suite line h = suite_open given line h
+config_open needs given kind.End line h = (both _ _ _ h).0
 
-pub config_kept : (given : Given) (k : ConfigKind) (line : List ℕ) → config_fault true given k line ≡ None → IsRight given → IsRight (after_config given k line)
-config_kept given kind.Seed line h is = seed_kept given line h is
-config_kept given kind.Responder line h is = responder_kept given line h is
-config_kept given kind.Opaque line h is = opaque_kept given line h is
-config_kept given kind.Block line h is = block_kept given line h is
-config_kept given kind.Requester line h is = requester_kept given line h is
-config_kept given kind.Suite line h is = suite_kept given line h is
-config_kept given kind.End line h is = end_kept given line h is
+pub config_kept : (needs : Bool) (given : Given) (k : ConfigKind) (line : List ℕ) → config_fault needs given k line ≡ None → IsRight needs given → IsRight needs (after_config given k line)
+config_kept needs given kind.Seed line h is = seed_kept needs given line h is
+config_kept needs given kind.Responder line h is = responder_kept needs given line h is
+config_kept needs given kind.Opaque line h is = opaque_kept needs given line h is
+config_kept needs given kind.Block line h is = block_kept needs given line h is
+config_kept needs given kind.Requester line h is = requester_kept needs given line h is
+config_kept needs given kind.Suite line h is = suite_kept needs given line h is
+config_kept needs given kind.End line h is = end_kept needs given line h is

@@ -6,6 +6,7 @@ pub mod ScriptRead
 pub mod SetUpRight
 pub mod WorldsRight
 pub mod EndsRight
+pub mod ConfigTextRead
 pub mod RefusedRight
 pub mod Traces
 pub mod Going

@@ -29,7 +29,7 @@ use Rattle.spdm_agreement.proofs.Responder.Exchange.{both_hold}
 -- ---- Every line keeps it.
 
 record IsRead (reader : ScriptReader) : Type 0 where
-  given : IsRight reader.given
+  given : IsRight true reader.given
   events : are_sound_events (length reader.given.requesters) reader.events ≡ true
   none : reader.given.ended ≡ false → reader.events ≡ []
 
@@ -59,9 +59,9 @@ event_kept reader number (Some k) line is h read =
 kind_kept : (reader : ScriptReader) (number : ℕ) (k : Option ConfigKind) (line : List ℕ) → script_kind_fault reader k line ≡ None → IsRead reader → IsRead (after_script_kind reader number k line)
 kind_kept reader number None line h read = event_kept reader number (event_kind line) line refl h read
 kind_kept reader number (Some k) line h read =
-    let none = read.none (config_open reader.given k line h) in
+    let none = read.none (config_open true reader.given k line h) in
     record {
-      given = config_kept reader.given k line h read.given;
+      given = config_kept true reader.given k line h read.given;
       events = rw none refl;
       none = λ open_. none;
     }
@@ -109,23 +109,34 @@ config_by r given = record {
   requesters = given.requesters;
 }
 
-config_sound : (given : Given) (r : RspLine) → given.responder ≡ Some r → given.ended ≡ true → IsRight given → IsSoundConfig (config_by r given)
-config_sound given r is ended right =
+-- the configuration with this seed
+abbrev pub seeded : List ℕ → ScriptConfig → ScriptConfig
+seeded bytes config = record config { seed = Some bytes }
+
+-- with any seed it is in range
+with_seed : (needs : Bool) (given : Given) (r : RspLine) (bytes : List ℕ) → are_bytes_in 32 32 bytes ≡ true → given.responder ≡ Some r → given.ended ≡ true → IsRight needs given →
+    IsSoundConfig (seeded bytes (config_by r given))
+with_seed needs given r bytes size is ended right =
     let whole = right.whole ended in
-    let seed = some_bytes given.seed whole.seed right.seed in
     let line : is_sound_line r ≡ true = (rw is at right.responder) in
     let apart : is_apart given.requesters r ≡ true = (rw is at right.apart) in
     record {
-      seed_bytes = seed.0;
-      seed = seed.1;
-      seed_size = seed.2;
+      seed_bytes = bytes;
+      seed = refl;
+      seed_size = size;
       responder = both_hold (is_sound_line r) (are_bytes_in 0 1024 (unwrap_or given.opaque [])) line (opaque_bytes given.opaque right.opaque);
       blocks = right.blocks;
       some = (let some = eqb-false (length given.requesters) 0 whole.some in omega (arith, some));
       requesters = apart_from r.eid.number [] given.requesters (not-true _ apart) right.requesters;
     }
 
-with_by : (given : Given) (o : Option RspLine) (config : ScriptConfig) → given.responder ≡ o → config_with o given ≡ Some config → given.ended ≡ true → IsRight given →
+config_sound : (given : Given) (r : RspLine) → given.responder ≡ Some r → given.ended ≡ true → IsRight true given → IsSoundConfig (config_by r given)
+config_sound given r is ended right =
+    let whole = right.whole ended in
+    let seed = some_bytes given.seed whole.seed right.seed in
+    subst (λ (o : Option (List ℕ)). IsSoundConfig (record (config_by r given) { seed = o })) (sym seed.1) (with_seed true given r seed.0 seed.2 is ended right)
+
+with_by : (given : Given) (o : Option RspLine) (config : ScriptConfig) → given.responder ≡ o → config_with o given ≡ Some config → given.ended ≡ true → IsRight true given →
     IsSoundConfig config × (given.requesters ≡ config.requesters)
 with_by given None config is h ended right = absurd (none-some config h)
 with_by given (Some r) config is h ended right =
@@ -135,6 +146,19 @@ with_by given (Some r) config is h ended right =
 by_end : (ended : Bool) (o : Option ScriptConfig) (config : ScriptConfig) → (if ended then o else None) ≡ Some config → (ended ≡ true) × (o ≡ Some config)
 by_end true o config h = (refl, h)
 by_end false o config h = absurd (none-some config h)
+
+-- what was read of a configuration, with any seed
+given_by : (given : Given) (o : Option RspLine) (config : ScriptConfig) (bytes : List ℕ) → are_bytes_in 32 32 bytes ≡ true → given.responder ≡ o → config_with o given ≡ Some config →
+    given.ended ≡ true → IsRight false given → IsSoundConfig (seeded bytes config)
+given_by given None config bytes size is h ended right = absurd (none-some config h)
+given_by given (Some r) config bytes size is h ended right =
+    let same : config_by r given ≡ config = ap (λ (o : Option ScriptConfig). unwrap_or o (config_by r given)) h in
+    subst (λ (c : ScriptConfig). IsSoundConfig (seeded bytes c)) same (with_seed false given r bytes size is ended right)
+
+pub given_sound : (given : Given) (config : ScriptConfig) (bytes : List ℕ) → are_bytes_in 32 32 bytes ≡ true → config_of given ≡ Some config → IsRight false given → IsSoundConfig (seeded bytes config)
+given_sound given config bytes size h right =
+    let ended = by_end given.ended (config_with given.responder given) config h in
+    given_by given given.responder config bytes size refl ended.1 ended.0 right
 
 whole_is : (events : List Entry) (o : Option ScriptConfig) (script : Script) → option_map (script_with events) o ≡ Some script → (o ≡ Some script.config) × (events ≡ script.events)
 whole_is events None script h = absurd (none-some script h)
@@ -154,6 +178,6 @@ pub script_sound : (text : List ℕ) (script : Script) → script_in text ≡ Ok
     IsSoundConfig script.config × (are_sound_events (length script.config.requesters) script.events ≡ true)
 unfolding script_in
 script_sound text script h =
-    let begin : IsRead (record { given = nothing_given; events = [] }) = record { given = nothing_right; events = refl; none = λ open_. refl } in
+    let begin : IsRead (record { given = nothing_given; events = [] }) = record { given = nothing_right true; events = refl; none = λ open_. refl } in
     let last = held script_fault after_script whole_script IsRead line_kept (lines_of text) 1 (record { given = nothing_given; events = [] }) script h begin in
     reader_sound last.0 script last.1 last.2

@@ -6,6 +6,7 @@ use Rattle.requester.specs.declared.config.ReqConfig.{ReqConfig}
 use Rattle.responder.specs.Config as answering
 use Rattle.responder.specs.SetUp as answering_set_up
 use Rattle.responder.specs.declared.config.RspConfig.{RspConfig}
+use Rattle.script_text.specs.ConfigText.{config_in}
 use Rattle.script_text.specs.ScriptText.{script_in}
 use Rattle.script_text.specs.declared.config.ReqPart.{ReqPart}
 use Rattle.script_text.specs.declared.config.ScriptConfig.{ScriptConfig}
@@ -31,3 +32,7 @@ pub record HasNoFault (c : ScriptConfig) : Type 0 where
 
 abbrev pub ReadEndsHaveNoFault : Type 0
 ReadEndsHaveNoFault = (text : List ℕ) (script : Script) → script_in text ≡ Ok script → HasNoFault script.config
+
+-- The same of a configuration that a text is, which needs no seed.
+abbrev pub ConfiguredEndsHaveNoFault : Type 0
+ConfiguredEndsHaveNoFault = (text : List ℕ) (c : ScriptConfig) → config_in text ≡ Ok c → HasNoFault c

@@ -1,6 +1,6 @@
 //! What holds of every script that a text is, each law as the contract of a function that does nothing.
 
-ghost use Rattle.script_worlds.specs.Ends.{ReadEndsHaveNoFault};
+ghost use Rattle.script_worlds.specs.Ends.{ConfiguredEndsHaveNoFault, ReadEndsHaveNoFault};
 ghost use Rattle.script_worlds.specs.Laws.{ReadScriptIsSound};
 ghost use Rattle.script_worlds.specs.Refused.{RefusesIn, TableRefusesClear, TableRefusesRecord};
 ghost use Rattle.script_worlds.specs.Worlds.{AgreesIn, DeliversIn, MatchesIn, ReadSetUpIsConfigured, SealsOnceIn, ShowsAlikeIn};
@@ -19,6 +19,12 @@ pub fn script_is_configured()
 /// No end of a script is refused, whatever it is made of that sets it up.
 pub fn ends_have_no_fault()
     ensures { ReadEndsHaveNoFault }
+{}
+
+/// No end of a configuration that a text is, with a seed or without one, is refused, whatever it is made of
+/// that sets it up.
+pub fn configured_ends_have_no_fault()
+    ensures { ConfiguredEndsHaveNoFault }
 {}
 
 /// After each beginning of the events of a script without chance, where both ends of a pair hold open a

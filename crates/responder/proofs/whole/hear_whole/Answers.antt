@@ -22,7 +22,7 @@ returns c = λ p q k part set towards_is made few below to from empty stands.
     let tag : ℕ = c.args.route.tag in
     let o : Outcome = responder_does k.setup k.history tag bytes d in
     let drawn = draw_is c.peek-drawn.result old.draws.seed old.draws.number c.peek-drawn.ensures.number c.peek-drawn.ensures.bytes in
-    let done = subst (λ (x : Draw). IsDone k.setup k.history (responder_does k.setup k.history tag bytes x) c.in-Some.heard c.hear_body.new.body c.hear_body.new.connection) drawn (c.in-Some.ensures.done k.setup k.history set made few stands) in
+    let done = subst (λ (x : Draw). IsDone k.setup k.history (responder_does k.setup k.history tag bytes x) c.in-Some.heard c.hear_body.new.room.body c.hear_body.new.connection) drawn (c.in-Some.ensures.done k.setup k.history set made few stands) in
     let took = subst (λ (x : Draw). c.hear_body.new.connection.drawn ≡ is_drawn (responder_does k.setup k.history tag bytes x)) drawn (c.in-Some.ensures.drawn k.setup k.history set made few stands) in
     let tells = body_data k.setup k.history tag bytes d old.last in
     let route : ℕ → ℕ → RouteFields = λ x y. record { to = x; from = y; owner = false; tag = tag } in
@@ -36,7 +36,7 @@ returns c = λ p q k part set towards_is made few below to from empty stands.
       sent =
           c.fill.ensures ∙ ap (λ (r : RouteFields). packets_of r c.from.result c.as_slice.result.now) c.reversed.ensures
           ∙ ap (λ (n : ℕ). packets_of (route c.args.route.from.number c.args.route.to.number) n c.as_slice.result.now) (c.from.ensures ∙ sym unit)
-          ∙ ap (λ (xs : List ℕ). packets_of (route c.args.route.from.number c.args.route.to.number) k.setup.unit xs) (c.as_slice.ensures.value ∙ c.follow.ensures.body ∙ done.body)
+          ∙ ap (λ (xs : List ℕ). packets_of (route c.args.route.from.number c.args.route.to.number) k.setup.unit xs) (c.as_slice.ensures.value ∙ ap (λ (x : Room). x.body) c.follow.ensures.room ∙ done.body)
           ∙ ap (λ (x : ℕ). packets_of (route x c.args.route.to.number) k.setup.unit (body_of o)) (sym peer)
           ∙ ap (λ (y : ℕ). packets_of (route k.setup.peer y) k.setup.unit (body_of o)) (sym eid);
       stands = done.stands;

@@ -30,6 +30,6 @@ returns-in-Ok c = λ q h f d padded short stands.
     let told = c.in-Ok.ensures q h f d padded short none (c.session_fault.ensures.connected h stands.talk.shows c.in_default.is) stands.sessions in
     let aims = ask_aims q h f d c.args.id c.args.ask told.0 told.1 in
     record_done q h command f d c.send_record-tag.result c.write_record.new.out
-    (record { talk = c.send_record-tag.new.self; gathered = c.args.self.now.gathered; sessions = c.ask.new.self })
+    (record { talk = c.send_record-tag.new.self; gathered = c.args.self.now.gathered; sessions = c.ask.new.self; message = c.args.self.now.message })
     told.0 c.record.result.now told.1 (c.send_record-tag.ensures.told q h command f d told.0 aims.0 stands.talk told.1 aims.1)
     (c.record.ensures.bytes q _ told.0 c.args.id aims.0 refl aims.1 told.2) c.write_record.ensures told.2 stands.gathers.max

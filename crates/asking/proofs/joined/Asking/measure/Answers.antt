@@ -8,9 +8,9 @@ use Rattle.asking.proofs.joined.Asking.measure.Goals as goal
 pub returns-in-Ok : goal.returns-in-Ok
 returns-in-Ok c = λ q h f d sizes stands.
     clear_done q h (Measure None c.args.op) f d c.in-Ok.tag c.write_clear.new.out
-    (record { talk = c.measure.new.self; gathered = c.args.self.now.gathered; sessions = c.args.self.now.sessions })
+    (record { talk = c.measure.new.self; gathered = c.args.self.now.gathered; sessions = c.args.self.now.sessions; message = c.measure.new.out })
     c.measure.new.out (c.in-Ok.ensures q h f d sizes stands.talk) (c.write_clear.ensures ∙ ap clear_body c.as_slice.ensures.value)
     (λ sent adds behind. measure_passes c.args.self.now.sessions q h f d c.args.op sent adds stands.sessions) stands.gathers.max
 
 pub returns-in-Err : goal.returns-in-Err
-returns-in-Err c = λ q h f d sizes stands. clear_fails q h (Measure None c.args.op) f d c.in-Err.fault c.args.self.now c.measure.new.self (c.in-Err.ensures q h f d sizes stands.talk) stands
+returns-in-Err c = λ q h f d sizes stands. clear_fails q h (Measure None c.args.op) f d c.in-Err.fault c.args.self.now c.measure.new.self c.measure.new.out (c.in-Err.ensures q h f d sizes stands.talk) stands

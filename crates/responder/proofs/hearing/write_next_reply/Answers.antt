@@ -1,5 +1,5 @@
 use Rattle.responder.proofs.Filled.{filled}
-use Rattle.responder.proofs.hearing.next_reply.Goals as goal
+use Rattle.responder.proofs.hearing.write_next_reply.Goals as goal
 use Rattle.std.proofs.Common.{◌∙◌}
 
 pub returns : goal.returns
