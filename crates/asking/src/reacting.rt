@@ -82,7 +82,7 @@ impl Asking {
         requires pad { length pad.now ≤ 16 }
         ensures { (q : ReqSetup) (h : History) (owner : Bool) (tag : ℕ) (body : List ℕ) (f : Free)
             (d : Draw) → f.pad ≡ pad.now
-            → IsExchangeFor q h owner tag body id self.old.talk self.old.talk answer.now
+            → IsExchangeFor q h owner tag body id self.old.talk self.old.talk self.old.message
             → StandsFor self.old q h
             → IsAnswered q h (hears q h owner tag body f d) result out.new self.new }
     {

@@ -46,6 +46,18 @@ read_lines fault after whole number state [] = whole_or_missing number (whole st
 read_lines fault after whole number state (line ∷ lines) =
     unless_bad number (line_fault fault state line) (read_lines fault after whole (number + 1) (after_line after state number line) lines)
 
+-- The first bad line of a text, and its fault.
+pub record BadLine : Type 0 where
+  pub line : ℕ
+  pub fault : LineFault
+
+-- That of a text which was read so.
+abbrev pub bad_line_in : {V : Type 0} → Result V ScriptFault → Option BadLine
+bad_line_in (Ok v) = None
+bad_line_in (Err (fault.Line line f)) = Some (record { line = line; fault = f })
+bad_line_in (Err (fault.TooManyEvents line)) = Some (record { line = line; fault = TooManyEvents })
+bad_line_in (Err fault.OutOfMemory) = None
+
 -- An answer about a text is what its lines say; want of memory says nothing.
 abbrev pub IsReading : {V : Type 0} → Result V ScriptFault → Result V ScriptFault → Type 0
 IsReading said (Ok v) = said ≡ Ok v

@@ -6,7 +6,7 @@ use Rattle.script_text.specs.declared.faults.ScriptFault.TheVariants as fault
 use Rattle.script_text.specs.declared.shown.Shown.{Shown}
 use Rattle.spdm_show.specs.Shown.{IsBad}
 use Rattle.spdm_show.specs.declared.showing.ShowFault.TheVariants as told
-use Rattle.spdm_cmd.specs.Answer.{BadLine, bad_line_in}
+use Rattle.script_text.specs.Reading.{BadLine, bad_line_in}
 use Rattle.spdm_cmd.specs.declared.output.TextFault.{TextFault}
 use Rattle.spdm_cmd.specs.declared.output.TextFault.TheVariants as output
 

@@ -4,10 +4,9 @@ use Rattle.link_world.specs.Worlds.{StandsFor}
 use Rattle.link_world.specs.declared.world.World.{World}
 use Rattle.script_text.specs.Generator.{generated}
 use Rattle.script_text.specs.OtherLines.{summary_text}
+use Rattle.script_text.specs.Reading.{BadLine, bad_line_in}
 use Rattle.script_text.specs.ScriptText.{script_in}
 use Rattle.script_text.specs.ShownText.{shown_in}
-use Rattle.script_text.specs.declared.faults.LineFault.{LineFault}
-use Rattle.script_text.specs.declared.faults.LineFault.TheVariants.{TooManyEvents}
 use Rattle.script_text.specs.declared.faults.ScriptFault.{ScriptFault}
 use Rattle.script_text.specs.declared.faults.ScriptFault.TheVariants as fault
 use Rattle.script_text.specs.declared.script.Script.{Script}
@@ -16,9 +15,11 @@ use Rattle.spdm_basis.specs.Stream.{IsQuiet}
 use Rattle.spdm_show.specs.Shown.{shown_text}
 use Rattle.world_machine.specs.Totals.{Totals, totals_of}
 use Rattle.spdm_cmd.specs.declared.outcome.Outcome.{Outcome}
-use Rattle.spdm_cmd.specs.declared.outcome.Outcome.TheVariants.{Done, Usage, BadScript, ReadFault, WriteFault, OutOfMemory, TooLong, LinkFull}
+use Rattle.spdm_cmd.specs.declared.outcome.Outcome.TheVariants.{Done, Usage, BadFrame, BadScript, ReadFault, WriteFault, OutOfMemory, SeedFault, TooLong, LinkFull}
 use Rattle.spdm_cmd.specs.declared.words.Command.{Command}
-use Rattle.spdm_cmd.specs.declared.words.Command.TheVariants.{Gen, Run, Show}
+use Rattle.spdm_cmd.specs.declared.words.Command.TheVariants.{Serve, Text}
+use Rattle.spdm_cmd.specs.declared.words.TextCommand.{TextCommand}
+use Rattle.spdm_cmd.specs.declared.words.TextCommand.TheVariants.{Gen, Run, Show}
 
 -- The longest text that is read: 4 MiB.
 abbrev pub text_limit : ℕ
@@ -26,29 +27,33 @@ text_limit = 4194304
 
 -- ---- What is read.
 
--- What a command reads: what the source has left. One that reads nothing has no bytes to read.
-abbrev pub input_of : Command → Option (List ℕ) → Option (List ℕ)
+-- The text that a command reads: what the source has left. One that reads nothing has no bytes to read.
+abbrev pub input_of : TextCommand → Option (List ℕ) → Option (List ℕ)
 input_of Run left = left
 input_of Show left = left
 input_of (Gen seed count) left = Some []
 
+-- Of a command that answers a stream other clauses tell.
 abbrev pub input_by : Option Command → Option (List ℕ) → Option (List ℕ)
 input_by None left = left
-input_by (Some command) left = input_of command left
+input_by (Some (Text command)) left = input_of command left
+input_by (Some Serve) left = None
 
 -- The command reads.
 abbrev pub reads : Option Command → Bool
 reads None = false
-reads (Some Run) = true
-reads (Some Show) = true
-reads (Some (Gen seed count)) = false
+reads (Some (Text Run)) = true
+reads (Some (Text Show)) = true
+reads (Some (Text (Gen seed count))) = false
+reads (Some Serve) = true
 
 -- Where the command reads, the source's count of faults shows none.
 abbrev pub IsReadQuietly : Option Command → (before after : ℕ) → Type 0
-IsReadQuietly (Some (Gen seed count)) before after = Unit {0}
+IsReadQuietly (Some (Text (Gen seed count))) before after = Unit {0}
 IsReadQuietly None before after = IsQuiet before after
-IsReadQuietly (Some Run) before after = IsQuiet before after
-IsReadQuietly (Some Show) before after = IsQuiet before after
+IsReadQuietly (Some (Text Run)) before after = IsQuiet before after
+IsReadQuietly (Some (Text Show)) before after = IsQuiet before after
+IsReadQuietly (Some Serve) before after = IsQuiet before after
 
 -- ---- What is written.
 
@@ -67,7 +72,7 @@ generated_text None summary = summary
 generated_text (Some line) summary = []
 
 -- The output of a command for a text: that of a script, the lines of messages, or the summary of a generated script.
-abbrev pub output_of : Command → List ℕ → List ℕ
+abbrev pub output_of : TextCommand → List ℕ → List ℕ
 output_of Run text = run_text (script_in text)
 output_of Show text = shown_text text
 output_of (Gen seed count) text = generated_text (full_line (generated seed count)) (summary_of seed count (totals_of (last_world (generated seed count))))
@@ -75,30 +80,21 @@ output_of (Gen seed count) text = generated_text (full_line (generated seed coun
 -- The output that the words ask for.
 abbrev pub output_by : Option Command → List ℕ → List ℕ
 output_by None text = []
-output_by (Some command) text = output_of command text
+output_by (Some (Text command)) text = output_of command text
+output_by (Some Serve) text = []
 
--- ---- The first bad line of a text, and its fault.
-
-pub record BadLine : Type 0 where
-  pub line : ℕ
-  pub fault : LineFault
-
--- The first bad line of a text that was read so.
-abbrev pub bad_line_in : {V : Type 0} → Result V ScriptFault → Option BadLine
-bad_line_in (Ok v) = None
-bad_line_in (Err (fault.Line line f)) = Some (record { line = line; fault = f })
-bad_line_in (Err (fault.TooManyEvents line)) = Some (record { line = line; fault = TooManyEvents })
-bad_line_in (Err fault.OutOfMemory) = None
+-- ---- Bad lines.
 
 -- The first bad line of a text of a command.
-abbrev pub bad_line_of : Command → List ℕ → Option BadLine
+abbrev pub bad_line_of : TextCommand → List ℕ → Option BadLine
 bad_line_of Run text = bad_line_in (script_in text)
 bad_line_of Show text = bad_line_in (shown_in text)
 bad_line_of (Gen seed count) text = None
 
 abbrev pub bad_line_by : Option Command → List ℕ → Option BadLine
 bad_line_by None text = None
-bad_line_by (Some command) text = bad_line_of command text
+bad_line_by (Some (Text command)) text = bad_line_of command text
+bad_line_by (Some Serve) text = None
 
 -- ---- A full link.
 
@@ -107,14 +103,15 @@ abbrev pub full_in : Result Script ScriptFault → Option ℕ
 full_in (Ok script) = full_line script
 full_in (Err f) = None
 
-abbrev pub full_of : Command → List ℕ → Option ℕ
+abbrev pub full_of : TextCommand → List ℕ → Option ℕ
 full_of Run text = full_in (script_in text)
 full_of Show text = None
 full_of (Gen seed count) text = full_line (generated seed count)
 
 abbrev pub full_by : Option Command → List ℕ → Option ℕ
 full_by None text = None
-full_by (Some command) text = full_of command text
+full_by (Some (Text command)) text = full_of command text
+full_by (Some Serve) text = None
 
 -- ---- What is answered.
 
@@ -125,13 +122,14 @@ outcome_for None (Some line) = LinkFull line
 outcome_for None None = Done
 
 -- The answer to a text.
-abbrev pub answer_of : Command → List ℕ → Outcome
+abbrev pub answer_of : TextCommand → List ℕ → Outcome
 answer_of command text = if nat_lt text_limit (length text) then TooLong else outcome_for (bad_line_of command text) (full_of command text)
 
--- The answer to words and a text, where nothing fails and memory does not run out.
+-- The answer to words and a text, where nothing fails and memory does not run out. A stream is answered elsewhere.
 abbrev pub answer_to : Option Command → List ℕ → Outcome
 answer_to None text = Usage
-answer_to (Some command) text = answer_of command text
+answer_to (Some (Text command)) text = answer_of command text
+answer_to (Some Serve) text = Usage
 
 -- Nothing is written with this outcome.
 abbrev pub writes_nothing : Outcome → Bool
@@ -139,9 +137,11 @@ writes_nothing Usage = true
 writes_nothing (BadScript line f) = true
 writes_nothing ReadFault = true
 writes_nothing TooLong = true
+writes_nothing SeedFault = true
 writes_nothing Done = false
 writes_nothing WriteFault = false
 writes_nothing (LinkFull line) = false
+writes_nothing (BadFrame at) = false
 writes_nothing OutOfMemory = false
 
 -- No line of the text was bad with this outcome.
@@ -153,6 +153,8 @@ ran Usage = false
 ran (BadScript line f) = false
 ran ReadFault = false
 ran TooLong = false
+ran SeedFault = false
+ran (BadFrame at) = false
 ran OutOfMemory = false
 
 -- ---- What is left.
@@ -164,9 +166,10 @@ IsLastWorld (Err f) world = ⊥
 
 -- What is left after a command that is done: a script leaves its last world, also a generated one, and nothing else changes what was left.
 abbrev pub IsLeft : Option Command → List ℕ → (old new : Option World) → Type 0
-IsLeft (Some Run) text old (Some world) = IsLastWorld (script_in text) world
-IsLeft (Some Run) text old None = ⊥
-IsLeft (Some (Gen seed count)) text old (Some world) = StandsFor world (last_world (generated seed count))
-IsLeft (Some (Gen seed count)) text old None = ⊥
-IsLeft (Some Show) text old new = new ≡ old
+IsLeft (Some (Text Run)) text old (Some world) = IsLastWorld (script_in text) world
+IsLeft (Some (Text Run)) text old None = ⊥
+IsLeft (Some (Text (Gen seed count))) text old (Some world) = StandsFor world (last_world (generated seed count))
+IsLeft (Some (Text (Gen seed count))) text old None = ⊥
+IsLeft (Some (Text Show)) text old new = new ≡ old
+IsLeft (Some Serve) text old new = new ≡ old
 IsLeft None text old new = new ≡ old

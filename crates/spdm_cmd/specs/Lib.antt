@@ -2,3 +2,4 @@ pub mod Words
 pub mod OutcomeTable
 pub mod Going
 pub mod Answer
+pub mod Streams

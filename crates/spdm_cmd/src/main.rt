@@ -9,6 +9,9 @@ mod reading;
 mod rows;
 mod run;
 mod script_run;
+mod serving;
+#[cfg(test)]
+mod stream_rows;
 #[cfg(test)]
 mod tests;
 mod words;

@@ -11,17 +11,22 @@ pub enum Outcome {
     Usage,
     /// This line, counted from 1, is the first bad one. Nothing was written.
     BadScript { line: u32, fault: LineFault },
-    /// Reading failed. Nothing was written.
+    /// Reading failed, behind a part of the output in a command that answers a stream; in the others nothing was
+    /// written.
     ReadFault,
     /// Writing failed, behind a part of the output.
     WriteFault,
     /// Memory ran out, maybe behind a part of the output.
     OutOfMemory,
-    /// The text is longer than 4 MiB. Nothing was written.
+    /// No seed was given. Nothing was written.
+    SeedFault,
+    /// The text is longer than 4 MiB, and nothing was written; or the stream is longer than 2^40 bytes.
     TooLong,
     /// The event on this line sends a packet for which the link has no room. All that stands before the
     /// line of the packet was written.
     LinkFull { line: u32 },
+    /// The frame that begins at this byte of the stream is bad. What the frames before it led to was written.
+    BadFrame { at: u64 },
 }
 
 impl Outcome {
@@ -38,8 +43,10 @@ impl Outcome {
             Outcome::ReadFault => 4,
             Outcome::WriteFault => 5,
             Outcome::OutOfMemory => 6,
+            Outcome::SeedFault => 7,
             Outcome::TooLong => 8,
             Outcome::LinkFull { .. } => 9,
+            Outcome::BadFrame { .. } => 10,
         }
     }
 
@@ -54,8 +61,10 @@ impl Outcome {
             Outcome::ReadFault => "ReadFault",
             Outcome::WriteFault => "WriteFault",
             Outcome::OutOfMemory => "OutOfMemory",
+            Outcome::SeedFault => "SeedFault",
             Outcome::TooLong => "TooLong",
             Outcome::LinkFull { .. } => "LinkFull",
+            Outcome::BadFrame { .. } => "BadFrame",
         }
     }
 }

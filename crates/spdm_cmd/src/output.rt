@@ -2,12 +2,13 @@ ghost use Rattle.std.specs.Prelude.{◌≡◌, ◌≤◌, ℕ, Err, None, Some, 
 ghost use Rattle.script_text.specs.declared.faults.LineFault.{LineFault};
 ghost use Rattle.spdm_basis.specs.Stream.{HasFault, Takes, TakesPrefix};
 ghost use Rattle.spdm_cmd.specs.Answer.{IsLeft, bad_line_of, full_of, output_of};
-ghost use Rattle.spdm_cmd.specs.Words.{IsInRange};
-ghost use Rattle.spdm_cmd.specs.declared.words.Command.TheVariants.{Show};
+ghost use Rattle.spdm_cmd.specs.Words.{IsTextInRange};
+ghost use Rattle.spdm_cmd.specs.declared.words.Command.TheVariants.{Text};
+ghost use Rattle.spdm_cmd.specs.declared.words.TextCommand.TheVariants.{Show};
 
 use crate::generated::summarize;
 use crate::script_run::run;
-use crate::words::Command;
+use crate::words::TextCommand;
 use link_world::World;
 use script_text::{LineFault, TEXT_LIMIT};
 use spdm_basis::Sink;
@@ -37,16 +38,16 @@ pub enum TextFault {
 /// after all events.
 pub fn write_output<K: Sink>(
     alloc: Global,
-    command: Command,
+    command: TextCommand,
     text: &[u8],
     sink: &mut K,
     left: &mut Option<World>,
 ) -> Result<(), TextFault>
     requires text { length text.now ≤ TEXT_LIMIT }
-    requires range { IsInRange command }
+    requires range { IsTextInRange command }
     ensures whole { OnOk result (Takes (K.contents sink.old) (output_of command text.now)
         (K.contents sink.new)) }
-    ensures last { OnOk result (IsLeft (Some command) text.now left.old left.new) }
+    ensures last { OnOk result (IsLeft (Some (Text command)) text.now left.old left.new) }
     ensures as_before { OnErr result (left.new ≡ left.old) }
     ensures prefix { TakesPrefix (K.contents sink.old) (output_of command text.now)
         (K.contents sink.new) }
@@ -65,15 +66,15 @@ pub fn write_output<K: Sink>(
     ensures later { K.faults sink.old ≤ K.faults sink.new }
 {
     match command {
-        Command::Run => match run(alloc, text, sink) {
+        TextCommand::Run => match run(alloc, text, sink) {
             Ok(world) => {
                 *left = Some(world);
                 Ok(())
             }
             Err(fault) => Err(fault),
         },
-        Command::Show => show_messages(alloc, text, sink),
-        Command::Gen { seed, count } => match summarize(alloc, seed, count, sink) {
+        TextCommand::Show => show_messages(alloc, text, sink),
+        TextCommand::Gen { seed, count } => match summarize(alloc, seed, count, sink) {
             Ok(last) => {
                 *left = Some(last);
                 Ok(())

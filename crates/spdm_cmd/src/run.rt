@@ -4,12 +4,17 @@ ghost use Rattle.script_worlds.specs.Refused.{RefusesIn};
 ghost use Rattle.script_worlds.specs.Worlds.{AgreesIn, DeliversIn, MatchesIn, SealsOnceIn, ShowsAlikeIn};
 ghost use Rattle.spdm_basis.specs.Stream.{HasFault, IsQuiet, Takes, TakesPrefix};
 ghost use Rattle.spdm_cmd.specs.Answer.{IsLeft, IsReadQuietly, answer_to, bad_line_by, full_by, input_by, output_by, ran, reads, text_limit, writes_nothing};
+ghost use Rattle.spdm_cmd.specs.Streams.{IsServed, answers_stream, is_of_streams, outcome_of};
 ghost use Rattle.spdm_cmd.specs.Words.{command_of};
+ghost use Rattle.spdm_cmd.specs.declared.words.Command.TheVariants.{Serve};
+ghost use Rattle.stream_commands.specs.InputEnds.{HasEnd, InputEnd, IsStreamToServe, answer_for};
+ghost use Rattle.stream_commands.specs.Served.{outside};
 
 use crate::outcome::Outcome;
 use crate::output::{TextFault, write_output};
 use crate::reading::read_text;
-use crate::words::command_of;
+use crate::serving::serve_stream;
+use crate::words::{Command, command_of};
 use link_world::World;
 use spdm_basis::{InFault, Seeds, Sink, Source};
 use std::alloc::Global;
@@ -18,7 +23,9 @@ use std::alloc::Global;
 /// responder over its link, writes their trace, and leaves their world in `left`. The word `show` reads
 /// messages, one a line, and writes their names and lengths. The words `gen SEED COUNT` run the generated
 /// script of a seed below 2^64 and a count of 1 to 20,000 events without its trace, write one line that tells
-/// what it came to, and leave its world. None of them takes a seed of `seeds`.
+/// what it came to, and leave its world. None of these takes a seed of `seeds`. The word `serve` reads a
+/// configuration up to `end`, takes one seed, and answers the frames of the stream behind as the responder that is
+/// configured.
 #[tactic(auto, using(crate::proofs::TopCall::read_is, script_worlds::proofs::RefusedRight::refuses))]
 pub fn spdm<S: Source, K: Sink, E: Seeds>(
     alloc: Global,
@@ -42,7 +49,8 @@ pub fn spdm<S: Source, K: Sink, E: Seeds>(
         → input_by (command_of (map string_bytes words.now)) (S.remaining source.old) ≡ Some text
         → TakesPrefix (K.contents sink.old)
         (output_by (command_of (map string_bytes words.now)) text) (K.contents sink.new) }
-    ensures nothing_written { writes_nothing result ≡ true → sink.new ≡ sink.old }
+    ensures nothing_written { answers_stream (command_of (map string_bytes words.now)) ≡ false
+        → writes_nothing result ≡ true → sink.new ≡ sink.old }
 
     // Where a packet finds the link full, all that stands before its line was written.
     ensures link_full { (line : ℕ) → result ≡ Outcome.LinkFull line → (text : List ℕ)
@@ -61,7 +69,26 @@ pub fn spdm<S: Source, K: Sink, E: Seeds>(
         → input_by (command_of (map string_bytes words.now)) (S.remaining source.old) ≡ Some text
         → IsLeft (command_of (map string_bytes words.now)) text left.old left.new }
     ensures left_as_before { result ≢ Outcome.Done → left.new ≡ left.old }
-    ensures no_seed { seeds.new ≡ seeds.old }
+    ensures no_seed { answers_stream (command_of (map string_bytes words.now)) ≡ false
+        → seeds.new ≡ seeds.old }
+
+    // The word `serve`: all whole frames of the stream are answered, in order, by the responder of the
+    // configuration with the one seed that was taken; with each other answer what was written tells how far.
+    ensures served { command_of (map string_bytes words.now) ≡ Some Serve → IsServed
+        (outside (S.remaining source.old) (K.contents sink.old) (E.left seeds.old)
+        (S.faults source.old) (K.faults sink.old) (E.faults seeds.old))
+        (outside (S.remaining source.new) (K.contents sink.new) (E.left seeds.new)
+        (S.faults source.new) (K.faults sink.new) (E.faults seeds.new)) result }
+    ensures served_exactly { command_of (map string_bytes words.now) ≡ Some Serve
+        → (input : List ℕ) (end : InputEnd) → S.remaining source.old ≡ Some input
+        → HasEnd IsStreamToServe input end → IsQuiet (S.faults source.old) (S.faults source.new)
+        → IsQuiet (K.faults sink.old) (K.faults sink.new)
+        → IsQuiet (E.faults seeds.old) (E.faults seeds.new)
+        → (result ≡ Outcome.OutOfMemory) ⊎ (result ≡ outcome_of (answer_for end)) }
+    ensures leaves_nothing { answers_stream (command_of (map string_bytes words.now)) ≡ true
+        → left.new ≡ left.old }
+    ensures of_streams_alone { is_of_streams result ≡ true
+        → answers_stream (command_of (map string_bytes words.now)) ≡ true }
 
     // The headline, of each script that the source has: after each beginning of its events, without chance up
     // to there; and at each of its events.
@@ -113,6 +140,10 @@ pub fn spdm<S: Source, K: Sink, E: Seeds>(
 {
     let Some(command) = command_of(words) else {
         return Outcome::Usage;
+    };
+    let command = match command {
+        Command::Text(command) => command,
+        Command::Serve => return serve_stream(alloc, source, sink, seeds),
     };
     let text = match read_text(alloc, command, source) {
         Ok(text) => text,

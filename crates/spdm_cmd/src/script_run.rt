@@ -7,7 +7,7 @@ ghost use Rattle.script_worlds.specs.Scripts.{entries_in, full_from, full_line, 
 ghost use Rattle.spdm_basis.specs.Stream.{HasFault, Takes, TakesPrefix};
 ghost use Rattle.spdm_cmd.specs.Answer.{IsLastWorld, bad_line_of, full_of, output_of};
 ghost use Rattle.spdm_cmd.specs.Going.{IsFullAt, text_from};
-ghost use Rattle.spdm_cmd.specs.declared.words.Command.TheVariants.{Run};
+ghost use Rattle.spdm_cmd.specs.declared.words.TextCommand.TheVariants.{Run};
 ghost use Rattle.world_machine.specs.Trace.{world_from};
 ghost use Rattle.world_machine.specs.World as machine;
 

@@ -8,6 +8,15 @@ use std::{env, io};
 /// A command of the program.
 #[derive(Clone, Copy, Debug, PartialEq, Eq)]
 pub enum Command {
+    /// One text is read whole, and its output written.
+    Text(TextCommand),
+    /// A responder answers a stream of frames.
+    Serve,
+}
+
+/// A command that reads one text whole, or none.
+#[derive(Clone, Copy, Debug, PartialEq, Eq)]
+pub enum TextCommand {
     /// A script is run, and its trace written.
     Run,
     /// Messages are shown, a line for each.
@@ -36,9 +45,11 @@ fn command_named(word: &str) -> Option<Command>
     ensures range { IfSome result (λ command. IsInRange command) }
 {
     if word == "run" {
-        Some(Command::Run)
+        Some(Command::Text(TextCommand::Run))
     } else if word == "show" {
-        Some(Command::Show)
+        Some(Command::Text(TextCommand::Show))
+    } else if word == "serve" {
+        Some(Command::Serve)
     } else {
         None
     }
@@ -55,7 +66,7 @@ fn generator(word: &str, seed: &str, count: &str) -> Option<Command>
     }
     let seed = long_number(seed.as_bytes())?;
     let count = number(1, MOST_GENERATED, count.as_bytes())?;
-    Some(Command::Gen { seed, count })
+    Some(Command::Text(TextCommand::Gen { seed, count }))
 }
 
 /// The words that the program was started with, behind its name.

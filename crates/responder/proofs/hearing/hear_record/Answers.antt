@@ -14,7 +14,7 @@ returns-clause-done c = λ r h tag setup few stands.
     let d : Draw = draw_as c.args.drawn.now in
     let sealed : List ℕ = c.args.sealed.now in
     let free = record_are r h sealed d _ refl refl (c.next_handle_in.ensures r h stands ∙ ap (λ (id : SessionId). next_handle (turns_of (session_of id.rsp h))) c.record_id.ensures)
-    (c.as_slice.ensures.value ∙ c.next_reply-reply.ensures r h stands) refl in
+    (c.as_slice.ensures.value ∙ c.write_next_reply.ensures r h stands) refl in
     let done = c.on_record-heard.ensures.done r h tag (record_chosen r h sealed d) d setup free few stands in
     record { told = done.told; body = c.write_reply.ensures ∙ ap (body_by c.on_record-heard.result) c.as_slice-2.ensures.value ∙ done.body; stands = done.stands }
 
@@ -23,5 +23,5 @@ returns-clause-drawn c = λ r h tag setup few stands.
     let d : Draw = draw_as c.args.drawn.now in
     let sealed : List ℕ = c.args.sealed.now in
     let free = record_are r h sealed d _ refl refl (c.next_handle_in.ensures r h stands ∙ ap (λ (id : SessionId). next_handle (turns_of (session_of id.rsp h))) c.record_id.ensures)
-    (c.as_slice.ensures.value ∙ c.next_reply-reply.ensures r h stands) refl in
+    (c.as_slice.ensures.value ∙ c.write_next_reply.ensures r h stands) refl in
     c.on_record-heard.ensures.drawn r h tag (record_chosen r h sealed d) d setup free few stands

@@ -3,6 +3,7 @@ use Rattle.connection.specs.Connected.{IsDone}
 use Rattle.connection.specs.ClearPart.{is_drawn}
 use Rattle.mctp_framing.specs.Cutting.{RouteFields, packets_of, route_of}
 use Rattle.responder.proofs.Data.{body_data}
+use Rattle.responder.specs.declared.room.Room.{Room}
 use Rattle.responder.proofs.Meeting.{does_whole}
 use Rattle.responder.proofs.whole.hear_whole.Goals as goal
 use Rattle.responder.specs.Came.{Came, IsMet, IsShort, last_for}

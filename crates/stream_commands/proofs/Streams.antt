@@ -1,0 +1,31 @@
+-- The stream of an input is what was read with its text and what is left behind it.
+use Rattle.std.proofs.Common.{◌≡◌, ◌∙◌, ◌++◌, ℕ, List, [], refl, ap, sym, append-nil, Option, Some, None}
+use Rattle.std.proofs.lemmas.Option.{none-some}
+use Rattle.frame_stream.specs.Frames.{Ending}
+use Rattle.frame_stream.specs.Parts.{IsTextOf}
+use Rattle.frame_stream.specs.Standing.{in_front}
+use Rattle.responder_machine.specs.Responding.{Responding}
+use Rattle.responder_serve.specs.Served.{IsServed, IsServedInPart, IsServedSoFar, served_from}
+use Rattle.spdm_basis.specs.Stream.{Takes}
+use Rattle.stream_commands.specs.Begun.{stream_in}
+
+pub same_stream : (left : Option (List ℕ)) (text before : List ℕ) (rest : Option (List ℕ)) → IsTextOf left text before rest → (stream : List ℕ) → stream_in left ≡ Some stream → in_front before rest ≡ Some stream
+same_stream None text before rest read stream is = absurd (none-some stream is)
+same_stream (Some input) text before rest read stream is =
+    let behind = (read input refl).1 in
+    ap (in_front before) behind.1 ∙ ap (λ (l : List ℕ). Some l) (sym behind.2) ∙ is
+
+-- So what was served of it was served of the stream.
+pub served : (r : Responding) (left ahead held holds : Option (List ℕ)) (ending : Ending) → ((stream : List ℕ) → left ≡ Some stream → ahead ≡ Some stream) → IsServed r ahead held holds ending → IsServed r left held holds ending
+served r left ahead held holds ending same s = record { frames = s.frames; stream = λ stream is. s.stream stream (same stream is); written = s.written }
+
+pub in_part : (r : Responding) (left ahead held holds : Option (List ℕ)) → ((stream : List ℕ) → left ≡ Some stream → ahead ≡ Some stream) → IsServedInPart r ahead held holds → IsServedInPart r left held holds
+in_part r left ahead held holds same s = record { frames = s.frames; stream = λ stream is. s.stream stream (same stream is); written = s.written }
+
+-- All that was written is a prefix of it.
+pub so_far : (r : Responding) (left held holds : Option (List ℕ)) → IsServedSoFar r left held holds → IsServedInPart r left held holds
+so_far r left held holds s = record {
+  frames = s.frames;
+  stream = s.stream;
+  written = (served_from r s.frames, [], sym (append-nil (served_from r s.frames)), s.written);
+}

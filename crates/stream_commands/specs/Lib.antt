@@ -1,0 +1,4 @@
+pub mod Begun
+pub mod Served
+pub mod InputEnds
+pub mod Told

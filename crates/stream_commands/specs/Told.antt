@@ -1,0 +1,19 @@
+-- Faults of what stands below, as a command tells them. This project's own.
+use Rattle.std.specs.Prelude.{◌≡◌}
+use Rattle.responder_serve.specs.declared.fault.ServeFault.{ServeFault}
+use Rattle.responder_serve.specs.declared.fault.ServeFault.TheVariants as serving
+use Rattle.stream_commands.specs.declared.fault.StreamFault.{StreamFault}
+use Rattle.stream_commands.specs.declared.fault.StreamFault.TheVariants as fault
+
+-- A fault of serving a stream. A responder is refused in no configuration that was read.
+abbrev pub IsTold : ServeFault → StreamFault → Type 0
+IsTold serving.ReadFault told = told ≡ fault.ReadFault
+IsTold serving.WriteFault told = told ≡ fault.WriteFault
+IsTold serving.TooLong told = told ≡ fault.TooLong
+IsTold (serving.BadFrame at) told = told ≡ fault.BadFrame at
+IsTold serving.OutOfMemory told = told ≡ fault.OutOfMemory
+IsTold (serving.Responder refused) told = ⊥
+
+abbrev pub IsOfStream : ServeFault → Type 0
+IsOfStream (serving.Responder refused) = ⊥
+IsOfStream other = Unit {0}

@@ -1,0 +1,9 @@
+//! The commands that answer a stream of frames behind a configuration.
+#![tactic(auto)]
+
+mod begin;
+mod fault;
+mod serving;
+
+pub use fault::StreamFault;
+pub use serving::serve_input;
