@@ -69,7 +69,7 @@ joined_by : (max : ℕ) (before : List ChunkMessage) (c : ChunkMessage) (b : Boo
 joined_by max before c true told is = first_short max c is
 joined_by max before c false told is = later_short before c told is
 
-joined_short : (max handle number : ℕ) (before : List ChunkMessage) (c : ChunkMessage) → told_size before ≤ MAX_MESSAGE_SIZE → get_fault max handle number before c ≡ None → length (joined_with before c) ≤ MAX_MESSAGE_SIZE
+pub joined_short : (max handle number : ℕ) (before : List ChunkMessage) (c : ChunkMessage) → told_size before ≤ MAX_MESSAGE_SIZE → get_fault max handle number before c ≡ None → length (joined_with before c) ≤ MAX_MESSAGE_SIZE
 joined_short max handle number before c told is =
     let rule = broken_rule max before c in
     let of_handle = both (not (c.handle == handle)) WrongHandle (if not (c.number == number) then Some WrongNumber else rule) is in
@@ -82,17 +82,17 @@ joined_short max handle number before c told is =
 abbrev pub brings : Effect → Option (List ℕ)
 brings effect = option_or (bytes_in effect) (blocks_in effect)
 
-record Short (led : Led) : Type 0 where
-  are : (data_is : List ℕ) → brings led.effect ≡ Some data_is → length data_is ≤ MAX_MESSAGE_SIZE
+pub record Short (led : Led) : Type 0 where
+  pub are : (data_is : List ℕ) → brings led.effect ≡ Some data_is → length data_is ≤ MAX_MESSAGE_SIZE
 
 abbrev ShortIn : Result Led BadReply → Type 0
 ShortIn (Ok led) = Short led
 ShortIn (Err fault) = ⊤
 
-no_data : (led : Led) → brings led.effect ≡ None → Short led
+pub no_data : (led : Led) → brings led.effect ≡ None → Short led
 no_data led none = record { are = λ data_is is. absurd (none-some data_is (sym none ∙ is)) }
 
-some_data : (led : Led) (bytes : List ℕ) → brings led.effect ≡ Some bytes → length bytes ≤ MAX_MESSAGE_SIZE → Short led
+pub some_data : (led : Led) (bytes : List ℕ) → brings led.effect ≡ Some bytes → length bytes ≤ MAX_MESSAGE_SIZE → Short led
 some_data led bytes some short = record { are = λ data_is is. subst (λ (x : List ℕ). length x ≤ MAX_MESSAGE_SIZE) (same_Some bytes data_is (sym some ∙ is)) short }
 
 module _ (q : ReqSetup) (h : History) (f : Free) (came : Came) where

@@ -6,3 +6,5 @@ pub mod Moves
 pub mod Whole
 pub mod Stopped
 pub mod Unique
+pub mod Framed
+pub mod Runs

@@ -56,6 +56,16 @@ abbrev pub all_spelled : List GivenFrame → List ℕ
 all_spelled [] = []
 all_spelled (frame ∷ others) = spelled frame ++ all_spelled others
 
+-- These frames stand in front of a stream.
+pub record Begin (kinds : Kinds) (frames : List GivenFrame) (stream : List ℕ) : Type 0 where
+  pub rest : List ℕ
+  pub parts : stream ≡ all_spelled frames ++ rest
+  pub allowed : AreFrames kinds frames
+
+-- The most bytes of a stream that are read.
+abbrev pub stream_limit : ℕ
+stream_limit = 2 ^ 40
+
 -- ---- Where a stream ends.
 
 -- The first byte is no kind.

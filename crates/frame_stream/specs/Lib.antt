@@ -4,3 +4,5 @@ pub mod Parts
 pub mod Frames
 pub mod Causes
 pub mod Standing
+pub mod Packets
+pub mod Runs

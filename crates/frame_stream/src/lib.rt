@@ -7,6 +7,7 @@ mod frame_bytes;
 mod kinds;
 mod laws;
 mod line;
+mod packets;
 mod reader;
 #[cfg(test)]
 mod tests;
@@ -15,6 +16,7 @@ mod writing;
 
 pub use kinds::{FrameFault, FrameKind, Kinds};
 pub use laws::stream_is_determined;
+pub use packets::write_packet_frames;
 pub use reader::FrameReader;
 pub use text::{Text, read_text};
 pub use writing::{write_line_frame, write_packet_frame};

@@ -29,14 +29,14 @@ pub struct FrameReader {
 }
 
 impl FrameReader {
-    ghost use Rattle.std.specs.Prelude.{◌≡◌, ◌≢◌, ◌<◌, ◌≤◌, ◌+◌, ◌^◌, [], ◌∷◌, true, length, drop, slice_index, IfErr, IfOk, OnOk};
-    ghost use Rattle.frame_stream.specs.Frames.{four_bytes, may_be};
+    ghost use Rattle.std.specs.Prelude.{◌≡◌, ◌≢◌, ◌<◌, ◌≤◌, ◌+◌, [], ◌∷◌, true, length, drop, slice_index, IfErr, IfOk, OnOk};
+    ghost use Rattle.frame_stream.specs.Frames.{four_bytes, may_be, stream_limit};
     ghost use Rattle.frame_stream.specs.Frames.GivenFrame.{TicksOf};
     ghost use Rattle.frame_stream.specs.Standing.{IsCause, IsCauseWithin, IsCounted, IsCountedKind, IsNew, IsNext, IsWhole, beginning_of, content_in, frame_as, size_in};
 
     /// A reader of a stream of which these bytes were read already. It reads 2^40 bytes of the stream at most.
     pub fn new(alloc: Global, kinds: Kinds, before: &[u8]) -> Result<FrameReader, OutOfMemory>
-        ensures { IfOk result (IsNew kinds (2 ^ 40) before.now) }
+        ensures { IfOk result (IsNew kinds stream_limit before.now) }
     {
         FrameReader::with_limit(alloc, kinds, before, STREAM_LIMIT)
     }

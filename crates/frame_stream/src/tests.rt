@@ -1,6 +1,8 @@
 use crate::{
     FrameFault, FrameKind, FrameReader, Kinds, read_text, write_line_frame, write_packet_frame,
+    write_packet_frames,
 };
+use mctp_framing::PacketList;
 use spdm_basis::{InFault, MemSink, MemSource, OutFault, Source, StdinSource};
 use std::io;
 use std::io::Read;
@@ -199,5 +201,28 @@ fn frames_are_written(rt: HostRuntime) -> Result<(), Fail> {
         sink.as_slice(),
         [1, 2, 0, 9, 8, 4, 2, 0, b'o', b'k', 1, 1].as_slice()
     );
+    Ok(())
+}
+
+#[test]
+fn packets_are_written(rt: HostRuntime) -> Result<(), Fail> {
+    let mut packets = PacketList::new(rt.alloc())?;
+    let mut sink = MemSink::new(rt.alloc(), 12, &[])?;
+    write_packet_frames(&mut sink, &packets)?;
+    assert_eq!(rt; sink.as_slice(), [].as_slice());
+    packets.push(&[9, 8]);
+    packets.push(&[]);
+    packets.push(&[7]);
+    write_packet_frames(&mut sink, &packets)?;
+    assert_eq!(rt;
+        sink.as_slice(),
+        [1, 2, 0, 9, 8, 1, 0, 0, 1, 1, 0, 7].as_slice()
+    );
+    let mut short = MemSink::new(rt.alloc(), 7, &[])?;
+    assert_eq!(rt;
+        write_packet_frames(&mut short, &packets),
+        Err(OutFault::WriteFault)
+    );
+    assert_eq!(rt; short.as_slice(), [1, 2, 0, 9, 8, 1, 0].as_slice());
     Ok(())
 }

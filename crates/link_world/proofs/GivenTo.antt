@@ -2,13 +2,15 @@
 use Rattle.std.proofs.Common.{refl, ◌≡◌, ◌∙◌, ◌+◌, ◌++◌, ◌∷◌, [], ℕ, List, Bool, true, false, Option, Some, None, ap, sym, subst, length, slice_set}
 use Rattle.std.proofs.lemmas.List.{append-nil}
 use Rattle.std.specs.Prelude.{◌==◌, if◌then◌else◌, find, nat_lt, slice_index, MatchResult, Result, Ok, Err}
+use Rattle.configured_ends.proofs.Tells.{requester_tells}
+use Rattle.configured_ends.specs.Told.{event_data, event_lines, is_answered}
 use Rattle.link_world.proofs.Askers.{Hit, eid_of}
 use Rattle.link_world.proofs.Changing.{requester_changed, responder_changed, responder_keeps}
 use Rattle.link_world.proofs.Counting.{asked_more, heard_more, heard_peers, kept_more, kept_same, queued_peers, queued_same, told_same}
 use Rattle.link_world.proofs.Taken.{requester_counts}
-use Rattle.link_world.proofs.Telling.{requester_tells, responder_tells}
+use Rattle.link_world.proofs.Telling.{responder_tells}
 use Rattle.link_world.specs.Standing.{AreEnds, IsAsker, IsDone, IsGivenTo, counted, taken_in}
-use Rattle.link_world.specs.Told.{event_data, event_lines, heard_data, heard_lines, is_answered, is_taken}
+use Rattle.link_world.specs.Told.{heard_data, heard_lines, is_taken}
 use Rattle.link_world.specs.Written.{has_full, text_of}
 use Rattle.link_world.specs.declared.ends.Asker.{Asker}
 use Rattle.link_world.specs.declared.ends.Ends.{Ends}

@@ -1,5 +1,4 @@
 pub mod Askers
-pub mod Brings
 pub mod Changing
 pub mod Counting
 pub mod Entered

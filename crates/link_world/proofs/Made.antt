@@ -5,7 +5,9 @@ use Rattle.std.proofs.lemmas.List.{length-map}
 use Rattle.std.specs.List.{AllByRecursion}
 use Rattle.std.specs.Option.{option_map}
 use Rattle.std.specs.Prelude.{◌==◌, nat_lt}
-use Rattle.link_world.specs.Configured.{IsCause, HasRequesterFault, HasResponderFault, HaveFirstFault, HaveNoFault, configuration_in, requester_in, responder_in}
+use Rattle.configured_ends.proofs.Made.{take_more}
+use Rattle.configured_ends.specs.Configured.{HasRequesterFault, HasResponderFault, IsRequesterFault, IsResponderFault, known_in, requester_in}
+use Rattle.link_world.specs.Configured.{IsCause, HaveFirstFault, HaveNoFault}
 use Rattle.link_world.specs.Making.{AreAskersFault, IsAskerFault, of_requester, of_responder}
 use Rattle.link_world.specs.Standing.{AreApart, AreAskers, IsAsker, counted, eids_of, peers_of, taken_in}
 use Rattle.link_world.specs.declared.ends.Asker.{Asker}
@@ -38,9 +40,6 @@ use Rattle.world_machine.specs.Setup.{ends_from, first_draw, known_of, requester
 use Rattle.world_machine.specs.Totals.{over_connections, over_requesters}
 
 -- ---- The end points of the requesters differ.
-
-abbrev known_in : ℕ → List ReqPart → List machine.Known
-known_in responder qs = map known_of (map (requester_in responder) qs)
 
 abbrev head_eid : List machine.Known → ℕ
 head_eid [] = 0
@@ -109,41 +108,20 @@ sound_few c s =
     let many = both (nat_lt 8 (length o.known.now)) _ _ none in
     let same = both (has_same_eid o.eid.number o.known.now) _ _ many.1 in
     let count : length o.known.now ≡ length c.requesters =
-    sym (length-map o.known.now known.known_of) ∙ ap length s.known ∙ length-map (map (requester_in c.responder.eid.number) c.requesters) known_of ∙ length-map c.requesters (requester_in c.responder.eid.number) in
+    sym (length-map o.known.now known.known_of) ∙ ap length s.sets_up.known ∙ length-map (map (requester_in c.responder.eid.number) c.requesters) known_of ∙ length-map c.requesters (requester_in c.responder.eid.number) in
     let few : length c.requesters ≤ 8 = subst (λ (n : ℕ). n ≤ 8) count (ltb-false 8 (length o.known.now) many.0) in
     record {
       few = few;
       made_few = λ seed boot. subst (λ (n : ℕ). n ≤ 8) (sym (made_count c.responder.eid.number seed boot 1 c.requesters)) few;
-      apart = λ seed boot. (made_apart c.responder.eid.number seed boot o.eid.number 1 o.known.now c.requesters s.known same.0).1;
+      apart = λ seed boot. (made_apart c.responder.eid.number seed boot o.eid.number 1 o.known.now c.requesters s.sets_up.known same.0).1;
     }
 
 -- ---- One requester more.
-
-take_more : {A : Type 0} (i : ℕ) (l : List A) (x : A) → i < length l → x ≡ get_or l i x → take (i + 1) l ≡ take i l ++ x ∷ []
-take_more i [] x inside is = absurd (omega (arith, inside))
-take_more zero (y ∷ l) x inside is = ap (λ z. z ∷ []) (sym is)
-take_more {A} (suc i) (y ∷ l) x inside is =
-    let next : suc i + 1 ≡ suc (i + 1) = omega arith in
-    ap (λ (n : ℕ). take n (y ∷ l)) next ∙ ap (λ (m : List A). y ∷ m) (take_more i l x (omega (arith, inside)) is)
-
-map_more : {A B : Type 0} (f : A → B) (l : List A) (x : A) → map f (l ++ x ∷ []) ≡ map f l ++ f x ∷ []
-map_more f [] x = refl
-map_more {A} {B} f (y ∷ l) x = ap (λ (m : List B). f y ∷ m) (map_more f l x)
 
 length_take : {A : Type 0} (i : ℕ) (l : List A) → i < length l → length (take i l) ≡ i
 length_take i [] inside = absurd (omega (arith, inside))
 length_take zero (y ∷ l) inside = refl
 length_take (suc i) (y ∷ l) inside = (let rest = length_take i l (omega (arith, inside)) in omega (arith, rest))
-
-pub known_more : (responder i : ℕ) (qs : List ReqPart) (q : ReqPart) (ks : List Known) (k : Known) → i < length qs → q ≡ get_or qs i q → map known.known_of ks ≡ known_in responder (take i qs) → known.known_of k ≡ known_of (requester_in responder q)
-    → map known.known_of (ks ++ k ∷ []) ≡ known_in responder (take (i + 1) qs)
-known_more responder i qs q ks k inside is same own =
-    map_more known.known_of ks k
-    ∙ ap (λ (l : List machine.Known). l ++ known.known_of k ∷ []) same
-    ∙ ap (λ (m : machine.Known). known_in responder (take i qs) ++ m ∷ []) own
-    ∙ sym (ap (λ (l : List ReqPart). known_in responder l) (take_more i qs q inside is)
-    ∙ ap (map known_of) (map_more (requester_in responder) (take i qs) q)
-    ∙ map_more known_of (map (requester_in responder) (take i qs)) (requester_in responder q))
 
 none_behind : (responder : ℕ) (qs : List ReqPart) (q : ReqPart) → HaveNoFault responder qs → HasRequesterFault responder q None → HaveNoFault responder (qs ++ q ∷ [])
 none_behind responder [] q none own = (own, tt)
@@ -189,15 +167,15 @@ askers_fault responder i qs q (world.Requester fault) inside is none own = first
 askers_fault responder i qs q (world.Responder fault) inside is none own = absurd own
 askers_fault responder i qs q world.OutOfMemory inside is none own = tt
 
-pub responder_cause : (c : ScriptConfig) (o : RspConfig) (fault : RspConfigFault) → known.part_of o ≡ responder_in c → map known.known_of o.known.now ≡ map known_of (configuration_in c).requesters → answering.IsCause o fault → IsCause c (of_responder fault)
-responder_cause c o rspfault.TooManyRequesters part knows is = record { config = o; part = part; known = knows; is = is }
-responder_cause c o rspfault.SameEid part knows is = record { config = o; part = part; known = knows; is = is }
-responder_cause c o rspfault.SamePsk part knows is = record { config = o; part = part; known = knows; is = is }
-responder_cause c o rspfault.SizeRange part knows is = record { config = o; part = part; known = knows; is = is }
-responder_cause c o (rspfault.Inventory of_blocks) part knows is = record { config = o; part = part; known = knows; is = is }
-responder_cause c o rspfault.OutOfMemory part knows is = tt
+pub responder_cause : (c : ScriptConfig) (fault : RspConfigFault) → IsResponderFault c fault → IsCause c (of_responder fault)
+responder_cause c rspfault.TooManyRequesters is = is
+responder_cause c rspfault.SameEid is = is
+responder_cause c rspfault.SamePsk is = is
+responder_cause c rspfault.SizeRange is = is
+responder_cause c (rspfault.Inventory of_blocks) is = is
+responder_cause c rspfault.OutOfMemory is = tt
 
-pub requester_cause : (responder : ℕ) (q : ReqPart) (o : ReqConfig) (fault : ReqConfigFault) → setup_of o ≡ requester_in responder q → asking.IsCause o fault → IsAskerFault responder q (of_requester fault)
-requester_cause responder q o reqfault.SameEid sets is = record { config = o; sets_up = sets; is = is }
-requester_cause responder q o reqfault.SizeRange sets is = record { config = o; sets_up = sets; is = is }
-requester_cause responder q o reqfault.OutOfMemory sets is = tt
+pub requester_cause : (responder : ℕ) (q : ReqPart) (fault : ReqConfigFault) → IsRequesterFault responder q fault → IsAskerFault responder q (of_requester fault)
+requester_cause responder q reqfault.SameEid is = is
+requester_cause responder q reqfault.SizeRange is = is
+requester_cause responder q reqfault.OutOfMemory is = tt

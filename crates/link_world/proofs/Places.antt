@@ -122,10 +122,6 @@ passed_at k places d p none few is rests =
 pub none_at : (bytes : List ℕ) (k : ℕ) (places : List Place) → NoneWaits k places → false ≡ nat_lt k (length places) → None ≡ first_waiting (sent_of bytes places)
 none_at bytes k places none few = sym (none_there bytes k places none (ltb-false k (length places) (sym few)))
 
-pub added : {A U E : Type 0} (r : Result U E) (l more new : List A) → new ≡ (if is_ok r then l ++ more else l) → false ≡ is_err r → new ≡ l ++ more
-added (Ok u) l more new is ok = is
-added (Err e) l more new is ok = absurd (cc ok)
-
 -- A packet was put behind the others.
 pub record IsPushed (bytes more bytes' : List ℕ) (places places' : List Place) : Type 0 where
   pub start : ℕ

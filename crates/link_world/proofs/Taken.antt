@@ -1,10 +1,10 @@
 -- What one step of an end adds to the application messages that it ever took.
 use Rattle.std.proofs.Common.{refl, ◌≡◌, ◌∙◌, ◌+◌, ◌∷◌, [], ℕ, List, Bool, true, false, Option, Some, None, ap, arith, map}
 use Rattle.std.specs.Prelude.{◌==◌, if◌then◌else◌, is_some, not, unwrap_or, Result, Ok, Err}
-use Rattle.link_world.proofs.Brings.{EntryAgrees, entry_agrees}
+use Rattle.configured_ends.proofs.Brings.{EntryAgrees, entry_agrees}
 use Rattle.link_world.proofs.Changing.{whole_either}
 use Rattle.link_world.specs.Standing.{peers_of}
-use Rattle.link_world.specs.Told.{is_answered}
+use Rattle.configured_ends.specs.Told.{is_answered}
 use Rattle.mctp_framing.specs.Cutting.{RouteFields}
 use Rattle.mctp_framing.specs.Gathering.{Gathered}
 use Rattle.mctp_framing.specs.Gathering.Gathered.{Dropped, More, Whole}

@@ -1,6 +1,7 @@
 -- Why an end of a script is not made. This project's own.
 use Rattle.std.specs.Prelude.{ℕ, List, Some}
-use Rattle.link_world.specs.Configured.{HasRequesterFault, HaveFirstFault}
+use Rattle.configured_ends.specs.Configured.{HasRequesterFault}
+use Rattle.link_world.specs.Configured.{HaveFirstFault}
 use Rattle.link_world.specs.declared.fault.WorldFault.{WorldFault}
 use Rattle.link_world.specs.declared.fault.WorldFault.TheVariants.{OutOfMemory, Requester, Responder}
 use Rattle.requester.specs.declared.fault.ReqConfigFault.{ReqConfigFault}

@@ -1,11 +1,8 @@
--- What is told of a packet that is given to an end: whether it brought application data, and its lines, but for those of
--- the packets that are sent upon it. This project's own.
+-- What is told of a packet that is given to the responder: whether it brought application data, and its lines, but for
+-- those of the packets that are sent upon it. This project's own.
 use Rattle.std.specs.Prelude.{ℕ, List, [], ◌∷◌, Bool, true, false}
 use Rattle.spdm_grammar.specs.Lines.{Line, Whose}
-use Rattle.spdm_grammar.specs.Lines.Line.{Data, Record, ToRequester, ToResponder}
-use Rattle.spdm_grammar.specs.declared.event.Event.{Event}
-use Rattle.spdm_grammar.specs.declared.event.Event.TheVariants as event
-use Rattle.spdm_grammar.specs.declared.event.Finished.TheVariants as finished
+use Rattle.spdm_grammar.specs.Lines.Line.{Data, ToResponder}
 use Rattle.spdm_grammar.specs.declared.heard.Heard.{Heard}
 use Rattle.spdm_grammar.specs.declared.heard.Heard.TheVariants as heard
 
@@ -14,11 +11,6 @@ abbrev pub is_taken : Heard → Bool
 is_taken (heard.Taken id) = true
 is_taken _ = false
 
--- Application data of a requester were answered.
-abbrev pub is_answered : Event → Bool
-is_answered (event.Done (finished.Answered id)) = true
-is_answered _ = false
-
 -- The line of the data that the responder took from requester q, where it took any; these are the last that it took.
 abbrev pub heard_data : (q : ℕ) → Heard → (last : List ℕ) → List Line
 heard_data q (heard.Taken id) last = Data (Whose.Responder q) id last ∷ []
@@ -26,12 +18,3 @@ heard_data q _ last = []
 
 abbrev pub heard_lines : (q : ℕ) → Heard → (last : List ℕ) → List Line
 heard_lines q told last = ToResponder told ∷ heard_data q told last
-
--- The line of the data or the measurement record that requester q took, where it took any; these are the last.
-abbrev pub event_data : (q : ℕ) → Event → (last : List ℕ) → List Line
-event_data q (event.Done (finished.Answered id)) last = Data (Whose.Requester q) id last ∷ []
-event_data q (event.Done (finished.Measured number)) last = Record q last ∷ []
-event_data q _ last = []
-
-abbrev pub event_lines : (q : ℕ) → Event → (last : List ℕ) → List Line
-event_lines q told last = ToRequester q told ∷ event_data q told last

@@ -1,5 +1,6 @@
 ghost use Rattle.std.specs.Prelude.{◌≡◌, ◌++◌, OnOk};
-ghost use Rattle.link_world.specs.Told.{event_lines, heard_lines};
+ghost use Rattle.configured_ends.specs.Told.{event_lines};
+ghost use Rattle.link_world.specs.Told.{heard_lines};
 ghost use Rattle.link_world.specs.Written.{text_of};
 ghost use Rattle.script_text.specs.Spelling.{id_word, with_word};
 ghost use Rattle.script_text.specs.TraceLines.{line_text};

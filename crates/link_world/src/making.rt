@@ -1,76 +1,25 @@
 ghost use Rattle.std.specs.Prelude.{◌≡◌, ◌≤◌, ◌-◌, ◌^◌, ℕ, List, Some, None, IfErr, IfOk, IsSome, OnOk, length, map};
-ghost use Rattle.link_world.specs.Configured.{HasRequesterFault, HasResponderFault, HaveFirstFault, HaveNoFault, IsCause, IsSound, configuration_in, requester_in, responder_in};
+ghost use Rattle.configured_ends.specs.Configured.{HasRequesterFault, HasResponderFault, configuration_in, requester_end, requester_in};
+ghost use Rattle.link_world.specs.Configured.{HaveNoFault, IsCause, IsSound};
 ghost use Rattle.link_world.specs.Making.{AreAskersFault, IsAskerFault, of_requester, of_responder};
 ghost use Rattle.link_world.specs.Standing.{AreAskers, IsAsker, IsLink};
-ghost use Rattle.requester.specs.SetUp.{setup_of};
 ghost use Rattle.requester_machine.specs.Requesting.{new_requesting};
-ghost use Rattle.responder.specs.SetUp as answering;
-ghost use Rattle.responder.specs.SetUp.{part_of};
 ghost use Rattle.responder.specs.Standing as standing;
 ghost use Rattle.responder_machine.specs.Responding.{new_responding};
-ghost use Rattle.world_machine.specs.Setup.{ends_from, first_draw, known_of, requester_seed, script_world};
+ghost use Rattle.world_machine.specs.Setup.{ends_from, requester_seed, script_world};
 ghost use Rattle.world_machine.specs.World.{new_world};
 
 use crate::ends::{Asker, Ends};
 use crate::link::Link;
 use crate::{SentPackets, WorldFault};
+use configured_ends::{make_requester, make_responder};
 use hmac_hkdf::hmac;
 use mctp_framing::PacketList;
-use requester::{ReqConfig, ReqConfigFault, Requester};
-use responder::{Known, Responder, RspConfig, RspConfigFault};
+use requester::ReqConfigFault;
+use responder::{Responder, RspConfigFault};
 use script_text::{ReqPart, ScriptConfig};
-use spdm_basis::{Bytes, Eid, OutOfMemory, Psk};
+use spdm_basis::Eid;
 use std::alloc::Global;
-
-// What a responder knows of a requester.
-fn known_of(alloc: Global, q: &ReqPart) -> Result<Known, OutOfMemory>
-    ensures { (responder : ℕ) → IfOk result
-        (λ known. answering.known_of known ≡ known_of (requester_in responder q.now)) }
-{
-    let hint = Bytes::copy(alloc, q.hint.as_slice())?;
-    match Psk::new(q.psk.as_slice()) {
-        Some(psk) => Ok(Known {
-            eid: q.eid,
-            hint,
-            psk,
-        }),
-        None => unreachable!(),
-    }
-}
-
-// What a responder knows of all requesters.
-fn all_known(alloc: Global, requesters: &[ReqPart]) -> Result<Vec<Known>, OutOfMemory>
-    ensures { (responder : ℕ) → IfOk result (λ known. map answering.known_of known.items
-        ≡ map known_of (map (requester_in responder) requesters.now)) }
-{
-    let mut known = Vec::new(alloc);
-    for q in requesters {
-        let own = known_of(alloc, q)?;
-        if known.push(own).is_err() {
-            return Err(OutOfMemory);
-        }
-    }
-    Ok(known)
-}
-
-// How the responder is set up.
-fn responder_config<'a>(config: &'a ScriptConfig, known: &'a [Known]) -> RspConfig<'a>
-    ensures part { part_of result ≡ responder_in config.now }
-    ensures known { result.known.now ≡ known.now }
-{
-    RspConfig {
-        eid: config.responder.eid,
-        transfer: config.responder.transfer,
-        max: config.responder.max,
-        unit: config.responder.unit,
-        beat: config.responder.beat,
-        flags: config.responder.flags,
-        opaque: config.responder.opaque.as_slice(),
-        blocks: config.blocks.as_slice(),
-        known,
-        suites: config.responder.suites,
-    }
-}
 
 // Why there is no responder, as why there is no world.
 fn fault_of_responder(fault: RspConfigFault) -> WorldFault
@@ -101,35 +50,9 @@ fn responder_of(
     ensures sound { OnOk result (HasResponderFault config.now None) }
     ensures fault { IfErr result (λ fault. IsCause config.now fault) }
 {
-    let Ok(known) = all_known(alloc, config.requesters.as_slice()) else {
-        return Err(WorldFault::OutOfMemory);
-    };
-    let own = responder_config(config, known.as_slice());
-    match Responder::resume(alloc, &own, hmac(seed, &[0x72]), boot) {
+    match make_responder(alloc, config, hmac(seed, &[0x72]), boot) {
         Ok(responder) => Ok(responder),
         Err(fault) => Err(fault_of_responder(fault)),
-    }
-}
-
-// How a requester is set up, beside a responder with this end point.
-fn requester_config(responder: Eid, q: &ReqPart) -> ReqConfig<'_>
-    ensures { setup_of result ≡ requester_in responder.number q.now }
-{
-    let Some(psk) = Psk::new(q.psk.as_slice()) else {
-        unreachable!()
-    };
-    ReqConfig {
-        eid: q.eid,
-        responder,
-        transfer: q.transfer,
-        max: q.max,
-        unit: q.unit,
-        pad: q.pad,
-        flags: q.flags,
-        hint: q.hint.as_slice(),
-        psk,
-        opaque: q.opaque.as_slice(),
-        suites: q.suites,
     }
 }
 
@@ -154,16 +77,12 @@ fn asker_of(
     boot: u32,
 ) -> Result<Asker, WorldFault>
     requires { boot ≤ 2 ^ 24 - 2 }
-    ensures stands { IfOk result (λ asker. IsAsker asker (new_requesting (record {
-      setup = requester_in responder.number q.now;
-      seed = requester_seed seed.now number;
-      first = first_draw boot;
-    }))) }
+    ensures stands { IfOk result (λ asker. IsAsker asker (new_requesting
+        (requester_end responder.number q.now (requester_seed seed.now number) boot))) }
     ensures sound { OnOk result (HasRequesterFault responder.number q.now None) }
     ensures fault { IfErr result (λ fault. IsAskerFault responder.number q.now fault) }
 {
-    let own = requester_config(responder, q);
-    match Requester::resume(alloc, &own, hmac(seed, &[0x71, number]), boot) {
+    match make_requester(alloc, responder, q, hmac(seed, &[0x71, number]), boot) {
         Ok(requester) => Ok(Asker {
             eid: q.eid,
             requester,

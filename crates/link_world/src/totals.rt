@@ -1,7 +1,8 @@
 ghost use Rattle.std.specs.Prelude.{◌≡◌, ◌+◌, ◌-◌, ◌^◌, count_by, min};
+ghost use Rattle.configured_ends.specs.Told.{is_answered};
 ghost use Rattle.link_world.specs.HeldOpen.{is_open, live_with};
 ghost use Rattle.link_world.specs.Standing.{IsAsker, counted};
-ghost use Rattle.link_world.specs.Told.{is_answered, is_taken};
+ghost use Rattle.link_world.specs.Told.{is_taken};
 ghost use Rattle.requester_machine.specs.Requesting.{Requesting};
 ghost use Rattle.responder.specs.Standing as answering;
 ghost use Rattle.responder_machine.specs.Responding.{Responding};

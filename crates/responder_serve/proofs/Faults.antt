@@ -1,12 +1,11 @@
 -- What a fault that is told says of the call.
 use Rattle.std.proofs.Common.{ℕ, List, Option, refl}
-use Rattle.responder.specs.Config.{IsCause}
-use Rattle.responder.specs.declared.config.RspConfig.{RspConfig}
+use Rattle.configured_ends.specs.Configured.{IsResponderFault}
+use Rattle.frame_stream.specs.Runs.{Counts}
 use Rattle.responder.specs.declared.fault.RspConfigFault.{RspConfigFault}
 use Rattle.responder.specs.declared.fault.RspConfigFault.TheVariants as answering
-use Rattle.responder_serve.specs.Configured.{SetsUp}
 use Rattle.responder_serve.specs.Standing as standing
-use Rattle.responder_serve.specs.Standing.{Counts, IsStepFault}
+use Rattle.responder_serve.specs.Standing.{IsStepFault}
 use Rattle.responder_serve.specs.Told.{IsEarly, IsLate, IsRefusal, IsUnread, of_responder}
 use Rattle.responder_serve.specs.declared.answering.Server.{Server}
 use Rattle.responder_serve.specs.declared.fault.ServeFault.{ServeFault}
@@ -14,13 +13,13 @@ use Rattle.responder_serve.specs.declared.fault.ServeFault.TheVariants as fault
 use Rattle.responder_machine.specs.Responding.{Responding}
 use Rattle.script_text.specs.declared.config.ScriptConfig.{ScriptConfig}
 
-pub responder_cause : (c : ScriptConfig) (config : RspConfig) (f : RspConfigFault) → SetsUp c config → IsCause config f → IsEarly c (of_responder f)
-responder_cause c config answering.TooManyRequesters up is = record { config = config; sets_up = up; is = is }
-responder_cause c config answering.SameEid up is = record { config = config; sets_up = up; is = is }
-responder_cause c config answering.SamePsk up is = record { config = config; sets_up = up; is = is }
-responder_cause c config answering.SizeRange up is = record { config = config; sets_up = up; is = is }
-responder_cause c config (answering.Inventory of) up is = record { config = config; sets_up = up; is = is }
-responder_cause c config answering.OutOfMemory up is = tt
+pub responder_cause : (c : ScriptConfig) (f : RspConfigFault) → IsResponderFault c f → IsEarly c (of_responder f)
+responder_cause c answering.TooManyRequesters is = is
+responder_cause c answering.SameEid is = is
+responder_cause c answering.SamePsk is = is
+responder_cause c answering.SizeRange is = is
+responder_cause c (answering.Inventory of) is = is
+responder_cause c answering.OutOfMemory is = tt
 
 -- before the responder is made nothing is read and nothing is written
 pub early_refused : (c : ScriptConfig) (f : ServeFault) → IsEarly c f → IsRefusal c f

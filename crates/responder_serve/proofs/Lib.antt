@@ -1,5 +1,3 @@
-pub mod Made
-pub mod Framed
 pub mod Short
 pub mod Runs
 pub mod Faults

@@ -2,8 +2,9 @@
 use Rattle.std.proofs.Common.{◌≡◌, ◌∙◌, ◌<◌, ◌≤◌, ◌+◌, ◌^◌, ℕ, suc, List, [], ◌∷◌, length, Bool, true, false, Option, Some, None, Result, Ok, Err, refl, ap, sym, arith, get_or, ◌==◌, ◌||◌, ◌⊎◌, inl, inr}
 use Rattle.std.proofs.lemmas.Option.{none-some, same_Some}
 use Rattle.std.specs.Prelude.{find, not, if◌then◌else◌}
-use Rattle.mctp_framing.proofs.Packets.{packets_fit}
-use Rattle.mctp_framing.specs.Cutting.{RouteFields, packets_of}
+use Rattle.frame_stream.proofs.Framed.{cut_short}
+use Rattle.frame_stream.specs.Packets.{AreShort}
+use Rattle.mctp_framing.specs.Cutting.{RouteFields}
 use Rattle.mctp_framing.specs.Gathering.{Gathered}
 use Rattle.mctp_framing.specs.Gathering.Gathered.{Whole, More, Dropped}
 use Rattle.mctp_framing.specs.Packet.{PacketFields, parsed}
@@ -12,7 +13,6 @@ use Rattle.responder.specs.declared.peer.Peer.{Peer}
 use Rattle.responder.specs.declared.serving.Responder.{Responder}
 use Rattle.responder_machine.specs.Responding.{Connection, Responding, RspStep, connection_of, hears_from, hears_gathered, hears_packet, hears_whole, ignores, is_worn, next_draw, responder_hears, worn_step}
 use Rattle.responder_machine.specs.Setup.{RspPart, RspSetup}
-use Rattle.responder_serve.specs.Standing.{AreShort}
 use Rattle.responder_machine.specs.Does.{responder_does}
 use Rattle.responder_machine.specs.Responder.{body_of}
 use Rattle.spdm_basis.specs.declared.DropCause.TheVariants.{NotOurs}
@@ -21,16 +21,6 @@ use Rattle.spdm_grammar.specs.declared.heard.RspIgnored.TheVariants as ignored
 use Rattle.spdm_machine.specs.Packets.{body_type, fields_in, gathered_from}
 use Rattle.spdm_basis.specs.declared.PacketFault.{PacketFault}
 use Rattle.spdm_machine.specs.Keys.{Draw}
-
--- packets of at most so many bytes
-all_short : (most : ℕ) (packets : List (List ℕ)) → most < 2 ^ 16 → ((k : ℕ) (d : List ℕ) → k < length packets → length (get_or packets k d) ≤ most) → AreShort packets
-all_short most [] few fit = tt
-all_short most (p ∷ packets) few fit =
-    let own : length p ≤ most = fit 0 [] (omega arith) in
-    (omega (arith, own, few), all_short most packets few (λ k d inside. fit (suc k) d (omega (arith, inside))))
-
-cut_short : (route : RouteFields) (unit : ℕ) (body : List ℕ) → unit ≤ 1024 → AreShort (packets_of route unit body)
-cut_short route unit body few = all_short (unit + 4) (packets_of route unit body) (omega (arith, few)) (packets_fit route unit body)
 
 short_if : (b : Bool) (x y : RspStep) → AreShort x.sent → AreShort y.sent → AreShort (if b then x else y).sent
 short_if true x y first second = first

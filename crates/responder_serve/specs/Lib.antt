@@ -1,4 +1,3 @@
-pub mod Configured
 pub mod Served
 pub mod Standing
 pub mod Told

@@ -1,25 +1,17 @@
 -- What a responder writes on a stream of frames. This project's own.
-use Rattle.std.specs.Prelude.{◌≡◌, ◌^◌, ◌++◌, ℕ, List, [], ◌∷◌, true, false, Option, Some}
-use Rattle.frame_stream.specs.Frames.{AreFrames, Ending, GivenFrame, IsStream, all_spelled, spelled}
+use Rattle.std.specs.Prelude.{◌≡◌, ◌++◌, ℕ, List, [], ◌∷◌, true, false, Option, Some}
+use Rattle.configured_ends.specs.Configured.{responder_end}
+use Rattle.frame_stream.specs.Frames.{Begin, Ending, GivenFrame, IsStream, stream_limit}
 use Rattle.frame_stream.specs.Frames.GivenFrame.{PacketOf, TicksOf, CommandOf}
+use Rattle.frame_stream.specs.Packets.{packet_frames}
 use Rattle.frame_stream.specs.declared.kinds.Kinds.{Kinds}
 use Rattle.responder_machine.specs.Responding.{Responding, new_responding, responder_hears, ticks}
-use Rattle.responder_serve.specs.Configured.{end_in}
 use Rattle.script_text.specs.declared.config.ScriptConfig.{ScriptConfig}
 use Rattle.spdm_basis.specs.Stream.{Takes, TakesPrefix}
 
 -- A responder reads packets and seconds that passed, and no commands.
 abbrev pub served_kinds : Kinds
 served_kinds = record { ticks = true; commands = false }
-
--- The most bytes of a stream that are read. This project's own limit.
-abbrev pub stream_limit : ℕ
-stream_limit = 2 ^ 40
-
--- Packets as frames, one behind the other.
-abbrev pub packet_frames : List (List ℕ) → List ℕ
-packet_frames [] = []
-packet_frames (packet ∷ others) = spelled (PacketOf packet) ++ packet_frames others
 
 -- The packets that are sent in answer to a frame. No frame with a command stands in such a stream.
 abbrev pub sent_for : Responding → GivenFrame → List (List ℕ)
@@ -42,9 +34,9 @@ abbrev pub served_from : Responding → List GivenFrame → List ℕ
 served_from r [] = []
 served_from r (frame ∷ others) = packet_frames (sent_for r frame) ++ served_from (after_frame r frame) others
 
--- The responder of a configuration with a seed, which was given nothing yet.
+-- The responder of a configuration with a seed, in its first life, which was given nothing yet.
 abbrev pub responder_of : ScriptConfig → (seed : List ℕ) → Responding
-responder_of c seed = new_responding (end_in c seed)
+responder_of c seed = new_responding (responder_end c seed 0)
 
 -- ---- What was read and written in a call, of a responder. Of a source that tells what it has left the stream is
 -- known: `before` the call.
@@ -55,20 +47,14 @@ pub record IsServed (r : Responding) (before held holds : Option (List ℕ)) (en
   pub stream : (left : List ℕ) → before ≡ Some left → IsStream served_kinds stream_limit left frames ending
   pub written : Takes held (served_from r frames) holds
 
--- The frames stand in front of the stream.
-pub record Begin (frames : List GivenFrame) (left : List ℕ) : Type 0 where
-  pub rest : List ℕ
-  pub parts : left ≡ all_spelled frames ++ rest
-  pub allowed : AreFrames served_kinds frames
-
 -- The answers to the first frames of the stream were written, and no more.
 pub record IsServedSoFar (r : Responding) (before held holds : Option (List ℕ)) : Type 0 where
   pub frames : List GivenFrame
-  pub stream : (left : List ℕ) → before ≡ Some left → Begin frames left
+  pub stream : (left : List ℕ) → before ≡ Some left → Begin served_kinds frames left
   pub written : Takes held (served_from r frames) holds
 
 -- A prefix of them was written.
 pub record IsServedInPart (r : Responding) (before held holds : Option (List ℕ)) : Type 0 where
   pub frames : List GivenFrame
-  pub stream : (left : List ℕ) → before ≡ Some left → Begin frames left
+  pub stream : (left : List ℕ) → before ≡ Some left → Begin served_kinds frames left
   pub written : TakesPrefix held (served_from r frames) holds

@@ -1,35 +1,25 @@
 -- What stands while a stream is served, and what the calls answer. This project's own.
-use Rattle.std.specs.Prelude.{◌≡◌, ◌<◌, ◌+◌, ◌^◌, ℕ, List, [], ◌∷◌, Bool, true, false, length, Option, Result, Ok, Err}
-use Rattle.frame_stream.specs.Frames.{AreFrames, GivenFrame, all_spelled}
+use Rattle.std.specs.Prelude.{◌≡◌, List, ℕ, Bool, true, false, Option, Result, Ok, Err}
+use Rattle.frame_stream.specs.Frames.{GivenFrame}
 use Rattle.frame_stream.specs.Frames.Ending.{Bad, TooLong}
+use Rattle.frame_stream.specs.Packets.{packet_frames}
+use Rattle.frame_stream.specs.Runs.{AreRead, Counts, IsOver}
 use Rattle.frame_stream.specs.Standing as reading
-use Rattle.frame_stream.specs.Standing.{IsDone, IsRead, content_in, left_of}
+use Rattle.frame_stream.specs.Standing.{IsRead, content_in}
 use Rattle.frame_stream.specs.declared.kinds.FrameFault.TheVariants as frame
 use Rattle.frame_stream.specs.declared.reader.FrameReader.{FrameReader}
 use Rattle.responder.specs.Standing.{StandsFor}
 use Rattle.responder.specs.declared.serving.Responder.{Responder}
 use Rattle.responder_machine.specs.Responding.{Responding, responder_hears}
-use Rattle.responder_serve.specs.Served.{IsServed, IsServedInPart, IsServedSoFar, after_frame, after_frames, packet_frames, sent_for, served_from, served_kinds, stream_limit}
+use Rattle.responder_serve.specs.Served.{IsServed, IsServedInPart, IsServedSoFar, after_frame, after_frames, sent_for, served_from}
 use Rattle.responder_serve.specs.declared.answering.Server.{Server}
 use Rattle.responder_serve.specs.declared.fault.ServeFault.{ServeFault}
 use Rattle.responder_serve.specs.declared.fault.ServeFault.TheVariants as fault
-use Rattle.spdm_basis.specs.Stream.{Gives, HasFault, Takes, TakesPrefix}
-
--- Packets that each fit into a frame.
-abbrev pub AreShort : List (List ℕ) → Type 0
-AreShort [] = Unit {0}
-AreShort (packet ∷ others) = (length packet < 2 ^ 16) × AreShort others
+use Rattle.spdm_basis.specs.Stream.{HasFault, Takes, TakesPrefix}
 
 -- It is kept of some responder.
 abbrev pub IsKept : Responder → Type 0
 IsKept seen = (r : Responding) × StandsFor seen r
-
--- The counts of faults of the source and of the sink, before a call and after it.
-pub record Counts : Type 0 where
-  pub read_before : ℕ
-  pub read_after : ℕ
-  pub written_before : ℕ
-  pub written_after : ℕ
 
 -- ---- One frame.
 
@@ -47,15 +37,10 @@ IsPacketAnswered r old held (Ok done) new holds =
 IsPacketAnswered r old held (Err fault.WriteFault) new holds = TakesPrefix held (packet_frames (responder_hears r (content_in old.reader)).sent) holds
 IsPacketAnswered r old held (Err other) new holds = ⊥
 
--- There was none.
-pub record IsOver (old : Server) (before held : Option (List ℕ)) (new : Server) (after holds : Option (List ℕ)) : Type 0 where
-  pub done : IsDone old.reader before new.reader after
-  pub same : holds ≡ held
-
 -- Whether there was a frame.
 abbrev pub IsStep : Responding → (old : Server) → (before held : Option (List ℕ)) → Bool → (new : Server) → (after holds : Option (List ℕ)) → Type 0
 IsStep r old before held true new after holds = IsAnswered r old before held new after holds
-IsStep r old before held false new after holds = IsOver old before held new after holds
+IsStep r old before held false new after holds = IsOver old.reader before held new.reader after holds
 
 -- A frame was read, and a prefix of its answer was written.
 pub record IsAnsweredInPart (r : Responding) (old : Server) (before held : Option (List ℕ)) (new : Server) (after holds : Option (List ℕ)) : Type 0 where
@@ -76,12 +61,8 @@ IsStepFault r old before held n (fault.Responder refused) new after holds = ⊥
 
 pub record IsRun (r : Responding) (old : FrameReader) (before held : Option (List ℕ)) (new : Server) (after holds : Option (List ℕ)) : Type 0 where
   pub frames : List GivenFrame
-  pub allowed : AreFrames served_kinds frames
-  pub gives : Gives (left_of old before) (all_spelled frames) (left_of new.reader after)
+  pub read : AreRead old before frames new.reader after
   pub stands : StandsFor new.responder (after_frames r frames)
-  pub taken : new.reader.taken ≡ old.taken + length (all_spelled frames)
-  pub kinds : new.reader.kinds ≡ old.kinds
-  pub limit : new.reader.limit ≡ old.limit
   pub written : Takes held (served_from r frames) holds
 
 -- The cause of a fault of the whole, of which the stream before the call is known where the source tells it.
@@ -92,9 +73,3 @@ IsCause r before held holds n fault.TooLong = IsServed r before held holds TooLo
 IsCause r before held holds n (fault.BadFrame at) = IsServed r before held holds (Bad at)
 IsCause r before held holds n fault.OutOfMemory = holds ≡ held
 IsCause r before held holds n (fault.Responder refused) = holds ≡ held
-
--- A stream of the kinds that are served, with nothing taken yet.
-pub record IsFresh (reader : FrameReader) : Type 0 where
-  pub kinds : reader.kinds ≡ served_kinds
-  pub limit : reader.limit ≡ stream_limit
-  pub taken : reader.taken ≡ 0

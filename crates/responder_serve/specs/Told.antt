@@ -1,11 +1,11 @@
 -- Faults of what stands below, as they are told of serving a stream. This project's own.
 use Rattle.std.specs.Prelude.{◌≡◌, ℕ, List, Option, Some}
+use Rattle.configured_ends.specs.Configured.{HasResponderFault}
 use Rattle.frame_stream.specs.declared.kinds.FrameFault.{FrameFault}
 use Rattle.frame_stream.specs.declared.kinds.FrameFault.TheVariants as frame
 use Rattle.responder_serve.specs.declared.fault.ServeFault.{ServeFault}
 use Rattle.responder.specs.declared.fault.RspConfigFault.{RspConfigFault}
 use Rattle.responder.specs.declared.fault.RspConfigFault.TheVariants as answering
-use Rattle.responder_serve.specs.Configured.{HasFirstFault}
 use Rattle.responder_serve.specs.declared.fault.ServeFault.TheVariants.{BadFrame, OutOfMemory, ReadFault, Responder, TooLong}
 use Rattle.script_text.specs.declared.config.ScriptConfig.{ScriptConfig}
 
@@ -22,7 +22,7 @@ of_responder fault = Responder fault
 
 -- A configuration is refused for its first fault.
 abbrev pub IsRefusal : ScriptConfig → ServeFault → Type 0
-IsRefusal c (Responder fault) = HasFirstFault c (Some fault)
+IsRefusal c (Responder fault) = HasResponderFault c (Some fault)
 IsRefusal c fault = Unit {0}
 
 -- Nothing was read where there is no responder, or memory ran out.
@@ -39,6 +39,6 @@ IsLate fault = Unit {0}
 
 -- A fault that comes only before.
 abbrev pub IsEarly : ScriptConfig → ServeFault → Type 0
-IsEarly c (Responder fault) = HasFirstFault c (Some fault)
+IsEarly c (Responder fault) = HasResponderFault c (Some fault)
 IsEarly c OutOfMemory = Unit {0}
 IsEarly c fault = ⊥

@@ -2,9 +2,8 @@ ghost use Rattle.std.specs.Prelude.{◌≡◌};
 ghost use Rattle.responder_serve.specs.Told.{told_of};
 
 use crate::ServeFault;
-use crate::making::make_responder;
-use crate::writing::write_packets;
-use frame_stream::{FrameFault, FrameKind, FrameReader, Kinds};
+use crate::making::first_responder;
+use frame_stream::{FrameFault, FrameKind, FrameReader, Kinds, write_packet_frames};
 use mctp_framing::PacketList;
 use responder::Responder;
 use script_text::ScriptConfig;
@@ -38,10 +37,11 @@ fn fault_of(fault: FrameFault) -> ServeFault
 
 impl Server {
     ghost use Rattle.std.specs.Prelude.{◌≡◌, ◌≤◌, IfErr, IfOk, OnErr};
+    ghost use Rattle.frame_stream.specs.Frames.{stream_limit};
     ghost use Rattle.frame_stream.specs.Standing.{IsNew};
     ghost use Rattle.responder.specs.Standing.{StandsFor};
     ghost use Rattle.responder_machine.specs.Responding.{Responding};
-    ghost use Rattle.responder_serve.specs.Served.{responder_of, served_kinds, stream_limit};
+    ghost use Rattle.responder_serve.specs.Served.{responder_of, served_kinds};
     ghost use Rattle.responder_serve.specs.Standing.{IsKept, IsPacketAnswered, IsStep, IsStepFault};
     ghost use Rattle.responder_serve.specs.Told.{IsEarly};
     ghost use Rattle.spdm_basis.specs.Stream.{HasFault};
@@ -66,7 +66,7 @@ impl Server {
         let Ok(out) = PacketList::new(alloc) else {
             return Err(ServeFault::OutOfMemory);
         };
-        match make_responder(alloc, config, seed) {
+        match first_responder(alloc, config, seed) {
             Ok(responder) => Ok(Server {
                 responder,
                 reader,
@@ -89,7 +89,7 @@ impl Server {
         let _ = self
             .responder
             .on_packet(self.reader.content(), &mut self.out);
-        match write_packets(sink, &self.out) {
+        match write_packet_frames(sink, &self.out) {
             Ok(()) => Ok(()),
             Err(_) => Err(ServeFault::WriteFault),
         }

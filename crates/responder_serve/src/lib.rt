@@ -7,7 +7,6 @@ mod making;
 mod serving;
 #[cfg(test)]
 mod tests;
-mod writing;
 
 pub use fault::ServeFault;
 pub use serving::serve;

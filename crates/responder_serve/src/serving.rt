@@ -1,10 +1,12 @@
 ghost use Rattle.std.specs.Prelude.{◌≡◌, ◌≤◌, [], ℕ, List, Some, IfErr, OnOk};
+ghost use Rattle.frame_stream.specs.Frames.{stream_limit};
 ghost use Rattle.frame_stream.specs.Frames.Ending.{Done};
+ghost use Rattle.frame_stream.specs.Runs.{IsFresh};
 ghost use Rattle.frame_stream.specs.Standing.{in_front, left_of};
 ghost use Rattle.responder.specs.Standing.{StandsFor};
 ghost use Rattle.responder_machine.specs.Responding.{Responding};
-ghost use Rattle.responder_serve.specs.Served.{IsServed, responder_of};
-ghost use Rattle.responder_serve.specs.Standing.{IsCause, IsFresh, IsKept};
+ghost use Rattle.responder_serve.specs.Served.{IsServed, responder_of, served_kinds};
+ghost use Rattle.responder_serve.specs.Standing.{IsCause, IsKept};
 ghost use Rattle.responder_serve.specs.Told.{IsLate, IsRefusal, IsUnread};
 
 use crate::ServeFault;
@@ -59,7 +61,7 @@ pub fn serve<S: Source, K: Sink>(
 
 // Answers all frames.
 fn run<S: Source, K: Sink>(server: Server, source: &mut S, sink: &mut K) -> Result<(), ServeFault>
-    requires fresh { IsFresh server.reader }
+    requires fresh { IsFresh served_kinds stream_limit server.reader }
     requires kept { IsKept server.responder }
     ensures served { (r : Responding) → StandsFor server.responder r → OnOk result
         (IsServed r (left_of server.reader (S.remaining source.old)) (K.contents sink.old)

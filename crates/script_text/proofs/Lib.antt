@@ -5,7 +5,7 @@ mod HexLengths
 mod Requesters
 mod Letters
 mod Decimals
-mod HexText
+pub mod HexText
 mod Folding
 mod Drawn
 mod PrintedNumbers

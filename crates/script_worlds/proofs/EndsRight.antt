@@ -22,8 +22,8 @@ use Rattle.script_text.specs.declared.config.ReqPart.{ReqPart}
 use Rattle.script_text.specs.declared.config.ScriptConfig.{ScriptConfig}
 use Rattle.script_worlds.proofs.ScriptRead.{script_sound}
 use Rattle.script_worlds.proofs.SetUpRight.{are_few, at_most, differ, eid_among, has_sizes, is_fine, no_fault, own_fits, psk_among}
-use Rattle.link_world.specs.Configured.{requester_in}
-use Rattle.script_worlds.specs.Ends.{HasNoFault, ReadEndsHaveNoFault, SetsUpRequester, SetsUpResponder}
+use Rattle.configured_ends.specs.Configured.{SetsUpResponder, known_in, requester_in}
+use Rattle.script_worlds.specs.Ends.{HasNoFault, ReadEndsHaveNoFault, SetsUpRequester}
 use Rattle.spdm_agreement.specs.Configured.{HasSizes}
 use Rattle.spdm_basis.proofs.Bools.{and_first, and_second, lt_false}
 use Rattle.spdm_grammar.specs.declared.choice.FlagSet.{FlagSet}
@@ -109,10 +109,6 @@ same_psk_told (k ∷ known) = rw (psk_told k.psk known, same_psk_told known) ref
 long_told : (known : List Known) → has_long_hint known ≡ any_long (map answering.known_of known)
 long_told [] = refl
 long_told (k ∷ known) = ap (λ b. nat_lt 64 (length k.hint) || b) (long_told known)
-
--- what the responder of a script knows
-abbrev known_in : ℕ → List ReqPart → List machine.Known
-known_in e qs = map known_of (map (requester_in e) qs)
 
 eid_known : (r e : ℕ) (qs : List ReqPart) → any_eid e (known_in r qs) ≡ requester_has_eid e qs
 eid_known r e [] = refl

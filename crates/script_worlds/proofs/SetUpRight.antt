@@ -16,7 +16,7 @@ use Rattle.script_text.specs.Measured.{block_size, sizes_of}
 use Rattle.script_text.specs.Sound.{IsSoundConfig, are_bytes, are_bytes_in, are_sound_blocks, are_sound_requesters, is_sound_block, is_sound_end, is_sound_requester}
 use Rattle.script_text.specs.declared.config.ReqPart.{ReqPart}
 use Rattle.script_text.specs.declared.config.ScriptConfig.{ScriptConfig}
-use Rattle.link_world.specs.Configured.{configuration_in, requester_in, responder_in}
+use Rattle.configured_ends.specs.Configured.{configuration_in, requester_in, responder_in}
 use Rattle.spdm_agreement.specs.Configured.{AreApart, HasKey, HasSizes, IsConfiguration, IsEid, IsRequester, IsResponder}
 use Rattle.spdm_basis.proofs.Bools.{and_first, and_second, lt_false}
 use Rattle.spdm_basis.specs.declared.eid.Eid.{Eid}

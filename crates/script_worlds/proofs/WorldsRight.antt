@@ -5,7 +5,7 @@ use Rattle.script_text.specs.declared.event.Entry.{Entry}
 use Rattle.script_text.specs.declared.script.Script.{Script}
 use Rattle.script_worlds.proofs.ScriptRead.{script_sound}
 use Rattle.script_worlds.proofs.SetUpRight.{is_configuration}
-use Rattle.link_world.specs.Configured.{configuration_in}
+use Rattle.configured_ends.specs.Configured.{configuration_in}
 use Rattle.script_worlds.specs.Scripts.{entries_in, seed_in, world_in}
 use Rattle.script_worlds.specs.Worlds.{AgreesIn, DeliversIn, MatchesIn, ReadSetUpIsConfigured, SealsOnceIn, ShowsAlikeIn}
 use Rattle.spdm_agreement.proofs.Worlds.Scripts.{scripts_are_configured, scripts_hold}

@@ -1,25 +1,18 @@
 -- What each end is made of that a script sets up has no fault. This project's own.
-use Rattle.std.specs.Prelude.{◌≡◌, ℕ, List, map, None, Ok, Contains}
+use Rattle.std.specs.Prelude.{◌≡◌, ℕ, List, None, Ok, Contains}
+use Rattle.configured_ends.specs.Configured.{SetsUpResponder, requester_in}
 use Rattle.requester.specs.Config as asking
 use Rattle.requester.specs.SetUp.{setup_of}
 use Rattle.requester.specs.declared.config.ReqConfig.{ReqConfig}
 use Rattle.responder.specs.Config as answering
-use Rattle.responder.specs.SetUp as answering_set_up
 use Rattle.responder.specs.declared.config.RspConfig.{RspConfig}
 use Rattle.script_text.specs.ConfigText.{config_in}
 use Rattle.script_text.specs.ScriptText.{script_in}
 use Rattle.script_text.specs.declared.config.ReqPart.{ReqPart}
 use Rattle.script_text.specs.declared.config.ScriptConfig.{ScriptConfig}
 use Rattle.script_text.specs.declared.script.Script.{Script}
-use Rattle.link_world.specs.Configured.{configuration_in, requester_in, responder_in}
-use Rattle.world_machine.specs.Setup.{known_of}
 
--- A responder is made of this, as the configuration of a script says it.
-pub record SetsUpResponder (c : ScriptConfig) (config : RspConfig) : Type 0 where
-  pub part : answering_set_up.part_of config ≡ responder_in c
-  pub known : map answering_set_up.known_of config.known.now ≡ map known_of (configuration_in c).requesters
-
--- So is one of its requesters.
+-- A requester of a script is made of this, as its configuration says it.
 pub record SetsUpRequester (c : ScriptConfig) (config : ReqConfig) : Type 0 where
   pub q : ReqPart
   pub is : Contains c.requesters q

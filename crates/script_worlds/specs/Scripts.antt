@@ -4,7 +4,7 @@ use Rattle.std.specs.Option.{unwrap_or}
 use Rattle.script_text.specs.declared.config.ScriptConfig.{ScriptConfig}
 use Rattle.script_text.specs.declared.event.Entry.{Entry}
 use Rattle.script_text.specs.declared.script.Script.{Script}
-use Rattle.link_world.specs.Configured.{configuration_in}
+use Rattle.configured_ends.specs.Configured.{configuration_in}
 use Rattle.link_world.specs.Events.{entry_of}
 use Rattle.link_world.specs.Written.{before_full, has_full, text_of}
 use Rattle.world_machine.specs.Happenings as machine

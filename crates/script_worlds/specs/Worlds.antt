@@ -3,7 +3,7 @@ use Rattle.std.specs.Prelude.{◌≡◌, ℕ, List, ◌++◌, Ok}
 use Rattle.script_text.specs.ScriptText.{script_in}
 use Rattle.script_text.specs.declared.event.Entry.{Entry}
 use Rattle.script_text.specs.declared.script.Script.{Script}
-use Rattle.link_world.specs.Configured.{configuration_in}
+use Rattle.configured_ends.specs.Configured.{configuration_in}
 use Rattle.script_worlds.specs.Scripts.{set_up, world_in}
 use Rattle.spdm_agreement.specs.Configured.{IsConfiguration, IsConfigured}
 use Rattle.world_machine.specs.Agreement.{Agreement, DataPrefix, HashesAgree, Matched, SealedOnce}

@@ -15,7 +15,8 @@ use Rattle.spdm_cmd.specs.Going.{IsFullAt, text_from}
 use Rattle.world_machine.specs.Setup.{script_world}
 use Rattle.world_machine.specs.Trace.{world_from}
 use Rattle.world_machine.specs.World.{new_world, shown_lines}
-use Rattle.link_world.specs.Configured.{configuration_in, HaveFirstFault, IsCause}
+use Rattle.configured_ends.specs.Configured.{configuration_in}
+use Rattle.link_world.specs.Configured.{HaveFirstFault, IsCause}
 use Rattle.link_world.specs.declared.fault.WorldFault.TheVariants.{Requester, Responder}
 use Rattle.requester.specs.declared.fault.ReqConfigFault.{ReqConfigFault}
 use Rattle.responder.specs.declared.fault.RspConfigFault.{RspConfigFault}
@@ -27,7 +28,7 @@ use Rattle.script_worlds.proofs.EndsRight.{sound_has_no_fault}
 
 pub no_responder_fault : (c : ScriptConfig) → IsSoundConfig c → (fault : RspConfigFault) → IsCause c (Responder fault) → ⊥
 no_responder_fault c sound fault cause =
-    none-some fault (sym ((sound_has_no_fault c sound).responder cause.config (record { part = cause.part; known = cause.known })) ∙ cause.is)
+    none-some fault (sym ((sound_has_no_fault c sound).responder cause.config cause.sets_up) ∙ cause.is)
 
 first_of : (q : ReqPart) (others : List ReqPart) → Contains (q ∷ others) q
 first_of q others = (zero, omega arith, refl)

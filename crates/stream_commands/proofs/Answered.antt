@@ -4,7 +4,6 @@ use Rattle.frame_stream.proofs.Fronts.{fault_later}
 use Rattle.frame_stream.specs.Standing.{in_front}
 use Rattle.responder.specs.Config.{config_fault}
 use Rattle.responder.specs.declared.fault.RspConfigFault.{RspConfigFault}
-use Rattle.responder_serve.specs.Configured.{HasFirstFault}
 use Rattle.responder_serve.specs.Served.{responder_of}
 use Rattle.responder_serve.specs.Standing as serving
 use Rattle.responder_serve.specs.Told.{IsRefusal}
@@ -30,7 +29,7 @@ of_stream c serve.TooLong none refused = tt
 of_stream c (serve.BadFrame at) none refused = tt
 of_stream c serve.OutOfMemory none refused = tt
 of_stream c (serve.Responder own) none refused =
-    absurd (none-some own (sym (none.responder refused.config (record { part = refused.sets_up.part; known = refused.sets_up.known })) ∙ refused.is))
+    absurd (none-some own (sym (none.responder refused.config refused.sets_up) ∙ refused.is))
 
 -- Where there is no beginning nothing was written, and no seed is gone.
 pub not_begun : (left rest held : Option (List ℕ)) (seeds others : Option (List (List ℕ))) (n : Tries) (written : ℕ) (f : StreamFault) → others ≡ seeds → IsBeginCause left n f →

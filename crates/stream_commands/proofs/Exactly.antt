@@ -3,10 +3,10 @@ use Rattle.std.proofs.Common.{◌≡◌, ◌∙◌, ◌≤◌, ◌<◌, ◌-◌,
 use Rattle.std.proofs.lemmas.Option.{none-some, same_Some}
 use Rattle.std.specs.Result.{result_unwrap_or}
 use Rattle.frame_stream.proofs.Unique.{stream_is_one}
-use Rattle.frame_stream.specs.Frames.{Ending, GivenFrame}
+use Rattle.frame_stream.specs.Frames.{Ending, GivenFrame, stream_limit}
 use Rattle.frame_stream.specs.Frames.Ending.{Bad, Done, TooLong}
 use Rattle.frame_stream.specs.Text.{stream_of, text_of}
-use Rattle.responder_serve.specs.Served.{served_kinds, stream_limit}
+use Rattle.responder_serve.specs.Served.{served_kinds}
 use Rattle.script_text.specs.ConfigText.{config_in}
 use Rattle.script_text.specs.Reading.{BadLine, bad_line_in}
 use Rattle.script_text.specs.declared.config.ScriptConfig.{ScriptConfig}

@@ -1,9 +1,9 @@
 -- How an input ends, and what is answered to it. This project's own.
 use Rattle.std.specs.Prelude.{◌≡◌, ◌<◌, ◌≤◌, ℕ, List, length, Some, Result, Ok, Err}
-use Rattle.frame_stream.specs.Frames.{Ending, GivenFrame, IsStream}
+use Rattle.frame_stream.specs.Frames.{Ending, GivenFrame, IsStream, stream_limit}
 use Rattle.frame_stream.specs.Frames.Ending.{Bad, Done, TooLong}
 use Rattle.frame_stream.specs.Text.{stream_of, text_of}
-use Rattle.responder_serve.specs.Served.{served_kinds, stream_limit}
+use Rattle.responder_serve.specs.Served.{served_kinds}
 use Rattle.script_text.specs.ConfigText.{config_in}
 use Rattle.script_text.specs.Reading.{BadLine, bad_line_in}
 use Rattle.script_text.specs.declared.config.ScriptConfig.{ScriptConfig}

@@ -1,14 +1,12 @@
 -- What a responder answers to an input: a configuration and a stream of frames behind it. This project's own.
-use Rattle.std.specs.Prelude.{◌≡◌, ◌≤◌, ◌⊎◌, ℕ, List, length, [], Option, Some, Result, Ok, Err}
-use Rattle.frame_stream.specs.Frames.{Ending, GivenFrame, IsStream}
+use Rattle.std.specs.Prelude.{◌≡◌, ◌⊎◌, ℕ, List, [], Option, Some, Result, Ok, Err}
+use Rattle.frame_stream.specs.Frames.{Ending}
 use Rattle.frame_stream.specs.Frames.Ending.{Bad, Done, TooLong}
-use Rattle.frame_stream.specs.Text.{stream_of, text_of}
 use Rattle.responder_serve.specs.Served as serving
-use Rattle.responder_serve.specs.Served.{responder_of, served_kinds, stream_limit}
-use Rattle.script_text.specs.ConfigText.{config_in}
+use Rattle.responder_serve.specs.Served.{responder_of}
 use Rattle.script_text.specs.declared.config.ScriptConfig.{ScriptConfig}
 use Rattle.spdm_basis.specs.Stream.{GivesSeed, HasFault}
-use Rattle.stream_commands.specs.Begun.{IsBadText, IsConfigured, IsLongText, stream_in, text_limit}
+use Rattle.stream_commands.specs.Begun.{IsBadText, IsConfigured, IsLongText, stream_in}
 use Rattle.stream_commands.specs.declared.fault.StreamFault.{StreamFault}
 use Rattle.stream_commands.specs.declared.fault.StreamFault.TheVariants as fault
 

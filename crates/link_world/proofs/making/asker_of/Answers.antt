@@ -9,5 +9,5 @@ returns-in-Err c = record {
   stands = tt;
   sound = tt;
   fault = subst (λ (f : WorldFault). IsAskerFault c.args.responder.number c.args.q.now f) (sym c.fault_of_requester.ensures)
-      (requester_cause c.args.responder.number c.args.q.now c.requester_config-own.result c.in-Err.fault c.requester_config-own.ensures c.in-Err.ensures.fault);
+      (requester_cause c.args.responder.number c.args.q.now c.in-Err.fault c.in-Err.ensures.fault);
 }

@@ -1,8 +1,10 @@
 use Rattle.std.proofs.Common.{◌∙◌, arith, refl, subst, Bool}
 use Rattle.responder.specs.Standing.{StandsFor}
-use Rattle.responder_serve.proofs.Runs.{end_reached, run_fault, run_more, run_over}
+use Rattle.frame_stream.proofs.Runs.{end_reached}
+use Rattle.frame_stream.specs.Runs.{Counts}
+use Rattle.responder_serve.proofs.Runs.{run_fault, run_more, run_new, run_over}
 use Rattle.responder_serve.specs.Served.{after_frames}
-use Rattle.responder_serve.specs.Standing.{Counts, IsStep}
+use Rattle.responder_serve.specs.Standing.{IsStep}
 use Rattle.responder_machine.specs.Responding.{Responding}
 use Rattle.responder_serve.proofs.serving.run.Goals as goal
 
@@ -25,7 +27,7 @@ loop-server-preserved g c =
     record {
       run = λ r stands.
           let run = inv.run r stands in
-          run_more r old first held mid before between new after holds inv.kinds run (stepped (after_frames r run.frames) run.stands);
+          run_more r old first held mid before between new after holds run (stepped (after_frames r run.frames) run.stands);
       kinds = own.read.kinds ∙ inv.kinds;
       read_later = omega arith;
       written_later = omega arith;
@@ -41,7 +43,7 @@ returns-in-Ok-false-clause-served g c =
     let holds = g.K.Sink.contents c.answer_next.new.sink in
     λ r stands.
     let run = c.loop-server.invariant.run r stands in
-    run_over r c.args.server.reader (g.S.Source.remaining c.args.source.now) (g.K.Sink.contents c.args.sink.now) mid before between new after holds c.requires.fresh run
+    run_over r c.args.server.reader (g.S.Source.remaining c.args.source.now) (g.K.Sink.contents c.args.sink.now) mid before between new.reader after holds c.requires.fresh run
     (subst (λ (b : Bool). IsStep (after_frames r run.frames) mid before between b new after holds) c.in-Ok-false.field-0-test (c.in-Ok-false.ensures.step (after_frames r run.frames) run.stands))
 
 pub returns-in-Ok-false-clause-end : goal.returns-in-Ok-false-clause-end
@@ -54,8 +56,8 @@ returns-in-Ok-false-clause-end g c =
     let holds = g.K.Sink.contents c.answer_next.new.sink in
     let r = c.requires.kept.0 in
     let run = c.loop-server.invariant.run r c.requires.kept.1 in
-    end_reached r c.args.server.reader (g.S.Source.remaining c.args.source.now) (g.K.Sink.contents c.args.sink.now) mid before between new after holds run
-    (subst (λ (b : Bool). IsStep (after_frames r run.frames) mid before between b new after holds) c.in-Ok-false.field-0-test (c.in-Ok-false.ensures.step (after_frames r run.frames) run.stands))
+    let over = subst (λ (b : Bool). IsStep (after_frames r run.frames) mid before between b new after holds) c.in-Ok-false.field-0-test (c.in-Ok-false.ensures.step (after_frames r run.frames) run.stands) in
+    end_reached c.args.server.reader (g.S.Source.remaining c.args.source.now) run.frames mid.reader before new.reader after run.read over.done
 
 pub returns-in-Err-clause-fault : goal.returns-in-Err-clause-fault
 returns-in-Err-clause-fault g c =
@@ -81,5 +83,13 @@ returns-in-Err-clause-fault g c =
     λ r stands.
     let run = inv.run r stands in
     run_fault r c.args.server.reader (g.S.Source.remaining c.args.source.now) (g.K.Sink.contents c.args.sink.now) mid before between n all c.in-Err.fault new after holds
-    c.requires.fresh inv.kinds run inv.read_later c.in-Err.ensures.read_later refl inv.written_later c.in-Err.ensures.written_later refl
+    c.requires.fresh run inv.read_later c.in-Err.ensures.read_later refl inv.written_later c.in-Err.ensures.written_later refl
     (c.in-Err.ensures.fault (after_frames r run.frames) run.stands)
+
+pub loop-server-init : goal.loop-server-init
+loop-server-init g c = record {
+  run = λ r stands. run_new r c.args.server (g.S.Source.remaining c.args.source.now) (g.K.Sink.contents c.args.sink.now) stands;
+  kinds = c.requires.fresh.kinds;
+  read_later = omega arith;
+  written_later = omega arith;
+}

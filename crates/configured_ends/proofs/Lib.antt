@@ -1,0 +1,3 @@
+pub mod Brings
+pub mod Made
+pub mod Tells

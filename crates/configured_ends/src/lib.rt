@@ -1,0 +1,10 @@
+//! The ends that a configuration sets up, and what is told of what a requester is given.
+#![tactic(auto)]
+
+mod requester_end;
+mod responder_end;
+#[cfg(test)]
+mod tests;
+
+pub use requester_end::make_requester;
+pub use responder_end::make_responder;

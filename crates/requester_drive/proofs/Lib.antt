@@ -1,0 +1,6 @@
+pub mod LineTexts
+pub mod LastData
+pub mod Short
+pub mod Written
+pub mod Runs
+pub mod Faults

@@ -1,0 +1,5 @@
+pub mod Commands
+pub mod Driven
+pub mod First
+pub mod Standing
+pub mod Told

@@ -1,0 +1,27 @@
+use requester::ReqConfigFault;
+use thiserror::Error;
+
+/// Why a requester was not driven to the end of its stream.
+#[derive(Clone, Copy, Debug, PartialEq, Eq, Error)]
+pub enum DriveFault {
+    /// Reading failed.
+    #[error("reading failed")]
+    ReadFault,
+    /// Writing failed, behind a part of the output.
+    #[error("writing failed")]
+    WriteFault,
+    /// The stream has more than 2^40 bytes.
+    #[error("the stream is too long")]
+    TooLong,
+    /// The frame that begins at this byte of the stream has a wrong kind, is cut by the end of input, or is a line that is
+    /// no command of requester 1.
+    #[error("bad frame at byte {at}")]
+    BadFrame { at: u64 },
+    /// The configuration sets up no requester: the first fault, which is not want of memory. Nothing was read and nothing
+    /// was written.
+    #[error("no requester: {0}")]
+    Requester(ReqConfigFault),
+    /// Memory ran out: before the first frame, or for the bytes of a command.
+    #[error("out of memory")]
+    OutOfMemory,
+}

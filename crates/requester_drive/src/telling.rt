@@ -1,0 +1,188 @@
+ghost use Rattle.std.specs.Prelude.{◌≡◌};
+ghost use Rattle.requester_drive.specs.Told.{told_of};
+
+use crate::DriveFault;
+use crate::commands::{command_of, fault_of_text};
+use crate::lines::{write_given, write_told};
+use crate::making::first_requester;
+use frame_stream::{FrameFault, FrameKind, FrameReader, Kinds};
+use mctp_framing::PacketList;
+use requester::{Command, Requester};
+use script_text::{ScriptConfig, parse_command};
+use spdm_basis::{Sink, Source};
+use std::alloc::Global;
+
+// A requester reads packets and commands.
+const DRIVEN: Kinds = Kinds {
+    ticks: false,
+    commands: true,
+};
+
+/// A requester, the reader of its stream and room for the packets that it sends.
+#[derive(Drop)]
+pub(crate) struct Driver {
+    pub(crate) requester: Requester,
+    pub(crate) reader: FrameReader,
+    pub(crate) out: PacketList,
+}
+
+// The fault of a call, as it is told.
+fn fault_of(fault: FrameFault) -> DriveFault
+    ensures { result ≡ told_of fault }
+{
+    match fault {
+        FrameFault::ReadFault => DriveFault::ReadFault,
+        FrameFault::TooLong => DriveFault::TooLong,
+        FrameFault::BadFrame { at } => DriveFault::BadFrame { at },
+    }
+}
+
+impl Driver {
+    ghost use Rattle.std.specs.Prelude.{◌≡◌, ◌≤◌, ◌<◌, Some, IfErr, IfOk, OnErr, length};
+    ghost use Rattle.asking.specs.Joined.{command_of};
+    ghost use Rattle.frame_stream.specs.Frames.{stream_limit};
+    ghost use Rattle.frame_stream.specs.Standing.{IsNew, beginning_of, content_in};
+    ghost use Rattle.requester.specs.Standing.{StandsFor};
+    ghost use Rattle.requester_drive.specs.Driven.{driven_by_command, driven_by_packet, driven_kinds};
+    ghost use Rattle.requester_drive.specs.First.{first_requester};
+    ghost use Rattle.requester_drive.specs.Standing.{IsDrivenBy, IsKept, IsObeyed, IsStep, IsStepFault};
+    ghost use Rattle.requester_drive.specs.Told.{IsEarly};
+    ghost use Rattle.requester_machine.specs.Requesting.{Requesting, requester_given, requester_told};
+    ghost use Rattle.spdm_basis.specs.Stream.{HasFault};
+
+    // The first requester of a configuration with this seed, and its stream, of which some bytes were read already.
+    pub(crate) fn new(
+        alloc: Global,
+        config: &ScriptConfig,
+        seed: [u8; 32],
+        before: &[u8],
+    ) -> Result<Driver, DriveFault>
+        requires { 0 < length config.now.requesters }
+        ensures stands { (a : Requesting) → first_requester config.now seed ≡ Some a → IfOk result
+            (λ driver. StandsFor driver.requester a) }
+        ensures reader { IfOk result
+            (λ driver. IsNew driven_kinds stream_limit before.now driver.reader) }
+        ensures fault { IfErr result (IsEarly config.now) }
+    {
+        let Ok(reader) = FrameReader::new(alloc, DRIVEN, before) else {
+            return Err(DriveFault::OutOfMemory);
+        };
+        let Ok(out) = PacketList::new(alloc) else {
+            return Err(DriveFault::OutOfMemory);
+        };
+        match first_requester(alloc, config, seed) {
+            Ok(requester) => Ok(Driver {
+                requester,
+                reader,
+                out,
+            }),
+            Err(fault) => Err(fault),
+        }
+    }
+
+    // Gives the packet that was read to the requester, and writes what it led to.
+    fn give_packet<K: Sink>(&mut self, sink: &mut K) -> Result<(), DriveFault>
+        requires { IsKept self.old.requester }
+        ensures reader { self.new.reader ≡ self.old.reader }
+        ensures given { (a : Requesting) → StandsFor self.old.requester a
+            → IsDrivenBy (driven_by_packet (requester_given a (content_in self.old.reader)))
+            (K.contents sink.old) result self.new (K.contents sink.new) }
+        ensures fault { OnErr result (HasFault (K.faults sink.old) (K.faults sink.new)) }
+        ensures later { K.faults sink.old ≤ K.faults sink.new }
+    {
+        let event = self
+            .requester
+            .on_packet(self.reader.content(), &mut self.out);
+        match write_given(sink, event, self.requester.last_data(), &self.out) {
+            Ok(()) => Ok(()),
+            Err(_) => Err(DriveFault::WriteFault),
+        }
+    }
+
+    // Tells the requester a command, and writes what it led to.
+    fn tell_command<K: Sink>(
+        &mut self,
+        command: Command<'_>,
+        sink: &mut K,
+    ) -> Result<(), DriveFault>
+        requires { IsKept self.old.requester }
+        ensures reader { self.new.reader ≡ self.old.reader }
+        ensures told { (a : Requesting) → StandsFor self.old.requester a
+            → IsDrivenBy (driven_by_command (requester_told a (command_of command.entry)))
+            (K.contents sink.old) result self.new (K.contents sink.new) }
+        ensures fault { OnErr result (HasFault (K.faults sink.old) (K.faults sink.new)) }
+        ensures later { K.faults sink.old ≤ K.faults sink.new }
+    {
+        let answer = self.requester.command(command, &mut self.out);
+        match write_told(sink, &answer, &self.out) {
+            Ok(()) => Ok(()),
+            Err(_) => Err(DriveFault::WriteFault),
+        }
+    }
+
+    // Tells the requester the command of the line that was read.
+    fn obey<K: Sink>(
+        &mut self,
+        alloc: Global,
+        config: &ScriptConfig,
+        sink: &mut K,
+    ) -> Result<(), DriveFault>
+        requires { IsKept self.old.requester }
+        ensures reader { self.new.reader ≡ self.old.reader }
+        ensures obeyed { (a : Requesting) → StandsFor self.old.requester a → IsObeyed config.now a
+            (beginning_of self.old.reader) (content_in self.old.reader) (record {
+              before = K.faults sink.old;
+              after = K.faults sink.new;
+            }) (K.contents sink.old) result self.new (K.contents sink.new) }
+        ensures later { K.faults sink.old ≤ K.faults sink.new }
+    {
+        match parse_command(alloc, config, self.reader.content()) {
+            Ok(event) => match command_of(&event) {
+                Some(command) => self.tell_command(command, sink),
+                None => Err(DriveFault::BadFrame {
+                    at: self.reader.frame_begins(),
+                }),
+            },
+            Err(fault) => Err(fault_of_text(fault, self.reader.frame_begins())),
+        }
+    }
+
+    // Reads the next frame and writes what it led to. Says whether there was one.
+    pub(crate) fn drive_next<S: Source, K: Sink>(
+        &mut self,
+        alloc: Global,
+        config: &ScriptConfig,
+        source: &mut S,
+        sink: &mut K,
+    ) -> Result<bool, DriveFault>
+        requires kinds { self.old.reader.kinds ≡ driven_kinds }
+        requires kept { IsKept self.old.requester }
+        ensures step { (a : Requesting) → StandsFor self.old.requester a → IfOk result
+            (λ more. IsStep config.now a self.old (S.remaining source.old) (K.contents sink.old)
+            more self.new (S.remaining source.new) (K.contents sink.new)) }
+        ensures fault { (a : Requesting) → StandsFor self.old.requester a → IfErr result
+            (λ fault. IsStepFault config.now a self.old (S.remaining source.old)
+            (K.contents sink.old) (record {
+              read_before = S.faults source.old;
+              read_after = S.faults source.new;
+              written_before = K.faults sink.old;
+              written_after = K.faults sink.new;
+            }) fault self.new (S.remaining source.new) (K.contents sink.new)) }
+        ensures read_later { S.faults source.old ≤ S.faults source.new }
+        ensures written_later { K.faults sink.old ≤ K.faults sink.new }
+    {
+        match self.reader.next(source) {
+            Ok(None) => Ok(false),
+            Ok(Some(FrameKind::Packet)) => match self.give_packet(sink) {
+                Ok(()) => Ok(true),
+                Err(fault) => Err(fault),
+            },
+            Ok(Some(FrameKind::Tick(_))) => unreachable!(),
+            Ok(Some(FrameKind::Command)) => match self.obey(alloc, config, sink) {
+                Ok(()) => Ok(true),
+                Err(fault) => Err(fault),
+            },
+            Err(fault) => Err(fault_of(fault)),
+        }
+    }
+}
