@@ -4,6 +4,8 @@
 mod begin;
 mod fault;
 mod serving;
+#[cfg(test)]
+mod tests;
 
 pub use fault::StreamFault;
 pub use serving::serve_input;
