@@ -1,6 +1,6 @@
 -- Hexadecimal text of bytes one behind the other.
-use Rattle.std.proofs.Common.{◌≡◌, ℕ, ◌+◌, ◌<◌, ◌++◌, ◌∷◌, [], List, length, take, get_or, refl, ap, ◌∙◌, arith}
-use Rattle.std.proofs.lemmas.Grind.{common_steps}
+use Rattle.std.proofs.Common.{◌≡◌, ℕ, ◌++◌, ◌∷◌, [], List, length, refl, sym, ap, ◌∙◌, append_assoc, append-nil}
+use Rattle.std.proofs.lemmas.List.{nil_from_length}
 use Rattle.hex.specs.Hex.{encode_with, encode_lower, lower_digits}
 use Rattle.std.specs.Prelude.{slice_index, ◌/◌, ◌%◌}
 
@@ -13,7 +13,13 @@ pub encode_lower-none : encode_lower [] ≡ []
 unfolding encode_with
 encode_lower-none = refl
 
-pub encode_lower_more : (xs : List ℕ) (i : ℕ) → i < length xs → encode_lower (take (i + 1) xs) ≡ encode_lower (take i xs) ++ encode_lower (get_or xs i 0 ∷ [])
-encode_lower_more xs i h =
-    let e : take (i + 1) xs ≡ take i xs ++ (get_or xs i 0 ∷ []) = grind (arith, common_steps) in
-    ap encode_lower e ∙ encode_lower-append (take i xs) (get_or xs i 0 ∷ [])
+-- the digits of a piece in front of those of the rest
+pub encode_lower_piece : (out all piece rest : List ℕ) → all ≡ piece ++ rest → (out ++ encode_lower piece) ++ encode_lower rest ≡ out ++ encode_lower all
+encode_lower_piece out all piece rest e =
+    append_assoc out (encode_lower piece) (encode_lower rest) ∙ ap (λ hex. out ++ hex) (sym (encode_lower-append piece rest) ∙ ap encode_lower (sym e))
+
+-- behind the last piece nothing is left
+pub encode_lower_end : (out old bytes rest : List ℕ) → length rest ≡ 0 → out ++ encode_lower rest ≡ old ++ encode_lower bytes → out ≡ old ++ encode_lower bytes
+encode_lower_end out old bytes rest none e =
+    let nil : rest ≡ [] = nil_from_length rest none in
+    rw (nil, encode_lower-none, append-nil) at e

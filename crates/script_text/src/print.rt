@@ -8,6 +8,9 @@ use spdm_basis::{HashBytes, Line, SessionId};
 /// How many bytes a line has room for.
 pub const LINE_ROOM: usize = 8_400;
 
+/// How many bytes are spelled at once.
+pub const PIECE: usize = 64;
+
 /// How many digits a number of 64 bits has at most.
 pub const MOST_DIGITS: usize = 20;
 
@@ -69,13 +72,26 @@ fn push_pairs(bytes: &[u8], out: &mut Line)
     ensures text { out.new ≡ out.old ++ encode_lower bytes.now }
     ensures length { length out.new ≡ length out.old + 2 * length bytes.now }
 {
-    for b in bytes {
-        push(&hex_digits(*b), out);
+    for piece in bytes.chunks(PIECE) {
+        push_piece(piece, out);
     }
 }
 
-/// The two hexadecimal digits of a byte.
-pub fn hex_digits(byte: u8) -> [u8; 2]
+// Puts the pairs of a piece at the end of a line.
+fn push_piece(piece: &[u8], out: &mut Line)
+    requires piece { length piece.now ≤ PIECE }
+    requires room { length out.old + 2 * length piece.now ≤ LINE_ROOM }
+    ensures text { out.new ≡ out.old ++ encode_lower piece.now }
+    ensures length { length out.new ≡ length out.old + 2 * length piece.now }
+{
+    let mut room = [0; 2 * PIECE];
+    let (digits, _) = room.split_at_mut(2 * piece.len());
+    hex::encode_to_slice(piece, digits).unwrap();
+    push(digits, out);
+}
+
+// The two hexadecimal digits of a byte.
+fn hex_digits(byte: u8) -> [u8; 2]
     ensures { result ≡ code_word byte }
 {
     let mut digits = [0u8; 2];

@@ -1,9 +1,9 @@
 ghost use Rattle.std.specs.Prelude.{◌≡◌, ◌≤◌, ◌++◌, ◌∷◌, [], length, OnOk};
 ghost use Rattle.std.specs.Fmt.{decimal};
 ghost use Rattle.hex.specs.Hex.{encode_lower};
-ghost use Rattle.script_text.specs.Spelling.{with_word, hex_word, requester_word, code_word};
+ghost use Rattle.script_text.specs.Spelling.{with_word, hex_word, requester_word};
 
-use crate::print::hex_digits;
+use crate::print::PIECE;
 use spdm_basis::{Bytes, OutOfMemory};
 
 /// Ends the last line of a text.
@@ -45,10 +45,21 @@ pub fn add_number(number: u64, text: &mut Bytes) -> Result<(), OutOfMemory>
 fn add_pairs(bytes: &[u8], text: &mut Bytes) -> Result<(), OutOfMemory>
     ensures { OnOk result (text.new ≡ text.old ++ encode_lower bytes.now) }
 {
-    for b in bytes {
-        text.extend(&hex_digits(*b))?;
+    for piece in bytes.chunks(PIECE) {
+        add_piece(piece, text)?;
     }
     Ok(())
+}
+
+// Puts the pairs of a piece at the end of a text.
+fn add_piece(piece: &[u8], text: &mut Bytes) -> Result<(), OutOfMemory>
+    requires { length piece.now ≤ PIECE }
+    ensures { OnOk result (text.new ≡ text.old ++ encode_lower piece.now) }
+{
+    let mut room = [0; 2 * PIECE];
+    let (digits, _) = room.split_at_mut(2 * piece.len());
+    hex::encode_to_slice(piece, digits).unwrap();
+    text.extend(digits)
 }
 
 /// Puts bytes behind the words of the last line of a text.

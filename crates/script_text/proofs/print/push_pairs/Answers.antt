@@ -1,22 +1,25 @@
-use Rattle.std.proofs.Common.{◌≡◌, ◌++◌, ◌∷◌, [], get_or, take, ap, ◌∙◌, sym, append_assoc, arith}
-use Rattle.std.proofs.lemmas.Grind.{common_steps}
+use Rattle.std.proofs.Common.{◌++◌, ap, ◌∙◌, length, length-append, rules, arith}
+use Rattle.std.specs.Slice.Iter.{chunks_rest}
 use Rattle.hex.specs.Hex.{encode_lower}
-use Rattle.script_text.proofs.HexText.{encode_lower-none, encode_lower_more}
+use Rattle.script_text.proofs.HexText.{encode_lower_piece, encode_lower_end}
 use Rattle.script_text.proofs.print.push_pairs.Goals as goal
 
-pub loop-b-init : goal.loop-b-init
-loop-b-init c = record { text = rw encode_lower-none (grind (arith, common_steps)); length = omega arith }
-
-pub loop-b-preserved : goal.loop-b-preserved
-loop-b-preserved c =
-    let bytes = c.args.bytes.now in
-    let i = c.loop-b.b-index in
-    let digits : c.hex_digits.result ≡ encode_lower (get_or bytes i 0 ∷ []) = c.hex_digits.ensures in
+pub loop-piece-preserved : goal.loop-piece-preserved
+loop-piece-preserved c =
+    let piece = c.in-Some.piece.now in
+    let all = chunks_rest c.loop-piece.piece-iterator in
+    let rest = chunks_rest c.next.new.self in
+    let steps = c.in-Some.ensures.steps in
+    let lengths = ap length steps.1.0 ∙ length-append piece rest in
+    let old = c.loop-piece.invariant in
     record {
-      text = c.push.ensures.text
-          ∙ ap (λ text. text ++ c.hex_digits.result) c.loop-b.invariant.text
-          ∙ ap (λ d. (c.args.out.now ++ encode_lower (take i bytes)) ++ d) digits
-          ∙ append_assoc c.args.out.now (encode_lower (take i bytes)) (encode_lower (get_or bytes i 0 ∷ []))
-          ∙ ap (λ hex. c.args.out.now ++ hex) (sym (encode_lower_more bytes i c.loop-b-test.true));
-      length = omega (arith, c.push.ensures.length, c.loop-b.invariant.length);
+      next = search rules;
+      finite = tt;
+      size = steps.0 ∙ old.size;
+      text = ap (λ text. text ++ encode_lower rest) c.push_piece.ensures.text ∙ encode_lower_piece c.loop-piece.out all piece rest steps.1.0 ∙ old.text;
+      length = omega (arith, c.push_piece.ensures.length, lengths, old.length);
     }
+
+pub returns-clause-text : goal.returns-clause-text
+returns-clause-text c =
+    encode_lower_end c.loop-piece.out c.args.out.now c.args.bytes.now _ c.in-None.ensures.steps.1.0 c.loop-piece.invariant.text
