@@ -1,4 +1,5 @@
 mod FirstLine
+mod FirstBytes
 mod EndPointLemmas
 mod LineWords
 mod HexLengths

@@ -2,6 +2,8 @@ ghost use Rattle.std.specs.Prelude.{◌≡◌, ◌<◌, ◌≤◌, ◌==◌, ◌
 ghost use Rattle.std.specs.List.{position};
 ghost use Rattle.script_text.specs.Lines.{lines_of, is_too_long, is_passed_over};
 
+use memchr::memchr;
+
 /// The longest line of a text.
 pub const LINE_LIMIT: usize = 16_384;
 
@@ -24,7 +26,7 @@ pub fn next_line(text: &[u8]) -> Option<(&[u8], &[u8])>
 fn line_feed(text: &[u8]) -> Option<usize>
     ensures { result ≡ position (λ b. b == 10) text.now }
 {
-    text.iter().position(|b| *b == b'\n')
+    memchr(b'\n', text)
 }
 
 /// All but the first byte.

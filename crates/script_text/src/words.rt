@@ -3,12 +3,20 @@ ghost use Rattle.std.specs.List.{before_first, after_first, position, position_o
 ghost use Rattle.script_text.specs.Lines.{word, count_of_words, has_words};
 
 use crate::lines::behind_first;
+use memchr::memchr;
 
 /// How many words a line has.
 pub fn count_of_words(line: &[u8]) -> usize
     ensures { result ≡ count_of_words line.now }
 {
-    line.iter().filter(|b| **b == b' ').count() + 1
+    let mut count = 1;
+    let mut rest = line;
+    'words: while let Some(end) = space(rest) {
+        let (_, behind) = rest.split_at(end + 1);
+        count += 1;
+        rest = behind;
+    }
+    count
 }
 
 /// Whether a line has as many words.
@@ -33,7 +41,7 @@ pub fn word(place: usize, line: &[u8]) -> &[u8]
 fn space(line: &[u8]) -> Option<usize>
     ensures { result ≡ position (λ b. b == 32) line.now }
 {
-    line.iter().position(|b| *b == b' ')
+    memchr(b' ', line)
 }
 
 // The place of the first space, or the length where there is none.
