@@ -1,15 +1,15 @@
 -- How many bytes a word is.
-use Rattle.std.proofs.Common.{◌≡◌, ℕ, ◌<◌, ◌*◌, ◌/◌, ◌%◌, List, [], length, refl, sym, ap, ◌∙◌, true, ◌&&◌, arith, Result, Ok, Err}
+use Rattle.std.proofs.Common.{◌≡◌, ℕ, ◌<◌, ◌*◌, ◌/◌, ◌%◌, List, [], length, refl, sym, ap, ◌∙◌, Bool, true, false, ◌&&◌, arith, Result, Ok, Err}
 use Rattle.std.specs.Prelude.{MatchResult}
 use Rattle.std.specs.Prelude.{not, ◌==◌, codes}
 use Rattle.std.specs.List.{list_all, AllPass}
 use Rattle.std.specs.Result.{result_unwrap_or}
-use Rattle.std.proofs.lemmas.Bool.{and_parts, eqb-true}
-use Rattle.std.proofs.lemmas.List.Sums.{AllPass-from_list_all}
+use Rattle.std.proofs.lemmas.Bool.{and_parts, eqb-true, eq-eqb, ne_eqb}
+use Rattle.std.proofs.lemmas.List.Sums.{AllPass-from_list_all, list_all-from_AllPass}
 use Rattle.std.proofs.lemmas.Slice.Eq.{bytes_eq-Decides}
 use Rattle.hex.specs.Hex.{decode_of, decode_sized, is_hex_digit}
 use Rattle.hex.specs.declared.error.FromHexError.{FromHexError}
-use Rattle.hex.proofs.HexLemmas.{decode_of-even, decode_of-ok, decode_sized-twice, decode_pairs-ok, decode_pairs-digits}
+use Rattle.hex.proofs.HexLemmas.{decode_of-even, decode_of-ok, decode_of-digits, decode_sized-twice, decode_pairs-ok, decode_pairs-digits}
 use Rattle.script_text.specs.HexWords.{bytes_of, is_pairs, is_none_word}
 
 all_pass : (word : List ℕ) → list_all is_hex_digit word ≡ true → AllPass is_hex_digit word
@@ -27,6 +27,41 @@ length-bytes_of-pairs word h =
     let long : length word ≡ 2 * length bytes = told.1 in
     let half : length word / 2 ≡ length bytes = omega arith in
     half ∙ ap (λ (r : Result (List ℕ) FromHexError). length (result_unwrap_or r [])) (sym is)
+
+-- the word for no bytes
+pub bytes_of-none : (word : List ℕ) → is_none_word word ≡ true → [] ≡ bytes_of word
+unfolding bytes_of
+bytes_of-none word h = let e : word ≡ codes "-" = (bytes_eq-Decides word (codes "-")).0 h in rw e refl
+
+-- what decodes is a word of pairs, unless it is empty
+pub is_pairs-empty : (word : List ℕ) → length word ≡ 0 → false ≡ is_pairs word
+unfolding is_pairs
+is_pairs-empty word h = rw h refl
+
+pub is_pairs-decoded : (word bytes : List ℕ) → 0 < length word → decode_of word ≡ Ok bytes → true ≡ is_pairs word
+unfolding is_pairs
+is_pairs-decoded word bytes some e =
+    let ok = decode_of-ok word bytes e in
+    let long : (length word == 0) ≡ false = ne_eqb _ _ (omega (arith, some)) in
+    let even : (length word % 2 == 0) ≡ true = eq-eqb _ _ ok.0 in
+    rw (long, even, list_all-from_AllPass is_hex_digit word ok.1) refl
+
+pub bytes_of-decoded : (word bytes : List ℕ) → decode_of word ≡ Ok bytes → bytes ≡ bytes_of word
+unfolding bytes_of
+bytes_of-decoded word bytes e = ap (λ (r : Result (List ℕ) FromHexError). result_unwrap_or r []) (sym e)
+
+-- a word that does not decode is none of pairs
+refused : (word : List ℕ) (fault : FromHexError) (pairs : Bool) → decode_of word ≡ Err fault → is_pairs word ≡ pairs → false ≡ pairs
+unfolding is_pairs
+refused word fault false e h = refl
+refused word fault true e h =
+    let parts = and_parts (not (length word == 0) && length word % 2 == 0) (list_all is_hex_digit word) h in
+    let even : length word % 2 ≡ 0 = eqb-true _ _ ((and_parts (not (length word == 0)) (length word % 2 == 0) parts.0).1) in
+    let some = decode_of-digits word even (all_pass word parts.1) in
+    cc (sym e ∙ some.1)
+
+pub is_pairs-refused : (word : List ℕ) (fault : FromHexError) → decode_of word ≡ Err fault → false ≡ is_pairs word
+is_pairs-refused word fault e = refused word fault (is_pairs word) e refl
 
 -- a word of one byte is no pairs
 pub length-bytes_of-none : (word : List ℕ) → is_none_word word ≡ true → 0 ≡ length (bytes_of word)

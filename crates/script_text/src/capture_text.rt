@@ -8,7 +8,7 @@ use crate::config_text::TEXT_LIMIT;
 use crate::event::MOST_EVENTS;
 use crate::faults::{LineError, LineFault, ScriptFault};
 use crate::given::Given;
-use crate::hex_words::{MOST_BYTES, bytes_of, hex_len};
+use crate::hex_words::hex_bytes;
 use crate::numbers::number;
 use crate::reader::{LineReader, read_text};
 use crate::script::{Capture, Packets};
@@ -69,13 +69,12 @@ impl CaptureReader {
         if !is_next(count, word(1, line)) {
             return Err(LineError::Fault(LineFault::Number));
         }
-        if hex_len(0, MOST_BYTES, word(2, line)).is_none() {
+        let Some(packet) = hex_bytes(alloc, word(2, line))? else {
             return Err(LineError::Fault(LineFault::Hex));
-        }
+        };
         if count >= MOST_EVENTS {
             return Err(LineError::Fault(LineFault::TooManyEvents));
         }
-        let packet = bytes_of(alloc, word(2, line))?;
         self.packets.push(packet)?;
         Ok(())
     }

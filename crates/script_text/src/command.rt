@@ -7,7 +7,7 @@ ghost use Rattle.script_text.specs.Tests.{IsAnswerTo};
 
 use crate::event::LinkEvent;
 use crate::faults::{LineError, LineFault};
-use crate::hex_words::{MOST_BYTES, bytes_of, hex_len, is_none_word};
+use crate::hex_words::{hex_bytes, is_none_word};
 use crate::numbers::number;
 use crate::words::{has_words, word};
 use std::alloc::Global;
@@ -117,13 +117,12 @@ fn send(alloc: Global, requesters: usize, q: u8, line: &[u8]) -> Result<LinkEven
     let Some(session) = session(word(2, line)) else {
         return Err(LineError::Fault(LineFault::Number));
     };
-    if hex_len(0, MOST_BYTES, word(3, line)).is_none() {
+    let Some(bytes) = hex_bytes(alloc, word(3, line))? else {
         return Err(LineError::Fault(LineFault::Hex));
-    }
+    };
     if requesters < usize::from(q) {
         return Err(LineError::Fault(LineFault::NoSuchEnd));
     }
-    let bytes = bytes_of(alloc, word(3, line))?;
     Ok(LinkEvent::Send { q, session, bytes })
 }
 

@@ -10,7 +10,7 @@ use crate::choices::requester;
 use crate::command::{CommandKind, command, command_kind};
 use crate::event::LinkEvent;
 use crate::faults::{LineError, LineFault};
-use crate::hex_words::{MOST_BYTES, bytes_of, hex_len};
+use crate::hex_words::hex_bytes;
 use crate::numbers::number;
 use crate::words::{has_words, word};
 use std::alloc::Global;
@@ -77,16 +77,15 @@ fn reply(alloc: Global, requesters: usize, line: &[u8]) -> Result<LinkEvent, Lin
     if !has_words(3, line) {
         return Err(LineError::Fault(LineFault::Words));
     }
-    if hex_len(0, MOST_BYTES, word(2, line)).is_none() {
+    let Some(bytes) = hex_bytes(alloc, word(2, line))? else {
         return Err(LineError::Fault(LineFault::Hex));
-    }
+    };
     let Some(q) = requester(word(1, line)) else {
         return Err(LineError::Fault(LineFault::NoSuchEnd));
     };
     if requesters < usize::from(q) {
         return Err(LineError::Fault(LineFault::NoSuchEnd));
     }
-    let bytes = bytes_of(alloc, word(2, line))?;
     Ok(LinkEvent::Reply { q, bytes })
 }
 
@@ -114,10 +113,9 @@ fn inject(alloc: Global, line: &[u8]) -> Result<LinkEvent, LineError>
     if !has_words(2, line) {
         return Err(LineError::Fault(LineFault::Words));
     }
-    if hex_len(0, MOST_BYTES, word(1, line)).is_none() {
+    let Some(bytes) = hex_bytes(alloc, word(1, line))? else {
         return Err(LineError::Fault(LineFault::Hex));
-    }
-    let bytes = bytes_of(alloc, word(1, line))?;
+    };
     Ok(LinkEvent::Inject { bytes })
 }
 

@@ -1,8 +1,9 @@
 ghost use Rattle.std.specs.Prelude.{◌≡◌, ◌≤◌, ◌||◌, IfOk, IfSome, is_some, length};
 ghost use Rattle.std.specs.List.{list_all};
 ghost use Rattle.hex.specs.Hex.{is_hex_digit};
-ghost use Rattle.script_text.specs.HexWords.{is_none_word, is_pairs, is_hex_in, bytes_of};
+ghost use Rattle.script_text.specs.HexWords.{is_none_word, is_pairs, is_hex_in, bytes_of, most_bytes};
 
+use hex::FromHexError;
 use spdm_basis::{Bytes, OutOfMemory, Psk};
 use std::alloc::Global;
 
@@ -65,6 +66,53 @@ pub fn hex_len(low: usize, high: usize, word: &[u8]) -> Option<usize>
     Some(len)
 }
 
+// The bytes that a word of pairs is, where it is one.
+fn pairs_bytes(alloc: Global, word: &[u8]) -> Result<Option<Bytes>, OutOfMemory>
+    ensures valid { IfOk result (λ found. is_some found ≡ is_pairs word.now) }
+    ensures value { IfOk result (λ found. IfSome found (λ bytes. bytes ≡ bytes_of word.now)) }
+{
+    if word.is_empty() {
+        return Ok(None);
+    }
+    match hex::decode(alloc, word) {
+        Ok(items) => {
+            let bytes = Bytes::copy(alloc, items.as_slice())?;
+            Ok(Some(bytes))
+        }
+        Err(fault) => match fault {
+            FromHexError::OutOfMemory => Err(OutOfMemory),
+            _ => Ok(None),
+        },
+    }
+}
+
+// The bytes that a word is, where it is bytes.
+fn any_bytes(alloc: Global, word: &[u8]) -> Result<Option<Bytes>, OutOfMemory>
+    ensures valid { IfOk result (λ found.
+        is_some found ≡ (is_none_word word.now || is_pairs word.now)) }
+    ensures value { IfOk result (λ found. IfSome found (λ bytes. bytes ≡ bytes_of word.now)) }
+{
+    if is_none_word(word) {
+        return Ok(Some(Bytes::new(alloc)));
+    }
+    pairs_bytes(alloc, word)
+}
+
+/// The bytes that a word is, where it is at most `MOST_BYTES`.
+#[tactic(auto, unfolding(crate::specs::HexWords::is_hex_in))]
+pub fn hex_bytes(alloc: Global, word: &[u8]) -> Result<Option<Bytes>, OutOfMemory>
+    ensures valid { IfOk result (λ found. is_some found ≡ is_hex_in 0 most_bytes word.now) }
+    ensures value { IfOk result (λ found. IfSome found (λ bytes. bytes ≡ bytes_of word.now)) }
+{
+    let Some(bytes) = any_bytes(alloc, word)? else {
+        return Ok(None);
+    };
+    if bytes.as_slice().len() > MOST_BYTES {
+        return Ok(None);
+    }
+    Ok(Some(bytes))
+}
+
 /// The bytes that a word of pairs is; none for another word.
 #[tactic(auto, unfolding(crate::specs::HexWords::bytes_of))]
 pub fn bytes_of(alloc: Global, word: &[u8]) -> Result<Bytes, OutOfMemory>
@@ -72,7 +120,7 @@ pub fn bytes_of(alloc: Global, word: &[u8]) -> Result<Bytes, OutOfMemory>
 {
     match hex::decode(alloc, word) {
         Ok(items) => Bytes::copy(alloc, items.as_slice()),
-        Err(hex::FromHexError::OutOfMemory) => Err(OutOfMemory),
+        Err(FromHexError::OutOfMemory) => Err(OutOfMemory),
         Err(_) => Ok(Bytes::new(alloc)),
     }
 }

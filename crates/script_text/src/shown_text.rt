@@ -5,7 +5,7 @@ ghost use Rattle.script_text.specs.Tests.{IsAnswerTo};
 
 use crate::config_text::TEXT_LIMIT;
 use crate::faults::{LineError, LineFault, ScriptFault};
-use crate::hex_words::{MOST_BYTES, bytes_of, hex_len};
+use crate::hex_words::hex_bytes;
 use crate::reader::{LineReader, read_text};
 use crate::shown::{Shown, ShownAs, ShownKind, ShownList};
 use crate::words::{has_words, word};
@@ -70,13 +70,13 @@ fn take_message(
     if !has_words(2, line) {
         return Err(LineError::Fault(LineFault::Words));
     }
-    if hex_len(0, MOST_BYTES, word(1, line)).is_none() {
+    let Some(bytes) = hex_bytes(alloc, word(1, line))? else {
         return Err(LineError::Fault(LineFault::Hex));
-    }
+    };
     list.push(Shown {
         kind: shown.kind,
         hash: shown.hash,
-        bytes: bytes_of(alloc, word(1, line))?,
+        bytes,
     })?;
     Ok(())
 }

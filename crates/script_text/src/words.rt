@@ -8,7 +8,14 @@ use crate::lines::behind_first;
 pub fn count_of_words(line: &[u8]) -> usize
     ensures { result ≡ count_of_words line.now }
 {
-    line.iter().filter(|b| **b == b' ').count() + 1
+    let mut count = 1;
+    let mut rest = line;
+    'words: while let Some(end) = space(rest) {
+        let (_, behind) = rest.split_at(end + 1);
+        count += 1;
+        rest = behind;
+    }
+    count
 }
 
 /// Whether a line has as many words.

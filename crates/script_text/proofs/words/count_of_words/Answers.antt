@@ -1,6 +1,20 @@
-use Rattle.std.proofs.Common.{rules}
-use Rattle.script_text.proofs.LineWords.{count_of_words-spaces}
+use Rattle.std.proofs.Common.{◌≡◌, ◌+◌, drop, ap, arith}
+use Rattle.script_text.specs.Lines.{count_of_words}
+use Rattle.script_text.proofs.LineWords.{count-space, count-no_space}
 use Rattle.script_text.proofs.words.count_of_words.Goals as goal
 
+pub words-preserved : goal.words-preserved
+words-preserved c =
+    let rest = c.words.rest.now in
+    let cut = c.split_at.ensures in
+    let told = count-space rest c.space.result c.in-Some.end c.space.ensures c.in-Some.is in
+    let same : count_of_words c.split_at.result.1.now ≡ count_of_words (drop (c.in-Some.end + 1) rest) = ap count_of_words cut.back in
+    record {
+      count = omega (arith, told.1, same, c.words.invariant.count);
+      within = omega (arith, cut.back_len, c.words.invariant.within);
+    }
+
 pub returns : goal.returns
-returns c = count_of_words-spaces c.args.line.now c.count.result (search rules)
+returns c =
+    let one = count-no_space c.words.rest.now c.space.result c.space.ensures c.in_default.is in
+    omega (arith, one, c.words.invariant.count)
