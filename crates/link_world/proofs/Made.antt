@@ -13,16 +13,12 @@ use Rattle.link_world.specs.Standing.{AreApart, AreAskers, IsAsker, counted, eid
 use Rattle.link_world.specs.declared.ends.Asker.{Asker}
 use Rattle.link_world.specs.declared.fault.WorldFault.{WorldFault}
 use Rattle.link_world.specs.declared.fault.WorldFault.TheVariants as world
-use Rattle.requester.specs.Config as asking
-use Rattle.requester.specs.SetUp.{setup_of}
-use Rattle.requester.specs.declared.config.ReqConfig.{ReqConfig}
 use Rattle.requester.specs.declared.fault.ReqConfigFault.{ReqConfigFault}
 use Rattle.requester.specs.declared.fault.ReqConfigFault.TheVariants as reqfault
 use Rattle.measurements.specs.Faults.{inventory_fault}
 use Rattle.requester_machine.specs.Requesting.{Requesting, new_requesting}
 use Rattle.responder.proofs.Limits.{first_none}
-use Rattle.responder.specs.Config as answering
-use Rattle.responder.specs.Config.{config_fault, has_same_eid, is_eid_of_one, set_up_fault}
+use Rattle.responder.specs.Config.{has_same_eid, is_eid_of_one, set_up_fault}
 use Rattle.responder.specs.SetUp as known
 use Rattle.responder.specs.declared.config.Known.{Known}
 use Rattle.responder.specs.declared.config.RspConfig.{RspConfig}

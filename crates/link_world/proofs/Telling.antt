@@ -1,23 +1,13 @@
 -- The lines of a packet that was given to the responder, by what is told and the data that came last.
-use Rattle.std.proofs.Common.{refl, ◌≡◌, ◌∙◌, ◌∷◌, ◌++◌, ℕ, List, [], Bool, true, false, Option, Some, None, ap, sym}
-use Rattle.std.proofs.lemmas.Bool.{false≢true}
-use Rattle.std.specs.Prelude.{◌==◌, if◌then◌else◌, is_some, not, unwrap_or, Result, Ok, Err}
-use Rattle.std.specs.Option.{option_or}
-use Rattle.link_world.proofs.Brings.{Agrees, EntryAgrees, entry_agrees, is_measured}
+use Rattle.std.proofs.Common.{refl, ◌≡◌, ◌∙◌, ◌∷◌, ℕ, List, [], Bool, true, false, Option, Some, None, ap, sym}
+use Rattle.std.specs.Prelude.{◌==◌, if◌then◌else◌, is_some, not, Result, Ok, Err}
 use Rattle.link_world.proofs.Changing.{whole_either}
-use Rattle.link_world.specs.Told.{event_lines, heard_data, heard_lines, is_answered, is_taken}
+use Rattle.link_world.specs.Told.{heard_data, heard_lines, is_taken}
 use Rattle.mctp_framing.specs.Cutting.{RouteFields}
 use Rattle.mctp_framing.specs.Gathering.{Gathered}
 use Rattle.mctp_framing.specs.Gathering.Gathered.{Dropped, More, Whole}
 use Rattle.mctp_framing.specs.Packet.{PacketFields, parsed}
-use Rattle.requester_machine.specs.Asking.{Outcome}
 use Rattle.requester_machine.specs.Asking.{Outcome as asked}
-use Rattle.requester_machine.specs.Does.{requester_hears, body_chosen}
-use Rattle.requester_machine.specs.History as asking
-use Rattle.requester_machine.specs.History.Entry.{Told, TookClear, TookRecord}
-use Rattle.requester_machine.specs.Requesting as requesting
-use Rattle.requester_machine.specs.Requesting.{PacketStep, Requesting, requester_given}
-use Rattle.requester_machine.specs.Shown as shown
 use Rattle.responder.proofs.Data.{TellsData, body_data}
 use Rattle.responder.specs.Came.{data_or, last_for}
 use Rattle.responder_machine.specs.Does.{responder_does}
@@ -33,19 +23,16 @@ use Rattle.responder_machine.specs.Turn.{Effect as effect}
 use Rattle.spdm_basis.specs.declared.PacketFault.{PacketFault}
 use Rattle.spdm_basis.specs.declared.drop_cause.DropCause.TheVariants.{NotOurs}
 use Rattle.spdm_basis.specs.declared.session_id.SessionId.{SessionId}
-use Rattle.spdm_grammar.specs.Lines.{Line, Whose}
-use Rattle.spdm_grammar.specs.Lines.Line.{ToRequester, ToResponder}
+use Rattle.spdm_grammar.specs.Lines.{Line}
+use Rattle.spdm_grammar.specs.Lines.Line.{ToResponder}
 use Rattle.spdm_grammar.specs.Message.{ChunkMessage}
 use Rattle.spdm_grammar.specs.declared.error_code.ErrorCode.{ErrorCode}
-use Rattle.spdm_grammar.specs.declared.event.Event.{Event}
-use Rattle.spdm_grammar.specs.declared.event.Event.TheVariants as event
-use Rattle.spdm_grammar.specs.declared.event.Finished.TheVariants as finished
 use Rattle.spdm_grammar.specs.declared.heard.Heard.{Heard}
 use Rattle.spdm_grammar.specs.declared.heard.Heard.TheVariants as heard
 use Rattle.spdm_grammar.specs.declared.heard.RspIgnored.TheVariants as ignored
 use Rattle.spdm_machine.specs.Keys.{Draw}
 use Rattle.spdm_machine.specs.Packets.{gathered_from}
-use Rattle.world_machine.specs.World.{data_lines, id_in_event, record_lines, taken_lines}
+use Rattle.world_machine.specs.World.{taken_lines}
 
 -- The lines are those of what is told and of the data.
 abbrev pub HeardAs : ℕ → Heard → (last : List ℕ) → Option (SessionId × List ℕ) → Type 0

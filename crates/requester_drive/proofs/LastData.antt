@@ -1,6 +1,6 @@
 -- The data or the measurement record that a requester took last are no longer than a message.
-use Rattle.std.proofs.Common.{refl, ◌≡◌, ◌≤◌, ◌∙◌, ◌∷◌, ◌+◌, ◌++◌, ℕ, List, [], Bool, true, false, Option, Some, None, ap, sym, subst, arith, length, length-append, min, inl, inr}
-use Rattle.std.specs.Prelude.{⊤, ◌==◌, ◌&&◌, not, if◌then◌else◌, nat_lt, slice_index, unwrap_or, Result, Ok, Err}
+use Rattle.std.proofs.Common.{refl, ◌≡◌, ◌≤◌, ◌∷◌, ℕ, List, [], Bool, true, false, Option, Some, None, ap, subst, arith, length, inl, inr}
+use Rattle.std.specs.Prelude.{⊤, ◌==◌, ◌&&◌, slice_index, unwrap_or, Result, Ok, Err}
 use Rattle.std.proofs.lemmas.Bool.{ltb-false}
 use Rattle.asking.proofs.Brought.{Short, brings, brought_short, joined_short, no_data, some_data}
 use Rattle.chunking.specs.Collecting.{joined_with, told_size}
@@ -22,7 +22,7 @@ use Rattle.requester_machine.specs.Bodies.{first_cause}
 use Rattle.requester_machine.specs.Commands.{Free}
 use Rattle.requester_machine.specs.Does.{IsMade, body_chosen}
 use Rattle.requester_machine.specs.Hearing.{hears, hears_by}
-use Rattle.requester_machine.specs.History.{Effect, Entry, History, Led, connection_terms, outstanding}
+use Rattle.requester_machine.specs.History.{Entry, History, Led, connection_terms, outstanding}
 use Rattle.requester_machine.specs.History.Effect.{Answers, Nothing, Refuses}
 use Rattle.requester_machine.specs.History.Entry.{Told, TookClear, TookRecord}
 use Rattle.requester_machine.specs.Holds.{Holds, Waits}
@@ -30,7 +30,7 @@ use Rattle.requester_machine.specs.Message.{Aim, Content, Sent}
 use Rattle.requester_machine.specs.Message.Aim.{Plain, ByChunks, ForChunk, InSession}
 use Rattle.requester_machine.specs.Sending.{finish_sent, get_sent, is_too_long, piece_of, request_sent}
 use Rattle.requester_machine.specs.Setup.{ReqSetup}
-use Rattle.requester_machine.specs.Shown.{blocks_in, blocks_of, bytes_in, last_data}
+use Rattle.requester_machine.specs.Shown.{blocks_of, last_data}
 use Rattle.requester_machine.specs.UnderWay.{HasSizes, IsOutstanding}
 use Rattle.spdm_grammar.specs.Message.{RequestMessage, ResponseMessage, ChunkMessage, OfferMessage, ExchangeMessage, ExchangeRspMessage}
 use Rattle.spdm_grammar.specs.Message.RequestMessage.{GetVersion, GetCapabilities, NegotiateAlgorithms, GetMeasurements, PskExchange}

@@ -1,5 +1,5 @@
 -- Each packet that a requester sends fits into a frame.
-use Rattle.std.proofs.Common.{◌<◌, ◌≤◌, ◌+◌, ◌^◌, ℕ, suc, List, [], ◌∷◌, length, Bool, true, false, Option, Some, None, Result, Ok, Err, arith, get_or}
+use Rattle.std.proofs.Common.{◌≤◌, ℕ, List, Bool, true, false, Option, Some, None, Result, Ok, Err, arith}
 use Rattle.std.specs.Prelude.{if◌then◌else◌}
 use Rattle.frame_stream.proofs.Framed.{cut_short}
 use Rattle.frame_stream.specs.Packets.{AreShort}

@@ -19,8 +19,8 @@ returns-in-Ok-resume-clause-sound c =
       is = c.in-Ok-resume.ensures.sound;
     }
 
-pub returns-in-Err-clause-fault : goal.returns-in-Err-clause-fault
-returns-in-Err-clause-fault c =
+pub returns-clause-fault : goal.returns-clause-fault
+returns-clause-fault c =
     let eid = c.args.config.now.responder.eid.number in
     let up : SetsUpResponder c.args.config.now c.responder_config-own.result = record {
       part = c.responder_config-own.ensures.part;
