@@ -134,9 +134,14 @@ impl Asking {
             → f.pad ≡ pad.now → length h < 2 ^ 64 - 1 → StandsFor self.old q h
             → IsAnswered q h (hears q h owner tag body.now f d) result out.new self.new }
     {
-        let heard = self
-            .talk
-            .on_body(setup, &mut self.gathered, owner, tag, body, &mut self.message);
+        let heard = self.talk.on_body(
+            setup,
+            &mut self.gathered,
+            owner,
+            tag,
+            body,
+            &mut self.message,
+        );
         match heard {
             Heard::Ignored(cause) => told(Event::Ignored(cause)),
             Heard::Warned(code) => told(Event::Warned(code)),

@@ -46,7 +46,10 @@ impl Asking {
             → IsCommanded q h (asks false q h (Open summary) f d) result out.new self.new }
     {
         let live = self.sessions.count();
-        match self.talk.open(setup, live, summary, free, &mut self.message) {
+        match self
+            .talk
+            .open(setup, live, summary, free, &mut self.message)
+        {
             Err(fault) => Err(fault),
             Ok(tag) => {
                 self.sessions.open(&self.talk, psk, free.id, summary);

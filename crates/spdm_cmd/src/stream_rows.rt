@@ -3,8 +3,7 @@ use crate::run::spdm;
 use spdm_basis::{MemSeeds, MemSink, MemSource};
 use std::test::Fail;
 
-const CONFIGURATION: &[u8] =
-    b"seed 0000000000000000000000000000000000000000000000000000000000000000
+const CONFIGURATION: &[u8] = b"seed 0000000000000000000000000000000000000000000000000000000000000000
 responder 8 1024 4096 64 30 mhkc
 requester 9 1024 4096 64 0 hkc 71 31323334353637383930313233343536 -
 end
@@ -14,16 +13,10 @@ end
 const GET_VERSION: &[u8] = &[1, 9, 0, 1, 8, 9, 0xc8, 5, 0x10, 0x84, 0, 0];
 
 // VERSION with version 1.2 alone, in a frame.
-const VERSION: &[u8] = &[
-    1, 13, 0, 1, 9, 8, 0xc0, 5, 0x10, 4, 0, 0, 0, 1, 0, 0x12,
-];
+const VERSION: &[u8] = &[1, 13, 0, 1, 9, 8, 0xc0, 5, 0x10, 4, 0, 0, 0, 1, 0, 0x12];
 
 // What `serve` came to for the configuration and this stream, with these seeds, and what it wrote.
-fn serve(
-    rt: &HostRuntime,
-    stream: &[u8],
-    seeds: &[[u8; 32]],
-) -> Result<(Outcome, Vec<u8>), Fail> {
+fn serve(rt: &HostRuntime, stream: &[u8], seeds: &[[u8; 32]]) -> Result<(Outcome, Vec<u8>), Fail> {
     let mut words = Vec::new(rt.alloc());
     words.push(String::from_str(rt.alloc(), "serve")?)?;
     let mut input = Vec::from_slice(rt.alloc(), CONFIGURATION)?;

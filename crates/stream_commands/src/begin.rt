@@ -53,11 +53,11 @@ pub(crate) fn begin<S: Source, E: Seeds>(
     ensures begun { IfOk result (λ begun. IsBegun (S.remaining source.old) (E.left seeds.old) begun
         (S.remaining source.new) (E.left seeds.new)) }
     ensures fault { IfErr result (IsBeginCause (S.remaining source.old) (record {
-          read_before = S.faults source.old;
-          read_after = S.faults source.new;
-          seeded_before = E.faults seeds.old;
-          seeded_after = E.faults seeds.new;
-        })) }
+      read_before = S.faults source.old;
+      read_after = S.faults source.new;
+      seeded_before = E.faults seeds.old;
+      seeded_after = E.faults seeds.new;
+    })) }
     ensures same { OnErr result (E.left seeds.new ≡ E.left seeds.old) }
     ensures read_later { S.faults source.old ≤ S.faults source.new }
     ensures seeded_later { E.faults seeds.old ≤ E.faults seeds.new }

@@ -54,7 +54,14 @@ pub fn serve_input<S: Source, K: Sink, E: Seeds>(
         Ok(begun) => begun,
         Err(fault) => return Err(fault),
     };
-    match serve(alloc, &begun.config, begun.seed, begun.before.as_slice(), source, sink) {
+    match serve(
+        alloc,
+        &begun.config,
+        begun.seed,
+        begun.before.as_slice(),
+        source,
+        sink,
+    ) {
         Ok(()) => Ok(()),
         Err(fault) => Err(fault_of(fault)),
     }

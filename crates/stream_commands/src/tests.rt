@@ -4,10 +4,12 @@ use spdm_basis::{MemSeeds, MemSink, MemSource};
 use std::test::Fail;
 
 const RESPONDER: &str = "responder 8 1024 4096 64 30 mhkc\n";
+
 const REQUESTER: &str = "requester 9 1024 4096 64 0 hkc 71 31323334353637383930313233343536 -\n";
 
 // GET_VERSION, in a frame of its kind, and VERSION with version 1.2 alone.
 const GET_VERSION: &[u8] = &[1, 9, 0, 1, 8, 9, 0xc8, 5, 0x10, 0x84, 0, 0];
+
 const VERSION: &[u8] = &[1, 13, 0, 1, 9, 8, 0xc0, 5, 0x10, 4, 0, 0, 0, 1, 0, 0x12];
 
 // What came of a text and a stream behind it, and what was written. The writes with these numbers fail.
@@ -50,7 +52,12 @@ fn text_without_end(rt: HostRuntime) -> Result<(), Fail> {
 fn frame_behind_an_answered_one_is_cut(rt: HostRuntime) -> Result<(), Fail> {
     let mut stream = Vec::from_slice(rt.alloc(), GET_VERSION)?;
     stream.extend_from_slice(&[1, 9])?;
-    let (answer, written) = serve(&rt, &[RESPONDER, REQUESTER, "end\n"], stream.as_slice(), &[])?;
+    let (answer, written) = serve(
+        &rt,
+        &[RESPONDER, REQUESTER, "end\n"],
+        stream.as_slice(),
+        &[],
+    )?;
     assert_eq!(rt; answer, Err(StreamFault::BadFrame { at: 12 }));
     assert_eq!(rt; written.as_slice(), VERSION);
     Ok(())
