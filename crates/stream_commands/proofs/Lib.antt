@@ -1,3 +1,4 @@
+pub mod Texts
 pub mod Streams
 pub mod Answered
 pub mod Exactly
