@@ -33,6 +33,11 @@ loop-server-preserved g c =
       written_later = omega arith;
     }
 
+pub answer_next-requires-clause-kept : goal.answer_next-requires-clause-kept
+answer_next-requires-clause-kept g c =
+    let run = c.loop-server.invariant.run c.requires.kept.0 c.requires.kept.1 in
+    (after_frames c.requires.kept.0 run.frames, run.stands)
+
 pub returns-in-Ok-false-clause-served : goal.returns-in-Ok-false-clause-served
 returns-in-Ok-false-clause-served g c =
     let mid = c.loop-server.server in
