@@ -12,9 +12,9 @@ end
 ";
 
 // GET_VERSION in a packet of the requester, and VERSION in a packet of the responder.
-const GET_VERSION: [u8; 9] = [1, 8, 9, 0xc8, 5, 0x10, 0x84, 0, 0];
+const GET_VERSION: &[u8] = &[1, 8, 9, 0xc8, 5, 0x10, 0x84, 0, 0];
 
-const VERSION: [u8; 13] = [1, 9, 8, 0xc0, 5, 0x10, 4, 0, 0, 0, 1, 0, 0x12];
+const VERSION: &[u8] = &[1, 9, 8, 0xc0, 5, 0x10, 4, 0, 0, 0, 1, 0, 0x12];
 
 // In the first life and in the last.
 #[test]
@@ -27,9 +27,9 @@ fn ends_begin_a_negotiation(rt: HostRuntime) -> Result<(), Fail> {
         for q in config.requesters.as_slice() {
             let mut requester = make_requester(rt.alloc(), eid, q, [8; 32], boot)?;
             assert_eq!(rt; requester.command(Command::Connect, &mut out), Ok(()));
-            assert_eq!(rt; out.get(0), Some(GET_VERSION.as_slice()));
-            let _ = responder.on_packet(&GET_VERSION, &mut out);
-            assert_eq!(rt; out.get(0), Some(VERSION.as_slice()));
+            assert_eq!(rt; out.get(0), Some(GET_VERSION));
+            let _ = responder.on_packet(GET_VERSION, &mut out);
+            assert_eq!(rt; out.get(0), Some(VERSION));
         }
     }
     Ok(())
