@@ -1,10 +1,12 @@
 -- What a command answers by what its beginning and its stream came to.
-use Rattle.std.proofs.Common.{◌≡◌, ◌∙◌, ◌≤◌, ◌⊎◌, inl, inr, ℕ, List, [], refl, ap, sym, subst, absurd, Option, Some, None}
+use Rattle.std.proofs.Common.{◌≡◌, ◌∙◌, ◌≤◌, ◌⊎◌, inl, inr, ℕ, List, [], refl, sym, subst, Option, Some, Ok}
 use Rattle.frame_stream.proofs.Fronts.{fault_later}
-use Rattle.frame_stream.specs.Standing.{in_front}
+use Rattle.frame_stream.specs.Frames.{Ending}
+use Rattle.frame_stream.specs.Frames.Ending.{Bad, Done, TooLong}
+use Rattle.frame_stream.specs.Runs.{Counts}
 use Rattle.responder.specs.Config.{config_fault}
 use Rattle.responder.specs.declared.fault.RspConfigFault.{RspConfigFault}
-use Rattle.responder_serve.specs.Served.{responder_of}
+use Rattle.responder_serve.specs.Served.{IsServed, IsServedInPart, responder_of}
 use Rattle.responder_serve.specs.Standing as serving
 use Rattle.responder_serve.specs.Told.{IsRefusal}
 use Rattle.responder_serve.specs.declared.fault.ServeFault.{ServeFault}
@@ -13,9 +15,10 @@ use Rattle.script_text.specs.declared.config.ScriptConfig.{ScriptConfig}
 use Rattle.script_worlds.specs.Ends.{HasNoFault}
 use Rattle.std.proofs.lemmas.Option.{none-some}
 use Rattle.spdm_basis.specs.Stream.{HasFault}
-use Rattle.stream_commands.proofs.Streams.{in_part, same_stream, served, so_far}
+use Rattle.stream_commands.proofs.Streams.{in_part, served, so_far}
 use Rattle.stream_commands.specs.Begun.{IsBegun, IsBeginCause, Tries, stream_in}
-use Rattle.stream_commands.specs.Served.{IsBegunToServe, IsCause, IsServed, IsSetUp, Outside, outside}
+use Rattle.stream_commands.specs.Served as outcome
+use Rattle.stream_commands.specs.Served.{IsAnswered, IsBegunToServe, IsCause, IsSetUp, Outside, outside}
 use Rattle.stream_commands.specs.Told.{IsOfStream, IsTold}
 use Rattle.stream_commands.specs.declared.begin.Begun.{Begun}
 use Rattle.stream_commands.specs.declared.fault.StreamFault.{StreamFault}
@@ -44,47 +47,50 @@ not_begun left rest held seeds others n written (fault.BadFrame at) same is = ab
 
 -- what was begun sets up the end
 set_up : (before after : Outside) (begun : Begun) (rest : Option (List ℕ)) → IsBegun before.left before.seeds begun rest after.seeds → IsSetUp begun.config begun.seed before after
-set_up before after begun rest is = record { configured = is.configured; seed = is.seed }
+set_up before after begun rest is = record { configured = is.configured; given = is.seed }
 
--- Behind a beginning the fault of the stream is that of the command.
-pub not_served : (before after : Outside) (begun : Begun) (rest : Option (List ℕ)) (n : serving.Counts) (f : ServeFault) (told : StreamFault) → IsBegun before.left before.seeds begun rest after.seeds →
-    before.read_faults ≤ n.read_before → n.read_before ≤ n.read_after → n.read_after ≡ after.read_faults → n.written_before ≡ before.write_faults → n.written_after ≡ after.write_faults →
-    serving.IsCause (responder_of begun.config begun.seed) (in_front begun.before rest) before.holds after.holds n f → IsTold f told → IsCause before after told
-not_served before after begun rest n serve.ReadFault told is earlier later reads wrote writes cause t =
-    let same = same_stream before.left is.text begun.before rest is.read in
-    let r = responder_of begun.config begun.seed in
-    let part = record {
+-- Behind a beginning, where what is ahead is the stream of the input: all of it was served.
+pub all_served : (before after : Outside) (begun : Begun) (rest ahead : Option (List ℕ)) → IsBegun before.left before.seeds begun rest after.seeds →
+    ((stream : List ℕ) → stream_in before.left ≡ Some stream → ahead ≡ Some stream) → IsServed (responder_of begun.config begun.seed) ahead before.holds after.holds Done →
+    ((left : List ℕ) → rest ≡ Some left → after.left ≡ Some []) → IsAnswered before after (Ok tt)
+all_served before after begun rest ahead is same done end =
+    let whole : outcome.IsServed before after Done = record {
       config = begun.config;
       seed = begun.seed;
       set_up = set_up before after begun rest is;
-      served = in_part r (stream_in before.left) (in_front begun.before rest) before.holds after.holds same (so_far r (in_front begun.before rest) before.holds after.holds cause.1);
+      served = served _ (stream_in before.left) ahead before.holds after.holds Done same done;
     } in
-    subst (IsCause before after) (sym t) (subst (HasFault before.read_faults) reads (fault_later before.read_faults n.read_before n.read_after earlier later cause.0), inr part)
-not_served before after begun rest n serve.WriteFault told is earlier later reads wrote writes cause t =
-    let same = same_stream before.left is.text begun.before rest is.read in
-    let r = responder_of begun.config begun.seed in
-    let part = record {
-      config = begun.config;
-      seed = begun.seed;
-      set_up = set_up before after begun rest is;
-      served = in_part r (stream_in before.left) (in_front begun.before rest) before.holds after.holds same cause.1;
-    } in
-    subst (IsCause before after) (sym t) (subst (λ m. HasFault m after.write_faults) wrote (subst (HasFault n.written_before) writes cause.0), part)
-not_served before after begun rest n serve.TooLong told is earlier later reads wrote writes cause t =
-    let same = same_stream before.left is.text begun.before rest is.read in
-    subst (IsCause before after) (sym t) (inr (record {
-      config = begun.config;
-      seed = begun.seed;
-      set_up = set_up before after begun rest is;
-      served = served _ (stream_in before.left) (in_front begun.before rest) before.holds after.holds _ same cause;
-    }))
-not_served before after begun rest n (serve.BadFrame at) told is earlier later reads wrote writes cause t =
-    let same = same_stream before.left is.text begun.before rest is.read in
-    subst (IsCause before after) (sym t) (record {
-      config = begun.config;
-      seed = begun.seed;
-      set_up = set_up before after begun rest is;
-      served = served _ (stream_in before.left) (in_front begun.before rest) before.holds after.holds _ same cause;
-    })
-not_served before after begun rest n serve.OutOfMemory told is earlier later reads wrote writes cause t = subst (IsCause before after) (sym t) cause
-not_served before after begun rest n (serve.Responder refused) told is earlier later reads wrote writes cause t = absurd t
+    (whole, λ input left. let behind = (is.read input left).1 in end behind.0 behind.1)
+
+-- or its fault is that of the command.
+module _ (before after : Outside) (begun : Begun) (rest ahead : Option (List ℕ)) (n : Counts) (told : StreamFault) (is : IsBegun before.left before.seeds begun rest after.seeds)
+    (same : (stream : List ℕ) → stream_in before.left ≡ Some stream → ahead ≡ Some stream) (earlier : before.read_faults ≤ n.read_before) (later : n.read_before ≤ n.read_after)
+    (reads : n.read_after ≡ after.read_faults) (wrote : n.written_before ≡ before.write_faults) (writes : n.written_after ≡ after.write_faults) where
+  begun_part : IsServedInPart (responder_of begun.config begun.seed) ahead before.holds after.holds → IsBegunToServe before after
+  begun_part part = record {
+    config = begun.config;
+    seed = begun.seed;
+    set_up = set_up before after begun rest is;
+    served = in_part (responder_of begun.config begun.seed) (stream_in before.left) ahead before.holds after.holds same part;
+  }
+
+  whole_frames : (ending : Ending) → IsServed (responder_of begun.config begun.seed) ahead before.holds after.holds ending → outcome.IsServed before after ending
+  whole_frames ending done = record {
+    config = begun.config;
+    seed = begun.seed;
+    set_up = set_up before after begun rest is;
+    served = served _ (stream_in before.left) ahead before.holds after.holds ending same done;
+  }
+
+  pub not_served : (f : ServeFault) → serving.IsCause (responder_of begun.config begun.seed) ahead before.holds after.holds n f → IsTold f told → IsCause before after told
+  not_served serve.ReadFault cause t =
+      subst (IsCause before after) (sym t) (
+        subst (HasFault before.read_faults) reads (fault_later before.read_faults n.read_before n.read_after earlier later cause.0),
+        inr (begun_part (so_far (responder_of begun.config begun.seed) ahead before.holds after.holds cause.1)),
+      )
+  not_served serve.WriteFault cause t =
+      subst (IsCause before after) (sym t) (subst (λ m. HasFault m after.write_faults) wrote (subst (HasFault n.written_before) writes cause.0), begun_part cause.1)
+  not_served serve.TooLong cause t = subst (IsCause before after) (sym t) (inr (whole_frames TooLong cause))
+  not_served (serve.BadFrame at) cause t = subst (IsCause before after) (sym t) (whole_frames (Bad at) cause)
+  not_served serve.OutOfMemory cause t = subst (IsCause before after) (sym t) cause
+  not_served (serve.Responder refused) cause t = absurd t

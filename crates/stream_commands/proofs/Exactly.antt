@@ -1,5 +1,5 @@
 -- An input has one end, and where nothing fails the answer is that to it.
-use Rattle.std.proofs.Common.{◌≡◌, ◌∙◌, ◌≤◌, ◌<◌, ◌-◌, ◌^◌, ◌⊎◌, inl, inr, ℕ, List, length, refl, ap, sym, subst, absurd, arith, Option, Some, None, Result, Ok, Err}
+use Rattle.std.proofs.Common.{◌≡◌, ◌∙◌, ◌≤◌, ◌<◌, ◌-◌, ◌^◌, ◌⊎◌, inl, inr, ℕ, List, length, refl, ap, sym, subst, arith, Option, Some, None, Result, Ok, Err}
 use Rattle.std.proofs.lemmas.Option.{none-some, same_Some}
 use Rattle.std.specs.Result.{result_unwrap_or}
 use Rattle.frame_stream.proofs.Unique.{stream_is_one}
@@ -77,4 +77,4 @@ exactly before after input end result left has read written seeded is = by_answe
   where
     by_answer : (result ≡ Err fault.OutOfMemory) ⊎ ((e : InputEnd) × HasEnd IsStreamToServe input e × (result ≡ answer_for e)) → (result ≡ Err fault.OutOfMemory) ⊎ (result ≡ answer_for end)
     by_answer (inl none) = inl none
-    by_answer (inr own) = inr (own.2.1 ∙ ap answer_for (one_end IsStreamToServe one_ending input own.0 end own.2.0 has))
+    by_answer (inr own) = inr (own.2 ∙ ap answer_for (one_end IsStreamToServe one_ending input own.0 end own.1 has))

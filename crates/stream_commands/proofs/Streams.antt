@@ -9,11 +9,11 @@ use Rattle.responder_serve.specs.Served.{IsServed, IsServedInPart, IsServedSoFar
 use Rattle.spdm_basis.specs.Stream.{Takes}
 use Rattle.stream_commands.specs.Begun.{stream_in}
 
-pub same_stream : (left : Option (List ℕ)) (text before : List ℕ) (rest : Option (List ℕ)) → IsTextOf left text before rest → (stream : List ℕ) → stream_in left ≡ Some stream → in_front before rest ≡ Some stream
-same_stream None text before rest read stream is = absurd (none-some stream is)
-same_stream (Some input) text before rest read stream is =
+pub same_stream : (left : Option (List ℕ)) (text before bytes : List ℕ) (rest : Option (List ℕ)) → IsTextOf left text before rest → bytes ≡ before → (stream : List ℕ) → stream_in left ≡ Some stream → in_front bytes rest ≡ Some stream
+same_stream None text before bytes rest read same stream is = absurd (none-some stream is)
+same_stream (Some input) text before bytes rest read same stream is =
     let behind = (read input refl).1 in
-    ap (in_front before) behind.1 ∙ ap (λ (l : List ℕ). Some l) (sym behind.2) ∙ is
+    ap (λ (b : List ℕ). in_front b rest) same ∙ ap (in_front before) behind.1 ∙ ap (λ (l : List ℕ). Some l) (sym behind.2) ∙ is
 
 -- So what was served of it was served of the stream.
 pub served : (r : Responding) (left ahead held holds : Option (List ℕ)) (ending : Ending) → ((stream : List ℕ) → left ≡ Some stream → ahead ≡ Some stream) → IsServed r ahead held holds ending → IsServed r left held holds ending

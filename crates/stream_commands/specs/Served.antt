@@ -33,7 +33,7 @@ outside left holds seeds read_faults write_faults seed_faults = record {
 -- The text is this configuration, and this seed was taken, and no other.
 pub record IsSetUp (c : ScriptConfig) (seed : List ℕ) (before after : Outside) : Type 0 where
   pub configured : IsConfigured c before.left
-  pub seed : GivesSeed before.seeds seed after.seeds
+  pub given : GivesSeed before.seeds seed after.seeds
 
 -- The responder of the configuration with the seed answered all whole frames of the stream, and no more was written. The
 -- stream ends so behind them.
