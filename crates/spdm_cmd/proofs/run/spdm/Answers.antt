@@ -108,3 +108,15 @@ returns-clause-matched g c = λ text held. matches text
 
 pub returns-clause-sealed_once : goal.returns-clause-sealed_once
 returns-clause-sealed_once g c = λ text held. seals_once text
+
+pub returns-in-Serve-clause-agreement : goal.returns-in-Serve-clause-agreement
+returns-in-Serve-clause-agreement g c = λ text held. (agrees text, shows_alike text)
+
+pub returns-in-Serve-clause-data_prefix : goal.returns-in-Serve-clause-data_prefix
+returns-in-Serve-clause-data_prefix g c = λ text held. delivers text
+
+pub returns-in-Serve-clause-matched : goal.returns-in-Serve-clause-matched
+returns-in-Serve-clause-matched g c = λ text held. matches text
+
+pub returns-in-Serve-clause-sealed_once : goal.returns-in-Serve-clause-sealed_once
+returns-in-Serve-clause-sealed_once g c = λ text held. seals_once text
