@@ -1,8 +1,14 @@
-use Rattle.std.proofs.Common.{◌≡◌, ◌++◌, ◌∷◌, [], get_or, take, ap, ◌∙◌, sym, append_assoc, arith}
+use Rattle.std.proofs.Common.{◌≡◌, ℕ, ◌+◌, ◌<◌, ◌++◌, ◌∷◌, [], List, length, get_or, take, ap, ◌∙◌, sym, append_assoc, arith}
 use Rattle.std.proofs.lemmas.Grind.{common_steps}
 use Rattle.hex.specs.Hex.{encode_lower}
-use Rattle.script_text.proofs.HexText.{encode_lower-none, encode_lower_more}
+use Rattle.script_text.proofs.HexText.{encode_lower-append, encode_lower-none}
 use Rattle.requester_drive.proofs.texts.push_pairs.Goals as goal
+
+-- the digits of one more byte stand behind those of the bytes before it
+one_more : (xs : List ℕ) (i : ℕ) → i < length xs → encode_lower (take (i + 1) xs) ≡ encode_lower (take i xs) ++ encode_lower (get_or xs i 0 ∷ [])
+one_more xs i h =
+    let e : take (i + 1) xs ≡ take i xs ++ (get_or xs i 0 ∷ []) = grind (arith, common_steps) in
+    ap encode_lower e ∙ encode_lower-append (take i xs) (get_or xs i 0 ∷ [])
 
 pub loop-b-init : goal.loop-b-init
 loop-b-init c = record { text = rw encode_lower-none (grind (arith, common_steps)); length = omega arith }
@@ -17,6 +23,6 @@ loop-b-preserved c =
           ∙ ap (λ text. text ++ c.hex_digits.result) c.loop-b.invariant.text
           ∙ ap (λ d. (c.args.line.now ++ encode_lower (take i bytes)) ++ d) digits
           ∙ append_assoc c.args.line.now (encode_lower (take i bytes)) (encode_lower (get_or bytes i 0 ∷ []))
-          ∙ ap (λ hex. c.args.line.now ++ hex) (sym (encode_lower_more bytes i c.loop-b-test.true));
+          ∙ ap (λ hex. c.args.line.now ++ hex) (sym (one_more bytes i c.loop-b-test.true));
       length = omega (arith, c.push.ensures.length, c.loop-b.invariant.length);
     }
