@@ -42,7 +42,7 @@ same_kind : (a b : ℕ) (r s : List ℕ) → a ∷ r ≡ b ∷ s → a ≡ b
 same_kind a b r s e = ap (λ (l : List ℕ). slice_index l 0) e
 
 -- frames in front are one
-same_frame : (f g : GivenFrame) (r s : List ℕ) → spelled f ++ r ≡ spelled g ++ s → (f ≡ g) × (r ≡ s)
+pub same_frame : (f g : GivenFrame) (r s : List ℕ) → spelled f ++ r ≡ spelled g ++ s → (f ≡ g) × (r ≡ s)
 same_frame (PacketOf a) (PacketOf b) r s e =
     let is = same_counted 1 a b r s e in
     (ap (λ (l : List ℕ). PacketOf l) is.0, is.1)
@@ -78,7 +78,7 @@ no_wrong : (kinds : Kinds) (bytes : List ℕ) → bytes ≡ [] → IsWrong kinds
 no_wrong kinds bytes none wrong = subst (λ (l : List ℕ). IsWrong kinds l) none wrong
 
 -- no stream ends where a frame stands in front
-no_end : (kinds : Kinds) (limit at : ℕ) (bytes : List ℕ) (ending : Ending) (frame : GivenFrame) (rest : List ℕ) → Ends kinds limit at bytes ending → IsFrame kinds frame →
+pub no_end : (kinds : Kinds) (limit at : ℕ) (bytes : List ℕ) (ending : Ending) (frame : GivenFrame) (rest : List ℕ) → Ends kinds limit at bytes ending → IsFrame kinds frame →
     bytes ≡ spelled frame ++ rest → at + length (spelled frame) ≤ limit → ⊥
 no_end kinds limit at bytes Done frame rest ends allowed is within =
     let size : length bytes ≡ length (spelled frame ++ rest) = ap (λ (l : List ℕ). length l) is in
@@ -99,7 +99,7 @@ wrong_none : (kinds : Kinds) (limit at : ℕ) (bytes : List ℕ) → bytes ≡ [
 wrong_none kinds limit at bytes none wrong = no_wrong kinds (take (limit - at) bytes) (take_none (limit - at) bytes none) wrong
 
 -- an end is one
-same_end : (kinds : Kinds) (limit at : ℕ) (bytes : List ℕ) (e d : Ending) → at ≤ limit → Ends kinds limit at bytes e → Ends kinds limit at bytes d → e ≡ d
+pub same_end : (kinds : Kinds) (limit at : ℕ) (bytes : List ℕ) (e d : Ending) → at ≤ limit → Ends kinds limit at bytes e → Ends kinds limit at bytes d → e ≡ d
 same_end kinds limit at bytes Done Done within x y = refl
 same_end kinds limit at bytes Done (Bad p) within x (at_is, inl wrong) = absurd (wrong_none kinds limit at bytes x wrong)
 same_end kinds limit at bytes Done (Bad p) within x (at_is, inr cut) = absurd (cut.0 x)

@@ -4,3 +4,4 @@ pub mod Short
 pub mod Written
 pub mod Runs
 pub mod Faults
+pub mod Unique

@@ -17,7 +17,7 @@ use Rattle.world_machine.specs.Totals.{Totals, totals_of}
 use Rattle.spdm_cmd.specs.declared.outcome.Outcome.{Outcome}
 use Rattle.spdm_cmd.specs.declared.outcome.Outcome.TheVariants.{Done, Usage, BadFrame, BadScript, ReadFault, WriteFault, OutOfMemory, SeedFault, TooLong, LinkFull}
 use Rattle.spdm_cmd.specs.declared.words.Command.{Command}
-use Rattle.spdm_cmd.specs.declared.words.Command.TheVariants.{Serve, Text}
+use Rattle.spdm_cmd.specs.declared.words.Command.TheVariants.{Drive, Serve, Text}
 use Rattle.spdm_cmd.specs.declared.words.TextCommand.{TextCommand}
 use Rattle.spdm_cmd.specs.declared.words.TextCommand.TheVariants.{Gen, Run, Show}
 
@@ -38,6 +38,7 @@ abbrev pub input_by : Option Command → Option (List ℕ) → Option (List ℕ)
 input_by None left = left
 input_by (Some (Text command)) left = input_of command left
 input_by (Some Serve) left = None
+input_by (Some Drive) left = None
 
 -- The command reads.
 abbrev pub reads : Option Command → Bool
@@ -46,6 +47,7 @@ reads (Some (Text Run)) = true
 reads (Some (Text Show)) = true
 reads (Some (Text (Gen seed count))) = false
 reads (Some Serve) = true
+reads (Some Drive) = true
 
 -- Where the command reads, the source's count of faults shows none.
 abbrev pub IsReadQuietly : Option Command → (before after : ℕ) → Type 0
@@ -54,6 +56,7 @@ IsReadQuietly None before after = IsQuiet before after
 IsReadQuietly (Some (Text Run)) before after = IsQuiet before after
 IsReadQuietly (Some (Text Show)) before after = IsQuiet before after
 IsReadQuietly (Some Serve) before after = IsQuiet before after
+IsReadQuietly (Some Drive) before after = IsQuiet before after
 
 -- ---- What is written.
 
@@ -82,6 +85,7 @@ abbrev pub output_by : Option Command → List ℕ → List ℕ
 output_by None text = []
 output_by (Some (Text command)) text = output_of command text
 output_by (Some Serve) text = []
+output_by (Some Drive) text = []
 
 -- ---- Bad lines.
 
@@ -95,6 +99,7 @@ abbrev pub bad_line_by : Option Command → List ℕ → Option BadLine
 bad_line_by None text = None
 bad_line_by (Some (Text command)) text = bad_line_of command text
 bad_line_by (Some Serve) text = None
+bad_line_by (Some Drive) text = None
 
 -- ---- A full link.
 
@@ -112,6 +117,7 @@ abbrev pub full_by : Option Command → List ℕ → Option ℕ
 full_by None text = None
 full_by (Some (Text command)) text = full_of command text
 full_by (Some Serve) text = None
+full_by (Some Drive) text = None
 
 -- ---- What is answered.
 
@@ -130,6 +136,7 @@ abbrev pub answer_to : Option Command → List ℕ → Outcome
 answer_to None text = Usage
 answer_to (Some (Text command)) text = answer_of command text
 answer_to (Some Serve) text = Usage
+answer_to (Some Drive) text = Usage
 
 -- Nothing is written with this outcome.
 abbrev pub writes_nothing : Outcome → Bool
@@ -172,4 +179,5 @@ IsLeft (Some (Text (Gen seed count))) text old (Some world) = StandsFor world (l
 IsLeft (Some (Text (Gen seed count))) text old None = ⊥
 IsLeft (Some (Text Show)) text old new = new ≡ old
 IsLeft (Some Serve) text old new = new ≡ old
+IsLeft (Some Drive) text old new = new ≡ old
 IsLeft None text old new = new ≡ old

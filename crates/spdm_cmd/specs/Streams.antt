@@ -3,14 +3,17 @@ use Rattle.std.specs.Prelude.{◌≡◌, Bool, true, false, Option, Some, None, 
 use Rattle.spdm_cmd.specs.declared.outcome.Outcome.{Outcome}
 use Rattle.spdm_cmd.specs.declared.outcome.Outcome.TheVariants.{Done, Usage, BadFrame, BadScript, ReadFault, WriteFault, OutOfMemory, SeedFault, TooLong, LinkFull}
 use Rattle.spdm_cmd.specs.declared.words.Command.{Command}
-use Rattle.spdm_cmd.specs.declared.words.Command.TheVariants.{Serve, Text}
-use Rattle.stream_commands.specs.Served.{IsAnswered, Outside}
+use Rattle.spdm_cmd.specs.declared.words.Command.TheVariants.{Drive, Serve, Text}
+use Rattle.stream_commands.specs.Driven as driven
+use Rattle.stream_commands.specs.Outside.{Outside}
+use Rattle.stream_commands.specs.Served as served
 use Rattle.stream_commands.specs.declared.fault.StreamFault.{StreamFault}
 use Rattle.stream_commands.specs.declared.fault.StreamFault.TheVariants as fault
 
 -- The command answers a stream.
 abbrev pub answers_stream : Option Command → Bool
 answers_stream (Some Serve) = true
+answers_stream (Some Drive) = true
 answers_stream (Some (Text command)) = false
 answers_stream None = false
 
@@ -42,4 +45,10 @@ is_of_streams (LinkFull line) = false
 pub record IsServed (before after : Outside) (outcome : Outcome) : Type 0 where
   pub answer : Result (Unit {0}) StreamFault
   pub is : outcome ≡ outcome_of answer
-  pub answered : IsAnswered before after answer
+  pub answered : served.IsAnswered before after answer
+
+-- The outcome is that of an answer which came of driving a requester so.
+pub record IsDriven (before after : Outside) (outcome : Outcome) : Type 0 where
+  pub answer : Result (Unit {0}) StreamFault
+  pub is : outcome ≡ outcome_of answer
+  pub answered : driven.IsAnswered before after answer

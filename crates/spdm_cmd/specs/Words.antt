@@ -2,7 +2,7 @@
 use Rattle.std.specs.Prelude.{List, [], ◌∷◌, ◌≤◌, ◌-◌, ◌^◌, ◌&&◌, bytes_eq, codes, ℕ, if◌then◌else◌, Option, Some, None}
 use Rattle.script_text.specs.Numbers.{is_number_in, value_of}
 use Rattle.spdm_cmd.specs.declared.words.Command.{Command}
-use Rattle.spdm_cmd.specs.declared.words.Command.TheVariants.{Serve, Text}
+use Rattle.spdm_cmd.specs.declared.words.Command.TheVariants.{Drive, Serve, Text}
 use Rattle.spdm_cmd.specs.declared.words.TextCommand.{TextCommand}
 use Rattle.spdm_cmd.specs.declared.words.TextCommand.TheVariants.{Gen, Run, Show}
 
@@ -12,7 +12,8 @@ command_named word =
     if bytes_eq word (codes "run") then Some (Text Run)
     else (if bytes_eq word (codes "show") then Some (Text Show)
     else (if bytes_eq word (codes "serve") then Some Serve
-    else None))
+    else (if bytes_eq word (codes "drive") then Some Drive
+    else None)))
 
 -- The command of three words: a seed below 2^64, and a count from 1 to 20,000.
 unfoldable pub generator : List ℕ → List ℕ → List ℕ → Option Command
@@ -29,6 +30,7 @@ IsTextInRange Show = Unit {0}
 abbrev pub IsInRange : Command → Type 0
 IsInRange (Text command) = IsTextInRange command
 IsInRange Serve = Unit {0}
+IsInRange Drive = Unit {0}
 
 -- The command that the words are, each as its bytes.
 abbrev pub command_of : List (List ℕ) → Option Command

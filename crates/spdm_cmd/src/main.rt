@@ -9,9 +9,9 @@ mod reading;
 mod rows;
 mod run;
 mod script_run;
-mod serving;
 #[cfg(test)]
 mod stream_rows;
+mod streams;
 #[cfg(test)]
 mod tests;
 mod words;

@@ -4,16 +4,16 @@ ghost use Rattle.script_worlds.specs.Refused.{RefusesIn};
 ghost use Rattle.script_worlds.specs.Worlds.{AgreesIn, DeliversIn, MatchesIn, SealsOnceIn, ShowsAlikeIn};
 ghost use Rattle.spdm_basis.specs.Stream.{HasFault, IsQuiet, Takes, TakesPrefix};
 ghost use Rattle.spdm_cmd.specs.Answer.{IsLeft, IsReadQuietly, answer_to, bad_line_by, full_by, input_by, output_by, ran, reads, text_limit, writes_nothing};
-ghost use Rattle.spdm_cmd.specs.Streams.{IsServed, answers_stream, is_of_streams, outcome_of};
+ghost use Rattle.spdm_cmd.specs.Streams.{IsDriven, IsServed, answers_stream, is_of_streams, outcome_of};
 ghost use Rattle.spdm_cmd.specs.Words.{command_of};
-ghost use Rattle.spdm_cmd.specs.declared.words.Command.TheVariants.{Serve};
-ghost use Rattle.stream_commands.specs.InputEnds.{HasEnd, InputEnd, IsStreamToServe, answer_for};
-ghost use Rattle.stream_commands.specs.Served.{outside};
+ghost use Rattle.spdm_cmd.specs.declared.words.Command.TheVariants.{Drive, Serve};
+ghost use Rattle.stream_commands.specs.InputEnds.{HasEnd, InputEnd, IsStreamToDrive, IsStreamToServe, answer_for};
+ghost use Rattle.stream_commands.specs.Outside.{outside};
 
 use crate::outcome::Outcome;
 use crate::output::{TextFault, write_output};
 use crate::reading::read_text;
-use crate::serving::serve_stream;
+use crate::streams::{drive_stream, serve_stream};
 use crate::words::{Command, command_of};
 use link_world::World;
 use spdm_basis::{InFault, Seeds, Sink, Source};
@@ -25,7 +25,8 @@ use std::alloc::Global;
 /// script of a seed below 2^64 and a count of 1 to 20,000 events without its trace, write one line that tells
 /// what it came to, and leave its world. None of these takes a seed of `seeds`. The word `serve` reads a
 /// configuration up to `end`, takes one seed, and answers the frames of the stream behind as the responder that is
-/// configured.
+/// configured. The word `drive` does the same with the first requester that is configured, whose commands come as
+/// frames too.
 #[tactic(auto, using(crate::proofs::TopCall::read_is, script_worlds::proofs::RefusedRight::refuses))]
 pub fn spdm<S: Source, K: Sink, E: Seeds>(
     alloc: Global,
@@ -82,6 +83,19 @@ pub fn spdm<S: Source, K: Sink, E: Seeds>(
     ensures served_exactly { command_of (map string_bytes words.now) ≡ Some Serve
         → (input : List ℕ) (end : InputEnd) → S.remaining source.old ≡ Some input
         → HasEnd IsStreamToServe input end → IsQuiet (S.faults source.old) (S.faults source.new)
+        → IsQuiet (K.faults sink.old) (K.faults sink.new)
+        → IsQuiet (E.faults seeds.old) (E.faults seeds.new)
+        → (result ≡ Outcome.OutOfMemory) ⊎ (result ≡ outcome_of (answer_for end)) }
+
+    // The word `drive`: likewise the first requester of the configuration is told and given all whole frames.
+    ensures driven { command_of (map string_bytes words.now) ≡ Some Drive → IsDriven
+        (outside (S.remaining source.old) (K.contents sink.old) (E.left seeds.old)
+        (S.faults source.old) (K.faults sink.old) (E.faults seeds.old))
+        (outside (S.remaining source.new) (K.contents sink.new) (E.left seeds.new)
+        (S.faults source.new) (K.faults sink.new) (E.faults seeds.new)) result }
+    ensures driven_exactly { command_of (map string_bytes words.now) ≡ Some Drive
+        → (input : List ℕ) (end : InputEnd) → S.remaining source.old ≡ Some input
+        → HasEnd IsStreamToDrive input end → IsQuiet (S.faults source.old) (S.faults source.new)
         → IsQuiet (K.faults sink.old) (K.faults sink.new)
         → IsQuiet (E.faults seeds.old) (E.faults seeds.new)
         → (result ≡ Outcome.OutOfMemory) ⊎ (result ≡ outcome_of (answer_for end)) }
@@ -144,6 +158,7 @@ pub fn spdm<S: Source, K: Sink, E: Seeds>(
     let command = match command {
         Command::Text(command) => command,
         Command::Serve => return serve_stream(alloc, source, sink, seeds),
+        Command::Drive => return drive_stream(alloc, source, sink, seeds),
     };
     let text = match read_text(alloc, command, source) {
         Ok(text) => text,

@@ -12,6 +12,8 @@ pub enum Command {
     Text(TextCommand),
     /// A responder answers a stream of frames.
     Serve,
+    /// A requester is driven by a stream of frames.
+    Drive,
 }
 
 /// A command that reads one text whole, or none.
@@ -50,6 +52,8 @@ fn command_named(word: &str) -> Option<Command>
         Some(Command::Text(TextCommand::Show))
     } else if word == "serve" {
         Some(Command::Serve)
+    } else if word == "drive" {
+        Some(Command::Drive)
     } else {
         None
     }

@@ -1,4 +1,6 @@
 pub mod Texts
 pub mod Streams
-pub mod Answered
+pub mod Begun
+pub mod ServingAnswers
+pub mod DrivingAnswers
 pub mod Exactly

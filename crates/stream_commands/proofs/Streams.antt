@@ -4,9 +4,11 @@ use Rattle.std.proofs.lemmas.Option.{none-some}
 use Rattle.frame_stream.specs.Frames.{Ending}
 use Rattle.frame_stream.specs.Parts.{IsTextOf}
 use Rattle.frame_stream.specs.Standing.{in_front}
+use Rattle.requester_drive.specs.Driven.{IsDriven, IsDrivenInPart, IsDrivenSoFar, driven_from}
+use Rattle.requester_machine.specs.Requesting.{Requesting}
 use Rattle.responder_machine.specs.Responding.{Responding}
 use Rattle.responder_serve.specs.Served.{IsServed, IsServedInPart, IsServedSoFar, served_from}
-use Rattle.spdm_basis.specs.Stream.{Takes}
+use Rattle.script_text.specs.declared.config.ScriptConfig.{ScriptConfig}
 use Rattle.stream_commands.specs.Begun.{stream_in}
 
 pub same_stream : (left : Option (List ℕ)) (text before bytes : List ℕ) (rest : Option (List ℕ)) → IsTextOf left text before rest → bytes ≡ before → (stream : List ℕ) → stream_in left ≡ Some stream → in_front bytes rest ≡ Some stream
@@ -28,4 +30,20 @@ so_far r left held holds s = record {
   frames = s.frames;
   stream = s.stream;
   written = (served_from r s.frames, [], sym (append-nil (served_from r s.frames)), s.written);
+}
+
+-- ---- The same of a requester that is driven.
+
+pub driven : (c : ScriptConfig) (a : Requesting) (left ahead held holds : Option (List ℕ)) (ending : Ending) → ((stream : List ℕ) → left ≡ Some stream → ahead ≡ Some stream) → IsDriven c a ahead held holds ending → IsDriven c a left held holds ending
+driven c a left ahead held holds ending same d = record { frames = d.frames; stream = λ stream is. d.stream stream (same stream is); written = d.written }
+
+pub driven_in_part : (c : ScriptConfig) (a : Requesting) (left ahead held holds : Option (List ℕ)) → ((stream : List ℕ) → left ≡ Some stream → ahead ≡ Some stream) → IsDrivenInPart c a ahead held holds → IsDrivenInPart c a left held holds
+driven_in_part c a left ahead held holds same d = record { frames = d.frames; stream = λ stream is. d.stream stream (same stream is); told = d.told; written = d.written }
+
+pub driven_so_far : (c : ScriptConfig) (a : Requesting) (left held holds : Option (List ℕ)) → IsDrivenSoFar c a left held holds → IsDrivenInPart c a left held holds
+driven_so_far c a left held holds d = record {
+  frames = d.frames;
+  stream = d.stream;
+  told = d.told;
+  written = (driven_from c a d.frames, [], sym (append-nil (driven_from c a d.frames)), d.written);
 }

@@ -3,6 +3,7 @@ use Rattle.std.specs.Prelude.{◌≡◌, ◌<◌, ◌≤◌, ℕ, List, length, 
 use Rattle.frame_stream.specs.Frames.{Ending, GivenFrame, IsStream, stream_limit}
 use Rattle.frame_stream.specs.Frames.Ending.{Bad, Done, TooLong}
 use Rattle.frame_stream.specs.Text.{stream_of, text_of}
+use Rattle.requester_drive.specs.Driven.{IsStreamOf}
 use Rattle.responder_serve.specs.Served.{served_kinds}
 use Rattle.script_text.specs.ConfigText.{config_in}
 use Rattle.script_text.specs.Reading.{BadLine, bad_line_in}
@@ -30,6 +31,10 @@ HasEnd Streams input (InStream ending) =
 -- A stream that is served: packets, and seconds that pass.
 abbrev pub IsStreamToServe : ScriptConfig → List ℕ → List GivenFrame → Ending → Type 0
 IsStreamToServe c stream frames ending = IsStream served_kinds stream_limit stream frames ending
+
+-- A stream that drives a requester: packets, and lines that tell requester 1 a command.
+abbrev pub IsStreamToDrive : ScriptConfig → List ℕ → List GivenFrame → Ending → Type 0
+IsStreamToDrive c stream frames ending = IsStreamOf c stream frames ending
 
 -- The answer to an input that ends so, where nothing fails and memory does not run out.
 abbrev pub answer_for : InputEnd → Result (Unit {0}) StreamFault

@@ -1,4 +1,6 @@
 pub mod Begun
+pub mod Outside
 pub mod Served
+pub mod Driven
 pub mod InputEnds
 pub mod Told

@@ -1,5 +1,7 @@
 -- Faults of what stands below, as a command tells them. This project's own.
 use Rattle.std.specs.Prelude.{◌≡◌}
+use Rattle.requester_drive.specs.declared.fault.DriveFault.{DriveFault}
+use Rattle.requester_drive.specs.declared.fault.DriveFault.TheVariants as driving
 use Rattle.responder_serve.specs.declared.fault.ServeFault.{ServeFault}
 use Rattle.responder_serve.specs.declared.fault.ServeFault.TheVariants as serving
 use Rattle.stream_commands.specs.declared.fault.StreamFault.{StreamFault}
@@ -17,3 +19,16 @@ IsTold (serving.Responder refused) told = ⊥
 abbrev pub IsOfStream : ServeFault → Type 0
 IsOfStream (serving.Responder refused) = ⊥
 IsOfStream other = Unit {0}
+
+-- A fault of driving a requester, which is refused in no configuration that was read either.
+abbrev pub IsDriveTold : DriveFault → StreamFault → Type 0
+IsDriveTold driving.ReadFault told = told ≡ fault.ReadFault
+IsDriveTold driving.WriteFault told = told ≡ fault.WriteFault
+IsDriveTold driving.TooLong told = told ≡ fault.TooLong
+IsDriveTold (driving.BadFrame at) told = told ≡ fault.BadFrame at
+IsDriveTold driving.OutOfMemory told = told ≡ fault.OutOfMemory
+IsDriveTold (driving.Requester refused) told = ⊥
+
+abbrev pub IsOfDriving : DriveFault → Type 0
+IsOfDriving (driving.Requester refused) = ⊥
+IsOfDriving other = Unit {0}

@@ -1,7 +1,8 @@
 ghost use Rattle.std.specs.Prelude.{◌≡◌, ◌≤◌, ◌⊎◌, List, ℕ, Err, Some};
 ghost use Rattle.spdm_basis.specs.Stream.{IsQuiet};
 ghost use Rattle.stream_commands.specs.InputEnds.{HasEnd, InputEnd, IsStreamToServe, answer_for};
-ghost use Rattle.stream_commands.specs.Served.{IsAnswered, outside};
+ghost use Rattle.stream_commands.specs.Outside.{outside};
+ghost use Rattle.stream_commands.specs.Served.{IsAnswered};
 ghost use Rattle.stream_commands.specs.Told.{IsOfStream, IsTold};
 
 use crate::StreamFault;

@@ -120,3 +120,15 @@ returns-in-Serve-clause-matched g c = λ text held. matches text
 
 pub returns-in-Serve-clause-sealed_once : goal.returns-in-Serve-clause-sealed_once
 returns-in-Serve-clause-sealed_once g c = λ text held. seals_once text
+
+pub returns-in-Drive-clause-agreement : goal.returns-in-Drive-clause-agreement
+returns-in-Drive-clause-agreement g c = λ text held. (agrees text, shows_alike text)
+
+pub returns-in-Drive-clause-data_prefix : goal.returns-in-Drive-clause-data_prefix
+returns-in-Drive-clause-data_prefix g c = λ text held. delivers text
+
+pub returns-in-Drive-clause-matched : goal.returns-in-Drive-clause-matched
+returns-in-Drive-clause-matched g c = λ text held. matches text
+
+pub returns-in-Drive-clause-sealed_once : goal.returns-in-Drive-clause-sealed_once
+returns-in-Drive-clause-sealed_once g c = λ text held. seals_once text

@@ -1,4 +1,4 @@
--- What a command answers by what its beginning and its stream came to.
+-- What is answered to a stream that is served, by what its beginning and its frames came to.
 use Rattle.std.proofs.Common.{◌≡◌, ◌∙◌, ◌≤◌, ◌⊎◌, inl, inr, ℕ, List, [], refl, sym, subst, Option, Some, Ok}
 use Rattle.frame_stream.proofs.Fronts.{fault_later}
 use Rattle.frame_stream.specs.Frames.{Ending}
@@ -16,9 +16,11 @@ use Rattle.script_worlds.specs.Ends.{HasNoFault}
 use Rattle.std.proofs.lemmas.Option.{none-some}
 use Rattle.spdm_basis.specs.Stream.{HasFault}
 use Rattle.stream_commands.proofs.Streams.{in_part, served, so_far}
-use Rattle.stream_commands.specs.Begun.{IsBegun, IsBeginCause, Tries, stream_in}
+use Rattle.stream_commands.proofs.Begun.{set_up}
+use Rattle.stream_commands.specs.Begun.{IsBegun, stream_in}
+use Rattle.stream_commands.specs.Outside.{Outside}
 use Rattle.stream_commands.specs.Served as outcome
-use Rattle.stream_commands.specs.Served.{IsAnswered, IsBegunToServe, IsCause, IsSetUp, Outside, outside}
+use Rattle.stream_commands.specs.Served.{IsAnswered, IsBegunToServe, IsCause}
 use Rattle.stream_commands.specs.Told.{IsOfStream, IsTold}
 use Rattle.stream_commands.specs.declared.begin.Begun.{Begun}
 use Rattle.stream_commands.specs.declared.fault.StreamFault.{StreamFault}
@@ -33,21 +35,6 @@ of_stream c (serve.BadFrame at) none refused = tt
 of_stream c serve.OutOfMemory none refused = tt
 of_stream c (serve.Responder own) none refused =
     absurd (none-some own (sym (none.responder refused.config refused.sets_up) ∙ refused.is))
-
--- Where there is no beginning nothing was written, and no seed is gone.
-pub not_begun : (left rest held : Option (List ℕ)) (seeds others : Option (List (List ℕ))) (n : Tries) (written : ℕ) (f : StreamFault) → others ≡ seeds → IsBeginCause left n f →
-    IsCause (outside left held seeds n.read_before written n.seeded_before) (outside rest held others n.read_after written n.seeded_after) f
-not_begun left rest held seeds others n written fault.ReadFault same is = (is, inl refl)
-not_begun left rest held seeds others n written fault.SeedFault same is = (is.0, is.1, same, refl)
-not_begun left rest held seeds others n written fault.TooLong same is = inl (is, refl)
-not_begun left rest held seeds others n written (fault.BadScript line f) same is = (is, refl)
-not_begun left rest held seeds others n written fault.OutOfMemory same is = refl
-not_begun left rest held seeds others n written fault.WriteFault same is = absurd is
-not_begun left rest held seeds others n written (fault.BadFrame at) same is = absurd is
-
--- what was begun sets up the end
-set_up : (before after : Outside) (begun : Begun) (rest : Option (List ℕ)) → IsBegun before.left before.seeds begun rest after.seeds → IsSetUp begun.config begun.seed before after
-set_up before after begun rest is = record { configured = is.configured; given = is.seed }
 
 -- Behind a beginning, where what is ahead is the stream of the input: all of it was served.
 pub all_served : (before after : Outside) (begun : Begun) (rest ahead : Option (List ℕ)) → IsBegun before.left before.seeds begun rest after.seeds →

@@ -1,0 +1,61 @@
+-- What a command on a stream finds outside and leaves there, and what it answers. This project's own.
+use Rattle.std.specs.Prelude.{◌≡◌, ◌⊎◌, ℕ, List, [], Option, Some, Result, Ok, Err}
+use Rattle.frame_stream.specs.Frames.{Ending}
+use Rattle.frame_stream.specs.Frames.Ending.{Bad, Done, TooLong}
+use Rattle.script_text.specs.declared.config.ScriptConfig.{ScriptConfig}
+use Rattle.spdm_basis.specs.Stream.{GivesSeed, HasFault}
+use Rattle.stream_commands.specs.Begun.{IsBadText, IsConfigured, IsLongText}
+use Rattle.stream_commands.specs.declared.fault.StreamFault.{StreamFault}
+use Rattle.stream_commands.specs.declared.fault.StreamFault.TheVariants as fault
+
+-- What a call finds outside and what it leaves there: what the source has left, what the sink holds and which seeds are
+-- left, where they tell it, and the counts of their faults.
+pub record Outside : Type 0 where
+  pub left : Option (List ℕ)
+  pub holds : Option (List ℕ)
+  pub seeds : Option (List (List ℕ))
+  pub read_faults : ℕ
+  pub write_faults : ℕ
+  pub seed_faults : ℕ
+
+abbrev pub outside : (left holds : Option (List ℕ)) → (seeds : Option (List (List ℕ))) → (read_faults write_faults seed_faults : ℕ) → Outside
+outside left holds seeds read_faults write_faults seed_faults = record {
+  left = left;
+  holds = holds;
+  seeds = seeds;
+  read_faults = read_faults;
+  write_faults = write_faults;
+  seed_faults = seed_faults;
+}
+
+-- The text is this configuration, and this seed was taken, and no other.
+pub record IsSetUp (c : ScriptConfig) (seed : List ℕ) (before after : Outside) : Type 0 where
+  pub configured : IsConfigured c before.left
+  pub given : GivesSeed before.seeds seed after.seeds
+
+-- Nothing was written.
+abbrev pub IsUnwritten : (before after : Outside) → Type 0
+IsUnwritten before after = after.holds ≡ before.holds
+
+-- ---- What is answered. `Whole` says that what all whole frames of the stream led to was written, and no more, and that the
+-- stream ends so behind them; `Part` that a prefix of what its first frames led to was written; and `Unfinished` what was
+-- written where memory ran out.
+
+-- The cause of a fault, and what was written in front of it.
+abbrev pub IsCauseBy : (Whole : (before after : Outside) → Ending → Type 0) → (Part Unfinished : (before after : Outside) → Type 0) → (before after : Outside) → StreamFault → Type 0
+IsCauseBy Whole Part Unfinished before after fault.ReadFault = HasFault before.read_faults after.read_faults × (IsUnwritten before after ⊎ Part before after)
+IsCauseBy Whole Part Unfinished before after fault.WriteFault = HasFault before.write_faults after.write_faults × Part before after
+IsCauseBy Whole Part Unfinished before after fault.SeedFault =
+    HasFault before.seed_faults after.seed_faults × ((c : ScriptConfig) × IsConfigured c before.left)
+    × (after.seeds ≡ before.seeds) × IsUnwritten before after
+IsCauseBy Whole Part Unfinished before after fault.TooLong = (IsLongText before.left × IsUnwritten before after) ⊎ Whole before after TooLong
+IsCauseBy Whole Part Unfinished before after (fault.BadFrame at) = Whole before after (Bad at)
+IsCauseBy Whole Part Unfinished before after (fault.BadScript line f) =
+    IsBadText (record { line = line; fault = f }) before.left × IsUnwritten before after
+IsCauseBy Whole Part Unfinished before after fault.OutOfMemory = Unfinished before after
+
+-- With `Ok` the stream was read to its end.
+abbrev pub IsAnsweredBy : (Whole : (before after : Outside) → Ending → Type 0) → (Part Unfinished : (before after : Outside) → Type 0) → (before after : Outside) → Result (Unit {0}) StreamFault → Type 0
+IsAnsweredBy Whole Part Unfinished before after (Ok done) =
+    Whole before after Done × ((input : List ℕ) → before.left ≡ Some input → after.left ≡ Some [])
+IsAnsweredBy Whole Part Unfinished before after (Err fault) = IsCauseBy Whole Part Unfinished before after fault
