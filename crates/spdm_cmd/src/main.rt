@@ -1,7 +1,13 @@
 //! The command `spdm`: it runs requesters and a responder over a scripted link, and writes their trace.
 #![tactic(auto)]
 
+#[cfg(test)]
+mod bad_streams;
+#[cfg(test)]
+mod carried;
 mod generated;
+#[cfg(test)]
+mod long_streams;
 mod outcome;
 mod output;
 mod reading;
@@ -11,6 +17,8 @@ mod run;
 mod script_run;
 #[cfg(test)]
 mod stream_rows;
+#[cfg(test)]
+mod stream_runs;
 mod streams;
 #[cfg(test)]
 mod tests;

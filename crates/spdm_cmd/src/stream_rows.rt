@@ -1,6 +1,5 @@
 use crate::outcome::Outcome;
-use crate::run::spdm;
-use spdm_basis::{MemSeeds, MemSink, MemSource};
+use crate::stream_runs;
 use std::test::Fail;
 
 const CONFIGURATION: &[u8] = b"seed 0000000000000000000000000000000000000000000000000000000000000000
@@ -22,23 +21,7 @@ fn run(
     stream: &[u8],
     seeds: &[[u8; 32]],
 ) -> Result<(Outcome, Vec<u8>), Fail> {
-    let mut words = Vec::new(rt.alloc());
-    words.push(String::from_str(rt.alloc(), word)?)?;
-    let mut input = Vec::from_slice(rt.alloc(), CONFIGURATION)?;
-    input.extend_from_slice(stream)?;
-    let mut source = MemSource::new(rt.alloc(), input.as_slice(), &[])?;
-    let mut sink = MemSink::new(rt.alloc(), 256, &[])?;
-    let mut seeds = MemSeeds::new(rt.alloc(), seeds, &[])?;
-    let mut left = None;
-    let outcome = spdm(
-        rt.alloc(),
-        words.as_slice(),
-        &mut source,
-        &mut sink,
-        &mut seeds,
-        &mut left,
-    );
-    Ok((outcome, Vec::from_slice(rt.alloc(), sink.as_slice())?))
+    stream_runs::run(rt, word, CONFIGURATION, stream, seeds)
 }
 
 #[test]
