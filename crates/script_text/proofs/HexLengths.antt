@@ -1,16 +1,17 @@
 -- How many bytes a word is.
 use Rattle.std.proofs.Common.{◌≡◌, ℕ, ◌<◌, ◌*◌, ◌/◌, ◌%◌, List, [], length, refl, sym, ap, ◌∙◌, Bool, true, false, ◌&&◌, arith, Result, Ok, Err}
 use Rattle.std.specs.Prelude.{MatchResult}
-use Rattle.std.specs.Prelude.{not, ◌==◌, codes}
+use Rattle.std.specs.Prelude.{not, ◌==◌, ◌||◌, nat_le, ◌∷◌, codes}
 use Rattle.std.specs.List.{list_all, AllPass}
 use Rattle.std.specs.Result.{result_unwrap_or}
 use Rattle.std.proofs.lemmas.Bool.{and_parts, eqb-true, eq-eqb, ne_eqb}
+use Rattle.std.proofs.lemmas.Bool.Decides.{nat_tests}
 use Rattle.std.proofs.lemmas.List.Sums.{AllPass-from_list_all, list_all-from_AllPass}
 use Rattle.std.proofs.lemmas.Slice.Eq.{bytes_eq-Decides}
 use Rattle.hex.specs.Hex.{decode_of, decode_sized, is_hex_digit}
 use Rattle.hex.specs.declared.error.FromHexError.{FromHexError}
 use Rattle.hex.proofs.HexLemmas.{decode_of-even, decode_of-ok, decode_of-digits, decode_sized-twice, decode_pairs-ok, decode_pairs-digits}
-use Rattle.script_text.specs.HexWords.{bytes_of, is_pairs, is_none_word}
+use Rattle.script_text.specs.HexWords.{bytes_of, is_hex_in, is_pairs, is_none_word}
 
 all_pass : (word : List ℕ) → list_all is_hex_digit word ≡ true → AllPass is_hex_digit word
 all_pass word h = AllPass-from_list_all is_hex_digit word h
@@ -82,3 +83,17 @@ pub decoded_is : (word out : List ℕ) (n : ℕ) (answer : Result (Unit {0}) Fro
     MatchResult (decode_sized word n) (λ bytes. (answer ≡ Ok tt) × (out ≡ bytes)) (λ e. answer ≡ Err e) → out ≡ bytes_of word
 unfolding bytes_of
 decoded_is word out n answer long some told = decoded_in_room word out n answer (decode_of word) refl long some told
+
+-- a word that is at most so many bytes, and not one or more, is none
+pub none_in : (word : List ℕ) (most : ℕ) → is_hex_in 0 most word ≡ true → is_hex_in 1 most word ≡ false → [] ≡ bytes_of word
+unfolding is_hex_in
+none_in word most fits not_one = from (bytes_of word) fits not_one
+  where
+    from : (bytes : List ℕ) → ((is_none_word word || is_pairs word) && nat_le 0 (length bytes) && nat_le (length bytes) most) ≡ true →
+        ((is_none_word word || is_pairs word) && nat_le 1 (length bytes) && nat_le (length bytes) most) ≡ false → [] ≡ bytes
+    from [] fits not_one = refl
+    from (b ∷ bytes) fits not_one =
+        let parts = and_parts ((is_none_word word || is_pairs word) && nat_le 0 (length (b ∷ bytes))) (nat_le (length (b ∷ bytes)) most) fits in
+        let hex = (and_parts (is_none_word word || is_pairs word) (nat_le 0 (length (b ∷ bytes))) parts.0).0 in
+        let one : nat_le 1 (length (b ∷ bytes)) ≡ true = grind (arith, nat_tests) in
+        absurd (cc (rw (hex, one, parts.1) at not_one))

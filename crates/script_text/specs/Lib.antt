@@ -12,6 +12,7 @@ pub mod Reading
 pub mod ConfigText
 pub mod ScriptText
 pub mod CommandText
+pub mod Saying
 pub mod PolicyText
 pub mod Spelling
 pub mod TraceWords

@@ -15,3 +15,8 @@ abbrev pub IsAnswerTo : {T : Type 0} → Option LineFault → Result T LineError
 IsAnswerTo fault (Ok _) = fault ≡ None
 IsAnswerTo fault (Err (Fault f)) = fault ≡ Some f
 IsAnswerTo fault (Err NoMemory) = Unit {0}
+
+-- The same of an answer that wants no memory.
+abbrev pub IsTestedBy : {T : Type 0} → Option LineFault → Result T LineFault → Type 0
+IsTestedBy fault (Ok _) = fault ≡ None
+IsTestedBy fault (Err f) = fault ≡ Some f

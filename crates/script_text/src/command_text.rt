@@ -1,6 +1,8 @@
-ghost use Rattle.std.specs.Prelude.{◌≡◌, length};
+ghost use Rattle.std.specs.Prelude.{◌≡◌, ◌≤◌, length};
 ghost use Rattle.script_text.specs.CommandText.{command_in, command_of_kind};
+ghost use Rattle.script_text.specs.HexWords.{most_bytes};
 ghost use Rattle.script_text.specs.Reading.{IsReading};
+ghost use Rattle.script_text.specs.Saying.{IsSaying};
 ghost use Rattle.script_text.specs.declared.event_kind.EventKind.{EventKind};
 
 use crate::command::command;
@@ -8,7 +10,10 @@ use crate::config::ScriptConfig;
 use crate::event::LinkEvent;
 use crate::event_kind::{EventKind, event_kind};
 use crate::faults::{LineError, LineFault, ScriptFault};
+use crate::hex_words::bytes_into;
 use crate::lines::is_too_long;
+use crate::said::{Said, what_is_said};
+use crate::words::word;
 use std::alloc::Global;
 
 /// The command that a line is, for a requester of this configuration. The fault is the first that the line
@@ -45,4 +50,40 @@ fn command_of_kind(
         Err(LineError::Fault(fault)) => Err(ScriptFault::Line(1, fault)),
         Err(LineError::NoMemory) => Err(ScriptFault::OutOfMemory),
     }
+}
+
+/// A command of one line: its requester, what it asks, and how many bytes it has.
+#[derive(Clone, Copy, Debug, PartialEq, Eq)]
+pub struct CommandLine {
+    pub q: u8,
+    pub said: Said,
+    pub count: usize,
+}
+
+/// The command that a line is, as `parse_command` reads it, without memory of its own: its bytes, at most `MOST_BYTES`,
+/// are the first of `room` behind the call. The fault is the first that the line has.
+#[tactic(auto, unfolding(crate::specs::CommandText::command_in))]
+pub fn read_command(
+    config: &ScriptConfig,
+    line: &[u8],
+    room: &mut [u8],
+) -> Result<CommandLine, LineFault>
+    requires { most_bytes ≤ length room.old }
+    ensures { IsSaying (command_in (length config.now.requesters) line.now) room.new result }
+{
+    if is_too_long(line) {
+        return Err(LineFault::LineTooLong);
+    }
+    let Some(EventKind::Command(q, kind)) = event_kind(line) else {
+        return Err(LineFault::Unknown);
+    };
+    let said = match what_is_said(config.requesters.as_slice().len(), q, kind, line) {
+        Ok(said) => said,
+        Err(fault) => return Err(fault),
+    };
+    let count = match said {
+        Said::Send { .. } => bytes_into(word(3, line), room),
+        _ => 0,
+    };
+    Ok(CommandLine { q, said, count })
 }

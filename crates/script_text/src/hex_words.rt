@@ -1,4 +1,4 @@
-ghost use Rattle.std.specs.Prelude.{◌≡◌, ◌≤◌, ◌||◌, IfOk, IfSome, is_some, length};
+ghost use Rattle.std.specs.Prelude.{◌≡◌, ◌≤◌, ◌||◌, IfOk, IfSome, is_some, length, take, true};
 ghost use Rattle.std.specs.List.{list_all};
 ghost use Rattle.hex.specs.Hex.{is_hex_digit};
 ghost use Rattle.script_text.specs.HexWords.{is_none_word, is_pairs, is_hex_in, bytes_of, most_bytes};
@@ -123,6 +123,21 @@ pub fn bytes_of(alloc: Global, word: &[u8]) -> Result<Bytes, OutOfMemory>
         Err(FromHexError::OutOfMemory) => Err(OutOfMemory),
         Err(_) => Ok(Bytes::new(alloc)),
     }
+}
+
+/// Writes the bytes that a word is, where it is at most `MOST_BYTES`, into the front of a room, and tells how many
+/// they are.
+#[tactic(auto, unfolding(crate::specs::HexWords::bytes_of))]
+pub fn bytes_into(word: &[u8], room: &mut [u8]) -> usize
+    requires { most_bytes ≤ length room.old }
+    ensures { is_hex_in 0 most_bytes word.now ≡ true → take result room.new ≡ bytes_of word.now }
+{
+    let Some(count) = hex_len(1, MOST_BYTES, word) else {
+        return 0;
+    };
+    let (into, _) = room.split_at_mut(count);
+    let _ = hex::decode_to_slice(word, into);
+    count
 }
 
 /// The seed that a word of 32 pairs is.
