@@ -130,7 +130,7 @@ run_fault c a old first held mid before between n all (fault.BadFrame at) new af
   written = written_so_far held between holds (driven_from c a run.frames) kept run.written;
 }
 run_fault c a old first held mid before between n all (fault.Requester refused) new after holds fresh run low high same low' high' same' no_fault = absurd no_fault
-run_fault c a old first held mid before between n all fault.OutOfMemory new after holds fresh run low high same low' high' same' kept = so_far c a old first held mid before between holds fresh run kept
+run_fault c a old first held mid before between n all fault.OutOfMemory new after holds fresh run low high same low' high' same' kept = absurd kept
 
 -- before the first frame
 pub run_new : (c : ScriptConfig) (a : Requesting) (driver : Driver) (first held : Option (List ℕ)) → StandsFor driver.requester a → IsRun c a driver.reader first held driver first held

@@ -62,6 +62,6 @@ obeyed c a at line n held (Err fault.WriteFault) new holds command is counted dr
     subst (λ (o : Option Command). (is_some o ≡ true) × HasFault n.before n.after × TakesPrefix held (driven_by_line a o).written holds) (sym is) (refl, counted, driven)
 obeyed c a at line n held (Err fault.ReadFault) new holds command is counted driven = absurd driven
 obeyed c a at line n held (Err fault.TooLong) new holds command is counted driven = absurd driven
+obeyed c a at line n held (Err fault.OutOfMemory) new holds command is counted driven = absurd driven
 obeyed c a at line n held (Err (fault.BadFrame place)) new holds command is counted driven = absurd driven
 obeyed c a at line n held (Err (fault.Requester of)) new holds command is counted driven = absurd driven
-obeyed c a at line n held (Err fault.OutOfMemory) new holds command is counted driven = absurd driven

@@ -43,7 +43,6 @@ IsObeyed c a at line n held (Ok done) new holds =
 IsObeyed c a at line n held (Err fault.WriteFault) new holds =
     IsTold c (CommandOf line) × HasFault n.before n.after × TakesPrefix held (driven_by c a (CommandOf line)).written holds
 IsObeyed c a at line n held (Err (fault.BadFrame place)) new holds = (place ≡ at) × (command_line c line ≡ None) × (holds ≡ held)
-IsObeyed c a at line n held (Err fault.OutOfMemory) new holds = holds ≡ held
 IsObeyed c a at line n held (Err other) new holds = ⊥
 
 -- A frame was read, and all that it led to was written.
@@ -80,7 +79,7 @@ IsStepFault c a old before held n fault.WriteFault new after holds = HasFault n.
 IsStepFault c a old before held n fault.TooLong new after holds = reading.IsCause old.reader before n.read_before n.read_after frame.TooLong × (holds ≡ held)
 IsStepFault c a old before held n (fault.BadFrame at) new after holds =
     (reading.IsCause old.reader before n.read_before n.read_after (frame.BadFrame at) ⊎ IsNoCommand c old before at new after) × (holds ≡ held)
-IsStepFault c a old before held n fault.OutOfMemory new after holds = holds ≡ held
+IsStepFault c a old before held n fault.OutOfMemory new after holds = ⊥
 IsStepFault c a old before held n (fault.Requester refused) new after holds = ⊥
 
 -- ---- All frames so far.
@@ -98,5 +97,5 @@ IsCause c a before held holds n fault.ReadFault = HasFault n.read_before n.read_
 IsCause c a before held holds n fault.WriteFault = HasFault n.written_before n.written_after × IsDrivenInPart c a before held holds
 IsCause c a before held holds n fault.TooLong = IsDriven c a before held holds TooLong
 IsCause c a before held holds n (fault.BadFrame at) = IsDriven c a before held holds (Bad at)
-IsCause c a before held holds n fault.OutOfMemory = IsDrivenSoFar c a before held holds
+IsCause c a before held holds n fault.OutOfMemory = holds ≡ held
 IsCause c a before held holds n (fault.Requester refused) = holds ≡ held

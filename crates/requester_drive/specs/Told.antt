@@ -8,8 +8,6 @@ use Rattle.requester_drive.specs.First.{HasFirstFault}
 use Rattle.requester_drive.specs.declared.fault.DriveFault.{DriveFault}
 use Rattle.requester_drive.specs.declared.fault.DriveFault.TheVariants.{BadFrame, OutOfMemory, ReadFault, Requester, TooLong}
 use Rattle.script_text.specs.declared.config.ScriptConfig.{ScriptConfig}
-use Rattle.script_text.specs.declared.faults.ScriptFault.{ScriptFault}
-use Rattle.script_text.specs.declared.faults.ScriptFault.TheVariants as text
 
 -- A fault of the stream.
 abbrev pub told_of : FrameFault → DriveFault
@@ -22,24 +20,21 @@ abbrev pub of_requester : ReqConfigFault → DriveFault
 of_requester asking.OutOfMemory = OutOfMemory
 of_requester fault = Requester fault
 
--- A fault of a line whose frame begins at this byte.
-abbrev pub of_text : (at : ℕ) → ScriptFault → DriveFault
-of_text at text.OutOfMemory = OutOfMemory
-of_text at fault = BadFrame at
-
 -- A configuration is refused for its first fault.
 abbrev pub IsRefusal : ScriptConfig → DriveFault → Type 0
 IsRefusal c (Requester fault) = HasFirstFault c (Some fault)
 IsRefusal c fault = Unit {0}
 
--- Nothing was read where there is no requester.
+-- Nothing was read where there is no requester, or no memory.
 abbrev pub IsUnread : (before after : Option (List ℕ)) → DriveFault → Type 0
+IsUnread before after OutOfMemory = after ≡ before
 IsUnread before after (Requester fault) = after ≡ before
 IsUnread before after fault = Unit {0}
 
 -- A fault that comes once the requester is made.
 abbrev pub IsLate : DriveFault → Type 0
 IsLate (Requester fault) = ⊥
+IsLate OutOfMemory = ⊥
 IsLate fault = Unit {0}
 
 -- A fault that comes before.

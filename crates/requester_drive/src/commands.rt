@@ -1,47 +1,29 @@
-ghost use Rattle.std.specs.Prelude.{◌≡◌};
+ghost use Rattle.std.specs.Prelude.{◌≡◌, ◌≤◌, length};
 ghost use Rattle.requester_drive.specs.Commands.{as_told, command_told};
-ghost use Rattle.requester_drive.specs.Told.{of_text};
+ghost use Rattle.script_text.specs.Saying.{event_in};
 
-use crate::DriveFault;
 use requester::Command;
-use script_text::{LinkEvent, ScriptFault};
+use script_text::{CommandLine, Said};
 
-/// The command that an event tells requester 1, if it tells it one.
-pub(crate) fn command_of(event: &LinkEvent) -> Option<Command<'_>>
-    ensures { as_told result ≡ command_told event.now }
+/// The command that a line tells requester 1, if it tells it one. The bytes of the line are the first in the room.
+pub(crate) fn command_of<'a>(line: &CommandLine, room: &'a [u8]) -> Option<Command<'a>>
+    requires { line.now.count ≤ length room.now }
+    ensures { as_told result ≡ command_told (event_in line.now room.now) }
 {
-    match event {
-        LinkEvent::Connect { q: 1 } => Some(Command::Connect),
-        LinkEvent::Retry { q: 1 } => Some(Command::Retry),
-        LinkEvent::Open { q: 1, summary } => Some(Command::Open { summary: *summary }),
-        LinkEvent::Send {
-            q: 1,
+    if line.q != 1 {
+        return None;
+    }
+    Some(match line.said {
+        Said::Connect => Command::Connect,
+        Said::Retry => Command::Retry,
+        Said::Open { summary } => Command::Open { summary },
+        Said::Send { session } => Command::Send {
             session,
-            bytes,
-        } => Some(Command::Send {
-            session: *session,
-            bytes: bytes.as_slice(),
-        }),
-        LinkEvent::Beat { q: 1, session } => Some(Command::Beat { session: *session }),
-        LinkEvent::End { q: 1, session } => Some(Command::End { session: *session }),
-        LinkEvent::Update { q: 1, session, all } => Some(Command::Update {
-            session: *session,
-            all: *all,
-        }),
-        LinkEvent::Measure { q: 1, session, op } => Some(Command::Measure {
-            session: *session,
-            op: *op,
-        }),
-        _ => None,
-    }
-}
-
-/// Why a line in the frame that begins at this byte is not told.
-pub(crate) fn fault_of_text(fault: ScriptFault, at: u64) -> DriveFault
-    ensures { result ≡ of_text at fault }
-{
-    match fault {
-        ScriptFault::Line(..) | ScriptFault::TooManyEvents(_) => DriveFault::BadFrame { at },
-        ScriptFault::OutOfMemory => DriveFault::OutOfMemory,
-    }
+            bytes: &room[..line.count],
+        },
+        Said::Beat { session } => Command::Beat { session },
+        Said::End { session } => Command::End { session },
+        Said::Update { session, all } => Command::Update { session, all },
+        Said::Measure { session, op } => Command::Measure { session, op },
+    })
 }

@@ -12,7 +12,7 @@ ghost use Rattle.requester_machine.specs.Requesting.{Requesting};
 
 use crate::DriveFault;
 use crate::telling::Driver;
-use script_text::ScriptConfig;
+use script_text::{MOST_BYTES, ScriptConfig};
 use spdm_basis::{Sink, Source};
 use std::alloc::Global;
 
@@ -25,9 +25,7 @@ use std::alloc::Global;
 /// is cut by the end of input, or is a line that is no command of requester 1; and `TooLong` exactly where the stream goes
 /// on beyond 2^40 bytes without one; what all frames in front led to is written then. `ReadFault` and `WriteFault` come only
 /// by the counts of source and sink; after the second a prefix was written. `Requester` has the first fault of the
-/// configuration, of which one that was read from a text has none. All memory is taken before the first byte is read, but
-/// for the application data of a command, which take memory while they are read from its line; so `OutOfMemory` may come
-/// behind any frame, and what the frames in front led to is written then.
+/// configuration, of which one that was read from a text has none. All memory is taken before the first byte is read.
 pub fn drive<S: Source, K: Sink>(
     alloc: Global,
     config: &ScriptConfig,
@@ -56,7 +54,7 @@ pub fn drive<S: Source, K: Sink>(
     ensures written_later { K.faults sink.old ≤ K.faults sink.new }
 {
     match Driver::new(alloc, config, seed, before) {
-        Ok(driver) => match run(driver, alloc, config, source, sink) {
+        Ok(driver) => match run(driver, config, source, sink) {
             Ok(()) => Ok(()),
             Err(fault) => Err(fault),
         },
@@ -67,7 +65,6 @@ pub fn drive<S: Source, K: Sink>(
 // Drives the requester by all frames.
 fn run<S: Source, K: Sink>(
     driver: Driver,
-    alloc: Global,
     config: &ScriptConfig,
     source: &mut S,
     sink: &mut K,
@@ -92,8 +89,9 @@ fn run<S: Source, K: Sink>(
     ensures written_later { K.faults sink.old ≤ K.faults sink.new }
 {
     let mut driver = driver;
+    let mut room = [0; MOST_BYTES];
     loop {
-        match driver.drive_next(alloc, config, source, sink) {
+        match driver.drive_next(config, &mut room, source, sink) {
             Ok(true) => {}
             Ok(false) => return Ok(()),
             Err(fault) => return Err(fault),

@@ -21,7 +21,7 @@ pub enum DriveFault {
     /// was written.
     #[error("no requester: {0}")]
     Requester(ReqConfigFault),
-    /// Memory ran out: before the first frame, or for the bytes of a command.
+    /// Memory ran out, before the first frame.
     #[error("out of memory")]
     OutOfMemory,
 }

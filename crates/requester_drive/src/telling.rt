@@ -2,13 +2,13 @@ ghost use Rattle.std.specs.Prelude.{◌≡◌};
 ghost use Rattle.requester_drive.specs.Told.{told_of};
 
 use crate::DriveFault;
-use crate::commands::{command_of, fault_of_text};
+use crate::commands::command_of;
 use crate::lines::{write_given, write_told};
 use crate::making::first_requester;
 use frame_stream::{FrameFault, FrameKind, FrameReader, Kinds};
 use mctp_framing::PacketList;
 use requester::{Command, Requester};
-use script_text::{ScriptConfig, parse_command};
+use script_text::{MOST_BYTES, ScriptConfig, read_command};
 use spdm_basis::{Sink, Source};
 use std::alloc::Global;
 
@@ -120,11 +120,11 @@ impl Driver {
         }
     }
 
-    // Tells the requester the command of the line that was read.
+    // Tells the requester the command of the line that was read. There is room for the bytes of the line.
     fn obey<K: Sink>(
         &mut self,
-        alloc: Global,
         config: &ScriptConfig,
+        room: &mut [u8; MOST_BYTES],
         sink: &mut K,
     ) -> Result<(), DriveFault>
         requires { IsKept self.old.requester }
@@ -136,22 +136,24 @@ impl Driver {
             }) (K.contents sink.old) result self.new (K.contents sink.new) }
         ensures later { K.faults sink.old ≤ K.faults sink.new }
     {
-        match parse_command(alloc, config, self.reader.content()) {
-            Ok(event) => match command_of(&event) {
+        match read_command(config, self.reader.content(), room) {
+            Ok(line) => match command_of(&line, room) {
                 Some(command) => self.tell_command(command, sink),
                 None => Err(DriveFault::BadFrame {
                     at: self.reader.frame_begins(),
                 }),
             },
-            Err(fault) => Err(fault_of_text(fault, self.reader.frame_begins())),
+            Err(_) => Err(DriveFault::BadFrame {
+                at: self.reader.frame_begins(),
+            }),
         }
     }
 
-    // Reads the next frame and writes what it led to. Says whether there was one.
+    // Reads the next frame and writes what it led to. Says whether there was one. There is room for the bytes of a line.
     pub(crate) fn drive_next<S: Source, K: Sink>(
         &mut self,
-        alloc: Global,
         config: &ScriptConfig,
+        room: &mut [u8; MOST_BYTES],
         source: &mut S,
         sink: &mut K,
     ) -> Result<bool, DriveFault>
@@ -178,7 +180,7 @@ impl Driver {
                 Err(fault) => Err(fault),
             },
             Ok(Some(FrameKind::Tick(_))) => unreachable!(),
-            Ok(Some(FrameKind::Command)) => match self.obey(alloc, config, sink) {
+            Ok(Some(FrameKind::Command)) => match self.obey(config, room, sink) {
                 Ok(()) => Ok(true),
                 Err(fault) => Err(fault),
             },

@@ -52,12 +52,12 @@ not_quiet before after quiet (inr last) = absurd (let low = quiet.1 in omega (ar
 -- Where what all whole frames led to was written, the input ends so.
 module _ (Streams : ScriptConfig → List ℕ → List GivenFrame → Ending → Type 0)
     (one : (c : ScriptConfig) (stream : List ℕ) (fs gs : List GivenFrame) (e d : Ending) → Streams c stream fs e → Streams c stream gs d → e ≡ d)
-    (Whole : (before after : Outside) → Ending → Type 0) (Part Unfinished : (before after : Outside) → Type 0)
+    (Whole : (before after : Outside) → Ending → Type 0) (Part : (before after : Outside) → Type 0)
     (whole_end : (before after : Outside) (input : List ℕ) (ending : Ending) → before.left ≡ Some input → Whole before after ending → HasEnd Streams input (InStream ending)) where
   module _ (before after : Outside) (input : List ℕ) (left : before.left ≡ Some input)
       (read : IsQuiet before.read_faults after.read_faults) (written : IsQuiet before.write_faults after.write_faults) (seeded : IsQuiet before.seed_faults after.seed_faults) where
     -- what was answered is want of memory, or the answer to an end of the input
-    answer_is : (result : Result (Unit {0}) StreamFault) → IsAnsweredBy Whole Part Unfinished before after result →
+    answer_is : (result : Result (Unit {0}) StreamFault) → IsAnsweredBy Whole Part before after result →
         (result ≡ Err fault.OutOfMemory) ⊎ ((end : InputEnd) × HasEnd Streams input end × (result ≡ answer_for end))
     answer_is (Ok tt) is = inr (InStream Done, whole_end before after input Done left is.0, refl)
     answer_is (Err fault.ReadFault) is = not_quiet before.read_faults after.read_faults read is.0
@@ -69,7 +69,7 @@ module _ (Streams : ScriptConfig → List ℕ → List GivenFrame → Ending →
     answer_is (Err (fault.BadScript line f)) is = inr (BadText (record { line = line; fault = f }), is.0 input left, refl)
     answer_is (Err fault.OutOfMemory) is = inl refl
 
-    pub exactly : (end : InputEnd) (result : Result (Unit {0}) StreamFault) → HasEnd Streams input end → IsAnsweredBy Whole Part Unfinished before after result →
+    pub exactly : (end : InputEnd) (result : Result (Unit {0}) StreamFault) → HasEnd Streams input end → IsAnsweredBy Whole Part before after result →
         (result ≡ Err fault.OutOfMemory) ⊎ (result ≡ answer_for end)
     exactly end result has is = by_answer (answer_is result is)
       where

@@ -1,12 +1,12 @@
 -- What a requester does with an input: a configuration and a stream of frames behind it. This project's own.
-use Rattle.std.specs.Prelude.{◌≡◌, ◌⊎◌, ℕ, List, Option, Some, Result}
+use Rattle.std.specs.Prelude.{◌≡◌, ℕ, List, Option, Some, Result}
 use Rattle.frame_stream.specs.Frames.{Ending}
 use Rattle.requester_drive.specs.Driven as driving
 use Rattle.requester_drive.specs.First.{first_requester}
 use Rattle.requester_machine.specs.Requesting.{Requesting}
 use Rattle.script_text.specs.declared.config.ScriptConfig.{ScriptConfig}
 use Rattle.stream_commands.specs.Begun.{stream_in}
-use Rattle.stream_commands.specs.Outside.{IsAnsweredBy, IsCauseBy, IsSetUp, IsUnwritten, Outside}
+use Rattle.stream_commands.specs.Outside.{IsAnsweredBy, IsCauseBy, IsSetUp, Outside}
 use Rattle.stream_commands.specs.declared.fault.StreamFault.{StreamFault}
 
 -- The first requester of the configuration with the seed was told and given all whole frames of the stream, and what they
@@ -28,14 +28,10 @@ pub record IsBegunToDrive (before after : Outside) : Type 0 where
   pub first : first_requester config seed ≡ Some requester
   pub driven : driving.IsDrivenInPart config requester (stream_in before.left) before.holds after.holds
 
--- Memory may run out behind any frame, since the application data of a command take memory while they are read.
-abbrev pub IsUnfinished : (before after : Outside) → Type 0
-IsUnfinished before after = IsUnwritten before after ⊎ IsBegunToDrive before after
-
 -- The cause of a fault, and what was written in front of it.
 abbrev pub IsCause : (before after : Outside) → StreamFault → Type 0
-IsCause before after fault = IsCauseBy IsDriven IsBegunToDrive IsUnfinished before after fault
+IsCause before after fault = IsCauseBy IsDriven IsBegunToDrive before after fault
 
 -- What was answered.
 abbrev pub IsAnswered : (before after : Outside) → Result (Unit {0}) StreamFault → Type 0
-IsAnswered before after answer = IsAnsweredBy IsDriven IsBegunToDrive IsUnfinished before after answer
+IsAnswered before after answer = IsAnsweredBy IsDriven IsBegunToDrive before after answer

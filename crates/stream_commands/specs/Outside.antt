@@ -38,24 +38,23 @@ abbrev pub IsUnwritten : (before after : Outside) → Type 0
 IsUnwritten before after = after.holds ≡ before.holds
 
 -- ---- What is answered. `Whole` says that what all whole frames of the stream led to was written, and no more, and that the
--- stream ends so behind them; `Part` that a prefix of what its first frames led to was written; and `Unfinished` what was
--- written where memory ran out.
+-- stream ends so behind them; `Part` that a prefix of what its first frames led to was written.
 
--- The cause of a fault, and what was written in front of it.
-abbrev pub IsCauseBy : (Whole : (before after : Outside) → Ending → Type 0) → (Part Unfinished : (before after : Outside) → Type 0) → (before after : Outside) → StreamFault → Type 0
-IsCauseBy Whole Part Unfinished before after fault.ReadFault = HasFault before.read_faults after.read_faults × (IsUnwritten before after ⊎ Part before after)
-IsCauseBy Whole Part Unfinished before after fault.WriteFault = HasFault before.write_faults after.write_faults × Part before after
-IsCauseBy Whole Part Unfinished before after fault.SeedFault =
+-- The cause of a fault, and what was written in front of it. Memory runs out only before the first frame.
+abbrev pub IsCauseBy : (Whole : (before after : Outside) → Ending → Type 0) → (Part : (before after : Outside) → Type 0) → (before after : Outside) → StreamFault → Type 0
+IsCauseBy Whole Part before after fault.ReadFault = HasFault before.read_faults after.read_faults × (IsUnwritten before after ⊎ Part before after)
+IsCauseBy Whole Part before after fault.WriteFault = HasFault before.write_faults after.write_faults × Part before after
+IsCauseBy Whole Part before after fault.SeedFault =
     HasFault before.seed_faults after.seed_faults × ((c : ScriptConfig) × IsConfigured c before.left)
     × (after.seeds ≡ before.seeds) × IsUnwritten before after
-IsCauseBy Whole Part Unfinished before after fault.TooLong = (IsLongText before.left × IsUnwritten before after) ⊎ Whole before after TooLong
-IsCauseBy Whole Part Unfinished before after (fault.BadFrame at) = Whole before after (Bad at)
-IsCauseBy Whole Part Unfinished before after (fault.BadScript line f) =
+IsCauseBy Whole Part before after fault.TooLong = (IsLongText before.left × IsUnwritten before after) ⊎ Whole before after TooLong
+IsCauseBy Whole Part before after (fault.BadFrame at) = Whole before after (Bad at)
+IsCauseBy Whole Part before after (fault.BadScript line f) =
     IsBadText (record { line = line; fault = f }) before.left × IsUnwritten before after
-IsCauseBy Whole Part Unfinished before after fault.OutOfMemory = Unfinished before after
+IsCauseBy Whole Part before after fault.OutOfMemory = IsUnwritten before after
 
 -- With `Ok` the stream was read to its end.
-abbrev pub IsAnsweredBy : (Whole : (before after : Outside) → Ending → Type 0) → (Part Unfinished : (before after : Outside) → Type 0) → (before after : Outside) → Result (Unit {0}) StreamFault → Type 0
-IsAnsweredBy Whole Part Unfinished before after (Ok done) =
+abbrev pub IsAnsweredBy : (Whole : (before after : Outside) → Ending → Type 0) → (Part : (before after : Outside) → Type 0) → (before after : Outside) → Result (Unit {0}) StreamFault → Type 0
+IsAnsweredBy Whole Part before after (Ok done) =
     Whole before after Done × ((input : List ℕ) → before.left ≡ Some input → after.left ≡ Some [])
-IsAnsweredBy Whole Part Unfinished before after (Err fault) = IsCauseBy Whole Part Unfinished before after fault
+IsAnsweredBy Whole Part before after (Err fault) = IsCauseBy Whole Part before after fault

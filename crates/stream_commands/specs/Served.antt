@@ -5,7 +5,7 @@ use Rattle.responder_serve.specs.Served as serving
 use Rattle.responder_serve.specs.Served.{responder_of}
 use Rattle.script_text.specs.declared.config.ScriptConfig.{ScriptConfig}
 use Rattle.stream_commands.specs.Begun.{stream_in}
-use Rattle.stream_commands.specs.Outside.{IsAnsweredBy, IsCauseBy, IsSetUp, IsUnwritten, Outside}
+use Rattle.stream_commands.specs.Outside.{IsAnsweredBy, IsCauseBy, IsSetUp, Outside}
 use Rattle.stream_commands.specs.declared.fault.StreamFault.{StreamFault}
 
 -- The responder of the configuration with the seed answered all whole frames of the stream, and no more was written. The
@@ -23,10 +23,10 @@ pub record IsBegunToServe (before after : Outside) : Type 0 where
   pub set_up : IsSetUp config seed before after
   pub served : serving.IsServedInPart (responder_of config seed) (stream_in before.left) before.holds after.holds
 
--- The cause of a fault, and what was written in front of it. Memory runs out only before the first frame.
+-- The cause of a fault, and what was written in front of it.
 abbrev pub IsCause : (before after : Outside) → StreamFault → Type 0
-IsCause before after fault = IsCauseBy IsServed IsBegunToServe IsUnwritten before after fault
+IsCause before after fault = IsCauseBy IsServed IsBegunToServe before after fault
 
 -- What was answered.
 abbrev pub IsAnswered : (before after : Outside) → Result (Unit {0}) StreamFault → Type 0
-IsAnswered before after answer = IsAnsweredBy IsServed IsBegunToServe IsUnwritten before after answer
+IsAnswered before after answer = IsAnsweredBy IsServed IsBegunToServe before after answer

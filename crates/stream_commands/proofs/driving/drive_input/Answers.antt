@@ -8,7 +8,7 @@ use Rattle.stream_commands.proofs.DrivingAnswers.{all_driven, has_first, not_dri
 use Rattle.stream_commands.proofs.Streams.{same_stream}
 use Rattle.stream_commands.specs.InputEnds.{IsStreamToDrive}
 use Rattle.stream_commands.specs.Outside.{Outside, outside}
-use Rattle.stream_commands.specs.Driven.{IsBegunToDrive, IsDriven, IsUnfinished}
+use Rattle.stream_commands.specs.Driven.{IsBegunToDrive, IsDriven}
 use Rattle.stream_commands.proofs.driving.drive_input.Goals as goal
 
 pub returns-in-Ok-drive-clause-answers : goal.returns-in-Ok-drive-clause-answers
@@ -26,7 +26,7 @@ pub returns-in-Ok-drive-clause-exact : goal.returns-in-Ok-drive-clause-exact
 returns-in-Ok-drive-clause-exact g c = λ input end left has read written seeded.
     let before : Outside = outside (g.S.Source.remaining c.args.source.now) (g.K.Sink.contents c.args.sink.now) (g.E.Seeds.left c.args.seeds.now) (g.S.Source.faults c.args.source.now) (g.K.Sink.faults c.args.sink.now) (g.E.Seeds.faults c.args.seeds.now) in
     let after : Outside = outside (g.S.Source.remaining c.drive.new.source) (g.K.Sink.contents c.drive.new.sink) (g.E.Seeds.left c.begin.new.seeds) (g.S.Source.faults c.drive.new.source) (g.K.Sink.faults c.drive.new.sink) (g.E.Seeds.faults c.begin.new.seeds) in
-    exactly IsStreamToDrive one_driving IsDriven IsBegunToDrive IsUnfinished driven_end before after input left read written seeded end (Ok tt) has (returns-in-Ok-drive-clause-answers g c)
+    exactly IsStreamToDrive one_driving IsDriven IsBegunToDrive driven_end before after input left read written seeded end (Ok tt) has (returns-in-Ok-drive-clause-answers g c)
 
 pub fault_of-requires : goal.fault_of-requires
 fault_of-requires g c =
@@ -55,7 +55,7 @@ pub returns-clause-exact : goal.returns-clause-exact
 returns-clause-exact g c = λ input end left has read written seeded.
     let before : Outside = outside (g.S.Source.remaining c.args.source.now) (g.K.Sink.contents c.args.sink.now) (g.E.Seeds.left c.args.seeds.now) (g.S.Source.faults c.args.source.now) (g.K.Sink.faults c.args.sink.now) (g.E.Seeds.faults c.args.seeds.now) in
     let after : Outside = outside (g.S.Source.remaining c.drive.new.source) (g.K.Sink.contents c.drive.new.sink) (g.E.Seeds.left c.begin.new.seeds) (g.S.Source.faults c.drive.new.source) (g.K.Sink.faults c.drive.new.sink) (g.E.Seeds.faults c.begin.new.seeds) in
-    exactly IsStreamToDrive one_driving IsDriven IsBegunToDrive IsUnfinished driven_end before after input left read written seeded end (Err c.fault_of.result) has (returns-clause-answers g c)
+    exactly IsStreamToDrive one_driving IsDriven IsBegunToDrive driven_end before after input left read written seeded end (Err c.fault_of.result) has (returns-clause-answers g c)
 
 pub drive-requires : goal.drive-requires
 drive-requires g c = (config_sound c.in-Ok.ensures.begun.text c.in-Ok.begun.config (replicate 32 0) refl c.in-Ok.ensures.begun.is).some

@@ -6,7 +6,7 @@ use Rattle.stream_commands.proofs.Exactly.{exactly, one_ending, served_end}
 use Rattle.stream_commands.proofs.ServingAnswers.{all_served, not_served, of_stream}
 use Rattle.stream_commands.proofs.Streams.{same_stream}
 use Rattle.stream_commands.specs.InputEnds.{IsStreamToServe}
-use Rattle.stream_commands.specs.Outside.{IsUnwritten, Outside, outside}
+use Rattle.stream_commands.specs.Outside.{Outside, outside}
 use Rattle.stream_commands.specs.Served.{IsBegunToServe, IsServed}
 use Rattle.stream_commands.proofs.serving.serve_input.Goals as goal
 
@@ -23,7 +23,7 @@ pub returns-in-Ok-serve-clause-exact : goal.returns-in-Ok-serve-clause-exact
 returns-in-Ok-serve-clause-exact g c = λ input end left has read written seeded.
     let before : Outside = outside (g.S.Source.remaining c.args.source.now) (g.K.Sink.contents c.args.sink.now) (g.E.Seeds.left c.args.seeds.now) (g.S.Source.faults c.args.source.now) (g.K.Sink.faults c.args.sink.now) (g.E.Seeds.faults c.args.seeds.now) in
     let after : Outside = outside (g.S.Source.remaining c.serve.new.source) (g.K.Sink.contents c.serve.new.sink) (g.E.Seeds.left c.begin.new.seeds) (g.S.Source.faults c.serve.new.source) (g.K.Sink.faults c.serve.new.sink) (g.E.Seeds.faults c.begin.new.seeds) in
-    exactly IsStreamToServe one_ending IsServed IsBegunToServe IsUnwritten served_end before after input left read written seeded end (Ok tt) has (returns-in-Ok-serve-clause-answers g c)
+    exactly IsStreamToServe one_ending IsServed IsBegunToServe served_end before after input left read written seeded end (Ok tt) has (returns-in-Ok-serve-clause-answers g c)
 
 pub fault_of-requires : goal.fault_of-requires
 fault_of-requires g c =
@@ -50,4 +50,4 @@ pub returns-clause-exact : goal.returns-clause-exact
 returns-clause-exact g c = λ input end left has read written seeded.
     let before : Outside = outside (g.S.Source.remaining c.args.source.now) (g.K.Sink.contents c.args.sink.now) (g.E.Seeds.left c.args.seeds.now) (g.S.Source.faults c.args.source.now) (g.K.Sink.faults c.args.sink.now) (g.E.Seeds.faults c.args.seeds.now) in
     let after : Outside = outside (g.S.Source.remaining c.serve.new.source) (g.K.Sink.contents c.serve.new.sink) (g.E.Seeds.left c.begin.new.seeds) (g.S.Source.faults c.serve.new.source) (g.K.Sink.faults c.serve.new.sink) (g.E.Seeds.faults c.begin.new.seeds) in
-    exactly IsStreamToServe one_ending IsServed IsBegunToServe IsUnwritten served_end before after input left read written seeded end (Err c.fault_of.result) has (returns-clause-answers g c)
+    exactly IsStreamToServe one_ending IsServed IsBegunToServe served_end before after input left read written seeded end (Err c.fault_of.result) has (returns-clause-answers g c)
