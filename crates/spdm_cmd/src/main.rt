@@ -5,6 +5,8 @@
 mod bad_streams;
 #[cfg(test)]
 mod carried;
+#[cfg(test)]
+mod failing_calls;
 mod generated;
 #[cfg(test)]
 mod long_streams;
