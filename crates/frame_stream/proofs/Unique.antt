@@ -3,6 +3,7 @@ use Rattle.std.proofs.Common.{◌≡◌, ◌∙◌, ◌++◌, ◌+◌, ◌-◌, 
 use Rattle.std.proofs.Math.Seq.{drop-append_seam, take-append_seam}
 use Rattle.std.proofs.lemmas.Bool.{false≢true}
 use Rattle.std.specs.Prelude.{slice_index}
+use Rattle.frame_stream.proofs.Whole.{not_wrong_none}
 use Rattle.frame_stream.specs.Frames.{AreFrames, Ending, Ends, GivenFrame, IsFrame, IsStream, IsWrong, all_spelled, counted, four_bytes, spelled}
 use Rattle.frame_stream.specs.Frames.Ending.{Done, Bad, TooLong}
 use Rattle.frame_stream.specs.Frames.GivenFrame.{PacketOf, TicksOf, CommandOf}
@@ -74,9 +75,6 @@ take_none (suc n) (b ∷ bytes) none =
     let size : length (b ∷ bytes) ≡ 0 = ap (λ (l : List ℕ). length l) none in
     absurd (omega (arith, size))
 
-no_wrong : (kinds : Kinds) (bytes : List ℕ) → bytes ≡ [] → IsWrong kinds bytes → ⊥
-no_wrong kinds bytes none wrong = subst (λ (l : List ℕ). IsWrong kinds l) none wrong
-
 -- no stream ends where a frame stands in front
 pub no_end : (kinds : Kinds) (limit at : ℕ) (bytes : List ℕ) (ending : Ending) (frame : GivenFrame) (rest : List ℕ) → Ends kinds limit at bytes ending → IsFrame kinds frame →
     bytes ≡ spelled frame ++ rest → at + length (spelled frame) ≤ limit → ⊥
@@ -96,7 +94,7 @@ no_end kinds limit at bytes TooLong frame rest long allowed is within =
 
 -- of no bytes none is a wrong kind
 wrong_none : (kinds : Kinds) (limit at : ℕ) (bytes : List ℕ) → bytes ≡ [] → IsWrong kinds (take (limit - at) bytes) → ⊥
-wrong_none kinds limit at bytes none wrong = no_wrong kinds (take (limit - at) bytes) (take_none (limit - at) bytes none) wrong
+wrong_none kinds limit at bytes none wrong = not_wrong_none kinds (take (limit - at) bytes) (take_none (limit - at) bytes none) wrong
 
 -- an end is one
 pub same_end : (kinds : Kinds) (limit at : ℕ) (bytes : List ℕ) (e d : Ending) → at ≤ limit → Ends kinds limit at bytes e → Ends kinds limit at bytes d → e ≡ d

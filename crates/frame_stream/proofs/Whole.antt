@@ -1,5 +1,5 @@
 -- Where frames are whole, and where no frame is.
-use Rattle.std.proofs.Common.{◌≡◌, ◌≢◌, ◌∙◌, ◌++◌, ◌+◌, ◌*◌, ◌/◌, ◌%◌, ◌^◌, ◌<◌, ◌≤◌, ◌∷◌, ℕ, List, [], true, refl, ap, sym, arith, length, drop, length-append}
+use Rattle.std.proofs.Common.{◌≡◌, ◌≢◌, ◌∙◌, ◌++◌, ◌+◌, ◌*◌, ◌/◌, ◌%◌, ◌^◌, ◌<◌, ◌≤◌, ◌∷◌, ℕ, List, [], true, refl, ap, sym, subst, arith, length, drop, length-append}
 use Rattle.std.proofs.lemmas.Bool.{false≢true}
 use Rattle.std.specs.Prelude.{slice_index}
 use Rattle.frame_stream.specs.Frames.{HasNoFrame, IsWrong, counted, may_be, spelled}
@@ -52,10 +52,7 @@ not_wrong kinds [] allowed wrong = wrong
 not_wrong kinds (kind ∷ bytes) allowed wrong = false≢true (sym wrong ∙ allowed)
 
 pub not_wrong_none : (kinds : Kinds) (bytes : List ℕ) → bytes ≡ [] → IsWrong kinds bytes → ⊥
-not_wrong_none kinds [] none wrong = wrong
-not_wrong_none kinds (kind ∷ bytes) none wrong =
-    let size : length (kind ∷ bytes) ≡ 0 = ap (λ (l : List ℕ). length l) none in
-    absurd (omega (arith, size))
+not_wrong_none kinds bytes none wrong = subst (λ (l : List ℕ). IsWrong kinds l) none wrong
 
 -- the first bytes stay in front
 pub first_stays : (frame more : List ℕ) → 0 < length frame → slice_index (frame ++ more) 0 ≡ slice_index frame 0
