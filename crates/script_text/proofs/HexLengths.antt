@@ -1,26 +1,34 @@
 -- How many bytes a word is.
-use Rattle.std.proofs.Common.{◌≡◌, ℕ, ◌<◌, ◌*◌, ◌/◌, ◌%◌, List, [], length, refl, sym, ap, ◌∙◌, Bool, true, false, ◌&&◌, arith, Result, Ok, Err}
+use Rattle.std.proofs.Common.{◌≡◌, ℕ, ◌<◌, ◌*◌, ◌/◌, ◌%◌, List, [], length, refl, sym, ap, ◌∙◌, true, false, ◌&&◌, arith, inl, inr, Result, Ok, Err}
 use Rattle.std.specs.Prelude.{MatchResult}
 use Rattle.std.specs.Prelude.{not, ◌==◌, ◌||◌, nat_le, ◌∷◌, codes}
 use Rattle.std.specs.List.{list_all, AllPass}
 use Rattle.std.specs.Result.{result_unwrap_or}
-use Rattle.std.proofs.lemmas.Bool.{and_parts, eqb-true, eq-eqb, ne_eqb}
+use Rattle.std.proofs.lemmas.Bool.{and_parts, cases_eq, eqb-true, eq-eqb, ne_eqb}
 use Rattle.std.proofs.lemmas.Bool.Decides.{nat_tests}
+use Rattle.std.proofs.lemmas.List.{nil_from_length}
 use Rattle.std.proofs.lemmas.List.Sums.{AllPass-from_list_all, list_all-from_AllPass}
 use Rattle.std.proofs.lemmas.Slice.Eq.{bytes_eq-Decides}
 use Rattle.hex.specs.Hex.{decode_of, decode_sized, is_hex_digit}
 use Rattle.hex.specs.declared.error.FromHexError.{FromHexError}
-use Rattle.hex.proofs.HexLemmas.{decode_of-even, decode_of-ok, decode_of-digits, decode_sized-twice, decode_pairs-ok, decode_pairs-digits}
+use Rattle.hex.proofs.HexLemmas.{decode_of-even, decode_of-ok, decode_sized-twice, decode_pairs-ok, decode_pairs-digits}
 use Rattle.script_text.specs.HexWords.{bytes_of, is_hex_in, is_pairs, is_none_word}
 
 all_pass : (word : List ℕ) → list_all is_hex_digit word ≡ true → AllPass is_hex_digit word
 all_pass word h = AllPass-from_list_all is_hex_digit word h
 
-pub length-bytes_of-pairs : (word : List ℕ) → is_pairs word ≡ true → length word / 2 ≡ length (bytes_of word)
-unfolding is_pairs bytes_of
-length-bytes_of-pairs word h =
+-- a word of pairs has an even number of bytes, all of them digits
+pub pairs_parts : (word : List ℕ) → is_pairs word ≡ true → (length word % 2 ≡ 0) × (list_all is_hex_digit word ≡ true)
+unfolding is_pairs
+pairs_parts word h =
     let parts = and_parts (not (length word == 0) && length word % 2 == 0) (list_all is_hex_digit word) h in
-    let even : length word % 2 ≡ 0 = eqb-true _ _ ((and_parts (not (length word == 0)) (length word % 2 == 0) parts.0).1) in
+    (eqb-true _ _ ((and_parts (not (length word == 0)) (length word % 2 == 0) parts.0).1), parts.1)
+
+pub length-bytes_of-pairs : (word : List ℕ) → is_pairs word ≡ true → length word / 2 ≡ length (bytes_of word)
+unfolding bytes_of
+length-bytes_of-pairs word h =
+    let parts = pairs_parts word h in
+    let even = parts.0 in
     let some = decode_pairs-digits 0 word even (all_pass word parts.1) in
     let bytes = some.0 in
     let told = decode_pairs-ok 0 word bytes some.1 in
@@ -35,10 +43,6 @@ unfolding bytes_of
 bytes_of-none word h = let e : word ≡ codes "-" = (bytes_eq-Decides word (codes "-")).0 h in rw e refl
 
 -- what decodes is a word of pairs, unless it is empty
-pub is_pairs-empty : (word : List ℕ) → length word ≡ 0 → false ≡ is_pairs word
-unfolding is_pairs
-is_pairs-empty word h = rw h refl
-
 pub is_pairs-decoded : (word bytes : List ℕ) → 0 < length word → decode_of word ≡ Ok bytes → true ≡ is_pairs word
 unfolding is_pairs
 is_pairs-decoded word bytes some e =
@@ -51,18 +55,19 @@ pub bytes_of-decoded : (word bytes : List ℕ) → decode_of word ≡ Ok bytes �
 unfolding bytes_of
 bytes_of-decoded word bytes e = ap (λ (r : Result (List ℕ) FromHexError). result_unwrap_or r []) (sym e)
 
--- a word that does not decode is none of pairs
-refused : (word : List ℕ) (fault : FromHexError) (pairs : Bool) → decode_of word ≡ Err fault → is_pairs word ≡ pairs → false ≡ pairs
-unfolding is_pairs
-refused word fault false e h = refl
-refused word fault true e h =
-    let parts = and_parts (not (length word == 0) && length word % 2 == 0) (list_all is_hex_digit word) h in
-    let even : length word % 2 ≡ 0 = eqb-true _ _ ((and_parts (not (length word == 0)) (length word % 2 == 0) parts.0).1) in
-    let some = decode_of-digits word even (all_pass word parts.1) in
-    cc (sym e ∙ some.1)
+-- a word that is none of pairs is no bytes
+no_bytes : (word : List ℕ) (r : Result (List ℕ) FromHexError) → decode_of word ≡ r → is_pairs word ≡ false → [] ≡ result_unwrap_or r []
+no_bytes word (Err fault) e h = refl
+no_bytes word (Ok bytes) e h =
+    let ok = decode_of-ok word bytes e in
+    elim (cases_eq (length word) 0) [
+      | inl none ↦ sym (nil_from_length bytes (omega (arith, ok.2, none)))
+      | inr some ↦ cc (is_pairs-decoded word bytes (omega (arith, some)) e ∙ h)
+    ]
 
-pub is_pairs-refused : (word : List ℕ) (fault : FromHexError) → decode_of word ≡ Err fault → false ≡ is_pairs word
-is_pairs-refused word fault e = refused word fault (is_pairs word) e refl
+pub bytes_of-no_pairs : (word : List ℕ) → is_pairs word ≡ false → [] ≡ bytes_of word
+unfolding bytes_of
+bytes_of-no_pairs word h = no_bytes word (decode_of word) refl h
 
 -- a word of one byte is no pairs
 pub length-bytes_of-none : (word : List ℕ) → is_none_word word ≡ true → 0 ≡ length (bytes_of word)

@@ -18,3 +18,5 @@ mod PrintedChoices
 mod PrintedConfig
 mod PrintedEnds
 mod ConfigBack
+mod Searching
+mod PairDigits

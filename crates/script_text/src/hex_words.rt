@@ -3,7 +3,7 @@ ghost use Rattle.std.specs.List.{list_all};
 ghost use Rattle.hex.specs.Hex.{is_hex_digit};
 ghost use Rattle.script_text.specs.HexWords.{is_none_word, is_pairs, is_hex_in, bytes_of, most_bytes};
 
-use hex::FromHexError;
+use crate::pairs::read_pairs;
 use spdm_basis::{Bytes, OutOfMemory, Psk};
 use std::alloc::Global;
 
@@ -28,13 +28,18 @@ fn is_pairs(word: &[u8]) -> bool
 fn has_only_digits(word: &[u8]) -> bool
     ensures { result ≡ list_all is_hex_digit word.now }
 {
-    word.iter().all(|b| is_digit(*b))
+    let mut digits = true;
+    for b in word {
+        digits &= is_digit(*b);
+    }
+    digits
 }
 
+// Whether a byte is a digit. Each comparison is made, so that many bytes are tested at once.
 fn is_digit(b: u8) -> bool
     ensures { result ≡ is_hex_digit b }
 {
-    matches!(b, b'A'..=b'F' | b'a'..=b'f' | b'0'..=b'9')
+    (b >= b'0' && b <= b'9') | (b >= b'a' && b <= b'f') | (b >= b'A' && b <= b'F')
 }
 
 // How many bytes a word is, where it is bytes.
@@ -66,24 +71,28 @@ pub fn hex_len(low: usize, high: usize, word: &[u8]) -> Option<usize>
     Some(len)
 }
 
+// The bytes that a word of pairs is.
+fn read_word(alloc: Global, word: &[u8]) -> Result<Bytes, OutOfMemory>
+    requires { is_pairs word.now ≡ true }
+    ensures { IfOk result (λ bytes. bytes ≡ bytes_of word.now) }
+{
+    let Ok(mut room) = vec![in alloc; 0u8; word.len() / 2] else {
+        return Err(OutOfMemory);
+    };
+    read_pairs(word, room.as_mut_slice());
+    Bytes::copy(alloc, room.as_slice())
+}
+
 // The bytes that a word of pairs is, where it is one.
 fn pairs_bytes(alloc: Global, word: &[u8]) -> Result<Option<Bytes>, OutOfMemory>
     ensures valid { IfOk result (λ found. is_some found ≡ is_pairs word.now) }
     ensures value { IfOk result (λ found. IfSome found (λ bytes. bytes ≡ bytes_of word.now)) }
 {
-    if word.is_empty() {
+    if !is_pairs(word) {
         return Ok(None);
     }
-    match hex::decode(alloc, word) {
-        Ok(items) => {
-            let bytes = Bytes::copy(alloc, items.as_slice())?;
-            Ok(Some(bytes))
-        }
-        Err(fault) => match fault {
-            FromHexError::OutOfMemory => Err(OutOfMemory),
-            _ => Ok(None),
-        },
-    }
+    let bytes = read_word(alloc, word)?;
+    Ok(Some(bytes))
 }
 
 // The bytes that a word is, where it is bytes.
@@ -114,15 +123,13 @@ pub fn hex_bytes(alloc: Global, word: &[u8]) -> Result<Option<Bytes>, OutOfMemor
 }
 
 /// The bytes that a word of pairs is; none for another word.
-#[tactic(auto, unfolding(crate::specs::HexWords::bytes_of))]
 pub fn bytes_of(alloc: Global, word: &[u8]) -> Result<Bytes, OutOfMemory>
     ensures { IfOk result (λ bytes. bytes ≡ bytes_of word.now) }
 {
-    match hex::decode(alloc, word) {
-        Ok(items) => Bytes::copy(alloc, items.as_slice()),
-        Err(FromHexError::OutOfMemory) => Err(OutOfMemory),
-        Err(_) => Ok(Bytes::new(alloc)),
+    if !is_pairs(word) {
+        return Ok(Bytes::new(alloc));
     }
+    read_word(alloc, word)
 }
 
 /// Writes the bytes that a word is, where it is at most `MOST_BYTES`, into the front of a room, and tells how many

@@ -25,6 +25,8 @@ mod lives_text;
 mod numbers;
 mod opaque_line;
 mod other_lines;
+mod pairs;
+mod places;
 mod policy_text;
 mod print;
 mod reader;

@@ -1,6 +1,7 @@
-ghost use Rattle.std.specs.Prelude.{◌≡◌, ◌<◌, ◌≤◌, ◌==◌, ◌∷◌, [], drop, length, unwrap_or, IfSome, IfNone};
-ghost use Rattle.std.specs.List.{position};
+ghost use Rattle.std.specs.Prelude.{◌≡◌, ◌<◌, ◌∷◌, [], drop, length, IfSome, IfNone};
 ghost use Rattle.script_text.specs.Lines.{lines_of, is_too_long, is_passed_over};
+
+use crate::places::place_of;
 
 /// The longest line of a text.
 pub const LINE_LIMIT: usize = 16_384;
@@ -15,16 +16,9 @@ pub fn next_line(text: &[u8]) -> Option<(&[u8], &[u8])>
     if text.is_empty() {
         return None;
     }
-    let end = line_feed(text).unwrap_or(text.len());
+    let end = place_of(b'\n', text).unwrap_or(text.len());
     let (line, rest) = text.split_at(end);
     Some((line, behind_first(rest)))
-}
-
-// The place of the first line feed.
-fn line_feed(text: &[u8]) -> Option<usize>
-    ensures { result ≡ position (λ b. b == 10) text.now }
-{
-    text.iter().position(|b| *b == b'\n')
 }
 
 /// All but the first byte.

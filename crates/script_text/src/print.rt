@@ -3,6 +3,7 @@ ghost use Rattle.std.specs.Fmt.{decimal};
 ghost use Rattle.hex.specs.Hex.{encode_lower};
 ghost use Rattle.script_text.specs.Spelling.{with_word, hex_word, code_word, id_word, requester_word};
 
+use crate::pairs::write_pairs;
 use spdm_basis::{HashBytes, Line, SessionId};
 
 /// How many bytes a line has room for.
@@ -86,7 +87,7 @@ fn push_piece(piece: &[u8], out: &mut Line)
 {
     let mut room = [0; 2 * PIECE];
     let (digits, _) = room.split_at_mut(2 * piece.len());
-    hex::encode_to_slice(piece, digits).unwrap();
+    write_pairs(piece, digits);
     push(digits, out);
 }
 
@@ -95,7 +96,7 @@ fn hex_digits(byte: u8) -> [u8; 2]
     ensures { result ≡ code_word byte }
 {
     let mut digits = [0u8; 2];
-    hex::encode_to_slice([byte].as_slice(), &mut digits).unwrap();
+    write_pairs(&[byte], &mut digits);
     digits
 }
 

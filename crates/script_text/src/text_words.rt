@@ -3,6 +3,7 @@ ghost use Rattle.std.specs.Fmt.{decimal};
 ghost use Rattle.hex.specs.Hex.{encode_lower};
 ghost use Rattle.script_text.specs.Spelling.{with_word, hex_word, requester_word};
 
+use crate::pairs::write_pairs;
 use crate::print::PIECE;
 use spdm_basis::{Bytes, OutOfMemory};
 
@@ -58,7 +59,7 @@ fn add_piece(piece: &[u8], text: &mut Bytes) -> Result<(), OutOfMemory>
 {
     let mut room = [0; 2 * PIECE];
     let (digits, _) = room.split_at_mut(2 * piece.len());
-    hex::encode_to_slice(piece, digits).unwrap();
+    write_pairs(piece, digits);
     text.extend(digits)
 }
 

@@ -1,8 +1,9 @@
 ghost use Rattle.std.specs.Prelude.{◌≡◌, ◌≤◌, ◌==◌, length};
-ghost use Rattle.std.specs.List.{before_first, after_first, position, position_or_len};
+ghost use Rattle.std.specs.List.{before_first, after_first, position_or_len};
 ghost use Rattle.script_text.specs.Lines.{word, count_of_words, has_words};
 
 use crate::lines::behind_first;
+use crate::places::place_of;
 
 /// How many words a line has.
 pub fn count_of_words(line: &[u8]) -> usize
@@ -10,7 +11,7 @@ pub fn count_of_words(line: &[u8]) -> usize
 {
     let mut count = 1;
     let mut rest = line;
-    'words: while let Some(end) = space(rest) {
+    'words: while let Some(end) = place_of(b' ', rest) {
         let (_, behind) = rest.split_at(end + 1);
         count += 1;
         rest = behind;
@@ -36,19 +37,12 @@ pub fn word(place: usize, line: &[u8]) -> &[u8]
     before_space(rest)
 }
 
-// The place of the first space.
-fn space(line: &[u8]) -> Option<usize>
-    ensures { result ≡ position (λ b. b == 32) line.now }
-{
-    line.iter().position(|b| *b == b' ')
-}
-
 // The place of the first space, or the length where there is none.
 fn first_space(line: &[u8]) -> usize
     ensures place { result ≡ position_or_len (λ b. b == 32) line.now }
     ensures within { result ≤ length line.now }
 {
-    space(line).unwrap_or(line.len())
+    place_of(b' ', line).unwrap_or(line.len())
 }
 
 // What stands before the first space.

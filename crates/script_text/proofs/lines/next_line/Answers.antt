@@ -9,6 +9,6 @@ returns-clause-line c =
     let text = c.args.text.now in
     let end = c.unwrap_or-end.result in
     let some : (text ≡ [] → ⊥) = grind (arith, common_steps) in
-    let place = c.unwrap_or-end.ensures ∙ ap (λ p. unwrap_or p (length text)) c.line_feed.ensures in
+    let place = c.unwrap_or-end.ensures ∙ ap (λ p. unwrap_or p (length text)) c.place_of.ensures in
     let behind : c.behind_first.result.now ≡ drop 1 (drop end text) = c.behind_first.ensures ∙ ap (drop 1) c.split_at.ensures.back in
     rw (c.split_at.ensures.front, behind) (first_line text some end place)
