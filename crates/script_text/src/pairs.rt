@@ -3,12 +3,15 @@ ghost use Rattle.std.specs.Prelude.{◌≡◌, ◌<◌, ◌*◌, length, slice_i
 ghost use Rattle.std.specs.List.{list_all};
 ghost use Rattle.hex.specs.Hex.{decode_of, encode_lower, hex_digit_value, is_hex_digit, lower_digits};
 
+// How far a small letter stands behind the place where the digits of the numbers end.
+const LETTERS: u8 = b'a' - b'9' - 1;
+
 // The digit of four bits.
 fn digit(bits: u8) -> u8
     requires { bits < 16 }
     ensures { result ≡ slice_index lower_digits bits }
 {
-    b'0' + bits + if bits > 9 { 39 } else { 0 }
+    b'0' + bits + if bits > 9 { LETTERS } else { 0 }
 }
 
 /// Writes the two digits of each byte, with small letters.
@@ -22,7 +25,7 @@ pub fn write_pairs(bytes: &[u8], digits: &mut [u8])
     }
 }
 
-// The four bits of a digit of either case.
+// The four bits of a digit of either case. Those of a letter are 9 more than its last four bits.
 fn value(digit: u8) -> u8
     requires { is_hex_digit digit ≡ true }
     ensures value { hex_digit_value digit ≡ Some result }

@@ -214,7 +214,7 @@ pub fn line_nobody(out: &mut Line)
 /// Application data was taken in a session, at requester `q` or at the responder from it.
 #[tactic(auto, using(crate::proofs::Folding::with_words_append), unfolding(crate::specs::TraceLines::line_text))]
 pub fn line_data(q: u8, responder: bool, id: SessionId, bytes: &[u8], out: &mut Line)
-    requires { length bytes.now ≤ 1024 }
+    requires { length bytes.now ≤ 4096 }
     ensures { out.new ≡ line_text (Data (whose_of q responder) id bytes.now) }
 {
     begin_whose(b"data", q, responder, out);
@@ -226,7 +226,7 @@ pub fn line_data(q: u8, responder: bool, id: SessionId, bytes: &[u8], out: &mut 
 /// Requester `q` took a measurement record.
 #[tactic(auto, unfolding(crate::specs::TraceLines::line_text))]
 pub fn line_record(q: u8, bytes: &[u8], out: &mut Line)
-    requires { length bytes.now ≤ 4054 }
+    requires { length bytes.now ≤ 4096 }
     ensures { out.new ≡ line_text (Record q bytes.now) }
 {
     begin(b"record", out);
