@@ -9,6 +9,8 @@ mod carried;
 mod failing_calls;
 mod generated;
 #[cfg(test)]
+mod hostile_messages;
+#[cfg(test)]
 mod long_streams;
 mod outcome;
 mod output;
