@@ -1,6 +1,6 @@
-use Rattle.std.proofs.Common.{arith, length, sym, ◌∙◌, ◌≡◌, take, ◌++◌, true, false}
+use Rattle.std.proofs.Common.{arith, length, sym, ◌∙◌}
 use Rattle.std.proofs.Math.Seq.{take-append_seam}
-use Rattle.script_text.specs.HexWords.{bytes_of, is_hex_in, most_bytes}
+use Rattle.script_text.specs.HexWords.{bytes_of, most_bytes}
 use Rattle.script_text.proofs.HexLengths.{decoded_is, none_in}
 use Rattle.script_text.proofs.hex_words.bytes_into.Goals as goal
 
