@@ -197,7 +197,12 @@ fn measure(requesters: usize, q: u8, line: &[u8]) -> Result<Said, LineFault>
 }
 
 /// What a line of this kind asks of requester `q`, where `requesters` are configured.
-pub fn what_is_said(requesters: usize, q: u8, kind: CommandKind, line: &[u8]) -> Result<Said, LineFault>
+pub fn what_is_said(
+    requesters: usize,
+    q: u8,
+    kind: CommandKind,
+    line: &[u8],
+) -> Result<Said, LineFault>
     ensures answer { IsTestedBy (command_fault requesters q kind line.now) result }
     ensures value { IfOk result (λ said.
         event_of q said (bytes_of (word 3 line.now)) ≡ command_of q kind line.now) }

@@ -106,7 +106,10 @@ fn lines_that_are_bad(rt: HostRuntime) -> Result<(), Fail> {
 #[test]
 fn lines_that_are_long(rt: HostRuntime) -> Result<(), Fail> {
     for length in [16384, 16385] {
-        let mut stream = Vec::from_slice(rt.alloc(), &[3, (length % 256) as u8, (length / 256) as u8])?;
+        let mut stream = Vec::from_slice(
+            rt.alloc(),
+            &[3, (length % 256) as u8, (length / 256) as u8],
+        )?;
         stream.resize(3 + length, b'#')?;
         let (outcome, written) = run(&rt, "drive", CONFIGURATION, stream.as_slice(), &[[0; 32]])?;
         assert_eq!(rt; outcome, Outcome::BadFrame { at: 0 });

@@ -120,7 +120,13 @@ fn carried_to_each_other(rt: HostRuntime) -> Result<(), Fail> {
                 &mut responder
             };
             let written = program.give(&rt, frame.as_slice())?;
-            sort(&rt, !to_requester, written.as_slice(), &mut waiting, &mut lines)?;
+            sort(
+                &rt,
+                !to_requester,
+                written.as_slice(),
+                &mut waiting,
+                &mut lines,
+            )?;
         }
         assert!(rt; waiting.is_empty());
     }

@@ -15,7 +15,10 @@ end
 // Each word with what stands behind the configuration: a negotiation, its requests in frames, and its commands and
 // answers in frames.
 const INPUTS: [(&str, &[u8]); 3] = [
-    ("run", b"q1 connect\npump 1\npump 1\npump 1\npump 1\npump 1\npump 1\n"),
+    (
+        "run",
+        b"q1 connect\npump 1\npump 1\npump 1\npump 1\npump 1\npump 1\n",
+    ),
     (
         "serve",
         b"\x01\x09\x00\x01\x08\x09\xc8\x05\x10\x84\x00\x00\x01\x19\x00\x01\x08\x09\xc9\x05\x12\xe1\x00\x00\x00\x00\x00\x00\xc0\x64\x02\x00\x00\x04\x00\x00\x00\x10\x00\x00",

@@ -76,19 +76,11 @@ fn messages_of_each_code(rt: HostRuntime) -> Result<(), Fail> {
 
 // The number in a field of a packet, lower byte first.
 fn number_in(field: &[u8]) -> u64 {
-    field
-        .iter()
-        .rev()
-        .fold(0, |sum: u64, byte| sum.wrapping_mul(256) | u64::from(*byte))
+    field.iter().rev().fold(0, |sum: u64, byte| sum.wrapping_mul(256) | u64::from(*byte))
 }
 
 // A packet with 0, with one more and with 65,535, or the most that fits, in a field that begins at this place.
-fn variants(
-    rt: &HostRuntime,
-    packet: &[u8],
-    at: usize,
-    size: usize,
-) -> Result<Vec<Vec<u8>>, Fail> {
+fn variants(rt: &HostRuntime, packet: &[u8], at: usize, size: usize) -> Result<Vec<Vec<u8>>, Fail> {
     let mut variants = Vec::new(rt.alloc());
     let mut number = 0;
     if let Some(field) = packet.get(at..at.saturating_add(size)) {

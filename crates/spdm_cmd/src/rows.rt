@@ -1,18 +1,14 @@
 use crate::outcome::Outcome;
 use crate::run::spdm;
 use link_world::World;
+use scripts::{
+    ALTERED_TAG_CHANGES_NOTHING, LOST_FINISH_ANSWER_IS_RETRIED, NEGOTIATION_BY_CHUNKS,
+    SESSION_LIMIT, THREE_SENDS_WITH_REPEAT, UPDATE_ANSWER_LOST,
+};
 use spdm_basis::{Eid, MemSeeds, MemSink, MemSource};
 use spdm_grammar::Stage;
 use std::process::Abort;
 use std::test::Fail;
-use scripts::{
-    ALTERED_TAG_CHANGES_NOTHING,
-    LOST_FINISH_ANSWER_IS_RETRIED,
-    NEGOTIATION_BY_CHUNKS,
-    SESSION_LIMIT,
-    THREE_SENDS_WITH_REPEAT,
-    UPDATE_ANSWER_LOST,
-};
 
 mod scripts;
 

@@ -54,6 +54,7 @@ fn serve_without_a_seed(rt: HostRuntime) -> Result<(), Fail> {
 
 // The line `q1 connect`, in a frame, and what it leads to: the line `q1 ok` and GET_VERSION.
 const CONNECT: &[u8] = b"\x03\x0a\x00q1 connect";
+
 const CONNECTS: &[u8] = b"\x04\x05\x00q1 ok";
 
 #[test]
@@ -68,7 +69,8 @@ fn drive_connect(rt: HostRuntime) -> Result<(), Fail> {
 
 // GET_CAPABILITIES, in a frame.
 const GET_CAPABILITIES: &[u8] = &[
-    1, 0x19, 0, 1, 8, 9, 0xc9, 5, 0x12, 0xe1, 0, 0, 0, 0, 0, 0, 0xc0, 0x64, 2, 0, 0, 4, 0, 0, 0, 0x10, 0, 0,
+    1, 0x19, 0, 1, 8, 9, 0xc9, 5, 0x12, 0xe1, 0, 0, 0, 0, 0, 0, 0xc0, 0x64, 2, 0, 0, 4, 0, 0, 0,
+    0x10, 0, 0,
 ];
 
 #[test]
@@ -77,7 +79,9 @@ fn drive_version(rt: HostRuntime) -> Result<(), Fail> {
     stream.extend_from_slice(VERSION)?;
     let (outcome, written) = run(&rt, "drive", stream.as_slice(), &[[0; 32]])?;
     assert_eq!(rt; outcome, Outcome::Done);
-    let (_, behind) = written.as_slice().split_at(CONNECTS.len() + GET_VERSION.len());
+    let (_, behind) = written
+        .as_slice()
+        .split_at(CONNECTS.len() + GET_VERSION.len());
     let progress = b"\x04\x0e\x00to q1 progress";
     let (line, packet) = behind.split_at(progress.len());
     assert_eq!(rt; line, progress.as_slice());

@@ -90,9 +90,10 @@ module _ (before after : Outside) (begun : Begun) (rest ahead : Option (List ℕ
 
   pub not_driven : (f : DriveFault) → driving.IsCause begun.config a ahead before.holds after.holds n f → IsDriveTold f told → IsCause before after told
   not_driven drive.ReadFault cause t =
-      subst (IsCause before after) (sym t)
-      (subst (HasFault before.read_faults) reads (fault_later before.read_faults n.read_before n.read_after earlier later cause.0),
-      inr (begun_part (driven_so_far begun.config a ahead before.holds after.holds cause.1)))
+      subst (IsCause before after) (sym t) (
+        subst (HasFault before.read_faults) reads (fault_later before.read_faults n.read_before n.read_after earlier later cause.0),
+        inr (begun_part (driven_so_far begun.config a ahead before.holds after.holds cause.1)),
+      )
   not_driven drive.WriteFault cause t =
       subst (IsCause before after) (sym t) (subst (λ m. HasFault m after.write_faults) wrote (subst (HasFault n.written_before) writes cause.0), begun_part cause.1)
   not_driven drive.TooLong cause t = subst (IsCause before after) (sym t) (inr (whole_frames TooLong cause))
