@@ -1,0 +1,16 @@
+mod Following
+mod Events
+mod Bytes
+mod Asking
+mod Answering
+mod Requesters
+mod Lines
+mod Addressed
+mod FirstGoes
+mod ResponderGoes
+mod Configurations
+mod Starts
+mod Brought
+mod Driving
+mod Carrying
+mod ReadText

@@ -1,0 +1,6 @@
+pub mod Worlds
+pub mod Coming
+pub mod Frames
+pub mod Traces
+pub mod Carriage
+pub mod Laws

@@ -1,0 +1,11 @@
+//! A requester and a responder that answer streams of frames, as the ends of a world. Nothing here
+//! runs: each function has a law as its contract. The definition to read first is
+//! `EveryCarriageIsAWorld` in `specs/Laws.antt`.
+#![tactic(auto)]
+
+mod laws;
+
+pub use laws::{
+    every_carriage_is_a_world, first_requester_is_driven, read_configuration_keeps_limits,
+    responder_is_served, script_worlds_are_such, streams_hold,
+};
