@@ -1,4 +1,4 @@
--- An end that is followed through the events of a world: what comes to it, what it writes of that, and what it comes to.
+-- An end that is followed through the events of a world: what comes to it, what it writes of that, and where it stands.
 use Rattle.std.proofs.Common.{◌≡◌, ◌∙◌, ℕ, List, [], ◌∷◌, ◌++◌, Bool, true, false, cond, filter, flat_map, refl, sym, ap, subst}
 use Rattle.std.proofs.lemmas.Grind.{flat_map-append}
 use Rattle.std.proofs.lemmas.List.{append-nil, append_assoc}

@@ -1,4 +1,4 @@
--- A configuration that a text is keeps all limits of a world: with some seed it is in range, and seeds are of no account.
+-- A configuration that a text is keeps all limits of a world: with some seed it is in range, and no limit is on seeds.
 use Rattle.std.proofs.Common.{refl}
 use Rattle.std.specs.Prelude.{replicate}
 use Rattle.script_worlds.proofs.ConfigTextRead.{config_sound}

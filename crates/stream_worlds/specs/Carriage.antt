@@ -1,5 +1,5 @@
--- What is carried to a requester and a responder that answer streams of frames, in any order, by whatever stands between
--- them. This project's own.
+-- What is carried to a requester and a responder that answer streams of frames, in any order, by whatever stands
+-- between them. This project's own.
 use Rattle.std.specs.Prelude.{◌≡◌, ℕ, List, [], ◌∷◌, true, Option, Some, None, is_some}
 use Rattle.std.specs.List.{flat_map}
 use Rattle.frame_stream.specs.Frames.{GivenFrame}
