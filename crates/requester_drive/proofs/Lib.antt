@@ -1,4 +1,3 @@
-pub mod LineTexts
 pub mod LastData
 pub mod Short
 pub mod Written

@@ -9,7 +9,6 @@ mod making;
 mod telling;
 #[cfg(test)]
 mod tests;
-mod texts;
 
 pub use driving::drive;
 pub use fault::DriveFault;

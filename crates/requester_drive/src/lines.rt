@@ -8,10 +8,9 @@ ghost use Rattle.spdm_basis.specs.Stream.{HasFault, Takes, TakesPrefix};
 ghost use Rattle.spdm_grammar.specs.Lines.Line.{Command, Data, Record};
 ghost use Rattle.spdm_grammar.specs.Lines.Whose.{Requester};
 
-use crate::texts::{line_data, line_record};
 use frame_stream::{write_line_frame, write_packet_frames};
 use mctp_framing::PacketList;
-use script_text::{line_command, line_event};
+use script_text::{line_command, line_data, line_event, line_record};
 use spdm_basis::{Line, OutFault, SessionId, Sink};
 use spdm_grammar::{CommandFault, Event, Finished};
 
@@ -40,7 +39,7 @@ fn write_data<K: Sink>(sink: &mut K, id: SessionId, bytes: &[u8]) -> Result<(), 
     ensures later { K.faults sink.old ≤ K.faults sink.new }
 {
     let mut line = Line::new();
-    line_data(id, bytes, &mut line);
+    line_data(1, false, id, bytes, &mut line);
     write_line(sink, &line)
 }
 
@@ -55,7 +54,7 @@ fn write_record<K: Sink>(sink: &mut K, bytes: &[u8]) -> Result<(), OutFault>
     ensures later { K.faults sink.old ≤ K.faults sink.new }
 {
     let mut line = Line::new();
-    line_record(bytes, &mut line);
+    line_record(1, bytes, &mut line);
     write_line(sink, &line)
 }
 
