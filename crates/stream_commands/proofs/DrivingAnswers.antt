@@ -40,14 +40,6 @@ of_driving c drive.OutOfMemory none refused = tt
 of_driving c (drive.Requester own) none refused =
     absurd (none-some own (sym (none.requester refused.has.config (record { q = refused.q; is = first_in c.requesters refused.q refused.first; sets_up = refused.has.sets_up })) ∙ refused.has.is))
 
--- a configuration with a requester has a first one
-pub has_first : (c : ScriptConfig) (seed : List ℕ) → 0 < length c.requesters → (a : Requesting) × (first_requester c seed ≡ Some a)
-has_first c seed some = by_list c.requesters refl some
-  where
-    by_list : (qs : List ReqPart) → c.requesters ≡ qs → 0 < length qs → (a : Requesting) × (first_requester c seed ≡ Some a)
-    by_list [] is some = absurd (omega (arith, some))
-    by_list (q ∷ qs) is some = (requester_as c seed q, rw is refl)
-
 -- Behind a beginning, where what is ahead is the stream of the input: all of it was followed.
 pub all_driven : (before after : Outside) (begun : Begun) (rest ahead : Option (List ℕ)) (a : Requesting) → first_requester begun.config begun.seed ≡ Some a →
     IsBegun before.left before.seeds begun rest after.seeds → ((stream : List ℕ) → stream_in before.left ≡ Some stream → ahead ≡ Some stream) →

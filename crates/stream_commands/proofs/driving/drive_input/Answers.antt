@@ -2,9 +2,10 @@ use Rattle.std.proofs.Common.{Err, Ok, refl}
 use Rattle.std.specs.Prelude.{replicate}
 use Rattle.frame_stream.specs.Runs.{Counts}
 use Rattle.frame_stream.specs.Standing.{in_front}
+use Rattle.requester_drive.proofs.Faults.{some_requester}
 use Rattle.script_worlds.proofs.ConfigTextRead.{config_sound, no_configured_end_has_fault}
 use Rattle.stream_commands.proofs.Exactly.{exactly, driven_end, one_driving}
-use Rattle.stream_commands.proofs.DrivingAnswers.{all_driven, has_first, not_driven, of_driving}
+use Rattle.stream_commands.proofs.DrivingAnswers.{all_driven, not_driven, of_driving}
 use Rattle.stream_commands.proofs.Streams.{same_stream}
 use Rattle.stream_commands.specs.InputEnds.{IsStreamToDrive}
 use Rattle.stream_commands.specs.Outside.{Outside, outside}
@@ -18,7 +19,7 @@ returns-in-Ok-drive-clause-answers g c =
     let rest = g.S.Source.remaining c.begin.new.source in
     let begun = c.in-Ok.ensures.begun in
     let sound = config_sound begun.text c.in-Ok.begun.config (replicate 32 0) refl begun.is in
-    let first = has_first c.in-Ok.begun.config c.in-Ok.begun.seed sound.some in
+    let first = some_requester c.in-Ok.begun.config c.in-Ok.begun.seed sound.some in
     all_driven before after c.in-Ok.begun rest (in_front c.as_slice.result.now rest) first.0 first.1 begun
     (same_stream before.left begun.text c.in-Ok.begun.before c.as_slice.result.now rest begun.read c.as_slice.ensures.value) (c.in-Ok-drive.ensures.driven first.0 first.1) c.in-Ok-drive.ensures.end
 
@@ -46,7 +47,7 @@ returns-clause-answers g c =
       written_after = g.K.Sink.faults c.drive.new.sink;
     } in
     let sound = config_sound begun.text c.in-Ok.begun.config (replicate 32 0) refl begun.is in
-    let first = has_first c.in-Ok.begun.config c.in-Ok.begun.seed sound.some in
+    let first = some_requester c.in-Ok.begun.config c.in-Ok.begun.seed sound.some in
     not_driven before after c.in-Ok.begun rest (in_front c.as_slice.result.now rest) first.0 first.1 n c.fault_of.result begun
     (same_stream before.left begun.text c.in-Ok.begun.before c.as_slice.result.now rest begun.read c.as_slice.ensures.value)
     c.in-Ok.ensures.read_later c.in-Err-drive.ensures.read_later refl refl refl c.in-Err-drive.fault (c.in-Err-drive.ensures.fault first.0 first.1) c.fault_of.ensures
