@@ -1,4 +1,4 @@
-ghost use Rattle.std.specs.Prelude.{◌≡◌, ◌≤◌, length};
+ghost use Rattle.std.specs.Prelude.{◌≡◌};
 ghost use Rattle.requester_drive.specs.Commands.{as_told, command_told};
 ghost use Rattle.script_text.specs.Saying.{event_in};
 
@@ -7,7 +7,6 @@ use script_text::{CommandLine, Said};
 
 /// The command that a line tells requester 1, if it tells it one. The bytes of the line are the first in the room.
 pub(crate) fn command_of<'a>(line: &CommandLine, room: &'a [u8]) -> Option<Command<'a>>
-    requires { line.now.count ≤ length room.now }
     ensures { as_told result ≡ command_told (event_in line.now room.now) }
 {
     if line.q != 1 {
@@ -19,7 +18,7 @@ pub(crate) fn command_of<'a>(line: &CommandLine, room: &'a [u8]) -> Option<Comma
         Said::Open { summary } => Command::Open { summary },
         Said::Send { session } => Command::Send {
             session,
-            bytes: &room[..line.count],
+            bytes: &room[..line.count.min(room.len())],
         },
         Said::Beat { session } => Command::Beat { session },
         Said::End { session } => Command::End { session },
