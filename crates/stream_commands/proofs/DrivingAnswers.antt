@@ -1,12 +1,12 @@
 -- What is answered to a stream that drives a requester, by what its beginning and its frames came to.
-use Rattle.std.proofs.Common.{◌≡◌, ◌∙◌, ◌≤◌, ◌<◌, ◌∷◌, inl, inr, ℕ, List, [], refl, sym, subst, length, arith, Option, Some, Ok, Contains}
+use Rattle.std.proofs.Common.{◌≡◌, ◌∙◌, ◌≤◌, ◌∷◌, inr, ℕ, List, [], sym, subst, arith, Option, Some, Ok, Contains}
 use Rattle.std.proofs.lemmas.Option.{none-some, same_Some}
 use Rattle.frame_stream.proofs.Fronts.{fault_later}
 use Rattle.frame_stream.specs.Frames.{Ending}
 use Rattle.frame_stream.specs.Frames.Ending.{Bad, Done, TooLong}
 use Rattle.frame_stream.specs.Runs.{Counts}
 use Rattle.requester_drive.specs.Driven.{IsDriven, IsDrivenInPart}
-use Rattle.requester_drive.specs.First.{first_of, first_requester, requester_as}
+use Rattle.requester_drive.specs.First.{first_of, first_requester}
 use Rattle.requester_drive.specs.Standing as driving
 use Rattle.requester_drive.specs.Told.{IsRefusal}
 use Rattle.requester_drive.specs.declared.fault.DriveFault.{DriveFault}

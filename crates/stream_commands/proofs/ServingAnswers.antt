@@ -1,11 +1,9 @@
 -- What is answered to a stream that is served, by what its beginning and its frames came to.
-use Rattle.std.proofs.Common.{◌≡◌, ◌∙◌, ◌≤◌, ◌⊎◌, inl, inr, ℕ, List, [], refl, sym, subst, Option, Some, Ok}
+use Rattle.std.proofs.Common.{◌≡◌, ◌∙◌, ◌≤◌, inr, ℕ, List, [], sym, subst, Option, Some, Ok}
 use Rattle.frame_stream.proofs.Fronts.{fault_later}
 use Rattle.frame_stream.specs.Frames.{Ending}
 use Rattle.frame_stream.specs.Frames.Ending.{Bad, Done, TooLong}
 use Rattle.frame_stream.specs.Runs.{Counts}
-use Rattle.responder.specs.Config.{config_fault}
-use Rattle.responder.specs.declared.fault.RspConfigFault.{RspConfigFault}
 use Rattle.responder_serve.specs.Served.{IsServed, IsServedInPart, responder_of}
 use Rattle.responder_serve.specs.Standing as serving
 use Rattle.responder_serve.specs.Told.{IsRefusal}
@@ -24,7 +22,6 @@ use Rattle.stream_commands.specs.Served.{IsAnswered, IsBegunToServe, IsCause}
 use Rattle.stream_commands.specs.Told.{IsOfStream, IsTold}
 use Rattle.stream_commands.specs.declared.begin.Begun.{Begun}
 use Rattle.stream_commands.specs.declared.fault.StreamFault.{StreamFault}
-use Rattle.stream_commands.specs.declared.fault.StreamFault.TheVariants as fault
 
 -- a configuration without a fault is not refused
 pub of_stream : (c : ScriptConfig) (f : ServeFault) → HasNoFault c → IsRefusal c f → IsOfStream f

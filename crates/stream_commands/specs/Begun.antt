@@ -7,7 +7,6 @@ use Rattle.frame_stream.specs.Text.{stream_of, text_of}
 use Rattle.script_text.specs.ConfigText.{config_in}
 use Rattle.script_text.specs.Reading.{BadLine, bad_line_in}
 use Rattle.script_text.specs.declared.config.ScriptConfig.{ScriptConfig}
-use Rattle.script_text.specs.declared.faults.LineFault.{LineFault}
 use Rattle.spdm_basis.specs.Stream.{GivesSeed, HasFault}
 use Rattle.spdm_basis.specs.declared.transfer.InFault.{InFault}
 use Rattle.spdm_basis.specs.declared.transfer.InFault.TheVariants as reading

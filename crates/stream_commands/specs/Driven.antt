@@ -1,5 +1,5 @@
 -- What a requester does with an input: a configuration and a stream of frames behind it. This project's own.
-use Rattle.std.specs.Prelude.{◌≡◌, ℕ, List, Option, Some, Result}
+use Rattle.std.specs.Prelude.{◌≡◌, ℕ, List, Some, Result}
 use Rattle.frame_stream.specs.Frames.{Ending}
 use Rattle.requester_drive.specs.Driven as driving
 use Rattle.requester_drive.specs.First.{first_requester}
