@@ -1,5 +1,6 @@
 use crate::outcome::Outcome;
 use crate::stream_runs::run;
+use std::process::Abort;
 use std::test::Fail;
 
 const CONFIGURATION: &[u8] = b"responder 8 1024 4096 64 30 mhkc
@@ -34,7 +35,7 @@ struct Program<'a> {
 }
 
 impl<'a> Program<'a> {
-    fn new(rt: &HostRuntime, word: &'a str, seed: [u8; 32]) -> Program<'a> {
+    fn new(rt: &impl AllocGlobal, word: &'a str, seed: [u8; 32]) -> Program<'a> {
         Program {
             word,
             seed,
@@ -44,7 +45,7 @@ impl<'a> Program<'a> {
     }
 
     // What it writes of one frame more, behind all that it wrote before.
-    fn give(&mut self, rt: &HostRuntime, frame: &[u8]) -> Result<Vec<u8>, Fail> {
+    fn give(&mut self, rt: &(impl AllocGlobal + Abort), frame: &[u8]) -> Result<Vec<u8>, Fail> {
         self.given.extend_from_slice(frame)?;
         let (outcome, written) = run(
             rt,
@@ -68,7 +69,7 @@ type Waiting = (bool, Vec<u8>);
 
 // The packets among these frames wait for the other program, and the lines are written down.
 fn sort(
-    rt: &HostRuntime,
+    rt: &(impl AllocGlobal + Abort),
     to_requester: bool,
     written: &[u8],
     waiting: &mut Vec<Waiting>,
@@ -114,12 +115,11 @@ fn carried_to_each_other(rt: HostRuntime) -> Result<(), Fail> {
                 break;
             }
             let (to_requester, frame) = waiting.remove(0);
-            let program = if to_requester {
-                &mut requester
+            let written = if to_requester {
+                requester.give(&rt, frame.as_slice())?
             } else {
-                &mut responder
+                responder.give(&rt, frame.as_slice())?
             };
-            let written = program.give(&rt, frame.as_slice())?;
             sort(
                 &rt,
                 !to_requester,

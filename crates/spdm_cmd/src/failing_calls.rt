@@ -31,7 +31,7 @@ const INPUTS: [(&str, &[u8]); 3] = [
 
 // What a word came to over a source and a sink, with one seed. The requests for seeds with these numbers fail.
 fn outcome<S: Source, K: Sink>(
-    rt: &HostRuntime,
+    rt: &impl AllocGlobal,
     word: &str,
     source: &mut S,
     sink: &mut K,
@@ -53,7 +53,7 @@ fn outcome<S: Source, K: Sink>(
 
 // What a word came to behind the configuration, and what it wrote. The calls with these numbers fail.
 fn fails(
-    rt: &HostRuntime,
+    rt: &impl AllocGlobal,
     (word, behind): (&str, &[u8]),
     reads: &[u64],
     writes: &[u64],
@@ -75,7 +75,7 @@ fn each_call_fails(rt: HostRuntime) -> Result<(), Fail> {
         assert_eq!(rt; outcome, Outcome::Done);
         assert!(rt; whole.len() > 16);
         for (fault, is_read) in [(Outcome::ReadFault, true), (Outcome::WriteFault, false)] {
-            let mut reached = 0;
+            let mut reached: u64 = 0;
             for call in 0..16 {
                 let call = [call];
                 let (reads, writes): (&[u64], &[u64]) = if is_read {
@@ -88,7 +88,7 @@ fn each_call_fails(rt: HostRuntime) -> Result<(), Fail> {
                     assert_eq!(rt; written.as_slice(), whole.as_slice());
                     break;
                 }
-                reached += 1;
+                reached = call[0].wrapping_add(1);
                 assert_eq!(rt; outcome, fault);
                 assert!(rt; written.len() < whole.len() || is_read);
                 assert!(rt; whole.as_slice().starts_with(written.as_slice()));

@@ -3,6 +3,7 @@ use crate::run::spdm;
 use digests::{CODES, LENGTHS};
 use running_hash::RunningHash;
 use spdm_basis::{HashAlg, MemSeeds, MemSink, MemSource};
+use std::process::Abort;
 use std::test::Fail;
 
 mod digests;
@@ -24,7 +25,7 @@ end
 
 // Takes the trace of a script that shows its ends behind these events, injects a packet, and shows them again.
 fn take(
-    rt: &HostRuntime,
+    rt: &(impl AllocGlobal + Abort),
     configuration: &str,
     before: &str,
     packet: &[u8],
@@ -52,7 +53,11 @@ fn take(
 }
 
 // The digest of all traces is that of an independent program's.
-fn is_digest(rt: &HostRuntime, traces: RunningHash, digest: &str) -> Result<(), Fail> {
+fn is_digest(
+    rt: &(impl AllocGlobal + Abort),
+    traces: RunningHash,
+    digest: &str,
+) -> Result<(), Fail> {
     let told = hex::encode(rt.alloc(), traces.finish().as_slice())?;
     assert_eq!(rt; told.as_str(), digest);
     Ok(())
@@ -80,7 +85,12 @@ fn number_in(field: &[u8]) -> u64 {
 }
 
 // A packet with 0, with one more and with 65,535, or the most that fits, in a field that begins at this place.
-fn variants(rt: &HostRuntime, packet: &[u8], at: usize, size: usize) -> Result<Vec<Vec<u8>>, Fail> {
+fn variants(
+    rt: &impl AllocGlobal,
+    packet: &[u8],
+    at: usize,
+    size: usize,
+) -> Result<Vec<Vec<u8>>, Fail> {
     let mut variants = Vec::new(rt.alloc());
     let mut number = 0;
     if let Some(field) = packet.get(at..at.saturating_add(size)) {
@@ -99,20 +109,31 @@ fn variants(rt: &HostRuntime, packet: &[u8], at: usize, size: usize) -> Result<V
     Ok(variants)
 }
 
+// The traces behind all variants of a packet in these fields, which are counted from behind the header and the type of
+// its body.
+fn take_variants(
+    rt: &(impl AllocGlobal + Abort),
+    configuration: &str,
+    before: &str,
+    packet: &[u8],
+    fields: &[(usize, usize)],
+) -> Result<RunningHash, Fail> {
+    let mut traces = RunningHash::new(HashAlg::Sha256);
+    for (place, size) in fields {
+        for variant in variants(rt, packet, place.saturating_add(5), *size)?.iter() {
+            take(rt, configuration, before, variant.as_slice(), &mut traces)?;
+        }
+    }
+    Ok(traces)
+}
+
 // Requests and responses of which one length or count is wrong.
 #[test]
 fn lengths_that_are_wrong(rt: HostRuntime) -> Result<(), Fail> {
     for (is_small, before, packet, fields, digest) in LENGTHS {
         let configuration = if is_small { SMALL } else { WHOLE };
         let packet = hex::decode(rt.alloc(), packet)?;
-        let mut traces = RunningHash::new(HashAlg::Sha256);
-        for (place, size) in fields {
-            // behind the header and the type of the body
-            let at = place.saturating_add(5);
-            for variant in variants(&rt, packet.as_slice(), at, *size)?.iter() {
-                take(&rt, configuration, before, variant.as_slice(), &mut traces)?;
-            }
-        }
+        let traces = take_variants(&rt, configuration, before, packet.as_slice(), fields)?;
         is_digest(&rt, traces, digest)?;
     }
     Ok(())

@@ -1,13 +1,14 @@
 use crate::outcome::Outcome;
 use crate::stream_runs::{run, run_slowly};
 use day::{CONFIGURATION, DRIVEN, REQUESTER_SEED, RESPONDER_SEED, SERVED};
+use std::process::Abort;
 use std::test::Fail;
 
 mod day;
 
 // A word answers these frames as the independent program does, however many bytes each read gives.
 fn answers(
-    rt: &HostRuntime,
+    rt: &(impl AllocGlobal + Abort),
     word: &str,
     frames: &[(&str, &str)],
     seed: [u8; 32],

@@ -22,7 +22,7 @@ impl<'a> Read for ByteByByte<'a> {
 
 // What a word came to over a source, with these seeds, and what it wrote.
 fn over<S: Source>(
-    rt: &HostRuntime,
+    rt: &impl AllocGlobal,
     word: &str,
     source: &mut S,
     seeds: &[[u8; 32]],
@@ -45,7 +45,7 @@ fn over<S: Source>(
 
 // What a word came to for a text with this stream behind it, and what it wrote.
 pub fn run(
-    rt: &HostRuntime,
+    rt: &impl AllocGlobal,
     word: &str,
     text: &[u8],
     stream: &[u8],
@@ -59,7 +59,7 @@ pub fn run(
 
 // The same, where each read gives one byte.
 pub fn run_slowly(
-    rt: &HostRuntime,
+    rt: &impl AllocGlobal,
     word: &str,
     text: &[u8],
     stream: &[u8],
