@@ -8,3 +8,7 @@ pub mod Exclusive
 pub mod Alone
 mod OrderRows
 pub mod Unfinished
+pub mod Allowed
+pub mod AskedOn
+pub mod AnsweredOn
+pub mod GoingOn

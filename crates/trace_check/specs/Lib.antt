@@ -3,3 +3,4 @@ pub mod Judged
 pub mod Laws
 pub mod Verdict
 pub mod Awaits
+pub mod Going

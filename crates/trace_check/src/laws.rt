@@ -2,6 +2,7 @@
 //! that does nothing.
 
 ghost use Rattle.trace_check.specs.Awaits.{MoreConforms};
+ghost use Rattle.trace_check.specs.Going.{AsksGoOn, GoesOnFromEach, RepliesGoOn};
 ghost use Rattle.trace_check.specs.Laws.{OneRound, OrderIsAlone, OrderIsReason, OrderRefuses, OrderTells, SealedTells};
 ghost use Rattle.trace_check.specs.Verdict.{OneVerdict};
 
@@ -36,6 +37,23 @@ pub fn more_conforms()
 /// Each of the three reasons of the order is given by the order.
 pub fn order_tells()
     ensures { OrderTells }
+{}
+
+/// A request that goes on from one walk goes on from each other one, where no large request is under
+/// way, and it is no record that was owed.
+pub fn asks_go_on()
+    ensures { AsksGoOn }
+{}
+
+/// An answer that goes on from one walk goes on from each other one, where no large answer is
+/// fetched.
+pub fn replies_go_on()
+    ensures { RepliesGoOn }
+{}
+
+/// A packet in which walks cannot differ goes on from each of them, or from none.
+pub fn goes_on_from_each()
+    ensures { GoesOnFromEach }
 {}
 
 /// A record under one key, number and id tells its inner message and its padding.
