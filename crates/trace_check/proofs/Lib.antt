@@ -5,6 +5,9 @@ pub mod Kept
 pub mod Found
 pub mod Telling
 pub mod Exclusive
+pub mod LongAnswers
+pub mod Carried
+pub mod Steadily
 pub mod Alone
 mod OrderRows
 pub mod Unfinished

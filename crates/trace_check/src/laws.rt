@@ -18,15 +18,14 @@ pub fn order_refuses()
     ensures { OrderRefuses }
 {}
 
-/// Behind packets that conform that is the reason, unless the verify data of a packet alone are
-/// wrong.
-pub fn order_is_reason()
-    ensures { OrderIsReason }
-{}
-
-/// Verify data are not alone wrong there, unless the packet is an answer of another type.
+/// Verify data are not alone wrong there.
 pub fn order_is_alone()
     ensures { OrderIsAlone }
+{}
+
+/// Behind packets that conform that is the reason.
+pub fn order_is_reason()
+    ensures { OrderIsReason }
 {}
 
 /// A packet in order that brings a part of a body conforms behind packets that do.
