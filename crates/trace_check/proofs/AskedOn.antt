@@ -1,8 +1,6 @@
 -- A request that goes on from one of two alike dialogues goes on from the other.
-use Rattle.std.proofs.Common.{◌≡◌, ◌+◌, ◌%◌, ◌==◌, ◌&&◌, ◌⊎◌, not, arith, ℕ, List, ◌∷◌, refl, sym, ap, ◌∙◌, subst, Bool, true, false, Option, Some, None, inl, inr}
-use Rattle.std.specs.Prelude.{bytes_eq}
+use Rattle.std.proofs.Common.{◌≡◌, ◌+◌, ◌==◌, ◌&&◌, ◌⊎◌, not, ℕ, List, ◌∷◌, refl, sym, ap, ◌∙◌, subst, Bool, true, false, Option, Some, None, inl, inr}
 use Rattle.std.proofs.lemmas.Bool.{false≢true}
-use Rattle.std.proofs.lemmas.Bool.Decides.{nat_tests}
 use Rattle.std.proofs.lemmas.Option.{none-some, same_Some}
 use Rattle.mctp_framing.specs.Gathering.{Gathered}
 use Rattle.mctp_framing.specs.Gathering.Gathered.{Whole, More, Dropped}
@@ -31,6 +29,7 @@ use Rattle.world_machine.proofs.AsksAlike.{asks_same, handle_same, terms_same}
 use Rattle.world_machine.proofs.HearsAlike.{EntryAlike, SentAlike}
 use Rattle.world_machine.proofs.HearsAlike.SentAlike.{Equal, Padded}
 use Rattle.trace_check.proofs.Allowed.{agree_equals, allowed_same, entry_equals}
+use Rattle.trace_check.proofs.Rounded.{no_copy}
 use Rattle.trace_check.specs.Going.{shows_padding}
 
 -- ---- Commands.
@@ -175,17 +174,6 @@ copies_from : (d e : Dialogue) (tag : ℕ) (body : List ℕ) (next : Dialogue) �
 copies_from d e tag body next a one =
     (record e { round = Some (record one.0 { waiting = one.0.waiting + 1 }) }, (one.0, sym a.round ∙ one.1, one.2, one.3, refl))
 
--- What begins a round is no copy.
-no_copy : (d : Dialogue) (tag : ℕ) (body : List ℕ) → tag ≡ following_tag d.round → is_copy d.round tag body ≡ false
-no_copy d tag body next = by_round d.round next
-  where
-    apart : (r : Round) → tag ≡ (r.tag + 1) % 8 → (r.tag == tag) ≡ false
-    apart r is = grind (arith, nat_tests, is)
-
-    by_round : (o : Option Round) → tag ≡ following_tag o → is_copy o tag body ≡ false
-    by_round None is = refl
-    by_round (Some r) is = ap (λ (b : Bool). b && bytes_eq r.body body) (apart r is)
-
 no_padding : (o b c : Bool) → c ≡ false → (o && (b && not c)) ≡ false → (o && b) ≡ false
 no_padding false b c none is = refl
 no_padding true false c none is = refl
@@ -198,7 +186,7 @@ asks_from d e (Whole route body) next a none plain one = by_kind one.2
     by_kind : Copies d route.tag body next ⊎ Begins d route.tag body next → (other : Dialogue) × AsksBy e (Whole route body) other
     by_kind (inl c) = let two = copies_from d e route.tag body next a c in (two.0, (one.0, one.1, inl two.1))
     by_kind (inr c) =
-        let two = begins_from d e route.tag body next a none (no_padding (owes d) (body_type body == 6) (is_copy d.round route.tag body) (no_copy d route.tag body c.1) plain) c in
+        let two = begins_from d e route.tag body next a none (no_padding (owes d) (body_type body == 6) (is_copy d.round route.tag body) (no_copy d.round route.tag body c.1) plain) c in
         (two.0, (one.0, one.1, inr two.1))
 asks_from d e More next a none plain one = (e, refl)
 asks_from d e (Dropped cause) next a none plain one = absurd one

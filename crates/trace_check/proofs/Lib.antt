@@ -15,3 +15,5 @@ pub mod Allowed
 pub mod AskedOn
 pub mod AnsweredOn
 pub mod GoingOn
+pub mod PairWalks
+pub mod EachWalks

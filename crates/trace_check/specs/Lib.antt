@@ -4,3 +4,4 @@ pub mod Laws
 pub mod Verdict
 pub mod Awaits
 pub mod Going
+pub mod Walks

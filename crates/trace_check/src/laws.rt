@@ -5,6 +5,7 @@ ghost use Rattle.trace_check.specs.Awaits.{MoreConforms};
 ghost use Rattle.trace_check.specs.Going.{AsksGoOn, GoesOnFromEach, RepliesGoOn};
 ghost use Rattle.trace_check.specs.Laws.{OneRound, OrderIsAlone, OrderIsReason, OrderRefuses, OrderTells, SealedTells};
 ghost use Rattle.trace_check.specs.Verdict.{OneVerdict};
+ghost use Rattle.trace_check.specs.Walks.{LeadsIsEach};
 
 use world_machine::{beginning_conforms, conforming_has_table, one_reason, one_table};
 
@@ -53,6 +54,11 @@ pub fn replies_go_on()
 /// A packet in which walks cannot differ goes on from each of them, or from none.
 pub fn goes_on_from_each()
     ensures { GoesOnFromEach }
+{}
+
+/// A walk is a walk for each requester.
+pub fn leads_is_each()
+    ensures { LeadsIsEach }
 {}
 
 /// A record under one key, number and id tells its inner message and its padding.
