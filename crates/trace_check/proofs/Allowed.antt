@@ -65,11 +65,11 @@ sent_lives id (Some sent) s = aim_lives id sent.aim sent.content s
 
 -- ---- Entries that differ at most in the padding of what is sent next.
 
-clear_lives : (id : ℕ) (o p : Option Sent) (effect other : Effect) (s t : Steps) → effect ≡ other → s ≡ t → is_live (with_sent id o (after_clear id effect s)) ≡ is_live (with_sent id p (after_clear id other t))
+pub clear_lives : (id : ℕ) (o p : Option Sent) (effect other : Effect) (s t : Steps) → effect ≡ other → s ≡ t → is_live (with_sent id o (after_clear id effect s)) ≡ is_live (with_sent id p (after_clear id other t))
 clear_lives id o p effect other s t same steps =
     sent_lives id o (after_clear id effect s) ∙ ap (λ e. is_live (after_clear id e s)) same ∙ ap (λ (x : Steps). is_live (after_clear id other x)) steps ∙ sym (sent_lives id p (after_clear id other t))
 
-record_lives : (id : ℕ) (b : Bool) (sealed inner : List ℕ) (o p : Option Sent) (effect other : Effect) (s t : Steps) → effect ≡ other → s ≡ t
+pub record_lives : (id : ℕ) (b : Bool) (sealed inner : List ℕ) (o p : Option Sent) (effect other : Effect) (s t : Steps) → effect ≡ other → s ≡ t
     → is_live (cond b (with_sent id o (after_record sealed inner effect s)) s) ≡ is_live (cond b (with_sent id p (after_record sealed inner other t)) t)
 record_lives id true sealed inner o p effect other s t same steps =
     sent_lives id o (after_record sealed inner effect s) ∙ ap (λ e. is_live (after_record sealed inner e s)) same ∙ ap (λ (x : Steps). is_live (after_record sealed inner other x)) steps

@@ -44,7 +44,7 @@ hears_on q _ _ r x round _ _ fd fe tag body next (Due old m h g w v a b handle n
 
 -- ---- The responder's side.
 
-answers_on : (r : RspSetup) (d e : Dialogue) (round : Round) (answer : List ℕ) (next : responder_history.History) (fetching : Option (List ℕ)) → d.responder ≡ e.responder → d.fetching ≡ e.fetching
+pub answers_on : (r : RspSetup) (d e : Dialogue) (round : Round) (answer : List ℕ) (next : responder_history.History) (fetching : Option (List ℕ)) → d.responder ≡ e.responder → d.fetching ≡ e.fetching
     → Answers r d round answer next fetching → Answers r e round answer next fetching
 unfolding Answers
 answers_on r d e round answer next fetching same fetch one =

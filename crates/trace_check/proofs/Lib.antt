@@ -17,3 +17,7 @@ pub mod AnsweredOn
 pub mod GoingOn
 pub mod PairWalks
 pub mod EachWalks
+pub mod Sealing
+pub mod OneWalk
+pub mod Repadding
+pub mod FreePadding

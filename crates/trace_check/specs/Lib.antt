@@ -5,3 +5,4 @@ pub mod Verdict
 pub mod Awaits
 pub mod Going
 pub mod Walks
+pub mod Padding

@@ -4,6 +4,7 @@
 ghost use Rattle.trace_check.specs.Awaits.{MoreConforms};
 ghost use Rattle.trace_check.specs.Going.{AsksGoOn, GoesOnFromEach, RepliesGoOn};
 ghost use Rattle.trace_check.specs.Laws.{OneRound, OrderIsAlone, OrderIsReason, OrderRefuses, OrderTells, SealedTells};
+ghost use Rattle.trace_check.specs.Padding.{OwedIsPadded, PaddingIsFree};
 ghost use Rattle.trace_check.specs.Verdict.{OneVerdict};
 ghost use Rattle.trace_check.specs.Walks.{LeadsIsEach};
 
@@ -59,6 +60,16 @@ pub fn goes_on_from_each()
 /// A walk is a walk for each requester.
 pub fn leads_is_each()
     ensures { LeadsIsEach }
+{}
+
+/// A message that is owed is what it would be with some padding.
+pub fn owed_is_padded()
+    ensures { OwedIsPadded }
+{}
+
+/// A record that is owed may have any padding.
+pub fn padding_is_free()
+    ensures { PaddingIsFree }
 {}
 
 /// A record under one key, number and id tells its inner message and its padding.
