@@ -34,7 +34,7 @@ use Rattle.trace_check.specs.Going.{shows_padding}
 
 -- ---- Commands.
 
-tells_on : (q : ReqSetup) (h g : History) (c : Command) (body : List ℕ) (next : History) → Agree h g → Tells q h c body next → (other : History) × Tells q g c body other
+pub tells_on : (q : ReqSetup) (h g : History) (c : Command) (body : List ℕ) (next : History) → Agree h g → Tells q h c body next → (other : History) × Tells q g c body other
 tells_on q h g c body next a one = (
   Told c one.0 no_draw ∷ g,
   (one.0, (one.1.0, allowed_same q h g one.1.0 (agree_equals h g a) one.1.1, sym (asks_same false q h g a c one.1.0 no_draw) ∙ one.1.2), one.2, one.3, refl),

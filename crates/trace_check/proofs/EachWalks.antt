@@ -10,7 +10,7 @@ use Rattle.spdm_basis.specs.declared.PacketFault.{PacketFault}
 use Rattle.spdm_machine.specs.Packets.{gathered_from}
 use Rattle.trace_check.specs.Judged.{AreApart}
 use Rattle.trace_check.specs.Order.{is_known}
-use Rattle.trace_check.specs.Walks.{LeadsIsEach, Steps, StepsBy, WalkEach, Walks, all_between, goes_between}
+use Rattle.trace_check.specs.Walks.{LeadsIsEach, StepsTo, StepsBy, WalkEach, Walks, all_between, goes_between}
 use Rattle.trace_check.proofs.PairWalks.{IsFor, Made, it_made, other_stayed, stays_in, steps_setup, to_each, walks_setup}
 use Rattle.world_machine.specs.Capture.{AsksBy, ComesFrom, Follows, FollowsBy, GoesTo, Leads, RepliesBy}
 use Rattle.world_machine.specs.Rounds.{Dialogue, dialogue_at, new_dialogue, replaced, with_dialogue}
@@ -20,7 +20,7 @@ use Rattle.world_machine.specs.Setup.{Configuration}
 
 module _ (w : Configuration) (older : List (List ℕ)) (packet : List ℕ) (to : Bool) (at : ℕ) (p : PacketFields) (parses : parsed packet ≡ Ok p) (is : IsFor w to at p) where
   was_so : (q : ReqSetup) (d : Dialogue) → q.eid ≢ at → Walks w q (packet ∷ older) d → Walks w q older d
-  unfolding Steps
+  unfolding StepsTo
   was_so q d apart walk =
       let P : Result PacketFields PacketFault → Type 0 = λ r. StepsBy w q.eid older walk.0 d r in
       subst (Walks w q older) (sym (other_stayed w older to at q.eid p walk.0 d is apart (subst P parses walk.2))) walk.1
@@ -56,7 +56,7 @@ pub record Came (w : Configuration) (older : List (List ℕ)) (to : Bool) (at : 
 
 first_came : (w : Configuration) (older : List (List ℕ)) (packet : List ℕ) (to : Bool) (at : ℕ) (p : PacketFields) (q : ReqSetup) (qs : List ReqSetup) (d : Dialogue) (ds : List Dialogue) → parsed packet ≡ Ok p → IsFor w to at p → q.eid ≡ at
     → AllByRecursion (λ (other : ReqSetup). other.eid ≢ at) qs → WalkEach w (packet ∷ older) (q ∷ qs) (d ∷ ds) → Came w older to at p (q ∷ qs) (d ∷ ds)
-unfolding Steps
+unfolding StepsTo
 first_came w older packet to at p q qs d ds parses is here apart each =
     let b : Dialogue = each.0.0 in
     let own : b.setup.eid ≡ at = eid_of w q older b each.0.1 ∙ here in

@@ -18,7 +18,7 @@ use Rattle.trace_check.proofs.OneWalk.{begun_later, later_round, walks_alike}
 use Rattle.trace_check.proofs.Repadding.{Paddable, clear_same, fetch_same, owing_hears, repadded, settled_pads}
 use Rattle.trace_check.specs.Order.{is_answer, is_request}
 use Rattle.trace_check.specs.Padding.{OwedIsPadded, PaddingIsFree, with_padding}
-use Rattle.trace_check.specs.Walks.{Steps, StepsBy, Walks}
+use Rattle.trace_check.specs.Walks.{StepsTo, StepsBy, Walks}
 use Rattle.world_machine.proofs.AskersAlike.{AskersAlike}
 use Rattle.world_machine.proofs.AskersAlike.AskersAlike.{Settled, Owing, Shown, Due}
 use Rattle.world_machine.proofs.AskersBegin.{dial}
@@ -199,7 +199,7 @@ owed_kind round _ _ _ _ psk (Shown h g w v a b handle number s t u waits wait ai
 owed_kind round _ _ _ _ psk (Due old m h g w v a b handle number u still at) later = inl (λ pad. clear_same psk pad _ h (piece_with h a w handle (number + 1)) _ refl refl)
 
 freed : (w : Configuration) (q : ReqSetup) (older : List (List ℕ)) (d : Dialogue) → Walks w q older d → owes d ≡ true → Freed w q older d
-unfolding Steps
+unfolding StepsTo
 freed w q [] d walk owed = absurd (false≢true (ap owes (sym walk) ∙ owed))
 freed w q (packet ∷ older) d walk owed = by_kind (owed_kind d.round d.requester d.requester d.sending d.sending d.setup.psk (walks_alike w q (packet ∷ older) d d walk walk).alike.askers owed)
     (λ none. step_pads w q older walk.0 walk.1 (freed w q older walk.0 walk.1) (walks_alike w q older walk.0 walk.0 walk.1 walk.1) d (parsed packet) owed none walk.2)

@@ -67,13 +67,13 @@ replies_go_on w older ds es eid d e g next one two at is none replies = replies_
 
 -- ---- One packet. What is shared in one walk is shared in each.
 
-none_sent : (round : Option Round) (h g : History) (sd se : Option (List ℕ)) → AskersAlike round h g sd se → se ≡ None → sd ≡ None
+pub none_sent : (round : Option Round) (h g : History) (sd se : Option (List ℕ)) → AskersAlike round h g sd se → se ≡ None → sd ≡ None
 none_sent round _ _ _ _ (Settled h g agree not at) none = refl
 none_sent round _ _ _ _ (Owing e f h g s t agree alike out sent like tagged else later at) none = refl
 none_sent round _ _ _ _ (Shown h g w v a b handle number s t u waits wait aims aim tags not at) none = absurd (none-some v (sym none))
 none_sent round _ _ _ _ (Due tag m h g w v a b handle number u later at) none = absurd (none-some v (sym none))
 
-owes_same : (round : Option Round) (h g : History) (sd se : Option (List ℕ)) → AskersAlike round h g sd se → is_later round (outstanding h) ≡ is_later round (outstanding g)
+pub owes_same : (round : Option Round) (h g : History) (sd se : Option (List ℕ)) → AskersAlike round h g sd se → is_later round (outstanding h) ≡ is_later round (outstanding g)
 owes_same round _ _ _ _ (Settled h g agree not at) = ap (is_later round) agree.waiting
 owes_same round _ _ _ _ (Owing e f h g s t agree alike out sent like tagged else later at) = ap (is_later round) out ∙ later_tag round s t (alike_tag s t like) ∙ ap (is_later round) (sym sent)
 owes_same round _ _ _ _ (Shown h g w v a b handle number s t u waits wait aims aim tags not at) = ap (is_later round) waits ∙ later_tag round s t tags ∙ ap (is_later round) (sym wait)

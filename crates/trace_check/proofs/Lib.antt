@@ -21,3 +21,6 @@ pub mod Sealing
 pub mod OneWalk
 pub mod Repadding
 pub mod FreePadding
+pub mod KeptParts
+pub mod KeptSteps
+pub mod KeptAll

@@ -11,7 +11,7 @@ use Rattle.responder_machine.specs.History as responder_history
 use Rattle.spdm_basis.specs.declared.PacketFault.{PacketFault}
 use Rattle.spdm_machine.specs.Packets.{gathered_from}
 use Rattle.trace_check.specs.Order.{is_answer, is_request}
-use Rattle.trace_check.specs.Walks.{Steps, StepsBy, Walks}
+use Rattle.trace_check.specs.Walks.{StepsTo, StepsBy, Walks}
 use Rattle.world_machine.proofs.AskersAlike.{AskersAlike, acked, none_tag}
 use Rattle.world_machine.proofs.AskersAlike.AskersAlike.{Settled, Owing, Shown, Due}
 use Rattle.world_machine.proofs.AskersBegin.{dial, same_later}
@@ -40,17 +40,17 @@ step_alike w eid older b c d e (Ok p) both one two = by_ends (is_request w.respo
     by_ends false false same does = subst (λ (x : Dialogue). BothAlike x e) (sym same) (subst (BothAlike b) (sym does) both)
 
 pub walks_alike : (w : Configuration) (q : ReqSetup) (older : List (List ℕ)) (d e : Dialogue) → Walks w q older d → Walks w q older e → BothAlike d e
-unfolding Steps
+unfolding StepsTo
 walks_alike w q [] d e one two = subst (λ (x : Dialogue). BothAlike x e) (sym one) (subst (BothAlike _) (sym two) ((kept w).begins q))
 walks_alike w q (packet ∷ older) d e one two = step_alike w q.eid older one.0 two.0 d e (parsed packet) (walks_alike w q older one.0 two.0 one.1 two.1) one.2 two.2
 
 -- ---- A request that begins a round is not owed.
 
 -- By the message that is outstanding then.
-not_later : (tag : ℕ) (body : List ℕ) (next : History) (s : Sent) → outstanding next ≡ Some s → s.tag ≡ tag → is_later (Some (new_round tag body)) (outstanding next) ≡ false
+pub not_later : (tag : ℕ) (body : List ℕ) (next : History) (s : Sent) → outstanding next ≡ Some s → s.tag ≡ tag → is_later (Some (new_round tag body)) (outstanding next) ≡ false
 not_later tag body next s waits is = ap (is_later (Some (new_round tag body))) waits ∙ same_later tag body s is
 
-told_later : (q : ReqSetup) (h : History) (c : Command) (tag : ℕ) (body : List ℕ) (next : History) → next_tag h ≡ tag → Tells q h c body next → is_later (Some (new_round tag body)) (outstanding next) ≡ false
+pub told_later : (q : ReqSetup) (h : History) (c : Command) (tag : ℕ) (body : List ℕ) (next : History) → next_tag h ≡ tag → Tells q h c body next → is_later (Some (new_round tag body)) (outstanding next) ≡ false
 told_later q h c tag body next at one = not_later tag body next one.0 (ap outstanding one.4) (asked_tag q h one.1.0 c one.0 no_draw one.1.2 ∙ at)
 
 settled_later : (d : Dialogue) (tag : ℕ) (body : List ℕ) (next : History) (sending : Option (List ℕ)) → next_tag d.requester ≡ tag → sending ≡ None

@@ -10,7 +10,7 @@ use Rattle.spdm_basis.specs.declared.PacketFault.{PacketFault}
 use Rattle.spdm_machine.specs.Packets.{gathered_from}
 use Rattle.trace_check.specs.Judged.{AreApart}
 use Rattle.trace_check.specs.Order.{is_answer, is_known, is_request}
-use Rattle.trace_check.specs.Walks.{Steps, StepsBy, WalkEach, Walks, all_between, goes_between}
+use Rattle.trace_check.specs.Walks.{StepsTo, StepsBy, WalkEach, Walks, all_between, goes_between}
 use Rattle.trace_check.proofs.Rounded.{answer_turned, request_turned}
 use Rattle.world_machine.specs.Capture.{AsksBy, ComesFrom, Follows, FollowsBy, GoesTo, Leads, RepliesBy}
 use Rattle.world_machine.specs.Rounds.{Dialogue, dialogue_at, new_dialogue, replaced, with_dialogue}
@@ -28,7 +28,7 @@ steps_setup w eid older d next (Ok p) step = by_ends (is_request w.responder.eid
     by_ends false false same = ap (λ (x : Dialogue). x.setup) same
 
 pub walks_setup : (w : Configuration) (q : ReqSetup) (older : List (List ℕ)) (d : Dialogue) → Walks w q older d → d.setup ≡ q
-unfolding Steps
+unfolding StepsTo
 walks_setup w q [] d walk = ap (λ (x : Dialogue). x.setup) walk
 walks_setup w q (packet ∷ older) d walk = steps_setup w q.eid older walk.0 d (parsed packet) walk.2 ∙ walks_setup w q older walk.0 walk.1
 
@@ -97,7 +97,7 @@ stays_in n x eid is apart = ap (λ (b : Bool). cond b n x) (ne_eqb x.setup.eid n
 
 others_walk : (w : Configuration) (older : List (List ℕ)) (packet : List ℕ) (to : Bool) (at : ℕ) (p : PacketFields) (n : Dialogue) (qs : List ReqSetup) (ds : List Dialogue) → parsed packet ≡ Ok p → IsFor w to at p → n.setup.eid ≡ at
     → AllByRecursion (λ (other : ReqSetup). other.eid ≢ at) qs → WalkEach w older qs ds → WalkEach w (packet ∷ older) qs (with_dialogue n ds)
-unfolding Steps
+unfolding StepsTo
 others_walk w older packet to at p n [] [] parses is own apart each = tt
 others_walk w older packet to at p n (q ∷ qs) (d ∷ ds) parses is own apart each =
     let eid : d.setup.eid ≡ q.eid = ap (λ (s : ReqSetup). s.eid) (walks_setup w q older d each.0) in
@@ -113,7 +113,7 @@ others_walk w older packet to at p n (q ∷ qs) [] parses is own apart each = ab
 -- The dialogue that it is for.
 one_walks : (w : Configuration) (older : List (List ℕ)) (packet : List ℕ) (to : Bool) (at : ℕ) (p : PacketFields) (b n : Dialogue) (own : ℕ) (qs : List ReqSetup) (ds : List Dialogue) → parsed packet ≡ Ok p → IsFor w to at p → n.setup.eid ≡ at
     → Made w to at older p b n → AreApart own qs → WalkEach w older qs ds → dialogue_at at ds ≡ Some b → WalkEach w (packet ∷ older) qs (with_dialogue n ds)
-unfolding Steps
+unfolding StepsTo
 one_walks w older packet to at p b n own [] [] parses is its made apart each found = absurd (none-some b found)
 one_walks w older packet to at p b n own (q ∷ qs) (d ∷ ds) parses is its made apart each found =
     by_eid (d.setup.eid == at) refl found (λ there. one_walks w older packet to at p b n own qs ds parses is its made apart.2 each.1 there)

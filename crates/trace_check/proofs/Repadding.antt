@@ -74,7 +74,7 @@ next_of (TookRecord tag id sealed inner led d) (Told c s x) a = absurd a
 next_of (TookRecord tag id sealed inner led d) (TookClear tag' m' led' d') a = absurd a
 
 -- Messages that differ in their padding alone are one with one padding.
-alike_with : (psk pad : List ℕ) (h : History) (s t : Sent) → SentAlike s t → sent_with psk (session_of (session_asked s.aim) h) pad s ≡ sent_with psk (session_of (session_asked t.aim) h) pad t
+pub alike_with : (psk pad : List ℕ) (h : History) (s t : Sent) → SentAlike s t → sent_with psk (session_of (session_asked s.aim) h) pad s ≡ sent_with psk (session_of (session_asked t.aim) h) pad t
 alike_with psk pad h _ _ (Equal s) = refl
 alike_with psk pad h _ _ (Padded tag key s id ask inner one other) = refl
 

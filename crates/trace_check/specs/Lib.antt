@@ -6,3 +6,4 @@ pub mod Awaits
 pub mod Going
 pub mod Walks
 pub mod Padding
+pub mod Keeping

@@ -23,13 +23,13 @@ StepsBy w eid older d next (Ok packet) =
     (MatchBool (is_answer w.responder.eid eid packet) (RepliesBy w d (gathered_from eid w.responder.eid older packet) next) (next ≡ d))
 
 -- The same of bytes, behind the packets before them, the newest first.
-unfoldable pub Steps : Configuration → (eid : ℕ) → List (List ℕ) → Dialogue → List ℕ → Dialogue → Type 0
-Steps w eid older d packet next = StepsBy w eid older d next (parsed packet)
+unfoldable pub StepsTo : Configuration → (eid : ℕ) → List (List ℕ) → Dialogue → List ℕ → Dialogue → Type 0
+StepsTo w eid older d packet next = StepsBy w eid older d next (parsed packet)
 
 -- Packets, the newest first, may lead to what is then between the responder and a requester that is set up so.
 abbrev pub Walks : Configuration → ReqSetup → List (List ℕ) → Dialogue → Type 0
 Walks w q [] d = d ≡ new_dialogue q
-Walks w q (packet ∷ older) d = (before : Dialogue) × Walks w q older before × Steps w q.eid older before packet d
+Walks w q (packet ∷ older) d = (before : Dialogue) × Walks w q older before × StepsTo w q.eid older before packet d
 
 -- ---- All requesters.
 

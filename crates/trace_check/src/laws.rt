@@ -3,6 +3,7 @@
 
 ghost use Rattle.trace_check.specs.Awaits.{MoreConforms};
 ghost use Rattle.trace_check.specs.Going.{AsksGoOn, GoesOnFromEach, RepliesGoOn};
+ghost use Rattle.trace_check.specs.Keeping.{AsksAreKept, KeptAsks};
 ghost use Rattle.trace_check.specs.Laws.{OneRound, OrderIsAlone, OrderIsReason, OrderRefuses, OrderTells, SealedTells};
 ghost use Rattle.trace_check.specs.Padding.{OwedIsPadded, PaddingIsFree};
 ghost use Rattle.trace_check.specs.Verdict.{OneVerdict};
@@ -70,6 +71,16 @@ pub fn owed_is_padded()
 /// A record that is owed may have any padding.
 pub fn padding_is_free()
     ensures { PaddingIsFree }
+{}
+
+/// What a request makes of what is kept, is kept behind it.
+pub fn kept_asks()
+    ensures { KeptAsks }
+{}
+
+/// A request that goes on from some walk makes something of what is kept.
+pub fn asks_are_kept()
+    ensures { AsksAreKept }
 {}
 
 /// A record under one key, number and id tells its inner message and its padding.
