@@ -5,6 +5,22 @@ pub mod Kept
 pub mod Found
 pub mod Telling
 pub mod Exclusive
+pub mod LongAnswers
+pub mod Carried
+pub mod Steadily
 pub mod Alone
 mod OrderRows
 pub mod Unfinished
+pub mod Allowed
+pub mod AskedOn
+pub mod AnsweredOn
+pub mod GoingOn
+pub mod PairWalks
+pub mod EachWalks
+pub mod Sealing
+pub mod OneWalk
+pub mod Repadding
+pub mod FreePadding
+pub mod KeptParts
+pub mod KeptSteps
+pub mod KeptAll

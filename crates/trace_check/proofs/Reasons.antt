@@ -16,12 +16,12 @@ use Rattle.spdm_grammar.specs.Requests.{canonical_request, request_body, get_ver
 use Rattle.spdm_machine.specs.Bodies.{clear_body}
 use Rattle.spdm_machine.specs.Packets.{gathered_from, body_type}
 use Rattle.spdm_machine.specs.Terms.{request_value}
-use Rattle.trace_check.specs.Laws.{OrderIsReason, OrderRefuses, OrderTells}
+use Rattle.trace_check.specs.Laws.{OrderRefuses, OrderTells}
 use Rattle.trace_check.specs.Order.{asks_wrong, replies_wrong, asked_why, answered_why, coming_why, going_why, ordered_why, order_why, round_of, is_known, is_of_order}
 use Rattle.trace_check.proofs.Ordering.{AreOf, before, found, unknown, leads_are}
 use Rattle.trace_check.proofs.Rounded.{copy_is}
 use Rattle.world_machine.specs.Capture.{Leads, Follows, FollowsBy, ComesFrom, GoesTo, AsksBy, RepliesBy, Copies, Begins, may_begin}
-use Rattle.world_machine.specs.Difference.{Why, IsReason, IsOtherwiseWrong, why_by, from_why, to_why, comes_why, goes_why, request_why, reply_why, is_get_version, may_come, is_copy, is_waiting, is_other_type}
+use Rattle.world_machine.specs.Difference.{IsVerifyApart, Why, IsReason, IsOtherwiseWrong, why_by, from_why, to_why, comes_why, goes_why, request_why, reply_why, is_get_version, may_come, is_copy, is_waiting, is_other_type}
 use Rattle.world_machine.specs.Difference.Why.{BadPacket, UnknownEnd, WrongTurn, BadRequest, BadReply, BadVerify, BadRecord}
 use Rattle.world_machine.specs.Rounds.{Dialogue, Round, dialogue_at, following_tag}
 use Rattle.world_machine.specs.Setup.{Configuration, known_of}
@@ -280,8 +280,8 @@ as_reason w older packet BadReply of is = is
 as_reason w older packet BadVerify of is = absurd (false≢true of)
 as_reason w older packet BadRecord of is = is
 
-pub order_is_reason : OrderIsReason
+pub reason_alone : (w : Configuration) (older : List (List ℕ)) (packet : List ℕ) (ds : List Dialogue) (why : Why) → Leads w older ds → order_why w older packet ≡ Some why → (IsVerifyApart w older packet → ⊥) → IsReason w older packet why
 unfolding IsOtherwiseWrong order_why
-order_is_reason w older packet ds why leads is alone =
+reason_alone w older packet ds why leads is alone =
     as_reason w older packet why (ordered_of w.responder.eid w.requesters older (parsed packet) why is)
     (alone, (ds, leads, (why_both w older (parsed packet) ds (leads_are w older ds leads) why).1 is))

@@ -1,11 +1,10 @@
 -- What the packets of a capture fix of all walks over them. This project's own.
-use Rattle.std.specs.Prelude.{◌≡◌, ◌<◌, ℕ, List, ◌∷◌, length, true, false, Some}
-use Rattle.mctp_framing.specs.Packet.{parsed}
+use Rattle.std.specs.Prelude.{◌≡◌, ◌<◌, ℕ, List, ◌∷◌, length, true, Some}
 use Rattle.key_schedule.specs.Purpose.{Purpose}
 use Rattle.spdm_basis.specs.SessionIdBytes.{session_id_bytes}
 use Rattle.spdm_grammar.specs.declared.choice.Choice.{Choice}
 use Rattle.spdm_machine.specs.Keys.{sealed_of}
-use Rattle.trace_check.specs.Order.{round_of, order_why, is_of_order, is_strange}
+use Rattle.trace_check.specs.Order.{round_of, order_why, is_of_order}
 use Rattle.world_machine.specs.Capture.{Leads}
 use Rattle.world_machine.specs.Difference.{Why, IsReason, IsVerifyApart}
 use Rattle.world_machine.specs.Rounds.{Dialogue, dialogue_at}
@@ -21,17 +20,15 @@ abbrev pub OrderRefuses : Type 0
 OrderRefuses = (w : Configuration) (older : List (List ℕ)) (packet : List ℕ) (why : Why)
     → order_why w older packet ≡ Some why → (after : List Dialogue) → Leads w (packet ∷ older) after → ⊥
 
--- Where the packets before it conform, that is the reason, unless its verify data alone are wrong.
-abbrev pub OrderIsReason : Type 0
-OrderIsReason = (w : Configuration) (older : List (List ℕ)) (packet : List ℕ) (ds : List Dialogue) (why : Why)
-    → Leads w older ds → order_why w older packet ≡ Some why → (IsVerifyApart w older packet → ⊥)
-    → IsReason w older packet why
-
--- Verify data are not alone wrong there, unless the packet is an answer of another type than 5 and 6.
+-- Its verify data are not alone wrong there.
 abbrev pub OrderIsAlone : Type 0
 OrderIsAlone = (w : Configuration) (older : List (List ℕ)) (packet : List ℕ) (why : Why)
-    → order_why w older packet ≡ Some why → is_strange w.responder.eid older (parsed packet) ≡ false
-    → IsVerifyApart w older packet → ⊥
+    → order_why w older packet ≡ Some why → IsVerifyApart w older packet → ⊥
+
+-- Where the packets before it conform, that is the reason.
+abbrev pub OrderIsReason : Type 0
+OrderIsReason = (w : Configuration) (older : List (List ℕ)) (packet : List ℕ) (ds : List Dialogue) (why : Why)
+    → Leads w older ds → order_why w older packet ≡ Some why → IsReason w older packet why
 
 -- A reason of the order is given by the order.
 abbrev pub OrderTells : Type 0

@@ -128,14 +128,3 @@ is_of_order BadRequest = false
 is_of_order BadReply = false
 is_of_order BadVerify = false
 is_of_order BadRecord = false
-
--- The packet completes a body of another type than 5 and 6.
-abbrev pub is_strange_by : Gathered → Bool
-is_strange_by (Whole route body) = is_other_type body
-is_strange_by _ = false
-
--- It completes such an answer.
-abbrev pub is_strange : (own : ℕ) → List (List ℕ) → Result PacketFields PacketFault → Bool
-is_strange own older (Err fault) = false
-is_strange own older (Ok packet) =
-    not (packet.to == own) && (packet.from == own && is_strange_by (gathered_from packet.to own older packet))

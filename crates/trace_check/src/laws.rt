@@ -2,8 +2,12 @@
 //! that does nothing.
 
 ghost use Rattle.trace_check.specs.Awaits.{MoreConforms};
+ghost use Rattle.trace_check.specs.Going.{AsksGoOn, GoesOnFromEach, RepliesGoOn};
+ghost use Rattle.trace_check.specs.Keeping.{AsksAreKept, KeptAsks};
 ghost use Rattle.trace_check.specs.Laws.{OneRound, OrderIsAlone, OrderIsReason, OrderRefuses, OrderTells, SealedTells};
+ghost use Rattle.trace_check.specs.Padding.{OwedIsPadded, PaddingIsFree};
 ghost use Rattle.trace_check.specs.Verdict.{OneVerdict};
+ghost use Rattle.trace_check.specs.Walks.{LeadsIsEach};
 
 use world_machine::{beginning_conforms, conforming_has_table, one_reason, one_table};
 
@@ -17,15 +21,14 @@ pub fn order_refuses()
     ensures { OrderRefuses }
 {}
 
-/// Behind packets that conform that is the reason, unless the verify data of a packet alone are
-/// wrong.
-pub fn order_is_reason()
-    ensures { OrderIsReason }
-{}
-
-/// Verify data are not alone wrong there, unless the packet is an answer of another type.
+/// Verify data are not alone wrong there.
 pub fn order_is_alone()
     ensures { OrderIsAlone }
+{}
+
+/// Behind packets that conform that is the reason.
+pub fn order_is_reason()
+    ensures { OrderIsReason }
 {}
 
 /// A packet in order that brings a part of a body conforms behind packets that do.
@@ -36,6 +39,48 @@ pub fn more_conforms()
 /// Each of the three reasons of the order is given by the order.
 pub fn order_tells()
     ensures { OrderTells }
+{}
+
+/// A request that goes on from one walk goes on from each other one, where no large request is under
+/// way, and it is no record that was owed.
+pub fn asks_go_on()
+    ensures { AsksGoOn }
+{}
+
+/// An answer that goes on from one walk goes on from each other one, where no large answer is
+/// fetched.
+pub fn replies_go_on()
+    ensures { RepliesGoOn }
+{}
+
+/// A packet in which walks cannot differ goes on from each of them, or from none.
+pub fn goes_on_from_each()
+    ensures { GoesOnFromEach }
+{}
+
+/// A walk is a walk for each requester.
+pub fn leads_is_each()
+    ensures { LeadsIsEach }
+{}
+
+/// A message that is owed is what it would be with some padding.
+pub fn owed_is_padded()
+    ensures { OwedIsPadded }
+{}
+
+/// A record that is owed may have any padding.
+pub fn padding_is_free()
+    ensures { PaddingIsFree }
+{}
+
+/// What a request makes of what is kept, is kept behind it.
+pub fn kept_asks()
+    ensures { KeptAsks }
+{}
+
+/// A request that goes on from some walk makes something of what is kept.
+pub fn asks_are_kept()
+    ensures { AsksAreKept }
 {}
 
 /// A record under one key, number and id tells its inner message and its padding.

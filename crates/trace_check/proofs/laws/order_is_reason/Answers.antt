@@ -1,4 +1,4 @@
-use Rattle.trace_check.proofs.Reasons.{order_is_reason}
+use Rattle.trace_check.proofs.Alone.{order_is_reason}
 use Rattle.trace_check.proofs.laws.order_is_reason.Goals as goal
 
 pub returns : goal.returns

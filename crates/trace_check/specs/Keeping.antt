@@ -1,0 +1,102 @@
+-- What is kept of one requester and the responder while no large message is under way, and which requests go on from
+-- it. This project's own.
+use Rattle.std.specs.Prelude.{◌≡◌, ◌≤◌, ◌+◌, ◌⊎◌, ℕ, List, [], ◌∷◌, length, if◌then◌else◌, true, false, Option, Some, None, Ok}
+use Rattle.mctp_framing.specs.Gathering.{Gathered}
+use Rattle.mctp_framing.specs.Gathering.Gathered.{Whole, More, Dropped}
+use Rattle.mctp_framing.specs.Packet.{PacketFields, parsed}
+use Rattle.requester_machine.specs.History.{History, begins_large, outstanding}
+use Rattle.requester_machine.specs.Message.{Command, Sent, body_of}
+use Rattle.requester_machine.specs.Message.Command.{Connect}
+use Rattle.requester_machine.specs.Session.{session_of}
+use Rattle.requester_machine.specs.Setup.{ReqSetup}
+use Rattle.responder_machine.specs.History as responder_history
+use Rattle.spdm_machine.specs.Packets.{gathered_from}
+use Rattle.trace_check.specs.Order.{is_request}
+use Rattle.trace_check.specs.Padding.{next_with, sent_with, session_asked}
+use Rattle.trace_check.specs.Walks.{Walks}
+use Rattle.world_machine.specs.Capture.{IsBody, may_begin}
+use Rattle.world_machine.specs.CapturedRequests.{Tells, owes, with_next, without_owed}
+use Rattle.world_machine.specs.Rounds.{Dialogue, Round, following_tag, new_round}
+use Rattle.world_machine.specs.Setup.{Configuration}
+
+-- How the requester is set up; what it was told and took, without the message that it owes; that message, with no
+-- padding; what the responder took from it; and the last round.
+pub record Kept : Type 0 where
+  pub setup : ReqSetup
+  pub requester : History
+  pub owed : Option Sent
+  pub responder : responder_history.History
+  pub round : Option Round
+
+-- What is kept of what is between two ends.
+abbrev pub kept_of : Dialogue → Kept
+kept_of d = record {
+  setup = d.setup;
+  requester = without_owed d;
+  owed = if owes d then next_with d.setup.psk d.requester [] (outstanding d.requester) else None;
+  responder = d.responder;
+  round = d.round;
+}
+
+-- Some walk over these packets, the newest first, leads to what this is kept of, and no large message is under way.
+abbrev pub Keeps : Configuration → ReqSetup → List (List ℕ) → Kept → Type 0
+Keeps w q older kept = (d : Dialogue) × Walks w q older d × (d.sending ≡ None) × (d.fetching ≡ None) × (kept ≡ kept_of d)
+
+-- ---- A request.
+
+-- GET_VERSION, in place of a message that is owed.
+abbrev pub ConnectsKept : Kept → List ℕ → History → Type 0
+ConnectsKept k body after = Tells k.setup k.requester Connect body after
+
+-- A command, where nothing is outstanding or owed.
+abbrev pub CommandsKept : Kept → List ℕ → History → Type 0
+CommandsKept k body after =
+    (command : Command) × (k.owed ≡ None) × (outstanding k.requester ≡ None) × Tells k.setup k.requester command body after
+
+-- The message that is owed, with a padding of at most 16 bytes.
+abbrev pub owed_with : Kept → (pad : List ℕ) → Sent → Sent
+owed_with k pad sent = sent_with k.setup.psk (session_of (session_asked sent.aim) k.requester) pad sent
+
+abbrev pub GoesOnKept : Kept → List ℕ → History → Type 0
+GoesOnKept k body after =
+    (sent : Sent) × (pad : List ℕ) × (k.owed ≡ Some sent) × (length pad ≤ 16)
+    × (begins_large sent.aim ≡ false)
+    × (body_of (owed_with k pad sent).content ≡ body)
+    × (after ≡ with_next (Some (owed_with k pad sent)) k.requester)
+
+-- A body that begins a round whole, and the requester's history after it.
+abbrev pub SendsKept : Kept → List ℕ → History → Type 0
+SendsKept k body after = ConnectsKept k body after ⊎ (CommandsKept k body after ⊎ GoesOnKept k body after)
+
+-- A copy of the last round's request.
+abbrev pub CopiesKept : Kept → ℕ → List ℕ → Kept → Type 0
+CopiesKept k tag body next =
+    (round : Round) × (k.round ≡ Some round) × (round.tag ≡ tag) × (round.body ≡ body)
+    × (next ≡ record k { round = Some (record round { waiting = round.waiting + 1 }) })
+
+-- A request that begins a round.
+abbrev pub BeginsKept : Kept → ℕ → List ℕ → Kept → Type 0
+BeginsKept k tag body next =
+    (may_begin k.round body ≡ true) × (tag ≡ following_tag k.round)
+    × ((after : History) × SendsKept k body after
+    × (next ≡ record k { requester = after; owed = None; round = Some (new_round tag body) }))
+
+-- What a packet from the requester makes of what is kept.
+abbrev pub AsksKept : Kept → Gathered → Kept → Type 0
+AsksKept k (Whole route body) next = IsBody body × (route.owner ≡ true) × (CopiesKept k route.tag body next ⊎ BeginsKept k route.tag body next)
+AsksKept k More next = next ≡ k
+AsksKept k (Dropped cause) next = ⊥
+
+-- What a packet from the requester makes of what is kept, is kept behind it.
+abbrev pub KeptAsks : Type 0
+KeptAsks = (w : Configuration) (q : ReqSetup) (older : List (List ℕ)) (packet : List ℕ) (p : PacketFields) (k next : Kept)
+    → parsed packet ≡ Ok p → is_request w.responder.eid q.eid p ≡ true
+    → Keeps w q older k → AsksKept k (gathered_from w.responder.eid q.eid older p) next → Keeps w q (packet ∷ older) next
+
+-- Where some walk goes on with a packet from the requester, and no large request is under way behind it, it makes
+-- something of what is kept.
+abbrev pub AsksAreKept : Type 0
+AsksAreKept = (w : Configuration) (q : ReqSetup) (older : List (List ℕ)) (packet : List ℕ) (p : PacketFields) (k : Kept) (d : Dialogue)
+    → parsed packet ≡ Ok p → is_request w.responder.eid q.eid p ≡ true
+    → Keeps w q older k → Walks w q (packet ∷ older) d → d.sending ≡ None
+    → (next : Kept) × AsksKept k (gathered_from w.responder.eid q.eid older p) next
