@@ -24,3 +24,4 @@ pub mod FreePadding
 pub mod KeptParts
 pub mod KeptSteps
 pub mod KeptAll
+pub mod KeptAnswers

@@ -3,7 +3,7 @@
 
 ghost use Rattle.trace_check.specs.Awaits.{MoreConforms};
 ghost use Rattle.trace_check.specs.Going.{AsksGoOn, GoesOnFromEach, RepliesGoOn};
-ghost use Rattle.trace_check.specs.Keeping.{AsksAreKept, KeptAsks};
+ghost use Rattle.trace_check.specs.Keeping.{AsksAreKept, KeptAsks, KeptIsRestored, KeptReplies, RepliesAreKept};
 ghost use Rattle.trace_check.specs.Laws.{OneRound, OrderIsAlone, OrderIsReason, OrderRefuses, OrderTells, SealedTells};
 ghost use Rattle.trace_check.specs.Padding.{OwedIsPadded, PaddingIsFree};
 ghost use Rattle.trace_check.specs.Verdict.{OneVerdict};
@@ -81,6 +81,21 @@ pub fn kept_asks()
 /// A request that goes on from some walk makes something of what is kept.
 pub fn asks_are_kept()
     ensures { AsksAreKept }
+{}
+
+/// A walk leads to what this is kept of.
+pub fn kept_is_restored()
+    ensures { KeptIsRestored }
+{}
+
+/// What an answer makes of what is kept, is kept behind it.
+pub fn kept_replies()
+    ensures { KeptReplies }
+{}
+
+/// An answer that goes on from some walk makes something of what is kept.
+pub fn replies_are_kept()
+    ensures { RepliesAreKept }
 {}
 
 /// A record under one key, number and id tells its inner message and its padding.
