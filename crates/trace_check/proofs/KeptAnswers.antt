@@ -1,5 +1,6 @@
 -- An answer goes on from what is kept exactly where it goes on from some walk.
-use Rattle.std.proofs.Common.{◌≡◌, ◌==◌, ◌&&◌, not, ℕ, List, [], ◌∷◌, refl, sym, ap, ◌∙◌, subst, Bool, true, false, Option, Some, None, Result, eqb-true, arith}
+use Rattle.std.proofs.Common.{◌≡◌, ◌==◌, ◌&&◌, not, ℕ, List, [], ◌∷◌, refl, sym, ap, ◌∙◌, subst, Bool, true, false, Option, Some, None, Result, Ok, eqb-true, arith}
+use Rattle.std.specs.Prelude.{MatchBool}
 use Rattle.std.proofs.lemmas.Bool.{not-true}
 use Rattle.mctp_framing.specs.Gathering.{Gathered}
 use Rattle.mctp_framing.specs.Gathering.Gathered.{Whole, More, Dropped}
@@ -17,14 +18,14 @@ use Rattle.trace_check.proofs.GoingOn.{none_fetched}
 use Rattle.trace_check.proofs.KeptParts.{Owes, it_owes, kept_is, next_twice, sent_twice}
 use Rattle.trace_check.proofs.OneWalk.{walks_alike}
 use Rattle.trace_check.proofs.PairWalks.{IsFor, it_made, of_it}
-use Rattle.trace_check.specs.Keeping.{Kept, KeptIsRestored, KeptReplies, RepliesAreKept, kept_of, owing, restored}
+use Rattle.trace_check.specs.Keeping.{Kept, KeptBegins, KeptIsRestored, KeptStays, KeptReplies, RepliesAreKept, kept_of, owing, restored}
 use Rattle.trace_check.specs.Order.{is_answer}
 use Rattle.trace_check.specs.Padding.{next_with, sent_with, session_asked, with_padding}
 use Rattle.trace_check.specs.Walks.{StepsBy, StepsTo, Walks}
 use Rattle.world_machine.proofs.AskersHear.{later_tag}
-use Rattle.world_machine.specs.Capture.{RepliesBy}
+use Rattle.world_machine.specs.Capture.{AsksBy, RepliesBy}
 use Rattle.world_machine.specs.CapturedRequests.{is_later, owes, with_next}
-use Rattle.world_machine.specs.Rounds.{Dialogue}
+use Rattle.world_machine.specs.Rounds.{Dialogue, new_dialogue}
 use Rattle.world_machine.specs.Setup.{Configuration}
 
 -- ---- What this is kept of.
@@ -134,3 +135,18 @@ replies_are_kept w q older packet p k x parses not is keeps walk less =
     (restored k, mine, subst S (sym parses) (of_it w older q.eid p (restored k) more.0 false (goes_to w q.eid p is) more.1)) in
     let fetched : more.0.fetching ≡ None = none_fetched more.0.fetching x.fetching (walks_alike w q (packet ∷ older) more.0 x there walk).alike.fetches less in
     (kept_of more.0, (more.0, more.1, fetched, refl))
+
+-- ---- Nothing, and packets of others.
+
+pub kept_begins : KeptBegins
+kept_begins w q = (new_dialogue q, refl, refl, refl, refl)
+
+pub kept_stays : KeptStays
+unfolding StepsTo
+kept_stays w q older packet p k parses not nor keeps =
+    let d : Dialogue = keeps.0 in
+    let Answered : Bool → Type 0 = λ x. MatchBool x (RepliesBy w d (gathered_from q.eid w.responder.eid older p) d) (d ≡ d) in
+    let Asked : Bool → Type 0 = λ x. MatchBool x (AsksBy d (gathered_from w.responder.eid q.eid older p) d) (Answered (is_answer w.responder.eid q.eid p)) in
+    let step : StepsBy w q.eid older d d (Ok p) = subst Asked (sym not) (subst Answered (sym nor) refl) in
+    let P : Result PacketFields PacketFault → Type 0 = λ r. StepsBy w q.eid older d d r in
+    (d, (d, keeps.1, subst P (sym parses) step), keeps.2, keeps.3, keeps.4)

@@ -16,7 +16,7 @@ use Rattle.trace_check.specs.Padding.{next_with, sent_with, session_asked}
 use Rattle.trace_check.specs.Walks.{Walks}
 use Rattle.world_machine.specs.Capture.{IsBody, RepliesBy, may_begin}
 use Rattle.world_machine.specs.CapturedRequests.{Tells, owes, with_next, without_owed}
-use Rattle.world_machine.specs.Rounds.{Dialogue, Round, following_tag, new_round}
+use Rattle.world_machine.specs.Rounds.{Dialogue, Round, following_tag, new_dialogue, new_round}
 use Rattle.world_machine.specs.Setup.{Configuration}
 
 -- How the requester is set up; what it was told and took, without the message that it owes; that message, with no
@@ -41,6 +41,16 @@ kept_of d = record {
 -- Some walk over these packets, the newest first, leads to what this is kept of, and no large message is under way.
 abbrev pub Keeps : Configuration → ReqSetup → List (List ℕ) → Kept → Type 0
 Keeps w q older kept = (d : Dialogue) × Walks w q older d × (d.sending ≡ None) × (d.fetching ≡ None) × (kept ≡ kept_of d)
+
+-- Where nothing came yet.
+abbrev pub KeptBegins : Type 0
+KeptBegins = (w : Configuration) (q : ReqSetup) → Keeps w q [] (kept_of (new_dialogue q))
+
+-- A packet between two other ends leaves it.
+abbrev pub KeptStays : Type 0
+KeptStays = (w : Configuration) (q : ReqSetup) (older : List (List ℕ)) (packet : List ℕ) (p : PacketFields) (k : Kept)
+    → parsed packet ≡ Ok p → is_request w.responder.eid q.eid p ≡ false → is_answer w.responder.eid q.eid p ≡ false
+    → Keeps w q older k → Keeps w q (packet ∷ older) k
 
 -- ---- A request.
 

@@ -3,11 +3,11 @@
 
 ghost use Rattle.trace_check.specs.Awaits.{MoreConforms};
 ghost use Rattle.trace_check.specs.Going.{AsksGoOn, GoesOnFromEach, RepliesGoOn};
-ghost use Rattle.trace_check.specs.Keeping.{AsksAreKept, KeptAsks, KeptIsRestored, KeptReplies, RepliesAreKept};
+ghost use Rattle.trace_check.specs.Keeping.{AsksAreKept, KeptAsks, KeptBegins, KeptIsRestored, KeptReplies, KeptStays, RepliesAreKept};
 ghost use Rattle.trace_check.specs.Laws.{OneRound, OrderIsAlone, OrderIsReason, OrderRefuses, OrderTells, SealedTells};
 ghost use Rattle.trace_check.specs.Padding.{OwedIsPadded, PaddingIsFree};
 ghost use Rattle.trace_check.specs.Verdict.{OneVerdict};
-ghost use Rattle.trace_check.specs.Walks.{LeadsIsEach};
+ghost use Rattle.trace_check.specs.Walks.{ConformsIsEach, LeadsIsEach};
 
 use world_machine::{beginning_conforms, conforming_has_table, one_reason, one_table};
 
@@ -63,6 +63,11 @@ pub fn leads_is_each()
     ensures { LeadsIsEach }
 {}
 
+/// Packets conform where all go between two ends that are set up, and each requester has a walk.
+pub fn conforms_is_each()
+    ensures { ConformsIsEach }
+{}
+
 /// A message that is owed is what it would be with some padding.
 pub fn owed_is_padded()
     ensures { OwedIsPadded }
@@ -71,6 +76,16 @@ pub fn owed_is_padded()
 /// A record that is owed may have any padding.
 pub fn padding_is_free()
     ensures { PaddingIsFree }
+{}
+
+/// What is kept where nothing came yet.
+pub fn kept_begins()
+    ensures { KeptBegins }
+{}
+
+/// A packet between two other ends leaves what is kept.
+pub fn kept_stays()
+    ensures { KeptStays }
 {}
 
 /// What a request makes of what is kept, is kept behind it.
