@@ -25,3 +25,4 @@ pub mod KeptParts
 pub mod KeptSteps
 pub mod KeptAll
 pub mod KeptAnswers
+pub mod Refused

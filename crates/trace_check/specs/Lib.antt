@@ -7,3 +7,4 @@ pub mod Going
 pub mod Walks
 pub mod Padding
 pub mod Keeping
+pub mod Refusing

@@ -6,6 +6,7 @@ ghost use Rattle.trace_check.specs.Going.{AsksGoOn, GoesOnFromEach, RepliesGoOn}
 ghost use Rattle.trace_check.specs.Keeping.{AsksAreKept, KeptAsks, KeptBegins, KeptIsRestored, KeptReplies, KeptStays, RepliesAreKept};
 ghost use Rattle.trace_check.specs.Laws.{OneRound, OrderIsAlone, OrderIsReason, OrderRefuses, OrderTells, SealedTells};
 ghost use Rattle.trace_check.specs.Padding.{OwedIsPadded, PaddingIsFree};
+ghost use Rattle.trace_check.specs.Refusing.{KeptTellsApart, KeptTellsWhy};
 ghost use Rattle.trace_check.specs.Verdict.{OneVerdict};
 ghost use Rattle.trace_check.specs.Walks.{ConformsIsEach, LeadsIsEach};
 
@@ -111,6 +112,16 @@ pub fn kept_replies()
 /// An answer that goes on from some walk makes something of what is kept.
 pub fn replies_are_kept()
     ensures { RepliesAreKept }
+{}
+
+/// The reason of a refused packet is told from what is kept, but for wrong verify data.
+pub fn kept_tells_why()
+    ensures { KeptTellsWhy }
+{}
+
+/// That verify data are alone wrong is told from what is kept.
+pub fn kept_tells_apart()
+    ensures { KeptTellsApart }
 {}
 
 /// A record under one key, number and id tells its inner message and its padding.
