@@ -86,8 +86,7 @@ module _ (w : Configuration) (q : ReqSetup) (older : List (List ℕ)) (b d : Dia
       let shown : owed_with (kept_of d) pad kept ≡ s =
       ap (λ (l : History). sent_with d.setup.psk (session_of (session_asked t.aim) l) pad kept) bare_d ∙ sent_twice d.setup.psk yours pad [] t
       ∙ ap (λ (r : ReqSetup). sent_with r.psk yours pad t) (sym alike.setup) ∙ ap (λ (x : Steps). sent_with b.setup.psk x pad t) (sym sessions)
-      ∙ sym (alike_with b.setup.psk pad (with_next None b.requester) s t both.4) ∙ same in
-      (
+      ∙ sym (alike_with b.setup.psk pad (with_next None b.requester) s t both.4) ∙ same in (
         with_next (Some (owed_with (kept_of d) pad kept)) (without_owed d),
         inr (inr (
           kept,

@@ -26,3 +26,4 @@ pub mod KeptSteps
 pub mod KeptAll
 pub mod KeptAnswers
 pub mod Refused
+pub mod KeptReasons

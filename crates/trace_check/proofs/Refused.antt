@@ -79,7 +79,7 @@ module _ (d e : Dialogue) (a : Alike d e) (none : d.sending ≡ None) where
       ∙ ap (λ (b : Bool). body_type body == 6 && owes e && b) (apart_same d e (drop 1 body) (finish_in (outstanding e.requester)) a.setup agrees) in
       sym same ∙ apart
 
-  comes_one : (g : Gathered) → ComesApart d g → ComesApart e g
+  pub comes_one : (g : Gathered) → ComesApart d g → ComesApart e g
   comes_one (Whole route body) c =
       (ap (λ (o : Option Round). asks_out_of_turn (record d { round = o }) route.owner route.tag body) (sym a.round) ∙ c.0, asks_one body c.1)
   comes_one More c = absurd c
@@ -103,7 +103,7 @@ module _ (r : RspSetup) (d e : Dialogue) (a : Alike d e) (none : d.fetching ≡ 
   either_one (Some round) answer (inl c) = inl (replies_one round answer c)
   either_one (Some round) answer (inr c) = absurd (none-some c.0 (sym none ∙ c.4))
 
-  goes_one : (g : Gathered) → GoesApart r d g → GoesApart r e g
+  pub goes_one : (g : Gathered) → GoesApart r d g → GoesApart r e g
   goes_one (Whole route body) c = (
     ap (λ (o : Option Round). replies_out_of_turn (record d { round = o }) route.owner route.tag) (sym a.round) ∙ c.0,
     subst (λ (o : Option Round). AreRepliesApart r e o body) a.round (either_one d.round body c.1),

@@ -6,7 +6,7 @@ ghost use Rattle.trace_check.specs.Going.{AsksGoOn, GoesOnFromEach, RepliesGoOn}
 ghost use Rattle.trace_check.specs.Keeping.{AsksAreKept, KeptAsks, KeptBegins, KeptIsRestored, KeptReplies, KeptStays, RepliesAreKept};
 ghost use Rattle.trace_check.specs.Laws.{OneRound, OrderIsAlone, OrderIsReason, OrderRefuses, OrderTells, SealedTells};
 ghost use Rattle.trace_check.specs.Padding.{OwedIsPadded, PaddingIsFree};
-ghost use Rattle.trace_check.specs.Refusing.{KeptTellsApart, KeptTellsWhy};
+ghost use Rattle.trace_check.specs.Refusing.{KeptTellsApart, KeptTellsReason, KeptTellsWhy};
 ghost use Rattle.trace_check.specs.Verdict.{OneVerdict};
 ghost use Rattle.trace_check.specs.Walks.{ConformsIsEach, LeadsIsEach};
 
@@ -122,6 +122,11 @@ pub fn kept_tells_why()
 /// That verify data are alone wrong is told from what is kept.
 pub fn kept_tells_apart()
     ensures { KeptTellsApart }
+{}
+
+/// What is kept of all requesters tells the reason of a refused packet.
+pub fn kept_tells_reason()
+    ensures { KeptTellsReason }
 {}
 
 /// A record under one key, number and id tells its inner message and its padding.
