@@ -27,3 +27,4 @@ pub mod KeptAll
 pub mod KeptAnswers
 pub mod Refused
 pub mod KeptReasons
+pub mod Connecting

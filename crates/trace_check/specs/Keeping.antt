@@ -1,15 +1,19 @@
 -- What is kept of one requester and the responder while no large message is under way, and which requests and answers
 -- go on from it. This project's own.
-use Rattle.std.specs.Prelude.{◌≡◌, ◌≤◌, ◌+◌, ◌⊎◌, ℕ, List, [], ◌∷◌, length, if◌then◌else◌, true, false, Option, Some, None, Ok}
+use Rattle.std.specs.Prelude.{◌≡◌, ◌≤◌, ◌+◌, ◌⊎◌, ◌↔◌, ℕ, List, [], ◌∷◌, length, if◌then◌else◌, true, false, Option, Some, None, Ok}
 use Rattle.mctp_framing.specs.Gathering.{Gathered}
 use Rattle.mctp_framing.specs.Gathering.Gathered.{Whole, More, Dropped}
 use Rattle.mctp_framing.specs.Packet.{PacketFields, parsed}
 use Rattle.requester_machine.specs.History.{History, begins_large, outstanding}
+use Rattle.requester_machine.specs.May.{IsSetUp}
 use Rattle.requester_machine.specs.Message.{Command, Sent, body_of}
 use Rattle.requester_machine.specs.Message.Command.{Connect}
 use Rattle.requester_machine.specs.Session.{session_of}
 use Rattle.requester_machine.specs.Setup.{ReqSetup}
 use Rattle.responder_machine.specs.History as responder_history
+use Rattle.spdm_grammar.specs.Message.RequestMessage.{GetVersion}
+use Rattle.spdm_grammar.specs.Requests.{canonical_request}
+use Rattle.spdm_machine.specs.Bodies.{clear_body}
 use Rattle.spdm_machine.specs.Packets.{gathered_from}
 use Rattle.trace_check.specs.Order.{is_answer, is_request}
 use Rattle.trace_check.specs.Padding.{next_with, sent_with, session_asked}
@@ -57,6 +61,11 @@ KeptStays = (w : Configuration) (q : ReqSetup) (older : List (List ℕ)) (packet
 -- GET_VERSION, in place of a message that is owed.
 abbrev pub ConnectsKept : Kept → List ℕ → History → Type 0
 ConnectsKept k body after = Tells k.setup k.requester Connect body after
+
+-- It goes on at any place, and nothing else does so in its place.
+abbrev pub ConnectsAlways : Type 0
+ConnectsAlways = (k : Kept) (body : List ℕ) → IsSetUp k.setup
+    → ((after : History) × ConnectsKept k body after) ↔ (body ≡ clear_body (canonical_request GetVersion))
 
 -- A command, where nothing is outstanding or owed.
 abbrev pub CommandsKept : Kept → List ℕ → History → Type 0

@@ -3,7 +3,7 @@
 
 ghost use Rattle.trace_check.specs.Awaits.{MoreConforms};
 ghost use Rattle.trace_check.specs.Going.{AsksGoOn, GoesOnFromEach, RepliesGoOn};
-ghost use Rattle.trace_check.specs.Keeping.{AsksAreKept, KeptAsks, KeptBegins, KeptIsRestored, KeptReplies, KeptStays, RepliesAreKept};
+ghost use Rattle.trace_check.specs.Keeping.{AsksAreKept, ConnectsAlways, KeptAsks, KeptBegins, KeptIsRestored, KeptReplies, KeptStays, RepliesAreKept};
 ghost use Rattle.trace_check.specs.Laws.{OneRound, OrderIsAlone, OrderIsReason, OrderRefuses, OrderTells, SealedTells};
 ghost use Rattle.trace_check.specs.Padding.{OwedIsPadded, PaddingIsFree};
 ghost use Rattle.trace_check.specs.Refusing.{KeptTellsApart, KeptTellsReason, KeptTellsWhy};
@@ -97,6 +97,11 @@ pub fn kept_asks()
 /// A request that goes on from some walk makes something of what is kept.
 pub fn asks_are_kept()
     ensures { AsksAreKept }
+{}
+
+/// GET_VERSION goes on from what is kept at any place.
+pub fn connects_always()
+    ensures { ConnectsAlways }
 {}
 
 /// A walk leads to what this is kept of.
