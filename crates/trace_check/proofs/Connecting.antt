@@ -7,7 +7,7 @@ use Rattle.requester_machine.specs.Commands.{Free, command_fault}
 use Rattle.requester_machine.specs.Does.{chosen}
 use Rattle.requester_machine.specs.History.{History}
 use Rattle.requester_machine.specs.History.Entry.{Told}
-use Rattle.requester_machine.specs.May.{IsSetUp}
+use Rattle.requester_machine.specs.May.{IsAllowed, IsSetUp}
 use Rattle.requester_machine.specs.Message.Command.{Connect}
 use Rattle.requester_machine.specs.Sending.{plain_sent}
 use Rattle.requester_machine.specs.Setup.{ReqSetup}
@@ -21,8 +21,16 @@ use Rattle.world_machine.specs.CapturedRequests.{Tells}
 use Rattle.world_machine.specs.Rounds.{no_draw}
 
 -- Some draw of 32 bytes.
-some_draw : Draw
+pub some_draw : Draw
 some_draw = record { number = 0; bytes = replicate 32 0 }
+
+-- Some values that are allowed.
+abbrev pub some_values : ReqSetup → History → Free
+some_values q h = chosen q h some_draw []
+
+pub some_allowed : (q : ReqSetup) (h : History) → IsSetUp q → IsAllowed q h (some_values q h)
+unfolding some_draw
+some_allowed q h set_up = allowed q h some_draw [] set_up refl (omega arith)
 
 -- No test refuses Connect.
 connects : (q : ReqSetup) (h : History) (f : Free) → asks false q h Connect f no_draw ≡ Adds (Told Connect (plain_sent h GetVersion) no_draw)
@@ -30,10 +38,9 @@ unfolding asks command_fault
 connects q h f = refl
 
 version_told : (q : ReqSetup) (h : History) → IsSetUp q → Tells q h Connect (clear_body (canonical_request GetVersion)) (Told Connect (plain_sent h GetVersion) no_draw ∷ h)
-unfolding some_draw
 version_told q h set_up = (
   plain_sent h GetVersion,
-  (chosen q h some_draw [], allowed q h some_draw [] set_up refl (omega arith), connects q h (chosen q h some_draw [])),
+  (some_values q h, some_allowed q h set_up, connects q h (some_values q h)),
   refl,
   refl,
   refl,

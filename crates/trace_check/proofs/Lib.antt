@@ -28,3 +28,4 @@ pub mod KeptAnswers
 pub mod Refused
 pub mod KeptReasons
 pub mod Connecting
+pub mod Shown

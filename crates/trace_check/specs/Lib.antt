@@ -8,3 +8,4 @@ pub mod Walks
 pub mod Padding
 pub mod Keeping
 pub mod Refusing
+pub mod Showing

@@ -7,6 +7,7 @@ ghost use Rattle.trace_check.specs.Keeping.{AsksAreKept, ConnectsAlways, KeptAsk
 ghost use Rattle.trace_check.specs.Laws.{OneRound, OrderIsAlone, OrderIsReason, OrderRefuses, OrderTells, SealedTells};
 ghost use Rattle.trace_check.specs.Padding.{OwedIsPadded, PaddingIsFree};
 ghost use Rattle.trace_check.specs.Refusing.{KeptTellsApart, KeptTellsReason, KeptTellsWhy};
+ghost use Rattle.trace_check.specs.Showing.{ClearIsShown};
 ghost use Rattle.trace_check.specs.Verdict.{OneVerdict};
 ghost use Rattle.trace_check.specs.Walks.{ConformsIsEach, LeadsIsEach};
 
@@ -102,6 +103,11 @@ pub fn asks_are_kept()
 /// GET_VERSION goes on from what is kept at any place.
 pub fn connects_always()
     ensures { ConnectsAlways }
+{}
+
+/// A command in the clear is told by its request, and by the values that this shows.
+pub fn clear_is_shown()
+    ensures { ClearIsShown }
 {}
 
 /// A walk leads to what this is kept of.
