@@ -1,5 +1,5 @@
 -- GET_VERSION goes on from what is kept at any place.
-use Rattle.std.proofs.Common.{◌≡◌, ℕ, List, [], ◌∷◌, refl, sym, subst, false, replicate, arith}
+use Rattle.std.proofs.Common.{◌≡◌, ◌≤◌, length, ℕ, List, [], ◌∷◌, refl, sym, subst, false, replicate, arith}
 use Rattle.requester_machine.proofs.Choosing.{allowed}
 use Rattle.requester_machine.specs.Asking.{asks}
 use Rattle.requester_machine.specs.Asking.Outcome.{Adds}
@@ -24,13 +24,23 @@ use Rattle.world_machine.specs.Rounds.{no_draw}
 pub some_draw : Draw
 some_draw = record { number = 0; bytes = replicate 32 0 }
 
--- Some values that are allowed.
+-- Some values that are allowed, with this padding.
+abbrev pub values_with : ReqSetup → History → (pad : List ℕ) → Free
+values_with q h pad = chosen q h some_draw pad
+
+pub with_allowed : (q : ReqSetup) (h : History) (pad : List ℕ) → IsSetUp q → length pad ≤ 16 → IsAllowed q h (values_with q h pad)
+unfolding some_draw
+with_allowed q h pad set_up few = allowed q h some_draw pad set_up refl few
+
+pub pad_with : (q : ReqSetup) (h : History) (pad : List ℕ) → (values_with q h pad).pad ≡ pad
+unfolding chosen
+pad_with q h pad = refl
+
 abbrev pub some_values : ReqSetup → History → Free
-some_values q h = chosen q h some_draw []
+some_values q h = values_with q h []
 
 pub some_allowed : (q : ReqSetup) (h : History) → IsSetUp q → IsAllowed q h (some_values q h)
-unfolding some_draw
-some_allowed q h set_up = allowed q h some_draw [] set_up refl (omega arith)
+some_allowed q h set_up = with_allowed q h [] set_up (omega arith)
 
 -- No test refuses Connect.
 connects : (q : ReqSetup) (h : History) (f : Free) → asks false q h Connect f no_draw ≡ Adds (Told Connect (plain_sent h GetVersion) no_draw)

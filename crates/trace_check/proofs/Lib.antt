@@ -29,3 +29,4 @@ pub mod Refused
 pub mod KeptReasons
 pub mod Connecting
 pub mod Shown
+pub mod ShownSealed

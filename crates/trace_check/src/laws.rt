@@ -7,7 +7,7 @@ ghost use Rattle.trace_check.specs.Keeping.{AsksAreKept, ConnectsAlways, KeptAsk
 ghost use Rattle.trace_check.specs.Laws.{OneRound, OrderIsAlone, OrderIsReason, OrderRefuses, OrderTells, SealedTells};
 ghost use Rattle.trace_check.specs.Padding.{OwedIsPadded, PaddingIsFree};
 ghost use Rattle.trace_check.specs.Refusing.{KeptTellsApart, KeptTellsReason, KeptTellsWhy};
-ghost use Rattle.trace_check.specs.Showing.{ClearIsShown};
+ghost use Rattle.trace_check.specs.Showing.{ClearIsShown, SealedIsShown};
 ghost use Rattle.trace_check.specs.Verdict.{OneVerdict};
 ghost use Rattle.trace_check.specs.Walks.{ConformsIsEach, LeadsIsEach};
 
@@ -108,6 +108,11 @@ pub fn connects_always()
 /// A command in the clear is told by its request, and by the values that this shows.
 pub fn clear_is_shown()
     ensures { ClearIsShown }
+{}
+
+/// A command in a session is told by its record.
+pub fn sealed_is_shown()
+    ensures { SealedIsShown }
 {}
 
 /// A walk leads to what this is kept of.
