@@ -1,5 +1,5 @@
 -- A walk for each requester is a walk over the packets.
-use Rattle.std.proofs.Common.{◌≡◌, ◌≢◌, ◌==◌, ◌&&◌, ◌||◌, ℕ, List, [], ◌∷◌, refl, sym, ap, ◌∙◌, subst, map, Bool, true, false, Option, Some, Result, Ok, Err, cond, eq-eqb, eqb-true}
+use Rattle.std.proofs.Common.{◌≡◌, ◌≢◌, ◌==◌, ◌&&◌, ◌||◌, ℕ, List, [], ◌∷◌, refl, sym, ap, ◌∙◌, subst, map, reverse, Bool, true, false, Option, Some, Result, Ok, Err, cond, eq-eqb, eqb-true}
 use Rattle.std.specs.List.{AllByRecursion}
 use Rattle.std.specs.Prelude.{MatchBool}
 use Rattle.std.proofs.lemmas.Bool.{false≢true}
@@ -10,7 +10,7 @@ use Rattle.spdm_basis.specs.declared.PacketFault.{PacketFault}
 use Rattle.spdm_machine.specs.Packets.{gathered_from}
 use Rattle.trace_check.specs.Judged.{AreApart}
 use Rattle.trace_check.specs.Order.{is_known}
-use Rattle.trace_check.specs.Walks.{LeadsIsEach, StepsTo, StepsBy, WalkEach, Walks, all_between, goes_between}
+use Rattle.trace_check.specs.Walks.{ConformsIsEach, HaveWalks, LeadsIsEach, StepsTo, StepsBy, WalkEach, Walks, all_between, goes_between}
 use Rattle.trace_check.proofs.PairWalks.{IsFor, Made, it_made, other_stayed, stays_in, steps_setup, to_each, walks_setup}
 use Rattle.world_machine.specs.Capture.{AsksBy, ComesFrom, Follows, FollowsBy, GoesTo, Leads, RepliesBy}
 use Rattle.world_machine.specs.Rounds.{Dialogue, dialogue_at, new_dialogue, replaced, with_dialogue}
@@ -170,3 +170,21 @@ from_each w (packet ∷ older) ds apart each all =
 
 pub leads_is_each : LeadsIsEach
 leads_is_each w older ds apart = (to_each w older ds apart, λ each. from_each w older ds apart each.0 each.1)
+
+-- ---- What conforms.
+
+have_each : (w : Configuration) (older : List (List ℕ)) (qs : List ReqSetup) (ds : List Dialogue) → WalkEach w older qs ds → HaveWalks w older qs
+have_each w older [] [] each = tt
+have_each w older (q ∷ qs) (d ∷ ds) each = ((d, each.0), have_each w older qs ds each.1)
+have_each w older [] (d ∷ ds) each = absurd each
+have_each w older (q ∷ qs) [] each = absurd each
+
+each_had : (w : Configuration) (older : List (List ℕ)) (qs : List ReqSetup) → HaveWalks w older qs → (ds : List Dialogue) × WalkEach w older qs ds
+each_had w older [] have = ([], tt)
+each_had w older (q ∷ qs) have = let rest = each_had w older qs have.1 in (have.0.0 ∷ rest.0, (have.0.1, rest.1))
+
+pub conforms_is_each : ConformsIsEach
+conforms_is_each w packets apart = (
+  λ conforms. let both = to_each w (reverse packets) conforms.0 apart conforms.1 in (have_each w (reverse packets) w.requesters conforms.0 both.0, both.1),
+  λ have. let each = each_had w (reverse packets) w.requesters have.0 in (each.0, from_each w (reverse packets) each.0 apart each.1 have.1),
+)

@@ -90,7 +90,7 @@ none_of : (o : Option (List ℕ)) → is_none o ≡ true → o ≡ None
 none_of None is = refl
 none_of (Some x) is = absurd (false≢true is)
 
-none_fetched : (o p : Option (List ℕ)) → FetchesAlike o p → p ≡ None → o ≡ None
+pub none_fetched : (o p : Option (List ℕ)) → FetchesAlike o p → p ≡ None → o ≡ None
 none_fetched _ _ NoneFetched none = refl
 none_fetched _ _ (BothFetched w v) none = absurd (none-some v (sym none))
 

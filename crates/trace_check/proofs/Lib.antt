@@ -24,3 +24,9 @@ pub mod FreePadding
 pub mod KeptParts
 pub mod KeptSteps
 pub mod KeptAll
+pub mod KeptAnswers
+pub mod Refused
+pub mod KeptReasons
+pub mod Connecting
+pub mod Shown
+pub mod ShownSealed

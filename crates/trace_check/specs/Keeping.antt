@@ -1,22 +1,26 @@
--- What is kept of one requester and the responder while no large message is under way, and which requests go on from
--- it. This project's own.
-use Rattle.std.specs.Prelude.{◌≡◌, ◌≤◌, ◌+◌, ◌⊎◌, ℕ, List, [], ◌∷◌, length, if◌then◌else◌, true, false, Option, Some, None, Ok}
+-- What is kept of one requester and the responder while no large message is under way, and which requests and answers
+-- go on from it. This project's own.
+use Rattle.std.specs.Prelude.{◌≡◌, ◌≤◌, ◌+◌, ◌⊎◌, ◌↔◌, ℕ, List, [], ◌∷◌, length, if◌then◌else◌, true, false, Option, Some, None, Ok}
 use Rattle.mctp_framing.specs.Gathering.{Gathered}
 use Rattle.mctp_framing.specs.Gathering.Gathered.{Whole, More, Dropped}
 use Rattle.mctp_framing.specs.Packet.{PacketFields, parsed}
 use Rattle.requester_machine.specs.History.{History, begins_large, outstanding}
+use Rattle.requester_machine.specs.May.{IsSetUp}
 use Rattle.requester_machine.specs.Message.{Command, Sent, body_of}
 use Rattle.requester_machine.specs.Message.Command.{Connect}
 use Rattle.requester_machine.specs.Session.{session_of}
 use Rattle.requester_machine.specs.Setup.{ReqSetup}
 use Rattle.responder_machine.specs.History as responder_history
+use Rattle.spdm_grammar.specs.Message.RequestMessage.{GetVersion}
+use Rattle.spdm_grammar.specs.Requests.{canonical_request}
+use Rattle.spdm_machine.specs.Bodies.{clear_body}
 use Rattle.spdm_machine.specs.Packets.{gathered_from}
-use Rattle.trace_check.specs.Order.{is_request}
+use Rattle.trace_check.specs.Order.{is_answer, is_request}
 use Rattle.trace_check.specs.Padding.{next_with, sent_with, session_asked}
 use Rattle.trace_check.specs.Walks.{Walks}
-use Rattle.world_machine.specs.Capture.{IsBody, may_begin}
+use Rattle.world_machine.specs.Capture.{IsBody, RepliesBy, may_begin}
 use Rattle.world_machine.specs.CapturedRequests.{Tells, owes, with_next, without_owed}
-use Rattle.world_machine.specs.Rounds.{Dialogue, Round, following_tag, new_round}
+use Rattle.world_machine.specs.Rounds.{Dialogue, Round, following_tag, new_dialogue, new_round}
 use Rattle.world_machine.specs.Setup.{Configuration}
 
 -- How the requester is set up; what it was told and took, without the message that it owes; that message, with no
@@ -42,11 +46,26 @@ kept_of d = record {
 abbrev pub Keeps : Configuration → ReqSetup → List (List ℕ) → Kept → Type 0
 Keeps w q older kept = (d : Dialogue) × Walks w q older d × (d.sending ≡ None) × (d.fetching ≡ None) × (kept ≡ kept_of d)
 
+-- Where nothing came yet.
+abbrev pub KeptBegins : Type 0
+KeptBegins = (w : Configuration) (q : ReqSetup) → Keeps w q [] (kept_of (new_dialogue q))
+
+-- A packet between two other ends leaves it.
+abbrev pub KeptStays : Type 0
+KeptStays = (w : Configuration) (q : ReqSetup) (older : List (List ℕ)) (packet : List ℕ) (p : PacketFields) (k : Kept)
+    → parsed packet ≡ Ok p → is_request w.responder.eid q.eid p ≡ false → is_answer w.responder.eid q.eid p ≡ false
+    → Keeps w q older k → Keeps w q (packet ∷ older) k
+
 -- ---- A request.
 
 -- GET_VERSION, in place of a message that is owed.
 abbrev pub ConnectsKept : Kept → List ℕ → History → Type 0
 ConnectsKept k body after = Tells k.setup k.requester Connect body after
+
+-- It goes on at any place, and nothing else does so in its place.
+abbrev pub ConnectsAlways : Type 0
+ConnectsAlways = (k : Kept) (body : List ℕ) → IsSetUp k.setup
+    → ((after : History) × ConnectsKept k body after) ↔ (body ≡ clear_body (canonical_request GetVersion))
 
 -- A command, where nothing is outstanding or owed.
 abbrev pub CommandsKept : Kept → List ℕ → History → Type 0
@@ -100,3 +119,46 @@ AsksAreKept = (w : Configuration) (q : ReqSetup) (older : List (List ℕ)) (pack
     → parsed packet ≡ Ok p → is_request w.responder.eid q.eid p ≡ true
     → Keeps w q older k → Walks w q (packet ∷ older) d → d.sending ≡ None
     → (next : Kept) × AsksKept k (gathered_from w.responder.eid q.eid older p) next
+
+-- ---- What this is kept of.
+
+-- The history with the message that is owed.
+abbrev pub owing : Option Sent → History → History
+owing None h = h
+owing (Some sent) h = with_next (Some sent) h
+
+-- What is between two ends, with no padding in a record that is owed.
+abbrev pub restored : Kept → Dialogue
+restored k = record {
+  setup = k.setup;
+  requester = owing k.owed k.requester;
+  responder = k.responder;
+  round = k.round;
+  sending = None;
+  fetching = None;
+}
+
+-- A walk leads to it, and it is what this is kept of.
+abbrev pub KeptIsRestored : Type 0
+KeptIsRestored = (w : Configuration) (q : ReqSetup) (older : List (List ℕ)) (k : Kept)
+    → Keeps w q older k → Walks w q older (restored k) × (kept_of (restored k) ≡ k)
+
+-- ---- An answer.
+
+-- What a packet for the requester makes of what is kept, where no large answer is fetched behind it.
+abbrev pub RepliesKept : Configuration → Kept → Gathered → Kept → Type 0
+RepliesKept w k g next = (d : Dialogue) × RepliesBy w (restored k) g d × (d.fetching ≡ None) × (next ≡ kept_of d)
+
+-- It is kept behind it.
+abbrev pub KeptReplies : Type 0
+KeptReplies = (w : Configuration) (q : ReqSetup) (older : List (List ℕ)) (packet : List ℕ) (p : PacketFields) (k next : Kept)
+    → parsed packet ≡ Ok p → is_request w.responder.eid q.eid p ≡ false → is_answer w.responder.eid q.eid p ≡ true
+    → Keeps w q older k → RepliesKept w k (gathered_from q.eid w.responder.eid older p) next → Keeps w q (packet ∷ older) next
+
+-- Where some walk goes on with a packet for the requester, and no large answer is fetched behind it, it makes something
+-- of what is kept.
+abbrev pub RepliesAreKept : Type 0
+RepliesAreKept = (w : Configuration) (q : ReqSetup) (older : List (List ℕ)) (packet : List ℕ) (p : PacketFields) (k : Kept) (d : Dialogue)
+    → parsed packet ≡ Ok p → is_request w.responder.eid q.eid p ≡ false → is_answer w.responder.eid q.eid p ≡ true
+    → Keeps w q older k → Walks w q (packet ∷ older) d → d.fetching ≡ None
+    → (next : Kept) × RepliesKept w k (gathered_from q.eid w.responder.eid older p) next

@@ -7,3 +7,5 @@ pub mod Going
 pub mod Walks
 pub mod Padding
 pub mod Keeping
+pub mod Refusing
+pub mod Showing

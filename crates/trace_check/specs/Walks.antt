@@ -1,13 +1,13 @@
 -- A walk over the packets of a capture is one walk for each requester, and these do not touch one another. This
 -- project's own.
-use Rattle.std.specs.Prelude.{◌≡◌, ◌↔◌, ◌==◌, ◌&&◌, ℕ, List, [], ◌∷◌, if◌then◌else◌, Bool, true, false, Result, Ok, Err, MatchBool}
+use Rattle.std.specs.Prelude.{◌≡◌, ◌↔◌, ◌==◌, ◌&&◌, ℕ, List, [], ◌∷◌, reverse, if◌then◌else◌, Bool, true, false, Result, Ok, Err, MatchBool}
 use Rattle.mctp_framing.specs.Packet.{PacketFields, parsed}
 use Rattle.requester_machine.specs.Setup.{ReqSetup}
 use Rattle.spdm_basis.specs.declared.PacketFault.{PacketFault}
 use Rattle.spdm_machine.specs.Packets.{gathered_from}
 use Rattle.trace_check.specs.Judged.{AreApart}
 use Rattle.trace_check.specs.Order.{is_answer, is_known, is_request}
-use Rattle.world_machine.specs.Capture.{AsksBy, Leads, RepliesBy}
+use Rattle.world_machine.specs.Capture.{AsksBy, Conforms, Leads, RepliesBy}
 use Rattle.world_machine.specs.Rounds.{Dialogue, new_dialogue}
 use Rattle.world_machine.specs.Setup.{Configuration}
 
@@ -56,3 +56,14 @@ all_between w (packet ∷ older) = goes_between w (parsed packet) && all_between
 abbrev pub LeadsIsEach : Type 0
 LeadsIsEach = (w : Configuration) (older : List (List ℕ)) (ds : List Dialogue) → AreApart w.responder.eid w.requesters
     → Leads w older ds ↔ (WalkEach w older w.requesters ds × (all_between w older ≡ true))
+
+-- Each of these requesters has a walk over the packets.
+abbrev pub HaveWalks : Configuration → List (List ℕ) → List ReqSetup → Type 0
+HaveWalks w older [] = Unit {0}
+HaveWalks w older (q ∷ qs) = ((d : Dialogue) × Walks w q older d) × HaveWalks w older qs
+
+-- So packets, in order, conform where they all go between the responder and a requester, and each requester has a walk
+-- over them.
+abbrev pub ConformsIsEach : Type 0
+ConformsIsEach = (w : Configuration) (packets : List (List ℕ)) → AreApart w.responder.eid w.requesters
+    → Conforms w packets ↔ (HaveWalks w (reverse packets) w.requesters × (all_between w (reverse packets) ≡ true))

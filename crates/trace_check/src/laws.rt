@@ -3,11 +3,13 @@
 
 ghost use Rattle.trace_check.specs.Awaits.{MoreConforms};
 ghost use Rattle.trace_check.specs.Going.{AsksGoOn, GoesOnFromEach, RepliesGoOn};
-ghost use Rattle.trace_check.specs.Keeping.{AsksAreKept, KeptAsks};
+ghost use Rattle.trace_check.specs.Keeping.{AsksAreKept, ConnectsAlways, KeptAsks, KeptBegins, KeptIsRestored, KeptReplies, KeptStays, RepliesAreKept};
 ghost use Rattle.trace_check.specs.Laws.{OneRound, OrderIsAlone, OrderIsReason, OrderRefuses, OrderTells, SealedTells};
 ghost use Rattle.trace_check.specs.Padding.{OwedIsPadded, PaddingIsFree};
+ghost use Rattle.trace_check.specs.Refusing.{KeptTellsApart, KeptTellsReason, KeptTellsWhy};
+ghost use Rattle.trace_check.specs.Showing.{ClearIsShown, SealedIsShown};
 ghost use Rattle.trace_check.specs.Verdict.{OneVerdict};
-ghost use Rattle.trace_check.specs.Walks.{LeadsIsEach};
+ghost use Rattle.trace_check.specs.Walks.{ConformsIsEach, LeadsIsEach};
 
 use world_machine::{beginning_conforms, conforming_has_table, one_reason, one_table};
 
@@ -63,6 +65,11 @@ pub fn leads_is_each()
     ensures { LeadsIsEach }
 {}
 
+/// Packets conform where all go between two ends that are set up, and each requester has a walk.
+pub fn conforms_is_each()
+    ensures { ConformsIsEach }
+{}
+
 /// A message that is owed is what it would be with some padding.
 pub fn owed_is_padded()
     ensures { OwedIsPadded }
@@ -73,6 +80,16 @@ pub fn padding_is_free()
     ensures { PaddingIsFree }
 {}
 
+/// What is kept where nothing came yet.
+pub fn kept_begins()
+    ensures { KeptBegins }
+{}
+
+/// A packet between two other ends leaves what is kept.
+pub fn kept_stays()
+    ensures { KeptStays }
+{}
+
 /// What a request makes of what is kept, is kept behind it.
 pub fn kept_asks()
     ensures { KeptAsks }
@@ -81,6 +98,51 @@ pub fn kept_asks()
 /// A request that goes on from some walk makes something of what is kept.
 pub fn asks_are_kept()
     ensures { AsksAreKept }
+{}
+
+/// GET_VERSION goes on from what is kept at any place.
+pub fn connects_always()
+    ensures { ConnectsAlways }
+{}
+
+/// A command in the clear is told by its request, and by the values that this shows.
+pub fn clear_is_shown()
+    ensures { ClearIsShown }
+{}
+
+/// A command in a session is told by its record.
+pub fn sealed_is_shown()
+    ensures { SealedIsShown }
+{}
+
+/// A walk leads to what this is kept of.
+pub fn kept_is_restored()
+    ensures { KeptIsRestored }
+{}
+
+/// What an answer makes of what is kept, is kept behind it.
+pub fn kept_replies()
+    ensures { KeptReplies }
+{}
+
+/// An answer that goes on from some walk makes something of what is kept.
+pub fn replies_are_kept()
+    ensures { RepliesAreKept }
+{}
+
+/// The reason of a refused packet is told from what is kept, but for wrong verify data.
+pub fn kept_tells_why()
+    ensures { KeptTellsWhy }
+{}
+
+/// That verify data are alone wrong is told from what is kept.
+pub fn kept_tells_apart()
+    ensures { KeptTellsApart }
+{}
+
+/// What is kept of all requesters tells the reason of a refused packet.
+pub fn kept_tells_reason()
+    ensures { KeptTellsReason }
 {}
 
 /// A record under one key, number and id tells its inner message and its padding.
