@@ -1,6 +1,9 @@
 //! The block cipher AES (FIPS 197) for keys of 16 and 32 bytes, in the direction that Galois/Counter Mode
 //! takes, by tables of rounds. No call takes memory. Nothing here is claimed to take the same time for all
 //! keys and blocks.
+//!
+//! Read first: `cipher` in `specs/Cipher.antt`, a block encrypted by FIPS 197, step by step. The
+//! call is `Aes::encrypt`, equal to it.
 #![tactic(auto)]
 
 mod begun;

@@ -1,6 +1,9 @@
 //! Authenticated encryption by AES in Galois/Counter Mode (SP 800-38D) with keys of 16 and 32 bytes, as
 //! DSP0277 uses it. Texts are encrypted and decrypted in place, and no call takes memory. Nothing here is
 //! claimed to take the same time for all keys and texts.
+//!
+//! Read first: `crypted` in `specs/Gcm.antt`, a text under a key and nonce, with `tag_of` beside
+//! it. Calls are `seal` and `open` of `Aes128Gcm` and `Aes256Gcm`.
 #![tactic(auto)]
 
 mod bad_tag;

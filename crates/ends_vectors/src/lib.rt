@@ -1,5 +1,7 @@
 //! A requester and a responder that are given each other's packets, beside the packets of another
 //! program. There is nothing here but tests.
+//!
+//! Read first: `rows_are_told_as_by_another_program` in `src/row_tests.rt`.
 #![tactic(auto)]
 
 #[cfg(test)]

@@ -1,4 +1,7 @@
 //! Streams of frames behind a text: what the commands share that read packets from a stream.
+//!
+//! Read first: `IsFrame` in `specs/Frames.antt`, the bytes of a frame. The call is
+//! `FrameReader::next`.
 #![tactic(auto)]
 
 mod ahead;

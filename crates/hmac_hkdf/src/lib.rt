@@ -1,5 +1,8 @@
 //! HMAC (RFC 2104) and HKDF (RFC 5869) over SHA-256 and SHA-384, and the stream of draws that an end
 //! takes its random bytes from. No call takes memory.
+//!
+//! Read first: `expand` in `specs/Hkdf.antt`, the output of HKDF. Calls are `hmac`, `expand` and
+//! `DrawStream::advance`.
 #![tactic(auto)]
 
 mod draws;

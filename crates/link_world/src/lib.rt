@@ -1,5 +1,8 @@
 //! A link between a responder and its requesters: the ends, and the packets that were sent between
 //! them.
+//!
+//! Read first: `StandsFor` in `specs/Worlds.antt`, which world of definitions a world of the
+//! program stands for. The call is `World::step`.
 #![tactic(auto)]
 
 mod ends;

@@ -1,6 +1,9 @@
 //! A session under a pre-shared key at the requester (DSP0274, "Session"; DSP0277), as states that
 //! a call takes and gives back: what may not be done in a state is no call of it. Behind its
 //! handshake it can be stepped in place, so that nothing large moves. No call takes memory.
+//!
+//! Read first: `Course` in `specs/Course.antt`, what a session did so far. The call to begin with
+//! is `Opening::start`.
 #![tactic(auto)]
 
 mod answering;

@@ -1,5 +1,7 @@
 //! Sessions of a requester beside values that were computed outside this repository. There is
 //! nothing here but tests.
+//!
+//! Read first: `psk_exchange_opens_handshake` in `src/tests.rt`.
 #![tactic(auto)]
 
 #[cfg(test)]

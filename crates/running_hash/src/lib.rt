@@ -1,5 +1,8 @@
 //! A hash function that is chosen when the program runs: SHA-256 or SHA-384 (FIPS 180-4), taken piece
 //! by piece without memory of its own.
+//!
+//! Read first: `hash_of` in `specs/Hash.antt`, a hash of a list of bytes. The call is
+//! `RunningHash::push`.
 #![tactic(auto)]
 
 ghost use Rattle.std.specs.Prelude.{◌≡◌, length};

@@ -7,6 +7,9 @@
 //! they are proved: what the ends do is counted out of their histories as marks, and each step of
 //! theirs is made of a few moves with guards. Those hold for any functions that seal records, make
 //! tags and read numbers off transcripts.
+//!
+//! Read first: `InEachWorld` in `specs/Worlds.antt`, what is said of each world, `Agreement` of
+//! `world_machine` first. The law to read first is `agreement`.
 #![tactic(auto)]
 
 mod laws;

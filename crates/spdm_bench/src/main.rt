@@ -1,6 +1,9 @@
 //! The program `spdm_bench`: it seals or authenticates many messages, or has a session send and
 //! answer them, so that the time that this takes can be measured from outside. It tells no time
 //! itself.
+//!
+//! Read first: `kind_named` in `specs/Words.antt`, the work that a word asks for. The call is
+//! `Work::of`.
 #![tactic(auto)]
 
 mod answer;

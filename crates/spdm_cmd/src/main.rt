@@ -1,4 +1,6 @@
 //! The command `spdm`: it runs requesters and a responder over a scripted link, and writes their trace.
+//!
+//! Read first: `answer_to` in `specs/Answer.antt`, what the command answers. The call is `spdm`.
 #![tactic(auto)]
 
 #[cfg(test)]

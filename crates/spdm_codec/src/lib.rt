@@ -1,6 +1,9 @@
 //! Reading and writing of the messages of `spdm_grammar`, exactly: a reader answers the value that
 //! the whole input spells, or its first fault, and a writer writes the canonical spelling. No call
 //! takes memory.
+//!
+//! Read first: `Gives` in `specs/Answer.antt`, when a reader answers what the definitions read.
+//! Calls are `read_request` and `write_request`.
 #![tactic(auto)]
 
 mod algorithms;

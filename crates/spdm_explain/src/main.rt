@@ -1,5 +1,7 @@
 //! The program `spdm_explain`: it reads a text from standard input and tells whether it is good, or its
 //! first bad line with a sentence of help.
+//!
+//! Read first: `report_of` in `specs/Report.antt`, what is told of a text. The call is `explain`.
 #![tactic(auto)]
 
 mod form;

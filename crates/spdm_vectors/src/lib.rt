@@ -1,5 +1,7 @@
-//! Vectors from published standards, and values computed outside this repository, for the crates below.
-//! There is nothing here but tests.
+//! Vectors from published standards, and values computed outside this repository, for the crates
+//! below. There is nothing here but tests.
+//!
+//! Read first: `record_of_each_suite` in `src/record_tests.rt`.
 #![tactic(auto)]
 
 #[cfg(test)]

@@ -1,5 +1,8 @@
 //! What a capture shows, judged against what the two ends may have sent: so far the order of its
 //! packets.
+//!
+//! Read first: `IsVerdict` in `specs/Verdict.antt`, what the verdict on a capture is. The call is
+//! `Order::take`.
 #![tactic(auto)]
 
 mod brought;
