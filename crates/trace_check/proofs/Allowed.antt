@@ -6,11 +6,10 @@ use Rattle.requester_machine.specs.Commands.{Free, live_count}
 use Rattle.requester_machine.specs.History.{History, Effect, Entry, connection_terms, negotiation_after, negotiation_of}
 use Rattle.requester_machine.specs.History.Entry.{Told, TookClear, TookRecord}
 use Rattle.requester_machine.specs.May.{IsAllowed}
-use Rattle.requester_machine.specs.Message.{Aim, Ask, Content, Sent}
-use Rattle.requester_machine.specs.Message.Aim.{Plain, ByChunks, ForChunk, InSession}
-use Rattle.requester_machine.specs.Message.Content.{Clear, Sealed}
-use Rattle.requester_machine.specs.Session.{Steps, after_clear, after_record, is_live, session_of, with_aim, with_content, with_sent}
+use Rattle.requester_machine.specs.Message.{Sent}
+use Rattle.requester_machine.specs.Session.{Steps, after_clear, after_record, is_live, session_of, with_sent}
 use Rattle.requester_machine.specs.Setup.{ReqSetup}
+use Rattle.requester_machine.proofs.Ids.{with_sent-live}
 use Rattle.world_machine.proofs.Agrees.{Agree}
 use Rattle.world_machine.proofs.AsksAlike.{terms_same}
 use Rattle.world_machine.proofs.HearsAlike.{EntryAlike}
@@ -42,38 +41,17 @@ allowed_same q h g f e allowed = record {
 pub agree_equals : (h g : History) → Agree h g → Equals h g
 agree_equals h g a = record { terms = terms_same h g a; live = λ id. ap is_live (a.sessions id) }
 
--- ---- A message that is sent makes no session live, and ends none.
-
-content_lives : (ask : Ask) (content : Content) (s : Steps) → is_live (with_content ask content s) ≡ is_live s
-content_lives ask (Clear message) s = refl
-content_lives ask (Sealed sealed inner pad) [] = refl
-content_lives ask (Sealed sealed inner pad) (x ∷ s) = refl
-
-either_lives : (b : Bool) (s t : Steps) → is_live s ≡ is_live t → is_live (cond b s t) ≡ is_live t
-either_lives true s t same = same
-either_lives false s t same = refl
-
-aim_lives : (id : ℕ) (aim : Aim) (content : Content) (s : Steps) → is_live (with_aim id aim content s) ≡ is_live s
-aim_lives id (Plain asked) content s = refl
-aim_lives id (ByChunks asked handle number) content s = refl
-aim_lives id (ForChunk asked handle number before) content s = refl
-aim_lives id (InSession of ask) content s = either_lives (of == id) (with_content ask content s) s (content_lives ask content s)
-
-sent_lives : (id : ℕ) (o : Option Sent) (s : Steps) → is_live (with_sent id o s) ≡ is_live s
-sent_lives id None s = refl
-sent_lives id (Some sent) s = aim_lives id sent.aim sent.content s
-
 -- ---- Entries that differ at most in the padding of what is sent next.
 
 pub clear_lives : (id : ℕ) (o p : Option Sent) (effect other : Effect) (s t : Steps) → effect ≡ other → s ≡ t → is_live (with_sent id o (after_clear id effect s)) ≡ is_live (with_sent id p (after_clear id other t))
 clear_lives id o p effect other s t same steps =
-    sent_lives id o (after_clear id effect s) ∙ ap (λ e. is_live (after_clear id e s)) same ∙ ap (λ (x : Steps). is_live (after_clear id other x)) steps ∙ sym (sent_lives id p (after_clear id other t))
+    with_sent-live id o (after_clear id effect s) ∙ ap (λ e. is_live (after_clear id e s)) same ∙ ap (λ (x : Steps). is_live (after_clear id other x)) steps ∙ sym (with_sent-live id p (after_clear id other t))
 
 pub record_lives : (id : ℕ) (b : Bool) (sealed inner : List ℕ) (o p : Option Sent) (effect other : Effect) (s t : Steps) → effect ≡ other → s ≡ t
     → is_live (cond b (with_sent id o (after_record sealed inner effect s)) s) ≡ is_live (cond b (with_sent id p (after_record sealed inner other t)) t)
 record_lives id true sealed inner o p effect other s t same steps =
-    sent_lives id o (after_record sealed inner effect s) ∙ ap (λ e. is_live (after_record sealed inner e s)) same ∙ ap (λ (x : Steps). is_live (after_record sealed inner other x)) steps
-    ∙ sym (sent_lives id p (after_record sealed inner other t))
+    with_sent-live id o (after_record sealed inner effect s) ∙ ap (λ e. is_live (after_record sealed inner e s)) same ∙ ap (λ (x : Steps). is_live (after_record sealed inner other x)) steps
+    ∙ sym (with_sent-live id p (after_record sealed inner other t))
 record_lives id false sealed inner o p effect other s t same steps = ap is_live steps
 
 pub entry_equals : (e f : Entry) (h g : History) → EntryAlike e f → Agree h g → Equals (e ∷ h) (f ∷ g)

@@ -1,6 +1,5 @@
 -- An answer that goes on from one of two alike dialogues goes on from the other.
 use Rattle.std.proofs.Common.{◌≡◌, ◌+◌, ◌-◌, ℕ, List, ◌∷◌, refl, sym, ◌∙◌, subst, drop, true, false, Option, Some, None}
-use Rattle.std.proofs.lemmas.Option.{none-some}
 use Rattle.mctp_framing.specs.Gathering.{Gathered}
 use Rattle.mctp_framing.specs.Gathering.Gathered.{Whole, More, Dropped}
 use Rattle.requester_machine.specs.Commands.{Free}
@@ -17,11 +16,11 @@ use Rattle.world_machine.specs.LargeAnswers.{while_fetched}
 use Rattle.world_machine.specs.LargeRequests.{with_ack}
 use Rattle.world_machine.specs.Rounds.{Dialogue, Round, no_draw}
 use Rattle.world_machine.specs.Setup.{Configuration, known_of}
-use Rattle.world_machine.proofs.Alike.{Alike, FetchesAlike}
-use Rattle.world_machine.proofs.Alike.FetchesAlike.{NoneFetched, BothFetched}
+use Rattle.world_machine.proofs.Alike.{Alike}
 use Rattle.world_machine.proofs.AskersAlike.{AskersAlike, acked}
 use Rattle.world_machine.proofs.AskersAlike.AskersAlike.{Settled, Owing, Shown, Due}
 use Rattle.world_machine.proofs.AskersBegin.{dial}
+use Rattle.world_machine.proofs.RepliesAlike.{none_fetched}
 use Rattle.trace_check.proofs.Allowed.{Equals, agree_equals, allowed_same, entry_equals}
 
 -- ---- The requester's side.
@@ -51,10 +50,6 @@ answers_on r d e round answer next fetching same fetch one =
     let H : responder_history.History → Type 0 = λ h. Answers r (dial d.setup d.requester h d.round d.sending d.fetching) round answer next fetching in
     let F : Option (List ℕ) → Type 0 = λ o. Answers r (dial e.setup e.requester e.responder e.round e.sending o) round answer next fetching in
     subst F fetch (subst H same one)
-
-none_fetched : (o p : Option (List ℕ)) → FetchesAlike o p → o ≡ None → p ≡ None
-none_fetched _ _ NoneFetched none = refl
-none_fetched _ _ (BothFetched w v) none = absurd (none-some w (sym none))
 
 -- ---- Both sides.
 

@@ -14,7 +14,8 @@ use Rattle.responder_machine.specs.Setup.{towards}
 use Rattle.spdm_basis.specs.declared.PacketFault.{PacketFault}
 use Rattle.spdm_machine.specs.Packets.{gathered_from}
 use Rattle.trace_check.proofs.AnsweredOn.{answers_on}
-use Rattle.trace_check.proofs.OneWalk.{begun_later, later_round, walks_alike}
+use Rattle.trace_check.proofs.OneWalk.{begun_later, walks_alike}
+use Rattle.world_machine.proofs.AskersHear.{later_round}
 use Rattle.trace_check.proofs.Repadding.{Paddable, clear_same, fetch_same, owing_hears, repadded, settled_pads}
 use Rattle.trace_check.specs.Order.{is_answer, is_request}
 use Rattle.trace_check.specs.Padding.{OwedIsPadded, PaddingIsFree, with_padding}

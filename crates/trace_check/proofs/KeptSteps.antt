@@ -16,7 +16,8 @@ use Rattle.spdm_basis.specs.declared.PacketFault.{PacketFault}
 use Rattle.spdm_machine.specs.Packets.{gathered_from}
 use Rattle.trace_check.proofs.FreePadding.{padding_is_free}
 use Rattle.trace_check.proofs.KeptParts.{it_owes, kept_by, kept_is, next_twice, none_owed, not_owed, owed_is, sent_twice}
-use Rattle.trace_check.proofs.OneWalk.{later_round, not_later, told_later, walks_alike}
+use Rattle.trace_check.proofs.OneWalk.{not_later, told_later, walks_alike}
+use Rattle.world_machine.proofs.AskersHear.{later_round}
 use Rattle.trace_check.proofs.PairWalks.{IsFor, of_it}
 use Rattle.trace_check.specs.Keeping.{AsksKept, BeginsKept, CommandsKept, ConnectsKept, CopiesKept, GoesOnKept, Keeps, Kept, KeptAsks, SendsKept, kept_of, owed_with}
 use Rattle.trace_check.specs.Order.{is_request}

@@ -23,10 +23,6 @@ use Rattle.world_machine.specs.CapturedRequests.{BeginsLarge, BeginsOwed, GoesOn
 use Rattle.world_machine.specs.Rounds.{Dialogue, Round, following_tag, new_round, no_draw}
 use Rattle.world_machine.specs.Setup.{Configuration}
 
-pub later_round : (rd other : Round) (o : Option Sent) → rd.tag ≡ other.tag → is_later (Some rd) o ≡ is_later (Some other) o
-later_round rd other None same = refl
-later_round rd other (Some s) same = ap (λ (n : ℕ). not (s.tag == n)) same
-
 -- ---- Alike.
 
 step_alike : (w : Configuration) (eid : ℕ) (older : List (List ℕ)) (b c d e : Dialogue) (r : Result PacketFields PacketFault) → BothAlike b c → StepsBy w eid older b d r → StepsBy w eid older c e r → BothAlike d e

@@ -7,6 +7,7 @@ use Rattle.std.proofs.lemmas.Option.{none-some, same_Some}
 use Rattle.mctp_framing.specs.Packet.{PacketFields, parsed}
 use Rattle.requester_machine.specs.Setup.{ReqSetup}
 use Rattle.spdm_basis.specs.declared.PacketFault.{PacketFault}
+use Rattle.spdm_grammar.proofs.Spelled.{both}
 use Rattle.spdm_machine.specs.Packets.{gathered_from}
 use Rattle.trace_check.specs.Judged.{AreApart}
 use Rattle.trace_check.specs.Order.{is_answer, is_known, is_request}
@@ -199,13 +200,10 @@ new_each : (w : Configuration) (qs : List ReqSetup) → WalkEach w [] qs (map ne
 new_each w [] = tt
 new_each w (q ∷ qs) = (refl, new_each w qs)
 
-pub both_true : (a b : Bool) → a ≡ true → b ≡ true → (a && b) ≡ true
-both_true a b is are = ap (λ (x : Bool). x && b) is ∙ are
-
 pub to_each : (w : Configuration) (older : List (List ℕ)) (ds : List Dialogue) → AreApart w.responder.eid w.requesters → Leads w older ds → WalkEach w older w.requesters ds × (all_between w older ≡ true)
 unfolding Follows
 to_each w [] ds apart leads = (subst (WalkEach w [] w.requesters) (sym leads) (new_each w w.requesters), refl)
 to_each w (packet ∷ older) ds apart leads =
     let before = to_each w older leads.0 apart leads.1 in
     let next = follows_each w older packet leads.0 ds (parsed packet) apart refl before.0 leads.2 in
-    (next.0, both_true (goes_between w (parsed packet)) (all_between w older) next.1 before.1)
+    (next.0, both next.1 before.1)

@@ -36,7 +36,7 @@ pub later_tag : (round : Option Round) (s t : Sent) → s.tag ≡ t.tag → is_l
 later_tag None s t same = refl
 later_tag (Some round) s t same = ap (λ (n : ℕ). not (n == round.tag)) same
 
-later_round : (rd other : Round) (o : Option Sent) → rd.tag ≡ other.tag → is_later (Some rd) o ≡ is_later (Some other) o
+pub later_round : (rd other : Round) (o : Option Sent) → rd.tag ≡ other.tag → is_later (Some rd) o ≡ is_later (Some other) o
 later_round rd other None same = refl
 later_round rd other (Some s) same = ap (λ (n : ℕ). not (s.tag == n)) same
 

@@ -118,7 +118,7 @@ while_alike false false x y same alike = NoneFetched
 while_alike true false x y same alike = absurd (false≢true (sym same))
 while_alike false true x y same alike = absurd (false≢true same)
 
-none_fetched : (o p : Option (List ℕ)) → FetchesAlike o p → o ≡ None → p ≡ None
+pub none_fetched : (o p : Option (List ℕ)) → FetchesAlike o p → o ≡ None → p ≡ None
 none_fetched _ _ NoneFetched none = refl
 none_fetched _ _ (BothFetched w v) none = absurd (none-some w (sym none))
 
