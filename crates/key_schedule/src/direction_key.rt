@@ -69,6 +69,18 @@ impl DirectionKey {
         }
     }
 
+    /// The same key once more, derived again from its secret.
+    pub fn copied(&self) -> DirectionKey
+        ensures { result ≡ self.now }
+    {
+        DirectionKey::of_secret(
+            self.hash,
+            self.aead,
+            self.secret.clone().unwrap(),
+            self.epoch,
+        )
+    }
+
     /// The key that follows by a key update (DSP0274, "KEY_UPDATE"), with the next epoch. The
     /// caller's epoch is below 2^64 - 1.
     pub fn next(mut self) -> DirectionKey

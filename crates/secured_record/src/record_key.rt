@@ -45,6 +45,13 @@ impl RecordKey {
         RecordKey { direction, cipher }
     }
 
+    /// The same key once more, with its cipher set up anew.
+    pub fn copied(&self) -> RecordKey
+        ensures { result ≡ self.now }
+    {
+        RecordKey::new(self.direction.copied())
+    }
+
     /// The key that follows by a key update (DSP0274, "KEY_UPDATE"), with the next epoch. The
     /// caller's epoch is below 2^64 - 1.
     pub fn next(mut self) -> RecordKey
