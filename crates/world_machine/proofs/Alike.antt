@@ -14,7 +14,7 @@ use Rattle.world_machine.specs.Difference.{Why, comes_why, goes_why, request_why
 use Rattle.world_machine.specs.Difference.Why.{BadPacket, WrongTurn, BadRequest, BadRecord}
 use Rattle.world_machine.specs.Opening.{session_named, opens_asking}
 use Rattle.world_machine.specs.Rounds.{Dialogue, Round, new_dialogue, new_round, following_tag}
-use Rattle.world_machine.specs.SessionTable.{Row, accepted_in, accepted_between, request_by, request_between, is_of, is_new, rows_between, row_after, new_row, with_responder, with_requester, has_begun, with_option, is_named}
+use Rattle.world_machine.specs.SessionTable.{Row, accepted_in, accepted_between, request_by, request_between, is_of, is_new, rows_between, row_after, new_row, with_responder, with_requester, has_begun, with_one, is_named}
 use Rattle.spdm_machine.specs.Packets.{body_type}
 use Rattle.world_machine.proofs.Agrees.{agree_empty}
 use Rattle.world_machine.proofs.AskersAlike.{AskersAlike}
@@ -140,8 +140,8 @@ request_alike d e next other (Some id) a b = request_by_alike d e next other id 
 
 requester_alike : (d e next other : Dialogue) (row : Row) → Alike d e → Alike next other → with_requester d next row ≡ with_requester e other row
 requester_alike d e next other row a b =
-    ap (λ (o : Option ℕ). record row { asks_as = cond (is_named row.asks_as o) None row.asks_as; sent = with_option (request_between d next row.asks_as) row.sent }) (accepted_alike d e next other a b)
-    ∙ ap (λ (o : Option (List ℕ)). record row { asks_as = cond (is_named row.asks_as (accepted_between e other)) None row.asks_as; sent = with_option o row.sent }) (request_alike d e next other row.asks_as a b)
+    ap (λ (o : Option ℕ). record row { asks_as = cond (is_named row.asks_as o) None row.asks_as; sent = with_one (request_between d next row.asks_as) row.sent }) (accepted_alike d e next other a b)
+    ∙ ap (λ (o : Option (List ℕ)). record row { asks_as = cond (is_named row.asks_as (accepted_between e other)) None row.asks_as; sent = with_one o row.sent }) (request_alike d e next other row.asks_as a b)
 
 responder_alike : (d e next other : Dialogue) (row : Row) → Alike d e → Alike next other → with_responder d next row ≡ with_responder e other row
 responder_alike d e next other row a b =

@@ -1,5 +1,5 @@
 -- The sessions that a conforming capture shows. This project's own.
-use Rattle.std.specs.Prelude.{◌≡◌, ◌+◌, ◌==◌, ◌&&◌, ◌||◌, not, nat_lt, ℕ, List, [], ◌∷◌, map, reverse, length, if◌then◌else◌, Bool, true, false, Option, Some, None, bytes_eq}
+use Rattle.std.specs.Prelude.{◌≡◌, ◌+◌, ◌==◌, ◌&&◌, ◌||◌, not, nat_lt, ℕ, List, [], ◌∷◌, map, reverse, length, if◌then◌else◌, Bool, true, false, Option, Some, None}
 use Rattle.requester_machine.specs.History as requester_history
 use Rattle.requester_machine.specs.History.Effect.{Answers}
 use Rattle.requester_machine.specs.History.Entry.{TookClear}
@@ -22,27 +22,20 @@ use Rattle.spdm_grammar.specs.declared.names.request_code.TheConstants.{PSK_EXCH
 
 -- A session that a PSK_EXCHANGE_RSP began: the end point of its requester; its own history at the responder, as it
 -- last was, and whether it is live there; its ReqSessionID, where the requester took that answer, and until a later
--- session has the id; the different records of it in requests, and those in answers.
+-- session has the id; how many records of it began rounds, and how many answered records that were taken. Each of these
+-- was sealed under another key or number than all before it; a copy begins no round, and a record that comes again is
+-- not taken.
 pub record Row : Type 0 where
   pub eid : ℕ
   pub events : Events
   pub live : Bool
   pub asks_as : Option ℕ
-  pub sent : List (List ℕ)
-  pub answered : List (List ℕ)
+  pub sent : ℕ
+  pub answered : ℕ
 
 -- The RspSessionID of a row's session.
 abbrev pub responder_id : Row → ℕ
 responder_id row = id_in_exchange (exchange_answer row.events)
-
--- The record is among these.
-abbrev pub is_among : List ℕ → List (List ℕ) → Bool
-is_among sealed [] = false
-is_among sealed (other ∷ others) = bytes_eq sealed other || is_among sealed others
-
--- The records with this one, which is added where it is not among them yet.
-abbrev pub with_record : List ℕ → List (List ℕ) → List (List ℕ)
-with_record sealed others = if is_among sealed others then others else sealed ∷ others
 
 -- ---- What happened between two moments of a dialogue, one packet apart.
 
@@ -120,10 +113,10 @@ abbrev pub is_named : Option ℕ → Option ℕ → Bool
 is_named (Some id) (Some other) = id == other
 is_named _ _ = false
 
--- The records with another one, if there is one.
-abbrev pub with_option : Option (List ℕ) → List (List ℕ) → List (List ℕ)
-with_option None others = others
-with_option (Some sealed) others = with_record sealed others
+-- One more, if there is another record.
+abbrev pub with_one : Option (List ℕ) → ℕ → ℕ
+with_one None count = count
+with_one (Some sealed) count = count + 1
 
 -- That request for the ReqSessionID of a row, if the row still has one.
 abbrev pub request_between : Dialogue → Dialogue → Option ℕ → Option (List ℕ)
@@ -139,7 +132,7 @@ with_events before after row =
 -- At the responder: a live row goes on and gets the record that answered it; any other stays as it is.
 abbrev pub with_responder : Dialogue → Dialogue → Row → Row
 with_responder before after row =
-    if row.live then record (with_events before after row) { answered = with_option (reply_between before after (responder_id row)) row.answered }
+    if row.live then record (with_events before after row) { answered = with_one (reply_between before after (responder_id row)) row.answered }
     else row
 
 -- At the requester: a row loses its ReqSessionID to a session accepted later under it, and gets the record of
@@ -148,7 +141,7 @@ abbrev pub with_requester : Dialogue → Dialogue → Row → Row
 with_requester before after row =
     record row {
       asks_as = if is_named row.asks_as (accepted_between before after) then None else row.asks_as;
-      sent = with_option (request_between before after row.asks_as) row.sent;
+      sent = with_one (request_between before after row.asks_as) row.sent;
     }
 
 -- A row of this requester changes at both ends; a row of another stays as it is.
@@ -163,8 +156,8 @@ new_row before after = record {
   events = session_of (last_begun after.responder) after.responder;
   live = true;
   asks_as = accepted_between before after;
-  sent = [];
-  answered = [];
+  sent = 0;
+  answered = 0;
 }
 
 -- The rows after two moments, with a new one in front where a session was begun.
@@ -212,8 +205,8 @@ seen w row = record {
   id = (view_of row.events).id;
   stage = if row.live then Some (view_of row.events).stage else None;
   hash = (view_of row.events).hash;
-  sent = length row.sent;
-  answered = length row.answered;
+  sent = row.sent;
+  answered = row.answered;
 }
 
 -- Packets, in order, conform and have this table: its entries stand in the order in which PSK_EXCHANGE_RSP came.
