@@ -10,3 +10,4 @@ pub mod Chunks
 pub mod Taking
 pub mod Entries
 pub mod Standings
+pub mod OwnSealed

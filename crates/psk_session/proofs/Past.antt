@@ -50,7 +50,7 @@ sealed_kept kept psk s epoch number inner pad out k is e =
     ∙ ap (λ (n : ℕ). sealed_of choice (purpose_in (stage_of s) psk (t1_of s) (t2_of s) Request (request_epoch s)) n (session_id_bytes kept.id.req kept.id.rsp) inner pad) is
     ∙ ap (λ (i : SessionId). sealed_of choice (purpose_in (stage_of s) psk (t1_of s) (t2_of s) Request (request_epoch s)) (request_next s) (session_id_bytes i.req i.rsp) inner pad) k.id
 
-t2_asked : (w : Awaited) (before : List ChunkMessage) (s : Steps) (inner sealed : List ℕ) → t2_of (Asked (awaited_by w before) inner sealed ∷ s) ≡ t2_of s
+pub t2_asked : (w : Awaited) (before : List ChunkMessage) (s : Steps) (inner sealed : List ℕ) → t2_of (Asked (awaited_by w before) inner sealed ∷ s) ≡ t2_of s
 t2_asked awaited.Data before s inner sealed = refl
 t2_asked awaited.Beat before s inner sealed = refl
 t2_asked (awaited.Update all) before s inner sealed = refl

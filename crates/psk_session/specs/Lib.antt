@@ -19,3 +19,4 @@ pub mod TookLaws
 pub mod ReqSession
 pub mod Stepped
 pub mod Collected
+pub mod OwnRecords

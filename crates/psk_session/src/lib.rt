@@ -20,6 +20,7 @@ mod laws;
 mod open_fault;
 mod opening;
 mod outcome;
+mod own_records;
 mod reply;
 mod req_open;
 mod req_session;
