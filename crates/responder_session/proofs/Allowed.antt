@@ -89,7 +89,7 @@ is_handled EndSession = true
 is_handled (ChunkGet handle number) = true
 is_handled _ = false
 
-only_handled : (stage : Stage) (asks : RequestMessage) (pending : Bool) → not (stage_allows stage pending (code_for asks)) ≡ false → is_handled asks ≡ false → ⊥
+pub only_handled : (stage : Stage) (asks : RequestMessage) (pending : Bool) → not (stage_allows stage pending (code_for asks)) ≡ false → is_handled asks ≡ false → ⊥
 only_handled stage (GetMeasurements op) pending h k = cc
 only_handled stage (PskFinish verify) pending h k = cc
 only_handled stage Heartbeat pending h k = cc

@@ -13,3 +13,5 @@ pub mod Steps
 pub mod Stands
 pub mod Records
 pub mod Waits
+pub mod AllKeys
+pub mod AnswerKeys

@@ -17,3 +17,4 @@ pub mod Laws
 pub mod Reply
 pub mod Staged
 pub mod ExchangeLaws
+pub mod OwnAnswers

@@ -20,7 +20,7 @@ use spdm_basis::Frame;
 use spdm_grammar::{ErrorCode, Request, Stage};
 
 // What an inner message is refused for before it is read as a request.
-fn inner_refusal(stage: Stage, inner: &[u8]) -> Option<ErrorCode>
+pub fn inner_refusal(stage: Stage, inner: &[u8]) -> Option<ErrorCode>
     ensures { result ≡ inner_refusal stage inner.now }
 {
     let kind = byte_at(inner, 0);

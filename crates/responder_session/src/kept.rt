@@ -37,7 +37,7 @@ fn copy_of(hash: &HashBytes) -> HashBytes
 }
 
 // Steps to the next key, where epochs are left.
-fn update(key: &mut RecordKey)
+pub fn update(key: &mut RecordKey)
     ensures { key.old.epoch < 2 ^ 64 - 1 → (choice : Choice) (p : Purpose)
         → IsKeyOf key.old choice p → IsKeyOf key.new choice (record p { epoch = p.epoch + 1 }) }
 {

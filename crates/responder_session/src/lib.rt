@@ -6,6 +6,7 @@
 //! begin with is `RspHandshake::start`.
 #![tactic(auto)]
 
+mod answer_key;
 mod answers;
 mod applying;
 mod deed;
@@ -18,6 +19,7 @@ mod last;
 mod laws;
 mod number;
 mod open;
+mod own_answers;
 mod parts;
 mod queue;
 mod requests;
@@ -27,6 +29,7 @@ mod took;
 mod verifying;
 mod work;
 
+pub use answer_key::AnswerKey;
 pub use deed::RecordFree;
 pub use ended::RspEnded;
 pub use handshake::RspHandshake;

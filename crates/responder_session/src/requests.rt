@@ -22,12 +22,12 @@ use spdm_grammar::{ErrorCode, Stage};
 
 // The operations of KEY_UPDATE that update the keys of both directions, and by which new keys are
 // verified (DSP0274, "KEY_UPDATE operations").
-const UPDATE_ALL_KEYS: u8 = 2;
+pub const UPDATE_ALL_KEYS: u8 = 2;
 
 const VERIFY_NEW_KEY: u8 = 3;
 
 // Whether an operation of KEY_UPDATE comes in a stage.
-fn fits_stage(stage: Stage, op: u8) -> bool
+pub fn fits_stage(stage: Stage, op: u8) -> bool
     ensures { result ≡ refusal.fits_stage stage op }
 {
     match stage {

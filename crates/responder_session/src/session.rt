@@ -39,7 +39,7 @@ fn names(sealed: &[u8], id: SessionId) -> bool
 }
 
 // What is told of a record that does not open at an ended session.
-fn ended_fault(id: SessionId, sealed: &[u8]) -> RecordFault
+pub fn ended_fault(id: SessionId, sealed: &[u8]) -> RecordFault
     ensures { result ≡ ended_fault (session_id_bytes id.req id.rsp) sealed.now }
 {
     if sealed.len() < LEAST_RECORD {

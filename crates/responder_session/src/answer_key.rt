@@ -1,0 +1,49 @@
+ghost use Rattle.std.specs.Prelude.{◌≡◌, ◌<◌, ◌-◌, ◌^◌};
+
+use crate::kept::update;
+use secured_record::{RecordFault, RecordKey};
+use session_keys::open_record;
+use spdm_basis::{RecordFrame, SessionId};
+
+/// The key, the session id and the number of one answer of a session, apart from the session: it
+/// opens what was, or is to be, sealed under them, also when the session has gone on or is ended.
+#[derive(Drop)]
+pub struct AnswerKey {
+    pub(crate) key: RecordKey,
+    pub(crate) id: SessionId,
+    pub(crate) number: u16,
+}
+
+impl AnswerKey {
+    ghost use Rattle.std.specs.Prelude.{◌≡◌, ◌<◌, ◌+◌, ◌-◌, ◌^◌, ℕ, List, None, Some, OnErr, OnOk, MatchResult};
+    ghost use Rattle.key_schedule.specs.Purpose.{Purpose};
+    ghost use Rattle.spdm_grammar.specs.declared.choice.Choice.{Choice};
+    ghost use Rattle.spdm_machine.specs.Keys.{inner_message, record_fault};
+    ghost use Rattle.responder_session.specs.OwnAnswers.{IsAnswerKey};
+
+    /// Opens a record as this answer, and writes its inner message in place of what `out` holds.
+    /// A fault tells why it is no record under this key, number and session id.
+    pub fn open(&self, sealed: &[u8], out: &mut RecordFrame) -> Result<(), RecordFault>
+        ensures fault { (choice : Choice) (p : Purpose) (number : ℕ) (id : List ℕ)
+            → IsAnswerKey self.now choice p number id → MatchResult result
+            (λ _. record_fault choice p number id sealed.now ≡ None)
+            (λ e. record_fault choice p number id sealed.now ≡ Some e) }
+        ensures inner { (choice : Choice) (p : Purpose) (number : ℕ) (id : List ℕ)
+            → IsAnswerKey self.now choice p number id
+            → OnOk result (out.new ≡ inner_message choice p number sealed.now) }
+        ensures unchanged { OnErr result (out.new ≡ out.old) }
+    {
+        open_record(&self.key, self.id, self.number, sealed, out)
+    }
+
+    // The first answer under the next key, where epochs are left.
+    pub(crate) fn next(mut self) -> AnswerKey
+        ensures { self.key.epoch < 2 ^ 64 - 1 → (choice : Choice) (p : Purpose) (number : ℕ)
+            (id : List ℕ) → IsAnswerKey self choice p number id
+            → IsAnswerKey result choice (record p { epoch = p.epoch + 1 }) 0 id }
+    {
+        update(&mut self.key);
+        self.number = 0;
+        self
+    }
+}
