@@ -55,8 +55,8 @@ impl RspSession {
     ghost use Rattle.std.specs.Prelude.{◌≡◌, ◌<◌, ℕ, List, None, Some, Err, is_none, false, bytes_eq, OnOk, MatchOption, MatchResult};
     ghost use Rattle.responder_machine.specs.Answer.{Free};
     ghost use Rattle.responder_machine.specs.Records.{ended_fault, opened, opening_fault};
-    ghost use Rattle.responder_machine.specs.Responder.{session_turn};
-    ghost use Rattle.responder_machine.specs.Session.{Events, response_next, session_terms, stage_of};
+    ghost use Rattle.responder_machine.specs.Responder.{repeats, session_turn};
+    ghost use Rattle.responder_machine.specs.Session.{Events, last_of, response_next, session_terms, stage_of};
     ghost use Rattle.responder_machine.specs.Setup.{RspSetup};
     ghost use Rattle.responder_machine.specs.SizeLaws.{HasSizes};
     ghost use Rattle.responder_machine.specs.Turn.{updates};
@@ -130,6 +130,16 @@ impl RspSession {
         }
     }
 
+    /// Whether a record is the last one that was taken.
+    pub fn repeats_last(&self, sealed: &[u8]) -> bool
+        ensures live { (psk : List ℕ) (s : Events) → StandsFor self.now psk s
+            → result ≡ repeats (last_of s) sealed.now }
+        ensures ended { (id old answer : List ℕ) → IsEnded self.now id old answer
+            → result ≡ bytes_eq old sealed.now }
+    {
+        self.kept.last.repeats(sealed)
+    }
+
     /// Whether a record is the last one that was taken, or opens as the next one of the requester.
     /// What `inner` holds before and after does not matter.
     pub fn belongs(&self, sealed: &[u8], inner: &mut RecordFrame) -> bool
@@ -138,7 +148,7 @@ impl RspSession {
         ensures ended { (id old answer : List ℕ) → IsEnded self.now id old answer
             → result ≡ bytes_eq old sealed.now }
     {
-        self.kept.last.repeats(sealed) || self.read_request(sealed, inner).is_ok()
+        self.repeats_last(sealed) || self.read_request(sealed, inner).is_ok()
     }
 
     /// The key of the next answer, if its request leaves the keys as they are. None where the
