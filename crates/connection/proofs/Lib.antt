@@ -20,3 +20,4 @@ pub mod Harmless
 pub mod Queued
 pub mod Draws
 pub mod Listed
+pub mod AnswerKeys

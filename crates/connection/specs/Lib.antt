@@ -16,3 +16,4 @@ pub mod Beginning
 pub mod Starting
 pub mod Connected
 pub mod Harmless
+pub mod OwnAnswers

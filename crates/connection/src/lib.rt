@@ -23,6 +23,7 @@ mod kept;
 mod laws;
 mod live;
 mod negotiating;
+mod own_answers;
 mod records;
 mod refused;
 mod requests;

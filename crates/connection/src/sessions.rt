@@ -16,7 +16,7 @@ use spdm_grammar::{Heard, Phase, SessionView};
 #[derive(Drop)]
 pub struct Sessions {
     slots: [Option<Live>; 4],
-    ended: EndedRecord,
+    pub(crate) ended: EndedRecord,
 }
 
 // How the responder tells what a record of this session did.
@@ -322,7 +322,7 @@ impl Sessions {
     }
 
     // The session of this RspSessionID; none where there is none.
-    fn session(&self, id: u16) -> Option<&Live>
+    pub(crate) fn session(&self, id: u16) -> Option<&Live>
         ensures { MatchOption result (slot_of self.now id ≡ None)
             (λ live. slot_of self.now id ≡ Some live.now) }
     {
