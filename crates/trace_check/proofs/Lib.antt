@@ -30,3 +30,10 @@ pub mod KeptReasons
 pub mod Connecting
 pub mod Shown
 pub mod ShownSealed
+pub mod AnswerLengths
+pub mod LeastValues
+pub mod ShorterAnswers
+pub mod PartShown
+pub mod TurnShown
+pub mod SessionShown
+pub mod BodyShown

@@ -9,3 +9,4 @@ pub mod Padding
 pub mod Keeping
 pub mod Refusing
 pub mod Showing
+pub mod AnswersShown

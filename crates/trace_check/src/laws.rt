@@ -1,6 +1,7 @@
 //! What the packets of a capture fix of all walks over them, each law as the contract of a function
 //! that does nothing.
 
+ghost use Rattle.trace_check.specs.AnswersShown.{AnswersAreShown};
 ghost use Rattle.trace_check.specs.Awaits.{MoreConforms};
 ghost use Rattle.trace_check.specs.Going.{AsksGoOn, GoesOnFromEach, RepliesGoOn};
 ghost use Rattle.trace_check.specs.Keeping.{AsksAreKept, ConnectsAlways, KeptAsks, KeptBegins, KeptIsRestored, KeptReplies, KeptStays, RepliesAreKept};
@@ -113,6 +114,11 @@ pub fn clear_is_shown()
 /// A command in a session is told by its record.
 pub fn sealed_is_shown()
     ensures { SealedIsShown }
+{}
+
+/// An answer that goes whole is told by its body, and by the values that this shows.
+pub fn answers_are_shown()
+    ensures { AnswersAreShown }
 {}
 
 /// A walk leads to what this is kept of.
