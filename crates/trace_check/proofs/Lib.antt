@@ -37,3 +37,5 @@ pub mod PartShown
 pub mod TurnShown
 pub mod SessionShown
 pub mod BodyShown
+pub mod DropsShown
+pub mod PlainShown

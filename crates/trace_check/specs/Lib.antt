@@ -10,3 +10,4 @@ pub mod Keeping
 pub mod Refusing
 pub mod Showing
 pub mod AnswersShown
+pub mod DropsShown

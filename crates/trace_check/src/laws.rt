@@ -3,6 +3,7 @@
 
 ghost use Rattle.trace_check.specs.AnswersShown.{AnswersAreShown};
 ghost use Rattle.trace_check.specs.Awaits.{MoreConforms};
+ghost use Rattle.trace_check.specs.DropsShown.{PlainIsShown};
 ghost use Rattle.trace_check.specs.Going.{AsksGoOn, GoesOnFromEach, RepliesGoOn};
 ghost use Rattle.trace_check.specs.Keeping.{AsksAreKept, ConnectsAlways, KeptAsks, KeptBegins, KeptIsRestored, KeptReplies, KeptStays, RepliesAreKept};
 ghost use Rattle.trace_check.specs.Laws.{OneRound, OrderIsAlone, OrderIsReason, OrderRefuses, OrderTells, SealedTells};
@@ -119,6 +120,11 @@ pub fn sealed_is_shown()
 /// An answer that goes whole is told by its body, and by the values that this shows.
 pub fn answers_are_shown()
     ensures { AnswersAreShown }
+{}
+
+/// What an answer that goes whole leads to is a function of what it shows.
+pub fn plain_is_shown()
+    ensures { PlainIsShown }
 {}
 
 /// A walk leads to what this is kept of.
