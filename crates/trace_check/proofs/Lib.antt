@@ -39,3 +39,5 @@ pub mod SessionShown
 pub mod BodyShown
 pub mod DropsShown
 pub mod PlainShown
+pub mod HeardShown
+pub mod RepliesShown

@@ -11,3 +11,4 @@ pub mod Refusing
 pub mod Showing
 pub mod AnswersShown
 pub mod DropsShown
+pub mod RepliesShown

@@ -9,6 +9,7 @@ ghost use Rattle.trace_check.specs.Keeping.{AsksAreKept, ConnectsAlways, KeptAsk
 ghost use Rattle.trace_check.specs.Laws.{OneRound, OrderIsAlone, OrderIsReason, OrderRefuses, OrderTells, SealedTells};
 ghost use Rattle.trace_check.specs.Padding.{OwedIsPadded, PaddingIsFree};
 ghost use Rattle.trace_check.specs.Refusing.{KeptTellsApart, KeptTellsReason, KeptTellsWhy};
+ghost use Rattle.trace_check.specs.RepliesShown.{RepliesAreShown};
 ghost use Rattle.trace_check.specs.Showing.{ClearIsShown, SealedIsShown};
 ghost use Rattle.trace_check.specs.Verdict.{OneVerdict};
 ghost use Rattle.trace_check.specs.Walks.{ConformsIsEach, LeadsIsEach};
@@ -140,6 +141,11 @@ pub fn kept_replies()
 /// An answer that goes on from some walk makes something of what is kept.
 pub fn replies_are_kept()
     ensures { RepliesAreKept }
+{}
+
+/// What is kept behind an answer that goes whole is a function of what it shows.
+pub fn replies_are_shown()
+    ensures { RepliesAreShown }
 {}
 
 /// The reason of a refused packet is told from what is kept, but for wrong verify data.
