@@ -30,3 +30,14 @@ pub mod KeptReasons
 pub mod Connecting
 pub mod Shown
 pub mod ShownSealed
+pub mod AnswerLengths
+pub mod LeastValues
+pub mod ShorterAnswers
+pub mod PartShown
+pub mod TurnShown
+pub mod SessionShown
+pub mod BodyShown
+pub mod DropsShown
+pub mod PlainShown
+pub mod HeardShown
+pub mod RepliesShown

@@ -34,7 +34,7 @@ repadded psk pad h = with_next (next_with psk h pad (outstanding h)) h
 
 -- ---- Small laws.
 
-agree_self : (h : History) → HaveIds h → Agree h h
+pub agree_self : (h : History) → HaveIds h → Agree h h
 agree_self h ids = record {
   counted = record { sent = refl; larges = refl; size = refl };
   phase = refl;
@@ -64,7 +64,7 @@ entry_with (TookClear tag m led d) (TookRecord tag' id' sealed' inner' led' d') 
 entry_with (TookRecord tag id sealed inner led d) (Told c s x) h o a = absurd a
 entry_with (TookRecord tag id sealed inner led d) (TookClear tag' m' led' d') h o a = absurd a
 
-next_of : (e f : Entry) → EntryAlike e f → NextAlike (sent_in e) (sent_in f)
+pub next_of : (e f : Entry) → EntryAlike e f → NextAlike (sent_in e) (sent_in f)
 next_of (TookClear tag m led d) (TookClear tag' m' led' d') a = a.2.next
 next_of (TookRecord tag id sealed inner led d) (TookRecord tag' id' sealed' inner' led' d') a = a.4.next
 next_of (Told c s d) f a = absurd a
@@ -116,7 +116,7 @@ own_padding psk pad e h (Some s) out own =
     ap (λ (o : Option Sent). with_next (next_with psk (e ∷ h) pad o) (e ∷ h)) out ∙ ap (λ (x : Sent). with_next (Some x) (e ∷ h)) (own s out) ∙ next_same e h (Some s) out
 
 -- Another padding adds an entry too.
-heard_with : (q : ReqSetup) (h : History) (f : Free) (tag : ℕ) (body pad : List ℕ) (e : Entry) (o : Outcome) → HaveIds h → hears q h false tag body (record f { pad = pad }) no_draw ≡ o → OutcomeAlike (Adds e) o → after h o ≡ repadded q.psk pad (e ∷ h)
+pub heard_with : (q : ReqSetup) (h : History) (f : Free) (tag : ℕ) (body pad : List ℕ) (e : Entry) (o : Outcome) → HaveIds h → hears q h false tag body (record f { pad = pad }) no_draw ≡ o → OutcomeAlike (Adds e) o → after h o ≡ repadded q.psk pad (e ∷ h)
 heard_with q h f tag body pad e (Adds x) ids is alike =
     sym (entry_padded q.psk pad e x h (sent_in e) (sent_in x) ids alike refl refl (next_of e x alike) (heard_own q h false tag body (record f { pad = pad }) no_draw x is))
 heard_with q h f tag body pad e (Fails fault) ids is alike = absurd alike

@@ -9,3 +9,6 @@ pub mod Padding
 pub mod Keeping
 pub mod Refusing
 pub mod Showing
+pub mod AnswersShown
+pub mod DropsShown
+pub mod RepliesShown

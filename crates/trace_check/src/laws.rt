@@ -1,12 +1,15 @@
 //! What the packets of a capture fix of all walks over them, each law as the contract of a function
 //! that does nothing.
 
+ghost use Rattle.trace_check.specs.AnswersShown.{AnswersAreShown};
 ghost use Rattle.trace_check.specs.Awaits.{MoreConforms};
+ghost use Rattle.trace_check.specs.DropsShown.{PlainIsShown};
 ghost use Rattle.trace_check.specs.Going.{AsksGoOn, GoesOnFromEach, RepliesGoOn};
 ghost use Rattle.trace_check.specs.Keeping.{AsksAreKept, ConnectsAlways, KeptAsks, KeptBegins, KeptIsRestored, KeptReplies, KeptStays, RepliesAreKept};
 ghost use Rattle.trace_check.specs.Laws.{OneRound, OrderIsAlone, OrderIsReason, OrderRefuses, OrderTells, SealedTells};
 ghost use Rattle.trace_check.specs.Padding.{OwedIsPadded, PaddingIsFree};
 ghost use Rattle.trace_check.specs.Refusing.{KeptTellsApart, KeptTellsReason, KeptTellsWhy};
+ghost use Rattle.trace_check.specs.RepliesShown.{RepliesAreShown};
 ghost use Rattle.trace_check.specs.Showing.{ClearIsShown, SealedIsShown};
 ghost use Rattle.trace_check.specs.Verdict.{OneVerdict};
 ghost use Rattle.trace_check.specs.Walks.{ConformsIsEach, LeadsIsEach};
@@ -115,6 +118,16 @@ pub fn sealed_is_shown()
     ensures { SealedIsShown }
 {}
 
+/// An answer that goes whole is told by its body, and by the values that this shows.
+pub fn answers_are_shown()
+    ensures { AnswersAreShown }
+{}
+
+/// What an answer that goes whole leads to is a function of what it shows.
+pub fn plain_is_shown()
+    ensures { PlainIsShown }
+{}
+
 /// A walk leads to what this is kept of.
 pub fn kept_is_restored()
     ensures { KeptIsRestored }
@@ -128,6 +141,11 @@ pub fn kept_replies()
 /// An answer that goes on from some walk makes something of what is kept.
 pub fn replies_are_kept()
     ensures { RepliesAreKept }
+{}
+
+/// What is kept behind an answer that goes whole is a function of what it shows.
+pub fn replies_are_shown()
+    ensures { RepliesAreShown }
 {}
 
 /// The reason of a refused packet is told from what is kept, but for wrong verify data.
