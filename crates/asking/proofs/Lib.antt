@@ -21,3 +21,8 @@ pub mod DataBrought
 pub mod Joining
 pub mod BodiesJoined
 pub mod Listed
+pub mod OwnSlots
+pub mod OwedSessions
+pub mod OwedTalk
+pub mod OwedOpened
+pub mod OwedClear

@@ -15,3 +15,5 @@ pub mod SlotSteps
 pub mod Sessions
 pub mod SessionSteps
 pub mod Joined
+pub mod OwnRecords
+pub mod Owed

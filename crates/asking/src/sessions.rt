@@ -10,8 +10,8 @@ use spdm_grammar::{CommandFault, ReqIgnored, SessionView};
 /// the session that the outstanding message begins or asks something of. They lie in place.
 #[derive(Drop)]
 pub struct Sessions {
-    slots: [Slot; 4],
-    id: u16,
+    pub(crate) slots: [Slot; 4],
+    pub(crate) id: u16,
 }
 
 // A session counts as one.

@@ -75,5 +75,5 @@ IsFinishRepadded psk n exchange answer sealed new true =
     × finishing.StandsFor new psk n exchange answer pad
 IsFinishRepadded psk n exchange answer sealed new false =
     length sealed ≤ 4160
-    → IsPadded psk (accepted n exchange answer) (finish_inner psk (accepted n exchange answer)) sealed
-    → ⊥
+    → IsPadded psk (accepted n exchange answer) (finish_inner psk (accepted n exchange answer))
+    sealed → ⊥

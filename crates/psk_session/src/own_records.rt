@@ -64,8 +64,9 @@ impl ReqSession {
     pub fn open_next(&self, sealed: &[u8], out: &mut RecordFrame) -> Result<(), RecordFault>
         ensures opened { (psk : List ℕ) (s : Steps) → IsOpen self.now psk s
             → IsOwnOpened psk s sealed.now result out.new }
-        ensures awaiting { (psk : List ℕ) (s : Steps) (a : message.Ask) → IsAwaiting self.now psk s a
-            → request_next s ≤ 65535 → IsOwnOpened psk s sealed.now result out.new }
+        ensures awaiting { (psk : List ℕ) (s : Steps) (a : message.Ask)
+            → IsAwaiting self.now psk s a → request_next s ≤ 65535
+            → IsOwnOpened psk s sealed.now result out.new }
         ensures unchanged { OnErr result (out.new ≡ out.old) }
     {
         let number = record_number(self.kept.request_next);

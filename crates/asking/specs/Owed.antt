@@ -1,0 +1,90 @@
+-- A record that a requester sent by itself upon what it took last, as one who judges it sees it:
+-- before it came, and with the padding that it came with. This project's own.
+use Rattle.std.specs.Prelude.{◌≡◌, ◌≤◌, ℕ, List, [], ◌∷◌, Bool, true, false, Option, Some, None, length}
+use Rattle.asking.specs.Joined.{StandsFor}
+use Rattle.asking.specs.Sessions as sessions
+use Rattle.asking.specs.declared.joined.Asking.{Asking}
+use Rattle.asking.specs.declared.sessions.Sessions.{Sessions}
+use Rattle.requester_machine.specs.History.{History}
+use Rattle.requester_machine.specs.History.Entry.{Told, TookClear, TookRecord}
+use Rattle.requester_machine.specs.Message.{Aim, Content, Sent, body_of}
+use Rattle.requester_machine.specs.Message.Aim.{InSession}
+use Rattle.requester_machine.specs.Message.Content.{Clear, Sealed}
+use Rattle.requester_machine.specs.Records.{sealed_next}
+use Rattle.requester_machine.specs.Session.{Steps, session_of}
+use Rattle.requester_machine.specs.Setup.{ReqSetup}
+use Rattle.spdm_machine.specs.Bodies.{record_body}
+
+-- ---- What is sent upon the newest entry.
+
+-- The history with another message, or none, that was sent by itself upon its newest entry.
+abbrev pub with_next : Option Sent → History → History
+with_next next [] = []
+with_next next (Told command sent d ∷ older) = Told command sent d ∷ older
+with_next next (TookClear tag m led d ∷ older) =
+    TookClear tag m (record led { next = next }) d ∷ older
+with_next next (TookRecord tag id sealed inner led d ∷ older) =
+    TookRecord tag id sealed inner (record led { next = next }) d ∷ older
+
+-- Its newest entry took a message, in the clear or as a record of the session with this
+-- ReqSessionID, and nothing is sent upon it.
+abbrev pub TookLast : History → (id : ℕ) → Type 0
+TookLast [] id = ⊥
+TookLast (Told command sent d ∷ older) id = ⊥
+TookLast (TookClear tag m led d ∷ older) id = led.next ≡ None
+TookLast (TookRecord tag of sealed inner led d ∷ older) id = (led.next ≡ None) × (of ≡ id)
+
+-- Its newest entry took a message, and nothing is sent upon it.
+abbrev pub TookAny : History → Type 0
+TookAny [] = ⊥
+TookAny (Told command sent d ∷ older) = ⊥
+TookAny (TookClear tag m led d ∷ older) = led.next ≡ None
+TookAny (TookRecord tag of sealed inner led d ∷ older) = led.next ≡ None
+
+-- It took a message upon which one may be sent for this: a record in the session of the record that
+-- was taken, or in any where a message in the clear was.
+abbrev pub TookFor : History → Aim → Type 0
+TookFor bare (InSession id ask) = TookLast bare id
+TookFor bare _ = TookAny bare
+
+-- ---- Its padding.
+
+-- The inner message of a record, sealed as the next one of a session, with this padding. What is
+-- sent in the clear has none.
+abbrev pub content_with : (psk : List ℕ) → Steps → (pad : List ℕ) → Content → Content
+content_with psk s pad (Clear message) = Clear message
+content_with psk s pad (Sealed sealed inner old) = Sealed (sealed_next psk s inner pad) inner pad
+
+-- A message with this padding.
+abbrev pub sent_with : (psk : List ℕ) → Steps → (pad : List ℕ) → Sent → Sent
+sent_with psk s pad sent = record sent { content = content_with psk s pad sent.content }
+
+-- The message that is sent upon the newest entry, as the session with this ReqSessionID seals it
+-- with this padding.
+abbrev pub owed_with : ReqSetup → History → (id : ℕ) → (pad : List ℕ) → Sent → Sent
+owed_with q bare id pad sent = sent_with q.psk (session_of id bare) pad sent
+
+-- The bytes are its record.
+abbrev pub IsOwedAs : ReqSetup → History → (id : ℕ) → (pad : List ℕ) → Sent → (sealed : List ℕ)
+    → Type 0
+IsOwedAs q bare id pad sent sealed =
+    body_of (owed_with q bare id pad sent).content ≡ record_body sealed
+
+-- The bytes are its record with a padding of at most 16 bytes, and the sessions are those of the
+-- history with that; or they are no such record.
+abbrev pub AreRepadded : ReqSetup → History → (id : ℕ) → Sent → (sealed : List ℕ)
+    → (new : Sessions) → Bool → Type 0
+AreRepadded q bare id sent sealed new true =
+    (pad : List ℕ) × (length pad ≤ 16) × IsOwedAs q bare id pad sent sealed
+    × sessions.StandsFor new q (with_next (Some (owed_with q bare id pad sent)) bare)
+AreRepadded q bare id sent sealed new false =
+    length sealed ≤ 4160 → (pad : List ℕ) → length pad ≤ 16 → IsOwedAs q bare id pad sent sealed → ⊥
+
+-- The same of the requester.
+abbrev pub IsRepadded : ReqSetup → History → (id : ℕ) → Sent → (sealed : List ℕ) → (new : Asking)
+    → Bool → Type 0
+IsRepadded q bare id sent sealed new true =
+    (pad : List ℕ) × (length pad ≤ 16) × IsOwedAs q bare id pad sent sealed
+    × StandsFor new q (with_next (Some (owed_with q bare id pad sent)) bare)
+IsRepadded q bare id sent sealed new false =
+    length sealed ≤ 4160 → (pad : List ℕ) → length pad ≤ 16 → IsOwedAs q bare id pad sent sealed → ⊥

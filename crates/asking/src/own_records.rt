@@ -1,0 +1,82 @@
+use crate::{Asking, Talk, Waiting};
+use spdm_basis::RecordFrame;
+
+impl Talk {
+    ghost use Rattle.std.specs.Prelude.{◌≡◌};
+    ghost use Rattle.asking.specs.OwnRecords.{awaits_record};
+    ghost use Rattle.asking.specs.Talk.{Shows};
+    ghost use Rattle.requester_machine.specs.History.{History, outstanding};
+
+    // Whether a record is outstanding.
+    fn awaits_record(&self) -> bool
+        ensures { (h : History) → Shows self.now h → result ≡ awaits_record (outstanding h) }
+    {
+        matches!(self.outgoing.waiting(), Waiting::InSession { .. })
+    }
+}
+
+// What a requester sealed itself, for one who judges it.
+impl Asking {
+    ghost use Rattle.std.specs.Prelude.{◌≡◌, ◌≤◌, ◌<◌, ◌-◌, ◌^◌, ℕ, Some, false, length};
+    ghost use Rattle.asking.specs.Joined.{StandsFor};
+    ghost use Rattle.asking.specs.Owed.{IsRepadded, TookFor, TookLast, with_next};
+    ghost use Rattle.asking.specs.OwnRecords.{OpensAs, OpensNamed, awaits_record, session_named};
+    ghost use Rattle.requester_machine.specs.History.{History, outstanding};
+    ghost use Rattle.requester_machine.specs.Message as message;
+    ghost use Rattle.requester_machine.specs.Message.{Sent};
+    ghost use Rattle.requester_machine.specs.Message.Aim.{InSession};
+    ghost use Rattle.requester_machine.specs.Session.{request_next, session_of};
+    ghost use Rattle.requester_machine.specs.Setup.{ReqSetup};
+
+    /// Whether a record opens as the next one of the session that it names; its inner message is
+    /// written in place of what `out` holds. This tells of numbers up to 65,535.
+    pub fn open_next(&self, sealed: &[u8], out: &mut RecordFrame) -> bool
+        ensures few { (q : ReqSetup) (h : History) → StandsFor self.now q h → length h < 2 ^ 64 - 1
+            → request_next (session_named h sealed.now) ≤ 65535
+            → OpensAs q.psk (session_named h sealed.now) sealed.now result out.new }
+        ensures resting { (q : ReqSetup) (h : History) → StandsFor self.now q h
+            → length h < 2 ^ 64 - 1 → awaits_record (outstanding h) ≡ false
+            → OpensAs q.psk (session_named h sealed.now) sealed.now result out.new }
+    {
+        self.sessions.open_next(sealed, out)
+    }
+
+    /// The same without the outstanding message, where that was sent by itself upon what came last:
+    /// a record opens in its place where it names the session of that.
+    pub fn open_before(&self, sealed: &[u8], out: &mut RecordFrame) -> bool
+        ensures { (q : ReqSetup) (bare : History) (sent : Sent) → TookFor bare sent.aim
+            → length bare < 2 ^ 64 - 1 → StandsFor self.now q (with_next (Some sent) bare)
+            → OpensAs q.psk (session_named bare sealed.now) sealed.now result out.new }
+    {
+        if self.talk.awaits_record() {
+            self.sessions.open_before(sealed, out)
+        } else {
+            self.sessions.open_next(sealed, out)
+        }
+    }
+
+    /// Whether a record names the session whose record is outstanding, where that was sent by
+    /// itself upon what came last, and opens in its place; its inner message is written in place of
+    /// what `out` holds.
+    pub fn open_owed(&self, sealed: &[u8], out: &mut RecordFrame) -> bool
+        ensures { (q : ReqSetup) (bare : History) (sent : Sent) (id : ℕ) (ask : message.Ask)
+            → TookLast bare id → sent.aim ≡ InSession id ask → length bare < 2 ^ 64 - 1
+            → StandsFor self.now q (with_next (Some sent) bare)
+            → OpensNamed q.psk (session_of id bare) sealed.now result out.new }
+    {
+        self.sessions.open_owed(sealed, out)
+    }
+
+    /// Takes bytes as the outstanding record, where that was sent by itself upon what came last:
+    /// whether they are that record with some padding of at most 16 bytes. Where they are not,
+    /// nothing changes.
+    pub fn take_padded(&mut self, sealed: &[u8]) -> bool
+        ensures repadded { (q : ReqSetup) (bare : History) (sent : Sent) (id : ℕ)
+            (ask : message.Ask) → TookLast bare id → sent.aim ≡ InSession id ask
+            → StandsFor self.old q (with_next (Some sent) bare)
+            → IsRepadded q bare id sent sealed.now self.new result }
+        ensures unchanged { result ≡ false → self.new ≡ self.old }
+    {
+        self.sessions.take_padded(sealed)
+    }
+}
