@@ -116,10 +116,10 @@ module _ (r : RspSetup) (h : History) (tag : ℕ) (sealed : List ℕ) (byte : r.
 -- ---- A body.
 
 module _ (r : RspSetup) (h : History) (tag : ℕ) (body : List ℕ) (byte : r.beat < 256) where
-  abbrev events : Events
+  abbrev pub events : Events
   events = session_of (id_in_record (drop 1 body)) h
 
-  abbrev place_by : Bool → Place
+  abbrev pub place_by : Bool → Place
   place_by clear = cond clear (clear_place h) (session_place events)
 
   abbrev outcome_by : Bool → Free → Outcome
@@ -131,7 +131,7 @@ module _ (r : RspSetup) (h : History) (tag : ℕ) (body : List ℕ) (byte : r.be
       × (length (cond clear (clear_answer r (clear_place h) (drop 1 body) f) (record_answer r events (drop 1 body) f)) ≤ MAX_MESSAGE_SIZE)
       × (outcome_by clear f ≡ o)
 
-  abbrev shown_by : Bool → (answer : List ℕ) → Outcome → Free
+  abbrev pub shown_by : Bool → (answer : List ℕ) → Outcome → Free
   shown_by clear answer (Adds entry) = cond clear (clear_values r h (drop 1 body) (drop 1 answer)) (record_values r h (drop 1 body) (drop 1 answer))
   shown_by clear answer _ = least_values h (place_by clear)
 

@@ -223,14 +223,14 @@ module _ (r : RspSetup) (h : History) (tag : ℕ) (body : List ℕ) where
 -- ---- A body.
 
 module _ (r : RspSetup) (h : History) (tag : ℕ) (body : List ℕ) where
-  abbrev outcome_by : Bool → History → Free → Outcome
+  abbrev pub outcome_by : Bool → History → Free → Outcome
   outcome_by clear g f = cond clear (on_clear r g tag (drop 1 body) f no_draw) (on_record r g tag (drop 1 body) f no_draw)
 
-  abbrev drops_by : Bool → (answer : List ℕ) → List ℕ
+  abbrev pub drops_by : Bool → (answer : List ℕ) → List ℕ
   drops_by clear answer = cond clear (clear_drops h tag (drop 1 body) (drop 1 answer)) (record_drops r h (drop 1 body) answer)
 
   -- By the history before the drops, of which a repeat knows nothing.
-  again_is : (ids : List ℕ) → is_repeat (kept_of (with_dropped h ids)) tag (drop 1 body) ≡ is_repeat (kept_of h) tag (drop 1 body)
+  pub again_is : (ids : List ℕ) → is_repeat (kept_of (with_dropped h ids)) tag (drop 1 body) ≡ is_repeat (kept_of h) tag (drop 1 body)
   again_is ids = ap (λ o. is_repeat o tag (drop 1 body)) (kept_same ids h)
 
   drops_clear : (ids : List ℕ) (f : Free) (q : Place) (o : Outcome) → MayDrop h ids → IsAllowed (with_dropped h ids) q f → outcome_by true (with_dropped h ids) f ≡ o → AreShown r h body o ids → is_plain h o ≡ true → drops_by true (body_of o) ≡ ids

@@ -2,6 +2,7 @@
 //! that does nothing.
 
 ghost use Rattle.trace_check.specs.AnswersShown.{AnswersAreShown};
+ghost use Rattle.trace_check.specs.ApartShown.{ApartIsShown};
 ghost use Rattle.trace_check.specs.Awaits.{MoreConforms};
 ghost use Rattle.trace_check.specs.DropsShown.{PlainIsShown};
 ghost use Rattle.trace_check.specs.Going.{AsksGoOn, GoesOnFromEach, RepliesGoOn};
@@ -146,6 +147,11 @@ pub fn replies_are_kept()
 /// What is kept behind an answer that goes whole is a function of what it shows.
 pub fn replies_are_shown()
     ensures { RepliesAreShown }
+{}
+
+/// Whether the verify data of an answer are alone wrong is told from what it shows.
+pub fn apart_is_shown()
+    ensures { ApartIsShown }
 {}
 
 /// The reason of a refused packet is told from what is kept, but for wrong verify data.
