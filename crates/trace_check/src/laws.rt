@@ -1,7 +1,7 @@
 //! What the packets of a capture fix of all walks over them, each law as the contract of a function
 //! that does nothing.
 
-ghost use Rattle.trace_check.specs.AnswersShown.{AnswersAreShown};
+ghost use Rattle.trace_check.specs.AnswersShown.{AnswersAreShown, LargeAreShown};
 ghost use Rattle.trace_check.specs.ApartShown.{ApartIsShown};
 ghost use Rattle.trace_check.specs.Awaits.{MoreConforms};
 ghost use Rattle.trace_check.specs.DropsShown.{PlainIsShown};
@@ -122,6 +122,11 @@ pub fn sealed_is_shown()
 /// An answer that goes whole is told by its body, and by the values that this shows.
 pub fn answers_are_shown()
     ensures { AnswersAreShown }
+{}
+
+/// LargeResponse is told by its body too, but for the bytes of the answer that it stands for.
+pub fn large_are_shown()
+    ensures { LargeAreShown }
 {}
 
 /// What an answer that goes whole leads to is a function of what it shows.
