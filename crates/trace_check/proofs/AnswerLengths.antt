@@ -9,7 +9,7 @@ use Rattle.measurements.specs.Blocks.{at_most_one, block_of, record_of, up_to}
 use Rattle.measurements.specs.Records.{asked}
 use Rattle.measurements.specs.Summaries.{hash_of_blocks, summarized}
 use Rattle.responder_machine.proofs.VerifyLength.{length_blocks, length_verify}
-use Rattle.responder_machine.specs.Answer.{Free, exchange_answer, measurements_answer, summary_answer, t1_with}
+use Rattle.responder_machine.specs.Answer.{Free, exchange_answer, exchange_rsp, measurements_answer, summary_answer, t1_with}
 use Rattle.responder_machine.specs.History.{History}
 use Rattle.responder_machine.specs.May.{IsAllowed}
 use Rattle.responder_machine.specs.Place.{Place, place_terms}
@@ -44,16 +44,21 @@ summary_length r p kind = by_kind (kind == 0) (kind == 1 || kind == 255) (λ non
     by_kind false true never = length_blocks hash (summarized kind (inventory_of r))
     by_kind false false never = refl
 
-pub exchange_length : (r : RspSetup) (p : Place) (m : List ℕ) (f : Free) (x : ExchangeMessage)
-    → length (canonical_response (exchange_answer r p m f x)) ≡ 12 + length (summary_answer r p x.summary) + length f.context + length f.exchange_opaque + hash_len (place_terms p)
-exchange_length r p m f x =
-    let text : List ℕ = t1_with r p m f x in
-    let verify : List ℕ = verify_data (place_terms p).choice r.psk text direction.Response text in
-    let long = length_verify (place_terms p).choice r.psk text direction.Response text in
+pub exchange_rsp_length : (r : RspSetup) (p : Place) (f : Free) (x : ExchangeMessage) (verify : List ℕ)
+    → length (canonical_response (exchange_rsp r p f x verify)) ≡ 12 + length (summary_answer r p x.summary) + length f.context + length f.exchange_opaque + length verify
+exchange_rsp_length r p f x verify =
     let summary : List ℕ = summary_answer r p x.summary in
     let one = length-append (summary ++ f.context ++ f.exchange_opaque) verify in
     let two = length-append (summary ++ f.context) f.exchange_opaque in
     let three = length-append summary f.context in
+    omega arith
+
+pub exchange_length : (r : RspSetup) (p : Place) (m : List ℕ) (f : Free) (x : ExchangeMessage)
+    → length (canonical_response (exchange_answer r p m f x)) ≡ 12 + length (summary_answer r p x.summary) + length f.context + length f.exchange_opaque + hash_len (place_terms p)
+exchange_length r p m f x =
+    let text : List ℕ = t1_with r p m f x in
+    let long = length_verify (place_terms p).choice r.psk text direction.Response text in
+    let all = exchange_rsp_length r p f x (verify_data (place_terms p).choice r.psk text direction.Response text) in
     omega arith
 
 -- ---- MEASUREMENTS.
@@ -106,19 +111,25 @@ beat_small : (r : RspSetup) (b : Bool) → r.beat < 256 → (if b then r.beat el
 beat_small r true byte = byte
 beat_small r false byte = omega arith
 
-pub exchange_read : (r : RspSetup) (h : History) (p : Place) (m : List ℕ) (f : Free) (x : ExchangeMessage) → r.beat < 256 → IsAllowed h p f → length (canonical_response (exchange_answer r p m f x)) ≤ MAX_MESSAGE_SIZE
-    → response_in (hash_len (place_terms p)) (x.summary == 1 || x.summary == 255) (canonical_response (exchange_answer r p m f x)) ≡ Some (exchange_answer r p m f x)
-exchange_read r h p m f x byte fits short =
-    let text : List ℕ = t1_with r p m f x in
-    let all = exchange_length r p m f x in
+-- PSK_EXCHANGE_RSP is read whatever its verify data are.
+pub exchange_rsp_read : (r : RspSetup) (h : History) (p : Place) (f : Free) (x : ExchangeMessage) (verify : List ℕ) → r.beat < 256 → IsAllowed h p f → length verify ≡ hash_len (place_terms p) → length (canonical_response (exchange_rsp r p f x verify)) ≤ MAX_MESSAGE_SIZE
+    → response_in (hash_len (place_terms p)) (x.summary == 1 || x.summary == 255) (canonical_response (exchange_rsp r p f x verify)) ≡ Some (exchange_rsp r p f x verify)
+exchange_rsp_read r h p f x verify byte fits long short =
+    let all = exchange_rsp_length r p f x verify in
     let most = fits.most in
-    read_back (exchange_answer r p m f x) (hash_len (place_terms p)) (x.summary == 1 || x.summary == 255) (beat_small r (place_terms p).common.heartbeat byte, omega arith) (record {
+    read_back (exchange_rsp r p f x verify) (hash_len (place_terms p)) (x.summary == 1 || x.summary == 255) (beat_small r (place_terms p).common.heartbeat byte, omega arith) (record {
       summary = summary_length r p x.summary;
       context_long = fits.context;
       context = omega (arith, short);
       opaque = fits.exchange_opaque;
-      verify = length_verify (place_terms p).choice r.psk text direction.Response text;
+      verify = long;
     })
+
+pub exchange_read : (r : RspSetup) (h : History) (p : Place) (m : List ℕ) (f : Free) (x : ExchangeMessage) → r.beat < 256 → IsAllowed h p f → length (canonical_response (exchange_answer r p m f x)) ≤ MAX_MESSAGE_SIZE
+    → response_in (hash_len (place_terms p)) (x.summary == 1 || x.summary == 255) (canonical_response (exchange_answer r p m f x)) ≡ Some (exchange_answer r p m f x)
+exchange_read r h p m f x byte fits short =
+    let text : List ℕ = t1_with r p m f x in
+    exchange_rsp_read r h p f x (verify_data (place_terms p).choice r.psk text direction.Response text) byte fits (length_verify (place_terms p).choice r.psk text direction.Response text) short
 
 pub measured_read : (r : RspSetup) (h : History) (p : Place) (f : Free) (op : ℕ) → IsAllowed h p f → length (canonical_response (measurements_answer r f op)) ≤ MAX_MESSAGE_SIZE
     → response_in (hash_len (place_terms p)) false (canonical_response (measurements_answer r f op)) ≡ Some (measurements_answer r f op)

@@ -5,7 +5,7 @@ use Rattle.std.proofs.lemmas.Bool.{false≢true, not-true}
 use Rattle.std.proofs.lemmas.Option.{none-some, same_Some}
 use Rattle.chunking.specs.Collecting.{joined_with, under_way}
 use Rattle.responder_machine.specs.Answer.{Free, answer_bytes, answer_of, answer_to, request_at}
-use Rattle.responder_machine.specs.Handling.{carried_turn, chunk_in, effect_of, large_response, last_chunk_turn, request_effect, request_reply, taken_chunk, turn_by, turn_of}
+use Rattle.responder_machine.specs.Handling.{carried_turn, chunk_in, effect_of, goes_large, large_response, last_chunk_turn, request_effect, request_reply, taken_chunk, turn_by, turn_of}
 use Rattle.responder_machine.specs.History.{History, kept_of}
 use Rattle.responder_machine.specs.History.Entry.{Clear}
 use Rattle.responder_machine.specs.LargeMessages.{chunks_of}
@@ -26,7 +26,6 @@ use Rattle.spdm_grammar.specs.declared.error_code.ErrorCode.{ErrorCode}
 use Rattle.spdm_grammar.specs.declared.names.request_code.TheConstants.{PSK_EXCHANGE}
 use Rattle.spdm_machine.specs.Bodies.{clear_body}
 use Rattle.spdm_machine.specs.Sessions.{id_in_exchange}
-use Rattle.trace_check.proofs.TurnShown.{goes_whole}
 use Rattle.trace_check.specs.DropsShown.{clear_drops, dropped_for, id_begun, may_be_dropped, record_drops, response_of}
 use Rattle.world_machine.proofs.DropsTell.{RecordForm, fresh_id, held_before, kept_same, record_form, record_shown}
 use Rattle.world_machine.proofs.TurnsAlike.{is_request}
@@ -34,6 +33,18 @@ use Rattle.world_machine.specs.CapturedAnswers.{AreShown, belongs_to, is_plain, 
 use Rattle.world_machine.specs.Rounds.{no_draw}
 
 -- ---- The id that a reply shows.
+
+-- An answer that did not go by LargeResponse is not long enough for it.
+whole_by : (o : Option RequestMessage) (asked : RequestMessage) (text answer : List ℕ) (b : Bool) (n : ℕ) → o ≡ Some asked → is_some (handle_in (effect_of o text answer (cond b (Some n) None))) ≡ false → b ≡ false
+whole_by o asked text answer b n is small = by_size b (subst (λ (x : Option RequestMessage). is_some (handle_in (effect_of x text answer (cond b (Some n) None))) ≡ false) is small)
+  where
+    by_size : (c : Bool) → is_some (handle_in (effect_of (Some asked) text answer (cond c (Some n) None))) ≡ false → c ≡ false
+    by_size true small = absurd (false≢true (sym small))
+    by_size false small = refl
+
+goes_whole : (r : RspSetup) (p : Place) (m : List ℕ) (f : Free) (asked : RequestMessage) → request_at p m ≡ Some asked
+    → is_some (handle_in (effect_of (request_at p m) m (answer_bytes r p m f) (cond (goes_large p (answer_bytes r p m f)) (Some f.handle) None))) ≡ false → goes_large p (answer_bytes r p m f) ≡ false
+goes_whole r p m f asked is small = whole_by (request_at p m) asked m (answer_bytes r p m f) (goes_large p (answer_bytes r p m f)) f.handle is small
 
 -- What took effect begins the session of this id.
 abbrev begun_by : Effect → Option ℕ
@@ -223,14 +234,14 @@ module _ (r : RspSetup) (h : History) (tag : ℕ) (body : List ℕ) where
 -- ---- A body.
 
 module _ (r : RspSetup) (h : History) (tag : ℕ) (body : List ℕ) where
-  abbrev outcome_by : Bool → History → Free → Outcome
+  abbrev pub outcome_by : Bool → History → Free → Outcome
   outcome_by clear g f = cond clear (on_clear r g tag (drop 1 body) f no_draw) (on_record r g tag (drop 1 body) f no_draw)
 
-  abbrev drops_by : Bool → (answer : List ℕ) → List ℕ
+  abbrev pub drops_by : Bool → (answer : List ℕ) → List ℕ
   drops_by clear answer = cond clear (clear_drops h tag (drop 1 body) (drop 1 answer)) (record_drops r h (drop 1 body) answer)
 
   -- By the history before the drops, of which a repeat knows nothing.
-  again_is : (ids : List ℕ) → is_repeat (kept_of (with_dropped h ids)) tag (drop 1 body) ≡ is_repeat (kept_of h) tag (drop 1 body)
+  pub again_is : (ids : List ℕ) → is_repeat (kept_of (with_dropped h ids)) tag (drop 1 body) ≡ is_repeat (kept_of h) tag (drop 1 body)
   again_is ids = ap (λ o. is_repeat o tag (drop 1 body)) (kept_same ids h)
 
   drops_clear : (ids : List ℕ) (f : Free) (q : Place) (o : Outcome) → MayDrop h ids → IsAllowed (with_dropped h ids) q f → outcome_by true (with_dropped h ids) f ≡ o → AreShown r h body o ids → is_plain h o ≡ true → drops_by true (body_of o) ≡ ids

@@ -1,5 +1,5 @@
 -- The least values that a responder may choose give the shortest answers.
-use Rattle.std.proofs.Common.{◌≡◌, ◌≤◌, ◌-◌, ℕ, List, refl, length, Option, Some, None, arith, length-append}
+use Rattle.std.proofs.Common.{◌≡◌, ◌≤◌, ◌-◌, ◌+◌, ◌⊎◌, ℕ, List, refl, inl, inr, length, Option, Some, None, arith, length-append}
 use Rattle.std.proofs.lemmas.List.{length-replicate}
 use Rattle.responder_machine.proofs.Ids.{free_id-range, free_id-unheld, not_four}
 use Rattle.responder_machine.specs.Answer.{Free, answer_bytes, answer_to, request_at}
@@ -73,40 +73,42 @@ module _ (r : RspSetup) (h : History) (p : Place) (m : List ℕ) (f k : Free) (f
   unfolding answer_bytes
   no_longer = shortest (request_at p m)
 
-  -- So many bytes longer it is as long as any other.
+  -- How much longer the other answer is.
   abbrev pub more : Option RequestMessage → ℕ
   more o = size_of r p m o f - size_of r p m o k
 
-  pub as_long : (o : Option RequestMessage) → size_of r p m o (lengthened k o (more o)) ≡ size_of r p m o f
-  as_long None = refl
-  as_long (Some (PskExchange x)) =
-      let n : ℕ = more (Some (PskExchange x)) in
-      let v : Free = lengthened k (Some (PskExchange x)) n in
-      let a = exchange_length r p m v x in let b = exchange_length r p m k x in
-      let less = shortest (Some (PskExchange x)) in
+  -- A longer answer has so many bytes more; or its length hangs on no value.
+  pub sized : (o : Option RequestMessage) (n : ℕ) → (size_of r p m o (lengthened k o n) ≡ size_of r p m o k + n) ⊎ (size_of r p m o (lengthened k o n) ≡ size_of r p m o f)
+  sized None n = inr refl
+  sized (Some (PskExchange x)) n =
+      let a = exchange_length r p m (lengthened k (Some (PskExchange x)) n) x in let b = exchange_length r p m k x in
       let one = length-append k.context (zeros n) in let two = length-replicate {A = ℕ} n 0 in
-      omega (arith, a, b, less, one, two)
-  as_long (Some (GetMeasurements op)) =
-      let n : ℕ = more (Some (GetMeasurements op)) in
-      let v : Free = lengthened k (Some (GetMeasurements op)) n in
-      let a = measured_length r v op in let b = measured_length r k op in
-      let less = shortest (Some (GetMeasurements op)) in
+      inl (omega (arith, a, b, one, two))
+  sized (Some (GetMeasurements op)) n =
+      let a = measured_length r (lengthened k (Some (GetMeasurements op)) n) op in let b = measured_length r k op in
       let one = length-append k.measured_opaque (zeros n) in let two = length-replicate {A = ℕ} n 0 in
-      omega (arith, a, b, less, one, two)
-  as_long (Some GetVersion) = refl
-  as_long (Some (GetCapabilities caps)) = refl
-  as_long (Some (NegotiateAlgorithms offer)) = refl
-  as_long (Some (PskFinish verify)) = refl
-  as_long (Some Heartbeat) = refl
-  as_long (Some (KeyUpdate op tag)) = refl
-  as_long (Some EndSession) = refl
-  as_long (Some (ChunkSend chunk)) = refl
-  as_long (Some (ChunkGet handle number)) = refl
+      inl (omega (arith, a, b, one, two))
+  sized (Some GetVersion) n = inr refl
+  sized (Some (GetCapabilities caps)) n = inr refl
+  sized (Some (NegotiateAlgorithms offer)) n = inr refl
+  sized (Some (PskFinish verify)) n = inr refl
+  sized (Some Heartbeat) n = inr refl
+  sized (Some (KeyUpdate op tag)) n = inr refl
+  sized (Some EndSession) n = inr refl
+  sized (Some (ChunkSend chunk)) n = inr refl
+  sized (Some (ChunkGet handle number)) n = inr refl
 
-  pub longer_allowed : (o : Option RequestMessage) → IsAllowed h p (lengthened k o (more o))
-  longer_allowed None = may
-  longer_allowed (Some (PskExchange x)) =
-      let one = length-append k.context (zeros (more (Some (PskExchange x)))) in record {
+  pub as_long : (o : Option RequestMessage) → size_of r p m o (lengthened k o (more o)) ≡ size_of r p m o f
+  as_long o = elim (sized o (more o)) [
+    | inl grown ↦ (let less = shortest o in omega (arith, grown, less))
+    | inr same ↦ same
+  ]
+
+  -- At most as many bytes longer it is allowed.
+  pub longer_allowed : (o : Option RequestMessage) (n : ℕ) → n ≤ more o → IsAllowed h p (lengthened k o n)
+  longer_allowed None n few = may
+  longer_allowed (Some (PskExchange x)) n few =
+      let one = length-append k.context (zeros n) in record {
         least = may.least;
         most = may.most;
         unused = may.unused;
@@ -118,8 +120,7 @@ module _ (r : RspSetup) (h : History) (p : Place) (m : List ℕ) (f k : Free) (f
         reply = may.reply;
         pad = may.pad;
       }
-  longer_allowed (Some (GetMeasurements op)) =
-      let n : ℕ = more (Some (GetMeasurements op)) in
+  longer_allowed (Some (GetMeasurements op)) n few =
       let a = measured_length r f op in let b = measured_length r k op in
       let one = length-append k.measured_opaque (zeros n) in let two = length-replicate {A = ℕ} n 0 in record {
         least = may.least;
@@ -128,20 +129,35 @@ module _ (r : RspSetup) (h : History) (p : Place) (m : List ℕ) (f k : Free) (f
         context = may.context;
         exchange_opaque = may.exchange_opaque;
         nonce = may.nonce;
-        measured_opaque = omega (arith, a, b, one, two, fits.nonce, fits.measured_opaque, least.nonce, least.measured_opaque);
+        measured_opaque = omega (arith, a, b, one, two, few, fits.nonce, fits.measured_opaque, least.nonce, least.measured_opaque);
         handle = may.handle;
         reply = may.reply;
         pad = may.pad;
       }
-  longer_allowed (Some GetVersion) = may
-  longer_allowed (Some (GetCapabilities caps)) = may
-  longer_allowed (Some (NegotiateAlgorithms offer)) = may
-  longer_allowed (Some (PskFinish verify)) = may
-  longer_allowed (Some Heartbeat) = may
-  longer_allowed (Some (KeyUpdate op tag)) = may
-  longer_allowed (Some EndSession) = may
-  longer_allowed (Some (ChunkSend chunk)) = may
-  longer_allowed (Some (ChunkGet handle number)) = may
+  longer_allowed (Some GetVersion) n few = may
+  longer_allowed (Some (GetCapabilities caps)) n few = may
+  longer_allowed (Some (NegotiateAlgorithms offer)) n few = may
+  longer_allowed (Some (PskFinish verify)) n few = may
+  longer_allowed (Some Heartbeat) n few = may
+  longer_allowed (Some (KeyUpdate op tag)) n few = may
+  longer_allowed (Some EndSession) n few = may
+  longer_allowed (Some (ChunkSend chunk)) n few = may
+  longer_allowed (Some (ChunkGet handle number)) n few = may
+
+-- No length hangs on the handle.
+pub handle_free : (r : RspSetup) (p : Place) (m : List ℕ) (v : Free) (handle : ℕ) (o : Option RequestMessage) → size_of r p m o (record v { handle = handle }) ≡ size_of r p m o v
+handle_free r p m v handle None = refl
+handle_free r p m v handle (Some (PskExchange x)) = refl
+handle_free r p m v handle (Some (GetMeasurements op)) = refl
+handle_free r p m v handle (Some GetVersion) = refl
+handle_free r p m v handle (Some (GetCapabilities caps)) = refl
+handle_free r p m v handle (Some (NegotiateAlgorithms offer)) = refl
+handle_free r p m v handle (Some (PskFinish verify)) = refl
+handle_free r p m v handle (Some Heartbeat) = refl
+handle_free r p m v handle (Some (KeyUpdate op tag)) = refl
+handle_free r p m v handle (Some EndSession) = refl
+handle_free r p m v handle (Some (ChunkSend chunk)) = refl
+handle_free r p m v handle (Some (ChunkGet other number)) = refl
 
 pub longer_pad : (k : Free) (o : Option RequestMessage) (n : ℕ) → (lengthened k o n).pad ≡ k.pad
 longer_pad k None n = refl

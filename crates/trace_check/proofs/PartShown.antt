@@ -1,5 +1,5 @@
 -- One response shows the values that were chosen for it.
-use Rattle.std.proofs.Common.{◌≡◌, ◌≢◌, ◌<◌, ◌≤◌, ◌-◌, ◌==◌, ◌⊎◌, ℕ, List, refl, sym, ap, ◌∙◌, subst, length, drop, Bool, false, Option, Some, None, cond, inl, inr, arith}
+use Rattle.std.proofs.Common.{◌≡◌, ◌≢◌, ◌<◌, ◌≤◌, ◌-◌, ◌==◌, ◌⊎◌, ℕ, List, refl, sym, ap, ◌∙◌, subst, length, drop, Bool, true, false, Option, Some, None, cond, inl, inr, arith}
 use Rattle.std.specs.Prelude.{slice_index}
 use Rattle.byteorder.specs.Endian.{little_bytes, little_number}
 use Rattle.responder_machine.specs.Answer.{Free, answer_bytes, answer_of, answer_to, request_at}
@@ -16,28 +16,32 @@ use Rattle.spdm_grammar.specs.Responses.{canonical_response, response_in}
 use Rattle.spdm_grammar.specs.declared.error_code.ErrorCode.{ErrorCode}
 use Rattle.spdm_grammar.specs.declared.error_code.ErrorCode.TheVariants.{InvalidRequest, UnexpectedRequest, Unspecified, DecryptError, UnsupportedRequest, SessionLimitExceeded, SessionRequired, ResponseTooLarge, RequestTooLarge, LargeResponse, VersionMismatch}
 use Rattle.spdm_grammar.specs.declared.names.TheConstants.{MAX_MESSAGE_SIZE}
-use Rattle.spdm_grammar.specs.declared.names.error_number.TheConstants.{RESPONSE_TOO_LARGE}
+use Rattle.spdm_grammar.specs.declared.names.error_number.TheConstants.{LARGE_RESPONSE, RESPONSE_TOO_LARGE}
 use Rattle.spdm_grammar.specs.declared.names.response_code.TheConstants.{ERROR}
 use Rattle.spdm_machine.specs.Terms.{hash_len}
 use Rattle.trace_check.proofs.AnswerLengths.{exchange_read, measured_read}
-use Rattle.trace_check.specs.AnswersShown.{asks_summary, lengthened, values_in, values_in_error, with_fields}
-use Rattle.trace_check.proofs.LeastValues.{AreLeast, as_long, longer_allowed, longer_pad, no_longer}
-use Rattle.trace_check.proofs.ShorterAnswers.{error_by_length, refusal_by_length, refused_shorter}
+use Rattle.trace_check.specs.AnswersShown.{asks_summary, least_large, lengthened, values_in, values_in_error, with_fields}
+use Rattle.trace_check.proofs.LeastValues.{AreLeast, as_long, handle_free, longer_allowed, longer_pad, more, no_longer, shortest, size_of, sized}
+use Rattle.trace_check.proofs.ShorterAnswers.{error_by_length, large_least, large_too, refusal_by_length, refused_shorter, taken_shorter}
 
 -- ---- ERROR.
 
-which_error : (e : ErrorCode) → (e ≡ ResponseTooLarge) ⊎ ((e ≢ ResponseTooLarge) × ((error_number e == RESPONSE_TOO_LARGE) ≡ false))
-which_error InvalidRequest = inr (λ same. absurd (cc), refl)
-which_error UnexpectedRequest = inr (λ same. absurd (cc), refl)
-which_error Unspecified = inr (λ same. absurd (cc), refl)
-which_error DecryptError = inr (λ same. absurd (cc), refl)
-which_error UnsupportedRequest = inr (λ same. absurd (cc), refl)
-which_error SessionLimitExceeded = inr (λ same. absurd (cc), refl)
-which_error SessionRequired = inr (λ same. absurd (cc), refl)
-which_error ResponseTooLarge = inl refl
-which_error RequestTooLarge = inr (λ same. absurd (cc), refl)
-which_error LargeResponse = inr (λ same. absurd (cc), refl)
-which_error VersionMismatch = inr (λ same. absurd (cc), refl)
+-- A code other than the two that show something.
+abbrev IsSilent : ErrorCode → Type 0
+IsSilent e = (e ≢ ResponseTooLarge) × ((error_number e == RESPONSE_TOO_LARGE) ≡ false) × ((error_number e == LARGE_RESPONSE) ≡ false)
+
+which_error : (e : ErrorCode) → e ≢ LargeResponse → (e ≡ ResponseTooLarge) ⊎ IsSilent e
+which_error InvalidRequest other = inr (λ same. absurd (cc), refl, refl)
+which_error UnexpectedRequest other = inr (λ same. absurd (cc), refl, refl)
+which_error Unspecified other = inr (λ same. absurd (cc), refl, refl)
+which_error DecryptError other = inr (λ same. absurd (cc), refl, refl)
+which_error UnsupportedRequest other = inr (λ same. absurd (cc), refl, refl)
+which_error SessionLimitExceeded other = inr (λ same. absurd (cc), refl, refl)
+which_error SessionRequired other = inr (λ same. absurd (cc), refl, refl)
+which_error ResponseTooLarge other = inl refl
+which_error RequestTooLarge other = inr (λ same. absurd (cc), refl, refl)
+which_error LargeResponse other = absurd (other refl)
+which_error VersionMismatch other = inr (λ same. absurd (cc), refl, refl)
 
 -- The reply to a message, by whether it is refused.
 abbrev pub reply_by : RspSetup → Place → List ℕ → Free → Option ErrorCode → List ℕ
@@ -65,7 +69,7 @@ module _ (r : RspSetup) (h : History) (p : Place) (m : List ℕ) (f k : Free) (f
 
   long_allowed : IsAllowed h p (long_value (length (answer_bytes r p m f)))
   unfolding answer_bytes
-  long_allowed = longer_allowed r h p m f k fits may least (request_at p m)
+  long_allowed = longer_allowed r h p m f k fits may least (request_at p m) (more r h p m f k fits may least (request_at p m)) (omega arith)
 
   long_gives : GiveReply r h p m f k (long_value (length (answer_bytes r p m f))) (Some ResponseTooLarge)
   long_gives =
@@ -86,14 +90,65 @@ module _ (r : RspSetup) (h : History) (p : Place) (m : List ℕ) (f k : Free) (f
     pad = refl;
   })
 
-  -- The values that an ERROR shows.
-  pub error_gives : (e : ErrorCode) → GiveReply r h p m f k (values_in r p m k (error_bytes r p m f e)) (Some e)
-  error_gives e = elim (which_error e) [
+  -- The values that an ERROR shows with which a message is refused.
+  pub error_gives : (e : ErrorCode) → e ≢ LargeResponse → GiveReply r h p m f k (values_in r p m k (error_bytes r p m f e)) (Some e)
+  error_gives e whole = elim (which_error e whole) [
     | inl same ↦ (let P : ErrorCode → Type 0 = λ x. GiveReply r h p m f k (values_in r p m k (error_bytes r p m f x)) (Some x) in
         subst P (sym same) (subst (λ (n : ℕ). GiveReply r h p m f k (long_value n) (Some ResponseTooLarge)) (sym (told (length (answer_bytes r p m f)) short)) long_gives))
-    | inr other ↦ (let Q : Bool → Type 0 = λ b. GiveReply r h p m f k (cond b (lengthened k (request_at p m) (little_number 4 (drop 4 (error_bytes r p m f e)) - length (answer_bytes r p m k))) k) (Some e) in
-        subst Q (sym other.1) (least_gives e other.0))
+    | inr silent ↦ (let long : Free = lengthened k (request_at p m) (little_number 4 (drop 4 (error_bytes r p m f e)) - length (answer_bytes r p m k)) in
+        let large : Free = record (lengthened k (request_at p m) (least_large p - length (answer_bytes r p m k))) { handle = slice_index (error_bytes r p m f e) 4 } in
+        let Q : Bool → Type 0 = λ b. GiveReply r h p m f k (cond b long (cond (error_number e == LARGE_RESPONSE) large k)) (Some e) in
+        let R : Bool → Type 0 = λ b. GiveReply r h p m f k (cond b large k) (Some e) in
+        subst Q (sym silent.1) (subst R (sym silent.2) (least_gives e silent.0)))
   ]
+
+  -- ---- LargeResponse.
+
+  abbrev large_value : Free
+  large_value = record (lengthened k (request_at p m) (least_large p - length (answer_bytes r p m k))) { handle = f.handle }
+
+  -- The answer is large, and no longer than the other one.
+  large_sized : least_large p ≤ length (answer_bytes r p m f) → (least_large p ≤ length (answer_bytes r p m large_value)) × (length (answer_bytes r p m large_value) ≤ length (answer_bytes r p m f))
+  unfolding answer_bytes
+  large_sized long =
+      let o : Option RequestMessage = request_at p m in
+      let n : ℕ = least_large p - size_of r p m o k in
+      let less = shortest r h p m f k fits may least o in
+      let free : size_of r p m o large_value ≡ size_of r p m o (lengthened k o n) = handle_free r p m (lengthened k o n) f.handle o in
+      elim (sized r h p m f k fits may least o n) [
+        | inl grown ↦ (omega (arith, grown, free, less, long), omega (arith, grown, free, less, long))
+        | inr same ↦ (omega (arith, same, free, long), omega (arith, same, free))
+      ]
+
+  large_allowed : least_large p ≤ length (answer_bytes r p m f) → IsAllowed h p large_value
+  unfolding answer_bytes
+  large_allowed long =
+      let o : Option RequestMessage = request_at p m in
+      let n : ℕ = least_large p - size_of r p m o k in
+      let a = longer_allowed r h p m f k fits may least o n (omega (arith, long)) in record {
+        least = a.least;
+        most = a.most;
+        unused = a.unused;
+        context = a.context;
+        exchange_opaque = a.exchange_opaque;
+        nonce = a.nonce;
+        measured_opaque = a.measured_opaque;
+        handle = fits.handle;
+        reply = a.reply;
+        pad = a.pad;
+      }
+
+  large_gives : goes_large p (answer_bytes r p m f) ≡ true → GiveReply r h p m f k large_value None
+  large_gives large =
+      let long : least_large p ≤ length (answer_bytes r p m f) = large_least p (answer_bytes r p m f) large in
+      let known = large_sized long in record {
+        refusal = taken_shorter r p m f large_value known.1;
+        reply = ap (λ (b : Bool). cond b (large_response f.handle) (answer_bytes r p m large_value)) (large_too p (answer_bytes r p m f) (answer_bytes r p m large_value) large known.0)
+            ∙ sym (ap (λ (b : Bool). cond b (large_response f.handle) (answer_bytes r p m f)) large);
+        allowed = large_allowed long;
+        short = omega (arith, short);
+        pad = longer_pad k (request_at p m) _;
+      }
 
   -- ---- A response.
 
@@ -197,8 +252,14 @@ module _ (r : RspSetup) (h : History) (p : Place) (m : List ℕ) (f k : Free) (f
           pad = gives.2;
         }
 
-    -- The values that an answer shows which goes whole.
-    pub answer_gives : r.beat < 256 → goes_large p (answer_bytes r p m f) ≡ false → GiveReply r h p m f k (values_in r p m k (request_reply r p m f)) None
-    answer_gives byte whole =
-        let here : request_reply r p m f ≡ answer_bytes r p m f = ap (λ (b : Bool). cond b (large_response f.handle) (answer_bytes r p m f)) whole in
-        subst (λ (l : List ℕ). GiveReply r h p m f k (values_in r p m k l) None) (sym here) (whole_given (values_in r p m k (answer_bytes r p m f)) (answer_given byte) whole)
+    -- The values that an answer shows.
+    pub answer_gives : r.beat < 256 → GiveReply r h p m f k (values_in r p m k (request_reply r p m f)) None
+    answer_gives byte = by_size (goes_large p (answer_bytes r p m f)) refl
+      where
+        by_size : (b : Bool) → goes_large p (answer_bytes r p m f) ≡ b → GiveReply r h p m f k (values_in r p m k (request_reply r p m f)) None
+        by_size true large =
+            let here : request_reply r p m f ≡ large_response f.handle = ap (λ (b : Bool). cond b (large_response f.handle) (answer_bytes r p m f)) large in
+            subst (λ (l : List ℕ). GiveReply r h p m f k (values_in r p m k l) None) (sym here) (large_gives large)
+        by_size false whole =
+            let here : request_reply r p m f ≡ answer_bytes r p m f = ap (λ (b : Bool). cond b (large_response f.handle) (answer_bytes r p m f)) whole in
+            subst (λ (l : List ℕ). GiveReply r h p m f k (values_in r p m k l) None) (sym here) (whole_given (values_in r p m k (answer_bytes r p m f)) (answer_given byte) whole)

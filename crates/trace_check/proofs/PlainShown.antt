@@ -16,7 +16,7 @@ use Rattle.world_machine.specs.CapturedAnswers.{AnswersPlainly, AreShown, MayLea
 use Rattle.world_machine.specs.LargeAnswers.{judging}
 use Rattle.world_machine.specs.Rounds.{no_draw}
 
-plain_whole : (h : History) (o : Outcome) → is_plain h o ≡ true → is_whole o ≡ true
+pub plain_whole : (h : History) (o : Outcome) → is_plain h o ≡ true → is_whole o ≡ true
 plain_whole h (Same b) plain = refl
 plain_whole h (Unopened b) plain = refl
 plain_whole h (Adds e) plain = and_first _ _ plain

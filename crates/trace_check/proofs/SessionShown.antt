@@ -1,7 +1,8 @@
 -- The record that answers a record shows the values that it was answered at.
-use Rattle.std.proofs.Common.{◌≡◌, ◌<◌, ◌≤◌, ◌+◌, ◌==◌, ℕ, List, ◌∷◌, ◌++◌, refl, sym, ap, ◌∙◌, subst, length, drop, take, Bool, true, false, Option, Some, None, is_some, cond, arith}
+use Rattle.std.proofs.Common.{◌≡◌, ◌≢◌, ◌<◌, ◌≤◌, ◌+◌, ◌==◌, ◌&&◌, ◌||◌, ℕ, List, [], ◌∷◌, ◌++◌, refl, sym, ap, ◌∙◌, subst, length, drop, take, Bool, true, false, Option, Some, None, cond, arith}
 use Rattle.std.proofs.Math.Seq.{take-append_seam, drop-append_seam}
-use Rattle.std.specs.Prelude.{slice_index}
+use Rattle.std.proofs.lemmas.Option.{none-some, same_Some}
+use Rattle.std.specs.Prelude.{nat_lt, not, slice_index}
 use Rattle.byteorder.specs.Endian.{little_number}
 use Rattle.key_schedule.specs.Purpose.{Purpose, iv_of, key_of}
 use Rattle.responder_machine.specs.Answer.{Free, answer_bytes, request_at}
@@ -11,50 +12,46 @@ use Rattle.responder_machine.specs.May.{IsAllowed}
 use Rattle.responder_machine.specs.Place.{Place, session_place}
 use Rattle.responder_machine.specs.Records.{reply_record, response_purpose}
 use Rattle.responder_machine.specs.Refusal.{refusal}
-use Rattle.responder_machine.specs.Responder.{data_turn, inner_refusal, inner_reply, session_turn, session_turn_by}
+use Rattle.responder_machine.specs.Responder.{data_turn, inner_refusal, inner_reply, is_open, session_turn, session_turn_by}
 use Rattle.responder_machine.specs.Session.{Events, exchange_answer, exchange_of, id_bytes, response_epoch, response_next, session_terms, stage_of}
 use Rattle.responder_machine.specs.Setup.{RspSetup}
-use Rattle.responder_machine.specs.Turn.Effect.{TookData}
-use Rattle.responder_machine.specs.Turn.{Turn, handle_in, is_data, updates}
+use Rattle.responder_machine.specs.Turn.{Turn, is_data, updates}
 use Rattle.secured_record.proofs.Records.{inner_length, opened_text-record}
 use Rattle.secured_record.specs.Faults.{opened_text}
 use Rattle.secured_record.specs.Format.{plain_text}
+use Rattle.spdm_basis.specs.Tests.{first_of_tests}
 use Rattle.spdm_grammar.specs.Message.{ChunkMessage, RequestMessage}
 use Rattle.spdm_grammar.specs.declared.error_code.ErrorCode.{ErrorCode}
+use Rattle.spdm_grammar.specs.declared.error_code.ErrorCode.TheVariants.{InvalidRequest, LargeResponse, RequestTooLarge, UnexpectedRequest}
+use Rattle.spdm_grammar.specs.declared.phase.Stage.{Stage}
 use Rattle.spdm_grammar.specs.declared.names.TheConstants.{MAX_MESSAGE_SIZE}
 use Rattle.spdm_machine.specs.Keys.{sealed_of}
 use Rattle.spdm_machine.specs.Sessions.{id_in_exchange}
 use Rattle.trace_check.proofs.LeastValues.{AreLeast, least_allowed, least_are, no_longer, padded}
 use Rattle.trace_check.proofs.PartShown.{GiveReply, answer_gives, error_gives, reply_by}
-use Rattle.trace_check.proofs.TurnShown.{goes_whole, turn_same}
 use Rattle.trace_check.specs.AnswersShown.{answered_text, least_values, values_in, values_in_inner, values_in_text}
 use Rattle.world_machine.proofs.RecordsTell.{session_short}
 use Rattle.world_machine.proofs.RepliesTell.{no_chunk, updates_same}
-use Rattle.world_machine.proofs.TurnsAlike.{chunk_is, is_request}
+use Rattle.world_machine.proofs.TurnsAlike.{chunk_is, is_request, refusal_other}
 
 -- ---- A turn in a session.
+
+-- No inner message is refused with LargeResponse.
+inner_by : (a b c d : Bool) (e : ErrorCode) → first_of_tests ((a, InvalidRequest) ∷ (b, InvalidRequest) ∷ (c, UnexpectedRequest) ∷ (d, RequestTooLarge) ∷ []) ≡ Some e → e ≢ LargeResponse
+inner_by true b c d e is same = absurd (let one : InvalidRequest ≡ e = same_Some InvalidRequest e is in cc)
+inner_by false true c d e is same = absurd (let one : InvalidRequest ≡ e = same_Some InvalidRequest e is in cc)
+inner_by false false true d e is same = absurd (let one : UnexpectedRequest ≡ e = same_Some UnexpectedRequest e is in cc)
+inner_by false false false true e is same = absurd (let one : RequestTooLarge ≡ e = same_Some RequestTooLarge e is in cc)
+inner_by false false false false e is same = absurd (none-some e is)
+
+inner_other : (stage : Stage) (inner : List ℕ) (e : ErrorCode) → inner_refusal stage inner ≡ Some e → e ≢ LargeResponse
+inner_other stage inner e is =
+    inner_by (length inner == 0) (not (slice_index inner 0 == 5 || slice_index inner 0 == 1)) (slice_index inner 0 == 1 && not (is_open stage)) (slice_index inner 0 == 1 && nat_lt 1025 (length inner)) e is
 
 -- No SPDM message is application data.
 effect_no_data : (o : Option RequestMessage) (text answer : List ℕ) (large : Option ℕ) → is_data (effect_of o text answer large) ≡ false
 effect_no_data None text answer large = refl
 effect_no_data (Some asked) text answer large = refl
-
--- The reply in a session tells the turn, where that does not go by LargeResponse.
-turn_by_reply : (r : RspSetup) (s : Events) (request : List ℕ) (v f : Free) (x : Option ErrorCode) → (session_turn_by r s request v x).reply ≡ (session_turn_by r s request f x).reply → is_some (handle_in (session_turn_by r s request f x).effect) ≡ false
-    → session_turn_by r s request v x ≡ session_turn_by r s request f x
-turn_by_reply r s request v f (Some e) same small = ap (λ (l : List ℕ). record (session_turn_by r s request f (Some e)) { reply = l }) same
-turn_by_reply r s request v f None same small = by_type (slice_index request 0 == 5) same small
-  where
-    by_type : (b : Bool) → (cond b (turn_of r (session_place s) (drop 1 request) v) (data_turn v (drop 1 request))).reply ≡ (cond b (turn_of r (session_place s) (drop 1 request) f) (data_turn f (drop 1 request))).reply
-        → is_some (handle_in (cond b (turn_of r (session_place s) (drop 1 request) f) (data_turn f (drop 1 request))).effect) ≡ false
-        → cond b (turn_of r (session_place s) (drop 1 request) v) (data_turn v (drop 1 request)) ≡ cond b (turn_of r (session_place s) (drop 1 request) f) (data_turn f (drop 1 request))
-    by_type true same small = turn_same r (session_place s) (drop 1 request) v f same small
-    by_type false same small = ap (λ (l : List ℕ). record (data_turn f (drop 1 request)) { effect = TookData (drop 1 request) l; reply = l }) same
-
-pub turn_is : (r : RspSetup) (s : Events) (request : List ℕ) (v f : Free) → inner_reply (session_turn r s request v) ≡ inner_reply (session_turn r s request f) → is_some (handle_in (session_turn r s request f).effect) ≡ false
-    → session_turn r s request v ≡ session_turn r s request f
-unfolding session_turn
-turn_is r s request v f same small = turn_by_reply r s request v f (inner_refusal (stage_of s) request) (ap (λ (l : List ℕ). drop 1 l) same) small
 
 -- These values lead to the same inner message.
 pub record GiveInner (r : RspSetup) (h : History) (s : Events) (request : List ℕ) (f k v : Free) : Type 0 where
@@ -68,13 +65,13 @@ module _ (r : RspSetup) (h : History) (s : Events) (f k : Free) (byte : r.beat <
   p = session_place s
 
   module _ (m : List ℕ) (short : length (answer_bytes r p m f) ≤ MAX_MESSAGE_SIZE) where
-    message_gives : (o : Option ErrorCode) (c : Option ChunkMessage) → refusal r p m f ≡ o → chunk_in (request_at p m) ≡ c → is_some (handle_in (turn_by r p m f o c).effect) ≡ false
+    message_gives : (o : Option ErrorCode) (c : Option ChunkMessage) → refusal r p m f ≡ o → chunk_in (request_at p m) ≡ c
         → GiveReply r h p m f k (values_in r p m k (turn_by r p m f o c).reply) o
-    message_gives (Some e) c is asks small = error_gives r h p m f k fits may least short e
-    message_gives None None is asks small =
+    message_gives (Some e) c is asks = error_gives r h p m f k fits may least short e (refusal_other r p m f e is)
+    message_gives None None is asks =
         let one = is_request r p m f is in
-        answer_gives r h p m f k fits may least short one.0 one.1 byte (goes_whole r p m f one.0 one.1 small)
-    message_gives None (Some c) is asks small = absurd (no_chunk r s m f c (chunk_is (request_at p m) c asks) is)
+        answer_gives r h p m f k fits may least short one.0 one.1 byte
+    message_gives None (Some c) is asks = absurd (no_chunk r s m f c (chunk_is (request_at p m) c asks) is)
 
     as_reply : (v : Free) (o : Option ErrorCode) (c : Option ChunkMessage) → chunk_in (request_at p m) ≡ c → refusal r p m v ≡ o
         → (is_data (turn_by r p m v o c).effect ≡ false) × ((turn_by r p m v o c).reply ≡ reply_by r p m v o)
@@ -89,10 +86,10 @@ module _ (r : RspSetup) (h : History) (s : Events) (f k : Free) (byte : r.beat <
         let known = as_reply v (refusal r p m v) (chunk_in (request_at p m)) refl refl in
         ap (λ (b : Bool). cond b 1 5 ∷ (turn_of r p m v).reply) known.0 ∙ ap (λ (l : List ℕ). 5 ∷ l) known.1
 
-    values_of_turn : is_some (handle_in (turn_of r p m f).effect) ≡ false → GiveReply r h p m f k (values_in r p m k (reply_by r p m f (refusal r p m f))) (refusal r p m f)
+    values_of_turn : GiveReply r h p m f k (values_in r p m k (reply_by r p m f (refusal r p m f))) (refusal r p m f)
     unfolding turn_of
-    values_of_turn small =
-        let gives = message_gives (refusal r p m f) (chunk_in (request_at p m)) refl refl small in
+    values_of_turn =
+        let gives = message_gives (refusal r p m f) (chunk_in (request_at p m)) refl refl in
         let known = as_reply f (refusal r p m f) (chunk_in (request_at p m)) refl refl in
         subst (λ (l : List ℕ). GiveReply r h p m f k (values_in r p m k l) (refusal r p m f)) known.1 gives
 
@@ -109,12 +106,12 @@ module _ (r : RspSetup) (h : History) (s : Events) (f k : Free) (byte : r.beat <
         × IsAllowed h p v × (length (answer_bytes r p m v) ≤ MAX_MESSAGE_SIZE) × (v.pad ≡ k.pad)
 
     -- An SPDM message.
-    spdm_gives : is_some (handle_in (turn_of r p m f).effect) ≡ false → let v = value (inner_reply (turn_of r p m f)) in
+    spdm_gives : let v = value (inner_reply (turn_of r p m f)) in
         (inner_reply (turn_of r p m v) ≡ inner_reply (turn_of r p m f)) × IsAllowed h p v × (length (answer_bytes r p m v) ≤ MAX_MESSAGE_SIZE) × (v.pad ≡ k.pad)
-    spdm_gives small =
+    spdm_gives =
         let o : Option ErrorCode = refusal r p m f in
         let v : Free = values_in r p m k (reply_by r p m f o) in
-        let gives = values_of_turn m short small in
+        let gives = values_of_turn m short in
         let text = typed m short f in
         let there : inner_reply (turn_of r p m v) ≡ inner_reply (turn_of r p m f) =
         typed m short v ∙ ap (λ (x : Option ErrorCode). 5 ∷ reply_by r p m v x) (gives.refusal refl) ∙ ap (λ (l : List ℕ). 5 ∷ l) gives.reply ∙ sym text in
@@ -139,26 +136,25 @@ module _ (r : RspSetup) (h : History) (s : Events) (f k : Free) (byte : r.beat <
     data_least : AreLeast p (record k { reply = f.reply })
     data_least = record { context = least.context; exchange_opaque = least.exchange_opaque; nonce = least.nonce; measured_opaque = least.measured_opaque }
 
-    by_type : (b : Bool) → is_some (handle_in (cond b (turn_of r p m f) (data_turn f m)).effect) ≡ false
-        → let v = value (inner_reply (cond b (turn_of r p m f) (data_turn f m))) in
+    by_type : (b : Bool) → let v = value (inner_reply (cond b (turn_of r p m f) (data_turn f m))) in
         (inner_reply (cond b (turn_of r p m v) (data_turn v m)) ≡ inner_reply (cond b (turn_of r p m f) (data_turn f m)))
         × IsAllowed h p v × (length (answer_bytes r p m v) ≤ MAX_MESSAGE_SIZE) × (v.pad ≡ k.pad)
-    by_type true small = spdm_gives small
-    by_type false small =
+    by_type true = spdm_gives
+    by_type false =
         let less = no_longer r h p m f (record k { reply = f.reply }) fits data_allowed data_least in
         (refl, data_allowed, omega (arith, short), refl)
 
-    by_refusal : (x : Option ErrorCode) → is_some (handle_in (session_turn_by r s request f x).effect) ≡ false → Gives x (value (inner_reply (session_turn_by r s request f x)))
-    by_refusal (Some e) small =
-        let gives = error_gives r h p m f k fits may least short e in
+    by_refusal : (x : Option ErrorCode) → ((e : ErrorCode) → x ≡ Some e → e ≢ LargeResponse) → Gives x (value (inner_reply (session_turn_by r s request f x)))
+    by_refusal (Some e) other =
+        let gives = error_gives r h p m f k fits may least short e (other e refl) in
         (ap (λ (l : List ℕ). 5 ∷ l) gives.reply, gives.allowed, gives.short, gives.pad)
-    by_refusal None small = by_type (slice_index request 0 == 5) small
+    by_refusal None other = by_type (slice_index request 0 == 5)
 
     -- The values that an inner message shows give it.
-    pub inner_gives : is_some (handle_in (session_turn r s request f).effect) ≡ false → GiveInner r h s request f k (value (inner_reply (session_turn r s request f)))
+    pub inner_gives : GiveInner r h s request f k (value (inner_reply (session_turn r s request f)))
     unfolding session_turn
-    inner_gives small =
-        let known = by_refusal (inner_refusal (stage_of s) request) small in
+    inner_gives =
+        let known = by_refusal (inner_refusal (stage_of s) request) (inner_other (stage_of s) request) in
         record { inner = known.0; allowed = known.1; short = known.2; pad = known.3 }
 
 -- ---- The record.
@@ -208,24 +204,22 @@ text_shows r s request f inner pad short =
 
 -- The values that a record shows give it.
 pub record GiveRecord (r : RspSetup) (h : History) (s : Events) (request : List ℕ) (f v : Free) : Type 0 where
-  pub turn : session_turn r s request v ≡ session_turn r s request f
   pub reply : reply_record r.psk s (session_turn r s request v) (inner_reply (session_turn r s request v)) v.pad ≡ reply_record r.psk s (session_turn r s request f) (inner_reply (session_turn r s request f)) f.pad
   pub allowed : IsAllowed h (session_place s) v
   pub short : length (answer_bytes r (session_place s) (drop 1 request) v) ≤ MAX_MESSAGE_SIZE
 
 pub record_gives : (r : RspSetup) (h : History) (s : Events) (request : List ℕ) (f : Free) (u : Turn) → r.beat < 256 → IsAllowed h (session_place s) f → length (answer_bytes r (session_place s) (drop 1 request) f) ≤ MAX_MESSAGE_SIZE
-    → updates 2 u ≡ updates 2 (session_turn r s request f) → is_some (handle_in (session_turn r s request f).effect) ≡ false
+    → updates 2 u ≡ updates 2 (session_turn r s request f)
     → GiveRecord r h s request f (values_in_text r s request (least_values h (session_place s)) (answered_text r s u (reply_record r.psk s (session_turn r s request f) (inner_reply (session_turn r s request f)) f.pad)))
-record_gives r h s request f u byte fits short same small =
+record_gives r h s request f u byte fits short same =
     let t : Turn = session_turn r s request f in
     let k : Free = padded h (session_place s) f.pad in
-    let gives = inner_gives r h s f k byte fits (least_allowed h (session_place s) f.pad fits.pad) (least_are h (session_place s) f.pad) request short small in
+    let gives = inner_gives r h s f k byte fits (least_allowed h (session_place s) f.pad fits.pad) (least_are h (session_place s) f.pad) request short in
     let v : Free = values_in_inner r s request k (inner_reply t) in
     let brief : length (inner_reply t) < 65536 = (let e = session_short r s request f short fits.reply in omega arith) in
     let there : values_in_text r s request (least_values h (session_place s)) (answered_text r s u (reply_record r.psk s t (inner_reply t) f.pad)) ≡ v =
     ap (values_in_text r s request (least_values h (session_place s))) (text_is r s t u (inner_reply t) f.pad same) ∙ text_shows r s request (least_values h (session_place s)) (inner_reply t) f.pad brief in
     subst (GiveRecord r h s request f) (sym there) (record {
-      turn = turn_is r s request v f gives.inner small;
       reply = record_is r.psk s (session_turn r s request v) t (inner_reply (session_turn r s request v)) (inner_reply t) v.pad f.pad (updates_alike r s request v f) gives.inner gives.pad;
       allowed = gives.allowed;
       short = gives.short;

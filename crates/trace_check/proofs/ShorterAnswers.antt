@@ -1,18 +1,21 @@
 -- Whether a message is refused hangs on the length of its answer alone.
-use Rattle.std.proofs.Common.{◌≡◌, ◌≢◌, ◌≤◌, ◌+◌, ◌&&◌, ◌||◌, ℕ, List, [], ◌∷◌, ◌++◌, refl, sym, ap, ◌∙◌, length, drop, take, Bool, true, false, Option, Some, None, cond, arith}
+use Rattle.std.proofs.Common.{◌≡◌, ◌≢◌, ◌≤◌, ◌+◌, ◌-◌, ◌&&◌, ◌||◌, ℕ, List, [], ◌∷◌, ◌++◌, refl, sym, ap, ◌∙◌, length, drop, take, Bool, true, false, Option, Some, None, cond, arith}
 use Rattle.std.specs.Prelude.{nat_lt, not}
 use Rattle.std.specs.Option.{option_or}
 use Rattle.std.proofs.lemmas.Bool.{false≢true}
 use Rattle.std.proofs.lemmas.Bool.Decides.{nat_tests}
 use Rattle.std.proofs.lemmas.Option.{same_Some}
 use Rattle.responder_machine.specs.Answer.{Free, answer_bytes}
-use Rattle.responder_machine.specs.Handling.{error_bytes}
+use Rattle.responder_machine.proofs.Tests.{contents_shown}
+use Rattle.responder_machine.specs.Handling.{error_bytes, goes_large}
 use Rattle.responder_machine.specs.Place.{Place, place_terms}
 use Rattle.responder_machine.specs.Refusal.{bytes_round, is_answer_too_long, refusal, refused_contents, refused_form, sizes_are_known, tests_of_contents}
 use Rattle.responder_machine.specs.Setup.{RspSetup}
+use Rattle.spdm_basis.proofs.Bools.{and_first, and_second}
 use Rattle.spdm_basis.specs.Tests.{first_of_tests}
 use Rattle.spdm_grammar.specs.declared.error_code.ErrorCode.{ErrorCode}
 use Rattle.spdm_grammar.specs.declared.error_code.ErrorCode.TheVariants.{InvalidRequest, UnexpectedRequest, Unspecified, DecryptError, UnsupportedRequest, SessionLimitExceeded, SessionRequired, ResponseTooLarge, RequestTooLarge, LargeResponse, VersionMismatch}
+use Rattle.trace_check.specs.AnswersShown.{least_large}
 
 -- ---- What hangs on the length alone.
 
@@ -101,3 +104,26 @@ refused_shorter r p m f k e other less is = by_long (is_answer_too_long p (answe
     by_long true false one two =
         refusal_is r p m k ∙ ap (λ (b : Bool). option_or (refused_form r p m) (contents_with r p m k b)) two
         ∙ refused_anyway r p m f k e other (sym (ap (λ (b : Bool). option_or (refused_form r p m) (contents_with r p m f b)) one) ∙ sym (refusal_is r p m f) ∙ is)
+
+-- A request that is taken is so under values that give a shorter answer.
+pub taken_shorter : (r : RspSetup) (p : Place) (m : List ℕ) (f k : Free) → length (answer_bytes r p m k) ≤ length (answer_bytes r p m f) → refusal r p m f ≡ None → refusal r p m k ≡ None
+taken_shorter r p m f k less none =
+    let brief : is_answer_too_long p (answer_bytes r p m f) ≡ false = contents_shown r p m f none 10 in
+    same_refusal r p m k f (shorter p (length (answer_bytes r p m f)) (length (answer_bytes r p m k)) less brief ∙ sym brief) ∙ none
+
+-- ---- LargeResponse.
+
+at_least : (transfer round n : ℕ) → nat_lt transfer (round + n) ≡ true → transfer + 1 - round ≤ n
+at_least transfer round n is = grind (arith, nat_tests)
+
+so_large : (transfer round n : ℕ) → transfer + 1 - round ≤ n → nat_lt transfer (round + n) ≡ true
+so_large transfer round n long = grind (arith, nat_tests)
+
+pub large_least : (p : Place) (answer : List ℕ) → goes_large p answer ≡ true → least_large p ≤ length answer
+large_least p answer large = at_least (place_terms p).common.to_requester.transfer (bytes_round p.at) (length answer) (and_second (sizes_are_known p.phase) _ large)
+
+-- An answer that is long enough goes so where another one does.
+pub large_too : (p : Place) (answer other : List ℕ) → goes_large p answer ≡ true → least_large p ≤ length other → goes_large p other ≡ true
+large_too p answer other large long =
+    ap (λ (b : Bool). b && nat_lt (place_terms p).common.to_requester.transfer (bytes_round p.at + length other)) (and_first (sizes_are_known p.phase) _ large)
+    ∙ so_large (place_terms p).common.to_requester.transfer (bytes_round p.at) (length other) long

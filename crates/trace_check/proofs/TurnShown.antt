@@ -1,11 +1,10 @@
 -- The reply to a message shows the values that it was answered at.
-use Rattle.std.proofs.Common.{◌≡◌, ◌<◌, ◌≤◌, ◌==◌, ◌&&◌, ℕ, List, [], refl, sym, ap, ◌∙◌, subst, length, drop, Bool, true, false, Option, Some, None, is_some, cond, arith}
+use Rattle.std.proofs.Common.{◌≡◌, ◌<◌, ◌≤◌, ◌==◌, ◌&&◌, ℕ, List, [], refl, sym, ap, ◌∙◌, subst, length, drop, Bool, true, false, Option, Some, None, cond, arith}
 use Rattle.std.proofs.Math.Bool.{and-false}
 use Rattle.std.specs.Prelude.{slice_index}
-use Rattle.std.proofs.lemmas.Bool.{false≢true}
 use Rattle.chunking.specs.Collecting.{joined_with, under_way}
 use Rattle.responder_machine.specs.Answer.{Free, answer_bytes, answer_to, request_at}
-use Rattle.responder_machine.specs.Handling.{acknowledged, carried_turn, chunk_in, effect_of, error_bytes, goes_large, last_chunk_turn, taken_chunk, turn_by, turn_of}
+use Rattle.responder_machine.specs.Handling.{acknowledged, carried_turn, chunk_in, error_bytes, last_chunk_turn, taken_chunk, turn_by, turn_of}
 use Rattle.responder_machine.specs.History.{History}
 use Rattle.responder_machine.specs.LargeMessages.{chunks_of}
 use Rattle.responder_machine.specs.May.{IsAllowed}
@@ -13,8 +12,8 @@ use Rattle.responder_machine.specs.Place.{Place, inside}
 use Rattle.responder_machine.specs.Refusal.{refusal}
 use Rattle.responder_machine.specs.Setup.{RspSetup}
 use Rattle.responder_machine.specs.Turn.Effect.{NoEffect}
-use Rattle.responder_machine.specs.Turn.{Turn, handle_in}
-use Rattle.spdm_grammar.specs.Message.{ChunkMessage, RequestMessage}
+use Rattle.responder_machine.specs.Turn.{Turn}
+use Rattle.spdm_grammar.specs.Message.{ChunkMessage}
 use Rattle.spdm_grammar.specs.Message.RequestMessage.{ChunkSend}
 use Rattle.spdm_grammar.specs.declared.error_code.ErrorCode.{ErrorCode}
 use Rattle.spdm_grammar.specs.declared.names.TheConstants.{MAX_MESSAGE_SIZE}
@@ -23,27 +22,8 @@ use Rattle.trace_check.proofs.LeastValues.{AreLeast, shortest}
 use Rattle.trace_check.proofs.PartShown.{GiveReply, answer_gives, error_gives, reply_by}
 use Rattle.trace_check.proofs.ShorterAnswers.{error_by_length, refusal_by_length}
 use Rattle.trace_check.specs.AnswersShown.{values_in, values_in_reply}
-use Rattle.world_machine.proofs.RecordsTell.{one_place}
-use Rattle.world_machine.proofs.TurnsAlike.{chunk_is, is_request, turn_told, turns_large, turns_same}
+use Rattle.world_machine.proofs.TurnsAlike.{chunk_is, is_request, refusal_other}
 use Rattle.world_machine.specs.CapturedAnswers.{answer_at}
-
--- An answer that did not go by LargeResponse is not long enough for it.
-whole_by : (o : Option RequestMessage) (asked : RequestMessage) (text answer : List ℕ) (b : Bool) (n : ℕ) → o ≡ Some asked → is_some (handle_in (effect_of o text answer (cond b (Some n) None))) ≡ false → b ≡ false
-whole_by o asked text answer b n is small = by_size b (subst (λ (x : Option RequestMessage). is_some (handle_in (effect_of x text answer (cond b (Some n) None))) ≡ false) is small)
-  where
-    by_size : (c : Bool) → is_some (handle_in (effect_of (Some asked) text answer (cond c (Some n) None))) ≡ false → c ≡ false
-    by_size true small = absurd (false≢true (sym small))
-    by_size false small = refl
-
-pub goes_whole : (r : RspSetup) (p : Place) (m : List ℕ) (f : Free) (asked : RequestMessage) → request_at p m ≡ Some asked
-    → is_some (handle_in (effect_of (request_at p m) m (answer_bytes r p m f) (cond (goes_large p (answer_bytes r p m f)) (Some f.handle) None))) ≡ false → goes_large p (answer_bytes r p m f) ≡ false
-goes_whole r p m f asked is small = whole_by (request_at p m) asked m (answer_bytes r p m f) (goes_large p (answer_bytes r p m f)) f.handle is small
-
--- A reply tells the turn, where that does not go by LargeResponse.
-pub turn_same : (r : RspSetup) (p : Place) (m : List ℕ) (v f : Free) → (turn_of r p m v).reply ≡ (turn_of r p m f).reply → is_some (handle_in (turn_of r p m f).effect) ≡ false → turn_of r p m v ≡ turn_of r p m f
-turn_same r p m v f same small =
-    let alike = turn_told r p p m v f (one_place p m) same in
-    turns_same (turn_of r p m v) (turn_of r p m f) alike (turns_large (turn_of r p m v) (turn_of r p m f) alike ∙ small)
 
 -- What is allowed in the clear is so for a large request that comes there.
 pub inside_allowed : (h : History) (p : Place) (f : Free) → IsAllowed h p f → IsAllowed h (inside p) f
@@ -113,12 +93,12 @@ module _ (r : RspSetup) (h : History) (p : Place) (m : List ℕ) (f k : Free) (b
     carried_reply v (Some e) = refl
     carried_reply v None = refl
 
-    whole_gives : (o : Option ErrorCode) → refusal r (inside p) whole f ≡ o → length (answer_bytes r (inside p) whole f) ≤ MAX_MESSAGE_SIZE → is_some (handle_in (carried_turn r (inside p) m f c whole o).effect) ≡ false
+    whole_gives : (o : Option ErrorCode) → refusal r (inside p) whole f ≡ o → length (answer_bytes r (inside p) whole f) ≤ MAX_MESSAGE_SIZE
         → GiveReply r h (inside p) whole f k (values_in r (inside p) whole k (reply_by r (inside p) whole f o)) o
-    whole_gives (Some e) is short small = error_gives r h (inside p) whole f k (inside_allowed h p f fits) (inside_allowed h p k may) (inside_least p k least) short e
-    whole_gives None is short small =
+    whole_gives (Some e) is short = error_gives r h (inside p) whole f k (inside_allowed h p f fits) (inside_allowed h p k may) (inside_least p k least) short e (refusal_other r (inside p) whole f e is)
+    whole_gives None is short =
         let one = is_request r (inside p) whole f is in
-        answer_gives r h (inside p) whole f k (inside_allowed h p f fits) (inside_allowed h p k may) (inside_least p k least) short one.0 one.1 byte (goes_whole r (inside p) whole f one.0 one.1 small)
+        answer_gives r h (inside p) whole f k (inside_allowed h p f fits) (inside_allowed h p k may) (inside_least p k least) short one.0 one.1 byte
 
     -- The chunk with these values.
     chunk_reply : (v : Free) (o : Option ErrorCode) → c.last ≡ true → refusal r (inside p) whole v ≡ o → (turn_by r p m v (refusal r p m v) (Some c)).reply ≡ acknowledged c (reply_by r (inside p) whole v o)
@@ -131,12 +111,12 @@ module _ (r : RspSetup) (h : History) (p : Place) (m : List ℕ) (f k : Free) (b
     shown_in : (response : List ℕ) → c.last ≡ true → values_in_reply r p m k (acknowledged c response) (Some c) ≡ values_in r (inside p) whole k response
     shown_in response last = ap (λ (b : Bool). cond (b && true) (values_in r (inside p) whole k response) k) last
 
-    last_gives : c.last ≡ true → length (answer_bytes r (inside p) whole f) ≤ MAX_MESSAGE_SIZE → is_some (handle_in (turn_by r p m f None (Some c)).effect) ≡ false
+    last_gives : c.last ≡ true → length (answer_bytes r (inside p) whole f) ≤ MAX_MESSAGE_SIZE
         → GiveTurn r h p m f (values_in_reply r p m k (turn_by r p m f None (Some c)).reply (Some c)) None (Some c)
-    last_gives last short small =
+    last_gives last short =
         let o : Option ErrorCode = refusal r (inside p) whole f in
         let there : turn_by r p m f None (Some c) ≡ carried_turn r (inside p) m f c whole o = ap (λ (b : Bool). cond b (last_chunk_turn r (inside p) m f c whole) (taken_chunk m c NoEffect [])) last in
-        let gives = whole_gives o refl short (ap (λ (t : Turn). is_some (handle_in t.effect)) (sym there) ∙ small) in
+        let gives = whole_gives o refl short in
         let v : Free = values_in r (inside p) whole k (reply_by r (inside p) whole f o) in
         let text : (turn_by r p m f None (Some c)).reply ≡ acknowledged c (reply_by r (inside p) whole f o) = ap (λ (t : Turn). t.reply) there ∙ carried_reply f o in
         let same : values_in_reply r p m k (turn_by r p m f None (Some c)).reply (Some c) ≡ v = ap (λ (l : List ℕ). values_in_reply r p m k l (Some c)) text ∙ shown_in (reply_by r (inside p) whole f o) last in
@@ -175,27 +155,27 @@ module _ (r : RspSetup) (h : History) (p : Place) (m : List ℕ) (f k : Free) (b
         short = least_brief (Some c) short;
       })
 
-  by_parts : (o : Option ErrorCode) (c : Option ChunkMessage) → refusal r p m f ≡ o → chunk_in (request_at p m) ≡ c → length (answer_at r p m f c) ≤ MAX_MESSAGE_SIZE → is_some (handle_in (turn_by r p m f o c).effect) ≡ false
+  by_parts : (o : Option ErrorCode) (c : Option ChunkMessage) → refusal r p m f ≡ o → chunk_in (request_at p m) ≡ c → length (answer_at r p m f c) ≤ MAX_MESSAGE_SIZE
       → GiveTurn r h p m f (values_in_reply r p m k (turn_by r p m f o c).reply c) o c
-  by_parts (Some e) None is asks short small =
-      let gives = error_gives r h p m f k fits may least short e in
+  by_parts (Some e) None is asks short =
+      let gives = error_gives r h p m f k fits may least short e (refusal_other r p m f e is) in
       record { reply = ap (λ (x : Option ErrorCode). (turn_by r p m (values_in r p m k (error_bytes r p m f e)) x None).reply) (gives.refusal is) ∙ gives.reply; allowed = gives.allowed; short = gives.short }
-  by_parts None None is asks short small =
+  by_parts None None is asks short =
       let one = is_request r p m f is in
-      let gives = answer_gives r h p m f k fits may least short one.0 one.1 byte (goes_whole r p m f one.0 one.1 small) in
+      let gives = answer_gives r h p m f k fits may least short one.0 one.1 byte in
       record { reply = ap (λ (x : Option ErrorCode). (turn_by r p m (values_in r p m k (turn_by r p m f None None).reply) x None).reply) (gives.refusal is) ∙ gives.reply; allowed = gives.allowed; short = gives.short }
-  by_parts (Some e) (Some c) is asks short small = refused_chunk e c (chunk_is (request_at p m) c asks) is short
-  by_parts None (Some c) is asks short small = by_last c.last refl
+  by_parts (Some e) (Some c) is asks short = refused_chunk e c (chunk_is (request_at p m) c asks) is short
+  by_parts None (Some c) is asks short = by_last c.last refl
     where
       by_last : (b : Bool) → c.last ≡ b → GiveTurn r h p m f (values_in_reply r p m k (turn_by r p m f None (Some c)).reply (Some c)) None (Some c)
-      by_last true last = last_gives c (chunk_is (request_at p m) c asks) is last short small
+      by_last true last = last_gives c (chunk_is (request_at p m) c asks) is last short
       by_last false more = other_gives c (chunk_is (request_at p m) c asks) is more short
 
   -- The values that a reply shows give it.
-  pub turn_gives : length (answer_at r p m f (chunk_in (request_at p m))) ≤ MAX_MESSAGE_SIZE → is_some (handle_in (turn_of r p m f).effect) ≡ false
+  pub turn_gives : length (answer_at r p m f (chunk_in (request_at p m))) ≤ MAX_MESSAGE_SIZE
       → GiveTurn r h p m f (values_in_reply r p m k (turn_of r p m f).reply (chunk_in (request_at p m))) (refusal r p m f) (chunk_in (request_at p m))
   unfolding turn_of
-  turn_gives short small = by_parts (refusal r p m f) (chunk_in (request_at p m)) refl refl short small
+  turn_gives short = by_parts (refusal r p m f) (chunk_in (request_at p m)) refl refl short
 
 pub turn_reply : (r : RspSetup) (h : History) (p : Place) (m : List ℕ) (f v : Free) → GiveTurn r h p m f v (refusal r p m f) (chunk_in (request_at p m)) → (turn_of r p m v).reply ≡ (turn_of r p m f).reply
 unfolding turn_of

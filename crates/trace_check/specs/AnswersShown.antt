@@ -1,16 +1,17 @@
 -- An answer shows the values that the responder chose for it. This project's own.
-use Rattle.std.specs.Prelude.{◌≡◌, ◌<◌, ◌≤◌, ◌↔◌, ◌-◌, ◌==◌, ◌&&◌, ◌||◌, not, ℕ, List, [], ◌++◌, length, slice_index, drop, take, if◌then◌else◌, Bool, true, false, Option, Some, None}
+use Rattle.std.specs.Prelude.{◌≡◌, ◌<◌, ◌≤◌, ◌↔◌, ◌+◌, ◌-◌, ◌==◌, ◌&&◌, ◌||◌, not, ℕ, List, [], ◌++◌, length, slice_index, drop, take, if◌then◌else◌, Bool, true, false, Option, Some, None}
 use Rattle.byteorder.specs.Endian.{little_number}
 use Rattle.chunking.specs.Collecting.{joined_with, under_way}
 use Rattle.key_schedule.specs.Purpose.{iv_of, key_of}
 use Rattle.responder_machine.specs.Answer.{Free, answer_bytes, request_at}
 use Rattle.responder_machine.specs.Handling.{chunk_in}
-use Rattle.responder_machine.specs.History.{History}
+use Rattle.responder_machine.specs.History.{Entry, History}
 use Rattle.responder_machine.specs.LargeMessages.{chunks_of}
 use Rattle.responder_machine.specs.May.{IsAllowed, on_body, place_for}
 use Rattle.responder_machine.specs.Place.{Place, clear_place, free_id, inside, place_terms, session_place}
 use Rattle.responder_machine.specs.Records.{opened, reply_number, reply_purpose}
-use Rattle.responder_machine.specs.Responder.{Outcome, body_of}
+use Rattle.responder_machine.specs.Refusal.{bytes_round}
+use Rattle.responder_machine.specs.Responder.{Outcome, body_of, sent_by}
 use Rattle.responder_machine.specs.Responder.Outcome.{Adds}
 use Rattle.responder_machine.specs.Session.{Events, id_in_record, session_of, session_terms}
 use Rattle.responder_machine.specs.Setup.{RspSetup}
@@ -22,11 +23,11 @@ use Rattle.spdm_grammar.specs.Message.RequestMessage.{GetMeasurements, PskExchan
 use Rattle.spdm_grammar.specs.Message.ResponseMessage.{Measurements, PskExchangeRsp}
 use Rattle.spdm_grammar.specs.Responses.{response_in}
 use Rattle.spdm_grammar.specs.declared.names.TheConstants.{MAX_MESSAGE_SIZE}
-use Rattle.spdm_grammar.specs.declared.names.error_number.TheConstants.{RESPONSE_TOO_LARGE}
+use Rattle.spdm_grammar.specs.declared.names.error_number.TheConstants.{LARGE_RESPONSE, RESPONSE_TOO_LARGE}
 use Rattle.spdm_grammar.specs.declared.names.response_code.TheConstants.{CHUNK_SEND_ACK, ERROR}
 use Rattle.spdm_machine.specs.Terms.{hash_len}
 use Rattle.world_machine.specs.CapturedAnswers.{MayLeadTo, answer_to}
-use Rattle.world_machine.specs.LargeAnswers.{is_large}
+use Rattle.world_machine.specs.LargeAnswers.{entry_with, is_large}
 use Rattle.world_machine.specs.Opening.{turn_in}
 use Rattle.world_machine.specs.Rounds.{no_draw}
 
@@ -62,11 +63,20 @@ lengthened f (Some (PskExchange exchange)) more = record f { context = f.context
 lengthened f (Some (GetMeasurements op)) more = record f { measured_opaque = f.measured_opaque ++ zeros more }
 lengthened f _ more = f
 
--- ERROR shows no values. ResponseTooLarge shows how long the answer was that they gave.
+-- The least length of an answer that goes by LargeResponse.
+abbrev pub least_large : Place → ℕ
+least_large p = (place_terms p).common.to_requester.transfer + 1 - bytes_round p.at
+
+-- ERROR shows no values. ResponseTooLarge shows how long the answer was that they gave; and LargeResponse shows the handle,
+-- and that the answer was long enough.
 abbrev pub values_in_error : RspSetup → Place → List ℕ → Free → (response : List ℕ) → Free
 values_in_error r p m f response =
-    if slice_index response 2 == RESPONSE_TOO_LARGE then lengthened f (request_at p m) (little_number 4 (drop 4 response) - length (answer_bytes r p m f))
-    else f
+    let code = slice_index response 2 in
+    let asked = request_at p m in
+    let least = length (answer_bytes r p m f) in
+    if code == RESPONSE_TOO_LARGE then lengthened f asked (little_number 4 (drop 4 response) - least)
+    else (if code == LARGE_RESPONSE then record (lengthened f asked (least_large p - least)) { handle = slice_index response 4 }
+    else f)
 
 -- The values that a response to a message shows.
 abbrev pub values_in : RspSetup → Place → List ℕ → Free → (response : List ℕ) → Free
@@ -125,7 +135,7 @@ values_for r h body answer _ = least_values h (place_for h body)
 unfoldable pub values_shown_by : RspSetup → History → ℕ → (body answer : List ℕ) → Free
 values_shown_by r h tag body answer = values_for r h body answer (on_body r h tag body (least_values h (place_for h body)) no_draw)
 
--- ---- The law.
+-- ---- The laws.
 
 -- A body leads to an outcome at these values, which are allowed.
 abbrev pub LeadsAt : RspSetup → History → ℕ → List ℕ → Outcome → Free → Type 0
@@ -143,3 +153,11 @@ abbrev pub AnswersAreShown : Type 0
 AnswersAreShown = (r : RspSetup) (h : History) (tag : ℕ) (body : List ℕ) (outcome : Outcome)
     → r.beat < 256 → is_whole outcome ≡ true
     → MayLeadTo r h tag body outcome ↔ LeadsAt r h tag body outcome (values_shown_by r h tag body (body_of outcome))
+
+-- Where it may lead to an entry whose answer goes by LargeResponse, at these values it leads to one that differs from it in
+-- the bytes of that answer alone.
+abbrev pub LargeAreShown : Type 0
+LargeAreShown = (r : RspSetup) (h : History) (tag : ℕ) (body : List ℕ) (entry : Entry)
+    → r.beat < 256 → is_large entry ≡ true → MayLeadTo r h tag body (Adds entry)
+    → (other : Entry) × LeadsAt r h tag body (Adds other) (values_shown_by r h tag body (sent_by entry))
+    × (is_large other ≡ true) × (sent_by other ≡ sent_by entry) × (entry_with [] other ≡ entry_with [] entry)

@@ -1,7 +1,8 @@
 //! What the packets of a capture fix of all walks over them, each law as the contract of a function
 //! that does nothing.
 
-ghost use Rattle.trace_check.specs.AnswersShown.{AnswersAreShown};
+ghost use Rattle.trace_check.specs.AnswersShown.{AnswersAreShown, LargeAreShown};
+ghost use Rattle.trace_check.specs.ApartShown.{ApartIsShown};
 ghost use Rattle.trace_check.specs.Awaits.{MoreConforms};
 ghost use Rattle.trace_check.specs.DropsShown.{PlainIsShown};
 ghost use Rattle.trace_check.specs.Going.{AsksGoOn, GoesOnFromEach, RepliesGoOn};
@@ -123,6 +124,11 @@ pub fn answers_are_shown()
     ensures { AnswersAreShown }
 {}
 
+/// LargeResponse is told by its body too, but for the bytes of the answer that it stands for.
+pub fn large_are_shown()
+    ensures { LargeAreShown }
+{}
+
 /// What an answer that goes whole leads to is a function of what it shows.
 pub fn plain_is_shown()
     ensures { PlainIsShown }
@@ -146,6 +152,11 @@ pub fn replies_are_kept()
 /// What is kept behind an answer that goes whole is a function of what it shows.
 pub fn replies_are_shown()
     ensures { RepliesAreShown }
+{}
+
+/// Whether the verify data of an answer are alone wrong is told from what it shows.
+pub fn apart_is_shown()
+    ensures { ApartIsShown }
 {}
 
 /// The reason of a refused packet is told from what is kept, but for wrong verify data.
