@@ -1,5 +1,5 @@
 -- What a requester may choose depends on the sessions that are live and on what was settled, and on no padding.
-use Rattle.std.proofs.Common.{◌≡◌, ◌≢◌, ◌≤◌, ◌==◌, ℕ, List, [], ◌∷◌, refl, sym, ap, ◌∙◌, subst, length, Bool, true, false, Option, Some, None, cond}
+use Rattle.std.proofs.Common.{◌≡◌, ◌≢◌, ◌≤◌, ◌==◌, ℕ, List, ◌∷◌, sym, ap, ◌∙◌, subst, length, Bool, true, false, Option, cond}
 use Rattle.spdm_machine.specs.Sessions.{one_if}
 use Rattle.spdm_machine.specs.Terms.{Terms, hash_len, terms_of}
 use Rattle.requester_machine.specs.Commands.{Free, live_count}
