@@ -30,3 +30,13 @@ pub mod KeptReasons
 pub mod Connecting
 pub mod Shown
 pub mod ShownSealed
+mod PassingPlaces
+mod SessionIds
+mod RowSteps
+mod OrderedRows
+mod IdleRows
+mod OwnPlaces
+mod CountedRecords
+mod FollowedRows
+mod SeenRows
+mod ChangedPlaces

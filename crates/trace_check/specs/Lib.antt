@@ -9,3 +9,5 @@ pub mod Padding
 pub mod Keeping
 pub mod Refusing
 pub mod Showing
+pub mod Changes
+pub mod Rows

@@ -6,13 +6,18 @@
 #![tactic(auto)]
 
 mod brought;
+mod change;
 mod laws;
 mod order;
 mod pair;
+mod places;
 mod round;
+mod row_laws;
+mod rows;
 mod verdict;
 
 pub use brought::Brought;
+pub use change::Change;
 pub use laws::{
     asks_are_kept, asks_go_on, clear_is_shown, conforms_is_each, connects_always,
     goes_on_from_each, kept_asks, kept_begins, kept_is_restored, kept_replies, kept_stays,
@@ -22,7 +27,9 @@ pub use laws::{
 };
 pub use order::Order;
 pub use pair::Pair;
+pub use places::Places;
 pub use round::Round;
+pub use row_laws::{idle_rows_stay, other_places_stay};
 pub use script_text::Why;
 pub use verdict::{Seen, SessionTable, Verdict};
 
