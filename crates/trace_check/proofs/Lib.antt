@@ -40,3 +40,7 @@ mod CountedRecords
 mod FollowedRows
 mod SeenRows
 mod ChangedPlaces
+mod FewAsked
+mod BegunSessions
+mod BegunAtLast
+mod StepsOfWalks

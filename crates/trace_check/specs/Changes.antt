@@ -1,6 +1,6 @@
 -- What a packet changes between a requester and the responder, as far as rows of the table of sessions hang on it. This
 -- project's own.
-use Rattle.std.specs.Prelude.{◌≡◌, ◌≤◌, nat_lt, ℕ, [], ◌∷◌, length, if◌then◌else◌, true, Option, Some, None}
+use Rattle.std.specs.Prelude.{◌≡◌, ◌≤◌, nat_lt, ℕ, List, [], ◌∷◌, length, if◌then◌else◌, true, Option, Some, None}
 use Rattle.requester_machine.specs.History as requester_history
 use Rattle.requester_machine.specs.Message.{Aim, Sent}
 use Rattle.requester_machine.specs.Message.Aim.{InSession}
@@ -9,8 +9,11 @@ use Rattle.responder_machine.specs.History.{History}
 use Rattle.responder_machine.specs.History.Entry.{Sealed}
 use Rattle.responder_machine.specs.Session.{Events, session_of, is_live, id_in_record}
 use Rattle.spdm_grammar.specs.declared.session_view.SessionView.{SessionView}
+use Rattle.requester_machine.specs.Setup.{ReqSetup}
+use Rattle.trace_check.specs.Walks.{StepsTo, Walks}
 use Rattle.trace_check.specs.declared.change.Change.{Change}
 use Rattle.world_machine.specs.Rounds.{Dialogue, Round}
+use Rattle.world_machine.specs.Setup.{Configuration}
 use Rattle.world_machine.specs.SessionTable.{accepted_between, has_begun, is_new, last_begun}
 
 -- The RspSessionID of the session that was begun.
@@ -69,3 +72,8 @@ pub record IsStep (before after : Dialogue) : Type 0 where
   pub live : has_begun before after ≡ true → is_live (session_of (last_begun after.responder) after.responder) ≡ true
   pub few : has_begun before after ≡ true → IsFew (last_begun after.responder)
   pub accepted : (id : ℕ) → accepted_between before after ≡ Some id → IsFew id
+
+-- So it is of each packet of a walk.
+abbrev pub WalksStep : Type 0
+WalksStep = (w : Configuration) (q : ReqSetup) (older : List (List ℕ)) (packet : List ℕ) (before after : Dialogue)
+    → Walks w q older before → StepsTo w q.eid older before packet after → IsStep before after

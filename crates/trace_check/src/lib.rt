@@ -29,7 +29,7 @@ pub use order::Order;
 pub use pair::Pair;
 pub use places::Places;
 pub use round::Round;
-pub use row_laws::{idle_rows_stay, other_places_stay};
+pub use row_laws::{idle_rows_stay, other_places_stay, walks_step};
 pub use script_text::Why;
 pub use verdict::{Seen, SessionTable, Verdict};
 
