@@ -44,3 +44,4 @@ mod FewAsked
 mod BegunSessions
 mod BegunAtLast
 mod StepsOfWalks
+mod AllRows

@@ -9,8 +9,8 @@ use Rattle.trace_check.specs.Verdict.{seen_of}
 use Rattle.trace_check.specs.declared.change.Change.{Change}
 use Rattle.trace_check.specs.declared.places.Places.{Places}
 use Rattle.trace_check.specs.declared.verdict.Seen.{Seen}
-use Rattle.world_machine.specs.Rounds.{Dialogue}
-use Rattle.world_machine.specs.SessionTable.{Row, is_named, responder_id, rows_between, seen}
+use Rattle.world_machine.specs.Rounds.{Dialogue, dialogue_at, with_dialogue}
+use Rattle.world_machine.specs.SessionTable.{HasTable, LeadsShowing, Row, is_named, responder_id, rows_after, rows_between, seen}
 use Rattle.world_machine.specs.Setup.{Configuration}
 
 -- ---- Which rows a packet may change.
@@ -158,3 +158,35 @@ OtherPlacesStay = (places : Places) (before after other : Dialogue) (rows : List
 -- Where nothing changes, the rows stay.
 abbrev pub IdleRowsStay : Type 0
 IdleRowsStay = (places : Places) (d : Dialogue) (rows : List Row) → StandFor places d rows → rows_between d d rows ≡ rows
+
+-- ---- All requesters.
+
+-- Their end points differ.
+abbrev pub AreDistinct : List Dialogue → Type 0
+AreDistinct [] = Unit {0}
+AreDistinct (d ∷ ds) = AllByRecursion (λ (other : Dialogue). other.setup.eid ≢ d.setup.eid) ds × AreDistinct ds
+
+-- There are places of each requester.
+abbrev pub HaveAllPlaces : List Dialogue → List Row → Type 0
+HaveAllPlaces ds rows = AllByRecursion (λ (d : Dialogue). (places : Places) × StandFor places d rows) ds
+
+-- A packet that changes one dialogue changes the rows by that one alone.
+abbrev pub OneChangesRows : Type 0
+OneChangesRows = (ds : List Dialogue) (before after : Dialogue) (rows : List Row) → AreDistinct ds
+    → dialogue_at after.setup.eid ds ≡ Some before → HaveAllPlaces ds rows
+    → rows_after ds (with_dialogue after ds) rows ≡ rows_between before after rows
+
+-- Where its requester has places then, all have.
+abbrev pub OneKeepsPlaces : Type 0
+OneKeepsPlaces = (ds : List Dialogue) (before after : Dialogue) (rows : List Row) (places : Places) → AreDistinct ds
+    → dialogue_at after.setup.eid ds ≡ Some before → HaveAllPlaces ds rows
+    → StandFor places after (rows_between before after rows) → HaveAllPlaces (with_dialogue after ds) (rows_between before after rows)
+
+-- Before the first packet there are no entries.
+abbrev pub TableBegins : Type 0
+TableBegins = (w : Configuration) → StandsForRows [] w 0 []
+
+-- The entries are the table of a capture that shows the rows.
+abbrev pub TableIsShown : Type 0
+TableIsShown = (w : Configuration) (packets : List (List ℕ)) (ds : List Dialogue) (rows : List Row) (n : ℕ) (table : List Seen)
+    → LeadsShowing w (reverse packets) ds rows → StandsForRows table w n rows → HasTable w packets (map seen_of table)

@@ -29,7 +29,10 @@ pub use order::Order;
 pub use pair::Pair;
 pub use places::Places;
 pub use round::Round;
-pub use row_laws::{idle_rows_stay, other_places_stay, walks_step};
+pub use row_laws::{
+    idle_rows_stay, one_changes_rows, one_keeps_places, other_places_stay, table_begins,
+    table_is_shown, walks_step,
+};
 pub use script_text::Why;
 pub use verdict::{Seen, SessionTable, Verdict};
 

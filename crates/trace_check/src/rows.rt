@@ -2,7 +2,7 @@ use crate::{Change, Places, Seen, SessionTable};
 use spdm_basis::OutOfMemory;
 
 impl SessionTable {
-    ghost use Rattle.std.specs.Prelude.{◌≡◌, ◌<◌, ◌-◌, ◌^◌, ◌+◌, ◌++◌, List, ℕ, IfOk, OnOk, length};
+    ghost use Rattle.std.specs.Prelude.{◌≡◌, ◌<◌, ◌-◌, ◌^◌, ◌+◌, ◌++◌, List, ℕ, IfOk, IsSome, OnErr, OnOk, length};
     ghost use Rattle.trace_check.specs.Changes.{IsChange, IsStep};
     ghost use Rattle.trace_check.specs.Rows.{StandFor, StandsForRows, begun_view, changed_where, followed, gone_on, new_entries, new_place, places_after, table_after, with_sent};
     ghost use Rattle.world_machine.specs.Rounds.{Dialogue};
@@ -48,6 +48,7 @@ impl SessionTable {
         ensures added { OnOk result (self.new ≡ self.old ++ new_entries requester
             (begun_view change.now)) }
         ensures place { IfOk result (λ place. place ≡ new_place change.now (length self.old)) }
+        ensures memory { OnErr result (IsSome change.now.begun) }
     {
         let view = match change.begun {
             Some(id) if id > 0 && id <= 4 => &change.views[usize::from(id) - 1],
@@ -78,6 +79,7 @@ impl SessionTable {
         ensures table { OnOk result (self.new ≡ table_after requester places.old change.now self.old) }
         ensures places { OnOk result (places.new ≡ places_after places.old change.now
             (new_place change.now (length self.old))) }
+        ensures memory { OnErr result (IsSome change.now.begun) }
     {
         self.follow(places, change);
         self.count_sent_at(places.asking(change.asked));
@@ -88,8 +90,8 @@ impl SessionTable {
 
     /// A packet made this change between the responder and the requester with this number, whose
     /// places these are: its entries become those of the rows that the definitions give. An `Err`
-    /// comes only where there is no memory for a new entry, and says nothing of the table. The
-    /// counts are exact below 2^64 - 1 packets.
+    /// comes only where a session was begun and there is no memory for its entry, and says nothing
+    /// of the table. The counts are exact below 2^64 - 1 packets.
     pub fn take(
         &mut self,
         places: &mut Places,
@@ -105,6 +107,7 @@ impl SessionTable {
             (rows : List Row) → IsChange change.now before after → IsStep before after
             → StandsForRows self.old w packets rows → StandFor places.old before rows
             → OnOk result (StandFor places.new after (rows_between before after rows)) }
+        ensures memory { OnErr result (IsSome change.now.begun) }
     {
         self.change(places, requester, change)
     }
