@@ -127,7 +127,7 @@ plain_begins r g h ids tag body (Adds (Dropped id)) may = same_begins _ (Dropped
 
 -- ---- A LargeResponse begins none.
 
-none_exchanged : (x : Effect) → ((code_in (effect_with [] x) == PSK_EXCHANGE) && not (length (answer_in (effect_with [] x)) == 0)) ≡ false
+pub none_exchanged : (x : Effect) → ((code_in (effect_with [] x) == PSK_EXCHANGE) && not (length (answer_in (effect_with [] x)) == 0)) ≡ false
 none_exchanged NoEffect = refl
 none_exchanged (Took asked request answer large) = and_right _ false refl
 none_exchanged (TookData bytes answer) = refl

@@ -45,3 +45,4 @@ mod BegunSessions
 mod BegunAtLast
 mod StepsOfWalks
 mod AllRows
+mod ChangesMade

@@ -185,7 +185,7 @@ length_next o (Told command sent d ∷ older) = refl
 length_next o (TookClear tag m led d ∷ older) = refl
 length_next o (TookRecord tag id sealed inner led d ∷ older) = refl
 
-sends_none : (d : Dialogue) (body : List ℕ) (next : requester_history.History) (sending : Option (List ℕ)) (id : ℕ) → Sends d body next sending → cond (nat_lt (length d.requester) (length next)) (accepted_in next) None ≡ Some id → ⊥
+pub sends_none : (d : Dialogue) (body : List ℕ) (next : requester_history.History) (sending : Option (List ℕ)) (id : ℕ) → Sends d body next sending → cond (nat_lt (length d.requester) (length next)) (accepted_in next) None ≡ Some id → ⊥
 unfolding Sends
 sends_none d body next sending id (inl (inl connects, none)) is = none_taken _ (accepted_in next) id (ap accepted_in connects.4) is
 sends_none d body next sending id (inl (inr commands, none)) is = none_taken _ (accepted_in next) id (ap accepted_in commands.2.4) is

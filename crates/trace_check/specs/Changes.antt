@@ -52,14 +52,17 @@ abbrev pub shown : Events → Option SessionView
 shown [] = None
 shown (e ∷ s) = Some (view_of (e ∷ s))
 
+-- The sessions of the responder with the RspSessionIDs from 1 to 4.
+abbrev pub views_in : History → List (Option SessionView)
+views_in h = shown (session_of 1 h) ∷ shown (session_of 2 h) ∷ shown (session_of 3 h) ∷ shown (session_of 4 h) ∷ []
+
 -- The change is the one between two moments of a dialogue.
 pub record IsChange (change : Change) (before after : Dialogue) : Type 0 where
   pub begun : change.begun ≡ begun_between before after
   pub accepted : change.accepted ≡ accepted_between before after
   pub answered : change.answered ≡ answered_between before after
   pub asked : change.asked ≡ asked_between before after
-  pub views : change.views
-      ≡ shown (session_of 1 after.responder) ∷ shown (session_of 2 after.responder) ∷ shown (session_of 3 after.responder) ∷ shown (session_of 4 after.responder) ∷ []
+  pub views : change.views ≡ views_in after.responder
 
 -- One of the four ids that a session may have.
 abbrev pub IsFew : ℕ → Type 0

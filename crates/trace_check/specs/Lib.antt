@@ -11,3 +11,4 @@ pub mod Refusing
 pub mod Showing
 pub mod Changes
 pub mod Rows
+pub mod ChangeLaws

@@ -7,6 +7,7 @@
 
 mod brought;
 mod change;
+mod change_laws;
 mod laws;
 mod order;
 mod pair;
@@ -18,6 +19,9 @@ mod verdict;
 
 pub use brought::Brought;
 pub use change::Change;
+pub use change_laws::{
+    answer_asks_none, copy_changes, large_answer_changes, request_changes, whole_answer_changes,
+};
 pub use laws::{
     asks_are_kept, asks_go_on, clear_is_shown, conforms_is_each, connects_always,
     goes_on_from_each, kept_asks, kept_begins, kept_is_restored, kept_replies, kept_stays,

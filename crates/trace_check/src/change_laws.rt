@@ -1,0 +1,29 @@
+//! What a packet changes of what rows of the table hang on, each law as the contract of a function
+//! that does nothing.
+
+ghost use Rattle.trace_check.specs.ChangeLaws.{AnswerAsksNone, CopyChanges, LargeAnswerChanges, RequestChanges, WholeAnswerChanges};
+
+/// A copy changes nothing.
+pub fn copy_changes()
+    ensures { CopyChanges }
+{}
+
+/// By any other request a round begins, with a record of a session or without.
+pub fn request_changes()
+    ensures { RequestChanges }
+{}
+
+/// By an answer no round begins.
+pub fn answer_asks_none()
+    ensures { AnswerAsksNone }
+{}
+
+/// What an answer changes that goes whole.
+pub fn whole_answer_changes()
+    ensures { WholeAnswerChanges }
+{}
+
+/// What LargeResponse changes.
+pub fn large_answer_changes()
+    ensures { LargeAnswerChanges }
+{}
