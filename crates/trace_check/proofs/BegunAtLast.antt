@@ -25,10 +25,11 @@ abbrev pub IsQuiet : Entry → Type 0
 IsQuiet (Clear tag t d) = (takes GET_VERSION t ≡ false) × (takes PSK_EXCHANGE t ≡ false)
 IsQuiet _ = ⊥
 
--- Since the answer that went by LargeResponse last there are none but such entries.
+-- Since the answer that went by LargeResponse last there are none but such entries. That answer is empty, and begins no
+-- session.
 abbrev pub IsClearSince : History → Type 0
 IsClearSince [] = ⊥
-IsClearSince (e ∷ h) = MatchBool (is_large e) (Unit {0}) (IsQuiet e × IsClearSince h)
+IsClearSince (e ∷ h) = MatchBool (is_large e) (begun_count (e ∷ h) ≡ begun_count h) (IsQuiet e × IsClearSince h)
 
 -- ---- A quiet entry.
 
@@ -53,7 +54,7 @@ quiet_begins n (Queued bytes) h quiet b = absurd quiet
 quiet_begins n (Ticked seconds) h quiet b = absurd quiet
 quiet_begins n (Dropped id) h quiet b = absurd quiet
 
-quiet_count : (e : Entry) (h : History) → IsQuiet e → begun_count (e ∷ h) ≡ begun_count h
+pub quiet_count : (e : Entry) (h : History) → IsQuiet e → begun_count (e ∷ h) ≡ begun_count h
 quiet_count (Clear tag t d) h quiet = ap (λ x. cond x (begun_count h + 1) (begun_count h)) (and_left (takes PSK_EXCHANGE t) _ quiet.1)
 quiet_count (Sealed tag sealed t reply d) h quiet = absurd quiet
 quiet_count (Queued bytes) h quiet = absurd quiet
@@ -62,7 +63,7 @@ quiet_count (Dropped id) h quiet = absurd quiet
 
 -- ---- CHUNK_GET.
 
-get_quiet : (t : Turn) → takes CHUNK_GET t ≡ true → (takes GET_VERSION t ≡ false) × (takes PSK_EXCHANGE t ≡ false)
+pub get_quiet : (t : Turn) → takes CHUNK_GET t ≡ true → (takes GET_VERSION t ≡ false) × (takes PSK_EXCHANGE t ≡ false)
 get_quiet t gets =
     let code : code_in t.effect ≡ CHUNK_GET = eqb-true (code_in t.effect) CHUNK_GET gets in
     (ap (λ n. n == GET_VERSION) code, ap (λ n. n == PSK_EXCHANGE) code)
@@ -121,7 +122,7 @@ module _ (r : RspSetup) (w ids : List ℕ) where
       subst (λ (b : Bool). Begins (begun_count (e ∷ h)) (cond b (x ∷ with_dropped h ids) (x ∷ dropped_before_large ids h))) (sym is)
       (more_begins (begun_count h) (begun_count (e ∷ h)) (x ∷ with_dropped h ids) (count_more e h) (plain_begins r (with_dropped h ids) h ids (tag_in x) (request_in x) (Adds x) may.0.1))
 
-  by_large : (e : Entry) (h : History) (b : Bool) → is_large e ≡ b → MatchBool b (Unit {0}) (IsQuiet e × IsClearSince h) → (IsClearSince h → MayHaveLed r ids (with_large w h) → Begins (begun_count h) (dropped_before_large ids (with_large w h)))
+  by_large : (e : Entry) (h : History) (b : Bool) → is_large e ≡ b → MatchBool b (begun_count (e ∷ h) ≡ begun_count h) (IsQuiet e × IsClearSince h) → (IsClearSince h → MayHaveLed r ids (with_large w h) → Begins (begun_count h) (dropped_before_large ids (with_large w h)))
       → MayHaveLed r ids (cond b (entry_with w e ∷ h) (e ∷ with_large w h)) → Begins (begun_count (e ∷ h)) (dropped_before_large ids (cond b (entry_with w e ∷ h) (e ∷ with_large w h)))
   by_large e h true is since rest led = large_here e h is led
   by_large e h false is since rest led =
@@ -151,14 +152,14 @@ count_before ids (e ∷ h) = by_is (is_large e) (count_before ids h)
     by_is true rest = counted e (with_dropped h ids) h (count_dropped ids h)
     by_is false rest = counted e (dropped_before_large ids h) h rest
 
-of_session : (w : List ℕ) (e : Entry) (h : History) → IsOfSession e → begun_count (entry_with w e ∷ h) ≡ begun_count (e ∷ h)
+pub of_session : (w : List ℕ) (e : Entry) (h : History) → IsOfSession e → begun_count (entry_with w e ∷ h) ≡ begun_count (e ∷ h)
 of_session w (Sealed tag sealed t reply d) h is = refl
 of_session w (Clear tag t d) h is = absurd is
 of_session w (Queued bytes) h is = absurd is
 of_session w (Ticked seconds) h is = absurd is
 of_session w (Dropped id) h is = absurd is
 
-count_within : (w : List ℕ) (h : History) → InSession h → begun_count (with_large w h) ≡ begun_count h
+pub count_within : (w : List ℕ) (h : History) → InSession h → begun_count (with_large w h) ≡ begun_count h
 count_within w [] within = absurd within
 count_within w (e ∷ h) within = by_is (is_large e) within (count_within w h)
   where

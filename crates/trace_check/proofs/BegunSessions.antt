@@ -127,10 +127,17 @@ plain_begins r g h ids tag body (Adds (Dropped id)) may = same_begins _ (Dropped
 
 -- ---- A LargeResponse begins none.
 
-pub none_exchanged : (x : Effect) → ((code_in (effect_with [] x) == PSK_EXCHANGE) && not (length (answer_in (effect_with [] x)) == 0)) ≡ false
+none_exchanged : (x : Effect) → ((code_in (effect_with [] x) == PSK_EXCHANGE) && not (length (answer_in (effect_with [] x)) == 0)) ≡ false
 none_exchanged NoEffect = refl
 none_exchanged (Took asked request answer large) = and_right _ false refl
 none_exchanged (TookData bytes answer) = refl
+
+pub large_count : (e : Entry) (h : History) → begun_count (entry_with [] e ∷ h) ≡ begun_count h
+large_count (Clear tag t d) h = ap (λ b. cond b (begun_count h + 1) (begun_count h)) (none_exchanged t.effect)
+large_count (Sealed tag sealed t reply d) h = refl
+large_count (Queued bytes) h = refl
+large_count (Ticked seconds) h = refl
+large_count (Dropped id) h = refl
 
 pub large_begins : (e : Entry) (h : History) → Begins (begun_count h) (entry_with [] e ∷ h)
 large_begins (Clear tag t d) h = same_begins _ (Clear tag (turn_with [] t) d ∷ h) (ap (λ b. cond b (begun_count h + 1) (begun_count h)) (none_exchanged t.effect))

@@ -11,7 +11,7 @@ use Rattle.responder_machine.specs.Responder.{Outcome, after}
 use Rattle.responder_machine.specs.Responder.Outcome.{Same, Unopened, Adds}
 use Rattle.responder_machine.specs.Turn.{answer_in}
 use Rattle.spdm_machine.specs.Sessions.{id_in_exchange}
-use Rattle.trace_check.proofs.BegunSessions.{count_dropped, none_exchanged}
+use Rattle.trace_check.proofs.BegunSessions.{count_dropped, large_count}
 use Rattle.trace_check.proofs.StepsOfWalks.{sends_none}
 use Rattle.trace_check.specs.ChangeLaws.{AnswerAsksNone, CopyChanges, IsRequestChange, LargeAnswerChanges, RequestChanges, WholeAnswerChanges, answered_by, begun_by}
 use Rattle.trace_check.specs.Changes.{IsChange, answered_in, asked_between, session_in, views_in}
@@ -25,13 +25,13 @@ no_more n m same = le-ltb n m (omega (arith, same))
 
 -- ---- At the responder, by its histories.
 
-abbrev begun_in : History → History → Option ℕ
+abbrev pub begun_in : History → History → Option ℕ
 begun_in h next = cond (nat_lt (begun_count h) (begun_count next)) (Some (last_begun next)) None
 
-abbrev replied_in : History → History → Option ℕ
+abbrev pub replied_in : History → History → Option ℕ
 replied_in h next = cond (nat_lt (length h) (length next)) (answered_in next) None
 
-none_begun : (h next : History) → begun_count next ≡ begun_count h → begun_in h next ≡ None
+pub none_begun : (h next : History) → begun_count next ≡ begun_count h → begun_in h next ≡ None
 none_begun h next same = ap (λ b. cond b (Some (last_begun next)) None) (no_more (begun_count h) (begun_count next) same)
 
 none_replied : (h next : History) → length next ≡ length h → replied_in h next ≡ None
@@ -63,7 +63,7 @@ clear_begun : (n : ℕ) (h : History) (id : ℕ) (b : Bool) → begun_count h �
 clear_begun n h id true same = ap (λ b. cond b (Some id) None) (lt-ltb n (begun_count h + 1) (omega (arith, same)))
 clear_begun n h id false same = ap (λ b. cond b (Some (last_begun h)) None) (no_more n (begun_count h) same)
 
-outcome_begun : (h : History) (ids : List ℕ) (o : Outcome) → begun_in h (after (with_dropped h ids) o) ≡ begun_by o
+pub outcome_begun : (h : History) (ids : List ℕ) (o : Outcome) → begun_in h (after (with_dropped h ids) o) ≡ begun_by o
 outcome_begun h ids (Same body) = none_begun h (with_dropped h ids) (count_dropped ids h)
 outcome_begun h ids (Unopened body) = none_begun h (with_dropped h ids) (count_dropped ids h)
 outcome_begun h ids (Adds (Clear tag t d)) = clear_begun (begun_count h) (with_dropped h ids) (id_in_exchange (answer_in t.effect)) (begins t) (count_dropped ids h)
@@ -72,7 +72,7 @@ outcome_begun h ids (Adds (Queued bytes)) = none_begun h (Queued bytes ∷ with_
 outcome_begun h ids (Adds (Ticked seconds)) = none_begun h (Ticked seconds ∷ with_dropped h ids) (count_dropped ids h)
 outcome_begun h ids (Adds (Dropped id)) = none_begun h (Dropped id ∷ with_dropped h ids) (count_dropped ids h)
 
-entry_replied : (h next : History) (e : Entry) → length h ≤ length next → replied_in h (e ∷ next) ≡ answered_by (Adds e)
+pub entry_replied : (h next : History) (e : Entry) → length h ≤ length next → replied_in h (e ∷ next) ≡ answered_by (Adds e)
 entry_replied h next (Clear tag t d) few = no_record (nat_lt (length h) (suc (length next))) None refl
 entry_replied h next (Sealed tag sealed t reply d) few = one_longer h next _ few
 entry_replied h next (Queued bytes) few = no_record (nat_lt (length h) (suc (length next))) None refl
@@ -87,13 +87,6 @@ outcome_replied h ids (Adds e) = entry_replied h (with_dropped h ids) e (length_
 pub whole_answer_changes : WholeAnswerChanges
 whole_answer_changes d next ids o is =
     (ap (begun_in d.responder) is ∙ outcome_begun d.responder ids o, ap (replied_in d.responder) is ∙ outcome_replied d.responder ids o)
-
-large_count : (e : Entry) (h : History) → begun_count (entry_with [] e ∷ h) ≡ begun_count h
-large_count (Clear tag t d) h = ap (λ b. cond b (begun_count h + 1) (begun_count h)) (none_exchanged t.effect)
-large_count (Sealed tag sealed t reply d) h = refl
-large_count (Queued bytes) h = refl
-large_count (Ticked seconds) h = refl
-large_count (Dropped id) h = refl
 
 large_replied : (h : History) (e : Entry) → replied_in h (entry_with [] e ∷ h) ≡ answered_by (Adds e)
 large_replied h (Clear tag t d) = entry_replied h h (entry_with [] (Clear tag t d)) (omega arith)

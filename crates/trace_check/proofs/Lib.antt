@@ -46,3 +46,5 @@ mod BegunAtLast
 mod StepsOfWalks
 mod AllRows
 mod ChangesMade
+mod LastChunks
+mod AcceptedAnswers

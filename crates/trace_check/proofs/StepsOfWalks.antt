@@ -28,7 +28,7 @@ use Rattle.spdm_grammar.specs.declared.names.request_code.TheConstants.{GET_VERS
 use Rattle.spdm_machine.specs.Bodies.{clear_body}
 use Rattle.spdm_machine.specs.Packets.{gathered_from}
 use Rattle.trace_check.proofs.BegunAtLast.{IsClearSince, IsQuiet, clear_begins, count_before, get_begins, is_large_with, within_begins}
-use Rattle.trace_check.proofs.BegunSessions.{Begins, large_begins, plain_begins, same_begins}
+use Rattle.trace_check.proofs.BegunSessions.{Begins, large_begins, large_count, plain_begins, same_begins}
 use Rattle.trace_check.proofs.FewAsked.{FewAccepted, FewWaiting, Heard, hears_few, sends_few}
 use Rattle.trace_check.proofs.PairWalks.{steps_setup}
 use Rattle.trace_check.specs.Changes.{IsFew, WalksStep}
@@ -53,12 +53,12 @@ use Rattle.world_machine.specs.Setup.{Configuration, known_of}
 
 -- ---- A large answer that is fetched is one of a session, or nothing else was taken in the clear since.
 
-abbrev IsLast : History → Type 0
+abbrev pub IsLast : History → Type 0
 IsLast h = InSession h ⊎ IsClearSince h
 
 quiet_last : (e : Entry) (h : History) → is_large e ≡ false → IsQuiet e → IsLast h → IsLast (e ∷ h)
 quiet_last e h small quiet (inl within) = inl (subst (λ (b : Bool). MatchBool b (IsOfSession e) (InSession h)) (sym small) within)
-quiet_last e h small quiet (inr since) = inr (subst (λ (b : Bool). MatchBool b (Unit {0}) (IsQuiet e × IsClearSince h)) (sym small) (quiet, since))
+quiet_last e h small quiet (inr since) = inr (subst (λ (b : Bool). MatchBool b (begun_count (e ∷ h) ≡ begun_count h) (IsQuiet e × IsClearSince h)) (sym small) (quiet, since))
 
 get_codes : (handle number : ℕ) → (code_of (canonical_request (ChunkGet handle number)) ≡ GET_VERSION → ⊥) × (code_of (canonical_request (ChunkGet handle number)) ≡ PSK_EXCHANGE → ⊥)
 unfolding field_at number_at request_body chunk_get_layout
@@ -125,7 +125,7 @@ answers_last r d round answer next fetching x (inl a) is last fetch =
 answers_last r d round answer next fetching x (inr (inl a)) is last fetch =
     let e : Entry = entry_with [] a.1.1 in
     let large : is_large e ≡ true = is_large_with [] a.1.1 ∙ a.1.3 in
-    subst IsLast (sym a.1.6) (inr (subst (λ (b : Bool). MatchBool b (Unit {0}) (IsQuiet e × IsClearSince d.responder)) (sym large) tt))
+    subst IsLast (sym a.1.6) (inr (subst (λ (b : Bool). MatchBool b (begun_count (e ∷ d.responder) ≡ begun_count d.responder) (IsQuiet e × IsClearSince d.responder)) (sym large) (large_count a.1.1 d.responder)))
 answers_last r d round answer next fetching x (inr (inr a)) is last fetch = absurd (none-some x (sym a.1 ∙ is))
 
 fetched_begins : (r : RspSetup) (h : History) (ids : List ℕ) (o : Option (List ℕ)) → ((v : List ℕ) → o ≡ Some v → IsLast h) → MayHaveLed r ids (judging o h) → Begins (begun_count h) (dropped_before_large ids (judging o h))

@@ -1,7 +1,7 @@
 //! What a packet changes of what rows of the table hang on, each law as the contract of a function
 //! that does nothing.
 
-ghost use Rattle.trace_check.specs.ChangeLaws.{AnswerAsksNone, CopyChanges, LargeAnswerChanges, RequestChanges, WholeAnswerChanges};
+ghost use Rattle.trace_check.specs.ChangeLaws.{AckAcceptsNone, AnswerAccepts, AnswerAsksNone, CopyChanges, LargeAnswerChanges, LastChunkChanges, RequestChanges, WholeAnswerChanges};
 
 /// A copy changes nothing.
 pub fn copy_changes()
@@ -26,4 +26,19 @@ pub fn whole_answer_changes()
 /// What LargeResponse changes.
 pub fn large_answer_changes()
     ensures { LargeAnswerChanges }
+{}
+
+/// What the last chunk of a large answer changes.
+pub fn last_chunk_changes()
+    ensures { LastChunkChanges }
+{}
+
+/// What the requester accepts by an answer that it hears.
+pub fn answer_accepts()
+    ensures { AnswerAccepts }
+{}
+
+/// By the acknowledgement of a chunk, but for the last one, it accepts none.
+pub fn ack_accepts_none()
+    ensures { AckAcceptsNone }
 {}
