@@ -42,4 +42,6 @@ pub use script_text::Why;
 pub use verdict::{Seen, SessionTable, Verdict};
 
 #[cfg(test)]
+mod row_tests;
+#[cfg(test)]
 mod tests;
