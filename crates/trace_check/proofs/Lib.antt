@@ -9,6 +9,24 @@ pub mod LongAnswers
 pub mod Carried
 pub mod Steadily
 pub mod Alone
+mod PassingPlaces
+mod SessionIds
+mod RowSteps
+mod OrderedRows
+mod IdleRows
+mod OwnPlaces
+mod CountedRecords
+mod FollowedRows
+mod SeenRows
+mod ChangedPlaces
+mod FewAsked
+mod BegunSessions
+mod BegunAtLast
+mod StepsOfWalks
+mod AllRows
+mod ChangesMade
+mod LastChunks
+mod AcceptedAnswers
 mod OrderRows
 pub mod Unfinished
 pub mod Allowed
@@ -30,21 +48,3 @@ pub mod KeptReasons
 pub mod Connecting
 pub mod Shown
 pub mod ShownSealed
-mod PassingPlaces
-mod SessionIds
-mod RowSteps
-mod OrderedRows
-mod IdleRows
-mod OwnPlaces
-mod CountedRecords
-mod FollowedRows
-mod SeenRows
-mod ChangedPlaces
-mod FewAsked
-mod BegunSessions
-mod BegunAtLast
-mod StepsOfWalks
-mod AllRows
-mod ChangesMade
-mod LastChunks
-mod AcceptedAnswers
