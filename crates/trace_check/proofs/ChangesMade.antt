@@ -13,12 +13,12 @@ use Rattle.responder_machine.specs.Turn.{answer_in}
 use Rattle.spdm_machine.specs.Sessions.{id_in_exchange}
 use Rattle.trace_check.proofs.BegunSessions.{count_dropped, large_count}
 use Rattle.trace_check.proofs.StepsOfWalks.{sends_none}
-use Rattle.trace_check.specs.ChangeLaws.{AnswerAsksNone, CopyChanges, IsRequestChange, LargeAnswerChanges, RequestChanges, WholeAnswerChanges, answered_by, begun_by}
-use Rattle.trace_check.specs.Changes.{IsChange, answered_in, asked_between, session_in, views_in}
+use Rattle.trace_check.specs.ChangeLaws.{AnswerAsksNone, CopyChanges, CopyIsRequest, IsRequestChange, IsRequestStep, LargeAnswerChanges, RequestChanges, RoundIsRequest, WholeAnswerChanges, answered_by, begun_by}
+use Rattle.trace_check.specs.Changes.{IsChange, answered_in, session_in, views_in}
 use Rattle.trace_check.specs.declared.change.Change.{Change}
 use Rattle.world_machine.specs.LargeAnswers.{entry_with}
 use Rattle.world_machine.specs.Rounds.{Dialogue, Round, following_tag, new_round}
-use Rattle.world_machine.specs.SessionTable.{accepted_between, accepted_in, begins, begun_count, is_new, last_begun}
+use Rattle.world_machine.specs.SessionTable.{accepted_in, begins, begun_count, is_new, last_begun}
 
 no_more : (n m : ℕ) → m ≡ n → nat_lt n m ≡ false
 no_more n m same = le-ltb n m (omega (arith, same))
@@ -125,29 +125,41 @@ none_named : (o : Option ℕ) → ((id : ℕ) → o ≡ Some id → ⊥) → o �
 none_named None none = refl
 none_named (Some id) none = absurd (none id refl)
 
-request_change : (change : Change) (d next : Dialogue) (sent : Option ℕ) → IsRequestChange change d.responder sent → next.responder ≡ d.responder → accepted_between d next ≡ None → asked_between d next ≡ sent → IsChange change d next
-request_change change d next sent is same accepts asks = record {
-  begun = is.begun ∙ sym (none_begun d.responder next.responder (ap begun_count same));
-  accepted = is.accepted ∙ sym accepts;
-  answered = is.answered ∙ sym (none_replied d.responder next.responder (ap length same));
-  asked = is.asked ∙ sym asks;
-  views = is.views ∙ ap views_in (sym same);
+request_change : (change : Change) (d next : Dialogue) (sent : Option ℕ) → IsRequestChange change d.responder sent → IsRequestStep sent d next → IsChange change d next
+request_change change d next sent is step = record {
+  begun = is.begun ∙ sym (none_begun d.responder next.responder (ap begun_count step.responder));
+  accepted = is.accepted ∙ sym step.accepted;
+  answered = is.answered ∙ sym (none_replied d.responder next.responder (ap length step.responder));
+  asked = is.asked ∙ step.asked;
+  views = is.views ∙ ap views_in (sym step.responder);
 }
 
 abbrev accepted_by : requester_history.History → requester_history.History → Option ℕ
 accepted_by h next = cond (nat_lt (length h) (length next)) (accepted_in next) None
 
-pub copy_changes : CopyChanges
-copy_changes change d next tag body c is =
+pub copy_is_request : CopyIsRequest
+copy_is_request d next tag body c =
     let round : Round = record c.0 { waiting = c.0.waiting + 1 } in
-    request_change change d next None is (ap (λ (x : Dialogue). x.responder) c.4)
-    (ap (λ (x : Dialogue). accepted_by d.requester x.requester) c.4 ∙ ap (λ b. cond b (accepted_in d.requester) None) (no_more (length d.requester) (length d.requester) refl))
-    (ap (λ (x : Dialogue). asked_in d.round x.requester x.round) c.4 ∙ ap (λ (o : Option Round). asked_in o d.requester (Some round)) c.1 ∙ same_tag c.0 round d.requester refl)
+    record {
+      setup = sym (ap (λ (x : Dialogue). x.setup) c.4);
+      responder = ap (λ (x : Dialogue). x.responder) c.4;
+      accepted = ap (λ (x : Dialogue). accepted_by d.requester x.requester) c.4 ∙ ap (λ b. cond b (accepted_in d.requester) None) (no_more (length d.requester) (length d.requester) refl);
+      asked = sym (ap (λ (x : Dialogue). asked_in d.round x.requester x.round) c.4 ∙ ap (λ (o : Option Round). asked_in o d.requester (Some round)) c.1 ∙ same_tag c.0 round d.requester refl);
+    }
 
-pub request_changes : RequestChanges
-request_changes change d next tag body b is =
+pub round_is_request : RoundIsRequest
+round_is_request d next tag body b =
     let own : next.requester ≡ b.2.0 = ap (λ (x : Dialogue). x.requester) b.2.3 in
     let round : next.round ≡ Some (new_round tag body) = ap (λ (x : Dialogue). x.round) b.2.3 in
-    request_change change d next (session_in (outstanding next.requester)) is (ap (λ (x : Dialogue). x.responder) b.2.3)
-    (ap (accepted_by d.requester) own ∙ none_named (accepted_by d.requester b.2.0) (λ id. sends_none d body b.2.0 b.2.1 id b.2.2))
-    (ap (asked_in d.round next.requester) round ∙ ap (λ x. cond x (session_in (outstanding next.requester)) None) (new_tag d.round (new_round tag body) b.1))
+    record {
+      setup = sym (ap (λ (x : Dialogue). x.setup) b.2.3);
+      responder = ap (λ (x : Dialogue). x.responder) b.2.3;
+      accepted = ap (accepted_by d.requester) own ∙ none_named (accepted_by d.requester b.2.0) (λ id. sends_none d body b.2.0 b.2.1 id b.2.2);
+      asked = sym (ap (asked_in d.round next.requester) round ∙ ap (λ x. cond x (session_in (outstanding next.requester)) None) (new_tag d.round (new_round tag body) b.1));
+    }
+
+pub copy_changes : CopyChanges
+copy_changes change d next tag body c is = request_change change d next None is (copy_is_request d next tag body c)
+
+pub request_changes : RequestChanges
+request_changes change d next tag body b is = request_change change d next (session_in (outstanding next.requester)) is (round_is_request d next tag body b)

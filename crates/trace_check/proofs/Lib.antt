@@ -27,6 +27,7 @@ mod AllRows
 mod ChangesMade
 mod LastChunks
 mod AcceptedAnswers
+mod AskedRows
 mod OrderRows
 pub mod Unfinished
 pub mod Allowed

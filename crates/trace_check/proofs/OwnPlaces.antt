@@ -178,7 +178,7 @@ module _ (change : Change) (before after : Dialogue) (is : IsChange change befor
       ap (λ x. cond x (new_place change n) (slice_index_or places slot None)) (accepted_at (slot + 1))
       ∙ ap (λ o. cond (is_named (accepted_between before after) (Some (slot + 1))) o (slice_index_or places slot None)) (new_is n b begun)
 
-  rest_fit : (rows : List Row) (b : Bool) → has_begun before after ≡ b → AllByRecursion (λ (row : Row). row.eid ≡ before.setup.eid → IsOfDialogue before row) rows
+  pub rest_fit : (rows : List Row) (b : Bool) → has_begun before after ≡ b → AllByRecursion (λ (row : Row). row.eid ≡ before.setup.eid → IsOfDialogue before row) rows
       → AllByRecursion (λ (row : Row). row.eid ≡ after.setup.eid → IsOfDialogue after row) (mapped rows ++ new_rows before after b)
   rest_fit rows true begun all =
       all_push (λ (row : Row). row.eid ≡ after.setup.eid → IsOfDialogue after row) (mapped rows) (new_row before after)

@@ -23,11 +23,11 @@ use Rattle.world_machine.specs.Rounds.{Dialogue}
 use Rattle.world_machine.specs.Setup.{Configuration}
 use Rattle.world_machine.specs.SessionTable.{Row, Seen, has_begun, is_named, last_begun, new_row, number_from, responder_id, row_after, rows_between, seen, with_requester, with_responder}
 
-map_twice : {X Y Z : Type 0} (g : Y → Z) (f : X → Y) (xs : List X) → map (λ x. g (f x)) xs ≡ map g (map f xs)
+pub map_twice : {X Y Z : Type 0} (g : Y → Z) (f : X → Y) (xs : List X) → map (λ x. g (f x)) xs ≡ map g (map f xs)
 map_twice g f [] = refl
 map_twice g f (x ∷ xs) = ap (λ ys. g (f x) ∷ ys) (map_twice g f xs)
 
-abbrev seen_sent : Seen → Seen
+abbrev pub seen_sent : Seen → Seen
 seen_sent s = record s { sent = one_more s.sent }
 
 either_sent : (b : Bool) (s : Seen) → cond b (seen_sent s) s ≡ record s { sent = with_more b s.sent }
@@ -47,14 +47,14 @@ module _ (w : Configuration) (packets : ℕ) (change : Change) (before after : D
   abbrev Knows : Row → Type 0
   Knows row = Known w packets change before after is step row
 
-  abbrev four : Row → Row
+  abbrev pub four : Row → Row
   four row = partly w packets change before after is step 4 row
 
   -- A row of this requester has changed at the responder.
   abbrev at_responder : Row → Row
   at_responder row = cond (row.eid == after.setup.eid) (with_responder before after row) row
 
-  its_own : (row : Row) → Knows row → row.eid ≡ after.setup.eid → IsOfDialogue before row
+  pub its_own : (row : Row) → Knows row → row.eid ≡ after.setup.eid → IsOfDialogue before row
   its_own row known own = known.0 (own ∙ sym (eid_is change before after is step))
 
   live_four : (row : Row) → IsOfDialogue before row → row.eid ≡ after.setup.eid → (b : Bool) → row.live ≡ b → four row ≡ with_responder before after row
@@ -66,7 +66,7 @@ module _ (w : Configuration) (packets : ℕ) (change : Change) (before after : D
       missed w packets change before after is step 4 row (λ slot low. and_right (row.eid == after.setup.eid) _ (and_left row.live _ dead)) ∙ responder_cases before after row (λ x. row ≡ x) (λ d. refl)
       (λ live end. absurd (false≢true (sym dead ∙ live))) (λ live on. absurd (false≢true (sym dead ∙ live)))
 
-  four_is : (row : Row) → Knows row → (b : Bool) → (row.eid == after.setup.eid) ≡ b → four row ≡ cond b (with_responder before after row) row
+  pub four_is : (row : Row) → Knows row → (b : Bool) → (row.eid == after.setup.eid) ≡ b → four row ≡ cond b (with_responder before after row) row
   four_is row known true own = live_four row (its_own row known (eqb-true _ _ own)) (eqb-true _ _ own) row.live refl
   four_is row known false apart = missed w packets change before after is step 4 row (λ slot low. and_left _ _ apart)
 
@@ -87,7 +87,7 @@ module _ (w : Configuration) (packets : ℕ) (change : Change) (before after : D
       (λ live on. sent_of row (going before after row) refl small)
 
   -- The row's record began a round.
-  abbrev did_send : Option ℕ → Row → Bool
+  abbrev pub did_send : Option ℕ → Row → Bool
   did_send asked row = row.eid == after.setup.eid && is_named row.asks_as asked
 
   sent_is : (row : Row) → row.sent < 2 ^ 64 - 1 → (b : Bool) → (row.eid == after.setup.eid) ≡ b
@@ -96,7 +96,7 @@ module _ (w : Configuration) (packets : ℕ) (change : Change) (before after : D
   sent_is row small true own = own_sent row small
   sent_is row small false apart = refl
 
-  one_sent : packets < 2 ^ 64 - 1 → (row : Row) → Knows row → cond (did_send (asked_between before after) row) (seen_sent (seen w (four row))) (seen w (four row)) ≡ seen w (row_after before after row)
+  pub one_sent : packets < 2 ^ 64 - 1 → (row : Row) → Knows row → cond (did_send (asked_between before after) row) (seen_sent (seen w (four row))) (seen w (four row)) ≡ seen w (row_after before after row)
   one_sent small row known =
       let fits : row.sent < 2 ^ 64 - 1 = omega (arith, known.1, small) in
       ap (λ x. cond (did_send (asked_between before after) row) (seen_sent (seen w x)) (seen w x)) (four_is row known (row.eid == after.setup.eid) refl)
@@ -112,7 +112,7 @@ module _ (w : Configuration) (packets : ℕ) (change : Change) (before after : D
       by_tests true own false its = refl
       by_tests true own true its = absurd (none id refl ((its_own row known (eqb-true _ _ own)).asks id (named_is row.asks_as id its)))
 
-  stands_at : (places : Places) (rows : List Row) → AllByRecursion Knows rows → ArePlaces places before rows → (asked : Option ℕ) → PassesOnlyAt (did_send asked) rows (kept_for places.asks asked)
+  pub stands_at : (places : Places) (rows : List Row) → AllByRecursion Knows rows → ArePlaces places before rows → (asked : Option ℕ) → PassesOnlyAt (did_send asked) rows (kept_for places.asks asked)
   stands_at places rows all are None = none_passes Knows (did_send None) rows all (none_has None (λ id same few. none-some id same))
   stands_at places rows all are (Some zero) = none_passes Knows (did_send (Some zero)) rows all (none_has (Some zero) (λ id same few. zero_few id same few))
     where
@@ -168,7 +168,7 @@ module _ (w : Configuration) (packets : ℕ) (change : Change) (before after : D
       subst (AllByRecursion (λ (row : Row). (row.sent ≤ packets + 1) × (row.answered ≤ packets + 1))) (sym (append-nil (map (row_after before after) rows)))
       (all_map (λ (row : Row). (row.sent ≤ packets) × (row.answered ≤ packets)) (λ (row : Row). (row.sent ≤ packets + 1) × (row.answered ≤ packets + 1)) (row_after before after) rows all (counts_next before after packets))
 
-  all_known : (rows : List Row) → AllByRecursion (λ (row : Row). row.eid ≡ before.setup.eid → IsOfDialogue before row) rows → AllByRecursion (λ (row : Row). (row.sent ≤ packets) × (row.answered ≤ packets)) rows → AllByRecursion Knows rows
+  pub all_known : (rows : List Row) → AllByRecursion (λ (row : Row). row.eid ≡ before.setup.eid → IsOfDialogue before row) rows → AllByRecursion (λ (row : Row). (row.sent ≤ packets) × (row.answered ≤ packets)) rows → AllByRecursion Knows rows
   all_known [] fits counts = tt
   all_known (row ∷ rows) fits counts = ((fits.0, counts.0.0, counts.0.1), all_known rows fits.1 counts.1)
 

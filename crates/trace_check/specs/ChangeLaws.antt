@@ -43,6 +43,21 @@ abbrev pub RequestChanges : Type 0
 RequestChanges = (change : Change) (d next : Dialogue) (tag : ℕ) (body : List ℕ) → Begins d tag body next
     → IsRequestChange change d.responder (session_in (outstanding next.requester)) → IsChange change d next
 
+-- A request: nothing changes at the responder, the requester takes nothing, and this record was sent, or none.
+pub record IsRequestStep (sent : Option ℕ) (before after : Dialogue) : Type 0 where
+  pub setup : before.setup ≡ after.setup
+  pub responder : after.responder ≡ before.responder
+  pub accepted : accepted_between before after ≡ None
+  pub asked : sent ≡ asked_between before after
+
+-- A copy is such a step, and so is any other request.
+abbrev pub CopyIsRequest : Type 0
+CopyIsRequest = (d next : Dialogue) (tag : ℕ) (body : List ℕ) → Copies d tag body next → IsRequestStep None d next
+
+abbrev pub RoundIsRequest : Type 0
+RoundIsRequest = (d next : Dialogue) (tag : ℕ) (body : List ℕ) → Begins d tag body next
+    → IsRequestStep (session_in (outstanding next.requester)) d next
+
 -- ---- An answer.
 
 -- By an answer no round begins.

@@ -1,7 +1,7 @@
 //! What a packet changes of what rows of the table hang on, each law as the contract of a function
 //! that does nothing.
 
-ghost use Rattle.trace_check.specs.ChangeLaws.{AckAcceptsNone, AnswerAccepts, AnswerAsksNone, CopyChanges, LargeAnswerChanges, LastChunkChanges, RequestChanges, WholeAnswerChanges};
+ghost use Rattle.trace_check.specs.ChangeLaws.{AckAcceptsNone, AnswerAccepts, AnswerAsksNone, CopyChanges, CopyIsRequest, LargeAnswerChanges, LastChunkChanges, RequestChanges, RoundIsRequest, WholeAnswerChanges};
 
 /// A copy changes nothing.
 pub fn copy_changes()
@@ -11,6 +11,16 @@ pub fn copy_changes()
 /// By any other request a round begins, with a record of a session or without.
 pub fn request_changes()
     ensures { RequestChanges }
+{}
+
+/// A copy is a request that sends no record.
+pub fn copy_is_request()
+    ensures { CopyIsRequest }
+{}
+
+/// So is any other request, which may send one.
+pub fn round_is_request()
+    ensures { RoundIsRequest }
 {}
 
 /// By an answer no round begins.

@@ -20,8 +20,9 @@ mod verdict;
 pub use brought::Brought;
 pub use change::Change;
 pub use change_laws::{
-    ack_accepts_none, answer_accepts, answer_asks_none, copy_changes, large_answer_changes,
-    last_chunk_changes, request_changes, whole_answer_changes,
+    ack_accepts_none, answer_accepts, answer_asks_none, copy_changes, copy_is_request,
+    large_answer_changes, last_chunk_changes, request_changes, round_is_request,
+    whole_answer_changes,
 };
 pub use laws::{
     asks_are_kept, asks_go_on, clear_is_shown, conforms_is_each, connects_always,

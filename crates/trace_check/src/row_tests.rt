@@ -45,14 +45,7 @@ fn session_is_followed(rt: HostRuntime) -> Result<(), Fail> {
     };
     table.take(&mut places, 1, &begun)?;
     shows(&rt, &table, Some(Stage::Handshake), 0, 0)?;
-    let asked = Change {
-        begun: None,
-        accepted: None,
-        answered: None,
-        asked: Some(1),
-        views: views(Some(Stage::Handshake)),
-    };
-    table.take(&mut places, 1, &asked)?;
+    table.ask(&places, Some(1));
     shows(&rt, &table, Some(Stage::Handshake), 1, 0)?;
     let answered = Change {
         begun: None,

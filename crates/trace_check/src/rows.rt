@@ -3,6 +3,7 @@ use spdm_basis::OutOfMemory;
 
 impl SessionTable {
     ghost use Rattle.std.specs.Prelude.{◌≡◌, ◌<◌, ◌-◌, ◌^◌, ◌+◌, ◌++◌, List, ℕ, IfOk, IsSome, OnErr, OnOk, length};
+    ghost use Rattle.trace_check.specs.ChangeLaws.{IsRequestStep};
     ghost use Rattle.trace_check.specs.Changes.{IsChange, IsStep};
     ghost use Rattle.trace_check.specs.Rows.{StandFor, StandsForRows, begun_view, changed_where, followed, gone_on, new_entries, new_place, places_after, table_after, with_sent};
     ghost use Rattle.world_machine.specs.Rounds.{Dialogue};
@@ -86,6 +87,21 @@ impl SessionTable {
         let new = self.begin(requester, change)?;
         places.follow(change, new);
         Ok(())
+    }
+
+    /// A request came, a copy or one by which a round began, of the requester whose places these are:
+    /// a record of the session with this ReqSessionID, or none. Its entry has one more in requests,
+    /// and the places stay. It takes no memory. The counts are exact below 2^64 - 1 packets.
+    pub fn ask(&mut self, places: &Places, sent: Option<u16>)
+        ensures table { (w : Configuration) (packets : ℕ) (before after : Dialogue) (rows : List Row)
+            → IsRequestStep sent before after → packets < 2 ^ 64 - 1
+            → StandsForRows self.old w packets rows → StandFor places.now before rows
+            → StandsForRows self.new w (packets + 1) (rows_between before after rows) }
+        ensures places { (before after : Dialogue) (rows : List Row)
+            → IsRequestStep sent before after → StandFor places.now before rows
+            → StandFor places.now after (rows_between before after rows) }
+    {
+        self.count_sent_at(places.asking(sent));
     }
 
     /// A packet made this change between the responder and the requester with this number, whose
