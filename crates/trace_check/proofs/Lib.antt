@@ -9,6 +9,25 @@ pub mod LongAnswers
 pub mod Carried
 pub mod Steadily
 pub mod Alone
+mod PassingPlaces
+mod SessionIds
+mod RowSteps
+mod OrderedRows
+mod IdleRows
+mod OwnPlaces
+mod CountedRecords
+mod FollowedRows
+mod SeenRows
+mod ChangedPlaces
+mod FewAsked
+mod BegunSessions
+mod BegunAtLast
+mod StepsOfWalks
+mod AllRows
+mod ChangesMade
+mod LastChunks
+mod AcceptedAnswers
+mod AskedRows
 mod OrderRows
 pub mod Unfinished
 pub mod Allowed

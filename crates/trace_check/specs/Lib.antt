@@ -2,6 +2,9 @@ pub mod Order
 pub mod Judged
 pub mod Laws
 pub mod Verdict
+pub mod Changes
+pub mod Rows
+pub mod ChangeLaws
 pub mod Awaits
 pub mod Going
 pub mod Walks

@@ -6,13 +6,24 @@
 #![tactic(auto)]
 
 mod brought;
+mod change;
+mod change_laws;
 mod laws;
 mod order;
 mod pair;
+mod places;
 mod round;
+mod row_laws;
+mod rows;
 mod verdict;
 
 pub use brought::Brought;
+pub use change::Change;
+pub use change_laws::{
+    ack_accepts_none, answer_accepts, answer_asks_none, copy_changes, copy_is_request,
+    large_answer_changes, last_chunk_changes, request_changes, round_is_request,
+    whole_answer_changes,
+};
 pub use laws::{
     answers_are_shown, apart_is_shown, asks_are_kept, asks_go_on, clear_is_shown, conforms_is_each,
     connects_always, goes_on_from_each, kept_asks, kept_begins, kept_is_restored, kept_replies,
@@ -23,9 +34,16 @@ pub use laws::{
 };
 pub use order::Order;
 pub use pair::Pair;
+pub use places::Places;
 pub use round::Round;
+pub use row_laws::{
+    idle_rows_stay, one_changes_rows, one_keeps_places, other_places_stay, table_begins,
+    table_is_shown, walks_step,
+};
 pub use script_text::Why;
 pub use verdict::{Seen, SessionTable, Verdict};
 
+#[cfg(test)]
+mod row_tests;
 #[cfg(test)]
 mod tests;

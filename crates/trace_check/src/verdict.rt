@@ -27,7 +27,7 @@ pub struct Seen {
 /// them as a list.
 #[derive(Debug, Drop)]
 pub struct SessionTable {
-    items: Vec<Seen>,
+    pub(crate) items: Vec<Seen>,
 }
 
 impl Model for SessionTable {
