@@ -43,3 +43,5 @@ pub mod HeardShown
 pub mod RepliesShown
 pub mod CarriedExchange
 pub mod ApartShown
+pub mod Fetched
+pub mod LastShown

@@ -7,6 +7,7 @@ ghost use Rattle.trace_check.specs.Awaits.{MoreConforms};
 ghost use Rattle.trace_check.specs.DropsShown.{PlainIsShown};
 ghost use Rattle.trace_check.specs.Going.{AsksGoOn, GoesOnFromEach, RepliesGoOn};
 ghost use Rattle.trace_check.specs.Keeping.{AsksAreKept, ConnectsAlways, KeptAsks, KeptBegins, KeptIsRestored, KeptReplies, KeptStays, RepliesAreKept};
+ghost use Rattle.trace_check.specs.LargeShown.{LastIsShown};
 ghost use Rattle.trace_check.specs.Laws.{OneRound, OrderIsAlone, OrderIsReason, OrderRefuses, OrderTells, SealedTells};
 ghost use Rattle.trace_check.specs.Padding.{OwedIsPadded, PaddingIsFree};
 ghost use Rattle.trace_check.specs.Refusing.{KeptTellsApart, KeptTellsReason, KeptTellsWhy};
@@ -152,6 +153,11 @@ pub fn replies_are_kept()
 /// What is kept behind an answer that goes whole is a function of what it shows.
 pub fn replies_are_shown()
     ensures { RepliesAreShown }
+{}
+
+/// A last chunk is told from what it shows, where no large answer is fetched.
+pub fn last_is_shown()
+    ensures { LastIsShown }
 {}
 
 /// Whether the verify data of an answer are alone wrong is told from what it shows.
