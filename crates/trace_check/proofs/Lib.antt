@@ -45,3 +45,8 @@ pub mod CarriedExchange
 pub mod ApartShown
 pub mod Fetched
 pub mod LastShown
+pub mod LargeMoved
+pub mod LargeDrops
+pub mod LargeLed
+pub mod LargeFits
+pub mod LargeShown

@@ -4,15 +4,17 @@ use Rattle.std.specs.Prelude.{◌≡◌, ◌<◌, ◌↔◌, ◌==◌, ◌&&◌,
 use Rattle.requester_machine.specs.Setup.{ReqSetup}
 use Rattle.responder_machine.specs.History.{History, Entry}
 use Rattle.responder_machine.specs.History.Entry.{Clear, Sealed}
-use Rattle.responder_machine.specs.May.{on_body}
+use Rattle.responder_machine.specs.May.{on_body, with_dropped}
+use Rattle.responder_machine.specs.Place.{held_of}
 use Rattle.responder_machine.specs.Responder.{Outcome, after, body_of}
 use Rattle.responder_machine.specs.Responder.Outcome.{Adds}
 use Rattle.responder_machine.specs.Setup.{RspSetup, towards}
 use Rattle.responder_machine.specs.Turn.{answer_in}
-use Rattle.trace_check.specs.AnswersShown.{LeadsAt, values_shown_by}
+use Rattle.trace_check.specs.AnswersShown.{LeadsAt, is_whole, values_shown_by}
+use Rattle.trace_check.specs.DropsShown.{may_be_dropped}
 use Rattle.trace_check.specs.Walks.{Walks}
-use Rattle.world_machine.specs.CapturedAnswers.{Completes}
-use Rattle.world_machine.specs.LargeAnswers.{gives_last, is_large}
+use Rattle.world_machine.specs.CapturedAnswers.{AnswersLarge, Completes}
+use Rattle.world_machine.specs.LargeAnswers.{entry_with, gives_last, is_large, judging}
 use Rattle.world_machine.specs.Rounds.{Dialogue, Round, no_draw}
 use Rattle.world_machine.specs.Setup.{Configuration, known_of}
 
@@ -59,3 +61,41 @@ LastIsShown = (w : Configuration) (q : ReqSetup) (older : List (List ℕ)) (d : 
     Completes r d round answer next
     ↔ (IsShownLast r d.responder round.tag round.body answer
     × (next ≡ after d.responder (last_shown r d.responder round.tag round.body answer)))
+
+-- ---- LargeResponse.
+
+-- The first of these sessions that may have been dropped unseen; none where none may.
+abbrev pub first_dropped : History → (ids : List ℕ) → List ℕ
+first_dropped h [] = []
+first_dropped h (id ∷ ids) = if may_be_dropped h id then id ∷ [] else first_dropped h ids
+
+-- Beside four sessions past their handshake an exchange gets LargeResponse only where one of them was dropped. Nothing
+-- shows which, and none counts as dropped behind it, so the first that may have been stands for each.
+abbrev pub drops_before : History → (body : List ℕ) → List ℕ
+drops_before h body = if slice_index body 0 == 5 && held_of h == 4 then first_dropped h (1 ∷ 2 ∷ 3 ∷ 4 ∷ []) else []
+
+-- What a body leads to behind these drops, at the values that an answer shows.
+unfoldable pub large_shown : RspSetup → History → ℕ → (body answer : List ℕ) → Outcome
+large_shown r h tag body answer = let g = with_dropped h (drops_before h body) in on_body r g tag body (values_shown_by r g tag body answer) no_draw
+
+-- It is that answer, these values are allowed, and it is LargeResponse, or an acknowledgement with one in it.
+abbrev pub IsShownLarge : RspSetup → History → ℕ → (body answer : List ℕ) → Type 0
+IsShownLarge r h tag body answer =
+    let g = with_dropped h (drops_before h body) in
+    LeadsAt r g tag body (large_shown r h tag body answer) (values_shown_by r g tag body answer)
+    × (is_whole (large_shown r h tag body answer) ≡ false)
+    × (body_of (large_shown r h tag body answer) ≡ answer)
+
+-- The history behind it: the request stands there with no bytes as its answer.
+abbrev pub begun_large : History → Outcome → History
+begun_large h (Adds entry) = entry_with [] entry ∷ h
+begun_large h _ = h
+
+-- LargeResponse may be given, for some large answer, exactly where that is so, and the history after it is a function of
+-- what it shows. The heartbeat period is a byte.
+abbrev pub LargeIsShown : Type 0
+LargeIsShown = (r : RspSetup) (d : Dialogue) (round : Round) (answer : List ℕ) (next : History) → r.beat < 256
+    → let h = judging d.fetching d.responder in
+    ((whole : List ℕ) × AnswersLarge r d round answer next whole)
+    ↔ (IsShownLarge r h round.tag round.body answer
+    × (next ≡ begun_large d.responder (large_shown r h round.tag round.body answer)))

@@ -7,7 +7,7 @@ ghost use Rattle.trace_check.specs.Awaits.{MoreConforms};
 ghost use Rattle.trace_check.specs.DropsShown.{PlainIsShown};
 ghost use Rattle.trace_check.specs.Going.{AsksGoOn, GoesOnFromEach, RepliesGoOn};
 ghost use Rattle.trace_check.specs.Keeping.{AsksAreKept, ConnectsAlways, KeptAsks, KeptBegins, KeptIsRestored, KeptReplies, KeptStays, RepliesAreKept};
-ghost use Rattle.trace_check.specs.LargeShown.{LastIsShown};
+ghost use Rattle.trace_check.specs.LargeShown.{LargeIsShown, LastIsShown};
 ghost use Rattle.trace_check.specs.Laws.{OneRound, OrderIsAlone, OrderIsReason, OrderRefuses, OrderTells, SealedTells};
 ghost use Rattle.trace_check.specs.Padding.{OwedIsPadded, PaddingIsFree};
 ghost use Rattle.trace_check.specs.Refusing.{KeptTellsApart, KeptTellsReason, KeptTellsWhy};
@@ -153,6 +153,11 @@ pub fn replies_are_kept()
 /// What is kept behind an answer that goes whole is a function of what it shows.
 pub fn replies_are_shown()
     ensures { RepliesAreShown }
+{}
+
+/// Which answers begin a large answer is told from what they show.
+pub fn large_is_shown()
+    ensures { LargeIsShown }
 {}
 
 /// A last chunk is told from what it shows, where no large answer is fetched.
