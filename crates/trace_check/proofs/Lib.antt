@@ -50,3 +50,5 @@ pub mod LargeDrops
 pub mod LargeLed
 pub mod LargeFits
 pub mod LargeShown
+pub mod FetchShown
+pub mod RepliesTold

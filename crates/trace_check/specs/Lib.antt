@@ -14,3 +14,4 @@ pub mod DropsShown
 pub mod RepliesShown
 pub mod ApartShown
 pub mod LargeShown
+pub mod RepliesTold

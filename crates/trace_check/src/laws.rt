@@ -12,6 +12,7 @@ ghost use Rattle.trace_check.specs.Laws.{OneRound, OrderIsAlone, OrderIsReason, 
 ghost use Rattle.trace_check.specs.Padding.{OwedIsPadded, PaddingIsFree};
 ghost use Rattle.trace_check.specs.Refusing.{KeptTellsApart, KeptTellsReason, KeptTellsWhy};
 ghost use Rattle.trace_check.specs.RepliesShown.{RepliesAreShown};
+ghost use Rattle.trace_check.specs.RepliesTold.{RepliesAreTold};
 ghost use Rattle.trace_check.specs.Showing.{ClearIsShown, SealedIsShown};
 ghost use Rattle.trace_check.specs.Verdict.{OneVerdict};
 ghost use Rattle.trace_check.specs.Walks.{ConformsIsEach, LeadsIsEach};
@@ -163,6 +164,12 @@ pub fn large_is_shown()
 /// A last chunk is told from what it shows, where no large answer is fetched.
 pub fn last_is_shown()
     ensures { LastIsShown }
+{}
+
+/// What is kept behind any answer, with no large answer fetched behind it, is a function of what it
+/// shows.
+pub fn replies_are_told()
+    ensures { RepliesAreTold }
 {}
 
 /// Whether the verify data of an answer are alone wrong is told from what it shows.

@@ -19,8 +19,8 @@ pub use laws::{
     kept_stays, kept_tells_apart, kept_tells_reason, kept_tells_why, large_are_shown,
     large_is_shown, last_is_shown, leads_is_each, more_conforms, one_round, one_verdict,
     order_is_alone, order_is_reason, order_refuses, order_tells, owed_is_padded, padding_is_free,
-    plain_is_shown, replies_are_kept, replies_are_shown, replies_go_on, sealed_is_shown,
-    sealed_tells,
+    plain_is_shown, replies_are_kept, replies_are_shown, replies_are_told, replies_go_on,
+    sealed_is_shown, sealed_tells,
 };
 pub use order::Order;
 pub use pair::Pair;
