@@ -1,5 +1,5 @@
 -- Whether a large answer is fetched behind an answer hangs on no value that the requester chose when it heard it.
-use Rattle.std.proofs.Common.{◌≡◌, ◌==◌, ℕ, List, [], ◌∷◌, refl, sym, ap, ◌∙◌, Bool, false, Option, Some, None}
+use Rattle.std.proofs.Common.{◌≡◌, ◌==◌, ℕ, List, ◌∷◌, refl, sym, ap, ◌∙◌, false, Option, Some, None}
 use Rattle.std.proofs.lemmas.Bool.{not-true}
 use Rattle.std.proofs.lemmas.Option.{none-some}
 use Rattle.requester_machine.specs.Asking.{Outcome}

@@ -1,7 +1,7 @@
 -- On each walk the answer that went by LargeResponse last was one that its request may have led to, if its bytes stand
 -- in the history; and none of which they do not.
-use Rattle.std.proofs.Common.{◌≡◌, ◌==◌, ℕ, List, [], ◌∷◌, refl, sym, ap, ◌∙◌, subst, drop, Bool, true, false, Option, Some, None, Result, Ok, Err, is_some, cond, inl, inr}
-use Rattle.std.specs.Prelude.{MatchBool, slice_index}
+use Rattle.std.proofs.Common.{◌≡◌, ℕ, List, [], ◌∷◌, refl, sym, ap, ◌∙◌, subst, Bool, true, false, Option, Result, Ok, Err, is_some, cond, inl, inr}
+use Rattle.std.specs.Prelude.{MatchBool}
 use Rattle.std.proofs.lemmas.Bool.{false≢true, not-true}
 use Rattle.mctp_framing.specs.Gathering.{Gathered}
 use Rattle.mctp_framing.specs.Gathering.Gathered.{Whole, More, Dropped}
@@ -26,7 +26,7 @@ use Rattle.world_machine.proofs.SmallGets.{gets_are_small}
 use Rattle.world_machine.specs.Capture.{AsksBy, RepliesBy}
 use Rattle.world_machine.specs.CapturedAnswers.{Answers, AreShown, MayHaveLed, MayLeadAfter, is_plain, request_in, tag_in}
 use Rattle.world_machine.specs.LargeAnswers.{dropped_before_large, effect_with, entry_with, is_large, judging}
-use Rattle.world_machine.specs.Rounds.{Dialogue, Round, new_dialogue}
+use Rattle.world_machine.specs.Rounds.{Dialogue, Round}
 use Rattle.world_machine.specs.Setup.{Configuration, known_of}
 
 -- ---- What each step of a walk keeps.

@@ -1,12 +1,12 @@
 -- The answer of an entry that brings LargeResponse is one that goes by chunks.
-use Rattle.std.proofs.Common.{◌≡◌, ◌≤◌, ◌==◌, ℕ, List, [], ◌∷◌, refl, sym, ap, ◌∙◌, subst, length, drop, Bool, true, false, Option, Some, None, is_some, cond, inl, inr}
+use Rattle.std.proofs.Common.{◌≡◌, ◌≤◌, ◌==◌, ℕ, List, [], refl, sym, ap, ◌∙◌, subst, length, drop, Bool, true, false, Option, Some, None, is_some, cond, inl, inr}
 use Rattle.std.specs.Prelude.{slice_index}
 use Rattle.std.proofs.lemmas.Bool.{false≢true}
 use Rattle.chunking.specs.Collecting.{joined_with, under_way}
 use Rattle.responder_machine.proofs.Tests.{contents_shown}
 use Rattle.responder_machine.specs.Answer.{Free, answer_bytes, request_at}
-use Rattle.responder_machine.specs.Handling.{carried_turn, chunk_in, effect_of, goes_large, handle_for, last_chunk_turn, request_effect, taken_chunk, turn_by, turn_of}
-use Rattle.responder_machine.specs.History.{Entry, History, clear_turns, negotiation_of, phase_of}
+use Rattle.responder_machine.specs.Handling.{carried_turn, chunk_in, effect_of, goes_large, last_chunk_turn, request_effect, taken_chunk, turn_by, turn_of}
+use Rattle.responder_machine.specs.History.{Entry, History, negotiation_of, phase_of}
 use Rattle.responder_machine.specs.History.Entry.{Clear}
 use Rattle.responder_machine.specs.LargeMessages.{chunks_of}
 use Rattle.responder_machine.specs.Place.{Place, clear_place, held_of, inside, session_place}
@@ -14,23 +14,22 @@ use Rattle.responder_machine.specs.Place.Where.{InClear}
 use Rattle.responder_machine.specs.May.{with_dropped}
 use Rattle.responder_machine.specs.Records.{opened}
 use Rattle.responder_machine.specs.Refusal.{refusal}
-use Rattle.responder_machine.specs.Responder.{Outcome, data_turn, inner_refusal, on_clear, on_record, session_turn, session_turn_by}
+use Rattle.responder_machine.specs.Responder.{data_turn, inner_refusal, on_clear, on_record, session_turn, session_turn_by}
 use Rattle.responder_machine.specs.Responder.Outcome.{Adds}
 use Rattle.responder_machine.specs.Session.{Events, id_in_record, session_of, stage_of}
 use Rattle.responder_machine.specs.Setup.{RspSetup}
 use Rattle.responder_machine.specs.Turn.Effect.{NoEffect}
-use Rattle.responder_machine.specs.Turn.{Effect, Turn, answer_in, handle_in}
+use Rattle.responder_machine.specs.Turn.{Turn, answer_in, handle_in}
 use Rattle.spdm_grammar.specs.Message.{ChunkMessage, RequestMessage}
 use Rattle.spdm_grammar.specs.declared.error_code.ErrorCode.{ErrorCode}
 use Rattle.spdm_grammar.specs.declared.names.TheConstants.{MAX_MESSAGE_SIZE}
 use Rattle.trace_check.proofs.LargeMoved.{beside}
 use Rattle.trace_check.specs.LargeShown.{whole_of}
 use Rattle.world_machine.proofs.DropsTell.{clear_form, turns_stay}
-use Rattle.world_machine.proofs.PlainTells.{led_record}
 use Rattle.world_machine.proofs.RecordAdds.{record_added}
 use Rattle.world_machine.proofs.RepliesTell.{no_chunk}
 use Rattle.world_machine.proofs.TurnsAlike.{chunk_is}
-use Rattle.world_machine.specs.CapturedAnswers.{MayLeadTo, answer_at, answer_to, clear_answer, record_answer}
+use Rattle.world_machine.specs.CapturedAnswers.{MayLeadTo, answer_at, clear_answer, record_answer}
 use Rattle.world_machine.specs.LargeAnswers.{IsLargeAnswer, is_large, place_of}
 use Rattle.world_machine.specs.Rounds.{no_draw}
 

@@ -3,7 +3,7 @@ use Rattle.std.proofs.Common.{◌≡◌, ◌≤◌, ◌==◌, ℕ, List, [], ◌
 use Rattle.std.specs.Prelude.{slice_index}
 use Rattle.std.proofs.lemmas.Bool.{false≢true}
 use Rattle.responder_machine.proofs.Ids.{free_id-range, free_id-unheld, not_four}
-use Rattle.responder_machine.specs.Answer.{Free, answer_bytes, request_at}
+use Rattle.responder_machine.specs.Answer.{Free, request_at}
 use Rattle.responder_machine.specs.Handling.{chunk_in, turn_of}
 use Rattle.responder_machine.specs.History.{Entry, History, KeptRecord, clear_turns, ended_of, kept_of, negotiation_of, phase_of}
 use Rattle.responder_machine.specs.History.Entry.{Clear, Dropped}

@@ -1,6 +1,6 @@
 -- A turn that brings LargeResponse hangs on no id, and on how many sessions are held only where these are four.
 use Rattle.std.proofs.Common.{◌≡◌, ◌+◌, ◌==◌, ◌&&◌, ◌||◌, ℕ, List, [], ◌∷◌, ◌++◌, refl, sym, ap, ◌∙◌, subst, length, drop, take, Bool, true, false, Option, Some, None, is_some, cond}
-use Rattle.std.specs.Prelude.{nat_lt, not, slice_index}
+use Rattle.std.specs.Prelude.{nat_lt, not}
 use Rattle.std.specs.Option.{option_or}
 use Rattle.std.proofs.lemmas.Bool.{false≢true}
 use Rattle.chunking.specs.Collecting.{joined_with, under_way}

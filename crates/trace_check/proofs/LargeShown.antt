@@ -1,5 +1,5 @@
 -- Which answers begin a large answer is told from what they show.
-use Rattle.std.proofs.Common.{◌≡◌, ◌<◌, ◌==◌, ◌&&◌, ℕ, List, [], ◌∷◌, refl, sym, ap, ◌∙◌, subst, Bool, true, false, Option, cond}
+use Rattle.std.proofs.Common.{◌≡◌, ◌<◌, ◌==◌, ◌&&◌, ℕ, List, [], ◌∷◌, refl, sym, ap, ◌∙◌, subst, Bool, true, false, cond}
 use Rattle.std.specs.Prelude.{not, slice_index}
 use Rattle.std.proofs.lemmas.Bool.{false≢true}
 use Rattle.responder_machine.specs.Answer.{Free}
@@ -10,7 +10,7 @@ use Rattle.responder_machine.specs.Responder.{Outcome, body_of, sent_by}
 use Rattle.responder_machine.specs.Responder.Outcome.{Same, Unopened, Adds}
 use Rattle.responder_machine.specs.Setup.{RspSetup}
 use Rattle.trace_check.proofs.BodyShown.{large_are_shown}
-use Rattle.trace_check.proofs.LargeDrops.{IsChosen, drops_chosen}
+use Rattle.trace_check.proofs.LargeDrops.{drops_chosen}
 use Rattle.trace_check.proofs.LargeFits.{large_fits}
 use Rattle.trace_check.proofs.LargeLed.{large_leads}
 use Rattle.trace_check.specs.AnswersShown.{LeadsAt, is_whole, values_shown_by}
@@ -18,7 +18,6 @@ use Rattle.trace_check.specs.LargeShown.{IsShownLarge, LargeIsShown, begun_large
 use Rattle.world_machine.proofs.LargeTells.{large_next}
 use Rattle.world_machine.specs.CapturedAnswers.{AnswersLarge, MayLeadAfter, MayLeadTo}
 use Rattle.world_machine.specs.LargeAnswers.{IsLargeAnswer, entry_with, is_large, judging, place_of}
-use Rattle.world_machine.specs.Rounds.{Dialogue, Round}
 
 module _ (r : RspSetup) (h : History) (tag : ℕ) (body : List ℕ) where
   abbrev chosen : List ℕ

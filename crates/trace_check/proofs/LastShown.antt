@@ -1,13 +1,12 @@
 -- Where no large answer is fetched, a last chunk is told from what it shows.
-use Rattle.std.proofs.Common.{◌≡◌, ◌<◌, ◌≤◌, ◌==◌, ℕ, List, [], ◌∷◌, refl, sym, ap, ◌∙◌, subst, drop, length, Bool, true, false, Option, Some, None, is_some, cond, inl, inr}
+use Rattle.std.proofs.Common.{◌≡◌, ◌<◌, ◌==◌, ℕ, List, [], ◌∷◌, refl, sym, ap, ◌∙◌, subst, drop, Bool, true, false, Option, Some, None, is_some, cond, inl, inr}
 use Rattle.std.specs.Prelude.{MatchBool, not, slice_index}
 use Rattle.std.proofs.lemmas.Bool.{false≢true}
 use Rattle.chunking.specs.Collecting.{joined_with, under_way}
-use Rattle.requester_machine.specs.Setup.{ReqSetup}
 use Rattle.responder_machine.specs.Answer.{Free, answer_bytes, answer_of, answer_to, request_at}
 use Rattle.responder_machine.specs.Handling.{carried_turn, chunk_in, effect_of, last_chunk_turn, request_effect, taken_chunk, turn_by, turn_of}
 use Rattle.responder_machine.specs.History.{Entry, History}
-use Rattle.responder_machine.specs.History.Entry.{Clear, Sealed, Queued, Ticked, Dropped}
+use Rattle.responder_machine.specs.History.Entry.{Clear}
 use Rattle.responder_machine.specs.LargeMessages.{chunks_of}
 use Rattle.responder_machine.specs.Place.{Place, clear_place, inside, session_place}
 use Rattle.responder_machine.specs.Records.{opened}
@@ -18,7 +17,7 @@ use Rattle.responder_machine.specs.Session.{Events, id_in_record, session_of, st
 use Rattle.responder_machine.specs.Setup.{RspSetup, towards}
 use Rattle.responder_machine.specs.May.{with_dropped}
 use Rattle.responder_machine.specs.Turn.Effect.{NoEffect}
-use Rattle.responder_machine.specs.Turn.{Effect, Turn, answer_in, handle_in}
+use Rattle.responder_machine.specs.Turn.{Effect, answer_in, handle_in}
 use Rattle.spdm_basis.proofs.Bools.{and_first}
 use Rattle.spdm_grammar.specs.Message.{ChunkMessage, RequestMessage}
 use Rattle.spdm_grammar.specs.Message.RequestMessage.{GetVersion, GetCapabilities, NegotiateAlgorithms, GetMeasurements, PskExchange, PskFinish, Heartbeat, KeyUpdate, EndSession, ChunkSend, ChunkGet}
@@ -28,7 +27,6 @@ use Rattle.trace_check.proofs.BodyShown.{answers_are_shown}
 use Rattle.trace_check.proofs.Fetched.{Holds, walks_hold}
 use Rattle.trace_check.specs.AnswersShown.{LeadsAt, values_shown_by}
 use Rattle.trace_check.specs.LargeShown.{IsShownLast, LastIsShown, ends_large, has_bytes, last_shown, was_fetched, whole_of}
-use Rattle.trace_check.specs.Walks.{Walks}
 use Rattle.world_machine.proofs.AskersBegin.{dial}
 use Rattle.world_machine.proofs.DropsTell.{clear_form}
 use Rattle.world_machine.proofs.LargeTells.{led_drops}
@@ -37,8 +35,8 @@ use Rattle.world_machine.proofs.RecordAdds.{record_added}
 use Rattle.world_machine.proofs.SmallGets.{gets_are_small}
 use Rattle.world_machine.specs.CapturedAnswers.{AreShown, Completes, MayHaveLed, MayLeadAfter, MayLeadTo, request_in, tag_in}
 use Rattle.world_machine.specs.LargeAnswers.{dropped_before_large, gives_last, is_large, takes_get}
-use Rattle.world_machine.specs.Rounds.{Dialogue, Round, no_draw}
-use Rattle.world_machine.specs.Setup.{Configuration, known_of}
+use Rattle.world_machine.specs.Rounds.{Dialogue, no_draw}
+use Rattle.world_machine.specs.Setup.{known_of}
 
 -- ---- An answer that went by LargeResponse has bytes.
 

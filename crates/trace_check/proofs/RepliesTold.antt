@@ -25,7 +25,7 @@ use Rattle.trace_check.specs.LargeShown.{IsShownLarge, IsShownLast, begun_large,
 use Rattle.trace_check.specs.RepliesShown.{AnswersOtherwise, LargelyKept, PlainlyKept, answered, heard_from, responder_for}
 use Rattle.trace_check.specs.RepliesTold.{LastKept, RepliesAreTold, UnfetchedKept, begun, ended}
 use Rattle.world_machine.proofs.AskersAlike.{AskersAlike}
-use Rattle.world_machine.specs.CapturedAnswers.{AnswersLarge, Completes, Hears}
+use Rattle.world_machine.specs.CapturedAnswers.{Completes, Hears}
 use Rattle.world_machine.specs.LargeAnswers.{is_fetching, while_fetched}
 use Rattle.world_machine.specs.Rounds.{Round, no_draw}
 use Rattle.world_machine.specs.Setup.{Configuration}
