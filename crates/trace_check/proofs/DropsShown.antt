@@ -115,10 +115,10 @@ shown_begins effect id = by_code (code_in effect == PSK_EXCHANGE)
 -- ---- In the clear.
 
 -- A session that may be dropped.
-may_drop : (h : History) (id : ℕ) → may_be_dropped h id ≡ true → MayDrop h (id ∷ [])
+pub may_drop : (h : History) (id : ℕ) → may_be_dropped h id ≡ true → MayDrop h (id ∷ [])
 may_drop h id is = (and_first _ _ is, and_second (is_live (session_of id h)) _ is, tt)
 
-dropped_may : (h : History) (id : ℕ) → MayDrop h (id ∷ []) → may_be_dropped h id ≡ true
+pub dropped_may : (h : History) (id : ℕ) → MayDrop h (id ∷ []) → may_be_dropped h id ≡ true
 dropped_may h id may = ap (λ (b : Bool). b && is_timed (session_of id h)) may.0 ∙ may.1
 
 -- Where nothing was dropped, a turn shows no session that may be.

@@ -62,3 +62,12 @@ pub mod HeardShown
 pub mod RepliesShown
 pub mod CarriedExchange
 pub mod ApartShown
+pub mod Fetched
+pub mod LastShown
+pub mod LargeMoved
+pub mod LargeDrops
+pub mod LargeLed
+pub mod LargeFits
+pub mod LargeShown
+pub mod FetchShown
+pub mod RepliesTold

@@ -24,7 +24,7 @@ use Rattle.world_machine.specs.LargeAnswers.{is_fetching, while_fetched}
 use Rattle.world_machine.specs.Rounds.{Dialogue, Round, no_draw}
 use Rattle.world_machine.specs.Setup.{Configuration}
 
-none_either : (b : Bool) → cond {A = Option (List ℕ)} b None None ≡ None
+pub none_either : (b : Bool) → cond {A = Option (List ℕ)} b None None ≡ None
 none_either true = refl
 none_either false = refl
 
@@ -36,7 +36,7 @@ module _ (w : Configuration) (q : ReqSetup) (older : List (List ℕ)) (k : Kept)
   askers = (walks_alike w q older (restored k) (restored k) (kept_is_restored w q older k keeps).0 (kept_is_restored w q older k keeps).0).alike.askers
 
   -- What the requester heard at some values.
-  heard_kept : (tag : ℕ) (answer : List ℕ) (round : Round) (f : Free) (r : History) → k.round ≡ Some round → round.tag ≡ tag
+  pub heard_kept : (tag : ℕ) (answer : List ℕ) (round : Round) (f : Free) (r : History) → k.round ≡ Some round → round.tag ≡ tag
       → kept_of (behind k.setup r (answered round) None None (shown.after h (hears k.setup h false tag answer f no_draw))) ≡ kept_of (behind k.setup r (answered round) None None (heard_from k tag answer))
   unfolding heard_from
   heard_kept tag answer round f r is one =

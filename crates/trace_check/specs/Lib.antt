@@ -16,3 +16,5 @@ pub mod AnswersShown
 pub mod DropsShown
 pub mod RepliesShown
 pub mod ApartShown
+pub mod LargeShown
+pub mod RepliesTold

@@ -7,10 +7,12 @@ ghost use Rattle.trace_check.specs.Awaits.{MoreConforms};
 ghost use Rattle.trace_check.specs.DropsShown.{PlainIsShown};
 ghost use Rattle.trace_check.specs.Going.{AsksGoOn, GoesOnFromEach, RepliesGoOn};
 ghost use Rattle.trace_check.specs.Keeping.{AsksAreKept, ConnectsAlways, KeptAsks, KeptBegins, KeptIsRestored, KeptReplies, KeptStays, RepliesAreKept};
+ghost use Rattle.trace_check.specs.LargeShown.{LargeIsShown, LastIsShown};
 ghost use Rattle.trace_check.specs.Laws.{OneRound, OrderIsAlone, OrderIsReason, OrderRefuses, OrderTells, SealedTells};
 ghost use Rattle.trace_check.specs.Padding.{OwedIsPadded, PaddingIsFree};
 ghost use Rattle.trace_check.specs.Refusing.{KeptTellsApart, KeptTellsReason, KeptTellsWhy};
 ghost use Rattle.trace_check.specs.RepliesShown.{RepliesAreShown};
+ghost use Rattle.trace_check.specs.RepliesTold.{RepliesAreTold};
 ghost use Rattle.trace_check.specs.Showing.{ClearIsShown, SealedIsShown};
 ghost use Rattle.trace_check.specs.Verdict.{OneVerdict};
 ghost use Rattle.trace_check.specs.Walks.{ConformsIsEach, LeadsIsEach};
@@ -152,6 +154,22 @@ pub fn replies_are_kept()
 /// What is kept behind an answer that goes whole is a function of what it shows.
 pub fn replies_are_shown()
     ensures { RepliesAreShown }
+{}
+
+/// Which answers begin a large answer is told from what they show.
+pub fn large_is_shown()
+    ensures { LargeIsShown }
+{}
+
+/// A last chunk is told from what it shows, where no large answer is fetched.
+pub fn last_is_shown()
+    ensures { LastIsShown }
+{}
+
+/// What is kept behind any answer, with no large answer fetched behind it, is a function of what it
+/// shows.
+pub fn replies_are_told()
+    ensures { RepliesAreTold }
 {}
 
 /// Whether the verify data of an answer are alone wrong is told from what it shows.
