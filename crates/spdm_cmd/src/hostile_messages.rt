@@ -6,8 +6,6 @@ use spdm_basis::{HashAlg, MemSeeds, MemSink, MemSource};
 use std::process::Abort;
 use std::test::Fail;
 
-mod cut_packets;
-mod day;
 mod digests;
 
 // Two ends with messages in one piece, and with messages of at most 64 bytes.
@@ -25,12 +23,20 @@ requester 9 64 4096 1024 0 hkc 71 31323334353637383930313233343536 5a5a5a5a5a5a5
 end
 ";
 
-// The trace of a script, of at most so many bytes.
-fn trace_of(rt: &(impl AllocGlobal + Abort), script: &str, most: usize) -> Result<Vec<u8>, Fail> {
+// Takes the trace of a script that shows its ends behind these events, injects a packet, and shows them again.
+fn take(
+    rt: &(impl AllocGlobal + Abort),
+    configuration: &str,
+    before: &str,
+    packet: &[u8],
+    traces: &mut RunningHash,
+) -> Result<(), Fail> {
+    let packet = hex::encode(rt.alloc(), packet)?;
+    let script = format!(in rt.alloc(); "{configuration}{before}show\ninject {packet}\nshow\n")?;
     let mut words = Vec::new(rt.alloc());
     words.push(String::from_str(rt.alloc(), "run")?)?;
     let mut source = MemSource::new(rt.alloc(), script.as_bytes(), &[])?;
-    let mut sink = MemSink::new(rt.alloc(), most, &[])?;
+    let mut sink = MemSink::new(rt.alloc(), 8192, &[])?;
     let mut seeds = MemSeeds::new(rt.alloc(), &[], &[])?;
     let mut left = None;
     let outcome = spdm(
@@ -42,20 +48,7 @@ fn trace_of(rt: &(impl AllocGlobal + Abort), script: &str, most: usize) -> Resul
         &mut left,
     );
     assert_eq!(rt; outcome, Outcome::Done);
-    Ok(Vec::from_slice(rt.alloc(), sink.as_slice())?)
-}
-
-// Takes the trace of a script that shows its ends behind these events, injects a packet, and shows them again.
-fn take(
-    rt: &(impl AllocGlobal + Abort),
-    configuration: &str,
-    before: &str,
-    packet: &[u8],
-    traces: &mut RunningHash,
-) -> Result<(), Fail> {
-    let packet = hex::encode(rt.alloc(), packet)?;
-    let script = format!(in rt.alloc(); "{configuration}{before}show\ninject {packet}\nshow\n")?;
-    traces.push(trace_of(rt, script.as_str(), 8192)?.as_slice());
+    traces.push(sink.as_slice());
     Ok(())
 }
 
