@@ -41,3 +41,6 @@ pub mod DropsShown
 pub mod PlainShown
 pub mod HeardShown
 pub mod RepliesShown
+pub mod OwedTook
+pub mod OwedSent
+pub mod GoneOn

@@ -5,13 +5,17 @@
 //! `Order::take`.
 #![tactic(auto)]
 
+mod asker;
+mod asker_setup;
 mod brought;
 mod laws;
 mod order;
+mod owed_messages;
 mod pair;
 mod round;
 mod verdict;
 
+pub use asker::Asker;
 pub use brought::Brought;
 pub use laws::{
     answers_are_shown, asks_are_kept, asks_go_on, clear_is_shown, conforms_is_each,
