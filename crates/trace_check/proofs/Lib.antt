@@ -44,3 +44,6 @@ pub mod RepliesShown
 pub mod OwedTook
 pub mod OwedSent
 pub mod GoneOn
+pub mod ClearTold
+pub mod ClearRead
+pub mod CommandedBy

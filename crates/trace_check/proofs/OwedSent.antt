@@ -1,11 +1,12 @@
 -- Whether a body is the message that a requester owes.
 use Rattle.std.proofs.Common.{◌≡◌, ◌≢◌, ◌≤◌, ◌<◌, ◌-◌, ◌*◌, ◌/◌, ◌%◌, ◌∙◌, ℕ, List, [], ◌∷◌, refl, sym, ap, subst, length, Bool, true, false, Option, Some, None, Ok, Err, cond, arith}
-use Rattle.std.specs.Prelude.{◌==◌, ◌&&◌, is_none, slice_index, Result}
+use Rattle.std.specs.Prelude.{◌==◌, ◌&&◌, is_none, is_some, slice_index, Result}
 use Rattle.std.specs.Bool.{Decides}
+use Rattle.std.specs.Result.{is_ok}
 use Rattle.std.proofs.lemmas.Bool.{false≢true}
 use Rattle.std.proofs.lemmas.Grind.{common_steps}
 use Rattle.std.proofs.lemmas.Nat.{mul-le}
-use Rattle.std.proofs.lemmas.Option.{same_Some}
+use Rattle.std.proofs.lemmas.Option.{none-some, same_Some}
 use Rattle.asking.proofs.Awaited.{chunks_room}
 use Rattle.asking.proofs.OwedClear.{out_last}
 use Rattle.asking.specs.Joined.{IsCommanded, StandsFor}
@@ -87,6 +88,18 @@ retry_out q h f d sent (Ok tag) out new waits did =
     let it : did.sent ≡ sent = same_Some did.sent sent (sym did.sends ∙ ap sent_by (retry_is q h f d ∙ ap resent waits)) in
     did.body_is ∙ ap (λ (x : Sent). body_of x.content) it
 retry_out q h f d sent (Err why) out new waits did = absurd (let e : Fails why ≡ Resends sent = sym did.0 ∙ retry_is q h f d ∙ ap resent waits in cc)
+
+sent_waits : (o : Option Sent) (s : Sent) → sent_by (resent o) ≡ Some s → true ≡ is_some o
+sent_waits None s is = absurd (none-some s is)
+sent_waits (Some x) s is = refl
+
+fails_rests : (o : Option Sent) (why : CommandFault) → resent o ≡ Fails why → false ≡ is_some o
+fails_rests None why is = refl
+fails_rests (Some x) why is = absurd (cc)
+
+pub retry_waits : (q : ReqSetup) (h : History) (f : Free) (d : Draw) (r : Result ℕ CommandFault) (out : List ℕ) (new : Asking) → IsCommanded q h (asks false q h Retry f d) r out new → is_ok r ≡ is_some (outstanding h)
+retry_waits q h f d (Ok tag) out new did = sent_waits (outstanding h) did.sent (ap sent_by (sym (retry_is q h f d)) ∙ did.sends)
+retry_waits q h f d (Err why) out new did = fails_rests (outstanding h) why (sym (retry_is q h f d) ∙ did.0)
 
 least_hash : (hash : HashAlg) → hash_size hash ≤ 48
 least_hash Sha256 = omega arith

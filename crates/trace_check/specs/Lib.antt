@@ -13,3 +13,4 @@ pub mod AnswersShown
 pub mod DropsShown
 pub mod RepliesShown
 pub mod Asker
+pub mod Commanded

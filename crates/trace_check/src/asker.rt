@@ -1,5 +1,6 @@
 use crate::asker_setup::AskerSetup;
-use crate::owed_messages::sends_owed;
+use crate::clear_commands::sends_clear;
+use crate::owed_messages::{sends_owed, write_outstanding};
 use asking::{Asking, Body, Setup};
 use spdm_basis::{OutOfMemory, Psk};
 use std::alloc::Global;
@@ -21,7 +22,9 @@ impl Asker {
     ghost use Rattle.asking.specs.Setup.{IsSetUp};
     ghost use Rattle.requester_machine.specs.May as may;
     ghost use Rattle.requester_machine.specs.Setup.{ReqSetup};
+    ghost use Rattle.spdm_machine.specs.Bodies.{clear_body};
     ghost use Rattle.trace_check.specs.Asker.{IsAsker, IsGoneOn};
+    ghost use Rattle.trace_check.specs.Commanded.{IsCommandedBy};
     ghost use Rattle.trace_check.specs.Keeping.{Keeps, Kept, kept_of};
     ghost use Rattle.world_machine.specs.Rounds.{new_dialogue};
     ghost use Rattle.world_machine.specs.Setup.{Configuration};
@@ -62,5 +65,21 @@ impl Asker {
         }
         self.owes = false;
         true
+    }
+
+    /// Takes a message in the clear as that of a command, where nothing is outstanding or owed:
+    /// whether some command sends it, whole. Else nothing is said of what is kept.
+    pub fn commands_in_clear(&mut self, message: &[u8]) -> bool
+        ensures { (w : Configuration) (q : ReqSetup) (older : List (List ℕ)) (k : Kept)
+            → Keeps w q older k → length older < 2 ^ 64 - 1 → IsAsker self.old q k
+            → IsCommandedBy q k (clear_body message.now) result self.new }
+    {
+        if self.owes {
+            return false;
+        }
+        if write_outstanding(&mut self.asking, &self.setup, &mut self.room) {
+            return false;
+        }
+        sends_clear(&mut self.asking, &self.setup, &mut self.room, message)
     }
 }

@@ -1,13 +1,14 @@
 //! What a capture shows, judged against what the two ends may have sent: so far the order of its
-//! packets.
+//! packets, and which requests in the clear and which owed messages go on from a requester.
 //!
 //! Read first: `IsVerdict` in `specs/Verdict.antt`, what the verdict on a capture is. The call is
-//! `Order::take`.
+//! `Order::take`; `Asker` judges the requests of one requester.
 #![tactic(auto)]
 
 mod asker;
 mod asker_setup;
 mod brought;
+mod clear_commands;
 mod laws;
 mod order;
 mod owed_messages;

@@ -1,4 +1,4 @@
-ghost use Rattle.std.specs.Prelude.{◌≡◌, ◌≤◌, ◌<◌, ◌-◌, ◌^◌, ℕ, Some, length, slice_index};
+ghost use Rattle.std.specs.Prelude.{◌≡◌, ◌≤◌, ◌<◌, ◌-◌, ◌^◌, ℕ, Some, is_some, length, slice_index};
 ghost use Rattle.asking.specs.Joined.{StandsFor};
 ghost use Rattle.asking.specs.Owed.{TookFor, TookLast};
 ghost use Rattle.requester_machine.specs.History.{History, outstanding};
@@ -17,7 +17,7 @@ use spdm_grammar::names::request_code::CHUNK_SEND;
 const SECURED: u8 = 6;
 
 // A context that is long enough for each hash.
-const LONG_CONTEXT: [u8; 48] = [0; 48];
+pub(crate) const LONG_CONTEXT: [u8; 48] = [0; 48];
 
 // A byte of a body, and 0 behind its end.
 fn byte_at(body: &[u8], at: usize) -> u8
@@ -30,15 +30,17 @@ fn byte_at(body: &[u8], at: usize) -> u8
 }
 
 // Whether a body is CHUNK_SEND in the clear, with the first chunk of a request.
-fn is_first_chunk(body: &[u8]) -> bool
+pub(crate) fn is_first_chunk(body: &[u8]) -> bool
     ensures { result ≡ is_first_chunk body.now }
 {
     byte_at(body, 2) == CHUNK_SEND && byte_at(body, 5) == 0 && byte_at(body, 6) == 0
 }
 
-// The body of the outstanding message, in place of what `room` holds. Which values are free does
-// not matter.
-fn write_outstanding(asking: &mut Asking, setup: &AskerSetup, room: &mut Body)
+// Whether a message is outstanding, whose body is written in place of what `room` holds. Which values
+// are free does not matter.
+pub(crate) fn write_outstanding(asking: &mut Asking, setup: &AskerSetup, room: &mut Body) -> bool
+    ensures waits { (q : ReqSetup) (h : History) → IsKeptSetup setup.now q
+        → length h < 2 ^ 64 - 1 → StandsFor asking.old q h → result ≡ is_some (outstanding h) }
     ensures stands { (q : ReqSetup) (h : History) → IsKeptSetup setup.now q
         → length h < 2 ^ 64 - 1 → StandsFor asking.old q h → StandsFor asking.new q h }
     ensures room { (q : ReqSetup) (h : History) (sent : Sent) → IsKeptSetup setup.now q
@@ -50,7 +52,10 @@ fn write_outstanding(asking: &mut Asking, setup: &AskerSetup, room: &mut Body)
         context: &LONG_CONTEXT,
         opaque: &[],
     };
-    let _ = asking.command(&setup.setup(), &setup.psk, Command::Retry, &free, &[], room);
+    let again = Command::Retry;
+    asking
+        .command(&setup.setup(), &setup.psk, again, &free, &[], room)
+        .is_ok()
 }
 
 // Takes a body as the record that is owed.
@@ -79,7 +84,7 @@ pub(crate) fn sends_owed(
         → StandsFor asking.old q (with_next (Some sent) bare)
         → IsSentOwed q bare sent body.now result asking.new }
 {
-    write_outstanding(asking, setup, room);
+    let _ = write_outstanding(asking, setup, room);
     if byte_at(room.as_slice(), 0) == SECURED {
         return take_record(asking, body);
     }
