@@ -71,3 +71,9 @@ pub mod LargeFits
 pub mod LargeShown
 pub mod FetchShown
 pub mod RepliesTold
+pub mod OwedTook
+pub mod OwedSent
+pub mod GoneOn
+pub mod ClearTold
+pub mod ClearRead
+pub mod CommandedBy

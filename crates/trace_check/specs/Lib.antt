@@ -18,3 +18,5 @@ pub mod RepliesShown
 pub mod ApartShown
 pub mod LargeShown
 pub mod RepliesTold
+pub mod Asker
+pub mod Commanded

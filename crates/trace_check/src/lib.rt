@@ -1,15 +1,19 @@
 //! What a capture shows, judged against what the two ends may have sent: so far the order of its
-//! packets.
+//! packets, and which requests in the clear and which owed messages go on from a requester.
 //!
 //! Read first: `IsVerdict` in `specs/Verdict.antt`, what the verdict on a capture is. The call is
-//! `Order::take`.
+//! `Order::take`; `Asker` judges the requests of one requester.
 #![tactic(auto)]
 
+mod asker;
+mod asker_setup;
 mod brought;
 mod change;
 mod change_laws;
+mod clear_commands;
 mod laws;
 mod order;
+mod owed_messages;
 mod pair;
 mod places;
 mod round;
@@ -17,6 +21,7 @@ mod row_laws;
 mod rows;
 mod verdict;
 
+pub use asker::Asker;
 pub use brought::Brought;
 pub use change::Change;
 pub use change_laws::{
