@@ -3,6 +3,7 @@ ghost use Rattle.responder_machine.specs.Answer.{Free, answer_bytes};
 ghost use Rattle.responder_machine.specs.History.{History};
 ghost use Rattle.responder_machine.specs.Place.{clear_place, held_of};
 ghost use Rattle.responder_machine.specs.Refusal as refusals;
+ghost use Rattle.responder_machine.specs.Responder as responder;
 ghost use Rattle.responder_machine.specs.Setup.{RspSetup};
 ghost use Rattle.spdm_grammar.specs.declared.heard.Heard.TheVariants as hearing;
 ghost use Rattle.spdm_grammar.specs.declared.names.TheConstants.{MAX_MESSAGE_SIZE};
@@ -60,6 +61,13 @@ impl ClearPart {
         ensures { result.now ≡ self.now.requests }
     {
         &self.requests
+    }
+
+    /// Whether a message with this tag is the last one that was not refused.
+    pub fn is_repeat(&self, tag: u8, message: &[u8]) -> bool
+        ensures { result ≡ responder.is_repeat self.now.kept tag message.now }
+    {
+        self.kept.is_repeat(tag, message)
     }
 
     /// A clear message came with a tag, beside so many sessions past their handshake. The message that answers

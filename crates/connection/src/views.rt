@@ -9,9 +9,10 @@ impl Connection {
     ghost use Rattle.responder_machine.specs.BoundLaws.{messages_of};
     ghost use Rattle.responder_machine.specs.Does.{first_queued};
     ghost use Rattle.responder_machine.specs.Heard.{views_of};
-    ghost use Rattle.responder_machine.specs.History.{History, clear_turns, negotiation_of, phase_of, queue_of};
+    ghost use Rattle.responder_machine.specs.History.{History, clear_turns, kept_of, negotiation_of, phase_of, queue_of};
     ghost use Rattle.responder_machine.specs.LargeMessages.{next_handle};
     ghost use Rattle.responder_machine.specs.Place.{free_id, held_of};
+    ghost use Rattle.responder_machine.specs.Responder.{is_repeat};
     ghost use Rattle.responder_machine.specs.Session.{session_of, turns_of};
     ghost use Rattle.responder_machine.specs.Setup.{RspSetup};
     ghost use Rattle.responder_session.specs.Data.{data_of};
@@ -31,6 +32,14 @@ impl Connection {
         ensures { result ≡ self.now.drawn }
     {
         self.drawn
+    }
+
+    /// Whether a clear message with this tag is the last one that was not refused, and so gets its answer again.
+    pub fn is_repeat(&self, tag: u8, message: &[u8]) -> bool
+        ensures { (r : RspSetup) (h : History) → StandsFor self.now r h
+            → result ≡ is_repeat (kept_of h) tag message.now }
+    {
+        self.clear.is_repeat(tag, message)
     }
 
     /// The algorithms that were chosen.
