@@ -41,3 +41,5 @@ pub mod DropsShown
 pub mod PlainShown
 pub mod HeardShown
 pub mod RepliesShown
+pub mod ReadLengths
+pub mod ReadValues

@@ -12,3 +12,4 @@ pub mod Showing
 pub mod AnswersShown
 pub mod DropsShown
 pub mod RepliesShown
+pub mod Answerer

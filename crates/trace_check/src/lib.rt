@@ -5,11 +5,14 @@
 //! `Order::take`.
 #![tactic(auto)]
 
+mod answer_length;
 mod brought;
 mod laws;
 mod order;
 mod pair;
 mod round;
+mod shown_fields;
+mod shown_values;
 mod verdict;
 
 pub use brought::Brought;
