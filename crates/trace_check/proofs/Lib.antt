@@ -43,3 +43,7 @@ pub mod HeardShown
 pub mod RepliesShown
 pub mod ReadLengths
 pub mod ReadValues
+pub mod ShortAnswers
+pub mod AllowedTold
+pub mod LargeReplies
+pub mod ClearAnswered

@@ -1,16 +1,19 @@
-ghost use Rattle.std.specs.Prelude.{◌≡◌, ◌≤◌, ◌==◌, ◌||◌, if◌then◌else◌, ℕ, List, length};
+ghost use Rattle.std.specs.Prelude.{◌≡◌, ◌≤◌, ◌==◌, ◌||◌, if◌then◌else◌, false, nat_lt, ℕ, List, length};
 ghost use Rattle.connection.specs.Free.{IsFree};
 ghost use Rattle.connection.specs.Setup.{IsSetUp};
 ghost use Rattle.measurements.specs.Blocks.{record_of};
 ghost use Rattle.measurements.specs.Records.{asked};
-ghost use Rattle.responder_machine.specs.Answer.{Free, exchange_answer, measurements_answer};
+ghost use Rattle.responder_machine.specs.Answer.{Free, answer_bytes, exchange_answer, measurements_answer};
 ghost use Rattle.responder_machine.specs.Place.{Place, place_terms};
+ghost use Rattle.responder_machine.specs.Refusal.{has_pending};
 ghost use Rattle.responder_machine.specs.Setup.{RspSetup, inventory_of};
 ghost use Rattle.spdm_basis.specs.Sizes.{hash_size};
 ghost use Rattle.spdm_grammar.specs.Message.{exchange_message, request_message};
 ghost use Rattle.spdm_grammar.specs.Responses.{canonical_response};
+ghost use Rattle.spdm_grammar.specs.declared.names.TheConstants.{MAX_MESSAGE_SIZE};
 ghost use Rattle.trace_check.specs.Answerer.{free_length};
 
+use crate::shown_values::{MOST_BYTES, request_of};
 use connection::{FreeValues, Setup};
 use measurements::Inventory;
 use spdm_basis::Frame;
@@ -88,5 +91,24 @@ pub(crate) fn free_length(
         Request::PskExchange(exchange) => exchange_length(hash, exchange, values),
         Request::GetMeasurements { op } => measurements_length(setup.inventory, *op, values),
         _ => 0,
+    }
+}
+
+/// Whether the answer to a message that is no chunk passes 4,096 bytes, at a place where this hash was
+/// chosen and no large answer is pending.
+pub(crate) fn is_too_long(
+    setup: &Setup<'_>,
+    hash: HashAlg,
+    message: &[u8],
+    values: &FreeValues<'_>,
+) -> bool
+    ensures { (r : RspSetup) (p : Place) (f : Free) → IsSetUp setup.now r
+        → (place_terms p).choice.hash ≡ hash → IsFree values.now f → length f.nonce ≡ 32
+        → has_pending p ≡ false
+        → result ≡ nat_lt MAX_MESSAGE_SIZE (length (answer_bytes r p message.now f)) }
+{
+    match request_of(message, hash.size()) {
+        Some(request) => free_length(setup, hash, &request, values) > MOST_BYTES,
+        None => false,
     }
 }

@@ -6,7 +6,9 @@
 #![tactic(auto)]
 
 mod answer_length;
+mod answerer;
 mod brought;
+mod choosing;
 mod laws;
 mod order;
 mod pair;
@@ -15,6 +17,7 @@ mod shown_fields;
 mod shown_values;
 mod verdict;
 
+pub use answerer::Answerer;
 pub use brought::Brought;
 pub use laws::{
     answers_are_shown, asks_are_kept, asks_go_on, clear_is_shown, conforms_is_each,

@@ -22,8 +22,8 @@ use spdm_grammar::names::error_number::RESPONSE_TOO_LARGE;
 use spdm_grammar::names::response_code::ERROR;
 use spdm_grammar::{HashAlg, Request};
 
-// The most bytes of an SPDM message.
-const MOST_BYTES: usize = 4096;
+/// The most bytes of an SPDM message.
+pub(crate) const MOST_BYTES: usize = 4096;
 
 // The most bytes of opaque data.
 const MOST_OPAQUE: usize = 1024;
@@ -49,8 +49,8 @@ fn told_length(reply: &[u8]) -> u32
         + 16777216 * byte_at(reply, 7) as u32
 }
 
-// The request that a message is.
-fn read(message: &[u8], hash_len: usize) -> Option<Request<'_>>
+/// The request that a message is, where a hash has so many bytes.
+pub(crate) fn request_of(message: &[u8], hash_len: usize) -> Option<Request<'_>>
     ensures { option_map request_message result ≡ request_in hash_len message.now }
 {
     match read_request(message, hash_len) {
@@ -170,7 +170,7 @@ pub(crate) fn values_in<'a>(
         → AreRead r p message.now (values_in r p message.now f reply.now) result }
 {
     let hash_len = hash.size();
-    match read(message, hash_len) {
+    match request_of(message, hash_len) {
         Some(request) if byte_at(reply, 1) == ERROR => {
             in_error(setup, hash, &request, values, reply)
         }
