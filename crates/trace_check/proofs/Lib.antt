@@ -77,3 +77,9 @@ pub mod GoneOn
 pub mod ClearTold
 pub mod ClearRead
 pub mod CommandedBy
+pub mod ReadLengths
+pub mod ReadValues
+pub mod ShortAnswers
+pub mod AllowedTold
+pub mod LargeReplies
+pub mod ClearAnswered

@@ -20,3 +20,4 @@ pub mod LargeShown
 pub mod RepliesTold
 pub mod Asker
 pub mod Commanded
+pub mod Answerer

@@ -5,11 +5,14 @@
 //! `Order::take`; `Asker` judges the requests of one requester.
 #![tactic(auto)]
 
+mod answer_length;
+mod answerer;
 mod asker;
 mod asker_setup;
 mod brought;
 mod change;
 mod change_laws;
+mod choosing;
 mod clear_commands;
 mod laws;
 mod order;
@@ -22,6 +25,11 @@ mod rows;
 mod verdict;
 
 pub use asker::Asker;
+
+mod shown_fields;
+mod shown_values;
+
+pub use answerer::Answerer;
 pub use brought::Brought;
 pub use change::Change;
 pub use change_laws::{
