@@ -51,7 +51,7 @@ get_none r h m f none passed (KeyUpdate op tag) is = refl
 get_none r h m f none passed EndSession is = refl
 get_none r h m f none passed (ChunkSend chunk) is = refl
 
-no_get : (r : RspSetup) (h : History) (m : List ℕ) (f : Free) → IsSmall h m → takes CHUNK_GET (turn_of r (clear_place h) m f) ≡ false
+pub no_get : (r : RspSetup) (h : History) (m : List ℕ) (f : Free) → IsSmall h m → takes CHUNK_GET (turn_of r (clear_place h) m f) ≡ false
 unfolding turn_of
 no_get r h m f small = by_refusal (refusal r (clear_place h) m f) refl
   where

@@ -83,3 +83,4 @@ pub mod ShortAnswers
 pub mod AllowedTold
 pub mod LargeReplies
 pub mod ClearAnswered
+pub mod ClearShown

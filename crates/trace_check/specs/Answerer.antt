@@ -1,15 +1,15 @@
 -- What is kept of the responder towards one requester, and what the program reads off an answer. This project's own.
-use Rattle.std.specs.Prelude.{◌≡◌, ◌<◌, ◌≤◌, ◌^◌, ◌==◌, ◌&&◌, ◌||◌, ◌⊎◌, not, nat_le, Bool, true, false, ℕ, List, [], length, Option, Some, None, MatchOption, slice_index}
+use Rattle.std.specs.Prelude.{◌≡◌, ◌<◌, ◌≤◌, ◌^◌, ◌==◌, ◌&&◌, ◌||◌, ◌⊎◌, not, nat_le, if◌then◌else◌, Bool, true, false, ℕ, List, [], ◌∷◌, length, Option, Some, None, MatchOption, slice_index}
 use Rattle.connection.specs.Connected as connected
 use Rattle.connection.specs.Free.{IsFree}
 use Rattle.connection.specs.declared.free_values.FreeValues.{FreeValues}
 use Rattle.responder_machine.specs.Answer.{Free, answer_bytes, exchange_answer, measurements_answer, request_at}
 use Rattle.responder_machine.specs.Handling.{chunk_in}
-use Rattle.responder_machine.specs.History.{History}
-use Rattle.responder_machine.specs.May.{IsAllowed}
+use Rattle.responder_machine.specs.History.{History, kept_of}
+use Rattle.responder_machine.specs.May.{IsAllowed, with_dropped}
 use Rattle.responder_machine.specs.Place.{Place, clear_place, held_of, is_held, place_terms}
 use Rattle.responder_machine.specs.Refusal.{has_pending}
-use Rattle.responder_machine.specs.Responder.{body_of, on_clear}
+use Rattle.responder_machine.specs.Responder.{after, body_of, is_repeat, on_clear}
 use Rattle.responder_machine.specs.Setup.{RspSetup}
 use Rattle.spdm_grammar.specs.Fields.{zeros}
 use Rattle.spdm_grammar.specs.Message.{RequestMessage, ResponseMessage}
@@ -23,6 +23,8 @@ use Rattle.spdm_grammar.specs.declared.names.error_number.TheConstants.{LARGE_RE
 use Rattle.spdm_grammar.specs.declared.names.response_code.TheConstants.{ERROR}
 use Rattle.spdm_machine.specs.Bodies.{clear_body}
 use Rattle.spdm_machine.specs.Terms.{hash_len}
+use Rattle.trace_check.specs.AnswersShown.{clear_values, least_values}
+use Rattle.trace_check.specs.DropsShown.{drops_shown_by, outcome_shown}
 use Rattle.trace_check.specs.declared.answerer.Answerer.{Answerer}
 use Rattle.world_machine.specs.CapturedAnswers.{clear_answer, is_plain}
 use Rattle.world_machine.specs.Rounds.{no_draw}
@@ -128,3 +130,16 @@ pub record IsAnsweredAt (r : RspSetup) (h : History) (tag : ℕ) (m : List ℕ) 
 pub record IsSmall (h : History) (m : List ℕ) : Type 0 where
   pub whole : chunk_in (request_at (clear_place h) m) ≡ None
   pub none : has_pending (clear_place h) ≡ false
+
+-- The values that an answer to a clear message shows: the least ones, where it is a repeat.
+abbrev pub clear_shown : RspSetup → History → ℕ → (m reply : List ℕ) → Free
+clear_shown r h tag m reply = if is_repeat (kept_of h) tag m then least_values h (clear_place h) else clear_values r h m reply
+
+-- The history behind an answer that is shown so.
+abbrev pub history_shown : RspSetup → History → ℕ → (body answer : List ℕ) → History
+history_shown r h tag body answer = after (with_dropped h (drops_shown_by r h tag body answer)) (outcome_shown r h tag body answer)
+
+-- The session that was dropped, one or none.
+abbrev pub IsDropped : (ids : List ℕ) → Option ℕ → Type 0
+IsDropped ids None = ids ≡ []
+IsDropped ids (Some id) = ids ≡ id ∷ []

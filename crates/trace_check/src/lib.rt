@@ -13,6 +13,7 @@ mod brought;
 mod change;
 mod change_laws;
 mod choosing;
+mod clear_answers;
 mod clear_commands;
 mod laws;
 mod order;
