@@ -78,9 +78,7 @@ pub mod ClearTold
 pub mod ClearRead
 pub mod CommandedBy
 pub mod ReadLengths
-pub mod ReadValues
 pub mod ShortAnswers
 pub mod AllowedTold
 pub mod LargeReplies
 pub mod ClearAnswered
-pub mod ClearShown

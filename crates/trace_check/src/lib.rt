@@ -1,5 +1,5 @@
-//! What a capture shows, judged against what the two ends may have sent: so far the order of its
-//! packets, and which requests in the clear and which owed messages go on from a requester.
+//! What a capture shows, judged against what the two ends may have sent: the order of its packets,
+//! the table of its sessions, and parts of what judges requests and answers by the ends' own code.
 //!
 //! Read first: `IsVerdict` in `specs/Verdict.antt`, what the verdict on a capture is. The call is
 //! `Order::take`; `Asker` judges the requests of one requester.
@@ -13,7 +13,6 @@ mod brought;
 mod change;
 mod change_laws;
 mod choosing;
-mod clear_answers;
 mod clear_commands;
 mod laws;
 mod order;
@@ -23,14 +22,12 @@ mod places;
 mod round;
 mod row_laws;
 mod rows;
-mod verdict;
-
-pub use asker::Asker;
-
 mod shown_fields;
 mod shown_values;
+mod verdict;
 
 pub use answerer::Answerer;
+pub use asker::Asker;
 pub use brought::Brought;
 pub use change::Change;
 pub use change_laws::{

@@ -1,25 +1,16 @@
-ghost use Rattle.std.specs.Prelude.{◌≡◌, ◌≤◌, ◌<◌, ◌^◌, [], ◌++◌, Some, drop, ℕ, List, length};
+ghost use Rattle.std.specs.Prelude.{◌≡◌, ◌≤◌, ◌<◌, ◌^◌, [], ◌++◌, Some, length};
 ghost use Rattle.std.specs.Option.{option_map};
-ghost use Rattle.byteorder.specs.Endian.{little_number};
 ghost use Rattle.connection.specs.Free.{IsFree};
-ghost use Rattle.connection.specs.Setup.{IsSetUp};
-ghost use Rattle.responder_machine.specs.Answer.{Free, request_at};
-ghost use Rattle.responder_machine.specs.Place.{Place, place_terms};
-ghost use Rattle.responder_machine.specs.Setup.{RspSetup};
+ghost use Rattle.responder_machine.specs.Answer.{Free};
 ghost use Rattle.spdm_basis.specs.Sizes.{hash_size};
 ghost use Rattle.spdm_grammar.specs.Fields.{zeros};
 ghost use Rattle.spdm_grammar.specs.Message.{request_message};
 ghost use Rattle.spdm_grammar.specs.Requests.{request_in};
-ghost use Rattle.trace_check.specs.Answerer.{AreLonger, AreRead, AreShort, IsLongerContext, IsLongerOpaque};
-ghost use Rattle.trace_check.specs.AnswersShown.{lengthened, values_in, values_in_error};
+ghost use Rattle.trace_check.specs.Answerer.{AreLonger, IsLongerContext, IsLongerOpaque};
+ghost use Rattle.trace_check.specs.AnswersShown.{lengthened};
 
-use crate::answer_length::free_length;
-use crate::shown_fields::with_fields;
-use connection::{FreeValues, Setup};
-use session_keys::byte_at;
+use connection::FreeValues;
 use spdm_codec::read_request;
-use spdm_grammar::names::error_number::RESPONSE_TOO_LARGE;
-use spdm_grammar::names::response_code::ERROR;
 use spdm_grammar::{HashAlg, Request};
 
 /// The most bytes of an SPDM message.
@@ -37,16 +28,6 @@ pub(crate) fn zeros(count: usize) -> &'static [u8]
     ensures { result.now ≡ zeros count }
 {
     &ZEROS[..count]
-}
-
-// The length that an ERROR tells behind its four bytes.
-fn told_length(reply: &[u8]) -> u32
-    ensures { result ≡ little_number 4 (drop 4 reply.now) }
-{
-    byte_at(reply, 4) as u32
-        + 256 * byte_at(reply, 5) as u32
-        + 65536 * byte_at(reply, 6) as u32
-        + 16777216 * byte_at(reply, 7) as u32
 }
 
 /// The request that a message is, where a hash has so many bytes.
@@ -132,49 +113,5 @@ fn lengthened<'a>(
         Request::PskExchange(_) => longer_context(values, hash, more),
         Request::GetMeasurements { .. } => longer_opaque(values, more),
         _ => Some(values),
-    }
-}
-
-// The values that ERROR shows in answer to a message.
-fn in_error<'a>(
-    setup: &Setup<'_>,
-    hash: HashAlg,
-    request: &Request<'_>,
-    values: FreeValues<'a>,
-    reply: &[u8],
-) -> Option<FreeValues<'a>>
-    ensures { (r : RspSetup) (p : Place) (m : List ℕ) (f : Free) → IsSetUp setup.now r
-        → (place_terms p).choice.hash ≡ hash → IsFree values.entry f → AreShort p f
-        → request_at p m ≡ Some (request_message request.now)
-        → AreRead r p m (values_in_error r p m f reply.now) result }
-{
-    if byte_at(reply, 2) != RESPONSE_TOO_LARGE {
-        return Some(values);
-    }
-    let least = free_length(setup, hash, request, &values);
-    let told = told_length(reply) as usize;
-    lengthened(values, hash, request, told.saturating_sub(least))
-}
-
-/// The values that a response to a message shows, at a place where this hash was chosen. What it
-/// does not show stays as it is. None where they are too long for any answer.
-pub(crate) fn values_in<'a>(
-    setup: &Setup<'_>,
-    hash: HashAlg,
-    message: &[u8],
-    values: FreeValues<'a>,
-    reply: &'a [u8],
-) -> Option<FreeValues<'a>>
-    ensures { (r : RspSetup) (p : Place) (f : Free) → IsSetUp setup.now r
-        → (place_terms p).choice.hash ≡ hash → IsFree values.entry f → AreShort p f
-        → AreRead r p message.now (values_in r p message.now f reply.now) result }
-{
-    let hash_len = hash.size();
-    match request_of(message, hash_len) {
-        Some(request) if byte_at(reply, 1) == ERROR => {
-            in_error(setup, hash, &request, values, reply)
-        }
-        Some(request) => Some(with_fields(values, hash_len, &request, reply)),
-        None => Some(values),
     }
 }
