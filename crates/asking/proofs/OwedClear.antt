@@ -2,8 +2,10 @@
 use Rattle.std.proofs.Common.{refl, ◌≡◌, ◌∙◌, ℕ, List, [], ◌∷◌, true, false, Option, Some, ap, sym}
 use Rattle.std.specs.Prelude.{◌==◌, if◌then◌else◌}
 use Rattle.std.proofs.lemmas.Bool.{false≢true}
-use Rattle.asking.specs.Owed.{TookAny, TookFor, TookLast, with_next}
-use Rattle.asking.specs.OwnRecords.{is_in_session, names, session_named}
+use Rattle.asking.specs.Owed.{TookAny, TookFor, TookLast}
+use Rattle.requester_machine.specs.Owed.{with_next}
+use Rattle.asking.specs.OwnRecords.{is_in_session}
+use Rattle.requester_machine.specs.Named.{names, session_named}
 use Rattle.requester_machine.specs.History.{History, outstanding}
 use Rattle.requester_machine.specs.History.Entry.{Told, TookClear, TookRecord}
 use Rattle.requester_machine.specs.Message.{Aim, Ask, Content, Sent}

@@ -5,8 +5,10 @@ use Rattle.asking.proofs.OwedSessions.{IsOwed, as_long, is_owed, others_as, sent
 use Rattle.asking.proofs.OwnSlots.{few_resting, first_as, opens_elsewhere, opens_named, opens_there}
 use Rattle.asking.proofs.SessionsAsked.{is_other, of_each}
 use Rattle.asking.proofs.SessionsRecorded.{named_is}
-use Rattle.asking.specs.Owed.{TookLast, with_next}
-use Rattle.asking.specs.OwnRecords.{OpensAs, OpensNamed, id_named, names, session_named}
+use Rattle.asking.specs.Owed.{TookLast}
+use Rattle.requester_machine.specs.Owed.{with_next}
+use Rattle.asking.specs.OwnRecords.{OpensAs, OpensNamed, id_named}
+use Rattle.requester_machine.specs.Named.{names, session_named}
 use Rattle.asking.specs.Sessions.{StandsFor, slot_of}
 use Rattle.asking.specs.Slot.{IsSlotOf}
 use Rattle.asking.specs.declared.sessions.Sessions.{Sessions}

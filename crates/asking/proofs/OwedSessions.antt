@@ -3,7 +3,8 @@ use Rattle.std.proofs.Common.{refl, ◌≡◌, ◌≢◌, ◌∙◌, ℕ, List, 
 use Rattle.std.specs.Prelude.{◌==◌, if◌then◌else◌}
 use Rattle.asking.proofs.SessionsAsked.{is_other, of_each}
 use Rattle.asking.proofs.SessionsRecorded.{is_sealed}
-use Rattle.asking.specs.Owed.{AreRepadded, TookLast, owed_with, content_with, with_next}
+use Rattle.asking.specs.Owed.{AreRepadded, TookLast, owed_with}
+use Rattle.requester_machine.specs.Owed.{content_with, with_next}
 use Rattle.asking.specs.OwnRecords.{IsSlotRepadded}
 use Rattle.asking.specs.Sessions.{IsNamed, StandsFor, session_at, session_for, slot_of}
 use Rattle.asking.specs.Slot.{IsSlotOf}

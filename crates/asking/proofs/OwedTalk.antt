@@ -6,7 +6,8 @@ use Rattle.asking.specs.Joined.{StandsFor}
 use Rattle.asking.specs.Negotiating as negotiating
 use Rattle.asking.specs.Negotiating.{IsUpToSent}
 use Rattle.asking.specs.Outgoing.{IsKeptOf}
-use Rattle.asking.specs.Owed.{AreRepadded, IsRepadded, TookLast, owed_with, with_next}
+use Rattle.asking.specs.Owed.{AreRepadded, IsRepadded, TookLast, owed_with}
+use Rattle.requester_machine.specs.Owed.{with_next}
 use Rattle.asking.specs.Sessions as sessions
 use Rattle.asking.specs.Talk as talk
 use Rattle.asking.specs.Waiting.{waiting_of}

@@ -4,7 +4,8 @@ use Rattle.std.specs.Prelude.{◌&&◌, ◌==◌, bytes_eq, if◌then◌else◌,
 use Rattle.std.proofs.lemmas.Bool.{false≢true}
 use Rattle.std.proofs.lemmas.Option.{none-some, same_Some}
 use Rattle.asking.proofs.SlotLaws.{asked_waits, finishing_rests, live_rests, opening_rests, session_shows}
-use Rattle.asking.specs.OwnRecords.{IsSlotRepadded, OpensAs, OpensNamed, awaits_record, first_of, id_named, is_in_session, names, opens_own, session_named}
+use Rattle.asking.specs.OwnRecords.{IsSlotRepadded, OpensAs, OpensNamed, awaits_record, first_of, id_named, is_in_session, opens_own}
+use Rattle.requester_machine.specs.Named.{names, session_named}
 use Rattle.asking.specs.Slot.{IsFinishing, IsOpening, IsSlotOf, shown_of}
 use Rattle.asking.specs.declared.slot.Slot.{Slot}
 use Rattle.asking.specs.declared.slot.Slot.TheVariants as slot

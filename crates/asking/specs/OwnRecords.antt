@@ -1,29 +1,17 @@
 -- The records that a requester seals itself, opened for one who judges them. This project's own.
-use Rattle.std.specs.Prelude.{◌≡◌, ◌≤◌, ◌&&◌, if◌then◌else◌, length, ℕ, List, [], Bool, true, false, Option, Some, None, bytes_eq, is_none, take}
+use Rattle.std.specs.Prelude.{◌≡◌, ◌≤◌, ◌&&◌, if◌then◌else◌, length, ℕ, List, [], Bool, true, false, Option, Some, None, is_none}
 use Rattle.psk_session.specs.Course.{with_asked}
 use Rattle.psk_session.specs.OwnRecords.{IsPadded, own_fault, own_inner}
 use Rattle.requester_machine.specs.History.{History}
 use Rattle.requester_machine.specs.Message.{Aim, Ask, Sent}
 use Rattle.requester_machine.specs.Message.Aim.{InSession}
+use Rattle.requester_machine.specs.Named.{names}
 use Rattle.requester_machine.specs.Records.{sealed_next}
-use Rattle.requester_machine.specs.Session.{Steps, id_bytes, is_accepted, session_of}
+use Rattle.requester_machine.specs.Session.{Steps, is_accepted, session_of}
 use Rattle.asking.specs.Slot.{IsSlotOf}
 use Rattle.asking.specs.declared.slot.Slot.{Slot}
 
 -- ---- Which session a record names.
-
--- The session took PSK_EXCHANGE_RSP, and its id stands in front of the record.
-abbrev pub names : (sealed : List ℕ) → Steps → Bool
-names sealed s = is_accepted s && bytes_eq (id_bytes s) (take 4 sealed)
-
--- The session that a record names, the one of least ReqSessionID; none where it names none.
-abbrev pub session_named : History → (sealed : List ℕ) → Steps
-session_named h sealed =
-    if names sealed (session_of 1 h) then session_of 1 h
-    else (if names sealed (session_of 2 h) then session_of 2 h
-    else (if names sealed (session_of 3 h) then session_of 3 h
-    else (if names sealed (session_of 4 h) then session_of 4 h
-    else [])))
 
 -- The first of four ids that holds.
 abbrev pub first_of : (first second third fourth : Bool) → Option ℕ

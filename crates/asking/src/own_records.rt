@@ -19,8 +19,10 @@ impl Talk {
 impl Asking {
     ghost use Rattle.std.specs.Prelude.{◌≡◌, ◌≤◌, ◌<◌, ◌-◌, ◌^◌, ℕ, Some, false, length};
     ghost use Rattle.asking.specs.Joined.{StandsFor};
-    ghost use Rattle.asking.specs.Owed.{IsRepadded, TookFor, TookLast, with_next};
-    ghost use Rattle.asking.specs.OwnRecords.{OpensAs, OpensNamed, awaits_record, session_named};
+    ghost use Rattle.asking.specs.Owed.{IsRepadded, TookFor, TookLast};
+    ghost use Rattle.requester_machine.specs.Owed.{with_next};
+    ghost use Rattle.asking.specs.OwnRecords.{OpensAs, OpensNamed, awaits_record};
+    ghost use Rattle.requester_machine.specs.Named.{session_named};
     ghost use Rattle.requester_machine.specs.History.{History, outstanding};
     ghost use Rattle.requester_machine.specs.Message as message;
     ghost use Rattle.requester_machine.specs.Message.{Sent};

@@ -31,8 +31,10 @@ fn first_of(first: bool, second: bool, third: bool, fourth: bool) -> Option<u16>
 // What a requester sealed itself, for one who judges it.
 impl Sessions {
     ghost use Rattle.std.specs.Prelude.{◌≡◌, ◌≢◌, ◌≤◌, ◌<◌, ◌-◌, ◌^◌, ℕ, List, Some, false, length, true};
-    ghost use Rattle.asking.specs.Owed.{AreRepadded, TookLast, with_next};
-    ghost use Rattle.asking.specs.OwnRecords.{IsSlotRepadded, OpensAs, OpensNamed, awaits_record, id_named, names, session_named};
+    ghost use Rattle.asking.specs.Owed.{AreRepadded, TookLast};
+    ghost use Rattle.requester_machine.specs.Owed.{with_next};
+    ghost use Rattle.asking.specs.OwnRecords.{IsSlotRepadded, OpensAs, OpensNamed, awaits_record, id_named};
+    ghost use Rattle.requester_machine.specs.Named.{names, session_named};
     ghost use Rattle.asking.specs.Sessions.{StandsFor, slot_of};
     ghost use Rattle.asking.specs.Slot.{IsSlotOf};
     ghost use Rattle.psk_session.specs.Course.{with_asked};

@@ -3,6 +3,8 @@ pub mod Message
 pub mod History
 pub mod Session
 pub mod Records
+pub mod Owed
+pub mod Named
 pub mod Sending
 pub mod Commands
 pub mod Asking

@@ -14,7 +14,8 @@ use Rattle.spdm_grammar.specs.Message.{RequestMessage}
 use Rattle.spdm_machine.specs.Packets.{body_type}
 use Rattle.spdm_machine.specs.Terms.{Terms}
 use Rattle.world_machine.specs.Capture.{AsksBy, Begins, Copies, may_begin}
-use Rattle.world_machine.specs.CapturedRequests.{BeginsLarge, BeginsOwed, GoesOn, Sends, Tells, is_later, owes, with_next, without_owed}
+use Rattle.world_machine.specs.CapturedRequests.{BeginsLarge, BeginsOwed, GoesOn, Sends, Tells, is_later, owes, without_owed}
+use Rattle.requester_machine.specs.Owed.{with_next}
 use Rattle.world_machine.specs.Difference.{is_copy}
 use Rattle.world_machine.specs.LargeRequests.{IsLargeRequest, first_piece, piece_with}
 use Rattle.world_machine.specs.Rounds.{Dialogue, Round, following_tag, new_round, no_draw}

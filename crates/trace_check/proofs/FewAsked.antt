@@ -31,7 +31,8 @@ use Rattle.world_machine.proofs.AskTells.{Kind, IsSent, kind_of, sent_by_kind}
 use Rattle.world_machine.proofs.AskTells.Kind.{InClear, OfSession, Again}
 use Rattle.world_machine.proofs.HeardNext.{either_next, none_next, some_next}
 use Rattle.world_machine.specs.CapturedAnswers.{Hears, HearsWhile}
-use Rattle.world_machine.specs.CapturedRequests.{Sends, Tells, with_next, without_owed}
+use Rattle.world_machine.specs.CapturedRequests.{Sends, Tells, without_owed}
+use Rattle.requester_machine.specs.Owed.{with_next}
 use Rattle.world_machine.specs.LargeRequests.{first_piece, piece_with, with_ack_to, with_next_piece}
 use Rattle.world_machine.specs.Rounds.{Dialogue, no_draw}
 use Rattle.world_machine.specs.SessionTable.{accepted_in}

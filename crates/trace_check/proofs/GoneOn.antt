@@ -13,7 +13,7 @@ use Rattle.trace_check.specs.Asker.{IsAsker, IsGoneOn, IsKeptSetup, IsSentOwed, 
 use Rattle.trace_check.specs.Keeping.{GoesOnKept, Keeps, Kept, owing}
 use Rattle.trace_check.specs.declared.asker.Asker.{Asker}
 use Rattle.trace_check.specs.declared.asker_setup.AskerSetup.{AskerSetup}
-use Rattle.world_machine.specs.CapturedRequests.{with_next}
+use Rattle.requester_machine.specs.Owed.{with_next}
 use Rattle.world_machine.specs.Setup.{Configuration}
 
 some_of : (o : Option Sent) → is_some o ≡ true → (sent : Sent) × (o ≡ Some sent)

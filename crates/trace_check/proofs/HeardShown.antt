@@ -17,7 +17,8 @@ use Rattle.responder_machine.specs.History as responder_history
 use Rattle.trace_check.proofs.KeptParts.{kept_is, next_twice, sent_twice}
 use Rattle.trace_check.proofs.Repadding.{agree_self, heard_with, repadded}
 use Rattle.trace_check.specs.Keeping.{kept_of}
-use Rattle.trace_check.specs.Padding.{next_with, sent_with, session_asked}
+use Rattle.trace_check.specs.Padding.{next_with, session_asked}
+use Rattle.requester_machine.specs.Owed.{sent_with}
 use Rattle.trace_check.specs.RepliesShown.{no_values}
 use Rattle.world_machine.proofs.Agrees.{HaveIds}
 use Rattle.world_machine.proofs.AskersAlike.{AskersAlike}
@@ -25,7 +26,8 @@ use Rattle.world_machine.proofs.AskersAlike.AskersAlike.{Settled, Owing, Shown, 
 use Rattle.world_machine.proofs.AskersHear.{later_tag, next_later}
 use Rattle.world_machine.proofs.HeardNext.{heard_next, other_tag}
 use Rattle.world_machine.proofs.HearsAlike.{EntryAlike, OutcomeAlike, hears_alike}
-use Rattle.world_machine.specs.CapturedRequests.{is_later, owes, with_next}
+use Rattle.world_machine.specs.CapturedRequests.{is_later, owes}
+use Rattle.requester_machine.specs.Owed.{with_next}
 use Rattle.world_machine.specs.Rounds.{Dialogue, Round, following_tag, no_draw}
 
 -- What is between two ends, with this history of the requester, behind an answer in this round.

@@ -20,14 +20,16 @@ use Rattle.trace_check.proofs.OneWalk.{walks_alike}
 use Rattle.trace_check.proofs.PairWalks.{it_made}
 use Rattle.trace_check.proofs.Repadding.{alike_with}
 use Rattle.trace_check.specs.Keeping.{AsksAreKept, AsksKept, BeginsKept, CopiesKept, Kept, SendsKept, kept_of, owed_with}
-use Rattle.trace_check.specs.Padding.{next_with, sent_with, session_asked, with_padding}
+use Rattle.trace_check.specs.Padding.{next_with, session_asked, with_padding}
+use Rattle.requester_machine.specs.Owed.{sent_with}
 use Rattle.trace_check.specs.Walks.{StepsBy, StepsTo, Walks}
 use Rattle.world_machine.proofs.Agrees.{Agree}
 use Rattle.world_machine.proofs.Alike.{Alike}
 use Rattle.world_machine.proofs.AskersAlike.{alike_aim}
 use Rattle.world_machine.proofs.AskersStep.{owed, unowed}
 use Rattle.world_machine.specs.Capture.{AsksBy, Begins, Copies, may_begin}
-use Rattle.world_machine.specs.CapturedRequests.{Commands, Connects, GoesOn, Sends, Tells, is_later, owes, with_next, without_owed}
+use Rattle.world_machine.specs.CapturedRequests.{Commands, Connects, GoesOn, Sends, Tells, is_later, owes, without_owed}
+use Rattle.requester_machine.specs.Owed.{with_next}
 use Rattle.world_machine.specs.Rounds.{Dialogue, Round, following_tag, new_round}
 use Rattle.world_machine.specs.Setup.{Configuration}
 

@@ -20,11 +20,13 @@ use Rattle.trace_check.proofs.OneWalk.{walks_alike}
 use Rattle.trace_check.proofs.PairWalks.{IsFor, it_made, of_it}
 use Rattle.trace_check.specs.Keeping.{Kept, KeptBegins, KeptIsRestored, KeptStays, KeptReplies, RepliesAreKept, kept_of, owing, restored}
 use Rattle.trace_check.specs.Order.{is_answer}
-use Rattle.trace_check.specs.Padding.{next_with, sent_with, session_asked, with_padding}
+use Rattle.trace_check.specs.Padding.{next_with, session_asked, with_padding}
+use Rattle.requester_machine.specs.Owed.{sent_with}
 use Rattle.trace_check.specs.Walks.{StepsBy, StepsTo, Walks}
 use Rattle.world_machine.proofs.AskersHear.{later_tag}
 use Rattle.world_machine.specs.Capture.{AsksBy, RepliesBy}
-use Rattle.world_machine.specs.CapturedRequests.{is_later, owes, with_next}
+use Rattle.world_machine.specs.CapturedRequests.{is_later, owes}
+use Rattle.requester_machine.specs.Owed.{with_next}
 use Rattle.world_machine.specs.Rounds.{Dialogue, new_dialogue}
 use Rattle.world_machine.specs.Setup.{Configuration}
 

@@ -8,12 +8,14 @@ use Rattle.requester_machine.specs.Message.{Content, Sent}
 use Rattle.requester_machine.specs.Message.Content.{Clear, Sealed}
 use Rattle.requester_machine.specs.Session.{Steps, session_of}
 use Rattle.trace_check.specs.Keeping.{Kept, kept_of}
-use Rattle.trace_check.specs.Padding.{content_with, next_with, sent_with, session_asked}
+use Rattle.trace_check.specs.Padding.{next_with, session_asked}
+use Rattle.requester_machine.specs.Owed.{content_with, sent_with}
 use Rattle.world_machine.proofs.Agrees.{Agree}
 use Rattle.world_machine.proofs.AskersAlike.{AskersAlike, next_agree}
 use Rattle.world_machine.proofs.AskersAlike.AskersAlike.{Settled, Owing, Shown, Due}
 use Rattle.world_machine.proofs.HearsAlike.{EntryAlike, SentAlike}
-use Rattle.world_machine.specs.CapturedRequests.{is_later, owes, with_next}
+use Rattle.world_machine.specs.CapturedRequests.{is_later, owes}
+use Rattle.requester_machine.specs.Owed.{with_next}
 use Rattle.world_machine.specs.Rounds.{Dialogue, Round, following_tag}
 
 -- ---- The message that was sent last.

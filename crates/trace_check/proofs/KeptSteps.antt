@@ -21,14 +21,16 @@ use Rattle.world_machine.proofs.AskersHear.{later_round}
 use Rattle.trace_check.proofs.PairWalks.{IsFor, of_it}
 use Rattle.trace_check.specs.Keeping.{AsksKept, BeginsKept, CommandsKept, ConnectsKept, CopiesKept, GoesOnKept, Keeps, Kept, KeptAsks, SendsKept, kept_of, owed_with}
 use Rattle.trace_check.specs.Order.{is_request}
-use Rattle.trace_check.specs.Padding.{next_with, sent_with, session_asked, with_padding}
+use Rattle.trace_check.specs.Padding.{next_with, session_asked, with_padding}
+use Rattle.requester_machine.specs.Owed.{sent_with}
 use Rattle.trace_check.specs.Walks.{StepsTo, StepsBy, Walks}
 use Rattle.world_machine.proofs.AskersAlike.{AskersAlike, none_tag}
 use Rattle.world_machine.proofs.AskersAlike.AskersAlike.{Settled, Owing, Shown, Due}
 use Rattle.world_machine.proofs.AskersHear.{later_tag}
 use Rattle.world_machine.proofs.AskersStep.{owed, unowed}
 use Rattle.world_machine.specs.Capture.{AsksBy, Begins, Copies, may_begin}
-use Rattle.world_machine.specs.CapturedRequests.{Sends, Tells, is_later, owes, with_next, without_owed}
+use Rattle.world_machine.specs.CapturedRequests.{Sends, Tells, is_later, owes, without_owed}
+use Rattle.requester_machine.specs.Owed.{with_next}
 use Rattle.world_machine.specs.LargeRequests.{IsJudged, still_sending}
 use Rattle.world_machine.specs.Rounds.{Dialogue, Round, following_tag, new_round}
 use Rattle.world_machine.specs.Setup.{Configuration}

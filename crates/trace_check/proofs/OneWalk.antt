@@ -19,7 +19,8 @@ use Rattle.world_machine.proofs.AskersStep.{owed_sends, settled_sends}
 use Rattle.world_machine.proofs.SentFacts.{asked_tag}
 use Rattle.world_machine.proofs.WalksAlike.{BothAlike, kept}
 use Rattle.world_machine.specs.Capture.{AsksBy, RepliesBy}
-use Rattle.world_machine.specs.CapturedRequests.{BeginsLarge, BeginsOwed, GoesOn, Sends, Tells, is_later, with_next}
+use Rattle.world_machine.specs.CapturedRequests.{BeginsLarge, BeginsOwed, GoesOn, Sends, Tells, is_later}
+use Rattle.requester_machine.specs.Owed.{with_next}
 use Rattle.world_machine.specs.Rounds.{Dialogue, Round, following_tag, new_round, no_draw}
 use Rattle.world_machine.specs.Setup.{Configuration}
 

@@ -44,8 +44,9 @@ use Rattle.spdm_grammar.specs.declared.command_fault.CommandFault.TheVariants as
 use Rattle.spdm_machine.specs.Bodies.{clear_body, record_body}
 use Rattle.spdm_machine.specs.Keys.{Draw}
 use Rattle.trace_check.specs.Asker.{IsSentOwed, is_first_chunk}
-use Rattle.trace_check.specs.Padding.{content_with, sent_with, session_asked}
-use Rattle.world_machine.specs.CapturedRequests.{with_next}
+use Rattle.trace_check.specs.Padding.{session_asked}
+use Rattle.requester_machine.specs.Owed.{content_with, sent_with}
+use Rattle.requester_machine.specs.Owed.{with_next}
 
 -- ---- The words of the requester's own code.
 

@@ -30,7 +30,8 @@ use Rattle.trace_check.proofs.KeptParts.{none_later, none_owed, owed_is}
 use Rattle.trace_check.proofs.OneWalk.{walks_alike}
 use Rattle.trace_check.specs.Keeping.{Keeps, Kept, kept_of}
 use Rattle.trace_check.specs.Order.{is_answer, is_request}
-use Rattle.trace_check.specs.Padding.{sent_with, session_asked}
+use Rattle.trace_check.specs.Padding.{session_asked}
+use Rattle.requester_machine.specs.Owed.{sent_with}
 use Rattle.trace_check.specs.Walks.{StepsBy, StepsTo, Walks}
 use Rattle.world_machine.proofs.AskersAlike.{AskersAlike}
 use Rattle.world_machine.proofs.AskersAlike.AskersAlike.{Settled, Owing, Shown, Due}
@@ -38,7 +39,8 @@ use Rattle.world_machine.proofs.AskersStep.{owed}
 use Rattle.world_machine.proofs.HearsAlike.{EntryAlike}
 use Rattle.world_machine.specs.Capture.{AsksBy, Begins, Copies, RepliesBy}
 use Rattle.world_machine.specs.CapturedAnswers.{Hears, HearsWhile}
-use Rattle.world_machine.specs.CapturedRequests.{BeginsLarge, BeginsOwed, Sends, is_later, owes, with_next, without_owed}
+use Rattle.world_machine.specs.CapturedRequests.{BeginsLarge, BeginsOwed, Sends, is_later, owes, without_owed}
+use Rattle.requester_machine.specs.Owed.{with_next}
 use Rattle.world_machine.specs.LargeRequests.{first_piece, with_ack_to, with_next_piece}
 use Rattle.world_machine.specs.Rounds.{Dialogue, Round}
 use Rattle.world_machine.specs.Setup.{Configuration}

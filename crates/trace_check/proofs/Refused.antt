@@ -26,7 +26,8 @@ use Rattle.world_machine.proofs.HearsAlike.{SentAlike, padded}
 use Rattle.world_machine.proofs.HearsAlike.SentAlike.{Equal, Padded}
 use Rattle.world_machine.specs.CapturedRequests.{is_later, owes, without_owed}
 use Rattle.world_machine.specs.Difference.{AreRepliesApart, ComesApart, GoesApart, RepliesApart, asks_apart, asks_out_of_turn, finish_in, is_apart, is_finish_apart, is_padded, replies_out_of_turn, verify_size}
-use Rattle.world_machine.specs.Opening.{inner_asking, names, opens_asking}
+use Rattle.world_machine.specs.Opening.{inner_asking, opens_asking}
+use Rattle.requester_machine.specs.Named.{names}
 use Rattle.world_machine.specs.Rounds.{Dialogue, Round}
 use Rattle.world_machine.specs.Setup.{known_of}
 

@@ -17,14 +17,16 @@ use Rattle.requester_machine.specs.Shown.{after}
 use Rattle.responder_machine.specs.History as responder_history
 use Rattle.trace_check.proofs.Allowed.{Equals, allowed_same, clear_lives, record_lives}
 use Rattle.trace_check.proofs.Sealing.{IsOwn, heard_own}
-use Rattle.trace_check.specs.Padding.{content_with, next_with, sent_with, session_asked}
+use Rattle.trace_check.specs.Padding.{next_with, session_asked}
+use Rattle.requester_machine.specs.Owed.{content_with, sent_with}
 use Rattle.world_machine.proofs.Agrees.{Agree, HaveIds}
 use Rattle.world_machine.proofs.AskersBegin.{dial}
 use Rattle.world_machine.proofs.HeardNext.{other_tag}
 use Rattle.world_machine.proofs.HearsAlike.{EntryAlike, LedAlike, NextAlike, OutcomeAlike, SentAlike, hears_alike}
 use Rattle.world_machine.proofs.HearsAlike.SentAlike.{Equal, Padded}
 use Rattle.world_machine.specs.CapturedAnswers.{Hears}
-use Rattle.world_machine.specs.CapturedRequests.{is_later, with_next}
+use Rattle.world_machine.specs.CapturedRequests.{is_later}
+use Rattle.requester_machine.specs.Owed.{with_next}
 use Rattle.world_machine.specs.LargeAnswers.{is_fetching}
 use Rattle.world_machine.specs.Rounds.{Round, no_draw}
 

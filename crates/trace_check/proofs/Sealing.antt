@@ -25,9 +25,10 @@ use Rattle.requester_machine.specs.Setup.{ReqSetup}
 use Rattle.spdm_grammar.specs.Message.{RequestMessage}
 use Rattle.spdm_grammar.specs.Message.RequestMessage.{NegotiateAlgorithms}
 use Rattle.spdm_machine.specs.Keys.{Draw}
-use Rattle.trace_check.specs.Padding.{sent_with, session_asked}
+use Rattle.trace_check.specs.Padding.{session_asked}
+use Rattle.requester_machine.specs.Owed.{sent_with}
 use Rattle.world_machine.proofs.HeardNext.{either_next, none_next, some_next}
-use Rattle.world_machine.specs.CapturedRequests.{with_next}
+use Rattle.requester_machine.specs.Owed.{with_next}
 
 -- The message is what it would be with this padding, by the history without it.
 abbrev pub IsOwn : (psk : List ℕ) → History → (pad : List ℕ) → Sent → Type 0

@@ -45,7 +45,8 @@ use Rattle.world_machine.proofs.Fetching.{IsSound, asks_sound, begins_sound, rep
 use Rattle.world_machine.proofs.PlainTells.{led_clear}
 use Rattle.world_machine.specs.Capture.{AsksBy, Begins as BeginsRound, Copies, Replies, RepliesBy}
 use Rattle.world_machine.specs.CapturedAnswers.{Answers, AreShown, MayHaveLed, MayLeadAfter, is_plain}
-use Rattle.world_machine.specs.CapturedRequests.{Sends, with_next}
+use Rattle.world_machine.specs.CapturedRequests.{Sends}
+use Rattle.requester_machine.specs.Owed.{with_next}
 use Rattle.world_machine.specs.LargeAnswers.{dropped_before_large, entry_with, is_fetching, is_large, judging, takes_get, with_large}
 use Rattle.world_machine.specs.Rounds.{Dialogue, Round, new_dialogue, no_draw}
 use Rattle.world_machine.specs.SessionTable.{accepted_between, accepted_in, begun_count}

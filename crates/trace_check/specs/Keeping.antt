@@ -16,10 +16,12 @@ use Rattle.spdm_grammar.specs.Requests.{canonical_request}
 use Rattle.spdm_machine.specs.Bodies.{clear_body}
 use Rattle.spdm_machine.specs.Packets.{gathered_from}
 use Rattle.trace_check.specs.Order.{is_answer, is_request}
-use Rattle.trace_check.specs.Padding.{next_with, sent_with, session_asked}
+use Rattle.trace_check.specs.Padding.{next_with, session_asked}
+use Rattle.requester_machine.specs.Owed.{sent_with}
 use Rattle.trace_check.specs.Walks.{Walks}
 use Rattle.world_machine.specs.Capture.{IsBody, RepliesBy, may_begin}
-use Rattle.world_machine.specs.CapturedRequests.{Tells, owes, with_next, without_owed}
+use Rattle.world_machine.specs.CapturedRequests.{Tells, owes, without_owed}
+use Rattle.requester_machine.specs.Owed.{with_next}
 use Rattle.world_machine.specs.Rounds.{Dialogue, Round, following_tag, new_dialogue, new_round}
 use Rattle.world_machine.specs.Setup.{Configuration}
 

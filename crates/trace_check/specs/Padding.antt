@@ -1,26 +1,15 @@
 -- The padding of a record that a requester owes: in each walk it has one, and it may be any. This project's own.
 use Rattle.std.specs.Prelude.{◌≡◌, ◌≤◌, ℕ, List, true, length, Option, Some, None}
 use Rattle.requester_machine.specs.History.{History, outstanding}
-use Rattle.requester_machine.specs.Message.{Aim, Content, Sent}
+use Rattle.requester_machine.specs.Message.{Aim, Sent}
 use Rattle.requester_machine.specs.Message.Aim.{InSession}
-use Rattle.requester_machine.specs.Message.Content.{Clear, Sealed}
-use Rattle.requester_machine.specs.Records.{sealed_next}
-use Rattle.requester_machine.specs.Session.{Steps, session_of}
+use Rattle.requester_machine.specs.Owed.{sent_with, with_next}
+use Rattle.requester_machine.specs.Session.{session_of}
 use Rattle.requester_machine.specs.Setup.{ReqSetup}
 use Rattle.trace_check.specs.Walks.{Walks}
-use Rattle.world_machine.specs.CapturedRequests.{owes, with_next}
+use Rattle.world_machine.specs.CapturedRequests.{owes}
 use Rattle.world_machine.specs.Rounds.{Dialogue}
 use Rattle.world_machine.specs.Setup.{Configuration}
-
--- The inner message of a record, sealed as the next one of a session, with this padding. What is sent in the clear
--- has none.
-abbrev pub content_with : (psk : List ℕ) → Steps → (pad : List ℕ) → Content → Content
-content_with psk s pad (Clear message) = Clear message
-content_with psk s pad (Sealed sealed inner old) = Sealed (sealed_next psk s inner pad) inner pad
-
--- A message with this padding.
-abbrev pub sent_with : (psk : List ℕ) → Steps → (pad : List ℕ) → Sent → Sent
-sent_with psk s pad sent = record sent { content = content_with psk s pad sent.content }
 
 -- The session that a message asks something of; 0 where it asks nothing of one.
 abbrev pub session_asked : Aim → ℕ

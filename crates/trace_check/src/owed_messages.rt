@@ -7,7 +7,7 @@ ghost use Rattle.requester_machine.specs.Message.{Sent, body_of};
 ghost use Rattle.requester_machine.specs.Message.Aim.{InSession};
 ghost use Rattle.requester_machine.specs.Setup.{ReqSetup};
 ghost use Rattle.trace_check.specs.Asker.{IsKeptSetup, IsSentOwed, is_first_chunk};
-ghost use Rattle.world_machine.specs.CapturedRequests.{with_next};
+ghost use Rattle.requester_machine.specs.Owed.{with_next};
 
 use crate::asker_setup::AskerSetup;
 use asking::{Asking, Body, Command, FreeValues};

@@ -12,7 +12,8 @@ use Rattle.world_machine.specs.Capture.{AsksBy, Copies, Begins}
 use Rattle.world_machine.specs.CapturedRequests.{Sends, without_owed}
 use Rattle.world_machine.specs.Difference.{Why, comes_why, goes_why, request_why, asks_out_of_turn, is_other_type}
 use Rattle.world_machine.specs.Difference.Why.{BadPacket, WrongTurn, BadRequest, BadRecord}
-use Rattle.world_machine.specs.Opening.{session_named, opens_asking}
+use Rattle.world_machine.specs.Opening.{opens_asking}
+use Rattle.requester_machine.specs.Named.{session_named}
 use Rattle.world_machine.specs.Rounds.{Dialogue, Round, new_dialogue, new_round, following_tag}
 use Rattle.world_machine.specs.SessionTable.{Row, accepted_in, accepted_between, request_by, request_between, is_of, is_new, rows_between, row_after, new_row, with_responder, with_requester, has_begun, with_one, is_named}
 use Rattle.spdm_machine.specs.Packets.{body_type}

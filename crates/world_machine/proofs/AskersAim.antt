@@ -25,7 +25,8 @@ use Rattle.requester_machine.specs.Session.{Steps, Step, session_of, id_bytes, w
 use Rattle.requester_machine.specs.Setup.{ReqSetup}
 use Rattle.requester_machine.proofs.Entries.{asked}
 use Rattle.responder_machine.specs.Session.{id_in_record}
-use Rattle.world_machine.specs.CapturedRequests.{Sends, Tells, is_later, with_next, without_owed}
+use Rattle.world_machine.specs.CapturedRequests.{Sends, Tells, is_later, without_owed}
+use Rattle.requester_machine.specs.Owed.{with_next}
 use Rattle.world_machine.specs.LargeRequests.{first_piece}
 use Rattle.world_machine.specs.Rounds.{Dialogue, Round, no_draw}
 use Rattle.world_machine.proofs.AskTells.{sent_by_kind}

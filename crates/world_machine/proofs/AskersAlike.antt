@@ -12,7 +12,8 @@ use Rattle.requester_machine.specs.History.Entry.{Told, TookClear, TookRecord}
 use Rattle.requester_machine.specs.Message.{Sent, body_of}
 use Rattle.requester_machine.specs.Message.Aim.{ByChunks}
 use Rattle.requester_machine.specs.Session.{Steps, session_of, is_accepted}
-use Rattle.world_machine.specs.CapturedRequests.{is_later, with_next}
+use Rattle.world_machine.specs.CapturedRequests.{is_later}
+use Rattle.requester_machine.specs.Owed.{with_next}
 use Rattle.world_machine.specs.LargeRequests.{common_of, piece_with}
 use Rattle.world_machine.specs.Rounds.{Round, no_draw, following_tag}
 use Rattle.world_machine.specs.SessionTable.{accepted_in}

@@ -21,7 +21,8 @@ use Rattle.requester_machine.specs.Message.{Command, Sent, body_of}
 use Rattle.requester_machine.specs.Message.Aim.{ByChunks}
 use Rattle.requester_machine.specs.Message.Command.{Connect}
 use Rattle.responder_machine.specs.History as responder_history
-use Rattle.world_machine.specs.CapturedRequests.{Sends, Tells, GoesOn, BeginsLarge, BeginsOwed, owes, with_next}
+use Rattle.world_machine.specs.CapturedRequests.{Sends, Tells, GoesOn, BeginsLarge, BeginsOwed, owes}
+use Rattle.requester_machine.specs.Owed.{with_next}
 use Rattle.world_machine.specs.LargeRequests.{IsJudgedAtLast, piece_with, is_last_piece, still_sending}
 use Rattle.world_machine.specs.Rounds.{Dialogue, Round, no_draw, new_round}
 use Rattle.world_machine.proofs.Agrees.{Counted, Agree, counted_with}

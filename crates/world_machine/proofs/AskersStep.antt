@@ -18,7 +18,8 @@ use Rattle.requester_machine.specs.Sending.{plain_sent}
 use Rattle.requester_machine.specs.Session.{session_of, with_sent, after_record}
 use Rattle.requester_machine.proofs.Entries.{asked}
 use Rattle.responder_machine.specs.History as responder_history
-use Rattle.world_machine.specs.CapturedRequests.{Sends, Tells, GoesOn, BeginsLarge, BeginsOwed, is_later, owes, without_owed, with_next}
+use Rattle.world_machine.specs.CapturedRequests.{Sends, Tells, GoesOn, BeginsLarge, BeginsOwed, is_later, owes, without_owed}
+use Rattle.requester_machine.specs.Owed.{with_next}
 use Rattle.world_machine.specs.LargeRequests.{piece_with, first_piece}
 use Rattle.world_machine.specs.Rounds.{Dialogue, Round, no_draw, new_round, following_tag}
 use Rattle.world_machine.proofs.Agrees.{Counted, Agree, IsSmallIn, agree_with, counted_with}

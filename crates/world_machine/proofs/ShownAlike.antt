@@ -9,9 +9,11 @@ use Rattle.requester_machine.specs.Message.Aim.{ByChunks}
 use Rattle.requester_machine.specs.Session.{Steps, session_of, is_accepted, id_bytes}
 use Rattle.requester_machine.specs.Setup.{ReqSetup}
 use Rattle.spdm_grammar.specs.Message.{RequestMessage}
-use Rattle.world_machine.specs.CapturedRequests.{is_later, owes, without_owed, with_next}
+use Rattle.world_machine.specs.CapturedRequests.{is_later, owes, without_owed}
+use Rattle.requester_machine.specs.Owed.{with_next}
 use Rattle.world_machine.specs.LargeAnswers.{is_fetching, is_for_chunk}
-use Rattle.world_machine.specs.Opening.{names, session_named, opens_asking}
+use Rattle.world_machine.specs.Opening.{opens_asking}
+use Rattle.requester_machine.specs.Named.{names, session_named}
 use Rattle.world_machine.specs.Rounds.{Dialogue, Round}
 use Rattle.world_machine.specs.SessionTable.{accepted_in, is_of}
 use Rattle.world_machine.proofs.HearsAlike.{EntryAlike}

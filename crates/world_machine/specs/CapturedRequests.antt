@@ -3,11 +3,12 @@
 use Rattle.std.specs.Prelude.{◌≡◌, ◌==◌, ◌⊎◌, not, ℕ, List, [], ◌∷◌, if◌then◌else◌, Bool, true, false, Option, Some, None}
 use Rattle.requester_machine.specs.Asking.Outcome.{Adds}
 use Rattle.requester_machine.specs.History.{History, outstanding, begins_large}
-use Rattle.requester_machine.specs.History.Entry.{Told, TookClear, TookRecord}
+use Rattle.requester_machine.specs.History.Entry.{Told}
 use Rattle.requester_machine.specs.May.{MayAsk}
 use Rattle.requester_machine.specs.Message.{Command, Sent, body_of, asked_in}
 use Rattle.requester_machine.specs.Message.Command.{Connect}
 use Rattle.spdm_grammar.specs.Message.{RequestMessage}
+use Rattle.requester_machine.specs.Owed.{with_next}
 use Rattle.requester_machine.specs.Setup.{ReqSetup}
 use Rattle.world_machine.specs.LargeRequests.{IsLargeRequest, IsJudged, common_of, first_piece, still_sending}
 use Rattle.world_machine.specs.Rounds.{Dialogue, Round, no_draw}
@@ -27,13 +28,6 @@ owes d = is_later d.round (outstanding d.requester)
 -- This message is the one that is owed.
 abbrev pub IsOwed : Dialogue → Sent → Type 0
 IsOwed d sent = (outstanding d.requester ≡ Some sent) × (owes d ≡ true)
-
--- The history with another message, or none, that was sent by itself upon the last answer.
-abbrev pub with_next : Option Sent → History → History
-with_next next [] = []
-with_next next (Told command sent d ∷ older) = Told command sent d ∷ older
-with_next next (TookClear tag m led d ∷ older) = TookClear tag m (record led { next = next }) d ∷ older
-with_next next (TookRecord tag id sealed inner led d ∷ older) = TookRecord tag id sealed inner (record led { next = next }) d ∷ older
 
 -- Without the message that is owed, which then was never sent: it took no tag and no handle.
 abbrev pub without_owed : Dialogue → History

@@ -21,7 +21,8 @@ use Rattle.world_machine.specs.Capture.{IsFirstDifference, Leads}
 use Rattle.world_machine.specs.CapturedAnswers.{Answers, MayLeadTo, MayHaveLed}
 use Rattle.world_machine.specs.CapturedRequests.{owes, without_owed}
 use Rattle.world_machine.specs.LargeAnswers.{gives_last, judging, with_large}
-use Rattle.world_machine.specs.Opening.{names, session_named, opens_asking, inner_asking, opens_answering}
+use Rattle.world_machine.specs.Opening.{opens_asking, inner_asking, opens_answering}
+use Rattle.requester_machine.specs.Named.{names, session_named}
 use Rattle.spdm_machine.specs.Packets.{gathered_from, body_type}
 use Rattle.world_machine.specs.Rounds.{Dialogue, Round, following_tag, dialogue_at}
 use Rattle.responder_machine.specs.Setup.{towards}

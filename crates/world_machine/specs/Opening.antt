@@ -1,7 +1,6 @@
 -- Whether a record of a capture that does not conform opens at least, as what it might have been. This project's
 -- own.
-use Rattle.std.specs.Prelude.{◌&&◌, ◌||◌, not, ℕ, List, [], ◌∷◌, take, if◌then◌else◌, Bool, false, is_none, bytes_eq}
-use Rattle.requester_machine.specs.History as requester_history
+use Rattle.std.specs.Prelude.{◌&&◌, ◌||◌, not, nat_lt, ℕ, List, [], ◌∷◌, take, if◌then◌else◌, Bool, false, is_none, bytes_eq}
 use Rattle.requester_machine.specs.Records as requester_records
 use Rattle.requester_machine.specs.Session as requester_session
 use Rattle.responder_machine.specs.Answer.{Free}
@@ -19,23 +18,10 @@ use Rattle.spdm_grammar.specs.declared.names.request_code.TheConstants.{END_SESS
 
 -- ---- As a request.
 
--- The session of a requester that took PSK_EXCHANGE_RSP and whose id stands in front of a record.
-abbrev pub names : List ℕ → requester_session.Steps → Bool
-names sealed s = requester_session.is_accepted s && bytes_eq (requester_session.id_bytes s) (take 4 sealed)
-
--- The session of a requester that a record names so, the one of least ReqSessionID; none where it names none.
-abbrev pub session_named : requester_history.History → List ℕ → requester_session.Steps
-session_named h sealed =
-    if names sealed (requester_session.session_of 1 h) then requester_session.session_of 1 h
-    else (if names sealed (requester_session.session_of 2 h) then requester_session.session_of 2 h
-    else (if names sealed (requester_session.session_of 3 h) then requester_session.session_of 3 h
-    else (if names sealed (requester_session.session_of 4 h) then requester_session.session_of 4 h
-    else [])))
-
--- A record opens under the next request key and number.
+-- A record opens under the next request key and number; a key that sealed 65,536 records has none.
 unfoldable pub opens_asking : ReqSetup → requester_session.Steps → List ℕ → Bool
 opens_asking q s sealed =
-    requester_session.is_accepted s
+    requester_session.is_accepted s && nat_lt (requester_session.request_next s) 65536
     && is_none (record_fault (requester_session.session_terms s).choice (requester_records.request_purpose q.psk s) (requester_session.request_next s) (requester_session.id_bytes s) sealed)
 
 -- The inner message that it has then.
@@ -45,10 +31,11 @@ inner_asking q s sealed =
 
 -- ---- As an answer.
 
--- As the next answer of a live session.
+-- As the next answer of a live session, whose key has a number left.
 unfoldable pub opens_next : RspSetup → Events → List ℕ → Bool
 opens_next r s sealed =
-    is_live s && is_none (record_fault (session_terms s).choice (response_purpose r.psk s) (response_next s) (id_bytes s) sealed)
+    is_live s && nat_lt (response_next s) 65536
+    && is_none (record_fault (session_terms s).choice (response_purpose r.psk s) (response_next s) (id_bytes s) sealed)
 
 -- As the answer to a turn of a session.
 unfoldable pub opens_to : RspSetup → Events → Turn → List ℕ → Bool

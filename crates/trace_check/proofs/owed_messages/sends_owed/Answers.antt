@@ -10,7 +10,7 @@ use Rattle.trace_check.proofs.OwedSent.Goes.{AsRecord, InClear}
 use Rattle.trace_check.proofs.OwedTook.{same_long}
 use Rattle.trace_check.proofs.owed_messages.sends_owed.Goals as goal
 use Rattle.trace_check.specs.Asker.{IsSentOwed, is_first_chunk}
-use Rattle.world_machine.specs.CapturedRequests.{with_next}
+use Rattle.requester_machine.specs.Owed.{with_next}
 
 pub returns-then-byte_at-eq-SECURED : goal.returns-then-byte_at-eq-SECURED
 returns-then-byte_at-eq-SECURED c = λ q bare sent kept took short fits stands.

@@ -2,7 +2,7 @@ use Rattle.std.proofs.Common.{◌∙◌, ◌<◌, ◌-◌, ◌^◌, ℕ, ap, sym
 use Rattle.std.specs.Prelude.{Some}
 use Rattle.asking.proofs.OwedClear.{any_of, clear_named, in_session_of, out_last}
 use Rattle.asking.proofs.OwedSessions.{as_long}
-use Rattle.asking.specs.Owed.{with_next}
+use Rattle.requester_machine.specs.Owed.{with_next}
 use Rattle.asking.specs.OwnRecords.{OpensAs, awaits_record}
 use Rattle.requester_machine.specs.Session.{Steps}
 use Rattle.asking.proofs.joined.Asking.open_before.Goals as goal

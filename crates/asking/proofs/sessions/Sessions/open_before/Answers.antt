@@ -1,7 +1,7 @@
 use Rattle.std.proofs.Common.{◌∙◌}
 use Rattle.asking.proofs.OwedOpened.{named_as, others_before, own_before, short_as}
 use Rattle.asking.proofs.OwnSlots.{opens_none}
-use Rattle.asking.specs.Owed.{with_next}
+use Rattle.requester_machine.specs.Owed.{with_next}
 use Rattle.std.specs.Prelude.{Some}
 use Rattle.asking.proofs.sessions.Sessions.open_before.Goals as goal
 

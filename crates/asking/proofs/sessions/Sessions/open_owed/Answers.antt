@@ -1,6 +1,6 @@
 use Rattle.std.proofs.Common.{◌∙◌, sym}
 use Rattle.asking.proofs.OwedOpened.{own_names_not, own_opens, short_as}
-use Rattle.asking.specs.Owed.{with_next}
+use Rattle.requester_machine.specs.Owed.{with_next}
 use Rattle.std.specs.Prelude.{Some}
 use Rattle.asking.proofs.sessions.Sessions.open_owed.Goals as goal
 

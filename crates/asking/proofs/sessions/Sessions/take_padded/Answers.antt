@@ -1,7 +1,7 @@
 use Rattle.std.proofs.Common.{◌≡◌, ◌≢◌, ◌∙◌, ℕ, ap, subst}
 use Rattle.asking.proofs.OwedSessions.{are_repadded, is_owed, sent_last}
 use Rattle.asking.proofs.SessionsRecorded.{named_is}
-use Rattle.asking.specs.Owed.{with_next}
+use Rattle.requester_machine.specs.Owed.{with_next}
 use Rattle.asking.specs.OwnRecords.{IsSlotRepadded}
 use Rattle.asking.specs.Sessions.{slot_of}
 use Rattle.asking.specs.Slot.{IsSlotOf}
