@@ -3,7 +3,7 @@ ghost use Rattle.spdm_grammar.specs.Message.{ChunkMessage, chunk_message};
 ghost use Rattle.chunking.specs.Answers.{collection_of, step_answer, whole_of};
 ghost use Rattle.std.specs.Borrow.{sem};
 ghost use Rattle.chunking.specs.Lending.{RestsWith};
-ghost use Rattle.chunking.specs.Collecting.{accepted_with, answer_from, collected, first_rule, joined, told_by, under_way};
+ghost use Rattle.chunking.specs.Collecting.{accepted_with, answer_from, collected, first_rule, joined, told_by, told_size, under_way};
 ghost use Rattle.chunking.specs.Keeping.{Kept, StandsFor, after_chunk, after_first, after_later, answer_later, answer_to, grown};
 
 use crate::unfinished::{Unfinished, broken_first_rule, told_by};
@@ -96,6 +96,18 @@ impl Collector {
         match self.unfinished {
             Some(_) => self.bytes.as_slice(),
             None => &[],
+        }
+    }
+
+    /// The length that the first chunk of the unfinished message told; 0 where none is unfinished.
+    pub fn told(&self) -> u32
+        ensures value { (accepted : List ChunkMessage) → StandsFor self.now accepted
+            → result ≡ told_size (under_way accepted) }
+        ensures fits { result ≤ MAX_MESSAGE_SIZE }
+    {
+        match self.unfinished {
+            Some(unfinished) => unfinished.told,
+            None => 0,
         }
     }
 
