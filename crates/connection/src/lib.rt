@@ -28,6 +28,7 @@ mod own_answers;
 mod records;
 mod refused;
 mod requests;
+mod seen_terms;
 mod sessions;
 mod setup;
 mod standing;

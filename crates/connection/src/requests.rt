@@ -1,5 +1,5 @@
 ghost use Rattle.std.specs.Prelude.{◌≡◌, ◌≤◌, ◌∷◌, [], true, None, Some, ℕ, List, length};
-ghost use Rattle.chunking.specs.Collecting.{accepted_with, collected, joined, under_way};
+ghost use Rattle.chunking.specs.Collecting.{accepted_with, collected, joined, told_size, under_way};
 ghost use Rattle.chunking.specs.Keeping as keeping;
 ghost use Rattle.responder_machine.specs.Answer.{Free, answer_bytes, request_at};
 ghost use Rattle.responder_machine.specs.LargeMessages.{chunks_of};
@@ -92,6 +92,15 @@ impl Requests {
         ensures { result.now ≡ self.now.standing }
     {
         &self.standing
+    }
+
+    /// The length that the large request under way tells; 0 where none is.
+    pub fn told(&self) -> u32
+        ensures value { (r : RspSetup) (turns : List Turn) → StandsFor self.now r turns
+            → result ≡ told_size (under_way (chunks_of turns)) }
+        ensures fits { result ≤ MAX_MESSAGE_SIZE }
+    {
+        self.collector.told()
     }
 
     // A large request was completed: what is sent for it goes into the acknowledgement of its last chunk.
