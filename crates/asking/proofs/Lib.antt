@@ -26,3 +26,4 @@ pub mod OwedSessions
 pub mod OwedTalk
 pub mod OwedOpened
 pub mod OwedClear
+pub mod TakenBack

@@ -18,7 +18,7 @@ aside i (ByChunks asked handle number) content s is = refl
 aside i (ForChunk asked handle number before) content s is = refl
 aside i (InSession id ask) content s is = absurd (false≢true (sym is))
 
-clear_steps : (bare : History) (x : Sent) (i : ℕ) → TookAny bare → is_in_session x.aim ≡ false → session_of i (with_next (Some x) bare) ≡ session_of i bare
+pub clear_steps : (bare : History) (x : Sent) (i : ℕ) → TookAny bare → is_in_session x.aim ≡ false → session_of i (with_next (Some x) bare) ≡ session_of i bare
 unfolding session_of
 clear_steps [] x i took clear = absurd took
 clear_steps (Told command sent d ∷ older) x i took clear = absurd took

@@ -1,7 +1,7 @@
 -- A record of a requester, opened without the one that it sent by itself upon what it took last.
 use Rattle.std.proofs.Common.{◌≡◌, ◌≢◌, ◌≤◌, ◌<◌, ◌-◌, ◌^◌, ◌∙◌, ℕ, List, Bool, false, true, Some, ap, length, sym, subst}
 use Rattle.std.specs.Prelude.{if◌then◌else◌, is_ok, Result}
-use Rattle.asking.proofs.OwedSessions.{IsOwed, as_long, is_owed, others_as, sent_last}
+use Rattle.asking.proofs.OwedSessions.{IsLast, IsOwed, as_long, is_owed, others_as, sent_last, upon, upon_last}
 use Rattle.asking.proofs.OwnSlots.{few_resting, first_as, opens_elsewhere, opens_named, opens_there}
 use Rattle.asking.proofs.SessionsAsked.{is_other, of_each}
 use Rattle.asking.proofs.SessionsRecorded.{named_is}
@@ -17,7 +17,7 @@ use Rattle.psk_session.specs.OwnRecords.{IsOwnOpened}
 use Rattle.requester_machine.specs.History.{History}
 use Rattle.requester_machine.specs.Message.{Ask, Sent}
 use Rattle.requester_machine.specs.Message.Aim.{InSession}
-use Rattle.requester_machine.specs.Order.{FitsWaits, IsInOrder, waits_aim, waits_for}
+use Rattle.requester_machine.specs.Order.{FitsWaits, waits_aim, waits_for}
 use Rattle.requester_machine.specs.Order as orders
 use Rattle.requester_machine.specs.Order.Waits.{ForRecord, Rests}
 use Rattle.requester_machine.specs.Session.{Steps, is_accepted, request_next, session_of}
@@ -28,14 +28,17 @@ module _ (x : Sessions) (q : ReqSetup) (bare : History) (id : ℕ) (ask : Ask) (
   abbrev its_history : History
   its_history = with_next (Some sent) bare
 
-  owed : IsOwed q bare id ask sent
-  owed = is_owed q bare id ask sent took aims stands.holds
+  ends : IsLast bare (upon bare) id ask
+  ends = upon_last bare id ask took
+
+  owed : IsOwed q bare (upon bare) id ask sent
+  owed = is_owed q bare (upon bare) id ask sent ends aims stands.holds
 
   its_id : x.id ≡ id
   its_id = named_is x q its_history sent id ask stands (sent_last bare id sent took) aims
 
   names_as : (sealed : List ℕ) (i : ℕ) → names sealed (session_of i its_history) ≡ names sealed (session_of i bare)
-  names_as sealed = of_each (λ i. names sealed (session_of i its_history) ≡ names sealed (session_of i bare)) id (ap (names sealed) owed.steps) (λ i ne. ap (names sealed) (others_as bare id ask sent took aims i ne))
+  names_as sealed = of_each (λ i. names sealed (session_of i its_history) ≡ names sealed (session_of i bare)) id (ap (names sealed) owed.steps) (λ i ne. ap (names sealed) (others_as bare (upon bare) id ask sent ends aims i ne))
 
   -- A record names the same session without it.
   pub named_as : (sealed : List ℕ) → id_named its_history sealed ≡ id_named bare sealed
@@ -67,7 +70,7 @@ module _ (x : Sessions) (q : ReqSetup) (bare : History) (id : ℕ) (ask : Ask) (
   pub own_names_not : (sealed out : List ℕ) → false ≡ names sealed (session_of x.id its_history) → OpensNamed q.psk (session_of id bare) sealed false out
   own_names_not sealed out named = opens_elsewhere q.psk (session_of id bare) sealed out (names_own sealed false named)
 
-  rests_aside : (i : ℕ) → i ≢ id → FitsWaits Rests (session_of i its_history)
+  pub rests_aside : (i : ℕ) → i ≢ id → FitsWaits Rests (session_of i its_history)
   rests_aside i ne =
       subst (λ (w : orders.Waits). FitsWaits w (session_of i its_history)) (ap (waits_for i) (sent_last bare id sent took) ∙ ap (waits_aim i) aims ∙ ap (λ (b : Bool). if b then ForRecord ask else Rests) (is_other id i ne)) (stands.orders i).fits
 
@@ -78,7 +81,7 @@ module _ (x : Sessions) (q : ReqSetup) (bare : History) (id : ℕ) (ask : Ask) (
       opens_named q.psk bare sealed its r out b told (named ∙ named_as sealed)
       (λ accepted same.
       let ne : its ≢ id = λ is. other (is ∙ sym its_id) in
-      let steps = others_as bare id ask sent took aims its ne in
+      let steps = others_as bare (upon bare) id ask sent ends aims its ne in
       let slot = stands.slots its in
       let few = few_resting (slot_of x its) q.psk (session_of its its_history) slot (rests_aside its ne) in
       subst (λ (s : Steps). IsOwnOpened q.psk s sealed r out) steps (opens q.psk (session_of its its_history) slot (ap is_accepted steps ∙ accepted) few))

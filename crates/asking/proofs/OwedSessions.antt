@@ -1,9 +1,10 @@
--- A record that a requester sent by itself upon what it took last, in its sessions.
-use Rattle.std.proofs.Common.{refl, ◌≡◌, ◌≢◌, ◌∙◌, ℕ, List, [], ◌∷◌, Bool, true, false, Option, Some, ap, sym, subst, eq-eqb, length}
+-- A record that a requester sent last, by itself upon what it took or by a command, in its sessions.
+use Rattle.std.proofs.Common.{refl, ◌≡◌, ◌≢◌, ◌∙◌, ℕ, List, [], ◌∷◌, Bool, true, false, Option, Some, None, ap, sym, subst, eq-eqb, length}
+use Rattle.std.proofs.lemmas.Bool.{false≢true}
 use Rattle.std.specs.Prelude.{◌==◌, if◌then◌else◌}
 use Rattle.asking.proofs.SessionsAsked.{is_other, of_each}
-use Rattle.asking.proofs.SessionsRecorded.{is_sealed}
-use Rattle.asking.specs.Owed.{AreRepadded, TookLast, owed_with}
+use Rattle.asking.proofs.SessionsRecorded.{is_sealed, named_is}
+use Rattle.asking.specs.Owed.{AreRepaddedIn, TookLast, owed_with}
 use Rattle.requester_machine.specs.Owed.{content_with, with_next}
 use Rattle.asking.specs.OwnRecords.{IsSlotRepadded}
 use Rattle.asking.specs.Sessions.{IsNamed, StandsFor, session_at, session_for, slot_of}
@@ -11,11 +12,12 @@ use Rattle.asking.specs.Slot.{IsSlotOf}
 use Rattle.asking.specs.declared.sessions.Sessions.{Sessions}
 use Rattle.asking.specs.declared.slot.Slot.{Slot}
 use Rattle.psk_session.specs.Course.{with_asked}
-use Rattle.requester_machine.specs.History.{History, connection_terms, negotiation_of, next_handle, next_tag, outstanding, phase_of}
+use Rattle.requester_machine.specs.History.{History, asks_session, connection_terms, negotiation_of, next_handle, next_tag, outstanding, phase_of}
 use Rattle.requester_machine.specs.History.Entry.{Told, TookClear, TookRecord}
 use Rattle.requester_machine.specs.Holds.{Holds, LiveAt, Waits}
-use Rattle.requester_machine.specs.Message.{Aim, Ask, Content, Sent, body_of}
+use Rattle.requester_machine.specs.Message.{Aim, Ask, Command, Content, Sent, body_of}
 use Rattle.requester_machine.specs.Message.Aim.{InSession}
+use Rattle.requester_machine.specs.Message.Command.{Beat, Connect, End, Measure, Open, Retry, Send, Update}
 use Rattle.requester_machine.specs.Message.Content.{Sealed}
 use Rattle.requester_machine.specs.Order.{FitsWaits, IsInOrder, IsOrdered, waits_for}
 use Rattle.requester_machine.specs.Order as orders
@@ -29,6 +31,7 @@ use Rattle.requester_machine.specs.UnderWay.{AreBehind, HasSizes, IsCommon, IsOu
 use Rattle.spdm_grammar.specs.declared.phase.Phase.{Phase}
 use Rattle.spdm_grammar.specs.declared.phase.Phase.TheVariants.{Negotiated}
 use Rattle.spdm_machine.specs.Bodies.{record_body}
+use Rattle.spdm_machine.specs.Keys.{Draw}
 use Rattle.spdm_machine.specs.Terms.{terms_of}
 use Rattle.transcript.specs.Transcripts.{Negotiation}
 
@@ -81,6 +84,45 @@ steps_with (TookRecord tag of sealed inner led d ∷ older) id ask x i took aims
     by_id true is = ap (λ (o : Option Sent). with_sent i (Some x) (with_sent i o (after_record sealed inner led.effect (session_of i older)))) (sym took.0)
     by_id false is = sym (aside id i ask x (session_of i older) aims (ap (λ (n : ℕ). n == i) (sym took.1) ∙ is))
 
+-- A history by the message that it sent last, and what it is without that: a record of the session with this
+-- ReqSessionID is one more that was sent, in each of them.
+pub record IsLast (bare : History) (whole : Sent → History) (id : ℕ) (ask : Ask) : Type 0 where
+  pub last : (x : Sent) → outstanding (whole x) ≡ Some x
+  pub steps : (x : Sent) (i : ℕ) → x.aim ≡ InSession id ask → session_of i (whole x) ≡ with_sent i (Some x) (session_of i bare)
+  pub beside : (x : Sent) (content : Content) → IsSameBeside (whole x) (whole (record x { content = content }))
+
+abbrev pub upon : History → Sent → History
+upon bare x = with_next (Some x) bare
+
+pub upon_last : (bare : History) (id : ℕ) (ask : Ask) → TookLast bare id → IsLast bare (upon bare) id ask
+upon_last bare id ask took = record {
+  last = λ x. sent_last bare id x took;
+  steps = λ x i aims. steps_with bare id ask x i took aims;
+  beside = λ x content. same_beside bare x content;
+}
+
+abbrev pub telling : History → Command → Draw → Sent → History
+telling older command d x = Told command x d ∷ older
+
+told_steps : (older : History) (command : Command) (d : Draw) (x : Sent) (i : ℕ) → asks_session command ≡ true → session_of i (telling older command d x) ≡ with_sent i (Some x) (session_of i older)
+unfolding session_of
+told_steps older Connect d x i is = absurd (false≢true is)
+told_steps older (Open summary) d x i is = absurd (false≢true is)
+told_steps older (Send id bytes) d x i is = refl
+told_steps older (Beat id) d x i is = refl
+told_steps older (Update id all) d x i is = refl
+told_steps older (Measure None op) d x i is = absurd (false≢true is)
+told_steps older (Measure (Some id) op) d x i is = refl
+told_steps older (End id) d x i is = refl
+told_steps older Retry d x i is = absurd (false≢true is)
+
+pub telling_last : (older : History) (command : Command) (d : Draw) (id : ℕ) (ask : Ask) → asks_session command ≡ true → IsLast older (telling older command d) id ask
+telling_last older command d id ask is = record {
+  last = λ x. refl;
+  steps = λ x i aims. told_steps older command d x i is;
+  beside = λ x content. record { phase = refl; negotiation = refl; tag = refl; handle = refl; brought = refl };
+}
+
 abbrev behind : Steps → Steps
 behind [] = []
 behind (_ ∷ older) = older
@@ -90,20 +132,20 @@ step_behind [] step older is = absurd (cc is)
 step_behind (y ∷ ys) step older is = (refl, sym (ap behind is))
 
 -- The message is a record of its session, sealed as the next one.
-pub record IsOwed (q : ReqSetup) (bare : History) (id : ℕ) (ask : Ask) (sent : Sent) : Type 0 where
+pub record IsOwed (q : ReqSetup) (bare : History) (whole : Sent → History) (id : ℕ) (ask : Ask) (sent : Sent) : Type 0 where
   pub inner : List ℕ
   pub pad : List ℕ
   pub live : is_live (session_of id bare) ≡ true
   pub content_is : sent.content ≡ Sealed (sealed_next q.psk (session_of id bare) inner pad) inner pad
-  pub steps : session_of id (with_next (Some sent) bare) ≡ with_asked q.psk (session_of id bare) ask inner pad
+  pub steps : session_of id (whole sent) ≡ with_asked q.psk (session_of id bare) ask inner pad
 
-pub is_owed : (q : ReqSetup) (bare : History) (id : ℕ) (ask : Ask) (sent : Sent) → TookLast bare id → sent.aim ≡ InSession id ask → Holds q (with_next (Some sent) bare) → IsOwed q bare id ask sent
-is_owed q bare id ask sent took aims holds =
-    let h = with_next (Some sent) bare in
+pub is_owed : (q : ReqSetup) (bare : History) (whole : Sent → History) (id : ℕ) (ask : Ask) (sent : Sent) → IsLast bare whole id ask → sent.aim ≡ InSession id ask → Holds q (whole sent) → IsOwed q bare whole id ask sent
+is_owed q bare whole id ask sent is aims holds =
+    let h = whole sent in
     let x = session_of id bare in
-    let s : IsSealed q h id ask sent.content = is_sealed q h sent id ask holds (sent_last bare id sent took) aims in
+    let s : IsSealed q h id ask sent.content = is_sealed q h sent id ask holds (is.last sent) aims in
     let steps : session_of id h ≡ when_live x (Asked ask s.inner s.sealed) =
-    steps_with bare id ask sent id took aims ∙ at_own id ask sent x aims ∙ ap (λ (c : Content). with_content ask c x) s.content_is in
+    is.steps sent id aims ∙ at_own id ask sent x aims ∙ ap (λ (c : Content). with_content ask c x) s.content_is in
     let older = step_behind x (Asked ask s.inner s.sealed) s.older (sym steps ∙ s.steps) in
     let sealed : s.sealed ≡ sealed_next q.psk x s.inner s.pad = s.sealed_is ∙ ap (λ (o : Steps). sealed_next q.psk o s.inner s.pad) older.1 in
     record {
@@ -114,8 +156,8 @@ is_owed q bare id ask sent took aims holds =
       steps = s.steps ∙ ap (λ (o : Steps). Asked ask s.inner s.sealed ∷ o) older.1 ∙ ap (λ (b : List ℕ). Asked ask s.inner b ∷ x) sealed;
     }
 
-pub others_as : (bare : History) (id : ℕ) (ask : Ask) (x : Sent) → TookLast bare id → x.aim ≡ InSession id ask → (i : ℕ) → i ≢ id → session_of i (with_next (Some x) bare) ≡ session_of i bare
-others_as bare id ask x took aims i ne = steps_with bare id ask x i took aims ∙ aside id i ask x (session_of i bare) aims (is_other id i ne)
+pub others_as : (bare : History) (whole : Sent → History) (id : ℕ) (ask : Ask) (x : Sent) → IsLast bare whole id ask → x.aim ≡ InSession id ask → (i : ℕ) → i ≢ id → session_of i (whole x) ≡ session_of i bare
+others_as bare whole id ask x is aims i ne = is.steps x i aims ∙ aside id i ask x (session_of i bare) aims (is_other id i ne)
 
 -- ---- With another padding.
 
@@ -124,9 +166,9 @@ fits_as Rests psk s a inner pad other fits = fits
 fits_as ForExchange psk s a inner pad other fits = fits
 fits_as (ForRecord ask) psk s a inner pad other fits = fits
 
-module _ (q : ReqSetup) (bare : History) (id : ℕ) (ask : Ask) (sent : Sent) (took : TookLast bare id) (aims : sent.aim ≡ InSession id ask) (owed : IsOwed q bare id ask sent) (pad : List ℕ) where
+module _ (q : ReqSetup) (bare : History) (whole : Sent → History) (id : ℕ) (ask : Ask) (sent : Sent) (ends : IsLast bare whole id ask) (aims : sent.aim ≡ InSession id ask) (owed : IsOwed q bare whole id ask sent) (pad : List ℕ) where
   abbrev old_history : History
-  old_history = with_next (Some sent) bare
+  old_history = whole sent
 
   abbrev its_steps : Steps
   its_steps = session_of id bare
@@ -135,14 +177,14 @@ module _ (q : ReqSetup) (bare : History) (id : ℕ) (ask : Ask) (sent : Sent) (t
   new_sent = owed_with q bare id pad sent
 
   abbrev new_history : History
-  new_history = with_next (Some new_sent) bare
+  new_history = whole new_sent
 
   content_as : new_sent.content ≡ Sealed (sealed_next q.psk its_steps owed.inner pad) owed.inner pad
   content_as = ap (content_with q.psk its_steps pad) owed.content_is
 
   steps_as : session_of id new_history ≡ with_asked q.psk its_steps ask owed.inner pad
   steps_as =
-      steps_with bare id ask new_sent id took aims ∙ at_own id ask new_sent its_steps aims ∙ ap (λ (c : Content). with_content ask c its_steps) content_as
+      ends.steps new_sent id aims ∙ at_own id ask new_sent its_steps aims ∙ ap (λ (c : Content). with_content ask c its_steps) content_as
       ∙ alive its_steps (Asked ask owed.inner (sealed_next q.psk its_steps owed.inner pad)) owed.live
     where
       alive : (x : Steps) (step : Step) → is_live x ≡ true → when_live x step ≡ step ∷ x
@@ -150,10 +192,10 @@ module _ (q : ReqSetup) (bare : History) (id : ℕ) (ask : Ask) (sent : Sent) (t
       alive (y ∷ ys) step live = refl
 
   others_stay : (i : ℕ) → i ≢ id → session_of i old_history ≡ session_of i new_history
-  others_stay i ne = others_as bare id ask sent took aims i ne ∙ sym (others_as bare id ask new_sent took aims i ne)
+  others_stay i ne = others_as bare whole id ask sent ends aims i ne ∙ sym (others_as bare whole id ask new_sent ends aims i ne)
 
   beside : IsSameBeside old_history new_history
-  beside = same_beside bare sent new_sent.content
+  beside = ends.beside sent new_sent.content
 
   live_as : (s t : Steps) → is_live t ≡ is_live s → session_negotiation t ≡ session_negotiation s
       → (is_live s ≡ true → (session_negotiation s ≡ negotiation_of old_history) × (phase_of old_history ≡ Negotiated))
@@ -166,7 +208,7 @@ module _ (q : ReqSetup) (bare : History) (id : ℕ) (ask : Ask) (sent : Sent) (t
       (λ i ne. live_as (session_of i old_history) (session_of i new_history) (ap is_live (sym (others_stay i ne))) (ap session_negotiation (sym (others_stay i ne))) (at i))
 
   behind_ask : Holds q old_history → AreBehind q ask
-  behind_ask holds = (subst (IsOutstanding q old_history sent.content) aims (subst (Waits q old_history) (sent_last bare id sent took) holds.waits)).1
+  behind_ask holds = (subst (IsOutstanding q old_history sent.content) aims (subst (Waits q old_history) (ends.last sent) holds.waits)).1
 
   outstanding_as : Holds q old_history → IsOutstanding q new_history new_sent.content (InSession id ask)
   outstanding_as holds = (
@@ -188,14 +230,14 @@ module _ (q : ReqSetup) (bare : History) (id : ℕ) (ask : Ask) (sent : Sent) (t
     live = live_at holds.live;
     known = subst (λ (n : Negotiation). HasSizes q → is_capable (phase_of new_history) ≡ true → IsCommon q (terms_of n).common) beside.negotiation
         (subst (λ (p : Phase). HasSizes q → is_capable p ≡ true → IsCommon q (connection_terms old_history).common) beside.phase holds.known);
-    waits = subst (Waits q new_history) (sym (sent_last bare id new_sent took)) (subst (IsOutstanding q new_history new_sent.content) (sym aims) (outstanding_as holds));
+    waits = subst (Waits q new_history) (sym (ends.last new_sent)) (subst (IsOutstanding q new_history new_sent.content) (sym aims) (outstanding_as holds));
   }
 
   order_as : (i : ℕ) → IsInOrder (outstanding old_history) i (session_of i old_history) → IsInOrder (outstanding new_history) i (session_of i new_history)
   order_as = of_each (λ i. IsInOrder (outstanding old_history) i (session_of i old_history) → IsInOrder (outstanding new_history) i (session_of i new_history)) id own others
     where
       waits_as : (i : ℕ) → waits_for i (outstanding old_history) ≡ waits_for i (outstanding new_history)
-      waits_as i = ap (waits_for i) (sent_last bare id sent took) ∙ sym (ap (waits_for i) (sent_last bare id new_sent took))
+      waits_as i = ap (waits_for i) (ends.last sent) ∙ sym (ap (waits_for i) (ends.last new_sent))
 
       own : IsInOrder (outstanding old_history) id (session_of id old_history) → IsInOrder (outstanding new_history) id (session_of id new_history)
       own o =
@@ -218,8 +260,8 @@ module _ (q : ReqSetup) (bare : History) (id : ℕ) (ask : Ask) (sent : Sent) (t
     orders = λ i. order_as i (stands.orders i);
     slots = of_each (λ i. IsSlotOf (slot_of new i) q.psk (session_of i new_history)) id (subst (IsSlotOf (slot_of new id) q.psk) (sym steps_as) own)
         (λ i ne. subst (λ (y : Slot). IsSlotOf y q.psk (session_of i new_history)) (sym (others i ne)) (subst (IsSlotOf (slot_of old i) q.psk) (others_stay i ne) (stands.slots i)));
-    named = subst (λ (w : Option Sent). IsNamed (session_for w) new.id) (sym (sent_last bare id new_sent took))
-        (subst (IsNamed (session_at sent.aim)) (sym named) (subst (λ (w : Option Sent). IsNamed (session_for w) old.id) (sent_last bare id sent took) stands.named));
+    named = subst (λ (w : Option Sent). IsNamed (session_for w) new.id) (sym (ends.last new_sent))
+        (subst (IsNamed (session_at sent.aim)) (sym named) (subst (λ (w : Option Sent). IsNamed (session_for w) old.id) (ends.last sent) stands.named));
   }
 
 -- ---- All together.
@@ -228,16 +270,30 @@ abbrev record_in : List ℕ → List ℕ
 record_in [] = []
 record_in (_ ∷ sealed) = sealed
 
-body_as : (q : ReqSetup) (bare : History) (id : ℕ) (ask : Ask) (sent : Sent) (pad : List ℕ) (owed : IsOwed q bare id ask sent) → body_of (owed_with q bare id pad sent).content ≡ record_body (sealed_next q.psk (session_of id bare) owed.inner pad)
-body_as q bare id ask sent pad owed = ap (λ (c : Content). body_of (content_with q.psk (session_of id bare) pad c)) owed.content_is
+body_as : (q : ReqSetup) (bare : History) (whole : Sent → History) (id : ℕ) (ask : Ask) (sent : Sent) (pad : List ℕ) (owed : IsOwed q bare whole id ask sent)
+    → body_of (owed_with q bare id pad sent).content ≡ record_body (sealed_next q.psk (session_of id bare) owed.inner pad)
+body_as q bare whole id ask sent pad owed = ap (λ (c : Content). body_of (content_with q.psk (session_of id bare) pad c)) owed.content_is
 
-pub are_repadded : (old new : Sessions) (q : ReqSetup) (bare : History) (id : ℕ) (ask : Ask) (sent : Sent) (sealed : List ℕ) (b : Bool) (took : TookLast bare id) (aims : sent.aim ≡ InSession id ask) (owed : IsOwed q bare id ask sent)
-    → StandsFor old q (with_next (Some sent) bare) → IsSlotRepadded q.psk (session_of id bare) ask owed.inner sealed (slot_of new id) b → ((i : ℕ) → i ≢ id → slot_of new i ≡ slot_of old i) → new.id ≡ old.id → AreRepadded q bare id sent sealed new b
-are_repadded old new q bare id ask sent sealed true took aims owed stands own others named = (
+are_repadded : (old new : Sessions) (q : ReqSetup) (bare : History) (whole : Sent → History) (id : ℕ) (ask : Ask) (sent : Sent) (sealed : List ℕ) (b : Bool) (ends : IsLast bare whole id ask) (aims : sent.aim ≡ InSession id ask) (owed : IsOwed q bare whole id ask sent)
+    → StandsFor old q (whole sent) → IsSlotRepadded q.psk (session_of id bare) ask owed.inner sealed (slot_of new id) b → ((i : ℕ) → i ≢ id → slot_of new i ≡ slot_of old i) → new.id ≡ old.id → AreRepaddedIn q bare whole id sent sealed new b
+are_repadded old new q bare whole id ask sent sealed true ends aims owed stands own others named = (
   own.0,
   own.1,
-  body_as q bare id ask sent own.0 owed ∙ ap record_body (sym own.2),
-  stands_as q bare id ask sent took aims owed own.0 old new stands own.3 others named,
+  body_as q bare whole id ask sent own.0 owed ∙ ap record_body (sym own.2),
+  stands_as q bare whole id ask sent ends aims owed own.0 old new stands own.3 others named,
 )
-are_repadded old new q bare id ask sent sealed false took aims owed stands own others named =
-    λ fits pad most is. own fits (pad, most, ap record_in (sym is ∙ body_as q bare id ask sent pad owed))
+are_repadded old new q bare whole id ask sent sealed false ends aims owed stands own others named =
+    λ fits pad most is. own fits (pad, most, ap record_in (sym is ∙ body_as q bare whole id ask sent pad owed))
+
+-- By what is done at the slot of the session that is kept as the one that is waited for.
+pub repadded : (old new : Sessions) (q : ReqSetup) (bare : History) (whole : Sent → History) (id : ℕ) (ask : Ask) (sent : Sent) (sealed : List ℕ) (b : Bool) → IsLast bare whole id ask → sent.aim ≡ InSession id ask → StandsFor old q (whole sent)
+    → ((psk : List ℕ) (s : Steps) (a : Ask) (inner pad : List ℕ) → IsSlotOf (slot_of old old.id) psk (with_asked psk s a inner pad) → IsSlotRepadded psk s a inner sealed (slot_of new old.id) b)
+    → ((i : ℕ) → i ≢ old.id → slot_of new i ≡ slot_of old i) → new.id ≡ old.id → AreRepaddedIn q bare whole id sent sealed new b
+repadded old new q bare whole id ask sent sealed b ends aims stands at others named =
+    let s = session_of id bare in
+    let owed = is_owed q bare whole id ask sent ends aims stands.holds in
+    let its : old.id ≡ id = named_is old q (whole sent) sent id ask stands (ends.last sent) aims in
+    let slot = subst (IsSlotOf (slot_of old old.id) q.psk) (ap (λ (i : ℕ). session_of i (whole sent)) its ∙ owed.steps) (stands.slots old.id) in
+    let own = subst (λ (i : ℕ). IsSlotRepadded q.psk s ask owed.inner sealed (slot_of new i) b) its (at q.psk s ask owed.inner owed.pad slot) in
+    let rest = subst (λ (k : ℕ). (i : ℕ) → i ≢ k → slot_of new i ≡ slot_of old i) its others in
+    are_repadded old new q bare whole id ask sent sealed b ends aims owed stands own rest named

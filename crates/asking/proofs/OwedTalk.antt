@@ -1,13 +1,12 @@
--- A record that a requester sent by itself upon what it took last, with another padding: what is kept beside the sessions stays.
+-- A record that a requester sent last, with another padding: what is kept beside the sessions stays.
 use Rattle.std.proofs.Common.{◌≡◌, ◌∙◌, List, ℕ, Bool, true, false, Option, Some, sym, subst}
-use Rattle.asking.proofs.OwedSessions.{IsSameBeside, same_beside, sent_last}
+use Rattle.asking.proofs.OwedSessions.{IsLast, IsSameBeside}
 use Rattle.asking.specs.Gathering.{IsGatheredFor}
 use Rattle.asking.specs.Joined.{StandsFor}
 use Rattle.asking.specs.Negotiating as negotiating
 use Rattle.asking.specs.Negotiating.{IsUpToSent}
 use Rattle.asking.specs.Outgoing.{IsKeptOf}
-use Rattle.asking.specs.Owed.{AreRepadded, IsRepadded, TookLast, owed_with}
-use Rattle.requester_machine.specs.Owed.{with_next}
+use Rattle.asking.specs.Owed.{AreRepaddedIn, IsRepaddedIn, owed_with}
 use Rattle.asking.specs.Sessions as sessions
 use Rattle.asking.specs.Talk as talk
 use Rattle.asking.specs.Waiting.{waiting_of}
@@ -15,27 +14,26 @@ use Rattle.asking.specs.declared.joined.Asking.{Asking}
 use Rattle.asking.specs.declared.sessions.Sessions.{Sessions}
 use Rattle.requester_machine.specs.History.{History, negotiation_of, outstanding, phase_of}
 use Rattle.requester_machine.specs.Message.{Ask, Sent}
-use Rattle.requester_machine.specs.Message.Aim.{InSession}
 use Rattle.requester_machine.specs.Setup.{ReqSetup}
 use Rattle.spdm_grammar.specs.declared.phase.Phase.{Phase}
 use Rattle.transcript.specs.Transcripts.{Negotiation}
 
-module _ (q : ReqSetup) (bare : History) (id : ℕ) (sent : Sent) (took : TookLast bare id) (pad : List ℕ) where
+module _ (q : ReqSetup) (bare : History) (whole : Sent → History) (id : ℕ) (ask : Ask) (sent : Sent) (ends : IsLast bare whole id ask) (pad : List ℕ) where
   abbrev old_history : History
-  old_history = with_next (Some sent) bare
+  old_history = whole sent
 
   abbrev new_sent : Sent
   new_sent = owed_with q bare id pad sent
 
   abbrev new_history : History
-  new_history = with_next (Some new_sent) bare
+  new_history = whole new_sent
 
   beside : IsSameBeside old_history new_history
-  beside = same_beside bare sent new_sent.content
+  beside = ends.beside sent new_sent.content
 
   -- What is said of the outstanding message hangs on its tag and aim.
   waits_as : (P : Option Sent → Type 0) → (P (Some sent) → P (Some new_sent)) → P (outstanding old_history) → P (outstanding new_history)
-  waits_as P same p = subst P (sym (sent_last bare id new_sent took)) (same (subst P (sent_last bare id sent took) p))
+  waits_as P same p = subst P (sym (ends.last new_sent)) (same (subst P (ends.last sent) p))
 
   shows_as : (seen : talk.Seen) → talk.Shows seen old_history → talk.Shows seen new_history
   shows_as seen shows = record {
@@ -58,7 +56,7 @@ module _ (q : ReqSetup) (bare : History) (id : ℕ) (sent : Sent) (took : TookLa
     gathers = record { max = stands.gathers.max; chunks = waits_as (λ o. IsGatheredFor o old.gathered) (λ p. p) stands.gathers.chunks };
   }
 
-pub is_repadded : (old : Asking) (new : Sessions) (q : ReqSetup) (bare : History) (id : ℕ) (ask : Ask) (sent : Sent) (sealed : List ℕ) (b : Bool) → TookLast bare id → sent.aim ≡ InSession id ask → StandsFor old q (with_next (Some sent) bare)
-    → AreRepadded q bare id sent sealed new b → IsRepadded q bare id sent sealed (record old { sessions = new }) b
-is_repadded old new q bare id ask sent sealed true took aims stands p = (p.0, p.1, p.2, stands_as q bare id sent took p.0 old new stands p.3)
-is_repadded old new q bare id ask sent sealed false took aims stands p = p
+pub is_repadded : (old : Asking) (new : Sessions) (q : ReqSetup) (bare : History) (whole : Sent → History) (id : ℕ) (ask : Ask) (sent : Sent) (sealed : List ℕ) (b : Bool) → IsLast bare whole id ask → StandsFor old q (whole sent)
+    → AreRepaddedIn q bare whole id sent sealed new b → IsRepaddedIn q bare whole id sent sealed (record old { sessions = new }) b
+is_repadded old new q bare whole id ask sent sealed true ends stands p = (p.0, p.1, p.2, stands_as q bare whole id ask sent ends p.0 old new stands p.3)
+is_repadded old new q bare whole id ask sent sealed false ends stands p = p

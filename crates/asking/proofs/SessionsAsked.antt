@@ -21,6 +21,7 @@ use Rattle.requester_machine.proofs.Bounded.{sessions}
 use Rattle.requester_machine.proofs.Entries as entries
 use Rattle.requester_machine.proofs.HoldsMade.{made_holds}
 use Rattle.requester_machine.proofs.HoldsTold.{told_holds, told_sent}
+use Rattle.requester_machine.specs.Holds.{Holds}
 use Rattle.requester_machine.proofs.Steps.{Good, asked_good, either_good}
 use Rattle.requester_machine.specs.Asking.{asks, asks_by}
 use Rattle.requester_machine.specs.Asking.Outcome.{Adds, Fails}
@@ -76,13 +77,13 @@ none_connected : (h : History) (sent : Sent) (d : Draw) (id : ℕ) → session_o
 unfolding session_of
 none_connected h sent d id = refl
 
-pub cleared : (old new : Sessions) (q : ReqSetup) (h : History) (f : Free) (d : Draw) (sent : Sent) → StandsFor old q h → asks false q h Connect f d ≡ Adds (Told Connect sent d)
+pub cleared : (new : Sessions) (q : ReqSetup) (h : History) (f : Free) (d : Draw) (sent : Sent) → Holds q h → asks false q h Connect f d ≡ Adds (Told Connect sent d)
     → new.slots ≡ slot.Empty ∷ slot.Empty ∷ slot.Empty ∷ slot.Empty ∷ [] → StandsFor new q (Told Connect sent d ∷ h)
-cleared old new q h f d sent stands adds is =
+cleared new q h f d sent holds adds is =
     let made = entries.asked false q h Connect f d (Told Connect sent d) adds in
     let same : plain_sent h GetVersion ≡ sent = told_sent Connect (plain_sent h GetVersion) sent d made.1 in
     record {
-      holds = told_holds q h Connect f d sent made.0 made.1 stands.holds;
+      holds = told_holds q h Connect f d sent made.0 made.1 holds;
       orders = none_orders (Told Connect sent d ∷ h) (none_connected h sent d);
       slots = none_kept new q (Told Connect sent d ∷ h) is (none_connected h sent d);
       named = subst (λ (x : Sent). IsNamed (session_for (Some x)) new.id) same tt;

@@ -1,8 +1,9 @@
 -- What a requester sends, as the program keeps it: the next tag and handle, what is waited for, and
 -- the request in the clear that is outstanding.
 use Rattle.std.specs.Prelude.{⊤, ◌≡◌, ◌≤◌, ◌<◌, ◌+◌, ◌%◌, ℕ, List, if◌then◌else◌, Option, Some, None}
-use Rattle.asking.specs.Waiting.{waiting_of}
+use Rattle.asking.specs.Waiting.{is_first, waiting_of}
 use Rattle.asking.specs.declared.waiting.Waiting.{Waiting}
+use Rattle.asking.specs.declared.waiting.Waiting.TheVariants as waits
 use Rattle.asking.specs.declared.waiting.Way.{Way}
 use Rattle.asking.specs.declared.waiting.Way.TheVariants as ways
 use Rattle.chunking.specs.Cutting.{chunk_count, nth_chunk}
@@ -44,6 +45,22 @@ tag_after tag = (tag % 8 + 1) % 8
 
 abbrev pub handle_after : ℕ → ℕ
 handle_after handle = (handle + 1) % 256
+
+-- The tag and the handle before them.
+abbrev pub tag_before : ℕ → ℕ
+tag_before tag = (tag % 8 + 7) % 8
+
+abbrev pub handle_before : ℕ → ℕ
+handle_before handle = (handle + 255) % 256
+
+-- The outstanding message was never sent.
+abbrev pub taken_back : Seen → Seen
+taken_back seen = record {
+  tag = tag_before seen.tag;
+  handle = if is_first seen.waiting then handle_before seen.handle else seen.handle;
+  waiting = waits.Nothing;
+  request = seen.request;
+}
 
 -- A message in the clear was sent with this tag, for the request that is kept: it is written, and
 -- is outstanding.

@@ -1,18 +1,19 @@
--- A record that a requester sent by itself upon what it took last, as one who judges it sees it:
--- before it came, and with the padding that it came with. This project's own.
-use Rattle.std.specs.Prelude.{◌≡◌, ◌≤◌, ℕ, List, [], ◌∷◌, Bool, true, false, Option, Some, None, length}
+-- A record that a requester sent last, by itself upon what it took or by a command, as one who judges
+-- it sees it: before it came, and with the padding that it came with. This project's own.
+use Rattle.std.specs.Prelude.{◌≡◌, ◌≤◌, ℕ, List, [], ◌∷◌, Bool, true, false, Some, None, length}
 use Rattle.asking.specs.Joined.{StandsFor}
 use Rattle.asking.specs.Sessions as sessions
 use Rattle.asking.specs.declared.joined.Asking.{Asking}
 use Rattle.asking.specs.declared.sessions.Sessions.{Sessions}
 use Rattle.requester_machine.specs.History.{History}
 use Rattle.requester_machine.specs.History.Entry.{Told, TookClear, TookRecord}
-use Rattle.requester_machine.specs.Message.{Aim, Sent, body_of}
+use Rattle.requester_machine.specs.Message.{Aim, Command, Sent, body_of}
 use Rattle.requester_machine.specs.Message.Aim.{InSession}
 use Rattle.requester_machine.specs.Owed.{sent_with, with_next}
 use Rattle.requester_machine.specs.Session.{session_of}
 use Rattle.requester_machine.specs.Setup.{ReqSetup}
 use Rattle.spdm_machine.specs.Bodies.{record_body}
+use Rattle.spdm_machine.specs.Keys.{Draw}
 
 -- ---- What is sent upon the newest entry.
 
@@ -51,20 +52,42 @@ IsOwedAs q bare id pad sent sealed =
     body_of (owed_with q bare id pad sent).content ≡ record_body sealed
 
 -- The bytes are its record with a padding of at most 16 bytes, and the sessions are those of the
--- history with that; or they are no such record.
-abbrev pub AreRepadded : ReqSetup → History → (id : ℕ) → Sent → (sealed : List ℕ)
-    → (new : Sessions) → Bool → Type 0
-AreRepadded q bare id sent sealed new true =
+-- history with that; or they are no such record. The history is given by the message that is sent last.
+abbrev pub AreRepaddedIn : ReqSetup → (bare : History) → (whole : Sent → History) → (id : ℕ) → Sent
+    → (sealed : List ℕ) → (new : Sessions) → Bool → Type 0
+AreRepaddedIn q bare whole id sent sealed new true =
     (pad : List ℕ) × (length pad ≤ 16) × IsOwedAs q bare id pad sent sealed
-    × sessions.StandsFor new q (with_next (Some (owed_with q bare id pad sent)) bare)
-AreRepadded q bare id sent sealed new false =
+    × sessions.StandsFor new q (whole (owed_with q bare id pad sent))
+AreRepaddedIn q bare whole id sent sealed new false =
     length sealed ≤ 4160 → (pad : List ℕ) → length pad ≤ 16 → IsOwedAs q bare id pad sent sealed → ⊥
 
 -- The same of the requester.
+abbrev pub IsRepaddedIn : ReqSetup → (bare : History) → (whole : Sent → History) → (id : ℕ) → Sent
+    → (sealed : List ℕ) → (new : Asking) → Bool → Type 0
+IsRepaddedIn q bare whole id sent sealed new true =
+    (pad : List ℕ) × (length pad ≤ 16) × IsOwedAs q bare id pad sent sealed
+    × StandsFor new q (whole (owed_with q bare id pad sent))
+IsRepaddedIn q bare whole id sent sealed new false =
+    length sealed ≤ 4160 → (pad : List ℕ) → length pad ≤ 16 → IsOwedAs q bare id pad sent sealed → ⊥
+
+-- A message that was sent by itself upon the newest entry.
+abbrev pub AreRepadded : ReqSetup → History → (id : ℕ) → Sent → (sealed : List ℕ)
+    → (new : Sessions) → Bool → Type 0
+AreRepadded q bare id sent sealed new told =
+    AreRepaddedIn q bare (λ x. with_next (Some x) bare) id sent sealed new told
+
 abbrev pub IsRepadded : ReqSetup → History → (id : ℕ) → Sent → (sealed : List ℕ) → (new : Asking)
     → Bool → Type 0
-IsRepadded q bare id sent sealed new true =
-    (pad : List ℕ) × (length pad ≤ 16) × IsOwedAs q bare id pad sent sealed
-    × StandsFor new q (with_next (Some (owed_with q bare id pad sent)) bare)
-IsRepadded q bare id sent sealed new false =
-    length sealed ≤ 4160 → (pad : List ℕ) → length pad ≤ 16 → IsOwedAs q bare id pad sent sealed → ⊥
+IsRepadded q bare id sent sealed new told =
+    IsRepaddedIn q bare (λ x. with_next (Some x) bare) id sent sealed new told
+
+-- A message that a command sent.
+abbrev pub AreRetold : ReqSetup → History → Command → Draw → (id : ℕ) → Sent → (sealed : List ℕ)
+    → (new : Sessions) → Bool → Type 0
+AreRetold q older command d id sent sealed new told =
+    AreRepaddedIn q older (λ x. Told command x d ∷ older) id sent sealed new told
+
+abbrev pub IsRetold : ReqSetup → History → Command → Draw → (id : ℕ) → Sent → (sealed : List ℕ)
+    → (new : Asking) → Bool → Type 0
+IsRetold q older command d id sent sealed new told =
+    IsRepaddedIn q older (λ x. Told command x d ∷ older) id sent sealed new told

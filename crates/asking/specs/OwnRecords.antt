@@ -1,5 +1,5 @@
 -- The records that a requester seals itself, opened for one who judges them. This project's own.
-use Rattle.std.specs.Prelude.{◌≡◌, ◌≤◌, ◌&&◌, if◌then◌else◌, length, ℕ, List, [], Bool, true, false, Option, Some, None, is_none}
+use Rattle.std.specs.Prelude.{◌≡◌, ◌≤◌, ◌&&◌, if◌then◌else◌, length, ℕ, List, Bool, true, false, Option, Some, None, is_none}
 use Rattle.psk_session.specs.Course.{with_asked}
 use Rattle.psk_session.specs.OwnRecords.{IsPadded, own_fault, own_inner}
 use Rattle.requester_machine.specs.History.{History}
@@ -39,6 +39,15 @@ is_in_session _ = false
 abbrev pub awaits_record : Option Sent → Bool
 awaits_record None = false
 awaits_record (Some sent) = is_in_session sent.aim
+
+-- Its session, where it is a record.
+abbrev pub session_aimed : Aim → Option ℕ
+session_aimed (InSession id ask) = Some id
+session_aimed _ = None
+
+abbrev pub session_awaited : Option Sent → Option ℕ
+session_awaited None = None
+session_awaited (Some sent) = session_aimed sent.aim
 
 -- ---- A record that is opened.
 

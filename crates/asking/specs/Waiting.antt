@@ -1,5 +1,5 @@
 -- What a requester waits for, as the program keeps it, read off the outstanding message.
-use Rattle.std.specs.Prelude.{ℕ, Option, Some, None}
+use Rattle.std.specs.Prelude.{◌==◌, ℕ, Bool, false, Option, Some, None}
 use Rattle.asking.specs.declared.waiting.Asked.{Asked}
 use Rattle.asking.specs.declared.waiting.Asked.TheVariants as asks
 use Rattle.asking.specs.declared.waiting.Way.{Way}
@@ -49,3 +49,16 @@ way_of (Plain asked) = ways.Whole
 way_of (ByChunks asked handle number) = ways.ByChunks handle number
 way_of (ForChunk asked handle number before) = ways.ForChunk handle number
 way_of (InSession id ask) = ways.Whole
+
+-- ---- The first chunk of a large request.
+
+abbrev pub is_first_way : Way → Bool
+is_first_way ways.Whole = false
+is_first_way (ways.ByChunks handle number) = number == 0
+is_first_way (ways.ForChunk handle number) = false
+
+-- It is outstanding.
+abbrev pub is_first : Waiting → Bool
+is_first waits.Nothing = false
+is_first (waits.InClear tag asked way) = is_first_way way
+is_first (waits.InSession tag id) = false

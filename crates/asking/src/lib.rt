@@ -19,6 +19,7 @@ mod gathering;
 mod heard;
 mod hearing;
 mod in_session;
+mod instead;
 mod joined;
 mod led;
 mod negotiating;

@@ -9,7 +9,7 @@ ghost use Rattle.spdm_grammar.specs.Message.{RequestMessage, request_message};
 ghost use Rattle.spdm_grammar.specs.Message.RequestMessage.{ChunkGet, ChunkSend};
 ghost use Rattle.spdm_grammar.specs.Requests.{IsSoundRequest, canonical_request};
 ghost use Rattle.spdm_grammar.specs.declared.names.TheConstants.{MAX_MESSAGE_SIZE, MIN_DATA_TRANSFER_SIZE};
-ghost use Rattle.asking.specs.Outgoing.{IsCut, Sends, message_for, tag_after};
+ghost use Rattle.asking.specs.Outgoing.{IsCut, Sends, message_for, tag_after, taken_back};
 ghost use Rattle.asking.specs.declared.waiting.Waiting.TheVariants as waits;
 ghost use Rattle.asking.specs.declared.waiting.Way.TheVariants as ways;
 
@@ -21,7 +21,8 @@ use spdm_grammar::Request;
 use std::marker::Model;
 
 /// What a requester sends: the next tag and handle, what is waited for, and the bytes of the
-/// request in the clear that is outstanding. Tags and handles are never set back.
+/// request in the clear that is outstanding. Tags and handles are never set back, but for a message
+/// that was never sent.
 #[derive(Drop)]
 pub struct Outgoing {
     tag: u8,
@@ -75,6 +76,18 @@ impl Outgoing {
     pub fn rest(&mut self)
         ensures { self.new ≡ record self.old { waiting = waits.Nothing } }
     {
+        self.waiting = Waiting::Nothing;
+    }
+
+    /// The outstanding message was never sent: its tag is the next one again, and so is its handle,
+    /// where it was the first chunk of a large request.
+    pub fn take_back(&mut self)
+        ensures { self.new ≡ taken_back self.old }
+    {
+        self.tag = (self.tag % 8 + 7) % 8;
+        if self.waiting.is_first() {
+            self.handle = self.handle.wrapping_sub(1);
+        }
         self.waiting = Waiting::Nothing;
     }
 

@@ -30,8 +30,8 @@ fn first_of(first: bool, second: bool, third: bool, fourth: bool) -> Option<u16>
 
 // What a requester sealed itself, for one who judges it.
 impl Sessions {
-    ghost use Rattle.std.specs.Prelude.{◌≡◌, ◌≢◌, ◌≤◌, ◌<◌, ◌-◌, ◌^◌, ℕ, List, Some, false, length, true};
-    ghost use Rattle.asking.specs.Owed.{AreRepadded, TookLast};
+    ghost use Rattle.std.specs.Prelude.{◌≡◌, ◌≢◌, ◌≤◌, ◌<◌, ◌-◌, ◌^◌, ◌∷◌, ℕ, List, Some, false, length, true};
+    ghost use Rattle.asking.specs.Owed.{AreRepadded, AreRetold, TookLast};
     ghost use Rattle.requester_machine.specs.Owed.{with_next};
     ghost use Rattle.asking.specs.OwnRecords.{IsSlotRepadded, OpensAs, OpensNamed, awaits_record, id_named};
     ghost use Rattle.requester_machine.specs.Named.{names, session_named};
@@ -39,12 +39,14 @@ impl Sessions {
     ghost use Rattle.asking.specs.Slot.{IsSlotOf};
     ghost use Rattle.psk_session.specs.Course.{with_asked};
     ghost use Rattle.psk_session.specs.OwnRecords.{IsOwnOpened};
-    ghost use Rattle.requester_machine.specs.History.{History, outstanding};
+    ghost use Rattle.requester_machine.specs.History.{History, asks_session, outstanding};
+    ghost use Rattle.requester_machine.specs.History.Entry.{Told};
     ghost use Rattle.requester_machine.specs.Message as message;
     ghost use Rattle.requester_machine.specs.Message.{Sent};
     ghost use Rattle.requester_machine.specs.Message.Aim.{InSession};
     ghost use Rattle.requester_machine.specs.Session.{Steps, is_accepted, request_next, session_of};
     ghost use Rattle.requester_machine.specs.Setup.{ReqSetup};
+    ghost use Rattle.spdm_machine.specs.Keys.{Draw};
 
     // Whether a record names the session of this ReqSessionID.
     fn names(&self, id: u16, sealed: &[u8]) -> bool
@@ -57,8 +59,8 @@ impl Sessions {
         }
     }
 
-    // The ReqSessionID of the session that a record names, the least.
-    fn named(&self, sealed: &[u8]) -> Option<u16>
+    /// The ReqSessionID of the session that a record names, the least.
+    pub fn named(&self, sealed: &[u8]) -> Option<u16>
         ensures { (q : ReqSetup) (h : History) → StandsFor self.now q h → length h < 2 ^ 64 - 1
             → result ≡ id_named h sealed.now }
     {
@@ -154,14 +156,18 @@ impl Sessions {
         self.slots[usize::from(id) - 1].take_padded(sealed)
     }
 
-    /// Takes bytes as the outstanding record, where that was sent by itself upon what came last:
-    /// whether they are that record with some padding of at most 16 bytes. Where they are not,
-    /// nothing changes.
+    /// Takes bytes as the outstanding record, where that was sent by itself upon what came last or
+    /// by a command: whether they are that record with some padding of at most 16 bytes. Where they
+    /// are not, nothing changes.
     pub fn take_padded(&mut self, sealed: &[u8]) -> bool
         ensures repadded { (q : ReqSetup) (bare : History) (sent : Sent) (id : ℕ)
             (ask : message.Ask) → TookLast bare id → sent.aim ≡ InSession id ask
             → StandsFor self.old q (with_next (Some sent) bare)
             → AreRepadded q bare id sent sealed.now self.new result }
+        ensures retold { (q : ReqSetup) (older : History) (command : message.Command) (d : Draw)
+            (sent : Sent) (id : ℕ) (ask : message.Ask) → asks_session command ≡ true
+            → sent.aim ≡ InSession id ask → StandsFor self.old q (Told command sent d ∷ older)
+            → AreRetold q older command d id sent sealed.now self.new result }
         ensures unchanged { result ≡ false → self.new ≡ self.old }
     {
         self.take_padded_at(self.id, sealed)

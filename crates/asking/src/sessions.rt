@@ -67,6 +67,7 @@ impl Sessions {
     ghost use Rattle.requester_machine.specs.Does.{free_id};
     ghost use Rattle.asking.specs.Hearing.{ClosesSession};
     ghost use Rattle.requester_machine.specs.Hearing.{hears, on_record};
+    ghost use Rattle.requester_machine.specs.Holds.{Holds};
     ghost use Rattle.requester_machine.specs.History.{History, Led, outstanding, phase_of};
     ghost use Rattle.requester_machine.specs.History.Entry.{Told, TookClear};
     ghost use Rattle.requester_machine.specs.Message as message;
@@ -135,8 +136,8 @@ impl Sessions {
 
     /// GET_VERSION was sent: all sessions are gone.
     pub fn clear(&mut self)
-        ensures { (q : ReqSetup) (h : History) (f : Free) (d : Draw) (sent : Sent)
-            → StandsFor self.old q h → asks false q h Connect f d ≡ Adds (Told Connect sent d)
+        ensures { (q : ReqSetup) (h : History) (f : Free) (d : Draw) (sent : Sent) → Holds q h
+            → asks false q h Connect f d ≡ Adds (Told Connect sent d)
             → StandsFor self.new q (Told Connect sent d ∷ h) }
     {
         *self = Sessions::none();

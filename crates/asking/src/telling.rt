@@ -2,6 +2,7 @@ ghost use Rattle.std.specs.Prelude.{◌≡◌, ◌≤◌, ◌<◌, ◌^◌, ◌-
 ghost use Rattle.asking.specs.Free.{IsFree};
 ghost use Rattle.asking.specs.Joined.{IsCommanded, IsDone, StandsFor, command_of};
 ghost use Rattle.asking.specs.Setup.{IsSetUp};
+ghost use Rattle.asking.specs.Talk as talk;
 ghost use Rattle.psk_session.specs.AskLaws.{command_at};
 ghost use Rattle.requester_machine.specs.Asking.{asks};
 ghost use Rattle.requester_machine.specs.Commands.{Free};
@@ -19,9 +20,10 @@ use spdm_basis::Psk;
 use spdm_grammar::CommandFault;
 
 impl Asking {
-    // Begins anew.
-    fn connect(&mut self, out: &mut Body) -> u8
-        ensures { (q : ReqSetup) (h : History) (f : Free) (d : Draw) → StandsFor self.old q h
+    // Begins anew, whatever stands of the sessions.
+    pub(crate) fn connect(&mut self, out: &mut Body) -> u8
+        ensures { (q : ReqSetup) (h : History) (f : Free) (d : Draw)
+            → talk.StandsFor self.old.talk q h → self.old.gathered.max ≡ q.max
             → IsDone q h (asks false q h Connect f d) result out.new self.new }
     {
         let tag = self.talk.connect(&mut self.message);

@@ -69,3 +69,30 @@ impl Asked {
         !matches!(self, Asked::Version | Asked::Capabilities)
     }
 }
+
+impl Way {
+    ghost use Rattle.std.specs.Prelude.{◌≡◌};
+    ghost use Rattle.asking.specs.Waiting.{is_first_way};
+
+    // Whether it is the first chunk of a large request that was sent.
+    fn is_first(self) -> bool
+        ensures { result ≡ is_first_way self }
+    {
+        matches!(self, Way::ByChunks { number: 0, .. })
+    }
+}
+
+impl Waiting {
+    ghost use Rattle.std.specs.Prelude.{◌≡◌};
+    ghost use Rattle.asking.specs.Waiting.{is_first};
+
+    /// Whether the first chunk of a large request is outstanding.
+    pub fn is_first(self) -> bool
+        ensures { result ≡ is_first self }
+    {
+        match self {
+            Waiting::InClear { way, .. } => way.is_first(),
+            _ => false,
+        }
+    }
+}

@@ -11,6 +11,7 @@ mod answers;
 mod beginning;
 mod came;
 mod clear_part;
+mod completing;
 mod connected;
 mod contents;
 mod ended;
@@ -34,6 +35,7 @@ mod standing;
 mod start;
 mod taking;
 mod tested;
+mod timed;
 mod told;
 mod views;
 

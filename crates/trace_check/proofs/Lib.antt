@@ -36,6 +36,7 @@ pub mod AnsweredOn
 pub mod GoingOn
 pub mod PairWalks
 pub mod EachWalks
+pub mod ReasonsEach
 pub mod Sealing
 pub mod OneWalk
 pub mod Repadding

@@ -11,8 +11,7 @@ use Rattle.asking.proofs.Awaited.{chunks_room}
 use Rattle.asking.proofs.OwedClear.{out_last}
 use Rattle.asking.specs.Joined.{IsCommanded, StandsFor}
 use Rattle.asking.specs.Negotiating.{IsUpToAsked, IsUpToSent}
-use Rattle.asking.specs.Owed as asking
-use Rattle.asking.specs.Owed.{IsRepadded, TookFor, TookLast}
+use Rattle.asking.specs.Owed.{IsRepadded, TookFor, TookLast, owed_with}
 use Rattle.asking.specs.declared.joined.Asking.{Asking}
 use Rattle.chunking.proofs.ChunkSteps.{reaches}
 use Rattle.chunking.specs.Cutting.{chunk_count}
@@ -22,7 +21,6 @@ use Rattle.requester_machine.specs.Asking.Outcome.{Fails, Resends}
 use Rattle.requester_machine.specs.Commands.{Free, command_fault}
 use Rattle.requester_machine.specs.Does.{free_id}
 use Rattle.requester_machine.specs.History.{History, begins_large, connection_terms, negotiation_of, outstanding}
-use Rattle.requester_machine.specs.History.Entry.{Told, TookClear, TookRecord}
 use Rattle.requester_machine.specs.Holds.{Holds, Waits}
 use Rattle.requester_machine.specs.May.{IsAllowed, IsSetUp}
 use Rattle.requester_machine.specs.Message.{Aim, Ask, Content, Sent, asked_in, body_of}
@@ -48,23 +46,8 @@ use Rattle.trace_check.specs.Padding.{session_asked}
 use Rattle.requester_machine.specs.Owed.{content_with, sent_with}
 use Rattle.requester_machine.specs.Owed.{with_next}
 
--- ---- The words of the requester's own code.
-
-pub next_as : (x : Option Sent) (h : History) → asking.with_next x h ≡ with_next x h
-next_as x [] = refl
-next_as x (Told command sent d ∷ h) = refl
-next_as x (TookClear tag m led d ∷ h) = refl
-next_as x (TookRecord tag of sealed inner led d ∷ h) = refl
-
-content_as : (psk : List ℕ) (s : Steps) (pad : List ℕ) (c : Content) → asking.content_with psk s pad c ≡ content_with psk s pad c
-content_as psk s pad (Clear m) = refl
-content_as psk s pad (Sealed sealed inner old) = refl
-
-pub sent_as : (psk : List ℕ) (s : Steps) (pad : List ℕ) (x : Sent) → asking.sent_with psk s pad x ≡ sent_with psk s pad x
-sent_as psk s pad x = ap (λ (c : Content). record x { content = c }) (content_as psk s pad x.content)
-
 pub out_owed : (bare : History) (sent : Sent) → TookFor bare sent.aim → outstanding (with_next (Some sent) bare) ≡ Some sent
-out_owed bare sent took = ap outstanding (sym (next_as (Some sent) bare)) ∙ out_last bare sent.aim sent took
+out_owed bare sent took = out_last bare sent.aim sent took
 
 -- ---- The outstanding message goes out again.
 
@@ -220,14 +203,14 @@ clear_told q bare sent body room new (InClear m content shows) is other stands =
 -- ---- In a record.
 
 module _ (q : ReqSetup) (bare : History) (sent : Sent) (id : ℕ) (ask : Ask) (took : TookLast bare id) (aims : sent.aim ≡ InSession id ask) where
-  same_owed : (pad : List ℕ) → asking.owed_with q bare id pad sent ≡ sent_with q.psk (session_of (session_asked sent.aim) bare) pad sent
-  same_owed pad = sent_as q.psk (session_of id bare) pad sent ∙ ap (λ (n : ℕ). sent_with q.psk (session_of n bare) pad sent) (sym (ap session_asked aims))
+  same_owed : (pad : List ℕ) → owed_with q bare id pad sent ≡ sent_with q.psk (session_of (session_asked sent.aim) bare) pad sent
+  same_owed pad = ap (λ (n : ℕ). sent_with q.psk (session_of n bare) pad sent) (sym (ap session_asked aims))
 
   pub record_sent : (body sealed : List ℕ) (old new : Asking) (b : Bool) → body ≡ record_body sealed → length body ≤ 4161 → StandsFor old q (with_next (Some sent) bare) → IsRepadded q bare id sent sealed new b → (b ≡ false → new ≡ old) → IsSentOwed q bare sent body b new
   record_sent body sealed old new true is short stands r same = (
     with_next (Some (sent_with q.psk (session_of (session_asked sent.aim) bare) r.0 sent)) bare,
     (r.0, r.1, ap begins_large aims, ap (λ (x : Sent). body_of x.content) (sym (same_owed r.0)) ∙ r.2 ∙ sym is, refl),
-    subst (StandsFor new q) (next_as (Some (asking.owed_with q bare id r.0 sent)) bare ∙ ap (λ (x : Sent). with_next (Some x) bare) (same_owed r.0)) r.3,
+    subst (StandsFor new q) (ap (λ (x : Sent). with_next (Some x) bare) (same_owed r.0)) r.3,
   )
   record_sent body sealed old new false is short stands r same = (
     λ after s.

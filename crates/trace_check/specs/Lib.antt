@@ -11,6 +11,7 @@ pub mod Walks
 pub mod Padding
 pub mod Keeping
 pub mod Refusing
+pub mod ReasonsEach
 pub mod Showing
 pub mod AnswersShown
 pub mod DropsShown
