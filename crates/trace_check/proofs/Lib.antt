@@ -83,3 +83,8 @@ pub mod ShortAnswers
 pub mod AllowedTold
 pub mod LargeReplies
 pub mod ClearAnswered
+pub mod ResponseRead
+pub mod ClearShown
+pub mod AnyAnswers
+pub mod LastTold
+pub mod RecordShown

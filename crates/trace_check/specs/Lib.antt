@@ -22,3 +22,4 @@ pub mod RepliesTold
 pub mod Asker
 pub mod Commanded
 pub mod Answerer
+pub mod ShownBy

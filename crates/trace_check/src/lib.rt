@@ -14,11 +14,14 @@ mod change;
 mod change_laws;
 mod choosing;
 mod clear_commands;
+mod clear_values;
 mod laws;
 mod order;
 mod owed_messages;
 mod pair;
 mod places;
+mod record_values;
+mod response_values;
 mod round;
 mod row_laws;
 mod rows;
@@ -50,8 +53,8 @@ pub use pair::Pair;
 pub use places::Places;
 pub use round::Round;
 pub use row_laws::{
-    idle_rows_stay, one_changes_rows, one_keeps_places, other_places_stay, rows_are_of_all, table_begins,
-    table_is_shown, walks_step,
+    idle_rows_stay, one_changes_rows, one_keeps_places, other_places_stay, rows_are_of_all,
+    table_begins, table_is_shown, walks_step,
 };
 pub use script_text::Why;
 pub use verdict::{Seen, SessionTable, Verdict};
