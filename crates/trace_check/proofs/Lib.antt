@@ -88,3 +88,6 @@ pub mod ClearShown
 pub mod AnyAnswers
 pub mod LastTold
 pub mod RecordShown
+pub mod RecordTold
+pub mod RecordAnswered
+pub mod RecordClosed
