@@ -82,3 +82,7 @@ pub mod ShortAnswers
 pub mod AllowedTold
 pub mod LargeReplies
 pub mod ClearAnswered
+pub mod KeysKept
+pub mod KeysFollow
+pub mod HearsKept
+pub mod KeysOpen

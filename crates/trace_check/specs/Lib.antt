@@ -21,3 +21,5 @@ pub mod RepliesTold
 pub mod Asker
 pub mod Commanded
 pub mod Answerer
+pub mod AnswerKeys
+pub mod HeardKept
