@@ -88,3 +88,7 @@ pub mod ClearShown
 pub mod AnyAnswers
 pub mod LastTold
 pub mod RecordShown
+pub mod KeysKept
+pub mod KeysFollow
+pub mod HearsKept
+pub mod KeysOpen

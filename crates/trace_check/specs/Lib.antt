@@ -23,3 +23,5 @@ pub mod Asker
 pub mod Commanded
 pub mod Answerer
 pub mod ShownBy
+pub mod AnswerKeys
+pub mod HeardKept

@@ -5,9 +5,12 @@
 //! `Order::take`; `Asker` judges the requests of one requester.
 #![tactic(auto)]
 
+mod answer_keys;
 mod answer_length;
+mod answer_reasons;
 mod answerer;
 mod asker;
+mod asker_hears;
 mod asker_setup;
 mod brought;
 mod change;
@@ -29,6 +32,7 @@ mod shown_fields;
 mod shown_values;
 mod verdict;
 
+pub use answer_keys::AnswerKeys;
 pub use answerer::Answerer;
 pub use asker::Asker;
 pub use brought::Brought;
