@@ -82,3 +82,12 @@ pub mod ShortAnswers
 pub mod AllowedTold
 pub mod LargeReplies
 pub mod ClearAnswered
+pub mod AskedIds
+pub mod SealedRead
+pub mod SealedSent
+pub mod SealedJudged
+pub mod SentBy
+pub mod AskedBy
+pub mod OpensAsking
+pub mod FinishApart
+pub mod ReasonsKept

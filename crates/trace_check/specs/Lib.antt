@@ -20,4 +20,7 @@ pub mod LargeShown
 pub mod RepliesTold
 pub mod Asker
 pub mod Commanded
+pub mod SealedTold
+pub mod Asked
+pub mod RefusedRequest
 pub mod Answerer
