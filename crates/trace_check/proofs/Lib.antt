@@ -92,3 +92,12 @@ pub mod KeysKept
 pub mod KeysFollow
 pub mod HearsKept
 pub mod KeysOpen
+pub mod AskedIds
+pub mod SealedRead
+pub mod SealedSent
+pub mod SealedJudged
+pub mod SentBy
+pub mod AskedBy
+pub mod OpensAsking
+pub mod FinishApart
+pub mod ReasonsKept
