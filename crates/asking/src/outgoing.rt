@@ -21,7 +21,8 @@ use spdm_grammar::Request;
 use std::marker::Model;
 
 /// What a requester sends: the next tag and handle, what is waited for, and the bytes of the
-/// request in the clear that is outstanding. Tags and handles are never set back.
+/// request in the clear that is outstanding. Tags and handles are never set back, but for a message
+/// that was never sent.
 #[derive(Drop)]
 pub struct Outgoing {
     tag: u8,

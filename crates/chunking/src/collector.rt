@@ -3,7 +3,7 @@ ghost use Rattle.spdm_grammar.specs.Message.{ChunkMessage, chunk_message};
 ghost use Rattle.chunking.specs.Answers.{collection_of, step_answer, whole_of};
 ghost use Rattle.std.specs.Borrow.{sem};
 ghost use Rattle.chunking.specs.Lending.{RestsWith};
-ghost use Rattle.chunking.specs.Collecting.{accepted_with, answer_from, collected, first_rule, told_by};
+ghost use Rattle.chunking.specs.Collecting.{accepted_with, answer_from, collected, first_rule, joined, told_by, told_size, under_way};
 ghost use Rattle.chunking.specs.Keeping.{Kept, StandsFor, after_chunk, after_first, after_later, answer_later, answer_to, grown};
 
 use crate::unfinished::{Unfinished, broken_first_rule, told_by};
@@ -85,6 +85,29 @@ impl Collector {
             Step::Whole => Collected::Whole(self.bytes.as_slice()),
             Step::More => Collected::More,
             Step::Refused(fault) => Collected::Refused(fault),
+        }
+    }
+
+    /// The bytes so far of the message that is unfinished; none where none is.
+    pub fn under_way(&self) -> &[u8]
+        ensures { (accepted : List ChunkMessage) → StandsFor self.now accepted
+            → result.now ≡ joined (under_way accepted) }
+    {
+        match self.unfinished {
+            Some(_) => self.bytes.as_slice(),
+            None => &[],
+        }
+    }
+
+    /// The length that the first chunk of the unfinished message told; 0 where none is unfinished.
+    pub fn told(&self) -> u32
+        ensures value { (accepted : List ChunkMessage) → StandsFor self.now accepted
+            → result ≡ told_size (under_way accepted) }
+        ensures fits { result ≤ MAX_MESSAGE_SIZE }
+    {
+        match self.unfinished {
+            Some(unfinished) => unfinished.told,
+            None => 0,
         }
     }
 

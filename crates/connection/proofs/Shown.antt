@@ -2,13 +2,13 @@
 use Rattle.std.proofs.Common.{refl, ◌≡◌, ◌+◌, ◌<◌, ◌^◌, ℕ, [], true, false, Bool, Option, Some, None, ap, sym, subst, arith}
 use Rattle.std.specs.Prelude.{◌&&◌, if◌then◌else◌, not}
 use Rattle.connection.specs.Live.{IsSlotOf, StandsFor}
-use Rattle.connection.specs.Sessions.{IsViewOf, is_held_in}
+use Rattle.connection.specs.Sessions.{IsViewOf, is_held_in, is_timed_in}
 use Rattle.connection.specs.declared.live.Live.{Live}
 use Rattle.responder_machine.proofs.Within.{session_within}
 use Rattle.responder_machine.specs.BoundLaws.{messages_of}
 use Rattle.responder_machine.specs.Heard.{view_of}
 use Rattle.responder_machine.specs.History.{History}
-use Rattle.responder_machine.specs.Session.{Events, is_live, session_of, stage_of, taken_of}
+use Rattle.responder_machine.specs.Session.{Events, is_live, is_timed, session_of, stage_of, taken_of}
 use Rattle.responder_machine.specs.Setup.{RspSetup}
 use Rattle.spdm_grammar.specs.declared.session_view.SessionView.{SessionView}
 use Rattle.spdm_machine.specs.Sessions.{is_past_handshake, one_if}
@@ -25,6 +25,9 @@ held_live s live = ap (λ (b : Bool). b && is_past_handshake (stage_of s)) (sym 
 
 pub held_none : (s : Events) → s ≡ [] → false ≡ is_held_in s
 held_none s none = ap is_held_in (sym none)
+
+pub timed_live : (s : Events) → is_live s ≡ true → is_timed s ≡ is_timed_in s
+timed_live s live = ap (λ (b : Bool). b && is_timed s) (sym live)
 
 pub held_is : (a b c d : ℕ) (w x y z : Bool) → a ≡ one_if w → b ≡ one_if x → c ≡ one_if y → d ≡ one_if z → one_if w + one_if x + one_if y + one_if z ≡ a + b + c + d
 held_is a b c d w x y z e f g h = omega (arith, e, f, g, h)

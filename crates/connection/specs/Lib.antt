@@ -17,3 +17,4 @@ pub mod Starting
 pub mod Connected
 pub mod Harmless
 pub mod OwnAnswers
+pub mod SeenTerms

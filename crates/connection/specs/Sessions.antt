@@ -7,7 +7,7 @@ use Rattle.responder_machine.specs.Answer.{Free}
 use Rattle.responder_machine.specs.Heard.{heard_of, view_of}
 use Rattle.responder_machine.specs.History.{History, ended_of}
 use Rattle.responder_machine.specs.Responder.{after, body_of, on_record, repeats}
-use Rattle.responder_machine.specs.Session.{Events, id_in_record, is_live, session_of, stage_of}
+use Rattle.responder_machine.specs.Session.{Events, id_in_record, is_live, is_timed, session_of, stage_of}
 use Rattle.responder_machine.specs.Setup.{RspSetup}
 use Rattle.responder_session.specs.Session.{IsEnded}
 use Rattle.responder_session.specs.declared.told.RspTold.{RspTold}
@@ -37,6 +37,10 @@ tells_version _ = false
 -- There is a session, and it is past its handshake.
 abbrev pub is_held_in : Events → Bool
 is_held_in s = is_live s && is_past_handshake (stage_of s)
+
+-- There is a session, and it is timed.
+abbrev pub is_timed_in : Events → Bool
+is_timed_in s = is_live s && is_timed s
 
 -- A live session is shown so; where there is none, nothing is.
 abbrev pub IsViewOf : Option SessionView → Events → Type 0

@@ -4,6 +4,7 @@ ghost use Rattle.responder_machine.specs.Answer.{summary_answer};
 ghost use Rattle.responder_machine.specs.History.{History, clear_turns, negotiation_of, phase_of};
 ghost use Rattle.responder_machine.specs.LargeMessages.{next_handle};
 ghost use Rattle.responder_machine.specs.Place.{Where, place_terms};
+ghost use Rattle.responder_machine.specs.Refusal.{has_pending};
 ghost use Rattle.responder_machine.specs.Setup.{RspSetup};
 ghost use Rattle.responder_machine.specs.Turn.{Turn};
 ghost use Rattle.spdm_machine.specs.Terms.{terms_of};
@@ -61,6 +62,14 @@ impl Standing {
         ensures { (turns : List Turn) → StandsFor self.now turns → result ≡ next_handle turns }
     {
         self.large.next_handle()
+    }
+
+    /// Whether a large answer is pending: a chunk of it is still to be given.
+    pub fn is_pending(&self) -> bool
+        ensures { (at : Where) (turns : List Turn) (held : ℕ) → StandsFor self.now turns
+            → result ≡ has_pending (place_at at turns held) }
+    {
+        self.large.is_pending()
     }
 
     /// The algorithms that were chosen.

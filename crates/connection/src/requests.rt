@@ -1,5 +1,5 @@
 ghost use Rattle.std.specs.Prelude.{◌≡◌, ◌≤◌, ◌∷◌, [], true, None, Some, ℕ, List, length};
-ghost use Rattle.chunking.specs.Collecting.{accepted_with, collected};
+ghost use Rattle.chunking.specs.Collecting.{accepted_with, collected, joined, told_size, under_way};
 ghost use Rattle.chunking.specs.Keeping as keeping;
 ghost use Rattle.responder_machine.specs.Answer.{Free, answer_bytes, request_at};
 ghost use Rattle.responder_machine.specs.LargeMessages.{chunks_of};
@@ -33,7 +33,7 @@ use std::marker::Model;
 #[derive(Drop)]
 pub struct Requests {
     standing: Standing,
-    collector: Collector,
+    pub(crate) collector: Collector,
     whole: Frame,
 }
 
@@ -79,11 +79,28 @@ impl Requests {
         self.whole.as_slice()
     }
 
+    /// The bytes so far of the large request that comes by chunks; none where none does.
+    pub fn under_way(&self) -> &[u8]
+        ensures { (r : RspSetup) (turns : List Turn) → StandsFor self.now r turns
+            → result.now ≡ joined (under_way (chunks_of turns)) }
+    {
+        self.collector.under_way()
+    }
+
     /// How the clear part stands.
     pub fn standing(&self) -> &Standing
         ensures { result.now ≡ self.now.standing }
     {
         &self.standing
+    }
+
+    /// The length that the large request under way tells; 0 where none is.
+    pub fn told(&self) -> u32
+        ensures value { (r : RspSetup) (turns : List Turn) → StandsFor self.now r turns
+            → result ≡ told_size (under_way (chunks_of turns)) }
+        ensures fits { result ≤ MAX_MESSAGE_SIZE }
+    {
+        self.collector.told()
     }
 
     // A large request was completed: what is sent for it goes into the acknowledgement of its last chunk.

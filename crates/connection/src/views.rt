@@ -4,14 +4,16 @@ use spdm_grammar::{Choice, Phase, SessionList, SessionView};
 // What is seen of a connection.
 impl Connection {
     ghost use Rattle.std.specs.Prelude.{◌≡◌, ◌≤◌, ◌<◌, ◌^◌, length};
+    ghost use Rattle.chunking.specs.Collecting.{joined, under_way};
     ghost use Rattle.connection.specs.Connected.{StandsFor};
     ghost use Rattle.connection.specs.Sessions.{IsViewOf};
     ghost use Rattle.responder_machine.specs.BoundLaws.{messages_of};
     ghost use Rattle.responder_machine.specs.Does.{first_queued};
     ghost use Rattle.responder_machine.specs.Heard.{views_of};
     ghost use Rattle.responder_machine.specs.History.{History, clear_turns, kept_of, negotiation_of, phase_of, queue_of};
-    ghost use Rattle.responder_machine.specs.LargeMessages.{next_handle};
-    ghost use Rattle.responder_machine.specs.Place.{free_id, held_of};
+    ghost use Rattle.responder_machine.specs.LargeMessages.{chunks_of, next_handle};
+    ghost use Rattle.responder_machine.specs.Place.{clear_place, free_id, held_of};
+    ghost use Rattle.responder_machine.specs.Refusal.{has_pending};
     ghost use Rattle.responder_machine.specs.Responder.{is_repeat};
     ghost use Rattle.responder_machine.specs.Session.{session_of, turns_of};
     ghost use Rattle.responder_machine.specs.Setup.{RspSetup};
@@ -67,12 +69,28 @@ impl Connection {
         self.sessions.free_id()
     }
 
+    /// The bytes so far of the large request that comes by chunks in the clear; none where none does.
+    pub fn under_way(&self) -> &[u8]
+        ensures { (r : RspSetup) (h : History) → StandsFor self.now r h
+            → result.now ≡ joined (under_way (chunks_of (clear_turns h))) }
+    {
+        self.clear.requests().under_way()
+    }
+
     /// The handle of the next clear answer that goes by chunks.
     pub fn next_handle(&self) -> u8
         ensures { (r : RspSetup) (h : History) → StandsFor self.now r h
             → result ≡ next_handle (clear_turns h) }
     {
         self.clear.standing().next_handle()
+    }
+
+    /// Whether a large answer is pending in the clear: a chunk of it is still to be given.
+    pub fn is_pending(&self) -> bool
+        ensures { (r : RspSetup) (h : History) → StandsFor self.now r h
+            → result ≡ has_pending (clear_place h) }
+    {
+        self.clear.standing().is_pending()
     }
 
     /// The handle of the next answer that goes by chunks in the session of this RspSessionID.

@@ -15,8 +15,9 @@ pub struct AnswerKey {
 }
 
 impl AnswerKey {
-    ghost use Rattle.std.specs.Prelude.{◌≡◌, ◌<◌, ◌+◌, ◌-◌, ◌^◌, ℕ, List, None, Some, OnErr, OnOk, MatchResult};
-    ghost use Rattle.key_schedule.specs.Purpose.{Purpose};
+    ghost use Rattle.std.specs.Prelude.{◌≡◌, ◌≤◌, ◌<◌, ◌+◌, ◌-◌, ◌^◌, ℕ, List, None, Some, OnErr, OnOk, MatchResult, length};
+    ghost use Rattle.key_schedule.specs.Purpose.{Purpose, iv_of, key_of};
+    ghost use Rattle.secured_record.specs.Faults.{opened_text};
     ghost use Rattle.spdm_grammar.specs.declared.choice.Choice.{Choice};
     ghost use Rattle.spdm_machine.specs.Keys.{inner_message, record_fault};
     ghost use Rattle.responder_session.specs.OwnAnswers.{IsAnswerKey};
@@ -34,6 +35,20 @@ impl AnswerKey {
         ensures unchanged { OnErr result (out.new ≡ out.old) }
     {
         open_record(&self.key, self.id, self.number, sealed, out)
+    }
+
+    /// Writes the text of a record of this answer in place of what `out` holds: the length of its
+    /// inner message as two bytes, the lowest first, that message, and the padding. Whether the
+    /// record opens is not tested.
+    pub fn text(&self, sealed: &[u8], out: &mut RecordFrame)
+        requires least { 26 ≤ length sealed.now }
+        requires most { length sealed.now ≤ 4160 }
+        ensures { (choice : Choice) (p : Purpose) (number : ℕ) (id : List ℕ)
+            → IsAnswerKey self.now choice p number id
+            → out.new ≡ opened_text (key_of choice.hash choice.aead p) (iv_of choice.hash p)
+            number sealed.now }
+    {
+        self.key.text(self.number, sealed, out);
     }
 
     // The first answer under the next key, where epochs are left.

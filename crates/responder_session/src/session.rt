@@ -127,6 +127,16 @@ impl RspSession {
         }
     }
 
+    /// What it stands under.
+    pub fn terms(&self) -> SessionTerms
+        ensures choice { (psk : List ℕ) (s : Events) → StandsFor self.now psk s
+            → result.choice ≡ (session_terms s).choice }
+        ensures common { (psk : List ℕ) (s : Events) → StandsFor self.now psk s
+            → result.common ≡ (session_terms s).common }
+    {
+        self.kept.terms
+    }
+
     /// The record that answered the last record taken; none exactly in a handshake that has taken
     /// no record.
     pub fn reply(&self) -> Option<&[u8]>

@@ -215,6 +215,24 @@ fn open_text(
     Ok(())
 }
 
+// Decrypts the text of a record, in place of what `out` holds.
+#[tactic(auto, unfolding(crate::specs::Faults::opened_text))]
+pub fn decrypt_text(
+    cipher: &RecordCipher,
+    iv: &[u8; 12],
+    number: u16,
+    sealed: &[u8],
+    out: &mut RecordFrame,
+)
+    requires least { 26 ≤ length sealed.now }
+    requires most { length sealed.now ≤ 4160 }
+    ensures { out.new ≡ opened_text (cipher_key cipher.now) iv.now number sealed.now }
+{
+    out.clear();
+    let _ = out.extend(text_part(sealed));
+    cipher.crypt(&nonce(iv, number), out.as_mut_slice());
+}
+
 // Opens a record under a cipher.
 #[tactic(auto, unfolding(crate::specs::Faults::fault_of, crate::specs::Faults::inner_of, crate::specs::Faults::opened_text))]
 fn open_record(

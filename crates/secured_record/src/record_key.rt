@@ -5,10 +5,10 @@ ghost use Rattle.key_schedule.specs.Schedule.{updated_secret};
 ghost use Rattle.key_schedule.specs.Purpose.{Purpose, IsSecretOf};
 ghost use Rattle.secured_record.specs.Format.{key_of, iv_of, record_of};
 ghost use Rattle.secured_record.specs.Contents.{IsRecordOf};
-ghost use Rattle.secured_record.specs.Faults.{fault_of, inner_of};
+ghost use Rattle.secured_record.specs.Faults.{fault_of, inner_of, opened_text};
 
 use crate::aead::RecordCipher;
-use crate::opening::open_by;
+use crate::opening::{decrypt_text, open_by};
 use crate::sealing::seal_within;
 use crate::{RecordFault, TooLong};
 use key_schedule::DirectionKey;
@@ -146,5 +146,16 @@ impl RecordKey {
             → length sealed.now ≤ 4160 → IsOk result × (out.new ≡ inner) }
     {
         open_by(&self.cipher, self.direction.iv(), id, number, sealed, out)
+    }
+
+    /// Writes the text of a record in place of what `out` holds: the length of its inner message as
+    /// two bytes, the lowest first, that message, and the padding. Whether the record opens is not
+    /// tested.
+    pub fn text(&self, number: u16, sealed: &[u8], out: &mut RecordFrame)
+        requires least { 26 ≤ length sealed.now }
+        requires most { length sealed.now ≤ 4160 }
+        ensures { out.new ≡ opened_text (key_of self.now) (iv_of self.now) number sealed.now }
+    {
+        decrypt_text(&self.cipher, self.direction.iv(), number, sealed, out);
     }
 }

@@ -6,9 +6,12 @@ use Rattle.std.specs.List.{AllByRecursion}
 use Rattle.trace_check.proofs.IdleRows.{idle_rows_stay}
 use Rattle.trace_check.proofs.OrderedRows.{other_places_stay}
 use Rattle.trace_check.proofs.PairWalks.{stays_in}
-use Rattle.trace_check.specs.Rows.{HaveAllPlaces, OneChangesRows, OneKeepsPlaces, StandFor, TableBegins, TableIsShown}
+use Rattle.trace_check.specs.Rows.{HaveAllPlaces, OneChangesRows, OneKeepsPlaces, RowsAreOfAll, StandFor, TableBegins, TableIsShown}
+use Rattle.world_machine.proofs.Captures.{shows_rows}
+use Rattle.world_machine.proofs.Walks.{shows_all}
+use Rattle.world_machine.proofs.WalksAlike.{BothAlike, kept}
 use Rattle.world_machine.specs.Rounds.{Dialogue, dialogue_at, replaced, with_dialogue}
-use Rattle.world_machine.specs.SessionTable.{Row, rows_after, rows_between}
+use Rattle.world_machine.specs.SessionTable.{LeadsShowing, Row, rows_after, rows_between}
 
 -- ---- The others.
 
@@ -86,3 +89,10 @@ table_begins w = record { entries = refl; counts = tt }
 
 pub table_is_shown : TableIsShown
 table_is_shown w packets ds rows n table shows stands = (ds, rows, shows, stands.entries)
+
+-- All walks over the same packets show the same rows.
+pub rows_are_of_all : RowsAreOfAll
+rows_are_of_all w older ds es rows shown leads =
+    let own = shows_rows w older es leads in
+    let same = (shows_all BothAlike w (kept w) older ds es rows own.0 shown own.1).1 in
+    subst (LeadsShowing w older es) (sym same) own.1

@@ -19,6 +19,7 @@ use Rattle.world_machine.proofs.FetchedSessions.{InSession, IsOfSession}
 use Rattle.world_machine.specs.CapturedAnswers.{AreShown, MayHaveLed, MayLeadAfter, request_in, tag_in}
 use Rattle.world_machine.specs.LargeAnswers.{dropped_before_large, effect_with, entry_with, is_large, takes_get, with_large}
 use Rattle.world_machine.specs.SessionTable.{begins, begun_count, last_begun}
+use Rattle.world_machine.proofs.FetchStates.{handle_with}
 
 -- Neither GET_VERSION nor PSK_EXCHANGE took effect with the entry, a clear message.
 abbrev pub IsQuiet : Entry → Type 0
@@ -89,11 +90,6 @@ get_begins n (Ticked seconds) h gets b = absurd (false≢true gets)
 get_begins n (Dropped id) h gets b = absurd (false≢true gets)
 
 -- ---- The large answer itself.
-
-handle_with : (w : List ℕ) (x : Effect) → handle_in (effect_with w x) ≡ handle_in x
-handle_with w NoEffect = refl
-handle_with w (Took asked request answer large) = refl
-handle_with w (TookData bytes answer) = refl
 
 pub is_large_with : (w : List ℕ) (e : Entry) → is_large (entry_with w e) ≡ is_large e
 is_large_with w (Clear tag t d) = ap is_some (handle_with w t.effect)

@@ -32,6 +32,7 @@ use Rattle.trace_check.specs.Asker.{is_first_chunk}
 use Rattle.trace_check.specs.Commanded.{IsToldAs, is_in_clear}
 use Rattle.world_machine.proofs.AskTells.{same_sent}
 use Rattle.world_machine.specs.Rounds.{no_draw}
+use Rattle.world_machine.proofs.AskersBegin.{not_four}
 
 -- ---- What it adds.
 
@@ -115,9 +116,6 @@ told_by q h c f body (Err why) out new clear did = record {
 shown_live : (s : Steps) → is_some (shown_of s) ≡ true → is_live s ≡ true
 shown_live [] is = absurd (false≢true is)
 shown_live (step ∷ s) is = refl
-
-not_four : (n : ℕ) → (n == 4) ≡ false → n ≢ 4
-not_four n is = grind (arith, nat_tests)
 
 -- Beside a session with it four are live.
 pub taken_id : (q : ReqSetup) (h : History) (f : Free) → is_some (shown_of (session_of f.id h)) ≡ true → IsAllowed q h f → live_count h ≡ 4

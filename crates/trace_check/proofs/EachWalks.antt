@@ -179,7 +179,7 @@ have_each w older (q ∷ qs) (d ∷ ds) each = ((d, each.0), have_each w older q
 have_each w older [] (d ∷ ds) each = absurd each
 have_each w older (q ∷ qs) [] each = absurd each
 
-each_had : (w : Configuration) (older : List (List ℕ)) (qs : List ReqSetup) → HaveWalks w older qs → (ds : List Dialogue) × WalkEach w older qs ds
+pub each_had : (w : Configuration) (older : List (List ℕ)) (qs : List ReqSetup) → HaveWalks w older qs → (ds : List Dialogue) × WalkEach w older qs ds
 each_had w older [] have = ([], tt)
 each_had w older (q ∷ qs) have = let rest = each_had w older qs have.1 in (have.0.0 ∷ rest.0, (have.0.1, rest.1))
 

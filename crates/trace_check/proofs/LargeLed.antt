@@ -32,6 +32,7 @@ use Rattle.world_machine.proofs.RecordAdds.{entry_in, record_added}
 use Rattle.world_machine.specs.CapturedAnswers.{MayLeadTo, answer_to, clear_answer, record_answer}
 use Rattle.world_machine.specs.LargeAnswers.{is_large}
 use Rattle.world_machine.specs.Rounds.{no_draw}
+use Rattle.world_machine.proofs.LargeTells.{ended_stay}
 
 -- An entry with the same LargeResponse may be led to.
 pub record Leads (r : RspSetup) (h : History) (tag : ℕ) (body : List ℕ) (e : Entry) : Type 0 where
@@ -178,10 +179,6 @@ live_stays (other ∷ ids) h id live = by_id (other == id) (live_stays ids (Drop
         → session_of id (with_dropped (Dropped other ∷ h) ids) ≡ session_of id h
     by_id true same live = absurd (false≢true (sym (ap is_live same) ∙ live))
     by_id false same live = same
-
-ended_stay : (ids : List ℕ) (h : History) → ended_of (with_dropped h ids) ≡ ended_of h
-ended_stay [] h = refl
-ended_stay (id ∷ ids) h = ended_stay ids (Dropped id ∷ h)
 
 -- What a record leads to, by what it looks at.
 abbrev record_on : RspSetup → ℕ → List ℕ → Free → (ended : Option KeptRecord) → List Turn → Events → Outcome

@@ -36,6 +36,7 @@ pub mod AnsweredOn
 pub mod GoingOn
 pub mod PairWalks
 pub mod EachWalks
+pub mod ReasonsEach
 pub mod Sealing
 pub mod OneWalk
 pub mod Repadding
@@ -82,6 +83,15 @@ pub mod ShortAnswers
 pub mod AllowedTold
 pub mod LargeReplies
 pub mod ClearAnswered
+pub mod ResponseRead
+pub mod ClearShown
+pub mod AnyAnswers
+pub mod LastTold
+pub mod RecordShown
+pub mod KeysKept
+pub mod KeysFollow
+pub mod HearsKept
+pub mod KeysOpen
 pub mod AskedIds
 pub mod SealedRead
 pub mod SealedSent

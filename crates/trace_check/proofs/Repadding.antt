@@ -29,6 +29,7 @@ use Rattle.world_machine.specs.CapturedRequests.{is_later}
 use Rattle.requester_machine.specs.Owed.{with_next}
 use Rattle.world_machine.specs.LargeAnswers.{is_fetching}
 use Rattle.world_machine.specs.Rounds.{Round, no_draw}
+use Rattle.world_machine.proofs.AskersAlike.{led_next}
 
 -- The history with this padding in the message that its newest entry sent.
 abbrev pub repadded : (psk : List ℕ) → (pad : List ℕ) → History → History
@@ -52,14 +53,11 @@ next_same (Told command sent d) h o is = refl
 next_same (TookClear tag m led d) h o is = ap (λ (x : Option Sent). TookClear tag m (record led { next = x }) d ∷ h) (sym is)
 next_same (TookRecord tag id sealed inner led d) h o is = ap (λ (x : Option Sent). TookRecord tag id sealed inner (record led { next = x }) d ∷ h) (sym is)
 
-led_with : (l m : Led) (o : Option Sent) → LedAlike l m → record l { next = o } ≡ record m { next = o }
-led_with l m o a = let event = a.event in let effect = a.effect in cc
-
 entry_with : (e f : Entry) (h : History) (o : Option Sent) → EntryAlike e f → with_next o (e ∷ h) ≡ with_next o (f ∷ h)
 entry_with (TookClear tag m led d) (TookClear tag' m' led' d') h o a =
-    let l = led_with led led' o a.2 in let x = a.0 in let y = a.1 in let z = a.3 in cc
+    let l = led_next led led' o a.2 in let x = a.0 in let y = a.1 in let z = a.3 in cc
 entry_with (TookRecord tag id sealed inner led d) (TookRecord tag' id' sealed' inner' led' d') h o a =
-    let l = led_with led led' o a.4 in let x = a.0 in let y = a.1 in let z = a.2 in let u = a.3 in let n = a.5 in cc
+    let l = led_next led led' o a.4 in let x = a.0 in let y = a.1 in let z = a.2 in let u = a.3 in let n = a.5 in cc
 entry_with (Told c s d) f h o a = absurd a
 entry_with (TookClear tag m led d) (Told c s x) h o a = absurd a
 entry_with (TookClear tag m led d) (TookRecord tag' id' sealed' inner' led' d') h o a = absurd a

@@ -41,7 +41,7 @@ use Rattle.world_machine.proofs.FetchStates.Getting.{Asks, Repeats, Seals}
 use Rattle.world_machine.proofs.FetchedAnswers.{again_none, always_none, repeated, turn_code}
 use Rattle.world_machine.proofs.FetchedSessions.{InSession, IsOfSession}
 use Rattle.world_machine.proofs.FetchedTells.{ReadsAlways, get_reads}
-use Rattle.world_machine.proofs.Fetching.{IsSound, asks_sound, begins_sound, replies_sound}
+use Rattle.world_machine.proofs.Fetching.{IsSound, asks_sound, begins_sound, replies_sound, while_parts}
 use Rattle.world_machine.proofs.PlainTells.{led_clear}
 use Rattle.world_machine.specs.Capture.{AsksBy, Begins as BeginsRound, Copies, Replies, RepliesBy}
 use Rattle.world_machine.specs.CapturedAnswers.{Answers, AreShown, MayHaveLed, MayLeadAfter, is_plain}
@@ -226,10 +226,6 @@ asks_moved d More next held asks = stays_moved d next held asks
 asks_moved d (Dropped cause) next held asks = absurd asks
 
 -- ---- An answer.
-
-while_parts : (b : Bool) (fetching : Option (List ℕ)) (x : List ℕ) → cond b fetching None ≡ Some x → (b ≡ true) × (fetching ≡ Some x)
-while_parts true fetching x is = (refl, is)
-while_parts false fetching x is = absurd (none-some x is)
 
 still_fetched : (w : Configuration) (d : Dialogue) (tag : ℕ) (answer : List ℕ) (next : Dialogue) → IsSound d → (c : Replies w d tag answer next) → is_fetching (outstanding c.4.3.0) ≡ true → (v : List ℕ) → d.fetching ≡ Some v → Fetch d.responder v c.0.tag c.0.body
 still_fetched w d tag answer next sound c gets v at =

@@ -11,6 +11,7 @@ pub mod Walks
 pub mod Padding
 pub mod Keeping
 pub mod Refusing
+pub mod ReasonsEach
 pub mod Showing
 pub mod AnswersShown
 pub mod DropsShown
@@ -24,3 +25,6 @@ pub mod SealedTold
 pub mod Asked
 pub mod RefusedRequest
 pub mod Answerer
+pub mod ShownBy
+pub mod AnswerKeys
+pub mod HeardKept

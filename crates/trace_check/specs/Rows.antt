@@ -9,6 +9,7 @@ use Rattle.trace_check.specs.Verdict.{seen_of}
 use Rattle.trace_check.specs.declared.change.Change.{Change}
 use Rattle.trace_check.specs.declared.places.Places.{Places}
 use Rattle.trace_check.specs.declared.verdict.Seen.{Seen}
+use Rattle.world_machine.specs.Capture.{Leads}
 use Rattle.world_machine.specs.Rounds.{Dialogue, dialogue_at, with_dialogue}
 use Rattle.world_machine.specs.SessionTable.{HasTable, LeadsShowing, Row, is_named, responder_id, rows_after, rows_between, seen}
 use Rattle.world_machine.specs.Setup.{Configuration}
@@ -181,6 +182,11 @@ abbrev pub OneKeepsPlaces : Type 0
 OneKeepsPlaces = (ds : List Dialogue) (before after : Dialogue) (rows : List Row) (places : Places) → AreDistinct ds
     → dialogue_at after.setup.eid ds ≡ Some before → HaveAllPlaces ds rows
     → StandFor places after (rows_between before after rows) → HaveAllPlaces (with_dialogue after ds) (rows_between before after rows)
+
+-- All walks over the same packets show the same rows.
+abbrev pub RowsAreOfAll : Type 0
+RowsAreOfAll = (w : Configuration) (older : List (List ℕ)) (ds es : List Dialogue) (rows : List Row)
+    → LeadsShowing w older ds rows → Leads w older es → LeadsShowing w older es rows
 
 -- Before the first packet there are no entries.
 abbrev pub TableBegins : Type 0

@@ -10,6 +10,7 @@ ghost use Rattle.trace_check.specs.Keeping.{AsksAreKept, ConnectsAlways, KeptAsk
 ghost use Rattle.trace_check.specs.LargeShown.{LargeIsShown, LastIsShown};
 ghost use Rattle.trace_check.specs.Laws.{OneRound, OrderIsAlone, OrderIsReason, OrderRefuses, OrderTells, SealedTells};
 ghost use Rattle.trace_check.specs.Padding.{OwedIsPadded, PaddingIsFree};
+ghost use Rattle.trace_check.specs.ReasonsEach.{AnsweredReasonIsEach, AskedReasonIsEach};
 ghost use Rattle.trace_check.specs.Refusing.{KeptTellsApart, KeptTellsReason, KeptTellsWhy};
 ghost use Rattle.trace_check.specs.RepliesShown.{RepliesAreShown};
 ghost use Rattle.trace_check.specs.RepliesTold.{RepliesAreTold};
@@ -190,6 +191,16 @@ pub fn kept_tells_apart()
 /// What is kept of all requesters tells the reason of a refused packet.
 pub fn kept_tells_reason()
     ensures { KeptTellsReason }
+{}
+
+/// Why a request is refused hangs on its requester alone.
+pub fn asked_reason_is_each()
+    ensures { AskedReasonIsEach }
+{}
+
+/// Why an answer is refused hangs on the requester that it is for alone.
+pub fn answered_reason_is_each()
+    ensures { AnsweredReasonIsEach }
 {}
 
 /// A record under one key, number and id tells its inner message and its padding.

@@ -5,9 +5,12 @@
 //! `Order::take`; `Asker` judges the requests of one requester.
 #![tactic(auto)]
 
+mod answer_keys;
 mod answer_length;
+mod answer_reasons;
 mod answerer;
 mod asker;
+mod asker_hears;
 mod asker_setup;
 mod bodies;
 mod brought;
@@ -15,13 +18,16 @@ mod change;
 mod change_laws;
 mod choosing;
 mod clear_commands;
+mod clear_values;
 mod laws;
 mod order;
 mod owed_messages;
 mod pair;
 mod places;
+mod record_values;
 mod request_reasons;
 mod requests;
+mod response_values;
 mod round;
 mod row_laws;
 mod rows;
@@ -31,6 +37,7 @@ mod shown_fields;
 mod shown_values;
 mod verdict;
 
+pub use answer_keys::AnswerKeys;
 pub use answerer::Answerer;
 pub use asker::Asker;
 pub use brought::Brought;
@@ -41,21 +48,22 @@ pub use change_laws::{
     whole_answer_changes,
 };
 pub use laws::{
-    answers_are_shown, apart_is_shown, asks_are_kept, asks_go_on, clear_is_shown, conforms_is_each,
-    connects_always, goes_on_from_each, kept_asks, kept_begins, kept_is_restored, kept_replies,
-    kept_stays, kept_tells_apart, kept_tells_reason, kept_tells_why, large_are_shown,
-    large_is_shown, last_is_shown, leads_is_each, more_conforms, one_round, one_verdict,
-    order_is_alone, order_is_reason, order_refuses, order_tells, owed_is_padded, padding_is_free,
-    plain_is_shown, replies_are_kept, replies_are_shown, replies_are_told, replies_go_on,
-    sealed_is_shown, sealed_tells,
+    answered_reason_is_each, answers_are_shown, apart_is_shown, asked_reason_is_each,
+    asks_are_kept, asks_go_on, clear_is_shown, conforms_is_each, connects_always,
+    goes_on_from_each, kept_asks, kept_begins, kept_is_restored, kept_replies, kept_stays,
+    kept_tells_apart, kept_tells_reason, kept_tells_why, large_are_shown, large_is_shown,
+    last_is_shown, leads_is_each, more_conforms, one_round, one_verdict, order_is_alone,
+    order_is_reason, order_refuses, order_tells, owed_is_padded, padding_is_free, plain_is_shown,
+    replies_are_kept, replies_are_shown, replies_are_told, replies_go_on, sealed_is_shown,
+    sealed_tells,
 };
 pub use order::Order;
 pub use pair::Pair;
 pub use places::Places;
 pub use round::Round;
 pub use row_laws::{
-    idle_rows_stay, one_changes_rows, one_keeps_places, other_places_stay, table_begins,
-    table_is_shown, walks_step,
+    idle_rows_stay, one_changes_rows, one_keeps_places, other_places_stay, rows_are_of_all,
+    table_begins, table_is_shown, walks_step,
 };
 pub use script_text::Why;
 pub use verdict::{Seen, SessionTable, Verdict};

@@ -2,7 +2,7 @@
 //! does nothing.
 
 ghost use Rattle.trace_check.specs.Changes.{WalksStep};
-ghost use Rattle.trace_check.specs.Rows.{IdleRowsStay, OneChangesRows, OneKeepsPlaces, OtherPlacesStay, TableBegins, TableIsShown};
+ghost use Rattle.trace_check.specs.Rows.{IdleRowsStay, OneChangesRows, OneKeepsPlaces, OtherPlacesStay, RowsAreOfAll, TableBegins, TableIsShown};
 
 /// A packet of one requester leaves where the entries of another stand.
 pub fn other_places_stay()
@@ -27,6 +27,11 @@ pub fn one_changes_rows()
 /// Where its requester has places then, all have.
 pub fn one_keeps_places()
     ensures { OneKeepsPlaces }
+{}
+
+/// All walks over the same packets show the same rows.
+pub fn rows_are_of_all()
+    ensures { RowsAreOfAll }
 {}
 
 /// An empty table stands for the rows before the first packet.

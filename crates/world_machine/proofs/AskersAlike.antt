@@ -103,7 +103,7 @@ entry_told (TookClear tag m led d) (TookRecord tag' id' sealed' inner' led' d') 
 entry_told (TookRecord tag id sealed inner led d) (Told c s x) a same = absurd a
 entry_told (TookRecord tag id sealed inner led d) (TookClear tag' m' led' d') a same = absurd a
 
-led_next : (l m : Led) (o : Option Sent) → LedAlike l m → record l { next = o } ≡ record m { next = o }
+pub led_next : (l m : Led) (o : Option Sent) → LedAlike l m → record l { next = o } ≡ record m { next = o }
 led_next l m o a = let event = a.event in let effect = a.effect in cc
 
 -- With one message in their place, or with none, histories agree.

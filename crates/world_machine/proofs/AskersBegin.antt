@@ -89,7 +89,7 @@ dead : (s : Steps) → is_live s ≡ false → is_accepted s ≡ false
 dead [] e = refl
 dead (x ∷ s) e = absurd (false≢true (sym e))
 
-not_four : (n : ℕ) → (n == 4) ≡ false → n ≢ 4
+pub not_four : (n : ℕ) → (n == 4) ≡ false → n ≢ 4
 not_four n is = grind (arith, nat_tests)
 
 begun_stays : (id : ℕ) (n : Negotiation) (x : ExchangeMessage) (s : Steps) (b : Bool) → (b ≡ true → is_live s ≡ false) → StaysOr (cond b (Started n (canonical_request (PskExchange x)) ∷ []) s) s

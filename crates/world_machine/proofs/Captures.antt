@@ -19,13 +19,13 @@ beginning w earlier later conforms =
     leads_before w (reverse later) (reverse earlier) conforms.0 (subst P (reverse-append earlier later) conforms.1)
 
 -- What packets lead to shows some rows.
-shows_rows : (w : Configuration) (packets : List (List ℕ)) (ds : List Dialogue) → Leads w packets ds → (rows : List Row) × LeadsShowing w packets ds rows
+pub shows_rows : (w : Configuration) (packets : List (List ℕ)) (ds : List Dialogue) → Leads w packets ds → (rows : List Row) × LeadsShowing w packets ds rows
 shows_rows w [] ds leads = ([], (leads, refl))
 shows_rows w (packet ∷ older) ds leads =
     let earlier = shows_rows w older leads.0 leads.1 in
     (rows_after leads.0 ds earlier.0, (leads.0, earlier.0, earlier.1, leads.2, refl))
 
-leads_too : (w : Configuration) (packets : List (List ℕ)) (ds : List Dialogue) (rows : List Row) → LeadsShowing w packets ds rows → Leads w packets ds
+pub leads_too : (w : Configuration) (packets : List (List ℕ)) (ds : List Dialogue) (rows : List Row) → LeadsShowing w packets ds rows → Leads w packets ds
 leads_too w [] ds rows shown = shown.0
 leads_too w (packet ∷ older) ds rows shown = (shown.0, leads_too w older shown.0 shown.1 shown.2, shown.3)
 

@@ -146,7 +146,7 @@ module _ (r : RspSetup) (h : History) (w : List ℕ) (tag : ℕ) (body : List �
 
 -- ---- A LargeResponse.
 
-handle_with : (w : List ℕ) (x : Effect) → handle_in (effect_with w x) ≡ handle_in x
+pub handle_with : (w : List ℕ) (x : Effect) → handle_in (effect_with w x) ≡ handle_in x
 handle_with w NoEffect = refl
 handle_with w (Took a m answer large) = refl
 handle_with w (TookData bytes answer) = refl

@@ -191,7 +191,7 @@ answers_fetch r d round answer next fetching x (inr (inl a)) is old =
     (large_begins r (with_dropped (judging d.fetching d.responder) a.1.0) d.responder a.0 round.tag round.body a.1.1 a.1.2.1 a.1.3))
 answers_fetch r d round answer next fetching x (inr (inr a)) is old = absurd (none-some x (sym a.1 ∙ is))
 
-while_parts : (b : Bool) (fetching : Option (List ℕ)) (x : List ℕ) → cond b fetching None ≡ Some x → (b ≡ true) × (fetching ≡ Some x)
+pub while_parts : (b : Bool) (fetching : Option (List ℕ)) (x : List ℕ) → cond b fetching None ≡ Some x → (b ≡ true) × (fetching ≡ Some x)
 while_parts true fetching x is = (refl, is)
 while_parts false fetching x is = absurd (none-some x is)
 

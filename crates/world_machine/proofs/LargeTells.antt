@@ -30,7 +30,7 @@ use Rattle.spdm_basis.proofs.Bools.{and_first, and_second}
 
 -- ---- A record that adds an entry comes to a session that was not dropped.
 
-ended_stay : (ids : List ℕ) (h : History) → ended_of (with_dropped h ids) ≡ ended_of h
+pub ended_stay : (ids : List ℕ) (h : History) → ended_of (with_dropped h ids) ≡ ended_of h
 ended_stay [] h = refl
 ended_stay (id ∷ ids) h = ended_stay ids (Dropped id ∷ h)
 

@@ -1,6 +1,6 @@
 pub mod Logs
 mod Rows
-mod Captures
+pub mod Captures
 mod Differences
 pub mod Walks
 pub mod Agrees

@@ -131,7 +131,7 @@ rows_all R w k (d ∷ ds) [] after other rows all next = absurd all
 rows_all R w k (d ∷ ds) (e ∷ es) [] (y ∷ ys) rows all next = absurd next
 rows_all R w k (d ∷ ds) (e ∷ es) (x ∷ xs) [] rows all next = absurd next
 
-shows_all : (R : Dialogue → Dialogue → Type 0) (w : Configuration) → IsKept w R → (packets : List (List ℕ)) (ds es : List Dialogue) (rows others : List Row)
+pub shows_all : (R : Dialogue → Dialogue → Type 0) (w : Configuration) → IsKept w R → (packets : List (List ℕ)) (ds es : List Dialogue) (rows others : List Row)
     → LeadsShowing w packets ds rows → LeadsShowing w packets es others → All R ds es × (rows ≡ others)
 unfolding Follows
 shows_all R w k [] ds es rows others c h =
