@@ -103,6 +103,7 @@ pub mod FinishApart
 pub mod ReasonsKept
 pub mod ClearAsked
 pub mod ClearJudged
+pub mod ClearAnew
 pub mod ShownDrops
 pub mod ApartLengths
 pub mod ApartJudged
