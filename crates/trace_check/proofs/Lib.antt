@@ -92,3 +92,4 @@ pub mod KeysKept
 pub mod KeysFollow
 pub mod HearsKept
 pub mod KeysOpen
+pub mod RequestSteps

@@ -25,3 +25,4 @@ pub mod Answerer
 pub mod ShownBy
 pub mod AnswerKeys
 pub mod HeardKept
+pub mod KeptChanges

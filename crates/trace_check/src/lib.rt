@@ -18,6 +18,7 @@ mod change_laws;
 mod choosing;
 mod clear_commands;
 mod clear_values;
+mod kept_changes;
 mod laws;
 mod order;
 mod owed_messages;
@@ -42,6 +43,7 @@ pub use change_laws::{
     large_answer_changes, last_chunk_changes, request_changes, round_is_request,
     whole_answer_changes,
 };
+pub use kept_changes::{kept_copy_is_request, kept_round_is_request};
 pub use laws::{
     answered_reason_is_each, answers_are_shown, apart_is_shown, asked_reason_is_each,
     asks_are_kept, asks_go_on, clear_is_shown, conforms_is_each, connects_always,
