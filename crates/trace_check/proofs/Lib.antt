@@ -93,3 +93,12 @@ pub mod KeysFollow
 pub mod HearsKept
 pub mod KeysOpen
 pub mod RequestSteps
+pub mod AskedIds
+pub mod SealedRead
+pub mod SealedSent
+pub mod SealedJudged
+pub mod SentBy
+pub mod AskedBy
+pub mod OpensAsking
+pub mod FinishApart
+pub mod ReasonsKept
