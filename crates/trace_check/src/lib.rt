@@ -21,9 +21,11 @@ mod clear_commands;
 mod clear_values;
 mod kept_changes;
 mod laws;
+mod onward;
 mod order;
 mod owed_messages;
 mod pair;
+mod party;
 mod places;
 mod record_values;
 mod request_reasons;
@@ -59,8 +61,10 @@ pub use laws::{
     replies_are_kept, replies_are_shown, replies_are_told, replies_go_on, sealed_is_shown,
     sealed_tells,
 };
+pub use onward::Onward;
 pub use order::Order;
 pub use pair::Pair;
+pub use party::Party;
 pub use places::Places;
 pub use round::Round;
 pub use row_laws::{
