@@ -104,3 +104,8 @@ pub mod AskedBy
 pub mod OpensAsking
 pub mod FinishApart
 pub mod ReasonsKept
+pub mod ClearAsked
+pub mod ClearJudged
+pub mod ShownDrops
+pub mod ApartLengths
+pub mod ApartJudged

@@ -30,3 +30,4 @@ pub mod AnswerKeys
 pub mod HeardKept
 pub mod Party
 pub mod KeptChanges
+pub mod ClearAnswers

@@ -9,6 +9,8 @@ mod answer_keys;
 mod answer_length;
 mod answer_reasons;
 mod answerer;
+mod apart;
+mod asked;
 mod asker;
 mod asker_hears;
 mod asker_setup;
@@ -17,9 +19,12 @@ mod brought;
 mod change;
 mod change_laws;
 mod choosing;
+mod clear_answers;
 mod clear_commands;
+mod clear_judged;
 mod clear_values;
 mod kept_changes;
+mod given;
 mod laws;
 mod onward;
 mod order;
@@ -51,6 +56,7 @@ pub use change_laws::{
     whole_answer_changes,
 };
 pub use kept_changes::{kept_copy_is_request, kept_round_is_request};
+pub use given::{Given, Judged};
 pub use laws::{
     answered_reason_is_each, answers_are_shown, apart_is_shown, asked_reason_is_each,
     asks_are_kept, asks_go_on, clear_is_shown, conforms_is_each, connects_always,
