@@ -91,7 +91,10 @@ pub mod RecordShown
 pub mod KeysKept
 pub mod KeysFollow
 pub mod HearsKept
+pub mod InTurn
+pub mod PartyAsked
 pub mod KeysOpen
+pub mod RequestSteps
 pub mod AskedIds
 pub mod SealedRead
 pub mod SealedSent

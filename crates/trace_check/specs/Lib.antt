@@ -28,4 +28,6 @@ pub mod Answerer
 pub mod ShownBy
 pub mod AnswerKeys
 pub mod HeardKept
+pub mod Party
+pub mod KeptChanges
 pub mod ClearAnswers

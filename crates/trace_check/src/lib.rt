@@ -24,10 +24,13 @@ mod clear_commands;
 mod clear_judged;
 mod clear_values;
 mod given;
+mod kept_changes;
 mod laws;
+mod onward;
 mod order;
 mod owed_messages;
 mod pair;
+mod party;
 mod places;
 mod record_values;
 mod request_reasons;
@@ -53,6 +56,7 @@ pub use change_laws::{
     whole_answer_changes,
 };
 pub use given::{Given, Judged};
+pub use kept_changes::{kept_copy_is_request, kept_round_is_request};
 pub use laws::{
     answered_reason_is_each, answers_are_shown, apart_is_shown, asked_reason_is_each,
     asks_are_kept, asks_go_on, clear_is_shown, conforms_is_each, connects_always,
@@ -63,8 +67,10 @@ pub use laws::{
     replies_are_kept, replies_are_shown, replies_are_told, replies_go_on, sealed_is_shown,
     sealed_tells,
 };
+pub use onward::Onward;
 pub use order::Order;
 pub use pair::Pair;
+pub use party::Party;
 pub use places::Places;
 pub use round::Round;
 pub use row_laws::{

@@ -85,7 +85,7 @@ impl Asker {
     }
 
     /// Why a body is refused as a request in turn, whatever it is.
-    pub fn why(&mut self, body: &[u8]) -> Why
+    pub(crate) fn why(&mut self, body: &[u8]) -> Why
         ensures why { (w : Configuration) (q : ReqSetup) (older : List (List ℕ)) (k : Kept)
             → Keeps w q older k → length older < 2 ^ 64 - 1 → IsAsker self.old q k
             → IsRefusedFor (restored k) body.now (why_of result) }
