@@ -81,9 +81,9 @@ module _ (r : RspSetup) (h : History) (m reply : List ℕ) where
   read_whole c f (Some values) some free = free
 
   -- What is acknowledged is not refused.
-  taken : (f : Free) (o : Option ErrorCode) → (turn_by r p m f o (chunk_in (request_at p m))).reply ≡ reply → slice_index reply 1 ≡ CHUNK_SEND_ACK → o ≡ None
+  taken : (f : Free) (o : Option ErrorCode) → slice_index (turn_by r p m f o (chunk_in (request_at p m))).reply 1 ≡ slice_index reply 1 → slice_index reply 1 ≡ CHUNK_SEND_ACK → o ≡ None
   taken f None is ack = refl
-  taken f (Some e) is ack = absurd (let other = ap (λ (l : List ℕ). slice_index l 1) is ∙ ack in omega (arith, other))
+  taken f (Some e) is ack = absurd (let other = is ∙ ack in omega (arith, other))
 
   acked_taken : (f : Free) → AnswersSo r h m reply f → slice_index reply 1 ≡ CHUNK_SEND_ACK → refusal r p m f ≡ None
   unfolding turn_of

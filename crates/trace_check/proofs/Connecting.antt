@@ -43,11 +43,11 @@ pub some_allowed : (q : ReqSetup) (h : History) → IsSetUp q → IsAllowed q h 
 some_allowed q h set_up = with_allowed q h [] set_up (omega arith)
 
 -- No test refuses Connect.
-connects : (q : ReqSetup) (h : History) (f : Free) → asks false q h Connect f no_draw ≡ Adds (Told Connect (plain_sent h GetVersion) no_draw)
+pub connects : (q : ReqSetup) (h : History) (f : Free) → asks false q h Connect f no_draw ≡ Adds (Told Connect (plain_sent h GetVersion) no_draw)
 unfolding asks command_fault
 connects q h f = refl
 
-version_told : (q : ReqSetup) (h : History) → IsSetUp q → Tells q h Connect (clear_body (canonical_request GetVersion)) (Told Connect (plain_sent h GetVersion) no_draw ∷ h)
+pub version_told : (q : ReqSetup) (h : History) → IsSetUp q → Tells q h Connect (clear_body (canonical_request GetVersion)) (Told Connect (plain_sent h GetVersion) no_draw ∷ h)
 version_told q h set_up = (
   plain_sent h GetVersion,
   (some_values q h, some_allowed q h set_up, connects q h (some_values q h)),

@@ -82,7 +82,7 @@ reply_begins r p m f none small =
     (ap id_begun reply ∙ known.0 ∙ sym (ap begun_by effect), ap (λ (l : List ℕ). id_begun (response_of l)) reply ∙ known.1 ∙ sym (ap begun_by effect))
 
 -- The reply to a message shows the id of the session that its turn begins.
-abbrev Begins : Turn → Type 0
+abbrev pub Begins : Turn → Type 0
 Begins t = id_begun (response_of t.reply) ≡ begun_by t.effect
 
 module _ (r : RspSetup) (p : Place) (m : List ℕ) (f : Free) where
@@ -100,7 +100,7 @@ module _ (r : RspSetup) (p : Place) (m : List ℕ) (f : Free) where
   by_begins None None is small = (reply_begins r p m f is small).1
   by_begins None (Some c) is small = chunk_begins c (joined_with (under_way (chunks_of p.turns)) c) c.last small
 
-  turn_begins : is_some (handle_in (turn_of r p m f).effect) ≡ false → Begins (turn_of r p m f)
+  pub turn_begins : is_some (handle_in (turn_of r p m f).effect) ≡ false → Begins (turn_of r p m f)
   unfolding turn_of
   turn_begins small = by_begins (refusal r p m f) (chunk_in (request_at p m)) refl small
 

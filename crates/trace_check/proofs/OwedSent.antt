@@ -1,5 +1,5 @@
 -- Whether a body is the message that a requester owes.
-use Rattle.std.proofs.Common.{◌≡◌, ◌≢◌, ◌≤◌, ◌<◌, ◌-◌, ◌*◌, ◌/◌, ◌%◌, ◌∙◌, ℕ, List, [], ◌∷◌, refl, sym, ap, subst, length, Bool, true, false, Option, Some, None, Ok, Err, cond, arith}
+use Rattle.std.proofs.Common.{◌≡◌, ◌≢◌, ◌≤◌, ◌<◌, ◌-◌, ◌*◌, ◌/◌, ◌%◌, ◌∙◌, ℕ, List, [], refl, sym, ap, subst, length, Bool, true, false, Option, Some, None, Ok, Err, cond, arith}
 use Rattle.std.specs.Prelude.{◌==◌, ◌&&◌, is_none, is_some, slice_index, Result}
 use Rattle.std.specs.Bool.{Decides}
 use Rattle.std.specs.Result.{is_ok}

@@ -27,7 +27,7 @@ use Rattle.world_machine.specs.Rounds.{no_draw}
 
 -- ---- The values change no fault.
 
-fault_free : (q : ReqSetup) (h : History) (c : Command) (id : ℕ) (inner : List ℕ) (f k : Free) → inner_for h c ≡ Some (id, inner) → command_fault false q h c f ≡ command_fault false q h c k
+pub fault_free : (q : ReqSetup) (h : History) (c : Command) (id : ℕ) (inner : List ℕ) (f k : Free) → inner_for h c ≡ Some (id, inner) → command_fault false q h c f ≡ command_fault false q h c k
 unfolding command_fault
 fault_free q h Connect id inner f k is = absurd (none-some (id, inner) is)
 fault_free q h (Open summary) id inner f k is = absurd (none-some (id, inner) is)
@@ -65,14 +65,14 @@ shown_by q h c f s sealed (OfSession id ask inner) fits is right sent small body
     (c, id, inner, f.pad, asks_in, fits.pad, fault_free q h c id inner (values_shown EndSession) f asks_in ∙ right, ap (λ (l : List ℕ). drop 1 l) (sym body ∙ ap (λ (x : Sent). body_of x.content) sent))
 shown_by q h c f s sealed Again fits is right sent small body = absurd sent
 
-to_shown : (q : ReqSetup) (h : History) (c : Command) (sealed : List ℕ) (next : History) → Tells q h c (record_body sealed) next → IsCommandedIn q h sealed
+pub to_shown : (q : ReqSetup) (h : History) (c : Command) (sealed : List ℕ) (next : History) → Tells q h c (record_body sealed) next → IsCommandedIn q h sealed
 to_shown q h c sealed next one =
     let did = asked false q h c one.1.0 no_draw (Told c one.0 no_draw) one.1.2 in
     shown_by q h c one.1.0 one.0 sealed (kind_of q h one.1.0 c) one.1.1 refl did.0 (sent_by_kind q h one.1.0 c one.0 no_draw did.1) one.2 one.3
 
 -- ---- And back.
 
-asks_right : (q : ReqSetup) (h : History) (c : Command) (f : Free) → command_fault false q h c f ≡ None → asks false q h c f no_draw ≡ done q h c f no_draw
+pub asks_right : (q : ReqSetup) (h : History) (c : Command) (f : Free) → command_fault false q h c f ≡ None → asks false q h c f no_draw ≡ done q h c f no_draw
 unfolding asks
 asks_right q h c f right = ap (asks_by q h c f no_draw) right
 
@@ -84,7 +84,7 @@ sealed_told q h c id ask inner sealed f fits adds is = (record_sent q h id (sess
 as_asked : (q : ReqSetup) (h : History) (sealed pad : List ℕ) (one other : ℕ × List ℕ) → Some one ≡ Some other → sealed ≡ sealed_next q.psk (session_of other.0 h) other.1 pad → sealed ≡ sealed_next q.psk (session_of one.0 h) one.1 pad
 as_asked q h sealed pad one other same is = is ∙ ap (λ (p : ℕ × List ℕ). sealed_next q.psk (session_of p.0 h) p.1 pad) (sym (same_Some one other same))
 
-from_shown : (q : ReqSetup) (h : History) (c : Command) (id : ℕ) (inner pad sealed : List ℕ) → IsSetUp q → inner_for h c ≡ Some (id, inner) → length pad ≤ 16 → command_fault false q h c (values_shown EndSession) ≡ None
+pub from_shown : (q : ReqSetup) (h : History) (c : Command) (id : ℕ) (inner pad sealed : List ℕ) → IsSetUp q → inner_for h c ≡ Some (id, inner) → length pad ≤ 16 → command_fault false q h c (values_shown EndSession) ≡ None
     → sealed ≡ sealed_next q.psk (session_of id h) inner pad → (next : History) × Tells q h c (record_body sealed) next
 from_shown q h c id inner pad sealed set_up asks_in few right is = by_command c asks_in (asks_right q h c f (fault_free q h c id inner f (values_shown EndSession) asks_in ∙ right))
   where

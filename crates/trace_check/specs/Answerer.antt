@@ -1,33 +1,25 @@
 -- What is kept of the responder towards one requester, and what the program reads off an answer. This project's own.
-use Rattle.std.specs.Prelude.{◌≡◌, ◌<◌, ◌≤◌, ◌^◌, ◌==◌, ◌&&◌, ◌||◌, ◌⊎◌, not, nat_le, if◌then◌else◌, Bool, true, false, ℕ, List, [], ◌∷◌, length, Option, Some, None, MatchOption, slice_index}
+use Rattle.std.specs.Prelude.{◌≡◌, ◌<◌, ◌≤◌, ◌^◌, ◌==◌, ◌&&◌, ◌||◌, ◌⊎◌, not, nat_le, Bool, ℕ, List, [], ◌∷◌, length, Option, Some, None, MatchOption, slice_index}
 use Rattle.connection.specs.Connected as connected
 use Rattle.connection.specs.Free.{IsFree}
 use Rattle.connection.specs.declared.free_values.FreeValues.{FreeValues}
-use Rattle.responder_machine.specs.Answer.{Free, answer_bytes, exchange_answer, measurements_answer, request_at}
-use Rattle.responder_machine.specs.Handling.{chunk_in}
-use Rattle.responder_machine.specs.History.{History, kept_of}
-use Rattle.responder_machine.specs.May.{IsAllowed, with_dropped}
-use Rattle.responder_machine.specs.Place.{Place, clear_place, held_of, is_held, place_terms}
-use Rattle.responder_machine.specs.Refusal.{has_pending}
-use Rattle.responder_machine.specs.Responder.{after, body_of, is_repeat, on_clear}
+use Rattle.responder_machine.specs.Answer.{Free, answer_bytes, exchange_answer, measurements_answer}
+use Rattle.responder_machine.specs.History.{History}
+use Rattle.responder_machine.specs.May.{with_dropped}
+use Rattle.responder_machine.specs.Place.{Place, held_of, is_held, place_terms}
+use Rattle.responder_machine.specs.Responder.{after}
 use Rattle.responder_machine.specs.Setup.{RspSetup}
 use Rattle.spdm_grammar.specs.Fields.{zeros}
 use Rattle.spdm_grammar.specs.Message.{RequestMessage, ResponseMessage}
 use Rattle.spdm_grammar.specs.Message.RequestMessage.{GetMeasurements, PskExchange}
 use Rattle.spdm_grammar.specs.Message.ResponseMessage.{Measurements, PskExchangeRsp}
 use Rattle.spdm_grammar.specs.Responses.{canonical_response}
-use Rattle.spdm_grammar.specs.declared.heard.Heard.{Heard}
-use Rattle.spdm_grammar.specs.declared.heard.Heard.TheVariants as heard
 use Rattle.spdm_grammar.specs.declared.names.TheConstants.{MAX_MESSAGE_SIZE}
 use Rattle.spdm_grammar.specs.declared.names.error_number.TheConstants.{LARGE_RESPONSE}
 use Rattle.spdm_grammar.specs.declared.names.response_code.TheConstants.{ERROR}
-use Rattle.spdm_machine.specs.Bodies.{clear_body}
 use Rattle.spdm_machine.specs.Terms.{hash_len}
-use Rattle.trace_check.specs.AnswersShown.{clear_values, least_values}
 use Rattle.trace_check.specs.DropsShown.{drops_shown_by, outcome_shown}
 use Rattle.trace_check.specs.declared.answerer.Answerer.{Answerer}
-use Rattle.world_machine.specs.CapturedAnswers.{clear_answer, is_plain}
-use Rattle.world_machine.specs.Rounds.{no_draw}
 
 -- ---- Lengths.
 
@@ -111,29 +103,7 @@ AreRead r p m f (Some values) = IsFree values f
 abbrev pub IsAnswerer : Answerer → RspSetup → History → Type 0
 IsAnswerer seen r h = connected.StandsFor seen.connection r h
 
--- ---- An answer at some values.
-
--- A repeat is told.
-abbrev pub is_same : Heard → Bool
-is_same heard.Same = true
-is_same _ = false
-
--- At these values, which are allowed, a clear message is answered so, by no part of a large answer that is judged
--- otherwise.
-pub record IsAnsweredAt (r : RspSetup) (h : History) (tag : ℕ) (m : List ℕ) (f : Free) (reply : List ℕ) : Type 0 where
-  pub allowed : IsAllowed h (clear_place h) f
-  pub short : length (clear_answer r (clear_place h) m f) ≤ MAX_MESSAGE_SIZE
-  pub plain : is_plain h (on_clear r h tag m f no_draw) ≡ true
-  pub body : body_of (on_clear r h tag m f no_draw) ≡ clear_body reply
-
--- The message is no chunk, and no large answer is pending.
-pub record IsSmall (h : History) (m : List ℕ) : Type 0 where
-  pub whole : chunk_in (request_at (clear_place h) m) ≡ None
-  pub none : has_pending (clear_place h) ≡ false
-
--- The values that an answer to a clear message shows: the least ones, where it is a repeat.
-abbrev pub clear_shown : RspSetup → History → ℕ → (m reply : List ℕ) → Free
-clear_shown r h tag m reply = if is_repeat (kept_of h) tag m then least_values h (clear_place h) else clear_values r h m reply
+-- ---- What an answer shows.
 
 -- The history behind an answer that is shown so.
 abbrev pub history_shown : RspSetup → History → ℕ → (body answer : List ℕ) → History

@@ -21,5 +21,13 @@ pub mod LargeShown
 pub mod RepliesTold
 pub mod Asker
 pub mod Commanded
+pub mod SealedTold
+pub mod Asked
+pub mod RefusedRequest
 pub mod Answerer
 pub mod ShownBy
+pub mod AnswerKeys
+pub mod HeardKept
+pub mod Party
+pub mod KeptChanges
+pub mod ClearAnswers

@@ -30,11 +30,11 @@ pub record IsPlaceOf (seen : AnswerPlace) (p : Place) : Type 0 where
   pub transfer : (place_terms p).common.to_requester.transfer ≡ seen.transfer
   pub round : bytes_round p.at ≡ seen.round
 
--- At these values, which are allowed, a clear message that is no repeat is answered so.
+-- At these values, which are allowed, a clear message that is no repeat gets an answer with the code of this one.
 pub record AnswersSo (r : RspSetup) (h : History) (m reply : List ℕ) (f : Free) : Type 0 where
   pub allowed : IsAllowed h (clear_place h) f
   pub short : length (clear_answer r (clear_place h) m f) ≤ MAX_MESSAGE_SIZE
-  pub answered : (turn_of r (clear_place h) m f).reply ≡ reply
+  pub answered : slice_index (turn_of r (clear_place h) m f).reply 1 ≡ slice_index reply 1
 
 -- These values are shown in the clear; or ones at which there is no such answer.
 abbrev pub AreReadClear : RspSetup → History → (m reply : List ℕ) → Free → Option FreeValues → Type 0

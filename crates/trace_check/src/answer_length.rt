@@ -1,11 +1,10 @@
-ghost use Rattle.std.specs.Prelude.{◌≡◌, ◌≤◌, ◌==◌, ◌||◌, if◌then◌else◌, false, nat_lt, ℕ, List, length};
+ghost use Rattle.std.specs.Prelude.{◌≡◌, ◌≤◌, ◌==◌, ◌||◌, if◌then◌else◌, nat_lt, ℕ, List, length};
 ghost use Rattle.connection.specs.Free.{IsFree};
 ghost use Rattle.connection.specs.Setup.{IsSetUp};
 ghost use Rattle.measurements.specs.Blocks.{record_of};
 ghost use Rattle.measurements.specs.Records.{asked};
 ghost use Rattle.responder_machine.specs.Answer.{Free, answer_bytes, exchange_answer, measurements_answer};
 ghost use Rattle.responder_machine.specs.Place.{Place, place_terms};
-ghost use Rattle.responder_machine.specs.Refusal.{has_pending};
 ghost use Rattle.responder_machine.specs.Setup.{RspSetup, inventory_of};
 ghost use Rattle.spdm_basis.specs.Sizes.{hash_size};
 ghost use Rattle.spdm_grammar.specs.Message.{exchange_message, request_message};
@@ -39,7 +38,7 @@ fn summary_length(hash: HashAlg, kind: u8) -> usize
 
 // The length of the blocks that an operation asks for.
 #[tactic(auto, using(crate::proofs::ReadLengths::missing_none))]
-fn blocks_length(inventory: &Inventory, op: u8) -> usize
+pub(crate) fn blocks_length(inventory: &Inventory, op: u8) -> usize
     ensures value { result ≡ length (record_of (asked op inventory.now)) }
     ensures most { result ≤ 4054 }
 {
@@ -94,8 +93,7 @@ pub(crate) fn free_length(
     }
 }
 
-/// Whether the answer to a message that is no chunk passes 4,096 bytes, at a place where this hash was
-/// chosen and no large answer is pending.
+/// Whether the answer to a request passes 4,096 bytes, at a place where this hash was chosen.
 pub(crate) fn is_too_long(
     setup: &Setup<'_>,
     hash: HashAlg,
@@ -104,7 +102,6 @@ pub(crate) fn is_too_long(
 ) -> bool
     ensures { (r : RspSetup) (p : Place) (f : Free) → IsSetUp setup.now r
         → (place_terms p).choice.hash ≡ hash → IsFree values.now f → length f.nonce ≡ 32
-        → has_pending p ≡ false
         → result ≡ nat_lt MAX_MESSAGE_SIZE (length (answer_bytes r p message.now f)) }
 {
     match request_of(message, hash.size()) {

@@ -1,15 +1,19 @@
-ghost use Rattle.std.specs.Prelude.{◌≡◌, ◌&&◌, ◌||◌, not, bytes_eq};
-ghost use Rattle.trace_check.specs.Answerer.{is_same, shows_large};
+ghost use Rattle.std.specs.Prelude.{◌≡◌};
+ghost use Rattle.trace_check.specs.Answerer.{shows_large};
+ghost use Rattle.trace_check.specs.ClearAnswers.{given_by, is_same, is_whole_given, judged_by, tells_get};
 ghost use Rattle.trace_check.specs.DropsShown.{response_of};
 
 use crate::answer_length::is_too_long;
+use crate::apart::{carries_exchange, is_apart};
 use crate::choosing::are_allowed;
+use crate::{Given, Judged};
 use connection::{Connection, FreeValues, Setup};
 use responder_session::Work;
 use session_keys::{byte_at, same_bytes};
 use spdm_basis::{Frame, RecordFrame};
 use spdm_grammar::Heard;
 use spdm_grammar::names::error_number::LARGE_RESPONSE;
+use spdm_grammar::names::request_code::CHUNK_GET;
 use spdm_grammar::names::response_code::{CHUNK_SEND_ACK, ERROR};
 
 /// What is kept of the responder towards one requester: its connection, and room to answer in. It lies in place,
@@ -22,7 +26,7 @@ pub struct Answerer {
     pub(crate) work: Work,
 }
 
-// The response that stands in an acknowledgement; any other answer is the response itself.
+/// The response that stands in an acknowledgement; any other answer is the response itself.
 pub(crate) fn response_of(reply: &[u8]) -> &[u8]
     ensures { result.now ≡ response_of reply.now }
 {
@@ -38,8 +42,8 @@ pub(crate) fn response_of(reply: &[u8]) -> &[u8]
 // The length of an acknowledgement without its response.
 const ACKNOWLEDGEMENT_LEN: usize = 6;
 
-// Whether a response is LargeResponse.
-fn shows_large(response: &[u8]) -> bool
+/// Whether a response is LargeResponse.
+pub(crate) fn shows_large(response: &[u8]) -> bool
     ensures { result ≡ shows_large response.now }
 {
     byte_at(response, 1) == ERROR && byte_at(response, 2) == LARGE_RESPONSE
@@ -55,19 +59,65 @@ fn is_same(heard: Heard) -> bool
     }
 }
 
-// Whether an answer is this reply, and brings no LargeResponse anew.
-fn is_plain_answer(heard: Heard, answer: &[u8], reply: &[u8]) -> bool
-    ensures { result ≡ (bytes_eq answer.now reply.now
-        && (is_same heard || not (shows_large (response_of answer.now)))) }
+// Whether CHUNK_GET is told.
+fn tells_get(heard: Heard) -> bool
+    ensures { result ≡ tells_get heard }
 {
-    let same = same_bytes(answer, reply);
-    let repeated = is_same(heard);
-    let large = shows_large(response_of(answer));
-    same && (repeated || !large)
+    match heard {
+        Heard::Answered(code) => code == CHUNK_GET,
+        _ => false,
+    }
+}
+
+// What an answer brings, by what is told of it, by the reply, and by whether a large answer is pending
+// behind it.
+fn given_by(heard: Heard, reply: &[u8], pending: bool) -> Given
+    ensures { result ≡ given_by heard reply.now pending }
+{
+    if is_same(heard) {
+        return Given::Whole;
+    }
+    if shows_large(response_of(reply)) {
+        return Given::Large;
+    }
+    if tells_get(heard) && !pending {
+        return Given::Last;
+    }
+    Given::Whole
+}
+
+// Whether an answer goes whole.
+fn is_whole(given: Given) -> bool
+    ensures { result ≡ is_whole_given given }
+{
+    match given {
+        Given::Whole => true,
+        Given::Large | Given::Last => false,
+    }
+}
+
+// What is said of a reply, where this answer was given: that is told of it, and whether a large answer is
+// pending behind it. Verify data have so many bytes.
+fn judged_by(heard: Heard, given: &[u8], reply: &[u8], pending: bool, size: usize) -> Judged
+    ensures { result ≡ judged_by heard given.now reply.now pending size }
+{
+    if same_bytes(given, reply) {
+        return Judged::Given(given_by(heard, reply, pending));
+    }
+    if !is_apart(size, given, reply) {
+        return Judged::Refused;
+    }
+    if !carries_exchange(given) {
+        return Judged::Refused;
+    }
+    if is_whole(given_by(heard, given, pending)) {
+        return Judged::Apart;
+    }
+    Judged::Refused
 }
 
 impl Answerer {
-    ghost use Rattle.std.specs.Prelude.{◌≡◌, ◌<◌, ◌-◌, ◌^◌, ◌↔◌, [], ℕ, true, length};
+    ghost use Rattle.std.specs.Prelude.{◌≡◌, ◌<◌, ◌-◌, ◌^◌, [], true, is_some};
     ghost use Rattle.connection.specs.Free.{IsFree};
     ghost use Rattle.connection.specs.Setup.{IsSetUp};
     ghost use Rattle.responder_machine.specs.Answer.{Free};
@@ -76,7 +126,8 @@ impl Answerer {
     ghost use Rattle.responder_machine.specs.Responder.{after, on_clear};
     ghost use Rattle.responder_machine.specs.Setup.{RspSetup};
     ghost use Rattle.world_machine.specs.Rounds.{no_draw};
-    ghost use Rattle.trace_check.specs.Answerer.{AreBounded, IsAnswerer, IsAnsweredAt, IsSmall};
+    ghost use Rattle.trace_check.specs.Answerer.{AreBounded, IsAnswerer};
+    ghost use Rattle.trace_check.specs.ClearAnswers.{IsJudgedAt, IsLongWith, given_in};
 
     /// Where nothing came yet.
     pub fn new(setup: &Setup<'_>) -> Answerer
@@ -90,34 +141,37 @@ impl Answerer {
         }
     }
 
-    // Whether a clear message is answered so at these values. Fewer than 2^64 - 1 messages came.
+    // Judges an answer to a clear message at these values. The whole answer to the message passes 4,096
+    // bytes where that to `asked` does. Fewer than 2^64 - 1 messages came.
     pub(crate) fn answers_at(
         &mut self,
         setup: &Setup<'_>,
         tag: u8,
         message: &[u8],
+        asked: &[u8],
         values: &FreeValues<'_>,
         reply: &[u8],
-    ) -> bool
+    ) -> Judged
         ensures told { (r : RspSetup) (h : History) (f : Free) → IsSetUp setup.now r
             → IsAnswerer self.old r h → messages_of h < 2 ^ 64 - 1 → IsFree values.now f
-            → AreBounded f → IsSmall h message.now
-            → (result ≡ true) ↔ IsAnsweredAt r h tag message.now f reply.now }
+            → AreBounded f → IsLongWith r h message.now asked.now f
+            → IsJudgedAt r h tag message.now f reply.now result }
         ensures stands { (r : RspSetup) (h : History) (f : Free) → IsSetUp setup.now r
             → IsAnswerer self.old r h → messages_of h < 2 ^ 64 - 1 → IsFree values.now f
-            → AreBounded f → IsSmall h message.now → result ≡ true
+            → AreBounded f → is_some (given_in result) ≡ true
             → IsAnswerer self.new r (after h (on_clear r h tag message.now f no_draw)) }
     {
         let hash = self.connection.choice().hash;
         if !are_allowed(&self.connection, hash, values) {
-            return false;
+            return Judged::Refused;
         }
-        if is_too_long(setup, hash, message, values) {
-            return false;
+        if is_too_long(setup, hash, asked, values) {
+            return Judged::Refused;
         }
         let heard = self
             .connection
             .on_clear(setup, tag, message, values, &mut self.message);
-        is_plain_answer(heard, self.message.as_slice(), reply)
+        let pending = self.connection.is_pending();
+        judged_by(heard, self.message.as_slice(), reply, pending, hash.size())
     }
 }

@@ -2,7 +2,7 @@ use crate::asker_setup::AskerSetup;
 use crate::clear_commands::sends_clear;
 use crate::owed_messages::{sends_owed, write_outstanding};
 use asking::{Asking, Body, Setup};
-use spdm_basis::{OutOfMemory, Psk};
+use spdm_basis::{OutOfMemory, Psk, RecordFrame};
 use std::alloc::Global;
 
 /// A requester of a capture, while no large message is under way: what it was told and took, and
@@ -13,8 +13,11 @@ pub struct Asker {
     pub(crate) setup: AskerSetup,
     pub(crate) asking: Asking,
     pub(crate) owes: bool,
-    // Room for the body that the requester sends.
+    // Room for the body that the requester sends, and for the inner messages of a record that came
+    // and of its own.
     pub(crate) room: Body,
+    pub(crate) inner: RecordFrame,
+    pub(crate) own: RecordFrame,
 }
 
 impl Asker {
@@ -40,6 +43,8 @@ impl Asker {
             asking: Asking::new(setup.max),
             owes: false,
             room: Body::new(),
+            inner: RecordFrame::new(),
+            own: RecordFrame::new(),
         })
     }
 

@@ -72,8 +72,8 @@ fn chunk_in(request: Request<'_>) -> Option<ChunkView<'_>>
     }
 }
 
-// The chunk that a message carries, where a hash has so many bytes.
-fn chunk_of(message: &[u8], hash_len: usize) -> Option<ChunkView<'_>>
+/// The chunk that a message carries, where a hash has so many bytes.
+pub(crate) fn chunk_of(message: &[u8], hash_len: usize) -> Option<ChunkView<'_>>
     ensures { option_map chunk_message result ≡ chunk_in (request_in hash_len message.now) }
 {
     match request_of(message, hash_len) {

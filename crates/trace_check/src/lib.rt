@@ -5,33 +5,50 @@
 //! `Order::take`; `Asker` judges the requests of one requester.
 #![tactic(auto)]
 
+mod answer_keys;
 mod answer_length;
+mod answer_reasons;
 mod answerer;
+mod apart;
+mod asked;
 mod asker;
+mod asker_hears;
 mod asker_setup;
+mod bodies;
 mod brought;
 mod change;
 mod change_laws;
 mod choosing;
+mod clear_answers;
 mod clear_commands;
+mod clear_judged;
 mod clear_values;
+mod given;
+mod kept_changes;
 mod laws;
+mod onward;
 mod order;
 mod owed_messages;
 mod pair;
+mod party;
 mod places;
 mod record_answers;
 mod record_closed;
 mod record_judged;
 mod record_values;
+mod request_reasons;
+mod requests;
 mod response_values;
 mod round;
 mod row_laws;
 mod rows;
+mod sealed_commands;
+mod sending;
 mod shown_fields;
 mod shown_values;
 mod verdict;
 
+pub use answer_keys::AnswerKeys;
 pub use answerer::Answerer;
 pub use asker::Asker;
 pub use brought::Brought;
@@ -41,6 +58,8 @@ pub use change_laws::{
     large_answer_changes, last_chunk_changes, request_changes, round_is_request,
     whole_answer_changes,
 };
+pub use given::{Given, Judged};
+pub use kept_changes::{kept_copy_is_request, kept_round_is_request};
 pub use laws::{
     answered_reason_is_each, answers_are_shown, apart_is_shown, asked_reason_is_each,
     asks_are_kept, asks_go_on, clear_is_shown, conforms_is_each, connects_always,
@@ -51,8 +70,10 @@ pub use laws::{
     replies_are_kept, replies_are_shown, replies_are_told, replies_go_on, sealed_is_shown,
     sealed_tells,
 };
+pub use onward::Onward;
 pub use order::Order;
 pub use pair::Pair;
+pub use party::Party;
 pub use places::Places;
 pub use round::Round;
 pub use row_laws::{

@@ -10,6 +10,7 @@ ghost use Rattle.trace_check.specs.Asker.{IsKeptSetup, IsSentOwed, is_first_chun
 ghost use Rattle.requester_machine.specs.Owed.{with_next};
 
 use crate::asker_setup::AskerSetup;
+use crate::bodies::byte_at;
 use asking::{Asking, Body, Command, FreeValues};
 use spdm_grammar::names::request_code::CHUNK_SEND;
 
@@ -18,16 +19,6 @@ const SECURED: u8 = 6;
 
 // A context that is long enough for each hash.
 pub(crate) const LONG_CONTEXT: [u8; 48] = [0; 48];
-
-// A byte of a body, and 0 behind its end.
-fn byte_at(body: &[u8], at: usize) -> u8
-    ensures { result ≡ slice_index body.now at }
-{
-    match body.get(at) {
-        Some(&byte) => byte,
-        None => 0,
-    }
-}
 
 // Whether a body is CHUNK_SEND in the clear, with the first chunk of a request.
 pub(crate) fn is_first_chunk(body: &[u8]) -> bool

@@ -1,7 +1,9 @@
 ghost use Rattle.std.specs.Prelude.{◌≡◌, ◌≤◌, ◌<◌, ◌-◌, ◌^◌, length};
 ghost use Rattle.spdm_machine.specs.Terms.{request_value};
 ghost use Rattle.trace_check.specs.Judged.{waiting_in};
+ghost use Rattle.trace_check.specs.Party.{body_in, tag_in};
 ghost use Rattle.trace_check.specs.Order.{asks_wrong, replies_wrong, round_answered, round_asked};
+ghost use Rattle.world_machine.specs.Capture.{may_begin};
 ghost use Rattle.world_machine.specs.Difference.{is_copy, is_get_version, may_come};
 ghost use Rattle.world_machine.specs.Rounds.{following_tag};
 
@@ -15,6 +17,9 @@ const CLEAR: u8 = 5;
 
 // How many bytes the hash has that messages are read with before one is chosen.
 const LEAST_HASH: usize = 32;
+
+// GET_VERSION in the clear, as a requester sends it.
+const GET_VERSION: &[u8] = &[CLEAR, 0x10, 0x84, 0, 0];
 
 /// The round under way between the responder and a requester: the request that began it, how many
 /// of it and its copies have no answer yet, and whether one has. Contracts see it as that of the
@@ -97,6 +102,32 @@ impl Round {
             Some((&kind, message)) => kind == CLEAR && is_version(message),
             None => false,
         }
+    }
+
+    /// Whether a request may begin a round here, in the one spelling of GET_VERSION that a requester
+    /// sends.
+    pub fn may_begin(&self, body: &[u8]) -> bool
+        ensures { result ≡ may_begin self.now body.now }
+    {
+        !self.begun || self.answered || body == GET_VERSION
+    }
+
+    /// The body of the request that began the round; no bytes where nothing was asked yet.
+    pub fn body(&self) -> &[u8]
+        ensures { result.now ≡ body_in self.now }
+    {
+        if self.begun {
+            self.body.as_slice()
+        } else {
+            &[]
+        }
+    }
+
+    /// The tag of the request that began the round; 0 where nothing was asked yet.
+    pub fn tag(&self) -> u8
+        ensures { result ≡ tag_in self.now }
+    {
+        if self.begun { self.tag } else { 0 }
     }
 
     /// Whether a request is out of turn.

@@ -1,0 +1,46 @@
+use Rattle.std.proofs.Common.{◌≡◌, ◌∙◌, refl, sym, ap, subst, ℕ, Bool, Option, true, false, Result}
+use Rattle.requester_machine.specs.History.{History}
+use Rattle.script_text.specs.declared.why.Why as declared
+use Rattle.std.proofs.lemmas.Bool.{false≢true}
+use Rattle.trace_check.proofs.InTurn.{asks_in_turn}
+use Rattle.trace_check.proofs.PartyAsked.{began, copied, goes_nowhere, refused_by}
+use Rattle.trace_check.proofs.party.Party.asks.Goals as goal
+use Rattle.trace_check.specs.Asked.{IsJudged}
+use Rattle.trace_check.specs.Asker.{is_first_chunk}
+use Rattle.world_machine.specs.Capture.{may_begin}
+use Rattle.world_machine.specs.Difference.{is_copy}
+use Rattle.world_machine.specs.Rounds.{Round}
+
+pub returns-then-is_copy : goal.returns-then-is_copy
+returns-then-is_copy c = λ w q older k route keeps few fits round tag none party.
+    let body = c.args.body.now in
+    let copy = ap (λ (o : Option Round). is_copy o route.tag body) (sym round) ∙ ap (λ (n : ℕ). is_copy c.args.round.now n body) tag ∙ sym c.is_copy.ensures ∙ c.if-is_copy.true in
+    copied w q k route body (asks_in_turn k route body none) c.args.self.now party copy
+
+pub returns-then-not-may_begin : goal.returns-then-not-may_begin
+returns-then-not-may_begin c = λ w q older k route keeps few fits round tag none party.
+    let body = c.args.body.now in
+    let turn = asks_in_turn k route body none in
+    let other = ap (λ (o : Option Round). is_copy o route.tag body) (sym round) ∙ ap (λ (n : ℕ). is_copy c.args.round.now n body) tag ∙ sym c.is_copy.ensures ∙ c.if-is_copy.false in
+    let never = ap (λ (o : Option Round). may_begin o body) (sym round) ∙ sym c.may_begin.ensures ∙ c.if-not-may_begin.true in
+    refused_by w q k route body turn _ c.why.result c.refused.result (is_first_chunk body) refl c.refused.ensures
+    (goes_nowhere w q k route body turn other (λ after may sends. false≢true (sym never ∙ may)))
+    (c.why.ensures.why w q older k keeps few party.asker)
+
+pub returns-in-Ok : goal.returns-in-Ok
+returns-in-Ok c = λ w q older k route keeps few fits round tag none party.
+    let body = c.args.body.now in
+    let turn = asks_in_turn k route body none in
+    let other = ap (λ (o : Option Round). is_copy o route.tag body) (sym round) ∙ ap (λ (n : ℕ). is_copy c.args.round.now n body) tag ∙ sym c.is_copy.ensures ∙ c.if-is_copy.false in
+    let may = ap (λ (o : Option Round). may_begin o body) (sym round) ∙ sym c.may_begin.ensures ∙ c.if-not-may_begin.false in
+    let judged = subst (λ (x : Result Unit declared.Why). IsJudged q k body x c.judge.new.self) c.in-Ok.is (c.judge.ensures w q older k keeps few fits party.asker) in
+    began w q k route body turn c.args.self.now _ judged.0 party refl refl other may judged.1 judged.2
+
+pub returns-in-Err : goal.returns-in-Err
+returns-in-Err c = λ w q older k route keeps few fits round tag none party.
+    let body = c.args.body.now in
+    let turn = asks_in_turn k route body none in
+    let other = ap (λ (o : Option Round). is_copy o route.tag body) (sym round) ∙ ap (λ (n : ℕ). is_copy c.args.round.now n body) tag ∙ sym c.is_copy.ensures ∙ c.if-is_copy.false in
+    let judged = subst (λ (x : Result Unit declared.Why). IsJudged q k body x c.judge.new.self) c.in-Err.is (c.judge.ensures w q older k keeps few fits party.asker) in
+    refused_by w q k route body turn _ c.in-Err.why c.refused-in-Err.result (is_first_chunk body) refl c.refused-in-Err.ensures
+    (goes_nowhere w q k route body turn other (λ after may sends. judged.0 after sends)) judged.1
