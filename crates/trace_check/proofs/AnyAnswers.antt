@@ -5,8 +5,6 @@ use Rattle.std.specs.Prelude.{if◌then◌else◌, slice_range, unwrap_or}
 use Rattle.chunking.proofs.ChunkLengths.{chunk_framed}
 use Rattle.chunking.specs.Cutting.{chunk_count, chunk_end, chunk_start, nth_chunk}
 use Rattle.connection.proofs.Lengths.{algorithms_long}
-use Rattle.measurements.specs.Blocks.{at_most_one, block_bytes, block_of, record_of}
-use Rattle.measurements.specs.Records.{asked}
 use Rattle.negotiate.specs.Choosing.{selected}
 use Rattle.responder_machine.specs.Answer.{Free, answer_bytes, answer_to, request_at}
 use Rattle.responder_machine.specs.History.{History}
@@ -25,7 +23,6 @@ use Rattle.spdm_grammar.specs.Message.ResponseMessage.{ChunkResponse}
 use Rattle.spdm_grammar.specs.Responses.{canonical_response}
 use Rattle.spdm_grammar.specs.declared.names.TheConstants.{MAX_MESSAGE_SIZE}
 use Rattle.spdm_machine.specs.Terms.{no_choice}
-use Rattle.spdm_grammar.specs.declared.block_spec.BlockSpec.{BlockSpec}
 use Rattle.trace_check.proofs.ReadLengths.{exchange_read_length, measured_read_length}
 use Rattle.trace_check.specs.AnswersShown.{least_values}
 use Rattle.trace_check.specs.ShownBy.{HasFewBlocks}
@@ -117,23 +114,3 @@ chunks_few r s (inr sizes) handle number =
 
 pub session_few : (r : RspSetup) (h : History) (s : Events) (m : List ℕ) → HasFewBlocks r → IsSized r s → length (answer_bytes r (session_place s) m (least_values h (session_place s))) ≤ MAX_MESSAGE_SIZE
 session_few r h s m blocks sized = least_few r (session_place s) blocks (chunks_few r s sized) h m
-
--- ---- Blocks.
-
-one_few : (op : ℕ) (blocks : List BlockSpec) → length (record_of (at_most_one (block_of op blocks))) ≤ length (record_of blocks)
-one_few op [] = omega arith
-one_few op (block ∷ others) = by_index (block.index == op) (one_few op others)
-  where
-    by_index : (b : Bool) → length (record_of (at_most_one (block_of op others))) ≤ length (record_of others)
-        → length (record_of (at_most_one (cond b (Some block) (block_of op others)))) ≤ length (block_bytes block ++ record_of others)
-    by_index true rest = (let one = length-append (block_bytes block) (record_of others) in let two = length-append (block_bytes block) (record_of []) in omega (arith, one, two))
-    by_index false rest = (let one = length-append (block_bytes block) (record_of others) in omega (arith, one, rest))
-
--- No operation asks for more blocks than all.
-pub asked_few : (op : ℕ) (blocks : List BlockSpec) → length (record_of (asked op blocks)) ≤ length (record_of blocks)
-asked_few op blocks = by_op (op == 0) (op == 255)
-  where
-    by_op : (zero all : Bool) → length (record_of (cond zero [] (cond all blocks (at_most_one (block_of op blocks))))) ≤ length (record_of blocks)
-    by_op true all = omega arith
-    by_op false true = omega arith
-    by_op false false = one_few op blocks

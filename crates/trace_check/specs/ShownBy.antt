@@ -89,4 +89,3 @@ IsRepeated h request = (repeats (ended_of h) request || repeats (last_of (sessio
 abbrev pub closed_drops : RspSetup → History → (request : List ℕ) → List ℕ
 closed_drops r h request =
     let id = id_in_record request in if belongs_to r (session_of id h) request && may_be_dropped h id then id ∷ [] else []
-

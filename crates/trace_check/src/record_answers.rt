@@ -3,8 +3,6 @@ ghost use Rattle.connection.specs.Connected.{StandsFor};
 ghost use Rattle.connection.specs.Free.{IsFree};
 ghost use Rattle.connection.specs.Setup.{IsSetUp};
 ghost use Rattle.connection.specs.Sessions.{body_by};
-ghost use Rattle.measurements.specs.Blocks.{record_of};
-ghost use Rattle.measurements.specs.Records.{asked};
 ghost use Rattle.responder_machine.specs.Answer.{Free, answer_bytes};
 ghost use Rattle.responder_machine.specs.BoundLaws.{messages_of};
 ghost use Rattle.responder_machine.specs.History.{History, ended_of};
@@ -16,18 +14,17 @@ ghost use Rattle.responder_machine.specs.Setup.{RspSetup};
 ghost use Rattle.responder_session.specs.Deeds.{AreFree};
 ghost use Rattle.spdm_grammar.specs.declared.names.TheConstants.{MAX_MESSAGE_SIZE};
 ghost use Rattle.spdm_machine.specs.Bodies.{record_body};
-ghost use Rattle.trace_check.specs.Answerer.{AreBounded};
 ghost use Rattle.trace_check.specs.AnswersShown.{least_values};
 ghost use Rattle.trace_check.specs.ShownBy.{shows_last, shows_part};
 
 use crate::Answerer;
-use crate::answer_length::{blocks_length, is_too_long};
+use crate::answer_length::is_too_long;
 use crate::answerer::{response_of, shows_large};
 use crate::choosing::are_allowed;
+use crate::clear_answers::{blocks_are_few, values_are_bounded};
 use crate::clear_values::{at_round, least_values};
 use crate::record_values::{inner_part, text_values};
 use connection::{Connection, FreeValues, Setup, record_id};
-use measurements::Inventory;
 use responder_session::{AnswerKey, RecordFree};
 use session_keys::{MOST_DATA, SPDM_MESSAGE, SessionTerms, behind_type, byte_at, same_bytes};
 use spdm_basis::RecordFrame;
@@ -39,9 +36,6 @@ const LEAST_RECORD: usize = 26;
 
 // The most bytes of padding.
 const MOST_PAD: usize = 16;
-
-// The operation of GET_MEASUREMENTS that asks for all blocks.
-const ALL_BLOCKS: u8 = 255;
 
 // The mark of a last chunk.
 const LAST_CHUNK: u8 = 1;
@@ -106,31 +100,6 @@ pub(crate) fn least_free() -> RecordFree<'static>
         reply: &[],
         pad: &[],
     }
-}
-
-/// No operation asks for more blocks than all.
-pub(crate) fn blocks_are_few(inventory: &Inventory)
-    ensures { (op : ℕ) → length (record_of (asked op inventory.now)) ≤ 4054 }
-{
-    blocks_length(inventory, ALL_BLOCKS);
-}
-
-// A handle is a byte.
-fn handle_is_byte(handle: u8)
-    ensures { handle < 256 }
-{}
-
-// A nonce has 32 bytes.
-fn nonce_is_whole(nonce: [u8; 32])
-    ensures { length nonce ≡ 32 }
-{}
-
-// The bounds that the types of values have.
-fn values_are_bounded(values: &FreeValues<'_>)
-    ensures { (f : Free) → IsFree values.now f → AreBounded f }
-{
-    handle_is_byte(values.handle);
-    nonce_is_whole(values.nonce);
 }
 
 // Whether a record is the last one of the ended session, or of the session that it names.
@@ -215,9 +184,9 @@ impl Answerer {
             → IsAnswerer self.old r h → messages_of h < 2 ^ 64 - 1 → AreFree free.now f
             → IsAnswerer self.new r (after h (on_record r h tag request.now f no_draw)) }
     {
-        let heard =
-            self.connection
-                .on_record(setup, request, free, &mut self.work, &mut self.record);
+        let heard = self
+            .connection
+            .on_record(setup, request, free, &mut self.work, &mut self.record);
         is_sent(heard, self.record.as_slice(), sealed)
     }
 

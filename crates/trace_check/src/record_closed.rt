@@ -9,7 +9,8 @@ ghost use Rattle.trace_check.specs.DropsShown.{may_be_dropped};
 ghost use Rattle.world_machine.specs.CapturedAnswers.{belongs_to};
 
 use crate::Answerer;
-use crate::record_answers::{blocks_are_few, least_free};
+use crate::clear_answers::blocks_are_few;
+use crate::record_answers::least_free;
 use connection::{Connection, Setup, record_id};
 use session_keys::same_bytes;
 use spdm_basis::RecordFrame;
@@ -76,9 +77,9 @@ impl Answerer {
             (session_place (session_of (id_in_record request.now) h))) no_draw)) }
     {
         let free = least_free();
-        let heard =
-            self.connection
-                .on_record(setup, request, &free, &mut self.work, &mut self.record);
+        let heard = self
+            .connection
+            .on_record(setup, request, &free, &mut self.work, &mut self.record);
         is_refused(heard, self.record.as_slice(), reply)
     }
 
