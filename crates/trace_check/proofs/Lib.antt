@@ -110,3 +110,4 @@ pub mod ClearAnew
 pub mod ShownDrops
 pub mod ApartLengths
 pub mod ApartJudged
+pub mod FetchedOn
