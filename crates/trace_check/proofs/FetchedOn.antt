@@ -1,5 +1,5 @@
 -- What an answer leaves of whether the large answer that went last was fetched.
-use Rattle.std.proofs.Common.{◌≡◌, ◌∙◌, List, ℕ, [], ◌∷◌, refl, ap, sym, Bool, true, false, is_some, cond}
+use Rattle.std.proofs.Common.{◌≡◌, ◌↔◌, ◌∙◌, List, ℕ, [], ◌∷◌, refl, ap, sym, Bool, true, false, is_some, cond}
 use Rattle.std.proofs.lemmas.Bool.{false≢true, not-false, not-true}
 use Rattle.responder_machine.specs.History.{Entry, History}
 use Rattle.responder_machine.specs.History.Entry.{Clear, Sealed, Queued, Ticked, Dropped}
@@ -14,7 +14,7 @@ use Rattle.trace_check.specs.Answerer.{history_shown}
 use Rattle.trace_check.specs.AnswersShown.{is_whole, values_shown_by}
 use Rattle.trace_check.specs.ClearAnswers.{EndsLarge}
 use Rattle.trace_check.specs.DropsShown.{IsShownAnswer, drops_shown_by, outcome_shown}
-use Rattle.trace_check.specs.LargeShown.{IsShownLarge, begun_large, ends_large, has_bytes, large_shown, last_shown, was_fetched, whole_of}
+use Rattle.trace_check.specs.LargeShown.{IsShownLarge, IsShownLast, begun_large, ends_large, has_bytes, large_shown, last_shown, was_fetched, whole_of}
 use Rattle.world_machine.proofs.SmallGets.{gets_are_small}
 use Rattle.world_machine.specs.CapturedAnswers.{MayLeadTo, is_plain}
 use Rattle.world_machine.specs.LargeAnswers.{effect_with, is_large}
@@ -45,6 +45,10 @@ module _ (r : RspSetup) (h : History) (tag : ℕ) (body answer : List ℕ) where
   pub last_on : EndsLarge r h tag body answer → was_fetched (after h (last_shown r h tag body answer)) ≡ was_fetched h
   unfolding MayLeadTo
   last_on s = ends_on (last_shown r h tag body answer) (values_shown_by r h tag body answer, s.0.0, s.0.1, s.0.2) s.1
+
+-- So of a last chunk no more is left to be known.
+pub last_is : (r : RspSetup) (h : History) (tag : ℕ) (body answer : List ℕ) → IsShownLast r h tag body answer ↔ (EndsLarge r h tag body answer × (was_fetched h ≡ true))
+last_is r h tag body answer = (λ s. ((s.0, s.1, s.3), s.2), λ s. (s.0.0, s.0.1, s.1, s.0.2))
 
 -- LargeResponse stands with no bytes.
 no_bytes : (x : Effect) (b : Bool) → is_some (handle_in x) ≡ true → cond (is_some (handle_in (effect_with [] x))) (has_bytes (answer_in (effect_with [] x))) b ≡ false
