@@ -91,8 +91,10 @@ pub mod RecordShown
 pub mod KeysKept
 pub mod KeysFollow
 pub mod HearsKept
+pub mod FewMessages
 pub mod InTurn
 pub mod PartyAsked
+pub mod PartyReplied
 pub mod KeysOpen
 pub mod RequestSteps
 pub mod AskedIds
@@ -109,3 +111,4 @@ pub mod ClearJudged
 pub mod ShownDrops
 pub mod ApartLengths
 pub mod ApartJudged
+pub mod JudgedInClear

@@ -68,7 +68,7 @@ copied k round is = record {
   asked = sym (
       ap (λ (o : Option Round). cond (is_new o (record round { waiting = round.waiting + 1 })) (session_in (outstanding (owing k.owed k.requester))) None) is
       ∙ ap (λ (b : Bool). cond b (session_in (outstanding (owing k.owed k.requester))) None) (same_tag round.tag)
-  );
+      );
 }
 
 pub kept_copy_is_request : KeptCopyIsRequest

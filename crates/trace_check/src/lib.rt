@@ -23,14 +23,16 @@ mod clear_answers;
 mod clear_commands;
 mod clear_judged;
 mod clear_values;
-mod kept_changes;
 mod given;
+mod judged_in_clear;
+mod kept_changes;
 mod laws;
 mod onward;
 mod order;
 mod owed_messages;
 mod pair;
 mod party;
+mod party_replies;
 mod places;
 mod record_values;
 mod request_reasons;
@@ -55,8 +57,8 @@ pub use change_laws::{
     large_answer_changes, last_chunk_changes, request_changes, round_is_request,
     whole_answer_changes,
 };
-pub use kept_changes::{kept_copy_is_request, kept_round_is_request};
 pub use given::{Given, Judged};
+pub use kept_changes::{kept_copy_is_request, kept_round_is_request};
 pub use laws::{
     answered_reason_is_each, answers_are_shown, apart_is_shown, asked_reason_is_each,
     asks_are_kept, asks_go_on, clear_is_shown, conforms_is_each, connects_always,
