@@ -1,5 +1,5 @@
 -- Whether the verify data of an answer to a clear message are alone wrong is judged by what it shows.
-use Rattle.std.proofs.Common.{◌≡◌, ◌==◌, ◌&&◌, ◌↔◌, ◌∙◌, ℕ, List, [], ◌∷◌, refl, sym, ap, subst, drop, Bool, true, false, Option, Some, None, cond, length, ◌<◌, ◌+◌, arith}
+use Rattle.std.proofs.Common.{◌≡◌, ◌&&◌, ◌↔◌, ◌∙◌, ℕ, List, [], ◌∷◌, refl, sym, ap, subst, Bool, true, false, cond, arith}
 use Rattle.std.proofs.lemmas.Bool.{false≢true}
 use Rattle.std.specs.Prelude.{not}
 use Rattle.responder_machine.specs.Answer.{Free}
@@ -16,7 +16,7 @@ use Rattle.spdm_machine.specs.Bodies.{clear_body}
 use Rattle.spdm_machine.specs.Terms.{hash_len}
 use Rattle.trace_check.proofs.ApartLengths.{apart_at, apart_small, turn_over}
 use Rattle.trace_check.proofs.ClearAsked.{answers_so}
-use Rattle.trace_check.proofs.ClearJudged.{IsOne, adds_at, again_still, at, by_parts, dropped_one, entry, first_one, gives_same, parts_whole, repeats_at, shown, shown_again, shown_anew, whole_parts}
+use Rattle.trace_check.proofs.ClearJudged.{IsOne, adds_at, again_still, at, dropped_one, entry, first_one, gives_same, parts_whole, repeats_at, shown, shown_again, shown_anew, whole_parts}
 use Rattle.trace_check.proofs.ShownDrops.{large_drops, small_drops}
 use Rattle.trace_check.specs.Answerer.{shows_large}
 use Rattle.trace_check.specs.AnswersShown.{LeadsAt, clear_values, least_values}
@@ -28,7 +28,7 @@ use Rattle.trace_check.specs.declared.given.Judged.{Judged}
 use Rattle.trace_check.specs.declared.given.Judged.TheVariants as judged
 use Rattle.world_machine.specs.CapturedAnswers.{is_plain}
 use Rattle.world_machine.specs.Difference.{carries_exchange, is_apart}
-use Rattle.world_machine.specs.LargeAnswers.{gives_last, is_large}
+use Rattle.world_machine.specs.LargeAnswers.{is_large}
 
 -- A drop changes no hash.
 same_hash : (ids : List ℕ) (h : History) → hash_len (place_terms (clear_place (with_dropped h ids))) ≡ hash_len (place_terms (clear_place h))

@@ -5,8 +5,8 @@ use Rattle.std.proofs.lemmas.Bool.{false≢true}
 use Rattle.std.proofs.lemmas.Slice.Eq.{bytes_eq-Decides}
 use Rattle.key_schedule.specs.declared.direction.Direction.TheVariants as direction
 use Rattle.responder_machine.proofs.VerifyLength.{length_verify}
-use Rattle.responder_machine.specs.Answer.{Free, answer_bytes, answer_of, answer_to, exchange_answer, exchange_rsp, request_at, summary_answer, t1_with}
-use Rattle.responder_machine.specs.Handling.{acknowledged, carried_turn, chunk_in, error_bytes, goes_large, large_response, last_chunk_turn, request_reply, taken_chunk, turn_by, turn_of}
+use Rattle.responder_machine.specs.Answer.{Free, answer_bytes, answer_of, answer_to, exchange_answer, request_at, summary_answer, t1_with}
+use Rattle.responder_machine.specs.Handling.{acknowledged, carried_turn, chunk_in, error_bytes, goes_large, large_response, request_reply, taken_chunk, turn_by, turn_of}
 use Rattle.responder_machine.specs.Place.{Place, inside, place_terms}
 use Rattle.responder_machine.specs.Refusal.{refusal}
 use Rattle.responder_machine.specs.Setup.{RspSetup}

@@ -37,7 +37,6 @@ use Rattle.trace_check.specs.ClearAnswers.{IsAnsweredAt, IsApartAt, IsJudgedAt, 
 use Rattle.trace_check.specs.DropsShown.{response_of}
 use Rattle.trace_check.specs.declared.given.Given.{Given}
 use Rattle.trace_check.specs.declared.given.Given.TheVariants as given
-use Rattle.trace_check.specs.declared.given.Judged.{Judged}
 use Rattle.trace_check.specs.declared.given.Judged.TheVariants as judged
 use Rattle.world_machine.proofs.SmallGets.{not_carried}
 use Rattle.world_machine.proofs.TurnsAlike.{chunk_is, is_request}

@@ -2,7 +2,6 @@
 use Rattle.std.proofs.Common.{◌≡◌, ◌≤◌, ◌==◌, ◌&&◌, ◌||◌, ◌∙◌, ℕ, List, [], ◌∷◌, ◌++◌, refl, sym, ap, subst, length, drop, Bool, true, false, Option, Some, None, is_some, cond, arith, length-append}
 use Rattle.std.proofs.lemmas.Bool.{false≢true}
 use Rattle.std.proofs.lemmas.Bool.Decides.{nat_tests}
-use Rattle.std.proofs.lemmas.List.{length-replicate}
 use Rattle.std.specs.Prelude.{nat_lt, slice_index}
 use Rattle.chunking.specs.Collecting.{answer_from, broken_rule, collected, joined_with, under_way}
 use Rattle.chunking.specs.Collecting.Collection.{More, Whole}
@@ -18,10 +17,9 @@ use Rattle.responder_machine.specs.History.Entry.{Clear}
 use Rattle.responder_machine.specs.LargeMessages.{chunks_of}
 use Rattle.responder_machine.specs.Place.{Place, clear_place, inside, place_terms}
 use Rattle.responder_machine.specs.Refusal.{chunk_fault, refusal}
-use Rattle.responder_machine.specs.Responder.{Outcome, body_of, is_repeat, kept_reply, on_clear}
+use Rattle.responder_machine.specs.Responder.{body_of, is_repeat, kept_reply, on_clear}
 use Rattle.responder_machine.specs.Responder.Outcome.{Same, Adds}
 use Rattle.responder_machine.specs.Setup.{RspSetup, inventory_of}
-use Rattle.responder_machine.specs.Turn.{Turn}
 use Rattle.spdm_basis.specs.Sizes.{hash_size}
 use Rattle.spdm_grammar.specs.Message.{ChunkMessage, RequestMessage}
 use Rattle.spdm_grammar.specs.Message.RequestMessage.{GetVersion, GetCapabilities, NegotiateAlgorithms, GetMeasurements, PskExchange, PskFinish, Heartbeat, KeyUpdate, EndSession, ChunkSend, ChunkGet}
@@ -40,7 +38,7 @@ use Rattle.trace_check.specs.AnswersShown.{clear_values, least_values, values_in
 use Rattle.trace_check.specs.ClearAnswers.{IsAnsweredAt, IsLongWith}
 use Rattle.trace_check.specs.ShownBy.{AnswersSo}
 use Rattle.world_machine.proofs.TurnsAlike.{chunk_is}
-use Rattle.world_machine.specs.CapturedAnswers.{answer_at, clear_answer}
+use Rattle.world_machine.specs.CapturedAnswers.{answer_at}
 use Rattle.world_machine.specs.Rounds.{no_draw}
 
 -- ---- The least values never make an answer too long.

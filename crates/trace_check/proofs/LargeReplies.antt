@@ -1,14 +1,14 @@
 -- A reply shows whether its answer goes by LargeResponse.
-use Rattle.std.proofs.Common.{◌≡◌, ◌≢◌, ◌==◌, ◌&&◌, ℕ, List, [], refl, sym, ap, ◌∙◌, Bool, true, false, Option, Some, None, is_some, cond}
+use Rattle.std.proofs.Common.{◌≡◌, ◌≢◌, ℕ, List, [], refl, sym, ap, ◌∙◌, Bool, true, false, Option, Some, None, is_some, cond}
 use Rattle.chunking.specs.Collecting.{joined_with, under_way}
 use Rattle.responder_machine.specs.Answer.{Free, answer_bytes, answer_of, answer_to, request_at}
-use Rattle.responder_machine.specs.Handling.{carried_turn, chunk_in, effect_of, error_bytes, goes_large, handle_for, large_response, last_chunk_turn, request_effect, request_reply, taken_chunk, turn_by, turn_of}
+use Rattle.responder_machine.specs.Handling.{carried_turn, chunk_in, effect_of, error_bytes, goes_large, large_response, last_chunk_turn, request_effect, request_reply, taken_chunk, turn_by, turn_of}
 use Rattle.responder_machine.specs.LargeMessages.{chunks_of}
 use Rattle.responder_machine.specs.Place.{Place, inside}
 use Rattle.responder_machine.specs.Refusal.{refusal}
 use Rattle.responder_machine.specs.Setup.{RspSetup}
-use Rattle.responder_machine.specs.Turn.Effect.{NoEffect, Took}
-use Rattle.responder_machine.specs.Turn.{Effect, Turn, handle_in}
+use Rattle.responder_machine.specs.Turn.Effect.{NoEffect}
+use Rattle.responder_machine.specs.Turn.{Turn, handle_in}
 use Rattle.spdm_grammar.specs.Message.{ChunkMessage, RequestMessage}
 use Rattle.spdm_grammar.specs.Message.RequestMessage.{GetVersion, GetCapabilities, NegotiateAlgorithms, GetMeasurements, PskExchange, PskFinish, Heartbeat, KeyUpdate, EndSession, ChunkSend, ChunkGet}
 use Rattle.spdm_grammar.specs.Responses.{canonical_response}

@@ -108,6 +108,7 @@ pub mod FinishApart
 pub mod ReasonsKept
 pub mod ClearAsked
 pub mod ClearJudged
+pub mod ClearAnew
 pub mod ShownDrops
 pub mod ApartLengths
 pub mod ApartJudged

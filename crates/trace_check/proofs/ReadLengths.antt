@@ -1,5 +1,5 @@
 -- How long the answers are in which values are free, as the program tells it.
-use Rattle.std.proofs.Common.{◌≡◌, ◌≤◌, ◌+◌, ◌==◌, ◌&&◌, ◌||◌, ℕ, List, [], refl, length, Bool, true, false, Option, Some, None, arith, is_none}
+use Rattle.std.proofs.Common.{◌≡◌, ◌+◌, ◌==◌, ◌&&◌, ◌||◌, ℕ, List, [], refl, length, Bool, true, false, Option, Some, None, arith, is_none}
 use Rattle.std.specs.Prelude.{if◌then◌else◌, not}
 use Rattle.measurements.specs.Blocks.{at_most_one, block_of, record_of}
 use Rattle.measurements.specs.Records.{asked, is_missing}

@@ -1,5 +1,5 @@
 -- Which answers may pass the longest message.
-use Rattle.std.proofs.Common.{◌≡◌, ◌≤◌, ◌+◌, ◌-◌, ◌*◌, ◌==◌, ◌∙◌, ℕ, List, cond, drop, length-drop, [], refl, ap, length, Bool, true, false, Option, Some, None, Ok, Err, arith, length-append, eqb-true}
+use Rattle.std.proofs.Common.{◌≡◌, ◌≤◌, ◌+◌, ◌-◌, ◌*◌, ◌==◌, ◌∙◌, ℕ, List, cond, drop, length-drop, [], refl, ap, length, Bool, true, false, Option, Some, None, Ok, Err, arith, eqb-true}
 use Rattle.std.proofs.lemmas.Bool.Decides.{nat_tests}
 use Rattle.std.proofs.lemmas.List.{length-take}
 use Rattle.std.proofs.Math.Nat.{min-le_right}
@@ -9,7 +9,7 @@ use Rattle.chunking.specs.Cutting.{chunk_count, chunk_end, chunk_start, nth_chun
 use Rattle.connection.proofs.Lengths.{algorithms_long}
 use Rattle.negotiate.specs.Capabilities.{shared}
 use Rattle.negotiate.specs.Choosing.{selected}
-use Rattle.responder_machine.specs.Answer.{Free, answer_bytes, answer_of, answer_to, request_at}
+use Rattle.responder_machine.specs.Answer.{Free, answer_bytes, answer_to, request_at}
 use Rattle.responder_machine.specs.LargeMessages.{pending_of}
 use Rattle.responder_machine.specs.Place.{Place, place_terms}
 use Rattle.responder_machine.specs.Setup.{RspSetup, policy_of}

@@ -1,13 +1,13 @@
 -- What is kept of the responder towards one requester, and what the program reads off an answer. This project's own.
-use Rattle.std.specs.Prelude.{◌≡◌, ◌<◌, ◌≤◌, ◌^◌, ◌==◌, ◌&&◌, ◌||◌, ◌⊎◌, not, nat_le, if◌then◌else◌, Bool, ℕ, List, [], ◌∷◌, length, Option, Some, None, MatchOption, slice_index}
+use Rattle.std.specs.Prelude.{◌≡◌, ◌<◌, ◌≤◌, ◌^◌, ◌==◌, ◌&&◌, ◌||◌, ◌⊎◌, not, nat_le, Bool, ℕ, List, [], ◌∷◌, length, Option, Some, None, MatchOption, slice_index}
 use Rattle.connection.specs.Connected as connected
 use Rattle.connection.specs.Free.{IsFree}
 use Rattle.connection.specs.declared.free_values.FreeValues.{FreeValues}
 use Rattle.responder_machine.specs.Answer.{Free, answer_bytes, exchange_answer, measurements_answer}
-use Rattle.responder_machine.specs.History.{History, kept_of}
+use Rattle.responder_machine.specs.History.{History}
 use Rattle.responder_machine.specs.May.{with_dropped}
-use Rattle.responder_machine.specs.Place.{Place, clear_place, held_of, is_held, place_terms}
-use Rattle.responder_machine.specs.Responder.{after, is_repeat}
+use Rattle.responder_machine.specs.Place.{Place, held_of, is_held, place_terms}
+use Rattle.responder_machine.specs.Responder.{after}
 use Rattle.responder_machine.specs.Setup.{RspSetup}
 use Rattle.spdm_grammar.specs.Fields.{zeros}
 use Rattle.spdm_grammar.specs.Message.{RequestMessage, ResponseMessage}
@@ -18,7 +18,6 @@ use Rattle.spdm_grammar.specs.declared.names.TheConstants.{MAX_MESSAGE_SIZE}
 use Rattle.spdm_grammar.specs.declared.names.error_number.TheConstants.{LARGE_RESPONSE}
 use Rattle.spdm_grammar.specs.declared.names.response_code.TheConstants.{ERROR}
 use Rattle.spdm_machine.specs.Terms.{hash_len}
-use Rattle.trace_check.specs.AnswersShown.{clear_values, least_values}
 use Rattle.trace_check.specs.DropsShown.{drops_shown_by, outcome_shown}
 use Rattle.trace_check.specs.declared.answerer.Answerer.{Answerer}
 

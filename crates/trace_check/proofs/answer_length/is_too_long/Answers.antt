@@ -1,4 +1,4 @@
-use Rattle.std.proofs.Common.{◌≡◌, ◌∙◌, ap, sym, ℕ, Option, Some, None}
+use Rattle.std.proofs.Common.{◌≡◌, ◌∙◌, ap, sym, ℕ, Some, None}
 use Rattle.std.specs.Prelude.{nat_lt}
 use Rattle.responder_machine.specs.Answer.{request_at}
 use Rattle.responder_machine.specs.Place.{place_terms}

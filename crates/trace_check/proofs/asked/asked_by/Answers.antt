@@ -1,4 +1,4 @@
-use Rattle.std.proofs.Common.{◌≡◌, ◌≤◌, ◌==◌, ◌∙◌, ap, sym, subst, eqb-true, length, ℕ, List, Option, Some, None}
+use Rattle.std.proofs.Common.{◌≡◌, ◌≤◌, ◌==◌, ◌∙◌, ap, sym, subst, eqb-true, length, ℕ, List, Some, None}
 use Rattle.std.specs.Prelude.{slice_index}
 use Rattle.measurements.specs.Blocks.{record_of}
 use Rattle.measurements.specs.Records.{asked}

@@ -1,4 +1,4 @@
-use Rattle.std.proofs.Common.{◌≡◌, ◌≤◌, ◌<◌, ◌∙◌, sym, ap, subst, length, ℕ, List}
+use Rattle.std.proofs.Common.{◌≤◌, ◌<◌, ◌∙◌, sym, ap, subst, length, ℕ, List}
 use Rattle.trace_check.proofs.clear_answers.values_are_bounded.Goals as goal
 
 pub returns : goal.returns

@@ -1,11 +1,8 @@
-use Rattle.std.proofs.Common.{◌≡◌, ◌∙◌, ap, sym, subst, ℕ, Bool, Option, Some}
+use Rattle.std.proofs.Common.{sym, subst, Some}
 use Rattle.connection.specs.Free.{IsFree}
-use Rattle.spdm_grammar.specs.Message.{ResponseMessage, exchange_message, request_message, response_message}
-use Rattle.spdm_grammar.specs.Message.RequestMessage.{GetMeasurements, PskExchange}
-use Rattle.spdm_grammar.specs.Responses.{response_in}
+use Rattle.spdm_grammar.specs.Message.{exchange_message, request_message, response_message}
 use Rattle.spdm_grammar.specs.declared.request.Request.{Request}
-use Rattle.spdm_grammar.specs.declared.response.Response.{Response}
-use Rattle.trace_check.specs.AnswersShown.{asks_summary, with_fields}
+use Rattle.trace_check.specs.AnswersShown.{with_fields}
 use Rattle.trace_check.proofs.shown_fields.with_response.Goals as goal
 
 pub returns-in-PskExchange : goal.returns-in-PskExchange

@@ -1,5 +1,5 @@
-use Rattle.std.proofs.Common.{◌≡◌, ◌∙◌, ◌+◌, ◌++◌, ℕ, List, ap, sym, subst, length, arith, length-append}
-use Rattle.std.proofs.lemmas.List.{length-replicate, replicate-append-replicate}
+use Rattle.std.proofs.Common.{◌≡◌, ◌∙◌, ◌+◌, ◌++◌, ℕ, List, ap, sym, subst}
+use Rattle.std.proofs.lemmas.List.{replicate-append-replicate}
 use Rattle.connection.specs.Free.{IsFree}
 use Rattle.spdm_basis.specs.Sizes.{hash_size}
 use Rattle.spdm_grammar.specs.Fields.{zeros}

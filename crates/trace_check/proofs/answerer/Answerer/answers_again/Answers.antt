@@ -1,4 +1,4 @@
-use Rattle.std.proofs.Common.{◌≡◌, ◌≤◌, ap, sym, subst, ℕ, List, length}
+use Rattle.std.proofs.Common.{◌≤◌, ap, sym, subst, ℕ, List, length}
 use Rattle.measurements.specs.Blocks.{record_of}
 use Rattle.measurements.specs.Records.{asked}
 use Rattle.responder_machine.specs.Answer.{Free}

@@ -1,10 +1,11 @@
-use Rattle.std.proofs.Common.{◌≡◌, ◌∙◌, ap, sym, subst, ℕ, List, Option, Some}
-use Rattle.responder_machine.specs.History.{History, kept_of}
+use Rattle.std.proofs.Common.{◌∙◌, sym, subst, ℕ, List, Option}
+use Rattle.responder_machine.specs.History.{History}
 use Rattle.responder_machine.specs.May.{with_dropped}
 use Rattle.responder_machine.specs.Place.{clear_place}
-use Rattle.responder_machine.specs.Responder.{after, is_repeat, on_clear}
+use Rattle.responder_machine.specs.Responder.{after, on_clear}
 use Rattle.trace_check.proofs.ApartJudged.{apart_again, apart_anew}
-use Rattle.trace_check.proofs.ClearJudged.{again_still, behind_again, behind_anew, judged_again, judged_anew, kept_behind}
+use Rattle.trace_check.proofs.ClearAnew.{behind_anew, judged_anew}
+use Rattle.trace_check.proofs.ClearJudged.{again_still, behind_again, judged_again, kept_behind}
 use Rattle.trace_check.proofs.ShownDrops.{few_dropped}
 use Rattle.trace_check.specs.Answerer.{IsAnswerer}
 use Rattle.trace_check.specs.AnswersShown.{clear_values, least_values}

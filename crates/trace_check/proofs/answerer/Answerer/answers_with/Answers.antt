@@ -1,4 +1,4 @@
-use Rattle.std.proofs.Common.{◌≡◌, ap, sym, subst, List, ℕ}
+use Rattle.std.proofs.Common.{ap, sym, subst, List, ℕ}
 use Rattle.responder_machine.specs.Answer.{Free}
 use Rattle.responder_machine.specs.Responder.{after, on_clear}
 use Rattle.spdm_grammar.specs.declared.choice.Choice.{Choice}
