@@ -91,8 +91,10 @@ pub mod RecordShown
 pub mod KeysKept
 pub mod KeysFollow
 pub mod HearsKept
+pub mod FewMessages
 pub mod InTurn
 pub mod PartyAsked
+pub mod PartyReplied
 pub mod KeysOpen
 pub mod RequestSteps
 pub mod AskedIds
@@ -111,3 +113,4 @@ pub mod ShownDrops
 pub mod ApartLengths
 pub mod ApartJudged
 pub mod FetchedOn
+pub mod JudgedInClear
