@@ -1,5 +1,5 @@
 -- How long answers are at the least values.
-use Rattle.std.proofs.Common.{◌≡◌, ◌≤◌, ◌+◌, ◌⊎◌, ◌-◌, ◌==◌, ◌||◌, ℕ, List, [], refl, sym, subst, inl, inr, length, Bool, true, false, Option, Some, None, arith, cond, drop, length-append, length-drop}
+use Rattle.std.proofs.Common.{◌≡◌, ◌≤◌, ◌+◌, ◌⊎◌, ◌-◌, ◌==◌, ◌||◌, ℕ, List, [], ◌∷◌, ◌++◌, refl, sym, subst, inl, inr, length, Bool, true, false, Option, Some, None, arith, cond, drop, length-append, length-drop}
 use Rattle.std.proofs.lemmas.List.{length-replicate, length-take}
 use Rattle.std.specs.Prelude.{if◌then◌else◌, slice_range, unwrap_or}
 use Rattle.chunking.proofs.ChunkLengths.{chunk_framed}

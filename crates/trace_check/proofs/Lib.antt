@@ -88,6 +88,9 @@ pub mod ClearShown
 pub mod AnyAnswers
 pub mod LastTold
 pub mod RecordShown
+pub mod RecordTold
+pub mod RecordAnswered
+pub mod RecordClosed
 pub mod KeysKept
 pub mod KeysFollow
 pub mod HearsKept
