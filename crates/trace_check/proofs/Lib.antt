@@ -94,8 +94,10 @@ pub mod RecordClosed
 pub mod KeysKept
 pub mod KeysFollow
 pub mod HearsKept
+pub mod FewMessages
 pub mod InTurn
 pub mod PartyAsked
+pub mod PartyReplied
 pub mod KeysOpen
 pub mod RequestSteps
 pub mod AskedIds
@@ -113,3 +115,5 @@ pub mod ClearAnew
 pub mod ShownDrops
 pub mod ApartLengths
 pub mod ApartJudged
+pub mod FetchedOn
+pub mod JudgedInClear

@@ -29,5 +29,6 @@ pub mod ShownBy
 pub mod AnswerKeys
 pub mod HeardKept
 pub mod Party
+pub mod PartyReplies
 pub mod KeptChanges
 pub mod ClearAnswers

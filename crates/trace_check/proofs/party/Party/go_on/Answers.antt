@@ -1,0 +1,11 @@
+use Rattle.std.proofs.Common.{◌≡◌, ◌∙◌, sym, ap, subst, ℕ, Some}
+use Rattle.trace_check.proofs.party.Party.go_on.Goals as goal
+use Rattle.trace_check.specs.Asker.{IsAsker}
+use Rattle.trace_check.specs.HeardKept.{heard_kept}
+use Rattle.trace_check.specs.Party.{tag_in}
+
+pub returns-clause-asker : goal.returns-clause-asker
+returns-clause-asker c = λ w q older k behind of keeps few is now asker.
+    let tag : c.tag.result ≡ of.tag = c.tag.ensures ∙ ap tag_in now in
+    subst (λ (n : ℕ). IsAsker c.hears.new.self q (heard_kept k behind n of c.args.answer.now)) tag
+    (c.hears.ensures w q older k behind of keeps few is (sym tag) asker)

@@ -1,0 +1,69 @@
+-- What is told of an answer, by what is kept of a requester and the responder. This project's own.
+use Rattle.std.specs.Prelude.{◌≡◌, ◌⊎◌, ℕ, List, Some, Result, Ok, Err}
+use Rattle.mctp_framing.specs.Cutting.{RouteFields}
+use Rattle.mctp_framing.specs.Gathering.{Gathered}
+use Rattle.mctp_framing.specs.Gathering.Gathered.{Whole}
+use Rattle.requester_machine.specs.Setup.{ReqSetup}
+use Rattle.responder_machine.specs.Setup.{RspSetup}
+use Rattle.script_text.specs.declared.why.Why as declared
+use Rattle.trace_check.specs.Answerer.{IsAnswerer, history_shown}
+use Rattle.trace_check.specs.ApartShown.{IsApartShown}
+use Rattle.trace_check.specs.ClearAnswers.{EndsLarge}
+use Rattle.trace_check.specs.DropsShown.{IsShownAnswer}
+use Rattle.trace_check.specs.Judged.{why_of}
+use Rattle.trace_check.specs.Keeping.{Kept, RepliesKept, restored}
+use Rattle.trace_check.specs.LargeShown.{IsShownLarge}
+use Rattle.trace_check.specs.Party.{IsParty}
+use Rattle.trace_check.specs.RepliesShown.{AnswersRound, responder_for}
+use Rattle.trace_check.specs.declared.answerer.Answerer.{Answerer}
+use Rattle.trace_check.specs.declared.given.Given.TheVariants as given
+use Rattle.trace_check.specs.declared.given.Judged.{Judged}
+use Rattle.trace_check.specs.declared.given.Judged.TheVariants as judged
+use Rattle.trace_check.specs.declared.onward.Onward.{Onward}
+use Rattle.trace_check.specs.declared.onward.Onward.TheVariants as onward
+use Rattle.trace_check.specs.declared.party.Party.{Party}
+use Rattle.world_machine.specs.Difference.{GoesApart, Why, goes_why}
+use Rattle.world_machine.specs.Difference.Why.{BadVerify}
+use Rattle.world_machine.specs.Rounds.{Dialogue, Round}
+use Rattle.world_machine.specs.Setup.{Configuration}
+
+-- ---- What the responder gives.
+
+-- An answer may not be given by what it shows: whole, as one that begins a large answer, or as one that ends one.
+pub record IsGivenNever (r : RspSetup) (d : Dialogue) (round : Round) (answer : List ℕ) : Type 0 where
+  pub whole : IsShownAnswer r d.responder round.tag round.body answer → ⊥
+  pub large : IsShownLarge r d.responder round.tag round.body answer → ⊥
+  pub last : EndsLarge r d.responder round.tag round.body answer → ⊥
+
+-- What is said of an answer; where it goes whole, the history behind it is kept.
+abbrev pub IsGiven : RspSetup → Dialogue → Round → (answer : List ℕ) → Judged → (new : Answerer) → Type 0
+IsGiven r d round answer (judged.Given given.Whole) new =
+    IsShownAnswer r d.responder round.tag round.body answer × IsAnswerer new r (history_shown r d.responder round.tag round.body answer)
+IsGiven r d round answer (judged.Given given.Large) new = IsShownLarge r d.responder round.tag round.body answer
+IsGiven r d round answer (judged.Given given.Last) new = EndsLarge r d.responder round.tag round.body answer
+IsGiven r d round answer judged.Apart new = IsGivenNever r d round answer × IsApartShown r d round answer
+IsGiven r d round answer judged.Refused new = IsGivenNever r d round answer × (IsApartShown r d round answer → ⊥)
+
+-- ---- What is told.
+
+-- Why an answer is refused, by what is kept.
+abbrev pub IsGoingWhy : RspSetup → Kept → Gathered → Why → Type 0
+IsGoingWhy r k g BadVerify = GoesApart r (restored k) g
+IsGoingWhy r k g why = (GoesApart r (restored k) g → ⊥) × (goes_why r (restored k) g ≡ Some why)
+
+-- It begins a large answer, or ends one.
+abbrev pub IsPartOfLarge : Configuration → Kept → ℕ → (answer : List ℕ) → Type 0
+IsPartOfLarge w k tag answer =
+    (round : Round) × AnswersRound k tag round
+    × (IsShownLarge (responder_for w k) k.responder round.tag round.body answer ⊎ EndsLarge (responder_for w k) k.responder round.tag round.body answer)
+
+-- Of an answer that goes on, likewise.
+abbrev pub RepliesOnward : Configuration → ReqSetup → Kept → RouteFields → (answer : List ℕ) → Onward → (new : Party) → Type 0
+RepliesOnward w q k route answer onward.Kept new = (next : Kept) × RepliesKept w k (Whole route answer) next × IsParty new w q next
+RepliesOnward w q k route answer onward.Large new = IsPartOfLarge w k route.tag answer
+
+-- Of an answer: it goes on, or it is refused, and then why.
+abbrev pub IsReplied : Configuration → ReqSetup → Kept → RouteFields → (answer : List ℕ) → Result Onward declared.Why → (new : Party) → Type 0
+IsReplied w q k route answer (Ok on) new = RepliesOnward w q k route answer on new
+IsReplied w q k route answer (Err why) new =
+    ((next : Kept) → RepliesKept w k (Whole route answer) next → ⊥) × IsGoingWhy (responder_for w k) k (Whole route answer) (why_of why)
