@@ -1,5 +1,5 @@
 -- Whether a body begins a round whole, by what it may be.
-use Rattle.std.proofs.Common.{◌≡◌, ◌∙◌, ℕ, List, Bool, true, false, Option, Some, None, inl, inr, refl, sym, ap, subst}
+use Rattle.std.proofs.Common.{◌≡◌, ◌∙◌, ℕ, List, Bool, true, false, Option, Some, None, inl, inr, sym, ap, subst}
 use Rattle.std.specs.Prelude.{is_some}
 use Rattle.std.proofs.lemmas.Bool.{false≢true}
 use Rattle.asking.specs.Joined.{StandsFor}
@@ -7,6 +7,7 @@ use Rattle.requester_machine.specs.History.{History, outstanding}
 use Rattle.requester_machine.specs.Message.{Sent}
 use Rattle.requester_machine.specs.Message.Command.{Connect}
 use Rattle.requester_machine.specs.Setup.{ReqSetup}
+use Rattle.spdm_basis.proofs.Options.{none_out}
 use Rattle.trace_check.specs.Asked.{IsAskedBy}
 use Rattle.trace_check.specs.Asker.{IsAsker, IsGoneOn, IsKeptSetup, gone_on}
 use Rattle.trace_check.specs.Commanded.{IsSentByCommand}
@@ -19,14 +20,6 @@ use Rattle.world_machine.specs.CapturedRequests.{Tells}
 -- The message that is owed came.
 pub owed_asks : (q : ReqSetup) (k : Kept) (body : List ℕ) (new : Asker) → IsGoneOn q k body true new → IsAskedBy q k body true new
 owed_asks q k body new goes = (goes.0, inr (inr goes.1), goes.2)
-
-none_in : (o : Option Sent) → is_some o ≡ false → o ≡ None
-none_in None is = refl
-none_in (Some sent) is = absurd (false≢true (sym is))
-
-pub some_in : (o : Option Sent) → is_some o ≡ true → (sent : Sent) × (o ≡ Some sent)
-some_in None is = absurd (false≢true is)
-some_in (Some sent) is = (sent, refl)
 
 module _ (q : ReqSetup) (k : Kept) (body : List ℕ) (old new : Asker) (asker : IsAsker old q k) (same : new.setup ≡ old.setup) (rests : new.owes ≡ false) (not : (after : History) → GoesOnKept k body after → ⊥) where
   keeps : (after : History) → StandsFor new.asking q after → IsAsker new q (gone_on k after)
@@ -68,7 +61,7 @@ module _ (q : ReqSetup) (k : Kept) (body : List ℕ) (old new : Asker) (asker : 
 -- ---- Whether a message is owed or outstanding.
 
 pub none_kept : (q : ReqSetup) (k : Kept) (seen : Asker) → IsAsker seen q k → seen.owes ≡ false → k.owed ≡ None
-none_kept q k seen asker is = none_in k.owed (sym asker.owes ∙ is)
+none_kept q k seen asker is = none_out k.owed (sym asker.owes ∙ is)
 
 pub bare_kept : (q : ReqSetup) (k : Kept) (seen : Asker) → IsAsker seen q k → seen.owes ≡ false → StandsFor seen.asking q k.requester
 bare_kept q k seen asker is = subst (λ (o : Option Sent). StandsFor seen.asking q (owing o k.requester)) (none_kept q k seen asker is) asker.stands
@@ -80,4 +73,4 @@ pub owed_busy : (k : Kept) (sent : Sent) → k.owed ≡ Some sent → k.owed ≡
 owed_busy k sent is owed none = false≢true (ap is_some (sym owed ∙ is))
 
 pub none_waits : (k : Kept) → is_some (outstanding k.requester) ≡ false → outstanding k.requester ≡ None
-none_waits k is = none_in (outstanding k.requester) is
+none_waits k is = none_out (outstanding k.requester) is

@@ -1,7 +1,7 @@
 -- The session that a requester has under a ReqSessionID was begun with this id, so a record names no other one.
 use Rattle.std.proofs.Common.{◌≡◌, ◌≢◌, ◌≤◌, ◌∙◌, ℕ, zero, suc, List, [], ◌∷◌, Bool, true, false, Option, Some, None, refl, sym, ap, subst, take, arith}
-use Rattle.std.specs.Prelude.{◌==◌, ◌&&◌, ◌||◌, ◌-◌, nat_lt, bytes_eq, if◌then◌else◌, slice_index, slice_index_or}
-use Rattle.std.proofs.lemmas.Bool.{false≢true, eqb-true}
+use Rattle.std.specs.Prelude.{◌==◌, ◌||◌, ◌-◌, nat_lt, bytes_eq, if◌then◌else◌, slice_index, slice_index_or}
+use Rattle.std.proofs.lemmas.Bool.{and_parts, eqb-true, false≢true}
 use Rattle.std.proofs.lemmas.Bool.Decides.{nat_tests}
 use Rattle.std.proofs.lemmas.Slice.Eq.{bytes_eq-Decides}
 use Rattle.asking.specs.OwnRecords.{first_of, id_named}
@@ -109,13 +109,9 @@ accepted_live : (s : Steps) → is_accepted s ≡ true → is_live s ≡ true
 accepted_live [] is = absurd (false≢true is)
 accepted_live (x ∷ s) is = refl
 
-both_are : (a b : Bool) → (a && b) ≡ true → (a ≡ true) × (b ≡ true)
-both_are true b is = (refl, is)
-both_are false b is = absurd (false≢true is)
-
 -- A record that names a session has its id in front.
 named_bytes : (sealed : List ℕ) (s : Steps) → names sealed s ≡ true → (is_live s ≡ true) × (id_bytes s ≡ take 4 sealed)
-named_bytes sealed s is = (let two = both_are (is_accepted s) (bytes_eq (id_bytes s) (take 4 sealed)) is in (accepted_live s two.0, (bytes_eq-Decides (id_bytes s) (take 4 sealed)).0 two.1))
+named_bytes sealed s is = (let two = and_parts (is_accepted s) (bytes_eq (id_bytes s) (take 4 sealed)) is in (accepted_live s two.0, (bytes_eq-Decides (id_bytes s) (take 4 sealed)).0 two.1))
 
 first_byte : (s : Steps) (i : ℕ) → id_in_exchange (exchange_of s) ≡ i → i ≤ 4 → slice_index (id_bytes s) 0 ≡ i
 first_byte s i is few = omega arith

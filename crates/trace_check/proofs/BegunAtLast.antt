@@ -9,15 +9,14 @@ use Rattle.responder_machine.specs.Responder.Outcome.{Adds}
 use Rattle.responder_machine.specs.Session.{Events, after_exchange, id_in_record, is_live, session_of, when_live}
 use Rattle.responder_machine.specs.Session.Event.{Heard}
 use Rattle.responder_machine.specs.Setup.{RspSetup}
-use Rattle.responder_machine.specs.Turn.{Effect, Turn, answer_in, code_in, handle_in, takes}
-use Rattle.responder_machine.specs.Turn.Effect.{NoEffect, Took, TookData}
+use Rattle.responder_machine.specs.Turn.{Turn, answer_in, code_in, takes}
 use Rattle.spdm_grammar.specs.declared.names.request_code.TheConstants.{CHUNK_GET, END_SESSION, GET_VERSION, PSK_EXCHANGE}
 use Rattle.spdm_machine.specs.Sessions.{id_in_exchange}
 use Rattle.trace_check.specs.Changes.{IsFew}
 use Rattle.trace_check.proofs.BegunSessions.{Begins, count_dropped, more_begins, plain_begins, same_begins}
 use Rattle.world_machine.proofs.FetchedSessions.{InSession, IsOfSession}
 use Rattle.world_machine.specs.CapturedAnswers.{AreShown, MayHaveLed, MayLeadAfter, request_in, tag_in}
-use Rattle.world_machine.specs.LargeAnswers.{dropped_before_large, effect_with, entry_with, is_large, takes_get, with_large}
+use Rattle.world_machine.specs.LargeAnswers.{dropped_before_large, entry_with, is_large, takes_get, with_large}
 use Rattle.world_machine.specs.SessionTable.{begins, begun_count, last_begun}
 use Rattle.world_machine.proofs.FetchStates.{handle_with}
 

@@ -1,7 +1,6 @@
 -- Which request's answer counts in an answer to a clear message.
 use Rattle.std.proofs.Common.{◌≡◌, ◌≤◌, ◌==◌, ◌&&◌, ◌||◌, ◌∙◌, ℕ, List, [], ◌∷◌, ◌++◌, refl, sym, ap, subst, length, drop, Bool, true, false, Option, Some, None, is_some, cond, arith, length-append}
 use Rattle.std.proofs.lemmas.Bool.{false≢true}
-use Rattle.std.proofs.lemmas.Bool.Decides.{nat_tests}
 use Rattle.std.specs.Prelude.{nat_lt, slice_index}
 use Rattle.chunking.specs.Collecting.{answer_from, broken_rule, collected, joined_with, under_way}
 use Rattle.chunking.specs.Collecting.Collection.{More, Whole}
@@ -32,7 +31,7 @@ use Rattle.spdm_machine.specs.Bodies.{clear_body}
 use Rattle.trace_check.proofs.LeastValues.{least_are}
 use Rattle.trace_check.proofs.LongAnswers.{most_hash}
 use Rattle.trace_check.proofs.ReadLengths.{exchange_read_length, measured_read_length}
-use Rattle.trace_check.proofs.ShortAnswers.{long_none, long_read}
+use Rattle.trace_check.proofs.ShortAnswers.{long_none, long_read, not_longer}
 use Rattle.trace_check.specs.Answerer.{free_length}
 use Rattle.trace_check.specs.AnswersShown.{clear_values, least_values, values_in, values_in_reply}
 use Rattle.trace_check.specs.ClearAnswers.{IsAnsweredAt, IsLongWith}
@@ -68,9 +67,6 @@ asked_few op blocks = by_op (op == 0) (op == 255)
 flag_most : (b : Bool) (n : ℕ) → cond b n 0 ≤ n
 flag_most true n = omega arith
 flag_most false n = omega arith
-
-not_longer : (n : ℕ) → n ≤ 4096 → nat_lt 4096 n ≡ false
-not_longer n few = grind (arith, nat_tests)
 
 module _ (r : RspSetup) (h : History) (p : Place) (m : List ℕ) (blocks : AreFewBlocks r) where
   abbrev k : Free

@@ -8,7 +8,7 @@ use Rattle.asking.specs.declared.joined.Asking.{Asking}
 use Rattle.requester_machine.proofs.Entries.{asked, test_is_false}
 use Rattle.requester_machine.specs.Asking.{asks}
 use Rattle.requester_machine.specs.Asking.Outcome.{Adds}
-use Rattle.requester_machine.specs.Commands.{Free, command_fault, exchange_for}
+use Rattle.requester_machine.specs.Commands.{Free, exchange_for}
 use Rattle.requester_machine.specs.History.{History, begins_large}
 use Rattle.requester_machine.specs.History.Entry.{Told}
 use Rattle.requester_machine.specs.May.{IsAllowed}
@@ -23,6 +23,7 @@ use Rattle.spdm_grammar.specs.Message.{ExchangeMessage, RequestMessage}
 use Rattle.spdm_grammar.specs.Message.RequestMessage.{GetVersion, GetCapabilities, NegotiateAlgorithms, GetMeasurements, PskExchange, PskFinish, Heartbeat, KeyUpdate, EndSession, ChunkSend, ChunkGet}
 use Rattle.spdm_grammar.specs.Requests.{FitsRequest, IsSoundRequest, canonical_request, request_in, request_layout}
 use Rattle.spdm_machine.specs.Bodies.{clear_body}
+use Rattle.trace_check.proofs.Shown.{connect_free, measure_free, open_free}
 use Rattle.trace_check.specs.Commanded.{IsOpenedAs, IsSentByCommand, IsSentFor, IsToldAs, IsToldSome, values_in}
 use Rattle.world_machine.proofs.AskTells.{IsSent, Kind, exchange_read, kind_of, sent_by_kind}
 use Rattle.world_machine.proofs.AskTells.Kind.{InClear, OfSession, Again}
@@ -37,18 +38,6 @@ canonical_read : (a : RequestMessage) → FitsRequest a → IsSoundRequest 0 a �
 canonical_read a fits sound = ap result_ok (spelling_read (request_layout 0) 0 a (canonical_request a) (request_spelled 0 a fits sound).is)
 
 -- ---- What is free changes nothing, but for PSK_EXCHANGE.
-
-connect_free : (q : ReqSetup) (h : History) (f k : Free) → asks false q h Connect f no_draw ≡ asks false q h Connect k no_draw
-unfolding asks command_fault
-connect_free q h f k = refl
-
-measure_free : (q : ReqSetup) (h : History) (op : ℕ) (f k : Free) → asks false q h (Measure None op) f no_draw ≡ asks false q h (Measure None op) k no_draw
-unfolding asks command_fault
-measure_free q h op f k = refl
-
-open_free : (q : ReqSetup) (h : History) (summary : ℕ) (f : Free) (pad : List ℕ) → asks false q h (Open summary) (record f { pad = pad }) no_draw ≡ asks false q h (Open summary) f no_draw
-unfolding asks command_fault
-open_free q h summary f pad = refl
 
 no_padding : (q : ReqSetup) (h : History) (f : Free) → IsAllowed q h f → IsAllowed q h (record f { pad = [] })
 no_padding q h f fits = record {

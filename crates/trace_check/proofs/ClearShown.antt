@@ -1,6 +1,5 @@
 -- What is read of an answer in the clear are the values that it shows.
 use Rattle.std.proofs.Common.{◌≡◌, ◌≤◌, ◌<◌, ◌+◌, ◌∙◌, ◌++◌, ◌∷◌, ℕ, List, [], Bool, true, false, ap, sym, refl, length, min, not, nat_eq, nat_lt, inl, inr, is_some, length-append, Option, Some, None, arith}
-use Rattle.std.proofs.lemmas.Bool.{false≢true}
 use Rattle.std.proofs.lemmas.Grind.{common_steps}
 use Rattle.std.specs.Prelude.{if◌then◌else◌, slice_index}
 use Rattle.chunking.proofs.FewChunks.{most, not_too_large}
@@ -14,6 +13,7 @@ use Rattle.responder_machine.specs.LargeMessages.{chunks_of}
 use Rattle.responder_machine.specs.Place.{Place, clear_place, inside}
 use Rattle.responder_machine.specs.Refusal.{chunk_fault, refusal}
 use Rattle.responder_machine.specs.Setup.{RspSetup}
+use Rattle.spdm_basis.proofs.Options.{none_out}
 use Rattle.spdm_grammar.specs.Message.{ChunkMessage, RequestMessage}
 use Rattle.spdm_grammar.specs.Message.RequestMessage.{ChunkSend}
 use Rattle.spdm_grammar.specs.declared.ChunkFault.{ChunkFault}
@@ -48,10 +48,6 @@ joined_few false max (d ∷ earlier) c few none =
     let fits = within (told_size (d ∷ earlier)) (length (joined (d ∷ earlier))) c (of_message _ _ _ none) in
     let long = length-append (joined (d ∷ earlier)) c.chunk in
     omega (arith, few, fits, long)
-
-none_of : {A : Type 0} (o : Option A) → is_some o ≡ false → o ≡ None
-none_of None is = refl
-none_of (Some a) is = absurd (false≢true (sym is))
 
 module _ (r : RspSetup) (h : History) (m reply : List ℕ) where
   abbrev p : Place
@@ -95,6 +91,6 @@ module _ (r : RspSetup) (h : History) (m reply : List ℕ) where
   no_room c f few some ack long so =
       let none = contents_shown r p m f (acked_taken f so ack) 8 in
       let rule : broken_rule r.max (under_way (chunks_of p.turns)) c ≡ None =
-      none_of (chunk_fault r p (Some (ChunkSend c))) (ap (λ (x : Option RequestMessage). is_some (chunk_fault r p x)) (sym (chunk_is (request_at p m) c some)) ∙ none) in
+      none_out (chunk_fault r p (Some (ChunkSend c))) (ap (λ (x : Option RequestMessage). is_some (chunk_fault r p x)) (sym (chunk_is (request_at p m) c some)) ∙ none) in
       let short = joined_few (nat_eq c.number 0) r.max (under_way (chunks_of p.turns)) c few rule in
       omega (arith, long, short)

@@ -1,10 +1,9 @@
 -- Whether a command sends a message in the clear.
-use Rattle.std.proofs.Common.{◌≡◌, ◌≢◌, ◌∙◌, ℕ, List, [], ◌∷◌, refl, sym, ap, subst, Bool, true, false, Option, Some, None, Ok, Err, cond, eqb-true, arith}
+use Rattle.std.proofs.Common.{◌≡◌, ◌∙◌, ℕ, List, [], ◌∷◌, refl, sym, ap, subst, Bool, true, false, Option, Some, None, Ok, Err, cond, eqb-true}
 use Rattle.std.specs.Prelude.{◌==◌, Result, is_some}
 use Rattle.std.specs.Bool.{Decides}
 use Rattle.std.specs.Result.{is_err}
 use Rattle.std.proofs.lemmas.Bool.{false≢true}
-use Rattle.std.proofs.lemmas.Bool.Decides.{nat_tests}
 use Rattle.std.proofs.lemmas.Option.{none-some, same_Some}
 use Rattle.asking.specs.Joined.{IsCommanded, IsDone, StandsFor}
 use Rattle.asking.specs.Slot.{shown_of}

@@ -1,5 +1,5 @@
 -- What is kept behind a command.
-use Rattle.std.proofs.Common.{◌≡◌, ◌<◌, ◌-◌, ◌^◌, ◌∙◌, ℕ, List, refl, sym, ap, subst, length, Bool, true, false, Option, Some, None, arith}
+use Rattle.std.proofs.Common.{◌≡◌, ◌<◌, ◌-◌, ◌^◌, ◌∙◌, ℕ, List, sym, ap, subst, length, Bool, true, false, Option, None, arith}
 use Rattle.std.specs.Prelude.{is_some}
 use Rattle.std.proofs.lemmas.Bool.{false≢true}
 use Rattle.asking.specs.Joined.{StandsFor}
@@ -7,6 +7,7 @@ use Rattle.asking.specs.declared.joined.Asking.{Asking}
 use Rattle.requester_machine.specs.History.{History, outstanding}
 use Rattle.requester_machine.specs.Message.{Sent}
 use Rattle.requester_machine.specs.Setup.{ReqSetup}
+use Rattle.spdm_basis.proofs.Options.{none_out}
 use Rattle.trace_check.proofs.OwedTook.{kept_short}
 use Rattle.trace_check.specs.Asker.{IsAsker, IsKeptSetup}
 use Rattle.trace_check.specs.Commanded.{IsCommandedBy, IsSentByCommand}
@@ -16,10 +17,6 @@ use Rattle.trace_check.specs.declared.asker_setup.AskerSetup.{AskerSetup}
 use Rattle.world_machine.specs.CapturedRequests.{Tells}
 use Rattle.world_machine.specs.Setup.{Configuration}
 
-none_in : (o : Option Sent) → is_some o ≡ false → o ≡ None
-none_in None is = refl
-none_in (Some sent) is = absurd (false≢true (sym is))
-
 module _ (q : ReqSetup) (k : Kept) (body : List ℕ) (old new : Asker) (asker : IsAsker old q k) where
   -- Not where a message is owed,
   pub owes_one : old.owes ≡ true → IsCommandedBy q k body false new
@@ -27,7 +24,7 @@ module _ (q : ReqSetup) (k : Kept) (body : List ℕ) (old new : Asker) (asker : 
 
   module _ (rests : old.owes ≡ false) where
     none_owed : k.owed ≡ None
-    none_owed = none_in k.owed (sym asker.owes ∙ rests)
+    none_owed = none_out k.owed (sym asker.owes ∙ rests)
 
     pub bare_stands : (seen : Asking) → StandsFor seen q (owing k.owed k.requester) → StandsFor seen q k.requester
     bare_stands seen stands = subst (λ (o : Option Sent). StandsFor seen q (owing o k.requester)) none_owed stands
@@ -37,7 +34,7 @@ module _ (q : ReqSetup) (k : Kept) (body : List ℕ) (old new : Asker) (asker : 
     waits_for_one is = λ after c. false≢true (ap is_some (sym c.2) ∙ is)
 
     pub none_waits : is_some (outstanding k.requester) ≡ false → outstanding k.requester ≡ None
-    none_waits is = none_in (outstanding k.requester) is
+    none_waits is = none_out (outstanding k.requester) is
 
     pub commanded_by : outstanding k.requester ≡ None → new.setup ≡ old.setup → new.owes ≡ old.owes → (b : Bool) → IsSentByCommand q k.requester body b new.asking → IsCommandedBy q k body b new
     commanded_by none same owes true told =

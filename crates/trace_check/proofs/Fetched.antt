@@ -68,7 +68,7 @@ plain_holds r g h (Unopened b) plain holds = holds
 plain_holds r g h (Adds e) plain holds = small_holds r e h (not-true _ (and_first _ _ plain)) holds
 
 -- While it is fetched they do not stand there.
-no_bytes : (x : Effect) (b : Bool) → is_some (handle_in x) ≡ true → cond (is_some (handle_in (effect_with [] x))) (has_bytes (answer_in (effect_with [] x))) b ≡ false
+pub no_bytes : (x : Effect) (b : Bool) → is_some (handle_in x) ≡ true → cond (is_some (handle_in (effect_with [] x))) (has_bytes (answer_in (effect_with [] x))) b ≡ false
 no_bytes NoEffect b large = absurd (false≢true large)
 no_bytes (Took asked request answer large) b is = ap (λ (x : Bool). cond x false b) is
 no_bytes (TookData bytes answer) b large = absurd (false≢true large)

@@ -1,5 +1,5 @@
 -- What an answer leaves of whether the large answer that went last was fetched.
-use Rattle.std.proofs.Common.{◌≡◌, ◌↔◌, ◌∙◌, List, ℕ, [], ◌∷◌, refl, ap, sym, Bool, true, false, is_some, cond}
+use Rattle.std.proofs.Common.{◌≡◌, ◌↔◌, ◌∙◌, List, ℕ, [], ◌∷◌, refl, ap, sym, Bool, true, false, cond}
 use Rattle.std.proofs.lemmas.Bool.{false≢true, not-false, not-true}
 use Rattle.responder_machine.specs.History.{Entry, History}
 use Rattle.responder_machine.specs.History.Entry.{Clear, Sealed, Queued, Ticked, Dropped}
@@ -7,9 +7,8 @@ use Rattle.responder_machine.specs.May.{with_dropped}
 use Rattle.responder_machine.specs.Responder.{Outcome, after}
 use Rattle.responder_machine.specs.Responder.Outcome.{Same, Unopened, Adds}
 use Rattle.responder_machine.specs.Setup.{RspSetup}
-use Rattle.responder_machine.specs.Turn.{Effect, answer_in, handle_in}
-use Rattle.responder_machine.specs.Turn.Effect.{NoEffect, Took, TookData}
 use Rattle.spdm_basis.proofs.Bools.{and_first}
+use Rattle.trace_check.proofs.Fetched.{no_bytes}
 use Rattle.trace_check.specs.Answerer.{history_shown}
 use Rattle.trace_check.specs.AnswersShown.{is_whole, values_shown_by}
 use Rattle.trace_check.specs.ClearAnswers.{EndsLarge}
@@ -17,7 +16,7 @@ use Rattle.trace_check.specs.DropsShown.{IsShownAnswer, drops_shown_by, outcome_
 use Rattle.trace_check.specs.LargeShown.{IsShownLarge, IsShownLast, begun_large, ends_large, has_bytes, large_shown, last_shown, was_fetched, whole_of}
 use Rattle.world_machine.proofs.SmallGets.{gets_are_small}
 use Rattle.world_machine.specs.CapturedAnswers.{MayLeadTo, is_plain}
-use Rattle.world_machine.specs.LargeAnswers.{effect_with, is_large}
+use Rattle.world_machine.specs.LargeAnswers.{is_large}
 
 dropped_on : (ids : List ℕ) (h : History) → was_fetched (with_dropped h ids) ≡ was_fetched h
 dropped_on [] h = refl
@@ -49,12 +48,6 @@ module _ (r : RspSetup) (h : History) (tag : ℕ) (body answer : List ℕ) where
 -- So of a last chunk no more is left to be known.
 pub last_is : (r : RspSetup) (h : History) (tag : ℕ) (body answer : List ℕ) → IsShownLast r h tag body answer ↔ (EndsLarge r h tag body answer × (was_fetched h ≡ true))
 last_is r h tag body answer = (λ s. ((s.0, s.1, s.3), s.2), λ s. (s.0.0, s.0.1, s.1, s.0.2))
-
--- LargeResponse stands with no bytes.
-no_bytes : (x : Effect) (b : Bool) → is_some (handle_in x) ≡ true → cond (is_some (handle_in (effect_with [] x))) (has_bytes (answer_in (effect_with [] x))) b ≡ false
-no_bytes NoEffect b large = absurd (false≢true large)
-no_bytes (Took asked request answer large) b is = ap (λ (x : Bool). cond x false b) is
-no_bytes (TookData bytes answer) b large = absurd (false≢true large)
 
 begun_on : (h : History) (o : Outcome) → is_whole o ≡ false → was_fetched (begun_large h o) ≡ false
 begun_on h (Same b) large = absurd (false≢true (sym large))

@@ -1,7 +1,7 @@
 -- Whether a record is apart from the PSK_FINISH that is owed.
 use Rattle.std.proofs.Common.{◌≡◌, ◌≢◌, ◌≤◌, ◌<◌, ◌-◌, ◌^◌, ◌∙◌, ℕ, List, [], ◌∷◌, Bool, true, false, Option, Some, None, refl, sym, ap, subst, length, drop, arith}
 use Rattle.std.specs.Prelude.{◌&&◌, is_none}
-use Rattle.std.proofs.lemmas.Bool.{false≢true}
+use Rattle.std.proofs.lemmas.Bool.{and_parts, false≢true}
 use Rattle.std.proofs.lemmas.Option.{none-some, same_Some}
 use Rattle.asking.proofs.OwedClear.{out_last}
 use Rattle.asking.proofs.OwedSessions.{IsOwed, as_long, is_owed, upon, upon_last}
@@ -142,10 +142,6 @@ not_two true true c d is = absurd (false≢true (sym is))
 not_two false b c d is = refl
 not_two true false c d is = refl
 
-both_are : (a b : Bool) → (a && b) ≡ true → (a ≡ true) × (b ≡ true)
-both_are true b is = (refl, is)
-both_are false b is = absurd (false≢true is)
-
 -- ---- The session of what is owed.
 
 module _ (x : Asking) (q : ReqSetup) (bare : History) (sent : Sent) (took : TookFor bare sent.aim) (stands : StandsFor x q (with_next (Some sent) bare)) where
@@ -234,7 +230,7 @@ module _ (x : Asking) (q : ReqSetup) (bare : History) (sent : Sent) (took : Took
       open_apart out own view opened own_is is =
           let h : History = with_next (Some sent) bare in
           let s = session_of id bare in
-          let two = both_are (names sealed s) (opens_own q.psk s sealed) opened.0 in
+          let two = and_parts (names sealed s) (opens_own q.psk s sealed) opened.0 in
           let inner : out ≡ inner_asking q s sealed = opened.1 ∙ sym (inner_same q s sealed) in
           let choice : view.choice ≡ (session_terms s).choice = choice_shown (session_of id h) view (view_is (session_of id h) view is) ∙ ap (λ (t : Steps). (session_terms t).choice) owed.steps in
           ap (λ (c : Choice). is_padded sealed out && is_apart (hash_size c.hash) own out) choice ∙ ap (λ (l : List ℕ). is_padded sealed out && is_apart (hash_len (session_terms s)) l out) own_is

@@ -16,7 +16,7 @@ use Rattle.trace_check.specs.declared.asker_setup.AskerSetup.{AskerSetup}
 use Rattle.requester_machine.specs.Owed.{with_next}
 use Rattle.world_machine.specs.Setup.{Configuration}
 
-some_of : (o : Option Sent) → is_some o ≡ true → (sent : Sent) × (o ≡ Some sent)
+pub some_of : (o : Option Sent) → is_some o ≡ true → (sent : Sent) × (o ≡ Some sent)
 some_of None is = absurd (false≢true is)
 some_of (Some sent) is = (sent, refl)
 

@@ -6,7 +6,7 @@ use Rattle.requester_machine.specs.Asking.Outcome.{Fails, Ignores, Warns, Resend
 use Rattle.requester_machine.specs.Bodies.{has_tag}
 use Rattle.requester_machine.specs.Commands.{Free}
 use Rattle.requester_machine.specs.Hearing.{hears}
-use Rattle.requester_machine.specs.History.{Entry, History, Led, outstanding, sent_in}
+use Rattle.requester_machine.specs.History.{Entry, History, outstanding, sent_in}
 use Rattle.requester_machine.specs.History.Entry.{Told, TookClear, TookRecord}
 use Rattle.requester_machine.specs.May.{IsAllowed}
 use Rattle.requester_machine.specs.Message.{Content, Sent}
@@ -22,7 +22,7 @@ use Rattle.requester_machine.specs.Owed.{content_with, sent_with}
 use Rattle.world_machine.proofs.Agrees.{Agree, HaveIds}
 use Rattle.world_machine.proofs.AskersBegin.{dial}
 use Rattle.world_machine.proofs.HeardNext.{other_tag}
-use Rattle.world_machine.proofs.HearsAlike.{EntryAlike, LedAlike, NextAlike, OutcomeAlike, SentAlike, hears_alike}
+use Rattle.world_machine.proofs.HearsAlike.{EntryAlike, NextAlike, OutcomeAlike, SentAlike, hears_alike}
 use Rattle.world_machine.proofs.HearsAlike.SentAlike.{Equal, Padded}
 use Rattle.world_machine.specs.CapturedAnswers.{Hears}
 use Rattle.world_machine.specs.CapturedRequests.{is_later}

@@ -26,15 +26,15 @@ use Rattle.world_machine.specs.Rounds.{no_draw}
 
 -- ---- What is free changes nothing, but for PSK_EXCHANGE.
 
-connect_free : (q : ReqSetup) (h : History) (f k : Free) → asks false q h Connect f no_draw ≡ asks false q h Connect k no_draw
+pub connect_free : (q : ReqSetup) (h : History) (f k : Free) → asks false q h Connect f no_draw ≡ asks false q h Connect k no_draw
 unfolding asks command_fault
 connect_free q h f k = refl
 
-measure_free : (q : ReqSetup) (h : History) (op : ℕ) (f k : Free) → asks false q h (Measure None op) f no_draw ≡ asks false q h (Measure None op) k no_draw
+pub measure_free : (q : ReqSetup) (h : History) (op : ℕ) (f k : Free) → asks false q h (Measure None op) f no_draw ≡ asks false q h (Measure None op) k no_draw
 unfolding asks command_fault
 measure_free q h op f k = refl
 
-open_free : (q : ReqSetup) (h : History) (summary : ℕ) (f : Free) (pad : List ℕ) → asks false q h (Open summary) (record f { pad = pad }) no_draw ≡ asks false q h (Open summary) f no_draw
+pub open_free : (q : ReqSetup) (h : History) (summary : ℕ) (f : Free) (pad : List ℕ) → asks false q h (Open summary) (record f { pad = pad }) no_draw ≡ asks false q h (Open summary) f no_draw
 unfolding asks command_fault
 open_free q h summary f pad = refl
 

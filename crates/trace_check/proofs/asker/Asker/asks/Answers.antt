@@ -1,7 +1,8 @@
 use Rattle.std.proofs.Common.{◌∙◌, Bool, Option, subst, refl, sym}
 use Rattle.asking.specs.Joined.{StandsFor}
 use Rattle.requester_machine.specs.Message.{Sent}
-use Rattle.trace_check.proofs.AskedBy.{bare_kept, command_asks, none_kept, none_waits, owed_asks, owed_busy, some_in, version_asks, waits_busy}
+use Rattle.trace_check.proofs.AskedBy.{bare_kept, command_asks, none_kept, none_waits, owed_asks, owed_busy, version_asks, waits_busy}
+use Rattle.trace_check.proofs.GoneOn.{some_of}
 use Rattle.trace_check.proofs.CommandedBy.{kept_few}
 use Rattle.trace_check.proofs.OwedTook.{owed_took}
 use Rattle.trace_check.proofs.asker.Asker.asks.Goals as goal
@@ -15,7 +16,7 @@ returns-then-goes_on c = λ w q older k keeps few fits asker.
 pub returns-then-self : goal.returns-then-self
 returns-then-self c = λ w q older k keeps few fits asker.
     let gone = subst (λ (b : Bool). IsGoneOn q k c.args.body.now b c.goes_on.new.self) c.if-goes_on.false (c.goes_on.ensures w q older k keeps few fits asker) in
-    let some = some_in k.owed (sym gone.1.owes ∙ c.if-self.true) in
+    let some = some_of k.owed (sym gone.1.owes ∙ c.if-self.true) in
     let stands = subst (λ (o : Option Sent). StandsFor c.goes_on.new.self.asking q (owing o k.requester)) some.1 gone.1.stands in
     version_asks q k c.args.body.now c.goes_on.new.self _ gone.1 refl refl gone.0 (owed_busy k some.0 some.1) c.connects_instead.result
     (c.connects_instead.ensures q k.requester some.0 gone.1.kept.limits (owed_took w q older k some.0 keeps some.1) stands)

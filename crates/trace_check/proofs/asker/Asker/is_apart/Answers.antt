@@ -2,7 +2,7 @@ use Rattle.std.proofs.Common.{◌≤◌, ◌∙◌, List, ℕ, Option, Some, ap,
 use Rattle.asking.specs.Joined.{StandsFor}
 use Rattle.requester_machine.specs.Message.{Sent}
 use Rattle.requester_machine.specs.Owed.{with_next}
-use Rattle.trace_check.proofs.AskedBy.{some_in}
+use Rattle.trace_check.proofs.GoneOn.{some_of}
 use Rattle.trace_check.proofs.CommandedBy.{kept_few}
 use Rattle.trace_check.proofs.FinishApart.{drop_short, long_with, owing_long}
 use Rattle.trace_check.proofs.OwedSent.{out_owed}
@@ -21,7 +21,7 @@ returns-then-not-self-clause-apart c = λ w q older k keeps few asker. none_apar
 
 pub returns-clause-apart : goal.returns-clause-apart
 returns-clause-apart c = λ w q older k keeps few asker.
-    let some = some_in k.owed (sym asker.owes ∙ c.if-not-self.false) in
+    let some = some_of k.owed (sym asker.owes ∙ c.if-not-self.false) in
     let sent = some.0 in
     let short = kept_few w q older k keeps few in
     let took = owed_took w q older k sent keeps some.1 in

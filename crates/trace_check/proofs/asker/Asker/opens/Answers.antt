@@ -1,7 +1,8 @@
 use Rattle.std.proofs.Common.{◌∙◌, Option, subst, sym}
 use Rattle.asking.specs.Joined.{StandsFor}
 use Rattle.requester_machine.specs.Message.{Sent}
-use Rattle.trace_check.proofs.AskedBy.{bare_kept, some_in}
+use Rattle.trace_check.proofs.AskedBy.{bare_kept}
+use Rattle.trace_check.proofs.GoneOn.{some_of}
 use Rattle.trace_check.proofs.CommandedBy.{kept_few}
 use Rattle.trace_check.proofs.OwedTook.{owed_took}
 use Rattle.trace_check.proofs.asker.Asker.opens.Goals as goal
@@ -9,7 +10,7 @@ use Rattle.trace_check.specs.Keeping.{owing}
 
 pub returns-then-self-clause-opens : goal.returns-then-self-clause-opens
 returns-then-self-clause-opens c = λ w q older k keeps few asker.
-    let some = some_in k.owed (sym asker.owes ∙ c.if-self.true) in
+    let some = some_of k.owed (sym asker.owes ∙ c.if-self.true) in
     let stands = subst (λ (o : Option Sent). StandsFor c.args.self.now.asking q (owing o k.requester)) some.1 asker.stands in
     c.opens_before.ensures q k.requester some.0 (owed_took w q older k some.0 keeps some.1) (kept_few w q older k keeps few) stands
 

@@ -1,4 +1,4 @@
-use Rattle.std.proofs.Common.{◌≡◌, ◌∙◌, sym, ap, subst, ℕ, Some}
+use Rattle.std.proofs.Common.{◌≡◌, ◌∙◌, sym, ap, subst, ℕ}
 use Rattle.trace_check.proofs.party.Party.go_on.Goals as goal
 use Rattle.trace_check.specs.Asker.{IsAsker}
 use Rattle.trace_check.specs.HeardKept.{heard_kept}
