@@ -1,5 +1,5 @@
 -- No more messages came to the responder of one requester than there are packets.
-use Rattle.std.proofs.Common.{◌≡◌, ◌≤◌, ◌<◌, ◌+◌, ◌-◌, ◌^◌, ◌⊎◌, ℕ, List, [], ◌∷◌, refl, sym, ap, subst, length, Bool, true, false, Option, Some, None, Result, Ok, Err, cond, inl, inr, arith}
+use Rattle.std.proofs.Common.{◌≡◌, ◌≤◌, ◌+◌, ◌⊎◌, ℕ, List, [], ◌∷◌, refl, sym, ap, subst, length, Bool, true, false, Option, Some, None, Result, Ok, Err, cond, inl, inr, arith}
 use Rattle.std.specs.Prelude.{MatchBool}
 use Rattle.mctp_framing.specs.Gathering.{Gathered}
 use Rattle.mctp_framing.specs.Gathering.Gathered.{Whole, More, Dropped as Refused}
@@ -20,7 +20,7 @@ use Rattle.trace_check.specs.Walks.{StepsBy, StepsTo, Walks}
 use Rattle.world_machine.specs.Capture.{AsksBy, Begins, Copies, RepliesBy}
 use Rattle.world_machine.specs.CapturedAnswers.{Answers}
 use Rattle.world_machine.specs.LargeAnswers.{dropped_before_large, entry_with, is_large, judging, with_large}
-use Rattle.world_machine.specs.Rounds.{Dialogue, Round, new_dialogue}
+use Rattle.world_machine.specs.Rounds.{Dialogue, Round}
 use Rattle.world_machine.specs.Setup.{Configuration, known_of}
 
 -- ---- What does not count.

@@ -90,6 +90,7 @@ pub mod LastTold
 pub mod RecordShown
 pub mod KeysKept
 pub mod KeysFollow
+pub mod AcceptedBy
 pub mod HearsKept
 pub mod FewMessages
 pub mod InTurn

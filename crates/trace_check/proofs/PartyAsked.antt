@@ -1,11 +1,9 @@
 -- What is kept of a requester and the responder behind a request, or why it is refused.
-use Rattle.std.proofs.Common.{◌≡◌, ◌+◌, ◌==◌, ◌&&◌, ◌⊎◌, ◌∙◌, ℕ, List, refl, sym, ap, subst, Bool, true, false, Option, Some, None, cond, inl, inr, Result, Ok, Err, arith, eqb-true}
+use Rattle.std.proofs.Common.{◌≡◌, ◌+◌, ◌==◌, ◌&&◌, ◌∙◌, ℕ, List, refl, sym, ap, subst, Bool, true, false, Option, Some, None, cond, inl, inr, Result, Ok, Err, arith, eqb-true}
 use Rattle.std.proofs.lemmas.Bool.{false≢true}
 use Rattle.std.proofs.lemmas.Bool.Decides.{nat_tests}
-use Rattle.std.proofs.lemmas.Option.{none-some, same_Some}
 use Rattle.std.proofs.lemmas.Slice.Eq.{bytes_eq-Decides}
 use Rattle.std.specs.Prelude.{bytes_eq}
-use Rattle.asking.specs.Joined.{StandsFor}
 use Rattle.mctp_framing.specs.Cutting.{RouteFields}
 use Rattle.mctp_framing.specs.Gathering.Gathered.{Whole}
 use Rattle.requester_machine.specs.History.{History}
@@ -18,7 +16,7 @@ use Rattle.trace_check.specs.Answerer.{IsAnswerer}
 use Rattle.trace_check.specs.Asked.{IsRefusedFor}
 use Rattle.trace_check.specs.Asker.{IsAsker, is_first_chunk}
 use Rattle.trace_check.specs.Judged.{why_of}
-use Rattle.trace_check.specs.Keeping.{AsksKept, BeginsKept, CopiesKept, Kept, SendsKept, restored}
+use Rattle.trace_check.specs.Keeping.{AsksKept, CopiesKept, Kept, SendsKept, restored}
 use Rattle.trace_check.specs.Order.{asks_wrong}
 use Rattle.trace_check.specs.Party.{IsAsked, IsComingWhy, IsParty}
 use Rattle.trace_check.specs.RepliesShown.{responder_for}
@@ -28,7 +26,7 @@ use Rattle.trace_check.specs.declared.onward.Onward.{Onward}
 use Rattle.trace_check.specs.declared.onward.Onward.TheVariants as onward
 use Rattle.trace_check.specs.declared.party.Party.{Party}
 use Rattle.world_machine.specs.Capture.{may_begin}
-use Rattle.world_machine.specs.Difference.{Why, asks_apart, comes_why, is_copy, is_other_type, request_why}
+use Rattle.world_machine.specs.Difference.{Why, comes_why, is_copy, request_why}
 use Rattle.world_machine.specs.Difference.Why.{BadPacket, UnknownEnd, WrongTurn, BadRequest, BadReply, BadVerify, BadRecord}
 use Rattle.world_machine.specs.Rounds.{Round, new_round}
 use Rattle.world_machine.specs.Setup.{Configuration}

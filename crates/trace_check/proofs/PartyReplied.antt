@@ -1,6 +1,5 @@
 -- What is kept of a requester and the responder behind an answer, or why it is refused.
-use Rattle.std.proofs.Common.{◌≡◌, ◌==◌, ◌||◌, ◌-◌, ◌^◌, ◌<◌, ◌⊎◌, ◌∙◌, ℕ, List, refl, sym, ap, subst, Bool, true, false, Option, Some, None, cond, drop, length, arith, inl, inr, Ok, Err}
-use Rattle.std.proofs.lemmas.Bool.{false≢true}
+use Rattle.std.proofs.Common.{◌≡◌, ◌==◌, ◌||◌, ◌-◌, ◌^◌, ◌<◌, ◌⊎◌, ◌∙◌, ℕ, List, refl, sym, ap, subst, Bool, true, false, Option, Some, cond, drop, length, arith, inl, inr, Ok, Err}
 use Rattle.std.proofs.lemmas.Option.{same_Some}
 use Rattle.mctp_framing.specs.Cutting.{RouteFields}
 use Rattle.mctp_framing.specs.Gathering.Gathered.{Whole}
@@ -27,7 +26,7 @@ use Rattle.trace_check.specs.AnswersShown.{values_shown_by}
 use Rattle.trace_check.specs.DropsShown.{IsShownAnswer, drops_shown_by, outcome_shown}
 use Rattle.trace_check.specs.HeardKept.{heard_kept}
 use Rattle.trace_check.specs.Keeping.{Keeps, Kept, RepliesKept, restored}
-use Rattle.trace_check.specs.LargeShown.{IsShownLarge, IsShownLast, last_shown}
+use Rattle.trace_check.specs.LargeShown.{IsShownLarge, IsShownLast}
 use Rattle.trace_check.specs.Order.{replies_wrong}
 use Rattle.trace_check.specs.Judged.{why_of}
 use Rattle.trace_check.specs.Party.{IsParty, body_in, tag_in}
@@ -38,7 +37,7 @@ use Rattle.trace_check.specs.RepliesTold.{LastKept, UnfetchedKept}
 use Rattle.trace_check.specs.declared.asker.Asker.{Asker}
 use Rattle.trace_check.specs.declared.onward.Onward.TheVariants as onward
 use Rattle.trace_check.specs.declared.party.Party.{Party}
-use Rattle.world_machine.specs.Difference.{AreRepliesApart, GoesApart, Why, goes_why, is_other_type, reply_why}
+use Rattle.world_machine.specs.Difference.{AreRepliesApart, GoesApart, Why, goes_why, reply_why}
 use Rattle.world_machine.specs.Difference.Why.{BadPacket, UnknownEnd, WrongTurn, BadRequest, BadReply, BadVerify, BadRecord}
 use Rattle.world_machine.specs.Opening.{opens_answering}
 use Rattle.world_machine.specs.Rounds.{Round, no_draw}

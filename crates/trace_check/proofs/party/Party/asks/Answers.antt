@@ -1,5 +1,4 @@
-use Rattle.std.proofs.Common.{◌≡◌, ◌∙◌, refl, sym, ap, subst, ℕ, Bool, Option, true, false, Result}
-use Rattle.requester_machine.specs.History.{History}
+use Rattle.std.proofs.Common.{◌∙◌, refl, sym, ap, subst, ℕ, Option, Result}
 use Rattle.script_text.specs.declared.why.Why as declared
 use Rattle.std.proofs.lemmas.Bool.{false≢true}
 use Rattle.trace_check.proofs.InTurn.{asks_in_turn}
