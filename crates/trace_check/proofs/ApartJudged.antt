@@ -20,6 +20,7 @@ use Rattle.trace_check.proofs.ClearJudged.{IsOne, adds_at, again_still, at, drop
 use Rattle.trace_check.proofs.ShownDrops.{large_drops, small_drops}
 use Rattle.trace_check.specs.Answerer.{shows_large}
 use Rattle.trace_check.specs.AnswersShown.{LeadsAt, clear_values, least_values}
+use Rattle.trace_check.specs.ApartShown.{IsApartShown}
 use Rattle.trace_check.specs.ClearAnswers.{IsApart, IsApartAt, IsJudgedAt, dropped_before, given_of}
 use Rattle.trace_check.specs.DropsShown.{clear_drops, dropped_for, drops_shown_by, id_begun, outcome_shown, response_of}
 use Rattle.trace_check.specs.ShownBy.{AnswersSo}
@@ -29,6 +30,7 @@ use Rattle.trace_check.specs.declared.given.Judged.TheVariants as judged
 use Rattle.world_machine.specs.CapturedAnswers.{is_plain}
 use Rattle.world_machine.specs.Difference.{carries_exchange, is_apart}
 use Rattle.world_machine.specs.LargeAnswers.{is_large}
+use Rattle.world_machine.specs.Rounds.{Dialogue, Round}
 
 -- A drop changes no hash.
 same_hash : (ids : List ℕ) (h : History) → hash_len (place_terms (clear_place (with_dropped h ids))) ≡ hash_len (place_terms (clear_place h))
@@ -176,3 +178,7 @@ apart_so r h tag m f reply anew a =
 pub none_judged : (r : RspSetup) (h : History) (tag : ℕ) (m : List ℕ) (f : Free) (reply : List ℕ) → is_repeat (kept_of h) tag m ≡ false → (AnswersSo r h m reply f → ⊥) → IsJudgedAt r h tag m f reply judged.Refused
 none_judged r h tag m f reply anew never =
     (λ a. never (answers_so r h m tag f reply anew a), (λ e. absurd (let same = e in cc), λ a. absurd (never (apart_so r h tag m f reply anew a))))
+
+-- It is what the laws say.
+pub apart_is : (r : RspSetup) (d : Dialogue) (round : Round) (answer : List ℕ) → IsApartShown r d round answer ↔ IsApart r d.responder round.tag round.body answer
+apart_is r d round answer = (λ s. s, λ s. s)

@@ -88,6 +88,9 @@ pub mod ClearShown
 pub mod AnyAnswers
 pub mod LastTold
 pub mod RecordShown
+pub mod RecordTold
+pub mod RecordAnswered
+pub mod RecordClosed
 pub mod KeysKept
 pub mod KeysFollow
 pub mod AcceptedBy
@@ -113,4 +116,5 @@ pub mod ClearAnew
 pub mod ShownDrops
 pub mod ApartLengths
 pub mod ApartJudged
+pub mod FetchedOn
 pub mod JudgedInClear

@@ -1,5 +1,5 @@
 -- What the program goes by where it reads the values that an answer shows. This project's own.
-use Rattle.std.specs.Prelude.{◌≡◌, ◌≤◌, ◌==◌, ◌&&◌, ◌||◌, Bool, true, false, drop, is_none, slice_index, ℕ, List, length, Option, Some, None}
+use Rattle.std.specs.Prelude.{◌≡◌, if◌then◌else◌, [], ◌∷◌, ◌≤◌, ◌==◌, ◌&&◌, ◌||◌, Bool, true, false, drop, is_none, slice_index, ℕ, List, length, Option, Some, None}
 use Rattle.connection.specs.Free.{IsFree}
 use Rattle.connection.specs.declared.free_values.FreeValues.{FreeValues}
 use Rattle.measurements.specs.Blocks.{record_of}
@@ -18,9 +18,9 @@ use Rattle.spdm_grammar.specs.declared.names.TheConstants.{MAX_MESSAGE_SIZE}
 use Rattle.spdm_grammar.specs.declared.names.response_code.TheConstants.{CHUNK_RESPONSE}
 use Rattle.trace_check.specs.Answerer.{shows_large}
 use Rattle.trace_check.specs.AnswersShown.{least_values, values_in_text}
-use Rattle.trace_check.specs.DropsShown.{response_of}
+use Rattle.trace_check.specs.DropsShown.{may_be_dropped, response_of}
 use Rattle.trace_check.specs.declared.response_values.AnswerPlace.{AnswerPlace}
-use Rattle.world_machine.specs.CapturedAnswers.{clear_answer, is_plain, record_answer}
+use Rattle.world_machine.specs.CapturedAnswers.{belongs_to, clear_answer, is_plain, record_answer}
 use Rattle.world_machine.specs.Rounds.{no_draw}
 
 -- The program goes by what was settled at this place: the hash, the transfer size of the requester, and how many bytes
@@ -84,3 +84,8 @@ pub record IsTaken (r : RspSetup) (h : History) (request : List ℕ) : Type 0 wh
 -- The record is the last one of the ended session, or of the session that it names.
 abbrev pub IsRepeated : History → (request : List ℕ) → Type 0
 IsRepeated h request = (repeats (ended_of h) request || repeats (last_of (session_of (id_in_record request) h)) request) ≡ true
+
+-- The session that is dropped where a record is answered in the clear.
+abbrev pub closed_drops : RspSetup → History → (request : List ℕ) → List ℕ
+closed_drops r h request =
+    let id = id_in_record request in if belongs_to r (session_of id h) request && may_be_dropped h id then id ∷ [] else []
