@@ -3,6 +3,7 @@ use Rattle.std.proofs.Common.{◌≡◌, ◌==◌, ◌<◌, ◌-◌, ◌^◌, �
 use Rattle.std.proofs.lemmas.Bool.{false≢true, not-true}
 use Rattle.std.proofs.lemmas.Option.{none-some}
 use Rattle.asking.specs.Joined.{IsAnswered, IsSentAs, StandsFor}
+use Rattle.asking.specs.OwnRecords.{session_awaited}
 use Rattle.asking.specs.declared.joined.Asking.{Asking}
 use Rattle.asking.specs.declared.reaction.Reaction.{Reaction}
 use Rattle.requester_machine.specs.Asking.{Outcome}
@@ -17,12 +18,13 @@ use Rattle.requester_machine.specs.Session.{session_of}
 use Rattle.requester_machine.specs.Setup.{ReqSetup}
 use Rattle.requester_machine.specs.Shown.{after, event_of, sent_by}
 use Rattle.responder_machine.specs.History as responder_history
+use Rattle.trace_check.proofs.AcceptedBy.{accepted_shown, accepts, accepts_none}
 use Rattle.trace_check.proofs.KeptAnswers.{kept_is_restored}
 use Rattle.trace_check.proofs.KeptParts.{Owes, it_owes, kept_is, next_twice}
 use Rattle.trace_check.proofs.OneWalk.{walks_alike}
 use Rattle.trace_check.proofs.Repadding.{agree_self, heard_with}
 use Rattle.trace_check.specs.Asker.{IsAsker, IsKeptSetup}
-use Rattle.trace_check.specs.HeardKept.{IsHeardAs, heard_kept}
+use Rattle.trace_check.specs.HeardKept.{IsHeardAs, accepted_from, heard_kept}
 use Rattle.trace_check.specs.Keeping.{Keeps, Kept, kept_of, owing, restored}
 use Rattle.trace_check.specs.Padding.{next_with, session_asked}
 use Rattle.trace_check.specs.RepliesShown.{answered, heard_from, no_values}
@@ -111,6 +113,14 @@ module _ (w : Configuration) (q : ReqSetup) (older : List (List ℕ)) (k : Kept)
       let apart : has_tag (Some has.sent) tag ≡ false =
       ap (λ (n : ℕ). has.sent.tag == n) (sym one) ∙ not-true (has.sent.tag == round.tag) (sym (ap later has.waits) ∙ due) in
       other_tag k.setup h has.sent no_values tag answer no_draw has.waits apart
+
+  pub deaf_accepts : is_some k.owed ≡ true → accepted_from k tag answer ≡ None
+  unfolding heard_from accepted_from
+  deaf_accepts some = accepts_none h o (deaf some)
+
+  pub accepted_is : accepted_from k tag answer ≡ accepted_shown (outstanding h) (outstanding (after h o))
+  unfolding accepted_from
+  accepted_is = accepts k.setup h tag answer no_values no_draw o refl
 
   pub deaf_kept : is_some k.owed ≡ true → heard_kept k behind tag round answer ≡ seen
   deaf_kept some = ap (λ (l : History). kept_of (at l)) (deaf some) ∙ same_kept
@@ -222,3 +232,23 @@ module _ (w : Configuration) (q : ReqSetup) (older : List (List ℕ)) (k : Kept)
         stands = subst (λ (x : ReqSetup). StandsFor new.asking x (owing (heard_kept k behind tag round answer).owed (heard_kept k behind tag round answer).requester)) asker.setup stands.0;
         owes = stands.1;
       }
+
+  -- What it accepts: nothing while it owes a message,
+  pub deaf_accepted : (old : Asker) → IsAsker old q k → old.owes ≡ true → None ≡ accepted_from k tag answer
+  deaf_accepted old asker owing = sym (deaf_accepts w q older k behind round tag answer keeps is one (sym asker.owes ∙ owing))
+
+  -- and else what it awaits behind, where it awaited no record before.
+  pub heard_accepted : (old new : Asker) (before : Bool) (result : Option ℕ) → IsAsker old q k → old.owes ≡ false → length k.requester < 2 ^ 64 - 1
+      → ((p : ReqSetup) (h : History) → IsKeptSetup old.setup p → length h < 2 ^ 64 - 1 → StandsFor old.asking p h → IsHeardAs p h tag answer new.owes new.asking)
+      → ((p : ReqSetup) (h : History) → StandsFor old.asking p h → before ≡ is_some (session_awaited (outstanding h)))
+      → ((p : ReqSetup) (h : History) → StandsFor new.asking p h → result ≡ cond before None (session_awaited (outstanding h)))
+      → result ≡ accepted_from k tag answer
+  heard_accepted old new before result asker rests few heard first_told told =
+      let none : k.owed ≡ None = none_in k.owed (sym asker.owes ∙ rests) in
+      let bare : (restored k).requester ≡ k.requester = ap (λ (o : Option Sent). owing o k.requester) none in
+      let own : StandsFor old.asking k.setup k.requester = subst (λ (x : ReqSetup). StandsFor old.asking x k.requester) (sym asker.setup) (subst (StandsFor old.asking q) bare asker.stands) in
+      let limits : IsKeptSetup old.setup k.setup = subst (IsKeptSetup old.setup) (sym asker.setup) asker.kept in
+      let here : IsHeardAs k.setup (restored k).requester tag answer new.owes new.asking = subst (λ (h : History). IsHeardAs k.setup h tag answer new.owes new.asking) (sym bare) (heard k.setup k.requester limits few own) in
+      let first : before ≡ is_some (session_awaited (outstanding (restored k).requester)) = first_told k.setup k.requester own ∙ ap (λ (h : History). is_some (session_awaited (outstanding h))) (sym bare) in
+      let last : History = after (restored k).requester (hears k.setup (restored k).requester false tag answer no_values no_draw) in
+      told k.setup last here.stands ∙ ap (λ (b : Bool). cond b None (session_awaited (outstanding last))) first ∙ sym (accepted_is w q older k behind round tag answer keeps is one)

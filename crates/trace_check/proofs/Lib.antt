@@ -93,6 +93,7 @@ pub mod RecordAnswered
 pub mod RecordClosed
 pub mod KeysKept
 pub mod KeysFollow
+pub mod AcceptedBy
 pub mod HearsKept
 pub mod FewMessages
 pub mod InTurn

@@ -79,7 +79,7 @@ impl Party {
     {
         self.keys
             .follow(&self.answerer.connection, round.body(), key);
-        self.asker.hears(round.tag(), answer);
+        let _ = self.asker.hears(round.tag(), answer);
         Onward::Kept
     }
 }

@@ -8,4 +8,4 @@ pub returns-clause-asker : goal.returns-clause-asker
 returns-clause-asker c = λ w q older k behind of keeps few is now asker.
     let tag : c.tag.result ≡ of.tag = c.tag.ensures ∙ ap tag_in now in
     subst (λ (n : ℕ). IsAsker c.hears.new.self q (heard_kept k behind n of c.args.answer.now)) tag
-    (c.hears.ensures w q older k behind of keeps few is (sym tag) asker)
+    (c.hears.ensures.kept w q older k behind of keeps few is (sym tag) asker)
