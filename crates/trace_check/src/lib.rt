@@ -87,6 +87,8 @@ pub use script_text::Why;
 pub use verdict::{Seen, SessionTable, Verdict};
 
 #[cfg(test)]
+mod day_tests;
+#[cfg(test)]
 mod row_tests;
 #[cfg(test)]
 mod tests;
