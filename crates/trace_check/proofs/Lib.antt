@@ -89,6 +89,7 @@ pub mod AnyAnswers
 pub mod LastTold
 pub mod RecordShown
 pub mod RecordTold
+pub mod RecordBrought
 pub mod RecordAnswered
 pub mod RecordClosed
 pub mod KeysKept

@@ -138,7 +138,7 @@ module _ (r : RspSetup) (g : History) (tag : ℕ) (request : List ℕ) (f : Free
   of_ended true again = inr (ap (λ (o : Outcome). slice_index (body_of o) 0) (at_ended r g tag request f again))
   of_ended false new = of_last (repeats (last_of there) request) refl new
 
-  kinds : (kind ≡ 5) ⊎ (kind ≡ 6)
+  pub kinds : (kind ≡ 5) ⊎ (kind ≡ 6)
   kinds = of_ended (repeats (ended_of g) request) refl
 
 -- A record is answered by no body of another type.

@@ -32,3 +32,4 @@ pub mod Party
 pub mod PartyReplies
 pub mod KeptChanges
 pub mod ClearAnswers
+pub mod RecordAnswers

@@ -16,9 +16,8 @@ use Rattle.responder_machine.specs.Session.{Events, id_in_record, is_live, last_
 use Rattle.responder_machine.specs.Setup.{RspSetup, inventory_of}
 use Rattle.spdm_grammar.specs.declared.names.TheConstants.{MAX_MESSAGE_SIZE}
 use Rattle.spdm_grammar.specs.declared.names.response_code.TheConstants.{CHUNK_RESPONSE}
-use Rattle.trace_check.specs.Answerer.{shows_large}
 use Rattle.trace_check.specs.AnswersShown.{least_values, values_in_text}
-use Rattle.trace_check.specs.DropsShown.{may_be_dropped, response_of}
+use Rattle.trace_check.specs.DropsShown.{may_be_dropped}
 use Rattle.trace_check.specs.declared.response_values.AnswerPlace.{AnswerPlace}
 use Rattle.world_machine.specs.CapturedAnswers.{belongs_to, clear_answer, is_plain, record_answer}
 use Rattle.world_machine.specs.Rounds.{no_draw}
@@ -48,10 +47,6 @@ HasFewBlocks r = (op : ℕ) → length (record_of (asked op (inventory_of r))) �
 -- The response is CHUNK_RESPONSE with the last chunk.
 abbrev pub shows_last : (response : List ℕ) → Bool
 shows_last response = slice_index response 1 == CHUNK_RESPONSE && slice_index response 2 == 1
-
--- The inner message has a response in it that is a part of a large answer: LargeResponse, or the last chunk.
-abbrev pub shows_part : (inner : List ℕ) → Bool
-shows_part inner = slice_index inner 0 == 5 && (shows_large (response_of (drop 1 inner)) || shows_last (drop 1 inner))
 
 -- At these values, which are allowed, a record is answered so, by no part of a large answer that is judged otherwise.
 pub record IsRecordAnswered (r : RspSetup) (h : History) (tag : ℕ) (request : List ℕ) (f : Free) (answer : List ℕ) : Type 0 where

@@ -44,6 +44,7 @@ mod response_values;
 mod round;
 mod row_laws;
 mod rows;
+mod sealed_answers;
 mod sealed_commands;
 mod sending;
 mod shown_fields;

@@ -15,48 +15,20 @@ ghost use Rattle.responder_session.specs.Deeds.{AreFree};
 ghost use Rattle.spdm_grammar.specs.declared.names.TheConstants.{MAX_MESSAGE_SIZE};
 ghost use Rattle.spdm_machine.specs.Bodies.{record_body};
 ghost use Rattle.trace_check.specs.AnswersShown.{least_values};
-ghost use Rattle.trace_check.specs.ShownBy.{shows_last, shows_part};
 
 use crate::Answerer;
 use crate::answer_length::is_too_long;
-use crate::answerer::{response_of, shows_large};
 use crate::choosing::are_allowed;
-use crate::clear_answers::{blocks_are_few, values_are_bounded};
+use crate::clear_answers::values_are_bounded;
 use crate::clear_values::{at_round, least_values};
-use crate::record_values::{inner_part, text_values};
+use crate::record_values::text_values;
 use connection::{Connection, FreeValues, Setup, record_id};
-use responder_session::{AnswerKey, RecordFree};
-use session_keys::{MOST_DATA, SPDM_MESSAGE, SessionTerms, behind_type, byte_at, same_bytes};
-use spdm_basis::RecordFrame;
-use spdm_grammar::names::response_code::CHUNK_RESPONSE;
+use responder_session::RecordFree;
+use session_keys::{MOST_DATA, SessionTerms, behind_type, same_bytes};
 use spdm_grammar::{HashAlg, Heard};
-
-// The fewest bytes of a record.
-const LEAST_RECORD: usize = 26;
 
 // The most bytes of padding.
 const MOST_PAD: usize = 16;
-
-// The mark of a last chunk.
-const LAST_CHUNK: u8 = 1;
-
-// Whether a response is CHUNK_RESPONSE with the last chunk.
-fn shows_last(response: &[u8]) -> bool
-    ensures { result ≡ shows_last response.now }
-{
-    byte_at(response, 1) == CHUNK_RESPONSE && byte_at(response, 2) == LAST_CHUNK
-}
-
-// Whether an inner message has a part of a large answer in it that is judged otherwise.
-fn shows_part(inner: &[u8]) -> bool
-    ensures { result ≡ shows_part inner.now }
-{
-    let response = behind_type(inner);
-    let spdm = byte_at(inner, 0) == SPDM_MESSAGE;
-    let large = shows_large(response_of(response));
-    let last = shows_last(response);
-    spdm && (large || last)
-}
 
 // Whether this record is sent, by what is told.
 fn is_sent(heard: Heard, out: &[u8], sealed: &[u8]) -> bool
@@ -102,8 +74,8 @@ pub(crate) fn least_free() -> RecordFree<'static>
     }
 }
 
-// Whether a record is the last one of the ended session, or of the session that it names.
-fn is_repeated(connection: &Connection, request: &[u8]) -> bool
+/// Whether a record is the last one of the ended session, or of the session that it names.
+pub(crate) fn is_repeated(connection: &Connection, request: &[u8]) -> bool
     ensures { (r : RspSetup) (h : History) → StandsFor connection.now r h
         → result ≡ (repeats (ended_of h) request.now
         || repeats (last_of (session_of (id_in_record request.now) h)) request.now) }
@@ -155,17 +127,13 @@ impl Answerer {
     ghost use Rattle.responder_machine.specs.Session.{id_in_record, is_live, session_of};
     ghost use Rattle.responder_machine.specs.Setup.{RspSetup};
     ghost use Rattle.responder_session.specs.Deeds.{AreFree};
-    ghost use Rattle.responder_session.specs.OwnAnswers.{IsKeyOfReply};
     ghost use Rattle.spdm_machine.specs.Bodies.{record_body};
-    ghost use Rattle.trace_check.specs.Answerer.{IsAnswerer, history_shown};
-    ghost use Rattle.trace_check.specs.AnswersShown.{record_values};
-    ghost use Rattle.trace_check.specs.DropsShown.{IsShownAnswer};
-    ghost use Rattle.trace_check.specs.ShownBy.{IsRecordAnswered, IsRecordGiven, IsRepeated, IsTaken, text_shown};
-    ghost use Rattle.world_machine.specs.Opening.{turn_in};
+    ghost use Rattle.trace_check.specs.Answerer.{IsAnswerer};
+    ghost use Rattle.trace_check.specs.ShownBy.{IsRecordGiven, text_shown};
     ghost use Rattle.world_machine.specs.Rounds.{no_draw};
 
-    // Whether the record that answers a record at these values is this one.
-    fn sends(
+    /// Whether the record that answers a record at these values is this one.
+    pub(crate) fn sends(
         &mut self,
         setup: &Setup<'_>,
         request: &[u8],
@@ -247,8 +215,9 @@ impl Answerer {
         }
     }
 
-    // The same, in whatever live session.
-    fn gives_shown(
+    /// Whether a record with this inner message, in a live session, is answered by this one at the values that
+    /// its text shows.
+    pub(crate) fn gives_shown(
         &mut self,
         setup: &Setup<'_>,
         request: &[u8],
@@ -270,81 +239,6 @@ impl Answerer {
     {
         match self.connection.session_terms(record_id(request).rsp) {
             Some(terms) => self.gives_under(setup, terms, request, inner, text, sealed),
-            None => false,
-        }
-    }
-
-    // Whether a record that its session takes, with this inner message, is answered by this one, which is
-    // opened with its key.
-    fn answers_taken(
-        &mut self,
-        setup: &Setup<'_>,
-        request: &[u8],
-        inner: &[u8],
-        key: &AnswerKey,
-        sealed: &[u8],
-    ) -> bool
-        requires { length sealed.now ≤ 4160 }
-        ensures told { (r : RspSetup) (h : History) (tag : ℕ) → IsSetUp setup.now r
-            → IsAnswerer self.old r h → messages_of h < 2 ^ 64 - 1 → IsTaken r h request.now
-            → inner.now ≡ opened r.psk (session_of (id_in_record request.now) h) request.now
-            → IsKeyOfReply key.now r.psk (session_of (id_in_record request.now) h)
-            (turn_in r (session_of (id_in_record request.now) h) request.now)
-            → (result ≡ true) ↔ IsRecordAnswered r h tag request.now
-            (record_values r h request.now sealed.now) (record_body sealed.now) }
-        ensures stands { (r : RspSetup) (h : History) (tag : ℕ) → IsSetUp setup.now r
-            → IsAnswerer self.old r h → messages_of h < 2 ^ 64 - 1 → IsTaken r h request.now
-            → inner.now ≡ opened r.psk (session_of (id_in_record request.now) h) request.now
-            → IsKeyOfReply key.now r.psk (session_of (id_in_record request.now) h)
-            (turn_in r (session_of (id_in_record request.now) h) request.now)
-            → result ≡ true → IsAnswerer self.new r (after h (on_record r h tag request.now
-            (record_values r h request.now sealed.now) no_draw)) }
-    {
-        if sealed.len() < LEAST_RECORD {
-            return false;
-        }
-        let mut text = RecordFrame::new();
-        key.text(sealed, &mut text);
-        if shows_part(inner_part(text.as_slice())) {
-            return false;
-        }
-        self.gives_shown(setup, request, inner, text.as_slice(), sealed)
-    }
-
-    // Whether a record that came again is answered by this one.
-    fn answers_repeated(&mut self, setup: &Setup<'_>, request: &[u8], sealed: &[u8]) -> bool
-        ensures told { (r : RspSetup) (h : History) (tag : ℕ) → IsSetUp setup.now r
-            → IsAnswerer self.old r h → messages_of h < 2 ^ 64 - 1 → IsRepeated h request.now
-            → (result ≡ true) ↔ IsShownAnswer r h tag (record_body request.now)
-            (record_body sealed.now) }
-        ensures stands { (r : RspSetup) (h : History) (tag : ℕ) → IsSetUp setup.now r
-            → IsAnswerer self.old r h → messages_of h < 2 ^ 64 - 1 → IsRepeated h request.now
-            → result ≡ true → IsAnswerer self.new r (history_shown r h tag
-            (record_body request.now) (record_body sealed.now)) }
-    {
-        blocks_are_few(setup.inventory);
-        self.sends(setup, request, &least_free(), sealed)
-    }
-
-    /// Whether a record is answered by this one, whole, by what that shows. Fewer than 2^64 - 1 messages
-    /// came. Behind an answer that is refused nothing is kept.
-    pub fn answers_sealed(&mut self, setup: &Setup<'_>, request: &[u8], sealed: &[u8]) -> bool
-        requires { length sealed.now ≤ 4160 }
-        ensures told { (r : RspSetup) (h : History) (tag : ℕ) → IsSetUp setup.now r
-            → IsAnswerer self.old r h → messages_of h < 2 ^ 64 - 1
-            → (result ≡ true) ↔ IsShownAnswer r h tag (record_body request.now)
-            (record_body sealed.now) }
-        ensures stands { (r : RspSetup) (h : History) (tag : ℕ) → IsSetUp setup.now r
-            → IsAnswerer self.old r h → messages_of h < 2 ^ 64 - 1 → result ≡ true
-            → IsAnswerer self.new r (history_shown r h tag (record_body request.now)
-            (record_body sealed.now)) }
-    {
-        if is_repeated(&self.connection, request) {
-            return self.answers_repeated(setup, request, sealed);
-        }
-        let mut inner = RecordFrame::new();
-        match self.connection.answer_key(request, &mut inner) {
-            Some(key) => self.answers_taken(setup, request, inner.as_slice(), &key, sealed),
             None => false,
         }
     }

@@ -1,4 +1,5 @@
-use crate::Answerer;
+use crate::sealed_answers::whole_if;
+use crate::{Answerer, Given};
 use connection::Setup;
 use session_keys::{behind_type, byte_at};
 
@@ -9,33 +10,40 @@ const CLEAR: u8 = 5;
 const SECURED: u8 = 6;
 
 impl Answerer {
-    ghost use Rattle.std.specs.Prelude.{◌≡◌, ◌≤◌, ◌<◌, ◌-◌, ◌^◌, ◌↔◌, true, ℕ, length};
+    ghost use Rattle.std.specs.Prelude.{◌≡◌, ◌≤◌, ◌<◌, ◌-◌, ◌^◌, IfSome, ℕ, length};
     ghost use Rattle.connection.specs.Setup.{IsSetUp};
     ghost use Rattle.responder_machine.specs.BoundLaws.{messages_of};
     ghost use Rattle.responder_machine.specs.History.{History};
     ghost use Rattle.responder_machine.specs.Setup.{RspSetup};
     ghost use Rattle.spdm_machine.specs.Bodies.{record_body};
-    ghost use Rattle.trace_check.specs.Answerer.{IsAnswerer, history_shown};
-    ghost use Rattle.trace_check.specs.DropsShown.{IsShownAnswer};
+    ghost use Rattle.trace_check.specs.Answerer.{IsAnswerer};
+    ghost use Rattle.trace_check.specs.RecordAnswers.{IsGivenTo, history_behind};
 
-    /// Whether a record is answered by this body, whole, by what that shows. Fewer than 2^64 - 1 messages
-    /// came. Behind an answer that is refused nothing is kept.
-    pub fn answers_record(&mut self, setup: &Setup<'_>, request: &[u8], answer: &[u8]) -> bool
+    /// What this body brings as the answer to a record, by what it shows; None where it is not right. Fewer than
+    /// 2^64 - 1 messages came. Behind an answer that is not right nothing is kept.
+    pub fn answers_record(
+        &mut self,
+        setup: &Setup<'_>,
+        request: &[u8],
+        answer: &[u8],
+    ) -> Option<Given>
         requires { length answer.now ≤ 4161 }
         ensures told { (r : RspSetup) (h : History) (tag : ℕ) → IsSetUp setup.now r
             → IsAnswerer self.old r h → messages_of h < 2 ^ 64 - 1
-            → (result ≡ true) ↔ IsShownAnswer r h tag (record_body request.now) answer.now }
+            → IsGivenTo r h tag (record_body request.now) answer.now result }
         ensures stands { (r : RspSetup) (h : History) (tag : ℕ) → IsSetUp setup.now r
-            → IsAnswerer self.old r h → messages_of h < 2 ^ 64 - 1 → result ≡ true
-            → IsAnswerer self.new r (history_shown r h tag (record_body request.now) answer.now) }
+            → IsAnswerer self.old r h → messages_of h < 2 ^ 64 - 1
+            → IfSome result (λ given. IsAnswerer self.new r (history_behind r h tag
+            (record_body request.now) answer.now given)) }
     {
         let kind = byte_at(answer, 0);
         if kind == CLEAR {
-            return self.answers_closed(setup, request, behind_type(answer));
+            let closed = self.answers_closed(setup, request, behind_type(answer));
+            return whole_if(closed);
         }
         if kind == SECURED {
             return self.answers_sealed(setup, request, behind_type(answer));
         }
-        false
+        None
     }
 }
