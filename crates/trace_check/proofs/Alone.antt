@@ -49,7 +49,7 @@ first_taken (suc k) [] more = refl
 first_taken (suc k) (x ∷ xs) more = refl
 
 -- Bodies that are apart have one type, if they are longer than verify data.
-one_type : (size : ℕ) (one other : List ℕ) → size < length one → is_apart size one other ≡ true → body_type one ≡ body_type other
+pub one_type : (size : ℕ) (one other : List ℕ) → size < length one → is_apart size one other ≡ true → body_type one ≡ body_type other
 one_type size one other more apart =
     let here : (length one == length other && not (bytes_eq one other)) ≡ true = and_first _ (bytes_eq (take (length one - size) one) (take (length other - size) other)) apart in
     let long : length one ≡ length other = eqb-true (length one) (length other) (and_first (length one == length other) _ here) in
@@ -95,7 +95,7 @@ replies_keep w d (Whole route body) next all c =
 replies_keep w d More next all c = subst (λ (x : Dialogue). AreLong x.responder) (sym c) all
 replies_keep w d (Dropped cause) next all c = absurd c
 
-long_steady : (w : Configuration) → IsSteady w (λ d. AreLong d.responder)
+pub long_steady : (w : Configuration) → IsSteady w (λ d. AreLong d.responder)
 long_steady w = record { begins = λ q. tt; asks = asks_keep; replies = replies_keep w }
 
 from_none : (w : Configuration) (older : List (List ℕ)) (p : PacketFields) (ds : List Dialogue) (o : Option Dialogue) → AreOf (before w.responder.eid older) w.requesters ds → dialogue_at p.from ds ≡ o → ComesApartFrom w older p o

@@ -55,7 +55,7 @@ module _ (r : RspSetup) (tag : ℕ) (sealed : List ℕ) (f : Free) where
   ended_silent true kept phase s = refl
   ended_silent false kept phase s = to_silent phase s
 
-  record_silent : (g : History) → carries_exchange (body_of (on_record r g tag sealed f no_draw)) ≡ false
+  pub record_silent : (g : History) → carries_exchange (body_of (on_record r g tag sealed f no_draw)) ≡ false
   unfolding on_record
   record_silent g = ended_silent (repeats (ended_of g) sealed) (kept_record (ended_of g)) (phase_of (clear_turns g)) (session_of (id_in_record sealed) g)
 

@@ -119,3 +119,5 @@ pub mod ApartLengths
 pub mod ApartJudged
 pub mod FetchedOn
 pub mod JudgedInClear
+pub mod BodyJudged
+pub mod KeptTyped

@@ -1,5 +1,5 @@
 -- What is told of an answer, by what is kept of a requester and the responder. This project's own.
-use Rattle.std.specs.Prelude.{◌≡◌, ◌⊎◌, ℕ, List, Some, Result, Ok, Err}
+use Rattle.std.specs.Prelude.{◌≡◌, ◌⊎◌, ℕ, List, slice_index, Option, Some, None, Result, Ok, Err}
 use Rattle.mctp_framing.specs.Cutting.{RouteFields}
 use Rattle.mctp_framing.specs.Gathering.{Gathered}
 use Rattle.mctp_framing.specs.Gathering.Gathered.{Whole}
@@ -16,6 +16,7 @@ use Rattle.trace_check.specs.LargeShown.{IsShownLarge}
 use Rattle.trace_check.specs.Party.{IsParty}
 use Rattle.trace_check.specs.RepliesShown.{AnswersRound, responder_for}
 use Rattle.trace_check.specs.declared.answerer.Answerer.{Answerer}
+use Rattle.trace_check.specs.declared.given.Given.{Given}
 use Rattle.trace_check.specs.declared.given.Given.TheVariants as given
 use Rattle.trace_check.specs.declared.given.Judged.{Judged}
 use Rattle.trace_check.specs.declared.given.Judged.TheVariants as judged
@@ -43,6 +44,15 @@ IsGiven r d round answer (judged.Given given.Large) new = IsShownLarge r d.respo
 IsGiven r d round answer (judged.Given given.Last) new = EndsLarge r d.responder round.tag round.body answer
 IsGiven r d round answer judged.Apart new = IsGivenNever r d round answer × IsApartShown r d round answer
 IsGiven r d round answer judged.Refused new = IsGivenNever r d round answer × (IsApartShown r d round answer → ⊥)
+
+-- What is said of an answer to a record, by what it brings: its verify data are never alone wrong.
+abbrev pub judged_of : Option Given → Judged
+judged_of None = judged.Refused
+judged_of (Some brought) = judged.Given brought
+
+-- An answer whose verify data are alone wrong is in the clear.
+abbrev pub IsApartInClear : RspSetup → Dialogue → Round → (answer : List ℕ) → Type 0
+IsApartInClear r d round answer = IsApartShown r d round answer → slice_index answer 0 ≡ 5
 
 -- ---- What is told.
 

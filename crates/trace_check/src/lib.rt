@@ -15,6 +15,7 @@ mod asker;
 mod asker_hears;
 mod asker_setup;
 mod bodies;
+mod body_judged;
 mod brought;
 mod change;
 mod change_laws;

@@ -5,7 +5,7 @@ use script_text::Why;
 
 // The answers that a responder gives.
 impl Party {
-    ghost use Rattle.std.specs.Prelude.{◌≡◌, ◌<◌, ◌-◌, ◌^◌, ℕ, List, None, Some, length, slice_index};
+    ghost use Rattle.std.specs.Prelude.{◌≡◌, ◌≤◌, ◌<◌, ◌-◌, ◌^◌, ℕ, List, None, Some, length};
     ghost use Rattle.connection.specs.Setup.{IsSetUp};
     ghost use Rattle.mctp_framing.specs.Cutting.{RouteFields};
     ghost use Rattle.mctp_framing.specs.Gathering.Gathered.{Whole};
@@ -29,19 +29,19 @@ impl Party {
     ghost use Rattle.world_machine.specs.Rounds as rounds;
     ghost use Rattle.world_machine.specs.Setup.{Configuration};
 
-    /// An answer in the clear came whole, in order behind this round, whose request is in the clear
-    /// too: it goes on, or it is refused, and then why. Nothing is said of what is kept then, and
-    /// where it is a part of a large answer.
-    pub fn replies_in_clear(
+    /// An answer of at most 4,161 bytes came whole, in order behind this round: it goes on, or it is
+    /// refused, and then why. Nothing is said of what is kept then, and where it is a part of a large
+    /// answer.
+    pub fn replies(
         &mut self,
         setup: &Setup<'_>,
         round: &Round,
         answer: &[u8],
     ) -> Result<Onward, Why>
+        requires { length answer.now ≤ 4161 }
         ensures { (w : Configuration) (q : ReqSetup) (older : List (List ℕ)) (k : Kept)
             (route : RouteFields) → Keeps w q older k → length older < 2 ^ 64 - 1
             → w.responder.beat < 256 → round.now ≡ k.round
-            → slice_index (body_in round.now) 0 ≡ 5 → slice_index answer.now 0 ≡ 5
             → IsSetUp setup.now (responder_for w k)
             → answered_why k.round (Whole route answer.now) ≡ None → IsParty self.old w q k
             → IsReplied w q k route answer.now result self.new }
@@ -49,10 +49,7 @@ impl Party {
         let body = round.body();
         let why = self.answerer.reply_why(&self.keys, body, answer);
         let key = self.answerer.coming_key(body);
-        match self
-            .answerer
-            .judges_in_clear(setup, round.tag(), body, answer)
-        {
+        match self.answerer.judges(setup, round.tag(), body, answer) {
             Judged::Given(Given::Whole) => Ok(self.go_on(round, key, answer)),
             Judged::Given(Given::Large) => Ok(Onward::Large),
             Judged::Given(Given::Last) => Ok(Onward::Large),
