@@ -1,5 +1,5 @@
 -- What the program goes by where it reads the values that an answer shows. This project's own.
-use Rattle.std.specs.Prelude.{◌≡◌, if◌then◌else◌, [], ◌∷◌, ◌≤◌, ◌==◌, ◌&&◌, ◌||◌, Bool, true, false, drop, is_none, slice_index, ℕ, List, length, Option, Some, None}
+use Rattle.std.specs.Prelude.{◌≡◌, if◌then◌else◌, [], ◌∷◌, ◌≤◌, ◌==◌, ◌&&◌, ◌||◌, Bool, true, false, is_none, slice_index, ℕ, List, length, Option, Some, None}
 use Rattle.connection.specs.Free.{IsFree}
 use Rattle.connection.specs.declared.free_values.FreeValues.{FreeValues}
 use Rattle.measurements.specs.Blocks.{record_of}

@@ -1,12 +1,10 @@
-use Rattle.std.proofs.Common.{◌≡◌, ◌∙◌, ap, sym, subst, inl, inr, false, true, List, ℕ, Option}
-use Rattle.std.specs.Prelude.{◌↔◌, IfSome, slice_index}
-use Rattle.std.proofs.lemmas.Bool.{false≢true}
+use Rattle.std.proofs.Common.{◌∙◌, ap, sym, subst, List, ℕ, Option}
+use Rattle.std.specs.Prelude.{IfSome}
 use Rattle.spdm_machine.specs.Bodies.{clear_body, record_body}
 use Rattle.trace_check.proofs.RecordBrought.{kept_whole, other_given, whole_clear}
 use Rattle.trace_check.proofs.RecordClosed.{clear_typed, record_typed}
 use Rattle.trace_check.proofs.answerer.Answerer.answers_record.Goals as goal
 use Rattle.trace_check.specs.Answerer.{IsAnswerer, history_shown}
-use Rattle.trace_check.specs.DropsShown.{IsShownAnswer}
 use Rattle.trace_check.specs.RecordAnswers.{IsGivenTo, history_behind, whole_if}
 use Rattle.trace_check.specs.declared.given.Given.{Given}
 

@@ -1,4 +1,4 @@
-use Rattle.std.proofs.Common.{◌≡◌, ◌∙◌, ap, sym, subst, refl, ℕ, List, Option, false}
+use Rattle.std.proofs.Common.{◌∙◌, ap, sym, subst, refl, ℕ, List, Option, false}
 use Rattle.std.specs.Prelude.{IfSome}
 use Rattle.std.proofs.lemmas.Bool.{false≢true}
 use Rattle.responder_machine.specs.Answer.{Free}

@@ -1,4 +1,4 @@
-use Rattle.std.proofs.Common.{◌≡◌, ◌∙◌, sym, subst, eqb-true}
+use Rattle.std.proofs.Common.{◌∙◌, sym, subst, eqb-true}
 use Rattle.std.specs.Prelude.{slice_index}
 use Rattle.trace_check.proofs.BodyJudged.{judged_to_record}
 use Rattle.trace_check.proofs.answerer.Answerer.judges.Goals as goal

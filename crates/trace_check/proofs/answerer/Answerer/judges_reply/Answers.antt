@@ -1,4 +1,4 @@
-use Rattle.std.proofs.Common.{◌≡◌, ◌∙◌, sym, eqb-true}
+use Rattle.std.proofs.Common.{◌∙◌, sym, eqb-true}
 use Rattle.std.specs.Prelude.{slice_index}
 use Rattle.trace_check.proofs.BodyJudged.{judged_otherwise}
 use Rattle.trace_check.proofs.answerer.Answerer.judges_reply.Goals as goal

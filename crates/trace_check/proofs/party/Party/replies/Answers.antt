@@ -1,4 +1,4 @@
-use Rattle.std.proofs.Common.{◌≡◌, ◌∙◌, sym, ap, subst, List, ℕ, inl, inr}
+use Rattle.std.proofs.Common.{◌∙◌, sym, ap, subst, List, ℕ, inl, inr}
 use Rattle.connection.specs.Connected as connected
 use Rattle.connection.specs.declared.connected.Connection.{Connection}
 use Rattle.responder_machine.specs.May.{on_body, with_dropped}
