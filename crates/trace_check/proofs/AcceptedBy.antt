@@ -22,7 +22,7 @@ use Rattle.spdm_grammar.specs.Message.{RequestMessage}
 use Rattle.spdm_grammar.specs.Message.RequestMessage.{NegotiateAlgorithms}
 use Rattle.spdm_grammar.specs.Requests.{canonical_request}
 use Rattle.spdm_machine.specs.Keys.{Draw}
-use Rattle.trace_check.specs.ChangeLaws.{accepted_by}
+use Rattle.capture_laws.specs.ChangeLaws.{accepted_by}
 
 -- ---- By what it sends next.
 

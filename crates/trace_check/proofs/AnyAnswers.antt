@@ -24,7 +24,7 @@ use Rattle.spdm_grammar.specs.Responses.{canonical_response}
 use Rattle.spdm_grammar.specs.declared.names.TheConstants.{MAX_MESSAGE_SIZE}
 use Rattle.spdm_machine.specs.Terms.{no_choice}
 use Rattle.trace_check.proofs.ReadLengths.{exchange_read_length, measured_read_length}
-use Rattle.trace_check.specs.AnswersShown.{least_values}
+use Rattle.capture_laws.specs.AnswersShown.{least_values}
 use Rattle.trace_check.specs.ShownBy.{HasFewBlocks}
 
 -- ---- A chunk.

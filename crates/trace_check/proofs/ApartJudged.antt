@@ -19,10 +19,10 @@ use Rattle.trace_check.proofs.ClearAsked.{answers_so}
 use Rattle.trace_check.proofs.ClearJudged.{IsOne, adds_at, again_still, at, dropped_one, entry, first_one, gives_same, parts_whole, repeats_at, shown, shown_again, shown_anew, whole_parts}
 use Rattle.trace_check.proofs.ShownDrops.{large_drops, small_drops}
 use Rattle.trace_check.specs.Answerer.{shows_large}
-use Rattle.trace_check.specs.AnswersShown.{LeadsAt, clear_values, least_values}
-use Rattle.trace_check.specs.ApartShown.{IsApartShown}
+use Rattle.capture_laws.specs.AnswersShown.{LeadsAt, clear_values, least_values}
+use Rattle.capture_laws.specs.ApartShown.{IsApartShown}
 use Rattle.trace_check.specs.ClearAnswers.{IsApart, IsApartAt, IsJudgedAt, dropped_before, given_of}
-use Rattle.trace_check.specs.DropsShown.{clear_drops, dropped_for, drops_shown_by, id_begun, outcome_shown, response_of}
+use Rattle.capture_laws.specs.DropsShown.{clear_drops, dropped_for, drops_shown_by, id_begun, outcome_shown, response_of}
 use Rattle.trace_check.specs.ShownBy.{AnswersSo}
 use Rattle.trace_check.specs.declared.given.Given.TheVariants as kinds
 use Rattle.trace_check.specs.declared.given.Judged.{Judged}

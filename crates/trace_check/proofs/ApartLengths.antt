@@ -23,7 +23,7 @@ use Rattle.spdm_machine.specs.Bodies.{clear_body}
 use Rattle.spdm_machine.specs.Keys.{verify_data}
 use Rattle.spdm_machine.specs.Terms.{hash_len}
 use Rattle.trace_check.specs.Answerer.{shows_large}
-use Rattle.trace_check.specs.DropsShown.{response_of}
+use Rattle.capture_laws.specs.DropsShown.{response_of}
 use Rattle.world_machine.specs.Difference.{carries_exchange, is_apart}
 
 -- With PSK_EXCHANGE_RSP it has ten bytes more than its verify data.

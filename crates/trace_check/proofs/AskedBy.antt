@@ -11,7 +11,7 @@ use Rattle.spdm_basis.proofs.Options.{none_out}
 use Rattle.trace_check.specs.Asked.{IsAskedBy}
 use Rattle.trace_check.specs.Asker.{IsAsker, IsGoneOn, IsKeptSetup, gone_on}
 use Rattle.trace_check.specs.Commanded.{IsSentByCommand}
-use Rattle.trace_check.specs.Keeping.{GoesOnKept, Kept, owing}
+use Rattle.capture_laws.specs.Keeping.{GoesOnKept, Kept, owing}
 use Rattle.trace_check.specs.SealedTold.{IsSentBy}
 use Rattle.trace_check.specs.declared.asker.Asker.{Asker}
 use Rattle.trace_check.specs.declared.asker_setup.AskerSetup.{AskerSetup}

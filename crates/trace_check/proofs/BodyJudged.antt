@@ -15,12 +15,12 @@ use Rattle.responder_machine.specs.Responder.Outcome.{Same, Adds}
 use Rattle.responder_machine.specs.Setup.{RspSetup}
 use Rattle.responder_machine.specs.Turn.{Turn}
 use Rattle.spdm_machine.specs.Bodies.{clear_body, record_body}
-use Rattle.trace_check.proofs.ApartShown.{record_silent}
+use Rattle.capture_laws.proofs.ApartShown.{record_silent}
 use Rattle.trace_check.specs.Answerer.{IsAnswerer}
-use Rattle.trace_check.specs.AnswersShown.{values_shown_by}
-use Rattle.trace_check.specs.ApartShown.{IsApartShown, answer_shown}
-use Rattle.trace_check.specs.DropsShown.{drops_shown_by, outcome_shown}
-use Rattle.trace_check.specs.LargeShown.{drops_before, large_shown, last_shown}
+use Rattle.capture_laws.specs.AnswersShown.{values_shown_by}
+use Rattle.capture_laws.specs.ApartShown.{IsApartShown, answer_shown}
+use Rattle.capture_laws.specs.DropsShown.{drops_shown_by, outcome_shown}
+use Rattle.capture_laws.specs.LargeShown.{drops_before, large_shown, last_shown}
 use Rattle.trace_check.specs.PartyReplies.{IsApartInClear, IsGiven, IsGivenNever, judged_of}
 use Rattle.trace_check.specs.RecordAnswers.{IsGivenTo, history_behind}
 use Rattle.trace_check.specs.declared.answerer.Answerer.{Answerer}

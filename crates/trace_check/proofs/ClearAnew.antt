@@ -15,14 +15,14 @@ use Rattle.spdm_basis.proofs.Bools.{and_first}
 use Rattle.spdm_grammar.specs.declared.names.request_code.TheConstants.{CHUNK_GET, PSK_EXCHANGE}
 use Rattle.spdm_machine.specs.Bodies.{clear_body}
 use Rattle.spdm_machine.specs.Sessions.{id_in_exchange}
-use Rattle.trace_check.proofs.DropsShown.{turn_begins}
+use Rattle.capture_laws.proofs.DropsShown.{turn_begins}
 use Rattle.trace_check.proofs.LargeReplies.{turn_tells}
 use Rattle.trace_check.proofs.ShownDrops.{large_drops, small_drops}
 use Rattle.trace_check.specs.Answerer.{shows_large}
-use Rattle.trace_check.specs.AnswersShown.{clear_values, is_whole}
+use Rattle.capture_laws.specs.AnswersShown.{clear_values, is_whole}
 use Rattle.trace_check.specs.ClearAnswers.{EndsLarge, IsGivenAt, IsGiven, dropped_before, first_of_held, given_of, history_given}
-use Rattle.trace_check.specs.DropsShown.{IsShownAnswer, clear_drops, dropped_for, drops_shown_by, id_begun, outcome_shown, response_of}
-use Rattle.trace_check.specs.LargeShown.{IsShownLarge, ends_large, large_shown, last_shown}
+use Rattle.capture_laws.specs.DropsShown.{IsShownAnswer, clear_drops, dropped_for, drops_shown_by, id_begun, outcome_shown, response_of}
+use Rattle.capture_laws.specs.LargeShown.{IsShownLarge, ends_large, large_shown, last_shown}
 use Rattle.trace_check.specs.declared.given.Given.{Given}
 use Rattle.trace_check.specs.declared.given.Given.TheVariants as kinds
 use Rattle.world_machine.proofs.SmallGets.{turn_of_whole}

@@ -34,7 +34,7 @@ use Rattle.spdm_machine.specs.Terms.{hash_len}
 use Rattle.trace_check.proofs.LargeReplies.{turn_tells}
 use Rattle.trace_check.specs.Answerer.{shows_large}
 use Rattle.trace_check.specs.ClearAnswers.{IsAnsweredAt, IsApartAt, IsJudgedAt, given_by, given_of, is_same, is_whole_given, judged_by, tells_get}
-use Rattle.trace_check.specs.DropsShown.{response_of}
+use Rattle.capture_laws.specs.DropsShown.{response_of}
 use Rattle.trace_check.specs.declared.given.Given.{Given}
 use Rattle.trace_check.specs.declared.given.Given.TheVariants as given
 use Rattle.trace_check.specs.declared.given.Judged.TheVariants as judged

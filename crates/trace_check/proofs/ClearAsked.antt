@@ -28,12 +28,12 @@ use Rattle.spdm_grammar.specs.declared.names.TheConstants.{MAX_MESSAGE_SIZE}
 use Rattle.spdm_grammar.specs.declared.names.response_code.TheConstants.{CHUNK_SEND_ACK, ERROR}
 use Rattle.spdm_grammar.specs.declared.part_faults.ChunkFault.{ChunkFault}
 use Rattle.spdm_machine.specs.Bodies.{clear_body}
-use Rattle.trace_check.proofs.LeastValues.{least_are}
-use Rattle.trace_check.proofs.LongAnswers.{most_hash}
+use Rattle.capture_laws.proofs.LeastValues.{least_are}
+use Rattle.capture_laws.proofs.LongAnswers.{most_hash}
 use Rattle.trace_check.proofs.ReadLengths.{exchange_read_length, measured_read_length}
 use Rattle.trace_check.proofs.ShortAnswers.{long_none, long_read, not_longer}
 use Rattle.trace_check.specs.Answerer.{free_length}
-use Rattle.trace_check.specs.AnswersShown.{clear_values, least_values, values_in, values_in_reply}
+use Rattle.capture_laws.specs.AnswersShown.{clear_values, least_values, values_in, values_in_reply}
 use Rattle.trace_check.specs.ClearAnswers.{IsAnsweredAt, IsLongWith}
 use Rattle.trace_check.specs.ShownBy.{AnswersSo}
 use Rattle.world_machine.proofs.TurnsAlike.{chunk_is}

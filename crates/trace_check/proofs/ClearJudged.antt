@@ -16,10 +16,10 @@ use Rattle.responder_machine.specs.Setup.{RspSetup}
 use Rattle.responder_machine.specs.Turn.{Turn, takes}
 use Rattle.spdm_grammar.specs.declared.names.request_code.TheConstants.{CHUNK_GET}
 use Rattle.spdm_machine.specs.Bodies.{clear_body}
-use Rattle.trace_check.specs.AnswersShown.{LeadsAt, clear_values, is_whole, least_values, values_for, values_shown_by}
+use Rattle.capture_laws.specs.AnswersShown.{LeadsAt, clear_values, is_whole, least_values, values_for, values_shown_by}
 use Rattle.trace_check.specs.ClearAnswers.{EndsLarge, IsAnsweredAt, IsGivenAt, IsGiven, first_of_held, given_of, history_given}
-use Rattle.trace_check.specs.DropsShown.{IsShownAnswer, clear_drops, dropped_for, drops_shown_by, id_begun, may_be_dropped, outcome_shown, response_of}
-use Rattle.trace_check.specs.LargeShown.{IsShownLarge, ends_large, large_shown, last_shown}
+use Rattle.capture_laws.specs.DropsShown.{IsShownAnswer, clear_drops, dropped_for, drops_shown_by, id_begun, may_be_dropped, outcome_shown, response_of}
+use Rattle.capture_laws.specs.LargeShown.{IsShownLarge, ends_large, large_shown, last_shown}
 use Rattle.trace_check.specs.declared.given.Given.{Given}
 use Rattle.trace_check.specs.declared.given.Given.TheVariants as kinds
 use Rattle.world_machine.proofs.DropsTell.{kept_same}

@@ -23,7 +23,7 @@ use Rattle.spdm_grammar.specs.Message.{ExchangeMessage, RequestMessage}
 use Rattle.spdm_grammar.specs.Message.RequestMessage.{GetVersion, GetCapabilities, NegotiateAlgorithms, GetMeasurements, PskExchange, PskFinish, Heartbeat, KeyUpdate, EndSession, ChunkSend, ChunkGet}
 use Rattle.spdm_grammar.specs.Requests.{FitsRequest, IsSoundRequest, canonical_request, request_in, request_layout}
 use Rattle.spdm_machine.specs.Bodies.{clear_body}
-use Rattle.trace_check.proofs.Shown.{connect_free, measure_free, open_free}
+use Rattle.capture_laws.proofs.Shown.{connect_free, measure_free, open_free}
 use Rattle.trace_check.specs.Commanded.{IsOpenedAs, IsSentByCommand, IsSentFor, IsToldAs, IsToldSome, values_in}
 use Rattle.world_machine.proofs.AskTells.{IsSent, Kind, exchange_read, kind_of, sent_by_kind}
 use Rattle.world_machine.proofs.AskTells.Kind.{InClear, OfSession, Again}

@@ -11,7 +11,7 @@ use Rattle.spdm_basis.proofs.Options.{none_out}
 use Rattle.trace_check.proofs.OwedTook.{kept_short}
 use Rattle.trace_check.specs.Asker.{IsAsker, IsKeptSetup}
 use Rattle.trace_check.specs.Commanded.{IsCommandedBy, IsSentByCommand}
-use Rattle.trace_check.specs.Keeping.{Keeps, Kept, owing}
+use Rattle.capture_laws.specs.Keeping.{Keeps, Kept, owing}
 use Rattle.trace_check.specs.declared.asker.Asker.{Asker}
 use Rattle.trace_check.specs.declared.asker_setup.AskerSetup.{AskerSetup}
 use Rattle.world_machine.specs.CapturedRequests.{Tells}

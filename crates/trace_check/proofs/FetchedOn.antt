@@ -8,12 +8,12 @@ use Rattle.responder_machine.specs.Responder.{Outcome, after}
 use Rattle.responder_machine.specs.Responder.Outcome.{Same, Unopened, Adds}
 use Rattle.responder_machine.specs.Setup.{RspSetup}
 use Rattle.spdm_basis.proofs.Bools.{and_first}
-use Rattle.trace_check.proofs.Fetched.{no_bytes}
+use Rattle.capture_laws.proofs.Fetched.{no_bytes}
 use Rattle.trace_check.specs.Answerer.{history_shown}
-use Rattle.trace_check.specs.AnswersShown.{is_whole, values_shown_by}
+use Rattle.capture_laws.specs.AnswersShown.{is_whole, values_shown_by}
 use Rattle.trace_check.specs.ClearAnswers.{EndsLarge}
-use Rattle.trace_check.specs.DropsShown.{IsShownAnswer, drops_shown_by, outcome_shown}
-use Rattle.trace_check.specs.LargeShown.{IsShownLarge, IsShownLast, begun_large, ends_large, has_bytes, large_shown, last_shown, was_fetched, whole_of}
+use Rattle.capture_laws.specs.DropsShown.{IsShownAnswer, drops_shown_by, outcome_shown}
+use Rattle.capture_laws.specs.LargeShown.{IsShownLarge, IsShownLast, begun_large, ends_large, has_bytes, large_shown, last_shown, was_fetched, whole_of}
 use Rattle.world_machine.proofs.SmallGets.{gets_are_small}
 use Rattle.world_machine.specs.CapturedAnswers.{MayLeadTo, is_plain}
 use Rattle.world_machine.specs.LargeAnswers.{is_large}

@@ -14,9 +14,9 @@ use Rattle.responder_machine.specs.Responder.Outcome.{Same, Unopened, Adds}
 use Rattle.responder_machine.specs.Setup.{RspSetup, towards}
 use Rattle.spdm_basis.specs.declared.PacketFault.{PacketFault}
 use Rattle.spdm_machine.specs.Packets.{gathered_from}
-use Rattle.trace_check.specs.Keeping.{Keeps, Kept}
-use Rattle.trace_check.specs.Order.{is_answer, is_request}
-use Rattle.trace_check.specs.Walks.{StepsBy, StepsTo, Walks}
+use Rattle.capture_laws.specs.Keeping.{Keeps, Kept}
+use Rattle.capture_laws.specs.Order.{is_answer, is_request}
+use Rattle.capture_laws.specs.Walks.{StepsBy, StepsTo, Walks}
 use Rattle.world_machine.specs.Capture.{AsksBy, Begins, Copies, RepliesBy}
 use Rattle.world_machine.specs.CapturedAnswers.{Answers}
 use Rattle.world_machine.specs.LargeAnswers.{dropped_before_large, entry_with, is_large, judging, with_large}

@@ -33,7 +33,7 @@ use Rattle.spdm_machine.specs.Bodies.{record_body}
 use Rattle.spdm_machine.specs.Terms.{hash_len}
 use Rattle.trace_check.proofs.OpensAsking.{few_at, few_test, inner_same, opens_same, unshown, view_is}
 use Rattle.trace_check.proofs.SealedRead.{sealed_names, sealed_opens}
-use Rattle.trace_check.specs.Keeping.{owing}
+use Rattle.capture_laws.specs.Keeping.{owing}
 use Rattle.trace_check.specs.RefusedRequest.{IsFinishShown, finish_apart, is_handshake}
 use Rattle.world_machine.specs.Difference.{finish_in, is_apart, is_padded}
 use Rattle.world_machine.specs.Opening.{inner_asking, opens_asking}

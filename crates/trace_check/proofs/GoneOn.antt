@@ -10,7 +10,7 @@ use Rattle.requester_machine.specs.Message.{Sent}
 use Rattle.requester_machine.specs.Setup.{ReqSetup}
 use Rattle.trace_check.proofs.OwedTook.{kept_short, owed_took}
 use Rattle.trace_check.specs.Asker.{IsAsker, IsGoneOn, IsKeptSetup, IsSentOwed, SendsOwed}
-use Rattle.trace_check.specs.Keeping.{GoesOnKept, Keeps, Kept, owing}
+use Rattle.capture_laws.specs.Keeping.{GoesOnKept, Keeps, Kept, owing}
 use Rattle.trace_check.specs.declared.asker.Asker.{Asker}
 use Rattle.trace_check.specs.declared.asker_setup.AskerSetup.{AskerSetup}
 use Rattle.requester_machine.specs.Owed.{with_next}

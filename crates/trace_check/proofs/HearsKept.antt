@@ -19,15 +19,15 @@ use Rattle.requester_machine.specs.Setup.{ReqSetup}
 use Rattle.requester_machine.specs.Shown.{after, event_of, sent_by}
 use Rattle.responder_machine.specs.History as responder_history
 use Rattle.trace_check.proofs.AcceptedBy.{accepted_shown, accepts, accepts_none}
-use Rattle.trace_check.proofs.KeptAnswers.{kept_is_restored}
-use Rattle.trace_check.proofs.KeptParts.{Owes, it_owes, kept_is, next_twice}
-use Rattle.trace_check.proofs.OneWalk.{walks_alike}
-use Rattle.trace_check.proofs.Repadding.{agree_self, heard_with}
+use Rattle.capture_laws.proofs.KeptAnswers.{kept_is_restored}
+use Rattle.capture_laws.proofs.KeptParts.{Owes, it_owes, kept_is, next_twice}
+use Rattle.capture_laws.proofs.OneWalk.{walks_alike}
+use Rattle.capture_laws.proofs.Repadding.{agree_self, heard_with}
 use Rattle.trace_check.specs.Asker.{IsAsker, IsKeptSetup}
 use Rattle.trace_check.specs.HeardKept.{IsHeardAs, accepted_from, heard_kept}
-use Rattle.trace_check.specs.Keeping.{Keeps, Kept, kept_of, owing, restored}
-use Rattle.trace_check.specs.Padding.{next_with, session_asked}
-use Rattle.trace_check.specs.RepliesShown.{answered, heard_from, no_values}
+use Rattle.capture_laws.specs.Keeping.{Keeps, Kept, kept_of, owing, restored}
+use Rattle.capture_laws.specs.Padding.{next_with, session_asked}
+use Rattle.capture_laws.specs.RepliesShown.{answered, heard_from, no_values}
 use Rattle.trace_check.specs.declared.asker.Asker.{Asker}
 use Rattle.trace_check.specs.declared.asker_setup.AskerSetup.{AskerSetup}
 use Rattle.world_machine.proofs.Agrees.{HaveIds}

@@ -7,9 +7,9 @@ use Rattle.std.specs.Prelude.{nat_lt, not}
 use Rattle.mctp_framing.specs.Cutting.{RouteFields}
 use Rattle.mctp_framing.specs.Gathering.Gathered.{Whole}
 use Rattle.spdm_basis.proofs.Bools.{and_first, and_second}
-use Rattle.trace_check.specs.Keeping.{Kept}
-use Rattle.trace_check.specs.Order.{answered_why, asked_why, asks_wrong, replies_wrong}
-use Rattle.trace_check.specs.RepliesShown.{AnswersRound}
+use Rattle.capture_laws.specs.Keeping.{Kept}
+use Rattle.capture_laws.specs.Order.{answered_why, asked_why, asks_wrong, replies_wrong}
+use Rattle.capture_laws.specs.RepliesShown.{AnswersRound}
 use Rattle.world_machine.specs.Capture.{IsBody}
 use Rattle.world_machine.specs.Difference.{Why, is_copy, is_other_type, is_waiting, may_come}
 use Rattle.world_machine.specs.Difference.Why.{BadPacket, WrongTurn}

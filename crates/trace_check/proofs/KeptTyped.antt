@@ -14,17 +14,17 @@ use Rattle.responder_machine.specs.Setup.{RspSetup}
 use Rattle.spdm_basis.proofs.Bools.{and_first}
 use Rattle.spdm_basis.specs.declared.PacketFault.{PacketFault}
 use Rattle.spdm_machine.specs.Packets.{body_type, gathered_from}
-use Rattle.trace_check.proofs.Alone.{long_steady, one_type}
-use Rattle.trace_check.proofs.Carried.{AreLong, dropped_long, led_made}
-use Rattle.trace_check.proofs.LongAnswers.{most_hash}
-use Rattle.trace_check.proofs.Steadily.{IsSteady}
-use Rattle.trace_check.specs.AnswersShown.{values_shown_by}
-use Rattle.trace_check.specs.DropsShown.{drops_shown_by, outcome_shown}
-use Rattle.trace_check.specs.Keeping.{Keeps, Kept, restored}
-use Rattle.trace_check.specs.Order.{is_answer, is_request}
+use Rattle.capture_laws.proofs.Alone.{long_steady, one_type}
+use Rattle.capture_laws.proofs.Carried.{AreLong, dropped_long, led_made}
+use Rattle.capture_laws.proofs.LongAnswers.{most_hash}
+use Rattle.capture_laws.proofs.Steadily.{IsSteady}
+use Rattle.capture_laws.specs.AnswersShown.{values_shown_by}
+use Rattle.capture_laws.specs.DropsShown.{drops_shown_by, outcome_shown}
+use Rattle.capture_laws.specs.Keeping.{Keeps, Kept, restored}
+use Rattle.capture_laws.specs.Order.{is_answer, is_request}
 use Rattle.trace_check.specs.PartyReplies.{IsApartInClear}
-use Rattle.trace_check.specs.RepliesShown.{responder_for}
-use Rattle.trace_check.specs.Walks.{StepsBy, StepsTo, Walks}
+use Rattle.capture_laws.specs.RepliesShown.{responder_for}
+use Rattle.capture_laws.specs.Walks.{StepsBy, StepsTo, Walks}
 use Rattle.world_machine.specs.Capture.{AsksBy, Begins, Copies, IsBody, RepliesBy}
 use Rattle.world_machine.specs.CapturedAnswers.{MayLeadTo}
 use Rattle.world_machine.specs.Difference.{verify_size}

@@ -15,7 +15,7 @@ use Rattle.spdm_grammar.specs.Responses.{canonical_response}
 use Rattle.spdm_grammar.specs.declared.error_code.ErrorCode.{ErrorCode}
 use Rattle.spdm_grammar.specs.declared.error_code.ErrorCode.TheVariants.{InvalidRequest, UnexpectedRequest, Unspecified, DecryptError, UnsupportedRequest, SessionLimitExceeded, SessionRequired, ResponseTooLarge, RequestTooLarge, LargeResponse, VersionMismatch}
 use Rattle.trace_check.specs.Answerer.{shows_large}
-use Rattle.trace_check.specs.DropsShown.{response_of}
+use Rattle.capture_laws.specs.DropsShown.{response_of}
 use Rattle.world_machine.proofs.TurnsAlike.{is_request, refusal_other}
 
 -- An answer is no LargeResponse.

@@ -7,7 +7,7 @@ use Rattle.spdm_grammar.specs.Reading.{field_at, number_at}
 use Rattle.spdm_grammar.specs.Requests.{request_body, get_version_layout, heartbeat_layout}
 use Rattle.spdm_grammar.specs.declared.choice.Pick.TheVariants.{Small}
 use Rattle.spdm_machine.specs.Packets.{gathered_from}
-use Rattle.trace_check.specs.Order.{ordered_why, round_of}
+use Rattle.capture_laws.specs.Order.{ordered_why, round_of}
 use Rattle.world_machine.specs.Difference.{Why}
 use Rattle.world_machine.specs.Difference.Why.{BadPacket, UnknownEnd, WrongTurn}
 

@@ -42,7 +42,7 @@ use Rattle.spdm_grammar.specs.declared.command_fault.CommandFault.TheVariants as
 use Rattle.spdm_machine.specs.Bodies.{clear_body, record_body}
 use Rattle.spdm_machine.specs.Keys.{Draw}
 use Rattle.trace_check.specs.Asker.{IsSentOwed, is_first_chunk}
-use Rattle.trace_check.specs.Padding.{session_asked}
+use Rattle.capture_laws.specs.Padding.{session_asked}
 use Rattle.requester_machine.specs.Owed.{content_with, sent_with}
 use Rattle.requester_machine.specs.Owed.{with_next}
 

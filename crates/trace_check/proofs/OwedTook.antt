@@ -26,13 +26,13 @@ use Rattle.requester_machine.specs.Shown.{after}
 use Rattle.spdm_basis.specs.declared.PacketFault.{PacketFault}
 use Rattle.spdm_machine.specs.Keys.{Draw}
 use Rattle.spdm_machine.specs.Packets.{gathered_from}
-use Rattle.trace_check.proofs.KeptParts.{none_later, none_owed, owed_is}
-use Rattle.trace_check.proofs.OneWalk.{walks_alike}
-use Rattle.trace_check.specs.Keeping.{Keeps, Kept, kept_of}
-use Rattle.trace_check.specs.Order.{is_answer, is_request}
-use Rattle.trace_check.specs.Padding.{session_asked}
+use Rattle.capture_laws.proofs.KeptParts.{none_later, none_owed, owed_is}
+use Rattle.capture_laws.proofs.OneWalk.{walks_alike}
+use Rattle.capture_laws.specs.Keeping.{Keeps, Kept, kept_of}
+use Rattle.capture_laws.specs.Order.{is_answer, is_request}
+use Rattle.capture_laws.specs.Padding.{session_asked}
 use Rattle.requester_machine.specs.Owed.{sent_with}
-use Rattle.trace_check.specs.Walks.{StepsBy, StepsTo, Walks}
+use Rattle.capture_laws.specs.Walks.{StepsBy, StepsTo, Walks}
 use Rattle.world_machine.proofs.AskersAlike.{AskersAlike}
 use Rattle.world_machine.proofs.AskersAlike.AskersAlike.{Settled, Owing, Shown, Due}
 use Rattle.world_machine.proofs.AskersStep.{owed}

@@ -15,11 +15,11 @@ use Rattle.trace_check.specs.AnswerKeys.{StandFor}
 use Rattle.trace_check.specs.Answerer.{IsAnswerer}
 use Rattle.trace_check.specs.Asked.{IsRefusedFor}
 use Rattle.trace_check.specs.Asker.{IsAsker, is_first_chunk}
-use Rattle.trace_check.specs.Judged.{why_of}
-use Rattle.trace_check.specs.Keeping.{AsksKept, CopiesKept, Kept, SendsKept, restored}
-use Rattle.trace_check.specs.Order.{asks_wrong}
+use Rattle.capture_laws.specs.Judged.{why_of}
+use Rattle.capture_laws.specs.Keeping.{AsksKept, CopiesKept, Kept, SendsKept, restored}
+use Rattle.capture_laws.specs.Order.{asks_wrong}
 use Rattle.trace_check.specs.Party.{IsAsked, IsComingWhy, IsParty}
-use Rattle.trace_check.specs.RepliesShown.{responder_for}
+use Rattle.capture_laws.specs.RepliesShown.{responder_for}
 use Rattle.trace_check.specs.declared.answer_keys.AnswerKeys.{AnswerKeys}
 use Rattle.trace_check.specs.declared.answerer.Answerer.{Answerer}
 use Rattle.trace_check.specs.declared.onward.Onward.{Onward}

@@ -14,26 +14,27 @@ use Rattle.responder_machine.specs.Setup.{RspSetup}
 use Rattle.script_text.specs.declared.why.Why as declared_why
 use Rattle.script_text.specs.declared.why.Why.TheVariants as declared
 use Rattle.spdm_machine.specs.Packets.{body_type}
-use Rattle.trace_check.proofs.ApartShown.{apart_is_shown}
+use Rattle.capture_laws.proofs.ApartShown.{apart_is_shown}
 use Rattle.trace_check.proofs.FewMessages.{kept_messages}
 use Rattle.trace_check.proofs.InTurn.{AnswersInTurn}
-use Rattle.trace_check.proofs.RepliesTold.{replies_are_told}
+use Rattle.capture_laws.proofs.RepliesTold.{replies_are_told}
 use Rattle.trace_check.specs.AnswerKeys.{StandFor}
 use Rattle.trace_check.specs.Answerer.{IsAnswerer, history_shown}
-use Rattle.trace_check.specs.ApartShown.{IsApartShown}
+use Rattle.capture_laws.specs.ApartShown.{IsApartShown}
 use Rattle.trace_check.specs.Asker.{IsAsker}
-use Rattle.trace_check.specs.AnswersShown.{values_shown_by}
-use Rattle.trace_check.specs.DropsShown.{IsShownAnswer, drops_shown_by, outcome_shown}
+use Rattle.capture_laws.specs.AnswersShown.{values_shown_by}
+use Rattle.capture_laws.specs.DropsShown.{IsShownAnswer, drops_shown_by, outcome_shown}
 use Rattle.trace_check.specs.HeardKept.{heard_kept}
-use Rattle.trace_check.specs.Keeping.{Keeps, Kept, RepliesKept, restored}
-use Rattle.trace_check.specs.LargeShown.{IsShownLarge, IsShownLast}
-use Rattle.trace_check.specs.Order.{replies_wrong}
-use Rattle.trace_check.specs.Judged.{why_of}
-use Rattle.trace_check.specs.Party.{IsParty, body_in, tag_in}
+use Rattle.capture_laws.specs.Keeping.{Keeps, Kept, RepliesKept, restored}
+use Rattle.capture_laws.specs.LargeShown.{IsShownLarge, IsShownLast}
+use Rattle.capture_laws.specs.Order.{replies_wrong}
+use Rattle.capture_laws.specs.Judged.{why_of}
+use Rattle.trace_check.specs.Party.{IsParty}
+use Rattle.capture_laws.specs.Order.{body_in, tag_in}
 use Rattle.trace_check.specs.ClearAnswers.{EndsLarge}
 use Rattle.trace_check.specs.PartyReplies.{IsGivenNever, IsGoingWhy, IsReplied}
-use Rattle.trace_check.specs.RepliesShown.{AnswersRound, PlainlyKept, answered_from, responder_for}
-use Rattle.trace_check.specs.RepliesTold.{LastKept, UnfetchedKept}
+use Rattle.capture_laws.specs.RepliesShown.{AnswersRound, PlainlyKept, answered_from, responder_for}
+use Rattle.capture_laws.specs.RepliesTold.{LastKept, UnfetchedKept}
 use Rattle.trace_check.specs.declared.asker.Asker.{Asker}
 use Rattle.trace_check.specs.declared.onward.Onward.TheVariants as onward
 use Rattle.trace_check.specs.declared.party.Party.{Party}

@@ -11,7 +11,7 @@ use Rattle.spdm_grammar.specs.Message.{ExchangeMessage, ResponseMessage}
 use Rattle.spdm_grammar.specs.Message.ResponseMessage.{Version, Capabilities, Algorithms, Measurements, PskExchangeRsp, PskFinishRsp, HeartbeatAck, KeyUpdateAck, EndSessionAck, ChunkSendAck, ChunkResponse, Error}
 use Rattle.spdm_grammar.specs.Responses.{IsSoundResponse, canonical_response}
 use Rattle.spdm_grammar.specs.declared.block_spec.BlockSpec.{BlockSpec}
-use Rattle.trace_check.proofs.AnswerLengths.{exchange_length, measured_length, summary_length}
+use Rattle.capture_laws.proofs.AnswerLengths.{exchange_length, measured_length, summary_length}
 use Rattle.trace_check.specs.Answerer.{HasShortFields}
 
 -- Of a block that is missing nothing is asked.

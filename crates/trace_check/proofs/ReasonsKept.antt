@@ -6,13 +6,13 @@ use Rattle.requester_machine.specs.History.{History, outstanding}
 use Rattle.requester_machine.specs.Message.{Sent}
 use Rattle.requester_machine.specs.Named.{session_named}
 use Rattle.requester_machine.specs.Setup.{ReqSetup}
-use Rattle.trace_check.proofs.KeptAnswers.{kept_is_restored}
-use Rattle.trace_check.proofs.KeptParts.{none_later}
+use Rattle.capture_laws.proofs.KeptAnswers.{kept_is_restored}
+use Rattle.capture_laws.proofs.KeptParts.{none_later}
 use Rattle.trace_check.proofs.OwedSent.{out_owed}
 use Rattle.trace_check.proofs.OwedTook.{owed_took}
 use Rattle.trace_check.specs.Asked.{IsRefusedFor}
-use Rattle.trace_check.specs.Keeping.{Keeps, Kept, kept_of, owing, restored}
-use Rattle.trace_check.specs.Padding.{next_with}
+use Rattle.capture_laws.specs.Keeping.{Keeps, Kept, kept_of, owing, restored}
+use Rattle.capture_laws.specs.Padding.{next_with}
 use Rattle.trace_check.specs.RefusedRequest.{finish_apart}
 use Rattle.world_machine.specs.CapturedRequests.{is_later, owes, without_owed}
 use Rattle.world_machine.specs.Difference.{Why, asks_apart, finish_in, is_finish_apart}

@@ -18,8 +18,8 @@ use Rattle.responder_machine.specs.Setup.{RspSetup}
 use Rattle.spdm_machine.specs.Bodies.{record_body}
 use Rattle.trace_check.proofs.AnyAnswers.{IsSized}
 use Rattle.trace_check.proofs.RecordShown.{at_again, at_closed, at_ended, sealed_to}
-use Rattle.trace_check.specs.AnswersShown.{values_shown_by}
-use Rattle.trace_check.specs.DropsShown.{IsShownAnswer, may_be_dropped}
+use Rattle.capture_laws.specs.AnswersShown.{values_shown_by}
+use Rattle.capture_laws.specs.DropsShown.{IsShownAnswer, may_be_dropped}
 use Rattle.trace_check.specs.ShownBy.{IsRepeated, closed_drops, opens_at}
 use Rattle.world_machine.specs.CapturedAnswers.{belongs_to}
 use Rattle.world_machine.specs.Rounds.{no_draw}

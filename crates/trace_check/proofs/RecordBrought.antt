@@ -13,10 +13,10 @@ use Rattle.spdm_machine.specs.Bodies.{clear_body, record_body}
 use Rattle.trace_check.proofs.RecordClosed.{closed_by, kinds, other_type}
 use Rattle.trace_check.proofs.RecordShown.{sealed_from, sealed_history, sealed_to}
 use Rattle.trace_check.proofs.RecordTold.{large_told, last_told, whole_told}
-use Rattle.trace_check.specs.AnswersShown.{is_whole, values_shown_by}
+use Rattle.capture_laws.specs.AnswersShown.{is_whole, values_shown_by}
 use Rattle.trace_check.specs.ClearAnswers.{EndsLarge, given_of}
-use Rattle.trace_check.specs.DropsShown.{IsShownAnswer}
-use Rattle.trace_check.specs.LargeShown.{IsShownLarge, ends_large, large_shown, last_shown}
+use Rattle.capture_laws.specs.DropsShown.{IsShownAnswer}
+use Rattle.capture_laws.specs.LargeShown.{IsShownLarge, ends_large, large_shown, last_shown}
 use Rattle.trace_check.specs.RecordAnswers.{IsGivenTo, IsRecordBrought, history_behind, whole_if}
 use Rattle.trace_check.specs.ShownBy.{IsRecordGiven, IsTaken}
 use Rattle.trace_check.specs.declared.given.Given.{Given}

@@ -12,11 +12,11 @@ use Rattle.responder_machine.specs.Session.{Events, id_in_record, last_of, sessi
 use Rattle.responder_machine.specs.Setup.{RspSetup}
 use Rattle.spdm_machine.specs.Bodies.{clear_body, record_body}
 use Rattle.trace_check.proofs.AnyAnswers.{IsSized, session_few}
-use Rattle.trace_check.proofs.LeastValues.{least_allowed}
+use Rattle.capture_laws.proofs.LeastValues.{least_allowed}
 use Rattle.trace_check.proofs.RecordShown.{at_again, at_closed, at_ended, at_opened, value_closed}
 use Rattle.trace_check.specs.Answerer.{history_shown}
-use Rattle.trace_check.specs.AnswersShown.{LeadsAt, least_values, values_shown_by}
-use Rattle.trace_check.specs.DropsShown.{IsShownAnswer, drops_shown_by, outcome_shown}
+use Rattle.capture_laws.specs.AnswersShown.{LeadsAt, least_values, values_shown_by}
+use Rattle.capture_laws.specs.DropsShown.{IsShownAnswer, drops_shown_by, outcome_shown}
 use Rattle.trace_check.specs.ShownBy.{HasFewBlocks, closed_drops, opens_at}
 use Rattle.world_machine.specs.CapturedAnswers.{is_plain}
 use Rattle.world_machine.specs.Rounds.{no_draw}

@@ -19,9 +19,9 @@ use Rattle.secured_record.specs.Format.{plain_text}
 use Rattle.spdm_basis.specs.declared.record_fault.RecordFault.{RecordFault}
 use Rattle.spdm_grammar.specs.declared.phase.Phase.{Phase}
 use Rattle.spdm_machine.specs.Bodies.{record_body}
-use Rattle.trace_check.proofs.SessionShown.{text_is, updates_alike}
-use Rattle.trace_check.specs.AnswersShown.{LeadsAt, answered_text, least_values, record_values, values_for, values_shown_by}
-use Rattle.trace_check.specs.DropsShown.{IsShownAnswer, drops_shown_by, may_be_dropped, outcome_shown}
+use Rattle.capture_laws.proofs.SessionShown.{text_is, updates_alike}
+use Rattle.capture_laws.specs.AnswersShown.{LeadsAt, answered_text, least_values, record_values, values_for, values_shown_by}
+use Rattle.capture_laws.specs.DropsShown.{IsShownAnswer, drops_shown_by, may_be_dropped, outcome_shown}
 use Rattle.trace_check.specs.Answerer.{history_shown}
 use Rattle.trace_check.specs.ShownBy.{IsRecordAnswered, opens_at}
 use Rattle.world_machine.specs.CapturedAnswers.{belongs_to, is_plain}

@@ -32,11 +32,11 @@ use Rattle.trace_check.proofs.ClearJudged.{by_parts, parts_large, parts_last, pa
 use Rattle.trace_check.proofs.LargeReplies.{turn_tells}
 use Rattle.trace_check.proofs.LastTold.{last_tells}
 use Rattle.trace_check.proofs.RecordShown.{at_opened, inner_shown}
-use Rattle.trace_check.specs.AnswersShown.{answered_text, is_whole}
+use Rattle.capture_laws.specs.AnswersShown.{answered_text, is_whole}
 use Rattle.trace_check.specs.ClearAnswers.{given_of}
-use Rattle.trace_check.specs.DropsShown.{response_of}
+use Rattle.capture_laws.specs.DropsShown.{response_of}
 use Rattle.trace_check.specs.Answerer.{AreTooLong, shows_large}
-use Rattle.trace_check.specs.LargeShown.{ends_large}
+use Rattle.capture_laws.specs.LargeShown.{ends_large}
 use Rattle.trace_check.specs.RecordAnswers.{given_shown, has_large, has_last}
 use Rattle.trace_check.specs.ShownBy.{IsRecordGiven, IsTaken, shows_last}
 use Rattle.trace_check.specs.declared.given.Given.TheVariants as given

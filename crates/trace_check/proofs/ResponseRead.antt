@@ -10,7 +10,7 @@ use Rattle.spdm_grammar.specs.Message.RequestMessage.{GetVersion, GetCapabilitie
 use Rattle.spdm_grammar.specs.Responses.{canonical_response}
 use Rattle.trace_check.proofs.ReadLengths.{exchange_read_length}
 use Rattle.trace_check.specs.Answerer.{AreLonger, AreRead, AreTooLong, IsLongerContext, IsLongerOpaque, free_length}
-use Rattle.trace_check.specs.AnswersShown.{lengthened}
+use Rattle.capture_laws.specs.AnswersShown.{lengthened}
 
 module _ (r : RspSetup) (p : Place) (m : List ℕ) where
   answer_is : (f : Free) (a : RequestMessage) → request_at p m ≡ Some a → length (answer_bytes r p m f) ≡ length (canonical_response (answer_of r p m f a))

@@ -15,7 +15,7 @@ use Rattle.requester_machine.specs.Named.{session_named}
 use Rattle.requester_machine.specs.Setup.{ReqSetup}
 use Rattle.spdm_machine.specs.Bodies.{record_body}
 use Rattle.trace_check.proofs.SealedRead.{IsFound, found}
-use Rattle.trace_check.proofs.ShownSealed.{from_shown, to_shown}
+use Rattle.capture_laws.proofs.ShownSealed.{from_shown, to_shown}
 use Rattle.trace_check.specs.Commanded.{IsSentByCommand}
 use Rattle.trace_check.specs.SealedTold.{IsSentBy, TellsCommand, command_told, request_told}
 use Rattle.world_machine.specs.CapturedRequests.{Tells}

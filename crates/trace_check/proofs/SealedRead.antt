@@ -29,7 +29,7 @@ use Rattle.spdm_machine.specs.Keys.{inner_message, record_fault, sealed_of}
 use Rattle.spdm_machine.specs.Sessions.{id_in_exchange}
 use Rattle.trace_check.proofs.AskedIds.{few_ids, id_is_named, named_session}
 use Rattle.trace_check.specs.SealedTold.{command_told}
-use Rattle.trace_check.specs.Showing.{IsCommandedIn, inner_for, values_shown}
+use Rattle.capture_laws.specs.Showing.{IsCommandedIn, inner_for, values_shown}
 
 -- ---- It opens.
 

@@ -24,8 +24,8 @@ use Rattle.requester_machine.specs.Shown.{after, fault_of}
 use Rattle.spdm_grammar.specs.Message.RequestMessage.{EndSession, GetMeasurements, Heartbeat}
 use Rattle.spdm_grammar.specs.declared.command_fault.CommandFault.{CommandFault}
 use Rattle.spdm_machine.specs.Bodies.{record_body}
-use Rattle.trace_check.proofs.Connecting.{pad_with, values_with, with_allowed}
-use Rattle.trace_check.proofs.ShownSealed.{asks_right}
+use Rattle.capture_laws.proofs.Connecting.{pad_with, values_with, with_allowed}
+use Rattle.capture_laws.proofs.ShownSealed.{asks_right}
 use Rattle.trace_check.specs.SealedTold.{IsSentBy}
 use Rattle.world_machine.proofs.AskTells.{same_sent}
 use Rattle.world_machine.specs.CapturedRequests.{Tells}

@@ -22,7 +22,7 @@ use Rattle.spdm_grammar.specs.Message.RequestMessage.{GetVersion}
 use Rattle.spdm_grammar.specs.Requests.{canonical_request}
 use Rattle.spdm_grammar.specs.declared.command_fault.CommandFault.{CommandFault}
 use Rattle.spdm_machine.specs.Bodies.{clear_body}
-use Rattle.trace_check.proofs.Connecting.{connects, version_told}
+use Rattle.capture_laws.proofs.Connecting.{connects, version_told}
 use Rattle.trace_check.specs.Commanded.{IsSentByCommand}
 use Rattle.trace_check.specs.SealedTold.{IsSentBy}
 use Rattle.world_machine.proofs.AskersStep.{connect_body}

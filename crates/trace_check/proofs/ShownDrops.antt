@@ -10,7 +10,7 @@ use Rattle.spdm_grammar.specs.declared.names.response_code.TheConstants.{PSK_EXC
 use Rattle.spdm_machine.specs.Sessions.{id_in_exchange}
 use Rattle.trace_check.specs.Answerer.{shows_large}
 use Rattle.trace_check.specs.ClearAnswers.{dropped_before, first_of_held}
-use Rattle.trace_check.specs.DropsShown.{dropped_for, id_begun, may_be_dropped, response_of}
+use Rattle.capture_laws.specs.DropsShown.{dropped_for, id_begun, may_be_dropped, response_of}
 
 -- ---- The first of four.
 

@@ -18,7 +18,7 @@ use Rattle.spdm_grammar.specs.declared.names.TheConstants.{MAX_MESSAGE_SIZE}
 use Rattle.spdm_grammar.specs.declared.names.error_number.TheConstants.{LARGE_RESPONSE}
 use Rattle.spdm_grammar.specs.declared.names.response_code.TheConstants.{ERROR}
 use Rattle.spdm_machine.specs.Terms.{hash_len}
-use Rattle.trace_check.specs.DropsShown.{drops_shown_by, outcome_shown}
+use Rattle.capture_laws.specs.DropsShown.{drops_shown_by, outcome_shown}
 use Rattle.trace_check.specs.declared.answerer.Answerer.{Answerer}
 
 -- ---- Lengths.

@@ -4,8 +4,8 @@ use Rattle.requester_machine.specs.History.{History}
 use Rattle.requester_machine.specs.Setup.{ReqSetup}
 use Rattle.script_text.specs.declared.why.Why as declared
 use Rattle.trace_check.specs.Asker.{IsAsker, gone_on}
-use Rattle.trace_check.specs.Judged.{why_of}
-use Rattle.trace_check.specs.Keeping.{Kept, SendsKept, restored}
+use Rattle.capture_laws.specs.Judged.{why_of}
+use Rattle.capture_laws.specs.Keeping.{Kept, SendsKept, restored}
 use Rattle.trace_check.specs.declared.asker.Asker.{Asker}
 use Rattle.world_machine.specs.Difference.{Why, asks_apart, request_why}
 use Rattle.world_machine.specs.Difference.Why.{BadVerify}

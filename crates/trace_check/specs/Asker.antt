@@ -10,8 +10,8 @@ use Rattle.requester_machine.specs.Session.{session_of}
 use Rattle.requester_machine.specs.Setup.{ReqSetup}
 use Rattle.requester_machine.specs.UnderWay.{HasSizes}
 use Rattle.spdm_grammar.specs.declared.names.request_code.TheConstants.{CHUNK_SEND}
-use Rattle.trace_check.specs.Keeping.{GoesOnKept, Kept, owing}
-use Rattle.trace_check.specs.Padding.{session_asked}
+use Rattle.capture_laws.specs.Keeping.{GoesOnKept, Kept, owing}
+use Rattle.capture_laws.specs.Padding.{session_asked}
 use Rattle.requester_machine.specs.Owed.{sent_with}
 use Rattle.trace_check.specs.declared.asker.Asker.{Asker}
 use Rattle.trace_check.specs.declared.asker_setup.AskerSetup.{AskerSetup}

@@ -14,10 +14,10 @@ use Rattle.spdm_grammar.specs.declared.names.request_code.TheConstants.{CHUNK_GE
 use Rattle.spdm_machine.specs.Bodies.{clear_body}
 use Rattle.spdm_machine.specs.Terms.{hash_len}
 use Rattle.trace_check.specs.Answerer.{history_shown, shows_large}
-use Rattle.trace_check.specs.AnswersShown.{LeadsAt, clear_values, values_shown_by}
-use Rattle.trace_check.specs.ApartShown.{answer_shown}
-use Rattle.trace_check.specs.DropsShown.{IsShownAnswer, dropped_for, drops_shown_by, id_begun, outcome_shown, response_of}
-use Rattle.trace_check.specs.LargeShown.{IsShownLarge, drops_before, ends_large, first_dropped, large_shown, last_shown}
+use Rattle.capture_laws.specs.AnswersShown.{LeadsAt, clear_values, values_shown_by}
+use Rattle.capture_laws.specs.ApartShown.{answer_shown}
+use Rattle.capture_laws.specs.DropsShown.{IsShownAnswer, dropped_for, drops_shown_by, id_begun, outcome_shown, response_of}
+use Rattle.capture_laws.specs.LargeShown.{IsShownLarge, drops_before, ends_large, first_dropped, large_shown, last_shown}
 use Rattle.trace_check.specs.ShownBy.{AnswersSo}
 use Rattle.trace_check.specs.declared.asked.Asked.{Asked}
 use Rattle.trace_check.specs.declared.asked.Asked.TheVariants as bytes

@@ -14,7 +14,7 @@ use Rattle.requester_machine.specs.Setup.{ReqSetup}
 use Rattle.spdm_grammar.specs.Message.{ExchangeMessage, RequestMessage}
 use Rattle.spdm_grammar.specs.Message.RequestMessage.{GetMeasurements, GetVersion, PskExchange}
 use Rattle.trace_check.specs.Asker.{IsAsker}
-use Rattle.trace_check.specs.Keeping.{CommandsKept, Kept}
+use Rattle.capture_laws.specs.Keeping.{CommandsKept, Kept}
 use Rattle.trace_check.specs.declared.asker.Asker.{Asker}
 use Rattle.world_machine.specs.CapturedRequests.{Tells}
 use Rattle.world_machine.specs.Rounds.{no_draw}

@@ -7,9 +7,9 @@ use Rattle.requester_machine.specs.History as requester_history
 use Rattle.requester_machine.specs.Setup.{ReqSetup}
 use Rattle.requester_machine.specs.Shown.{after, event_of, sent_by}
 use Rattle.responder_machine.specs.History.{History}
-use Rattle.trace_check.specs.ChangeLaws.{accepted_by}
-use Rattle.trace_check.specs.Keeping.{Kept, kept_of, restored}
-use Rattle.trace_check.specs.RepliesShown.{answered, heard_from, no_values}
+use Rattle.capture_laws.specs.ChangeLaws.{accepted_by}
+use Rattle.capture_laws.specs.Keeping.{Kept, kept_of, restored}
+use Rattle.capture_laws.specs.RepliesShown.{answered, heard_from, no_values}
 use Rattle.world_machine.specs.Rounds.{Round, no_draw}
 
 -- An answer in this round, behind which the responder has this history: the requester heard it.

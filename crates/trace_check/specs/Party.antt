@@ -9,26 +9,15 @@ use Rattle.script_text.specs.declared.why.Why as declared
 use Rattle.trace_check.specs.AnswerKeys as answer_keys
 use Rattle.trace_check.specs.Answerer.{IsAnswerer}
 use Rattle.trace_check.specs.Asker.{IsAsker, is_first_chunk}
-use Rattle.trace_check.specs.Judged.{why_of}
-use Rattle.trace_check.specs.Keeping.{AsksKept, Kept, restored}
-use Rattle.trace_check.specs.RepliesShown.{responder_for}
+use Rattle.capture_laws.specs.Judged.{why_of}
+use Rattle.capture_laws.specs.Keeping.{AsksKept, Kept, restored}
+use Rattle.capture_laws.specs.RepliesShown.{responder_for}
 use Rattle.trace_check.specs.declared.onward.Onward.{Onward}
 use Rattle.trace_check.specs.declared.onward.Onward.TheVariants as onward
 use Rattle.trace_check.specs.declared.party.Party.{Party}
 use Rattle.world_machine.specs.Difference.{ComesApart, Why, comes_why}
 use Rattle.world_machine.specs.Difference.Why.{BadVerify}
-use Rattle.world_machine.specs.Rounds.{Round}
 use Rattle.world_machine.specs.Setup.{Configuration}
-
--- The body of the request that began a round; no bytes where there is none.
-abbrev pub body_in : Option Round → List ℕ
-body_in None = []
-body_in (Some round) = round.body
-
--- The tag of that request; 0 where there is none.
-abbrev pub tag_in : Option Round → ℕ
-tag_in None = 0
-tag_in (Some round) = round.tag
 
 -- ---- What is kept.
 

@@ -7,14 +7,14 @@ use Rattle.requester_machine.specs.Setup.{ReqSetup}
 use Rattle.responder_machine.specs.Setup.{RspSetup}
 use Rattle.script_text.specs.declared.why.Why as declared
 use Rattle.trace_check.specs.Answerer.{IsAnswerer, history_shown}
-use Rattle.trace_check.specs.ApartShown.{IsApartShown}
+use Rattle.capture_laws.specs.ApartShown.{IsApartShown}
 use Rattle.trace_check.specs.ClearAnswers.{EndsLarge}
-use Rattle.trace_check.specs.DropsShown.{IsShownAnswer}
-use Rattle.trace_check.specs.Judged.{why_of}
-use Rattle.trace_check.specs.Keeping.{Kept, RepliesKept, restored}
-use Rattle.trace_check.specs.LargeShown.{IsShownLarge}
+use Rattle.capture_laws.specs.DropsShown.{IsShownAnswer}
+use Rattle.capture_laws.specs.Judged.{why_of}
+use Rattle.capture_laws.specs.Keeping.{Kept, RepliesKept, restored}
+use Rattle.capture_laws.specs.LargeShown.{IsShownLarge}
 use Rattle.trace_check.specs.Party.{IsParty}
-use Rattle.trace_check.specs.RepliesShown.{AnswersRound, responder_for}
+use Rattle.capture_laws.specs.RepliesShown.{AnswersRound, responder_for}
 use Rattle.trace_check.specs.declared.answerer.Answerer.{Answerer}
 use Rattle.trace_check.specs.declared.given.Given.{Given}
 use Rattle.trace_check.specs.declared.given.Given.TheVariants as given

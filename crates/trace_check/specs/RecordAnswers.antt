@@ -7,8 +7,8 @@ use Rattle.responder_machine.specs.Responder.{after, on_record}
 use Rattle.responder_machine.specs.Setup.{RspSetup}
 use Rattle.trace_check.specs.Answerer.{history_shown, shows_large}
 use Rattle.trace_check.specs.ClearAnswers.{EndsLarge, given_of}
-use Rattle.trace_check.specs.DropsShown.{IsShownAnswer, response_of}
-use Rattle.trace_check.specs.LargeShown.{IsShownLarge, drops_before, large_shown, last_shown}
+use Rattle.capture_laws.specs.DropsShown.{IsShownAnswer, response_of}
+use Rattle.capture_laws.specs.LargeShown.{IsShownLarge, drops_before, large_shown, last_shown}
 use Rattle.trace_check.specs.ShownBy.{IsRecordGiven, shows_last}
 use Rattle.trace_check.specs.declared.given.Given.{Given}
 use Rattle.trace_check.specs.declared.given.Given.TheVariants as given

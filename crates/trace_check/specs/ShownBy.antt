@@ -16,8 +16,8 @@ use Rattle.responder_machine.specs.Session.{Events, id_in_record, is_live, last_
 use Rattle.responder_machine.specs.Setup.{RspSetup, inventory_of}
 use Rattle.spdm_grammar.specs.declared.names.TheConstants.{MAX_MESSAGE_SIZE}
 use Rattle.spdm_grammar.specs.declared.names.response_code.TheConstants.{CHUNK_RESPONSE}
-use Rattle.trace_check.specs.AnswersShown.{least_values, values_in_text}
-use Rattle.trace_check.specs.DropsShown.{may_be_dropped}
+use Rattle.capture_laws.specs.AnswersShown.{least_values, values_in_text}
+use Rattle.capture_laws.specs.DropsShown.{may_be_dropped}
 use Rattle.trace_check.specs.declared.response_values.AnswerPlace.{AnswerPlace}
 use Rattle.world_machine.specs.CapturedAnswers.{belongs_to, clear_answer, is_plain, record_answer}
 use Rattle.world_machine.specs.Rounds.{no_draw}

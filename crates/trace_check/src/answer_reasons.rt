@@ -3,7 +3,7 @@ ghost use Rattle.connection.specs.Connected as connected;
 ghost use Rattle.responder_machine.specs.BoundLaws.{messages_of};
 ghost use Rattle.responder_machine.specs.Setup.{RspSetup};
 ghost use Rattle.trace_check.specs.AnswerKeys.{StandFor};
-ghost use Rattle.trace_check.specs.Judged.{why_of};
+ghost use Rattle.capture_laws.specs.Judged.{why_of};
 ghost use Rattle.world_machine.specs.Difference.{reply_why};
 ghost use Rattle.world_machine.specs.Rounds.{Dialogue, Round};
 
@@ -57,7 +57,7 @@ impl Answerer {
     ghost use Rattle.responder_machine.specs.Setup.{RspSetup};
     ghost use Rattle.trace_check.specs.AnswerKeys.{IsComingKey, StandFor};
     ghost use Rattle.trace_check.specs.Answerer.{IsAnswerer};
-    ghost use Rattle.trace_check.specs.Judged.{why_of};
+    ghost use Rattle.capture_laws.specs.Judged.{why_of};
     ghost use Rattle.world_machine.specs.Difference.{reply_why};
     ghost use Rattle.world_machine.specs.Rounds.{Dialogue, Round};
 

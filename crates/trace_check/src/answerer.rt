@@ -1,7 +1,7 @@
 ghost use Rattle.std.specs.Prelude.{◌≡◌};
 ghost use Rattle.trace_check.specs.Answerer.{shows_large};
 ghost use Rattle.trace_check.specs.ClearAnswers.{given_by, is_same, is_whole_given, judged_by, tells_get};
-ghost use Rattle.trace_check.specs.DropsShown.{response_of};
+ghost use Rattle.capture_laws.specs.DropsShown.{response_of};
 
 use crate::answer_length::is_too_long;
 use crate::apart::{carries_exchange, is_apart};

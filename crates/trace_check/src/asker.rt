@@ -28,7 +28,7 @@ impl Asker {
     ghost use Rattle.spdm_machine.specs.Bodies.{clear_body};
     ghost use Rattle.trace_check.specs.Asker.{IsAsker, IsGoneOn};
     ghost use Rattle.trace_check.specs.Commanded.{IsCommandedBy};
-    ghost use Rattle.trace_check.specs.Keeping.{Keeps, Kept, kept_of};
+    ghost use Rattle.capture_laws.specs.Keeping.{Keeps, Kept, kept_of};
     ghost use Rattle.world_machine.specs.Rounds.{new_dialogue};
     ghost use Rattle.world_machine.specs.Setup.{Configuration};
 

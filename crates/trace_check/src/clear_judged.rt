@@ -17,7 +17,7 @@ impl Answerer {
     ghost use Rattle.responder_machine.specs.Setup.{RspSetup};
     ghost use Rattle.world_machine.specs.Rounds.{no_draw};
     ghost use Rattle.trace_check.specs.Answerer.{IsAnswerer};
-    ghost use Rattle.trace_check.specs.AnswersShown.{clear_values, least_values};
+    ghost use Rattle.capture_laws.specs.AnswersShown.{clear_values, least_values};
     ghost use Rattle.trace_check.specs.ClearAnswers.{IsJudgedAt, IsJudged, dropped_before, given_in, history_given};
 
     // Judges an answer to a clear message that is a repeat: it shows no values.

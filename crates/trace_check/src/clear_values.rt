@@ -15,7 +15,7 @@ ghost use Rattle.spdm_grammar.specs.Message.{ChunkMessage, chunk_message, reques
 ghost use Rattle.spdm_grammar.specs.Requests.{request_in};
 ghost use Rattle.spdm_grammar.specs.declared.names.TheConstants.{MAX_MESSAGE_SIZE};
 ghost use Rattle.spdm_grammar.specs.declared.names.response_code.TheConstants.{CHUNK_SEND_ACK};
-ghost use Rattle.trace_check.specs.AnswersShown.{clear_values, least_values, values_in, values_in_reply};
+ghost use Rattle.capture_laws.specs.AnswersShown.{clear_values, least_values, values_in, values_in_reply};
 ghost use Rattle.trace_check.specs.ShownBy.{AreReadClear, IsPlaceOf};
 
 use crate::response_values::{AnswerPlace, values_in};

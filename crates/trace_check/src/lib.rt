@@ -1,8 +1,8 @@
-//! What a capture shows, judged against what the two ends may have sent: the order of its packets,
-//! the table of its sessions, and parts of what judges requests and answers by the ends' own code.
+//! What the two ends of a capture may have sent, judged by the ends' own code: the requests and the answers
+//! of one requester, while no large message is under way.
 //!
-//! Read first: `IsVerdict` in `specs/Verdict.antt`, what the verdict on a capture is. The call is
-//! `Order::take`; `Asker` judges the requests of one requester.
+//! Read first: `IsParty` in `specs/Party.antt`, what is kept of a requester and the responder. The calls are
+//! `Party::asks` and `Party::replies`.
 #![tactic(auto)]
 
 mod answer_keys;
@@ -16,9 +16,6 @@ mod asker_hears;
 mod asker_setup;
 mod bodies;
 mod body_judged;
-mod brought;
-mod change;
-mod change_laws;
 mod choosing;
 mod clear_answers;
 mod clear_commands;
@@ -26,15 +23,10 @@ mod clear_judged;
 mod clear_values;
 mod given;
 mod judged_in_clear;
-mod kept_changes;
-mod laws;
 mod onward;
-mod order;
 mod owed_messages;
-mod pair;
 mod party;
 mod party_replies;
-mod places;
 mod record_answers;
 mod record_closed;
 mod record_judged;
@@ -42,54 +34,19 @@ mod record_values;
 mod request_reasons;
 mod requests;
 mod response_values;
-mod round;
-mod row_laws;
-mod rows;
 mod sealed_answers;
 mod sealed_commands;
 mod sending;
 mod shown_fields;
 mod shown_values;
-mod verdict;
 
 pub use answer_keys::AnswerKeys;
 pub use answerer::Answerer;
 pub use asker::Asker;
-pub use brought::Brought;
-pub use change::Change;
-pub use change_laws::{
-    ack_accepts_none, answer_accepts, answer_asks_none, copy_changes, copy_is_request,
-    large_answer_changes, last_chunk_changes, request_changes, round_is_request,
-    whole_answer_changes,
-};
 pub use given::{Given, Judged};
-pub use kept_changes::{kept_copy_is_request, kept_round_is_request};
-pub use laws::{
-    answered_reason_is_each, answers_are_shown, apart_is_shown, asked_reason_is_each,
-    asks_are_kept, asks_go_on, clear_is_shown, conforms_is_each, connects_always,
-    goes_on_from_each, kept_asks, kept_begins, kept_is_restored, kept_replies, kept_stays,
-    kept_tells_apart, kept_tells_reason, kept_tells_why, large_are_shown, large_is_shown,
-    last_is_shown, leads_is_each, more_conforms, one_round, one_verdict, order_is_alone,
-    order_is_reason, order_refuses, order_tells, owed_is_padded, padding_is_free, plain_is_shown,
-    replies_are_kept, replies_are_shown, replies_are_told, replies_go_on, sealed_is_shown,
-    sealed_tells,
-};
 pub use onward::Onward;
-pub use order::Order;
-pub use pair::Pair;
 pub use party::Party;
-pub use places::Places;
-pub use round::Round;
-pub use row_laws::{
-    idle_rows_stay, one_changes_rows, one_keeps_places, other_places_stay, rows_are_of_all,
-    table_begins, table_is_shown, walks_step,
-};
 pub use script_text::Why;
-pub use verdict::{Seen, SessionTable, Verdict};
 
 #[cfg(test)]
 mod day_tests;
-#[cfg(test)]
-mod row_tests;
-#[cfg(test)]
-mod tests;

@@ -3,7 +3,8 @@ ghost use Rattle.trace_check.specs.Asker.{is_first_chunk};
 ghost use Rattle.trace_check.specs.declared.onward.Onward.TheVariants as onward;
 
 use crate::owed_messages::is_first_chunk;
-use crate::{AnswerKeys, Answerer, Asker, Onward, Round};
+use crate::{AnswerKeys, Answerer, Asker, Onward};
+use capture_laws::Round;
 use connection::Setup;
 use script_text::Why;
 
@@ -34,10 +35,10 @@ impl Party {
     ghost use Rattle.mctp_framing.specs.Gathering.Gathered.{Whole};
     ghost use Rattle.requester_machine.specs.Setup.{ReqSetup};
     ghost use Rattle.trace_check.specs.Asker.{IsAsker};
-    ghost use Rattle.trace_check.specs.Keeping.{Keeps, Kept, kept_of};
-    ghost use Rattle.trace_check.specs.Order.{asked_why};
+    ghost use Rattle.capture_laws.specs.Keeping.{Keeps, Kept, kept_of};
+    ghost use Rattle.capture_laws.specs.Order.{asked_why};
     ghost use Rattle.trace_check.specs.Party.{IsAsked, IsParty};
-    ghost use Rattle.trace_check.specs.RepliesShown.{responder_for};
+    ghost use Rattle.capture_laws.specs.RepliesShown.{responder_for};
     ghost use Rattle.world_machine.specs.Rounds.{new_dialogue};
     ghost use Rattle.world_machine.specs.Setup.{Configuration};
 

@@ -1,4 +1,5 @@
-use crate::{Given, Judged, Onward, Party, Round};
+use crate::{Given, Judged, Onward, Party};
+use capture_laws::Round;
 use connection::Setup;
 use responder_session::AnswerKey;
 use script_text::Why;
@@ -20,11 +21,11 @@ impl Party {
     ghost use Rattle.trace_check.specs.Answerer.{IsAnswerer};
     ghost use Rattle.trace_check.specs.Asker.{IsAsker};
     ghost use Rattle.trace_check.specs.HeardKept.{heard_kept};
-    ghost use Rattle.trace_check.specs.Keeping.{Keeps, Kept};
-    ghost use Rattle.trace_check.specs.Order.{answered_why};
-    ghost use Rattle.trace_check.specs.Party.{IsParty, body_in, tag_in};
+    ghost use Rattle.capture_laws.specs.Keeping.{Keeps, Kept};
+    ghost use Rattle.capture_laws.specs.Order.{answered_why};
+    ghost use Rattle.trace_check.specs.Party.{IsParty};
     ghost use Rattle.trace_check.specs.PartyReplies.{IsReplied};
-    ghost use Rattle.trace_check.specs.RepliesShown.{responder_for};
+    ghost use Rattle.capture_laws.specs.RepliesShown.{responder_for};
     ghost use Rattle.trace_check.specs.declared.onward.Onward.TheVariants as onward;
     ghost use Rattle.world_machine.specs.Rounds as rounds;
     ghost use Rattle.world_machine.specs.Setup.{Configuration};

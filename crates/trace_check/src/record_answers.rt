@@ -14,7 +14,7 @@ ghost use Rattle.responder_machine.specs.Setup.{RspSetup};
 ghost use Rattle.responder_session.specs.Deeds.{AreFree};
 ghost use Rattle.spdm_grammar.specs.declared.names.TheConstants.{MAX_MESSAGE_SIZE};
 ghost use Rattle.spdm_machine.specs.Bodies.{record_body};
-ghost use Rattle.trace_check.specs.AnswersShown.{least_values};
+ghost use Rattle.capture_laws.specs.AnswersShown.{least_values};
 
 use crate::Answerer;
 use crate::answer_length::is_too_long;

@@ -5,7 +5,7 @@ ghost use Rattle.responder_machine.specs.History.{History};
 ghost use Rattle.responder_machine.specs.Session.{id_in_record, session_of};
 ghost use Rattle.responder_machine.specs.Setup.{RspSetup};
 ghost use Rattle.spdm_machine.specs.Bodies.{clear_body};
-ghost use Rattle.trace_check.specs.DropsShown.{may_be_dropped};
+ghost use Rattle.capture_laws.specs.DropsShown.{may_be_dropped};
 ghost use Rattle.world_machine.specs.CapturedAnswers.{belongs_to};
 
 use crate::Answerer;
@@ -50,8 +50,8 @@ impl Answerer {
     ghost use Rattle.responder_machine.specs.Setup.{RspSetup};
     ghost use Rattle.spdm_machine.specs.Bodies.{clear_body, record_body};
     ghost use Rattle.trace_check.specs.Answerer.{IsAnswerer, history_shown};
-    ghost use Rattle.trace_check.specs.AnswersShown.{least_values};
-    ghost use Rattle.trace_check.specs.DropsShown.{IsShownAnswer};
+    ghost use Rattle.capture_laws.specs.AnswersShown.{least_values};
+    ghost use Rattle.capture_laws.specs.DropsShown.{IsShownAnswer};
     ghost use Rattle.trace_check.specs.ShownBy.{closed_drops};
     ghost use Rattle.world_machine.specs.Rounds.{no_draw};
 

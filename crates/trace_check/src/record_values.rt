@@ -7,7 +7,7 @@ ghost use Rattle.responder_machine.specs.Place.{session_place};
 ghost use Rattle.responder_machine.specs.Session.{Events};
 ghost use Rattle.responder_machine.specs.Setup.{RspSetup};
 ghost use Rattle.trace_check.specs.Answerer.{AreRead, AreShort};
-ghost use Rattle.trace_check.specs.AnswersShown.{values_in_inner, values_in_text};
+ghost use Rattle.capture_laws.specs.AnswersShown.{values_in_inner, values_in_text};
 ghost use Rattle.trace_check.specs.ShownBy.{IsPlaceOf};
 
 use crate::response_values::{AnswerPlace, values_in};

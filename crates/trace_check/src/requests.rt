@@ -12,8 +12,8 @@ impl Asker {
     ghost use Rattle.requester_machine.specs.Setup.{ReqSetup};
     ghost use Rattle.trace_check.specs.Asked.{IsAskedBy, IsJudged, IsRefusedFor};
     ghost use Rattle.trace_check.specs.Asker.{IsAsker};
-    ghost use Rattle.trace_check.specs.Judged.{why_of};
-    ghost use Rattle.trace_check.specs.Keeping.{Keeps, Kept, restored};
+    ghost use Rattle.capture_laws.specs.Judged.{why_of};
+    ghost use Rattle.capture_laws.specs.Keeping.{Keeps, Kept, restored};
     ghost use Rattle.world_machine.specs.Difference.{asks_apart};
     ghost use Rattle.world_machine.specs.Opening.{opens_asking};
     ghost use Rattle.world_machine.specs.Setup.{Configuration};

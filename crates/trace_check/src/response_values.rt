@@ -9,7 +9,7 @@ ghost use Rattle.spdm_grammar.specs.Message.{request_message};
 ghost use Rattle.spdm_grammar.specs.Responses.{response_in};
 ghost use Rattle.spdm_machine.specs.Terms.{hash_len};
 ghost use Rattle.trace_check.specs.Answerer.{AreRead, AreShort};
-ghost use Rattle.trace_check.specs.AnswersShown.{asks_summary, least_large, lengthened, values_in, values_in_error, with_fields};
+ghost use Rattle.capture_laws.specs.AnswersShown.{asks_summary, least_large, lengthened, values_in, values_in_error, with_fields};
 ghost use Rattle.trace_check.specs.ShownBy.{IsPlaceOf};
 
 use crate::answer_length::free_length;

@@ -62,8 +62,8 @@ impl Answerer {
     ghost use Rattle.responder_session.specs.OwnAnswers.{IsKeyOfReply};
     ghost use Rattle.spdm_machine.specs.Bodies.{record_body};
     ghost use Rattle.trace_check.specs.Answerer.{IsAnswerer, history_shown};
-    ghost use Rattle.trace_check.specs.AnswersShown.{record_values};
-    ghost use Rattle.trace_check.specs.DropsShown.{IsShownAnswer};
+    ghost use Rattle.capture_laws.specs.AnswersShown.{record_values};
+    ghost use Rattle.capture_laws.specs.DropsShown.{IsShownAnswer};
     ghost use Rattle.trace_check.specs.RecordAnswers.{IsGivenTo, IsRecordBrought, history_behind};
     ghost use Rattle.trace_check.specs.ShownBy.{IsRepeated, IsTaken};
     ghost use Rattle.world_machine.specs.Opening.{turn_in};

@@ -6,7 +6,7 @@ ghost use Rattle.spdm_grammar.specs.Message.{ExchangeMessage, request_message, r
 ghost use Rattle.spdm_grammar.specs.Message.RequestMessage.{GetMeasurements, PskExchange};
 ghost use Rattle.spdm_grammar.specs.Responses.{response_in};
 ghost use Rattle.trace_check.specs.Answerer.{HasShortFields};
-ghost use Rattle.trace_check.specs.AnswersShown.{asks_summary, with_fields};
+ghost use Rattle.capture_laws.specs.AnswersShown.{asks_summary, with_fields};
 
 use connection::FreeValues;
 use spdm_codec::read_response;

@@ -7,7 +7,7 @@ ghost use Rattle.spdm_grammar.specs.Fields.{zeros};
 ghost use Rattle.spdm_grammar.specs.Message.{request_message};
 ghost use Rattle.spdm_grammar.specs.Requests.{request_in};
 ghost use Rattle.trace_check.specs.Answerer.{AreLonger, IsLongerContext, IsLongerOpaque};
-ghost use Rattle.trace_check.specs.AnswersShown.{lengthened};
+ghost use Rattle.capture_laws.specs.AnswersShown.{lengthened};
 
 use connection::FreeValues;
 use spdm_codec::read_request;

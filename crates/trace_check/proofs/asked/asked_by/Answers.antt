@@ -13,7 +13,7 @@ use Rattle.spdm_grammar.specs.declared.block_spec.BlockSpec.{BlockSpec}
 use Rattle.spdm_grammar.specs.declared.names.response_code.TheConstants.{CHUNK_SEND_ACK}
 use Rattle.spdm_machine.specs.Terms.{hash_len}
 use Rattle.trace_check.proofs.ClearAsked.{long_carried, long_chunk, long_itself, never_given}
-use Rattle.trace_check.specs.AnswersShown.{clear_values}
+use Rattle.capture_laws.specs.AnswersShown.{clear_values}
 use Rattle.trace_check.proofs.asked.asked_by.Goals as goal
 
 pub returns-in-None : goal.returns-in-None

@@ -1,7 +1,7 @@
 use Rattle.std.proofs.Common.{refl}
 use Rattle.trace_check.proofs.HearsKept.{heard_as}
 use Rattle.trace_check.proofs.asker_hears.hear.Goals as goal
-use Rattle.trace_check.specs.RepliesShown.{no_values}
+use Rattle.capture_laws.specs.RepliesShown.{no_values}
 use Rattle.world_machine.specs.Rounds.{no_draw}
 
 pub returns : goal.returns

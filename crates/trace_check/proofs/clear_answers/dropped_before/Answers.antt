@@ -5,7 +5,7 @@ use Rattle.spdm_grammar.specs.declared.names.response_code.TheConstants.{PSK_EXC
 use Rattle.spdm_machine.specs.Sessions.{id_in_exchange}
 use Rattle.trace_check.proofs.ShownDrops.{begun_drops, large_drops}
 use Rattle.trace_check.specs.Answerer.{IsDropped, shows_large}
-use Rattle.trace_check.specs.DropsShown.{may_be_dropped, response_of}
+use Rattle.capture_laws.specs.DropsShown.{may_be_dropped, response_of}
 use Rattle.trace_check.proofs.clear_answers.dropped_before.Goals as goal
 
 pub returns-then-shows_large : goal.returns-then-shows_large

@@ -10,7 +10,7 @@ use Rattle.responder_machine.specs.LargeMessages.{chunks_of}
 use Rattle.responder_machine.specs.Place.{clear_place, inside}
 use Rattle.spdm_grammar.specs.Message.{chunk_message}
 use Rattle.spdm_grammar.specs.declared.names.response_code.TheConstants.{CHUNK_SEND_ACK}
-use Rattle.trace_check.specs.AnswersShown.{least_values, values_in}
+use Rattle.capture_laws.specs.AnswersShown.{least_values, values_in}
 use Rattle.trace_check.specs.ShownBy.{AreReadClear}
 use Rattle.trace_check.proofs.clear_values.chunk_values.Goals as goal
 

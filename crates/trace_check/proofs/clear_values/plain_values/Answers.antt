@@ -2,7 +2,7 @@ use Rattle.std.proofs.Common.{refl}
 use Rattle.responder_machine.specs.Place.{clear_place}
 use Rattle.trace_check.proofs.ClearShown.{read_plain}
 use Rattle.trace_check.proofs.clear_values.plain_values.Goals as goal
-use Rattle.trace_check.specs.AnswersShown.{least_values, values_in}
+use Rattle.capture_laws.specs.AnswersShown.{least_values, values_in}
 
 pub returns : goal.returns
 returns c = λ r h set at free none.

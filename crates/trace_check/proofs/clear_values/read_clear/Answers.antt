@@ -7,7 +7,7 @@ use Rattle.spdm_grammar.specs.Message.{ChunkMessage, chunk_message}
 use Rattle.spdm_grammar.specs.Requests.{request_in}
 use Rattle.spdm_grammar.specs.declared.choice.Choice.{Choice}
 use Rattle.spdm_machine.specs.Terms.{hash_len}
-use Rattle.trace_check.specs.AnswersShown.{least_values, values_in_reply}
+use Rattle.capture_laws.specs.AnswersShown.{least_values, values_in_reply}
 use Rattle.trace_check.specs.ShownBy.{AreReadClear}
 use Rattle.trace_check.proofs.clear_values.read_clear.Goals as goal
 

@@ -8,7 +8,7 @@ use Rattle.spdm_grammar.specs.Message.{chunk_message}
 use Rattle.spdm_grammar.specs.declared.names.TheConstants.{MAX_MESSAGE_SIZE}
 use Rattle.trace_check.proofs.ClearShown.{no_room, read_whole}
 use Rattle.trace_check.proofs.clear_values.whole_values.Goals as goal
-use Rattle.trace_check.specs.AnswersShown.{least_values, values_in}
+use Rattle.capture_laws.specs.AnswersShown.{least_values, values_in}
 use Rattle.trace_check.specs.Answerer.{AreRead}
 
 pub returns-then-not-join : goal.returns-then-not-join

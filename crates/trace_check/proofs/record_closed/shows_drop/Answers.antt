@@ -3,7 +3,7 @@ use Rattle.responder_machine.specs.Session.{id_in_record, is_live, session_of}
 use Rattle.spdm_basis.proofs.Bools.{and_second}
 use Rattle.spdm_basis.specs.declared.session_id.SessionId.{SessionId}
 use Rattle.trace_check.proofs.record_closed.shows_drop.Goals as goal
-use Rattle.trace_check.specs.DropsShown.{may_be_dropped}
+use Rattle.capture_laws.specs.DropsShown.{may_be_dropped}
 use Rattle.world_machine.specs.CapturedAnswers.{belongs_to}
 
 pub returns-then-belongs : goal.returns-then-belongs

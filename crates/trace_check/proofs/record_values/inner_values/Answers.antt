@@ -4,7 +4,7 @@ use Rattle.std.specs.Prelude.{slice_index}
 use Rattle.connection.specs.Free.{IsFree}
 use Rattle.responder_machine.specs.Place.{session_place}
 use Rattle.trace_check.specs.Answerer.{AreRead}
-use Rattle.trace_check.specs.AnswersShown.{values_in}
+use Rattle.capture_laws.specs.AnswersShown.{values_in}
 use Rattle.trace_check.proofs.record_values.inner_values.Goals as goal
 
 pub returns-then-byte_at-eq-APP_DATA : goal.returns-then-byte_at-eq-APP_DATA

@@ -3,7 +3,7 @@ use Rattle.byteorder.specs.Endian.{little_number}
 use Rattle.responder_machine.specs.Answer.{Free}
 use Rattle.responder_machine.specs.Place.{session_place}
 use Rattle.trace_check.specs.Answerer.{AreRead}
-use Rattle.trace_check.specs.AnswersShown.{values_in_inner}
+use Rattle.capture_laws.specs.AnswersShown.{values_in_inner}
 use Rattle.trace_check.proofs.record_values.text_values.Goals as goal
 
 pub returns : goal.returns

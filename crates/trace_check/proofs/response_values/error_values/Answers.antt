@@ -6,7 +6,7 @@ use Rattle.connection.specs.Free.{IsFree}
 use Rattle.responder_machine.specs.Answer.{Free, answer_bytes, request_at}
 use Rattle.spdm_grammar.specs.declared.names.error_number.TheConstants.{LARGE_RESPONSE, RESPONSE_TOO_LARGE}
 use Rattle.trace_check.specs.Answerer.{AreRead}
-use Rattle.trace_check.specs.AnswersShown.{least_large, lengthened}
+use Rattle.capture_laws.specs.AnswersShown.{least_large, lengthened}
 use Rattle.trace_check.proofs.response_values.error_values.Goals as goal
 
 pub returns-then-code-eq-RESPONSE_TOO_LARGE : goal.returns-then-code-eq-RESPONSE_TOO_LARGE

@@ -7,7 +7,7 @@ use Rattle.spdm_grammar.specs.Message.{RequestMessage, request_message}
 use Rattle.spdm_grammar.specs.Requests.{request_in}
 use Rattle.spdm_grammar.specs.Responses.{response_in}
 use Rattle.spdm_machine.specs.Terms.{hash_len}
-use Rattle.trace_check.specs.AnswersShown.{asks_summary, with_fields}
+use Rattle.capture_laws.specs.AnswersShown.{asks_summary, with_fields}
 use Rattle.trace_check.proofs.response_values.field_values.Goals as goal
 
 pub returns-in-Some : goal.returns-in-Some

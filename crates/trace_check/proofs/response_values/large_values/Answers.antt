@@ -3,7 +3,7 @@ use Rattle.connection.specs.Free.{IsFree}
 use Rattle.responder_machine.specs.Answer.{Free, answer_bytes, request_at}
 use Rattle.trace_check.proofs.ResponseRead.{handle_long}
 use Rattle.trace_check.specs.Answerer.{AreTooLong}
-use Rattle.trace_check.specs.AnswersShown.{least_large, lengthened}
+use Rattle.capture_laws.specs.AnswersShown.{least_large, lengthened}
 use Rattle.trace_check.proofs.response_values.large_values.Goals as goal
 
 pub returns-in-Some : goal.returns-in-Some

@@ -5,7 +5,7 @@ use Rattle.spdm_basis.specs.Sizes.{hash_size}
 use Rattle.spdm_grammar.specs.Message.{RequestMessage, request_message}
 use Rattle.spdm_grammar.specs.Requests.{request_in}
 use Rattle.trace_check.specs.Answerer.{AreRead}
-use Rattle.trace_check.specs.AnswersShown.{lengthened}
+use Rattle.capture_laws.specs.AnswersShown.{lengthened}
 use Rattle.trace_check.proofs.response_values.long_values.Goals as goal
 
 pub returns-in-Some : goal.returns-in-Some

@@ -8,7 +8,7 @@ use Rattle.spdm_grammar.specs.Responses.{response_in}
 use Rattle.spdm_grammar.specs.declared.names.response_code.TheConstants.{ERROR}
 use Rattle.spdm_machine.specs.Terms.{hash_len}
 use Rattle.trace_check.specs.Answerer.{AreRead}
-use Rattle.trace_check.specs.AnswersShown.{asks_summary, values_in_error, with_fields}
+use Rattle.capture_laws.specs.AnswersShown.{asks_summary, values_in_error, with_fields}
 use Rattle.trace_check.proofs.response_values.values_in.Goals as goal
 
 pub returns-then-byte_at-eq-ERROR : goal.returns-then-byte_at-eq-ERROR

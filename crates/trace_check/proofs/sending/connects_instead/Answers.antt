@@ -2,7 +2,7 @@ use Rattle.std.proofs.Common.{◌≡◌, List, subst}
 use Rattle.std.specs.Bool.{Decides}
 use Rattle.std.proofs.lemmas.Bool.Decides.{Decides-eqb}
 use Rattle.std.proofs.lemmas.Slice.Eq.{slice_eq-Decides}
-use Rattle.trace_check.proofs.Connecting.{some_values}
+use Rattle.capture_laws.proofs.Connecting.{some_values}
 use Rattle.trace_check.proofs.SentBy.{connected}
 use Rattle.trace_check.proofs.sending.connects_instead.Goals as goal
 use Rattle.world_machine.specs.Rounds.{no_draw}

@@ -3,7 +3,7 @@ use Rattle.connection.specs.Free.{IsFree}
 use Rattle.spdm_grammar.specs.Message.{response_message}
 use Rattle.spdm_grammar.specs.Message.RequestMessage.{PskExchange}
 use Rattle.spdm_grammar.specs.declared.response.Response.{Response}
-use Rattle.trace_check.specs.AnswersShown.{with_fields}
+use Rattle.capture_laws.specs.AnswersShown.{with_fields}
 use Rattle.trace_check.proofs.shown_fields.with_exchanged.Goals as goal
 
 pub returns-in-PskExchangeRsp : goal.returns-in-PskExchangeRsp

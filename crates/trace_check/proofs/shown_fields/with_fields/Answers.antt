@@ -2,7 +2,7 @@ use Rattle.std.proofs.Common.{◌≡◌, ◌∙◌, ap, subst, Bool, Option, Som
 use Rattle.connection.specs.Free.{IsFree}
 use Rattle.spdm_grammar.specs.Message.{ResponseMessage, request_message, response_message}
 use Rattle.spdm_grammar.specs.Responses.{response_in}
-use Rattle.trace_check.specs.AnswersShown.{asks_summary, with_fields}
+use Rattle.capture_laws.specs.AnswersShown.{asks_summary, with_fields}
 use Rattle.trace_check.proofs.shown_fields.with_fields.Goals as goal
 
 pub returns-in-Some : goal.returns-in-Some

@@ -2,7 +2,7 @@ use Rattle.std.proofs.Common.{sym, subst, Some}
 use Rattle.connection.specs.Free.{IsFree}
 use Rattle.spdm_grammar.specs.Message.{exchange_message, request_message, response_message}
 use Rattle.spdm_grammar.specs.declared.request.Request.{Request}
-use Rattle.trace_check.specs.AnswersShown.{with_fields}
+use Rattle.capture_laws.specs.AnswersShown.{with_fields}
 use Rattle.trace_check.proofs.shown_fields.with_response.Goals as goal
 
 pub returns-in-PskExchange : goal.returns-in-PskExchange

@@ -2,7 +2,7 @@ use Rattle.std.proofs.Common.{sym, subst, Some}
 use Rattle.spdm_grammar.specs.Message.{request_message}
 use Rattle.spdm_grammar.specs.declared.request.Request.{Request}
 use Rattle.trace_check.specs.Answerer.{AreLonger}
-use Rattle.trace_check.specs.AnswersShown.{lengthened}
+use Rattle.capture_laws.specs.AnswersShown.{lengthened}
 use Rattle.trace_check.proofs.shown_values.lengthened.Goals as goal
 
 pub returns-in-PskExchange : goal.returns-in-PskExchange

@@ -9,7 +9,7 @@ use Rattle.spdm_grammar.specs.declared.choice.Choice.{Choice}
 use Rattle.trace_check.proofs.ClearAsked.{long_least}
 use Rattle.trace_check.proofs.ShownDrops.{some_then}
 use Rattle.trace_check.specs.Answerer.{IsAnswerer}
-use Rattle.trace_check.specs.AnswersShown.{least_values}
+use Rattle.capture_laws.specs.AnswersShown.{least_values}
 use Rattle.trace_check.specs.ClearAnswers.{given_in}
 use Rattle.trace_check.proofs.answerer.Answerer.answers_again.Goals as goal
 use Rattle.world_machine.specs.Rounds.{no_draw}

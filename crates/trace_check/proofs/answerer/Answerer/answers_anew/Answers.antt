@@ -1,5 +1,5 @@
 use Rattle.trace_check.proofs.ApartJudged.{none_judged}
-use Rattle.trace_check.specs.AnswersShown.{clear_values}
+use Rattle.capture_laws.specs.AnswersShown.{clear_values}
 use Rattle.trace_check.proofs.answerer.Answerer.answers_anew.Goals as goal
 
 pub returns-in-None-clause-told : goal.returns-in-None-clause-told

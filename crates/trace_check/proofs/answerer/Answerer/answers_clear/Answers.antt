@@ -8,7 +8,7 @@ use Rattle.trace_check.proofs.ClearAnew.{behind_anew, judged_anew}
 use Rattle.trace_check.proofs.ClearJudged.{again_still, behind_again, judged_again, kept_behind}
 use Rattle.trace_check.proofs.ShownDrops.{few_dropped}
 use Rattle.trace_check.specs.Answerer.{IsAnswerer}
-use Rattle.trace_check.specs.AnswersShown.{clear_values, least_values}
+use Rattle.capture_laws.specs.AnswersShown.{clear_values, least_values}
 use Rattle.trace_check.specs.ClearAnswers.{IsGivenAt, dropped_before, given_in, history_given}
 use Rattle.trace_check.specs.declared.given.Given.{Given}
 use Rattle.trace_check.proofs.answerer.Answerer.answers_clear.Goals as goal

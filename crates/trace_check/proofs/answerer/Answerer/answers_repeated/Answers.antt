@@ -10,12 +10,12 @@ use Rattle.responder_machine.specs.Session.{id_in_record, session_of}
 use Rattle.spdm_grammar.specs.declared.block_spec.BlockSpec.{BlockSpec}
 use Rattle.spdm_machine.specs.Bodies.{record_body}
 use Rattle.trace_check.proofs.AnyAnswers.{session_few}
-use Rattle.trace_check.proofs.LeastValues.{least_allowed}
+use Rattle.capture_laws.proofs.LeastValues.{least_allowed}
 use Rattle.trace_check.proofs.RecordAnswered.{repeated, session_sized}
 use Rattle.trace_check.proofs.RecordShown.{sealed_from, sealed_history, sealed_to, value_same}
 use Rattle.trace_check.proofs.answerer.Answerer.answers_repeated.Goals as goal
 use Rattle.trace_check.specs.Answerer.{IsAnswerer}
-use Rattle.trace_check.specs.AnswersShown.{least_values}
+use Rattle.capture_laws.specs.AnswersShown.{least_values}
 use Rattle.trace_check.specs.ShownBy.{IsRecordAnswered}
 use Rattle.world_machine.specs.CapturedAnswers.{is_plain}
 use Rattle.world_machine.specs.Rounds.{no_draw}

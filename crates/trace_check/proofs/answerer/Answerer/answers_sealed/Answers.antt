@@ -14,7 +14,7 @@ use Rattle.trace_check.proofs.RecordShown.{at_closed, at_opened, value_opened}
 use Rattle.trace_check.proofs.RecordTold.{first_true}
 use Rattle.trace_check.proofs.answerer.Answerer.answers_sealed.Goals as goal
 use Rattle.trace_check.specs.Answerer.{IsAnswerer}
-use Rattle.trace_check.specs.AnswersShown.{least_values}
+use Rattle.capture_laws.specs.AnswersShown.{least_values}
 use Rattle.trace_check.specs.RecordAnswers.{IsGivenTo, IsRecordBrought, history_behind}
 use Rattle.trace_check.specs.ShownBy.{IsTaken}
 use Rattle.trace_check.specs.declared.given.Given.{Given}

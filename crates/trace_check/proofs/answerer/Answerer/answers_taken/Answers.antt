@@ -12,7 +12,7 @@ use Rattle.trace_check.proofs.RecordAnswered.{live_least}
 use Rattle.trace_check.proofs.RecordTold.{first_true, part_is, size_never}
 use Rattle.trace_check.proofs.answerer.Answerer.answers_taken.Goals as goal
 use Rattle.trace_check.specs.Answerer.{IsAnswerer}
-use Rattle.trace_check.specs.AnswersShown.{least_values, record_values, values_in_text}
+use Rattle.capture_laws.specs.AnswersShown.{least_values, record_values, values_in_text}
 use Rattle.trace_check.specs.RecordAnswers.{given_shown}
 use Rattle.trace_check.specs.ShownBy.{IsRecordGiven, text_shown}
 use Rattle.world_machine.specs.Opening.{turn_in}

@@ -5,7 +5,7 @@ use Rattle.spdm_grammar.specs.declared.choice.Choice.{Choice}
 use Rattle.trace_check.proofs.ApartJudged.{none_judged}
 use Rattle.trace_check.proofs.ShownDrops.{some_then}
 use Rattle.trace_check.specs.Answerer.{IsAnswerer}
-use Rattle.trace_check.specs.AnswersShown.{clear_values}
+use Rattle.capture_laws.specs.AnswersShown.{clear_values}
 use Rattle.trace_check.specs.ClearAnswers.{IsLongWith, given_in}
 use Rattle.trace_check.proofs.answerer.Answerer.answers_with.Goals as goal
 use Rattle.world_machine.specs.Rounds.{no_draw}

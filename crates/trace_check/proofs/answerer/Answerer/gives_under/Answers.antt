@@ -7,7 +7,7 @@ use Rattle.spdm_grammar.specs.declared.choice.Choice.{Choice}
 use Rattle.spdm_machine.specs.Bodies.{record_body}
 use Rattle.trace_check.proofs.RecordTold.{not_given}
 use Rattle.trace_check.proofs.answerer.Answerer.gives_under.Goals as goal
-use Rattle.trace_check.specs.AnswersShown.{least_values}
+use Rattle.capture_laws.specs.AnswersShown.{least_values}
 use Rattle.trace_check.specs.ShownBy.{text_shown}
 
 pub returns-in-Some-clause-told : goal.returns-in-Some-clause-told

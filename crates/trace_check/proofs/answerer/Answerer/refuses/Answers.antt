@@ -5,7 +5,7 @@ use Rattle.responder_machine.specs.Place.{session_place}
 use Rattle.responder_machine.specs.Responder.{body_of, on_record}
 use Rattle.responder_machine.specs.Session.{id_in_record, session_of}
 use Rattle.trace_check.proofs.answerer.Answerer.refuses.Goals as goal
-use Rattle.trace_check.specs.AnswersShown.{least_values}
+use Rattle.capture_laws.specs.AnswersShown.{least_values}
 use Rattle.world_machine.specs.Rounds.{no_draw}
 
 pub returns-clause-told : goal.returns-clause-told

@@ -7,7 +7,7 @@ use Rattle.trace_check.proofs.CommandedBy.{kept_few}
 use Rattle.trace_check.proofs.OwedTook.{owed_took}
 use Rattle.trace_check.proofs.asker.Asker.asks.Goals as goal
 use Rattle.trace_check.specs.Asker.{IsGoneOn}
-use Rattle.trace_check.specs.Keeping.{owing}
+use Rattle.capture_laws.specs.Keeping.{owing}
 
 pub returns-then-goes_on : goal.returns-then-goes_on
 returns-then-goes_on c = λ w q older k keeps few fits asker.

@@ -9,7 +9,7 @@ use Rattle.trace_check.proofs.OwedSent.{out_owed}
 use Rattle.trace_check.proofs.OwedTook.{owed_took}
 use Rattle.trace_check.proofs.ReasonsKept.{none_apart, other_body, owed_apart}
 use Rattle.trace_check.proofs.asker.Asker.is_apart.Goals as goal
-use Rattle.trace_check.specs.Keeping.{owing}
+use Rattle.capture_laws.specs.Keeping.{owing}
 use Rattle.trace_check.specs.RefusedRequest.{finish_apart}
 use Rattle.world_machine.specs.Difference.{finish_in}
 

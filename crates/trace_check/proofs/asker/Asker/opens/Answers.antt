@@ -6,7 +6,7 @@ use Rattle.trace_check.proofs.GoneOn.{some_of}
 use Rattle.trace_check.proofs.CommandedBy.{kept_few}
 use Rattle.trace_check.proofs.OwedTook.{owed_took}
 use Rattle.trace_check.proofs.asker.Asker.opens.Goals as goal
-use Rattle.trace_check.specs.Keeping.{owing}
+use Rattle.capture_laws.specs.Keeping.{owing}
 
 pub returns-then-self-clause-opens : goal.returns-then-self-clause-opens
 returns-then-self-clause-opens c = λ w q older k keeps few asker.

@@ -2,7 +2,7 @@ use Rattle.std.proofs.Common.{◌≡◌, ◌∙◌, sym, ap, subst, ℕ}
 use Rattle.trace_check.proofs.party.Party.go_on.Goals as goal
 use Rattle.trace_check.specs.Asker.{IsAsker}
 use Rattle.trace_check.specs.HeardKept.{heard_kept}
-use Rattle.trace_check.specs.Party.{tag_in}
+use Rattle.capture_laws.specs.Order.{tag_in}
 
 pub returns-clause-asker : goal.returns-clause-asker
 returns-clause-asker c = λ w q older k behind of keeps few is now asker.

@@ -1,6 +1,6 @@
 use Rattle.trace_check.proofs.party.Party.new.Goals as goal
-use Rattle.trace_check.specs.Keeping.{kept_of}
-use Rattle.trace_check.specs.RepliesShown.{responder_for}
+use Rattle.capture_laws.specs.Keeping.{kept_of}
+use Rattle.capture_laws.specs.RepliesShown.{responder_for}
 use Rattle.world_machine.specs.Rounds.{new_dialogue}
 
 pub returns : goal.returns

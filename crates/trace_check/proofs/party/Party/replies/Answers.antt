@@ -9,10 +9,10 @@ use Rattle.trace_check.proofs.PartyReplied.{answers_round, apart_for, behind_who
 use Rattle.trace_check.proofs.party.Party.replies.Goals as goal
 use Rattle.trace_check.specs.AnswerKeys.{IsComingKey}
 use Rattle.trace_check.specs.Answerer.{IsAnswerer, history_shown}
-use Rattle.trace_check.specs.Keeping.{restored}
-use Rattle.trace_check.specs.Party.{body_in, tag_in}
+use Rattle.capture_laws.specs.Keeping.{restored}
+use Rattle.capture_laws.specs.Order.{body_in, tag_in}
 use Rattle.trace_check.specs.PartyReplies.{IsGiven, RepliesOnward}
-use Rattle.trace_check.specs.RepliesShown.{responder_for}
+use Rattle.capture_laws.specs.RepliesShown.{responder_for}
 use Rattle.trace_check.specs.declared.answerer.Answerer.{Answerer}
 use Rattle.trace_check.specs.declared.given.Judged.{Judged}
 use Rattle.trace_check.specs.declared.given.Judged.TheVariants as judged

@@ -1,0 +1,127 @@
+-- What is kept behind an answer that goes whole is a function of what it shows.
+use Rattle.std.proofs.Common.{◌≡◌, ◌<◌, ◌⊎◌, ℕ, List, refl, sym, ap, ◌∙◌, subst, Bool, true, false, Option, Some, None, cond, inl, inr}
+use Rattle.mctp_framing.specs.Gathering.{Gathered}
+use Rattle.mctp_framing.specs.Gathering.Gathered.{Whole, More, Dropped}
+use Rattle.requester_machine.specs.Commands.{Free}
+use Rattle.requester_machine.specs.Hearing.{hears}
+use Rattle.requester_machine.specs.History as requester_history
+use Rattle.requester_machine.specs.May.{IsSetUp}
+use Rattle.requester_machine.specs.Setup.{ReqSetup}
+use Rattle.requester_machine.specs.Shown as shown
+use Rattle.responder_machine.specs.History.{History}
+use Rattle.capture_laws.proofs.Connecting.{some_allowed, some_values}
+use Rattle.capture_laws.proofs.HeardShown.{behind, heard_same}
+use Rattle.capture_laws.proofs.KeptAnswers.{kept_is_restored}
+use Rattle.capture_laws.proofs.OneWalk.{walks_alike}
+use Rattle.capture_laws.proofs.PlainShown.{plain_is_shown}
+use Rattle.capture_laws.specs.DropsShown.{IsShownAnswer}
+use Rattle.capture_laws.specs.Keeping.{Keeps, Kept, RepliesKept, kept_of, restored}
+use Rattle.capture_laws.specs.RepliesShown.{AnswersOtherwise, LargelyKept, PlainlyKept, RepliesAreShown, answered, answered_from, heard_from, replied, responder_for}
+use Rattle.world_machine.proofs.AskersAlike.{AskersAlike}
+use Rattle.world_machine.proofs.AskersHear.{same_round}
+use Rattle.world_machine.specs.CapturedAnswers.{Answers, AnswersPlainly, Hears}
+use Rattle.world_machine.specs.LargeAnswers.{is_fetching, while_fetched}
+use Rattle.world_machine.specs.Rounds.{Dialogue, Round, no_draw}
+use Rattle.world_machine.specs.Setup.{Configuration}
+
+pub none_either : (b : Bool) → cond {A = Option (List ℕ)} b None None ≡ None
+none_either true = refl
+none_either false = refl
+
+module _ (w : Configuration) (q : ReqSetup) (older : List (List ℕ)) (k : Kept) (byte : w.responder.beat < 256) (set_up : IsSetUp k.setup) (keeps : Keeps w q older k) where
+  abbrev h : requester_history.History
+  h = (restored k).requester
+
+  abbrev askers : AskersAlike k.round h h None None
+  askers = (walks_alike w q older (restored k) (restored k) (kept_is_restored w q older k keeps).0 (kept_is_restored w q older k keeps).0).alike.askers
+
+  -- What the requester heard at some values.
+  pub heard_kept : (tag : ℕ) (answer : List ℕ) (round : Round) (f : Free) (r : History) → k.round ≡ Some round → round.tag ≡ tag
+      → kept_of (behind k.setup r (answered round) None None (shown.after h (hears k.setup h false tag answer f no_draw))) ≡ kept_of (behind k.setup r (answered round) None None (heard_from k tag answer))
+  unfolding heard_from
+  heard_kept tag answer round f r is one =
+      heard_same k.setup r (answered round) None None h h None None tag answer f (same_round round (answered round) h h None None refl (subst (λ (o : Option Round). AskersAlike o h h None None) is askers)) refl one
+
+  -- An answer that goes whole.
+  plain_kept : (tag : ℕ) (answer : List ℕ) (round : Round) (next : Kept) (r : History) (l : requester_history.History) → k.round ≡ Some round → round.tag ≡ tag
+      → AnswersPlainly (responder_for w k) (restored k) round answer r → Hears (restored k) tag answer l → next ≡ kept_of (behind k.setup r (answered round) None None l)
+      → IsShownAnswer (responder_for w k) k.responder round.tag round.body answer × (next ≡ replied w k tag round answer)
+  unfolding Hears answered_from
+  plain_kept tag answer round next r l is one plain heard kept =
+      let told = (plain_is_shown (responder_for w k) (restored k) round answer r byte).0 plain in
+      let there : l ≡ shown.after h (hears k.setup h false tag answer heard.1.0 no_draw) = heard.2 ∙ ap (shown.after h) (sym heard.1.2) in (
+        told.0,
+        kept ∙ ap (λ (x : requester_history.History). kept_of (behind k.setup r (answered round) None None x)) there ∙ heard_kept tag answer round heard.1.0 r is one
+            ∙ ap (λ (x : History). kept_of (behind k.setup x (answered round) None None (heard_from k tag answer))) told.1,
+      )
+
+  plain_back : (tag : ℕ) (answer : List ℕ) (round : Round) (next : Kept) → k.round ≡ Some round → round.tag ≡ tag → IsShownAnswer (responder_for w k) k.responder round.tag round.body answer → next ≡ replied w k tag round answer
+      → AnswersPlainly (responder_for w k) (restored k) round answer (answered_from w k round answer)
+      × ((l : requester_history.History) × Hears (restored k) tag answer l × (next ≡ kept_of (behind k.setup (answered_from w k round answer) (answered round) None None l)))
+  unfolding Hears answered_from
+  plain_back tag answer round next is one gives kept =
+      let r : History = answered_from w k round answer in
+      let f : Free = some_values k.setup h in
+      let l : requester_history.History = shown.after h (hears k.setup h false tag answer f no_draw) in (
+        (plain_is_shown (responder_for w k) (restored k) round answer r byte).1 (gives, refl),
+        (l, (hears k.setup h false tag answer f no_draw, (f, some_allowed k.setup h set_up, refl), refl), kept ∙ sym (heard_kept tag answer round f r is one)),
+      )
+
+  -- ---- A packet.
+
+  to_shown : (g : Gathered) (next : Kept) → RepliesKept w k g next → PlainlyKept w k g next ⊎ LargelyKept w k g next
+  unfolding Answers
+  to_shown More next c = inl (c.3 ∙ ap kept_of c.1 ∙ (kept_is_restored w q older k keeps).1)
+  to_shown (Dropped cause) next c = absurd c.1
+  to_shown (Whole route answer) next c = by_kind c.1.2.4.2
+    where
+      round : Round
+      round = c.1.2.0
+
+      r : History
+      r = c.1.2.4.0
+
+      fetching : Option (List ℕ)
+      fetching = c.1.2.4.1
+
+      l : requester_history.History
+      l = c.1.2.4.3.0
+
+      kept : next ≡ kept_of (behind k.setup r (answered round) None None l)
+      kept = c.3 ∙ ap kept_of c.1.2.4.3.2
+
+      none : while_fetched l fetching ≡ None
+      none = ap (λ (d : Dialogue). d.fetching) (sym c.1.2.4.3.2) ∙ c.2
+
+      by_kind : (AnswersPlainly (responder_for w k) (restored k) round answer r × (fetching ≡ None)) ⊎ AnswersOtherwise (responder_for w k) (restored k) round answer r fetching → PlainlyKept w k (Whole route answer) next ⊎ LargelyKept w k (Whole route answer) next
+      by_kind (inl plain) =
+          let known = plain_kept route.tag answer round next r l c.1.2.1 c.1.2.2 plain.0 c.1.2.4.3.1 kept in
+          inl (c.1.0, c.1.1, (round, (c.1.2.1, c.1.2.2, c.1.2.3), known.0, known.1))
+      by_kind (inr other) = inr (c.1.0, c.1.1, (round, (c.1.2.1, c.1.2.2, c.1.2.3), (r, fetching, other, (l, c.1.2.4.3.1, none, kept))))
+
+  from_shown : (g : Gathered) (next : Kept) → PlainlyKept w k g next ⊎ LargelyKept w k g next → RepliesKept w k g next
+  unfolding Answers
+  from_shown More next (inl same) = (restored k, refl, refl, same ∙ sym (kept_is_restored w q older k keeps).1)
+  from_shown (Dropped cause) next (inl c) = absurd c
+  from_shown More next (inr c) = absurd c
+  from_shown (Dropped cause) next (inr c) = absurd c
+  from_shown (Whole route answer) next (inl c) =
+      let round : Round = c.2.0 in
+      let back = plain_back route.tag answer round next c.2.1.0 c.2.1.1 c.2.2 c.2.3 in
+      let l : requester_history.History = back.1.0 in (
+        behind k.setup (answered_from w k round answer) (answered round) None (while_fetched l None) l,
+        (c.0, c.1, (round, c.2.1.0, c.2.1.1, c.2.1.2, (answered_from w k round answer, None, inl (back.0, refl), (l, back.1.1, refl)))),
+        none_either (is_fetching (requester_history.outstanding l)),
+        back.1.2,
+      )
+  from_shown (Whole route answer) next (inr c) =
+      let round : Round = c.2.0 in
+      let l : requester_history.History = c.2.2.3.0 in (
+        behind k.setup c.2.2.0 (answered round) None (while_fetched l c.2.2.1) l,
+        (c.0, c.1, (round, c.2.1.0, c.2.1.1, c.2.1.2, (c.2.2.0, c.2.2.1, inr c.2.2.2, (l, c.2.2.3.1, refl)))),
+        c.2.2.3.2,
+        c.2.2.3.3,
+      )
+
+pub replies_are_shown : RepliesAreShown
+replies_are_shown w q older k next g byte set_up keeps = (to_shown w q older k byte set_up keeps g next, from_shown w q older k byte set_up keeps g next)

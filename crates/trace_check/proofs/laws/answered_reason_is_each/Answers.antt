@@ -1,5 +1,0 @@
-use Rattle.trace_check.proofs.ReasonsEach.{answered_reason_is_each}
-use Rattle.trace_check.proofs.laws.answered_reason_is_each.Goals as goal
-
-pub returns : goal.returns
-returns c = answered_reason_is_each

@@ -1,5 +1,0 @@
-use Rattle.trace_check.proofs.AllRows.{one_changes_rows}
-use Rattle.trace_check.proofs.row_laws.one_changes_rows.Goals as goal
-
-pub returns : goal.returns
-returns c = one_changes_rows

@@ -1,5 +1,0 @@
-use Rattle.trace_check.proofs.OrderedRows.{other_places_stay}
-use Rattle.trace_check.proofs.row_laws.other_places_stay.Goals as goal
-
-pub returns : goal.returns
-returns c = other_places_stay
