@@ -8,8 +8,6 @@
 mod collector;
 mod laws;
 mod splitter;
-#[cfg(test)]
-mod tests;
 mod unfinished;
 
 pub use collector::{Collected, Collector};

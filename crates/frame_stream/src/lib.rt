@@ -12,8 +12,6 @@ mod laws;
 mod line;
 mod packets;
 mod reader;
-#[cfg(test)]
-mod tests;
 mod text;
 mod writing;
 

@@ -12,8 +12,6 @@ mod laws;
 mod packet;
 mod packet_list;
 mod route;
-#[cfg(test)]
-mod tests;
 mod unfinished;
 
 pub use assembler::{Assembler, Fed};

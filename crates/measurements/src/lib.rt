@@ -13,6 +13,3 @@ mod summary;
 
 pub use fault::{InventoryFault, MeasureFault};
 pub use inventory::Inventory;
-
-#[cfg(test)]
-mod tests;

@@ -25,6 +25,3 @@ pub use reply::Reply;
 pub use selection::{AlgPolicy, select};
 pub use shared::{Common, Sizes};
 pub use version::choose_version;
-
-#[cfg(test)]
-mod tests;

@@ -20,8 +20,6 @@ mod psk;
 mod record_fault;
 mod session_id;
 mod standard;
-#[cfg(test)]
-mod tests;
 mod transfer;
 
 pub use aead_alg::AeadAlg;

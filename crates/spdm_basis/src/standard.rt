@@ -99,6 +99,3 @@ impl<W: Write + Drop> Sink for StdoutSink<W> {
         }
     }
 }
-
-#[cfg(test)]
-mod tests;

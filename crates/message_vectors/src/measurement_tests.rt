@@ -1,4 +1,4 @@
-use crate::{Inventory, InventoryFault};
+use measurements::{Inventory, InventoryFault};
 use spdm_basis::{Bytes, Frame, OutOfMemory};
 use spdm_grammar::BlockSpec;
 use std::alloc::Global;

@@ -1,4 +1,4 @@
-use crate::{
+use frame_stream::{
     FrameFault, FrameKind, FrameReader, Kinds, read_text, write_line_frame, write_packet_frame,
     write_packet_frames,
 };

@@ -1,6 +1,8 @@
 ghost use Rattle.std.specs.Prelude.{◌<◌};
 
-use crate::{Assembler, DropCause, Fed, Packet, PacketFault, PacketList, PacketView, Route, cut};
+use mctp_framing::{
+    Assembler, DropCause, Fed, Packet, PacketFault, PacketList, PacketView, Route, cut,
+};
 use spdm_basis::Eid;
 use std::alloc::Global;
 use std::test::Fail;

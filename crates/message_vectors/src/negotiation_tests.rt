@@ -1,4 +1,4 @@
-use super::*;
+use negotiate::*;
 use spdm_grammar::{AeadAlg, AlgOffer, AlgReply, Caps, CapsFault, Choice, HashAlg, Pick, Suites};
 
 // A requester and a responder that go together: DataTransferSize 42, MaxSPDMmsgSize 4,096.

@@ -1,4 +1,4 @@
-use crate::{
+use spdm_basis::{
     Bytes, Eid, Failed, FileSeeds, Frame, InFault, MemSeeds, MemSink, MemSource, OutFault, Psk,
     Seeds, SessionId, read_all, write_all,
 };

@@ -1,5 +1,5 @@
-use super::*;
 use spdm_basis::Frame;
+use spdm_codec::*;
 use spdm_grammar::{Malformed, Part, Request, Response};
 use std::test::*;
 

@@ -1,4 +1,4 @@
-use crate::{ChunkFault, Collected, Collector, SplitFault, Splitter};
+use chunking::{ChunkFault, Collected, Collector, SplitFault, Splitter};
 use spdm_grammar::ChunkView;
 use std::test::Fail;
 
