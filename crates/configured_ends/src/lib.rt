@@ -6,8 +6,6 @@
 
 mod requester_end;
 mod responder_end;
-#[cfg(test)]
-mod tests;
 
 pub use requester_end::make_requester;
 pub use responder_end::make_responder;

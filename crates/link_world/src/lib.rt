@@ -23,8 +23,3 @@ pub use fault::{StepFault, WorldFault};
 pub use sent::{SendFault, SentPackets};
 pub use totals::Totals;
 pub use world::World;
-
-#[cfg(test)]
-mod rows;
-#[cfg(test)]
-mod tests;

@@ -16,6 +16,3 @@ pub use asking::Command;
 pub use config::ReqConfig;
 pub use fault::ReqConfigFault;
 pub use whole::Requester;
-
-#[cfg(test)]
-mod tests;

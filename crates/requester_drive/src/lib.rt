@@ -10,8 +10,6 @@ mod fault;
 mod lines;
 mod making;
 mod telling;
-#[cfg(test)]
-mod tests;
 
 pub use driving::drive;
 pub use fault::DriveFault;

@@ -21,8 +21,3 @@ mod whole;
 pub use config::{Known, RspConfig};
 pub use fault::RspConfigFault;
 pub use serving::Responder;
-
-#[cfg(test)]
-mod packets;
-#[cfg(test)]
-mod tests;

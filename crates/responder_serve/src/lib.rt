@@ -8,8 +8,6 @@ mod answering;
 mod fault;
 mod making;
 mod serving;
-#[cfg(test)]
-mod tests;
 
 pub use fault::ServeFault;
 pub use serving::serve;

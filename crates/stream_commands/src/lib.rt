@@ -8,8 +8,6 @@ mod begin;
 mod driving;
 mod fault;
 mod serving;
-#[cfg(test)]
-mod tests;
 
 pub use driving::drive_input;
 pub use fault::StreamFault;

@@ -1,5 +1,5 @@
-use crate::{Known, Responder, RspConfig};
 use mctp_framing::PacketList;
+use responder::{Known, Responder, RspConfig};
 use spdm_basis::{Bytes, Eid, Psk};
 use spdm_grammar::{FlagSet, Heard, Pick, Suites};
 use std::process::Abort;

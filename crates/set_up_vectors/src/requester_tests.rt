@@ -1,4 +1,4 @@
-use crate::{ReqConfig, ReqConfigFault};
+use requester::{ReqConfig, ReqConfigFault};
 use spdm_basis::{Eid, Psk};
 use spdm_grammar::{FlagSet, Pick, Suites};
 use std::process::Abort;

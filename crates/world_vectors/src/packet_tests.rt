@@ -1,4 +1,4 @@
-use crate::SentPackets;
+use link_world::SentPackets;
 use std::test::Fail;
 
 // Three packets: the second is lost, the first delivered, and then none but the third waits.

@@ -1,4 +1,4 @@
-use crate::{make_requester, make_responder};
+use configured_ends::{make_requester, make_responder};
 use mctp_framing::PacketList;
 use requester::Command;
 use script_text::parse_config;

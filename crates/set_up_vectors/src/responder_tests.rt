@@ -1,5 +1,5 @@
-use crate::{Known, RspConfig, RspConfigFault};
 use measurements::InventoryFault;
+use responder::{Known, RspConfig, RspConfigFault};
 use spdm_basis::{Bytes, Eid, Psk};
 use spdm_grammar::{BlockSpec, FlagSet, Pick, Suites};
 use std::alloc::Global;

@@ -1,4 +1,4 @@
-use crate::{DriveFault, drive};
+use requester_drive::{DriveFault, drive};
 use script_text::parse_config;
 use spdm_basis::{MemSink, MemSource, StdinSource};
 use std::alloc::Global;

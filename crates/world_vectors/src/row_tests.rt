@@ -1,4 +1,4 @@
-use crate::{Totals, World};
+use link_world::{Totals, World};
 use script_text::{TEXT_LIMIT, parse_script};
 use spdm_basis::{Bytes, MemSink};
 use std::process::Abort;

@@ -1,4 +1,4 @@
-use crate::{ServeFault, serve};
+use responder_serve::{ServeFault, serve};
 use script_text::parse_config;
 use spdm_basis::{MemSink, MemSource, StdinSource};
 use std::alloc::Global;

@@ -1,7 +1,7 @@
-use crate::{StreamFault, serve_input};
 use script_text::LineFault;
 use spdm_basis::{MemSeeds, MemSink, MemSource};
 use std::test::Fail;
+use stream_commands::{StreamFault, serve_input};
 
 const RESPONDER: &str = "responder 8 1024 4096 64 30 mhkc\n";
 

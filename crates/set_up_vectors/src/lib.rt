@@ -1,0 +1,14 @@
+//! What a requester and a responder are made of, and a responder's first packets: limits and faults. There is nothing
+//! here but tests.
+//!
+//! Read first: `src/responder_tests.rt`, the faults of a responder's set-up.
+#![tactic(auto)]
+
+#[cfg(test)]
+mod configuration_tests;
+#[cfg(test)]
+mod packet_tests;
+#[cfg(test)]
+mod requester_tests;
+#[cfg(test)]
+mod responder_tests;
