@@ -1,6 +1,6 @@
 //! A requester on a stream of frames, beside an independent program. There is nothing here but tests.
 //!
-//! Read first: `src/drive_tests.rt`, a day on a stream.
+//! Read first: `drive_version` in `src/drive_tests.rt`.
 #![tactic(auto)]
 
 #[cfg(test)]

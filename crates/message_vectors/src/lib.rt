@@ -1,7 +1,7 @@
 //! Negotiation, measurements, chunks and the codec: tables of standards and worked values. There is nothing here
 //! but tests.
 //!
-//! Read first: `src/negotiation_tests.rt`, what two ends agree on.
+//! Read first: `capabilities_in_common` in `src/negotiation_tests.rt`.
 #![tactic(auto)]
 
 #[cfg(test)]

@@ -1,7 +1,7 @@
 //! Bytes, streams, packets and frames: borders, faults in mid-stream, and bodies of many packets. There is nothing
 //! here but tests.
 //!
-//! Read first: `src/packet_tests.rt`, what is gathered and what is dropped.
+//! Read first: `body_of_three_packets` in `src/packet_tests.rt`.
 #![tactic(auto)]
 
 #[cfg(test)]

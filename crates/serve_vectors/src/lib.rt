@@ -1,7 +1,7 @@
 //! A responder on a stream of frames, beside an independent program, and what comes of bad streams. There is nothing here
 //! but tests.
 //!
-//! Read first: `src/serve_tests.rt`, a day on a stream.
+//! Read first: `serve_get_version` in `src/serve_tests.rt`.
 #![tactic(auto)]
 
 #[cfg(test)]

@@ -1,7 +1,7 @@
 //! What a requester and a responder are made of, and a responder's first packets: limits and faults. There is nothing
 //! here but tests.
 //!
-//! Read first: `src/responder_tests.rt`, the faults of a responder's set-up.
+//! Read first: `first_fault_of_the_requesters` in `src/responder_tests.rt`.
 #![tactic(auto)]
 
 #[cfg(test)]

@@ -1,6 +1,6 @@
 //! The world of a script, beside the traces of an independent program. There is nothing here but tests.
 //!
-//! Read first: `src/row_tests.rt`, worked scripts with their traces.
+//! Read first: `data_go_both_ways` in `src/row_tests.rt`.
 #![tactic(auto)]
 
 #[cfg(test)]
