@@ -1,13 +1,11 @@
 -- What comes of a command and of a body at a requester of both parts.
 use Rattle.std.proofs.Common.{refl, ◌≡◌, ◌∙◌, ◌∷◌, ℕ, List, true, false, Option, Some, None, ap, sym, subst}
-use Rattle.std.specs.Prelude.{is_some}
 use Rattle.requester_machine.proofs.Entries as entries
-use Rattle.std.proofs.lemmas.Bool.{false≢true}
 use Rattle.psk_session.specs.AskLaws.{command_at}
 use Rattle.psk_session.specs.declared.ask.Ask as declared
 use Rattle.psk_session.specs.declared.ask.Ask.TheVariants as ask
 use Rattle.requester_machine.proofs.HoldsTold.{told_sent}
-use Rattle.requester_machine.specs.Asking.{Outcome, asks, asks_by, done, resent}
+use Rattle.requester_machine.specs.Asking.{Outcome, asks, asks_by, done}
 use Rattle.requester_machine.specs.Asking.Outcome.{Adds, Fails, Resends}
 use Rattle.requester_machine.specs.Commands.{Free, command_fault}
 use Rattle.requester_machine.specs.History.{History, asks_session, outstanding}

@@ -27,3 +27,5 @@ pub mod OwedTalk
 pub mod OwedOpened
 pub mod OwedClear
 pub mod TakenBack
+pub mod BrokenOff
+pub mod NextPieces

@@ -1,5 +1,5 @@
 -- A session that is shown is the list of it.
-use Rattle.std.proofs.Common.{refl, ◌≡◌, ◌∷◌, [], List, true, false, Bool, Option, Some, None}
+use Rattle.std.proofs.Common.{refl, ◌≡◌, ◌∷◌, [], true, false, Bool, Some, None}
 use Rattle.std.specs.Prelude.{if◌then◌else◌, option_to_list}
 use Rattle.asking.specs.Slot.{shown_of}
 use Rattle.requester_machine.specs.Session.{Steps, is_accepted}

@@ -4,6 +4,7 @@ use Rattle.std.specs.Prelude.{◌+◌, ◌==◌, ◌||◌, ◌-◌, ◌^◌, not
 use Rattle.std.specs.Option.{option_map}
 use Rattle.std.proofs.lemmas.Bool.{false≢true}
 use Rattle.std.proofs.lemmas.Option.{none-some, same_Some}
+use Rattle.asking.proofs.Started.{connect_holds}
 use Rattle.asking.specs.SessionSteps.{IsToldTo}
 use Rattle.asking.specs.Sessions.{IsNamed, StandsFor, session_for, slot_of}
 use Rattle.asking.specs.Slot.{IsSlotOf}
@@ -77,13 +78,13 @@ none_connected : (h : History) (sent : Sent) (d : Draw) (id : ℕ) → session_o
 unfolding session_of
 none_connected h sent d id = refl
 
-pub cleared : (new : Sessions) (q : ReqSetup) (h : History) (f : Free) (d : Draw) (sent : Sent) → Holds q h → asks false q h Connect f d ≡ Adds (Told Connect sent d)
+pub cleared : (new : Sessions) (q : ReqSetup) (h : History) (f : Free) (d : Draw) (sent : Sent) → asks false q h Connect f d ≡ Adds (Told Connect sent d)
     → new.slots ≡ slot.Empty ∷ slot.Empty ∷ slot.Empty ∷ slot.Empty ∷ [] → StandsFor new q (Told Connect sent d ∷ h)
-cleared new q h f d sent holds adds is =
+cleared new q h f d sent adds is =
     let made = entries.asked false q h Connect f d (Told Connect sent d) adds in
     let same : plain_sent h GetVersion ≡ sent = told_sent Connect (plain_sent h GetVersion) sent d made.1 in
     record {
-      holds = told_holds q h Connect f d sent made.0 made.1 holds;
+      holds = subst (λ (x : Sent). Holds q (Told Connect x d ∷ h)) same (connect_holds q h d);
       orders = none_orders (Told Connect sent d ∷ h) (none_connected h sent d);
       slots = none_kept new q (Told Connect sent d ∷ h) is (none_connected h sent d);
       named = subst (λ (x : Sent). IsNamed (session_for (Some x)) new.id) same tt;

@@ -40,7 +40,7 @@ use Rattle.asking.specs.Negotiating as negotiating
 use Rattle.asking.specs.Negotiating.{IsShort, IsUpTo, IsUpToAsked, IsUpToSent}
 use Rattle.asking.specs.Outgoing as outgoing
 use Rattle.asking.specs.Outgoing.{IsKept, Sends, handle_after, tag_after}
-use Rattle.asking.specs.Talk.{Seen, Shows, StandsFor}
+use Rattle.asking.specs.Talk.{Counts, Seen, Shows, StandsFor}
 use Rattle.asking.specs.declared.waiting.Asked.TheVariants as asked_kinds
 use Rattle.asking.specs.declared.waiting.Waiting.TheVariants as waits
 use Rattle.asking.specs.declared.waiting.Way.TheVariants as ways
@@ -113,16 +113,17 @@ pub connect_asks : (q : ReqSetup) (h : History) (f : Free) (d : Draw) → asks f
 unfolding asks command_fault
 connect_asks q h f d = refl
 
-connect_fault : (q : ReqSetup) (h : History) (f : Free) → command_fault false q h Connect f ≡ None
-unfolding command_fault
-connect_fault q h f = refl
+-- Nothing of the history before it counts.
+pub connect_holds : (q : ReqSetup) (h : History) (d : Draw) → Holds q (Told Connect (plain_sent h GetVersion) d ∷ h)
+unfolding session_of
+connect_holds q h d = record { live = λ id live. absurd (false≢true live); known = λ s capable. absurd (false≢true capable); waits = (refl, refl) }
 
-pub connect_done : (q : ReqSetup) (h : History) (f : Free) (d : Draw) (tag : ℕ) (old : Seen) (begun : negotiating.Seen) (kept new : outgoing.Seen) (out : List ℕ) → StandsFor old q h
+pub connect_done : (q : ReqSetup) (h : History) (f : Free) (d : Draw) (tag : ℕ) (old : Seen) (begun : negotiating.Seen) (kept new : outgoing.Seen) (out : List ℕ) → Counts old h
     → begun ≡ fresh → kept ≡ record old.outgoing { request = canonical_request GetVersion } → tag ≡ kept.tag
     → new ≡ record kept { tag = tag_after kept.tag; waiting = waits.InClear kept.tag asked_kinds.Version ways.Whole } → out ≡ kept.request
     → IsDone q h Connect f d tag (record { negotiating = begun; outgoing = new; brought = old.brought }) out
-connect_done q h f d tag old begun kept new out stands begins keeps is sends written =
-    let was : kept.tag ≡ next_tag h = ap (λ (s : outgoing.Seen). s.tag) keeps ∙ stands.shows.outgoing.tag in
+connect_done q h f d tag old begun kept new out counts begins keeps is sends written =
+    let was : kept.tag ≡ next_tag h = ap (λ (s : outgoing.Seen). s.tag) keeps ∙ counts.tag in
     let now : new.tag ≡ tag_after kept.tag = ap (λ (s : outgoing.Seen). s.tag) sends in
     let holds_request : kept.request ≡ canonical_request GetVersion = ap (λ (s : outgoing.Seen). s.request) keeps in
     record {
@@ -132,21 +133,25 @@ connect_done q h f d tag old begun kept new out stands begins keeps is sends wri
       content = ap Clear (sym (written ∙ holds_request));
       asks = refl;
       stands = record {
-        holds = told_holds q h Connect f d (plain_sent h GetVersion) (connect_fault q h f) refl stands.holds;
+        holds = connect_holds q h d;
         shows = record {
           negotiating = subst (λ (s : negotiating.Seen). negotiating.StandsFor s Fresh no_negotiation) (sym begins) fresh_stands;
           outgoing = record {
             tag = now ∙ ap tag_after was ∙ tag_more (sent_count h);
-            handle = ap (λ (s : outgoing.Seen). s.handle) sends ∙ ap (λ (s : outgoing.Seen). s.handle) keeps ∙ stands.shows.outgoing.handle;
+            handle = ap (λ (s : outgoing.Seen). s.handle) sends ∙ ap (λ (s : outgoing.Seen). s.handle) keeps ∙ counts.handle;
             waiting = ap (λ (s : outgoing.Seen). s.waiting) sends ∙ ap (λ (n : ℕ). waits.InClear n asked_kinds.Version ways.Whole) was;
             request = ap (λ (s : outgoing.Seen). s.request) sends ∙ holds_request;
           };
           up_to = refl;
-          brought = stands.shows.brought;
+          brought = counts.brought;
         };
       };
       gathers = gathers_any q (plain_sent h GetVersion) refl;
     }
+
+-- What counts of a history that is kept.
+pub counted : (old : Seen) (h : History) → Shows old h → Counts old h
+counted old h shows = record { tag = shows.outgoing.tag; handle = shows.outgoing.handle; brought = shows.brought }
 
 -- ---- Requests behind the negotiation.
 

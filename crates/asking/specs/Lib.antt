@@ -17,3 +17,4 @@ pub mod SessionSteps
 pub mod Joined
 pub mod OwnRecords
 pub mod Owed
+pub mod LargeRequests

@@ -62,6 +62,13 @@ taken_back seen = record {
   request = seen.request;
 }
 
+-- A large request was sent by chunks, of which this was the number of the last, from 0 on.
+abbrev pub passed_over : (number : ℕ) → Seen → Seen
+passed_over number seen = record seen {
+  tag = (seen.tag + number + 1) % 8;
+  handle = handle_after seen.handle;
+}
+
 -- A message in the clear was sent with this tag, for the request that is kept: it is written, and
 -- is outstanding.
 pub record Sends (sent : Sent) (old new : Seen) (tag : ℕ) (out : List ℕ) : Type 0 where

@@ -26,3 +26,9 @@ pub record Shows (seen : Seen) (h : History) : Type 0 where
 pub record StandsFor (seen : Seen) (q : ReqSetup) (h : History) : Type 0 where
   pub holds : Holds q h
   pub shows : Shows seen h
+
+-- What of it counts where all begins anew: the next tag and handle, and the last data.
+pub record Counts (seen : Seen) (h : History) : Type 0 where
+  pub tag : seen.outgoing.tag ≡ next_tag h
+  pub handle : seen.outgoing.handle ≡ next_handle h
+  pub brought : seen.brought ≡ last_data h

@@ -13,7 +13,7 @@ ghost use Rattle.spdm_machine.specs.Keys.{Draw};
 ghost use Rattle.asking.specs.Commands.{IsDone, IsRetried, IsTold};
 ghost use Rattle.asking.specs.Free.{IsFree};
 ghost use Rattle.asking.specs.Setup.{IsSetUp};
-ghost use Rattle.asking.specs.Talk.{Shows, StandsFor};
+ghost use Rattle.asking.specs.Talk.{Counts, Shows, StandsFor};
 
 use crate::{Again, Asked, FreeValues, Setup, Talk, Waiting, Way};
 use negotiate::Common;
@@ -144,7 +144,7 @@ impl Talk {
 
     /// Begins anew, with GET_VERSION in place of what `out` holds: its tag.
     pub fn connect(&mut self, out: &mut Frame) -> u8
-        ensures { (q : ReqSetup) (h : History) (f : Free) (d : Draw) → StandsFor self.old q h
+        ensures { (q : ReqSetup) (h : History) (f : Free) (d : Draw) → Counts self.old h
             → IsDone q h Connect f d result self.new out.new }
     {
         self.negotiating.begin();

@@ -21,6 +21,7 @@ mod hearing;
 mod in_session;
 mod instead;
 mod joined;
+mod large_requests;
 mod led;
 mod negotiating;
 mod outgoing;

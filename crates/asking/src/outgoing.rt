@@ -9,7 +9,7 @@ ghost use Rattle.spdm_grammar.specs.Message.{RequestMessage, request_message};
 ghost use Rattle.spdm_grammar.specs.Message.RequestMessage.{ChunkGet, ChunkSend};
 ghost use Rattle.spdm_grammar.specs.Requests.{IsSoundRequest, canonical_request};
 ghost use Rattle.spdm_grammar.specs.declared.names.TheConstants.{MAX_MESSAGE_SIZE, MIN_DATA_TRANSFER_SIZE};
-ghost use Rattle.asking.specs.Outgoing.{IsCut, Sends, message_for, tag_after, taken_back};
+ghost use Rattle.asking.specs.Outgoing.{IsCut, Sends, message_for, passed_over, tag_after, taken_back};
 ghost use Rattle.asking.specs.declared.waiting.Waiting.TheVariants as waits;
 ghost use Rattle.asking.specs.declared.waiting.Way.TheVariants as ways;
 
@@ -89,6 +89,15 @@ impl Outgoing {
             self.handle = self.handle.wrapping_sub(1);
         }
         self.waiting = Waiting::Nothing;
+    }
+
+    /// A large request was sent by chunks, of which this was the number of the last, from 0 on: they
+    /// took their tags, and it took its handle.
+    pub fn pass_over(&mut self, number: u16)
+        ensures { self.new ≡ passed_over number self.old }
+    {
+        self.tag = (self.tag % 8 + (number % 8) as u8 + 1) % 8;
+        self.handle = self.handle.wrapping_add(1);
     }
 
     // The next tag, which is taken.

@@ -67,7 +67,6 @@ impl Sessions {
     ghost use Rattle.requester_machine.specs.Does.{free_id};
     ghost use Rattle.asking.specs.Hearing.{ClosesSession};
     ghost use Rattle.requester_machine.specs.Hearing.{hears, on_record};
-    ghost use Rattle.requester_machine.specs.Holds.{Holds};
     ghost use Rattle.requester_machine.specs.History.{History, Led, outstanding, phase_of};
     ghost use Rattle.requester_machine.specs.History.Entry.{Told, TookClear};
     ghost use Rattle.requester_machine.specs.Message as message;
@@ -136,7 +135,7 @@ impl Sessions {
 
     /// GET_VERSION was sent: all sessions are gone.
     pub fn clear(&mut self)
-        ensures { (q : ReqSetup) (h : History) (f : Free) (d : Draw) (sent : Sent) → Holds q h
+        ensures { (q : ReqSetup) (h : History) (f : Free) (d : Draw) (sent : Sent)
             → asks false q h Connect f d ≡ Adds (Told Connect sent d)
             → StandsFor self.new q (Told Connect sent d ∷ h) }
     {

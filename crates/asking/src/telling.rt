@@ -23,7 +23,7 @@ impl Asking {
     // Begins anew, whatever stands of the sessions.
     pub(crate) fn connect(&mut self, out: &mut Body) -> u8
         ensures { (q : ReqSetup) (h : History) (f : Free) (d : Draw)
-            → talk.StandsFor self.old.talk q h → self.old.gathered.max ≡ q.max
+            → talk.Counts self.old.talk h → self.old.gathered.max ≡ q.max
             → IsDone q h (asks false q h Connect f d) result out.new self.new }
     {
         let tag = self.talk.connect(&mut self.message);

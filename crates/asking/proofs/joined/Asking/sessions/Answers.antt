@@ -1,4 +1,4 @@
-use Rattle.std.proofs.Common.{◌≡◌, ◌∙◌, Option, ap}
+use Rattle.std.proofs.Common.{◌∙◌, Option, ap}
 use Rattle.std.specs.Prelude.{option_to_list}
 use Rattle.asking.proofs.Listed.{shown_listed}
 use Rattle.asking.proofs.joined.Asking.sessions.Goals as goal

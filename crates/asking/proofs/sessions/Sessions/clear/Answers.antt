@@ -2,4 +2,4 @@ use Rattle.asking.proofs.SessionsAsked.{cleared}
 use Rattle.asking.proofs.sessions.Sessions.clear.Goals as goal
 
 pub returns : goal.returns
-returns c = λ q h f d sent holds adds. cleared c.none.result q h f d sent holds adds c.none.ensures
+returns c = λ q h f d sent adds. cleared c.none.result q h f d sent adds c.none.ensures
