@@ -22,7 +22,7 @@ use Rattle.responder_machine.specs.Session.{Events, session_of, id_in_record, la
 use Rattle.spdm_machine.specs.Sessions.{id_in_exchange}
 use Rattle.responder_machine.specs.Setup.{RspSetup}
 use Rattle.responder_machine.specs.Turn.{takes, answer_in}
-use Rattle.world_machine.specs.LargeAnswers.{IsLargeAnswer, is_large, unseen, is_unseen_in, seen, place_named, with_large, dropped_before_large, repeats_large, place_of, place_unseen, judging, gives_last}
+use Rattle.world_machine.specs.LargeAnswers.{IsLargeAnswer, is_large, unseen, is_unseen_in, seen, place_named, with_large, dropped_before_large, begun_with, is_untouched, repeats_large, place_of, place_again, judging, gives_last}
 use Rattle.world_machine.specs.LargeRequests.{with_ack}
 use Rattle.world_machine.specs.Rounds.{Dialogue, Round, no_draw}
 use Rattle.spdm_grammar.specs.declared.names.request_code.TheConstants.{PSK_EXCHANGE}
@@ -93,14 +93,7 @@ is_plain h (Same reply) = true
 is_plain h (Unopened reply) = true
 is_plain h (Adds entry) = not (is_large entry) && not (gives_last h entry)
 
--- A repeat of LargeResponse begins a fetch, while none is under way.
-abbrev pub begins_again : Dialogue → List ℕ → Outcome → Bool
-begins_again d body (Same reply) = is_none d.fetching && repeats_large (place_named body) d.responder
-begins_again d body (Unopened reply) = false
-begins_again d body (Adds entry) = false
-
--- An answer that goes whole; a repeat, but for one by which a fetch begins; a chunk of a large answer, but for the
--- last one.
+-- An answer that goes whole; a repeat; a chunk of a large answer, but for the last one.
 abbrev pub AnswersPlainly : RspSetup → Dialogue → Round → List ℕ → History → Type 0
 AnswersPlainly r d round answer next =
     (dropped : List ℕ) × (outcome : Outcome)
@@ -109,7 +102,6 @@ AnswersPlainly r d round answer next =
     × (is_plain (judging d.fetching round.body d.responder) outcome ≡ true)
     × (body_of outcome ≡ answer)
     × (next ≡ after (with_dropped d.responder dropped) outcome)
-    × (begins_again d round.body outcome ≡ false)
 
 -- LargeResponse, plain or in an acknowledgement: some allowed answer is long enough for it. A PSK_EXCHANGE beside
 -- four sessions shows by it that one was dropped, but not which, so none counts as dropped.
@@ -122,14 +114,14 @@ AnswersLarge r d round answer next whole =
     × (sent_by entry ≡ answer)
     × (next ≡ unseen entry ∷ d.responder)
 
--- LargeResponse again, to a repeat of a request whose answer was not fetched: the requester did not take it before,
--- since it had an answer already. It is the same answer as then, so any bytes of a length that goes by chunks may
--- stand for it.
+-- LargeResponse again, to a repeat of a request whose large answer was not seen, while none is fetched. It is the same
+-- answer as then, so any bytes of a length that goes by chunks may stand for it.
 abbrev pub AnswersAgain : RspSetup → Dialogue → Round → List ℕ → History → List ℕ → Type 0
 AnswersAgain r d round answer next whole =
-    MayLeadTo r d.responder round.tag round.body (Same answer)
-    × (begins_again d round.body (Same answer) ≡ true)
-    × IsLargeAnswer (place_unseen (place_named round.body) d.responder) whole
+    (d.fetching ≡ None)
+    × MayLeadTo r d.responder round.tag round.body (Same answer)
+    × (repeats_large (place_named round.body) d.responder ≡ true)
+    × IsLargeAnswer (place_again (place_named round.body) d.responder d.responder) whole
     × (next ≡ d.responder)
 
 -- The tag of the request of an entry; 0 where it is no message.
@@ -165,9 +157,10 @@ Completes r d round answer next =
     × MayHaveLed r (place_named round.body) whole dropped d.responder
     × (sent_by entry ≡ answer)
     × (next ≡ entry ∷ with_large (place_named round.body) whole (dropped_before_large (place_named round.body) dropped d.responder))
+    × (is_untouched (place_named round.body) (begun_with (place_named round.body) whole d.responder) d.responder ≡ true)
 
--- What an answer leads to: the responder's history after it, and the bytes that stand for the large answer under
--- way.
+-- What an answer may lead to: the responder's history after it, and the bytes that stand for the large answer under
+-- way. Of LargeResponse again it is the requester that tells whether it begins a fetch.
 unfoldable pub Answers : RspSetup → Dialogue → Round → List ℕ → History → Option (List ℕ) → Type 0
 Answers r d round answer next fetching =
     (AnswersPlainly r d round answer next × (fetching ≡ d.fetching))

@@ -20,7 +20,7 @@ use Rattle.spdm_machine.specs.Terms.{request_value, terms_of, hash_len}
 use Rattle.world_machine.specs.Capture.{IsFirstDifference, Leads}
 use Rattle.world_machine.specs.CapturedAnswers.{Answers, MayLeadTo, MayHaveLed}
 use Rattle.world_machine.specs.CapturedRequests.{owes, without_owed}
-use Rattle.world_machine.specs.LargeAnswers.{gives_last, judging, place_named}
+use Rattle.world_machine.specs.LargeAnswers.{gives_last, judging, place_named, begun_with, is_untouched}
 use Rattle.world_machine.specs.Opening.{opens_asking, inner_asking, opens_answering}
 use Rattle.requester_machine.specs.Named.{names, session_named}
 use Rattle.spdm_machine.specs.Packets.{gathered_from, body_type}
@@ -137,6 +137,7 @@ CompletesApart r d round answer =
     × MayHaveLed r (place_named round.body) other dropped d.responder
     × (slice_index other 1 ≡ PSK_EXCHANGE_RSP)
     × (is_apart (verify_size d) other whole ≡ true)
+    × (is_untouched (place_named round.body) (begun_with (place_named round.body) other d.responder) d.responder ≡ true)
 
 -- An answer is apart in one of these two ways; where there is no round, in none.
 abbrev pub AreRepliesApart : RspSetup → Dialogue → Option Round → List ℕ → Type 0

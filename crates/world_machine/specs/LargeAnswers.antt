@@ -2,21 +2,22 @@
 -- history with no bytes as its answer until then, so nothing that hangs on the answer counts, and nothing of it is
 -- pending. It is judged whole at its last chunk. While it is fetched any bytes stand for it whose length is one that
 -- goes by chunks, and each chunk has to be the one that they are cut into. This project's own.
-use Rattle.std.specs.Prelude.{◌≡◌, ◌≤◌, ◌==◌, ◌&&◌, not, ℕ, List, [], ◌∷◌, length, slice_index, drop, if◌then◌else◌, Bool, true, false, Option, Some, None, is_some}
+use Rattle.std.specs.Prelude.{◌≡◌, ◌≤◌, ◌==◌, ◌&&◌, ◌||◌, not, ℕ, List, [], ◌∷◌, length, slice_index, drop, if◌then◌else◌, Bool, true, false, Option, Some, None, is_some}
 use Rattle.requester_machine.specs.History as requester_history
 use Rattle.requester_machine.specs.Message.{Ask, Aim, Sent}
 use Rattle.requester_machine.specs.Message.Aim.{Plain, ByChunks, ForChunk, InSession}
 use Rattle.requester_machine.specs.Message.Ask.{AskChunk}
 use Rattle.responder_machine.specs.Handling.{goes_large}
 use Rattle.responder_machine.specs.History.{History, Entry}
-use Rattle.responder_machine.specs.History.Entry.{Clear, Sealed}
+use Rattle.responder_machine.specs.History.Entry.{Clear, Sealed, Dropped}
 use Rattle.responder_machine.specs.May.{with_dropped}
 use Rattle.responder_machine.specs.Place.{Place, clear_place, session_place, inside}
 use Rattle.responder_machine.specs.Refusal.{has_pending, is_answer_too_long}
 use Rattle.responder_machine.specs.Session.{session_of, id_in_record}
-use Rattle.responder_machine.specs.Turn.{Turn, Effect, is_taken, takes, handle_in}
+use Rattle.responder_machine.specs.Turn.{Turn, Effect, is_taken, takes, answer_in, handle_in}
 use Rattle.responder_machine.specs.Turn.Effect.{NoEffect, Took, TookData}
-use Rattle.spdm_grammar.specs.declared.names.request_code.TheConstants.{CHUNK_GET}
+use Rattle.spdm_machine.specs.Sessions.{id_in_exchange}
+use Rattle.spdm_grammar.specs.declared.names.request_code.TheConstants.{CHUNK_GET, PSK_EXCHANGE}
 use Rattle.spdm_grammar.specs.declared.names.TheConstants.{MAX_MESSAGE_SIZE}
 
 -- ---- Requests whose large answer was not seen.
@@ -96,6 +97,28 @@ dropped_before_large place ids [] = []
 dropped_before_large place ids (entry ∷ older) =
     if is_unseen_in place entry then entry ∷ with_dropped older ids else entry ∷ dropped_before_large place ids older
 
+-- The RspSessionID of the session that an entry begins; none where it begins none.
+abbrev pub id_begun : Entry → Option ℕ
+id_begun (Clear tag t d) = if takes PSK_EXCHANGE t then Some (id_in_exchange (answer_in t.effect)) else None
+id_begun _ = None
+
+-- That of the session which these bytes begin as the newest large answer of the place that was not seen.
+abbrev pub begun_with : Option ℕ → List ℕ → History → Option ℕ
+begun_with place answer [] = None
+begun_with place answer (entry ∷ older) = if is_unseen_in place entry then id_begun (seen answer entry) else begun_with place answer older
+
+-- The entry is a record for the session of this id, or that was dropped.
+abbrev pub touches : Option ℕ → Entry → Bool
+touches (Some id) (Sealed tag sealed t reply d) = id_in_record sealed == id
+touches (Some id) (Dropped which) = which == id
+touches _ _ = false
+
+-- No entry behind the request of that answer is. Where it begins a session, another one that had its id is gone since
+-- then, and took no record; nothing was shown of it either.
+abbrev pub is_untouched : Option ℕ → Option ℕ → History → Bool
+is_untouched place id [] = true
+is_untouched place id (entry ∷ older) = if is_unseen_in place entry then true else not (touches id entry) && is_untouched place id older
+
 -- A repeat is compared with the entry: the newest of the clear part that was taken, or the newest of the session.
 abbrev pub is_kept_in : Option ℕ → Entry → Bool
 is_kept_in None (Clear tag t d) = is_taken t
@@ -115,10 +138,10 @@ place_of h (Clear tag t d) = if is_some t.chunk then inside (clear_place h) else
 place_of h (Sealed tag sealed t reply d) = session_place (session_of (id_in_record sealed) h)
 place_of h _ = clear_place h
 
--- The place whose sizes the newest large answer goes by that was not seen.
-abbrev pub place_unseen : Option ℕ → History → Place
-place_unseen place [] = clear_place []
-place_unseen place (entry ∷ older) = if is_unseen_in place entry then place_of older entry else place_unseen place older
+-- The place whose sizes the answer to a repeat goes by, in a history of which the last argument is the rest.
+abbrev pub place_again : Option ℕ → (all : History) → History → Place
+place_again place all [] = clear_place all
+place_again place all (entry ∷ older) = if is_kept_in place entry then place_of all entry else place_again place all older
 
 -- A length that goes by chunks: with what stands round the answer over the requester's transfer size, and at most
 -- its max size and 4,096.
@@ -147,6 +170,10 @@ is_fetching (Some sent) = is_for_chunk sent.aim
 -- The bytes stand for the answer only so long. A LargeResponse that the requester does not take is not fetched.
 abbrev pub while_fetched : requester_history.History → Option (List ℕ) → Option (List ℕ)
 while_fetched h whole = if is_fetching (requester_history.outstanding h) then whole else None
+
+-- What the requester asks a chunk of is under way.
+abbrev pub asks_known : requester_history.History → Option (List ℕ) → Bool
+asks_known h whole = not (is_fetching (requester_history.outstanding h)) || is_some whole
 
 -- The history by which a request is answered, of which this is the body: with the bytes that stand for the answer
 -- being fetched. It is one of the place to which the request goes.
