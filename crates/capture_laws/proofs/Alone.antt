@@ -65,7 +65,7 @@ replies_typed r d round answer all c =
 
 completes_typed : (r : RspSetup) (d : Dialogue) (round : Round) (answer : List ℕ) → AreLong d.responder → CompletesApart r d round answer → is_other_type answer ≡ false
 completes_typed r d round answer all c =
-    ap is_other_type (sym c.7) ∙ (led_made r (judging d.fetching d.responder) round.tag round.body (Adds c.3) (judging_long d.fetching d.responder all) c.5).typed
+    ap is_other_type (sym c.7) ∙ (led_made r (judging d.fetching round.body d.responder) round.tag round.body (Adds c.3) (judging_long d.fetching round.body d.responder all) c.5).typed
 
 apart_typed : (r : RspSetup) (d : Dialogue) (o : Option Round) (answer : List ℕ) → AreLong d.responder → AreRepliesApart r d o answer → is_other_type answer ≡ false
 apart_typed r d None answer all c = absurd c

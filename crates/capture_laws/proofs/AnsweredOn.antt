@@ -1,5 +1,6 @@
 -- An answer that goes on from one of two alike dialogues goes on from the other.
-use Rattle.std.proofs.Common.{◌≡◌, ◌+◌, ◌-◌, ℕ, List, ◌∷◌, refl, sym, ◌∙◌, subst, drop, true, false, Option, Some, None}
+use Rattle.std.proofs.Common.{◌≡◌, ◌+◌, ◌-◌, ◌||◌, ℕ, List, ◌∷◌, refl, sym, ap, ◌∙◌, subst, drop, Bool, true, false, Option, Some, None, is_some}
+use Rattle.std.specs.Prelude.{not}
 use Rattle.mctp_framing.specs.Gathering.{Gathered}
 use Rattle.mctp_framing.specs.Gathering.Gathered.{Whole, More, Dropped}
 use Rattle.requester_machine.specs.Commands.{Free}
@@ -20,7 +21,7 @@ use Rattle.world_machine.proofs.Alike.{Alike}
 use Rattle.world_machine.proofs.AskersAlike.{AskersAlike, acked}
 use Rattle.world_machine.proofs.AskersAlike.AskersAlike.{Settled, Owing, Shown, Due}
 use Rattle.world_machine.proofs.AskersBegin.{dial}
-use Rattle.world_machine.proofs.RepliesAlike.{none_fetched}
+use Rattle.world_machine.proofs.RepliesAlike.{gets, gets_alike, none_fetched}
 use Rattle.capture_laws.proofs.Allowed.{Equals, agree_equals, allowed_same, entry_equals}
 
 -- ---- The requester's side.
@@ -60,14 +61,16 @@ replied_from w d e tag answer next a none one =
     let answers = subst R a.setup (answers_on (towards w.responder (known_of d.setup)) d e one.0 answer one.4.0 one.4.1 a.responder fetch one.4.2) in
     let heard = hears_on d.setup d.requester e.requester d.responder e.responder d.round d.sending e.sending d.fetching e.fetching tag answer one.4.3.0 a.askers one.4.3.1 in
     let S : ReqSetup → Type 0 = λ q. Hears (dial q e.requester e.responder d.round e.sending e.fetching) tag answer heard.0 in
-    let O : Option Round → Type 0 = λ o. Hears (dial e.setup e.requester e.responder o e.sending e.fetching) tag answer heard.0 in (
+    let O : Option Round → Type 0 = λ o. Hears (dial e.setup e.requester e.responder o e.sending e.fetching) tag answer heard.0 in
+    let its : Hears e tag answer heard.0 = subst O a.round (subst S a.setup heard.1) in
+    let known : (not (gets heard.0) || is_some one.4.1) ≡ true = ap (λ (b : Bool). not b || is_some one.4.1) (sym (gets_alike d e one.0 tag answer one.4.3.0 heard.0 a one.1 one.2 one.4.3.1 its)) ∙ one.4.3.3 in (
       record e {
         requester = heard.0;
         responder = one.4.0;
         fetching = while_fetched heard.0 one.4.1;
         round = Some (record one.0 { waiting = one.0.waiting - 1; answered = true });
       },
-      (one.0, sym a.round ∙ one.1, one.2, one.3, (one.4.0, one.4.1, answers, (heard.0, subst O a.round (subst S a.setup heard.1), refl))),
+      (one.0, sym a.round ∙ one.1, one.2, one.3, (one.4.0, one.4.1, answers, (heard.0, its, refl, known))),
     )
 
 pub replies_from : (w : Configuration) (d e : Dialogue) (g : Gathered) (next : Dialogue) → Alike d e → d.fetching ≡ None → RepliesBy w d g next → (other : Dialogue) × RepliesBy w e g other

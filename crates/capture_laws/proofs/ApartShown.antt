@@ -30,7 +30,7 @@ use Rattle.capture_laws.specs.AnswersShown.{LeadsAt, least_values, values_in_rep
 use Rattle.capture_laws.specs.ApartShown.{ApartIsShown, IsApartShown}
 use Rattle.capture_laws.specs.DropsShown.{dropped_for, drops_shown_by, id_begun, outcome_shown, response_of}
 use Rattle.world_machine.proofs.DropsTell.{turns_stay}
-use Rattle.world_machine.specs.CapturedAnswers.{AnswersLarge, AnswersPlainly, Answers, Completes, MayLeadTo, clear_answer, is_plain, record_answer}
+use Rattle.world_machine.specs.CapturedAnswers.{AnswersAgain, AnswersLarge, AnswersPlainly, Answers, MayLeadTo, clear_answer, is_plain, record_answer}
 use Rattle.world_machine.specs.Difference.{AreRepliesApart, carries_exchange, is_apart, verify_size}
 use Rattle.world_machine.specs.LargeAnswers.{is_large, takes_get}
 use Rattle.world_machine.specs.Rounds.{Dialogue, Round, no_draw}
@@ -178,10 +178,9 @@ module _ (r : RspSetup) (d : Dialogue) (round : Round) (answer : List ℕ) (byte
       let known = entry_carries r (with_dropped h large.0) tag body large.1 large.2.1 (ap carries_exchange large.5 ∙ carries) in
       false≢true (sym known.0 ∙ large.3)
 
-  last_not : (other : List ℕ) (next : History) → Completes r still round other next → carries_exchange other ≡ true → ⊥
-  last_not other next last carries =
-      let known = entry_carries r h tag body last.1 last.2 (ap carries_exchange last.5 ∙ carries) in
-      false≢true (sym known.1 ∙ and_first _ _ last.3)
+  -- LargeResponse again is shown as any repeat.
+  again_plain : (other : List ℕ) (next : History) (whole : List ℕ) → AnswersAgain r still round other next whole → AnswersPlainly r still round other next
+  again_plain other next whole again = ([], Same other, (tt, again.1), tt, refl, refl, again.4)
 
   to_shown : AreRepliesApart r still (Some round) answer → IsApartShown r d round answer
   unfolding Answers
@@ -190,7 +189,8 @@ module _ (r : RspSetup) (d : Dialogue) (round : Round) (answer : List ℕ) (byte
       by_kind : Answers r still round c.0 c.1 c.2 → IsApartShown r d round answer
       by_kind (inl plain) = plain_apart c.0 c.1 plain.0 c.4 c.5
       by_kind (inr (inl large)) = absurd (large_not c.0 c.1 large.0 large.1 c.4)
-      by_kind (inr (inr last)) = absurd (last_not c.0 c.1 last.0 c.4)
+      by_kind (inr (inr (inl again))) = plain_apart c.0 c.1 (again_plain c.0 c.1 again.0 again.1) c.4 c.5
+      by_kind (inr (inr (inr last))) = absurd (none-some last.0.0 last.0.3)
   to_shown (inr c) = absurd (none-some c.0 c.4)
 
   from_shown : IsApartShown r d round answer → AreRepliesApart r still (Some round) answer

@@ -1,5 +1,5 @@
 -- A session that an answer begins is live behind it, and has an id from 1 to 4.
-use Rattle.std.proofs.Common.{◌≡◌, ◌≤◌, ◌∙◌, ◌+◌, ◌==◌, ◌&&◌, ℕ, List, [], ◌∷◌, Bool, true, false, cond, drop, length, refl, sym, ap, subst, arith, inl, inr, eq-eqb, eqb-true, lt-ltb}
+use Rattle.std.proofs.Common.{◌≡◌, ◌≤◌, ◌∙◌, ◌+◌, ◌==◌, ◌&&◌, ℕ, List, [], ◌∷◌, Bool, true, false, None, cond, drop, length, refl, sym, ap, subst, arith, inl, inr, eq-eqb, eqb-true, lt-ltb}
 use Rattle.std.specs.Prelude.{nat_lt, not, slice_index}
 use Rattle.std.proofs.lemmas.Bool.{and_parts, and_right, false≢true, le-ltb, ltb-true}
 use Rattle.responder_machine.proofs.Fresh.{IsFresh, exchange-fresh, turn_of-fresh}
@@ -23,7 +23,7 @@ use Rattle.capture_laws.specs.Changes.{IsFew}
 use Rattle.world_machine.proofs.DropsTell.{clear_form}
 use Rattle.world_machine.proofs.PlainTells.{form_of, led_clear, led_record}
 use Rattle.world_machine.specs.CapturedAnswers.{MayLeadTo}
-use Rattle.world_machine.specs.LargeAnswers.{effect_with, entry_with, turn_with}
+use Rattle.world_machine.specs.LargeAnswers.{effect_with, unseen, turn_with}
 use Rattle.world_machine.specs.SessionTable.{begins, begun_count, last_begun}
 
 -- Where more were begun than before, the last one is so.
@@ -127,20 +127,20 @@ plain_begins r g h ids tag body (Adds (Dropped id)) may = same_begins _ (Dropped
 
 -- ---- A LargeResponse begins none.
 
-none_exchanged : (x : Effect) → ((code_in (effect_with [] x) == PSK_EXCHANGE) && not (length (answer_in (effect_with [] x)) == 0)) ≡ false
+none_exchanged : (x : Effect) → ((code_in (effect_with [] None x) == PSK_EXCHANGE) && not (length (answer_in (effect_with [] None x)) == 0)) ≡ false
 none_exchanged NoEffect = refl
 none_exchanged (Took asked request answer large) = and_right _ false refl
 none_exchanged (TookData bytes answer) = refl
 
-pub large_count : (e : Entry) (h : History) → begun_count (entry_with [] e ∷ h) ≡ begun_count h
+pub large_count : (e : Entry) (h : History) → begun_count (unseen e ∷ h) ≡ begun_count h
 large_count (Clear tag t d) h = ap (λ b. cond b (begun_count h + 1) (begun_count h)) (none_exchanged t.effect)
 large_count (Sealed tag sealed t reply d) h = refl
 large_count (Queued bytes) h = refl
 large_count (Ticked seconds) h = refl
 large_count (Dropped id) h = refl
 
-pub large_begins : (e : Entry) (h : History) → Begins (begun_count h) (entry_with [] e ∷ h)
-large_begins (Clear tag t d) h = same_begins _ (Clear tag (turn_with [] t) d ∷ h) (ap (λ b. cond b (begun_count h + 1) (begun_count h)) (none_exchanged t.effect))
+pub large_begins : (e : Entry) (h : History) → Begins (begun_count h) (unseen e ∷ h)
+large_begins (Clear tag t d) h = same_begins _ (Clear tag (turn_with [] None t) d ∷ h) (ap (λ b. cond b (begun_count h + 1) (begun_count h)) (none_exchanged t.effect))
 large_begins (Sealed tag sealed t reply d) h = same_begins _ _ refl
 large_begins (Queued bytes) h = same_begins _ _ refl
 large_begins (Ticked seconds) h = same_begins _ _ refl

@@ -25,7 +25,7 @@ use Rattle.world_machine.proofs.PlainTells.{entries_erased, entries_same}
 use Rattle.world_machine.proofs.RecordsTell.{one_place, record_told}
 use Rattle.world_machine.proofs.RepliesTell.{EntriesAlike, OutcomesAlike, clear_told}
 use Rattle.world_machine.specs.CapturedAnswers.{MayLeadTo, answer_to, clear_answer, record_answer}
-use Rattle.world_machine.specs.LargeAnswers.{entry_with, is_large}
+use Rattle.world_machine.specs.LargeAnswers.{unseen, is_large}
 use Rattle.world_machine.specs.Opening.{any_free, turn_in}
 use Rattle.world_machine.specs.Rounds.{no_draw}
 
@@ -209,7 +209,7 @@ large_are_shown r h tag body entry byte large may = (by_outcome (on_body r h tag
     alike = known.2
 
     by_outcome : (x : Outcome) → on_body r h tag body v no_draw ≡ x → OutcomesAlike x (Adds entry)
-        → (other : Entry) × LeadsAt r h tag body (Adds other) v × (is_large other ≡ true) × (sent_by other ≡ sent_by entry) × (entry_with [] other ≡ entry_with [] entry)
+        → (other : Entry) × LeadsAt r h tag body (Adds other) v × (is_large other ≡ true) × (sent_by other ≡ sent_by entry) × (unseen other ≡ unseen entry)
     by_outcome (Same b) is same = absurd same
     by_outcome (Unopened b) is same = absurd same
     by_outcome (Adds other) is same =

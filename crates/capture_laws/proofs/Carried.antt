@@ -17,9 +17,9 @@ use Rattle.responder_machine.specs.Responder.Outcome.{Same, Unopened, Adds}
 use Rattle.responder_machine.specs.Session.{Events, id_in_record, last_of, session_of}
 use Rattle.responder_machine.specs.Setup.{RspSetup}
 use Rattle.responder_machine.specs.Turn.{is_taken}
-use Rattle.world_machine.specs.CapturedAnswers.{Answers, AnswersLarge, AnswersPlainly, Completes, MayLeadTo}
+use Rattle.world_machine.specs.CapturedAnswers.{Answers, AnswersAgain, AnswersLarge, AnswersPlainly, Completes, MayLeadTo}
 use Rattle.world_machine.specs.Difference.{is_other_type}
-use Rattle.world_machine.specs.LargeAnswers.{dropped_before_large, entry_with, is_large, judging, with_large}
+use Rattle.world_machine.specs.LargeAnswers.{dropped_before_large, is_unseen_in, judging, place_named, seen, unseen, with_large}
 use Rattle.world_machine.specs.Rounds.{Dialogue, Round, no_draw}
 use Rattle.world_machine.proofs.PlacesServed.{place_type}
 use Rattle.capture_laws.proofs.LongAnswers.{IsLong, turn_long}
@@ -114,13 +114,20 @@ pub dropped_long : (h : History) (ids : List ℕ) → AreLong h → AreLong (wit
 dropped_long h [] all = all
 dropped_long h (id ∷ ids) all = dropped_long (Dropped id ∷ h) ids all
 
--- With other bytes as its answer an entry has the same reply.
-entry_long : (answer : List ℕ) (e : Entry) (h : History) → AreLong (e ∷ h) → AreLong (entry_with answer e ∷ h)
-entry_long answer (Clear tag t d) h all = all
-entry_long answer (Sealed tag sealed t reply d) h all = all
-entry_long answer (Queued bytes) h all = all
-entry_long answer (Ticked seconds) h all = all
-entry_long answer (Dropped id) h all = all
+-- With other bytes as its answer, or with none, an entry has the same reply.
+seen_long : (answer : List ℕ) (e : Entry) (h : History) → AreLong (e ∷ h) → AreLong (seen answer e ∷ h)
+seen_long answer (Clear tag t d) h all = all
+seen_long answer (Sealed tag sealed t reply d) h all = all
+seen_long answer (Queued bytes) h all = all
+seen_long answer (Ticked seconds) h all = all
+seen_long answer (Dropped id) h all = all
+
+unseen_long : (e : Entry) (h : History) → AreLong (e ∷ h) → AreLong (unseen e ∷ h)
+unseen_long (Clear tag t d) h all = all
+unseen_long (Sealed tag sealed t reply d) h all = all
+unseen_long (Queued bytes) h all = all
+unseen_long (Ticked seconds) h all = all
+unseen_long (Dropped id) h all = all
 
 older_long : (e : Entry) (h : History) → AreLong (e ∷ h) → AreLong h
 older_long (Clear tag t d) h all = all.1
@@ -140,20 +147,20 @@ either_long : (b : Bool) (h g : History) → AreLong h → AreLong g → AreLong
 either_long true h g one other = one
 either_long false h g one other = other
 
-large_long : (answer : List ℕ) (h : History) → AreLong h → AreLong (with_large answer h)
-large_long answer [] all = tt
-large_long answer (e ∷ older) all =
-    either_long (is_large e) _ _ (entry_long answer e older all) (same_long e older (with_large answer older) all (large_long answer older (older_long e older all)))
+large_long : (place : Option ℕ) (answer : List ℕ) (h : History) → AreLong h → AreLong (with_large place answer h)
+large_long place answer [] all = tt
+large_long place answer (e ∷ older) all =
+    either_long (is_unseen_in place e) _ _ (seen_long answer e older all) (same_long e older (with_large place answer older) all (large_long place answer older (older_long e older all)))
 
-pub judging_long : (fetching : Option (List ℕ)) (h : History) → AreLong h → AreLong (judging fetching h)
-judging_long None h all = all
-judging_long (Some whole) h all = large_long whole h all
+pub judging_long : (fetching : Option (List ℕ)) (body : List ℕ) (h : History) → AreLong h → AreLong (judging fetching body h)
+judging_long None body h all = all
+judging_long (Some whole) body h all = large_long (place_named body) whole h all
 
-before_long : (ids : List ℕ) (h : History) → AreLong h → AreLong (dropped_before_large ids h)
-before_long ids [] all = tt
-before_long ids (e ∷ older) all =
+before_long : (place : Option ℕ) (ids : List ℕ) (h : History) → AreLong h → AreLong (dropped_before_large place ids h)
+before_long place ids [] all = tt
+before_long place ids (e ∷ older) all =
     let rest = older_long e older all in
-    either_long (is_large e) _ _ (same_long e older (with_dropped older ids) all (dropped_long older ids rest)) (same_long e older (dropped_before_large ids older) all (before_long ids older rest))
+    either_long (is_unseen_in place e) _ _ (same_long e older (with_dropped older ids) all (dropped_long older ids rest)) (same_long e older (dropped_before_large place ids older) all (before_long place ids older rest))
 
 -- ---- An answer.
 
@@ -163,30 +170,37 @@ pub record Leaves (answer : List ℕ) (next : History) : Type 0 where
 
 plainly : (r : RspSetup) (d : Dialogue) (round : Round) (answer : List ℕ) (next : History) → AreLong d.responder → AnswersPlainly r d round answer next → Leaves answer next
 plainly r d round answer next all a =
-    let from = dropped_long (judging d.fetching d.responder) a.0 (judging_long d.fetching d.responder all) in
-    let made = led_made r (with_dropped (judging d.fetching d.responder) a.0) round.tag round.body a.1 from a.2.1 in record {
+    let from = dropped_long (judging d.fetching round.body d.responder) a.0 (judging_long d.fetching round.body d.responder all) in
+    let made = led_made r (with_dropped (judging d.fetching round.body d.responder) a.0) round.tag round.body a.1 from a.2.1 in record {
       made = subst IsMade a.5 made;
       kept = subst AreLong (sym a.6) (after_long (with_dropped d.responder a.0) a.1 (dropped_long d.responder a.0 all) made.long);
     }
 
 largely : (r : RspSetup) (d : Dialogue) (round : Round) (answer : List ℕ) (next : History) (whole : List ℕ) → AreLong d.responder → AnswersLarge r d round answer next whole → Leaves answer next
 largely r d round answer next whole all a =
-    let from = dropped_long (judging d.fetching d.responder) a.0 (judging_long d.fetching d.responder all) in
-    let made = led_made r (with_dropped (judging d.fetching d.responder) a.0) round.tag round.body (Adds a.1) from a.2.1 in record {
+    let from = dropped_long (judging d.fetching round.body d.responder) a.0 (judging_long d.fetching round.body d.responder all) in
+    let made = led_made r (with_dropped (judging d.fetching round.body d.responder) a.0) round.tag round.body (Adds a.1) from a.2.1 in record {
       made = subst IsMade a.5 made;
-      kept = subst AreLong (sym a.6) (entry_long [] a.1 d.responder (after_long d.responder (Adds a.1) all made.long));
+      kept = subst AreLong (sym a.6) (unseen_long a.1 d.responder (after_long d.responder (Adds a.1) all made.long));
     }
+
+again : (r : RspSetup) (d : Dialogue) (round : Round) (answer : List ℕ) (next : History) (whole : List ℕ) → AreLong d.responder → AnswersAgain r d round answer next whole → Leaves answer next
+again r d round answer next whole all a = record {
+  made = led_made r d.responder round.tag round.body (Same answer) all a.1;
+  kept = subst AreLong (sym a.4) all;
+}
 
 completes : (r : RspSetup) (d : Dialogue) (round : Round) (answer : List ℕ) (next : History) → AreLong d.responder → Completes r d round answer next → Leaves answer next
 completes r d round answer next all a =
-    let from = judging_long d.fetching d.responder all in
-    let made = led_made r (judging d.fetching d.responder) round.tag round.body (Adds a.1) from a.2 in record {
-      made = subst IsMade a.5 made;
-      kept = subst AreLong (sym a.6) (after_long (dropped_before_large a.0 (judging d.fetching d.responder)) (Adds a.1) (before_long a.0 (judging d.fetching d.responder) from) made.long);
+    let place : Option ℕ = place_named round.body in
+    let made = led_made r (judging d.fetching round.body d.responder) round.tag round.body (Adds a.2) (judging_long d.fetching round.body d.responder all) a.4 in record {
+      made = subst IsMade a.7 made;
+      kept = subst AreLong (sym a.8) (after_long (with_large place a.0 (dropped_before_large place a.1 d.responder)) (Adds a.2) (large_long place a.0 (dropped_before_large place a.1 d.responder) (before_long place a.1 d.responder all)) made.long);
     }
 
 pub answers_leave : (r : RspSetup) (d : Dialogue) (round : Round) (answer : List ℕ) (next : History) (fetching : Option (List ℕ)) → AreLong d.responder → Answers r d round answer next fetching → Leaves answer next
 unfolding Answers
 answers_leave r d round answer next fetching all (inl a) = plainly r d round answer next all a.0
 answers_leave r d round answer next fetching all (inr (inl a)) = largely r d round answer next a.0 all a.1
-answers_leave r d round answer next fetching all (inr (inr a)) = completes r d round answer next all a.0
+answers_leave r d round answer next fetching all (inr (inr (inl a))) = again r d round answer next a.0 all a.1
+answers_leave r d round answer next fetching all (inr (inr (inr a))) = completes r d round answer next all a.0

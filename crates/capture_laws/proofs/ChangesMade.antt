@@ -16,7 +16,7 @@ use Rattle.capture_laws.proofs.StepsOfWalks.{sends_none}
 use Rattle.capture_laws.specs.ChangeLaws.{AnswerAsksNone, CopyChanges, CopyIsRequest, IsRequestChange, IsRequestStep, LargeAnswerChanges, RequestChanges, RoundIsRequest, WholeAnswerChanges, answered_by, begun_by}
 use Rattle.capture_laws.specs.Changes.{IsChange, answered_in, session_in, views_in}
 use Rattle.capture_laws.specs.declared.change.Change.{Change}
-use Rattle.world_machine.specs.LargeAnswers.{entry_with}
+use Rattle.world_machine.specs.LargeAnswers.{unseen}
 use Rattle.world_machine.specs.Rounds.{Dialogue, Round, following_tag, new_round}
 use Rattle.world_machine.specs.SessionTable.{accepted_in, begins, begun_count, is_new, last_begun}
 
@@ -88,16 +88,16 @@ pub whole_answer_changes : WholeAnswerChanges
 whole_answer_changes d next ids o is =
     (ap (begun_in d.responder) is ∙ outcome_begun d.responder ids o, ap (replied_in d.responder) is ∙ outcome_replied d.responder ids o)
 
-large_replied : (h : History) (e : Entry) → replied_in h (entry_with [] e ∷ h) ≡ answered_by (Adds e)
-large_replied h (Clear tag t d) = entry_replied h h (entry_with [] (Clear tag t d)) (omega arith)
-large_replied h (Sealed tag sealed t reply d) = entry_replied h h (entry_with [] (Sealed tag sealed t reply d)) (omega arith)
+large_replied : (h : History) (e : Entry) → replied_in h (unseen e ∷ h) ≡ answered_by (Adds e)
+large_replied h (Clear tag t d) = entry_replied h h (unseen (Clear tag t d)) (omega arith)
+large_replied h (Sealed tag sealed t reply d) = entry_replied h h (unseen (Sealed tag sealed t reply d)) (omega arith)
 large_replied h (Queued bytes) = entry_replied h h (Queued bytes) (omega arith)
 large_replied h (Ticked seconds) = entry_replied h h (Ticked seconds) (omega arith)
 large_replied h (Dropped id) = entry_replied h h (Dropped id) (omega arith)
 
 pub large_answer_changes : LargeAnswerChanges
 large_answer_changes d next entry is =
-    (ap (begun_in d.responder) is ∙ none_begun d.responder (entry_with [] entry ∷ d.responder) (large_count entry d.responder), ap (replied_in d.responder) is ∙ large_replied d.responder entry)
+    (ap (begun_in d.responder) is ∙ none_begun d.responder (unseen entry ∷ d.responder) (large_count entry d.responder), ap (replied_in d.responder) is ∙ large_replied d.responder entry)
 
 -- ---- Rounds.
 

@@ -1,6 +1,6 @@
 -- Over the same packets there are walks with each padding of the record that is owed.
-use Rattle.std.proofs.Common.{◌≡◌, ◌≤◌, ◌-◌, ◌+◌, ◌==◌, ◌⊎◌, ℕ, List, [], ◌∷◌, refl, sym, ap, ◌∙◌, subst, length, Bool, true, false, Option, Some, None, Result, Ok, Err, cond, inl, inr, arith}
-use Rattle.std.specs.Prelude.{MatchBool}
+use Rattle.std.proofs.Common.{◌≡◌, ◌≤◌, ◌-◌, ◌+◌, ◌==◌, ◌||◌, ◌⊎◌, ℕ, List, [], ◌∷◌, refl, sym, ap, ◌∙◌, subst, length, Bool, true, false, Option, Some, None, is_some, Result, Ok, Err, cond, inl, inr, arith}
+use Rattle.std.specs.Prelude.{MatchBool, not}
 use Rattle.std.proofs.lemmas.Bool.{false≢true, not-true}
 use Rattle.std.proofs.lemmas.Option.{none-some}
 use Rattle.mctp_framing.specs.Gathering.{Gathered}
@@ -27,7 +27,7 @@ use Rattle.world_machine.proofs.WalksAlike.{BothAlike}
 use Rattle.world_machine.specs.Capture.{AsksBy, Begins, Copies, Replies, RepliesBy}
 use Rattle.world_machine.specs.CapturedAnswers.{Hears}
 use Rattle.world_machine.specs.CapturedRequests.{is_later, owes}
-use Rattle.world_machine.specs.LargeAnswers.{while_fetched}
+use Rattle.world_machine.specs.LargeAnswers.{asks_known, while_fetched}
 use Rattle.world_machine.specs.LargeRequests.{piece_with}
 use Rattle.world_machine.specs.Rounds.{Dialogue, Round}
 use Rattle.world_machine.specs.Setup.{Configuration, known_of}
@@ -137,13 +137,17 @@ module _ (w : Configuration) (q : ReqSetup) (older : List (List ℕ)) (b : Dialo
           ap (with_padding pad) c.4.3.2
           ∙ ap (λ (x : Bool). record b { requester = repadded psk pad g; responder = c.4.0; fetching = cond x c.4.1 None; round = Some next }) (sym (fetch_same psk pad g))
 
+      -- It asks for a chunk under any padding, or under none.
+      known : (pad : List ℕ) → asks_known (repadded psk pad g) c.4.1 ≡ true
+      known pad = ap (λ (x : Bool). not x || is_some c.4.1) (fetch_same psk pad g) ∙ c.4.3.3
+
       own_from : (pad : List ℕ) → repadded psk pad g ≡ g → with_padding pad d ≡ d
       own_from pad same = padded_is pad ∙ ap ended same ∙ sym c.4.3.2
 
       by_heard : Paddable b.setup b.requester b.responder r b.fetching tag answer g ⊎ OwedBefore b.setup b.requester b.responder r b.fetching tag answer g → Pads (λ x y. Replies w x tag answer y) d
       by_heard (inl pads) = (
         (pads.own.0, pads.own.1, own_from pads.own.0 pads.own.2),
-        λ pad few. (b, walk, (r, c.1, c.2, c.3, (c.4.0, c.4.1, c.4.2, (repadded psk pad g, back b.requester (repadded psk pad g) (pads.free pad few), padded_is pad)))),
+        λ pad few. (b, walk, (r, c.1, c.2, c.3, (c.4.0, c.4.1, c.4.2, (repadded psk pad g, back b.requester (repadded psk pad g) (pads.free pad few), padded_is pad, known pad)))),
       )
       by_heard (inr was) =
           let still : owes b ≡ true = ap (λ (o : Option Round). is_later o (outstanding b.requester)) c.1 ∙ was.0 in
@@ -165,6 +169,7 @@ module _ (w : Configuration) (q : ReqSetup) (older : List (List ℕ)) (b : Dialo
                     repadded psk pad b.requester,
                     back (repadded psk pad b.requester) (repadded psk pad b.requester) (was.2 pad),
                     padded_is pad ∙ ap (λ (l : History). ended (repadded psk pad l)) was.1,
+                    ap (λ (l : History). asks_known (repadded psk pad l) c.4.1) (sym was.1) ∙ known pad,
                   ),
                 ),
               ),

@@ -17,7 +17,7 @@ use Rattle.capture_laws.specs.AnswersShown.{LeadsAt, is_whole, values_shown_by}
 use Rattle.capture_laws.specs.LargeShown.{IsShownLarge, LargeIsShown, begun_large, drops_before, first_dropped, large_shown, whole_of}
 use Rattle.world_machine.proofs.LargeTells.{large_next}
 use Rattle.world_machine.specs.CapturedAnswers.{AnswersLarge, MayLeadAfter, MayLeadTo}
-use Rattle.world_machine.specs.LargeAnswers.{IsLargeAnswer, entry_with, is_large, judging, place_of}
+use Rattle.world_machine.specs.LargeAnswers.{IsLargeAnswer, unseen, is_large, judging, place_of}
 
 module _ (r : RspSetup) (h : History) (tag : ℕ) (body : List ℕ) where
   abbrev chosen : List ℕ
@@ -49,7 +49,7 @@ module _ (r : RspSetup) (h : History) (tag : ℕ) (body : List ℕ) where
     IsIt answer o = LeadsAt r (with_dropped h drops) tag body o (value answer) × (is_whole o ≡ false) × (body_of o ≡ answer)
 
     -- What may be led to behind some drops is what is shown.
-    shown_from : (ids : List ℕ) (e : Entry) (next older : History) → MayLeadAfter r h ids tag body (Adds e) → is_large e ≡ true → next ≡ entry_with [] e ∷ older
+    shown_from : (ids : List ℕ) (e : Entry) (next older : History) → MayLeadAfter r h ids tag body (Adds e) → is_large e ≡ true → next ≡ unseen e ∷ older
         → IsShownLarge r h tag body (sent_by e) × (next ≡ begun_large older (large_shown r h tag body (sent_by e)))
     unfolding large_shown MayLeadTo
     shown_from ids e next older may large is =
@@ -60,14 +60,14 @@ module _ (r : RspSetup) (h : History) (tag : ℕ) (body : List ℕ) where
         let at : LeadsAt r (with_dropped h drops) tag body (Adds other) (value (sent_by e)) = subst (λ (l : List ℕ). LeadsAt r (with_dropped h drops) tag body (Adds other) (value l)) there.sent known.1 in
         let same : large_shown r h tag body (sent_by e) ≡ Adds other = at.2 in
         let sent : sent_by other ≡ sent_by e = known.3 ∙ there.sent in
-        let erased : entry_with [] e ∷ older ≡ entry_with [] other ∷ older = later ids e other may (drops_may drops_are, (value (sent_by e), at.0, at.1, at.2)) (sym sent) older in
+        let erased : unseen e ∷ older ≡ unseen other ∷ older = later ids e other may (drops_may drops_are, (value (sent_by e), at.0, at.1, at.2)) (sym sent) older in
         (subst (IsIt (sent_by e)) (sym same) (at, ap not known.2, sent), is ∙ erased ∙ ap (begun_large older) (sym same))
       where
-        later : (ids : List ℕ) (e other : Entry) → MayLeadAfter r h ids tag body (Adds e) → MayLeadAfter r h drops tag body (Adds other) → sent_by e ≡ sent_by other → (older : History) → entry_with [] e ∷ older ≡ entry_with [] other ∷ older
+        later : (ids : List ℕ) (e other : Entry) → MayLeadAfter r h ids tag body (Adds e) → MayLeadAfter r h drops tag body (Adds other) → sent_by e ≡ sent_by other → (older : History) → unseen e ∷ older ≡ unseen other ∷ older
         later ids e other one two same older = ap (λ (x : Entry). x ∷ older) (cc (large_next r h ids drops tag body e other one two same))
 
     shown_back : (o : Outcome) (answer : List ℕ) (next older : History) → IsIt answer o → next ≡ begun_large older o
-        → (whole : List ℕ) × ((ids : List ℕ) × (e : Entry) × MayLeadAfter r h ids tag body (Adds e) × (is_large e ≡ true) × IsLargeAnswer (place_of h e) whole × (sent_by e ≡ answer) × (next ≡ entry_with [] e ∷ older))
+        → (whole : List ℕ) × ((ids : List ℕ) × (e : Entry) × MayLeadAfter r h ids tag body (Adds e) × (is_large e ≡ true) × IsLargeAnswer (place_of h e) whole × (sent_by e ≡ answer) × (next ≡ unseen e ∷ older))
     unfolding MayLeadTo
     shown_back (Same b) answer next older it is = absurd (false≢true (sym it.1))
     shown_back (Unopened b) answer next older it is = absurd (false≢true (sym it.1))
@@ -85,7 +85,7 @@ pub large_is_shown : LargeIsShown
 large_is_shown r d round answer next byte = (to_shown, from_shown)
   where
     h : History
-    h = judging d.fetching d.responder
+    h = judging d.fetching round.body d.responder
 
     to_shown : (whole : List ℕ) × AnswersLarge r d round answer next whole
         → IsShownLarge r h round.tag round.body answer × (next ≡ begun_large d.responder (large_shown r h round.tag round.body answer))

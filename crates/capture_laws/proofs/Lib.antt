@@ -62,8 +62,6 @@ pub mod HeardShown
 pub mod RepliesShown
 pub mod CarriedExchange
 pub mod ApartShown
-pub mod Fetched
-pub mod LastShown
 pub mod LargeMoved
 pub mod LargeDrops
 pub mod LargeLed

@@ -57,7 +57,7 @@ pub plain_is_shown : PlainIsShown
 plain_is_shown r d round answer next byte = (to_shown, from_shown)
   where
     h : History
-    h = judging d.fetching d.responder
+    h = judging d.fetching round.body d.responder
 
     to_shown : AnswersPlainly r d round answer next → IsShownAnswer r h round.tag round.body answer
         × (next ≡ after (with_dropped d.responder (drops_shown_by r h round.tag round.body answer)) (outcome_shown r h round.tag round.body answer))

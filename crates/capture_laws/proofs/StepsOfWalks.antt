@@ -1,7 +1,7 @@
 -- Each packet of a walk is a step by which a change is taken.
 use Rattle.std.proofs.Common.{◌≡◌, ◌∙◌, ◌⊎◌, ◌==◌, ℕ, List, [], ◌∷◌, Bool, true, false, cond, Option, Some, None, Result, Ok, Err, drop, length, refl, sym, ap, subst, arith, inl, inr}
-use Rattle.std.specs.Prelude.{MatchBool, nat_lt, not, slice_index}
-use Rattle.std.proofs.lemmas.Bool.{and_parts, false_from_ne_true, false≢true, le-ltb, not-true}
+use Rattle.std.specs.Prelude.{MatchBool, nat_lt, slice_index}
+use Rattle.std.proofs.lemmas.Bool.{and_parts, le-ltb}
 use Rattle.std.proofs.lemmas.Option.{none-some, same_Some}
 use Rattle.mctp_framing.specs.Gathering.{Gathered}
 use Rattle.mctp_framing.specs.Gathering.Gathered.{Whole, More, Dropped}
@@ -10,148 +10,70 @@ use Rattle.requester_machine.specs.History as requester_history
 use Rattle.requester_machine.specs.History.{outstanding}
 use Rattle.requester_machine.specs.History.Entry.{Told, TookClear, TookRecord}
 use Rattle.requester_machine.specs.Message.{Sent}
+use Rattle.requester_machine.specs.Owed.{with_next}
 use Rattle.requester_machine.specs.Setup.{ReqSetup}
-use Rattle.responder_machine.specs.Handling.{turn_of}
-use Rattle.responder_machine.specs.History.{Entry, History, kept_of}
-use Rattle.responder_machine.specs.History.Entry.{Clear}
+use Rattle.responder_machine.specs.History.{History}
 use Rattle.responder_machine.specs.May.{with_dropped}
-use Rattle.responder_machine.specs.Place.{clear_place}
-use Rattle.responder_machine.specs.Refusal.{code_of}
-use Rattle.responder_machine.specs.Responder.{Outcome, after, is_repeat}
+use Rattle.responder_machine.specs.Session.{id_in_record}
 use Rattle.responder_machine.specs.Setup.{RspSetup, towards}
-use Rattle.responder_machine.specs.Turn.{takes}
 use Rattle.spdm_basis.specs.declared.PacketFault.{PacketFault}
-use Rattle.spdm_grammar.specs.Message.RequestMessage.{ChunkGet}
-use Rattle.spdm_grammar.specs.Reading.{field_at, number_at}
-use Rattle.spdm_grammar.specs.Requests.{canonical_request, chunk_get_layout, request_body}
-use Rattle.spdm_grammar.specs.declared.names.request_code.TheConstants.{GET_VERSION, PSK_EXCHANGE}
-use Rattle.spdm_machine.specs.Bodies.{clear_body}
 use Rattle.spdm_machine.specs.Packets.{gathered_from}
-use Rattle.capture_laws.proofs.BegunAtLast.{IsClearSince, IsQuiet, clear_begins, count_before, get_begins, is_large_with, within_begins}
-use Rattle.capture_laws.proofs.BegunSessions.{Begins, large_begins, large_count, plain_begins, same_begins}
+use Rattle.capture_laws.proofs.BegunAtLast.{get_begins, settled, settled_begins}
+use Rattle.capture_laws.proofs.BegunSessions.{Begins, large_begins, plain_begins, same_begins}
 use Rattle.capture_laws.proofs.FewAsked.{FewAccepted, FewWaiting, Heard, hears_few, sends_few}
 use Rattle.capture_laws.proofs.PairWalks.{steps_setup}
 use Rattle.capture_laws.specs.Changes.{IsFew, WalksStep}
 use Rattle.capture_laws.specs.Order.{is_answer, is_request}
 use Rattle.capture_laws.specs.Walks.{StepsBy, StepsTo, Walks}
-use Rattle.world_machine.proofs.AimsHeard.{hears_version}
-use Rattle.world_machine.proofs.DropsTell.{clear_form}
-use Rattle.world_machine.proofs.FetchStates.{Fetch, Getting, asks_type, plain_kept}
-use Rattle.world_machine.proofs.FetchStates.Getting.{Asks, Repeats, Seals}
-use Rattle.world_machine.proofs.FetchedAnswers.{again_none, always_none, repeated, turn_code}
-use Rattle.world_machine.proofs.FetchedSessions.{InSession, IsOfSession}
-use Rattle.world_machine.proofs.FetchedTells.{ReadsAlways, get_reads}
-use Rattle.world_machine.proofs.Fetching.{IsSound, asks_sound, begins_sound, replies_sound, while_parts}
-use Rattle.world_machine.proofs.PlainTells.{led_clear}
+use Rattle.world_machine.proofs.FetchedTold.{version_apart}
+use Rattle.world_machine.proofs.Fetching.{IsSound, asks_sound, begins_sound, replies_sound, stays_clear}
+use Rattle.world_machine.proofs.UnseenStands.{IsClearSince}
 use Rattle.world_machine.specs.Capture.{AsksBy, Begins as BeginsRound, Copies, Replies, RepliesBy}
-use Rattle.world_machine.specs.CapturedAnswers.{Answers, AreShown, MayHaveLed, MayLeadAfter, is_plain}
+use Rattle.world_machine.specs.CapturedAnswers.{Answers, Completes}
 use Rattle.world_machine.specs.CapturedRequests.{Sends}
-use Rattle.requester_machine.specs.Owed.{with_next}
-use Rattle.world_machine.specs.LargeAnswers.{dropped_before_large, entry_with, is_fetching, is_large, judging, takes_get, with_large}
-use Rattle.world_machine.specs.Rounds.{Dialogue, Round, new_dialogue, no_draw}
+use Rattle.world_machine.specs.LargeAnswers.{judging, place_named, takes_get}
+use Rattle.world_machine.specs.Rounds.{Dialogue, Round, new_dialogue}
 use Rattle.world_machine.specs.SessionTable.{accepted_between, accepted_in, begun_count}
 use Rattle.world_machine.specs.Setup.{Configuration, known_of}
 
--- ---- A large answer that is fetched is one of a session, or nothing else was taken in the clear since.
-
-abbrev pub IsLast : History → Type 0
-IsLast h = InSession h ⊎ IsClearSince h
-
-quiet_last : (e : Entry) (h : History) → is_large e ≡ false → IsQuiet e → IsLast h → IsLast (e ∷ h)
-quiet_last e h small quiet (inl within) = inl (subst (λ (b : Bool). MatchBool b (IsOfSession e) (InSession h)) (sym small) within)
-quiet_last e h small quiet (inr since) = inr (subst (λ (b : Bool). MatchBool b (begun_count (e ∷ h) ≡ begun_count h) (IsQuiet e × IsClearSince h)) (sym small) (quiet, since))
-
-get_codes : (handle number : ℕ) → (code_of (canonical_request (ChunkGet handle number)) ≡ GET_VERSION → ⊥) × (code_of (canonical_request (ChunkGet handle number)) ≡ PSK_EXCHANGE → ⊥)
-unfolding field_at number_at request_body chunk_get_layout
-get_codes handle number = (λ e. absurd (omega (arith, e)), λ e. absurd (omega (arith, e)))
-
-module _ (r : RspSetup) (h : History) (w : List ℕ) (tag : ℕ) (body : List ℕ) where
-  -- CHUNK_GET in the clear.
-  got_last : (handle number : ℕ) → body ≡ clear_body (canonical_request (ChunkGet handle number)) → (ids : List ℕ) (o : Outcome) → IsLast h → MayLeadAfter r (with_large w h) ids tag body o → AreShown r (with_large w h) body o ids
-      → is_plain (with_large w h) o ≡ true → IsLast (after (with_dropped h ids) o)
-  got_last handle number is ids o last may shown plain =
-      let m : List ℕ = drop 1 body in
-      let same : m ≡ canonical_request (ChunkGet handle number) = ap (drop 1) is in
-      let reads : ReadsAlways m = subst ReadsAlways (sym same) (get_reads handle number) in
-      let type = asks_type handle number body is in
-      let none : ids ≡ [] = always_none r (with_large w h) ids tag body o type reads may shown in
-      let led = led_clear r (with_dropped (with_large w h) ids) tag body o type may.1 in
-      let p = clear_place (with_dropped (with_large w h) ids) in
-      let codes = get_codes handle number in
-      subst (λ (l : List ℕ). IsLast (after (with_dropped h l) o)) (sym none)
-      (elim (clear_form r (with_dropped (with_large w h) ids) tag m led.free o led.leads) [
-        | inl again ↦ subst (λ (x : Outcome). IsLast (after h x)) (sym again.1) last
-        | inr adds ↦
-            let e : Entry = Clear tag (turn_of r p m led.free) no_draw in
-            let small : is_large e ≡ false = not-true (is_large e) (and_parts (not (is_large e)) _ (subst (λ (x : Outcome). is_plain (with_large w h) x ≡ true) adds plain)).0 in
-            let code = λ (c : ℕ) (other : (0 == c) ≡ false) (takes_it : takes c (turn_of r p m led.free) ≡ true). ap code_of (sym same) ∙ turn_code r p m led.free c other reads.no_chunk takes_it in
-            let version : takes GET_VERSION (turn_of r p m led.free) ≡ false = false_from_ne_true _ (λ t. codes.0 (code GET_VERSION refl t)) in
-            let psk : takes PSK_EXCHANGE (turn_of r p m led.free) ≡ false = false_from_ne_true _ (λ t. codes.1 (code PSK_EXCHANGE refl t)) in
-            subst (λ (x : Outcome). IsLast (after h x)) (sym adds) (quiet_last e h small (version, psk) last)
-      ])
-
-  -- A repeat.
-  repeats_last : (slice_index body 0 == 5) ≡ true → is_repeat (kept_of h) tag (drop 1 body) ≡ true → (ids : List ℕ) (o : Outcome) → IsLast h → MayLeadAfter r (with_large w h) ids tag body o → AreShown r (with_large w h) body o ids
-      → IsLast (after (with_dropped h ids) o)
-  repeats_last type again ids o last may shown =
-      let none : ids ≡ [] = again_none r h w ids tag body o type again may shown in
-      let same = repeated r h w ids tag body o again (led_clear r (with_dropped (with_large w h) ids) tag body o type may.1) in
-      subst (λ (l : List ℕ). IsLast (after (with_dropped h l) o)) (sym none) (subst (λ (x : Outcome). IsLast (after h x)) (sym same) last)
-
-  -- A record: the answer stays one of a session.
-  still_within : (k : History) → (slice_index body 0 == 5) ≡ false → Getting k tag body → InSession k
-  still_within k type (Asks handle number is) = absurd (false≢true (sym type ∙ asks_type handle number body is))
-  still_within k type (Repeats clear again) = absurd (false≢true (sym type ∙ clear))
-  still_within k type (Seals sealed within) = within
-
-  plain_last : (ids : List ℕ) (o : Outcome) → Fetch h w tag body → IsLast h → MayLeadAfter r (with_large w h) ids tag body o → AreShown r (with_large w h) body o ids → is_plain (with_large w h) o ≡ true → IsLast (after (with_dropped h ids) o)
-  plain_last ids o fetch last may shown plain = by_how fetch.how (plain_kept r h w tag body ids o fetch may shown plain)
-    where
-      by_how : Getting h tag body → Fetch (after (with_dropped h ids) o) w tag body → IsLast (after (with_dropped h ids) o)
-      by_how (Asks handle number is) kept = got_last handle number is ids o last may shown plain
-      by_how (Repeats type again) kept = repeats_last type again ids o last may shown
-      by_how (Seals type within) kept = inl (still_within (after (with_dropped h ids) o) type kept.how)
-
 -- ---- An answer.
 
-answers_last : (r : RspSetup) (d : Dialogue) (round : Round) (answer : List ℕ) (next : History) (fetching : Option (List ℕ)) (x : List ℕ) → Answers r d round answer next fetching → fetching ≡ Some x
-    → ((v : List ℕ) → d.fetching ≡ Some v → IsLast d.responder) → ((v : List ℕ) → d.fetching ≡ Some v → Fetch d.responder v round.tag round.body) → IsLast next
-unfolding Answers
-answers_last r d round answer next fetching x (inl a) is last fetch =
-    let at : d.fetching ≡ Some x = sym a.1 ∙ is in
-    let may = subst (λ (o : Option (List ℕ)). MayLeadAfter r (judging o d.responder) a.0.0 round.tag round.body a.0.1) at a.0.2 in
-    let shown = subst (λ (o : Option (List ℕ)). AreShown r (judging o d.responder) round.body a.0.1 a.0.0) at a.0.3 in
-    let plain = subst (λ (o : Option (List ℕ)). is_plain (judging o d.responder) a.0.1 ≡ true) at a.0.4 in
-    subst IsLast (sym a.0.6) (plain_last r d.responder x round.tag round.body a.0.0 a.0.1 (fetch x at) (last x at) may shown plain)
-answers_last r d round answer next fetching x (inr (inl a)) is last fetch =
-    let e : Entry = entry_with [] a.1.1 in
-    let large : is_large e ≡ true = is_large_with [] a.1.1 ∙ a.1.3 in
-    subst IsLast (sym a.1.6) (inr (subst (λ (b : Bool). MatchBool b (begun_count (e ∷ d.responder) ≡ begun_count d.responder) (IsQuiet e × IsClearSince d.responder)) (sym large) (large_count a.1.1 d.responder)))
-answers_last r d round answer next fetching x (inr (inr a)) is last fetch = absurd (none-some x (sym a.1 ∙ is))
+clear_type : (body : List ℕ) → place_named body ≡ None → (slice_index body 0 == 5) ≡ true
+clear_type body is = by_type (slice_index body 0 == 5) is
+  where
+    by_type : (b : Bool) → cond b None (Some (id_in_record (drop 1 body))) ≡ None → b ≡ true
+    by_type true none = refl
+    by_type false none = absurd (none-some (id_in_record (drop 1 body)) (sym none))
 
-fetched_begins : (r : RspSetup) (h : History) (ids : List ℕ) (o : Option (List ℕ)) → ((v : List ℕ) → o ≡ Some v → IsLast h) → MayHaveLed r ids (judging o h) → Begins (begun_count h) (dropped_before_large ids (judging o h))
-fetched_begins r h ids None last led = same_begins (begun_count h) (dropped_before_large ids h) (count_before ids h)
-fetched_begins r h ids (Some w) last led = elim (last w refl) [
-  | inl within ↦ within_begins w ids h within
-  | inr since ↦ clear_begins r w ids h since led
-]
+-- With the last chunk of a large answer in the clear nothing else was taken there since.
+pub completes_since : (r : RspSetup) (d : Dialogue) (round : Round) (answer : List ℕ) (next : History) → IsSound d → d.round ≡ Some round → Completes r d round answer next → place_named round.body ≡ None → IsClearSince d.responder
+completes_since r d round answer next sound at a named =
+    let old = sound.fetched a.0 a.3 in
+    let same : old.0 ≡ round = same_Some old.0 round (sym old.1 ∙ at) in
+    let gets : takes_get a.2 ≡ true = (and_parts (takes_get a.2) _ a.5).0 in
+    let body : old.0.body ≡ round.body = ap (λ (x : Round). x.body) same in
+    elim old.2.stands [
+      | inl version ↦ absurd (version_apart r (judging d.fetching round.body d.responder) round.tag round.body a.2 (sym body ∙ version.1) a.4 gets)
+      | inr fetch ↦ stays_clear d.responder old.0.tag old.0.body (ap (λ (l : List ℕ). slice_index l 0 == 5) body ∙ clear_type round.body named) fetch.1.how
+    ]
 
-answers_begin : (r : RspSetup) (d : Dialogue) (round : Round) (answer : List ℕ) (next : History) (fetching : Option (List ℕ)) → Answers r d round answer next fetching → ((v : List ℕ) → d.fetching ≡ Some v → IsLast d.responder)
-    → Begins (begun_count d.responder) next
+answers_begin : (r : RspSetup) (d : Dialogue) (round : Round) (answer : List ℕ) (next : History) (fetching : Option (List ℕ)) → IsSound d → d.round ≡ Some round → Answers r d round answer next fetching → Begins (begun_count d.responder) next
 unfolding Answers
-answers_begin r d round answer next fetching (inl a) last =
-    subst (Begins (begun_count d.responder)) (sym a.0.6) (plain_begins r (with_dropped (judging d.fetching d.responder) a.0.0) d.responder a.0.0 round.tag round.body a.0.1 a.0.2.1)
-answers_begin r d round answer next fetching (inr (inl a)) last = subst (Begins (begun_count d.responder)) (sym a.1.6) (large_begins a.1.1 d.responder)
-answers_begin r d round answer next fetching (inr (inr a)) last =
-    let gets : takes_get a.0.1 ≡ true = (and_parts (takes_get a.0.1) _ a.0.3).0 in
-    subst (Begins (begun_count d.responder)) (sym a.0.6)
-    (get_begins (begun_count d.responder) a.0.1 (dropped_before_large a.0.0 (judging d.fetching d.responder)) gets (fetched_begins r d.responder a.0.0 d.fetching last a.0.4))
+answers_begin r d round answer next fetching sound at (inl a) =
+    subst (Begins (begun_count d.responder)) (sym a.0.6) (plain_begins r (with_dropped (judging d.fetching round.body d.responder) a.0.0) d.responder a.0.0 round.tag round.body a.0.1 a.0.2.1)
+answers_begin r d round answer next fetching sound at (inr (inl a)) = subst (Begins (begun_count d.responder)) (sym a.1.6) (large_begins a.1.1 d.responder)
+answers_begin r d round answer next fetching sound at (inr (inr (inl a))) = same_begins (begun_count d.responder) next (ap begun_count a.1.4)
+answers_begin r d round answer next fetching sound at (inr (inr (inr a))) =
+    let place : Option ℕ = place_named round.body in
+    let gets : takes_get a.0.2 ≡ true = (and_parts (takes_get a.0.2) _ a.0.5).0 in
+    subst (Begins (begun_count d.responder)) (sym a.0.8)
+    (get_begins (begun_count d.responder) a.0.2 (settled place a.0.0 a.0.1 d.responder) gets
+    (settled_begins r place a.0.0 a.0.1 d.responder (completes_since r d round answer next sound at a.0) a.0.6 a.0.9))
 
 -- ---- What holds of a dialogue in a walk.
 
 pub record IsHeld (d : Dialogue) : Type 0 where
   pub sound : IsSound d
-  pub last : (v : List ℕ) → d.fetching ≡ Some v → IsLast d.responder
   pub few : FewWaiting d.requester
 
 -- What a packet makes of it.
@@ -161,7 +83,7 @@ pub record IsMoved (d next : Dialogue) : Type 0 where
   pub accepts : (id : ℕ) → accepted_between d next ≡ Some id → IsFew id
 
 new_held : (q : ReqSetup) → IsHeld (new_dialogue q)
-new_held q = record { sound = begins_sound q; last = λ v is. absurd (none-some v is); few = λ sent is. absurd (none-some sent is) }
+new_held q = record { sound = begins_sound q; few = λ sent is. absurd (none-some sent is) }
 
 none_taken : (b : Bool) (o : Option ℕ) (id : ℕ) → o ≡ None → cond b o None ≡ Some id → ⊥
 none_taken true o id none is = none-some id (sym none ∙ is)
@@ -198,7 +120,6 @@ copied_moved : (d : Dialogue) (tag : ℕ) (body : List ℕ) (next : Dialogue) �
 copied_moved d tag body next held sound c = record {
   held = record {
     sound = sound;
-    last = λ v is. subst IsLast (sym (ap (λ (x : Dialogue). x.responder) c.4)) (held.last v (sym (ap (λ (x : Dialogue). x.fetching) c.4) ∙ is));
     few = subst FewWaiting (sym (ap (λ (x : Dialogue). x.requester) c.4)) held.few;
   };
   begins = same_begins (begun_count d.responder) next.responder (ap (λ (x : Dialogue). begun_count x.responder) c.4);
@@ -211,7 +132,6 @@ begun_moved d tag body next held sound b =
     record {
       held = record {
         sound = sound;
-        last = λ v is. subst IsLast (sym (ap (λ (x : Dialogue). x.responder) b.2.3)) (held.last v (sym (ap (λ (x : Dialogue). x.fetching) b.2.3) ∙ is));
         few = subst FewWaiting (sym own) (sends_few d body b.2.0 b.2.1 held.few b.2.2);
       };
       begins = same_begins (begun_count d.responder) next.responder (ap (λ (x : Dialogue). begun_count x.responder) b.2.3);
@@ -226,15 +146,6 @@ asks_moved d More next held asks = stays_moved d next held asks
 asks_moved d (Dropped cause) next held asks = absurd asks
 
 -- ---- An answer.
-
-still_fetched : (w : Configuration) (d : Dialogue) (tag : ℕ) (answer : List ℕ) (next : Dialogue) → IsSound d → (c : Replies w d tag answer next) → is_fetching (outstanding c.4.3.0) ≡ true → (v : List ℕ) → d.fetching ≡ Some v → Fetch d.responder v c.0.tag c.0.body
-still_fetched w d tag answer next sound c gets v at =
-    let old = sound.fetched v at in
-    let same : old.0 ≡ c.0 = same_Some old.0 c.0 (sym old.1 ∙ c.1) in
-    elim old.2.stands [
-      | inl version ↦ absurd (hears_version d tag answer c.0.body c.4.3.0 old.2.sent (sound.asker c.0 c.1) old.2.waits version.0 c.4.3.1 gets)
-      | inr fetch ↦ subst (λ (x : Round). Fetch d.responder v x.tag x.body) same fetch.1
-    ]
 
 heard_accepts : (h next : requester_history.History) (id : ℕ) → (next ≡ h) ⊎ FewAccepted next → cond (nat_lt (length h) (length next)) (accepted_in next) None ≡ Some id → IsFew id
 heard_accepts h next id (inl same) is = absurd (no_longer h next id (ap length same) is)
@@ -253,12 +164,9 @@ replied_moved w d tag answer next held sound c =
     record {
       held = record {
         sound = sound;
-        last = λ v is.
-            let parts = while_parts (is_fetching (outstanding c.4.3.0)) c.4.1 v (sym (ap (λ (x : Dialogue). x.fetching) c.4.3.2) ∙ is) in
-            subst IsLast (sym its) (answers_last r d c.0 answer c.4.0 c.4.1 v c.4.2 parts.1 held.last (still_fetched w d tag answer next held.sound c parts.0));
         few = subst FewWaiting (sym own) heard.waits;
       };
-      begins = subst (Begins (begun_count d.responder)) (sym its) (answers_begin r d c.0 answer c.4.0 c.4.1 c.4.2 held.last);
+      begins = subst (Begins (begun_count d.responder)) (sym its) (answers_begin r d c.0 answer c.4.0 c.4.1 held.sound c.1 c.4.2);
       accepts = λ id is. heard_accepts d.requester c.4.3.0 id heard.takes (sym (ap (λ (h : requester_history.History). cond (nat_lt (length d.requester) (length h)) (accepted_in h) None) own) ∙ is);
     }
 

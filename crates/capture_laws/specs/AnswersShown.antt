@@ -27,7 +27,7 @@ use Rattle.spdm_grammar.specs.declared.names.error_number.TheConstants.{LARGE_RE
 use Rattle.spdm_grammar.specs.declared.names.response_code.TheConstants.{CHUNK_SEND_ACK, ERROR}
 use Rattle.spdm_machine.specs.Terms.{hash_len}
 use Rattle.world_machine.specs.CapturedAnswers.{MayLeadTo, answer_to}
-use Rattle.world_machine.specs.LargeAnswers.{entry_with, is_large}
+use Rattle.world_machine.specs.LargeAnswers.{is_large, unseen}
 use Rattle.world_machine.specs.Opening.{turn_in}
 use Rattle.world_machine.specs.Rounds.{no_draw}
 
@@ -160,4 +160,4 @@ abbrev pub LargeAreShown : Type 0
 LargeAreShown = (r : RspSetup) (h : History) (tag : ℕ) (body : List ℕ) (entry : Entry)
     → r.beat < 256 → is_large entry ≡ true → MayLeadTo r h tag body (Adds entry)
     → (other : Entry) × LeadsAt r h tag body (Adds other) (values_shown_by r h tag body (sent_by entry))
-    × (is_large other ≡ true) × (sent_by other ≡ sent_by entry) × (entry_with [] other ≡ entry_with [] entry)
+    × (is_large other ≡ true) × (sent_by other ≡ sent_by entry) × (unseen other ≡ unseen entry)

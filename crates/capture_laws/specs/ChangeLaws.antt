@@ -12,16 +12,18 @@ use Rattle.responder_machine.specs.Responder.{Outcome, after}
 use Rattle.responder_machine.specs.Responder.Outcome.{Adds}
 use Rattle.responder_machine.specs.Session.{id_in_record}
 use Rattle.responder_machine.specs.Turn.{answer_in}
+use Rattle.responder_machine.specs.Setup.{towards}
 use Rattle.spdm_machine.specs.Sessions.{id_in_exchange}
 use Rattle.capture_laws.specs.Changes.{IsChange, answered_between, asked_between, begun_between, session_in, views_in}
 use Rattle.capture_laws.specs.Walks.{Walks}
 use Rattle.capture_laws.specs.declared.change.Change.{Change}
 use Rattle.world_machine.specs.Capture.{Begins, Copies, Replies}
-use Rattle.world_machine.specs.LargeAnswers.{dropped_before_large, entry_with, is_large, takes_get, with_large}
+use Rattle.world_machine.specs.CapturedAnswers.{Completes}
+use Rattle.world_machine.specs.LargeAnswers.{is_unseen_in, place_named, seen, unseen}
 use Rattle.world_machine.specs.LargeRequests.{with_ack}
-use Rattle.world_machine.specs.Rounds.{Dialogue}
+use Rattle.world_machine.specs.Rounds.{Dialogue, Round}
 use Rattle.world_machine.specs.SessionTable.{accepted_between, accepted_in, begins}
-use Rattle.world_machine.specs.Setup.{Configuration}
+use Rattle.world_machine.specs.Setup.{Configuration, known_of}
 
 -- ---- A request.
 
@@ -81,20 +83,20 @@ WholeAnswerChanges = (d next : Dialogue) (ids : List ℕ) (o : Outcome) → next
 
 -- What LargeResponse changes, which begins no session yet.
 abbrev pub LargeAnswerChanges : Type 0
-LargeAnswerChanges = (d next : Dialogue) (entry : Entry) → next.responder ≡ entry_with [] entry ∷ d.responder
+LargeAnswerChanges = (d next : Dialogue) (entry : Entry) → next.responder ≡ unseen entry ∷ d.responder
     → (begun_between d next ≡ None) × (answered_between d next ≡ answered_by (Adds entry))
 
--- The RspSessionID of the session that the large answer under way begins, with these bytes in its place.
-abbrev pub begun_by_large : List ℕ → History → Option ℕ
-begun_by_large whole [] = None
-begun_by_large whole (entry ∷ older) = if is_large entry then begun_by (Adds (entry_with whole entry)) else begun_by_large whole older
+-- The RspSessionID of the session that the large answer under way at a place begins, with these bytes in its place.
+abbrev pub begun_by_large : Option ℕ → List ℕ → History → Option ℕ
+begun_by_large place whole [] = None
+begun_by_large place whole (entry ∷ older) = if is_unseen_in place entry then begun_by (Adds (seen whole entry)) else begun_by_large place whole older
 
 -- What the last chunk of a large answer changes, by which that is there whole.
 abbrev pub LastChunkChanges : Type 0
-LastChunkChanges = (w : Configuration) (q : ReqSetup) (older : List (List ℕ)) (d next : Dialogue) (ids whole : List ℕ) (entry : Entry)
-    → Walks w q older d → d.fetching ≡ Some whole → takes_get entry ≡ true
-    → next.responder ≡ entry ∷ dropped_before_large ids (with_large whole d.responder)
-    → (begun_between d next ≡ begun_by_large whole d.responder) × (answered_between d next ≡ answered_by (Adds entry))
+LastChunkChanges = (w : Configuration) (q : ReqSetup) (older : List (List ℕ)) (d next : Dialogue) (round : Round) (answer : List ℕ)
+    → Walks w q older d → d.round ≡ Some round
+    → (c : Completes (towards w.responder (known_of d.setup)) d round answer next.responder)
+    → (begun_between d next ≡ begun_by_large (place_named round.body) c.0 d.responder) × (answered_between d next ≡ answered_by (Adds c.2))
 
 -- ---- The requester's side of an answer.
 

@@ -69,7 +69,7 @@ IsShownAnswer r h tag body answer =
 -- shows. The heartbeat period is a byte.
 abbrev pub PlainIsShown : Type 0
 PlainIsShown = (r : RspSetup) (d : Dialogue) (round : Round) (answer : List ℕ) (next : History) → r.beat < 256
-    → let h = judging d.fetching d.responder in
+    → let h = judging d.fetching round.body d.responder in
     AnswersPlainly r d round answer next
     ↔ (IsShownAnswer r h round.tag round.body answer
     × (next ≡ after (with_dropped d.responder (drops_shown_by r h round.tag round.body answer)) (outcome_shown r h round.tag round.body answer)))

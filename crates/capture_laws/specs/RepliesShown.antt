@@ -16,9 +16,9 @@ use Rattle.responder_machine.specs.Setup.{RspSetup, towards}
 use Rattle.capture_laws.specs.DropsShown.{IsShownAnswer, drops_shown_by, outcome_shown}
 use Rattle.capture_laws.specs.Keeping.{Keeps, Kept, RepliesKept, kept_of, restored}
 use Rattle.world_machine.specs.Capture.{IsBody}
-use Rattle.world_machine.specs.CapturedAnswers.{AnswersLarge, Completes, Hears}
-use Rattle.world_machine.specs.LargeAnswers.{while_fetched}
-use Rattle.world_machine.specs.Rounds.{Dialogue, Round, no_draw}
+use Rattle.world_machine.specs.CapturedAnswers.{AnswersLarge, Hears}
+use Rattle.world_machine.specs.LargeAnswers.{is_fetching}
+use Rattle.world_machine.specs.Rounds.{Round, no_draw}
 use Rattle.world_machine.specs.Setup.{Configuration, known_of}
 
 -- The responder towards the requester of which this is kept.
@@ -57,32 +57,28 @@ replied w k tag round answer = kept_of (record (restored k) {
   round = Some (answered round);
 })
 
--- An answer that may be given by what it shows; nothing else is left to be found.
+-- An answer that may be given by what it shows, and upon which the requester asks for no chunk; nothing else is left to
+-- be found.
 abbrev pub PlainlyKept : Configuration → Kept → Gathered → Kept → Type 0
 PlainlyKept w k (Whole route answer) next =
     IsBody answer × (route.owner ≡ false)
     × ((round : Round) × AnswersRound k route.tag round
     × IsShownAnswer (responder_for w k) k.responder round.tag round.body answer
+    × (is_fetching (requester_history.outstanding (heard_from k route.tag answer)) ≡ false)
     × (next ≡ replied w k route.tag round answer))
 PlainlyKept w k More next = next ≡ k
 PlainlyKept w k (Dropped cause) next = ⊥
 
--- ---- Any other.
+-- ---- LargeResponse.
 
--- A LargeResponse, or the last chunk of a large answer, behind which none is fetched.
-abbrev pub AnswersOtherwise : RspSetup → Dialogue → Round → List ℕ → History → Option (List ℕ) → Type 0
-AnswersOtherwise r d round answer next fetching =
-    ((whole : List ℕ) × AnswersLarge r d round answer next whole × (fetching ≡ Some whole))
-    ⊎ (Completes r d round answer next × (fetching ≡ None))
-
--- What such an answer makes of what is kept.
+-- What LargeResponse makes of what is kept, where the requester asks for no chunk upon it.
 abbrev pub LargelyKept : Configuration → Kept → Gathered → Kept → Type 0
 LargelyKept w k (Whole route answer) next =
     IsBody answer × (route.owner ≡ false)
     × ((round : Round) × AnswersRound k route.tag round
-    × ((h : History) × (fetching : Option (List ℕ)) × AnswersOtherwise (responder_for w k) (restored k) round answer h fetching
+    × ((h : History) × (whole : List ℕ) × AnswersLarge (responder_for w k) (restored k) round answer h whole
     × ((g : requester_history.History) × Hears (restored k) route.tag answer g
-    × (while_fetched g fetching ≡ None)
+    × (is_fetching (requester_history.outstanding g) ≡ false)
     × (next ≡ kept_of (record (restored k) { requester = g; responder = h; round = Some (answered round) })))))
 LargelyKept w k _ next = ⊥
 

@@ -6,9 +6,8 @@ use Rattle.mctp_framing.specs.Gathering.Gathered.{Whole}
 use Rattle.requester_machine.specs.History.{outstanding}
 use Rattle.requester_machine.specs.May.{IsSetUp}
 use Rattle.requester_machine.specs.Setup.{ReqSetup}
-use Rattle.responder_machine.specs.Responder.{after}
 use Rattle.capture_laws.specs.Keeping.{Keeps, Kept, RepliesKept, kept_of, restored}
-use Rattle.capture_laws.specs.LargeShown.{IsShownLarge, IsShownLast, begun_large, large_shown, last_shown}
+use Rattle.capture_laws.specs.LargeShown.{IsShownLarge, begun_large, large_shown}
 use Rattle.capture_laws.specs.RepliesShown.{AnswersRound, PlainlyKept, answered, heard_from, responder_for}
 use Rattle.world_machine.specs.Capture.{IsBody}
 use Rattle.world_machine.specs.LargeAnswers.{is_fetching}
@@ -35,30 +34,11 @@ UnfetchedKept w k (Whole route answer) next =
     × (next ≡ begun w k route.tag round answer))
 UnfetchedKept w k _ next = ⊥
 
--- ---- A last chunk where none is fetched.
-
--- What is kept behind it.
-abbrev pub ended : Configuration → Kept → ℕ → Round → (answer : List ℕ) → Kept
-ended w k tag round answer = kept_of (record (restored k) {
-  requester = heard_from k tag answer;
-  responder = after k.responder (last_shown (responder_for w k) k.responder round.tag round.body answer);
-  round = Some (answered round);
-})
-
--- It may be given by what it shows.
-abbrev pub LastKept : Configuration → Kept → Gathered → Kept → Type 0
-LastKept w k (Whole route answer) next =
-    IsBody answer × (route.owner ≡ false)
-    × ((round : Round) × AnswersRound k route.tag round
-    × IsShownLast (responder_for w k) k.responder round.tag round.body answer
-    × (next ≡ ended w k route.tag round answer))
-LastKept w k _ next = ⊥
-
 -- ---- The law.
 
 -- A packet for the requester goes on from what is kept, with no large answer fetched behind it, exactly where it does so
--- in one of these ways. The heartbeat period is a byte.
+-- in one of these two ways. The heartbeat period is a byte.
 abbrev pub RepliesAreTold : Type 0
 RepliesAreTold = (w : Configuration) (q : ReqSetup) (older : List (List ℕ)) (k next : Kept) (g : Gathered)
     → w.responder.beat < 256 → IsSetUp k.setup → Keeps w q older k
-    → RepliesKept w k g next ↔ (PlainlyKept w k g next ⊎ (UnfetchedKept w k g next ⊎ LastKept w k g next))
+    → RepliesKept w k g next ↔ (PlainlyKept w k g next ⊎ UnfetchedKept w k g next)

@@ -7,7 +7,7 @@ ghost use Rattle.capture_laws.specs.Awaits.{MoreConforms};
 ghost use Rattle.capture_laws.specs.DropsShown.{PlainIsShown};
 ghost use Rattle.capture_laws.specs.Going.{AsksGoOn, GoesOnFromEach, RepliesGoOn};
 ghost use Rattle.capture_laws.specs.Keeping.{AsksAreKept, ConnectsAlways, KeptAsks, KeptBegins, KeptIsRestored, KeptReplies, KeptStays, RepliesAreKept};
-ghost use Rattle.capture_laws.specs.LargeShown.{LargeIsShown, LastIsShown};
+ghost use Rattle.capture_laws.specs.LargeShown.{LargeIsShown};
 ghost use Rattle.capture_laws.specs.Laws.{OneRound, OrderIsAlone, OrderIsReason, OrderRefuses, OrderTells, SealedTells};
 ghost use Rattle.capture_laws.specs.Padding.{OwedIsPadded, PaddingIsFree};
 ghost use Rattle.capture_laws.specs.ReasonsEach.{AnsweredReasonIsEach, AskedReasonIsEach};
@@ -160,11 +160,6 @@ pub fn replies_are_shown()
 /// Which answers begin a large answer is told from what they show.
 pub fn large_is_shown()
     ensures { LargeIsShown }
-{}
-
-/// A last chunk is told from what it shows, where no large answer is fetched.
-pub fn last_is_shown()
-    ensures { LastIsShown }
 {}
 
 /// What is kept behind any answer, with no large answer fetched behind it, is a function of what it

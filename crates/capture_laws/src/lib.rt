@@ -31,10 +31,9 @@ pub use laws::{
     asks_are_kept, asks_go_on, clear_is_shown, conforms_is_each, connects_always,
     goes_on_from_each, kept_asks, kept_begins, kept_is_restored, kept_replies, kept_stays,
     kept_tells_apart, kept_tells_reason, kept_tells_why, large_are_shown, large_is_shown,
-    last_is_shown, leads_is_each, more_conforms, one_round, one_verdict, order_is_alone,
-    order_is_reason, order_refuses, order_tells, owed_is_padded, padding_is_free, plain_is_shown,
-    replies_are_kept, replies_are_shown, replies_are_told, replies_go_on, sealed_is_shown,
-    sealed_tells,
+    leads_is_each, more_conforms, one_round, one_verdict, order_is_alone, order_is_reason,
+    order_refuses, order_tells, owed_is_padded, padding_is_free, plain_is_shown, replies_are_kept,
+    replies_are_shown, replies_are_told, replies_go_on, sealed_is_shown, sealed_tells,
 };
 pub use order::Order;
 pub use pair::Pair;

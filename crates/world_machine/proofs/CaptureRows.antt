@@ -95,7 +95,7 @@ first_capture_conforms = (
     ),
     (
       _,
-      (refl, refl, (_, refl, refl, lit< tt, (_, _, inl (([], _, (tt, (answered 0, record { least = lit≤ tt; most = lit≤ tt; unused = λ _. refl; context = lit≤ tt; exchange_opaque = lit≤ tt; nonce = refl; measured_opaque = lit≤ tt; handle = lit< tt; reply = lit≤ tt; pad = lit≤ tt }, lit≤ tt, refl)), tt, refl, refl, refl), refl), (_, (_, (asked, record { least = lit≤ tt; most = lit≤ tt; unused = λ _. refl; context = lit≤ tt; opaque = lit≤ tt; exchange = lit≤ tt; pad = lit≤ tt }, refl), refl), refl)))),
+      (refl, refl, (_, refl, refl, lit< tt, (_, _, inl (([], _, (tt, (answered 0, record { least = lit≤ tt; most = lit≤ tt; unused = λ _. refl; context = lit≤ tt; exchange_opaque = lit≤ tt; nonce = refl; measured_opaque = lit≤ tt; handle = lit< tt; reply = lit≤ tt; pad = lit≤ tt }, lit≤ tt, refl)), tt, refl, refl, refl), refl), (_, (_, (asked, record { least = lit≤ tt; most = lit≤ tt; unused = λ _. refl; context = lit≤ tt; opaque = lit≤ tt; exchange = lit≤ tt; pad = lit≤ tt }, refl), refl), refl, refl)))),
       refl,
     ),
   ),
@@ -183,7 +183,7 @@ after_2 = (
     ),
     (
       _,
-      (refl, refl, (_, refl, refl, lit< tt, (_, _, inl (([], _, (tt, (answered 0, record { least = lit≤ tt; most = lit≤ tt; unused = λ _. refl; context = lit≤ tt; exchange_opaque = lit≤ tt; nonce = refl; measured_opaque = lit≤ tt; handle = lit< tt; reply = lit≤ tt; pad = lit≤ tt }, lit≤ tt, refl)), tt, refl, refl, refl), refl), (_, (_, (asked, record { least = lit≤ tt; most = lit≤ tt; unused = λ _. refl; context = lit≤ tt; opaque = lit≤ tt; exchange = lit≤ tt; pad = lit≤ tt }, refl), refl), refl)))),
+      (refl, refl, (_, refl, refl, lit< tt, (_, _, inl (([], _, (tt, (answered 0, record { least = lit≤ tt; most = lit≤ tt; unused = λ _. refl; context = lit≤ tt; exchange_opaque = lit≤ tt; nonce = refl; measured_opaque = lit≤ tt; handle = lit< tt; reply = lit≤ tt; pad = lit≤ tt }, lit≤ tt, refl)), tt, refl, refl, refl), refl), (_, (_, (asked, record { least = lit≤ tt; most = lit≤ tt; unused = λ _. refl; context = lit≤ tt; opaque = lit≤ tt; exchange = lit≤ tt; pad = lit≤ tt }, refl), refl), refl, refl)))),
       refl,
     ),
   ),
@@ -213,7 +213,7 @@ after_4 = (
     ),
     (
       _,
-      (refl, refl, (_, refl, refl, lit< tt, (_, _, inl (([], _, (tt, (answered 0, record { least = lit≤ tt; most = lit≤ tt; unused = λ _. refl; context = lit≤ tt; exchange_opaque = lit≤ tt; nonce = refl; measured_opaque = lit≤ tt; handle = lit< tt; reply = lit≤ tt; pad = lit≤ tt }, lit≤ tt, refl)), tt, refl, refl, refl), refl), (_, (_, (asked, record { least = lit≤ tt; most = lit≤ tt; unused = λ _. refl; context = lit≤ tt; opaque = lit≤ tt; exchange = lit≤ tt; pad = lit≤ tt }, refl), refl), refl)))),
+      (refl, refl, (_, refl, refl, lit< tt, (_, _, inl (([], _, (tt, (answered 0, record { least = lit≤ tt; most = lit≤ tt; unused = λ _. refl; context = lit≤ tt; exchange_opaque = lit≤ tt; nonce = refl; measured_opaque = lit≤ tt; handle = lit< tt; reply = lit≤ tt; pad = lit≤ tt }, lit≤ tt, refl)), tt, refl, refl, refl), refl), (_, (_, (asked, record { least = lit≤ tt; most = lit≤ tt; unused = λ _. refl; context = lit≤ tt; opaque = lit≤ tt; exchange = lit≤ tt; pad = lit≤ tt }, refl), refl), refl, refl)))),
       refl,
     ),
   ),
@@ -243,7 +243,7 @@ after_6 = (
     ),
     (
       _,
-      (refl, refl, (_, refl, refl, lit< tt, (_, _, inl (([], _, (tt, (answered 0, record { least = lit≤ tt; most = lit≤ tt; unused = λ _. refl; context = lit≤ tt; exchange_opaque = lit≤ tt; nonce = refl; measured_opaque = lit≤ tt; handle = lit< tt; reply = lit≤ tt; pad = lit≤ tt }, lit≤ tt, refl)), tt, refl, refl, refl), refl), (_, refl, refl)))),
+      (refl, refl, (_, refl, refl, lit< tt, (_, _, inl (([], _, (tt, (answered 0, record { least = lit≤ tt; most = lit≤ tt; unused = λ _. refl; context = lit≤ tt; exchange_opaque = lit≤ tt; nonce = refl; measured_opaque = lit≤ tt; handle = lit< tt; reply = lit≤ tt; pad = lit≤ tt }, lit≤ tt, refl)), tt, refl, refl, refl), refl), (_, refl, refl, refl)))),
       refl,
     ),
   ),
@@ -273,7 +273,7 @@ after_8 = (
     ),
     (
       _,
-      (refl, refl, (_, refl, refl, lit< tt, (_, _, inr (inl (algorithms, ([], _, (tt, (answered 0, record { least = lit≤ tt; most = lit≤ tt; unused = λ _. refl; context = lit≤ tt; exchange_opaque = lit≤ tt; nonce = refl; measured_opaque = lit≤ tt; handle = lit< tt; reply = lit≤ tt; pad = lit≤ tt }, lit≤ tt, refl)), refl, (refl, refl, lit≤ tt), refl, refl), refl)), (_, (_, (asked, record { least = lit≤ tt; most = lit≤ tt; unused = λ _. refl; context = lit≤ tt; opaque = lit≤ tt; exchange = lit≤ tt; pad = lit≤ tt }, refl), refl), refl)))),
+      (refl, refl, (_, refl, refl, lit< tt, (_, _, inr (inl (algorithms, ([], _, (tt, (answered 0, record { least = lit≤ tt; most = lit≤ tt; unused = λ _. refl; context = lit≤ tt; exchange_opaque = lit≤ tt; nonce = refl; measured_opaque = lit≤ tt; handle = lit< tt; reply = lit≤ tt; pad = lit≤ tt }, lit≤ tt, refl)), refl, (refl, refl, lit≤ tt), refl, refl), refl)), (_, (_, (asked, record { least = lit≤ tt; most = lit≤ tt; unused = λ _. refl; context = lit≤ tt; opaque = lit≤ tt; exchange = lit≤ tt; pad = lit≤ tt }, refl), refl), refl, refl)))),
       refl,
     ),
   ),
@@ -303,7 +303,7 @@ after_10 = (
     ),
     (
       _,
-      (refl, refl, (_, refl, refl, lit< tt, (_, _, inl (([], _, (tt, (answered 0, record { least = lit≤ tt; most = lit≤ tt; unused = λ _. refl; context = lit≤ tt; exchange_opaque = lit≤ tt; nonce = refl; measured_opaque = lit≤ tt; handle = lit< tt; reply = lit≤ tt; pad = lit≤ tt }, lit≤ tt, refl)), tt, refl, refl, refl), refl), (_, (_, (asked, record { least = lit≤ tt; most = lit≤ tt; unused = λ _. refl; context = lit≤ tt; opaque = lit≤ tt; exchange = lit≤ tt; pad = lit≤ tt }, refl), refl), refl)))),
+      (refl, refl, (_, refl, refl, lit< tt, (_, _, inl (([], _, (tt, (answered 0, record { least = lit≤ tt; most = lit≤ tt; unused = λ _. refl; context = lit≤ tt; exchange_opaque = lit≤ tt; nonce = refl; measured_opaque = lit≤ tt; handle = lit< tt; reply = lit≤ tt; pad = lit≤ tt }, lit≤ tt, refl)), tt, refl, refl, refl), refl), (_, (_, (asked, record { least = lit≤ tt; most = lit≤ tt; unused = λ _. refl; context = lit≤ tt; opaque = lit≤ tt; exchange = lit≤ tt; pad = lit≤ tt }, refl), refl), refl, refl)))),
       refl,
     ),
   ),
@@ -333,7 +333,7 @@ after_12 = (
     ),
     (
       _,
-      (refl, refl, (_, refl, refl, lit< tt, (_, _, inr (inr (([], _, (answered 0, record { least = lit≤ tt; most = lit≤ tt; unused = λ _. refl; context = lit≤ tt; exchange_opaque = lit≤ tt; nonce = refl; measured_opaque = lit≤ tt; handle = lit< tt; reply = lit≤ tt; pad = lit≤ tt }, lit≤ tt, refl), refl, ((tt, (answered 0, record { least = lit≤ tt; most = lit≤ tt; unused = λ _. refl; context = lit≤ tt; exchange_opaque = lit≤ tt; nonce = refl; measured_opaque = lit≤ tt; handle = lit< tt; reply = lit≤ tt; pad = lit≤ tt }, lit≤ tt, refl)), tt), refl, refl), refl)), (_, (_, (asked, record { least = lit≤ tt; most = lit≤ tt; unused = λ _. refl; context = lit≤ tt; opaque = lit≤ tt; exchange = lit≤ tt; pad = lit≤ tt }, refl), refl), refl)))),
+      (refl, refl, (_, refl, refl, lit< tt, (_, _, inr (inr (inr ((_, [], _, refl, (answered 0, record { least = lit≤ tt; most = lit≤ tt; unused = λ _. refl; context = lit≤ tt; exchange_opaque = lit≤ tt; nonce = refl; measured_opaque = lit≤ tt; handle = lit< tt; reply = lit≤ tt; pad = lit≤ tt }, lit≤ tt, refl), refl, ((tt, (answered 0, record { least = lit≤ tt; most = lit≤ tt; unused = λ _. refl; context = lit≤ tt; exchange_opaque = lit≤ tt; nonce = refl; measured_opaque = lit≤ tt; handle = lit< tt; reply = lit≤ tt; pad = lit≤ tt }, lit≤ tt, refl)), tt), refl, refl, refl), refl))), (_, (_, (asked, record { least = lit≤ tt; most = lit≤ tt; unused = λ _. refl; context = lit≤ tt; opaque = lit≤ tt; exchange = lit≤ tt; pad = lit≤ tt }, refl), refl), refl, refl)))),
       refl,
     ),
   ),
@@ -385,13 +385,13 @@ after_copied = (
           ),
           (
             _,
-            (refl, refl, (_, refl, refl, lit< tt, (_, _, inl (([], _, (tt, (answered 0, record { least = lit≤ tt; most = lit≤ tt; unused = λ _. refl; context = lit≤ tt; exchange_opaque = lit≤ tt; nonce = refl; measured_opaque = lit≤ tt; handle = lit< tt; reply = lit≤ tt; pad = lit≤ tt }, lit≤ tt, refl)), tt, refl, refl, refl), refl), (_, (_, (asked, record { least = lit≤ tt; most = lit≤ tt; unused = λ _. refl; context = lit≤ tt; opaque = lit≤ tt; exchange = lit≤ tt; pad = lit≤ tt }, refl), refl), refl)))),
+            (refl, refl, (_, refl, refl, lit< tt, (_, _, inl (([], _, (tt, (answered 0, record { least = lit≤ tt; most = lit≤ tt; unused = λ _. refl; context = lit≤ tt; exchange_opaque = lit≤ tt; nonce = refl; measured_opaque = lit≤ tt; handle = lit< tt; reply = lit≤ tt; pad = lit≤ tt }, lit≤ tt, refl)), tt, refl, refl, refl), refl), (_, (_, (asked, record { least = lit≤ tt; most = lit≤ tt; unused = λ _. refl; context = lit≤ tt; opaque = lit≤ tt; exchange = lit≤ tt; pad = lit≤ tt }, refl), refl), refl, refl)))),
             refl,
           ),
         ),
         (
           _,
-          (refl, refl, (_, refl, refl, lit< tt, (_, _, inl (([], _, (tt, (answered 0, record { least = lit≤ tt; most = lit≤ tt; unused = λ _. refl; context = lit≤ tt; exchange_opaque = lit≤ tt; nonce = refl; measured_opaque = lit≤ tt; handle = lit< tt; reply = lit≤ tt; pad = lit≤ tt }, lit≤ tt, refl)), tt, refl, refl, refl), refl), (_, (_, (asked, record { least = lit≤ tt; most = lit≤ tt; unused = λ _. refl; context = lit≤ tt; opaque = lit≤ tt; exchange = lit≤ tt; pad = lit≤ tt }, refl), refl), refl)))),
+          (refl, refl, (_, refl, refl, lit< tt, (_, _, inl (([], _, (tt, (answered 0, record { least = lit≤ tt; most = lit≤ tt; unused = λ _. refl; context = lit≤ tt; exchange_opaque = lit≤ tt; nonce = refl; measured_opaque = lit≤ tt; handle = lit< tt; reply = lit≤ tt; pad = lit≤ tt }, lit≤ tt, refl)), tt, refl, refl, refl), refl), (_, (_, (asked, record { least = lit≤ tt; most = lit≤ tt; unused = λ _. refl; context = lit≤ tt; opaque = lit≤ tt; exchange = lit≤ tt; pad = lit≤ tt }, refl), refl), refl, refl)))),
           refl,
         ),
       ),
@@ -403,7 +403,7 @@ after_copied = (
     ),
     (
       _,
-      (refl, refl, (_, refl, refl, lit< tt, (_, _, inl (([], _, (tt, (answered 0, record { least = lit≤ tt; most = lit≤ tt; unused = λ _. refl; context = lit≤ tt; exchange_opaque = lit≤ tt; nonce = refl; measured_opaque = lit≤ tt; handle = lit< tt; reply = lit≤ tt; pad = lit≤ tt }, lit≤ tt, refl)), tt, refl, refl, refl), refl), (_, (_, (asked, record { least = lit≤ tt; most = lit≤ tt; unused = λ _. refl; context = lit≤ tt; opaque = lit≤ tt; exchange = lit≤ tt; pad = lit≤ tt }, refl), refl), refl)))),
+      (refl, refl, (_, refl, refl, lit< tt, (_, _, inl (([], _, (tt, (answered 0, record { least = lit≤ tt; most = lit≤ tt; unused = λ _. refl; context = lit≤ tt; exchange_opaque = lit≤ tt; nonce = refl; measured_opaque = lit≤ tt; handle = lit< tt; reply = lit≤ tt; pad = lit≤ tt }, lit≤ tt, refl)), tt, refl, refl, refl), refl), (_, (_, (asked, record { least = lit≤ tt; most = lit≤ tt; unused = λ _. refl; context = lit≤ tt; opaque = lit≤ tt; exchange = lit≤ tt; pad = lit≤ tt }, refl), refl), refl, refl)))),
       refl,
     ),
   ),
@@ -442,7 +442,7 @@ after_anew = (
         ),
         (
           _,
-          (refl, refl, (_, refl, refl, lit< tt, (_, _, inl (([], _, (tt, (answered 0, record { least = lit≤ tt; most = lit≤ tt; unused = λ _. refl; context = lit≤ tt; exchange_opaque = lit≤ tt; nonce = refl; measured_opaque = lit≤ tt; handle = lit< tt; reply = lit≤ tt; pad = lit≤ tt }, lit≤ tt, refl)), tt, refl, refl, refl), refl), (_, (_, (asked, record { least = lit≤ tt; most = lit≤ tt; unused = λ _. refl; context = lit≤ tt; opaque = lit≤ tt; exchange = lit≤ tt; pad = lit≤ tt }, refl), refl), refl)))),
+          (refl, refl, (_, refl, refl, lit< tt, (_, _, inl (([], _, (tt, (answered 0, record { least = lit≤ tt; most = lit≤ tt; unused = λ _. refl; context = lit≤ tt; exchange_opaque = lit≤ tt; nonce = refl; measured_opaque = lit≤ tt; handle = lit< tt; reply = lit≤ tt; pad = lit≤ tt }, lit≤ tt, refl)), tt, refl, refl, refl), refl), (_, (_, (asked, record { least = lit≤ tt; most = lit≤ tt; unused = λ _. refl; context = lit≤ tt; opaque = lit≤ tt; exchange = lit≤ tt; pad = lit≤ tt }, refl), refl), refl, refl)))),
           refl,
         ),
       ),
@@ -454,7 +454,7 @@ after_anew = (
     ),
     (
       _,
-      (refl, refl, (_, refl, refl, lit< tt, (_, _, inl (([], _, (tt, (answered 0, record { least = lit≤ tt; most = lit≤ tt; unused = λ _. refl; context = lit≤ tt; exchange_opaque = lit≤ tt; nonce = refl; measured_opaque = lit≤ tt; handle = lit< tt; reply = lit≤ tt; pad = lit≤ tt }, lit≤ tt, refl)), tt, refl, refl, refl), refl), (_, (_, (asked, record { least = lit≤ tt; most = lit≤ tt; unused = λ _. refl; context = lit≤ tt; opaque = lit≤ tt; exchange = lit≤ tt; pad = lit≤ tt }, refl), refl), refl)))),
+      (refl, refl, (_, refl, refl, lit< tt, (_, _, inl (([], _, (tt, (answered 0, record { least = lit≤ tt; most = lit≤ tt; unused = λ _. refl; context = lit≤ tt; exchange_opaque = lit≤ tt; nonce = refl; measured_opaque = lit≤ tt; handle = lit< tt; reply = lit≤ tt; pad = lit≤ tt }, lit≤ tt, refl)), tt, refl, refl, refl), refl), (_, (_, (asked, record { least = lit≤ tt; most = lit≤ tt; unused = λ _. refl; context = lit≤ tt; opaque = lit≤ tt; exchange = lit≤ tt; pad = lit≤ tt }, refl), refl), refl, refl)))),
       refl,
     ),
   ),
@@ -542,7 +542,7 @@ after_other_answer = (
         ),
         (
           _,
-          (refl, refl, (_, refl, refl, lit< tt, (_, _, inr (inl (other, ([], _, (tt, (answered 0, record { least = lit≤ tt; most = lit≤ tt; unused = λ _. refl; context = lit≤ tt; exchange_opaque = lit≤ tt; nonce = refl; measured_opaque = lit≤ tt; handle = lit< tt; reply = lit≤ tt; pad = lit≤ tt }, lit≤ tt, refl)), refl, (refl, refl, lit≤ tt), refl, refl), refl)), (_, (_, (asked, record { least = lit≤ tt; most = lit≤ tt; unused = λ _. refl; context = lit≤ tt; opaque = lit≤ tt; exchange = lit≤ tt; pad = lit≤ tt }, refl), refl), refl)))),
+          (refl, refl, (_, refl, refl, lit< tt, (_, _, inr (inl (other, ([], _, (tt, (answered 0, record { least = lit≤ tt; most = lit≤ tt; unused = λ _. refl; context = lit≤ tt; exchange_opaque = lit≤ tt; nonce = refl; measured_opaque = lit≤ tt; handle = lit< tt; reply = lit≤ tt; pad = lit≤ tt }, lit≤ tt, refl)), refl, (refl, refl, lit≤ tt), refl, refl), refl)), (_, (_, (asked, record { least = lit≤ tt; most = lit≤ tt; unused = λ _. refl; context = lit≤ tt; opaque = lit≤ tt; exchange = lit≤ tt; pad = lit≤ tt }, refl), refl), refl, refl)))),
           refl,
         ),
       ),
@@ -554,7 +554,7 @@ after_other_answer = (
     ),
     (
       _,
-      (refl, refl, (_, refl, refl, lit< tt, (_, _, inl (([], _, (tt, (answered 0, record { least = lit≤ tt; most = lit≤ tt; unused = λ _. refl; context = lit≤ tt; exchange_opaque = lit≤ tt; nonce = refl; measured_opaque = lit≤ tt; handle = lit< tt; reply = lit≤ tt; pad = lit≤ tt }, lit≤ tt, refl)), tt, refl, refl, refl), refl), (_, (_, (asked, record { least = lit≤ tt; most = lit≤ tt; unused = λ _. refl; context = lit≤ tt; opaque = lit≤ tt; exchange = lit≤ tt; pad = lit≤ tt }, refl), refl), refl)))),
+      (refl, refl, (_, refl, refl, lit< tt, (_, _, inl (([], _, (tt, (answered 0, record { least = lit≤ tt; most = lit≤ tt; unused = λ _. refl; context = lit≤ tt; exchange_opaque = lit≤ tt; nonce = refl; measured_opaque = lit≤ tt; handle = lit< tt; reply = lit≤ tt; pad = lit≤ tt }, lit≤ tt, refl)), tt, refl, refl, refl), refl), (_, (_, (asked, record { least = lit≤ tt; most = lit≤ tt; unused = λ _. refl; context = lit≤ tt; opaque = lit≤ tt; exchange = lit≤ tt; pad = lit≤ tt }, refl), refl), refl, refl)))),
       refl,
     ),
   ),

@@ -38,10 +38,10 @@ use Rattle.world_machine.proofs.TurnsAlike.{chunk_is}
 
 -- What a body is while a large answer is fetched: GET_VERSION or CHUNK_GET in the clear; a repeat of a clear request; or
 -- a record, and the large answer is one of a session.
-pub data Asking (h : History) (tag : ℕ) (body : List ℕ) : Type 0 where
-  Always : (slice_index body 0 == 5) ≡ true → ReadsAlways (drop 1 body) → Asking h tag body
-  Again : (slice_index body 0 == 5) ≡ true → is_repeat (kept_of h) tag (drop 1 body) ≡ true → Asking h tag body
-  Within : (slice_index body 0 == 5) ≡ false → InSession h → Asking h tag body
+pub data Asking (h : History) (place : Option ℕ) (tag : ℕ) (body : List ℕ) : Type 0 where
+  Always : (slice_index body 0 == 5) ≡ true → ReadsAlways (drop 1 body) → Asking h place tag body
+  Again : (slice_index body 0 == 5) ≡ true → is_repeat (kept_of h) tag (drop 1 body) ≡ true → Asking h place tag body
+  Within : (slice_index body 0 == 5) ≡ false → InSession place h → Asking h place tag body
 
 -- ---- A message takes effect as its own code.
 
@@ -77,9 +77,9 @@ clear_shows r h g tag body f o id reads is = elim (clear_form r g tag (drop 1 bo
   | inr adds ↦ ap (shows r h body id) adds ∙ not_exchange _ _ (λ takes_it. reads.no_exchange (turn_code r (clear_place g) (drop 1 body) f PSK_EXCHANGE refl reads.no_chunk takes_it))
 ]
 
-pub repeated : (r : RspSetup) (h : History) (w ids : List ℕ) (tag : ℕ) (body : List ℕ) (o : Outcome) → is_repeat (kept_of h) tag (drop 1 body) ≡ true → ClearLed r (with_dropped (with_large w h) ids) tag body o
+pub repeated : (r : RspSetup) (h : History) (place : Option ℕ) (w ids : List ℕ) (tag : ℕ) (body : List ℕ) (o : Outcome) → is_repeat (kept_of h) tag (drop 1 body) ≡ true → ClearLed r (with_dropped (with_large place w h) ids) tag body o
     → o ≡ Same (clear_body (kept_reply (kept_of h)))
-repeated r h w ids tag body o again led = sym led.leads ∙ repeat_same r h w ids tag (drop 1 body) led.free again
+repeated r h place w ids tag body o again led = sym led.leads ∙ repeat_same r h place w ids tag (drop 1 body) led.free again
 
 -- Nothing that is shown was dropped.
 pub always_none : (r : RspSetup) (h : History) (ids : List ℕ) (tag : ℕ) (body : List ℕ) (o : Outcome) → (slice_index body 0 == 5) ≡ true → ReadsAlways (drop 1 body) → MayLeadAfter r h ids tag body o → AreShown r h body o ids → ids ≡ []
@@ -87,11 +87,11 @@ always_none r h ids tag body o type reads may shown =
     let a = led_clear r (with_dropped h ids) tag body o type may.1 in
     none_shown r h body o ids (λ id. clear_shows r h (with_dropped h ids) tag body a.free o id reads a.leads) shown
 
-pub again_none : (r : RspSetup) (h : History) (w ids : List ℕ) (tag : ℕ) (body : List ℕ) (o : Outcome) → (slice_index body 0 == 5) ≡ true → is_repeat (kept_of h) tag (drop 1 body) ≡ true
-    → MayLeadAfter r (with_large w h) ids tag body o → AreShown r (with_large w h) body o ids → ids ≡ []
-again_none r h w ids tag body o type again may shown =
-    let a = led_clear r (with_dropped (with_large w h) ids) tag body o type may.1 in
-    none_shown r (with_large w h) body o ids (λ id. ap (shows r (with_large w h) body id) (repeated r h w ids tag body o again a)) shown
+pub again_none : (r : RspSetup) (h : History) (place : Option ℕ) (w ids : List ℕ) (tag : ℕ) (body : List ℕ) (o : Outcome) → (slice_index body 0 == 5) ≡ true → is_repeat (kept_of h) tag (drop 1 body) ≡ true
+    → MayLeadAfter r (with_large place w h) ids tag body o → AreShown r (with_large place w h) body o ids → ids ≡ []
+again_none r h place w ids tag body o type again may shown =
+    let a = led_clear r (with_dropped (with_large place w h) ids) tag body o type may.1 in
+    none_shown r (with_large place w h) body o ids (λ id. ap (shows r (with_large place w h) body id) (repeated r h place w ids tag body o again a)) shown
 
 -- ---- In a session.
 
@@ -107,90 +107,90 @@ form_alike r h g tag sealed o a (inr (inl none)) =
 
 -- ---- Both.
 
-module _ (r : RspSetup) (h : History) (w v : List ℕ) (tag : ℕ) (body : List ℕ) where
-  clear_told : (ids others : List ℕ) (o q : Outcome) → ReadsAlways (drop 1 body) → ClearLed r (with_dropped (with_large w h) ids) tag body o → ClearLed r (with_dropped (with_large v h) others) tag body q
+module _ (r : RspSetup) (h : History) (place : Option ℕ) (w v : List ℕ) (tag : ℕ) (body : List ℕ) where
+  clear_told : (ids others : List ℕ) (o q : Outcome) → ReadsAlways (drop 1 body) → ClearLed r (with_dropped (with_large place w h) ids) tag body o → ClearLed r (with_dropped (with_large place v h) others) tag body q
       → body_of o ≡ body_of q → OutcomesAlike o q
   clear_told ids others o q reads one two same =
       let P : Outcome → Type 0 = λ x. OutcomesAlike x q in
-      let Q : Outcome → Type 0 = λ x. OutcomesAlike (on_clear r (with_dropped (with_large w h) ids) tag (drop 1 body) one.free no_draw) x in
-      subst P one.leads (subst Q two.leads (always_told r h w v ids others tag (drop 1 body) one.free two.free reads (ap body_of one.leads ∙ same ∙ sym (ap body_of two.leads))))
+      let Q : Outcome → Type 0 = λ x. OutcomesAlike (on_clear r (with_dropped (with_large place w h) ids) tag (drop 1 body) one.free no_draw) x in
+      subst P one.leads (subst Q two.leads (always_told r h place w v ids others tag (drop 1 body) one.free two.free reads (ap body_of one.leads ∙ same ∙ sym (ap body_of two.leads))))
 
-  both_repeated : (ids others : List ℕ) (o q : Outcome) → is_repeat (kept_of h) tag (drop 1 body) ≡ true → ClearLed r (with_dropped (with_large w h) ids) tag body o → ClearLed r (with_dropped (with_large v h) others) tag body q
+  both_repeated : (ids others : List ℕ) (o q : Outcome) → is_repeat (kept_of h) tag (drop 1 body) ≡ true → ClearLed r (with_dropped (with_large place w h) ids) tag body o → ClearLed r (with_dropped (with_large place v h) others) tag body q
       → OutcomesAlike o q
   both_repeated ids others o q again one two =
       let k : List ℕ = clear_body (kept_reply (kept_of h)) in
       let P : Outcome → Type 0 = λ x. OutcomesAlike x q in
       let Q : Outcome → Type 0 = λ x. OutcomesAlike (Same k) x in
-      subst P (sym (repeated r h w ids tag body o again one)) (subst Q (sym (repeated r h v others tag body q again two)) refl)
+      subst P (sym (repeated r h place w ids tag body o again one)) (subst Q (sym (repeated r h place v others tag body q again two)) refl)
 
-  record_told : (o q : Outcome) → InSession h → RecordLed r (with_large w h) tag body o → RecordLed r (with_large v h) tag body q → body_of o ≡ body_of q → OutcomesAlike o q
+  record_told : (o q : Outcome) → InSession place h → RecordLed r (with_large place w h) tag body o → RecordLed r (with_large place v h) tag body q → body_of o ≡ body_of q → OutcomesAlike o q
   record_told o q within one two same =
       let P : Outcome → Type 0 = λ x. OutcomesAlike x q in
-      let Q : Outcome → Type 0 = λ x. OutcomesAlike (on_record r (with_large w h) tag (drop 1 body) one.free no_draw) x in
-      subst P one.leads (subst Q two.leads (record_fetched r h w v tag (drop 1 body) one.free two.free one.few two.few within (one.short, two.short) (ap body_of one.leads ∙ same ∙ sym (ap body_of two.leads))))
+      let Q : Outcome → Type 0 = λ x. OutcomesAlike (on_record r (with_large place w h) tag (drop 1 body) one.free no_draw) x in
+      subst P one.leads (subst Q two.leads (record_fetched r h place w v tag (drop 1 body) one.free two.free one.few two.few within (one.short, two.short) (ap body_of one.leads ∙ same ∙ sym (ap body_of two.leads))))
 
-  record_plain : (ids others : List ℕ) (o q : Outcome) → InSession h → MayDrop (with_large w h) ids → MayDrop (with_large v h) others
-      → RecordLed r (with_dropped (with_large w h) ids) tag body o → RecordLed r (with_dropped (with_large v h) others) tag body q
-      → AreShown r (with_large w h) body o ids → AreShown r (with_large v h) body q others → body_of o ≡ body_of q → (ids ≡ others) × OutcomesAlike o q
+  record_plain : (ids others : List ℕ) (o q : Outcome) → InSession place h → MayDrop (with_large place w h) ids → MayDrop (with_large place v h) others
+      → RecordLed r (with_dropped (with_large place w h) ids) tag body o → RecordLed r (with_dropped (with_large place v h) others) tag body q
+      → AreShown r (with_large place w h) body o ids → AreShown r (with_large place v h) body q others → body_of o ≡ body_of q → (ids ≡ others) × OutcomesAlike o q
   record_plain [] [] o q within may might one two shown show same = (refl, record_told o q within one two same)
   record_plain (id ∷ []) (other ∷ []) o q within may might one two shown show same =
-      let a = record_shown r (with_large w h) (Dropped id ∷ with_large w h) tag body id o (form_of r (Dropped id ∷ with_large w h) tag body o one) shown in
-      let b = record_shown r (with_large v h) (Dropped other ∷ with_large v h) tag body other q (form_of r (Dropped other ∷ with_large v h) tag body q two) show in
+      let a = record_shown r (with_large place w h) (Dropped id ∷ with_large place w h) tag body id o (form_of r (Dropped id ∷ with_large place w h) tag body o one) shown in
+      let b = record_shown r (with_large place v h) (Dropped other ∷ with_large place v h) tag body other q (form_of r (Dropped other ∷ with_large place v h) tag body q two) show in
       (ap (λ (n : ℕ). n ∷ []) (sym a.1 ∙ b.1), unopened_alike o q _ _ a.0.1 b.0.1 same)
   record_plain [] (id ∷ []) o q within may might one two shown show same =
-      let form = form_alike r (with_large w h) (with_large v h) tag (drop 1 body) o (sessions_fetched (id_in_record (drop 1 body)) w v h within) (form_of r (with_large w h) tag body o one) in
-      absurd (no_record_drop r (with_large v h) (Dropped id ∷ with_large v h) tag body id o q might form (form_of r (Dropped id ∷ with_large v h) tag body q two) show same)
+      let form = form_alike r (with_large place w h) (with_large place v h) tag (drop 1 body) o (sessions_fetched (id_in_record (drop 1 body)) place w v h within) (form_of r (with_large place w h) tag body o one) in
+      absurd (no_record_drop r (with_large place v h) (Dropped id ∷ with_large place v h) tag body id o q might form (form_of r (Dropped id ∷ with_large place v h) tag body q two) show same)
   record_plain (id ∷ []) [] o q within may might one two shown show same =
-      let form = form_alike r (with_large v h) (with_large w h) tag (drop 1 body) q (sessions_fetched (id_in_record (drop 1 body)) v w h within) (form_of r (with_large v h) tag body q two) in
-      absurd (no_record_drop r (with_large w h) (Dropped id ∷ with_large w h) tag body id q o may form (form_of r (Dropped id ∷ with_large w h) tag body o one) shown (sym same))
+      let form = form_alike r (with_large place v h) (with_large place w h) tag (drop 1 body) q (sessions_fetched (id_in_record (drop 1 body)) place v w h within) (form_of r (with_large place v h) tag body q two) in
+      absurd (no_record_drop r (with_large place w h) (Dropped id ∷ with_large place w h) tag body id q o may form (form_of r (Dropped id ∷ with_large place w h) tag body o one) shown (sym same))
   record_plain (id ∷ x ∷ xs) others o q within may might one two shown show same = absurd shown
   record_plain ids (id ∷ x ∷ xs) o q within may might one two shown show same = absurd show
 
   -- Which sessions were dropped, and what the answer led to.
-  pub plain_fetched : (ids others : List ℕ) (o q : Outcome) → Asking h tag body → MayLeadAfter r (with_large w h) ids tag body o → MayLeadAfter r (with_large v h) others tag body q
-      → AreShown r (with_large w h) body o ids → AreShown r (with_large v h) body q others → body_of o ≡ body_of q → (ids ≡ others) × OutcomesAlike o q
+  pub plain_fetched : (ids others : List ℕ) (o q : Outcome) → Asking h place tag body → MayLeadAfter r (with_large place w h) ids tag body o → MayLeadAfter r (with_large place v h) others tag body q
+      → AreShown r (with_large place w h) body o ids → AreShown r (with_large place v h) body q others → body_of o ≡ body_of q → (ids ≡ others) × OutcomesAlike o q
   plain_fetched ids others o q (Always type reads) one two shown show same =
-      let a = led_clear r (with_dropped (with_large w h) ids) tag body o type one.1 in
-      let b = led_clear r (with_dropped (with_large v h) others) tag body q type two.1 in (
-        always_none r (with_large w h) ids tag body o type reads one shown ∙ sym (always_none r (with_large v h) others tag body q type reads two show),
+      let a = led_clear r (with_dropped (with_large place w h) ids) tag body o type one.1 in
+      let b = led_clear r (with_dropped (with_large place v h) others) tag body q type two.1 in (
+        always_none r (with_large place w h) ids tag body o type reads one shown ∙ sym (always_none r (with_large place v h) others tag body q type reads two show),
         clear_told ids others o q reads a b same,
       )
   plain_fetched ids others o q (Again type again) one two shown show same =
-      let a = led_clear r (with_dropped (with_large w h) ids) tag body o type one.1 in
-      let b = led_clear r (with_dropped (with_large v h) others) tag body q type two.1 in (
-        again_none r h w ids tag body o type again one shown ∙ sym (again_none r h v others tag body q type again two show),
+      let a = led_clear r (with_dropped (with_large place w h) ids) tag body o type one.1 in
+      let b = led_clear r (with_dropped (with_large place v h) others) tag body q type two.1 in (
+        again_none r h place w ids tag body o type again one shown ∙ sym (again_none r h place v others tag body q type again two show),
         both_repeated ids others o q again a b,
       )
   plain_fetched ids others o q (Within type within) one two shown show same =
-      record_plain ids others o q within one.0 two.0 (led_record r (with_dropped (with_large w h) ids) tag body o type one.1) (led_record r (with_dropped (with_large v h) others) tag body q type two.1) shown show same
+      record_plain ids others o q within one.0 two.0 (led_record r (with_dropped (with_large place w h) ids) tag body o type one.1) (led_record r (with_dropped (with_large place v h) others) tag body q type two.1) shown show same
 
   -- Two entries.
-  pub adds_fetched : (ids others : List ℕ) (e f : Entry) → Asking h tag body → MayLeadAfter r (with_large w h) ids tag body (Adds e) → MayLeadAfter r (with_large v h) others tag body (Adds f) → sent_by e ≡ sent_by f → EntriesAlike e f
+  pub adds_fetched : (ids others : List ℕ) (e f : Entry) → Asking h place tag body → MayLeadAfter r (with_large place w h) ids tag body (Adds e) → MayLeadAfter r (with_large place v h) others tag body (Adds f) → sent_by e ≡ sent_by f → EntriesAlike e f
   adds_fetched ids others e f (Always type reads) one two same =
-      clear_told ids others (Adds e) (Adds f) reads (led_clear r (with_dropped (with_large w h) ids) tag body (Adds e) type one.1) (led_clear r (with_dropped (with_large v h) others) tag body (Adds f) type two.1) same
+      clear_told ids others (Adds e) (Adds f) reads (led_clear r (with_dropped (with_large place w h) ids) tag body (Adds e) type one.1) (led_clear r (with_dropped (with_large place v h) others) tag body (Adds f) type two.1) same
   adds_fetched ids others e f (Again type again) one two same =
-      both_repeated ids others (Adds e) (Adds f) again (led_clear r (with_dropped (with_large w h) ids) tag body (Adds e) type one.1) (led_clear r (with_dropped (with_large v h) others) tag body (Adds f) type two.1)
+      both_repeated ids others (Adds e) (Adds f) again (led_clear r (with_dropped (with_large place w h) ids) tag body (Adds e) type one.1) (led_clear r (with_dropped (with_large place v h) others) tag body (Adds f) type two.1)
   adds_fetched ids others e f (Within type within) one two same =
-      record_told (Adds e) (Adds f) within (adds_here r (with_large w h) ids tag body e (led_record r (with_dropped (with_large w h) ids) tag body (Adds e) type one.1))
-      (adds_here r (with_large v h) others tag body f (led_record r (with_dropped (with_large v h) others) tag body (Adds f) type two.1)) same
+      record_told (Adds e) (Adds f) within (adds_here r (with_large place w h) ids tag body e (led_record r (with_dropped (with_large place w h) ids) tag body (Adds e) type one.1))
+      (adds_here r (with_large place v h) others tag body f (led_record r (with_dropped (with_large place v h) others) tag body (Adds f) type two.1)) same
 
-  record_apart : (ids : List ℕ) (o : Outcome) (f : Entry) → InSession h → RecordLed r (with_dropped (with_large w h) ids) tag body o → RecordLed r (with_large v h) tag body (Adds f) → AreShown r (with_large w h) body o ids
-      → is_plain (with_large w h) o ≡ true → is_large f ≡ true → body_of o ≡ sent_by f → ⊥
-  record_apart [] o f within one two shown plain large same = outcome_apart (with_large w h) o f (record_told o (Adds f) within one two same) plain large
+  record_apart : (ids : List ℕ) (o : Outcome) (f : Entry) → InSession place h → RecordLed r (with_dropped (with_large place w h) ids) tag body o → RecordLed r (with_large place v h) tag body (Adds f) → AreShown r (with_large place w h) body o ids
+      → is_plain (with_large place w h) o ≡ true → is_large f ≡ true → body_of o ≡ sent_by f → ⊥
+  record_apart [] o f within one two shown plain large same = outcome_apart (with_large place w h) o f (record_told o (Adds f) within one two same) plain large
   record_apart (id ∷ []) o f within one two shown plain large same =
-      let known = record_shown r (with_large w h) (Dropped id ∷ with_large w h) tag body id o (form_of r (Dropped id ∷ with_large w h) tag body o one) shown in
-      sealed_sent r (with_large v h) tag (drop 1 body) known.0.0 f (form_of r (with_large v h) tag body (Adds f) two) (sym (ap body_of known.0.1) ∙ same)
+      let known = record_shown r (with_large place w h) (Dropped id ∷ with_large place w h) tag body id o (form_of r (Dropped id ∷ with_large place w h) tag body o one) shown in
+      sealed_sent r (with_large place v h) tag (drop 1 body) known.0.0 f (form_of r (with_large place v h) tag body (Adds f) two) (sym (ap body_of known.0.1) ∙ same)
   record_apart (id ∷ x ∷ xs) o f within one two shown plain large same = shown
 
   -- No LargeResponse is an answer that goes whole.
-  pub large_fetched : (ids others : List ℕ) (o : Outcome) (f : Entry) → Asking h tag body → MayLeadAfter r (with_large w h) ids tag body o → MayLeadAfter r (with_large v h) others tag body (Adds f)
-      → AreShown r (with_large w h) body o ids → is_plain (with_large w h) o ≡ true → is_large f ≡ true → body_of o ≡ sent_by f → ⊥
+  pub large_fetched : (ids others : List ℕ) (o : Outcome) (f : Entry) → Asking h place tag body → MayLeadAfter r (with_large place w h) ids tag body o → MayLeadAfter r (with_large place v h) others tag body (Adds f)
+      → AreShown r (with_large place w h) body o ids → is_plain (with_large place w h) o ≡ true → is_large f ≡ true → body_of o ≡ sent_by f → ⊥
   large_fetched ids others o f (Always type reads) one two shown plain large same =
-      outcome_apart (with_large w h) o f
-      (clear_told ids others o (Adds f) reads (led_clear r (with_dropped (with_large w h) ids) tag body o type one.1) (led_clear r (with_dropped (with_large v h) others) tag body (Adds f) type two.1) same) plain large
+      outcome_apart (with_large place w h) o f
+      (clear_told ids others o (Adds f) reads (led_clear r (with_dropped (with_large place w h) ids) tag body o type one.1) (led_clear r (with_dropped (with_large place v h) others) tag body (Adds f) type two.1) same) plain large
   large_fetched ids others o f (Again type again) one two shown plain large same =
-      outcome_apart (with_large w h) o f
-      (both_repeated ids others o (Adds f) again (led_clear r (with_dropped (with_large w h) ids) tag body o type one.1) (led_clear r (with_dropped (with_large v h) others) tag body (Adds f) type two.1)) plain large
+      outcome_apart (with_large place w h) o f
+      (both_repeated ids others o (Adds f) again (led_clear r (with_dropped (with_large place w h) ids) tag body o type one.1) (led_clear r (with_dropped (with_large place v h) others) tag body (Adds f) type two.1)) plain large
   large_fetched ids others o f (Within type within) one two shown plain large same =
-      record_apart ids o f within (led_record r (with_dropped (with_large w h) ids) tag body o type one.1)
-      (adds_here r (with_large v h) others tag body f (led_record r (with_dropped (with_large v h) others) tag body (Adds f) type two.1)) shown plain large same
+      record_apart ids o f within (led_record r (with_dropped (with_large place w h) ids) tag body o type one.1)
+      (adds_here r (with_large place v h) others tag body f (led_record r (with_dropped (with_large place v h) others) tag body (Adds f) type two.1)) shown plain large same

@@ -10,8 +10,9 @@ use Rattle.responder_machine.specs.Answer.{Free}
 use Rattle.spdm_machine.specs.Bodies.{record_body}
 use Rattle.spdm_grammar.specs.declared.phase.Phase.{Phase}
 use Rattle.std.proofs.Common.{◌≡◌, ◌+◌, ◌*◌, ◌==◌, ◌||◌, ℕ, List, [], ◌∷◌, refl, sym, ap, ◌∙◌, subst, Bool, true, false, Option, Some, None, is_some, cond, length, ◌≤◌}
-use Rattle.std.specs.Prelude.{MatchBool, not, nat_le, slice_index}
+use Rattle.std.specs.Prelude.{not, nat_le, slice_index}
 use Rattle.std.proofs.lemmas.Bool.{false≢true}
+use Rattle.spdm_basis.proofs.Bools.{and_second}
 use Rattle.spdm_grammar.specs.Message.{RequestMessage}
 use Rattle.spdm_grammar.specs.Codes.{code_for}
 use Rattle.spdm_grammar.specs.declared.names.request_code.TheConstants.{GET_VERSION, PSK_EXCHANGE, PSK_FINISH, END_SESSION}
@@ -23,53 +24,50 @@ use Rattle.responder_machine.specs.Session.{Events, Event, session_of, stage_of,
 use Rattle.responder_machine.specs.Session.Event.{Began, Heard, Waited}
 use Rattle.responder_machine.specs.Turn.{Turn, Effect, takes, code_in, request_in, answer_in, handle_in}
 use Rattle.responder_machine.specs.Turn.Effect.{NoEffect, Took, TookData}
-use Rattle.world_machine.specs.LargeAnswers.{with_large, is_large, entry_with, turn_with, effect_with}
+use Rattle.world_machine.specs.LargeAnswers.{with_large, is_unseen_in, is_unseen_effect, handle_shown, seen, seen_turn, turn_with, effect_with}
+use Rattle.world_machine.proofs.UnseenStands.{StandsUnseen, UnseenStand}
 use Rattle.world_machine.proofs.EventsAlike.{EventsAlike, answered, stage_alike, answer_alike}
 use Rattle.world_machine.proofs.EventsAlike.EventsAlike.{NoEvent, Behind, Here}
 
--- ---- The large answer is one of a session.
-
-abbrev pub IsOfSession : Entry → Type 0
-IsOfSession (Sealed tag m t reply d) = takes PSK_FINISH t ≡ false
-IsOfSession _ = ⊥
-
--- The answer that went by LargeResponse last did so in a session, and is not that to PSK_FINISH.
-abbrev pub InSession : History → Type 0
-InSession [] = ⊥
-InSession (e ∷ h) = MatchBool (is_large e) (IsOfSession e) (InSession h)
+-- The large answer is one of a session.
+pub record InSession (place : Option ℕ) (h : History) : Type 0 where
+  pub id : ℕ
+  pub at : place ≡ Some id
+  pub stand : UnseenStand h
 
 -- ---- What stays as it is.
 
-code_with : (w : List ℕ) (e : Effect) → code_in (effect_with w e) ≡ code_in e
-code_with w NoEffect = refl
-code_with w (Took a m x large) = refl
-code_with w (TookData x y) = refl
+code_with : (w : List ℕ) (large : Option ℕ) (e : Effect) → code_in (effect_with w large e) ≡ code_in e
+code_with w large NoEffect = refl
+code_with w large (Took a m x handle) = refl
+code_with w large (TookData x y) = refl
 
-pub takes_with : (w : List ℕ) (code : ℕ) (t : Turn) → takes code (turn_with w t) ≡ takes code t
-takes_with w code t = ap (λ (n : ℕ). n == code) (code_with w t.effect)
+pub takes_with : (w : List ℕ) (large : Option ℕ) (code : ℕ) (t : Turn) → takes code (turn_with w large t) ≡ takes code t
+takes_with w large code t = ap (λ (n : ℕ). n == code) (code_with w large t.effect)
 
-turns_by : (w : List ℕ) (e : Entry) (h : History) (b : Bool) → MatchBool b (IsOfSession e) (InSession h) → (InSession h → clear_turns (with_large w h) ≡ clear_turns h)
-    → clear_turns (cond b (entry_with w e ∷ h) (e ∷ with_large w h)) ≡ clear_turns (e ∷ h)
-turns_by w (Sealed tag m t reply d) h true is before = refl
-turns_by w (Clear tag t d) h true is before = absurd is
-turns_by w (Queued bytes) h true is before = absurd is
-turns_by w (Ticked seconds) h true is before = absurd is
-turns_by w (Dropped id) h true is before = absurd is
-turns_by w (Clear tag t d) h false is before = ap (λ l. t ∷ l) (before is)
-turns_by w (Sealed tag m t reply d) h false is before = before is
-turns_by w (Queued bytes) h false is before = before is
-turns_by w (Ticked seconds) h false is before = before is
-turns_by w (Dropped id) h false is before = before is
+turns_by : (id : ℕ) (w : List ℕ) (e : Entry) (h : History) (b : Bool) → is_unseen_in (Some id) e ≡ b → clear_turns (with_large (Some id) w h) ≡ clear_turns h
+    → clear_turns (cond b (seen w e ∷ h) (e ∷ with_large (Some id) w h)) ≡ clear_turns (e ∷ h)
+turns_by id w (Sealed tag m t reply d) h true is before = refl
+turns_by id w (Clear tag t d) h true is before = absurd (false≢true is)
+turns_by id w (Queued bytes) h true is before = absurd (false≢true is)
+turns_by id w (Ticked seconds) h true is before = absurd (false≢true is)
+turns_by id w (Dropped which) h true is before = absurd (false≢true is)
+turns_by id w (Clear tag t d) h false is before = ap (λ l. t ∷ l) before
+turns_by id w (Sealed tag m t reply d) h false is before = before
+turns_by id w (Queued bytes) h false is before = before
+turns_by id w (Ticked seconds) h false is before = before
+turns_by id w (Dropped which) h false is before = before
 
 -- No clear turn is another.
-pub turns_fetched : (w : List ℕ) (h : History) → InSession h → clear_turns (with_large w h) ≡ clear_turns h
-turns_fetched w [] is = refl
-turns_fetched w (e ∷ h) is = turns_by w e h (is_large e) is (turns_fetched w h)
+turns_fetched : (id : ℕ) (w : List ℕ) (h : History) → clear_turns (with_large (Some id) w h) ≡ clear_turns h
+turns_fetched id w [] = refl
+turns_fetched id w (e ∷ h) = turns_by id w e h (is_unseen_in (Some id) e) refl (turns_fetched id w h)
 
-ended_entry : (w : List ℕ) (e : Entry) (h : History) → ended_of (entry_with w e ∷ h) ≡ ended_of (e ∷ h)
+ended_entry : (w : List ℕ) (e : Entry) (h : History) → ended_of (seen w e ∷ h) ≡ ended_of (e ∷ h)
 ended_entry w (Clear tag t d) h =
-    ap (λ (b : Bool). cond (b || takes PSK_EXCHANGE (turn_with w t)) None (ended_of h)) (takes_with w GET_VERSION t) ∙ ap (λ (b : Bool). cond (takes GET_VERSION t || b) None (ended_of h)) (takes_with w PSK_EXCHANGE t)
-ended_entry w (Sealed tag m t reply d) h = ap (λ (b : Bool). cond b (Some (record { sealed = m; reply = reply })) (ended_of h)) (takes_with w END_SESSION t)
+    ap (λ (b : Bool). cond (b || takes PSK_EXCHANGE (seen_turn w t)) None (ended_of h)) (takes_with w (Some (handle_shown t)) GET_VERSION t)
+    ∙ ap (λ (b : Bool). cond (takes GET_VERSION t || b) None (ended_of h)) (takes_with w (Some (handle_shown t)) PSK_EXCHANGE t)
+ended_entry w (Sealed tag m t reply d) h = ap (λ (b : Bool). cond b (Some (record { sealed = m; reply = reply })) (ended_of h)) (takes_with w (Some (handle_shown t)) END_SESSION t)
 ended_entry w (Queued bytes) h = refl
 ended_entry w (Ticked seconds) h = refl
 ended_entry w (Dropped id) h = refl
@@ -81,14 +79,14 @@ ended_behind (Queued bytes) h g same = same
 ended_behind (Ticked seconds) h g same = same
 ended_behind (Dropped id) h g same = same
 
-ended_by : (w : List ℕ) (e : Entry) (h : History) (b : Bool) → ended_of (with_large w h) ≡ ended_of h → ended_of (cond b (entry_with w e ∷ h) (e ∷ with_large w h)) ≡ ended_of (e ∷ h)
-ended_by w e h true same = ended_entry w e h
-ended_by w e h false same = ended_behind e (with_large w h) h same
+ended_by : (place : Option ℕ) (w : List ℕ) (e : Entry) (h : History) (b : Bool) → ended_of (with_large place w h) ≡ ended_of h → ended_of (cond b (seen w e ∷ h) (e ∷ with_large place w h)) ≡ ended_of (e ∷ h)
+ended_by place w e h true same = ended_entry w e h
+ended_by place w e h false same = ended_behind e (with_large place w h) h same
 
 -- The record of the ended session that is kept, and its reply.
-pub ended_fetched : (w : List ℕ) (h : History) → ended_of (with_large w h) ≡ ended_of h
-ended_fetched w [] = refl
-ended_fetched w (e ∷ h) = ended_by w e h (is_large e) (ended_fetched w h)
+pub ended_fetched : (place : Option ℕ) (w : List ℕ) (h : History) → ended_of (with_large place w h) ≡ ended_of h
+ended_fetched place w [] = refl
+ended_fetched place w (e ∷ h) = ended_by place w e h (is_unseen_in place e) (ended_fetched place w h)
 
 -- ---- Sessions.
 
@@ -111,11 +109,11 @@ live_here : (m : List ℕ) (t : Turn) (a : RequestMessage) (n : List ℕ) (large
 live_here m t a n large w v reply [] not = NoEvent
 live_here m t a n large w v reply (e ∷ s) not = Here m t a n large w v reply (e ∷ s) (e ∷ s) not (events_equal (e ∷ s))
 
-record_here : (m : List ℕ) (t : Turn) (x : Effect) (w v reply : List ℕ) (s : Events) → (code_in x == PSK_FINISH) ≡ false → is_some (handle_in x) ≡ true
-    → EventsAlike (after_record s m (record t { effect = effect_with w x }) reply) (after_record s m (record t { effect = effect_with v x }) reply)
-record_here m t NoEffect w v reply s not large = absurd (false≢true large)
-record_here m t (TookData x y) w v reply s not large = absurd (false≢true large)
-record_here m t (Took a n y large) w v reply s not is = either_events (code_for a == END_SESSION) [] [] _ _ NoEvent (live_here m t a n large w v reply s not)
+record_here : (m : List ℕ) (t : Turn) (x : Effect) (large : Option ℕ) (w v reply : List ℕ) (s : Events) → (is_unseen_effect x ≡ true → (code_in x == PSK_FINISH) ≡ false) → is_unseen_effect x ≡ true
+    → EventsAlike (after_record s m (record t { effect = effect_with w large x }) reply) (after_record s m (record t { effect = effect_with v large x }) reply)
+record_here m t NoEffect large w v reply s not is = absurd (false≢true is)
+record_here m t (TookData x y) large w v reply s not is = absurd (false≢true is)
+record_here m t (Took a n y handle) large w v reply s not is = either_events (code_for a == END_SESSION) [] [] _ _ NoEvent (live_here m t a n large w v reply s (not is))
 
 idle_alike : (s u : Events) → EventsAlike s u → idle_of s ≡ idle_of u
 idle_alike _ _ NoEvent = refl
@@ -165,24 +163,32 @@ behind id (Queued bytes) h g turns a = a
 behind id (Ticked seconds) h g turns a = tick_alike seconds (session_of id h) (session_of id g) a
 behind id (Dropped which) h g turns a = either_events (which == id) [] [] _ _ NoEvent a
 
-here : (id : ℕ) (e : Entry) (h : History) (w v : List ℕ) → is_large e ≡ true → IsOfSession e → EventsAlike (session_of id (entry_with w e ∷ h)) (session_of id (entry_with v e ∷ h))
+here : (id which : ℕ) (e : Entry) (h : History) (w v : List ℕ) → is_unseen_in (Some which) e ≡ true → StandsUnseen e → EventsAlike (session_of id (seen w e ∷ h)) (session_of id (seen v e ∷ h))
 unfolding session_of
-here id (Sealed tag m t reply d) h w v large is =
-    either_events (id_in_record m == id) _ _ (session_of id h) (session_of id h) (record_here m t t.effect w v reply (session_of id h) is large) (events_equal (session_of id h))
-here id (Clear tag t d) h w v large is = absurd is
-here id (Queued bytes) h w v large is = absurd is
-here id (Ticked seconds) h w v large is = absurd is
-here id (Dropped which) h w v large is = absurd is
+here id which (Sealed tag m t reply d) h w v is not =
+    either_events (id_in_record m == id) _ _ (session_of id h) (session_of id h) (record_here m t t.effect (Some (handle_shown t)) w v reply (session_of id h) (λ un. (not un).0) (and_second _ _ is)) (events_equal (session_of id h))
+here id which (Clear tag t d) h w v is not = absurd (false≢true is)
+here id which (Queued bytes) h w v is not = absurd (false≢true is)
+here id which (Ticked seconds) h w v is not = absurd (false≢true is)
+here id which (Dropped other) h w v is not = absurd (false≢true is)
 
-fetched_by : (id : ℕ) (e : Entry) (h : History) (w v : List ℕ) (b : Bool) → is_large e ≡ b → MatchBool b (IsOfSession e) (InSession h) → (InSession h → EventsAlike (session_of id (with_large w h)) (session_of id (with_large v h)))
-    → EventsAlike (session_of id (cond b (entry_with w e ∷ h) (e ∷ with_large w h))) (session_of id (cond b (entry_with v e ∷ h) (e ∷ with_large v h)))
-fetched_by id e h w v true large is before = here id e h w v large is
-fetched_by id e h w v false large is before = behind id e (with_large w h) (with_large v h) (turns_fetched w h is ∙ sym (turns_fetched v h is)) (before is)
+fetched_by : (id which : ℕ) (e : Entry) (h : History) (w v : List ℕ) (b : Bool) → is_unseen_in (Some which) e ≡ b → StandsUnseen e → EventsAlike (session_of id (with_large (Some which) w h)) (session_of id (with_large (Some which) v h))
+    → EventsAlike (session_of id (cond b (seen w e ∷ h) (e ∷ with_large (Some which) w h))) (session_of id (cond b (seen v e ∷ h) (e ∷ with_large (Some which) v h)))
+fetched_by id which e h w v true is not before = here id which e h w v is not
+fetched_by id which e h w v false is not before =
+    behind id e (with_large (Some which) w h) (with_large (Some which) v h) (turns_fetched which w h ∙ sym (turns_fetched which v h)) before
+
+named_fetched : (id which : ℕ) (w v : List ℕ) (h : History) → UnseenStand h → EventsAlike (session_of id (with_large (Some which) w h)) (session_of id (with_large (Some which) v h))
+named_fetched id which w v [] none = events_equal (session_of id [])
+named_fetched id which w v (e ∷ h) none = fetched_by id which e h w v (is_unseen_in (Some which) e) refl none.0 (named_fetched id which w v h none.1)
 
 -- All sessions are alike.
-pub sessions_fetched : (id : ℕ) (w v : List ℕ) (h : History) → InSession h → EventsAlike (session_of id (with_large w h)) (session_of id (with_large v h))
-sessions_fetched id w v [] is = absurd is
-sessions_fetched id w v (e ∷ h) is = fetched_by id e h w v (is_large e) refl is (sessions_fetched id w v h)
+pub sessions_fetched : (id : ℕ) (place : Option ℕ) (w v : List ℕ) (h : History) → InSession place h → EventsAlike (session_of id (with_large place w h)) (session_of id (with_large place v h))
+sessions_fetched id place w v h is = subst (λ (p : Option ℕ). EventsAlike (session_of id (with_large p w h)) (session_of id (with_large p v h))) (sym is.at) (named_fetched id is.id w v h is.stand)
+
+-- And so are the clear turns.
+turns_same : (place : Option ℕ) (w v : List ℕ) (h : History) → InSession place h → clear_turns (with_large place w h) ≡ clear_turns (with_large place v h)
+turns_same place w v h is = ap (λ (p : Option ℕ). clear_turns (with_large p w h)) is.at ∙ turns_fetched is.id w h ∙ sym (turns_fetched is.id v h) ∙ ap (λ (p : Option ℕ). clear_turns (with_large p v h)) (sym is.at)
 
 -- ---- A record.
 
@@ -197,17 +203,17 @@ record_by r tag sealed f k few less false true kept other phase s u one two a sh
 
 -- Where nothing was dropped before it, the answer to a record tells the outcome, whatever bytes stand for the large
 -- answer.
-pub record_fetched : (r : RspSetup) (h : History) (w v : List ℕ) (tag : ℕ) (sealed : List ℕ) (f k : Free) (few : length f.reply ≤ 1024) (less : length k.reply ≤ 1024) → InSession h
-    → AreShort r tag sealed f k no_draw few less (session_of (id_in_record sealed) (with_large w h)) (session_of (id_in_record sealed) (with_large v h))
-    → body_of (on_record r (with_large w h) tag sealed f no_draw) ≡ body_of (on_record r (with_large v h) tag sealed k no_draw)
-    → OutcomesAlike (on_record r (with_large w h) tag sealed f no_draw) (on_record r (with_large v h) tag sealed k no_draw)
+pub record_fetched : (r : RspSetup) (h : History) (place : Option ℕ) (w v : List ℕ) (tag : ℕ) (sealed : List ℕ) (f k : Free) (few : length f.reply ≤ 1024) (less : length k.reply ≤ 1024) → InSession place h
+    → AreShort r tag sealed f k no_draw few less (session_of (id_in_record sealed) (with_large place w h)) (session_of (id_in_record sealed) (with_large place v h))
+    → body_of (on_record r (with_large place w h) tag sealed f no_draw) ≡ body_of (on_record r (with_large place v h) tag sealed k no_draw)
+    → OutcomesAlike (on_record r (with_large place w h) tag sealed f no_draw) (on_record r (with_large place v h) tag sealed k no_draw)
 unfolding on_record
-record_fetched r h w v tag sealed f k few less is short =
-    let ended = ended_fetched w h ∙ sym (ended_fetched v h) in
-    let turns = turns_fetched w h is ∙ sym (turns_fetched v h is) in
+record_fetched r h place w v tag sealed f k few less is short =
+    let ended = ended_fetched place w h ∙ sym (ended_fetched place v h) in
+    let turns = turns_same place w v h is in
     let id : ℕ = id_in_record sealed in
-    let P : Phase → Type 0 = λ x. body_of (on_record r (with_large w h) tag sealed f no_draw) ≡ body_of (cond (repeats (ended_of (with_large v h)) sealed) (Same (record_body (kept_record (ended_of (with_large v h))))) (to_session r x (session_of id (with_large v h)) k tag sealed no_draw))
-    → OutcomesAlike (on_record r (with_large w h) tag sealed f no_draw) (cond (repeats (ended_of (with_large v h)) sealed) (Same (record_body (kept_record (ended_of (with_large v h))))) (to_session r x (session_of id (with_large v h)) k tag sealed no_draw)) in
+    let P : Phase → Type 0 = λ x. body_of (on_record r (with_large place w h) tag sealed f no_draw) ≡ body_of (cond (repeats (ended_of (with_large place v h)) sealed) (Same (record_body (kept_record (ended_of (with_large place v h))))) (to_session r x (session_of id (with_large place v h)) k tag sealed no_draw))
+    → OutcomesAlike (on_record r (with_large place w h) tag sealed f no_draw) (cond (repeats (ended_of (with_large place v h)) sealed) (Same (record_body (kept_record (ended_of (with_large place v h))))) (to_session r x (session_of id (with_large place v h)) k tag sealed no_draw)) in
     subst P (ap phase_of turns)
-    (record_by r tag sealed f k few less _ _ _ _ (phase_of (clear_turns (with_large w h))) (session_of id (with_large w h)) (session_of id (with_large v h))
-    (ap (λ o. repeats o sealed) ended) (ap (λ o. record_body (kept_record o)) ended) (sessions_fetched id w v h is) short)
+    (record_by r tag sealed f k few less _ _ _ _ (phase_of (clear_turns (with_large place w h))) (session_of id (with_large place w h)) (session_of id (with_large place v h))
+    (ap (λ o. repeats o sealed) ended) (ap (λ o. record_body (kept_record o)) ended) (sessions_fetched id place w v h is) short)

@@ -19,7 +19,7 @@ use Rattle.responder_machine.specs.Responder.Outcome.{Same, Adds}
 use Rattle.responder_machine.specs.Setup.{RspSetup}
 use Rattle.responder_machine.specs.Turn.{is_taken}
 use Rattle.responder_machine.proofs.Codes.{asked-code}
-use Rattle.world_machine.specs.LargeAnswers.{with_large, is_large, entry_with}
+use Rattle.world_machine.specs.LargeAnswers.{with_large, is_unseen_in, seen}
 use Rattle.world_machine.specs.Rounds.{no_draw}
 use Rattle.world_machine.proofs.TurnsAlike.{ReadAlike}
 use Rattle.world_machine.proofs.RepliesTell.{OutcomesAlike, clear_told}
@@ -27,7 +27,7 @@ use Rattle.world_machine.proofs.DropsTell.{kept_same}
 
 -- ---- What the bytes of a large answer leave as it is.
 
-kept_entry : (w : List ℕ) (e : Entry) (h : History) → kept_of (entry_with w e ∷ h) ≡ kept_of (e ∷ h)
+kept_entry : (w : List ℕ) (e : Entry) (h : History) → kept_of (seen w e ∷ h) ≡ kept_of (e ∷ h)
 kept_entry w (Clear tag t d) h = refl
 kept_entry w (Sealed tag m t reply d) h = refl
 kept_entry w (Queued bytes) h = refl
@@ -41,14 +41,14 @@ kept_behind (Queued bytes) h g same = same
 kept_behind (Ticked seconds) h g same = same
 kept_behind (Dropped id) h g same = same
 
-kept_by : (w : List ℕ) (e : Entry) (h : History) (b : Bool) → kept_of (with_large w h) ≡ kept_of h → kept_of (cond b (entry_with w e ∷ h) (e ∷ with_large w h)) ≡ kept_of (e ∷ h)
-kept_by w e h true same = kept_entry w e h
-kept_by w e h false same = kept_behind e (with_large w h) h same
+kept_by : (place : Option ℕ) (w : List ℕ) (e : Entry) (h : History) (b : Bool) → kept_of (with_large place w h) ≡ kept_of h → kept_of (cond b (seen w e ∷ h) (e ∷ with_large place w h)) ≡ kept_of (e ∷ h)
+kept_by place w e h true same = kept_entry w e h
+kept_by place w e h false same = kept_behind e (with_large place w h) h same
 
 -- The clear request that is kept, and its reply.
-pub kept_large : (w : List ℕ) (h : History) → kept_of (with_large w h) ≡ kept_of h
-kept_large w [] = refl
-kept_large w (e ∷ h) = kept_by w e h (is_large e) (kept_large w h)
+pub kept_large : (place : Option ℕ) (w : List ℕ) (h : History) → kept_of (with_large place w h) ≡ kept_of h
+kept_large place w [] = refl
+kept_large place w (e ∷ h) = kept_by place w e h (is_unseen_in place e) (kept_large place w h)
 
 -- ---- Requests that are read the same under any hash.
 
@@ -75,13 +75,13 @@ read_always p o m reads = record {
 -- ---- What the answer tells.
 
 -- To GET_VERSION or CHUNK_GET, whatever was dropped before it.
-pub always_told : (r : RspSetup) (h : History) (w v : List ℕ) (ids others : List ℕ) (tag : ℕ) (m : List ℕ) (f k : Free) → ReadsAlways m
-    → body_of (on_clear r (with_dropped (with_large w h) ids) tag m f no_draw) ≡ body_of (on_clear r (with_dropped (with_large v h) others) tag m k no_draw)
-    → OutcomesAlike (on_clear r (with_dropped (with_large w h) ids) tag m f no_draw) (on_clear r (with_dropped (with_large v h) others) tag m k no_draw)
-always_told r h w v ids others tag m f k reads same =
-    let one : History = with_dropped (with_large w h) ids in
-    let two : History = with_dropped (with_large v h) others in
-    clear_told r one two tag m f k no_draw (kept_same ids (with_large w h) ∙ kept_large w h ∙ sym (kept_large v h) ∙ sym (kept_same others (with_large v h)))
+pub always_told : (r : RspSetup) (h : History) (place : Option ℕ) (w v : List ℕ) (ids others : List ℕ) (tag : ℕ) (m : List ℕ) (f k : Free) → ReadsAlways m
+    → body_of (on_clear r (with_dropped (with_large place w h) ids) tag m f no_draw) ≡ body_of (on_clear r (with_dropped (with_large place v h) others) tag m k no_draw)
+    → OutcomesAlike (on_clear r (with_dropped (with_large place w h) ids) tag m f no_draw) (on_clear r (with_dropped (with_large place v h) others) tag m k no_draw)
+always_told r h place w v ids others tag m f k reads same =
+    let one : History = with_dropped (with_large place w h) ids in
+    let two : History = with_dropped (with_large place v h) others in
+    clear_told r one two tag m f k no_draw (kept_same ids (with_large place w h) ∙ kept_large place w h ∙ sym (kept_large place v h) ∙ sym (kept_same others (with_large place v h)))
     (read_always (clear_place one) (clear_place two) m reads) same
 
 same_kept : (r : RspSetup) (g : History) (tag : ℕ) (m : List ℕ) (f : Free) (o : Option Kept) → kept_of g ≡ o → is_repeat o tag m ≡ true → on_clear r g tag m f no_draw ≡ Same (clear_body (kept_reply o))
@@ -91,6 +91,6 @@ same_kept r g tag m f o is repeats =
     ∙ ap (λ (b : Bool). cond b (Same (clear_body (kept_reply o))) (Adds (Clear tag (turn_of r (clear_place g) m f) no_draw))) repeats
 
 -- To a repeat: the kept reply.
-pub repeat_same : (r : RspSetup) (h : History) (w : List ℕ) (ids : List ℕ) (tag : ℕ) (m : List ℕ) (f : Free) → is_repeat (kept_of h) tag m ≡ true
-    → on_clear r (with_dropped (with_large w h) ids) tag m f no_draw ≡ Same (clear_body (kept_reply (kept_of h)))
-repeat_same r h w ids tag m f repeats = same_kept r (with_dropped (with_large w h) ids) tag m f (kept_of h) (kept_same ids (with_large w h) ∙ kept_large w h) repeats
+pub repeat_same : (r : RspSetup) (h : History) (place : Option ℕ) (w : List ℕ) (ids : List ℕ) (tag : ℕ) (m : List ℕ) (f : Free) → is_repeat (kept_of h) tag m ≡ true
+    → on_clear r (with_dropped (with_large place w h) ids) tag m f no_draw ≡ Same (clear_body (kept_reply (kept_of h)))
+repeat_same r h place w ids tag m f repeats = same_kept r (with_dropped (with_large place w h) ids) tag m f (kept_of h) (kept_same ids (with_large place w h) ∙ kept_large place w h) repeats

@@ -1,6 +1,6 @@
 -- What holds of a dialogue while a large answer is fetched: its requester awaits a chunk or GET_VERSION, and the
 -- responder's history stands so. Each step keeps it.
-use Rattle.std.proofs.Common.{◌≡◌, ◌+◌, ◌-◌, ◌==◌, ◌⊎◌, ℕ, List, [], ◌∷◌, refl, sym, ap, ◌∙◌, subst, Bool, true, false, Option, Some, None, cond, inl, inr}
+use Rattle.std.proofs.Common.{◌≡◌, ◌+◌, ◌-◌, ◌==◌, ◌⊎◌, ℕ, List, [], ◌∷◌, refl, sym, ap, ◌∙◌, subst, drop, Bool, true, false, Option, Some, None, cond, inl, inr}
 use Rattle.std.specs.Prelude.{slice_index}
 use Rattle.std.proofs.lemmas.Bool.{false≢true}
 use Rattle.std.proofs.lemmas.Option.{none-some, same_Some}
@@ -22,12 +22,14 @@ use Rattle.requester_machine.proofs.Entries.{asked}
 use Rattle.responder_machine.specs.History.{History}
 use Rattle.responder_machine.specs.May.{with_dropped, place_for}
 use Rattle.responder_machine.specs.Place.{Place, session_place}
-use Rattle.responder_machine.specs.Session.{session_of}
+use Rattle.responder_machine.specs.Responder.{Outcome, after}
+use Rattle.responder_machine.specs.Responder.Outcome.{Same, Unopened, Adds}
+use Rattle.responder_machine.specs.Session.{session_of, id_in_record}
 use Rattle.responder_machine.specs.Setup.{RspSetup, towards}
 use Rattle.world_machine.specs.Capture.{AsksBy, RepliesBy, Copies, Begins, Replies}
-use Rattle.world_machine.specs.CapturedAnswers.{Answers, MayLeadAfter, AreShown, is_plain}
+use Rattle.world_machine.specs.CapturedAnswers.{Answers, MayLeadTo, MayLeadAfter, AreShown, is_plain}
 use Rattle.world_machine.specs.CapturedRequests.{Sends, Tells, GoesOn, without_owed}
-use Rattle.world_machine.specs.LargeAnswers.{is_for_chunk, is_fetching, judging, with_large, entry_with}
+use Rattle.world_machine.specs.LargeAnswers.{is_for_chunk, is_fetching, judging, with_large, dropped_before_large, place_named, unseen}
 use Rattle.world_machine.specs.Rounds.{Dialogue, Round, new_dialogue, new_round, no_draw}
 use Rattle.world_machine.specs.Setup.{Configuration, known_of}
 use Rattle.world_machine.proofs.AskersAim.{Asker, IsAt, IsOf, IsSpelled, sends_asker}
@@ -35,12 +37,14 @@ use Rattle.world_machine.proofs.AimsHeard.{hears_asker, hears_version, some_fetc
 use Rattle.world_machine.proofs.AskersStep.{connect_body}
 use Rattle.world_machine.proofs.AskTells.{sent_by_kind}
 use Rattle.world_machine.proofs.ChunksGiven.{Chunked}
-use Rattle.world_machine.proofs.FetchStates.{Fetch, Getting, asks_type, plain_kept, large_begins}
+use Rattle.world_machine.proofs.FetchStates.{Fetch, Getting, asks_type, plain_kept}
 use Rattle.world_machine.proofs.FetchStates.Getting.{Asks, Repeats, Seals}
-use Rattle.world_machine.proofs.FetchedSessions.{InSession as WithinSession}
+use Rattle.world_machine.proofs.FetchBegins.{large_leaves, again_begins, large_begins}
 use Rattle.world_machine.proofs.FetchedTold.{Stands}
-use Rattle.world_machine.proofs.PlacesServed.{place_type}
+use Rattle.world_machine.proofs.PlacesServed.{place_type, named_clear, named_session}
+use Rattle.world_machine.proofs.SeenAnswers.{led_stands}
 use Rattle.world_machine.proofs.SentFacts.{large_free}
+use Rattle.world_machine.proofs.UnseenStands.{IsClearSince, UnseenStand, dropped_stand, given_stand, before_stand}
 
 -- The last request is GET_VERSION, in place of what was asked; or the requester awaits a chunk, and the responder's
 -- history stands so.
@@ -58,10 +62,11 @@ stands_of h k w tag body fetched = by_stands fetched.stands
 
 pub record IsSound (d : Dialogue) : Type 0 where
   pub asker : (round : Round) → d.round ≡ Some round → Asker d.requester round.body
+  pub unseen : UnseenStand d.responder
   pub fetched : (w : List ℕ) → d.fetching ≡ Some w → (round : Round) × (d.round ≡ Some round) × Fetched d.requester d.responder w round.tag round.body
 
 pub begins_sound : (q : ReqSetup) → IsSound (new_dialogue q)
-begins_sound q = record { asker = λ round is. absurd (none-some round is); fetched = λ w is. absurd (none-some w is) }
+begins_sound q = record { asker = λ round is. absurd (none-some round is); unseen = tt; fetched = λ w is. absurd (none-some w is) }
 
 -- ---- A request.
 
@@ -72,20 +77,33 @@ same_session : (h : requester_history.History) (k : History) (one other : List �
 same_session h k one other id is are =
     place_type k one false is.sealed ∙ ap (λ (n : ℕ). session_place (session_of n k)) (is.named ∙ sym are.named) ∙ sym (place_type k other false are.sealed)
 
-stays_within : (k : History) (tag : ℕ) (body : List ℕ) → (slice_index body 0 == 5) ≡ false → Getting k tag body → WithinSession k
-stays_within k tag body type (Asks handle number is) = absurd (false≢true (sym type ∙ asks_type handle number body is))
-stays_within k tag body type (Repeats clear again) = absurd (false≢true (sym type ∙ clear))
+stays_within : (k : History) (tag : ℕ) (body : List ℕ) → (slice_index body 0 == 5) ≡ false → Getting k tag body → UnseenStand k
+stays_within k tag body type (Asks handle number is since) = absurd (false≢true (sym type ∙ asks_type handle number body is))
+stays_within k tag body type (Repeats clear again since) = absurd (false≢true (sym type ∙ clear))
 stays_within k tag body type (Seals sealed within) = within
+
+stays_clear : (k : History) (tag : ℕ) (body : List ℕ) → (slice_index body 0 == 5) ≡ true → Getting k tag body → IsClearSince k
+stays_clear k tag body type (Asks handle number is since) = since
+stays_clear k tag body type (Repeats clear again since) = since
+stays_clear k tag body type (Seals sealed stand) = absurd (false≢true (sym sealed ∙ type))
+
+same_named : (k : History) (w : List ℕ) (one other : List ℕ) (place : Option ℕ) → place_named one ≡ place → place_named other ≡ place → ((h : History) → place_for h one ≡ place_for h other)
+    → Chunked (place_for (with_large (place_named one) w k) one) (place_named one) w k → Chunked (place_for (with_large (place_named other) w k) other) (place_named other) w k
+same_named k w one other place named names same chunked =
+    subst (λ (o : Option ℕ). Chunked (place_for (with_large o w k) other) o w k) (named ∙ sym names)
+    (subst (λ (p : Place). Chunked p (place_named one) w k) (same (with_large (place_named one) w k)) chunked)
 
 -- The next chunk is asked for.
 goes_fetch : (h : requester_history.History) (k : History) (w : List ℕ) (old tag : ℕ) (last body : List ℕ) (aim : Aim) → is_for_chunk aim ≡ true → IsAt h body aim → IsAt h last aim → IsSpelled aim body → Fetch k w old last → Fetch k w tag body
 goes_fetch h k w old tag last body (ForChunk asked handle number before) gets own here spelled fetch = record {
-  how = Asks handle number spelled;
-  chunked = subst (λ (p : Place). Chunked p w k) (same_clear (with_large w k) last body here own) fetch.chunked;
+  how = Asks handle number spelled (stays_clear k old last here fetch.how);
+  chunked = same_named k w last body None (named_clear last here) (named_clear body own) (λ g. same_clear g last body here own) fetch.chunked;
 }
 goes_fetch h k w old tag last body (InSession id (AskChunk op handle number before)) gets own here spelled fetch = record {
   how = Seals own.sealed (stays_within k old last here.sealed fetch.how);
-  chunked = subst (λ (p : Place). Chunked p w k) (same_session h (with_large w k) last body id here own) fetch.chunked;
+  chunked =
+      same_named k w last body (Some (id_in_record (drop 1 body))) (named_session last here.sealed ∙ ap Some (here.named ∙ sym own.named)) (named_session body own.sealed)
+      (λ g. same_session h g last body id here own) fetch.chunked;
 }
 goes_fetch h k w old tag last body (Plain asked) gets own here spelled fetch = absurd (false≢true gets)
 goes_fetch h k w old tag last body (ByChunks asked handle number) gets own here spelled fetch = absurd (false≢true gets)
@@ -153,6 +171,7 @@ copies_sound d tag body next sound c =
     let rd : Round = record c.0 { waiting = c.0.waiting + 1 } in
     subst IsSound (sym c.4) (record {
       asker = λ round is. subst (λ (x : Round). Asker d.requester x.body) (same_Some rd round is) (sound.asker c.0 c.1);
+      unseen = sound.unseen;
       fetched = λ w is.
           let old = sound.fetched w is in
           (rd, refl, subst (λ (x : Round). Fetched d.requester d.responder w x.tag x.body) (same_Some old.0 c.0 (sym old.1 ∙ c.1)) old.2);
@@ -162,6 +181,7 @@ begun_sound : (d : Dialogue) (tag : ℕ) (body : List ℕ) (next : Dialogue) →
 begun_sound d tag body next sound b =
     subst IsSound (sym b.2.3) (record {
       asker = λ round is. subst (λ (x : Round). Asker b.2.0 x.body) (same_Some (new_round tag body) round is) (sends_asker d body b.2.0 b.2.1 sound.asker b.2.2);
+      unseen = sound.unseen;
       fetched = λ w is.
           let old = sound.fetched w is in
           (new_round tag body, refl, sends_fetched d w old.0 tag body b.2.0 b.2.1 (sound.asker old.0 old.1) old.2 b.2.2);
@@ -174,22 +194,45 @@ asks_sound d (Dropped cause) next sound asks = absurd asks
 
 -- ---- An answer.
 
+-- The requests behind it whose large answer was not seen.
+after_stands : (r : RspSetup) (k h : History) (tag : ℕ) (body : List ℕ) (o : Outcome) → MayLeadTo r k tag body o → UnseenStand h → UnseenStand (after h o)
+after_stands r k h tag body (Same b) may stand = stand
+after_stands r k h tag body (Unopened b) may stand = stand
+after_stands r k h tag body (Adds e) may stand = (led_stands r k tag body e may, stand)
+
+answers_unseen : (r : RspSetup) (d : Dialogue) (round : Round) (answer : List ℕ) (next : History) (fetching : Option (List ℕ)) → Answers r d round answer next fetching → UnseenStand d.responder → UnseenStand next
+unfolding Answers
+answers_unseen r d round answer next fetching (inl a) stand =
+    subst UnseenStand (sym a.0.6) (after_stands r (with_dropped (judging d.fetching round.body d.responder) a.0.0) (with_dropped d.responder a.0.0) round.tag round.body a.0.1 a.0.2.1 (dropped_stand a.0.0 d.responder stand))
+answers_unseen r d round answer next fetching (inr (inl a)) stand =
+    let leaves = large_leaves r (with_dropped (judging d.fetching round.body d.responder) a.1.0) round.tag round.body a.1.1 a.1.2.1 a.1.3 in
+    subst UnseenStand (sym a.1.6) (leaves.stands, stand)
+answers_unseen r d round answer next fetching (inr (inr (inl a))) stand = subst UnseenStand (sym a.1.4) stand
+answers_unseen r d round answer next fetching (inr (inr (inr a))) stand =
+    let place : Option ℕ = place_named round.body in
+    let k : History = judging d.fetching round.body d.responder in
+    subst UnseenStand (sym a.0.8) (led_stands r k round.tag round.body a.0.2 a.0.4, given_stand place a.0.0 (dropped_before_large place a.0.1 d.responder) (before_stand place a.0.1 d.responder stand))
+
 -- What is fetched behind it.
-answers_fetch : (r : RspSetup) (d : Dialogue) (round : Round) (answer : List ℕ) (next : History) (fetching : Option (List ℕ)) (x : List ℕ) → Answers r d round answer next fetching → fetching ≡ Some x
+answers_fetch : (r : RspSetup) (d : Dialogue) (round : Round) (answer : List ℕ) (next : History) (fetching : Option (List ℕ)) (x : List ℕ) → Answers r d round answer next fetching → fetching ≡ Some x → UnseenStand d.responder
     → ((w : List ℕ) → d.fetching ≡ Some w → Fetch d.responder w round.tag round.body) → Fetch next x round.tag round.body
 unfolding Answers
-answers_fetch r d round answer next fetching x (inl a) is old =
+answers_fetch r d round answer next fetching x (inl a) is stand old =
     let at : d.fetching ≡ Some x = sym a.1 ∙ is in
-    let may = subst (λ (o : Option (List ℕ)). MayLeadAfter r (judging o d.responder) a.0.0 round.tag round.body a.0.1) at a.0.2 in
-    let shown = subst (λ (o : Option (List ℕ)). AreShown r (judging o d.responder) round.body a.0.1 a.0.0) at a.0.3 in
-    let plain = subst (λ (o : Option (List ℕ)). is_plain (judging o d.responder) a.0.1 ≡ true) at a.0.4 in
+    let may = subst (λ (o : Option (List ℕ)). MayLeadAfter r (judging o round.body d.responder) a.0.0 round.tag round.body a.0.1) at a.0.2 in
+    let shown = subst (λ (o : Option (List ℕ)). AreShown r (judging o round.body d.responder) round.body a.0.1 a.0.0) at a.0.3 in
+    let plain = subst (λ (o : Option (List ℕ)). is_plain (judging o round.body d.responder) a.0.1 ≡ true) at a.0.4 in
     subst (λ (l : History). Fetch l x round.tag round.body) (sym a.0.6) (plain_kept r d.responder x round.tag round.body a.0.0 a.0.1 (old x at) may shown plain)
-answers_fetch r d round answer next fetching x (inr (inl a)) is old =
+answers_fetch r d round answer next fetching x (inr (inl a)) is stand old =
     let same : a.0 ≡ x = same_Some a.0 x (sym a.2 ∙ is) in
     subst (λ (l : History). Fetch l x round.tag round.body) (sym a.1.6)
-    (subst (λ (l : List ℕ). Fetch (entry_with [] a.1.1 ∷ d.responder) l round.tag round.body) same
-    (large_begins r (with_dropped (judging d.fetching d.responder) a.1.0) d.responder a.0 round.tag round.body a.1.1 a.1.2.1 a.1.3))
-answers_fetch r d round answer next fetching x (inr (inr a)) is old = absurd (none-some x (sym a.1 ∙ is))
+    (subst (λ (l : List ℕ). Fetch (unseen a.1.1 ∷ d.responder) l round.tag round.body) same
+    (large_begins r (with_dropped (judging d.fetching round.body d.responder) a.1.0) d.responder a.0 round.tag round.body a.1.1 stand a.1.2.1 a.1.3))
+answers_fetch r d round answer next fetching x (inr (inr (inl a))) is stand old =
+    let same : a.0 ≡ x = same_Some a.0 x (sym a.2 ∙ is) in
+    subst (λ (l : History). Fetch l x round.tag round.body) (sym a.1.4)
+    (subst (λ (l : List ℕ). Fetch d.responder l round.tag round.body) same (again_begins r d.responder a.0 round.tag round.body answer stand a.1.2 a.1.1))
+answers_fetch r d round answer next fetching x (inr (inr (inr a))) is stand old = absurd (none-some x (sym a.1 ∙ is))
 
 pub while_parts : (b : Bool) (fetching : Option (List ℕ)) (x : List ℕ) → cond b fetching None ≡ Some x → (b ≡ true) × (fetching ≡ Some x)
 while_parts true fetching x is = (refl, is)
@@ -203,6 +246,7 @@ replied_sound w d tag answer next sound c =
     let asker = hears_asker d tag answer rd.body g (sound.asker rd c.1) c.4.3.1 in
     subst IsSound (sym c.4.3.2) (record {
       asker = λ round is. subst (λ (x : Round). Asker g x.body) (same_Some after_round round is) asker;
+      unseen = answers_unseen (towards w.responder (known_of d.setup)) d rd answer c.4.0 c.4.1 c.4.2 sound.unseen;
       fetched = λ x is.
           let parts = while_parts (is_fetching (outstanding g)) c.4.1 x is in
           let some = some_fetched (outstanding g) parts.0 in (
@@ -211,7 +255,7 @@ replied_sound w d tag answer next sound c =
             record {
               sent = some.0;
               waits = some.1;
-              stands = inr (some.2, answers_fetch (towards w.responder (known_of d.setup)) d rd answer c.4.0 c.4.1 x c.4.2 parts.1 (λ v at. was v at parts.0));
+              stands = inr (some.2, answers_fetch (towards w.responder (known_of d.setup)) d rd answer c.4.0 c.4.1 x c.4.2 parts.1 sound.unseen (λ v at. was v at parts.0));
             },
           );
     })

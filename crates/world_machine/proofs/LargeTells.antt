@@ -1,6 +1,6 @@
 -- A LargeResponse, and the last chunk of a large answer, tell what they lead to at the responder, where no answer is
 -- being fetched.
-use Rattle.std.proofs.Common.{◌≡◌, ◌≤◌, ◌==◌, ◌⊎◌, ℕ, List, [], ◌∷◌, refl, sym, ap, ◌∙◌, subst, length, drop, Bool, true, false, cond, inl, inr, arith, eqb-true}
+use Rattle.std.proofs.Common.{◌≡◌, ◌≤◌, ◌==◌, ◌⊎◌, ℕ, List, [], ◌∷◌, refl, sym, ap, ◌∙◌, subst, length, drop, Bool, true, false, Option, cond, inl, inr, arith, eqb-true}
 use Rattle.std.specs.Prelude.{slice_index, MatchBool}
 use Rattle.std.proofs.lemmas.Bool.{false≢true, not-true}
 use Rattle.spdm_grammar.specs.declared.phase.Phase.{Phase}
@@ -20,8 +20,8 @@ use Rattle.responder_machine.specs.Responder.Outcome.{Same, Unopened, Adds}
 use Rattle.responder_machine.specs.Session.{Events, session_of, id_in_record}
 use Rattle.responder_machine.specs.Setup.{RspSetup}
 use Rattle.responder_machine.specs.Turn.{Turn, takes, answer_in}
-use Rattle.world_machine.specs.CapturedAnswers.{MayLeadTo, MayLeadAfter, AreShown, shows, is_plain, tag_in, request_in, MayHaveLed}
-use Rattle.world_machine.specs.LargeAnswers.{is_large, entry_with}
+use Rattle.world_machine.specs.CapturedAnswers.{MayLeadTo, MayLeadAfter, AreShown, shows, is_plain, tag_in, request_in, MayLeadToEntry, MayHaveLed}
+use Rattle.world_machine.specs.LargeAnswers.{is_large, unseen, is_unseen_in, seen}
 use Rattle.world_machine.specs.Rounds.{no_draw}
 use Rattle.world_machine.proofs.RepliesTell.{EntriesAlike, OutcomesAlike}
 use Rattle.world_machine.proofs.DropsTell.{RecordForm, record_shown, turns_stay, fresh_id, held_before, clear_form, no_record_drop}
@@ -85,7 +85,7 @@ adds_alike r h ids others tag body e f one two same = by_type (slice_index body 
 
 -- Two LargeResponses lead to one history.
 pub large_next : (r : RspSetup) (h : History) (ids others : List ℕ) (tag : ℕ) (body : List ℕ) (e f : Entry) → MayLeadAfter r h ids tag body (Adds e) → MayLeadAfter r h others tag body (Adds f) → sent_by e ≡ sent_by f
-    → entry_with [] e ∷ h ≡ entry_with [] f ∷ h
+    → unseen e ∷ h ≡ unseen f ∷ h
 large_next r h ids others tag body e f one two same = ap (λ x. x ∷ h) (entries_erased e f (adds_alike r h ids others tag body e f one two same)).0
 
 -- No LargeResponse is an answer that goes whole.
@@ -160,12 +160,11 @@ large_drops r h (id ∷ []) [] tag body e one shown two show = absurd (no_shown 
 large_drops r h (id ∷ x ∷ xs) others tag body e one shown two show = absurd shown
 large_drops r h ids (id ∷ x ∷ xs) tag body e one shown two show = absurd show
 
-led_by : (r : RspSetup) (ids others : List ℕ) (h : History) (e : Entry) (b : Bool) → (MayHaveLed r ids h → MayHaveLed r others h → ids ≡ others)
-    → MatchBool b (MayLeadAfter r h ids (tag_in e) (request_in e) (Adds e) × AreShown r h (request_in e) (Adds e) ids) (MayHaveLed r ids h)
-    → MatchBool b (MayLeadAfter r h others (tag_in e) (request_in e) (Adds e) × AreShown r h (request_in e) (Adds e) others) (MayHaveLed r others h) → ids ≡ others
-led_by r ids others h e true before one two = large_drops r h ids others (tag_in e) (request_in e) e one.0 one.1 two.0 two.1
-led_by r ids others h e false before one two = before one two
+led_by : (r : RspSetup) (place : Option ℕ) (whole ids others : List ℕ) (h : History) (e : Entry) (b : Bool) → (MayHaveLed r place whole ids h → MayHaveLed r place whole others h → ids ≡ others)
+    → MatchBool b (MayLeadToEntry r ids h (seen whole e)) (MayHaveLed r place whole ids h) → MatchBool b (MayLeadToEntry r others h (seen whole e)) (MayHaveLed r place whole others h) → ids ≡ others
+led_by r place whole ids others h e true before one two = large_drops r h ids others (tag_in (seen whole e)) (request_in (seen whole e)) (seen whole e) one.0 one.1 two.0 two.1
+led_by r place whole ids others h e false before one two = before one two
 
-pub led_drops : (r : RspSetup) (ids others : List ℕ) (h : History) → MayHaveLed r ids h → MayHaveLed r others h → ids ≡ others
-led_drops r ids others [] one two = absurd one
-led_drops r ids others (e ∷ h) one two = led_by r ids others h e (is_large e) (led_drops r ids others h) one two
+pub led_drops : (r : RspSetup) (place : Option ℕ) (whole ids others : List ℕ) (h : History) → MayHaveLed r place whole ids h → MayHaveLed r place whole others h → ids ≡ others
+led_drops r place whole ids others [] one two = absurd one
+led_drops r place whole ids others (e ∷ h) one two = led_by r place whole ids others h e (is_unseen_in place e) (led_drops r place whole ids others h) one two

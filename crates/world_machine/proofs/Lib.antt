@@ -31,14 +31,17 @@ pub mod FetchedTells
 pub mod EventsAlike
 pub mod FetchedRecords
 pub mod FetchedOutcomes
+pub mod UnseenStands
 pub mod FetchedSessions
 pub mod GetTells
 pub mod ChunksGiven
 pub mod RecordAdds
 pub mod PlacesServed
+pub mod SeenAnswers
 pub mod FinishSmall
 pub mod FetchedAnswers
 pub mod FetchStates
+pub mod FetchBegins
 pub mod FetchedTold
 pub mod AskersAim
 pub mod AimsHeard

@@ -14,7 +14,7 @@ use Rattle.responder_machine.specs.Responder.Outcome.{Same, Unopened, Adds}
 use Rattle.responder_machine.specs.Session.{session_of, id_in_record}
 use Rattle.responder_machine.specs.Setup.{RspSetup}
 use Rattle.world_machine.specs.CapturedAnswers.{MayLeadTo, MayLeadAfter, AreShown, is_plain, clear_answer, record_answer}
-use Rattle.world_machine.specs.LargeAnswers.{is_large, entry_with}
+use Rattle.world_machine.specs.LargeAnswers.{is_large, unseen}
 use Rattle.world_machine.specs.Rounds.{no_draw}
 use Rattle.world_machine.proofs.TurnsAlike.{turns_same, turns_large, turns_erased}
 use Rattle.world_machine.proofs.RepliesTell.{EntriesAlike, OutcomesAlike}
@@ -133,7 +133,7 @@ entries_same (Ticked seconds) f alike small = absurd alike
 entries_same (Dropped id) f alike small = absurd alike
 
 -- Any other is told but for the bytes of the answer.
-pub entries_erased : (e f : Entry) → EntriesAlike e f → (entry_with [] e ≡ entry_with [] f) × (is_large e ≡ is_large f)
+pub entries_erased : (e f : Entry) → EntriesAlike e f → (unseen e ≡ unseen f) × (is_large e ≡ is_large f)
 entries_erased (Clear tag t d) (Clear tag' u d') alike = (let a = alike.0 in let b = turns_erased t u alike.1 in let c = alike.2 in cc, turns_large t u alike.1)
 entries_erased (Sealed tag m t reply d) (Sealed tag' n u answer d') alike = (let a = alike.0 in let b = alike.1 in let c = turns_erased t u alike.2 in let x = alike.3 in let y = alike.4 in cc, turns_large t u alike.2)
 entries_erased (Clear tag t d) (Sealed tag' n u answer d') alike = absurd alike

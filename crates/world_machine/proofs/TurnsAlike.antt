@@ -57,7 +57,7 @@ effect_same (Took a m x (Some h)) (TookData y v) alike small = absurd alike
 effect_same (TookData x u) NoEffect alike small = absurd alike
 effect_same (TookData x u) (Took b n y z) alike small = absurd alike
 
-effect_erased : (d e : Effect) → EffectsAlike d e → (effect_with [] d ≡ effect_with [] e) × (is_some (handle_in d) ≡ is_some (handle_in e))
+effect_erased : (d e : Effect) → EffectsAlike d e → (effect_with [] None d ≡ effect_with [] None e) × (is_some (handle_in d) ≡ is_some (handle_in e))
 effect_erased NoEffect NoEffect a = (refl, refl)
 effect_erased (Took a m x None) (Took b n y None) alike = (let p = alike.0 in let q = alike.1 in cc, refl)
 effect_erased (Took a m x (Some h)) (Took b n y (Some k)) alike = (let p = alike.0 in let q = alike.1 in let r = alike.2 in cc, refl)
@@ -83,8 +83,8 @@ pub turns_same : (t u : Turn) → TurnsAlike t u → is_some (handle_in t.effect
 turns_same t u a small = turn_by_parts t u a.message a.refused a.chunk (effect_same t.effect u.effect a.effect small) a.reply
 
 -- Any other is told but for the bytes of the answer.
-pub turns_erased : (t u : Turn) → TurnsAlike t u → turn_with [] t ≡ turn_with [] u
-turns_erased t u a = turn_by_parts (turn_with [] t) (turn_with [] u) a.message a.refused a.chunk (effect_erased t.effect u.effect a.effect).0 a.reply
+pub turns_erased : (t u : Turn) → TurnsAlike t u → turn_with [] None t ≡ turn_with [] None u
+turns_erased t u a = turn_by_parts (turn_with [] None t) (turn_with [] None u) a.message a.refused a.chunk (effect_erased t.effect u.effect a.effect).0 a.reply
 
 pub turns_large : (t u : Turn) → TurnsAlike t u → is_some (handle_in t.effect) ≡ is_some (handle_in u.effect)
 turns_large t u a = (effect_erased t.effect u.effect a.effect).1

@@ -19,7 +19,7 @@ use Rattle.world_machine.proofs.AskersBegin.{dial}
 use Rattle.world_machine.proofs.Captures.{one_is_first}
 use Rattle.world_machine.proofs.FetchedTold.{Stands, fetched_told}
 use Rattle.world_machine.proofs.Fetching.{IsSound, begins_sound, asks_sound, replies_sound, stands_of}
-use Rattle.world_machine.proofs.RepliesAlike.{replied, replied_by, answer_moved, same_rounds}
+use Rattle.world_machine.proofs.RepliesAlike.{gets, replied, replied_by, answer_moved, same_rounds}
 use Rattle.world_machine.proofs.Walks.{IsKept, All, leads_all, one_table_by, one_reason_by}
 
 -- The dialogues are alike, and each is sound by itself.
@@ -47,7 +47,8 @@ fetched_replied w d e tag answer next other x y both is are c k =
     let theirs : Stands d.responder y c.0.tag c.0.body =
     subst (λ (h : History). Stands h y c.0.tag c.0.body) (sym a.responder) (subst (λ (z : Round). Stands e.responder y z.tag z.body) (sym one) (sound_stands e y k.0 both.other are k.1)) in
     replied_by w d e tag answer next other a c k one
-    (fetched_told r d.responder x y d.setup e.setup d.requester e.requester d.round e.round d.sending e.sending c.0 answer c.4.0 k.4.0 c.4.1 k.4.1 mine theirs (subst F is c.4.2) yours)
+    (fetched_told r d.responder x y d.setup e.setup d.requester e.requester d.round e.round d.sending e.sending c.0 answer c.4.0 k.4.0 c.4.1 k.4.1 (gets c.4.3.0)
+    mine theirs (subst F is c.4.2) yours)
 
 both_fetched : (o p : Option (List ℕ)) (x : List ℕ) → FetchesAlike o p → o ≡ Some x → (y : List ℕ) × (p ≡ Some y)
 both_fetched _ _ x NoneFetched is = absurd (none-some x is)

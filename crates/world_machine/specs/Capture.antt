@@ -12,7 +12,7 @@ use Rattle.responder_machine.specs.History.{History}
 use Rattle.spdm_machine.specs.Bodies.{clear_body}
 use Rattle.world_machine.specs.CapturedAnswers.{Answers, Hears}
 use Rattle.world_machine.specs.CapturedRequests.{Sends}
-use Rattle.world_machine.specs.LargeAnswers.{while_fetched}
+use Rattle.world_machine.specs.LargeAnswers.{while_fetched, asks_known}
 use Rattle.spdm_machine.specs.Packets.{gathered_from, body_type}
 use Rattle.world_machine.specs.Rounds.{Dialogue, Round, new_dialogue, new_round, following_tag, dialogue_at, with_dialogue}
 use Rattle.responder_machine.specs.Setup.{towards}
@@ -43,7 +43,8 @@ Begins d tag body next =
 -- ---- An answer.
 
 -- An answer has the tag of the last round, in which a request has none yet. The responder takes the oldest such
--- request and may answer it so, and the requester hears the answer.
+-- request and may answer it so, and the requester hears the answer. Where it asks for a chunk upon it, a large answer
+-- is under way.
 abbrev pub Replies : Configuration → Dialogue → ℕ → List ℕ → Dialogue → Type 0
 Replies w d tag answer next =
     (round : Round) × (d.round ≡ Some round) × (round.tag ≡ tag) × (0 < round.waiting)
@@ -54,7 +55,8 @@ Replies w d tag answer next =
       responder = h;
       fetching = while_fetched g fetching;
       round = Some (record round { waiting = round.waiting - 1; answered = true });
-    })))
+    })
+    × (asks_known g fetching ≡ true)))
 
 -- ---- Packets.
 

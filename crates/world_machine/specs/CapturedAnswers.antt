@@ -22,7 +22,7 @@ use Rattle.responder_machine.specs.Session.{Events, session_of, id_in_record, la
 use Rattle.spdm_machine.specs.Sessions.{id_in_exchange}
 use Rattle.responder_machine.specs.Setup.{RspSetup}
 use Rattle.responder_machine.specs.Turn.{takes, answer_in}
-use Rattle.world_machine.specs.LargeAnswers.{IsLargeAnswer, is_large, entry_with, dropped_before_large, place_of, judging, gives_last}
+use Rattle.world_machine.specs.LargeAnswers.{IsLargeAnswer, is_large, unseen, is_unseen_in, seen, place_named, with_large, dropped_before_large, begun_with, is_untouched, repeats_large, place_of, place_again, judging, gives_last}
 use Rattle.world_machine.specs.LargeRequests.{with_ack}
 use Rattle.world_machine.specs.Rounds.{Dialogue, Round, no_draw}
 use Rattle.spdm_grammar.specs.declared.names.request_code.TheConstants.{PSK_EXCHANGE}
@@ -87,7 +87,7 @@ AreShown r h body outcome (id ∷ other ∷ others) = ⊥
 
 -- ---- The responder's side of an answer.
 
--- The outcome brings no LargeResponse and no last chunk of a large answer.
+-- The outcome brings no new LargeResponse and no last chunk of a large answer.
 abbrev pub is_plain : History → Outcome → Bool
 is_plain h (Same reply) = true
 is_plain h (Unopened reply) = true
@@ -97,9 +97,9 @@ is_plain h (Adds entry) = not (is_large entry) && not (gives_last h entry)
 abbrev pub AnswersPlainly : RspSetup → Dialogue → Round → List ℕ → History → Type 0
 AnswersPlainly r d round answer next =
     (dropped : List ℕ) × (outcome : Outcome)
-    × MayLeadAfter r (judging d.fetching d.responder) dropped round.tag round.body outcome
-    × AreShown r (judging d.fetching d.responder) round.body outcome dropped
-    × (is_plain (judging d.fetching d.responder) outcome ≡ true)
+    × MayLeadAfter r (judging d.fetching round.body d.responder) dropped round.tag round.body outcome
+    × AreShown r (judging d.fetching round.body d.responder) round.body outcome dropped
+    × (is_plain (judging d.fetching round.body d.responder) outcome ≡ true)
     × (body_of outcome ≡ answer)
     × (next ≡ after (with_dropped d.responder dropped) outcome)
 
@@ -108,11 +108,21 @@ AnswersPlainly r d round answer next =
 abbrev pub AnswersLarge : RspSetup → Dialogue → Round → List ℕ → History → List ℕ → Type 0
 AnswersLarge r d round answer next whole =
     (dropped : List ℕ) × (entry : Entry)
-    × MayLeadAfter r (judging d.fetching d.responder) dropped round.tag round.body (Adds entry)
+    × MayLeadAfter r (judging d.fetching round.body d.responder) dropped round.tag round.body (Adds entry)
     × (is_large entry ≡ true)
-    × IsLargeAnswer (place_of (judging d.fetching d.responder) entry) whole
+    × IsLargeAnswer (place_of (judging d.fetching round.body d.responder) entry) whole
     × (sent_by entry ≡ answer)
-    × (next ≡ entry_with [] entry ∷ d.responder)
+    × (next ≡ unseen entry ∷ d.responder)
+
+-- LargeResponse again, to a repeat of a request whose large answer was not seen, while none is fetched. It is the same
+-- answer as then, so any bytes of a length that goes by chunks may stand for it.
+abbrev pub AnswersAgain : RspSetup → Dialogue → Round → List ℕ → History → List ℕ → Type 0
+AnswersAgain r d round answer next whole =
+    (d.fetching ≡ None)
+    × MayLeadTo r d.responder round.tag round.body (Same answer)
+    × (repeats_large (place_named round.body) d.responder ≡ true)
+    × IsLargeAnswer (place_again (place_named round.body) d.responder d.responder) whole
+    × (next ≡ d.responder)
 
 -- The tag of the request of an entry; 0 where it is no message.
 abbrev pub tag_in : Entry → ℕ
@@ -126,31 +136,37 @@ request_in (Clear tag t d) = clear_body t.message
 request_in (Sealed tag sealed t reply d) = record_body sealed
 request_in _ = []
 
--- The request of the last large answer may lead to that answer, after sessions were dropped that it shows.
-abbrev pub MayHaveLed : RspSetup → (dropped : List ℕ) → History → Type 0
-MayHaveLed r dropped [] = ⊥
-MayHaveLed r dropped (entry ∷ older) =
-    MatchBool (is_large entry)
-    (MayLeadAfter r older dropped (tag_in entry) (request_in entry) (Adds entry) × AreShown r older (request_in entry) (Adds entry) dropped)
-    (MayHaveLed r dropped older)
+-- The request of an entry may lead to it, after sessions were dropped that it shows.
+abbrev pub MayLeadToEntry : RspSetup → (dropped : List ℕ) → History → Entry → Type 0
+MayLeadToEntry r dropped older entry =
+    MayLeadAfter r older dropped (tag_in entry) (request_in entry) (Adds entry) × AreShown r older (request_in entry) (Adds entry) dropped
 
--- The last chunk of a large answer, which is judged with it.
+-- The request of the newest large answer of a place that was not seen may lead to these bytes as that answer.
+abbrev pub MayHaveLed : RspSetup → Option ℕ → List ℕ → (dropped : List ℕ) → History → Type 0
+MayHaveLed r place whole dropped [] = ⊥
+MayHaveLed r place whole dropped (entry ∷ older) =
+    MatchBool (is_unseen_in place entry) (MayLeadToEntry r dropped older (seen whole entry)) (MayHaveLed r place whole dropped older)
+
+-- The last chunk of the large answer that is fetched, which is judged with it.
 abbrev pub Completes : RspSetup → Dialogue → Round → List ℕ → History → Type 0
 Completes r d round answer next =
-    (dropped : List ℕ) × (entry : Entry)
-    × MayLeadTo r (judging d.fetching d.responder) round.tag round.body (Adds entry)
-    × (gives_last (judging d.fetching d.responder) entry ≡ true)
-    × MayHaveLed r dropped (judging d.fetching d.responder)
+    (whole : List ℕ) × (dropped : List ℕ) × (entry : Entry)
+    × (d.fetching ≡ Some whole)
+    × MayLeadTo r (judging d.fetching round.body d.responder) round.tag round.body (Adds entry)
+    × (gives_last (judging d.fetching round.body d.responder) entry ≡ true)
+    × MayHaveLed r (place_named round.body) whole dropped d.responder
     × (sent_by entry ≡ answer)
-    × (next ≡ entry ∷ dropped_before_large dropped (judging d.fetching d.responder))
+    × (next ≡ entry ∷ with_large (place_named round.body) whole (dropped_before_large (place_named round.body) dropped d.responder))
+    × (is_untouched (place_named round.body) (begun_with (place_named round.body) whole d.responder) d.responder ≡ true)
 
--- What an answer leads to: the responder's history after it, and the bytes that stand for the large answer under
--- way.
+-- What an answer may lead to: the responder's history after it, and the bytes that stand for the large answer under
+-- way. Of LargeResponse again it is the requester that tells whether it begins a fetch.
 unfoldable pub Answers : RspSetup → Dialogue → Round → List ℕ → History → Option (List ℕ) → Type 0
 Answers r d round answer next fetching =
     (AnswersPlainly r d round answer next × (fetching ≡ d.fetching))
     ⊎ (((whole : List ℕ) × AnswersLarge r d round answer next whole × (fetching ≡ Some whole))
-    ⊎ (Completes r d round answer next × (fetching ≡ None)))
+    ⊎ (((whole : List ℕ) × AnswersAgain r d round answer next whole × (fetching ≡ Some whole))
+    ⊎ (Completes r d round answer next × (fetching ≡ None))))
 
 -- ---- The requester's side of an answer.
 

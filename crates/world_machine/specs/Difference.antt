@@ -20,7 +20,7 @@ use Rattle.spdm_machine.specs.Terms.{request_value, terms_of, hash_len}
 use Rattle.world_machine.specs.Capture.{IsFirstDifference, Leads}
 use Rattle.world_machine.specs.CapturedAnswers.{Answers, MayLeadTo, MayHaveLed}
 use Rattle.world_machine.specs.CapturedRequests.{owes, without_owed}
-use Rattle.world_machine.specs.LargeAnswers.{gives_last, judging, with_large}
+use Rattle.world_machine.specs.LargeAnswers.{gives_last, judging, place_named, begun_with, is_untouched}
 use Rattle.world_machine.specs.Opening.{opens_asking, inner_asking, opens_answering}
 use Rattle.requester_machine.specs.Named.{names, session_named}
 use Rattle.spdm_machine.specs.Packets.{gathered_from, body_type}
@@ -131,12 +131,13 @@ abbrev pub CompletesApart : RspSetup → Dialogue → Round → List ℕ → Typ
 CompletesApart r d round answer =
     (whole : List ℕ) × (other : List ℕ) × (dropped : List ℕ) × (entry : Entry)
     × (d.fetching ≡ Some whole)
-    × MayLeadTo r (judging d.fetching d.responder) round.tag round.body (Adds entry)
-    × (gives_last (judging d.fetching d.responder) entry ≡ true)
+    × MayLeadTo r (judging d.fetching round.body d.responder) round.tag round.body (Adds entry)
+    × (gives_last (judging d.fetching round.body d.responder) entry ≡ true)
     × (sent_by entry ≡ answer)
-    × MayHaveLed r dropped (with_large other d.responder)
+    × MayHaveLed r (place_named round.body) other dropped d.responder
     × (slice_index other 1 ≡ PSK_EXCHANGE_RSP)
     × (is_apart (verify_size d) other whole ≡ true)
+    × (is_untouched (place_named round.body) (begun_with (place_named round.body) other d.responder) d.responder ≡ true)
 
 -- An answer is apart in one of these two ways; where there is no round, in none.
 abbrev pub AreRepliesApart : RspSetup → Dialogue → Option Round → List ℕ → Type 0
