@@ -1,0 +1,14 @@
+pub mod Histories
+pub mod Cuts
+pub mod Ways
+pub mod Onward
+pub mod NextPiece
+pub mod Asked
+pub mod AskedOn
+pub mod Replied
+pub mod UponClear
+pub mod LargeSizes
+pub mod Begun
+pub mod SendingReasons
+pub mod PiecesShown
+pub mod CommandsShown
