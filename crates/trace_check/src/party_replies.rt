@@ -22,7 +22,7 @@ impl Party {
     ghost use Rattle.trace_check.specs.Asker.{IsAsker};
     ghost use Rattle.trace_check.specs.HeardKept.{heard_kept};
     ghost use Rattle.capture_laws.specs.Keeping.{Keeps, Kept};
-    ghost use Rattle.capture_laws.specs.Order.{answered_why};
+    ghost use Rattle.capture_laws.specs.Order.{answered_why, body_in, tag_in};
     ghost use Rattle.trace_check.specs.Party.{IsParty};
     ghost use Rattle.trace_check.specs.PartyReplies.{IsReplied};
     ghost use Rattle.capture_laws.specs.RepliesShown.{responder_for};
