@@ -19,7 +19,7 @@ use Rattle.capture_laws.specs.Order.{is_answer, is_request}
 use Rattle.capture_laws.specs.Walks.{StepsBy, StepsTo, Walks}
 use Rattle.world_machine.specs.Capture.{AsksBy, Begins, Copies, RepliesBy}
 use Rattle.world_machine.specs.CapturedAnswers.{Answers}
-use Rattle.world_machine.specs.LargeAnswers.{dropped_before_large, entry_with, is_large, judging, with_large}
+use Rattle.world_machine.specs.LargeAnswers.{dropped_before_large, is_unseen_in, place_named, seen, unseen, with_large}
 use Rattle.world_machine.specs.Rounds.{Dialogue, Round}
 use Rattle.world_machine.specs.Setup.{Configuration, known_of}
 
@@ -33,12 +33,19 @@ either_same : (b : Bool) (h g : History) (n : ℕ) → messages_of h ≡ n → m
 either_same true h g n one two = one
 either_same false h g n one two = two
 
-entry_same : (answer : List ℕ) (e : Entry) (h : History) → messages_of (entry_with answer e ∷ h) ≡ messages_of (e ∷ h)
-entry_same answer (Clear tag t d) h = refl
-entry_same answer (Sealed tag sealed t reply d) h = refl
-entry_same answer (Queued bytes) h = refl
-entry_same answer (Ticked seconds) h = refl
-entry_same answer (Dropped id) h = refl
+seen_same : (answer : List ℕ) (e : Entry) (h : History) → messages_of (seen answer e ∷ h) ≡ messages_of (e ∷ h)
+seen_same answer (Clear tag t d) h = refl
+seen_same answer (Sealed tag sealed t reply d) h = refl
+seen_same answer (Queued bytes) h = refl
+seen_same answer (Ticked seconds) h = refl
+seen_same answer (Dropped id) h = refl
+
+unseen_same : (e : Entry) (h : History) → messages_of (unseen e ∷ h) ≡ messages_of (e ∷ h)
+unseen_same (Clear tag t d) h = refl
+unseen_same (Sealed tag sealed t reply d) h = refl
+unseen_same (Queued bytes) h = refl
+unseen_same (Ticked seconds) h = refl
+unseen_same (Dropped id) h = refl
 
 behind_same : (e : Entry) (h g : History) → messages_of g ≡ messages_of h → messages_of (e ∷ g) ≡ messages_of (e ∷ h)
 behind_same (Clear tag t d) h g is = ap (λ (n : ℕ). n + 1) is
@@ -47,19 +54,16 @@ behind_same (Queued bytes) h g is = is
 behind_same (Ticked seconds) h g is = is
 behind_same (Dropped id) h g is = is
 
-large_same : (answer : List ℕ) (h : History) → messages_of (with_large answer h) ≡ messages_of h
-large_same answer [] = refl
-large_same answer (e ∷ h) =
-    either_same (is_large e) (entry_with answer e ∷ h) (e ∷ with_large answer h) (messages_of (e ∷ h)) (entry_same answer e h) (behind_same e h (with_large answer h) (large_same answer h))
+large_same : (place : Option ℕ) (answer : List ℕ) (h : History) → messages_of (with_large place answer h) ≡ messages_of h
+large_same place answer [] = refl
+large_same place answer (e ∷ h) =
+    either_same (is_unseen_in place e) (seen answer e ∷ h) (e ∷ with_large place answer h) (messages_of (e ∷ h)) (seen_same answer e h) (behind_same e h (with_large place answer h) (large_same place answer h))
 
-judging_same : (fetching : Option (List ℕ)) (h : History) → messages_of (judging fetching h) ≡ messages_of h
-judging_same None h = refl
-judging_same (Some whole) h = large_same whole h
-
-before_same : (ids : List ℕ) (h : History) → messages_of (dropped_before_large ids h) ≡ messages_of h
-before_same ids [] = refl
-before_same ids (e ∷ h) =
-    either_same (is_large e) (e ∷ with_dropped h ids) (e ∷ dropped_before_large ids h) (messages_of (e ∷ h)) (behind_same e h (with_dropped h ids) (dropped_same ids h)) (behind_same e h (dropped_before_large ids h) (before_same ids h))
+before_same : (place : Option ℕ) (ids : List ℕ) (h : History) → messages_of (dropped_before_large place ids h) ≡ messages_of h
+before_same place ids [] = refl
+before_same place ids (e ∷ h) =
+    either_same (is_unseen_in place e) (e ∷ with_dropped h ids) (e ∷ dropped_before_large place ids h) (messages_of (e ∷ h)) (behind_same e h (with_dropped h ids) (dropped_same ids h))
+    (behind_same e h (dropped_before_large place ids h) (before_same place ids h))
 
 -- ---- What counts as one.
 
@@ -83,13 +87,17 @@ answers_more r d round answer next fetching (inl a) =
     subst (λ (h : History). messages_of h ≤ messages_of d.responder + 1) (sym a.0.6) (omega (arith, more, same))
 answers_more r d round answer next fetching (inr (inl a)) =
     let more = entry_more a.1.1 d.responder in
-    let same = entry_same [] a.1.1 d.responder in
+    let same = unseen_same a.1.1 d.responder in
     subst (λ (h : History). messages_of h ≤ messages_of d.responder + 1) (sym a.1.6) (omega (arith, more, same))
-answers_more r d round answer next fetching (inr (inr a)) =
-    let more = entry_more a.0.1 (dropped_before_large a.0.0 (judging d.fetching d.responder)) in
-    let same = before_same a.0.0 (judging d.fetching d.responder) in
-    let judged = judging_same d.fetching d.responder in
-    subst (λ (h : History). messages_of h ≤ messages_of d.responder + 1) (sym a.0.6) (omega (arith, more, same, judged))
+answers_more r d round answer next fetching (inr (inr (inl a))) =
+    subst (λ (h : History). messages_of h ≤ messages_of d.responder + 1) (sym a.1.4) (omega arith)
+answers_more r d round answer next fetching (inr (inr (inr a))) =
+    let place : Option ℕ = place_named round.body in
+    let before : History = dropped_before_large place a.0.1 d.responder in
+    let more = entry_more a.0.2 (with_large place a.0.0 before) in
+    let given = large_same place a.0.0 before in
+    let same = before_same place a.0.1 d.responder in
+    subst (λ (h : History). messages_of h ≤ messages_of d.responder + 1) (sym a.0.8) (omega (arith, more, same, given))
 
 -- ---- A walk.
 

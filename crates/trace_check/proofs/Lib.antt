@@ -43,7 +43,6 @@ pub mod ClearAnew
 pub mod ShownDrops
 pub mod ApartLengths
 pub mod ApartJudged
-pub mod FetchedOn
 pub mod JudgedInClear
 pub mod BodyJudged
 pub mod KeptTyped

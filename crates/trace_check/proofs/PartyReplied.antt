@@ -26,7 +26,7 @@ use Rattle.capture_laws.specs.AnswersShown.{values_shown_by}
 use Rattle.capture_laws.specs.DropsShown.{IsShownAnswer, drops_shown_by, outcome_shown}
 use Rattle.trace_check.specs.HeardKept.{heard_kept}
 use Rattle.capture_laws.specs.Keeping.{Keeps, Kept, RepliesKept, restored}
-use Rattle.capture_laws.specs.LargeShown.{IsShownLarge, IsShownLast}
+use Rattle.capture_laws.specs.LargeShown.{IsShownLarge}
 use Rattle.capture_laws.specs.Order.{replies_wrong}
 use Rattle.capture_laws.specs.Judged.{why_of}
 use Rattle.trace_check.specs.Party.{IsParty}
@@ -34,7 +34,7 @@ use Rattle.capture_laws.specs.Order.{body_in, tag_in}
 use Rattle.trace_check.specs.ClearAnswers.{EndsLarge}
 use Rattle.trace_check.specs.PartyReplies.{IsGivenNever, IsGoingWhy, IsReplied}
 use Rattle.capture_laws.specs.RepliesShown.{AnswersRound, PlainlyKept, answered_from, responder_for}
-use Rattle.capture_laws.specs.RepliesTold.{LastKept, UnfetchedKept}
+use Rattle.capture_laws.specs.RepliesTold.{UnfetchedKept}
 use Rattle.trace_check.specs.declared.asker.Asker.{Asker}
 use Rattle.trace_check.specs.declared.onward.Onward.TheVariants as onward
 use Rattle.trace_check.specs.declared.party.Party.{Party}
@@ -63,15 +63,15 @@ module _ (w : Configuration) (q : ReqSetup) (older : List (List ℕ)) (k : Kept)
   party_behind : (new : Party) (behind : History) → AreBehind new behind → IsParty new w q (heard_kept k behind route.tag round answer)
   party_behind new behind are = record { asker = are.asker; answerer = are.answerer; keys = are.keys }
 
-  kept_by : (next : Kept) → PlainlyKept w k (Whole route answer) next ⊎ (UnfetchedKept w k (Whole route answer) next ⊎ LastKept w k (Whole route answer) next) → RepliesKept w k (Whole route answer) next
+  kept_by : (next : Kept) → PlainlyKept w k (Whole route answer) next ⊎ UnfetchedKept w k (Whole route answer) next → RepliesKept w k (Whole route answer) next
   kept_by next c = (replies_are_told w q older k next (Whole route answer) byte limits keeps).1 c
 
   -- Whole.
   pub goes_whole : (new : Party) → IsShownAnswer r h round.tag round.body answer → AreBehind new (history_shown r h round.tag round.body answer) → IsReplied w q k route answer (Ok onward.Kept) new
   unfolding answered_from
-  goes_whole new shown are =
+  goes_whole new shown are idle =
       let next : Kept = heard_kept k (history_shown r h round.tag round.body answer) route.tag round answer in
-      (next, kept_by next (inl (turn.body, turn.owner, (round, turn.answers, shown, refl))), party_behind new (history_shown r h round.tag round.body answer) are)
+      (next, kept_by next (inl (turn.body, turn.owner, (round, turn.answers, shown, idle, refl))), party_behind new (history_shown r h round.tag round.body answer) are)
 
   -- A part of a large answer.
   pub is_part : (new : Party) → IsShownLarge r h round.tag round.body answer ⊎ EndsLarge r h round.tag round.body answer → IsReplied w q k route answer (Ok onward.Large) new
@@ -82,16 +82,12 @@ module _ (w : Configuration) (q : ReqSetup) (older : List (List ℕ)) (k : Kept)
   one_round : (other : Round) → k.round ≡ Some other → other ≡ round
   one_round other is = same_Some other round (sym is ∙ turn.answers.0)
 
-  ends : IsShownLast r h round.tag round.body answer → EndsLarge r h round.tag round.body answer
-  ends c = (c.0, c.1, c.3)
-
   pub goes_nowhere : IsGivenNever r (restored k) round answer → (next : Kept) → RepliesKept w k (Whole route answer) next → ⊥
   goes_nowhere never next kept = by_way ((replies_are_told w q older k next (Whole route answer) byte limits keeps).0 kept)
     where
-      by_way : PlainlyKept w k (Whole route answer) next ⊎ (UnfetchedKept w k (Whole route answer) next ⊎ LastKept w k (Whole route answer) next) → ⊥
+      by_way : PlainlyKept w k (Whole route answer) next ⊎ UnfetchedKept w k (Whole route answer) next → ⊥
       by_way (inl c) = never.whole (subst (λ (x : Round). IsShownAnswer r h x.tag x.body answer) (one_round c.2.0 c.2.1.0) c.2.2)
-      by_way (inr (inl c)) = never.large (subst (λ (x : Round). IsShownLarge r h x.tag x.body answer) (one_round c.2.0 c.2.1.0) c.2.2)
-      by_way (inr (inr c)) = never.last (ends (subst (λ (x : Round). IsShownLast r h x.tag x.body answer) (one_round c.2.0 c.2.1.0) c.2.2))
+      by_way (inr c) = never.large (subst (λ (x : Round). IsShownLarge r h x.tag x.body answer) (one_round c.2.0 c.2.1.0) c.2.2)
 
   -- And why: the order gives no reason.
   reason_is : goes_why r (restored k) (Whole route answer) ≡ Some (reply_why r (restored k) answer (Some round))

@@ -1,8 +1,9 @@
 -- What is told of an answer, by what is kept of a requester and the responder. This project's own.
-use Rattle.std.specs.Prelude.{◌≡◌, ◌⊎◌, ℕ, List, slice_index, Option, Some, None, Result, Ok, Err}
+use Rattle.std.specs.Prelude.{◌≡◌, ◌⊎◌, ℕ, List, slice_index, false, Option, Some, None, Result, Ok, Err}
 use Rattle.mctp_framing.specs.Cutting.{RouteFields}
 use Rattle.mctp_framing.specs.Gathering.{Gathered}
 use Rattle.mctp_framing.specs.Gathering.Gathered.{Whole}
+use Rattle.requester_machine.specs.History.{outstanding}
 use Rattle.requester_machine.specs.Setup.{ReqSetup}
 use Rattle.responder_machine.specs.Setup.{RspSetup}
 use Rattle.script_text.specs.declared.why.Why as declared
@@ -14,7 +15,7 @@ use Rattle.capture_laws.specs.Judged.{why_of}
 use Rattle.capture_laws.specs.Keeping.{Kept, RepliesKept, restored}
 use Rattle.capture_laws.specs.LargeShown.{IsShownLarge}
 use Rattle.trace_check.specs.Party.{IsParty}
-use Rattle.capture_laws.specs.RepliesShown.{AnswersRound, responder_for}
+use Rattle.capture_laws.specs.RepliesShown.{AnswersRound, heard_from, responder_for}
 use Rattle.trace_check.specs.declared.answerer.Answerer.{Answerer}
 use Rattle.trace_check.specs.declared.given.Given.{Given}
 use Rattle.trace_check.specs.declared.given.Given.TheVariants as given
@@ -25,6 +26,7 @@ use Rattle.trace_check.specs.declared.onward.Onward.TheVariants as onward
 use Rattle.trace_check.specs.declared.party.Party.{Party}
 use Rattle.world_machine.specs.Difference.{GoesApart, Why, goes_why}
 use Rattle.world_machine.specs.Difference.Why.{BadVerify}
+use Rattle.world_machine.specs.LargeAnswers.{is_fetching}
 use Rattle.world_machine.specs.Rounds.{Dialogue, Round}
 use Rattle.world_machine.specs.Setup.{Configuration}
 
@@ -67,9 +69,11 @@ IsPartOfLarge w k tag answer =
     (round : Round) × AnswersRound k tag round
     × (IsShownLarge (responder_for w k) k.responder round.tag round.body answer ⊎ EndsLarge (responder_for w k) k.responder round.tag round.body answer)
 
--- Of an answer that goes on, likewise.
+-- Of an answer that goes on, likewise. Nothing is said yet of LargeResponse again upon which the requester asks for a
+-- chunk: it is told as any repeat.
 abbrev pub RepliesOnward : Configuration → ReqSetup → Kept → RouteFields → (answer : List ℕ) → Onward → (new : Party) → Type 0
-RepliesOnward w q k route answer onward.Kept new = (next : Kept) × RepliesKept w k (Whole route answer) next × IsParty new w q next
+RepliesOnward w q k route answer onward.Kept new =
+    is_fetching (outstanding (heard_from k route.tag answer)) ≡ false → (next : Kept) × RepliesKept w k (Whole route answer) next × IsParty new w q next
 RepliesOnward w q k route answer onward.Large new = IsPartOfLarge w k route.tag answer
 
 -- Of an answer: it goes on, or it is refused, and then why.

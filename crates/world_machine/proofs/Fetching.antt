@@ -82,7 +82,7 @@ stays_within k tag body type (Asks handle number is since) = absurd (false≢tru
 stays_within k tag body type (Repeats clear again since) = absurd (false≢true (sym type ∙ clear))
 stays_within k tag body type (Seals sealed within) = within
 
-stays_clear : (k : History) (tag : ℕ) (body : List ℕ) → (slice_index body 0 == 5) ≡ true → Getting k tag body → IsClearSince k
+pub stays_clear : (k : History) (tag : ℕ) (body : List ℕ) → (slice_index body 0 == 5) ≡ true → Getting k tag body → IsClearSince k
 stays_clear k tag body type (Asks handle number is since) = since
 stays_clear k tag body type (Repeats clear again since) = since
 stays_clear k tag body type (Seals sealed stand) = absurd (false≢true (sym sealed ∙ type))
