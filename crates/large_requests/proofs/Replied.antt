@@ -27,7 +27,7 @@ use Rattle.world_machine.proofs.AskersHear.{later_round, next_later}
 use Rattle.world_machine.specs.Capture.{Replies, RepliesBy}
 use Rattle.world_machine.specs.CapturedAnswers.{Answers, Hears, HearsWhile}
 use Rattle.world_machine.specs.CapturedRequests.{is_later, owes}
-use Rattle.world_machine.specs.LargeAnswers.{while_fetched}
+use Rattle.world_machine.specs.LargeAnswers.{asks_known, while_fetched}
 use Rattle.world_machine.specs.LargeRequests.{MayHaveBegun, piece_with, with_ack, with_ack_to, with_next_piece}
 use Rattle.world_machine.specs.Rounds.{Dialogue, Round, following_tag, no_draw}
 use Rattle.world_machine.specs.Setup.{Configuration, known_of}
@@ -81,6 +81,7 @@ module _ (w : Configuration) (q : ReqSetup) (older : List (List ℕ)) (s : Sendi
     pub record Heard : Type 0 where
       pub is : with_ack v tag (drop 1 answer) shape.requester ≡ requester_of (after o) b v
       pub none : (fetching : Option (List ℕ)) → while_fetched (requester_of (after o) b v) fetching ≡ None
+      pub known : (fetching : Option (List ℕ)) → asks_known (requester_of (after o) b v) fetching ≡ true
       pub owes_now : owes (dialogue_of (after o) b v) ≡ is_some (with_ack_due o tag answer)
 
     -- The same of any walk that sends these bytes so.
@@ -114,6 +115,7 @@ module _ (w : Configuration) (q : ReqSetup) (older : List (List ℕ)) (s : Sendi
     heard_shown = record {
       is = ack_some v tag (drop 1 answer) mine sent (asked_of b) (handle_of s) (number_of s) waits same_tag aim;
       none = λ fetching. refl;
+      known = λ fetching. refl;
       owes_now = next_later round (piece_with mine (asked_of b) v (handle_of s) (number_of s + 1)) next_at;
     }
 
@@ -136,6 +138,7 @@ module _ (w : Configuration) (q : ReqSetup) (older : List (List ℕ)) (s : Sendi
     heard_due = record {
       is = ack_none v tag (drop 1 answer) (requester_of (at (Some ack)) b v) (piece s b v) refl other_tag;
       none = λ fetching. refl;
+      known = λ fetching. refl;
       owes_now = later_round round s.round (Some (piece s b v)) refl ∙ owes_is (Some ack) own b v may stand;
     }
 
@@ -180,7 +183,7 @@ module _ (w : Configuration) (q : ReqSetup) (older : List (List ℕ)) (s : Sendi
             h,
             fetching,
             answers_on (towards w.responder (known_of s.before.setup)) (aside s) d s.round answer h fetching refl refl answers,
-            (with_ack v tag (drop 1 answer) d.requester, refl, made),
+            (with_ack v tag (drop 1 answer) d.requester, refl, made, ap (λ (g : History). asks_known g fetching) one.is ∙ one.known fetching),
           ),
         ),
         one.owes_now,
