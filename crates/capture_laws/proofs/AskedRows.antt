@@ -25,7 +25,7 @@ use Rattle.world_machine.specs.SessionTable.{Row, accepted_between, begun_count,
 use Rattle.world_machine.specs.Setup.{Configuration}
 
 -- The change between two moments.
-abbrev change_of : Dialogue → Dialogue → Change
+abbrev pub change_of : Dialogue → Dialogue → Change
 change_of before after = record {
   begun = begun_between before after;
   accepted = accepted_between before after;
@@ -34,7 +34,7 @@ change_of before after = record {
   views = views_in after.responder;
 }
 
-is_change : (before after : Dialogue) → IsChange (change_of before after) before after
+pub is_change : (before after : Dialogue) → IsChange (change_of before after) before after
 is_change before after = record { begun = refl; accepted = refl; answered = refl; asked = refl; views = refl }
 
 module _ (sent : Option ℕ) (before after : Dialogue) (is : IsRequestStep sent before after) where

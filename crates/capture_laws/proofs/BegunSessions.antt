@@ -88,7 +88,7 @@ is_clear_entry : Outcome → Bool
 is_clear_entry (Adds (Clear tag t d)) = true
 is_clear_entry _ = false
 
-turn_few : (r : RspSetup) (p : Place) (m : List ℕ) (f : Free) (t : Turn) → 1 ≤ f.id → f.id ≤ 4 → t ≡ turn_of r p m f → takes PSK_EXCHANGE t ≡ true → IsFew (id_in_exchange (answer_in t.effect))
+pub turn_few : (r : RspSetup) (p : Place) (m : List ℕ) (f : Free) (t : Turn) → 1 ≤ f.id → f.id ≤ 4 → t ≡ turn_of r p m f → takes PSK_EXCHANGE t ≡ true → IsFew (id_in_exchange (answer_in t.effect))
 turn_few r p m f t least most is takes_it =
     let fresh : IsFresh p.past_handshake f.id t.effect = subst (λ (u : Turn). IsFresh p.past_handshake f.id u.effect) (sym is) (turn_of-fresh r p m f most) in
     subst IsFew (sym (exchange-fresh p.past_handshake f.id t.effect takes_it fresh).0) (least, most)

@@ -102,7 +102,7 @@ kept_is_restored w q older k keeps =
 
 -- ---- An answer.
 
-goes_to : (w : Configuration) (eid : ℕ) (p : PacketFields) → is_answer w.responder.eid eid p ≡ true → IsFor w false eid p
+pub goes_to : (w : Configuration) (eid : ℕ) (p : PacketFields) → is_answer w.responder.eid eid p ≡ true → IsFor w false eid p
 goes_to w eid p is =
     let rest : (p.from == w.responder.eid && p.to == eid) ≡ true = and_second (not (p.to == w.responder.eid)) _ is in record {
       to_is = not-true (p.to == w.responder.eid) (and_first (not (p.to == w.responder.eid)) _ is);

@@ -70,3 +70,7 @@ pub mod LargeShown
 pub mod FetchShown
 pub mod RepliesTold
 pub mod RequestSteps
+pub mod AnswerSteps
+pub mod AnswerChanges
+pub mod PlacesShown
+pub mod RowsKept

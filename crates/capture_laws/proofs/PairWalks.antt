@@ -146,7 +146,7 @@ one_walks w older packet to at p b n own [] (d ∷ ds) parses is its made apart 
 one_walks w older packet to at p b n own (q ∷ qs) [] parses is its made apart each found = absurd each
 
 -- The end point of a dialogue is that of its requester.
-known_at : (w : Configuration) (older : List (List ℕ)) (at : ℕ) (b : Dialogue) (qs : List ReqSetup) (ds : List Dialogue) → WalkEach w older qs ds → dialogue_at at ds ≡ Some b → (b.setup.eid ≡ at) × (is_known at qs ≡ true)
+pub known_at : (w : Configuration) (older : List (List ℕ)) (at : ℕ) (b : Dialogue) (qs : List ReqSetup) (ds : List Dialogue) → WalkEach w older qs ds → dialogue_at at ds ≡ Some b → (b.setup.eid ≡ at) × (is_known at qs ≡ true)
 known_at w older at b [] [] each found = absurd (none-some b found)
 known_at w older at b (q ∷ qs) (d ∷ ds) each found = by_eid (d.setup.eid == at) refl found (known_at w older at b qs ds each.1)
   where

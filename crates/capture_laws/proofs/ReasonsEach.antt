@@ -76,7 +76,7 @@ first_put w older q o qs d n ds false is walk each own rest found =
       found = ap (λ (b : Bool). cond b (Some d) (dialogue_at q.eid a.dialogues)) (sym (at_eid w older q o d walk) ∙ is) ∙ a.found;
     }
 
-put_at : (w : Configuration) (older : List (List ℕ)) (q : ReqSetup) (qs : List ReqSetup) (n : Dialogue) (ds : List Dialogue) → WalkEach w older qs ds → Walks w q older n → find (λ (x : ReqSetup). x.eid == q.eid) qs ≡ Some q → Put w older q qs n
+pub put_at : (w : Configuration) (older : List (List ℕ)) (q : ReqSetup) (qs : List ReqSetup) (n : Dialogue) (ds : List Dialogue) → WalkEach w older qs ds → Walks w q older n → find (λ (x : ReqSetup). x.eid == q.eid) qs ≡ Some q → Put w older q qs n
 put_at w older q [] n ds each own found = absurd (none-some q found)
 put_at w older q (o ∷ qs) n (d ∷ ds) each own found = first_put w older q o qs d n ds (o.eid == q.eid) refl each.0 each.1 own (put_at w older q qs n ds each.1 own) found
 put_at w older q (o ∷ qs) n [] each own found = absurd each

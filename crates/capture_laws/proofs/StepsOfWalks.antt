@@ -170,7 +170,7 @@ replied_moved w d tag answer next held sound c =
       accepts = λ id is. heard_accepts d.requester c.4.3.0 id heard.takes (sym (ap (λ (h : requester_history.History). cond (nat_lt (length d.requester) (length h)) (accepted_in h) None) own) ∙ is);
     }
 
-replies_moved : (w : Configuration) (d : Dialogue) (g : Gathered) (next : Dialogue) → IsHeld d → RepliesBy w d g next → IsMoved d next
+pub replies_moved : (w : Configuration) (d : Dialogue) (g : Gathered) (next : Dialogue) → IsHeld d → RepliesBy w d g next → IsMoved d next
 replies_moved w d (Whole route body) next held replies = replied_moved w d route.tag body next held (replies_sound w d (Whole route body) next held.sound replies) replies.2
 replies_moved w d More next held replies = stays_moved d next held replies
 replies_moved w d (Dropped cause) next held replies = absurd replies

@@ -20,3 +20,4 @@ pub mod ApartShown
 pub mod LargeShown
 pub mod RepliesTold
 pub mod KeptChanges
+pub mod KeptRows

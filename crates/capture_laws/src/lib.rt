@@ -9,6 +9,7 @@ mod brought;
 mod change;
 mod change_laws;
 mod kept_changes;
+mod kept_rows;
 mod laws;
 mod order;
 mod pair;
@@ -25,7 +26,13 @@ pub use change_laws::{
     large_answer_changes, last_chunk_changes, request_changes, round_is_request,
     whole_answer_changes,
 };
-pub use kept_changes::{kept_copy_is_request, kept_round_is_request};
+pub use kept_changes::{
+    kept_answer_changes, kept_answer_is_step, kept_copy_is_request, kept_round_is_request,
+};
+pub use kept_rows::{
+    asks_show, more_packets, numbers_are_order, replies_show, show_begins, shown_have_places,
+    shown_is_table,
+};
 pub use laws::{
     answered_reason_is_each, answers_are_shown, apart_is_shown, asked_reason_is_each,
     asks_are_kept, asks_go_on, clear_is_shown, conforms_is_each, connects_always,
