@@ -41,33 +41,13 @@ use Rattle.world_machine.specs.Setup.{Configuration}
 use Rattle.large_requests.specs.Sending.{Beginning, IsSendingOf, MayBegin, MaySend, MayStand, Sending, SendsAs, asked_of, begun_with, count_of, dialogue_of, is_upon_clear}
 use Rattle.large_requests.specs.Sending.Beginning.{ByCommand, ByItself}
 use Rattle.large_requests.specs.SendingLaws.{BeginsSending, BegunIsSending, SendingBegins, begun_sending, first_body}
+use Rattle.large_requests.proofs.BegunParts.{ask_moved, piece_on, tag_by}
 use Rattle.large_requests.proofs.Cuts.{ends_within, same_chunk, two_chunks}
 use Rattle.large_requests.proofs.Histories.{begun_waits, next_terms, upon_waits}
 use Rattle.large_requests.proofs.LargeSizes.{above, chunk_size, large_at}
 use Rattle.large_requests.proofs.NextPiece.{no_copies}
 use Rattle.large_requests.proofs.Onward.{Onward, asked, asks, came, keeps_on, stands_by}
 use Rattle.large_requests.proofs.UponClear.{owed_upon}
-
--- ---- Tags.
-
--- The tag of the next message, without one that is owed.
-tag_by : (round : Option Round) (h g : History) (sd se : Option (List ℕ)) → AskersAlike round h g sd se → sd ≡ None → (b : Bool) → is_later round (outstanding h) ≡ b → next_tag (cond b (with_next None h) h) ≡ following_tag round
-tag_by round _ _ _ _ (Settled h g agree not at) none true is = absurd (false≢true (sym not ∙ is))
-tag_by round _ _ _ _ (Settled h g agree not at) none false is = at
-tag_by round _ _ _ _ (Owing e f h g s t agree alike out sent like tagged else still at) none true is = none_tag e f h alike ∙ at
-tag_by round _ _ _ _ (Owing e f h g s t agree alike out sent like tagged else still at) none false is = absurd (false≢true (sym is ∙ ap (is_later round) out ∙ still))
-tag_by round _ _ _ _ (Shown h g w v a b handle number s t u waits wait aims aim tags not at) none x is = absurd (none-some w (sym none))
-tag_by round _ _ _ _ (Due tag m h g w v a b handle number u still at) none x is = absurd (none-some w (sym none))
-
--- The first piece hangs on what counts alone.
-piece_on : (h g : History) (asked : RequestMessage) (whole : List ℕ) → Agree h g → first_piece h asked whole ≡ first_piece g asked whole
-piece_on h g asked whole a =
-    piece_same h g whole whole asked asked (next_handle h) 0 a.counted.sent (terms_same h g a) refl refl ∙ ap (λ (n : ℕ). piece_with g asked whole n 0) (handle_same h g a)
-
-ask_moved : (q r : ReqSetup) (h g : History) (c : Command) (o : Outcome) → q ≡ r → Agree h g → MayAsk false q h c no_draw o → MayAsk false r g c no_draw o
-ask_moved q r h g c o setup a m =
-    subst (λ (x : ReqSetup). MayAsk false x g c no_draw o) setup
-    (m.0, allowed_same q h g m.0 (agree_equals h g a) m.1, sym (asks_same false q h g a c m.0 no_draw) ∙ m.2)
 
 -- ---- What is kept before it.
 

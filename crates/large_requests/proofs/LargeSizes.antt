@@ -32,26 +32,33 @@ not_small : (first : Bool) (a b : ℕ) → (first || nat_lt a b) ≡ false → b
 not_small true a b is = absurd (false≢true (sym is))
 not_small false a b is = grind (arith, nat_tests)
 
-common_size : (caps told : Caps) (common : Common) → result_ok (common_of caps told) ≡ Some common → 12 < common.to_responder.transfer
+-- It is from 42 to 4,096.
+abbrev pub IsWide : Common → Type 0
+IsWide common = (MIN_DATA_TRANSFER_SIZE ≤ common.to_responder.transfer) × (common.to_responder.transfer ≤ MAX_MESSAGE_SIZE)
+
+common_size : (caps told : Caps) (common : Common) → result_ok (common_of caps told) ≡ Some common → IsWide common
 common_size caps told common is =
     let one = passed (nat_lt caps.transfer MIN_DATA_TRANSFER_SIZE || nat_lt told.transfer MIN_DATA_TRANSFER_SIZE) (nat_lt caps.max caps.transfer || nat_lt told.max told.transfer) (not (psk_is PSK_CAP caps.flags && psk_is PSK_CAP_WITH_CONTEXT told.flags))
     (not (protects caps.flags && protects told.flags)) (shared caps told) common is in
     let least : MIN_DATA_TRANSFER_SIZE ≤ told.transfer = not_small (nat_lt caps.transfer MIN_DATA_TRANSFER_SIZE) told.transfer MIN_DATA_TRANSFER_SIZE one.0 in
-    let here : 12 < min told.transfer MAX_MESSAGE_SIZE = omega (arith, least) in
-    subst (λ (c : Common). 12 < c.to_responder.transfer) one.1 here
+    let here : (MIN_DATA_TRANSFER_SIZE ≤ min told.transfer MAX_MESSAGE_SIZE) × (min told.transfer MAX_MESSAGE_SIZE ≤ MAX_MESSAGE_SIZE) = (omega (arith, least), omega arith) in
+    subst IsWide one.1 here
 
-settled_size : (o : Option Common) → ((common : Common) → o ≡ Some common → 12 < common.to_responder.transfer) → (unwrap_or o no_common).chunk ≡ true → 12 < (unwrap_or o no_common).to_responder.transfer
+settled_size : (o : Option Common) → ((common : Common) → o ≡ Some common → IsWide common) → (unwrap_or o no_common).chunk ≡ true → IsWide (unwrap_or o no_common)
 settled_size None all is = absurd (false≢true is)
 settled_size (Some common) all is = all common refl
 
-from_size : (a b : Option Caps) → (common_from a b).chunk ≡ true → 12 < (common_from a b).to_responder.transfer
+from_size : (a b : Option Caps) → (common_from a b).chunk ≡ true → IsWide (common_from a b)
 from_size (Some caps) (Some told) is = settled_size (result_ok (common_of caps told)) (common_size caps told) is
 from_size (Some caps) None is = absurd (false≢true is)
 from_size None b is = absurd (false≢true is)
 
-pub terms_size : (n : Negotiation) → (terms_of n).common.chunk ≡ true → 12 < (terms_of n).common.to_responder.transfer
+pub terms_wide : (n : Negotiation) → (terms_of n).common.chunk ≡ true → IsWide (terms_of n).common
 unfolding terms_of
-terms_size n is = from_size (asked_caps (request_value n.get_capabilities)) (told_caps (response_value n.capabilities)) is
+terms_wide n is = from_size (asked_caps (request_value n.get_capabilities)) (told_caps (response_value n.capabilities)) is
+
+pub terms_size : (n : Negotiation) → (terms_of n).common.chunk ≡ true → 12 < (terms_of n).common.to_responder.transfer
+terms_size n is = let wide = (terms_wide n is).0 in omega (arith, wide)
 
 -- ---- Of a large request.
 

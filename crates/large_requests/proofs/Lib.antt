@@ -8,7 +8,10 @@ pub mod AskedOn
 pub mod Replied
 pub mod UponClear
 pub mod LargeSizes
+pub mod BegunParts
 pub mod Begun
 pub mod SendingReasons
 pub mod PiecesShown
 pub mod CommandsShown
+pub mod PiecesHeld
+pub mod PiecesTold

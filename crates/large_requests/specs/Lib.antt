@@ -1,3 +1,4 @@
 pub mod Sending
 pub mod SendingLaws
 pub mod SendingShown
+pub mod Pieces

@@ -1,14 +1,18 @@
 //! What a capture shows of a large request, one that is sent by chunks: what is kept of its requester and
 //! the responder from its first chunk to its last one, what goes on from that, and why a packet is
-//! refused meanwhile. Nothing here runs: each function has a law as its contract.
+//! refused meanwhile; and the chunks as they come, each compared with the cut.
 //!
-//! Read first: `IsSendingOf` in `specs/Sending.antt`, of which walks that is kept.
+//! Read first: `IsSendingOf` in `specs/Sending.antt`, of which walks that is kept. The calls are
+//! `Pieces::first` and `Pieces::next`; each other function has a law as its contract.
 #![tactic(auto)]
 
+mod bodies;
 mod laws;
+mod pieces;
 
 pub use laws::{
     begun_is_sending, first_is_shown, last_is_whole, open_is_shown, piece_is_shown, sending_asks,
     sending_begins, sending_ends, sending_is_asked, sending_is_replied, sending_replies,
     sending_stays, sending_tells_apart, sending_tells_why, whole_is_shown,
 };
+pub use pieces::{Piece, Pieces};
