@@ -164,7 +164,7 @@ module _ (x : Asking) (q : ReqSetup) (bare : History) (sent : Sent) (took : Took
     ordered : IsOrdered (with_asked q.psk (session_of id bare) ask owed.inner owed.pad)
     ordered = subst IsOrdered owed.steps (stands.sessions.orders id).ordered
 
-    its_stage : (view : SessionView) → Some view ≡ shown_of (session_of id (with_next (Some sent) bare)) → view.stage ≡ stage_for ask
+    pub its_stage : (view : SessionView) → Some view ≡ shown_of (session_of id (with_next (Some sent) bare)) → view.stage ≡ stage_for ask
     its_stage view is =
         let h : History = with_next (Some sent) bare in
         stage_shown (session_of id h) view (view_is (session_of id h) view is) ∙ ap stage_of owed.steps ∙ ordered.0
@@ -185,8 +185,11 @@ module _ (x : Asking) (q : ReqSetup) (bare : History) (sent : Sent) (took : Took
     shown_other view is not =
         subst (λ (o : Option (ℕ × List ℕ)). IsFinishShown (with_next (Some sent) bare) o None) (sym (as_other (other_ask ask (λ here. not (its_stage view is ∙ here))))) refl
 
+    pub shown_none : None ≡ shown_of (session_of id (with_next (Some sent) bare)) → ⊥
+    shown_none is = false≢true (sym (unshown (session_of id (with_next (Some sent) bare)) is) ∙ ap is_accepted owed.steps ∙ ordered.1)
+
     pub shown_some : None ≡ shown_of (session_of id (with_next (Some sent) bare)) → IsFinishShown (with_next (Some sent) bare) (finish_in (Some sent)) None
-    shown_some is = absurd (false≢true (sym (unshown (session_of id (with_next (Some sent) bare)) is) ∙ ap is_accepted owed.steps ∙ ordered.1))
+    shown_some is = absurd (shown_none is)
 
     -- ---- Its record and another.
 

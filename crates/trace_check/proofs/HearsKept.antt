@@ -1,7 +1,7 @@
 -- What is kept of a requester behind an answer that it heard.
 use Rattle.std.proofs.Common.{◌≡◌, ◌==◌, ◌<◌, ◌-◌, ◌^◌, ℕ, List, [], ◌∷◌, refl, sym, ap, ◌∙◌, subst, length, Bool, true, false, Option, Some, None, is_some, cond}
 use Rattle.std.proofs.lemmas.Bool.{false≢true, not-true}
-use Rattle.std.proofs.lemmas.Option.{none-some}
+use Rattle.std.proofs.lemmas.Option.{none-some, same_Some}
 use Rattle.asking.specs.Joined.{IsAnswered, IsSentAs, StandsFor}
 use Rattle.asking.specs.OwnRecords.{session_awaited}
 use Rattle.asking.specs.declared.joined.Asking.{Asking}
@@ -12,7 +12,7 @@ use Rattle.requester_machine.specs.Bodies.{has_tag}
 use Rattle.requester_machine.specs.Hearing.{hears}
 use Rattle.requester_machine.specs.History.{Entry, History, next_tag, outstanding, sent_in}
 use Rattle.requester_machine.specs.History.Entry.{Told, TookClear, TookRecord}
-use Rattle.requester_machine.specs.Message.{Sent}
+use Rattle.requester_machine.specs.Message.{Sent, body_of}
 use Rattle.requester_machine.specs.Owed.{sent_with, with_next}
 use Rattle.requester_machine.specs.Session.{session_of}
 use Rattle.requester_machine.specs.Setup.{ReqSetup}
@@ -42,7 +42,7 @@ use Rattle.world_machine.specs.Setup.{Configuration}
 
 -- ---- An entry that came.
 
-waits_for : (e : Entry) (h : History) → is_some (event_of (Adds e)) ≡ true → outstanding (e ∷ h) ≡ sent_in e
+pub waits_for : (e : Entry) (h : History) → is_some (event_of (Adds e)) ≡ true → outstanding (e ∷ h) ≡ sent_in e
 waits_for (TookClear tag m led d) h told = refl
 waits_for (TookRecord tag id sealed inner led d) h told = refl
 waits_for (Told c s d) h told = absurd (false≢true told)
@@ -105,7 +105,7 @@ module _ (w : Configuration) (q : ReqSetup) (older : List (List ℕ)) (k : Kept)
   some_owes false owing some = absurd (false≢true (sym (ap (λ (b : Bool). is_some (cond b (next_with k.setup.psk h [] (outstanding h)) None)) owing) ∙ sym (ap is_some owed_there) ∙ some))
 
   -- While a message is owed nothing is heard.
-  deaf : is_some k.owed ≡ true → heard_from k tag answer ≡ h
+  pub deaf : is_some k.owed ≡ true → heard_from k tag answer ≡ h
   unfolding heard_from
   deaf some =
       let due : later (outstanding h) ≡ true = sym owes_by ∙ some_owes (owes (restored k)) refl some in
@@ -181,16 +181,16 @@ module _ (w : Configuration) (q : ReqSetup) (older : List (List ℕ)) (k : Kept)
     follows (Fails fault) adds told = absurd (false≢true told)
     follows (Resends sent) adds told = absurd (false≢true told)
 
-    pub heard_stands : (seen : Asking) (sends : Bool) → IsHeardAs k.setup h tag answer sends seen
+    pub heard_stands : (seen : Asking) (sends : Bool) (out : List ℕ) → IsHeardAs k.setup h tag answer sends seen out
         → StandsFor seen k.setup (owing (heard_kept k behind tag round answer).owed (heard_kept k behind tag round answer).requester) × (sends ≡ is_some (heard_kept k behind tag round answer).owed)
     unfolding heard_from
-    heard_stands seen sends heard =
+    heard_stands seen sends out heard =
         let f = follows o refl heard.told in
         (subst (StandsFor seen k.setup) (sym f.whole) heard.stands, heard.sent ∙ sym f.owes)
 
 -- ---- What the program keeps.
 
-none_in : (o : Option Sent) → is_some o ≡ false → o ≡ None
+pub none_in : (o : Option Sent) → is_some o ≡ false → o ≡ None
 none_in None is = refl
 none_in (Some sent) is = absurd (false≢true (sym is))
 
@@ -200,12 +200,18 @@ sent_as (Some sent) (Some tag) body is = refl
 sent_as None (Some tag) body is = absurd is
 sent_as (Some sent) None body is = absurd is
 
+body_as : (o : Option Sent) (sent : Sent) (tag : Option ℕ) (body : List ℕ) → o ≡ Some sent → IsSentAs o tag body → body ≡ body_of sent.content
+body_as None sent tag body by is = absurd (none-some sent by)
+body_as (Some s) sent None body by is = absurd is
+body_as (Some s) sent (Some tag) body by is = is.1 ∙ ap (λ (x : Sent). body_of x.content) (same_Some s sent by)
+
 pub heard_as : (q : ReqSetup) (h : History) (tag : ℕ) (body out : List ℕ) (reaction : Reaction) (sends : Bool) (new : Asking) → IsAnswered q h (hears q h false tag body no_values no_draw) reaction out new → sends ≡ is_some reaction.tag
-    → IsHeardAs q h tag body sends new
+    → IsHeardAs q h tag body sends new out
 heard_as q h tag body out reaction sends new is told = record {
   stands = is.stands;
   told = ap is_some is.event;
   sent = told ∙ sent_as (sent_by (hears q h false tag body no_values no_draw)) reaction.tag out is.sends;
+  room = λ sent by. body_as (sent_by (hears q h false tag body no_values no_draw)) sent reaction.tag out by is.sends;
 }
 
 module _ (w : Configuration) (q : ReqSetup) (older : List (List ℕ)) (k : Kept) (behind : responder_history.History) (round : Round) (tag : ℕ) (answer : List ℕ) (keeps : Keeps w q older k) (is : k.round ≡ Some round) (one : round.tag ≡ tag) where
@@ -217,15 +223,15 @@ module _ (w : Configuration) (q : ReqSetup) (older : List (List ℕ)) (k : Kept)
 
   -- and else what it is told.
   pub heard_asker : (old new : Asker) → IsAsker old q k → old.owes ≡ false → new.setup ≡ old.setup → length k.requester < 2 ^ 64 - 1
-      → ((p : ReqSetup) (h : History) → IsKeptSetup old.setup p → length h < 2 ^ 64 - 1 → StandsFor old.asking p h → IsHeardAs p h tag answer new.owes new.asking)
+      → ((p : ReqSetup) (h : History) → IsKeptSetup old.setup p → length h < 2 ^ 64 - 1 → StandsFor old.asking p h → IsHeardAs p h tag answer new.owes new.asking new.room)
       → IsAsker new q (heard_kept k behind tag round answer)
   heard_asker old new asker rests same few heard =
       let none : k.owed ≡ None = none_in k.owed (sym asker.owes ∙ rests) in
       let bare : (restored k).requester ≡ k.requester = ap (λ (o : Option Sent). owing o k.requester) none in
       let own : StandsFor old.asking k.setup k.requester = subst (λ (x : ReqSetup). StandsFor old.asking x k.requester) (sym asker.setup) (subst (StandsFor old.asking q) bare asker.stands) in
       let limits : IsKeptSetup old.setup k.setup = subst (IsKeptSetup old.setup) (sym asker.setup) asker.kept in
-      let here : IsHeardAs k.setup (restored k).requester tag answer new.owes new.asking = subst (λ (h : History). IsHeardAs k.setup h tag answer new.owes new.asking) (sym bare) (heard k.setup k.requester limits few own) in
-      let stands = heard_stands w q older k behind round tag answer keeps is one none new.asking new.owes here in
+      let here : IsHeardAs k.setup (restored k).requester tag answer new.owes new.asking new.room = subst (λ (h : History). IsHeardAs k.setup h tag answer new.owes new.asking new.room) (sym bare) (heard k.setup k.requester limits few own) in
+      let stands = heard_stands w q older k behind round tag answer keeps is one none new.asking new.owes new.room here in
       record {
         kept = subst (λ (x : AskerSetup). IsKeptSetup x q) (sym same) asker.kept;
         setup = asker.setup;
@@ -239,7 +245,7 @@ module _ (w : Configuration) (q : ReqSetup) (older : List (List ℕ)) (k : Kept)
 
   -- and else what it awaits behind, where it awaited no record before.
   pub heard_accepted : (old new : Asker) (before : Bool) (result : Option ℕ) → IsAsker old q k → old.owes ≡ false → length k.requester < 2 ^ 64 - 1
-      → ((p : ReqSetup) (h : History) → IsKeptSetup old.setup p → length h < 2 ^ 64 - 1 → StandsFor old.asking p h → IsHeardAs p h tag answer new.owes new.asking)
+      → ((p : ReqSetup) (h : History) → IsKeptSetup old.setup p → length h < 2 ^ 64 - 1 → StandsFor old.asking p h → IsHeardAs p h tag answer new.owes new.asking new.room)
       → ((p : ReqSetup) (h : History) → StandsFor old.asking p h → before ≡ is_some (session_awaited (outstanding h)))
       → ((p : ReqSetup) (h : History) → StandsFor new.asking p h → result ≡ cond before None (session_awaited (outstanding h)))
       → result ≡ accepted_from k tag answer
@@ -248,7 +254,7 @@ module _ (w : Configuration) (q : ReqSetup) (older : List (List ℕ)) (k : Kept)
       let bare : (restored k).requester ≡ k.requester = ap (λ (o : Option Sent). owing o k.requester) none in
       let own : StandsFor old.asking k.setup k.requester = subst (λ (x : ReqSetup). StandsFor old.asking x k.requester) (sym asker.setup) (subst (StandsFor old.asking q) bare asker.stands) in
       let limits : IsKeptSetup old.setup k.setup = subst (IsKeptSetup old.setup) (sym asker.setup) asker.kept in
-      let here : IsHeardAs k.setup (restored k).requester tag answer new.owes new.asking = subst (λ (h : History). IsHeardAs k.setup h tag answer new.owes new.asking) (sym bare) (heard k.setup k.requester limits few own) in
+      let here : IsHeardAs k.setup (restored k).requester tag answer new.owes new.asking new.room = subst (λ (h : History). IsHeardAs k.setup h tag answer new.owes new.asking new.room) (sym bare) (heard k.setup k.requester limits few own) in
       let first : before ≡ is_some (session_awaited (outstanding (restored k).requester)) = first_told k.setup k.requester own ∙ ap (λ (h : History). is_some (session_awaited (outstanding h))) (sym bare) in
       let last : History = after (restored k).requester (hears k.setup (restored k).requester false tag answer no_values no_draw) in
       told k.setup last here.stands ∙ ap (λ (b : Bool). cond b None (session_awaited (outstanding last))) first ∙ sym (accepted_is w q older k behind round tag answer keeps is one)

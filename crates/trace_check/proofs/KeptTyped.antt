@@ -42,7 +42,7 @@ steps_keep w P steady eid older d next (Ok p) step here = by_ends (is_request w.
     by_ends false true replies = steady.replies d (gathered_from eid w.responder.eid older p) next here replies
     by_ends false false same = subst P (sym same) here
 
-walks_keep : (w : Configuration) (P : Dialogue → Type 0) → IsSteady w P → (q : ReqSetup) (older : List (List ℕ)) (d : Dialogue) → Walks w q older d → P d
+pub walks_keep : (w : Configuration) (P : Dialogue → Type 0) → IsSteady w P → (q : ReqSetup) (older : List (List ℕ)) (d : Dialogue) → Walks w q older d → P d
 unfolding StepsTo
 walks_keep w P steady q [] d walk = subst P (sym walk) (steady.begins q)
 walks_keep w P steady q (packet ∷ older) d walk = steps_keep w P steady q.eid older walk.0 d (parsed packet) walk.2 (walks_keep w P steady q older walk.0 walk.1)

@@ -46,3 +46,6 @@ pub mod ApartJudged
 pub mod JudgedInClear
 pub mod BodyJudged
 pub mod KeptTyped
+pub mod ChunkAsked
+pub mod KnownFetches
+pub mod FetchesUpon

@@ -69,7 +69,7 @@ upon_record q h f came ask led (ByUpdate all asks is) = subst (λ (l : Led). IsS
 upon_record q h f came ask led (ByFirst op handle follows is) = subst (λ (l : Led). IsSentUpon came.id l.next) (sym is) refl
 upon_record q h f came ask led (ByChunk op handle number before c asks none last is) = subst (λ (l : Led). IsSentUpon came.id l.next) (sym is) refl
 
-heard_newest : (q : ReqSetup) (h : History) (owner : Bool) (tag : ℕ) (body : List ℕ) (f : Free) (d : Draw) (e : Entry) → hears q h owner tag body f d ≡ Adds e → IsNewest (e ∷ h)
+pub heard_newest : (q : ReqSetup) (h : History) (owner : Bool) (tag : ℕ) (body : List ℕ) (f : Free) (d : Draw) (e : Entry) → hears q h owner tag body f d ≡ Adds e → IsNewest (e ∷ h)
 heard_newest q h owner tag body f d e adds = elim (heard q h owner tag body f d e adds) [
   | inl taken ↦ subst (λ (x : Entry). IsNewest (x ∷ h)) (sym taken.is) tt
   | inr opened ↦ subst (λ (x : Entry). IsNewest (x ∷ h)) (sym opened.1.is)

@@ -24,7 +24,7 @@ use Rattle.capture_laws.specs.ApartShown.{IsApartShown}
 use Rattle.trace_check.specs.Asker.{IsAsker}
 use Rattle.capture_laws.specs.AnswersShown.{values_shown_by}
 use Rattle.capture_laws.specs.DropsShown.{IsShownAnswer, drops_shown_by, outcome_shown}
-use Rattle.trace_check.specs.HeardKept.{heard_kept}
+use Rattle.trace_check.specs.HeardKept.{asks_upon, heard_kept}
 use Rattle.capture_laws.specs.Keeping.{Keeps, Kept, RepliesKept, restored}
 use Rattle.capture_laws.specs.LargeShown.{IsShownLarge}
 use Rattle.capture_laws.specs.Order.{replies_wrong}
@@ -32,7 +32,7 @@ use Rattle.capture_laws.specs.Judged.{why_of}
 use Rattle.trace_check.specs.Party.{IsParty}
 use Rattle.capture_laws.specs.Order.{body_in, tag_in}
 use Rattle.trace_check.specs.ClearAnswers.{EndsLarge}
-use Rattle.trace_check.specs.PartyReplies.{IsGivenNever, IsGoingWhy, IsReplied}
+use Rattle.trace_check.specs.PartyReplies.{IsGivenNever, IsGoingWhy, IsReplied, onward_by}
 use Rattle.capture_laws.specs.RepliesShown.{AnswersRound, PlainlyKept, answered_from, responder_for}
 use Rattle.capture_laws.specs.RepliesTold.{UnfetchedKept}
 use Rattle.trace_check.specs.declared.asker.Asker.{Asker}
@@ -67,15 +67,23 @@ module _ (w : Configuration) (q : ReqSetup) (older : List (List ℕ)) (k : Kept)
   kept_by next c = (replies_are_told w q older k next (Whole route answer) byte limits keeps).1 c
 
   -- Whole.
-  pub goes_whole : (new : Party) → IsShownAnswer r h round.tag round.body answer → AreBehind new (history_shown r h round.tag round.body answer) → IsReplied w q k route answer (Ok onward.Kept) new
+  stays_whole : (new : Party) → IsShownAnswer r h round.tag round.body answer → AreBehind new (history_shown r h round.tag round.body answer) → asks_upon k route.tag answer ≡ false → IsReplied w q k route answer (Ok onward.Kept) new
   unfolding answered_from
-  goes_whole new shown are idle =
+  stays_whole new shown are idle =
       let next : Kept = heard_kept k (history_shown r h round.tag round.body answer) route.tag round answer in
       (next, kept_by next (inl (turn.body, turn.owner, (round, turn.answers, shown, idle, refl))), party_behind new (history_shown r h round.tag round.body answer) are)
 
   -- A part of a large answer.
-  pub is_part : (new : Party) → IsShownLarge r h round.tag round.body answer ⊎ EndsLarge r h round.tag round.body answer → IsReplied w q k route answer (Ok onward.Large) new
+  pub is_part : (new : Party) → IsShownLarge r h round.tag round.body answer ⊎ (EndsLarge r h round.tag round.body answer ⊎ (IsShownAnswer r h round.tag round.body answer × (asks_upon k route.tag answer ≡ true)))
+      → IsReplied w q k route answer (Ok onward.Large) new
   is_part new part = (round, turn.answers, part)
+
+  pub goes_whole : (new : Party) → IsShownAnswer r h round.tag round.body answer → AreBehind new (history_shown r h round.tag round.body answer) → IsReplied w q k route answer (Ok (onward_by (asks_upon k route.tag answer))) new
+  goes_whole new shown are = by_asks (asks_upon k route.tag answer) refl
+    where
+      by_asks : (b : Bool) → asks_upon k route.tag answer ≡ b → IsReplied w q k route answer (Ok (onward_by b)) new
+      by_asks true asks = is_part new (inr (inr (shown, asks)))
+      by_asks false idle = stays_whole new shown are idle
 
   -- ---- None of them.
 

@@ -1,9 +1,8 @@
 -- What is told of an answer, by what is kept of a requester and the responder. This project's own.
-use Rattle.std.specs.Prelude.{◌≡◌, ◌⊎◌, ℕ, List, slice_index, false, Option, Some, None, Result, Ok, Err}
+use Rattle.std.specs.Prelude.{◌≡◌, ◌⊎◌, ℕ, List, slice_index, if◌then◌else◌, Bool, true, Option, Some, None, Result, Ok, Err}
 use Rattle.mctp_framing.specs.Cutting.{RouteFields}
 use Rattle.mctp_framing.specs.Gathering.{Gathered}
 use Rattle.mctp_framing.specs.Gathering.Gathered.{Whole}
-use Rattle.requester_machine.specs.History.{outstanding}
 use Rattle.requester_machine.specs.Setup.{ReqSetup}
 use Rattle.responder_machine.specs.Setup.{RspSetup}
 use Rattle.script_text.specs.declared.why.Why as declared
@@ -14,8 +13,9 @@ use Rattle.capture_laws.specs.DropsShown.{IsShownAnswer}
 use Rattle.capture_laws.specs.Judged.{why_of}
 use Rattle.capture_laws.specs.Keeping.{Kept, RepliesKept, restored}
 use Rattle.capture_laws.specs.LargeShown.{IsShownLarge}
+use Rattle.trace_check.specs.HeardKept.{asks_upon}
 use Rattle.trace_check.specs.Party.{IsParty}
-use Rattle.capture_laws.specs.RepliesShown.{AnswersRound, heard_from, responder_for}
+use Rattle.capture_laws.specs.RepliesShown.{AnswersRound, responder_for}
 use Rattle.trace_check.specs.declared.answerer.Answerer.{Answerer}
 use Rattle.trace_check.specs.declared.given.Given.{Given}
 use Rattle.trace_check.specs.declared.given.Given.TheVariants as given
@@ -26,7 +26,6 @@ use Rattle.trace_check.specs.declared.onward.Onward.TheVariants as onward
 use Rattle.trace_check.specs.declared.party.Party.{Party}
 use Rattle.world_machine.specs.Difference.{GoesApart, Why, goes_why}
 use Rattle.world_machine.specs.Difference.Why.{BadVerify}
-use Rattle.world_machine.specs.LargeAnswers.{is_fetching}
 use Rattle.world_machine.specs.Rounds.{Dialogue, Round}
 use Rattle.world_machine.specs.Setup.{Configuration}
 
@@ -63,17 +62,22 @@ abbrev pub IsGoingWhy : RspSetup → Kept → Gathered → Why → Type 0
 IsGoingWhy r k g BadVerify = GoesApart r (restored k) g
 IsGoingWhy r k g why = (GoesApart r (restored k) g → ⊥) × (goes_why r (restored k) g ≡ Some why)
 
--- It begins a large answer, or ends one.
+-- It begins a large answer, or ends one; or it is LargeResponse again, by which a fetch begins: a repeat upon which the
+-- requester asks for a chunk.
 abbrev pub IsPartOfLarge : Configuration → Kept → ℕ → (answer : List ℕ) → Type 0
 IsPartOfLarge w k tag answer =
     (round : Round) × AnswersRound k tag round
-    × (IsShownLarge (responder_for w k) k.responder round.tag round.body answer ⊎ EndsLarge (responder_for w k) k.responder round.tag round.body answer)
+    × (IsShownLarge (responder_for w k) k.responder round.tag round.body answer
+    ⊎ (EndsLarge (responder_for w k) k.responder round.tag round.body answer
+    ⊎ (IsShownAnswer (responder_for w k) k.responder round.tag round.body answer × (asks_upon k tag answer ≡ true))))
 
--- Of an answer that goes on, likewise. Nothing is said yet of LargeResponse again upon which the requester asks for a
--- chunk: it is told as any repeat.
+-- What is told of one that goes whole, by whether the requester asks for a chunk upon it.
+abbrev pub onward_by : Bool → Onward
+onward_by asks = if asks then onward.Large else onward.Kept
+
+-- Of an answer that goes on, likewise.
 abbrev pub RepliesOnward : Configuration → ReqSetup → Kept → RouteFields → (answer : List ℕ) → Onward → (new : Party) → Type 0
-RepliesOnward w q k route answer onward.Kept new =
-    is_fetching (outstanding (heard_from k route.tag answer)) ≡ false → (next : Kept) × RepliesKept w k (Whole route answer) next × IsParty new w q next
+RepliesOnward w q k route answer onward.Kept new = (next : Kept) × RepliesKept w k (Whole route answer) next × IsParty new w q next
 RepliesOnward w q k route answer onward.Large new = IsPartOfLarge w k route.tag answer
 
 -- Of an answer: it goes on, or it is refused, and then why.

@@ -20,13 +20,12 @@ impl Party {
     ghost use Rattle.trace_check.specs.AnswerKeys.{IsComingKey, StandFor};
     ghost use Rattle.trace_check.specs.Answerer.{IsAnswerer};
     ghost use Rattle.trace_check.specs.Asker.{IsAsker};
-    ghost use Rattle.trace_check.specs.HeardKept.{heard_kept};
+    ghost use Rattle.trace_check.specs.HeardKept.{asks_upon, heard_kept};
     ghost use Rattle.capture_laws.specs.Keeping.{Keeps, Kept};
     ghost use Rattle.capture_laws.specs.Order.{answered_why, body_in, tag_in};
     ghost use Rattle.trace_check.specs.Party.{IsParty};
-    ghost use Rattle.trace_check.specs.PartyReplies.{IsReplied};
+    ghost use Rattle.trace_check.specs.PartyReplies.{IsReplied, onward_by};
     ghost use Rattle.capture_laws.specs.RepliesShown.{responder_for};
-    ghost use Rattle.trace_check.specs.declared.onward.Onward.TheVariants as onward;
     ghost use Rattle.world_machine.specs.Rounds as rounds;
     ghost use Rattle.world_machine.specs.Setup.{Configuration};
 
@@ -41,7 +40,7 @@ impl Party {
     ) -> Result<Onward, Why>
         requires { length answer.now ≤ 4161 }
         ensures { (w : Configuration) (q : ReqSetup) (older : List (List ℕ)) (k : Kept)
-            (route : RouteFields) → Keeps w q older k → length older < 2 ^ 64 - 1
+            (route : RouteFields) → Keeps w q older k → length older < 2 ^ 64 - 2
             → w.responder.beat < 256 → round.now ≡ k.round
             → IsSetUp setup.now (responder_for w k)
             → answered_why k.round (Whole route answer.now) ≡ None → IsParty self.old w q k
@@ -59,9 +58,13 @@ impl Party {
         }
     }
 
-    // An answer was given, with the key of the answer to its request: both ends go on.
+    // An answer was given, with the key of the answer to its request: both ends go on. A large answer is
+    // fetched from then on where the requester asks for a chunk upon it.
     fn go_on(&mut self, round: &Round, key: Option<AnswerKey>, answer: &[u8]) -> Onward
-        ensures result { result ≡ onward.Kept }
+        ensures result { (w : Configuration) (q : ReqSetup) (older : List (List ℕ)) (k : Kept)
+            (of : rounds.Round) → Keeps w q older k → length older < 2 ^ 64 - 2
+            → k.round ≡ Some of → round.now ≡ Some of → IsAsker self.old.asker q k
+            → result ≡ onward_by (asks_upon k of.tag answer.now) }
         ensures answerer { self.new.answerer ≡ self.old.answerer }
         ensures keys { (r : RspSetup) (h : History) (ids : List ℕ) (f : Free) (d : Draw)
             → StandFor self.old.keys r h → IsComingKey r h (body_in round.now) key
@@ -77,7 +80,9 @@ impl Party {
     {
         self.keys
             .follow(&self.answerer.connection, round.body(), key);
-        let _ = self.asker.hears(round.tag(), answer);
+        if self.asker.fetches(round.tag(), answer) {
+            return Onward::Large;
+        }
         Onward::Kept
     }
 }
