@@ -52,25 +52,25 @@ use Rattle.large_requests.proofs.UponClear.{owed_upon}
 -- ---- What is kept before it.
 
 module _ (w : Configuration) (q : ReqSetup) (older : List (List ℕ)) (k : Kept) (keeps : Keeps w q older k) where
-  abbrev e : Dialogue
+  abbrev pub e : Dialogue
   e = restored k
 
-  walk_e : Walks w q older e
+  pub walk_e : Walks w q older e
   walk_e = (kept_is_restored w q older k keeps).0
 
-  back : kept_of e ≡ k
+  pub back : kept_of e ≡ k
   back = (kept_is_restored w q older k keeps).1
 
-  bare_e : without_owed e ≡ k.requester
+  pub bare_e : without_owed e ≡ k.requester
   bare_e = ap (λ (x : Kept). x.requester) back
 
-  alike_e : AskersAlike k.round e.requester e.requester None None
+  pub alike_e : AskersAlike k.round e.requester e.requester None None
   alike_e = (walks_alike w q older e e walk_e walk_e).alike.askers
 
   next_at : next_tag k.requester ≡ following_tag k.round
   next_at = ap next_tag (sym bare_e) ∙ tag_by k.round e.requester e.requester None None alike_e refl (owes e) refl
 
-  owes_e : (s : Sent) → k.owed ≡ Some s → owes e ≡ true
+  pub owes_e : (s : Sent) → k.owed ≡ Some s → owes e ≡ true
   owes_e s is = by_owes (owes e) refl
     where
       by_owes : (b : Bool) → owes e ≡ b → owes e ≡ true

@@ -15,3 +15,4 @@ pub mod PiecesShown
 pub mod CommandsShown
 pub mod PiecesHeld
 pub mod PiecesTold
+pub mod Meanwhile

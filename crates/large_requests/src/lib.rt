@@ -11,8 +11,9 @@ mod laws;
 mod pieces;
 
 pub use laws::{
-    begun_is_sending, first_is_shown, last_is_whole, open_is_shown, piece_is_shown, sending_asks,
-    sending_begins, sending_ends, sending_is_asked, sending_is_replied, sending_replies,
-    sending_stays, sending_tells_apart, sending_tells_why, whole_is_shown,
+    begun_is_sending, first_is_shown, last_is_whole, open_is_shown, owed_may_begin, piece_is_shown,
+    sending_asks, sending_begins, sending_connects, sending_ends, sending_is_alone,
+    sending_is_asked, sending_is_replied, sending_replies, sending_stays, sending_tells_apart,
+    sending_tells_why, whole_is_shown,
 };
 pub use pieces::{Piece, Pieces};
