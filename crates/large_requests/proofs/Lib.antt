@@ -16,3 +16,4 @@ pub mod CommandsShown
 pub mod PiecesHeld
 pub mod PiecesTold
 pub mod Meanwhile
+pub mod RequestsTold

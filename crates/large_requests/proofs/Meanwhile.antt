@@ -8,7 +8,6 @@ use Rattle.requester_machine.specs.Message.{Sent}
 use Rattle.requester_machine.specs.Message.Command.{Connect}
 use Rattle.requester_machine.specs.Owed.{with_next}
 use Rattle.requester_machine.specs.Sending.{plain_sent}
-use Rattle.requester_machine.specs.Setup.{ReqSetup}
 use Rattle.spdm_grammar.specs.Message.RequestMessage.{GetVersion}
 use Rattle.spdm_grammar.specs.Requests.{canonical_request}
 use Rattle.spdm_machine.specs.Bodies.{clear_body}
@@ -21,8 +20,7 @@ use Rattle.world_machine.proofs.AskersStep.{connect_body, owed}
 use Rattle.world_machine.specs.Capture.{may_begin}
 use Rattle.world_machine.specs.CapturedRequests.{Tells}
 use Rattle.world_machine.specs.Rounds.{Dialogue, following_tag, no_draw}
-use Rattle.world_machine.specs.Setup.{Configuration}
-use Rattle.large_requests.specs.Sending.{Beginning, IsSendingOf, Sending, dialogue_of, is_upon_clear}
+use Rattle.large_requests.specs.Sending.{Beginning, dialogue_of, is_upon_clear}
 use Rattle.large_requests.specs.SendingLaws.{ConnectsSending, OwedMayBegin, SendingConnects, SendingIsAlone, whole_kept, without_due}
 use Rattle.large_requests.proofs.Begun.{alike_e, back, bare_e, e, owes_e, walk_e}
 use Rattle.large_requests.proofs.UponClear.{owed_upon}
