@@ -1,25 +1,22 @@
 -- The first chunk of a large request.
-use Rattle.std.proofs.Common.{◌≡◌, ◌<◌, ◌+◌, ◌⊎◌, ℕ, List, [], ◌∷◌, refl, sym, ap, ◌∙◌, subst, length, take, Bool, true, false, Option, Some, None, Ok, cond, inl, inr}
-use Rattle.std.proofs.lemmas.Bool.{false≢true}
+use Rattle.std.proofs.Common.{◌≡◌, ◌<◌, ◌+◌, ◌⊎◌, ℕ, List, [], ◌∷◌, refl, sym, ap, ◌∙◌, subst, length, take, Bool, true, false, Option, Some, None, Ok, inl, inr}
 use Rattle.std.proofs.lemmas.Option.{none-some, same_Some}
 use Rattle.chunking.specs.Cutting.{chunk_end}
 use Rattle.mctp_framing.specs.Gathering.{Gathered}
 use Rattle.mctp_framing.specs.Gathering.Gathered.{Whole, More, Dropped}
-use Rattle.requester_machine.specs.Asking.{Outcome}
 use Rattle.requester_machine.specs.Asking.Outcome.{Adds}
 use Rattle.requester_machine.specs.History.{History, begins_large, connection_terms, next_handle, next_tag, outstanding}
 use Rattle.requester_machine.specs.History.Entry.{Told}
 use Rattle.requester_machine.specs.May.{MayAsk}
-use Rattle.requester_machine.specs.Message.{Command, Sent, asked_in, body_of}
+use Rattle.requester_machine.specs.Message.{Sent, asked_in, body_of}
 use Rattle.requester_machine.specs.Owed.{with_next}
 use Rattle.requester_machine.specs.Setup.{ReqSetup}
-use Rattle.spdm_grammar.specs.Message.{ChunkMessage, RequestMessage}
+use Rattle.spdm_grammar.specs.Message.{ChunkMessage}
 use Rattle.spdm_grammar.specs.Message.RequestMessage.{ChunkSend}
 use Rattle.spdm_grammar.specs.Requests.{canonical_request}
 use Rattle.spdm_machine.specs.Bodies.{clear_body}
 use Rattle.spdm_machine.specs.Packets.{gathered_from}
 use Rattle.spdm_machine.specs.Terms.{Terms}
-use Rattle.capture_laws.proofs.Allowed.{agree_equals, allowed_same}
 use Rattle.capture_laws.proofs.GoingOn.{none_sent, owes_same}
 use Rattle.capture_laws.proofs.KeptAnswers.{kept_is_restored}
 use Rattle.capture_laws.proofs.KeptParts.{bare, bare_agree, both_owe, it_owes, next_twice, none_later, none_owed, owed_is}
@@ -28,14 +25,13 @@ use Rattle.capture_laws.specs.Keeping.{Keeps, Kept, kept_of, owing, restored}
 use Rattle.capture_laws.specs.Walks.{StepsBy, Walks}
 use Rattle.world_machine.proofs.Agrees.{Agree}
 use Rattle.world_machine.proofs.Alike.{Alike}
-use Rattle.world_machine.proofs.AskersAlike.{AskersAlike, alike_aim, none_tag, piece_same}
-use Rattle.world_machine.proofs.AskersAlike.AskersAlike.{Settled, Owing, Shown, Due}
+use Rattle.world_machine.proofs.AskersAlike.{AskersAlike, alike_aim}
 use Rattle.world_machine.proofs.AskersStep.{owed, unowed}
-use Rattle.world_machine.proofs.AsksAlike.{asks_same, handle_same, terms_same}
+use Rattle.world_machine.proofs.AsksAlike.{terms_same}
 use Rattle.world_machine.proofs.SentFacts.{large_free}
 use Rattle.world_machine.specs.Capture.{AsksBy, Begins, Copies, may_begin}
 use Rattle.world_machine.specs.CapturedRequests.{BeginsLarge, BeginsOwed, Sends, is_later, owes, without_owed}
-use Rattle.world_machine.specs.LargeRequests.{IsLargeRequest, MayHaveBegun, common_of, first_piece, piece_with, still_sending}
+use Rattle.world_machine.specs.LargeRequests.{IsLargeRequest, MayHaveBegun, common_of, first_piece, still_sending}
 use Rattle.world_machine.specs.Rounds.{Dialogue, Round, following_tag, no_draw}
 use Rattle.world_machine.specs.Setup.{Configuration}
 use Rattle.large_requests.specs.Sending.{Beginning, IsSendingOf, MayBegin, MaySend, MayStand, Sending, SendsAs, asked_of, begun_with, count_of, dialogue_of, is_upon_clear}
@@ -52,25 +48,25 @@ use Rattle.large_requests.proofs.UponClear.{owed_upon}
 -- ---- What is kept before it.
 
 module _ (w : Configuration) (q : ReqSetup) (older : List (List ℕ)) (k : Kept) (keeps : Keeps w q older k) where
-  abbrev e : Dialogue
+  abbrev pub e : Dialogue
   e = restored k
 
-  walk_e : Walks w q older e
+  pub walk_e : Walks w q older e
   walk_e = (kept_is_restored w q older k keeps).0
 
-  back : kept_of e ≡ k
+  pub back : kept_of e ≡ k
   back = (kept_is_restored w q older k keeps).1
 
-  bare_e : without_owed e ≡ k.requester
+  pub bare_e : without_owed e ≡ k.requester
   bare_e = ap (λ (x : Kept). x.requester) back
 
-  alike_e : AskersAlike k.round e.requester e.requester None None
+  pub alike_e : AskersAlike k.round e.requester e.requester None None
   alike_e = (walks_alike w q older e e walk_e walk_e).alike.askers
 
   next_at : next_tag k.requester ≡ following_tag k.round
   next_at = ap next_tag (sym bare_e) ∙ tag_by k.round e.requester e.requester None None alike_e refl (owes e) refl
 
-  owes_e : (s : Sent) → k.owed ≡ Some s → owes e ≡ true
+  pub owes_e : (s : Sent) → k.owed ≡ Some s → owes e ≡ true
   owes_e s is = by_owes (owes e) refl
     where
       by_owes : (b : Bool) → owes e ≡ b → owes e ≡ true

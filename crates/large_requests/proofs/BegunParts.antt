@@ -1,52 +1,23 @@
 -- What a first chunk hangs on.
-use Rattle.std.proofs.Common.{◌≡◌, ◌<◌, ◌+◌, ◌⊎◌, ℕ, List, [], ◌∷◌, refl, sym, ap, ◌∙◌, subst, length, take, Bool, true, false, Option, Some, None, Ok, cond, inl, inr}
+use Rattle.std.proofs.Common.{◌≡◌, ℕ, List, refl, sym, ap, ◌∙◌, subst, Bool, true, false, Option, None, cond}
 use Rattle.std.proofs.lemmas.Bool.{false≢true}
-use Rattle.std.proofs.lemmas.Option.{none-some, same_Some}
-use Rattle.chunking.specs.Cutting.{chunk_end}
-use Rattle.mctp_framing.specs.Gathering.{Gathered}
-use Rattle.mctp_framing.specs.Gathering.Gathered.{Whole, More, Dropped}
+use Rattle.std.proofs.lemmas.Option.{none-some}
 use Rattle.requester_machine.specs.Asking.{Outcome}
-use Rattle.requester_machine.specs.Asking.Outcome.{Adds}
-use Rattle.requester_machine.specs.History.{History, begins_large, connection_terms, next_handle, next_tag, outstanding}
-use Rattle.requester_machine.specs.History.Entry.{Told}
+use Rattle.requester_machine.specs.History.{History, next_handle, next_tag, outstanding}
 use Rattle.requester_machine.specs.May.{MayAsk}
-use Rattle.requester_machine.specs.Message.{Command, Sent, asked_in, body_of}
+use Rattle.requester_machine.specs.Message.{Command}
 use Rattle.requester_machine.specs.Owed.{with_next}
 use Rattle.requester_machine.specs.Setup.{ReqSetup}
-use Rattle.spdm_grammar.specs.Message.{ChunkMessage, RequestMessage}
-use Rattle.spdm_grammar.specs.Message.RequestMessage.{ChunkSend}
-use Rattle.spdm_grammar.specs.Requests.{canonical_request}
-use Rattle.spdm_machine.specs.Bodies.{clear_body}
-use Rattle.spdm_machine.specs.Packets.{gathered_from}
-use Rattle.spdm_machine.specs.Terms.{Terms}
+use Rattle.spdm_grammar.specs.Message.{RequestMessage}
 use Rattle.capture_laws.proofs.Allowed.{agree_equals, allowed_same}
-use Rattle.capture_laws.proofs.GoingOn.{none_sent, owes_same}
-use Rattle.capture_laws.proofs.KeptAnswers.{kept_is_restored}
-use Rattle.capture_laws.proofs.KeptParts.{bare, bare_agree, both_owe, it_owes, next_twice, none_later, none_owed, owed_is}
-use Rattle.capture_laws.proofs.OneWalk.{not_later, walks_alike}
-use Rattle.capture_laws.specs.Keeping.{Keeps, Kept, kept_of, owing, restored}
-use Rattle.capture_laws.specs.Walks.{StepsBy, Walks}
 use Rattle.world_machine.proofs.Agrees.{Agree}
-use Rattle.world_machine.proofs.Alike.{Alike}
-use Rattle.world_machine.proofs.AskersAlike.{AskersAlike, alike_aim, none_tag, piece_same}
+use Rattle.world_machine.proofs.AskersAlike.{AskersAlike, none_tag, piece_same}
 use Rattle.world_machine.proofs.AskersAlike.AskersAlike.{Settled, Owing, Shown, Due}
-use Rattle.world_machine.proofs.AskersStep.{owed, unowed}
 use Rattle.world_machine.proofs.AsksAlike.{asks_same, handle_same, terms_same}
-use Rattle.world_machine.proofs.SentFacts.{large_free}
-use Rattle.world_machine.specs.Capture.{AsksBy, Begins, Copies, may_begin}
-use Rattle.world_machine.specs.CapturedRequests.{BeginsLarge, BeginsOwed, Sends, is_later, owes, without_owed}
-use Rattle.world_machine.specs.LargeRequests.{IsLargeRequest, MayHaveBegun, common_of, first_piece, piece_with, still_sending}
-use Rattle.world_machine.specs.Rounds.{Dialogue, Round, following_tag, no_draw}
-use Rattle.world_machine.specs.Setup.{Configuration}
-use Rattle.large_requests.specs.Sending.{Beginning, IsSendingOf, MayBegin, MaySend, MayStand, Sending, SendsAs, asked_of, begun_with, count_of, dialogue_of, is_upon_clear}
-use Rattle.large_requests.specs.Sending.Beginning.{ByCommand, ByItself}
-use Rattle.large_requests.specs.SendingLaws.{BeginsSending, BegunIsSending, SendingBegins, begun_sending, first_body}
-use Rattle.large_requests.proofs.Cuts.{ends_within, same_chunk, two_chunks}
-use Rattle.large_requests.proofs.Histories.{begun_waits, next_terms, upon_waits}
-use Rattle.large_requests.proofs.LargeSizes.{above, chunk_size, large_at}
-use Rattle.large_requests.proofs.NextPiece.{no_copies}
-use Rattle.large_requests.proofs.Onward.{Onward, asked, asks, came, keeps_on, stands_by}
-use Rattle.large_requests.proofs.UponClear.{owed_upon}
+use Rattle.world_machine.specs.CapturedRequests.{is_later}
+use Rattle.world_machine.specs.LargeRequests.{first_piece, piece_with}
+use Rattle.world_machine.specs.Rounds.{Round, following_tag, no_draw}
+use Rattle.large_requests.proofs.Onward.{asked}
 
 -- ---- Tags.
 

@@ -15,3 +15,5 @@ pub mod PiecesShown
 pub mod CommandsShown
 pub mod PiecesHeld
 pub mod PiecesTold
+pub mod Meanwhile
+pub mod RequestsTold

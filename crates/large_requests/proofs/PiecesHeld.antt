@@ -1,5 +1,5 @@
 -- What the program keeps of a large request, chunk by chunk.
-use Rattle.std.proofs.Common.{◌≡◌, ◌≢◌, ◌<◌, ◌≤◌, ◌+◌, ◌-◌, ◌*◌, ◌==◌, ◌++◌, ℕ, List, [], ◌∷◌, refl, sym, ap, ◌∙◌, subst, length, drop, take, min, Bool, true, false, Option, Some, None, arith, add-one, eq-eqb, inl, inr, ne_eqb}
+use Rattle.std.proofs.Common.{◌≡◌, ◌<◌, ◌≤◌, ◌+◌, ◌-◌, ◌*◌, ◌++◌, ℕ, List, refl, sym, ap, ◌∙◌, subst, length, drop, take, min, Bool, true, false, Some, None, arith, add-one, eq-eqb, inl, inr, ne_eqb}
 use Rattle.std.proofs.lemmas.Bool.{cases_order}
 use Rattle.std.proofs.lemmas.Grind.{div_ceil_times}
 use Rattle.std.proofs.lemmas.Nat.{mul-le}
@@ -8,7 +8,6 @@ use Rattle.chunking.specs.Cutting.{chunk_end, unit_of}
 use Rattle.requester_machine.specs.History.{negotiation_of, next_handle}
 use Rattle.requester_machine.specs.Setup.{ReqSetup}
 use Rattle.spdm_basis.proofs.Bools.{suc_units}
-use Rattle.spdm_grammar.specs.Fields.{IsSoundChunk}
 use Rattle.spdm_grammar.specs.Message.{ChunkMessage}
 use Rattle.spdm_grammar.specs.Message.RequestMessage.{ChunkSend}
 use Rattle.spdm_grammar.specs.Requests.{canonical_request}
@@ -16,16 +15,14 @@ use Rattle.spdm_grammar.specs.declared.names.TheConstants.{MAX_MESSAGE_SIZE}
 use Rattle.spdm_machine.specs.Bodies.{clear_body}
 use Rattle.capture_laws.specs.Keeping.{Kept}
 use Rattle.world_machine.specs.LargeRequests.{IsLargeRequest, common_of}
-use Rattle.world_machine.specs.Rounds.{new_round}
 use Rattle.world_machine.specs.Setup.{Configuration}
 use Rattle.large_requests.specs.Pieces.{IsFirstOf, IsNextOf, IsPieces, size_in}
-use Rattle.large_requests.specs.Sending.{Ack, IsSendingOf, MayStand, Sending, chunk_body, count_of, handle_of, is_last, number_of, transfer_of}
-use Rattle.large_requests.specs.SendingLaws.{begun_sending, first_body}
-use Rattle.large_requests.specs.SendingShown.{IsLargeSize, first_shown, more_of, piece_shown}
+use Rattle.large_requests.specs.Sending.{IsSendingOf, MayStand, Sending, chunk_body, count_of, handle_of, is_last, number_of, transfer_of}
+use Rattle.large_requests.specs.SendingLaws.{first_body}
+use Rattle.large_requests.specs.SendingShown.{IsLargeSize, more_of, piece_shown}
 use Rattle.large_requests.specs.declared.pieces.Piece.TheVariants as piece
 use Rattle.large_requests.specs.declared.pieces.Pieces.{Pieces}
 use Rattle.large_requests.proofs.LargeSizes.{terms_wide}
-use Rattle.large_requests.proofs.Onward.{some_size}
 use Rattle.large_requests.proofs.PiecesShown.{first_is_shown, last_is_whole, piece_is_shown}
 
 -- CHUNK_SEND with the first chunk that tells a length, and with a later one.

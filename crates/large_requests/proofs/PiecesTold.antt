@@ -1,5 +1,5 @@
 -- What is told of a chunk by its comparison with the cut.
-use Rattle.std.proofs.Common.{◌≡◌, ◌<◌, ◌≤◌, ◌+◌, ◌-◌, ◌*◌, ◌==◌, ◌++◌, ℕ, List, [], refl, sym, ap, ◌∙◌, subst, length, drop, min, Bool, true, false, Option, Some, None, Result, Ok, Err, is_some, arith, ne_eqb}
+use Rattle.std.proofs.Common.{◌≡◌, ◌<◌, ◌≤◌, ◌+◌, ◌-◌, ◌++◌, ℕ, List, [], refl, sym, ap, ◌∙◌, length, drop, min, Bool, true, false, Some, None, Result, Ok, Err, arith, ne_eqb}
 use Rattle.std.specs.Prelude.{◌↔◌, IsTrue, OnErr, OnOk, nat_le}
 use Rattle.std.specs.Result.{is_err, result_ok}
 use Rattle.std.proofs.lemmas.Bool.{false≢true}
@@ -19,7 +19,7 @@ use Rattle.large_requests.specs.Pieces.{IsFirstOf, IsNextOf, IsPieces, size_in}
 use Rattle.large_requests.specs.Sending.{IsSendingOf, Sending, is_last, number_of}
 use Rattle.large_requests.specs.declared.pieces.Piece.TheVariants as piece
 use Rattle.large_requests.specs.declared.pieces.Pieces.{Pieces}
-use Rattle.large_requests.proofs.PiecesHeld.{Tells, at_end, at_last, between, few_chunks, first_chunk, last_fits, later_chunk, none_told, not_last, other, some_told, unit_is, wide}
+use Rattle.large_requests.proofs.PiecesHeld.{at_end, at_last, between, few_chunks, first_chunk, last_fits, later_chunk, none_told, not_last, other, some_told, unit_is, wide}
 
 -- ---- Results.
 

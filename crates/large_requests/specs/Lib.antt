@@ -2,3 +2,4 @@ pub mod Sending
 pub mod SendingLaws
 pub mod SendingShown
 pub mod Pieces
+pub mod LargeRequests

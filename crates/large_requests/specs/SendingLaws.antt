@@ -4,14 +4,16 @@ use Rattle.chunking.specs.Cutting.{chunk_end, nth_chunk}
 use Rattle.mctp_framing.specs.Gathering.{Gathered}
 use Rattle.mctp_framing.specs.Gathering.Gathered.{Whole, More, Dropped}
 use Rattle.mctp_framing.specs.Packet.{PacketFields, parsed}
-use Rattle.requester_machine.specs.History.{History, next_handle}
+use Rattle.requester_machine.specs.History.{History, begins_large, next_handle}
 use Rattle.requester_machine.specs.May.{IsSetUp}
+use Rattle.requester_machine.specs.Message.{Sent, asked_in}
 use Rattle.requester_machine.specs.Message.Command.{Connect}
 use Rattle.requester_machine.specs.Owed.{with_next}
 use Rattle.requester_machine.specs.Setup.{ReqSetup}
 use Rattle.responder_machine.specs.History as responder_history
 use Rattle.responder_machine.specs.Setup.{towards}
-use Rattle.spdm_grammar.specs.Message.RequestMessage.{ChunkSend}
+use Rattle.spdm_grammar.specs.Message.{RequestMessage}
+use Rattle.spdm_grammar.specs.Message.RequestMessage.{ChunkSend, GetVersion}
 use Rattle.spdm_grammar.specs.Requests.{canonical_request}
 use Rattle.spdm_machine.specs.Bodies.{clear_body}
 use Rattle.spdm_machine.specs.Packets.{gathered_from}
@@ -26,6 +28,7 @@ use Rattle.world_machine.specs.LargeRequests.{IsLargeRequest, common_of}
 use Rattle.world_machine.specs.Rounds.{Dialogue, following_tag, new_round}
 use Rattle.world_machine.specs.Setup.{Configuration, known_of}
 use Rattle.large_requests.specs.Sending.{Ack, Beginning, IsSendingOf, MayBegin, MaySend, MayStand, Sending, asked_of, chunk_body, is_last, number_of, requester_of, transfer_of}
+use Rattle.large_requests.specs.Sending.Beginning.{ByItself}
 
 -- ---- The first chunk.
 
@@ -65,6 +68,15 @@ BegunIsSending = (w : Configuration) (q : ReqSetup) (older : List (List ℕ)) (p
     → parsed packet ≡ Ok p → is_request w.responder.eid q.eid p ≡ true
     → Keeps w q older k → Walks w q (packet ∷ older) d → d.sending ≡ Some whole
     → (next : Sending) × BeginsSending k (gathered_from w.responder.eid q.eid older p) next
+
+-- A message that is owed and is a first chunk may begin one.
+abbrev pub OwedMayBegin : Type 0
+OwedMayBegin = (w : Configuration) (q : ReqSetup) (older : List (List ℕ)) (k : Kept) (sent : Sent) (asked : RequestMessage)
+    → Keeps w q older k → k.owed ≡ Some sent → begins_large sent.aim ≡ true → asked_in sent.aim ≡ Some asked → MayBegin k (ByItself asked)
+
+-- Behind no packets both a large request is under way and none is.
+abbrev pub SendingIsAlone : Type 0
+SendingIsAlone = (w : Configuration) (q : ReqSetup) (older : List (List ℕ)) (s : Sending) (k : Kept) → IsSendingOf w q older s → Keeps w q older k → ⊥
 
 -- ---- A request.
 
@@ -148,6 +160,12 @@ SendingIsAsked = (w : Configuration) (q : ReqSetup) (older : List (List ℕ)) (p
     → IsSendingOf w q older s → Walks w q (packet ∷ older) d
     → ((next : Sending) × AsksSending s (gathered_from w.responder.eid q.eid older p) next)
     ⊎ ((next : Kept) × AsksEnding s (gathered_from w.responder.eid q.eid older p) next)
+
+-- GET_VERSION ends it at any place, and nothing else does so in its place. The setup is within its limits.
+abbrev pub SendingConnects : Type 0
+SendingConnects = (w : Configuration) (q : ReqSetup) (older : List (List ℕ)) (s : Sending) (tag : ℕ) (body : List ℕ) → IsSetUp q → IsSendingOf w q older s
+    → ((next : Kept) × ConnectsSending s tag body next)
+    ↔ ((may_begin (Some s.round) body ≡ true) × (tag ≡ following_tag (Some s.round)) × (body ≡ clear_body (canonical_request GetVersion)))
 
 -- ---- An answer.
 

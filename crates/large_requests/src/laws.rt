@@ -1,7 +1,7 @@
 //! What goes on while a large request is sent by chunks, each law as the contract of a function that does
 //! nothing.
 
-ghost use Rattle.large_requests.specs.SendingLaws.{BegunIsSending, SendingAsks, SendingBegins, SendingEnds, SendingIsAsked, SendingIsReplied, SendingReplies, SendingStays, SendingTellsApart, SendingTellsWhy};
+ghost use Rattle.large_requests.specs.SendingLaws.{BegunIsSending, OwedMayBegin, SendingAsks, SendingBegins, SendingConnects, SendingEnds, SendingIsAlone, SendingIsAsked, SendingIsReplied, SendingReplies, SendingStays, SendingTellsApart, SendingTellsWhy};
 ghost use Rattle.large_requests.specs.SendingShown.{FirstIsShown, LastIsWhole, OpenIsShown, PieceIsShown, WholeIsShown};
 
 /// What is kept behind the first chunk of a large request.
@@ -78,4 +78,19 @@ pub fn open_is_shown()
 /// Whole bytes are told by the request that they spell, and by the values that this shows.
 pub fn whole_is_shown()
     ensures { WholeIsShown }
+{}
+
+/// A message that is owed and is a first chunk may begin a large request.
+pub fn owed_may_begin()
+    ensures { OwedMayBegin }
+{}
+
+/// GET_VERSION ends a large request at any place.
+pub fn sending_connects()
+    ensures { SendingConnects }
+{}
+
+/// Behind no packets both a large request is under way and none is.
+pub fn sending_is_alone()
+    ensures { SendingIsAlone }
 {}

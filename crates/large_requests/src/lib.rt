@@ -3,16 +3,19 @@
 //! refused meanwhile; and the chunks as they come, each compared with the cut.
 //!
 //! Read first: `IsSendingOf` in `specs/Sending.antt`, of which walks that is kept. The calls are
-//! `Pieces::first` and `Pieces::next`; each other function has a law as its contract.
+//! `LargeRequest::begin` and `LargeRequest::next`; most other functions have a law as their contract.
 #![tactic(auto)]
 
 mod bodies;
+mod large_request;
 mod laws;
 mod pieces;
 
+pub use large_request::LargeRequest;
 pub use laws::{
-    begun_is_sending, first_is_shown, last_is_whole, open_is_shown, piece_is_shown, sending_asks,
-    sending_begins, sending_ends, sending_is_asked, sending_is_replied, sending_replies,
-    sending_stays, sending_tells_apart, sending_tells_why, whole_is_shown,
+    begun_is_sending, first_is_shown, last_is_whole, open_is_shown, owed_may_begin, piece_is_shown,
+    sending_asks, sending_begins, sending_connects, sending_ends, sending_is_alone,
+    sending_is_asked, sending_is_replied, sending_replies, sending_stays, sending_tells_apart,
+    sending_tells_why, whole_is_shown,
 };
-pub use pieces::{Piece, Pieces};
+pub use pieces::Piece;

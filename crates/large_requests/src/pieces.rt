@@ -101,6 +101,13 @@ impl Pieces {
         Piece::Between
     }
 
+    /// The number of the chunk that came last.
+    pub fn number(&self) -> u16
+        ensures { result ≡ self.now.number }
+    {
+        self.number
+    }
+
     /// The bytes so far; all of them, once the last chunk came.
     pub fn bytes(&self) -> &[u8]
         ensures { result.now ≡ self.now.bytes }

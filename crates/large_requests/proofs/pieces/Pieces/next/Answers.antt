@@ -1,5 +1,5 @@
 -- The body is compared with the next chunk of what is kept.
-use Rattle.std.proofs.Common.{◌≡◌, ◌<◌, ◌+◌, ◌-◌, ℕ, List, refl, sym, ap, ◌∙◌, arith, length}
+use Rattle.std.proofs.Common.{◌<◌, ◌+◌, ◌-◌, ℕ, List, refl, sym, ap, ◌∙◌, arith, length}
 use Rattle.large_requests.proofs.PiecesTold.{err_if, last_taken, next_refused, next_taken, ok_unless}
 use Rattle.large_requests.proofs.pieces.Pieces.next.Goals as goal
 use Rattle.large_requests.proofs.pieces.Pieces.next.Goals.{then-not-is_chunk-via-then-not-is_chunk, then-not-is_chunk-via-else-not-is_chunk+then-is_err}
