@@ -47,4 +47,5 @@ pub mod AskersAim
 pub mod AimsHeard
 pub mod Fetching
 pub mod WalksAlike
+mod LargeRows
 mod CaptureRows
