@@ -4,7 +4,6 @@ pub mod OwedSent
 pub mod GoneOn
 pub mod ClearTold
 pub mod ClearRead
-pub mod CommandedBy
 pub mod ReadLengths
 pub mod ShortAnswers
 pub mod AllowedTold
@@ -47,3 +46,4 @@ pub mod FetchedOn
 pub mod JudgedInClear
 pub mod BodyJudged
 pub mod KeptTyped
+pub mod PartyTold

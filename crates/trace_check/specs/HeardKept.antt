@@ -1,5 +1,5 @@
 -- What is kept behind an answer that a requester hears. This project's own.
-use Rattle.std.specs.Prelude.{◌≡◌, ℕ, List, Bool, true, false, Option, Some, is_some}
+use Rattle.std.specs.Prelude.{◌≡◌, ℕ, List, Bool, true, false, Some, is_some}
 use Rattle.asking.specs.Joined.{StandsFor}
 use Rattle.asking.specs.declared.joined.Asking.{Asking}
 use Rattle.requester_machine.specs.Hearing.{hears}
@@ -7,7 +7,6 @@ use Rattle.requester_machine.specs.History as requester_history
 use Rattle.requester_machine.specs.Setup.{ReqSetup}
 use Rattle.requester_machine.specs.Shown.{after, event_of, sent_by}
 use Rattle.responder_machine.specs.History.{History}
-use Rattle.capture_laws.specs.ChangeLaws.{accepted_by}
 use Rattle.capture_laws.specs.Keeping.{Kept, kept_of, restored}
 use Rattle.capture_laws.specs.RepliesShown.{answered, heard_from, no_values}
 use Rattle.world_machine.specs.Rounds.{Round, no_draw}
@@ -25,7 +24,3 @@ pub record IsHeardAs (q : ReqSetup) (h : requester_history.History) (tag : ℕ) 
   pub stands : StandsFor new q (after h (hears q h false tag body no_values no_draw))
   pub told : is_some (event_of (hears q h false tag body no_values no_draw)) ≡ true
   pub sent : sends ≡ is_some (sent_by (hears q h false tag body no_values no_draw))
-
--- The ReqSessionID of the PSK_EXCHANGE whose answer the requester takes by an answer.
-unfoldable pub accepted_from : Kept → ℕ → (answer : List ℕ) → Option ℕ
-accepted_from k tag answer = accepted_by (hears k.setup (restored k).requester false tag answer no_values no_draw)

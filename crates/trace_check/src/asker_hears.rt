@@ -24,8 +24,9 @@ impl Asker {
     ghost use Rattle.requester_machine.specs.Setup.{ReqSetup};
     ghost use Rattle.responder_machine.specs.History as responder_history;
     ghost use Rattle.trace_check.specs.Asker.{IsAsker};
-    ghost use Rattle.trace_check.specs.HeardKept.{accepted_from, heard_kept};
+    ghost use Rattle.trace_check.specs.HeardKept.{heard_kept};
     ghost use Rattle.capture_laws.specs.Keeping.{Keeps, Kept};
+    ghost use Rattle.capture_laws.specs.KeptChanges.{accepted_from};
     ghost use Rattle.world_machine.specs.Rounds.{Round};
     ghost use Rattle.world_machine.specs.Setup.{Configuration};
 

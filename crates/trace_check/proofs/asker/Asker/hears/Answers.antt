@@ -1,7 +1,7 @@
 use Rattle.std.proofs.Common.{◌∙◌, refl, sym, ap, is_some, cond, Bool, None}
 use Rattle.asking.specs.OwnRecords.{session_awaited}
 use Rattle.requester_machine.specs.History.{outstanding}
-use Rattle.trace_check.proofs.CommandedBy.{kept_few}
+use Rattle.trace_check.proofs.OwedTook.{kept_few}
 use Rattle.trace_check.proofs.HearsKept.{deaf_accepted, deaf_asker, heard_accepted, heard_asker}
 use Rattle.trace_check.proofs.asker.Asker.hears.Goals as goal
 
