@@ -25,7 +25,7 @@ use Rattle.world_machine.specs.Setup.{Configuration, known_of}
 
 -- ---- What does not count.
 
-dropped_same : (ids : List ℕ) (h : History) → messages_of (with_dropped h ids) ≡ messages_of h
+pub dropped_same : (ids : List ℕ) (h : History) → messages_of (with_dropped h ids) ≡ messages_of h
 dropped_same [] h = refl
 dropped_same (id ∷ ids) h = dropped_same ids (Dropped id ∷ h)
 
@@ -74,7 +74,7 @@ entry_more (Queued bytes) h = omega arith
 entry_more (Ticked seconds) h = omega arith
 entry_more (Dropped id) h = omega arith
 
-after_more : (h : History) (o : Outcome) → messages_of (after h o) ≤ messages_of h + 1
+pub after_more : (h : History) (o : Outcome) → messages_of (after h o) ≤ messages_of h + 1
 after_more h (Same body) = omega arith
 after_more h (Unopened body) = omega arith
 after_more h (Adds e) = entry_more e h

@@ -24,7 +24,8 @@ use Rattle.capture_laws.proofs.KeptParts.{Owes, it_owes, kept_is, next_twice}
 use Rattle.capture_laws.proofs.OneWalk.{walks_alike}
 use Rattle.capture_laws.proofs.Repadding.{agree_self, heard_with}
 use Rattle.trace_check.specs.Asker.{IsAsker, IsKeptSetup}
-use Rattle.trace_check.specs.HeardKept.{IsHeardAs, accepted_from, heard_kept}
+use Rattle.trace_check.specs.HeardKept.{IsHeardAs, heard_kept}
+use Rattle.capture_laws.specs.KeptChanges.{accepted_from}
 use Rattle.capture_laws.specs.Keeping.{Keeps, Kept, kept_of, owing, restored}
 use Rattle.capture_laws.specs.Padding.{next_with, session_asked}
 use Rattle.capture_laws.specs.RepliesShown.{answered, heard_from, no_values}

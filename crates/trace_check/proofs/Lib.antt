@@ -4,7 +4,6 @@ pub mod OwedSent
 pub mod GoneOn
 pub mod ClearTold
 pub mod ClearRead
-pub mod CommandedBy
 pub mod ReadLengths
 pub mod ShortAnswers
 pub mod AllowedTold
@@ -49,3 +48,4 @@ pub mod KeptTyped
 pub mod ChunkAsked
 pub mod KnownFetches
 pub mod FetchesUpon
+pub mod PartyTold

@@ -1,5 +1,5 @@
 -- A message that a requester owes was sent upon a message that it took, and a history has no more entries than there are packets.
-use Rattle.std.proofs.Common.{◌≡◌, ◌≤◌, ◌+◌, ◌⊎◌, ℕ, List, [], ◌∷◌, refl, sym, ap, ◌∙◌, subst, length, drop, Bool, true, false, Option, Some, None, Result, Ok, Err, cond, inl, inr, arith}
+use Rattle.std.proofs.Common.{◌≡◌, ◌≤◌, ◌<◌, ◌+◌, ◌-◌, ◌^◌, ◌⊎◌, ℕ, List, [], ◌∷◌, refl, sym, ap, ◌∙◌, subst, length, drop, Bool, true, false, Option, Some, None, Result, Ok, Err, cond, inl, inr, arith}
 use Rattle.std.specs.Prelude.{MatchBool}
 use Rattle.std.proofs.lemmas.Bool.{false≢true}
 use Rattle.std.proofs.lemmas.Option.{none-some, same_Some}
@@ -187,6 +187,9 @@ kept_short w q older k keeps =
     let s = (walks_grown w q older keeps.0 keeps.1).short in
     let l = bare_long keeps.0 in
     subst (λ (x : Kept). length x.requester ≤ length older) (sym keeps.4) (omega (arith, s, l))
+
+pub kept_few : (w : Configuration) (q : ReqSetup) (older : List (List ℕ)) (k : Kept) → Keeps w q older k → length older < 2 ^ 64 - 1 → length k.requester < 2 ^ 64 - 1
+kept_few w q older k keeps few = (let s = kept_short w q older k keeps in omega (arith, s, few))
 
 entry_took : (e f : Entry) (h : History) → EntryAlike e f → IsNewest (e ∷ h) → (s : Sent) → sent_in e ≡ Some s → TookFor (with_next None (e ∷ h)) s.aim
 entry_took (TookClear tag m led d) f h alike newest s is = by_aim s.aim

@@ -1,5 +1,5 @@
 -- What is kept of a requester and the responder behind an answer, or why it is refused.
-use Rattle.std.proofs.Common.{◌≡◌, ◌==◌, ◌||◌, ◌-◌, ◌^◌, ◌<◌, ◌⊎◌, ◌∙◌, ℕ, List, refl, sym, ap, subst, Bool, true, false, Option, Some, cond, drop, length, arith, inl, inr, Ok, Err}
+use Rattle.std.proofs.Common.{◌≡◌, ◌+◌, ◌==◌, ◌||◌, ◌-◌, ◌^◌, ◌<◌, ◌⊎◌, ◌∙◌, ℕ, List, refl, sym, ap, subst, Bool, true, false, Option, Some, cond, drop, length, arith, inl, inr, Ok, Err}
 use Rattle.std.proofs.lemmas.Option.{same_Some}
 use Rattle.mctp_framing.specs.Cutting.{RouteFields}
 use Rattle.mctp_framing.specs.Gathering.Gathered.{Whole}
@@ -29,12 +29,15 @@ use Rattle.capture_laws.specs.Keeping.{Keeps, Kept, RepliesKept, restored}
 use Rattle.capture_laws.specs.LargeShown.{IsShownLarge}
 use Rattle.capture_laws.specs.Order.{replies_wrong}
 use Rattle.capture_laws.specs.Judged.{why_of}
-use Rattle.trace_check.specs.Party.{IsParty}
 use Rattle.capture_laws.specs.Order.{body_in, tag_in}
 use Rattle.trace_check.specs.ClearAnswers.{EndsLarge}
-use Rattle.trace_check.specs.PartyReplies.{IsGivenNever, IsGoingWhy, IsReplied, onward_by}
+use Rattle.trace_check.specs.PartyReplies.{IsGivenNever, IsGoingWhy, IsReplied}
 use Rattle.capture_laws.specs.RepliesShown.{AnswersRound, PlainlyKept, answered_from, responder_for}
 use Rattle.capture_laws.specs.RepliesTold.{UnfetchedKept}
+use Rattle.capture_laws.specs.Rows as rows_of
+use Rattle.capture_laws.specs.Rows.{StandsForRows}
+use Rattle.capture_laws.specs.declared.places.Places.{Places}
+use Rattle.capture_laws.specs.declared.verdict.Seen.{Seen}
 use Rattle.trace_check.specs.declared.asker.Asker.{Asker}
 use Rattle.trace_check.specs.declared.onward.Onward.TheVariants as onward
 use Rattle.trace_check.specs.declared.party.Party.{Party}
@@ -42,9 +45,10 @@ use Rattle.world_machine.specs.Difference.{AreRepliesApart, GoesApart, Why, goes
 use Rattle.world_machine.specs.Difference.Why.{BadPacket, UnknownEnd, WrongTurn, BadRequest, BadReply, BadVerify, BadRecord}
 use Rattle.world_machine.specs.Opening.{opens_answering}
 use Rattle.world_machine.specs.Rounds.{Round, no_draw}
+use Rattle.world_machine.specs.SessionTable.{Row, number_from, rows_between}
 use Rattle.world_machine.specs.Setup.{Configuration}
 
-module _ (w : Configuration) (q : ReqSetup) (older : List (List ℕ)) (k : Kept) (route : RouteFields) (answer : List ℕ) (byte : w.responder.beat < 256) (limits : IsSetUp k.setup) (keeps : Keeps w q older k) (turn : AnswersInTurn k route answer) where
+module _ (w : Configuration) (q : ReqSetup) (older : List (List ℕ)) (k : Kept) (route : RouteFields) (answer : List ℕ) (byte : w.responder.beat < 256) (limits : IsSetUp k.setup) (keeps : Keeps w q older k) (turn : AnswersInTurn k route answer) (rows : List Row) where
   abbrev r : RspSetup
   r = responder_for w k
 
@@ -60,30 +64,38 @@ module _ (w : Configuration) (q : ReqSetup) (older : List (List ℕ)) (k : Kept)
     pub answerer : IsAnswerer new.answerer r behind
     pub keys : StandFor new.keys r behind
 
-  party_behind : (new : Party) (behind : History) → AreBehind new behind → IsParty new w q (heard_kept k behind route.tag round answer)
-  party_behind new behind are = record { asker = are.asker; answerer = are.answerer; keys = are.keys }
+  -- What is kept behind it, where it goes whole.
+  abbrev pub whole_kept : Kept
+  whole_kept = heard_kept k (history_shown r h round.tag round.body answer) route.tag round answer
+
+  -- What the places and the table became then.
+  pub record AreTold (places : Places) (table : List Seen) : Type 0 where
+    pub stand : rows_of.StandFor places (restored whole_kept) (rows_between (restored k) (restored whole_kept) rows)
+    pub stands : StandsForRows table w (length older + 1) (rows_between (restored k) (restored whole_kept) rows)
 
   kept_by : (next : Kept) → PlainlyKept w k (Whole route answer) next ⊎ UnfetchedKept w k (Whole route answer) next → RepliesKept w k (Whole route answer) next
   kept_by next c = (replies_are_told w q older k next (Whole route answer) byte limits keeps).1 c
 
   -- Whole.
-  stays_whole : (new : Party) → IsShownAnswer r h round.tag round.body answer → AreBehind new (history_shown r h round.tag round.body answer) → asks_upon k route.tag answer ≡ false → IsReplied w q k route answer (Ok onward.Kept) new
+  pub whole_replies : IsShownAnswer r h round.tag round.body answer → asks_upon k route.tag answer ≡ false → RepliesKept w k (Whole route answer) whole_kept
   unfolding answered_from
-  stays_whole new shown are idle =
-      let next : Kept = heard_kept k (history_shown r h round.tag round.body answer) route.tag round answer in
-      (next, kept_by next (inl (turn.body, turn.owner, (round, turn.answers, shown, idle, refl))), party_behind new (history_shown r h round.tag round.body answer) are)
+  whole_replies shown idle = kept_by whole_kept (inl (turn.body, turn.owner, (round, turn.answers, shown, idle, refl)))
+
+  pub goes_whole : (new : Party) (table : List Seen) → IsShownAnswer r h round.tag round.body answer → asks_upon k route.tag answer ≡ false → AreBehind new (history_shown r h round.tag round.body answer)
+      → new.number ≡ number_from 1 q.eid w.requesters → AreTold new.places table → IsReplied w q older rows k route answer (Ok onward.Kept) new table
+  goes_whole new table shown idle are number told = (
+    whole_kept,
+    whole_replies shown idle,
+    record {
+      party = record { asker = are.asker; answerer = are.answerer; keys = are.keys; number = number; places = told.stand };
+      stands = told.stands;
+    },
+  )
 
   -- A part of a large answer.
-  pub is_part : (new : Party) → IsShownLarge r h round.tag round.body answer ⊎ (EndsLarge r h round.tag round.body answer ⊎ (IsShownAnswer r h round.tag round.body answer × (asks_upon k route.tag answer ≡ true)))
-      → IsReplied w q k route answer (Ok onward.Large) new
-  is_part new part = (round, turn.answers, part)
-
-  pub goes_whole : (new : Party) → IsShownAnswer r h round.tag round.body answer → AreBehind new (history_shown r h round.tag round.body answer) → IsReplied w q k route answer (Ok (onward_by (asks_upon k route.tag answer))) new
-  goes_whole new shown are = by_asks (asks_upon k route.tag answer) refl
-    where
-      by_asks : (b : Bool) → asks_upon k route.tag answer ≡ b → IsReplied w q k route answer (Ok (onward_by b)) new
-      by_asks true asks = is_part new (inr (inr (shown, asks)))
-      by_asks false idle = stays_whole new shown are idle
+  pub is_part : (new : Party) (table : List Seen) → IsShownLarge r h round.tag round.body answer ⊎ (EndsLarge r h round.tag round.body answer ⊎ (IsShownAnswer r h round.tag round.body answer × (asks_upon k route.tag answer ≡ true)))
+      → IsReplied w q older rows k route answer (Ok onward.Large) new table
+  is_part new table part = (round, turn.answers, part)
 
   -- ---- None of them.
 
@@ -112,8 +124,8 @@ module _ (w : Configuration) (q : ReqSetup) (older : List (List ℕ)) (k : Kept)
       → (GoesApart r (restored k) (Whole route answer) → ⊥) × (goes_why r (restored k) (Whole route answer) ≡ Some why)
   other_reason why is = (λ c. is.0 (apart_in c), reason_is ∙ ap Some is.1)
 
-  pub apart_for : IsGivenNever r (restored k) round answer → IsApartShown r (restored k) round answer → (new : Party) → IsReplied w q k route answer (Err declared.BadVerify) new
-  apart_for never apart new = (
+  pub apart_for : IsGivenNever r (restored k) round answer → IsApartShown r (restored k) round answer → (new : Party) (table : List Seen) → IsReplied w q older rows k route answer (Err declared.BadVerify) new table
+  apart_for never apart new table = (
     goes_nowhere never,
     (turn.right, subst (λ (o : Option Round). AreRepliesApart r (restored k) o answer) (sym turn.answers.0) ((apart_is_shown r (restored k) round answer byte refl).1 apart)),
   )
@@ -123,8 +135,8 @@ module _ (w : Configuration) (q : ReqSetup) (older : List (List ℕ)) (k : Kept)
   two_reasons true is = absurd (cc)
   two_reasons false is = absurd (cc)
 
-  pub refused_for : (why : declared_why.Why) → IsGivenNever r (restored k) round answer → (IsApartShown r (restored k) round answer → ⊥) → why_of why ≡ reply_why r (restored k) answer (Some round) → (new : Party) → IsReplied w q k route answer (Err why) new
-  refused_for why never apart is new = (goes_nowhere never, by_why (why_of why) is)
+  pub refused_for : (why : declared_why.Why) → IsGivenNever r (restored k) round answer → (IsApartShown r (restored k) round answer → ⊥) → why_of why ≡ reply_why r (restored k) answer (Some round) → (new : Party) (table : List Seen) → IsReplied w q older rows k route answer (Err why) new table
+  refused_for why never apart is new table = (goes_nowhere never, by_why (why_of why) is)
     where
       none : AreRepliesApart r (restored k) (Some round) answer → ⊥
       none c = apart ((apart_is_shown r (restored k) round answer byte refl).0 c)
@@ -140,7 +152,7 @@ module _ (w : Configuration) (q : ReqSetup) (older : List (List ℕ)) (k : Kept)
 
   -- ---- What is asked of the calls.
 
-  module _ (old : Party) (seen : Option Round) (party : IsParty old w q k) (now : seen ≡ k.round) where
+  module _ (seen : Option Round) (now : seen ≡ k.round) where
     pub round_is : seen ≡ Some round
     round_is = now ∙ turn.answers.0
 

@@ -62,8 +62,9 @@ module _ (h : History) (reply : List ℕ) where
   pub other_drops : shows_large response ≡ false → (slice_index response 1 == PSK_EXCHANGE_RSP) ≡ false → dropped_before h reply ≡ []
   other_drops small other = small_drops small ∙ ap (λ (b : Bool). dropped_for h (cond b (Some id) None)) other
 
-  pub begun_drops : shows_large response ≡ false → (slice_index response 1 == PSK_EXCHANGE_RSP) ≡ true → (b : Bool) → may_be_dropped h id ≡ b → dropped_before h reply ≡ cond b (id ∷ []) []
-  begun_drops small begins b timed = small_drops small ∙ ap (λ (x : Bool). dropped_for h (cond x (Some id) None)) begins ∙ ap (λ (x : Bool). cond x (id ∷ []) []) timed
+  -- By the session that it begins.
+  pub begun_drops : shows_large response ≡ false → (o : Option ℕ) → id_begun response ≡ o → dropped_before h reply ≡ dropped_for h o
+  begun_drops small o is = small_drops small ∙ ap (dropped_for h) is
 
 -- Drops are no messages.
 pub few_dropped : (ids : List ℕ) (h : History) (n : ℕ) → messages_of h < n → messages_of (with_dropped h ids) < n

@@ -13,9 +13,6 @@ use Rattle.requester_machine.specs.Message.Command.{Connect, Measure, Open}
 use Rattle.requester_machine.specs.Setup.{ReqSetup}
 use Rattle.spdm_grammar.specs.Message.{ExchangeMessage, RequestMessage}
 use Rattle.spdm_grammar.specs.Message.RequestMessage.{GetMeasurements, GetVersion, PskExchange}
-use Rattle.trace_check.specs.Asker.{IsAsker}
-use Rattle.capture_laws.specs.Keeping.{CommandsKept, Kept}
-use Rattle.trace_check.specs.declared.asker.Asker.{Asker}
 use Rattle.world_machine.specs.CapturedRequests.{Tells}
 use Rattle.world_machine.specs.Rounds.{no_draw}
 
@@ -64,9 +61,3 @@ IsSentFor q h _ body b new = b ≡ false
 abbrev pub IsSentByCommand : ReqSetup → History → (body : List ℕ) → Bool → (new : Asking) → Type 0
 IsSentByCommand q h body true new = (command : Command) × (after : History) × Tells q h command body after × StandsFor new q after
 IsSentByCommand q h body false new = (command : Command) (after : History) → Tells q h command body after → ⊥
-
--- Whether a command may follow with this body: then that is what is kept.
-abbrev pub IsCommandedBy : ReqSetup → Kept → (body : List ℕ) → Bool → (new : Asker) → Type 0
-IsCommandedBy q k body true new =
-    (after : History) × CommandsKept k body after × IsAsker new q (record k { requester = after })
-IsCommandedBy q k body false new = (after : History) → CommandsKept k body after → ⊥

@@ -1,5 +1,5 @@
 -- What is kept behind an answer that a requester hears. This project's own.
-use Rattle.std.specs.Prelude.{◌≡◌, ◌==◌, ℕ, List, Bool, true, false, Option, Some, is_some, slice_index}
+use Rattle.std.specs.Prelude.{◌≡◌, ◌==◌, ℕ, List, Bool, true, false, Some, is_some, slice_index}
 use Rattle.asking.specs.Joined.{StandsFor}
 use Rattle.asking.specs.declared.joined.Asking.{Asking}
 use Rattle.requester_machine.specs.Hearing.{hears}
@@ -13,7 +13,6 @@ use Rattle.requester_machine.specs.Shown.{after, event_of, sent_by}
 use Rattle.responder_machine.specs.History.{History}
 use Rattle.responder_machine.specs.Responder.{is_open}
 use Rattle.spdm_grammar.specs.declared.names.request_code.TheConstants.{CHUNK_GET}
-use Rattle.capture_laws.specs.ChangeLaws.{accepted_by}
 use Rattle.capture_laws.specs.Keeping.{Kept, kept_of, restored}
 use Rattle.capture_laws.specs.RepliesShown.{answered, heard_from, no_values}
 use Rattle.world_machine.specs.LargeAnswers.{asks_chunk, is_fetching, is_for_chunk}
@@ -43,7 +42,3 @@ ShowsChunk aim body = (slice_index body 2 == CHUNK_GET) ≡ is_for_chunk aim
 -- Upon an answer the requester asks for a chunk.
 abbrev pub asks_upon : Kept → ℕ → (answer : List ℕ) → Bool
 asks_upon k tag answer = is_fetching (outstanding (heard_from k tag answer))
-
--- The ReqSessionID of the PSK_EXCHANGE whose answer the requester takes by an answer.
-unfoldable pub accepted_from : Kept → ℕ → (answer : List ℕ) → Option ℕ
-accepted_from k tag answer = accepted_by (hears k.setup (restored k).requester false tag answer no_values no_draw)

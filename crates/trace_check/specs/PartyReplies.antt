@@ -1,5 +1,5 @@
 -- What is told of an answer, by what is kept of a requester and the responder. This project's own.
-use Rattle.std.specs.Prelude.{◌≡◌, ◌⊎◌, ℕ, List, slice_index, if◌then◌else◌, Bool, true, Option, Some, None, Result, Ok, Err}
+use Rattle.std.specs.Prelude.{◌≡◌, ◌⊎◌, ℕ, List, slice_index, true, Option, Some, None, Result, Ok, Err}
 use Rattle.mctp_framing.specs.Cutting.{RouteFields}
 use Rattle.mctp_framing.specs.Gathering.{Gathered}
 use Rattle.mctp_framing.specs.Gathering.Gathered.{Whole}
@@ -14,8 +14,9 @@ use Rattle.capture_laws.specs.Judged.{why_of}
 use Rattle.capture_laws.specs.Keeping.{Kept, RepliesKept, restored}
 use Rattle.capture_laws.specs.LargeShown.{IsShownLarge}
 use Rattle.trace_check.specs.HeardKept.{asks_upon}
-use Rattle.trace_check.specs.Party.{IsParty}
+use Rattle.trace_check.specs.Party.{StandBehind}
 use Rattle.capture_laws.specs.RepliesShown.{AnswersRound, responder_for}
+use Rattle.capture_laws.specs.declared.verdict.Seen.{Seen}
 use Rattle.trace_check.specs.declared.answerer.Answerer.{Answerer}
 use Rattle.trace_check.specs.declared.given.Given.{Given}
 use Rattle.trace_check.specs.declared.given.Given.TheVariants as given
@@ -27,6 +28,7 @@ use Rattle.trace_check.specs.declared.party.Party.{Party}
 use Rattle.world_machine.specs.Difference.{GoesApart, Why, goes_why}
 use Rattle.world_machine.specs.Difference.Why.{BadVerify}
 use Rattle.world_machine.specs.Rounds.{Dialogue, Round}
+use Rattle.world_machine.specs.SessionTable.{Row}
 use Rattle.world_machine.specs.Setup.{Configuration}
 
 -- ---- What the responder gives.
@@ -71,17 +73,16 @@ IsPartOfLarge w k tag answer =
     ⊎ (EndsLarge (responder_for w k) k.responder round.tag round.body answer
     ⊎ (IsShownAnswer (responder_for w k) k.responder round.tag round.body answer × (asks_upon k tag answer ≡ true))))
 
--- What is told of one that goes whole, by whether the requester asks for a chunk upon it.
-abbrev pub onward_by : Bool → Onward
-onward_by asks = if asks then onward.Large else onward.Kept
-
 -- Of an answer that goes on, likewise.
-abbrev pub RepliesOnward : Configuration → ReqSetup → Kept → RouteFields → (answer : List ℕ) → Onward → (new : Party) → Type 0
-RepliesOnward w q k route answer onward.Kept new = (next : Kept) × RepliesKept w k (Whole route answer) next × IsParty new w q next
-RepliesOnward w q k route answer onward.Large new = IsPartOfLarge w k route.tag answer
+abbrev pub RepliesOnward : Configuration → ReqSetup → List (List ℕ) → List Row → Kept → RouteFields → (answer : List ℕ) → Onward
+    → (new : Party) → (table : List Seen) → Type 0
+RepliesOnward w q older rows k route answer onward.Kept new table =
+    (next : Kept) × RepliesKept w k (Whole route answer) next × StandBehind new table w q older rows k next
+RepliesOnward w q older rows k route answer onward.Large new table = IsPartOfLarge w k route.tag answer
 
 -- Of an answer: it goes on, or it is refused, and then why.
-abbrev pub IsReplied : Configuration → ReqSetup → Kept → RouteFields → (answer : List ℕ) → Result Onward declared.Why → (new : Party) → Type 0
-IsReplied w q k route answer (Ok on) new = RepliesOnward w q k route answer on new
-IsReplied w q k route answer (Err why) new =
+abbrev pub IsReplied : Configuration → ReqSetup → List (List ℕ) → List Row → Kept → RouteFields → (answer : List ℕ)
+    → Result Onward declared.Why → (new : Party) → (table : List Seen) → Type 0
+IsReplied w q older rows k route answer (Ok on) new table = RepliesOnward w q older rows k route answer on new table
+IsReplied w q older rows k route answer (Err why) new table =
     ((next : Kept) → RepliesKept w k (Whole route answer) next → ⊥) × IsGoingWhy (responder_for w k) k (Whole route answer) (why_of why)

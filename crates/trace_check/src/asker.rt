@@ -1,6 +1,5 @@
 use crate::asker_setup::AskerSetup;
-use crate::clear_commands::sends_clear;
-use crate::owed_messages::{sends_owed, write_outstanding};
+use crate::owed_messages::sends_owed;
 use asking::{Asking, Body, Setup};
 use spdm_basis::{OutOfMemory, Psk, RecordFrame};
 use std::alloc::Global;
@@ -21,13 +20,13 @@ pub struct Asker {
 }
 
 impl Asker {
-    ghost use Rattle.std.specs.Prelude.{◌≡◌, ◌≤◌, ◌<◌, ◌-◌, ◌^◌, ℕ, List, IfOk, is_some, length};
+    ghost use Rattle.std.specs.Prelude.{◌≡◌, ◌≤◌, ◌<◌, ◌-◌, ◌^◌, ℕ, List, None, IfOk, is_some, length};
     ghost use Rattle.asking.specs.Setup.{IsSetUp};
+    ghost use Rattle.requester_machine.specs.History.{outstanding};
     ghost use Rattle.requester_machine.specs.May as may;
     ghost use Rattle.requester_machine.specs.Setup.{ReqSetup};
-    ghost use Rattle.spdm_machine.specs.Bodies.{clear_body};
     ghost use Rattle.trace_check.specs.Asker.{IsAsker, IsGoneOn};
-    ghost use Rattle.trace_check.specs.Commanded.{IsCommandedBy};
+    ghost use Rattle.capture_laws.specs.Changes.{session_in};
     ghost use Rattle.capture_laws.specs.Keeping.{Keeps, Kept, kept_of};
     ghost use Rattle.world_machine.specs.Rounds.{new_dialogue};
     ghost use Rattle.world_machine.specs.Setup.{Configuration};
@@ -72,19 +71,12 @@ impl Asker {
         true
     }
 
-    /// Takes a message in the clear as that of a command, where nothing is outstanding or owed:
-    /// whether some command sends it, whole. Else nothing is said of what is kept.
-    pub fn commands_in_clear(&mut self, message: &[u8]) -> bool
-        ensures { (w : Configuration) (q : ReqSetup) (older : List (List ℕ)) (k : Kept)
-            → Keeps w q older k → length older < 2 ^ 64 - 1 → IsAsker self.old q k
-            → IsCommandedBy q k (clear_body message.now) result self.new }
+    /// The ReqSessionID of the session whose record is outstanding, where nothing is owed; none where that is
+    /// no record.
+    pub fn sent(&self) -> Option<u16>
+        ensures { (q : ReqSetup) (k : Kept) → IsAsker self.now q k → k.owed ≡ None
+            → result ≡ session_in (outstanding k.requester) }
     {
-        if self.owes {
-            return false;
-        }
-        if write_outstanding(&mut self.asking, &self.setup, &mut self.room) {
-            return false;
-        }
-        sends_clear(&mut self.asking, &self.setup, &mut self.room, message)
+        self.asking.session_awaited()
     }
 }

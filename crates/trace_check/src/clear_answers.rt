@@ -7,6 +7,7 @@ ghost use Rattle.responder_machine.specs.Answer.{Free};
 ghost use Rattle.responder_machine.specs.History.{History};
 ghost use Rattle.responder_machine.specs.Setup.{RspSetup};
 ghost use Rattle.spdm_machine.specs.Sessions.{id_in_exchange};
+ghost use Rattle.capture_laws.specs.DropsShown.{id_begun};
 ghost use Rattle.trace_check.specs.Answerer.{AreBounded, IsDropped};
 ghost use Rattle.trace_check.specs.ClearAnswers.{dropped_before, first_of_held};
 
@@ -30,6 +31,17 @@ fn rsp_id_in(response: &[u8]) -> u16
 {
     let id = [byte_at(response, 4), byte_at(response, 5)];
     LittleEndian::read_u16(&id)
+}
+
+/// RspSessionID of the session that a response begins; none where it is no PSK_EXCHANGE_RSP.
+pub(crate) fn id_begun(response: &[u8]) -> Option<u16>
+    ensures { result ≡ id_begun response.now }
+{
+    if byte_at(response, 1) == PSK_EXCHANGE_RSP {
+        Some(rsp_id_in(response))
+    } else {
+        None
+    }
 }
 
 // Beside four sessions past their handshake the first that may have been dropped unseen.
@@ -65,10 +77,9 @@ pub(crate) fn dropped_before(connection: &Connection, reply: &[u8]) -> Option<u1
     if shows_large(response) {
         return first_of_held(connection);
     }
-    if byte_at(response, 1) != PSK_EXCHANGE_RSP {
+    let Some(id) = id_begun(response) else {
         return None;
-    }
-    let id = rsp_id_in(response);
+    };
     if !connection.is_timed(id) {
         return None;
     }

@@ -1,4 +1,4 @@
-use crate::{Answerer, Asker, Given, Judged, Why};
+use crate::{Answerer, Asker, Given, Heard, Judged, Why};
 use measurements::Inventory;
 use spdm_basis::Psk;
 use spdm_grammar::{FlagSet, Pick, Suites};
@@ -6,11 +6,11 @@ use std::process::Abort;
 use std::test::Fail;
 
 // A round: the tag, the body of the request, and that of the answer, in hexadecimal.
-type Round = (u8, &'static str, &'static str);
+pub(crate) type Step = (u8, &'static str, &'static str);
 
 // A day as another program runs it: a negotiation, a session, application data, HEARTBEAT, an update of
 // all keys, measurements and the end. The records of commands have a padding of 5 bytes.
-const DAY: [Round; 11] = [
+pub(crate) const DAY: [Step; 11] = [
     (0, "0510840000", "051004000000010012"),
     (
         1,
@@ -76,7 +76,7 @@ const TURNED_ANSWER: &str = "051261000000000001c86802000004000000100000";
 const TURNED_VERIFY_DATA: &str =
     "0512661e00010000002000000022e63c38fed4ab1af9bbbb8bed806961f05f0b955765fd9900000000000000002391e8312a48f5c3804021241deac75ac7480b3ca72f2b89a102a5aaf8165109";
 
-const TURNED_RECORD: &str =
+pub(crate) const TURNED_RECORD: &str =
     "060100010000001d0078a9fe1453f1ef21477a19ee307382d798ea9b283258a9c14516b459d1";
 
 const TURNED_REPLY: &str = "060100010000001300f65aefc25daccee6a68cf82dcf9940e35d3023";
@@ -102,7 +102,7 @@ const SUITES: Suites = Suites {
 };
 
 // The requester that the other program was given.
-fn asking() -> asking::Setup<'static> {
+pub(crate) fn asking() -> asking::Setup<'static> {
     asking::Setup {
         transfer: 1024,
         max: 4096,
@@ -113,7 +113,7 @@ fn asking() -> asking::Setup<'static> {
 }
 
 // Its responder.
-fn answering<'a>(inventory: &'a Inventory, psk: &'a Psk) -> connection::Setup<'a> {
+pub(crate) fn answering<'a>(inventory: &'a Inventory, psk: &'a Psk) -> connection::Setup<'a> {
     connection::Setup {
         transfer: 1024,
         max: 4096,
@@ -144,7 +144,7 @@ fn says(
     rt: &(impl Abort + AllocGlobal),
     answerer: &mut Answerer,
     setup: &connection::Setup<'_>,
-    round: &Round,
+    round: &Step,
     answer: &str,
 ) -> Result<Judged, Fail> {
     let body = hex::decode(rt.alloc(), round.1)?;
@@ -159,7 +159,7 @@ fn brings(
     rt: &(impl Abort + AllocGlobal),
     answerer: &mut Answerer,
     setup: &connection::Setup<'_>,
-    round: &Round,
+    round: &Step,
     answer: &str,
 ) -> Result<Option<Given>, Fail> {
     let body = hex::decode(rt.alloc(), round.1)?;
@@ -172,14 +172,18 @@ fn brings(
 }
 
 // The requester hears the answer of a round, and takes PSK_EXCHANGE_RSP to its ReqSessionID 1.
-fn hears(rt: &(impl Abort + AllocGlobal), asker: &mut Asker, round: &Round) -> Result<(), Fail> {
+fn hears(rt: &(impl Abort + AllocGlobal), asker: &mut Asker, round: &Step) -> Result<(), Fail> {
     let answer = hex::decode(rt.alloc(), round.2)?;
     let accepted = if round.1.starts_with(EXCHANGE) {
         Some(1)
     } else {
         None
     };
-    assert_eq!(rt; asker.hears(round.0, &answer), accepted);
+    let heard = Heard {
+        accepted,
+        fetches: false,
+    };
+    assert_eq!(rt; asker.hears(round.0, &answer), heard);
     Ok(())
 }
 
@@ -189,7 +193,7 @@ fn pass(
     asker: &mut Asker,
     answerer: &mut Answerer,
     setup: &connection::Setup<'_>,
-    rounds: &[Round],
+    rounds: &[Step],
 ) -> Result<(), Fail> {
     for round in rounds {
         asks(rt, asker, round.1, Ok(()))?;

@@ -26,6 +26,7 @@ mod judged_in_clear;
 mod onward;
 mod owed_messages;
 mod party;
+mod party_laws;
 mod party_replies;
 mod record_answers;
 mod record_closed;
@@ -37,16 +38,21 @@ mod response_values;
 mod sealed_answers;
 mod sealed_commands;
 mod sending;
+mod shown_changes;
 mod shown_fields;
 mod shown_values;
 
 pub use answer_keys::AnswerKeys;
 pub use answerer::Answerer;
 pub use asker::Asker;
+pub use asker_hears::Heard;
 pub use given::{Given, Judged};
 pub use onward::Onward;
 pub use party::Party;
+pub use party_laws::other_parties_stay;
 pub use script_text::Why;
 
 #[cfg(test)]
 mod day_tests;
+#[cfg(test)]
+mod table_tests;

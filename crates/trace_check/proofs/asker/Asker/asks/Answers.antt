@@ -3,8 +3,7 @@ use Rattle.asking.specs.Joined.{StandsFor}
 use Rattle.requester_machine.specs.Message.{Sent}
 use Rattle.trace_check.proofs.AskedBy.{bare_kept, command_asks, none_kept, none_waits, owed_asks, owed_busy, version_asks, waits_busy}
 use Rattle.trace_check.proofs.GoneOn.{some_of}
-use Rattle.trace_check.proofs.CommandedBy.{kept_few}
-use Rattle.trace_check.proofs.OwedTook.{owed_took}
+use Rattle.trace_check.proofs.OwedTook.{kept_few, owed_took}
 use Rattle.trace_check.proofs.asker.Asker.asks.Goals as goal
 use Rattle.trace_check.specs.Asker.{IsGoneOn}
 use Rattle.capture_laws.specs.Keeping.{owing}

@@ -3,10 +3,9 @@ use Rattle.asking.specs.Joined.{StandsFor}
 use Rattle.requester_machine.specs.Message.{Sent}
 use Rattle.requester_machine.specs.Owed.{with_next}
 use Rattle.trace_check.proofs.GoneOn.{some_of}
-use Rattle.trace_check.proofs.CommandedBy.{kept_few}
 use Rattle.trace_check.proofs.FinishApart.{drop_short, long_with, owing_long}
 use Rattle.trace_check.proofs.OwedSent.{out_owed}
-use Rattle.trace_check.proofs.OwedTook.{owed_took}
+use Rattle.trace_check.proofs.OwedTook.{kept_few, owed_took}
 use Rattle.trace_check.proofs.ReasonsKept.{none_apart, other_body, owed_apart}
 use Rattle.trace_check.proofs.asker.Asker.is_apart.Goals as goal
 use Rattle.capture_laws.specs.Keeping.{owing}
