@@ -52,8 +52,3 @@ pub use row_laws::{
 };
 pub use script_text::Why;
 pub use verdict::{Seen, SessionTable, Verdict};
-
-#[cfg(test)]
-mod row_tests;
-#[cfg(test)]
-mod tests;

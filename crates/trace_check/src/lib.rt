@@ -51,8 +51,3 @@ pub use onward::Onward;
 pub use party::Party;
 pub use party_laws::other_parties_stay;
 pub use script_text::Why;
-
-#[cfg(test)]
-mod day_tests;
-#[cfg(test)]
-mod table_tests;

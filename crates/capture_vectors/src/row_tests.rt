@@ -1,4 +1,4 @@
-use crate::{Change, Places, SessionTable};
+use capture_laws::{Change, Places, SessionTable};
 use spdm_basis::SessionId;
 use spdm_grammar::{SessionView, Stage};
 use std::process::Abort;

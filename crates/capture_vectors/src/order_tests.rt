@@ -1,4 +1,4 @@
-use crate::{Brought, Order, Why};
+use capture_laws::{Brought, Order, Why};
 use spdm_basis::Eid;
 use std::process::Abort;
 use std::test::Fail;
