@@ -1,9 +1,9 @@
+use capture_ends::{Answerer, Asker, Given, Heard, Judged, Why};
 use measurements::Inventory;
 use spdm_basis::Psk;
 use spdm_grammar::{FlagSet, Pick, Suites};
 use std::process::Abort;
 use std::test::Fail;
-use trace_check::{Answerer, Asker, Given, Heard, Judged, Why};
 
 // A round: the tag, the body of the request, and that of the answer, in hexadecimal.
 pub(crate) type Step = (u8, &'static str, &'static str);

@@ -1,10 +1,10 @@
 use crate::day_tests::{DAY, Step, TURNED_RECORD, answering, asking};
+use capture_ends::{Asker, Onward, Party, Why};
 use capture_laws::{Round, SessionTable};
 use measurements::Inventory;
 use spdm_basis::Psk;
 use std::process::Abort;
 use std::test::Fail;
-use trace_check::{Asker, Onward, Party, Why};
 
 // The hash of the transcript of the day's one session, as another program tells it.
 const HASH: &str = "5ddcd350a2caa76e8c9a70aae22a180489d8866ddc61039d7d14f8353aaad73a";

@@ -1,7 +1,6 @@
 -- Which turns take a draw.
 use Rattle.std.proofs.Common.{refl, ◌∙◌, ◌≡◌, ℕ, List, [], true, false, Bool, Option, Some, None, ap, sym}
 use Rattle.std.proofs.lemmas.Bool.{false≢true}
-use Rattle.std.proofs.lemmas.Option.{none-some}
 use Rattle.std.specs.Prelude.{◌==◌, ◌||◌, if◌then◌else◌, drop, is_none, slice_index}
 use Rattle.connection.proofs.Chunked.{last_turn}
 use Rattle.connection.proofs.Outcomes.{by_record}
@@ -29,7 +28,7 @@ use Rattle.spdm_grammar.specs.Message.{ChunkMessage, RequestMessage}
 use Rattle.spdm_grammar.specs.Message.RequestMessage.{ChunkSend}
 use Rattle.spdm_grammar.specs.declared.error_code.ErrorCode.{ErrorCode}
 use Rattle.spdm_grammar.specs.declared.heard.Heard.TheVariants as heard
-use Rattle.spdm_grammar.specs.declared.names.request_code.TheConstants.{CHUNK_SEND, GET_CAPABILITIES, GET_MEASUREMENTS, GET_VERSION, NEGOTIATE_ALGORITHMS, PSK_EXCHANGE}
+use Rattle.spdm_grammar.specs.declared.names.request_code.TheConstants.{GET_CAPABILITIES, GET_MEASUREMENTS, GET_VERSION, NEGOTIATE_ALGORITHMS, PSK_EXCHANGE}
 use Rattle.spdm_machine.specs.Keys.{Draw}
 use Rattle.responder_machine.proofs.Staged.{no_chunk}
 

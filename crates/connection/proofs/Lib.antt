@@ -21,3 +21,5 @@ pub mod Queued
 pub mod Draws
 pub mod Listed
 pub mod AnswerKeys
+pub mod PutAnswers
+pub mod Unseen

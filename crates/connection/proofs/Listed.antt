@@ -1,5 +1,5 @@
 -- A session that is shown is the list of it.
-use Rattle.std.proofs.Common.{◌≡◌, ◌∷◌, [], List, Option, Some, None, ap, sym}
+use Rattle.std.proofs.Common.{◌≡◌, ◌∷◌, [], Option, Some, None, ap, sym}
 use Rattle.std.proofs.lemmas.Bool.{false≢true}
 use Rattle.std.specs.Prelude.{option_to_list}
 use Rattle.connection.specs.Sessions.{IsViewOf}

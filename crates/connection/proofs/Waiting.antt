@@ -70,7 +70,7 @@ session_of-Dropped : (id which : ℕ) (h : History) → session_of id (Dropped w
 unfolding session_of
 session_of-Dropped id which h = refl
 
-not_same : (a b : ℕ) → a ≢ b → (b == a) ≡ false
+pub not_same : (a b : ℕ) → a ≢ b → (b == a) ≡ false
 not_same a b h = grind (arith, nat_tests)
 
 pub dropped : (r : RspSetup) (h : History) (id : ℕ) (old new : Sessions) → StandsFor old r h → slot_of new id ≡ None → ((i : ℕ) → i ≢ id → slot_of new i ≡ slot_of old i) → new.ended ≡ old.ended

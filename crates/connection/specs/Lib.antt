@@ -18,3 +18,4 @@ pub mod Connected
 pub mod Harmless
 pub mod OwnAnswers
 pub mod SeenTerms
+pub mod Pending

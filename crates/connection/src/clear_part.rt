@@ -23,7 +23,7 @@ use std::marker::Model;
 /// reply. It lies in place, and takes no memory.
 #[derive(Drop)]
 pub struct ClearPart {
-    requests: Requests,
+    pub(crate) requests: Requests,
     kept: KeptReply,
 }
 

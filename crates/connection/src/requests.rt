@@ -32,7 +32,7 @@ use std::marker::Model;
 /// The requests of the clear part of a connection: how it stands, and the large request that comes by chunks.
 #[derive(Drop)]
 pub struct Requests {
-    standing: Standing,
+    pub(crate) standing: Standing,
     pub(crate) collector: Collector,
     whole: Frame,
 }

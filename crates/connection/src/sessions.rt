@@ -15,7 +15,7 @@ use spdm_grammar::{Heard, Phase, SessionView};
 /// the one ended session. They lie in place.
 #[derive(Drop)]
 pub struct Sessions {
-    slots: [Option<Live>; 4],
+    pub(crate) slots: [Option<Live>; 4],
     pub(crate) ended: EndedRecord,
 }
 

@@ -20,12 +20,12 @@ use Rattle.spdm_grammar.specs.declared.ChunkView.{ChunkView}
 use Rattle.request_rules.specs.LargeAnswer.{Seen, StandsFor, left_by}
 
 -- The next chunk of what is pending.
-abbrev next_of : ℕ → List Turn → Option (List ℕ) → Option ChunkMessage
+abbrev pub next_of : ℕ → List Turn → Option (List ℕ) → Option ChunkMessage
 next_of transfer turns None = None
 next_of transfer turns (Some answer) = Some (nth_chunk transfer (handle_of turns) answer (given_of turns))
 
 -- It is the first of what is left.
-next_is : (transfer : ℕ) (turns : List Turn) → slice_get (left_by transfer turns (large_of turns)) 0 ≡ next_of transfer turns (pending_of transfer turns)
+pub next_is : (transfer : ℕ) (turns : List Turn) → slice_get (left_by transfer turns (large_of turns)) 0 ≡ next_of transfer turns (pending_of transfer turns)
 next_is transfer turns = by_large (large_of turns)
   where
     by_left : (answer : List ℕ) (b : Bool) → nat_lt (given_of turns) (chunk_count transfer answer) ≡ b

@@ -1,15 +1,17 @@
 -- A large answer of a place that goes by chunks, as the program keeps it.
-use Rattle.std.specs.Prelude.{◌≡◌, ℕ, List, [], drop, true, false, Option, Some, None}
+use Rattle.std.specs.Prelude.{◌≡◌, ◌||◌, not, if◌then◌else◌, ℕ, List, [], ◌∷◌, drop, Bool, true, false, Option, Some, None}
 use Rattle.chunking.specs.Cutting.{chunks_of}
 use Rattle.responder_machine.specs.Answer.{chunk_answer}
 use Rattle.responder_machine.specs.LargeMessages.{given_of, handle_of, large_of, next_handle}
 use Rattle.responder_machine.specs.Place.{Place}
 use Rattle.responder_machine.specs.Refusal.{is_get_refused}
-use Rattle.responder_machine.specs.Turn.{Turn}
+use Rattle.responder_machine.specs.Turn.{Effect, Turn, is_taken, takes}
+use Rattle.responder_machine.specs.Turn.Effect.{NoEffect, Took, TookData}
 use Rattle.spdm_grammar.specs.Message.{ChunkMessage, chunk_message}
 use Rattle.spdm_grammar.specs.Message.RequestMessage.{ChunkGet}
 use Rattle.spdm_grammar.specs.Message.ResponseMessage.{ChunkResponse}
 use Rattle.spdm_grammar.specs.declared.ChunkView.{ChunkView}
+use Rattle.spdm_grammar.specs.declared.names.request_code.TheConstants.{CHUNK_GET}
 
 -- The chunks that are still to be given of the answer that last went by LargeResponse.
 abbrev pub left_by : ℕ → List Turn → Option (List ℕ) → List ChunkMessage
@@ -31,3 +33,41 @@ abbrev pub IsAsked : Place → (handle number : ℕ) → Option ChunkView → Ty
 IsAsked p handle number None = is_get_refused p (Some (ChunkGet handle number)) ≡ true
 IsAsked p handle number (Some chunk) =
     (is_get_refused p (Some (ChunkGet handle number)) ≡ false) × (chunk_answer p handle number ≡ ChunkResponse (chunk_message chunk))
+
+-- ---- With other bytes, for one who judges answers whose bytes come chunk by chunk.
+
+-- What took effect, with these bytes as the whole answer to a request; all else stays as it is.
+abbrev pub effect_with : List ℕ → Effect → Effect
+effect_with answer NoEffect = NoEffect
+effect_with answer (Took asked request old large) = Took asked request answer large
+effect_with answer (TookData bytes old) = TookData bytes old
+
+-- A turn with these bytes as the whole answer to its request.
+abbrev pub turn_with : List ℕ → Turn → Turn
+turn_with answer t = record t { effect = effect_with answer t.effect }
+
+-- The turns with these bytes as the whole answer to the last message that was taken and is no CHUNK_GET: a
+-- large answer that is pending is its answer.
+abbrev pub turns_with : List ℕ → List Turn → List Turn
+turns_with answer [] = []
+turns_with answer (t ∷ older) =
+    if not (is_taken t) || takes CHUNK_GET t then t ∷ turns_with answer older
+    else turn_with answer t ∷ older
+
+-- A request with this code is the last message that was taken and is no CHUNK_GET.
+abbrev pub last_takes : (code : ℕ) → List Turn → Bool
+last_takes code [] = false
+last_takes code (t ∷ older) =
+    if not (is_taken t) || takes CHUNK_GET t then last_takes code older else takes code t
+
+-- ---- Without its bytes, for one who judges requests whose large answer was never seen.
+
+-- What took effect, with no bytes as the answer to a request, and nothing pending; all else stays as it is.
+abbrev pub effect_unseen : Effect → Effect
+effect_unseen NoEffect = NoEffect
+effect_unseen (Took asked request answer large) = Took asked request [] None
+effect_unseen (TookData bytes answer) = TookData bytes answer
+
+-- A turn whose large answer was never seen.
+abbrev pub turn_unseen : Turn → Turn
+turn_unseen t = record t { effect = effect_unseen t.effect }

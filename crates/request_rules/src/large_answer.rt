@@ -1,6 +1,7 @@
 ghost use Rattle.std.specs.Prelude.{◌≡◌, ◌≤◌, ◌<◌, ◌+◌, ◌∷◌, [], ℕ, List, Some, None, true, false, drop, is_some, length, unwrap_or};
 ghost use Rattle.chunking.specs.Answers.{chunk_given};
-ghost use Rattle.responder_machine.specs.LargeMessages.{next_handle, pending_of};
+ghost use Rattle.chunking.specs.Cutting.{chunks_of};
+ghost use Rattle.responder_machine.specs.LargeMessages.{given_of, handle_of, next_handle, pending_of};
 ghost use Rattle.responder_machine.specs.Place as places;
 ghost use Rattle.responder_machine.specs.Place.{place_terms};
 ghost use Rattle.responder_machine.specs.Refusal.{has_pending};
@@ -8,7 +9,7 @@ ghost use Rattle.responder_machine.specs.Turn.{Turn, handle_in, is_taken, large_
 ghost use Rattle.spdm_grammar.specs.declared.names.TheConstants.{MAX_MESSAGE_SIZE, MIN_DATA_TRANSFER_SIZE};
 ghost use Rattle.spdm_grammar.specs.declared.names.request_code.TheConstants.{CHUNK_GET};
 ghost use Rattle.std.specs.List.{slice_get};
-ghost use Rattle.request_rules.specs.LargeAnswer.{IsAsked, StandsFor};
+ghost use Rattle.request_rules.specs.LargeAnswer.{IsAsked, StandsFor, turn_unseen, turns_with};
 
 use chunking::Splitter;
 use spdm_grammar::ChunkView;
@@ -110,6 +111,44 @@ impl LargeAnswer {
         self.next = self.next.wrapping_add(1);
     }
 
+    /// The answer that is pending gets these bytes, which go by chunks; as many chunks of it are given.
+    pub fn put(&mut self, answer: &[u8], transfer: u32)
+        requires { length answer.now ≤ MAX_MESSAGE_SIZE }
+        ensures { (turns : List Turn) → MIN_DATA_TRANSFER_SIZE ≤ transfer
+            → transfer < length answer.now + 16
+            → StandsFor self.old transfer turns → is_some (pending_of transfer turns) ≡ true
+            → StandsFor self.new transfer (turns_with answer.now turns) }
+    {
+        let next = self.next_chunk();
+        if let Some((handle, number)) = next {
+            self.splitter = splitter_at(answer, transfer, handle, number);
+        }
+    }
+
+    // The handle and the number of the chunk that is to be given next.
+    fn next_chunk(&self) -> Option<(u8, u16)>
+        ensures { (transfer : ℕ) (turns : List Turn) → StandsFor self.now transfer turns
+            → is_some (pending_of transfer turns) ≡ true
+            → result ≡ Some (handle_of turns, given_of turns) }
+    {
+        match self.current() {
+            Some(chunk) => Some((chunk.handle, chunk.number)),
+            None => None,
+        }
+    }
+
+    /// The answer that was to go by LargeResponse last, behind which nothing came, was never seen: it
+    /// is not pending, and took no handle.
+    pub fn forget(&mut self)
+        ensures { (transfer : ℕ) (t : Turn) (older : List Turn)
+            → StandsFor self.old transfer (t ∷ older) → is_taken t ≡ true
+            → takes CHUNK_GET t ≡ false → is_some (handle_in t.effect) ≡ true
+            → StandsFor self.new transfer (turn_unseen t ∷ older) }
+    {
+        self.splitter = None;
+        self.next = self.next.wrapping_sub(1);
+    }
+
     /// Another request was taken, whose answer does not go by chunks, or application data.
     pub fn clear(&mut self)
         ensures { (transfer : ℕ) (turns : List Turn) (t : Turn)
@@ -127,4 +166,17 @@ fn advance(splitter: &mut Option<Splitter>)
     if let Some(splitter) = splitter {
         splitter.advance();
     }
+}
+
+// The chunks of an answer from the one of this number on.
+fn splitter_at(answer: &[u8], transfer: u32, handle: u8, number: u16) -> Option<Splitter>
+    requires { length answer.now ≤ MAX_MESSAGE_SIZE }
+    ensures { MIN_DATA_TRANSFER_SIZE ≤ transfer → transfer < length answer.now + 16
+        → unwrap_or result [] ≡ drop number (chunks_of transfer handle answer.now) }
+{
+    let mut splitter = Splitter::new(answer, transfer, handle).ok()?;
+    for _ in 0..number {
+        splitter.advance();
+    }
+    Some(splitter)
 }

@@ -1,8 +1,7 @@
 -- CHUNK_GET in an open session.
-use Rattle.std.proofs.Common.{◌≡◌, ◌≤◌, ◌∙◌, ap, sym, subst, refl, ℕ, ◌+◌, ◌-◌, ◌*◌, List, [], Bool, true, false, length, length-append, arith}
+use Rattle.std.proofs.Common.{◌≡◌, ◌≤◌, ◌∙◌, ap, sym, subst, refl, ℕ, ◌+◌, List, [], Bool, true, false, length, length-append, arith}
 use Rattle.std.proofs.lemmas.Bool.Decides.{nat_tests}
-use Rattle.std.specs.Prelude.{◌==◌, ◌&&◌, ◌||◌, not, nat_lt, if◌then◌else◌, Some, None, is_some, unwrap_or}
-use Rattle.chunking.proofs.ChunkSteps.{size_is}
+use Rattle.std.specs.Prelude.{◌&&◌, ◌||◌, not, nat_lt, Some, unwrap_or}
 use Rattle.chunking.specs.Cutting.{nth_chunk}
 use Rattle.responder_machine.specs.Answer.{Free, chunk_answer}
 use Rattle.responder_machine.specs.LargeMessages.{pending_of}
@@ -11,7 +10,7 @@ use Rattle.responder_machine.specs.Place.{session_place}
 use Rattle.responder_machine.specs.Refusal.{is_answer_too_long, is_get_refused}
 use Rattle.responder_machine.specs.Session.{Events, session_terms, turns_of}
 use Rattle.responder_machine.specs.Setup.{RspSetup}
-use Rattle.spdm_grammar.specs.Fields.{IsSoundChunk, large_bytes}
+use Rattle.spdm_grammar.specs.Fields.{IsSoundChunk}
 use Rattle.spdm_grammar.specs.Message.{ChunkMessage, ResponseMessage}
 use Rattle.spdm_grammar.specs.declared.names.TheConstants.{MAX_MESSAGE_SIZE, MIN_DATA_TRANSFER_SIZE}
 use Rattle.spdm_grammar.specs.Message.RequestMessage.{ChunkGet}

@@ -15,3 +15,4 @@ pub mod Records
 pub mod Waits
 pub mod AllKeys
 pub mod AnswerKeys
+pub mod Pendings

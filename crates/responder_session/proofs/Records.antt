@@ -1,8 +1,7 @@
 -- A record at a live session, as the responder handles it in its history.
-use Rattle.std.proofs.Common.{◌≡◌, ◌∙◌, ap, sym, refl, ℕ, List, [], ◌∷◌, Bool, true, false, arith}
-use Rattle.std.proofs.lemmas.Bool.Decides.{nat_tests}
+use Rattle.std.proofs.Common.{◌≡◌, ◌∙◌, ap, sym, refl, ℕ, List, [], ◌∷◌, Bool, true, false}
 use Rattle.std.proofs.lemmas.Bool.{false≢true, eq-eqb}
-use Rattle.std.specs.Prelude.{◌==◌, if◌then◌else◌, Option, Some, None}
+use Rattle.std.specs.Prelude.{if◌then◌else◌, Option, Some, None}
 use Rattle.responder_machine.specs.Answer.{Free}
 use Rattle.responder_machine.specs.Heard.{heard_of, heard_in, record_id}
 use Rattle.responder_machine.specs.History.{History, ended_of, clear_turns, phase_of}

@@ -18,3 +18,4 @@ pub mod Reply
 pub mod Staged
 pub mod ExchangeLaws
 pub mod OwnAnswers
+pub mod Pending

@@ -21,6 +21,7 @@ mod number;
 mod open;
 mod own_answers;
 mod parts;
+mod pending;
 mod queue;
 mod requests;
 mod session;

@@ -1,10 +1,10 @@
-use Rattle.std.proofs.Common.{◌≡◌, ◌∙◌, sym, subst, ap, List, ℕ}
-use Rattle.chunking.specs.Collecting.{Collection, collected}
+use Rattle.std.proofs.Common.{◌≡◌, ◌∙◌, sym, subst, ap, ℕ}
+use Rattle.chunking.specs.Collecting.{collected}
 use Rattle.chunking.specs.Keeping as keeping
 use Rattle.chunking.specs.Keeping.{Kept}
 use Rattle.connection.proofs.requests.Requests.completes.Goals as goal
 use Rattle.connection.specs.Coming.{Seen, StandsFor}
-use Rattle.connection.specs.Gathering.{IsCompletedBy, is_whole}
+use Rattle.connection.specs.Gathering.{is_whole}
 use Rattle.responder_machine.specs.LargeMessages.{chunks_of}
 use Rattle.spdm_grammar.specs.Message.{ChunkMessage, chunk_message}
 

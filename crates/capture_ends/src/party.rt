@@ -1,0 +1,100 @@
+ghost use Rattle.std.specs.Prelude.{◌≡◌, Err, Ok, if◌then◌else◌};
+ghost use Rattle.capture_ends.specs.Asker.{is_first_chunk};
+ghost use Rattle.capture_ends.specs.declared.onward.Onward.TheVariants as onward;
+
+use crate::owed_messages::is_first_chunk;
+use crate::{AnswerKeys, Answerer, Asker, Onward};
+use capture_laws::{Places, Round, SessionTable};
+use connection::Setup;
+use script_text::Why;
+
+/// A requester of a capture and the responder towards it, while no large message is under way: what
+/// the two ends hold, and the keys of answers that were given; its number, and where its entries stand
+/// in the table of sessions. It judges requests and answers whose order is right, and tells the table
+/// of those that go on. It takes no memory but when it is made.
+#[derive(Drop)]
+pub struct Party {
+    pub(crate) asker: Asker,
+    pub(crate) answerer: Answerer,
+    pub(crate) keys: AnswerKeys,
+    pub(crate) number: u8,
+    pub(crate) places: Places,
+}
+
+// What is told of a request that is refused for this: its body may be the first chunk of a large one.
+fn refused(why: Why, body: &[u8]) -> Result<Onward, Why>
+    ensures { result ≡ (if is_first_chunk body.now then Ok onward.Large else Err why) }
+{
+    if is_first_chunk(body) {
+        return Ok(Onward::Large);
+    }
+    Err(why)
+}
+
+impl Party {
+    ghost use Rattle.std.specs.Prelude.{◌≡◌, ◌≤◌, ◌<◌, ◌-◌, ◌^◌, ℕ, List, [], None, Ok, length};
+    ghost use Rattle.connection.specs.Setup.{IsSetUp};
+    ghost use Rattle.mctp_framing.specs.Cutting.{RouteFields};
+    ghost use Rattle.mctp_framing.specs.Gathering.Gathered.{Whole};
+    ghost use Rattle.requester_machine.specs.Setup.{ReqSetup};
+    ghost use Rattle.capture_ends.specs.Asker.{IsAsker};
+    ghost use Rattle.capture_laws.specs.Keeping.{Keeps, Kept, kept_of};
+    ghost use Rattle.capture_laws.specs.Order.{asked_why};
+    ghost use Rattle.capture_ends.specs.Party.{IsAsked, IsParty};
+    ghost use Rattle.capture_laws.specs.RepliesShown.{responder_for};
+    ghost use Rattle.capture_laws.specs.Rows.{StandsForRows};
+    ghost use Rattle.world_machine.specs.Rounds.{new_dialogue};
+    ghost use Rattle.world_machine.specs.SessionTable.{Row, number_from};
+    ghost use Rattle.world_machine.specs.Setup.{Configuration};
+
+    /// A requester with this number, counted from 1, of which nothing came yet, and the responder that
+    /// is set up so towards it. The table of sessions has no entries.
+    pub fn new(asker: Asker, number: u8, setup: &Setup<'_>) -> Party
+        ensures { (w : Configuration) (q : ReqSetup) → IsAsker asker q (kept_of (new_dialogue q))
+            → number ≡ number_from 1 q.eid w.requesters
+            → IsSetUp setup.now (responder_for w (kept_of (new_dialogue q)))
+            → IsParty result w q (kept_of (new_dialogue q)) [] }
+    {
+        Party {
+            asker,
+            answerer: Answerer::new(setup),
+            keys: AnswerKeys::new(),
+            number,
+            places: Places::new(),
+        }
+    }
+
+    /// A request of at most 4,161 bytes came whole under a tag, in order behind this round: it goes
+    /// on, and the table of sessions with it; or it is refused, and then why, and the table stays.
+    /// Nothing is said of what is kept then, and where it may begin a large request.
+    pub fn asks(
+        &mut self,
+        table: &mut SessionTable,
+        round: &Round,
+        tag: u8,
+        body: &[u8],
+    ) -> Result<Onward, Why>
+        ensures told { (w : Configuration) (q : ReqSetup) (older : List (List ℕ)) (rows : List Row)
+            (k : Kept) (route : RouteFields) → Keeps w q older k → length older < 2 ^ 64 - 1
+            → length body.now ≤ 4161 → round.now ≡ k.round → route.tag ≡ tag
+            → asked_why k.round (Whole route body.now) ≡ None → IsParty self.old w q k rows
+            → StandsForRows table.old w (length older) rows
+            → IsAsked w q older rows k route body.now result self.new table.new }
+        ensures stays { (result ≡ Ok onward.Kept → ⊥) → table.new ≡ table.old }
+    {
+        if round.is_copy(tag, body) {
+            table.ask(&self.places, None);
+            return Ok(Onward::Kept);
+        }
+        if !round.may_begin(body) {
+            return refused(self.asker.why(body), body);
+        }
+        match self.asker.judge(body) {
+            Ok(()) => {
+                table.ask(&self.places, self.asker.sent());
+                Ok(Onward::Kept)
+            }
+            Err(why) => refused(why, body),
+        }
+    }
+}

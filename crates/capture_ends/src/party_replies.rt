@@ -1,0 +1,134 @@
+use crate::{Given, Heard, Judged, Onward, Party};
+use capture_laws::{Change, Round, SessionTable};
+use connection::Setup;
+use responder_session::AnswerKey;
+use script_text::Why;
+use spdm_basis::OutOfMemory;
+
+// The answers that a responder gives.
+impl Party {
+    ghost use Rattle.std.specs.Prelude.{◌≡◌, ◌≤◌, ◌<◌, ◌-◌, ◌^◌, ℕ, List, None, Some, Ok, IfOk, OnErr, IsSome, drop, length};
+    ghost use Rattle.connection.specs.Setup.{IsSetUp};
+    ghost use Rattle.mctp_framing.specs.Cutting.{RouteFields};
+    ghost use Rattle.mctp_framing.specs.Gathering.Gathered.{Whole};
+    ghost use Rattle.requester_machine.specs.Setup.{ReqSetup};
+    ghost use Rattle.responder_machine.specs.Answer.{Free};
+    ghost use Rattle.responder_machine.specs.BoundLaws.{messages_of};
+    ghost use Rattle.responder_machine.specs.History.{History};
+    ghost use Rattle.responder_machine.specs.May.{on_body, with_dropped};
+    ghost use Rattle.responder_machine.specs.Responder.{after};
+    ghost use Rattle.responder_machine.specs.Setup.{RspSetup};
+    ghost use Rattle.spdm_machine.specs.Keys.{Draw};
+    ghost use Rattle.capture_ends.specs.AnswerKeys.{IsComingKey, StandFor};
+    ghost use Rattle.capture_ends.specs.Answerer.{IsAnswerer};
+    ghost use Rattle.capture_ends.specs.Asker.{IsAsker};
+    ghost use Rattle.capture_ends.specs.HeardKept.{asks_upon, heard_kept};
+    ghost use Rattle.capture_laws.specs.Changes.{views_in};
+    ghost use Rattle.capture_laws.specs.DropsShown.{id_begun, response_of};
+    ghost use Rattle.capture_laws.specs.Keeping.{Keeps, Kept};
+    ghost use Rattle.capture_laws.specs.KeptChanges.{accepted_from};
+    ghost use Rattle.capture_laws.specs.Order.{answered_why, body_in, tag_in};
+    ghost use Rattle.capture_ends.specs.Party.{IsParty};
+    ghost use Rattle.capture_ends.specs.PartyReplies.{IsReplied};
+    ghost use Rattle.capture_laws.specs.RepliesShown.{responder_for};
+    ghost use Rattle.capture_laws.specs.Rows.{StandsForRows};
+    ghost use Rattle.capture_ends.specs.declared.onward.Onward.TheVariants as onward;
+    ghost use Rattle.world_machine.specs.Rounds as rounds;
+    ghost use Rattle.world_machine.specs.SessionTable.{Row};
+    ghost use Rattle.world_machine.specs.Setup.{Configuration};
+
+    /// An answer of at most 4,161 bytes came whole, in order behind this round: it goes on, and the
+    /// table of sessions with it; or it is refused, and then why, and the table stays. Nothing is said
+    /// of what is kept then, and where it is a part of a large answer. An `Err` comes only where
+    /// PSK_EXCHANGE_RSP began a session and there is no memory for its entry, and says nothing of what
+    /// is kept.
+    pub fn replies(
+        &mut self,
+        table: &mut SessionTable,
+        setup: &Setup<'_>,
+        round: &Round,
+        answer: &[u8],
+    ) -> Result<Result<Onward, Why>, OutOfMemory>
+        requires { length answer.now ≤ 4161 }
+        ensures told { (w : Configuration) (q : ReqSetup) (older : List (List ℕ)) (rows : List Row)
+            (k : Kept) (route : RouteFields) → Keeps w q older k → length older < 2 ^ 64 - 2
+            → w.responder.beat < 256 → round.now ≡ k.round
+            → IsSetUp setup.now (responder_for w k)
+            → answered_why k.round (Whole route answer.now) ≡ None → IsParty self.old w q k rows
+            → StandsForRows table.old w (length older) rows
+            → IfOk result (λ told. IsReplied w q older rows k route answer.now told self.new table.new) }
+        ensures stays { IfOk result (λ told. (told ≡ Ok onward.Kept → ⊥) → table.new ≡ table.old) }
+        ensures memory { OnErr result (IsSome (id_begun (response_of (drop 1 answer.now)))) }
+    {
+        let body = round.body();
+        let why = self.answerer.reply_why(&self.keys, body, answer);
+        let key = self.answerer.coming_key(body);
+        let begun = self.answerer.begun(round.tag(), body, answer);
+        let taken = self.answerer.taken(body, answer);
+        match self.answerer.judges(setup, round.tag(), body, answer) {
+            Judged::Given(Given::Whole) => {
+                let heard = self.go_on(round, key, answer);
+                if heard.fetches {
+                    return Ok(Ok(Onward::Large));
+                }
+                let change = self.change(begun, heard.accepted, taken);
+                table.take(&mut self.places, self.number, &change)?;
+                Ok(Ok(Onward::Kept))
+            }
+            Judged::Given(Given::Large) => Ok(Ok(Onward::Large)),
+            Judged::Given(Given::Last) => Ok(Ok(Onward::Large)),
+            Judged::Apart => Ok(Err(Why::BadVerify)),
+            Judged::Refused => Ok(Err(why)),
+        }
+    }
+
+    // What an answer changed by which this session was begun, if one was; behind it the requester
+    // accepted a session under this ReqSessionID, and the session of this RspSessionID took a record.
+    fn change(&self, begun: Option<u16>, accepted: Option<u16>, taken: Option<u16>) -> Change
+        ensures begun { result.begun ≡ begun }
+        ensures accepted { result.accepted ≡ accepted }
+        ensures taken { result.answered ≡ taken }
+        ensures asked { result.asked ≡ None }
+        ensures views { (r : RspSetup) (h : History) → IsAnswerer self.now.answerer r h
+            → messages_of h < 2 ^ 64 → result.views ≡ views_in h }
+    {
+        Change {
+            begun,
+            accepted,
+            answered: taken,
+            asked: None,
+            views: self.answerer.views(),
+        }
+    }
+
+    // An answer was given, with the key of the answer to its request: both ends go on. What the
+    // requester does upon it is told. A large answer is fetched from then on where it asks for a chunk.
+    fn go_on(&mut self, round: &Round, key: Option<AnswerKey>, answer: &[u8]) -> Heard
+        ensures answerer { self.new.answerer ≡ self.old.answerer }
+        ensures number { self.new.number ≡ self.old.number }
+        ensures places { self.new.places ≡ self.old.places }
+        ensures keys { (r : RspSetup) (h : History) (ids : List ℕ) (f : Free) (d : Draw)
+            → StandFor self.old.keys r h → IsComingKey r h (body_in round.now) key
+            → IsAnswerer self.old.answerer r (after (with_dropped h ids)
+            (on_body r (with_dropped h ids) (tag_in round.now) (body_in round.now) f d))
+            → StandFor self.new.keys r (after (with_dropped h ids)
+            (on_body r (with_dropped h ids) (tag_in round.now) (body_in round.now) f d)) }
+        ensures asker { (w : Configuration) (q : ReqSetup) (older : List (List ℕ)) (k : Kept)
+            (behind : History) (of : rounds.Round) → Keeps w q older k
+            → length older < 2 ^ 64 - 1 → k.round ≡ Some of → round.now ≡ Some of
+            → IsAsker self.old.asker q k
+            → IsAsker self.new.asker q (heard_kept k behind of.tag of answer.now) }
+        ensures accepted { (w : Configuration) (q : ReqSetup) (older : List (List ℕ)) (k : Kept)
+            (of : rounds.Round) → Keeps w q older k → length older < 2 ^ 64 - 1
+            → k.round ≡ Some of → round.now ≡ Some of → IsAsker self.old.asker q k
+            → result.accepted ≡ accepted_from k of.tag answer.now }
+        ensures fetches { (w : Configuration) (q : ReqSetup) (older : List (List ℕ)) (k : Kept)
+            (of : rounds.Round) → Keeps w q older k → length older < 2 ^ 64 - 2
+            → k.round ≡ Some of → round.now ≡ Some of → IsAsker self.old.asker q k
+            → result.fetches ≡ asks_upon k of.tag answer.now }
+    {
+        self.keys
+            .follow(&self.answerer.connection, round.body(), key);
+        self.asker.hears(round.tag(), answer)
+    }
+}

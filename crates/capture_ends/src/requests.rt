@@ -1,0 +1,119 @@
+use crate::Asker;
+use crate::bodies::{is_clear, is_secured, rest_of};
+use crate::owed_messages::write_outstanding;
+use crate::request_reasons::{is_finish_apart, opens_before, opens_next};
+use crate::sending::{connects, connects_instead, sends_command};
+use script_text::Why;
+
+// The requests by which a round begins.
+impl Asker {
+    ghost use Rattle.std.specs.Prelude.{◌≡◌, ◌≤◌, ◌<◌, ◌-◌, ◌^◌, ℕ, List, length};
+    ghost use Rattle.requester_machine.specs.Named.{session_named};
+    ghost use Rattle.requester_machine.specs.Setup.{ReqSetup};
+    ghost use Rattle.capture_ends.specs.Asked.{IsAskedBy, IsJudged, IsRefusedFor};
+    ghost use Rattle.capture_ends.specs.Asker.{IsAsker};
+    ghost use Rattle.capture_laws.specs.Judged.{why_of};
+    ghost use Rattle.capture_laws.specs.Keeping.{Keeps, Kept, restored};
+    ghost use Rattle.world_machine.specs.Difference.{asks_apart};
+    ghost use Rattle.world_machine.specs.Opening.{opens_asking};
+    ghost use Rattle.world_machine.specs.Setup.{Configuration};
+
+    /// Takes a body of at most 4,161 bytes as a request that begins a round whole: whether it does,
+    /// as the message that is owed, as GET_VERSION, or as that of a command. Else nothing is said
+    /// of what is kept.
+    pub fn asks(&mut self, body: &[u8]) -> bool
+        ensures { (w : Configuration) (q : ReqSetup) (older : List (List ℕ)) (k : Kept)
+            → Keeps w q older k → length older < 2 ^ 64 - 1 → length body.now ≤ 4161
+            → IsAsker self.old q k → IsAskedBy q k body.now result self.new }
+    {
+        if self.goes_on(body) {
+            return true;
+        }
+        if self.owes {
+            self.owes = false;
+            return connects_instead(&mut self.asking, &mut self.room, body);
+        }
+        if write_outstanding(&mut self.asking, &self.setup, &mut self.room) {
+            return connects(&mut self.asking, &self.setup, &mut self.room, body);
+        }
+        sends_command(
+            &mut self.asking,
+            &self.setup,
+            &mut self.room,
+            &mut self.inner,
+            body,
+        )
+    }
+
+    // Whether a record is apart from the PSK_FINISH that is owed, if one is.
+    fn is_apart(&mut self, body: &[u8]) -> bool
+        ensures apart { (w : Configuration) (q : ReqSetup) (older : List (List ℕ)) (k : Kept)
+            → Keeps w q older k → length older < 2 ^ 64 - 1 → IsAsker self.old q k
+            → result ≡ asks_apart (restored k) body.now }
+        ensures kept { (w : Configuration) (q : ReqSetup) (older : List (List ℕ)) (k : Kept)
+            → Keeps w q older k → length older < 2 ^ 64 - 1 → IsAsker self.old q k
+            → IsAsker self.new q k }
+    {
+        if !is_secured(body) {
+            return false;
+        }
+        if !self.owes {
+            return false;
+        }
+        let _ = write_outstanding(&mut self.asking, &self.setup, &mut self.room);
+        is_finish_apart(
+            &self.asking,
+            rest_of(self.room.as_slice()),
+            &mut self.own,
+            &mut self.inner,
+            rest_of(body),
+        )
+    }
+
+    // Whether a record opens, in place of the message that is owed, if one is.
+    fn opens(&mut self, sealed: &[u8]) -> bool
+        ensures opens { (w : Configuration) (q : ReqSetup) (older : List (List ℕ)) (k : Kept)
+            → Keeps w q older k → length older < 2 ^ 64 - 1 → IsAsker self.old q k
+            → result ≡ opens_asking q (session_named k.requester sealed.now) sealed.now }
+        ensures kept { (q : ReqSetup) (k : Kept) → IsAsker self.old q k → IsAsker self.new q k }
+    {
+        if self.owes {
+            opens_before(&self.asking, &mut self.inner, sealed)
+        } else {
+            opens_next(&self.asking, &mut self.inner, sealed)
+        }
+    }
+
+    /// Why a body is refused as a request in turn, whatever it is.
+    pub(crate) fn why(&mut self, body: &[u8]) -> Why
+        ensures why { (w : Configuration) (q : ReqSetup) (older : List (List ℕ)) (k : Kept)
+            → Keeps w q older k → length older < 2 ^ 64 - 1 → IsAsker self.old q k
+            → IsRefusedFor (restored k) body.now (why_of result) }
+        ensures kept { (w : Configuration) (q : ReqSetup) (older : List (List ℕ)) (k : Kept)
+            → Keeps w q older k → length older < 2 ^ 64 - 1 → IsAsker self.old q k
+            → IsAsker self.new q k }
+    {
+        if self.is_apart(body) {
+            return Why::BadVerify;
+        }
+        if is_clear(body) {
+            return Why::BadRequest;
+        }
+        if self.opens(rest_of(body)) {
+            Why::BadRequest
+        } else {
+            Why::BadRecord
+        }
+    }
+
+    /// Judges a body of at most 4,161 bytes as a request in turn that is no copy: it begins a round
+    /// whole, or why it is refused. Where it is refused, nothing is said of what is kept.
+    pub fn judge(&mut self, body: &[u8]) -> Result<(), Why>
+        ensures { (w : Configuration) (q : ReqSetup) (older : List (List ℕ)) (k : Kept)
+            → Keeps w q older k → length older < 2 ^ 64 - 1 → length body.now ≤ 4161
+            → IsAsker self.old q k → IsJudged q k body.now result self.new }
+    {
+        let why = self.why(body);
+        if self.asks(body) { Ok(()) } else { Err(why) }
+    }
+}

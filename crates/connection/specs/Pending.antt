@@ -1,0 +1,28 @@
+-- A connection in which the pending answer of a session gets other bytes, for one who judges answers whose bytes
+-- come chunk by chunk. This project's own.
+use Rattle.std.specs.Prelude.{◌==◌, ◌≡◌, ◌&&◌, ◌||◌, not, if◌then◌else◌, ℕ, List, [], ◌∷◌, Bool, true, is_some}
+use Rattle.request_rules.specs.LargeAnswer.{turn_with}
+use Rattle.responder_machine.specs.History.{History}
+use Rattle.responder_machine.specs.History.Entry.{Sealed}
+use Rattle.responder_machine.specs.Session.{id_in_record}
+use Rattle.responder_machine.specs.Turn.{Turn, handle_in, is_taken, takes}
+use Rattle.spdm_grammar.specs.declared.names.request_code.TheConstants.{CHUNK_GET, GET_MEASUREMENTS}
+
+-- A message that was not taken, or CHUNK_GET: behind it a large answer is as pending as before.
+abbrev pub passes : Turn → Bool
+passes t = not (is_taken t) || takes CHUNK_GET t
+
+-- The history with these bytes as the whole answer to the last record of the session of this id that was taken
+-- and is no CHUNK_GET: a large answer that is pending there is its answer.
+abbrev pub history_with : (id : ℕ) → List ℕ → History → History
+history_with id answer [] = []
+history_with id answer (Sealed tag m t reply d ∷ older) =
+    if id_in_record m == id && not (passes t) then Sealed tag m (turn_with answer t) reply d ∷ older
+    else Sealed tag m t reply d ∷ history_with id answer older
+history_with id answer (entry ∷ older) = entry ∷ history_with id answer older
+
+-- MEASUREMENTS go by LargeResponse in a turn.
+pub record GoesLarge (t : Turn) : Type 0 where
+  pub taken : is_taken t ≡ true
+  pub measures : takes GET_MEASUREMENTS t ≡ true
+  pub large : is_some (handle_in t.effect) ≡ true
