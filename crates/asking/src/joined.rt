@@ -1,5 +1,6 @@
 use crate::{Sessions, Talk};
 use chunking::Collector;
+use negotiate::Common;
 use spdm_basis::Frame;
 use spdm_grammar::{Choice, Phase, SessionList, SessionView};
 
@@ -21,7 +22,7 @@ impl Asking {
     ghost use Rattle.asking.specs.Slot.{shown_of};
     ghost use Rattle.requester_machine.specs.Commands.{live_count};
     ghost use Rattle.requester_machine.specs.Does.{free_id};
-    ghost use Rattle.requester_machine.specs.History.{History, connection_terms, phase_of};
+    ghost use Rattle.requester_machine.specs.History.{History, connection_terms, next_handle, phase_of};
     ghost use Rattle.requester_machine.specs.Session.{session_of};
     ghost use Rattle.requester_machine.specs.Setup.{ReqSetup};
     ghost use Rattle.requester_machine.specs.Shown.{last_data, views_of};
@@ -52,6 +53,21 @@ impl Asking {
             → result ≡ (connection_terms h).choice }
     {
         self.talk.choice()
+    }
+
+    /// What both ends can do, as far as it was settled.
+    pub fn common(&self) -> &Common
+        ensures { (q : ReqSetup) (h : History) → StandsFor self.now q h
+            → result.now ≡ (connection_terms h).common }
+    {
+        self.talk.common()
+    }
+
+    /// The handle that the next large request gets.
+    pub fn next_handle(&self) -> u8
+        ensures { (q : ReqSetup) (h : History) → StandsFor self.now q h → result ≡ next_handle h }
+    {
+        self.talk.next_handle()
     }
 
     /// The least ReqSessionID that no session has; 4 where there is none.

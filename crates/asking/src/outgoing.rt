@@ -64,6 +64,13 @@ impl Outgoing {
         self.waiting
     }
 
+    /// The handle that the next large request gets.
+    pub fn next_handle(&self) -> u8
+        ensures { result ≡ self.now.handle }
+    {
+        self.handle
+    }
+
     /// The request in the clear that is outstanding, whole.
     pub fn request(&self) -> &[u8]
         ensures value { result.now ≡ self.now.request }

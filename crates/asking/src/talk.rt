@@ -1,5 +1,5 @@
 ghost use Rattle.std.specs.Prelude.{◌≡◌, [], ℕ};
-ghost use Rattle.requester_machine.specs.History.{History, connection_terms, negotiation_of, phase_of};
+ghost use Rattle.requester_machine.specs.History.{History, connection_terms, negotiation_of, next_handle, phase_of};
 ghost use Rattle.requester_machine.specs.Setup.{ReqSetup};
 ghost use Rattle.requester_machine.specs.Shown.{last_data};
 ghost use Rattle.transcript.specs.Transcripts.{vca_of};
@@ -64,6 +64,13 @@ impl Talk {
         ensures { (h : History) → Shows self.now h → result ≡ (connection_terms h).choice }
     {
         self.negotiating.choice()
+    }
+
+    /// The handle that the next large request gets.
+    pub fn next_handle(&self) -> u8
+        ensures { (h : History) → Shows self.now h → result ≡ next_handle h }
+    {
+        self.outgoing.next_handle()
     }
 
     /// The bytes of the messages of the negotiation so far, one behind the other; in phase
