@@ -1,0 +1,4 @@
+pub mod Walked
+pub mod Refusals
+pub mod Requests
+pub mod Answers
