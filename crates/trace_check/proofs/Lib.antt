@@ -2,3 +2,4 @@ pub mod Walked
 pub mod Refusals
 pub mod Requests
 pub mod Answers
+pub mod AllPairs

@@ -44,6 +44,13 @@ fn setup_of(q: &ReqPart) -> asking::Setup<'_>
     }
 }
 
+// A copy of a key.
+fn copy_of(psk: &Psk) -> Psk
+    ensures { result ≡ psk.now }
+{
+    psk.clone().unwrap()
+}
+
 impl JudgedPair {
     ghost use Rattle.std.specs.Prelude.{◌≡◌, ◌<◌, [], ℕ, List, IfOk, length, true};
     ghost use Rattle.capture_laws.specs.Order.{is_answer, is_request};
@@ -73,7 +80,7 @@ impl JudgedPair {
     {
         let asker = Asker::new(alloc, &setup_of(q), &q.psk)?;
         let hint = Bytes::copy(alloc, q.hint.as_slice())?;
-        let psk = q.psk.clone().unwrap();
+        let psk = copy_of(&q.psk);
         let party = Party::new(asker, number, &answering.towards(hint.as_slice(), &psk));
         Ok(JudgedPair {
             eid: q.eid,
