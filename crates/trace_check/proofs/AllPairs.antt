@@ -1,5 +1,5 @@
 -- Which requester a packet is of, and what becomes of all.
-use Rattle.std.proofs.Common.{refl, ◌≡◌, ◌≢◌, ◌∙◌, ◌+◌, ◌<◌, ◌==◌, ◌||◌, ◌++◌, ℕ, zero, suc, List, [], ◌∷◌, length, take, Bool, true, false, cond, Option, Some, None, Result, Ok, Err, ap, sym, subst, arith, slice_set, get_or, eq-eqb, eqb-true, inl, inr}
+use Rattle.std.proofs.Common.{refl, ◌≡◌, ◌≢◌, ◌∙◌, ◌+◌, ◌==◌, ◌||◌, ℕ, suc, List, [], ◌∷◌, length, Bool, true, false, cond, Some, None, Result, Ok, Err, ap, sym, subst, arith, slice_set, get_or, eq-eqb, eqb-true}
 use Rattle.std.proofs.lemmas.Bool.{false≢true}
 use Rattle.std.proofs.lemmas.Option.{none-some, same_Some}
 use Rattle.std.specs.List.{AllByRecursion, position_from}
@@ -17,7 +17,7 @@ use Rattle.capture_laws.specs.ReasonsEach.{IsOneOf}
 use Rattle.capture_laws.specs.Rows.{StandsForRows}
 use Rattle.trace_check.proofs.Refusals.{order_refused}
 use Rattle.trace_check.specs.Checker.{AreKept, IsChecker, IsLarge, IsTold, has_eid}
-use Rattle.trace_check.specs.JudgedPair.{GoesOn, IsRefused, IsTaken, StandsFor}
+use Rattle.trace_check.specs.JudgedPair.{IsRefused, IsTaken, StandsFor}
 use Rattle.trace_check.specs.Limits.{IsAnswering}
 use Rattle.trace_check.specs.declared.checker.Checker.{Checker}
 use Rattle.trace_check.specs.declared.judged_pair.JudgedPair.{JudgedPair}

@@ -1,11 +1,11 @@
 -- What a packet for a requester makes of what is kept.
-use Rattle.std.proofs.Common.{◌≡◌, ◌≢◌, ◌≤◌, ◌<◌, ◌+◌, ◌-◌, ◌^◌, ◌==◌, ◌&&◌, ◌∙◌, not, ℕ, List, ◌∷◌, length, refl, sym, ap, subst, Bool, true, false, Option, Some, None, Result, Ok, Err, inl, inr, arith, eqb-true}
-use Rattle.std.specs.Prelude.{◌⊎◌, IfOk}
+use Rattle.std.proofs.Common.{◌≡◌, ◌==◌, ◌&&◌, ◌∙◌, ℕ, List, ◌∷◌, length, refl, sym, ap, subst, Bool, true, false, Option, Some, Result, Ok, Err, inl, inr}
+use Rattle.std.specs.Prelude.{IfOk}
 use Rattle.mctp_framing.specs.Cutting.{RouteFields}
 use Rattle.mctp_framing.specs.Gathering.{Gathered, gathered}
 use Rattle.mctp_framing.specs.Gathering.Gathered.{Dropped, More, Whole}
 use Rattle.mctp_framing.specs.Lending.{TakesPacket}
-use Rattle.mctp_framing.specs.Packet.{PacketFields, parsed}
+use Rattle.mctp_framing.specs.Packet.{PacketFields}
 use Rattle.requester_machine.specs.Setup.{ReqSetup}
 use Rattle.script_text.specs.declared.why.Why as declared
 use Rattle.script_text.specs.declared.why.Why.TheVariants as why
@@ -22,20 +22,18 @@ use Rattle.capture_laws.proofs.KeptAnswers.{goes_to, kept_is_restored, kept_repl
 use Rattle.capture_laws.proofs.PairWalks.{IsFor}
 use Rattle.capture_laws.proofs.RowsKept.{replies_show}
 use Rattle.capture_laws.proofs.Telling.{answer_of_one, going_told}
-use Rattle.capture_laws.specs.Judged.{IsPair, IsTold, why_of}
-use Rattle.capture_laws.specs.Keeping.{Keeps, Kept, RepliesKept, kept_of, restored}
-use Rattle.capture_laws.specs.KeptRows.{Show}
+use Rattle.capture_laws.specs.Judged.{IsPair, why_of}
+use Rattle.capture_laws.specs.Keeping.{Kept, RepliesKept, restored}
 use Rattle.capture_laws.specs.Order.{answered_why, is_answer, is_known, is_request, order_why, ordered_why, round_answered, round_by_answer, round_of}
 use Rattle.capture_laws.specs.Rows.{StandsForRows}
 use Rattle.capture_laws.specs.declared.verdict.Seen.{Seen}
 use Rattle.trace_check.proofs.Refusals.{answer_refused, order_refused}
 use Rattle.trace_check.proofs.Requests.{idle_behind, others_stand}
 use Rattle.trace_check.proofs.Walked.{kept_round, known_is}
-use Rattle.trace_check.specs.Bodies.{IsAnswerJudged, IsAnsweredWrong}
+use Rattle.trace_check.specs.Bodies.{IsAnswerJudged}
 use Rattle.trace_check.specs.JudgedPair.{ComesBehind, GoesOn, IsRefused, IsTaken, RepliesLarge, StandsFor, pair_of}
 use Rattle.trace_check.specs.declared.judged_pair.JudgedPair.{JudgedPair}
-use Rattle.world_machine.specs.Difference.{Why}
-use Rattle.world_machine.specs.Rounds.{Dialogue, Round}
+use Rattle.world_machine.specs.Rounds.{Round}
 use Rattle.world_machine.specs.SessionTable.{Row, rows_between}
 use Rattle.world_machine.specs.Setup.{Configuration}
 

@@ -3,3 +3,5 @@ pub mod Refusals
 pub mod Requests
 pub mod Answers
 pub mod AllPairs
+pub mod NewPairs
+pub mod Verdicts

@@ -1,17 +1,14 @@
 -- Why a packet is refused: by the order, or by what is kept of its requester.
-use Rattle.std.proofs.Common.{◌≡◌, ◌==◌, ◌∙◌, ◌⊎◌, ℕ, List, ◌∷◌, refl, sym, ap, subst, Bool, true, false, Option, Some, None, Result, Ok, Err, inl, inr}
-use Rattle.std.specs.Prelude.{slice_index, ◌&&◌}
+use Rattle.std.proofs.Common.{◌≡◌, ◌∙◌, ◌⊎◌, ℕ, List, ◌∷◌, refl, sym, ap, subst, true, false, Option, Some, None, Result, inl, inr}
 use Rattle.std.proofs.lemmas.Bool.{false≢true}
-use Rattle.std.proofs.lemmas.Option.{none-some}
 use Rattle.mctp_framing.specs.Gathering.{Gathered}
 use Rattle.mctp_framing.specs.Gathering.Gathered.{Whole}
 use Rattle.mctp_framing.specs.Cutting.{RouteFields}
-use Rattle.mctp_framing.specs.Packet.{PacketFields, parsed}
+use Rattle.mctp_framing.specs.Packet.{PacketFields}
 use Rattle.requester_machine.specs.History.{History}
 use Rattle.requester_machine.specs.Message.{body_of}
 use Rattle.requester_machine.specs.Setup.{ReqSetup}
 use Rattle.responder_machine.specs.Setup.{RspSetup, towards}
-use Rattle.script_text.specs.declared.why.Why as declared
 use Rattle.spdm_basis.specs.declared.PacketFault.{PacketFault}
 use Rattle.spdm_grammar.specs.Message.{RequestMessage}
 use Rattle.spdm_machine.specs.Packets.{gathered_from}
@@ -28,7 +25,7 @@ use Rattle.capture_laws.proofs.OneWalk.{walks_alike}
 use Rattle.capture_laws.proofs.PairWalks.{it_made}
 use Rattle.capture_laws.proofs.Reasons.{order_refuses}
 use Rattle.capture_laws.proofs.ReasonsEach.{answered_reason_is_each, asked_reason_is_each}
-use Rattle.capture_laws.proofs.Refused.{kept_tells_apart, kept_tells_why}
+use Rattle.capture_laws.proofs.Refused.{kept_tells_apart}
 use Rattle.capture_laws.specs.Keeping.{AsksKept, Keeps, Kept, restored}
 use Rattle.capture_laws.specs.Order.{is_answer, is_request, order_why}
 use Rattle.capture_laws.specs.RepliesShown.{responder_for}

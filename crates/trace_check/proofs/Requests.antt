@@ -1,17 +1,16 @@
 -- What a packet of a requester, or one for it, makes of what is kept: it goes on.
-use Rattle.std.proofs.Common.{◌≡◌, ◌≢◌, ◌≤◌, ◌<◌, ◌+◌, ◌-◌, ◌^◌, ◌==◌, ◌&&◌, ◌∙◌, not, ℕ, List, ◌∷◌, length, refl, sym, ap, subst, Bool, true, false, Option, Some, None, Result, Ok, Err, inl, inr, arith, eqb-true}
-use Rattle.std.specs.Prelude.{◌⊎◌}
+use Rattle.std.proofs.Common.{◌≡◌, ◌≢◌, ◌+◌, ◌∙◌, ℕ, List, ◌∷◌, length, refl, sym, ap, subst, true, Option, Some, Result, Ok, Err, inl, inr, arith}
 use Rattle.mctp_framing.specs.Cutting.{RouteFields}
 use Rattle.mctp_framing.specs.Gathering.{Gathered, gathered}
 use Rattle.mctp_framing.specs.Gathering.Gathered.{Dropped, More, Whole}
 use Rattle.mctp_framing.specs.Lending.{TakesPacket}
-use Rattle.mctp_framing.specs.Packet.{PacketFields, parsed}
+use Rattle.mctp_framing.specs.Packet.{PacketFields}
 use Rattle.requester_machine.specs.Setup.{ReqSetup}
 use Rattle.script_text.specs.declared.why.Why as declared
 use Rattle.script_text.specs.declared.why.Why.TheVariants as why
 use Rattle.spdm_basis.specs.declared.DropCause.{DropCause}
 use Rattle.spdm_machine.specs.Packets.{fields_in, gathered_from}
-use Rattle.capture_ends.specs.Party.{IsAsked, IsParty, StandBehind}
+use Rattle.capture_ends.specs.Party.{IsParty, StandBehind}
 use Rattle.capture_ends.specs.declared.onward.Onward.{Onward}
 use Rattle.capture_ends.specs.declared.onward.Onward.TheVariants as onward
 use Rattle.capture_ends.specs.declared.party.Party.{Party}
@@ -24,18 +23,16 @@ use Rattle.capture_laws.proofs.OrderedRows.{other_places_stay}
 use Rattle.capture_laws.proofs.PairWalks.{IsFor}
 use Rattle.capture_laws.proofs.RowsKept.{asks_show, more_packets}
 use Rattle.capture_laws.proofs.Telling.{coming_told, request_of_one}
-use Rattle.capture_laws.specs.Judged.{IsPair, IsTold, why_of}
-use Rattle.capture_laws.specs.Keeping.{AsksKept, Keeps, Kept, restored}
-use Rattle.capture_laws.specs.KeptRows.{Show}
-use Rattle.capture_laws.specs.Order.{asked_why, is_answer, is_known, is_request, order_why, ordered_why, round_by_request, round_of}
+use Rattle.capture_laws.specs.Judged.{IsPair, why_of}
+use Rattle.capture_laws.specs.Keeping.{AsksKept, Kept, restored}
+use Rattle.capture_laws.specs.Order.{asked_why, is_known, is_request, order_why, ordered_why, round_by_request, round_of}
 use Rattle.capture_laws.specs.Rows.{StandsForRows}
 use Rattle.capture_laws.specs.declared.verdict.Seen.{Seen}
 use Rattle.trace_check.proofs.Refusals.{order_refused, request_refused}
 use Rattle.trace_check.proofs.Walked.{apart_is, kept_round, known_is}
-use Rattle.trace_check.specs.Bodies.{IsAskedWrong, IsRequestJudged}
+use Rattle.trace_check.specs.Bodies.{IsRequestJudged}
 use Rattle.trace_check.specs.JudgedPair.{AsksLarge, ComesBehind, GoesOn, IsRefused, IsTaken, StandsFor, pair_of}
 use Rattle.trace_check.specs.declared.judged_pair.JudgedPair.{JudgedPair}
-use Rattle.world_machine.specs.Difference.{Why}
 use Rattle.world_machine.specs.Rounds.{Dialogue, Round}
 use Rattle.world_machine.specs.SessionTable.{Row, rows_between}
 use Rattle.world_machine.specs.Setup.{Configuration}

@@ -1,5 +1,5 @@
 -- Which configurations a capture is judged under, and what the program keeps of the responder. This project's own.
-use Rattle.std.specs.Prelude.{◌≡◌, ◌≤◌, ◌<◌, List, length}
+use Rattle.std.specs.Prelude.{◌≡◌, ◌≤◌, ◌<◌, length}
 use Rattle.std.specs.List.{AllByRecursion}
 use Rattle.measurements.specs.Blocks.{by_index}
 use Rattle.requester_machine.specs.May.{IsSetUp}

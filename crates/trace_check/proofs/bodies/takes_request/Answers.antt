@@ -1,4 +1,4 @@
-use Rattle.std.proofs.Common.{◌≡◌, ◌<◌, ◌-◌, ◌^◌, ◌∙◌, refl, sym, ap, subst, length, Option, None, Result, Ok, inl, inr, arith}
+use Rattle.std.proofs.Common.{◌≡◌, ◌<◌, ◌-◌, ◌^◌, ◌∙◌, refl, sym, ap, subst, length, Option, None, Result, Ok, inl, arith}
 use Rattle.mctp_framing.specs.Cutting.{route_of}
 use Rattle.mctp_framing.specs.Gathering.Gathered.{Whole}
 use Rattle.script_text.specs.declared.why.Why as declared

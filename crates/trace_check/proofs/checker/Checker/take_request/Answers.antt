@@ -1,4 +1,4 @@
-use Rattle.std.proofs.Common.{◌≡◌, ◌∙◌, ◌==◌, ℕ, List, ap, arith, eq-eqb, get_or, inl, refl, slice_set, subst, sym, true}
+use Rattle.std.proofs.Common.{◌≡◌, ◌∙◌, ◌==◌, ℕ, ap, arith, eq-eqb, get_or, inl, slice_set, subst, sym, true}
 use Rattle.std.specs.Prelude.{◌∷◌}
 use Rattle.mctp_framing.specs.Packet.{PacketFields, view_of}
 use Rattle.spdm_machine.specs.Packets.{gathered_from}

@@ -1,6 +1,5 @@
-use Rattle.std.proofs.Common.{◌≡◌, ◌≤◌, ◌∙◌, refl, sym, subst, length, ℕ}
+use Rattle.std.proofs.Common.{◌≤◌, ◌∙◌, refl, sym, subst, length, ℕ}
 use Rattle.mctp_framing.specs.Cutting.{route_of}
-use Rattle.mctp_framing.specs.Gathering.{Receiver}
 use Rattle.mctp_framing.specs.Packet.{view_of}
 use Rattle.requester_machine.specs.Setup.{ReqSetup}
 use Rattle.responder_machine.specs.Setup.{towards}

@@ -1,8 +1,7 @@
-use Rattle.std.proofs.Common.{◌≡◌, ◌≤◌, ◌<◌, ◌-◌, ◌^◌, refl, sym, subst, length, Option, arith}
+use Rattle.std.proofs.Common.{◌≤◌, ◌<◌, ◌-◌, ◌^◌, refl, sym, subst, length, Option, arith}
 use Rattle.mctp_framing.specs.Cutting.{route_of}
 use Rattle.mctp_framing.specs.Gathering.{Receiver}
 use Rattle.mctp_framing.specs.Packet.{view_of}
-use Rattle.requester_machine.specs.Setup.{ReqSetup}
 use Rattle.spdm_machine.specs.Packets.{fields_in}
 use Rattle.capture_laws.proofs.Kept.{few_waiting}
 use Rattle.capture_laws.specs.Judged.{waiting_in}
