@@ -129,4 +129,4 @@ module _ (w : Configuration) (q : ReqSetup) (older : List (List ℕ)) (rows : Li
       → IsRefusedFor (restored k) body (why_of why) → IsAsked w q older rows k route body result new table
   refused_by new table why result true is told nowhere reason = subst (λ (x : Result Onward declared.Why). IsAsked w q older rows k route body x new table) (sym told) (is, nowhere)
   refused_by new table why result false is told nowhere reason =
-      subst (λ (x : Result Onward declared.Why). IsAsked w q older rows k route body x new table) (sym told) (nowhere, refused_for (why_of why) reason)
+      subst (λ (x : Result Onward declared.Why). IsAsked w q older rows k route body x new table) (sym told) (is, nowhere, refused_for (why_of why) reason)

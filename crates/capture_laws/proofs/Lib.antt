@@ -12,8 +12,8 @@ pub mod Alone
 mod PassingPlaces
 mod SessionIds
 mod RowSteps
-mod OrderedRows
-mod IdleRows
+pub mod OrderedRows
+pub mod IdleRows
 mod OwnPlaces
 mod CountedRecords
 mod FollowedRows

@@ -82,21 +82,21 @@ pub(crate) const TURNED_RECORD: &str =
 const TURNED_REPLY: &str = "060100010000001300f65aefc25daccee6a68cf82dcf9940e35d3023";
 
 // The flags of a responder with measurements, and of a requester.
-const RESPONDER: FlagSet = FlagSet {
+pub(crate) const RESPONDER: FlagSet = FlagSet {
     measure: true,
     heartbeat: true,
     key_update: true,
     chunk: true,
 };
 
-const REQUESTER: FlagSet = FlagSet {
+pub(crate) const REQUESTER: FlagSet = FlagSet {
     measure: false,
     heartbeat: true,
     key_update: true,
     chunk: true,
 };
 
-const SUITES: Suites = Suites {
+pub(crate) const SUITES: Suites = Suites {
     hash: Pick::Small,
     aead: Pick::Small,
 };

@@ -7,7 +7,7 @@ use std::process::Abort;
 use std::test::Fail;
 
 // The hash of the transcript of the day's one session, as another program tells it.
-const HASH: &str = "5ddcd350a2caa76e8c9a70aae22a180489d8866ddc61039d7d14f8353aaad73a";
+pub(crate) const HASH: &str = "5ddcd350a2caa76e8c9a70aae22a180489d8866ddc61039d7d14f8353aaad73a";
 
 // A requester, its responder, the round under way, and the table of sessions.
 #[derive(Drop)]

@@ -1,0 +1,7 @@
+pub mod Walked
+pub mod Refusals
+pub mod Requests
+pub mod Answers
+pub mod AllPairs
+pub mod NewPairs
+pub mod Verdicts

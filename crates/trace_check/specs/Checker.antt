@@ -1,0 +1,55 @@
+-- All requesters of a capture and the responder, as the program keeps them, and what it tells of a packet. This project's own.
+use Rattle.std.specs.Prelude.{◌≡◌, ◌⊎◌, ◌==◌, ℕ, List, [], ◌∷◌, length, Bool, true, Result, Ok, Err}
+use Rattle.mctp_framing.specs.Packet.{PacketFields, parsed}
+use Rattle.requester_machine.specs.Setup.{ReqSetup}
+use Rattle.script_text.specs.declared.why.Why as declared
+use Rattle.spdm_machine.specs.Packets.{gathered_from}
+use Rattle.capture_ends.specs.declared.onward.Onward.{Onward}
+use Rattle.capture_ends.specs.declared.onward.Onward.TheVariants as onward
+use Rattle.capture_laws.specs.Judged.{why_of}
+use Rattle.capture_laws.specs.KeptRows.{Show}
+use Rattle.capture_laws.specs.Order.{is_answer, is_request}
+use Rattle.capture_laws.specs.ReasonsEach.{IsOneOf}
+use Rattle.capture_laws.specs.Rows.{StandsForRows}
+use Rattle.trace_check.specs.JudgedPair.{AsksLarge, IsRefused, RepliesLarge, StandsFor}
+use Rattle.trace_check.specs.Limits.{IsAnswering}
+use Rattle.trace_check.specs.declared.checker.Checker.{Checker}
+use Rattle.trace_check.specs.declared.judged_pair.JudgedPair.{JudgedPair}
+use Rattle.world_machine.specs.SessionTable.{Row}
+use Rattle.world_machine.specs.Setup.{Configuration}
+
+-- ---- What is kept.
+
+-- Of each requester, in their order, among the rows that the packets show.
+abbrev pub AreKept : List JudgedPair → Configuration → List (List ℕ) → List Row → List ReqSetup → Type 0
+AreKept [] w older rows [] = Unit {0}
+AreKept (x ∷ xs) w older rows (q ∷ qs) = StandsFor x w q older rows × AreKept xs w older rows qs
+AreKept _ w older rows _ = ⊥
+
+-- The requester has this end point.
+abbrev pub has_eid : ℕ → JudgedPair → Bool
+has_eid eid x = x.eid.number == eid
+
+-- It is kept of these packets of a capture, the newest first, under this configuration. They conform.
+pub record IsChecker (seen : Checker) (w : Configuration) (older : List (List ℕ)) : Type 0 where
+  pub own : seen.own.number ≡ w.responder.eid
+  pub answering : IsAnswering seen.answering w.responder
+  pub rows : List Row
+  pub shows : Show w older rows
+  pub pairs : AreKept seen.pairs.items w older rows w.requesters
+  pub entries : StandsForRows seen.table w (length older) rows
+
+-- ---- What is told of a packet.
+
+-- It is of a requester that is set up, and may begin a large request, or is a part of a large answer.
+abbrev pub IsLarge : Configuration → List (List ℕ) → (packet : List ℕ) → Type 0
+IsLarge w older packet =
+    (q : ReqSetup) × (p : PacketFields) × IsOneOf w q × (parsed packet ≡ Ok p)
+    × (((is_request w.responder.eid q.eid p ≡ true) × AsksLarge w q older (gathered_from w.responder.eid q.eid older p))
+    ⊎ ((is_answer w.responder.eid q.eid p ≡ true) × RepliesLarge w q older (gathered_from q.eid w.responder.eid older p)))
+
+-- It conforms behind those before it; or it is a part of a large message; or it does not conform, and then why.
+abbrev pub IsTold : Configuration → List (List ℕ) → (packet : List ℕ) → Result Onward declared.Why → (new : Checker) → Type 0
+IsTold w older packet (Ok onward.Kept) new = IsChecker new w (packet ∷ older)
+IsTold w older packet (Ok onward.Large) new = IsLarge w older packet
+IsTold w older packet (Err why) new = IsRefused w older packet (why_of why)

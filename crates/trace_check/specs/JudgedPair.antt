@@ -1,0 +1,96 @@
+-- One requester of a capture and the responder, as the program gathers and judges what goes between them: what it stands
+-- for after some packets, and what it tells of the next one. This project's own.
+use Rattle.std.specs.Prelude.{◌≡◌, ◌≢◌, ◌<◌, ◌+◌, ◌-◌, ◌^◌, ℕ, List, ◌∷◌, length, true, Result, Ok, Err}
+use Rattle.mctp_framing.specs.Cutting.{RouteFields}
+use Rattle.mctp_framing.specs.Gathering.{Gathered}
+use Rattle.mctp_framing.specs.Gathering.Gathered.{Whole}
+use Rattle.mctp_framing.specs.Packet.{PacketFields, parsed}
+use Rattle.requester_machine.specs.Setup.{ReqSetup}
+use Rattle.script_text.specs.declared.why.Why as declared
+use Rattle.capture_ends.specs.Asker.{is_first_chunk}
+use Rattle.capture_ends.specs.Party.{IsParty}
+use Rattle.capture_ends.specs.PartyReplies.{IsPartOfLarge}
+use Rattle.capture_ends.specs.declared.onward.Onward.{Onward}
+use Rattle.capture_ends.specs.declared.onward.Onward.TheVariants as onward
+use Rattle.capture_laws.specs.Judged.{IsPair, why_of}
+use Rattle.capture_laws.specs.Keeping.{AsksKept, Keeps, Kept}
+use Rattle.capture_laws.specs.KeptRows.{Show}
+use Rattle.capture_laws.specs.ReasonsEach.{IsOneOf}
+use Rattle.capture_laws.specs.Rows.{StandsForRows}
+use Rattle.capture_laws.specs.declared.pair.Pair.{Pair}
+use Rattle.capture_laws.specs.declared.verdict.Seen.{Seen}
+use Rattle.trace_check.specs.Limits.{AreSound}
+use Rattle.trace_check.specs.declared.judged_pair.JudgedPair.{JudgedPair}
+use Rattle.world_machine.specs.Capture.{Leads}
+use Rattle.world_machine.specs.Difference.{IsReason, Why}
+use Rattle.world_machine.specs.Rounds.{Dialogue}
+use Rattle.world_machine.specs.SessionTable.{Row}
+use Rattle.world_machine.specs.Setup.{Configuration}
+
+-- ---- What is kept.
+
+-- The bodies that are gathered in both directions, and the round under way.
+abbrev pub pair_of : JudgedPair → Pair
+pair_of seen = record { eid = seen.eid; requests = seen.requests; answers = seen.answers; round = seen.round }
+
+-- It stands for this requester and the responder after these packets, the newest first, among the rows that they show: the
+-- bodies and the round are those of the packets; what is kept of some walk over them is what the two ends hold; and the
+-- responder knows this of the requester.
+pub record StandsFor (seen : JudgedPair) (w : Configuration) (q : ReqSetup) (older : List (List ℕ)) (rows : List Row) : Type 0 where
+  pub order : IsPair (pair_of seen) w.responder.eid q.eid older
+  pub kept : Kept
+  pub keeps : Keeps w q older kept
+  pub party : IsParty seen.party w q kept rows
+  pub hint : seen.hint ≡ q.hint
+  pub psk : seen.psk ≡ q.psk
+
+-- ---- A packet.
+
+-- A packet with these fields comes behind packets that conform and show these rows. The requester is one of those that are
+-- set up.
+pub record ComesBehind (w : Configuration) (q : ReqSetup) (older : List (List ℕ)) (rows : List Row) (packet : List ℕ) (p : PacketFields) : Type 0 where
+  pub sound : AreSound w
+  pub known : IsOneOf w q
+  pub few : length older < 2 ^ 64 - 2
+  pub shows : Show w older rows
+  pub parses : parsed packet ≡ Ok p
+
+-- It goes on: the packets with it conform and show these rows; the two ends are kept behind it among them, and so is what
+-- is kept of each other requester; and the table stands for them.
+pub record GoesOn (new : JudgedPair) (table : List Seen) (w : Configuration) (q : ReqSetup) (older : List (List ℕ)) (packet : List ℕ) (rows : List Row) : Type 0 where
+  pub behind : List Row
+  pub shows : Show w (packet ∷ older) behind
+  pub stands : StandsFor new w q (packet ∷ older) behind
+  pub others : (seen : JudgedPair) (other : ReqSetup) → other.eid ≢ q.eid → other.eid ≢ w.responder.eid
+      → StandsFor seen w other older rows → StandsFor seen w other (packet ∷ older) behind
+  pub entries : StandsForRows table w (length older + 1) behind
+
+-- It does not conform behind those before it, for this reason.
+abbrev pub IsRefused : Configuration → List (List ℕ) → (packet : List ℕ) → Why → Type 0
+IsRefused w older packet why = ((after : List Dialogue) → Leads w (packet ∷ older) after → ⊥) × IsReason w older packet why
+
+-- ---- Parts of large messages, which are not judged yet.
+
+-- What the requester sends may begin a large request: it is a first chunk, and does not go on otherwise.
+abbrev pub AsksLarge : Configuration → ReqSetup → List (List ℕ) → Gathered → Type 0
+AsksLarge w q older g =
+    (k : Kept) × Keeps w q older k
+    × ((route : RouteFields) × (body : List ℕ) × (g ≡ Whole route body)
+    × (is_first_chunk body ≡ true)
+    × ((next : Kept) → AsksKept k (Whole route body) next → ⊥))
+
+-- What it gets is a part of a large answer.
+abbrev pub RepliesLarge : Configuration → ReqSetup → List (List ℕ) → Gathered → Type 0
+RepliesLarge w q older g =
+    (k : Kept) × Keeps w q older k
+    × ((route : RouteFields) × (answer : List ℕ) × (g ≡ Whole route answer)
+    × IsPartOfLarge w k route.tag answer)
+
+-- ---- What is told of it.
+
+-- It goes on, or is such a part; or it is refused, and then why.
+abbrev pub IsTaken : (large : Type 0) → Configuration → ReqSetup → List (List ℕ) → (packet : List ℕ) → List Row
+    → Result Onward declared.Why → (new : JudgedPair) → (table : List Seen) → Type 0
+IsTaken large w q older packet rows (Ok onward.Kept) new table = GoesOn new table w q older packet rows
+IsTaken large w q older packet rows (Ok onward.Large) new table = large
+IsTaken large w q older packet rows (Err why) new table = IsRefused w older packet (why_of why)

@@ -1,0 +1,5 @@
+pub mod Limits
+pub mod Bodies
+pub mod JudgedPair
+pub mod Checker
+pub mod Checking
