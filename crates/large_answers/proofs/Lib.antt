@@ -1,0 +1,4 @@
+pub mod Restored
+pub mod Packets
+pub mod AskedSteps
+pub mod Asked

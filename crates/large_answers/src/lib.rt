@@ -1,0 +1,10 @@
+//! What a capture shows of a large answer, one that is fetched by chunks: what is kept of the two ends from
+//! its LargeResponse to its last chunk, what goes on from that, and why a packet is refused meanwhile.
+//!
+//! Read first: `IsFetchingOf` in `specs/Fetching.antt`, of which walks that is kept. Each function has a law
+//! as its contract.
+#![tactic(auto)]
+
+mod laws;
+
+pub use laws::{fetching_asks, fetching_is_asked, fetching_stays};
