@@ -2,3 +2,8 @@ pub mod Restored
 pub mod Packets
 pub mod AskedSteps
 pub mod Asked
+pub mod Reasons
+pub mod Fresh
+pub mod Begun
+pub mod BegunWalks
+pub mod BegunLaws

@@ -1,7 +1,7 @@
 //! What goes on while a large answer is fetched by chunks, each law as the contract of a function that does
 //! nothing.
 
-ghost use Rattle.large_answers.specs.FetchingLaws.{FetchingAsks, FetchingIsAsked, FetchingStays};
+ghost use Rattle.large_answers.specs.FetchingLaws.{BegunIsFetching, FetchingAsks, FetchingBegins, FetchingEnds, FetchingIsAlone, FetchingIsAsked, FetchingStays, FetchingTellsApart, FetchingTellsWhy};
 
 /// What is kept behind a request.
 pub fn fetching_asks()
@@ -16,4 +16,35 @@ pub fn fetching_is_asked()
 /// A packet between two other ends leaves what is kept.
 pub fn fetching_stays()
     ensures { FetchingStays }
+{}
+
+/// Why a packet is refused meanwhile hangs on no byte of the large answer.
+pub fn fetching_tells_why()
+    ensures { FetchingTellsWhy }
+{}
+
+/// Whether verify data are alone wrong meanwhile is told from what is kept, and, of those of an answer,
+/// from the bytes that stand for the large one.
+pub fn fetching_tells_apart()
+    ensures { FetchingTellsApart }
+{}
+
+/// What is kept behind LargeResponse upon which the requester asks for a chunk.
+pub fn fetching_begins()
+    ensures { FetchingBegins }
+{}
+
+/// Where a large answer is fetched behind a packet, the packet begins it.
+pub fn begun_is_fetching()
+    ensures { BegunIsFetching }
+{}
+
+/// Behind no packets both a large answer is fetched and none is, and no large request is under way meanwhile.
+pub fn fetching_is_alone()
+    ensures { FetchingIsAlone }
+{}
+
+/// What is kept behind an answer with which nothing is fetched any more.
+pub fn fetching_ends()
+    ensures { FetchingEnds }
 {}

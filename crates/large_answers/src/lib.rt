@@ -7,4 +7,7 @@
 
 mod laws;
 
-pub use laws::{fetching_asks, fetching_is_asked, fetching_stays};
+pub use laws::{
+    begun_is_fetching, fetching_asks, fetching_begins, fetching_ends, fetching_is_alone,
+    fetching_is_asked, fetching_stays, fetching_tells_apart, fetching_tells_why,
+};
