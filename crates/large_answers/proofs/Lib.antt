@@ -7,3 +7,7 @@ pub mod Fresh
 pub mod Begun
 pub mod BegunWalks
 pub mod BegunLaws
+pub mod Gave
+pub mod Cuts
+pub mod Stood
+pub mod RepliedOn

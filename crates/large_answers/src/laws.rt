@@ -1,7 +1,7 @@
 //! What goes on while a large answer is fetched by chunks, each law as the contract of a function that does
 //! nothing.
 
-ghost use Rattle.large_answers.specs.FetchingLaws.{BegunIsFetching, FetchingAsks, FetchingBegins, FetchingEnds, FetchingIsAlone, FetchingIsAsked, FetchingStays, FetchingTellsApart, FetchingTellsWhy};
+ghost use Rattle.large_answers.specs.FetchingLaws.{BegunIsFetching, FetchingAsks, FetchingBegins, FetchingEnds, FetchingIsAlone, FetchingIsAsked, FetchingIsReplied, FetchingStays, FetchingTellsApart, FetchingTellsWhy};
 
 /// What is kept behind a request.
 pub fn fetching_asks()
@@ -47,4 +47,9 @@ pub fn fetching_is_alone()
 /// What is kept behind an answer with which nothing is fetched any more.
 pub fn fetching_ends()
     ensures { FetchingEnds }
+{}
+
+/// Each answer that goes on from some walk makes something of what is kept.
+pub fn fetching_is_replied()
+    ensures { FetchingIsReplied }
 {}
