@@ -11,3 +11,9 @@ pub mod Gave
 pub mod Cuts
 pub mod Stood
 pub mod RepliedOn
+pub mod TurnsMoved
+pub mod TurnsSame
+pub mod SessionMoved
+pub mod RecordMoved
+pub mod Sized
+pub mod WithinMoved
