@@ -40,7 +40,7 @@ use Rattle.large_answers.specs.Fetching.{HasSize, answer_by, bytes_given, bytes_
 
 -- ---- The same counts.
 
-number_same : (at : Option ℕ) (h : History) → gets_of at h ≡ number_given at h
+pub number_same : (at : Option ℕ) (h : History) → gets_of at h ≡ number_given at h
 number_same at [] = refl
 number_same at (e ∷ h) = ap (λ (n : ℕ). cond (is_unseen_in at e) 0 (cond (gives_in at e) (n + 1) n)) (number_same at h)
 

@@ -17,3 +17,4 @@ pub mod SessionMoved
 pub mod RecordMoved
 pub mod Sized
 pub mod WithinMoved
+pub mod PlainWithin

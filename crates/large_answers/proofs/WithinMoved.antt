@@ -32,7 +32,7 @@ use Rattle.spdm_grammar.specs.Requests.{request_in}
 use Rattle.spdm_machine.specs.Sessions.{is_past_handshake, one_if}
 use Rattle.spdm_machine.specs.Terms.{hash_len, terms_of}
 use Rattle.transcript.specs.Transcripts.{Negotiation}
-use Rattle.world_machine.proofs.ChunksGiven.{Chunked}
+use Rattle.world_machine.proofs.ChunksGiven.{Chunked, gets_of}
 use Rattle.world_machine.proofs.ChunksGiven.Chunked.{Gone, Given}
 use Rattle.world_machine.proofs.EventsAlike.{EventsAlike, answered, live_alike, negotiation_alike, opened_alike, stage_alike}
 use Rattle.world_machine.proofs.EventsAlike.EventsAlike.{NoEvent, Behind, Here}
@@ -90,7 +90,7 @@ some_large : (large : Option ℕ) (v w : List ℕ) → is_some (option_map (λ (
 some_large None v w = refl
 some_large (Some n) v w = refl
 
-large_alike : (s u : Events) → EventsAlike s u → is_some (large_of (turns_of s)) ≡ is_some (large_of (turns_of u))
+pub large_alike : (s u : Events) → EventsAlike s u → is_some (large_of (turns_of s)) ≡ is_some (large_of (turns_of u))
 large_alike _ _ NoEvent = refl
 large_alike _ _ (Behind (Began n x y) s u a) = large_alike s u a
 large_alike _ _ (Behind (Heard sealed t reply) s u a) = some_cond (not (is_taken t) || takes CHUNK_GET t) (large_of (turns_of s)) (large_of (turns_of u)) (large_in t.effect) (large_in t.effect) (large_alike s u a) refl
@@ -109,7 +109,7 @@ count_by : (t n : ℕ) (v w : List ℕ) → ((n ≡ 0 → ⊥) → length w ≡ 
 count_by t zero v w same = some_more (length v) (length w) (unit_of t)
 count_by t (suc n) v w same = ap (λ (k : ℕ). nat_lt (suc n) (div_ceil (k + 4) (unit_of t))) (sym (same (λ none. absurd (omega (arith, none)))))
 
-pub pending_moved : (s u : Events) (at : Option ℕ) (h : History) (v w : List ℕ) → EventsAlike s u → Chunked (session_place s) at v h → Chunked (session_place u) at w h → ((given_of (turns_of s) ≡ 0 → ⊥) → length w ≡ length v)
+pub pending_moved : (s u : Events) (at : Option ℕ) (h : History) (v w : List ℕ) → EventsAlike s u → Chunked (session_place s) at v h → Chunked (session_place u) at w h → ((gets_of at h ≡ 0 → ⊥) → length w ≡ length v)
     → has_pending (session_place s) ≡ has_pending (session_place u)
 pending_moved s u at h v w a (Gone none) (Gone nor) same = ap (λ (o : Option (List ℕ)). is_some (still_pending (transfer_of (session_place s)) (given_of (turns_of s)) o)) none ∙ sym (ap (λ (o : Option (List ℕ)). is_some (still_pending (transfer_of (session_place u)) (given_of (turns_of u)) o)) nor)
 pending_moved s u at h v w a (Given one given parts) (Given two gave bytes) same =
@@ -117,7 +117,7 @@ pending_moved s u at h v w a (Given one given parts) (Given two gave bytes) same
     let count : given_of (turns_of s) ≡ given_of (turns_of u) = given ∙ sym gave in
     ap (λ (o : Option (List ℕ)). is_some (still_pending (transfer_of (session_place s)) (given_of (turns_of s)) o)) one
     ∙ more_by (transfer_of (session_place s)) (given_of (turns_of s)) v
-    ∙ count_by (transfer_of (session_place s)) (given_of (turns_of s)) v w same
+    ∙ count_by (transfer_of (session_place s)) (given_of (turns_of s)) v w (λ some. same (λ none. some (given ∙ none)))
     ∙ sym (more_by (transfer_of (session_place s)) (given_of (turns_of s)) w)
     ∙ ap (λ (t : ℕ). is_some (still_pending t (given_of (turns_of s)) (Some w))) transfer
     ∙ ap (λ (n : ℕ). is_some (still_pending (transfer_of (session_place u)) n (Some w))) count
