@@ -160,13 +160,13 @@ module _ (at : Option ℕ) (h : History) (v : List ℕ) (p : Place) (e : Entry) 
   pub begins : take (length (bytes_given at (e ∷ h))) v ≡ bytes_given at (e ∷ h)
   begins = ap (λ (l : List ℕ). take (length l) v) bytes_begin ∙ take_own (suc (number_given at h) * unit_of (transfer_of p) - 4) v ∙ sym bytes_begin
 
-  size_first : length v ≤ MAX_MESSAGE_SIZE → (number_given at h == 0) ≡ true → size_in (answer_by e) ≡ length v
+  pub size_first : length v ≤ MAX_MESSAGE_SIZE → (number_given at h == 0) ≡ true → size_in (answer_by e) ≡ length v
   size_first few first =
       ap size_in g.gives
       ∙ ap (λ (b : Bool). size_in (canonical_response (ChunkResponse (record (nth_chunk (transfer_of p) g.handle v (number_given at h)) { large = cond b (Some (length v)) None })))) first
       ∙ size_by (nth_chunk (transfer_of p) g.handle v (number_given at h)).last g.handle (number_given at h) (length v) (nth_chunk (transfer_of p) g.handle v (number_given at h)).chunk few
 
-  size_next : size_told at (e ∷ h) ≡ cond (number_given at h == 0) (Some (size_in (answer_by e))) (size_told at h)
+  pub size_next : size_told at (e ∷ h) ≡ cond (number_given at h == 0) (Some (size_in (answer_by e))) (size_told at h)
   size_next =
       ap (λ (b : Bool). cond b None (cond (gives_in at e && number_given at h == 0) (Some (size_in (answer_by e))) (size_told at h))) g.seen
       ∙ ap (λ (b : Bool). cond (b && number_given at h == 0) (Some (size_in (answer_by e))) (size_told at h)) g.here

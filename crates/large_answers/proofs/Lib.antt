@@ -18,3 +18,6 @@ pub mod RecordMoved
 pub mod Sized
 pub mod WithinMoved
 pub mod PlainWithin
+pub mod GoesWith
+pub mod PlainMoved
+pub mod GoesLaws

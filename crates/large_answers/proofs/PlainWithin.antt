@@ -49,6 +49,12 @@ pub record GoesWith (o : Outcome) (transfer number : ℕ) (v w : List ℕ) : Typ
   pub size : (number ≡ 0 → ⊥) → length w ≡ length v
   pub chunk : (e : Entry) → o ≡ Adds e → takes_get e ≡ true → (length w ≡ length v) × (take (chunk_end transfer number) w ≡ take (chunk_end transfer number) v)
 
+-- What an answer leads to with other bytes.
+pub record Moved (r : RspSetup) (h : History) (w : List ℕ) (tag : ℕ) (body ids : List ℕ) (o : Outcome) : Type 0 where
+  pub may : MayLeadAfter r (with_large (place_named body) w h) ids tag body o
+  pub shown : AreShown r (with_large (place_named body) w h) body o ids
+  pub plain : is_plain (with_large (place_named body) w h) o ≡ true
+
 entry_plain : (r : RspSetup) (h : History) (v w : List ℕ) (tag : ℕ) (body : List ℕ) (e : Entry) (b : Bool) → takes_get e ≡ b → Fetch h v tag body → Fetch h w tag body → MayLeadTo r (with_large (place_named body) v h) tag body (Adds e)
     → MayLeadTo r (with_large (place_named body) w h) tag body (Adds e) → gives_last (with_large (place_named body) v h) e ≡ gives_last (with_large (place_named body) w h) e
 entry_plain r h v w tag body e true gets one two may might = (served r h v tag body e one may).last gets ∙ sym ((served r h w tag body e two might).last gets)
@@ -187,16 +193,10 @@ module _ (r : RspSetup) (h : History) (v w : List ℕ) (tag : ℕ) (body : List 
   shows_same id (Adds (Ticked n)) = refl
   shows_same id (Adds (Dropped n)) = refl
 
-  -- What an answer leads to.
-  pub record Moved (ids : List ℕ) (o : Outcome) : Type 0 where
-    pub may : MayLeadAfter r (with_large (place_named body) w h) ids tag body o
-    pub shown : AreShown r (with_large (place_named body) w h) body o ids
-    pub plain : is_plain (with_large (place_named body) w h) o ≡ true
-
   unopened_plain : (l : History) (o : Outcome) (b : List ℕ) → o ≡ Unopened b → is_plain l o ≡ true
   unopened_plain l o b is = ap (is_plain l) is
 
-  pub plain_within : (ids : List ℕ) (o : Outcome) → GoesWith o (transfer_of (place_for g body)) (number_given (place_named body) h) v w → MayLeadAfter r g ids tag body o → AreShown r g body o ids → is_plain g o ≡ true → Moved ids o
+  pub plain_within : (ids : List ℕ) (o : Outcome) → GoesWith o (transfer_of (place_for g body)) (number_given (place_named body) h) v w → MayLeadAfter r g ids tag body o → AreShown r g body o ids → is_plain g o ≡ true → Moved r h w tag body ids o
   plain_within [] o goes may shown plain =
       let moved = none_moved o goes may.1 in
       record { may = (tt, moved); shown = tt; plain = still_plain r h v w tag body o one two may.1 moved plain }
