@@ -1,32 +1,29 @@
 -- A chunk that was given of a large answer: which bytes it holds, and what the chunks then tell together.
-use Rattle.std.proofs.Common.{◌≡◌, ◌+◌, ◌-◌, ◌*◌, ◌<◌, ◌≤◌, ◌==◌, ◌&&◌, ◌++◌, ℕ, zero, suc, List, [], ◌∷◌, refl, sym, ap, ◌∙◌, subst, drop, take, length, arith, Bool, true, false, Option, Some, None, cond, inl, inr, eqb-true}
+use Rattle.std.proofs.Common.{◌≡◌, ◌+◌, ◌-◌, ◌*◌, ◌<◌, ◌≤◌, ◌==◌, ◌&&◌, ◌++◌, ℕ, zero, suc, List, [], ◌∷◌, refl, sym, ap, ◌∙◌, subst, drop, take, length, arith, Bool, true, false, Option, Some, None, cond, inl, inr}
 use Rattle.std.specs.Prelude.{slice_index, nat_lt}
-use Rattle.std.proofs.lemmas.Bool.{eq-eqb, false≢true}
+use Rattle.std.proofs.lemmas.Bool.{eq-eqb}
 use Rattle.std.proofs.lemmas.Option.{none-some, same_Some}
 use Rattle.chunking.proofs.ChunkSteps.{joined-before}
 use Rattle.chunking.specs.Collecting.{joined}
 use Rattle.chunking.specs.Cutting.{chunk_count, chunks_before, nth_chunk, unit_of}
-use Rattle.responder_machine.specs.Answer.{request_at}
 use Rattle.responder_machine.specs.Handling.{turn_of}
 use Rattle.responder_machine.specs.History.{Entry, History}
-use Rattle.responder_machine.specs.History.Entry.{Clear, Sealed, Queued, Ticked, Dropped}
+use Rattle.responder_machine.specs.History.Entry.{Clear}
 use Rattle.responder_machine.specs.LargeMessages.{given_of}
 use Rattle.responder_machine.specs.May.{place_for}
 use Rattle.responder_machine.specs.Place.{Place, clear_place, session_place}
 use Rattle.responder_machine.specs.Records.{opened}
-use Rattle.responder_machine.specs.Responder.{Outcome, session_turn}
+use Rattle.responder_machine.specs.Responder.{session_turn}
 use Rattle.responder_machine.specs.Responder.Outcome.{Adds}
 use Rattle.responder_machine.specs.Session.{Events, id_in_record, session_of}
 use Rattle.responder_machine.specs.Setup.{RspSetup}
-use Rattle.responder_machine.specs.Turn.{Turn, answer_in, is_taken}
-use Rattle.spdm_grammar.specs.Message.RequestMessage.{ChunkGet}
+use Rattle.responder_machine.specs.Turn.{Turn, answer_in}
 use Rattle.spdm_grammar.specs.Message.ResponseMessage.{ChunkResponse}
 use Rattle.spdm_grammar.specs.Responses.{canonical_response}
 use Rattle.spdm_grammar.specs.declared.names.TheConstants.{MAX_MESSAGE_SIZE}
 use Rattle.world_machine.proofs.ChunksGiven.{Chunked, gets_of, parts_of}
 use Rattle.world_machine.proofs.ChunksGiven.Chunked.{Gone, Given}
 use Rattle.world_machine.proofs.DropsTell.{clear_form}
-use Rattle.world_machine.proofs.FetchStates.{Fetch}
 use Rattle.world_machine.proofs.GetTells.{IsGet, session_get, transfer_of, turn_get}
 use Rattle.world_machine.proofs.PlacesServed.{named_clear, named_session, place_type}
 use Rattle.world_machine.proofs.PlainTells.{led_clear, led_record}

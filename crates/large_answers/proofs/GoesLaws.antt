@@ -1,46 +1,41 @@
 -- What is kept behind an answer with which the large answer is fetched on.
-use Rattle.std.proofs.Common.{◌≡◌, ◌<◌, ◌-◌, ℕ, List, ◌∷◌, refl, sym, ap, ◌∙◌, subst, take, length, Bool, true, false, Option, Some, None, Ok, inl, inr}
+use Rattle.std.proofs.Common.{◌≡◌, ◌<◌, ℕ, List, ◌∷◌, refl, sym, ap, ◌∙◌, subst, true, Option, Some, Ok, inl, inr}
 use Rattle.std.proofs.lemmas.Option.{none-some, same_Some}
 use Rattle.mctp_framing.specs.Gathering.{Gathered}
 use Rattle.mctp_framing.specs.Gathering.Gathered.{Whole, More, Dropped}
 use Rattle.mctp_framing.specs.Packet.{PacketFields, parsed}
 use Rattle.requester_machine.specs.History as requester_history
 use Rattle.requester_machine.specs.History.{outstanding}
-use Rattle.requester_machine.specs.Message.Aim.{Plain}
 use Rattle.requester_machine.specs.Setup.{ReqSetup}
 use Rattle.responder_machine.specs.History.{History}
-use Rattle.responder_machine.specs.May.{place_for, with_dropped}
+use Rattle.responder_machine.specs.May.{place_for}
 use Rattle.responder_machine.specs.Responder.{Outcome, after}
 use Rattle.responder_machine.specs.Setup.{RspSetup, towards}
-use Rattle.spdm_grammar.specs.Message.RequestMessage.{GetVersion}
 use Rattle.spdm_machine.specs.Packets.{gathered_from}
 use Rattle.capture_laws.proofs.AnsweredOn.{answers_on}
 use Rattle.capture_laws.proofs.OneWalk.{walks_alike}
-use Rattle.capture_laws.specs.Keeping.{Kept, kept_of, restored}
-use Rattle.capture_laws.specs.Order.{body_in, is_answer, is_request}
-use Rattle.capture_laws.specs.RepliesShown.{AnswersRound, answered, responder_for}
+use Rattle.capture_laws.specs.Keeping.{kept_of, restored}
+use Rattle.capture_laws.specs.Order.{body_in, is_answer}
 use Rattle.capture_laws.specs.Walks.{Walks}
-use Rattle.world_machine.proofs.Alike.{Alike}
 use Rattle.world_machine.proofs.AimsHeard.{hears_version}
 use Rattle.world_machine.proofs.FetchStates.{Fetch, asking}
 use Rattle.world_machine.proofs.FetchedAnswers.{large_fetched}
-use Rattle.world_machine.proofs.FetchedTold.{Stands}
-use Rattle.world_machine.proofs.Fetching.{Fetched, IsSound, while_parts}
+use Rattle.world_machine.proofs.Fetching.{IsSound, while_parts}
 use Rattle.world_machine.proofs.WalksAlike.{kept}
 use Rattle.world_machine.specs.Capture.{Replies, RepliesBy}
 use Rattle.world_machine.specs.CapturedAnswers.{Answers, AnswersPlainly, Hears}
-use Rattle.world_machine.specs.LargeAnswers.{is_fetching, judging, place_named, while_fetched}
+use Rattle.world_machine.specs.LargeAnswers.{is_fetching, judging, place_named}
 use Rattle.world_machine.specs.Rounds.{Dialogue, Round}
 use Rattle.world_machine.specs.Setup.{Configuration, known_of}
-use Rattle.large_answers.specs.Fetching.{Fetching, HasSize, IsFetchingOf, MayStand, bytes_given, dialogue_of, size_told}
+use Rattle.large_answers.specs.Fetching.{Fetching, IsFetchingOf, MayStand, dialogue_of}
 use Rattle.large_answers.specs.FetchingLaws.{FetchingGoes, GoesFetching, kept_behind}
-use Rattle.large_answers.proofs.Asked.{FetchedWalk, fetched_walk}
+use Rattle.large_answers.proofs.Asked.{fetched_walk}
 use Rattle.large_answers.proofs.BegunWalks.{behind, both_fetched, replies_so}
 use Rattle.large_answers.proofs.GoesWith.{Stood, stood}
+use Rattle.large_answers.proofs.NoCaps.{walks_caps}
 use Rattle.large_answers.proofs.Packets.{came_replied, goes_replied}
 use Rattle.large_answers.proofs.PlainMoved.{plain_moved}
-use Rattle.large_answers.proofs.PlainWithin.{Moved}
-use Rattle.large_answers.proofs.Restored.{bare_of, bare_walks}
+use Rattle.large_answers.proofs.Restored.{bare_walks}
 use Rattle.large_answers.proofs.Stood.{StandsAt, plain_stands}
 
 -- ---- What is fetched.
@@ -120,7 +115,7 @@ module _ (w : Configuration) (q : ReqSetup) (older : List (List ℕ)) (packet : 
   plain_of : (u : List ℕ) → MayStand next u → AnswersPlainly r (dialogue_of f u) round answer h
   plain_of u may =
       let b = before u may in
-      let moved = plain_moved r k v u round.tag round.body (sound_of v stand).unseen (on_of v stand).fetch (on_of u (stood_of u may)).fetch plain.0 plain.1 b.goes plain.2 plain.3 plain.4 in
+      let moved = plain_moved r k v u round.tag round.body (sound_of v stand).unseen (walks_caps w q older (dialogue_of f v) (own.all v stand)) (on_of v stand).fetch (on_of u (stood_of u may)).fetch plain.0 plain.1 b.goes plain.2 plain.3 plain.4 in
       (plain.0, plain.1, moved.may, moved.shown, moved.plain, plain.5, plain.6)
 
   walk_of : (u : List ℕ) → MayStand next u → Walks w q (packet ∷ older) (behind (dialogue_of f u) round l h u)

@@ -1,7 +1,6 @@
 -- With which bytes an answer that goes whole may be given: those that stand behind it.
-use Rattle.std.proofs.Common.{◌≡◌, ◌≢◌, ◌+◌, ◌-◌, ◌*◌, ◌≤◌, ◌<◌, ◌==◌, ◌&&◌, ◌++◌, ℕ, zero, suc, List, [], ◌∷◌, refl, sym, ap, ◌∙◌, subst, drop, take, length, arith, add-one, Bool, true, false, Option, Some, None, cond, eqb-true}
+use Rattle.std.proofs.Common.{◌≡◌, ◌+◌, ◌-◌, ◌*◌, ◌==◌, ◌&&◌, ℕ, zero, suc, List, [], ◌∷◌, refl, sym, ap, ◌∙◌, subst, take, length, arith, Bool, true, false, Option, Some, None, cond, eqb-true}
 use Rattle.std.proofs.lemmas.Bool.{false≢true, ne_eqb}
-use Rattle.std.proofs.lemmas.Option.{none-some, same_Some}
 use Rattle.chunking.specs.Cutting.{chunk_end, unit_of}
 use Rattle.responder_machine.specs.History.{Entry, History}
 use Rattle.responder_machine.specs.May.{place_for, with_dropped}
@@ -16,9 +15,9 @@ use Rattle.world_machine.specs.CapturedAnswers.{AreShown, MayLeadAfter, MayLeadT
 use Rattle.world_machine.specs.LargeAnswers.{is_unseen_in, place_named, takes_get, with_large}
 use Rattle.large_answers.specs.Fetching.{HasSize, answer_by, bytes_given, bytes_in, gives_in, number_given, size_in, size_told}
 use Rattle.large_answers.proofs.Cuts.{less_begins, same_begin}
-use Rattle.large_answers.proofs.Gave.{Gave, bytes_begin, bytes_next, sized, size_first, size_next}
+use Rattle.large_answers.proofs.Gave.{Gave, bytes_begin, bytes_next, size_first, size_next}
 use Rattle.large_answers.proofs.PlainWithin.{GoesWith}
-use Rattle.large_answers.proofs.Stood.{Came, IsSame, StandsAt, adds_none, back_same, came, dropped_same, entry_same, same_stands}
+use Rattle.large_answers.proofs.Stood.{Came, StandsAt, adds_none, came, dropped_same, entry_same, same_stands}
 use Rattle.large_answers.proofs.Stood.Came.{Other, Chunk}
 
 -- ---- The told length.
@@ -32,7 +31,7 @@ told_step : (at : Option ℕ) (e : Entry) (h : History) (b c : Bool) (n : ℕ) �
     → Told (cond b 0 (cond c (n + 1) n)) (cond b None (cond (c && n == 0) (Some (size_in (answer_by e))) (size_told at h)))
 told_step at e h true c n told = refl
 told_step at e h false true zero told = (size_in (answer_by e), refl)
-told_step at e h false true (suc n) told = 
+told_step at e h false true (suc n) told =
     let more : suc (suc n) ≡ suc n + 1 = omega arith in
     let some : (suc n == 0) ≡ false = ne_eqb (suc n) 0 (λ e. absurd (omega (arith, e))) in
     subst (λ (k : ℕ). Told k (cond (suc n == 0) (Some (size_in (answer_by e))) (size_told at h))) more (subst (λ (b : Bool). Told (suc (suc n)) (cond b (Some (size_in (answer_by e))) (size_told at h))) (sym some) told)

@@ -21,3 +21,7 @@ pub mod PlainWithin
 pub mod GoesWith
 pub mod PlainMoved
 pub mod GoesLaws
+pub mod NoCaps
+pub mod TurnsBeside
+pub mod ClearShort
+pub mod ClearMoved

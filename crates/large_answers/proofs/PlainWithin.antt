@@ -1,29 +1,23 @@
 -- An answer that goes whole to a record, while a large answer of its session is fetched, may be given with any bytes that
 -- stand for that behind it.
-use Rattle.std.proofs.Common.{◌≡◌, ◌≢◌, ◌+◌, ◌≤◌, ◌<◌, ◌==◌, ◌&&◌, ◌||◌, ℕ, List, [], ◌∷◌, refl, sym, ap, ◌∙◌, subst, drop, take, length, arith, Bool, true, false, Option, Some, None, cond, is_some, is_none, eqb-true}
-use Rattle.std.specs.Prelude.{not, nat_lt, slice_index, unwrap_or}
-use Rattle.std.proofs.Math.Bool.{and-false}
+use Rattle.std.proofs.Common.{◌≡◌, ◌==◌, ◌&&◌, ◌||◌, ℕ, List, [], ◌∷◌, refl, sym, ap, ◌∙◌, subst, drop, take, length, Bool, true, false, Option, Some, cond, is_none}
+use Rattle.std.specs.Prelude.{not, slice_index}
 use Rattle.std.proofs.lemmas.Bool.{false≢true}
-use Rattle.chunking.specs.Cutting.{chunk_end, nth_chunk}
-use Rattle.responder_machine.specs.Answer.{chunk_answer}
-use Rattle.responder_machine.specs.History.{Entry, History, clear_turns, ended_of}
+use Rattle.chunking.specs.Cutting.{chunk_end}
+use Rattle.responder_machine.specs.History.{Entry, History, clear_turns}
 use Rattle.responder_machine.specs.History.Entry.{Clear, Sealed, Queued, Ticked, Dropped}
-use Rattle.responder_machine.specs.LargeMessages.{given_of, large_of, pending_of, still_pending}
-use Rattle.responder_machine.specs.May.{MayDrop, place_for, with_dropped}
+use Rattle.responder_machine.specs.May.{place_for}
 use Rattle.responder_machine.specs.Place.{Place, session_place}
 use Rattle.responder_machine.specs.Records.{opening_fault}
 use Rattle.responder_machine.specs.Refusal.{has_pending}
 use Rattle.responder_machine.specs.Responder.{Outcome, repeats}
 use Rattle.responder_machine.specs.Responder.Outcome.{Same, Unopened, Adds}
-use Rattle.responder_machine.specs.Session.{Events, id_in_record, is_live, is_timed, last_of, session_of, turns_of}
+use Rattle.responder_machine.specs.Session.{Events, id_in_record, last_of, session_of}
 use Rattle.responder_machine.specs.Setup.{RspSetup}
-use Rattle.spdm_basis.proofs.Bools.{and_first, and_second}
-use Rattle.spdm_grammar.specs.Message.ResponseMessage.{ChunkResponse}
 use Rattle.spdm_machine.specs.Bodies.{clear_body}
 use Rattle.spdm_machine.specs.Terms.{terms_of}
 use Rattle.transcript.specs.Transcripts.{Negotiation}
-use Rattle.world_machine.proofs.ChunksGiven.{Chunked, gets_of}
-use Rattle.world_machine.proofs.ChunksGiven.Chunked.{Gone, Given}
+use Rattle.world_machine.proofs.ChunksGiven.{Chunked}
 use Rattle.world_machine.proofs.DropsTell.{record_shown}
 use Rattle.world_machine.proofs.EventsAlike.{EventsAlike, fault_alike, last_alike, live_alike, negotiation_alike}
 use Rattle.world_machine.proofs.EventsAlike.EventsAlike.{NoEvent}
@@ -38,8 +32,8 @@ use Rattle.world_machine.specs.LargeAnswers.{gives_last, is_large, is_unseen_in,
 use Rattle.large_answers.specs.Fetching.{number_given}
 use Rattle.large_answers.proofs.Gave.{number_same}
 use Rattle.large_answers.proofs.RecordMoved.{ChunkSame}
-use Rattle.large_answers.proofs.SessionMoved.{chunk_same, given_alike}
-use Rattle.large_answers.proofs.WithinMoved.{Beside, large_alike, pending_moved, within_moved}
+use Rattle.large_answers.proofs.SessionMoved.{chunk_at, given_alike}
+use Rattle.large_answers.proofs.WithinMoved.{Beside, large_alike, pending_at, within_moved}
 
 -- ---- Whether it goes whole.
 
@@ -125,25 +119,17 @@ module _ (r : RspSetup) (h : History) (v w : List ℕ) (tag : ℕ) (body : List 
   chunked_two : Chunked (session_place u) (place_named body) w h
   chunked_two = subst (λ (p : Place). Chunked p (place_named body) w h) (place_type k body false type) two.chunked
 
-  pending : ((number_given (place_named body) h ≡ 0 → ⊥) → length w ≡ length v) → has_pending (session_place s) ≡ has_pending (session_place u)
-  pending size = pending_moved s u (place_named body) h v w (beside.events sid) chunked_one chunked_two (λ some. size (λ none. some (number_same (place_named body) h ∙ none)))
-
   transfers : transfer_of (session_place s) ≡ transfer_of (session_place u)
   transfers = ap (λ (n : Negotiation). (terms_of n).common.to_requester.transfer) (negotiation_alike s u (beside.events sid))
 
-  chunks : Chunked (session_place s) (place_named body) v h → Chunked (session_place u) (place_named body) w h → length w ≡ length v
-      → take (chunk_end (transfer_of (session_place s)) (number_given (place_named body) h)) w ≡ take (chunk_end (transfer_of (session_place s)) (number_given (place_named body) h)) v → ChunkSame s u
-  chunks (Given large given parts) (Given other gave bytes) size same handle =
-      let number : given_of (turns_of s) ≡ number_given (place_named body) h = given ∙ number_same (place_named body) h in
-      chunk_same (session_place s) (session_place u) v w handle transfers large other (given_alike s u (beside.events sid)) size
+  pending : ((number_given (place_named body) h ≡ 0 → ⊥) → length w ≡ length v) → has_pending (session_place s) ≡ has_pending (session_place u)
+  pending size = pending_at (session_place s) (session_place u) (place_named body) h v w transfers (large_alike s u (beside.events sid)) chunked_one chunked_two (λ some. size (λ none. some (number_same (place_named body) h ∙ none)))
+
+  chunks : length w ≡ length v → take (chunk_end (transfer_of (session_place s)) (number_given (place_named body) h)) w ≡ take (chunk_end (transfer_of (session_place s)) (number_given (place_named body) h)) v → ChunkSame s u
+  chunks size same =
+      let number = number_same (place_named body) h in
+      chunk_at (session_place s) (session_place u) (place_named body) h v w transfers (large_alike s u (beside.events sid)) (given_alike s u (beside.events sid)) chunked_one chunked_two size
       (ap (λ (n : ℕ). take (chunk_end (transfer_of (session_place s)) n) w) number ∙ same ∙ sym (ap (λ (n : ℕ). take (chunk_end (transfer_of (session_place s)) n) v) number))
-  chunks (Gone none) (Gone nor) size same handle =
-      let n : ℕ = given_of (turns_of s) in
-      ap (λ (o : Option (List ℕ)). ChunkResponse (nth_chunk (transfer_of (session_place s)) handle (unwrap_or (still_pending (transfer_of (session_place s)) n o) []) n)) none
-      ∙ ap (λ (t : ℕ). ChunkResponse (nth_chunk t handle [] n)) transfers
-      ∙ sym (ap (λ (o : Option (List ℕ)). ChunkResponse (nth_chunk (transfer_of (session_place u)) handle (unwrap_or (still_pending (transfer_of (session_place u)) (given_of (turns_of u)) o) []) n)) nor)
-  chunks (Gone none) (Given other gave bytes) size same handle = absurd (false≢true (sym (ap is_some none) ∙ large_alike s u (beside.events sid) ∙ ap is_some other))
-  chunks (Given large given parts) (Gone nor) size same handle = absurd (false≢true (sym (ap is_some nor) ∙ sym (large_alike s u (beside.events sid)) ∙ ap is_some large))
 
   place_is : place_for g body ≡ session_place s
   place_is = place_type g body false type
@@ -152,9 +138,9 @@ module _ (r : RspSetup) (h : History) (v w : List ℕ) (tag : ℕ) (body : List 
   none_moved o goes may =
       within_moved r g k beside tag body (pending goes.size) o type
       (λ e is gets. (
-        let both = goes.chunk e is gets in
-        let same = subst (λ (p : Place). take (chunk_end (transfer_of p) (number_given (place_named body) h)) w ≡ take (chunk_end (transfer_of p) (number_given (place_named body) h)) v) place_is both.1 in
-        chunks chunked_one chunked_two both.0 same
+      let both = goes.chunk e is gets in
+      let same = subst (λ (p : Place). take (chunk_end (transfer_of p) (number_given (place_named body) h)) w ≡ take (chunk_end (transfer_of p) (number_given (place_named body) h)) v) place_is both.1 in
+      chunks both.0 same
       )) may
 
   -- ---- A session was dropped before it.

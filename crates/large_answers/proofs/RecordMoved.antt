@@ -1,24 +1,23 @@
 -- What a record leads to in two sessions that differ only in the bytes of the large answer that is pending there.
-use Rattle.std.proofs.Common.{◌≡◌, ◌≢◌, ◌+◌, ◌-◌, ◌*◌, ◌≤◌, ◌<◌, ◌==◌, ◌&&◌, ◌||◌, ℕ, List, [], ◌∷◌, refl, sym, ap, ◌∙◌, subst, drop, length, arith, Bool, true, false, Option, Some, None, cond, is_some, is_none, eqb-true}
-use Rattle.std.specs.Prelude.{not, nat_lt, slice_index, unwrap_or}
-use Rattle.std.proofs.lemmas.Bool.{eq-eqb, false≢true, not-false}
-use Rattle.std.proofs.lemmas.Option.{none-some, same_Some}
+use Rattle.std.proofs.Common.{◌≡◌, ◌≢◌, ◌==◌, ◌&&◌, ◌||◌, ℕ, List, [], ◌∷◌, refl, sym, ap, ◌∙◌, drop, length, Bool, true, false, Option, Some, None, cond}
+use Rattle.std.specs.Prelude.{not, nat_lt, slice_index}
+use Rattle.std.proofs.lemmas.Bool.{false≢true}
 use Rattle.responder_machine.proofs.Codes.{asked-code}
-use Rattle.responder_machine.proofs.Tests.{contents_shown, form_shown}
-use Rattle.responder_machine.specs.Answer.{Free, answer_bytes, answer_of, answer_to, chunk_answer, exchange_answer, request_at}
-use Rattle.responder_machine.specs.Handling.{chunk_in, effect_of, handle_for, refused_turn, turn_by, turn_of}
+use Rattle.responder_machine.proofs.Tests.{form_shown}
+use Rattle.responder_machine.specs.Answer.{Free, answer_bytes, answer_of, answer_to, chunk_answer, request_at}
+use Rattle.responder_machine.specs.Handling.{chunk_in, turn_of}
 use Rattle.responder_machine.specs.History.{Entry}
 use Rattle.responder_machine.specs.LargeMessages.{given_of}
 use Rattle.responder_machine.specs.History.Entry.{Sealed}
 use Rattle.responder_machine.specs.Place.{Place, session_place}
 use Rattle.responder_machine.specs.Records.{opened, opening_fault, reply_record}
-use Rattle.responder_machine.specs.Refusal.{code_of, has_pending, is_get_refused, refusal}
+use Rattle.responder_machine.specs.Refusal.{code_of, has_pending, refusal}
 use Rattle.responder_machine.specs.Responder.{Outcome, data_turn, in_session, in_session_by, inner_refusal, inner_reply, is_open, kept_record, repeats, session_turn, session_turn_by, to_session}
-use Rattle.responder_machine.specs.Responder.Outcome.{Same, Unopened, Adds}
-use Rattle.responder_machine.specs.Session.{Event, Events, last_of, session_negotiation, stage_of, turns_of}
+use Rattle.responder_machine.specs.Responder.Outcome.{Same, Adds}
+use Rattle.responder_machine.specs.Session.{Events, last_of, stage_of, turns_of}
 use Rattle.responder_machine.specs.Session.Event.{Heard}
 use Rattle.responder_machine.specs.Setup.{RspSetup}
-use Rattle.responder_machine.specs.Turn.{Turn, code_in, takes}
+use Rattle.responder_machine.specs.Turn.{Turn, takes}
 use Rattle.spdm_basis.specs.declared.record_fault.RecordFault.{RecordFault}
 use Rattle.spdm_grammar.specs.Message.{ChunkMessage, RequestMessage}
 use Rattle.spdm_grammar.specs.Message.RequestMessage.{GetVersion, GetCapabilities, NegotiateAlgorithms, GetMeasurements, PskExchange, PskFinish, Heartbeat, KeyUpdate, EndSession, ChunkSend, ChunkGet}
@@ -35,8 +34,8 @@ use Rattle.world_machine.proofs.EventsAlike.EventsAlike.{NoEvent, Behind, Here}
 use Rattle.world_machine.proofs.TurnsAlike.{chunk_is}
 use Rattle.world_machine.specs.LargeAnswers.{takes_get}
 use Rattle.world_machine.specs.Rounds.{no_draw}
-use Rattle.large_answers.proofs.SessionMoved.{near}
-use Rattle.large_answers.proofs.TurnsMoved.{Near, no_long, tests_short}
+use Rattle.large_answers.proofs.SessionMoved.{got_next, near}
+use Rattle.large_answers.proofs.TurnsMoved.{tests_short}
 use Rattle.large_answers.proofs.TurnsSame.{error_moved, extended_none, got_moved, refused_same, turn_moved}
 
 -- ---- The turn of the inner message.
@@ -45,28 +44,12 @@ use Rattle.large_answers.proofs.TurnsSame.{error_moved, extended_none, got_moved
 abbrev pub ChunkSame : Events → Events → Type 0
 ChunkSame s u = (handle : ℕ) → chunk_answer (session_place s) handle (given_of (turns_of s)) ≡ chunk_answer (session_place u) handle (given_of (turns_of s))
 
-second_same : (a b : Bool) → (not a || not b) ≡ false → b ≡ true
-second_same true b is = not-false b is
-second_same false b is = absurd (false≢true (sym is))
-
 module _ (r : RspSetup) (s u : Events) (a : EventsAlike s u) (pending : has_pending (session_place s) ≡ has_pending (session_place u)) (m : List ℕ) (f : Free) (chunk : takes CHUNK_GET (turn_of r (session_place s) m f) ≡ true → ChunkSame s u) where
   abbrev p : Place
   p = session_place s
 
   abbrev o : Place
   o = session_place u
-
-  -- CHUNK_GET that is not refused takes the next chunk.
-  got : (handle number : ℕ) → request_at (session_place s) m ≡ Some (ChunkGet handle number) → refusal r (session_place s) m f ≡ None → chunk_answer (session_place s) handle number ≡ chunk_answer (session_place u) handle number
-  unfolding turn_of
-  got handle number is none =
-      let right : is_get_refused (session_place s) (Some (ChunkGet handle number)) ≡ false = ap (is_get_refused (session_place s)) (sym is) ∙ contents_shown r (session_place s) m f none 9 in
-      let next : number ≡ given_of (turns_of s) = eqb-true number (given_of (turns_of s)) (second_same _ _ right) in
-      let takes_it : takes CHUNK_GET (turn_of r (session_place s) m f) ≡ true =
-      ap (λ (x : Option ErrorCode). takes CHUNK_GET (turn_by r (session_place s) m f x (chunk_in (request_at (session_place s) m)))) none
-      ∙ ap (λ (q : Option RequestMessage). takes CHUNK_GET (turn_by r (session_place s) m f None (chunk_in q))) is
-      ∙ ap (λ (q : Option RequestMessage). code_in (effect_of q m (answer_bytes r (session_place s) m f) (handle_for (session_place s) f (answer_bytes r (session_place s) m f))) == CHUNK_GET) is in
-      ap (chunk_answer (session_place s) handle) next ∙ chunk takes_it handle ∙ sym (ap (chunk_answer (session_place u) handle) next)
 
   -- Nothing is sent by chunks there.
   none_sent : (d : ChunkMessage) → refusal r (session_place s) m f ≡ None → chunk_in (request_at (session_place s) m) ≡ Some d → ⊥
@@ -82,7 +65,7 @@ module _ (r : RspSetup) (s u : Events) (a : EventsAlike s u) (pending : has_pend
       (ap (answer_to r (session_place s) m f) is ∙ same ∙ ap (answer_to r (session_place u) m f) (sym is ∙ asked)) refl none_sent
 
   turn_by_kind : (q : Option RequestMessage) → request_at (session_place s) m ≡ q → turn_of r (session_place s) m f ≡ turn_of r (session_place u) m f
-  turn_by_kind (Some (ChunkGet handle number)) is = got_moved r (session_place s) (session_place u) m f f (near r s u a m pending) handle number is refl (got handle number is)
+  turn_by_kind (Some (ChunkGet handle number)) is = got_moved r (session_place s) (session_place u) m f f (near r s u a m pending) handle number is refl (got_next r (session_place s) (session_place u) m f chunk handle number is)
   turn_by_kind (Some (PskExchange x)) is =
       whole_answer (Some (PskExchange x)) is (ap (λ (n : Negotiation). canonical_response (answer_of r (record (session_place s) { negotiation = n }) m f (PskExchange x))) (negotiation_alike s u a))
   turn_by_kind None is = whole_answer None is refl

@@ -1,5 +1,5 @@
 -- An answer that goes on from one walk goes on from another one in which the same bytes stand.
-use Rattle.std.proofs.Common.{◌≡◌, ◌+◌, ◌-◌, ◌||◌, ◌⊎◌, ℕ, List, ◌∷◌, refl, sym, ap, ◌∙◌, subst, drop, Bool, true, false, Option, Some, None, cond, inl, inr, is_some}
+use Rattle.std.proofs.Common.{◌≡◌, ◌+◌, ◌||◌, ◌⊎◌, ℕ, List, ◌∷◌, refl, sym, ap, ◌∙◌, subst, drop, Bool, true, false, Option, Some, None, cond, inl, inr, is_some}
 use Rattle.std.specs.Prelude.{not}
 use Rattle.mctp_framing.specs.Cutting.{RouteFields}
 use Rattle.mctp_framing.specs.Gathering.{Gathered}
@@ -11,7 +11,7 @@ use Rattle.requester_machine.specs.May.{IsAllowed}
 use Rattle.requester_machine.specs.Setup.{ReqSetup}
 use Rattle.requester_machine.specs.Shown.{after}
 use Rattle.responder_machine.specs.History as responder_history
-use Rattle.responder_machine.specs.Setup.{RspSetup, towards}
+use Rattle.responder_machine.specs.Setup.{towards}
 use Rattle.capture_laws.proofs.Allowed.{Equals, agree_equals, allowed_same, entry_equals}
 use Rattle.capture_laws.proofs.AnsweredOn.{answers_on}
 use Rattle.capture_laws.specs.RepliesShown.{answered}
@@ -26,11 +26,11 @@ use Rattle.world_machine.specs.LargeAnswers.{is_fetching, while_fetched}
 use Rattle.world_machine.specs.LargeRequests.{with_ack}
 use Rattle.world_machine.specs.Rounds.{Dialogue, Round, no_draw}
 use Rattle.world_machine.specs.Setup.{Configuration, known_of}
-use Rattle.large_answers.specs.Fetching.{Fetching, IsFetchingOf, MayStand, dialogue_of}
+use Rattle.large_answers.specs.Fetching.{Fetching, MayStand, dialogue_of}
 use Rattle.large_answers.specs.FetchingLaws.{EndsFetching, FetchingIsReplied, GoesFetching, TurnsFetching, kept_behind}
-use Rattle.large_answers.proofs.Asked.{FetchedWalk, fetched_walk}
+use Rattle.large_answers.proofs.Asked.{fetched_walk}
 use Rattle.large_answers.proofs.Begun.{from_largely}
-use Rattle.large_answers.proofs.Begun.Largely.{First, Again}
+use Rattle.large_answers.proofs.Begun.Largely.{First}
 use Rattle.large_answers.proofs.Packets.{came_replied}
 use Rattle.capture_laws.proofs.OneWalk.{walks_alike}
 use Rattle.capture_laws.specs.Keeping.{Kept, kept_of}
@@ -102,8 +102,10 @@ on_answers w f v route answer n stand body_is owner c gets (inl (plain, same)) =
     inl (record f { kept = kept_behind f.kept c.0 c.4.3.0 c.4.0 }, (body_is, owner, (c.0, (c.1, c.2, c.3), (v, c.4.0, stand, plain, (c.4.3.0, c.4.3.1, gets, refl)))))
 on_answers w f v route answer n stand body_is owner c gets (inr (inl (x, large, same))) =
     let from = from_largely (towards w.responder (known_of f.kept.setup)) (dialogue_of f v) c.0 answer c.4.0 x (First large) in (
-      inr (inl (record { kept = kept_behind f.kept c.0 c.4.3.0 c.4.0; at = place_named c.0.body; place = from.0 },
-      (body_is, owner, (c.0, (c.1, c.2, c.3), (v, c.4.0, from.0, stand, from.1, (c.4.3.0, c.4.3.1, gets, refl))))))
+    inr (inl (
+      record { kept = kept_behind f.kept c.0 c.4.3.0 c.4.0; at = place_named c.0.body; place = from.0 },
+      (body_is, owner, (c.0, (c.1, c.2, c.3), (v, c.4.0, from.0, stand, from.1, (c.4.3.0, c.4.3.1, gets, refl)))),
+    ))
     )
 on_answers w f v route answer n stand body_is owner c gets (inr (inr (inl (x, again, same)))) = absurd (none-some v (sym again.0))
 on_answers w f v route answer n stand body_is owner c gets (inr (inr (inr (last, none)))) =

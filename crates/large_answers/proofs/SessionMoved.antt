@@ -1,43 +1,37 @@
 -- A record in two sessions that differ only in the bytes of the large answer that is pending there.
-use Rattle.std.proofs.Common.{◌≡◌, ◌≢◌, ◌+◌, ◌≤◌, ◌<◌, ◌==◌, ◌&&◌, ◌||◌, ℕ, List, [], ◌∷◌, refl, sym, ap, ◌∙◌, subst, drop, take, length, arith, Bool, true, false, Option, Some, None, cond, is_some, is_none, eqb-true}
-use Rattle.std.specs.Prelude.{not, nat_lt, slice_index, unwrap_or}
-use Rattle.std.proofs.lemmas.Bool.{false≢true}
-use Rattle.std.proofs.lemmas.Option.{none-some, same_Some}
+use Rattle.std.proofs.Common.{◌≡◌, ◌+◌, ◌==◌, ◌||◌, ℕ, List, [], ◌∷◌, refl, sym, ap, ◌∙◌, take, length, Bool, true, false, Option, Some, None, cond, is_some, eqb-true}
+use Rattle.std.specs.Prelude.{not, nat_lt, unwrap_or}
+use Rattle.std.proofs.lemmas.Bool.{false≢true, not-false}
 use Rattle.chunking.specs.Collecting.{broken_rule, under_way}
 use Rattle.chunking.specs.Cutting.{chunk_count, chunk_end, nth_chunk, unit_of}
 use Rattle.std.specs.Int.{div_ceil}
-use Rattle.responder_machine.proofs.Codes.{asked-code}
-use Rattle.responder_machine.proofs.Tests.{contents_shown, form_shown}
-use Rattle.responder_machine.specs.Answer.{Free, answer_bytes, answer_of, answer_to, chunk_answer, request_at}
-use Rattle.responder_machine.specs.Answer as answering
-use Rattle.responder_machine.specs.Handling.{chunk_in, refused_turn, turn_of}
-use Rattle.responder_machine.specs.LargeMessages.{chunks_of, given_of, handle_of, large_of, pending_of, still_pending}
-use Rattle.responder_machine.specs.Place.{Place, place_terms, session_place}
-use Rattle.responder_machine.specs.Records.{opened, reply_record}
+use Rattle.responder_machine.proofs.Tests.{contents_shown}
+use Rattle.responder_machine.specs.Answer.{Free, answer_bytes, chunk_answer, request_at}
+use Rattle.responder_machine.specs.Handling.{chunk_in, effect_of, handle_for, turn_by, turn_of}
+use Rattle.responder_machine.specs.History.{History}
+use Rattle.responder_machine.specs.LargeMessages.{given_of, handle_of, large_of, still_pending}
+use Rattle.responder_machine.specs.Place.{Place, session_place}
 use Rattle.responder_machine.specs.Refusal.{chunk_fault, code_of, fits_stage, has_pending, is_exchange_refused, is_get_refused, is_update_misplaced, is_verify_wrong, lacks_flag, refusal, stage_allows}
-use Rattle.responder_machine.specs.Responder.{data_turn, inner_refusal, session_turn, session_turn_by}
-use Rattle.responder_machine.specs.Session.{Event, Events, stage_of, session_negotiation, turns_of}
+use Rattle.responder_machine.specs.Session.{Events, stage_of, session_negotiation, turns_of}
 use Rattle.responder_machine.specs.Session.Event.{Began, Heard, Waited}
 use Rattle.responder_machine.specs.Setup.{RspSetup}
-use Rattle.responder_machine.specs.Turn.{Turn, handle_in, is_taken, takes}
+use Rattle.responder_machine.specs.Turn.{Turn, code_in, handle_in, is_taken, takes}
 use Rattle.spdm_grammar.specs.Message.{ChunkMessage, RequestMessage}
 use Rattle.spdm_grammar.specs.Message.RequestMessage.{GetVersion, GetCapabilities, NegotiateAlgorithms, GetMeasurements, PskExchange, PskFinish, Heartbeat, KeyUpdate, EndSession, ChunkSend, ChunkGet}
 use Rattle.spdm_grammar.specs.Message.ResponseMessage.{ChunkResponse}
 use Rattle.spdm_grammar.specs.Requests.{request_in}
-use Rattle.spdm_grammar.specs.Responses.{canonical_response}
 use Rattle.spdm_grammar.specs.declared.error_code.ErrorCode.{ErrorCode}
-use Rattle.spdm_grammar.specs.declared.error_code.ErrorCode.TheVariants.{ResponseTooLarge}
-use Rattle.spdm_grammar.specs.declared.names.request_code.TheConstants.{CHUNK_GET, CHUNK_SEND}
+use Rattle.spdm_grammar.specs.declared.names.request_code.TheConstants.{CHUNK_GET}
 use Rattle.spdm_machine.specs.Terms.{hash_len, terms_of}
 use Rattle.spdm_grammar.specs.declared.phase.Stage.{Stage}
 use Rattle.transcript.specs.Transcripts.{Negotiation}
-use Rattle.world_machine.proofs.EventsAlike.{EventsAlike, answer_alike, answered, chunks_alike, epoch_alike, exchange_alike, finish_alike, finish_answer_alike, negotiation_alike, response_epoch_alike, response_number_alike, stage_alike}
+use Rattle.world_machine.proofs.ChunksGiven.{Chunked, gets_of}
+use Rattle.world_machine.proofs.ChunksGiven.Chunked.{Gone, Given}
+use Rattle.world_machine.proofs.EventsAlike.{EventsAlike, answer_alike, answered, chunks_alike, exchange_alike, negotiation_alike, stage_alike}
 use Rattle.world_machine.proofs.EventsAlike.EventsAlike.{NoEvent, Behind, Here}
 use Rattle.world_machine.proofs.GetTells.{transfer_of}
-use Rattle.world_machine.proofs.TurnsAlike.{chunk_is}
 use Rattle.large_answers.proofs.Cuts.{same_chunk}
-use Rattle.large_answers.proofs.TurnsMoved.{Near, no_long, tests_short}
-use Rattle.large_answers.proofs.TurnsSame.{error_moved, extended_none, got_moved, refused_same, turn_moved}
+use Rattle.large_answers.proofs.TurnsMoved.{Near}
 
 -- ---- What is counted.
 
@@ -83,6 +77,36 @@ chunk_same p o v w handle transfer one two given size same =
     ∙ ap (λ (l : List ℕ). ChunkResponse (nth_chunk t handle l n)) (sym (given_whole t n (large_of o.turns) w two))
     ∙ ap (λ (k : ℕ). ChunkResponse (nth_chunk t handle (unwrap_or (still_pending t k (large_of o.turns)) []) n)) given
     ∙ ap (λ (k : ℕ). ChunkResponse (nth_chunk k handle (unwrap_or (still_pending k (given_of o.turns) (large_of o.turns)) []) n)) transfer
+
+-- Where these bytes are pending at both places, and begin alike.
+pub chunk_at : (p o : Place) (at : Option ℕ) (h : History) (v w : List ℕ) → transfer_of p ≡ transfer_of o → is_some (large_of p.turns) ≡ is_some (large_of o.turns) → given_of p.turns ≡ given_of o.turns → Chunked p at v h → Chunked o at w h → length w ≡ length v
+    → take (chunk_end (transfer_of p) (gets_of at h)) w ≡ take (chunk_end (transfer_of p) (gets_of at h)) v → (handle : ℕ) → chunk_answer p handle (given_of p.turns) ≡ chunk_answer o handle (given_of p.turns)
+chunk_at p o at h v w transfer some counts (Given large given parts) (Given other gave bytes) size same handle =
+    chunk_same p o v w handle transfer large other counts size (ap (λ (n : ℕ). take (chunk_end (transfer_of p) n) w) given ∙ same ∙ sym (ap (λ (n : ℕ). take (chunk_end (transfer_of p) n) v) given))
+chunk_at p o at h v w transfer some counts (Gone none) (Gone nor) size same handle =
+    let n : ℕ = given_of p.turns in
+    ap (λ (x : Option (List ℕ)). ChunkResponse (nth_chunk (transfer_of p) handle (unwrap_or (still_pending (transfer_of p) n x) []) n)) none
+    ∙ ap (λ (t : ℕ). ChunkResponse (nth_chunk t handle [] n)) transfer
+    ∙ sym (ap (λ (x : Option (List ℕ)). ChunkResponse (nth_chunk (transfer_of o) handle (unwrap_or (still_pending (transfer_of o) (given_of o.turns) x) []) n)) nor)
+chunk_at p o at h v w transfer some counts (Gone none) (Given other gave bytes) size same handle = absurd (false≢true (sym (ap is_some none) ∙ some ∙ ap is_some other))
+chunk_at p o at h v w transfer some counts (Given large given parts) (Gone nor) size same handle = absurd (false≢true (sym (ap is_some nor) ∙ sym some ∙ ap is_some large))
+
+second_same : (a b : Bool) → (not a || not b) ≡ false → b ≡ true
+second_same true b is = not-false b is
+second_same false b is = absurd (false≢true (sym is))
+
+-- CHUNK_GET that is not refused takes the next chunk.
+pub got_next : (r : RspSetup) (p o : Place) (m : List ℕ) (f : Free) → (takes CHUNK_GET (turn_of r p m f) ≡ true → (handle : ℕ) → chunk_answer p handle (given_of p.turns) ≡ chunk_answer o handle (given_of p.turns)) → (handle number : ℕ) → request_at p m ≡ Some (ChunkGet handle number) → refusal r p m f ≡ None
+    → chunk_answer p handle number ≡ chunk_answer o handle number
+unfolding turn_of
+got_next r p o m f chunk handle number is none =
+    let right : is_get_refused p (Some (ChunkGet handle number)) ≡ false = ap (is_get_refused p) (sym is) ∙ contents_shown r p m f none 9 in
+    let next : number ≡ given_of p.turns = eqb-true number (given_of p.turns) (second_same _ _ right) in
+    let takes_it : takes CHUNK_GET (turn_of r p m f) ≡ true =
+    ap (λ (x : Option ErrorCode). takes CHUNK_GET (turn_by r p m f x (chunk_in (request_at p m)))) none
+    ∙ ap (λ (q : Option RequestMessage). takes CHUNK_GET (turn_by r p m f None (chunk_in q))) is
+    ∙ ap (λ (q : Option RequestMessage). code_in (effect_of q m (answer_bytes r p m f) (handle_for p f (answer_bytes r p m f))) == CHUNK_GET) is in
+    ap (chunk_answer p handle) next ∙ chunk takes_it handle ∙ sym (ap (chunk_answer o handle) next)
 
 -- ---- The tests.
 

@@ -1,5 +1,5 @@
 -- No chunk passes the longest message, and whether one is pending hangs on a length.
-use Rattle.std.proofs.Common.{◌≡◌, ◌≤◌, ◌+◌, ◌-◌, ◌*◌, ◌==◌, ◌∙◌, ◌<◌, ℕ, zero, suc, sym, List, cond, drop, length-drop, [], refl, ap, length, Bool, true, false, Option, Some, None, Ok, Err, arith, eqb-true}
+use Rattle.std.proofs.Common.{◌≡◌, ◌≤◌, ◌+◌, ◌-◌, ◌*◌, ◌==◌, ◌∙◌, ◌<◌, ℕ, zero, suc, sym, List, cond, drop, length-drop, refl, ap, length, Bool, true, false, Option, Some, None, Ok, Err, arith, eqb-true}
 use Rattle.std.proofs.lemmas.Bool.Decides.{nat_tests}
 use Rattle.std.proofs.lemmas.List.{length-take}
 use Rattle.std.proofs.Math.Nat.{min-le_right}
@@ -15,7 +15,8 @@ use Rattle.spdm_grammar.specs.Responses.{canonical_response}
 use Rattle.spdm_grammar.specs.declared.capabilities.Caps.{Caps}
 use Rattle.spdm_grammar.specs.declared.part_faults.CapsFault.TheVariants.{SizeTooSmall, SizesCrossed, NoPsk, NoProtection}
 use Rattle.spdm_grammar.specs.declared.names.TheConstants.{MAX_MESSAGE_SIZE}
-use Rattle.spdm_machine.specs.Terms.{asked_caps, common_from, no_choice, no_common, request_value, response_value, terms_of, told_caps}
+use Rattle.spdm_machine.specs.Terms.{asked_caps, common_from, no_common, request_value, response_value, terms_of, told_caps}
+
 -- ---- What stands in a chunk.
 
 -- No requester takes more than 4,096 bytes at once.

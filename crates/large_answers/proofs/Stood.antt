@@ -1,7 +1,6 @@
 -- What stood for the answer before an answer that goes whole, stands for it behind that.
-use Rattle.std.proofs.Common.{◌≡◌, ◌+◌, ◌==◌, ◌&&◌, ◌++◌, ℕ, List, [], ◌∷◌, refl, sym, ap, ◌∙◌, subst, drop, take, length, arith, Bool, true, false, Option, Some, None, cond, inl, inr, eqb-true, is_some}
+use Rattle.std.proofs.Common.{◌≡◌, ◌==◌, ◌&&◌, ℕ, List, [], ◌∷◌, refl, sym, ap, ◌∙◌, subst, drop, take, length, Bool, true, false, Option}
 use Rattle.std.specs.Prelude.{slice_index}
-use Rattle.std.proofs.lemmas.Bool.{false≢true}
 use Rattle.std.proofs.Math.Bool.{and-false}
 use Rattle.responder_machine.specs.History.{Entry, History}
 use Rattle.responder_machine.specs.History.Entry.{Dropped}
@@ -22,8 +21,8 @@ use Rattle.world_machine.proofs.PlainTells.{form_of, led_record}
 use Rattle.world_machine.proofs.SeenAnswers.{led_seen}
 use Rattle.world_machine.proofs.UnseenStands.{old_in}
 use Rattle.world_machine.specs.CapturedAnswers.{AreShown, MayLeadAfter, MayLeadTo}
-use Rattle.world_machine.specs.LargeAnswers.{IsLargeAnswer, is_kept_in, is_unseen_in, place_named, takes_get, with_large}
-use Rattle.large_answers.specs.Fetching.{HasSize, answer_by, bytes_given, bytes_in, gives_in, number_given, size_in, size_told}
+use Rattle.world_machine.specs.LargeAnswers.{IsLargeAnswer, is_kept_in, place_named, takes_get, with_large}
+use Rattle.large_answers.specs.Fetching.{HasSize, bytes_given, number_given, size_told}
 use Rattle.large_answers.proofs.Fresh.{StaysBy, bytes_stay, number_stays, size_stays}
 use Rattle.large_answers.proofs.Gave.{Gave, begins, gave, sized}
 

@@ -1,26 +1,18 @@
 -- A message at two places that differ only in the bytes of the large answer that is pending: its turn is the same, where
 -- it asks for no chunk, or for one that is the same.
-use Rattle.std.proofs.Common.{◌≡◌, ◌≢◌, ◌+◌, ◌≤◌, ◌<◌, ◌==◌, ◌&&◌, ◌||◌, ℕ, List, [], ◌∷◌, refl, sym, ap, ◌∙◌, subst, length, arith, Bool, true, false, Option, Some, None, cond, is_some, is_none, eqb-true, le-ltb}
+use Rattle.std.proofs.Common.{◌≡◌, ◌≢◌, ◌==◌, ◌&&◌, ℕ, List, [], ◌∷◌, refl, sym, ap, ◌∙◌, length, Bool, true, false, Option, Some, None, cond, is_some, is_none}
 use Rattle.std.specs.Option.{option_or}
-use Rattle.std.specs.Prelude.{not, nat_lt, slice_index, unwrap_or}
-use Rattle.std.proofs.Math.Bool.{and-false}
+use Rattle.std.specs.Prelude.{not, nat_lt, slice_index}
 use Rattle.std.proofs.lemmas.Bool.{false≢true}
 use Rattle.std.proofs.lemmas.Option.{none-some, same_Some}
-use Rattle.negotiate.specs.declared.shared.Common.{Common}
-use Rattle.responder_machine.proofs.Tests.{contents_shown, form_shown}
-use Rattle.responder_machine.specs.Answer.{Free, answer_bytes, answer_of, answer_to, chunk_answer, request_at}
-use Rattle.responder_machine.specs.Handling.{chunk_in, effect_of, error_bytes, goes_large, handle_for, large_response, plain_turn, refused_turn, request_effect, request_reply, sent_for, turn_by, turn_of}
-use Rattle.responder_machine.specs.LargeMessages.{chunks_of, given_of, handle_of, pending_of}
+use Rattle.responder_machine.specs.Answer.{Free, answer_bytes, request_at}
 use Rattle.responder_machine.specs.Place.{Place, Where, place_terms}
-use Rattle.responder_machine.specs.Place.Where.{InClear, InChunks, InSession}
-use Rattle.responder_machine.specs.Refusal.{are_caps_refused, bytes_round, chunk_fault, code_of, has_no_block, has_pending, is_allowed, is_answer_too_long, is_chunk_in_session, is_exchange_refused, is_get_refused, is_known, is_misplaced, is_offer_refused, is_too_large, is_update_misplaced, is_verify_wrong, lacks_flag, limit_of, needs_session, refusal, refused_contents, refused_form, sizes_are_known, tests_of_contents, tests_of_form, version_for}
+use Rattle.responder_machine.specs.Refusal.{are_caps_refused, chunk_fault, code_of, has_no_block, is_allowed, is_answer_too_long, is_chunk_in_session, is_exchange_refused, is_get_refused, is_known, is_misplaced, is_offer_refused, is_too_large, is_update_misplaced, is_verify_wrong, lacks_flag, limit_of, needs_session, refusal, refused_contents, refused_form, tests_of_form, version_for}
 use Rattle.responder_machine.specs.Setup.{RspSetup}
-use Rattle.responder_machine.specs.Turn.{Turn}
 use Rattle.spdm_basis.specs.Tests.{first_of_tests}
-use Rattle.spdm_grammar.specs.Message.{ChunkMessage, RequestMessage}
-use Rattle.spdm_grammar.specs.Message.RequestMessage.{ChunkGet}
+use Rattle.spdm_grammar.specs.Message.{RequestMessage}
 use Rattle.spdm_grammar.specs.declared.error_code.ErrorCode.{ErrorCode}
-use Rattle.spdm_grammar.specs.declared.error_code.ErrorCode.TheVariants.{InvalidRequest, UnexpectedRequest, Unspecified, DecryptError, UnsupportedRequest, SessionLimitExceeded, SessionRequired, ResponseTooLarge, RequestTooLarge, LargeResponse, VersionMismatch}
+use Rattle.spdm_grammar.specs.declared.error_code.ErrorCode.TheVariants.{InvalidRequest, UnexpectedRequest, DecryptError, UnsupportedRequest, SessionLimitExceeded, SessionRequired, ResponseTooLarge, RequestTooLarge, VersionMismatch}
 use Rattle.spdm_grammar.specs.declared.part_faults.ChunkFault.{ChunkFault}
 use Rattle.spdm_grammar.specs.declared.names.request_code.TheConstants.{PSK_EXCHANGE}
 

@@ -1,17 +1,16 @@
 -- The turn of a message at two places that differ only in the bytes of the large answer that is pending.
-use Rattle.std.proofs.Common.{◌≡◌, ◌≢◌, ◌+◌, ◌≤◌, ◌<◌, ◌==◌, ◌&&◌, ◌||◌, ℕ, List, [], ◌∷◌, refl, sym, ap, ◌∙◌, subst, length, arith, Bool, true, false, Option, Some, None, cond, is_some, is_none, eqb-true, le-ltb}
+use Rattle.std.proofs.Common.{◌≡◌, ◌≢◌, ◌+◌, ◌≤◌, ◌&&◌, ◌||◌, ℕ, List, [], refl, sym, ap, ◌∙◌, length, arith, Bool, true, false, Option, Some, None, cond, le-ltb}
 use Rattle.std.specs.Prelude.{not, nat_lt, unwrap_or}
 use Rattle.std.specs.Result.{result_ok}
 use Rattle.std.proofs.Math.Bool.{and-false}
 use Rattle.std.proofs.lemmas.Bool.{false≢true}
-use Rattle.std.proofs.lemmas.Option.{none-some, same_Some}
 use Rattle.negotiate.specs.Capabilities.{common_of}
 use Rattle.negotiate.specs.declared.shared.Common.{Common}
 use Rattle.responder_machine.proofs.Codes.{asked-code}
 use Rattle.responder_machine.proofs.Sizes.{IsSized, common_sized}
-use Rattle.responder_machine.proofs.Tests.{contents_shown, form_shown}
+use Rattle.responder_machine.proofs.Tests.{contents_shown}
 use Rattle.responder_machine.specs.Answer.{Free, answer_bytes, answer_to, chunk_answer, request_at}
-use Rattle.responder_machine.specs.Handling.{chunk_in, effect_of, error_bytes, extended_of, goes_large, handle_for, large_response, plain_turn, refused_turn, sent_for, turn_by, turn_of, version_in}
+use Rattle.responder_machine.specs.Handling.{chunk_in, effect_of, error_bytes, extended_of, goes_large, handle_for, large_response, plain_turn, refused_turn, turn_by, turn_of}
 use Rattle.responder_machine.specs.LargeMessages.{pending_of}
 use Rattle.responder_machine.specs.Place.{Place, Where, place_terms}
 use Rattle.responder_machine.specs.Refusal.{bytes_round, code_of, is_answer_too_long, lacks_flag, refusal, sizes_are_known}
@@ -26,7 +25,6 @@ use Rattle.spdm_grammar.specs.declared.error_code.ErrorCode.TheVariants.{Invalid
 use Rattle.spdm_grammar.specs.declared.names.request_code.TheConstants.{CHUNK_GET}
 use Rattle.spdm_grammar.specs.declared.phase.Phase.{Phase}
 use Rattle.spdm_machine.specs.Terms.{asked_caps, common_from, no_common, request_value, response_value, terms_of, told_caps}
-use Rattle.transcript.specs.Transcripts.{Negotiation}
 use Rattle.world_machine.proofs.SmallGets.{get_fits}
 use Rattle.large_answers.proofs.TurnsMoved.{Near, lacked_error, refusal_lacked, refusal_moved, short_error}
 

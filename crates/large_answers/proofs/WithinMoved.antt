@@ -1,22 +1,20 @@
 -- A record that is answered so with some bytes of a large answer of its session is answered so with others.
-use Rattle.std.proofs.Common.{◌≡◌, ◌≢◌, ◌+◌, ◌≤◌, ◌<◌, ◌==◌, ◌&&◌, ◌||◌, ℕ, zero, suc, List, [], ◌∷◌, refl, sym, ap, ◌∙◌, subst, drop, take, length, arith, Bool, true, false, Option, Some, None, cond, is_some, is_none, eqb-true}
+use Rattle.std.proofs.Common.{◌≡◌, ◌+◌, ◌≤◌, ◌==◌, ◌&&◌, ◌||◌, ℕ, zero, suc, List, [], refl, sym, ap, ◌∙◌, subst, drop, length, arith, Bool, true, false, Option, Some, None, cond, is_some}
 use Rattle.std.specs.Prelude.{not, nat_lt, slice_index, unwrap_or}
 use Rattle.std.specs.Option.{option_map}
 use Rattle.std.specs.Int.{div_ceil}
 use Rattle.std.proofs.lemmas.Bool.{false≢true}
-use Rattle.std.proofs.lemmas.Option.{none-some, same_Some}
-use Rattle.chunking.specs.Cutting.{chunk_count, chunk_end, unit_of}
+use Rattle.chunking.specs.Cutting.{chunk_count, unit_of}
 use Rattle.responder_machine.specs.Answer.{Free, answer_bytes, answer_of, answer_to, request_at}
-use Rattle.responder_machine.specs.Handling.{turn_of}
 use Rattle.responder_machine.specs.History.{Entry, History, clear_turns, ended_of, phase_of}
 use Rattle.responder_machine.specs.LargeMessages.{given_of, large_of, pending_of, still_pending}
-use Rattle.responder_machine.specs.May.{IsAllowed, on_body, place_for}
-use Rattle.responder_machine.specs.Place.{Place, clear_place, held_of, is_held, place_terms, session_place}
+use Rattle.responder_machine.specs.May.{IsAllowed}
+use Rattle.responder_machine.specs.Place.{Place, clear_place, held_of, is_held, session_place}
 use Rattle.responder_machine.specs.Records.{opened}
 use Rattle.responder_machine.specs.Refusal.{has_pending}
 use Rattle.responder_machine.specs.Responder.{Outcome, kept_record, on_clear, on_record, repeats, to_session}
 use Rattle.responder_machine.specs.Responder.Outcome.{Same, Adds}
-use Rattle.responder_machine.specs.Session.{Event, Events, id_in_record, is_live, session_negotiation, session_of, stage_of, turns_of}
+use Rattle.responder_machine.specs.Session.{Events, id_in_record, is_live, session_of, stage_of, turns_of}
 use Rattle.responder_machine.specs.Session.Event.{Began, Heard, Waited}
 use Rattle.responder_machine.specs.Setup.{RspSetup}
 use Rattle.responder_machine.specs.Turn.{Turn, is_taken, large_in, takes}
@@ -25,11 +23,10 @@ use Rattle.spdm_grammar.specs.Message.RequestMessage.{GetVersion, GetCapabilitie
 use Rattle.spdm_grammar.specs.Responses.{canonical_response}
 use Rattle.spdm_grammar.specs.declared.names.request_code.TheConstants.{CHUNK_GET}
 use Rattle.spdm_grammar.specs.declared.names.TheConstants.{MAX_MESSAGE_SIZE}
-use Rattle.spdm_grammar.specs.declared.phase.Phase.{Phase}
 use Rattle.spdm_machine.specs.Bodies.{record_body}
 use Rattle.spdm_grammar.specs.declared.phase.Stage.{Stage}
 use Rattle.spdm_grammar.specs.Requests.{request_in}
-use Rattle.spdm_machine.specs.Sessions.{is_past_handshake, one_if}
+use Rattle.spdm_machine.specs.Sessions.{is_past_handshake}
 use Rattle.spdm_machine.specs.Terms.{hash_len, terms_of}
 use Rattle.transcript.specs.Transcripts.{Negotiation}
 use Rattle.world_machine.proofs.ChunksGiven.{Chunked, gets_of}
@@ -40,8 +37,7 @@ use Rattle.world_machine.proofs.GetTells.{transfer_of}
 use Rattle.world_machine.specs.CapturedAnswers.{MayLeadTo, clear_answer, record_answer}
 use Rattle.world_machine.specs.LargeAnswers.{takes_get}
 use Rattle.world_machine.specs.Rounds.{no_draw}
-use Rattle.large_answers.proofs.RecordMoved.{ChunkSame, GivesSame, to_session_moved}
-use Rattle.large_answers.proofs.SessionMoved.{near}
+use Rattle.large_answers.proofs.RecordMoved.{ChunkSame, to_session_moved}
 use Rattle.large_answers.proofs.Sized.{chunk_few, some_more, transfer_few}
 
 -- ---- Two histories of which all sessions are alike.
@@ -109,21 +105,21 @@ count_by : (t n : ℕ) (v w : List ℕ) → ((n ≡ 0 → ⊥) → length w ≡ 
 count_by t zero v w same = some_more (length v) (length w) (unit_of t)
 count_by t (suc n) v w same = ap (λ (k : ℕ). nat_lt (suc n) (div_ceil (k + 4) (unit_of t))) (sym (same (λ none. absurd (omega (arith, none)))))
 
-pub pending_moved : (s u : Events) (at : Option ℕ) (h : History) (v w : List ℕ) → EventsAlike s u → Chunked (session_place s) at v h → Chunked (session_place u) at w h → ((gets_of at h ≡ 0 → ⊥) → length w ≡ length v)
-    → has_pending (session_place s) ≡ has_pending (session_place u)
-pending_moved s u at h v w a (Gone none) (Gone nor) same = ap (λ (o : Option (List ℕ)). is_some (still_pending (transfer_of (session_place s)) (given_of (turns_of s)) o)) none ∙ sym (ap (λ (o : Option (List ℕ)). is_some (still_pending (transfer_of (session_place u)) (given_of (turns_of u)) o)) nor)
-pending_moved s u at h v w a (Given one given parts) (Given two gave bytes) same =
-    let transfer : transfer_of (session_place s) ≡ transfer_of (session_place u) = ap (λ (n : Negotiation). (terms_of n).common.to_requester.transfer) (negotiation_alike s u a) in
-    let count : given_of (turns_of s) ≡ given_of (turns_of u) = given ∙ sym gave in
-    ap (λ (o : Option (List ℕ)). is_some (still_pending (transfer_of (session_place s)) (given_of (turns_of s)) o)) one
-    ∙ more_by (transfer_of (session_place s)) (given_of (turns_of s)) v
-    ∙ count_by (transfer_of (session_place s)) (given_of (turns_of s)) v w (λ some. same (λ none. some (given ∙ none)))
-    ∙ sym (more_by (transfer_of (session_place s)) (given_of (turns_of s)) w)
-    ∙ ap (λ (t : ℕ). is_some (still_pending t (given_of (turns_of s)) (Some w))) transfer
-    ∙ ap (λ (n : ℕ). is_some (still_pending (transfer_of (session_place u)) n (Some w))) count
-    ∙ sym (ap (λ (o : Option (List ℕ)). is_some (still_pending (transfer_of (session_place u)) (given_of (turns_of u)) o)) two)
-pending_moved s u at h v w a (Gone none) (Given two gave bytes) same = absurd (false≢true (sym (ap is_some none) ∙ large_alike s u a ∙ ap is_some two))
-pending_moved s u at h v w a (Given one given parts) (Gone nor) same = absurd (false≢true (sym (ap is_some nor) ∙ sym (large_alike s u a) ∙ ap is_some one))
+-- At both places a chunk is pending, or at neither.
+pub pending_at : (p o : Place) (at : Option ℕ) (h : History) (v w : List ℕ) → transfer_of p ≡ transfer_of o → is_some (large_of p.turns) ≡ is_some (large_of o.turns) → Chunked p at v h → Chunked o at w h → ((gets_of at h ≡ 0 → ⊥) → length w ≡ length v)
+    → has_pending p ≡ has_pending o
+pending_at p o at h v w transfer large (Gone none) (Gone nor) same = ap (λ (x : Option (List ℕ)). is_some (still_pending (transfer_of p) (given_of p.turns) x)) none ∙ sym (ap (λ (x : Option (List ℕ)). is_some (still_pending (transfer_of o) (given_of o.turns) x)) nor)
+pending_at p o at h v w transfer large (Given one given parts) (Given two gave bytes) same =
+    let count : given_of p.turns ≡ given_of o.turns = given ∙ sym gave in
+    ap (λ (x : Option (List ℕ)). is_some (still_pending (transfer_of p) (given_of p.turns) x)) one
+    ∙ more_by (transfer_of p) (given_of p.turns) v
+    ∙ count_by (transfer_of p) (given_of p.turns) v w (λ some. same (λ none. some (given ∙ none)))
+    ∙ sym (more_by (transfer_of p) (given_of p.turns) w)
+    ∙ ap (λ (t : ℕ). is_some (still_pending t (given_of p.turns) (Some w))) transfer
+    ∙ ap (λ (n : ℕ). is_some (still_pending (transfer_of o) n (Some w))) count
+    ∙ sym (ap (λ (x : Option (List ℕ)). is_some (still_pending (transfer_of o) (given_of o.turns) x)) two)
+pending_at p o at h v w transfer large (Gone none) (Given two gave bytes) same = absurd (false≢true (sym (ap is_some none) ∙ large ∙ ap is_some two))
+pending_at p o at h v w transfer large (Given one given parts) (Gone nor) same = absurd (false≢true (sym (ap is_some nor) ∙ sym large ∙ ap is_some one))
 
 -- ---- No answer is too long.
 
