@@ -14,7 +14,7 @@ use Rattle.large_answers.specs.FetchingLaws.{AnswersFrom, place_in}
 
 -- ---- Lengths.
 
-place_unseen : (h : History) (e : Entry) → place_of h (unseen e) ≡ place_of h e
+pub place_unseen : (h : History) (e : Entry) → place_of h (unseen e) ≡ place_of h e
 place_unseen h (Clear tag t d) = refl
 place_unseen h (Sealed tag m t reply d) = refl
 place_unseen h (Queued bytes) = refl

@@ -74,7 +74,7 @@ module _ (w : Configuration) (q : ReqSetup) (older : List (List ℕ)) (packet : 
     abbrev next : Fetching
     next = record { kept = kept_of (record d { requester = l; responder = h; round = Some (answered round) }); at = place_named round.body; place = place }
 
-    behind_walk : (v : List ℕ) → IsLargeAnswer place v → Walks w q (packet ∷ older) (behind d round l h v)
+    pub behind_walk : (v : List ℕ) → IsLargeAnswer place v → Walks w q (packet ∷ older) (behind d round l h v)
     behind_walk v fits =
         goes_replied w q older packet p parses is d (behind d round l h v) walk
         (made (behind d round l h v) (replies_so w d tag round answer l h v at own waits (answers_largely r d round answer h v (any_large r d round answer h place v from fits)) hears gets))
@@ -90,7 +90,7 @@ module _ (w : Configuration) (q : ReqSetup) (older : List (List ℕ)) (packet : 
         let sound = (walks_alike w q (packet ∷ older) (behind d round l h some.0) (behind d round l h some.0) one one).one in
         fresh (place_named round.body) h sound.unseen (repeats r d round answer h place from)
 
-    stands : (v : List ℕ) → IsLargeAnswer place v → MayStand next v
+    pub stands : (v : List ℕ) → IsLargeAnswer place v → MayStand next v
     stands v fits =
         (fits, subst (λ (o : Option ℕ). HasSize o v) (sym none_given.size) tt, subst (λ (b : List ℕ). take (length b) v ≡ b) (sym none_given.bytes) refl)
 

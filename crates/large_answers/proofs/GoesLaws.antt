@@ -55,7 +55,7 @@ fetches_on d v round tag answer g sound is at hears gets =
     ]
 
 -- The requester hears the same, whatever bytes stand.
-hears_same : (f : Fetching) (v u : List ℕ) (tag : ℕ) (answer : List ℕ) (g : requester_history.History) → Hears (dialogue_of f v) tag answer g → Hears (dialogue_of f u) tag answer g
+pub hears_same : (f : Fetching) (v u : List ℕ) (tag : ℕ) (answer : List ℕ) (g : requester_history.History) → Hears (dialogue_of f v) tag answer g → Hears (dialogue_of f u) tag answer g
 unfolding Hears
 hears_same f v u tag answer g hears = hears
 

@@ -25,3 +25,4 @@ pub mod NoCaps
 pub mod TurnsBeside
 pub mod ClearShort
 pub mod ClearMoved
+pub mod TurnsLaws

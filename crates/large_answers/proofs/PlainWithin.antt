@@ -81,7 +81,7 @@ turns_fetched : (id : ℕ) (w : List ℕ) (h : History) → clear_turns (with_la
 turns_fetched id w [] = refl
 turns_fetched id w (e ∷ h) = turns_by id w e h (is_unseen_in (Some id) e) refl (turns_fetched id w h)
 
-turns_same : (at : Option ℕ) (id : ℕ) (v w : List ℕ) (h : History) → at ≡ Some id → clear_turns (with_large at v h) ≡ clear_turns (with_large at w h)
+pub turns_same : (at : Option ℕ) (id : ℕ) (v w : List ℕ) (h : History) → at ≡ Some id → clear_turns (with_large at v h) ≡ clear_turns (with_large at w h)
 turns_same at id v w h is = ap (λ (o : Option ℕ). clear_turns (with_large o v h)) is ∙ turns_fetched id v h ∙ sym (turns_fetched id w h) ∙ ap (λ (o : Option ℕ). clear_turns (with_large o w h)) (sym is)
 
 module _ (r : RspSetup) (h : History) (v w : List ℕ) (tag : ℕ) (body : List ℕ) (type : (slice_index body 0 == 5) ≡ false) (stand : UnseenStand h) (one : Fetch h v tag body) (two : Fetch h w tag body) where

@@ -27,7 +27,7 @@ pub data Turns : List Turn → List Turn → Type 0 where
   Here : (t : Turn) → (a : RequestMessage) → (m : List ℕ) → (large : Option ℕ) → (w v : List ℕ) → (l k : List Turn) → (code_for a == GET_CAPABILITIES) ≡ false → Turns l k
       → Turns (answered t a m large w ∷ l) (answered t a m large v ∷ k)
 
-same_turns : (l : List Turn) → Turns l l
+pub same_turns : (l : List Turn) → Turns l l
 same_turns [] = NoTurn
 same_turns (t ∷ l) = Behind t l l (same_turns l)
 

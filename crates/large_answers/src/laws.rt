@@ -1,7 +1,7 @@
 //! What goes on while a large answer is fetched by chunks, each law as the contract of a function that does
 //! nothing.
 
-ghost use Rattle.large_answers.specs.FetchingLaws.{BegunIsFetching, FetchingAsks, FetchingBegins, FetchingEnds, FetchingGoes, FetchingIsAlone, FetchingIsAsked, FetchingIsReplied, FetchingStays, FetchingTellsApart, FetchingTellsWhy};
+ghost use Rattle.large_answers.specs.FetchingLaws.{BegunIsFetching, FetchingAsks, FetchingBegins, FetchingEnds, FetchingGoes, FetchingIsAlone, FetchingIsAsked, FetchingIsReplied, FetchingStays, FetchingTellsApart, FetchingTellsWhy, FetchingTurns};
 
 /// What is kept behind a request.
 pub fn fetching_asks()
@@ -57,4 +57,9 @@ pub fn fetching_is_replied()
 /// What is kept behind an answer with which the large answer is fetched on.
 pub fn fetching_goes()
     ensures { FetchingGoes }
+{}
+
+/// What is kept behind another LargeResponse.
+pub fn fetching_turns()
+    ensures { FetchingTurns }
 {}
