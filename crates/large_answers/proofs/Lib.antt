@@ -26,3 +26,4 @@ pub mod TurnsBeside
 pub mod ClearShort
 pub mod ClearMoved
 pub mod TurnsLaws
+pub mod Rows

@@ -1,2 +1,3 @@
 pub mod Fetching
 pub mod FetchingLaws
+pub mod FetchingRows

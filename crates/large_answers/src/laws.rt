@@ -2,6 +2,9 @@
 //! nothing.
 
 ghost use Rattle.large_answers.specs.FetchingLaws.{BegunIsFetching, FetchingAsks, FetchingBegins, FetchingEnds, FetchingGoes, FetchingIsAlone, FetchingIsAsked, FetchingIsReplied, FetchingStays, FetchingTellsApart, FetchingTellsWhy, FetchingTurns};
+ghost use Rattle.large_answers.specs.FetchingRows.{FetchingShows};
+
+use capture_laws::{one_changes_rows, rows_are_of_all};
 
 /// What is kept behind a request.
 pub fn fetching_asks()
@@ -63,3 +66,11 @@ pub fn fetching_goes()
 pub fn fetching_turns()
     ensures { FetchingTurns }
 {}
+
+/// The rows behind a packet are those that it makes by what is kept, whether a large answer is fetched or not.
+pub fn fetching_shows()
+    ensures { FetchingShows }
+{
+    one_changes_rows();
+    rows_are_of_all();
+}

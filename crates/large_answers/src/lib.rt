@@ -9,6 +9,6 @@ mod laws;
 
 pub use laws::{
     begun_is_fetching, fetching_asks, fetching_begins, fetching_ends, fetching_goes,
-    fetching_is_alone, fetching_is_asked, fetching_is_replied, fetching_stays,
+    fetching_is_alone, fetching_is_asked, fetching_is_replied, fetching_shows, fetching_stays,
     fetching_tells_apart, fetching_tells_why, fetching_turns,
 };
