@@ -41,7 +41,7 @@ pub number_same : (at : Option ℕ) (h : History) → gets_of at h ≡ number_gi
 number_same at [] = refl
 number_same at (e ∷ h) = ap (λ (n : ℕ). cond (is_unseen_in at e) 0 (cond (gives_in at e) (n + 1) n)) (number_same at h)
 
-bytes_same : (at : Option ℕ) (h : History) → parts_of at h ≡ bytes_given at h
+pub bytes_same : (at : Option ℕ) (h : History) → parts_of at h ≡ bytes_given at h
 bytes_same at [] = refl
 bytes_same at (e ∷ h) =
     ap (λ (n : ℕ). cond (is_unseen_in at e) [] (cond (gives_in at e) (parts_of at h ++ bytes_in n (answer_by e)) (parts_of at h))) (number_same at h)
@@ -147,6 +147,10 @@ module _ (at : Option ℕ) (h : History) (v : List ℕ) (p : Place) (e : Entry) 
   bytes_next =
       ap (λ (b : Bool). cond b [] (cond (gives_in at e) (bytes_given at h ++ bytes_in (number_given at h) (answer_by e)) (bytes_given at h))) g.seen
       ∙ ap (λ (b : Bool). cond b (bytes_given at h ++ bytes_in (number_given at h) (answer_by e)) (bytes_given at h)) g.here
+
+  pub number_next : number_given at (e ∷ h) ≡ number_given at h + 1
+  number_next =
+      ap (λ (b : Bool). cond b 0 (cond (gives_in at e) (number_given at h + 1) (number_given at h))) g.seen ∙ ap (λ (b : Bool). cond b (number_given at h + 1) (number_given at h)) g.here
 
   -- The chunks so far hold the beginning.
   pub bytes_begin : bytes_given at (e ∷ h) ≡ take (suc (number_given at h) * unit_of (transfer_of p) - 4) v

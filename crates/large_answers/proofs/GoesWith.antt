@@ -47,7 +47,7 @@ size_by (suc n) o v w is some one two = subst (λ (x : Option ℕ). HasSize x w)
 
 -- ---- One more chunk.
 
-module _ (at : Option ℕ) (h : History) (v w : List ℕ) (p : Place) (e : Entry) (g : Gave at h v p e) (place : Place) (here : StandsAt place at h v) (behind : StandsAt place at (e ∷ h) w) where
+module _ (at : Option ℕ) (h : History) (v : List ℕ) (p : Place) (e : Entry) (g : Gave at h v p e) (place : Place) (here : StandsAt place at h v) where
   by_first : (b : Bool) → (number_given at h == 0) ≡ b → size_told at (e ∷ h) ≡ Some (length v)
   by_first true first = size_next at h v p e g ∙ ap (λ (b : Bool). cond b (Some (size_in (answer_by e))) (size_told at h)) first ∙ ap Some (size_first at h v p e g here.0.2 first)
   by_first false later = size_next at h v p e g ∙ ap (λ (b : Bool). cond b (Some (size_in (answer_by e))) (size_told at h)) later ∙ by_number (number_given at h) (told at h) refl
@@ -56,8 +56,12 @@ module _ (at : Option ℕ) (h : History) (v w : List ℕ) (p : Place) (e : Entry
       by_number zero none is = absurd (false≢true (sym later ∙ ap (λ (n : ℕ). n == 0) is))
       by_number (suc n) some is = some.1 ∙ ap Some (sym (subst (λ (o : Option ℕ). HasSize o v) some.1 here.1))
 
+  pub told_whole : size_told at (e ∷ h) ≡ Some (length v)
+  told_whole = by_first (number_given at h == 0) refl
+
+module _ (at : Option ℕ) (h : History) (v w : List ℕ) (p : Place) (e : Entry) (g : Gave at h v p e) (place : Place) (here : StandsAt place at h v) (behind : StandsAt place at (e ∷ h) w) where
   pub whole_size : length w ≡ length v
-  whole_size = subst (λ (o : Option ℕ). HasSize o w) (by_first (number_given at h == 0) refl) behind.1
+  whole_size = subst (λ (o : Option ℕ). HasSize o w) (told_whole at h v p e g place here) behind.1
 
   pub same_to : take (chunk_end (transfer_of p) (number_given at h)) w ≡ take (chunk_end (transfer_of p) (number_given at h)) v
   same_to =

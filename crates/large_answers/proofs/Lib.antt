@@ -27,3 +27,4 @@ pub mod ClearShort
 pub mod ClearMoved
 pub mod TurnsLaws
 pub mod Rows
+pub mod Shown

@@ -1,3 +1,4 @@
 pub mod Fetching
 pub mod FetchingLaws
 pub mod FetchingRows
+pub mod FetchingShown

@@ -3,6 +3,7 @@
 
 ghost use Rattle.large_answers.specs.FetchingLaws.{BegunIsFetching, FetchingAsks, FetchingBegins, FetchingEnds, FetchingGoes, FetchingIsAlone, FetchingIsAsked, FetchingIsReplied, FetchingStays, FetchingTellsApart, FetchingTellsWhy, FetchingTurns};
 ghost use Rattle.large_answers.specs.FetchingRows.{FetchingShows};
+ghost use Rattle.large_answers.specs.FetchingShown.{ChunkIsShown, LastIsWhole};
 
 use capture_laws::{one_changes_rows, rows_are_of_all};
 
@@ -74,3 +75,13 @@ pub fn fetching_shows()
     one_changes_rows();
     rows_are_of_all();
 }
+
+/// An answer with which the large one is fetched on shows nothing of it, or its next chunk.
+pub fn chunk_is_shown()
+    ensures { ChunkIsShown }
+{}
+
+/// With the last chunk all bytes are there.
+pub fn last_is_whole()
+    ensures { LastIsWhole }
+{}
