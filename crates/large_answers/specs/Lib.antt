@@ -1,0 +1,4 @@
+pub mod Fetching
+pub mod FetchingLaws
+pub mod FetchingRows
+pub mod FetchingShown
