@@ -11,3 +11,4 @@ pub mod Party
 pub mod PartyReplies
 pub mod ClearAnswers
 pub mod RecordAnswers
+pub mod Conversation
