@@ -112,6 +112,12 @@ abbrev pub IsJudgedRequest : Configuration → ReqSetup → List (List ℕ) → 
 IsJudgedRequest w q older rows packet g (Ok large) party table = StandsBehind party large table w q older rows packet
 IsJudgedRequest w q older rows packet g (Err why) party table = NoneGoesOn w q older packet × IsAskedReason w q older g (why_of why)
 
+-- The same of the whole.
+abbrev pub IsAskedOf : Configuration → ReqSetup → List (List ℕ) → List Row → (packet : List ℕ) → Gathered
+    → Result Unit declared.Why → (new : Conversation) → (table : List Seen) → Type 0
+IsAskedOf w q older rows packet g (Ok u) new table = StandsBehind new.party new.large table w q older rows packet
+IsAskedOf w q older rows packet g (Err why) new table = NoneGoesOn w q older packet × IsAskedReason w q older g (why_of why)
+
 -- An answer is a part of a large one, by what is kept of the packets: of one that is not fetched; or, while a large
 -- request is sent, it begins one by what it shows, or ends one.
 abbrev pub IsPart : Configuration → ReqSetup → List (List ℕ) → ℕ → (answer : List ℕ) → Type 0
