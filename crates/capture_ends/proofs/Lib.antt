@@ -49,3 +49,9 @@ pub mod ChunkAsked
 pub mod KnownFetches
 pub mod FetchesUpon
 pub mod PartyTold
+pub mod WalkRows
+pub mod AskedWalks
+pub mod SendingWalks
+pub mod RequestRows
+pub mod SendingTold
+pub mod LargeBegun

@@ -44,7 +44,7 @@ use Rattle.world_machine.specs.Setup.{Configuration}
 asker_with : (seen : Asker) (q : ReqSetup) (k : Kept) (round : Option Round) → IsAsker seen q k → IsAsker seen q (record k { round = round })
 asker_with seen q k round asker = record { kept = asker.kept; setup = asker.setup; stands = asker.stands; owes = asker.owes }
 
-copy_of : (o : Option Round) (tag : ℕ) (body : List ℕ) → is_copy o tag body ≡ true → (round : Round) × (o ≡ Some round) × (round.tag ≡ tag) × (round.body ≡ body)
+pub copy_of : (o : Option Round) (tag : ℕ) (body : List ℕ) → is_copy o tag body ≡ true → (round : Round) × (o ≡ Some round) × (round.tag ≡ tag) × (round.body ≡ body)
 copy_of None tag body is = absurd (false≢true is)
 copy_of (Some round) tag body is =
     (round, refl, eqb-true round.tag tag (and_first (round.tag == tag) _ is), (bytes_eq-Decides round.body body).0 (and_second (round.tag == tag) _ is))
@@ -56,7 +56,7 @@ both : (a b : Bool) → a ≡ true → b ≡ true → (a && b) ≡ true
 both true b one two = two
 both false b one two = absurd (false≢true one)
 
-is_no_copy : (k : Kept) (tag : ℕ) (body : List ℕ) (next : Kept) → is_copy k.round tag body ≡ false → CopiesKept k tag body next → ⊥
+pub is_no_copy : (k : Kept) (tag : ℕ) (body : List ℕ) (next : Kept) → is_copy k.round tag body ≡ false → CopiesKept k tag body next → ⊥
 is_no_copy k tag body next other c =
     let same : is_copy (Some c.0) tag body ≡ true = both (c.0.tag == tag) (bytes_eq c.0.body body) (ap (λ (n : ℕ). n == tag) c.2 ∙ same_number tag) ((bytes_eq-Decides c.0.body body).1 c.3) in
     false≢true (sym other ∙ ap (λ (o : Option Round). is_copy o tag body) c.1 ∙ same)

@@ -41,10 +41,10 @@ meanwhile s = record s.before { responder = s.responder; round = Some s.round }
 
 -- A large request is under way behind the packets, and this is kept of it, and of the two ends. What was kept before its
 -- first chunk was so of fewer packets.
-pub record IsUnderWay (party : Party) (large : LargeRequest) (w : Configuration) (q : ReqSetup) (older : List (List ℕ)) (rows : List Row) (s : Sending) : Type 0 where
+pub record IsUnderWay (seen : Party) (large : LargeRequest) (w : Configuration) (q : ReqSetup) (older : List (List ℕ)) (rows : List Row) (s : Sending) : Type 0 where
   pub sending : IsSendingOf w q older s
   pub chunks : large_requests.StandsFor large s
-  pub party : IsParty party w q (meanwhile s) rows
+  pub kept : IsParty seen w q (meanwhile s) rows
   pub earlier : List (List ℕ)
   pub before : Keeps w q earlier s.before
   pub fewer : length earlier < length older
@@ -67,7 +67,7 @@ pub record StandsBehind (party : Party) (large : Option LargeRequest) (table : L
   pub after : Dialogue
   pub goes : Walks w q (packet ∷ older) after
   pub stands : StandsAs party large w q (packet ∷ older) (rows_between before after rows)
-  pub table : StandsForRows table w (length older + 1) (rows_between before after rows)
+  pub entries : StandsForRows table w (length older + 1) (rows_between before after rows)
 
 -- These are the rows that the packets then show: those that the packet makes in any walk.
 abbrev pub WalksShow : Type 0

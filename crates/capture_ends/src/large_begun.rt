@@ -99,7 +99,10 @@ impl Asker {
             → IsAsker self.old q k → IsAsker self.new q k }
     {
         let _ = write_outstanding(&mut self.asking, &self.setup, &mut self.room);
-        if is_secured(self.room.as_slice()) || !is_first_chunk(self.room.as_slice()) {
+        if is_secured(self.room.as_slice()) {
+            return None;
+        }
+        if !is_first_chunk(self.room.as_slice()) {
             return None;
         }
         self.first_chunk(self.asking.next_handle().wrapping_sub(1), body)

@@ -25,7 +25,7 @@ returns-then-not-may_begin-clause-told c = λ w q older rows k route keeps few f
     let turn = asks_in_turn k route body none in
     let other = ap (λ (o : Option Round). is_copy o route.tag body) (sym round) ∙ ap (λ (n : ℕ). is_copy c.args.round.now n body) tag ∙ sym c.is_copy.ensures ∙ c.if-is_copy.false in
     let never = ap (λ (o : Option Round). may_begin o body) (sym round) ∙ sym c.may_begin.ensures ∙ c.if-not-may_begin.true in
-    refused_by w q older rows k route body turn _ c.args.table.now c.why.result
+    refused_by w q older rows k route body turn c.args.self.now c.args.table.now c.why.result
     (goes_nowhere w q older rows k route body turn other (λ after may sends. false≢true (sym never ∙ may)))
     (c.why.ensures.why w q older k keeps few party.asker)
 
@@ -49,5 +49,5 @@ returns-in-Err-clause-told c = λ w q older rows k route keeps few fits round ta
     let turn = asks_in_turn k route body none in
     let other = ap (λ (o : Option Round). is_copy o route.tag body) (sym round) ∙ ap (λ (n : ℕ). is_copy c.args.round.now n body) tag ∙ sym c.is_copy.ensures ∙ c.if-is_copy.false in
     let judged = subst (λ (x : Result Unit declared.Why). IsJudged q k body x c.judge.new.self) c.in-Err.is (c.judge.ensures w q older k keeps few fits party.asker) in
-    refused_by w q older rows k route body turn _ c.args.table.now c.in-Err.why
+    refused_by w q older rows k route body turn c.args.self.now c.args.table.now c.in-Err.why
     (goes_nowhere w q older rows k route body turn other (λ after may sends. judged.0 after sends)) judged.1
