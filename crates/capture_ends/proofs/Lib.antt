@@ -55,3 +55,5 @@ pub mod SendingWalks
 pub mod RequestRows
 pub mod SendingTold
 pub mod LargeBegun
+pub mod LargeOver
+pub mod LargeCarried

@@ -82,8 +82,7 @@ cut_body h handle whole number = clear_body (canonical_request (ChunkSend (nth_c
 -- The first chunk of this request is outstanding, and in `room`.
 pub record IsFirstOut (asking : Asking) (room : List ℕ) (q : ReqSetup) (h : History) (asked : RequestMessage) (handle : ℕ) : Type 0 where
   pub sizes : HasSizes q
-  pub wide : 16 < (common_of h).to_responder.transfer
-  pub over : (common_of h).to_responder.transfer < length (canonical_request asked)
+  pub wide : 12 < (common_of h).to_responder.transfer
   pub short : length (canonical_request asked) ≤ MAX_MESSAGE_SIZE
   pub sent : Sent
   pub out : outstanding h ≡ Some sent
