@@ -57,3 +57,4 @@ pub mod SendingTold
 pub mod LargeBegun
 pub mod LargeOver
 pub mod LargeCarried
+pub mod LargeEnded

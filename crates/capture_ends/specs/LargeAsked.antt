@@ -119,6 +119,16 @@ IsOpenedLarge q h exchange false new room =
     → asks false q h (Open exchange.summary) (values_in exchange) no_draw
     ≡ Adds (Told (Open exchange.summary) (piece_sent (common_of h) h (PskExchange exchange) (next_handle h) 0) no_draw) → ⊥
 
+-- The PSK_EXCHANGE that a request is.
+abbrev pub exchange_of : RequestMessage → Option ExchangeMessage
+exchange_of (PskExchange exchange) = Some exchange
+exchange_of _ = None
+
+-- The one that is read.
+abbrev pub exchange_shown : Option RequestMessage → Option ExchangeMessage
+exchange_shown None = None
+exchange_shown (Some asked) = exchange_of asked
+
 -- The large request ends with these bytes, and the requester then has such a history.
 abbrev pub IsEnded : ReqSetup → Sending → (whole : List ℕ) → Bool → (new : Asker) → Type 0
 IsEnded q s whole true new =

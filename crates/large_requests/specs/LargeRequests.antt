@@ -37,7 +37,7 @@ abbrev pub IsToldNext : Sending → ℕ → (body : List ℕ) → Piece → (old
 IsToldNext s tag body piece.Between old new =
     ((next : Sending) × NextSending s tag body next × StandsFor new next) × ((next : Kept) → LastSending s tag body next → ⊥)
 IsToldNext s tag body piece.Last old new =
-    ((next : Sending) → NextSending s tag body next → ⊥) × MayStand s new.pieces.bytes × (is_last s (number_of s + 1) ≡ true)
+    ((next : Sending) → NextSending s tag body next → ⊥) × MayStand s new.pieces.bytes × (is_last s (number_of s + 1) ≡ true) × (is_some s.due ≡ true)
     × ((next : Kept) → LastSending s tag body next ↔ EndsWith s tag body new.pieces.bytes next)
 IsToldNext s tag body piece.Other old new =
     ((next : Sending) → NextSending s tag body next → ⊥) × ((next : Kept) → LastSending s tag body next → ⊥) × (new ≡ old)
