@@ -58,3 +58,5 @@ pub mod LargeBegun
 pub mod LargeOver
 pub mod LargeCarried
 pub mod LargeEnded
+pub mod OwedPieces
+pub mod OwedEnded
