@@ -60,3 +60,4 @@ pub mod LargeCarried
 pub mod LargeEnded
 pub mod OwedPieces
 pub mod OwedEnded
+pub mod BeginsTold

@@ -73,6 +73,24 @@ in_round party w q k o rows more is are = record {
 pub asker_before : (seen : Asker) (q : ReqSetup) (s : Sending) → IsAsker seen q (meanwhile s) → IsAsker seen q s.before
 asker_before seen q s is = record { kept = is.kept; setup = is.setup; stands = is.stands; owes = is.owes }
 
+-- And the other way round.
+pub asker_meanwhile : (seen : Asker) (q : ReqSetup) (s : Sending) → IsAsker seen q s.before → IsAsker seen q (meanwhile s)
+asker_meanwhile seen q s is = record { kept = is.kept; setup = is.setup; stands = is.stands; owes = is.owes }
+
+-- Another requester may be kept in its place.
+pub way_with : (party : Party) (large : LargeRequest) (w : Configuration) (q : ReqSetup) (older : List (List ℕ)) (rows : List Row) (s : Sending) (seen : Asker) → IsUnderWay party large w q older rows s → IsAsker seen q s.before → IsUnderWay (record party { asker = seen }) large w q older rows s
+way_with party large w q older rows s seen way asker = record {
+  sending = way.sending;
+  chunks = way.chunks;
+  kept = record { asker = asker_meanwhile seen q s asker; answerer = way.kept.answerer; keys = way.kept.keys; number = way.kept.number; places = way.kept.places };
+  earlier = way.earlier;
+  before = way.before;
+  fewer = way.fewer;
+}
+
+pub few_earlier : (party : Party) (large : LargeRequest) (w : Configuration) (q : ReqSetup) (older : List (List ℕ)) (rows : List Row) (s : Sending) (way : IsUnderWay party large w q older rows s) → length older < 2 ^ 64 - 1 → length way.earlier < 2 ^ 64 - 1
+few_earlier party large w q older rows s way few = (let f = way.fewer in omega (arith, f, few))
+
 -- A large request is kept in any round.
 pub chunks_in : (s : Sending) (round : Round) (large : LargeRequest) → large_requests.StandsFor large s → large_requests.StandsFor large (record s { round = round })
 chunks_in s round large is = record {
@@ -135,7 +153,7 @@ module _ (copies : CopyIsRequest) (rounds : RoundIsRequest) (w : Configuration) 
       stands = (next, record {
         sending = behind;
         chunks = chunks;
-        party = is;
+        kept = is;
         earlier = way.earlier;
         before = subst (Keeps w q way.earlier) (sym same) way.before;
         fewer = (let f = way.fewer in let l : length (packet ∷ older) ≡ length older + 1 = omega arith in omega (arith, f, l));

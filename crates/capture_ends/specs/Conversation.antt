@@ -26,6 +26,7 @@ use Rattle.capture_ends.specs.declared.onward.Onward.TheVariants as onward
 use Rattle.capture_ends.specs.declared.party.Party.{Party}
 use Rattle.large_requests.specs.LargeRequests as large_requests
 use Rattle.large_requests.specs.Sending.{IsSendingOf, Sending}
+use Rattle.large_requests.specs.SendingLaws.{BeginsSending}
 use Rattle.large_requests.specs.declared.large_request.LargeRequest.{LargeRequest}
 use Rattle.spdm_machine.specs.Packets.{gathered_from}
 use Rattle.world_machine.specs.Rounds.{Dialogue}
@@ -105,6 +106,11 @@ pub record IsAnswer (w : Configuration) (q : ReqSetup) (older : List (List ℕ))
   pub other : is_request w.responder.eid q.eid fields ≡ false
   pub goes : is_answer w.responder.eid q.eid fields ≡ true
   pub whole : gathered_from q.eid w.responder.eid older fields ≡ Whole route answer
+
+-- A request begins this large one, or none.
+abbrev pub IsBeginning : Kept → RouteFields → (body : List ℕ) → Option LargeRequest → Type 0
+IsBeginning k route body (Some large) = (next : Sending) × BeginsSending k (Whole route body) next × large_requests.StandsFor large next
+IsBeginning k route body None = (next : Sending) → BeginsSending k (Whole route body) next → ⊥
 
 -- Of a request: it goes on, or no walk goes on with it, and then why.
 abbrev pub IsJudgedRequest : Configuration → ReqSetup → List (List ℕ) → List Row → (packet : List ℕ) → Gathered

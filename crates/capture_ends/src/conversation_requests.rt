@@ -10,9 +10,9 @@ impl Party {
     ghost use Rattle.mctp_framing.specs.Cutting.{RouteFields};
     ghost use Rattle.mctp_framing.specs.Gathering.Gathered.{Whole};
     ghost use Rattle.requester_machine.specs.Setup.{ReqSetup};
-    ghost use Rattle.capture_ends.specs.Conversation.{IsJudgedRequest, IsRequest, IsUnderWay, StandsAs};
+    ghost use Rattle.capture_ends.specs.Conversation.{IsBeginning, IsJudgedRequest, IsRequest, IsUnderWay, StandsAs};
     ghost use Rattle.capture_laws.specs.Keeping.{Keeps, Kept};
-    ghost use Rattle.capture_laws.specs.Order.{asked_why};
+    ghost use Rattle.capture_laws.specs.Order.{asked_why, round_of};
     ghost use Rattle.capture_laws.specs.Rows.{StandsForRows};
     ghost use Rattle.capture_ends.specs.Party.{IsParty};
     ghost use Rattle.large_requests.specs.Sending.{Sending};
@@ -20,6 +20,26 @@ impl Party {
     ghost use Rattle.world_machine.specs.Difference.{is_copy};
     ghost use Rattle.world_machine.specs.SessionTable.{Row};
     ghost use Rattle.world_machine.specs.Setup.{Configuration};
+
+    // The large request that a request begins, if it begins one. What is kept stays.
+    fn begins(&mut self, round: &Round, tag: u8, body: &[u8]) -> Option<LargeRequest>
+        ensures told { (w : Configuration) (q : ReqSetup) (older : List (List ℕ)) (rows : List Row)
+            (k : Kept) (route : RouteFields) → length older < 2 ^ 64 - 1 → round.now ≡ k.round
+            → route.tag ≡ tag → asked_why k.round (Whole route body.now) ≡ None → Keeps w q older k
+            → IsParty self.old w q k rows → IsBeginning k route body.now result }
+        ensures kept { (w : Configuration) (q : ReqSetup) (older : List (List ℕ)) (rows : List Row)
+            (k : Kept) → length older < 2 ^ 64 - 1 → Keeps w q older k
+            → IsParty self.old w q k rows → IsParty self.new w q k rows }
+        ensures places { self.new.places ≡ self.old.places }
+    {
+        if round.is_copy(tag, body) {
+            return None;
+        }
+        if !round.may_begin(body) {
+            return None;
+        }
+        self.asker.begins_large(body)
+    }
 
     // A request came where no large one is under way: it goes on, and begins one or none; or why it is
     // refused.
@@ -42,14 +62,14 @@ impl Party {
     {
         copy_is_request();
         round_is_request();
-        if !round.is_copy(tag, body) && round.may_begin(body) {
-            if let Some(large) = self.asker.begins_large(body) {
-                table.ask(&self.places, None);
-                return Ok(Some(large));
-            }
+        if let Some(large) = self.begins(round, tag, body) {
+            table.ask(&self.places, None);
+            return Ok(Some(large));
         }
-        self.asks_whole(table, round, tag, body)?;
-        Ok(None)
+        match self.asks_whole(table, round, tag, body) {
+            Ok(()) => Ok(None),
+            Err(why) => Err(why),
+        }
     }
 
     // A request that is no copy came while a large one is under way, and a round may begin with it: it is
@@ -129,6 +149,32 @@ impl Party {
         }
         self.asks_onward(large, table, body)
     }
+
+    // A request came while this large one is under way, or none: it goes on, and what is under way then; or
+    // why it is refused.
+    pub(crate) fn asks_at(
+        &mut self,
+        large: Option<LargeRequest>,
+        table: &mut SessionTable,
+        round: &Round,
+        tag: u8,
+        body: &[u8],
+    ) -> Result<Option<LargeRequest>, Why>
+        ensures told { (w : Configuration) (q : ReqSetup) (older : List (List ℕ)) (rows : List Row)
+            (packet : List ℕ) (route : RouteFields) → IsRequest w q older packet route body.now
+            → length older < 2 ^ 64 - 1 → length body.now ≤ 4161 → route.tag ≡ tag
+            → round.now ≡ round_of w.responder.eid q.eid older
+            → asked_why round.now (Whole route body.now) ≡ None
+            → StandsAs self.old large w q older rows → StandsForRows table.old w (length older) rows
+            → IsJudgedRequest w q older rows packet (Whole route body.now) result self.new
+            table.new }
+        ensures stays { OnErr result (table.new ≡ table.old) }
+    {
+        match large {
+            None => self.asks_at_rest(table, round, tag, body),
+            Some(large) => self.asks_meanwhile(large, table, round, tag, body),
+        }
+    }
 }
 
 impl Conversation {
@@ -161,13 +207,13 @@ impl Conversation {
             → IsAskedOf w q older rows packet (Whole route body.now) result self.new table.new }
         ensures stays { OnErr result (table.new ≡ table.old) }
     {
-        let behind = match self.large.take() {
-            None => self.party.asks_at_rest(table, round, tag, body)?,
-            Some(large) => self
-                .party
-                .asks_meanwhile(large, table, round, tag, body)?,
-        };
-        self.large = behind;
-        Ok(())
+        let large = self.large.take();
+        match self.party.asks_at(large, table, round, tag, body) {
+            Ok(behind) => {
+                self.large = behind;
+                Ok(())
+            }
+            Err(why) => Err(why),
+        }
     }
 }
