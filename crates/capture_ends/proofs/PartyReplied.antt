@@ -1,6 +1,6 @@
 -- What is kept of a requester and the responder behind an answer, or why it is refused.
-use Rattle.std.proofs.Common.{◌≡◌, ◌+◌, ◌==◌, ◌||◌, ◌-◌, ◌^◌, ◌<◌, ◌⊎◌, ◌∙◌, ℕ, List, refl, sym, ap, subst, Bool, true, false, Option, Some, cond, drop, length, arith, inl, inr, Ok, Err}
-use Rattle.std.proofs.lemmas.Option.{same_Some}
+use Rattle.std.proofs.Common.{◌≡◌, ◌+◌, ◌==◌, ◌||◌, ◌-◌, ◌^◌, ◌<◌, ◌⊎◌, ◌∙◌, ℕ, List, [], refl, sym, ap, subst, Bool, true, false, Option, Some, cond, drop, length, arith, inl, inr, Ok, Err}
+use Rattle.std.proofs.lemmas.Option.{none-some, same_Some}
 use Rattle.mctp_framing.specs.Cutting.{RouteFields}
 use Rattle.mctp_framing.specs.Gathering.Gathered.{Whole}
 use Rattle.requester_machine.specs.May.{IsSetUp}
@@ -10,6 +10,7 @@ use Rattle.responder_machine.specs.BoundLaws.{messages_of}
 use Rattle.responder_machine.specs.History.{History}
 use Rattle.responder_machine.specs.May.{on_body, with_dropped}
 use Rattle.responder_machine.specs.Responder.{after}
+use Rattle.responder_machine.specs.Responder.Outcome.{Same}
 use Rattle.responder_machine.specs.Setup.{RspSetup}
 use Rattle.script_text.specs.declared.why.Why as declared_why
 use Rattle.script_text.specs.declared.why.Why.TheVariants as declared
@@ -17,6 +18,8 @@ use Rattle.spdm_machine.specs.Packets.{body_type}
 use Rattle.capture_laws.proofs.ApartShown.{apart_is_shown}
 use Rattle.capture_ends.proofs.FewMessages.{kept_messages}
 use Rattle.capture_ends.proofs.InTurn.{AnswersInTurn}
+use Rattle.capture_laws.proofs.LargeShown.{large_is_shown}
+use Rattle.capture_laws.proofs.PlainShown.{plain_is_shown}
 use Rattle.capture_laws.proofs.RepliesTold.{replies_are_told}
 use Rattle.capture_ends.specs.AnswerKeys.{StandFor}
 use Rattle.capture_ends.specs.Answerer.{IsAnswerer, history_shown}
@@ -41,10 +44,12 @@ use Rattle.capture_laws.specs.declared.verdict.Seen.{Seen}
 use Rattle.capture_ends.specs.declared.asker.Asker.{Asker}
 use Rattle.capture_ends.specs.declared.onward.Onward.TheVariants as onward
 use Rattle.capture_ends.specs.declared.party.Party.{Party}
+use Rattle.world_machine.specs.Capture.{RepliesBy}
+use Rattle.world_machine.specs.CapturedAnswers.{Answers, AnswersAgain, AnswersPlainly}
 use Rattle.world_machine.specs.Difference.{AreRepliesApart, GoesApart, Why, goes_why, reply_why}
 use Rattle.world_machine.specs.Difference.Why.{BadPacket, UnknownEnd, WrongTurn, BadRequest, BadReply, BadVerify, BadRecord}
 use Rattle.world_machine.specs.Opening.{opens_answering}
-use Rattle.world_machine.specs.Rounds.{Round, no_draw}
+use Rattle.world_machine.specs.Rounds.{Dialogue, Round, no_draw}
 use Rattle.world_machine.specs.SessionTable.{Row, number_from, rows_between}
 use Rattle.world_machine.specs.Setup.{Configuration}
 
@@ -102,12 +107,21 @@ module _ (w : Configuration) (q : ReqSetup) (older : List (List ℕ)) (k : Kept)
   one_round : (other : Round) → k.round ≡ Some other → other ≡ round
   one_round other is = same_Some other round (sym is ∙ turn.answers.0)
 
-  pub goes_nowhere : IsGivenNever r (restored k) round answer → (next : Kept) → RepliesKept w k (Whole route answer) next → ⊥
-  goes_nowhere never next kept = by_way ((replies_are_told w q older k next (Whole route answer) byte limits keeps).0 kept)
-    where
-      by_way : PlainlyKept w k (Whole route answer) next ⊎ UnfetchedKept w k (Whole route answer) next → ⊥
-      by_way (inl c) = never.whole (subst (λ (x : Round). IsShownAnswer r h x.tag x.body answer) (one_round c.2.0 c.2.1.0) c.2.2)
-      by_way (inr c) = never.large (subst (λ (x : Round). IsShownLarge r h x.tag x.body answer) (one_round c.2.0 c.2.1.0) c.2.2)
+  -- LargeResponse again is a repeat.
+  is_again : (next : History) (whole : List ℕ) → AnswersAgain r (restored k) round answer next whole → AnswersPlainly r (restored k) round answer next
+  is_again next whole c = ([], Same answer, (tt, c.1), tt, refl, refl, c.4)
+
+  answers_never : IsGivenNever r (restored k) round answer → (next : History) (fetching : Option (List ℕ)) → Answers r (restored k) round answer next fetching → ⊥
+  unfolding Answers
+  answers_never never next fetching (inl plain) = never.whole ((plain_is_shown r (restored k) round answer next byte).0 plain.0).0
+  answers_never never next fetching (inr (inl large)) = never.large ((large_is_shown r (restored k) round answer next byte).0 (large.0, large.1)).0
+  answers_never never next fetching (inr (inr (inl again))) = never.whole ((plain_is_shown r (restored k) round answer next byte).0 (is_again next again.0 again.1)).0
+  answers_never never next fetching (inr (inr (inr last))) = none-some last.0.0 last.0.3
+
+  pub goes_nowhere : IsGivenNever r (restored k) round answer → (next : Dialogue) → RepliesBy w (restored k) (Whole route answer) next → ⊥
+  goes_nowhere never next c =
+      let its : Answers r (restored k) round answer c.2.4.0 c.2.4.1 = subst (λ (x : Round). Answers r (restored k) x answer c.2.4.0 c.2.4.1) (one_round c.2.0 c.2.1) c.2.4.2 in
+      answers_never never c.2.4.0 c.2.4.1 its
 
   -- And why: the order gives no reason.
   reason_is : goes_why r (restored k) (Whole route answer) ≡ Some (reply_why r (restored k) answer (Some round))

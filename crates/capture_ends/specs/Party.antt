@@ -1,6 +1,6 @@
 -- One requester of a capture and the responder, as the program keeps and judges them while no large message is under way.
 -- This project's own.
-use Rattle.std.specs.Prelude.{◌≡◌, ◌≢◌, ◌+◌, ℕ, List, [], length, Option, Some, None, Result, Ok, Err, true}
+use Rattle.std.specs.Prelude.{◌≡◌, ◌≢◌, ◌+◌, ℕ, List, length, Some, Result, Ok, Err, false, true}
 use Rattle.mctp_framing.specs.Cutting.{RouteFields}
 use Rattle.mctp_framing.specs.Gathering.{Gathered}
 use Rattle.mctp_framing.specs.Gathering.Gathered.{Whole}
@@ -71,9 +71,9 @@ IsAskedWhole w q older rows k route body (Ok u) new table =
 IsAskedWhole w q older rows k route body (Err why) new table =
     ((next : Kept) → AsksKept k (Whole route body) next → ⊥) × IsComingWhy k (Whole route body) (why_of why)
 
--- Of a request: it goes on, or it is refused, and then why.
+-- Of a request: it goes on, or it is refused, and then why: it is no first chunk either.
 abbrev pub IsAsked : Configuration → ReqSetup → List (List ℕ) → List Row → Kept → RouteFields → (body : List ℕ)
     → Result Onward declared.Why → (new : Party) → (table : List Seen) → Type 0
 IsAsked w q older rows k route body (Ok on) new table = AsksOnward w q older rows k route body on new table
 IsAsked w q older rows k route body (Err why) new table =
-    ((next : Kept) → AsksKept k (Whole route body) next → ⊥) × IsComingWhy k (Whole route body) (why_of why)
+    (is_first_chunk body ≡ false) × ((next : Kept) → AsksKept k (Whole route body) next → ⊥) × IsComingWhy k (Whole route body) (why_of why)

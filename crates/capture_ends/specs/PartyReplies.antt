@@ -25,6 +25,7 @@ use Rattle.capture_ends.specs.declared.given.Judged.TheVariants as judged
 use Rattle.capture_ends.specs.declared.onward.Onward.{Onward}
 use Rattle.capture_ends.specs.declared.onward.Onward.TheVariants as onward
 use Rattle.capture_ends.specs.declared.party.Party.{Party}
+use Rattle.world_machine.specs.Capture.{RepliesBy}
 use Rattle.world_machine.specs.Difference.{GoesApart, Why, goes_why}
 use Rattle.world_machine.specs.Difference.Why.{BadVerify}
 use Rattle.world_machine.specs.Rounds.{Dialogue, Round}
@@ -80,9 +81,9 @@ RepliesOnward w q older rows k route answer onward.Kept new table =
     (next : Kept) × RepliesKept w k (Whole route answer) next × StandBehind new table w q older rows k next
 RepliesOnward w q older rows k route answer onward.Large new table = IsPartOfLarge w k route.tag answer
 
--- Of an answer: it goes on, or it is refused, and then why.
+-- Of an answer: it goes on, or it is refused, and then why: it begins no fetch either.
 abbrev pub IsReplied : Configuration → ReqSetup → List (List ℕ) → List Row → Kept → RouteFields → (answer : List ℕ)
     → Result Onward declared.Why → (new : Party) → (table : List Seen) → Type 0
 IsReplied w q older rows k route answer (Ok on) new table = RepliesOnward w q older rows k route answer on new table
 IsReplied w q older rows k route answer (Err why) new table =
-    ((next : Kept) → RepliesKept w k (Whole route answer) next → ⊥) × IsGoingWhy (responder_for w k) k (Whole route answer) (why_of why)
+    ((next : Dialogue) → RepliesBy w (restored k) (Whole route answer) next → ⊥) × IsGoingWhy (responder_for w k) k (Whole route answer) (why_of why)
