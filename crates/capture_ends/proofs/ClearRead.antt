@@ -39,7 +39,7 @@ canonical_read a fits sound = ap result_ok (spelling_read (request_layout 0) 0 a
 
 -- ---- What is free changes nothing, but for PSK_EXCHANGE.
 
-no_padding : (q : ReqSetup) (h : History) (f : Free) → IsAllowed q h f → IsAllowed q h (record f { pad = [] })
+pub no_padding : (q : ReqSetup) (h : History) (f : Free) → IsAllowed q h f → IsAllowed q h (record f { pad = [] })
 no_padding q h f fits = record {
   least = fits.least;
   most = fits.most;

@@ -47,7 +47,7 @@ adds_by q h (Update id all) f None clear none = absurd (false≢true clear)
 adds_by q h (End id) f None clear none = absurd (false≢true clear)
 adds_by q h Retry f None clear none = absurd (false≢true clear)
 
-adds : (q : ReqSetup) (h : History) (c : Command) (f : Free) → is_in_clear c ≡ true → fault_of (asks false q h c f no_draw) ≡ None → (s : Sent) × (asks false q h c f no_draw ≡ Adds (Told c s no_draw))
+pub adds : (q : ReqSetup) (h : History) (c : Command) (f : Free) → is_in_clear c ≡ true → fault_of (asks false q h c f no_draw) ≡ None → (s : Sent) × (asks false q h c f no_draw ≡ Adds (Told c s no_draw))
 unfolding asks
 adds q h c f clear none = adds_by q h c f (command_fault false q h c f) clear none
 
@@ -56,7 +56,7 @@ large_shows : (b : Bool) (h : History) (common : Common) (a : RequestMessage) (s
 large_shows true h common a s none is = subst (λ (x : Sent). is_first_chunk (body_of x.content) ≡ begins_large x.aim) is refl
 large_shows false h common a s none is = subst (λ (x : Sent). is_first_chunk (body_of x.content) ≡ begins_large x.aim) is none
 
-shows_by : (q : ReqSetup) (h : History) (c : Command) (f : Free) (s : Sent) → is_in_clear c ≡ true → done q h c f no_draw ≡ Adds (Told c s no_draw) → is_first_chunk (body_of s.content) ≡ begins_large s.aim
+pub shows_by : (q : ReqSetup) (h : History) (c : Command) (f : Free) (s : Sent) → is_in_clear c ≡ true → done q h c f no_draw ≡ Adds (Told c s no_draw) → is_first_chunk (body_of s.content) ≡ begins_large s.aim
 shows_by q h Connect f s clear is = subst (λ (x : Sent). is_first_chunk (body_of x.content) ≡ begins_large x.aim) (same_sent Connect _ s no_draw is) refl
 shows_by q h (Open summary) f s clear is = large_shows _ h (connection_terms h).common (exchange_for q f summary) s refl (same_sent (Open summary) _ s no_draw is)
 shows_by q h (Measure None op) f s clear is = large_shows _ h (connection_terms h).common (GetMeasurements op) s refl (same_sent (Measure None op) _ s no_draw is)

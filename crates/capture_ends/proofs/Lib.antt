@@ -49,3 +49,15 @@ pub mod ChunkAsked
 pub mod KnownFetches
 pub mod FetchesUpon
 pub mod PartyTold
+pub mod WalkRows
+pub mod AskedWalks
+pub mod SendingWalks
+pub mod RequestRows
+pub mod SendingTold
+pub mod LargeBegun
+pub mod LargeOver
+pub mod LargeCarried
+pub mod LargeEnded
+pub mod OwedPieces
+pub mod OwedEnded
+pub mod BeginsTold

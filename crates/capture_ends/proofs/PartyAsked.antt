@@ -22,7 +22,7 @@ use Rattle.capture_laws.specs.Changes.{session_in}
 use Rattle.capture_laws.specs.Judged.{why_of}
 use Rattle.capture_laws.specs.Keeping.{AsksKept, BeginsKept, CopiesKept, Kept, SendsKept, restored}
 use Rattle.capture_laws.specs.Order.{asks_wrong}
-use Rattle.capture_ends.specs.Party.{IsAsked, IsComingWhy, IsParty, StandBehind}
+use Rattle.capture_ends.specs.Party.{IsAsked, IsAskedWhole, IsComingWhy, IsParty, StandBehind}
 use Rattle.capture_laws.specs.RepliesShown.{responder_for}
 use Rattle.capture_laws.specs.Rows.{StandFor, StandsForRows}
 use Rattle.capture_laws.specs.declared.places.Places.{Places}
@@ -44,7 +44,7 @@ use Rattle.world_machine.specs.Setup.{Configuration}
 asker_with : (seen : Asker) (q : ReqSetup) (k : Kept) (round : Option Round) → IsAsker seen q k → IsAsker seen q (record k { round = round })
 asker_with seen q k round asker = record { kept = asker.kept; setup = asker.setup; stands = asker.stands; owes = asker.owes }
 
-copy_of : (o : Option Round) (tag : ℕ) (body : List ℕ) → is_copy o tag body ≡ true → (round : Round) × (o ≡ Some round) × (round.tag ≡ tag) × (round.body ≡ body)
+pub copy_of : (o : Option Round) (tag : ℕ) (body : List ℕ) → is_copy o tag body ≡ true → (round : Round) × (o ≡ Some round) × (round.tag ≡ tag) × (round.body ≡ body)
 copy_of None tag body is = absurd (false≢true is)
 copy_of (Some round) tag body is =
     (round, refl, eqb-true round.tag tag (and_first (round.tag == tag) _ is), (bytes_eq-Decides round.body body).0 (and_second (round.tag == tag) _ is))
@@ -56,7 +56,7 @@ both : (a b : Bool) → a ≡ true → b ≡ true → (a && b) ≡ true
 both true b one two = two
 both false b one two = absurd (false≢true one)
 
-is_no_copy : (k : Kept) (tag : ℕ) (body : List ℕ) (next : Kept) → is_copy k.round tag body ≡ false → CopiesKept k tag body next → ⊥
+pub is_no_copy : (k : Kept) (tag : ℕ) (body : List ℕ) (next : Kept) → is_copy k.round tag body ≡ false → CopiesKept k tag body next → ⊥
 is_no_copy k tag body next other c =
     let same : is_copy (Some c.0) tag body ≡ true = both (c.0.tag == tag) (bytes_eq c.0.body body) (ap (λ (n : ℕ). n == tag) c.2 ∙ same_number tag) ((bytes_eq-Decides c.0.body body).1 c.3) in
     false≢true (sym other ∙ ap (λ (o : Option Round). is_copy o tag body) c.1 ∙ same)
@@ -85,7 +85,7 @@ module _ (w : Configuration) (q : ReqSetup) (older : List (List ℕ)) (rows : Li
       }
 
   -- A copy.
-  pub copied : (seen : Party) (table : List Seen) → IsParty seen w q k rows → IsTold None seen.places table → is_copy k.round route.tag body ≡ true → IsAsked w q older rows k route body (Ok onward.Kept) seen table
+  pub copied : (seen : Party) (table : List Seen) → IsParty seen w q k rows → IsTold None seen.places table → is_copy k.round route.tag body ≡ true → IsAskedWhole w q older rows k route body (Ok tt) seen table
   copied seen table party told is =
       let copy = copy_of k.round route.tag body is in
       let round : Round = copy.0 in
@@ -97,7 +97,7 @@ module _ (w : Configuration) (q : ReqSetup) (older : List (List ℕ)) (rows : Li
   -- A request by which a round begins.
   pub began : (old new : Party) (table : List Seen) (sent : Option ℕ) (after : History) → IsParty old w q k rows → new.answerer ≡ old.answerer → new.keys ≡ old.keys → new.number ≡ old.number → new.places ≡ old.places
       → is_copy k.round route.tag body ≡ false → may_begin k.round body ≡ true → SendsKept k body after
-      → IsAsker new.asker q (record k { requester = after; owed = None }) → sent ≡ session_in (outstanding after) → IsTold sent old.places table → IsAsked w q older rows k route body (Ok onward.Kept) new table
+      → IsAsker new.asker q (record k { requester = after; owed = None }) → sent ≡ session_in (outstanding after) → IsTold sent old.places table → IsAskedWhole w q older rows k route body (Ok tt) new table
   began old new table sent after party answers keys number places other may sends asker is told =
       let next : Kept = record k { requester = after; owed = None; round = Some (new_round route.tag body) } in
       let begins : BeginsKept k route.tag body next = (may, turn.tag other, (after, sends, refl)) in
@@ -125,8 +125,11 @@ module _ (w : Configuration) (q : ReqSetup) (older : List (List ℕ)) (rows : Li
   refused_for BadRecord is = (λ apart. false≢true (sym is.0 ∙ apart.1), reason_is ∙ ap Some is.1)
 
   -- What is told of it.
-  pub refused_by : (new : Party) (table : List Seen) (why : declared.Why) (result : Result Onward declared.Why) (b : Bool) → is_first_chunk body ≡ b → result ≡ cond b (Ok onward.Large) (Err why) → ((next : Kept) → AsksKept k (Whole route body) next → ⊥)
-      → IsRefusedFor (restored k) body (why_of why) → IsAsked w q older rows k route body result new table
-  refused_by new table why result true is told nowhere reason = subst (λ (x : Result Onward declared.Why). IsAsked w q older rows k route body x new table) (sym told) (is, nowhere)
-  refused_by new table why result false is told nowhere reason =
-      subst (λ (x : Result Onward declared.Why). IsAsked w q older rows k route body x new table) (sym told) (is, nowhere, refused_for (why_of why) reason)
+  pub refused_by : (new : Party) (table : List Seen) (why : declared.Why) → ((next : Kept) → AsksKept k (Whole route body) next → ⊥) → IsRefusedFor (restored k) body (why_of why) → IsAskedWhole w q older rows k route body (Err why) new table
+  refused_by new table why nowhere reason = (nowhere, refused_for (why_of why) reason)
+
+-- Where it may begin a large request, no more is told.
+pub large_or_refused : (w : Configuration) (q : ReqSetup) (older : List (List ℕ)) (rows : List Row) (k : Kept) (route : RouteFields) (body : List ℕ) (new : Party) (table : List Seen) (why : declared.Why) (result : Result Onward declared.Why) (b : Bool)
+    → is_first_chunk body ≡ b → result ≡ cond b (Ok onward.Large) (Err why) → IsAskedWhole w q older rows k route body (Err why) new table → IsAsked w q older rows k route body result new table
+large_or_refused w q older rows k route body new table why result true is told refused = subst (λ (x : Result Onward declared.Why). IsAsked w q older rows k route body x new table) (sym told) (is, refused.0)
+large_or_refused w q older rows k route body new table why result false is told refused = subst (λ (x : Result Onward declared.Why). IsAsked w q older rows k route body x new table) (sym told) (is, refused)

@@ -1,5 +1,5 @@
 -- Why a request is refused, by what is kept.
-use Rattle.std.proofs.Common.{◌≡◌, ◌∙◌, ℕ, List, [], Bool, true, false, Option, Some, None, refl, sym, ap, drop}
+use Rattle.std.proofs.Common.{◌≡◌, ◌∙◌, ℕ, List, [], Bool, true, false, Option, Some, None, refl, sym, ap, drop, subst}
 use Rattle.std.specs.Prelude.{◌==◌, ◌&&◌, ◌||◌, if◌then◌else◌, is_some, slice_index}
 use Rattle.std.proofs.lemmas.Bool.{false≢true}
 use Rattle.requester_machine.specs.History.{History, outstanding}
@@ -15,7 +15,8 @@ use Rattle.capture_laws.specs.Keeping.{Keeps, Kept, kept_of, owing, restored}
 use Rattle.capture_laws.specs.Padding.{next_with}
 use Rattle.capture_ends.specs.RefusedRequest.{finish_apart}
 use Rattle.world_machine.specs.CapturedRequests.{is_later, owes, without_owed}
-use Rattle.world_machine.specs.Difference.{Why, asks_apart, finish_in, is_finish_apart}
+use Rattle.capture_ends.specs.LargeAsked.{refused_why}
+use Rattle.world_machine.specs.Difference.{Why, asks_apart, finish_in, is_finish_apart, request_why}
 use Rattle.world_machine.specs.Difference.Why.{BadRecord, BadRequest}
 use Rattle.world_machine.specs.Opening.{opens_asking}
 use Rattle.world_machine.specs.Rounds.{Dialogue}
@@ -71,26 +72,31 @@ module _ (w : Configuration) (q : ReqSetup) (older : List (List ℕ)) (k : Kept)
 
   -- ---- The other reasons.
 
-  why_by : (b c : Bool) (one other : Why) → (b || c) ≡ true → (if b || c then one else other) ≡ one
-  why_by b c one other is = ap (λ (x : Bool). if x then one else other) is
+  same_opens : (body : List ℕ) → k.setup ≡ q → request_why (restored k) body ≡ refused_why q k.requester body
+  same_opens body setup =
+      ap (λ (h : History). refused_why k.setup h body) bare_is ∙ ap (λ (p : ReqSetup). refused_why p k.requester body) setup
 
-  or_first : (b c : Bool) → b ≡ true → (b || c) ≡ true
-  or_first true c is = refl
-  or_first false c is = absurd (false≢true is)
+  refused_by : (body : List ℕ) (b : Bool) (why : Why) → false ≡ asks_apart (restored k) body → request_why (restored k) body ≡ why → why ≡ (if b then BadRequest else BadRecord) → IsRefusedFor (restored k) body why
+  refused_by body true why not told is = subst (IsRefusedFor (restored k) body) (sym is) (sym not, told ∙ is)
+  refused_by body false why not told is = subst (IsRefusedFor (restored k) body) (sym is) (sym not, told ∙ is)
 
-  or_second : (b c : Bool) → b ≡ false → (b || c) ≡ c
-  or_second false c is = refl
-  or_second true c is = absurd (false≢true (sym is))
+  -- The reason that the program tells of a request whose verify data are not alone wrong.
+  pub other_why : (body : List ℕ) → k.setup ≡ q → false ≡ asks_apart (restored k) body → (why : Why) → why ≡ refused_why q k.requester body → IsRefusedFor (restored k) body why
+  other_why body setup not why is =
+      refused_by body (slice_index body 0 == 5 || opens_asking q (session_named k.requester (drop 1 body)) (drop 1 body)) why not (same_opens body setup ∙ sym is) is
 
-  pub clear_why : (body : List ℕ) → false ≡ asks_apart (restored k) body → (slice_index body 0 == 5) ≡ true → IsRefusedFor (restored k) body BadRequest
-  clear_why body not clear = (sym not, why_by (slice_index body 0 == 5) _ BadRequest BadRecord (or_first (slice_index body 0 == 5) _ clear))
+-- ---- By what the body is.
 
-  opens_is : (body : List ℕ) (b : Bool) → k.setup ≡ q → b ≡ opens_asking q (session_named k.requester (drop 1 body)) (drop 1 body) → opens_asking (restored k).setup (session_named (without_owed (restored k)) (drop 1 body)) (drop 1 body) ≡ b
-  opens_is body b setup is =
-      ap (λ (h : History). opens_asking k.setup (session_named h (drop 1 body)) (drop 1 body)) bare_is ∙ ap (λ (p : ReqSetup). opens_asking p (session_named k.requester (drop 1 body)) (drop 1 body)) setup ∙ sym is
+or_first : (b c : Bool) → b ≡ true → (b || c) ≡ true
+or_first true c is = refl
+or_first false c is = absurd (false≢true is)
 
-  pub sealed_why : (body : List ℕ) → false ≡ asks_apart (restored k) body → (slice_index body 0 == 5) ≡ false → k.setup ≡ q → true ≡ opens_asking q (session_named k.requester (drop 1 body)) (drop 1 body) → IsRefusedFor (restored k) body BadRequest
-  sealed_why body not other setup is = (sym not, ap (λ (x : Bool). if x then BadRequest else BadRecord) (or_second (slice_index body 0 == 5) _ other ∙ opens_is body true setup is))
+or_second : (b c : Bool) → b ≡ false → (b || c) ≡ c
+or_second false c is = refl
+or_second true c is = absurd (false≢true (sym is))
 
-  pub shut_why : (body : List ℕ) → false ≡ asks_apart (restored k) body → (slice_index body 0 == 5) ≡ false → k.setup ≡ q → false ≡ opens_asking q (session_named k.requester (drop 1 body)) (drop 1 body) → IsRefusedFor (restored k) body BadRecord
-  shut_why body not other setup is = (sym not, ap (λ (x : Bool). if x then BadRequest else BadRecord) (or_second (slice_index body 0 == 5) _ other ∙ opens_is body false setup is))
+pub clear_other : (q : ReqSetup) (h : History) (body : List ℕ) → (slice_index body 0 == 5) ≡ true → BadRequest ≡ refused_why q h body
+clear_other q h body clear = sym (ap (λ (x : Bool). if x then BadRequest else BadRecord) (or_first (slice_index body 0 == 5) _ clear))
+
+pub sealed_other : (q : ReqSetup) (h : History) (body : List ℕ) (b : Bool) → (slice_index body 0 == 5) ≡ false → b ≡ opens_asking q (session_named h (drop 1 body)) (drop 1 body) → (if b then BadRequest else BadRecord) ≡ refused_why q h body
+sealed_other q h body b other is = ap (λ (x : Bool). if x then BadRequest else BadRecord) (is ∙ sym (or_second (slice_index body 0 == 5) _ other))

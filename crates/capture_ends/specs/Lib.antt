@@ -11,3 +11,5 @@ pub mod Party
 pub mod PartyReplies
 pub mod ClearAnswers
 pub mod RecordAnswers
+pub mod LargeAsked
+pub mod Conversation

@@ -63,6 +63,14 @@ AsksOnward w q older rows k route body onward.Kept new table =
 AsksOnward w q older rows k route body onward.Large new table =
     (is_first_chunk body ≡ true) × ((next : Kept) → AsksKept k (Whole route body) next → ⊥)
 
+-- Of a request that goes whole: it goes on, or it is refused, and then why.
+abbrev pub IsAskedWhole : Configuration → ReqSetup → List (List ℕ) → List Row → Kept → RouteFields → (body : List ℕ)
+    → Result Unit declared.Why → (new : Party) → (table : List Seen) → Type 0
+IsAskedWhole w q older rows k route body (Ok u) new table =
+    (next : Kept) × AsksKept k (Whole route body) next × StandBehind new table w q older rows k next
+IsAskedWhole w q older rows k route body (Err why) new table =
+    ((next : Kept) → AsksKept k (Whole route body) next → ⊥) × IsComingWhy k (Whole route body) (why_of why)
+
 -- Of a request: it goes on, or it is refused, and then why: it is no first chunk either.
 abbrev pub IsAsked : Configuration → ReqSetup → List (List ℕ) → List Row → Kept → RouteFields → (body : List ℕ)
     → Result Onward declared.Why → (new : Party) → (table : List Seen) → Type 0

@@ -96,7 +96,7 @@ fn is_short(setup: &AskerSetup, exchange: &Exchange<'_>) -> bool
 }
 
 // Whether the values in the fields of PSK_EXCHANGE are allowed, where one session more has room.
-fn may_open(asking: &Asking, setup: &AskerSetup, exchange: &Exchange<'_>) -> bool
+pub(crate) fn may_open(asking: &Asking, setup: &AskerSetup, exchange: &Exchange<'_>) -> bool
     ensures least { result ≡ true → 1 ≤ exchange.now.req_id }
     ensures most { result ≡ true → exchange.now.req_id ≤ 4 }
     ensures allowed { (q : ReqSetup) (h : History) → IsKeptSetup setup.now q

@@ -32,7 +32,7 @@ fn refused(why: Why, body: &[u8]) -> Result<Onward, Why>
 }
 
 impl Party {
-    ghost use Rattle.std.specs.Prelude.{◌≡◌, ◌≤◌, ◌<◌, ◌-◌, ◌^◌, ℕ, List, [], None, Ok, length};
+    ghost use Rattle.std.specs.Prelude.{◌≡◌, ◌≤◌, ◌<◌, ◌-◌, ◌^◌, ℕ, List, [], None, Ok, OnErr, length};
     ghost use Rattle.connection.specs.Setup.{IsSetUp};
     ghost use Rattle.mctp_framing.specs.Cutting.{RouteFields};
     ghost use Rattle.mctp_framing.specs.Gathering.Gathered.{Whole};
@@ -40,7 +40,7 @@ impl Party {
     ghost use Rattle.capture_ends.specs.Asker.{IsAsker};
     ghost use Rattle.capture_laws.specs.Keeping.{Keeps, Kept, kept_of};
     ghost use Rattle.capture_laws.specs.Order.{asked_why};
-    ghost use Rattle.capture_ends.specs.Party.{IsAsked, IsParty};
+    ghost use Rattle.capture_ends.specs.Party.{IsAsked, IsAskedWhole, IsParty};
     ghost use Rattle.capture_laws.specs.RepliesShown.{responder_for};
     ghost use Rattle.capture_laws.specs.Rows.{StandsForRows};
     ghost use Rattle.world_machine.specs.Rounds.{new_dialogue};
@@ -82,19 +82,41 @@ impl Party {
             → IsAsked w q older rows k route body.now result self.new table.new }
         ensures stays { (result ≡ Ok onward.Kept → ⊥) → table.new ≡ table.old }
     {
+        match self.asks_whole(table, round, tag, body) {
+            Ok(()) => Ok(Onward::Kept),
+            Err(why) => refused(why, body),
+        }
+    }
+
+    // The same of a request that goes whole: it goes on, or why it is refused as such a one.
+    pub(crate) fn asks_whole(
+        &mut self,
+        table: &mut SessionTable,
+        round: &Round,
+        tag: u8,
+        body: &[u8],
+    ) -> Result<(), Why>
+        ensures told { (w : Configuration) (q : ReqSetup) (older : List (List ℕ)) (rows : List Row)
+            (k : Kept) (route : RouteFields) → Keeps w q older k → length older < 2 ^ 64 - 1
+            → length body.now ≤ 4161 → round.now ≡ k.round → route.tag ≡ tag
+            → asked_why k.round (Whole route body.now) ≡ None → IsParty self.old w q k rows
+            → StandsForRows table.old w (length older) rows
+            → IsAskedWhole w q older rows k route body.now result self.new table.new }
+        ensures stays { OnErr result (table.new ≡ table.old) }
+    {
         if round.is_copy(tag, body) {
             table.ask(&self.places, None);
-            return Ok(Onward::Kept);
+            return Ok(());
         }
         if !round.may_begin(body) {
-            return refused(self.asker.why(body), body);
+            return Err(self.asker.why(body));
         }
         match self.asker.judge(body) {
             Ok(()) => {
                 table.ask(&self.places, self.asker.sent());
-                Ok(Onward::Kept)
+                Ok(())
             }
-            Err(why) => refused(why, body),
+            Err(why) => Err(why),
         }
     }
 }

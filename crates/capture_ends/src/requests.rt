@@ -12,6 +12,7 @@ impl Asker {
     ghost use Rattle.requester_machine.specs.Setup.{ReqSetup};
     ghost use Rattle.capture_ends.specs.Asked.{IsAskedBy, IsJudged, IsRefusedFor};
     ghost use Rattle.capture_ends.specs.Asker.{IsAsker};
+    ghost use Rattle.capture_ends.specs.LargeAsked.{refused_why};
     ghost use Rattle.capture_laws.specs.Judged.{why_of};
     ghost use Rattle.capture_laws.specs.Keeping.{Keeps, Kept, restored};
     ghost use Rattle.world_machine.specs.Difference.{asks_apart};
@@ -84,6 +85,25 @@ impl Asker {
         }
     }
 
+    /// Why a body is refused as a request in turn, whatever it is, and whatever its verify data are.
+    pub(crate) fn why_other(&mut self, body: &[u8]) -> Why
+        ensures why { (w : Configuration) (q : ReqSetup) (older : List (List ℕ)) (k : Kept)
+            → Keeps w q older k → length older < 2 ^ 64 - 1 → IsAsker self.old q k
+            → why_of result ≡ refused_why q k.requester body.now }
+        ensures kept { (w : Configuration) (q : ReqSetup) (older : List (List ℕ)) (k : Kept)
+            → Keeps w q older k → length older < 2 ^ 64 - 1 → IsAsker self.old q k
+            → IsAsker self.new q k }
+    {
+        if is_clear(body) {
+            return Why::BadRequest;
+        }
+        if self.opens(rest_of(body)) {
+            Why::BadRequest
+        } else {
+            Why::BadRecord
+        }
+    }
+
     /// Why a body is refused as a request in turn, whatever it is.
     pub(crate) fn why(&mut self, body: &[u8]) -> Why
         ensures why { (w : Configuration) (q : ReqSetup) (older : List (List ℕ)) (k : Kept)
@@ -96,14 +116,7 @@ impl Asker {
         if self.is_apart(body) {
             return Why::BadVerify;
         }
-        if is_clear(body) {
-            return Why::BadRequest;
-        }
-        if self.opens(rest_of(body)) {
-            Why::BadRequest
-        } else {
-            Why::BadRecord
-        }
+        self.why_other(body)
     }
 
     /// Judges a body of at most 4,161 bytes as a request in turn that is no copy: it begins a round

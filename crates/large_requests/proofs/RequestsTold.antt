@@ -54,7 +54,7 @@ module _ (w : Configuration) (q : ReqSetup) (older : List (List ℕ)) (s : Sendi
       sym (last_is_whole w q older s v own stand last) ∙ shown.3 ∙ ap (λ (l : List ℕ). s.bytes ++ l) (ap (drop 13) shown.2)
 
   pub last_told : (old new : Pieces) (after : LargeRequest) → r.due ≡ true → after.pieces.bytes ≡ new.bytes → IsNextOf s body piece.Last old new → IsToldNext s tag body piece.Last r after
-  last_told old new after due same one = (λ next c. false≢true (sym c.2.5 ∙ one.3), λ next. (to next, back next))
+  last_told old new after due same one = (λ next c. false≢true (sym c.2.5 ∙ one.3), subst (MayStand s) now one.1, one.3, sym stands.due ∙ due, λ next. (to next, back next))
     where
       now : one.0 ≡ after.pieces.bytes
       now = sym one.4 ∙ sym same

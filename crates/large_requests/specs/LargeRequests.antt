@@ -1,11 +1,11 @@
 -- What the program keeps of a large request that is under way, and what it tells of a request meanwhile. This project's
 -- own.
-use Rattle.std.specs.Prelude.{◌≡◌, ◌↔◌, ℕ, List, Option, Some, None, is_some}
+use Rattle.std.specs.Prelude.{◌≡◌, ◌↔◌, ◌+◌, ℕ, List, true, Option, Some, None, is_some}
 use Rattle.spdm_grammar.specs.Requests.{canonical_request}
 use Rattle.capture_laws.specs.Keeping.{Kept}
 use Rattle.world_machine.specs.LargeRequests.{IsLargeRequest, common_of}
 use Rattle.large_requests.specs.Pieces.{IsPieces}
-use Rattle.large_requests.specs.Sending.{Beginning, MayBegin, MaySend, Sending, asked_of, requester_of}
+use Rattle.large_requests.specs.Sending.{Beginning, MayBegin, MaySend, MayStand, Sending, asked_of, is_last, number_of, requester_of}
 use Rattle.large_requests.specs.SendingLaws.{LastSending, NextSending, begun_sending, first_body, whole_kept}
 use Rattle.large_requests.specs.declared.large_request.LargeRequest.{LargeRequest}
 use Rattle.large_requests.specs.declared.pieces.Piece.{Piece}
@@ -31,12 +31,13 @@ EndsWith s tag body whole next =
     × MaySend s.before b whole
     × (next ≡ whole_kept s (requester_of s b whole) tag body)
 
--- What is told of a request: it is the chunk that is owed, and more follow; or it is the last one, and the large request
--- ends exactly where it does so with the bytes that came; or it is neither.
+-- What is told of a request: it is the chunk that is owed, and more follow; or it is the last one, with which all bytes
+-- came, and the large request ends exactly where it does so with these; or it is neither.
 abbrev pub IsToldNext : Sending → ℕ → (body : List ℕ) → Piece → (old new : LargeRequest) → Type 0
 IsToldNext s tag body piece.Between old new =
     ((next : Sending) × NextSending s tag body next × StandsFor new next) × ((next : Kept) → LastSending s tag body next → ⊥)
 IsToldNext s tag body piece.Last old new =
-    ((next : Sending) → NextSending s tag body next → ⊥) × ((next : Kept) → LastSending s tag body next ↔ EndsWith s tag body new.pieces.bytes next)
+    ((next : Sending) → NextSending s tag body next → ⊥) × MayStand s new.pieces.bytes × (is_last s (number_of s + 1) ≡ true) × (is_some s.due ≡ true)
+    × ((next : Kept) → LastSending s tag body next ↔ EndsWith s tag body new.pieces.bytes next)
 IsToldNext s tag body piece.Other old new =
     ((next : Sending) → NextSending s tag body next → ⊥) × ((next : Kept) → LastSending s tag body next → ⊥) × (new ≡ old)

@@ -1,0 +1,35 @@
+use Rattle.std.proofs.Common.{◌≡◌, ◌∙◌, ℕ, List, Option, Result, None, Ok, subst, sym}
+use Rattle.script_text.specs.declared.why.Why as declared
+use Rattle.capture_ends.proofs.BeginsTold.{beginning_on, refused_on, whole_on}
+use Rattle.capture_ends.proofs.party.Party.asks_at_rest.Goals as goal
+use Rattle.capture_ends.specs.Conversation.{IsBeginning}
+use Rattle.capture_ends.specs.Party.{IsAskedWhole}
+use Rattle.capture_laws.specs.Rows.{StandFor}
+use Rattle.capture_laws.specs.declared.places.Places.{Places}
+use Rattle.large_requests.specs.declared.large_request.LargeRequest.{LargeRequest}
+use Rattle.capture_laws.specs.ChangeLaws.{IsRequestStep}
+use Rattle.world_machine.specs.Rounds.{Dialogue}
+
+pub returns-in-Some-clause-told : goal.returns-in-Some-clause-told
+returns-in-Some-clause-told c = λ w q older rows packet route k at few fits round tag none keeps party table.
+    let begun = c.in-Some.ensures.told w q older rows k route few round tag none keeps party in
+    beginning_on w q older rows packet route c.args.body.now at k keeps c.copy_is_request.ensures c.round_is_request.ensures c.begins.new.self (c.begins.ensures.kept w q older rows k few keeps party) c.ask.new.self
+    (record {
+      stands = λ before after step places. c.ask.ensures.table w _ before after rows step few table places;
+      stay = λ before after step places. c.ask.ensures.places before after rows step places;
+    }) c.in-Some.large begun.0 begun.1 begun.2
+
+pub returns-in-Ok-clause-told : goal.returns-in-Ok-clause-told
+returns-in-Ok-clause-told c = λ w q older rows packet route k at few fits round tag none keeps party table.
+    let still = c.begins.ensures.kept w q older rows k few keeps party in
+    let told = subst (λ (x : Result Unit declared.Why). IsAskedWhole w q older rows k route c.args.body.now x c.asks_whole.new.self c.asks_whole.new.table) c.in-Ok.is
+    (c.asks_whole.ensures.told w q older rows k route keeps few fits round tag none still table) in
+    whole_on w q older rows packet route c.args.body.now at k keeps c.asks_whole.new.self c.asks_whole.new.table told
+
+pub returns-in-Err-clause-told : goal.returns-in-Err-clause-told
+returns-in-Err-clause-told c = λ w q older rows packet route k at few fits round tag none keeps party table.
+    let still = c.begins.ensures.kept w q older rows k few keeps party in
+    let begun = subst (λ (o : Option LargeRequest). IsBeginning k route c.args.body.now o) c.in_default.is (c.begins.ensures.told w q older rows k route few round tag none keeps party) in
+    let told = subst (λ (x : Result Unit declared.Why). IsAskedWhole w q older rows k route c.args.body.now x c.asks_whole.new.self c.asks_whole.new.table) c.in-Err.is
+    (c.asks_whole.ensures.told w q older rows k route keeps few fits round tag none still table) in
+    refused_on w q older rows packet route c.args.body.now at k keeps c.asks_whole.new.self c.asks_whole.new.table c.in-Err.why begun told
