@@ -1,24 +1,26 @@
 -- A capture that a text is has its ends in range, measurements without a fault, and at most 100,000 packets.
-use Rattle.std.proofs.Common.{◌≡◌, ◌≢◌, ◌≤◌, ◌<◌, ◌+◌, ◌++◌, ◌∙◌, ℕ, List, [], ◌∷◌, length, length-append, map, refl, sym, ap, subst, arith, Bool, true, false, Option, Some, None, Ok}
+use Rattle.std.proofs.Common.{◌≡◌, ◌≢◌, ◌≤◌, ◌+◌, ◌++◌, ◌∙◌, ℕ, List, [], ◌∷◌, length, length-append, refl, sym, ap, subst, arith, Bool, false, Option, Some, None, Ok}
 use Rattle.std.proofs.lemmas.Bool.Decides.{nat_tests}
-use Rattle.std.proofs.lemmas.List.{length-map}
 use Rattle.std.proofs.lemmas.List.Elements.{recursion_from_All}
 use Rattle.std.proofs.lemmas.Option.{none-some}
-use Rattle.std.specs.List.{All, AllByRecursion}
-use Rattle.std.specs.Prelude.{not, nat_le, replicate}
+use Rattle.std.specs.List.{AllByRecursion}
+use Rattle.std.specs.Prelude.{not, replicate}
 use Rattle.std.specs.Option.{option_map, unwrap_or}
-use Rattle.configured_ends.specs.Configured.{configuration_in, requester_in, responder_in}
+use Rattle.configured_ends.specs.Configured.{configuration_in}
 use Rattle.measurements.specs.Faults.{inventory_fault}
 use Rattle.requester_machine.specs.Setup.{ReqSetup}
 use Rattle.capture_laws.specs.Judged.{AreApart}
 use Rattle.script_text.specs.Configuring.{config_kind, config_of, nothing_given}
-use Rattle.script_text.specs.HexWords.{bytes_of}
-use Rattle.script_text.specs.Lines.{lines_of, word}
-use Rattle.script_text.specs.ScriptText.{after_capture, after_capture_kind, capture_fault, capture_in, capture_kind_fault, capture_with, is_full, packet_fault, whole_capture}
-use Rattle.script_text.specs.Sound.{IsSoundConfig, are_bytes_in}
+use Rattle.script_text.specs.HexWords.{bytes_of, is_hex_in, most_bytes}
+use Rattle.script_text.specs.Lines.{has_words, lines_of, word}
+use Rattle.script_text.specs.ScriptText.{after_capture, after_capture_kind, capture_fault, capture_in, capture_kind_fault, capture_with, is_full, is_next, is_packet, packet_fault, whole_capture}
+use Rattle.script_text.specs.Sound.{IsSoundConfig}
+use Rattle.script_text.specs.Tests.{first_of_tests}
 use Rattle.script_text.specs.declared.capture_text.CaptureReader.{CaptureReader}
 use Rattle.script_text.specs.declared.config.ScriptConfig.{ScriptConfig}
 use Rattle.script_text.specs.declared.config_kind.ConfigKind.{ConfigKind}
+use Rattle.script_text.specs.declared.faults.LineFault.{LineFault}
+use Rattle.script_text.specs.declared.faults.LineFault.TheVariants.{Hex, Number, Order, TooManyEvents, Unknown, Words}
 use Rattle.script_text.specs.declared.script.Capture.{Capture}
 use Rattle.script_worlds.proofs.ConfigRead.{IsRight, config_kept, nothing_right}
 use Rattle.script_worlds.proofs.ReadLines.{held}
@@ -27,7 +29,7 @@ use Rattle.script_worlds.proofs.SetUpRight.{at_most, has_sizes, is_configuration
 use Rattle.spdm_agreement.specs.Configured as agreed
 use Rattle.spdm_basis.proofs.Bools.{and_first, and_second}
 use Rattle.spdm_basis.proofs.Options.{both}
-use Rattle.trace_check.specs.Limits.{AreSound, HasLimits, IsSound}
+use Rattle.trace_check.specs.Limits.{AreSound, IsSound}
 
 -- ---- What was read so far.
 
@@ -44,12 +46,24 @@ more_packets packets packet test =
     let long = length-append packets (packet ∷ []) in
     omega (arith, few, long)
 
+-- The last of six tests does not hold either.
+later : (t : Bool × LineFault) (ts : List (Bool × LineFault)) → first_of_tests (t ∷ ts) ≡ None → first_of_tests ts ≡ None
+later t ts h = (both t.0 t.1 (first_of_tests ts) h).1
+
+last_of_six : (a b c d e f : Bool) (u v x y z t : LineFault) → first_of_tests ((a, u) ∷ (b, v) ∷ (c, x) ∷ (d, y) ∷ (e, z) ∷ (f, t) ∷ []) ≡ None → f ≡ false
+last_of_six a b c d e f u v x y z t h =
+    let two = later (a, u) ((b, v) ∷ (c, x) ∷ (d, y) ∷ (e, z) ∷ (f, t) ∷ []) h in
+    let three = later (b, v) ((c, x) ∷ (d, y) ∷ (e, z) ∷ (f, t) ∷ []) two in
+    let four = later (c, x) ((d, y) ∷ (e, z) ∷ (f, t) ∷ []) three in
+    let five = later (d, y) ((e, z) ∷ (f, t) ∷ []) four in
+    let six = later (e, z) ((f, t) ∷ []) five in
+    (both f t None six).0
+
 packet_kept : (reader : CaptureReader) (line : List ℕ) → packet_fault reader line ≡ None → IsRead reader → IsRead (after_capture_kind reader None line)
 unfolding packet_fault
-packet_kept reader line h read = record {
-  given = read.given;
-  few = more_packets reader.packets (bytes_of (word 2 line)) (both _ _ _ (both _ _ _ (both _ _ _ (both _ _ _ (both _ _ _ (both _ _ _ h).1).1).1).1).1).0;
-}
+packet_kept reader line h read =
+    let test = last_of_six (not (is_packet (word 0 line))) (not reader.given.ended) (not (has_words 3 line)) (not (is_next (length reader.packets) (word 1 line))) (not (is_hex_in 0 most_bytes (word 2 line))) (is_full (length reader.packets)) Unknown Order Words Number Hex TooManyEvents h in
+    record { given = read.given; few = more_packets reader.packets (bytes_of (word 2 line)) test }
 
 kind_kept : (reader : CaptureReader) (k : Option ConfigKind) (line : List ℕ) → capture_kind_fault reader k line ≡ None → IsRead reader → IsRead (after_capture_kind reader k line)
 kind_kept reader None line h read = packet_kept reader line h read

@@ -86,8 +86,8 @@ impl Checker {
     }
 
     /// The next packet of the capture: it conforms behind those before it, or it is a part of a large
-    /// message, or it does not conform, and then why. Nothing is said of what is kept then. An `Err`
-    /// comes for want of memory alone, where a session is begun.
+    /// message, or it does not conform, and then why. Nothing is said of what is kept then. An `Err` is
+    /// want of memory.
     pub fn take(&mut self, packet: &[u8]) -> Result<Result<Onward, Why>, OutOfMemory>
         ensures { (w : Configuration) (older : List (List ℕ)) → AreSound w
             → IsChecker self.old w older → length older < 2 ^ 64 - 2

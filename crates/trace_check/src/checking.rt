@@ -23,7 +23,7 @@ pub enum Checked {
 
 /// Whether a capture is one that its ends could have made: the sessions that it shows, or its first
 /// packet that does not conform, and why. The measurements of its configuration have no fault. It
-/// goes over the packets once. An `Err` comes for want of memory alone.
+/// goes over the packets once. An `Err` is want of memory.
 pub fn check(alloc: Global, capture: &Capture) -> Result<Checked, OutOfMemory>
     requires { inventory_fault capture.now.config.blocks ≡ None }
     ensures { AreSound (configuration_in capture.now.config)
