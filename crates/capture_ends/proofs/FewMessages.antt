@@ -133,7 +133,7 @@ steps_few w eid older d next (Ok p) n step few = by_ends (is_request w.responder
     by_ends false true replies = replies_few w d next (gathered_from eid w.responder.eid older p) n replies few
     by_ends false false same = stays_few n d next (ap (λ (x : Dialogue). x.responder) same) few
 
-walks_few : (w : Configuration) (q : ReqSetup) (older : List (List ℕ)) (d : Dialogue) → Walks w q older d → IsFew (length older) d
+pub walks_few : (w : Configuration) (q : ReqSetup) (older : List (List ℕ)) (d : Dialogue) → Walks w q older d → IsFew (length older) d
 unfolding StepsTo
 walks_few w q [] d walk = subst (λ (x : Dialogue). messages_of x.responder ≤ 0) (sym walk) (omega arith)
 walks_few w q (packet ∷ older) d walk =

@@ -22,6 +22,7 @@ mod clear_commands;
 mod clear_judged;
 mod clear_values;
 mod conversation;
+mod conversation_replies;
 mod conversation_requests;
 mod given;
 mod judged_in_clear;
