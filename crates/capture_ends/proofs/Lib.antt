@@ -61,5 +61,6 @@ pub mod LargeOver
 pub mod LargeCarried
 pub mod LargeEnded
 pub mod OwedPieces
+pub mod OthersStay
 pub mod OwedEnded
 pub mod BeginsTold
