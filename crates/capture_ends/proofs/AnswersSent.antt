@@ -1,5 +1,5 @@
 -- What is told of an answer while a large request is sent, in words of walks.
-use Rattle.std.proofs.Common.{◌≡◌, ◌∙◌, ◌≤◌, ◌<◌, ◌+◌, ◌-◌, ◌^◌, ◌==◌, ◌||◌, ◌⊎◌, ℕ, List, [], ◌∷◌, refl, sym, ap, subst, drop, length, Bool, true, false, cond, Option, Some, None, Ok, Err, Result, inl, inr, arith}
+use Rattle.std.proofs.Common.{◌≡◌, ◌∙◌, ◌≤◌, ◌<◌, ◌+◌, ◌-◌, ◌^◌, ◌==◌, ◌||◌, ℕ, List, [], ◌∷◌, refl, sym, ap, subst, drop, length, Bool, true, false, cond, Option, Some, None, Err, Result, inl, inr, arith}
 use Rattle.std.proofs.lemmas.Option.{none-some, same_Some}
 use Rattle.mctp_framing.specs.Cutting.{RouteFields}
 use Rattle.mctp_framing.specs.Gathering.{Gathered}
@@ -47,12 +47,10 @@ use Rattle.capture_ends.specs.AnswerKeys as answer_keys
 use Rattle.capture_ends.specs.Answerer.{IsAnswerer, history_shown}
 use Rattle.capture_ends.specs.Asker.{IsAsker}
 use Rattle.capture_ends.specs.Conversation.{IsAnswer, IsJudgedAnswer, IsUnderWay, NoneGoesOn, StandsBehind, meanwhile}
-use Rattle.capture_ends.specs.Party.{IsParty}
 use Rattle.capture_ends.specs.PartyReplies.{IsApartInClear, IsGivenNever}
 use Rattle.capture_ends.specs.declared.answer_keys.AnswerKeys.{AnswerKeys}
 use Rattle.capture_ends.specs.declared.answerer.Answerer.{Answerer}
 use Rattle.capture_ends.specs.declared.asker.Asker.{Asker}
-use Rattle.capture_ends.specs.declared.onward.Onward.TheVariants as onward
 use Rattle.capture_ends.specs.declared.party.Party.{Party}
 use Rattle.large_requests.proofs.Onward.{replies as steps_replying}
 use Rattle.large_requests.proofs.Replied.{behind_next, replies_all, sending_is_replied, sending_replies}
@@ -267,19 +265,22 @@ module _ (w : Configuration) (q : ReqSetup) (older : List (List ℕ)) (rows : Li
       came = over;
       after = after;
       goes = goes;
-      stands = (next, record {
-        sending = behind;
-        chunks = chunks;
-        kept = record {
-          asker = subst (λ (x : Asker). IsAsker x q (meanwhile next)) (sym asker) (asker_meanwhile old.asker q next (asker_before old.asker q s way.kept.asker));
-          answerer = answerer;
-          keys = keys;
-          number = number ∙ way.kept.number;
-          places = places_for new.places after (restored (meanwhile next)) (rows_between before after rows) refl refl places;
-        };
-        earlier = way.earlier;
-        before = way.before;
-        fewer = (let f = way.fewer in let l : length (packet ∷ older) ≡ length older + 1 = omega arith in omega (arith, f, l));
-      });
+      stands = (
+        next,
+        record {
+          sending = behind;
+          chunks = chunks;
+          kept = record {
+            asker = subst (λ (x : Asker). IsAsker x q (meanwhile next)) (sym asker) (asker_meanwhile old.asker q next (asker_before old.asker q s way.kept.asker));
+            answerer = answerer;
+            keys = keys;
+            number = number ∙ way.kept.number;
+            places = places_for new.places after (restored (meanwhile next)) (rows_between before after rows) refl refl places;
+          };
+          earlier = way.earlier;
+          before = way.before;
+          fewer = (let f = way.fewer in let l : length (packet ∷ older) ≡ length older + 1 = omega arith in omega (arith, f, l));
+        },
+      );
       entries = entries;
     }

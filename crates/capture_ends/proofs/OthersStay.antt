@@ -1,5 +1,5 @@
 -- A packet between the responder and another requester leaves what is kept of this one.
-use Rattle.std.proofs.Common.{◌≡◌, ◌≢◌, ◌∙◌, ◌+◌, ◌<◌, ℕ, List, ◌∷◌, refl, sym, ap, length, false, Option, Some, None, Ok, arith}
+use Rattle.std.proofs.Common.{◌≡◌, ◌≢◌, ◌∙◌, ◌+◌, ℕ, List, ◌∷◌, sym, ap, length, false, Option, Some, None, Ok, arith}
 use Rattle.mctp_framing.specs.Packet.{PacketFields, parsed}
 use Rattle.requester_machine.specs.Setup.{ReqSetup}
 use Rattle.capture_laws.proofs.KeptAnswers.{kept_stays}

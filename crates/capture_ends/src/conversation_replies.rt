@@ -114,7 +114,9 @@ impl Conversation {
         match self.large.take() {
             None => self.party.replies(table, setup, round, answer),
             Some(mut large) => {
-                let told = self.party.replies_meanwhile(&mut large, table, setup, round, answer);
+                let told = self
+                    .party
+                    .replies_meanwhile(&mut large, table, setup, round, answer);
                 self.large = Some(large);
                 told
             }

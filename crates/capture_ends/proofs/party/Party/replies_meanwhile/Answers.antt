@@ -1,10 +1,9 @@
-use Rattle.std.proofs.Common.{◌≡◌, inl, inr, ◌+◌, ◌-◌, ◌^◌, ◌<◌, ◌∙◌, refl, sym, ap, subst, length, arith, List, ℕ, true, false, Some, None, Ok, Option, Result}
+use Rattle.std.proofs.Common.{inl, inr, ◌+◌, ◌-◌, ◌^◌, ◌<◌, ◌∙◌, refl, sym, ap, subst, length, arith, List, ℕ, true, Some, Result}
 use Rattle.std.specs.Prelude.{OnOk}
 use Rattle.capture_laws.specs.KeptChanges.{begun_shown, taken_shown}
 use Rattle.capture_laws.specs.Order.{body_in, tag_in}
 use Rattle.capture_laws.specs.RepliesShown.{responder_for}
 use Rattle.capture_laws.specs.Rows as rows_of
-use Rattle.capture_laws.specs.declared.places.Places.{Places}
 use Rattle.connection.specs.Connected as connected
 use Rattle.connection.specs.declared.connected.Connection.{Connection}
 use Rattle.requester_machine.specs.Setup.{ReqSetup}
@@ -24,7 +23,7 @@ use Rattle.capture_ends.specs.declared.given.Judged.{Judged}
 use Rattle.capture_ends.specs.declared.given.Judged.TheVariants as judged
 use Rattle.large_requests.specs.SendingLaws.{aside}
 use Rattle.world_machine.specs.Capture.{IsBody}
-use Rattle.world_machine.specs.Rounds.{Round, no_draw}
+use Rattle.world_machine.specs.Rounds.{no_draw}
 use Rattle.world_machine.specs.SessionTable.{number_from, rows_between}
 
 pub returns-in_ok-take-in-Given-Whole-clause-told : goal.returns-in_ok-take-in-Given-Whole-clause-told
