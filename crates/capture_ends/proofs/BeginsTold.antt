@@ -1,11 +1,9 @@
 -- What is kept behind a request where no large one is under way, in words of walks.
-use Rattle.std.proofs.Common.{◌≡◌, ◌∙◌, ◌+◌, ◌<◌, ℕ, List, ◌∷◌, refl, sym, ap, subst, length, Bool, true, false, Option, Some, None, Ok, Err, arith}
-use Rattle.std.specs.Prelude.{Result}
+use Rattle.std.proofs.Common.{◌≡◌, ◌∙◌, ◌+◌, ℕ, List, ◌∷◌, refl, sym, subst, length, true, false, Option, Some, None, Ok, Err, arith}
 use Rattle.std.proofs.lemmas.Bool.{false≢true}
 use Rattle.mctp_framing.specs.Cutting.{RouteFields}
 use Rattle.mctp_framing.specs.Gathering.{Gathered}
 use Rattle.mctp_framing.specs.Gathering.Gathered.{Whole}
-use Rattle.requester_machine.specs.History.{outstanding}
 use Rattle.requester_machine.specs.Setup.{ReqSetup}
 use Rattle.script_text.specs.declared.why.Why as declared
 use Rattle.capture_ends.proofs.AskedWalks.{asked_reason, kept_behind, none_on, walk_before, walk_behind}
@@ -22,10 +20,8 @@ use Rattle.capture_ends.specs.declared.asker.Asker.{Asker}
 use Rattle.capture_ends.specs.declared.party.Party.{Party}
 use Rattle.capture_laws.proofs.Rounded.{no_copy}
 use Rattle.capture_laws.specs.ChangeLaws.{CopyIsRequest, RoundIsRequest}
-use Rattle.capture_laws.specs.Changes.{session_in}
 use Rattle.capture_laws.specs.Judged.{why_of}
 use Rattle.capture_laws.specs.Keeping.{Keeps, Kept, restored}
-use Rattle.capture_laws.specs.Walks.{Walks}
 use Rattle.capture_laws.specs.declared.verdict.Seen.{Seen}
 use Rattle.large_requests.proofs.Begun.{sending_begins}
 use Rattle.large_requests.specs.LargeRequests as large_requests
@@ -70,15 +66,18 @@ module _ (w : Configuration) (q : ReqSetup) (older : List (List ℕ)) (rows : Li
           came = over_before copies rounds w q older rows packet route body at party.places table told (restored k) from is.places n walk none;
           after = n;
           goes = walk;
-          stands = (next, record {
-            sending = behind;
-            chunks = chunks;
-            kept = in_round party w q k (Some (new_round route.tag body)) rows rows_now is
-                (places_for party.places n (restored (meanwhile next)) rows_now refl refl (places_behind copies rounds w q older rows packet route body at party.places table told (restored k) from is.places n walk none));
-            earlier = older;
-            before = keeps;
-            fewer = (let l : length (packet ∷ older) ≡ length older + 1 = omega arith in omega (arith, l));
-          });
+          stands = (
+            next,
+            record {
+              sending = behind;
+              chunks = chunks;
+              kept = in_round party w q k (Some (new_round route.tag body)) rows rows_now is
+                  (places_for party.places n (restored (meanwhile next)) rows_now refl refl (places_behind copies rounds w q older rows packet route body at party.places table told (restored k) from is.places n walk none));
+              earlier = older;
+              before = keeps;
+              fewer = (let l : length (packet ∷ older) ≡ length older + 1 = omega arith in omega (arith, l));
+            },
+          );
           entries = table_behind copies rounds w q older rows packet route body at party.places table told (restored k) from is.places n walk none;
         }
 

@@ -1,10 +1,10 @@
 -- Whether the requester asks for a chunk upon an answer, as the program tells it.
-use Rattle.std.proofs.Common.{◌≡◌, ◌∙◌, ◌≤◌, ◌<◌, ◌-◌, ◌^◌, ◌+◌, ◌==◌, ℕ, suc, List, [], ◌∷◌, refl, sym, ap, subst, length, Bool, true, false, Option, Some, None, is_some, arith}
+use Rattle.std.proofs.Common.{◌≡◌, ◌∙◌, ◌<◌, ◌-◌, ◌^◌, ◌+◌, ◌==◌, ℕ, suc, List, ◌∷◌, refl, sym, ap, subst, length, Bool, true, false, Option, Some, None, is_some, arith}
 use Rattle.std.specs.Prelude.{slice_index}
 use Rattle.std.proofs.lemmas.Bool.{false≢true}
 use Rattle.std.proofs.lemmas.Option.{none-some}
 use Rattle.asking.specs.Joined.{StandsFor}
-use Rattle.asking.specs.Owed.{TookAny, TookFor}
+use Rattle.asking.specs.Owed.{TookFor}
 use Rattle.asking.specs.OwnRecords.{session_aimed, session_awaited}
 use Rattle.asking.specs.Slot.{shown_of}
 use Rattle.asking.specs.declared.joined.Asking.{Asking}
@@ -14,7 +14,7 @@ use Rattle.requester_machine.specs.Asking.Outcome.{Fails, Ignores, Warns, Resend
 use Rattle.requester_machine.specs.Hearing.{hears}
 use Rattle.requester_machine.specs.History.{Entry, History, outstanding, sent_in}
 use Rattle.requester_machine.specs.History.Entry.{Told, TookClear, TookRecord}
-use Rattle.requester_machine.specs.Message.{Aim, Ask, Sent, body_of}
+use Rattle.requester_machine.specs.Message.{Aim, Sent, body_of}
 use Rattle.requester_machine.specs.Message.Aim.{ByChunks, ForChunk, InSession, Plain}
 use Rattle.requester_machine.specs.Order.{stage_for}
 use Rattle.requester_machine.specs.Owed.{with_next}
@@ -23,13 +23,12 @@ use Rattle.requester_machine.specs.Setup.{ReqSetup}
 use Rattle.requester_machine.specs.Shown.{after, event_of, sent_by}
 use Rattle.responder_machine.specs.Responder.{is_open}
 use Rattle.spdm_grammar.specs.declared.names.request_code.TheConstants.{CHUNK_GET}
-use Rattle.spdm_grammar.specs.declared.phase.Stage.{Stage}
 use Rattle.spdm_grammar.specs.declared.session_view.SessionView.{SessionView}
 use Rattle.capture_laws.specs.Keeping.{Keeps, Kept, owing, restored}
 use Rattle.capture_laws.specs.RepliesShown.{heard_from, no_values}
 use Rattle.responder_machine.specs.History as responder_history
 use Rattle.capture_ends.proofs.ChunkAsked.{heard_shows}
-use Rattle.capture_ends.proofs.FinishApart.{aimed_at, its_stage, long_with, shown_none}
+use Rattle.capture_ends.proofs.FinishApart.{aimed_at, its_stage, shown_none}
 use Rattle.capture_ends.proofs.HearsKept.{deaf, none_in, waits_for}
 use Rattle.capture_ends.proofs.KnownFetches.{kept_asks_none}
 use Rattle.capture_ends.proofs.OwedTook.{IsAimed, IsNewest, IsSentUpon, heard_newest, kept_short}

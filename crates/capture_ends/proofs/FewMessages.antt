@@ -1,5 +1,5 @@
 -- No more messages came to the responder of one requester than there are packets.
-use Rattle.std.proofs.Common.{◌≡◌, ◌≤◌, ◌+◌, ◌⊎◌, ℕ, List, [], ◌∷◌, refl, sym, ap, subst, length, Bool, true, false, Option, Some, None, Result, Ok, Err, cond, inl, inr, arith}
+use Rattle.std.proofs.Common.{◌≡◌, ◌≤◌, ◌+◌, ◌⊎◌, ℕ, List, [], ◌∷◌, refl, sym, ap, subst, length, Bool, true, false, Option, Result, Ok, Err, cond, inl, inr, arith}
 use Rattle.std.specs.Prelude.{MatchBool}
 use Rattle.mctp_framing.specs.Gathering.{Gathered}
 use Rattle.mctp_framing.specs.Gathering.Gathered.{Whole, More, Dropped as Refused}
@@ -133,7 +133,7 @@ steps_few w eid older d next (Ok p) n step few = by_ends (is_request w.responder
     by_ends false true replies = replies_few w d next (gathered_from eid w.responder.eid older p) n replies few
     by_ends false false same = stays_few n d next (ap (λ (x : Dialogue). x.responder) same) few
 
-walks_few : (w : Configuration) (q : ReqSetup) (older : List (List ℕ)) (d : Dialogue) → Walks w q older d → IsFew (length older) d
+pub walks_few : (w : Configuration) (q : ReqSetup) (older : List (List ℕ)) (d : Dialogue) → Walks w q older d → IsFew (length older) d
 unfolding StepsTo
 walks_few w q [] d walk = subst (λ (x : Dialogue). messages_of x.responder ≤ 0) (sym walk) (omega arith)
 walks_few w q (packet ∷ older) d walk =

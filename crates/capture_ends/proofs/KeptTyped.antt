@@ -70,6 +70,9 @@ replies_typed w d (Dropped cause) next here c = absurd c
 typed_steady : (w : Configuration) → IsSteady w (λ d. HasBody d.round)
 typed_steady w = record { begins = λ q. tt; asks = asks_typed; replies = replies_typed w }
 
+pub walk_body : (w : Configuration) (q : ReqSetup) (older : List (List ℕ)) (d : Dialogue) (round : Round) → Walks w q older d → d.round ≡ Some round → IsBody round.body
+walk_body w q older d round walk is = subst HasBody is (walks_keep w (λ (x : Dialogue). HasBody x.round) (typed_steady w) q older d walk)
+
 pub kept_body : (w : Configuration) (q : ReqSetup) (older : List (List ℕ)) (k : Kept) (round : Round) → Keeps w q older k → k.round ≡ Some round → IsBody round.body
 kept_body w q older k round keeps is =
     let walk : HasBody keeps.0.round = walks_keep w (λ (d : Dialogue). HasBody d.round) (typed_steady w) q older keeps.0 keeps.1 in
@@ -82,18 +85,27 @@ kept_long w q older k keeps =
     let walk : AreLong keeps.0.responder = walks_keep w (λ (d : Dialogue). AreLong d.responder) (long_steady w) q older keeps.0 keeps.1 in
     subst (λ (x : Kept). AreLong x.responder) (sym keeps.4) walk
 
+walk_long : (w : Configuration) (q : ReqSetup) (older : List (List ℕ)) (d : Dialogue) → Walks w q older d → AreLong d.responder
+walk_long w q older d walk = walks_keep w (λ (x : Dialogue). AreLong x.responder) (long_steady w) q older d walk
+
 -- It is longer than the verify data, so its type is that of the one that would be right.
-pub kept_apart : (w : Configuration) (q : ReqSetup) (older : List (List ℕ)) (k : Kept) (round : Round) (answer : List ℕ) → Keeps w q older k → IsApartInClear (responder_for w k) (restored k) round answer
+apart_typed : (r : RspSetup) (d : Dialogue) (round : Round) (answer : List ℕ) → AreLong d.responder → IsApartInClear r d round answer
 unfolding MayLeadTo
-kept_apart w q older k round answer keeps shown =
-    let r : RspSetup = responder_for w k in
-    let h : History = k.responder in
+apart_typed r d round answer are shown =
+    let h : History = d.responder in
     let ids : List ℕ = drops_shown_by r h round.tag round.body answer in
     let g : History = with_dropped h ids in
     let f : Free = values_shown_by r g round.tag round.body answer in
     let o : Outcome = outcome_shown r h round.tag round.body answer in
     let may : MayLeadTo r g round.tag round.body o = (f, shown.0.0, shown.0.1, shown.0.2) in
-    let made = led_made r g round.tag round.body o (dropped_long h ids (kept_long w q older k keeps)) may in
-    let few : verify_size (restored k) ≤ 48 = most_hash _ in
+    let made = led_made r g round.tag round.body o (dropped_long h ids are) may in
+    let few : verify_size d ≤ 48 = most_hash _ in
     let long = made.long shown.2 in
-    sym (one_type (verify_size (restored k)) (body_of o) answer (omega arith) shown.3) ∙ eqb-true (body_type (body_of o)) 5 (and_first (body_type (body_of o) == 5) _ shown.2)
+    sym (one_type (verify_size d) (body_of o) answer (omega arith) shown.3) ∙ eqb-true (body_type (body_of o)) 5 (and_first (body_type (body_of o) == 5) _ shown.2)
+
+pub kept_apart : (w : Configuration) (q : ReqSetup) (older : List (List ℕ)) (k : Kept) (round : Round) (answer : List ℕ) → Keeps w q older k → IsApartInClear (responder_for w k) (restored k) round answer
+kept_apart w q older k round answer keeps = apart_typed (responder_for w k) (restored k) round answer (kept_long w q older k keeps)
+
+-- The same of a responder's history that a walk leads to.
+pub walk_apart : (w : Configuration) (q : ReqSetup) (older : List (List ℕ)) (d e : Dialogue) (r : RspSetup) (round : Round) (answer : List ℕ) → Walks w q older d → d.responder ≡ e.responder → IsApartInClear r e round answer
+walk_apart w q older d e r round answer walk same = apart_typed r e round answer (subst AreLong same (walk_long w q older d walk))

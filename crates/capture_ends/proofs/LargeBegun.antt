@@ -1,5 +1,5 @@
 -- Whether a large request may be begun, and by which body.
-use Rattle.std.proofs.Common.{◌≡◌, ◌∙◌, ◌≤◌, ◌<◌, ◌+◌, ◌-◌, ◌^◌, ◌%◌, ◌==◌, ◌&&◌, ℕ, List, [], ◌∷◌, refl, sym, ap, subst, length, Bool, true, false, Option, Some, None, Ok, Err, cond, arith}
+use Rattle.std.proofs.Common.{◌≡◌, ◌∙◌, ◌≤◌, ◌+◌, ◌%◌, ◌==◌, ◌&&◌, ℕ, List, [], ◌∷◌, refl, sym, ap, subst, length, Bool, true, false, Option, Some, None, Ok, Err, cond, arith}
 use Rattle.std.specs.Prelude.{is_some, nat_le, not, slice_index}
 use Rattle.std.proofs.lemmas.Bool.{false≢true, not-false}
 use Rattle.std.proofs.lemmas.Bool.Decides.{nat_tests}
@@ -8,7 +8,7 @@ use Rattle.asking.proofs.TakenBack.{any_took, without}
 use Rattle.asking.specs.Joined.{IsCommanded, StandsFor}
 use Rattle.asking.specs.Owed.{TookFor}
 use Rattle.asking.specs.declared.joined.Asking.{Asking}
-use Rattle.requester_machine.specs.Asking.{Outcome, asks, asks_by}
+use Rattle.requester_machine.specs.Asking.{asks, asks_by}
 use Rattle.requester_machine.specs.Asking.Outcome.{Fails}
 use Rattle.requester_machine.specs.Commands.{Free, command_fault, is_long, is_negotiated, lacks, live_count}
 use Rattle.requester_machine.specs.History.{History, begins_large, connection_terms, larges_of, next_handle, outstanding, phase_of}
@@ -16,7 +16,6 @@ use Rattle.requester_machine.specs.May.{IsSetUp}
 use Rattle.requester_machine.specs.Message.{Aim, Sent, asked_in, body_of}
 use Rattle.requester_machine.specs.Message.Aim.{ByChunks, ForChunk, InSession, Plain}
 use Rattle.requester_machine.specs.Message.Command.{Open}
-use Rattle.requester_machine.specs.Message.Content.{Clear, Sealed}
 use Rattle.requester_machine.specs.Owed.{with_next}
 use Rattle.requester_machine.specs.Setup.{ReqSetup}
 use Rattle.requester_machine.specs.Shown.{fault_of}
@@ -26,7 +25,6 @@ use Rattle.spdm_basis.specs.Tests.{first_of_tests}
 use Rattle.spdm_grammar.specs.Message.{RequestMessage}
 use Rattle.spdm_grammar.specs.declared.command_fault.CommandFault.{CommandFault}
 use Rattle.spdm_grammar.specs.declared.command_fault.CommandFault.TheVariants as fault
-use Rattle.spdm_machine.specs.Keys.{Draw}
 use Rattle.capture_ends.proofs.OwedSent.{Goes}
 use Rattle.capture_ends.proofs.OwedSent.Goes.{AsRecord, InClear}
 use Rattle.capture_ends.specs.Asker.{IsAsker, IsKeptSetup, is_first_chunk}

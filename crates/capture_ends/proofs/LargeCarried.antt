@@ -1,21 +1,15 @@
 -- The chunks of a large request, each compared with bytes.
 use Rattle.std.proofs.Common.{◌≡◌, ◌∙◌, ◌+◌, ◌-◌, ◌*◌, ◌<◌, ◌≤◌, ◌==◌, ◌++◌, ℕ, zero, suc, List, [], ◌∷◌, refl, sym, ap, subst, length, drop, take, Bool, true, false, Option, Some, None, cond, arith, add-one, eqb-true, length-append, take-add}
 use Rattle.std.specs.Prelude.{if◌then◌else◌, is_some, min, slice_range}
-use Rattle.std.specs.Bool.{Decides}
 use Rattle.std.proofs.lemmas.Bool.{false≢true}
-use Rattle.std.proofs.lemmas.Grind.{common_steps}
 use Rattle.std.proofs.lemmas.List.{length-take, take_all}
-use Rattle.std.proofs.lemmas.Option.{none-some, same_Some}
 use Rattle.asking.specs.Joined.{StandsFor}
 use Rattle.asking.specs.LargeRequests.{IsAcknowledged, next_piece, piece_behind, piece_behind_sent}
 use Rattle.asking.specs.declared.joined.Asking.{Asking}
 use Rattle.chunking.proofs.ChunkSteps.{ends}
 use Rattle.chunking.specs.Cutting.{chunk_count, chunk_end, chunk_start, nth_chunk, unit_of}
-use Rattle.requester_machine.specs.Answers.{goes_on}
 use Rattle.requester_machine.specs.History.{History, connection_terms, outstanding}
-use Rattle.requester_machine.specs.History.Effect.{Nothing}
-use Rattle.requester_machine.specs.History.Entry.{TookClear}
-use Rattle.requester_machine.specs.Message.{Aim, Sent, body_of}
+use Rattle.requester_machine.specs.Message.{Sent, body_of}
 use Rattle.requester_machine.specs.Message.Aim.{ByChunks}
 use Rattle.requester_machine.specs.Sending.{piece_sent}
 use Rattle.requester_machine.specs.Setup.{ReqSetup}
@@ -25,9 +19,8 @@ use Rattle.spdm_grammar.specs.Message.{ChunkMessage, RequestMessage}
 use Rattle.spdm_grammar.specs.Message.RequestMessage.{ChunkSend}
 use Rattle.spdm_grammar.specs.Requests.{canonical_request}
 use Rattle.spdm_machine.specs.Bodies.{clear_body}
-use Rattle.spdm_machine.specs.Keys.{Draw}
 use Rattle.spdm_machine.specs.Terms.{Terms}
-use Rattle.capture_ends.specs.LargeAsked.{IsCarried, IsFirstOut, IsHeldTo, cut_body}
+use Rattle.capture_ends.specs.LargeAsked.{IsCarried, IsHeldTo, cut_body}
 use Rattle.large_requests.proofs.Histories.{behind_terms, behind_waits, later}
 use Rattle.large_requests.specs.Pieces.{size_in}
 use Rattle.large_requests.specs.Sending.{Ack, behind, number_in}

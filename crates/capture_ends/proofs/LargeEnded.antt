@@ -1,5 +1,5 @@
 -- With which bytes a large request ends.
-use Rattle.std.proofs.Common.{◌≡◌, ◌∙◌, ◌≤◌, ◌<◌, ◌+◌, ◌-◌, ◌^◌, ◌==◌, ℕ, List, [], ◌∷◌, refl, sym, ap, subst, length, Bool, true, false, Option, Some, None, Ok, Err, cond, arith, eqb-true}
+use Rattle.std.proofs.Common.{◌≡◌, ◌∙◌, ◌<◌, ◌+◌, ℕ, List, [], ◌∷◌, refl, sym, ap, subst, length, Bool, true, false, Option, Some, None, Ok, Err, cond, arith, eqb-true}
 use Rattle.std.specs.Prelude.{Result, is_some, nat_lt}
 use Rattle.std.specs.Result.{is_err}
 use Rattle.std.proofs.lemmas.Bool.{false≢true, not-false}
@@ -13,7 +13,7 @@ use Rattle.requester_machine.proofs.Entries.{asked, test_is_false}
 use Rattle.requester_machine.specs.Asking.{Outcome, asks, done}
 use Rattle.requester_machine.specs.Asking.Outcome.{Adds, Fails}
 use Rattle.requester_machine.specs.Commands.{Free, exchange_for, live_count}
-use Rattle.requester_machine.specs.History.{History, begins_large, next_handle, outstanding}
+use Rattle.requester_machine.specs.History.{History, begins_large, next_handle}
 use Rattle.requester_machine.specs.History.Entry.{Told}
 use Rattle.requester_machine.specs.May.{IsAllowed, MayAsk}
 use Rattle.requester_machine.specs.Message.{Command, Sent, body_of}
@@ -40,7 +40,7 @@ use Rattle.large_requests.specs.Sending.Beginning.{ByCommand, ByItself}
 use Rattle.world_machine.proofs.SentFacts.{large_kind}
 use Rattle.world_machine.specs.Setup.{Configuration}
 use Rattle.capture_ends.specs.Commanded.{values_in}
-use Rattle.capture_ends.specs.LargeAsked.{IsCarried, IsEnded, IsFirstOut, IsOpenedLarge, cut_body, exchange_shown}
+use Rattle.capture_ends.specs.LargeAsked.{IsCarried, IsEnded, IsFirstOut, IsOpenedLarge, exchange_shown}
 use Rattle.world_machine.proofs.AskTells.{exchange_read, kind_of, same_sent}
 use Rattle.world_machine.proofs.AskTells.Kind.{InClear}
 use Rattle.world_machine.proofs.AskersBegin.{large_command, not_four}

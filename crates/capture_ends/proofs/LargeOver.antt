@@ -1,5 +1,5 @@
 -- GET_VERSION over a large request that is sent by chunks.
-use Rattle.std.proofs.Common.{◌≡◌, ◌∙◌, ◌+◌, ◌==◌, ℕ, suc, List, [], ◌∷◌, refl, sym, ap, subst, Bool, true, false, Option, Some, None, inl, inr, add-one}
+use Rattle.std.proofs.Common.{◌≡◌, ◌+◌, ℕ, suc, List, [], ◌∷◌, refl, sym, subst, true, false, Option, Some, None, inl, inr, add-one}
 use Rattle.std.proofs.lemmas.Bool.{false≢true}
 use Rattle.asking.specs.Joined.{IsDone, StandsFor}
 use Rattle.asking.specs.LargeRequests.{IsBrokenOff, IsSentOn}
@@ -11,7 +11,6 @@ use Rattle.requester_machine.specs.Commands.{Free}
 use Rattle.requester_machine.specs.History.{History, begins_large, outstanding}
 use Rattle.requester_machine.specs.History.Effect.{Nothing}
 use Rattle.requester_machine.specs.History.Entry.{Told, TookClear, TookRecord}
-use Rattle.requester_machine.specs.May.{IsSetUp}
 use Rattle.requester_machine.specs.Message as message
 use Rattle.requester_machine.specs.Message.{Sent}
 use Rattle.requester_machine.specs.Message.Command.{Connect}
@@ -32,13 +31,12 @@ use Rattle.capture_ends.specs.declared.asker.Asker.{Asker}
 use Rattle.capture_ends.specs.declared.asker_setup.AskerSetup.{AskerSetup}
 use Rattle.large_requests.proofs.Histories.{later}
 use Rattle.large_requests.proofs.SendingReasons.{none_before}
-use Rattle.large_requests.specs.Sending.{Ack, Beginning, IsSendingOf, MayBegin, MayStand, Sending, asked_of, begun_with, behind, handle_of, is_upon_clear, number_in, number_of, shown_by}
+use Rattle.large_requests.specs.Sending.{Ack, Beginning, MayBegin, MayStand, Sending, asked_of, begun_with, behind, handle_of, is_upon_clear, number_in, number_of, shown_by}
 use Rattle.large_requests.specs.Sending.Beginning.{ByCommand, ByItself}
 use Rattle.large_requests.specs.SendingLaws.{without_due}
 use Rattle.world_machine.specs.CapturedRequests.{Tells}
 use Rattle.world_machine.specs.LargeRequests.{first_piece, piece_with}
 use Rattle.world_machine.specs.Rounds.{no_draw}
-use Rattle.world_machine.specs.Setup.{Configuration}
 
 -- ---- The chunks behind the first one begin no large request.
 

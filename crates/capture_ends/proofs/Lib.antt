@@ -11,6 +11,8 @@ pub mod LargeReplies
 pub mod ClearAnswered
 pub mod ResponseRead
 pub mod ClearShown
+pub mod AnswerWalks
+pub mod AnswersSent
 pub mod AnyAnswers
 pub mod LastTold
 pub mod RecordShown
@@ -59,5 +61,6 @@ pub mod LargeOver
 pub mod LargeCarried
 pub mod LargeEnded
 pub mod OwedPieces
+pub mod OthersStay
 pub mod OwedEnded
 pub mod BeginsTold

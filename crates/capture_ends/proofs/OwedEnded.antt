@@ -1,5 +1,5 @@
 -- With which bytes a large request ends that was owed.
-use Rattle.std.proofs.Common.{◌≡◌, ◌∙◌, ◌≤◌, ◌<◌, ◌+◌, ◌==◌, ℕ, List, ◌∷◌, refl, sym, ap, subst, length, Bool, true, false, Option, Some, None, arith, eqb-true}
+use Rattle.std.proofs.Common.{◌≡◌, ◌∙◌, ◌≤◌, ◌<◌, ◌+◌, ℕ, List, refl, sym, ap, subst, length, Bool, true, false, Option, Some, eqb-true}
 use Rattle.std.specs.Prelude.{is_some}
 use Rattle.std.proofs.lemmas.Bool.{false≢true}
 use Rattle.std.proofs.lemmas.Option.{none-some, same_Some}
@@ -7,7 +7,7 @@ use Rattle.asking.specs.Joined.{StandsFor}
 use Rattle.asking.specs.Owed.{TookFor}
 use Rattle.asking.specs.declared.joined.Asking.{Asking}
 use Rattle.chunking.specs.Cutting.{chunk_count}
-use Rattle.requester_machine.specs.History.{History, begins_large, connection_terms, next_handle, next_tag, outstanding}
+use Rattle.requester_machine.specs.History.{History, begins_large, connection_terms, next_handle, next_tag}
 use Rattle.requester_machine.specs.Holds.{Waits}
 use Rattle.requester_machine.specs.Message.{Aim, Content, Sent, asked_in, body_of}
 use Rattle.requester_machine.specs.Message.Aim.{ByChunks, ForChunk, InSession, Plain}
@@ -15,11 +15,10 @@ use Rattle.requester_machine.specs.Message.Content.{Clear}
 use Rattle.requester_machine.specs.Owed.{with_next}
 use Rattle.requester_machine.specs.Sending.{piece_of}
 use Rattle.requester_machine.specs.Setup.{ReqSetup}
-use Rattle.requester_machine.specs.UnderWay.{IsAwaited, IsOutstanding, IsPiece}
+use Rattle.requester_machine.specs.UnderWay.{IsOutstanding}
 use Rattle.spdm_grammar.specs.Message.{RequestMessage}
 use Rattle.spdm_grammar.specs.Message.RequestMessage.{ChunkSend}
 use Rattle.spdm_grammar.specs.Requests.{canonical_request}
-use Rattle.spdm_machine.specs.Bodies.{clear_body}
 use Rattle.spdm_machine.specs.Terms.{Terms}
 use Rattle.capture_ends.proofs.LargeEnded.{behind_all, counted}
 use Rattle.capture_ends.proofs.OwedPieces.{HasHandle, owed_at}
@@ -31,7 +30,7 @@ use Rattle.capture_laws.specs.Keeping.{Keeps, Kept, owing}
 use Rattle.large_requests.proofs.Histories.{next_terms}
 use Rattle.large_requests.proofs.Meanwhile.{owed_may_begin}
 use Rattle.large_requests.proofs.Onward.{some_size}
-use Rattle.large_requests.specs.Sending.{Beginning, IsSendingOf, MayBegin, MaySend, MayStand, Sending, asked_of, behind, count_of, handle_of, is_last, number_of, transfer_of}
+use Rattle.large_requests.specs.Sending.{Beginning, IsSendingOf, MayBegin, MayStand, Sending, asked_of, behind, count_of, handle_of, is_last, number_of, transfer_of}
 use Rattle.large_requests.specs.Sending.Beginning.{ByCommand, ByItself}
 use Rattle.world_machine.specs.LargeRequests.{common_of, first_piece}
 use Rattle.world_machine.specs.Setup.{Configuration}

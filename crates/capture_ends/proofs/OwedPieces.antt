@@ -1,6 +1,6 @@
 -- The first chunk of a large request that a requester owes has the next tag and the next handle.
-use Rattle.std.proofs.Common.{◌≡◌, ◌∙◌, ◌+◌, ◌==◌, ◌⊎◌, ℕ, List, [], ◌∷◌, refl, sym, ap, subst, drop, Bool, true, false, Option, Some, None, Result, Ok, Err, cond, inl, inr}
-use Rattle.std.specs.Prelude.{MatchBool, nat_lt}
+use Rattle.std.proofs.Common.{◌≡◌, ◌∙◌, ◌⊎◌, ℕ, List, [], ◌∷◌, refl, sym, ap, subst, drop, Bool, true, false, Option, Some, None, Result, Ok, Err, inl, inr}
+use Rattle.std.specs.Prelude.{MatchBool}
 use Rattle.std.proofs.lemmas.Bool.{false≢true}
 use Rattle.std.proofs.lemmas.Option.{none-some, same_Some}
 use Rattle.mctp_framing.specs.Gathering.{Gathered}
@@ -16,7 +16,7 @@ use Rattle.requester_machine.specs.Hearing.{hears}
 use Rattle.requester_machine.specs.History.{Entry, History, Led, begins_large, next_handle, next_tag, outstanding}
 use Rattle.requester_machine.specs.History.Entry.{Told, TookClear, TookRecord}
 use Rattle.requester_machine.specs.Message.{Aim, Sent}
-use Rattle.requester_machine.specs.Message.Aim.{Plain, ByChunks, ForChunk, InSession}
+use Rattle.requester_machine.specs.Message.Aim.{ByChunks}
 use Rattle.requester_machine.specs.Owed.{with_next}
 use Rattle.requester_machine.specs.Sending.{piece_sent, plain_sent, request_sent}
 use Rattle.requester_machine.specs.Setup.{ReqSetup}

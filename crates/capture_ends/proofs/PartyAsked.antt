@@ -132,4 +132,4 @@ module _ (w : Configuration) (q : ReqSetup) (older : List (List ℕ)) (rows : Li
 pub large_or_refused : (w : Configuration) (q : ReqSetup) (older : List (List ℕ)) (rows : List Row) (k : Kept) (route : RouteFields) (body : List ℕ) (new : Party) (table : List Seen) (why : declared.Why) (result : Result Onward declared.Why) (b : Bool)
     → is_first_chunk body ≡ b → result ≡ cond b (Ok onward.Large) (Err why) → IsAskedWhole w q older rows k route body (Err why) new table → IsAsked w q older rows k route body result new table
 large_or_refused w q older rows k route body new table why result true is told refused = subst (λ (x : Result Onward declared.Why). IsAsked w q older rows k route body x new table) (sym told) (is, refused.0)
-large_or_refused w q older rows k route body new table why result false is told refused = subst (λ (x : Result Onward declared.Why). IsAsked w q older rows k route body x new table) (sym told) (is, refused)
+large_or_refused w q older rows k route body new table why result false is told refused = subst (λ (x : Result Onward declared.Why). IsAsked w q older rows k route body x new table) (sym told) (is, refused.0, refused.1)

@@ -1,5 +1,5 @@
 -- What the table of sessions is told of an answer that goes whole.
-use Rattle.std.proofs.Common.{◌≡◌, ◌+◌, ◌-◌, ◌^◌, ◌<◌, ◌∙◌, ℕ, List, sym, ap, subst, length, None, false, arith}
+use Rattle.std.proofs.Common.{◌≡◌, ◌-◌, ◌^◌, ◌<◌, ◌∙◌, ℕ, List, sym, length, None, false, arith}
 use Rattle.mctp_framing.specs.Cutting.{RouteFields}
 use Rattle.mctp_framing.specs.Gathering.Gathered.{Whole}
 use Rattle.requester_machine.specs.May.{IsSetUp}

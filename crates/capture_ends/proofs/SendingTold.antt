@@ -1,9 +1,7 @@
 -- What is kept behind a request while a large one is sent.
-use Rattle.std.proofs.Common.{◌≡◌, ◌∙◌, ◌+◌, ◌<◌, ◌-◌, ◌^◌, ◌⊎◌, ℕ, List, ◌∷◌, refl, sym, ap, subst, length, take, Bool, true, false, Option, Some, None, Ok, Err, inl, inr, arith}
+use Rattle.std.proofs.Common.{◌≡◌, ◌∙◌, ◌+◌, ◌<◌, ◌-◌, ◌^◌, ℕ, List, ◌∷◌, refl, sym, ap, subst, length, take, true, false, Option, Some, None, Err, inl, inr, arith}
 use Rattle.std.proofs.lemmas.Bool.{false≢true}
 use Rattle.std.proofs.lemmas.Option.{same_Some}
-use Rattle.std.specs.Prelude.{is_some}
-use Rattle.asking.specs.Joined.{StandsFor}
 use Rattle.mctp_framing.specs.Cutting.{RouteFields}
 use Rattle.mctp_framing.specs.Gathering.Gathered.{Whole}
 use Rattle.chunking.specs.Cutting.{chunk_end}
@@ -24,34 +22,29 @@ use Rattle.capture_laws.proofs.KeptAnswers.{kept_is_restored}
 use Rattle.capture_laws.specs.ChangeLaws.{CopyIsRequest, RoundIsRequest}
 use Rattle.capture_laws.specs.Changes.{session_in}
 use Rattle.capture_laws.specs.Judged.{why_of}
-use Rattle.capture_laws.specs.Keeping.{Keeps, Kept, owing, restored}
-use Rattle.capture_laws.specs.RepliesShown.{responder_for}
-use Rattle.capture_laws.specs.Rows.{StandFor, StandsForRows}
+use Rattle.capture_laws.specs.Keeping.{Keeps, Kept, restored}
+use Rattle.capture_laws.specs.Rows.{StandFor}
 use Rattle.capture_laws.specs.Walks.{Walks}
-use Rattle.capture_laws.specs.declared.places.Places.{Places}
 use Rattle.capture_laws.specs.declared.verdict.Seen.{Seen}
 use Rattle.capture_ends.proofs.InTurn.{AsksInTurn}
 use Rattle.capture_ends.proofs.PartyAsked.{copy_of, is_no_copy}
 use Rattle.capture_ends.proofs.RequestRows.{IsToldNothing, before, chunk_session, over_before, places_behind, table_behind}
-use Rattle.capture_ends.proofs.SendingWalks.{ended_behind, form, none_sends, own_setup, sent_behind, sent_reason, walk_form}
+use Rattle.capture_ends.proofs.SendingWalks.{ended_behind, form, none_sends, sent_behind, sent_reason, walk_form}
 use Rattle.capture_ends.proofs.WalkRows.{places_for}
 use Rattle.capture_ends.specs.Asker.{IsAsker}
-use Rattle.capture_ends.specs.Conversation.{IsJudgedRequest, IsRequest, IsUnderWay, NoneGoesOn, StandsBehind, meanwhile}
+use Rattle.capture_ends.specs.Conversation.{IsJudgedRequest, IsRequest, IsUnderWay, StandsBehind, meanwhile}
 use Rattle.capture_ends.specs.LargeAsked.{IsConnectedOver, refused_why}
 use Rattle.capture_ends.specs.Party.{IsParty}
 use Rattle.capture_ends.specs.declared.asker.Asker.{Asker}
 use Rattle.capture_ends.specs.declared.party.Party.{Party}
-use Rattle.large_requests.proofs.AskedOn.{sending_asks}
 use Rattle.large_requests.proofs.Meanwhile.{sending_connects}
-use Rattle.large_requests.proofs.Asked.{sending_ends}
 use Rattle.large_requests.specs.LargeRequests as large_requests
 use Rattle.large_requests.specs.Sending.{Ack, Beginning, IsSendingOf, MayBegin, Sending, number_of, requester_of, transfer_of}
-use Rattle.large_requests.specs.Pieces.{IsPieces}
 use Rattle.large_requests.specs.SendingLaws.{AsksEnding, AsksSending, ConnectsSending, CopiesSending, LastSending, NextSending, whole_kept, without_due}
 use Rattle.large_requests.specs.declared.large_request.LargeRequest.{LargeRequest}
 use Rattle.world_machine.specs.Capture.{may_begin}
 use Rattle.world_machine.specs.CapturedRequests.{Tells}
-use Rattle.world_machine.specs.Difference.{Why, is_copy}
+use Rattle.world_machine.specs.Difference.{is_copy}
 use Rattle.world_machine.proofs.AskTells.{same_sent}
 use Rattle.world_machine.specs.Rounds.{Dialogue, Round, new_round, no_draw}
 use Rattle.world_machine.specs.SessionTable.{Row, rows_between}
@@ -150,14 +143,17 @@ module _ (copies : CopyIsRequest) (rounds : RoundIsRequest) (w : Configuration) 
       came = over_before copies rounds w q older rows packet route body at party.places table told from over are n walk none;
       after = n;
       goes = walk;
-      stands = (next, record {
-        sending = behind;
-        chunks = chunks;
-        kept = is;
-        earlier = way.earlier;
-        before = subst (Keeps w q way.earlier) (sym same) way.before;
-        fewer = (let f = way.fewer in let l : length (packet ∷ older) ≡ length older + 1 = omega arith in omega (arith, f, l));
-      });
+      stands = (
+        next,
+        record {
+          sending = behind;
+          chunks = chunks;
+          kept = is;
+          earlier = way.earlier;
+          before = subst (Keeps w q way.earlier) (sym same) way.before;
+          fewer = (let f = way.fewer in let l : length (packet ∷ older) ≡ length older + 1 = omega arith in omega (arith, f, l));
+        },
+      );
       entries = table_behind copies rounds w q older rows packet route body at party.places table told from over are n walk none;
     }
 
@@ -208,13 +204,17 @@ module _ (copies : CopyIsRequest) (rounds : RoundIsRequest) (w : Configuration) 
           came = over_before copies rounds w q older rows packet route body at party.places table told from over are m walk_m none_sent;
           after = m;
           goes = walk_m;
-          stands = (last, behind, record {
-            asker = record { kept = asker.kept; setup = asker.setup; stands = asker.stands; owes = asker.owes };
-            answerer = way.kept.answerer;
-            keys = way.kept.keys;
-            number = way.kept.number;
-            places = places_behind copies rounds w q older rows packet route body at party.places table told from over are m walk_m none_sent;
-          });
+          stands = (
+            last,
+            behind,
+            record {
+              asker = record { kept = asker.kept; setup = asker.setup; stands = asker.stands; owes = asker.owes };
+              answerer = way.kept.answerer;
+              keys = way.kept.keys;
+              number = way.kept.number;
+              places = places_behind copies rounds w q older rows packet route body at party.places table told from over are m walk_m none_sent;
+            },
+          );
           entries = table_behind copies rounds w q older rows packet route body at party.places table told from over are m walk_m none_sent;
         }
 

@@ -1,5 +1,5 @@
 -- What is told of a request and of an answer while a large request is sent, in words of walks.
-use Rattle.std.proofs.Common.{◌≡◌, ◌∙◌, ◌<◌, ◌-◌, ◌==◌, ◌||◌, ◌⊎◌, ℕ, List, ◌∷◌, refl, sym, ap, subst, drop, Bool, true, false, cond, Option, Some, None, Ok, inl, inr}
+use Rattle.std.proofs.Common.{◌≡◌, ◌∙◌, ◌==◌, ◌||◌, ℕ, List, ◌∷◌, sym, ap, subst, drop, Bool, true, false, cond, Some, inl, inr}
 use Rattle.mctp_framing.specs.Cutting.{RouteFields}
 use Rattle.mctp_framing.specs.Gathering.{Gathered}
 use Rattle.mctp_framing.specs.Gathering.Gathered.{Whole}
@@ -8,10 +8,9 @@ use Rattle.requester_machine.specs.May.{IsSetUp}
 use Rattle.requester_machine.specs.Named.{session_named}
 use Rattle.requester_machine.specs.Setup.{ReqSetup}
 use Rattle.spdm_machine.specs.Packets.{body_type}
-use Rattle.capture_laws.proofs.KeptAnswers.{kept_is_restored}
 use Rattle.capture_laws.proofs.KeptParts.{none_later}
 use Rattle.capture_laws.proofs.PairWalks.{walks_setup}
-use Rattle.capture_laws.specs.Keeping.{Keeps, Kept, restored}
+use Rattle.capture_laws.specs.Keeping.{Keeps, Kept}
 use Rattle.capture_laws.specs.Order.{asks_wrong}
 use Rattle.capture_laws.specs.ReasonsEach.{IsAskedReason}
 use Rattle.capture_laws.specs.Walks.{Walks}
@@ -27,7 +26,7 @@ use Rattle.world_machine.specs.CapturedRequests.{is_later, owes, without_owed}
 use Rattle.world_machine.specs.Difference.{ComesApart, Why, comes_why, request_why}
 use Rattle.world_machine.specs.Difference.Why.{BadPacket, WrongTurn, BadRequest, BadRecord}
 use Rattle.world_machine.specs.Opening.{opens_asking}
-use Rattle.world_machine.specs.Rounds.{Dialogue, Round}
+use Rattle.world_machine.specs.Rounds.{Dialogue}
 use Rattle.world_machine.specs.Setup.{Configuration}
 
 module _ (w : Configuration) (q : ReqSetup) (older : List (List ℕ)) (s : Sending) (own : IsSendingOf w q older s) where

@@ -1,5 +1,5 @@
 -- The rows that packets show, by any walk of the requester of the last one.
-use Rattle.std.proofs.Common.{◌≡◌, ◌≢◌, ◌∙◌, ◌==◌, ◌⊎◌, ℕ, List, [], ◌∷◌, Bool, true, false, Option, Some, None, Result, Ok, Err, refl, ap, sym, subst, inl, inr}
+use Rattle.std.proofs.Common.{◌≡◌, ◌∙◌, ◌==◌, ℕ, List, [], ◌∷◌, Bool, true, false, Option, Some, None, Result, Ok, Err, refl, ap, sym, subst, inl, inr}
 use Rattle.std.specs.Prelude.{MatchBool, if◌then◌else◌, reverse, slice_index_or, ◌+◌}
 use Rattle.std.specs.List.{AllByRecursion}
 use Rattle.mctp_framing.specs.Packet.{PacketFields, parsed}

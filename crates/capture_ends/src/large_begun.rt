@@ -26,7 +26,10 @@ const MAX_LEN: usize = 4096;
 fn is_refused_late(fault: CommandFault) -> bool
     ensures { result ≡ is_refused_late fault }
 {
-    matches!(fault, CommandFault::NotNegotiated | CommandFault::BadSummary)
+    matches!(
+        fault,
+        CommandFault::NotNegotiated | CommandFault::BadSummary
+    )
 }
 
 // Whether Open has all that it needs, but for its kind of summary and its length: it is told with a kind

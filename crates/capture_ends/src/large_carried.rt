@@ -63,12 +63,7 @@ fn carries_rest(
 
 /// Goes on to each chunk, so many behind the first one, of the large request whose first chunk is
 /// outstanding, and in `room`: whether the request has these bytes.
-pub(crate) fn carries(
-    asking: &mut Asking,
-    room: &mut Body,
-    whole: &[u8],
-    count: u32,
-) -> bool
+pub(crate) fn carries(asking: &mut Asking, room: &mut Body, whole: &[u8], count: u32) -> bool
     ensures { (q : ReqSetup) (h : History) (asked : RequestMessage) (handle : ℕ)
         → IsFirstOut asking.old room.old q h asked handle
         → count + 1 ≡ chunk_count (common_of h).to_responder.transfer whole.now

@@ -1,8 +1,9 @@
 //! What the two ends of a capture may have sent, judged by the ends' own code: the requests and the answers
-//! of one requester, while no large message is under way.
+//! of one requester, while no large answer is fetched.
 //!
-//! Read first: `IsParty` in `specs/Party.antt`, what is kept of a requester and the responder. The calls are
-//! `Party::asks` and `Party::replies`.
+//! Read first: `StandsFor` in `specs/Conversation.antt`, what is kept of a requester and the responder at any
+//! such place, and `IsParty` in `specs/Party.antt`, what is kept while no large message is under way. The
+//! calls are `Conversation::asks` and `Conversation::replies`, and `Party::asks` and `Party::replies`.
 #![tactic(auto)]
 
 mod answer_keys;
@@ -22,6 +23,8 @@ mod clear_commands;
 mod clear_judged;
 mod clear_values;
 mod conversation;
+mod conversation_laws;
+mod conversation_replies;
 mod conversation_requests;
 mod given;
 mod judged_in_clear;
@@ -52,6 +55,7 @@ pub use answerer::Answerer;
 pub use asker::Asker;
 pub use asker_hears::Heard;
 pub use conversation::Conversation;
+pub use conversation_laws::{other_conversations_stay, walks_show};
 pub use given::{Given, Judged};
 pub use onward::Onward;
 pub use party::Party;

@@ -164,7 +164,7 @@ behind_next s h tag answer = record s { due = with_ack_due s.due tag answer; res
 
 module _ (w : Configuration) (q : ReqSetup) (older : List (List ℕ)) (s : Sending) (own : IsSendingOf w q older s) (tag : ℕ) (answer : List ℕ) where
   -- The answer goes on from each form of what is kept.
-  replies_all : (h : responder_history.History) (fetching : Option (List ℕ)) → s.round.tag ≡ tag → 0 < s.round.waiting → Answers (towards w.responder (known_of s.before.setup)) (aside s) s.round answer h fetching
+  pub replies_all : (h : responder_history.History) (fetching : Option (List ℕ)) → s.round.tag ≡ tag → 0 < s.round.waiting → Answers (towards w.responder (known_of s.before.setup)) (aside s) s.round answer h fetching
       → (b : Beginning) (v : List ℕ) → MayBegin s.before b → MayStand s v → Replies w (dialogue_of s b v) tag answer (dialogue_of (behind_next s h tag answer) b v) × (owes (dialogue_of (behind_next s h tag answer) b v) ≡ is_some (behind_next s h tag answer).due)
   unfolding Hears
   replies_all h fetching tagged waiting answers b v may stand =

@@ -1,4 +1,4 @@
-use Rattle.std.proofs.Common.{◌∙◌, sym, ap, subst, true, false, ℕ, List, [], ◌∷◌, Bool, cond, Option, Some, None}
+use Rattle.std.proofs.Common.{◌∙◌, sym, ap, subst, ℕ, List, [], ◌∷◌, Bool, cond, Some}
 use Rattle.capture_ends.proofs.ShownDrops.{begun_drops, large_drops}
 use Rattle.capture_ends.specs.Answerer.{IsDropped, shows_large}
 use Rattle.capture_laws.specs.DropsShown.{id_begun}

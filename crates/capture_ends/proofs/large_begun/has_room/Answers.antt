@@ -1,4 +1,4 @@
-use Rattle.std.proofs.Common.{◌≡◌, refl, subst, false, [], ℕ, Result}
+use Rattle.std.proofs.Common.{refl, subst, false, [], ℕ, Result}
 use Rattle.asking.specs.Joined.{IsCommanded}
 use Rattle.requester_machine.specs.Asking.{asks}
 use Rattle.requester_machine.specs.Commands.{Free}

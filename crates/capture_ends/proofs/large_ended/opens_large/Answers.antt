@@ -1,4 +1,4 @@
-use Rattle.std.proofs.Common.{◌≡◌, ◌∙◌, List, ℕ, ap, refl, sym, subst}
+use Rattle.std.proofs.Common.{◌∙◌, ap, refl, sym}
 use Rattle.spdm_grammar.specs.Message.{exchange_message}
 use Rattle.capture_ends.proofs.LargeEnded.{fails_opens, not_opens, tells_opens}
 use Rattle.capture_ends.proofs.large_ended.opens_large.Goals as goal

@@ -1,4 +1,4 @@
-use Rattle.std.proofs.Common.{◌≡◌, ◌∙◌, ◌∷◌, [], ℕ, List, Option, Some, None, false, sym, ap}
+use Rattle.std.proofs.Common.{◌≡◌, ◌∷◌, [], Option, Some, None, sym, ap}
 use Rattle.std.proofs.lemmas.Bool.{false≢true}
 use Rattle.capture_laws.specs.Changes.{shown}
 use Rattle.connection.specs.Sessions.{IsViewOf}

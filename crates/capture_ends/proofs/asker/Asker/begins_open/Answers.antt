@@ -1,4 +1,4 @@
-use Rattle.std.proofs.Common.{◌≡◌, ◌∙◌, refl, sym, subst}
+use Rattle.std.proofs.Common.{◌∙◌, refl, sym}
 use Rattle.std.proofs.lemmas.Bool.{false≢true}
 use Rattle.capture_ends.proofs.AskedBy.{bare_kept, none_kept}
 use Rattle.capture_ends.proofs.LargeBegun.{asker_as, begun_open, no_room, too_long}

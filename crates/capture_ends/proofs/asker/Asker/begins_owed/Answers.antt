@@ -1,4 +1,4 @@
-use Rattle.std.proofs.Common.{◌≡◌, ◌∙◌, ◌==◌, ◌+◌, ◌%◌, ℕ, List, Option, Some, ap, refl, sym, subst}
+use Rattle.std.proofs.Common.{◌∙◌, ◌==◌, ◌+◌, ◌%◌, ℕ, List, Option, Some, ap, refl, sym, subst}
 use Rattle.std.proofs.lemmas.Bool.{false≢true}
 use Rattle.std.specs.Prelude.{slice_index}
 use Rattle.asking.specs.Joined.{StandsFor}

@@ -1,4 +1,4 @@
-use Rattle.std.proofs.Common.{◌≡◌, ◌∙◌, ◌+◌, ℕ, Bool, Option, Some, ap, false, refl, subst, sym}
+use Rattle.std.proofs.Common.{◌≡◌, ◌∙◌, ◌+◌, ℕ, Option, Some, ap, false, refl, subst, sym}
 use Rattle.asking.specs.Joined.{StandsFor}
 use Rattle.requester_machine.specs.History.{next_handle}
 use Rattle.requester_machine.specs.Message.{Sent}

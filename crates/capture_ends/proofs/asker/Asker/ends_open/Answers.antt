@@ -1,4 +1,4 @@
-use Rattle.std.proofs.Common.{◌≡◌, ◌∙◌, ◌+◌, ℕ, Bool, Option, ap, refl, subst, sym, true, false}
+use Rattle.std.proofs.Common.{◌≡◌, ◌∙◌, ◌+◌, ℕ, Bool, ap, refl, subst}
 use Rattle.spdm_grammar.specs.Message.{ExchangeMessage, exchange_message}
 use Rattle.capture_ends.proofs.AskedBy.{bare_kept, none_kept}
 use Rattle.capture_ends.proofs.LargeEnded.{asked_own, counted, ended_by, first_out, h, no_exchange, not_ended}

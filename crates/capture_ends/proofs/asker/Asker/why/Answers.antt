@@ -1,4 +1,4 @@
-use Rattle.std.proofs.Common.{◌≡◌, ◌∙◌, sym}
+use Rattle.std.proofs.Common.{◌∙◌, sym}
 use Rattle.capture_ends.proofs.ReasonsKept.{other_why}
 use Rattle.capture_ends.proofs.asker.Asker.why.Goals as goal
 

@@ -1,4 +1,4 @@
-use Rattle.std.proofs.Common.{◌≡◌, refl, subst, Result}
+use Rattle.std.proofs.Common.{refl, subst, Result}
 use Rattle.script_text.specs.declared.why.Why as declared
 use Rattle.capture_ends.proofs.PartyAsked.{large_or_refused}
 use Rattle.capture_ends.proofs.party.Party.asks.Goals as goal

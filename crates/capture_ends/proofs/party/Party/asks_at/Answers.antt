@@ -1,4 +1,4 @@
-use Rattle.std.proofs.Common.{◌≡◌, ◌∙◌, ℕ, List, Option, None, Some, subst, sym}
+use Rattle.std.proofs.Common.{◌≡◌, ◌∙◌, Option, None, subst, sym}
 use Rattle.capture_ends.proofs.SendingWalks.{form, walk_form}
 use Rattle.capture_ends.proofs.WalkRows.{walk_round}
 use Rattle.capture_ends.proofs.party.Party.asks_at.Goals as goal

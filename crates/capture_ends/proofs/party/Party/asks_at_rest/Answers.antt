@@ -1,14 +1,10 @@
-use Rattle.std.proofs.Common.{◌≡◌, ◌∙◌, ℕ, List, Option, Result, None, Ok, subst, sym}
+use Rattle.std.proofs.Common.{Option, Result, subst}
 use Rattle.script_text.specs.declared.why.Why as declared
 use Rattle.capture_ends.proofs.BeginsTold.{beginning_on, refused_on, whole_on}
 use Rattle.capture_ends.proofs.party.Party.asks_at_rest.Goals as goal
 use Rattle.capture_ends.specs.Conversation.{IsBeginning}
 use Rattle.capture_ends.specs.Party.{IsAskedWhole}
-use Rattle.capture_laws.specs.Rows.{StandFor}
-use Rattle.capture_laws.specs.declared.places.Places.{Places}
 use Rattle.large_requests.specs.declared.large_request.LargeRequest.{LargeRequest}
-use Rattle.capture_laws.specs.ChangeLaws.{IsRequestStep}
-use Rattle.world_machine.specs.Rounds.{Dialogue}
 
 pub returns-in-Some-clause-told : goal.returns-in-Some-clause-told
 returns-in-Some-clause-told c = λ w q older rows packet route k at few fits round tag none keeps party table.

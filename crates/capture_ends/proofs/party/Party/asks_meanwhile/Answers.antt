@@ -1,4 +1,4 @@
-use Rattle.std.proofs.Common.{◌≡◌, ◌∙◌, ℕ, Option, ap, sym, true, false}
+use Rattle.std.proofs.Common.{◌∙◌, ℕ, Option, ap, sym}
 use Rattle.capture_ends.proofs.InTurn.{asks_in_turn}
 use Rattle.capture_ends.proofs.SendingTold.{asker_before, copied, few_earlier, refused_early}
 use Rattle.capture_ends.proofs.party.Party.asks_meanwhile.Goals as goal

@@ -1,4 +1,4 @@
-use Rattle.std.proofs.Common.{◌≡◌, ◌∙◌, ◌+◌, ◌↔◌, ℕ, List, Bool, ap, refl, subst, sym, true, false}
+use Rattle.std.proofs.Common.{◌∙◌, ℕ, List, Bool, refl, subst, sym, true, false}
 use Rattle.std.proofs.lemmas.Bool.{false≢true}
 use Rattle.capture_ends.proofs.InTurn.{asks_in_turn}
 use Rattle.capture_ends.proofs.SendingTold.{asker_before, completed, connected, few_earlier, refused_late, sent_on, way_with}

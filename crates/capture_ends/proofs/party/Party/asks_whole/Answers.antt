@@ -1,4 +1,4 @@
-use Rattle.std.proofs.Common.{◌≡◌, ◌∙◌, refl, sym, ap, subst, ℕ, Option, Result}
+use Rattle.std.proofs.Common.{◌∙◌, refl, sym, ap, subst, ℕ, Option, Result}
 use Rattle.script_text.specs.declared.why.Why as declared
 use Rattle.std.proofs.lemmas.Bool.{false≢true}
 use Rattle.capture_ends.proofs.InTurn.{asks_in_turn}

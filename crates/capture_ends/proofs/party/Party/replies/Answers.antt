@@ -1,6 +1,5 @@
-use Rattle.std.proofs.Common.{◌≡◌, ◌+◌, ◌-◌, ◌^◌, ◌<◌, ◌∙◌, refl, sym, ap, subst, length, arith, List, ℕ, true, false, inl, inr, Option, Result, Ok}
+use Rattle.std.proofs.Common.{◌≡◌, ◌+◌, ◌-◌, ◌^◌, ◌<◌, ◌∙◌, sym, ap, subst, length, arith, List, ℕ, true, false, inl, inr, Result}
 use Rattle.std.specs.Prelude.{OnOk}
-use Rattle.capture_laws.specs.DropsShown.{id_begun, response_of}
 use Rattle.capture_laws.specs.KeptChanges.{begun_shown, taken_shown}
 use Rattle.capture_laws.specs.Keeping.{restored}
 use Rattle.capture_laws.specs.Order.{body_in, tag_in}
