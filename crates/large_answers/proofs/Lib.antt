@@ -28,3 +28,4 @@ pub mod ClearMoved
 pub mod TurnsLaws
 pub mod Rows
 pub mod Shown
+pub mod Taken

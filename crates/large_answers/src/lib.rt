@@ -5,8 +5,11 @@
 //! as its contract.
 #![tactic(auto)]
 
+mod large_answer;
 mod laws;
+mod messages;
 
+pub use large_answer::LargeAnswer;
 pub use laws::{
     begun_is_fetching, chunk_is_shown, fetching_asks, fetching_begins, fetching_ends,
     fetching_goes, fetching_is_alone, fetching_is_asked, fetching_is_replied, fetching_shows,
