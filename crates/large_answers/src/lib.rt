@@ -1,8 +1,9 @@
 //! What a capture shows of a large answer, one that is fetched by chunks: what is kept of the two ends from
-//! its LargeResponse to its last chunk, what goes on from that, and why a packet is refused meanwhile.
+//! its LargeResponse to its last chunk, what goes on from that, and why a packet is refused meanwhile; and
+//! the bytes as they come.
 //!
-//! Read first: `IsFetchingOf` in `specs/Fetching.antt`, of which walks that is kept. Each function has a law
-//! as its contract.
+//! Read first: `IsFetchingOf` in `specs/Fetching.antt`, of which walks that is kept. The call is
+//! `LargeAnswer::take`; most other functions have a law as their contract.
 #![tactic(auto)]
 
 mod large_answer;
