@@ -1,5 +1,6 @@
 -- Which requests and answers go on while a large answer is fetched by chunks. This project's own.
 use Rattle.std.specs.Prelude.{◌≡◌, ◌⊎◌, ◌↔◌, ℕ, List, [], ◌∷◌, true, false, Some, None, Ok}
+use Rattle.mctp_framing.specs.Cutting.{RouteFields}
 use Rattle.mctp_framing.specs.Gathering.{Gathered}
 use Rattle.mctp_framing.specs.Gathering.Gathered.{Whole, More, Dropped}
 use Rattle.mctp_framing.specs.Packet.{PacketFields, parsed}
@@ -124,6 +125,14 @@ abbrev pub FetchingGoes : Type 0
 FetchingGoes = (w : Configuration) (q : ReqSetup) (older : List (List ℕ)) (packet : List ℕ) (p : PacketFields) (f next : Fetching)
     → parsed packet ≡ Ok p → is_request w.responder.eid q.eid p ≡ false → is_answer w.responder.eid q.eid p ≡ true
     → IsFetchingOf w q older f → GoesFetching w f (gathered_from q.eid w.responder.eid older p) next → IsFetchingOf w q (packet ∷ older) next
+
+-- With any bytes that stand behind it the answer may be given: they stood before it too.
+abbrev pub FetchingGoesWithAny : Type 0
+FetchingGoesWithAny = (w : Configuration) (q : ReqSetup) (older : List (List ℕ)) (f next : Fetching) (route : RouteFields) (answer : List ℕ)
+    → IsFetchingOf w q older f → GoesFetching w f (Whole route answer) next
+    → (whole : List ℕ) → MayStand next whole
+    → MayStand f whole
+    × ((round : Round) × AnswersRound f.kept route.tag round × AnswersPlainly (responder_for w f.kept) (dialogue_of f whole) round answer next.kept.responder)
 
 abbrev pub FetchingTurns : Type 0
 FetchingTurns = (w : Configuration) (q : ReqSetup) (older : List (List ℕ)) (packet : List ℕ) (p : PacketFields) (f next : Fetching)
