@@ -16,7 +16,6 @@ use Rattle.capture_laws.proofs.AnsweredOn.{answers_on}
 use Rattle.capture_laws.proofs.OneWalk.{walks_alike}
 use Rattle.capture_laws.specs.Keeping.{kept_of, restored}
 use Rattle.capture_laws.specs.Order.{body_in, is_answer}
-use Rattle.capture_laws.specs.RepliesShown.{AnswersRound, responder_for}
 use Rattle.capture_laws.specs.Walks.{Walks}
 use Rattle.world_machine.proofs.AimsHeard.{hears_version}
 use Rattle.world_machine.proofs.FetchStates.{Fetch, asking}
@@ -29,7 +28,7 @@ use Rattle.world_machine.specs.LargeAnswers.{is_fetching, judging, place_named}
 use Rattle.world_machine.specs.Rounds.{Dialogue, Round}
 use Rattle.world_machine.specs.Setup.{Configuration, known_of}
 use Rattle.large_answers.specs.Fetching.{Fetching, IsFetchingOf, MayStand, dialogue_of}
-use Rattle.large_answers.specs.FetchingLaws.{FetchingGoes, FetchingGoesWithAny, GoesFetching, kept_behind}
+use Rattle.large_answers.specs.FetchingLaws.{FetchingGoes, GoesFetching, kept_behind}
 use Rattle.large_answers.proofs.Asked.{fetched_walk}
 use Rattle.large_answers.proofs.BegunWalks.{behind, both_fetched, replies_so}
 use Rattle.large_answers.proofs.GoesWith.{Stood, stood}
@@ -194,8 +193,3 @@ fetching_goes w q older packet p f after parses not is own c = by_gathered (gath
               (old.0, old.1, ap (λ (y : Dialogue). y.fetching) same_one ∙ old.2);
         })
     by_gathered (Dropped cause) g c = absurd c
-
-pub fetching_goes_with_any : FetchingGoesWithAny
-fetching_goes_with_any w q older f then route answer own (body_is, owner, (round, rounds, (v, h, stand, plain, (l, hears, gets, made)))) =
-    subst (λ (x : Fetching). (u : List ℕ) → MayStand x u → MayStand f u × ((round : Round) × AnswersRound f.kept route.tag round × AnswersPlainly (responder_for w f.kept) (dialogue_of f u) round answer x.kept.responder)) (sym made)
-    (λ u may. (stood_of w q older f own route.tag round answer v h l stand rounds.0 plain hears gets u may, (round, rounds, plain_of w q older f own route.tag round answer v h l stand rounds.0 plain hears gets u may)))

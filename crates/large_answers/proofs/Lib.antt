@@ -29,3 +29,5 @@ pub mod TurnsLaws
 pub mod Rows
 pub mod Shown
 pub mod Taken
+pub mod VersionMoved
+pub mod PlainLaws

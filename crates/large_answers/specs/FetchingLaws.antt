@@ -1,6 +1,5 @@
 -- Which requests and answers go on while a large answer is fetched by chunks. This project's own.
 use Rattle.std.specs.Prelude.{◌≡◌, ◌⊎◌, ◌↔◌, ℕ, List, [], ◌∷◌, true, false, Some, None, Ok}
-use Rattle.mctp_framing.specs.Cutting.{RouteFields}
 use Rattle.mctp_framing.specs.Gathering.{Gathered}
 use Rattle.mctp_framing.specs.Gathering.Gathered.{Whole, More, Dropped}
 use Rattle.mctp_framing.specs.Packet.{PacketFields, parsed}
@@ -114,6 +113,15 @@ TurnsFetching w f (Whole route answer) next =
     × (next ≡ record { kept = kept_behind f.kept round g h; at = place_named round.body; place = place }))))
 TurnsFetching w f _ next = ⊥
 
+-- An answer that goes whole may be given with each bytes that may stand behind it, where it may be given with some,
+-- whatever the requester does upon it: so it is told by any of them. They stood before it too.
+abbrev pub PlainIsOfAll : Type 0
+PlainIsOfAll = (w : Configuration) (q : ReqSetup) (older : List (List ℕ)) (f : Fetching) (round : Round) (answer whole other : List ℕ) (h : History)
+    → IsFetchingOf w q older f → f.kept.round ≡ Some round
+    → MayStand f whole → AnswersPlainly (responder_for w f.kept) (dialogue_of f whole) round answer h
+    → MayStand (record f { kept = record f.kept { responder = h } }) other
+    → MayStand f other × AnswersPlainly (responder_for w f.kept) (dialogue_of f other) round answer h
+
 -- An answer behind which nothing is fetched: the last chunk, with which all bytes are judged; or another one, behind which
 -- the answer stays unseen.
 abbrev pub EndsFetching : Configuration → Fetching → Gathered → Kept → Type 0
@@ -125,14 +133,6 @@ abbrev pub FetchingGoes : Type 0
 FetchingGoes = (w : Configuration) (q : ReqSetup) (older : List (List ℕ)) (packet : List ℕ) (p : PacketFields) (f next : Fetching)
     → parsed packet ≡ Ok p → is_request w.responder.eid q.eid p ≡ false → is_answer w.responder.eid q.eid p ≡ true
     → IsFetchingOf w q older f → GoesFetching w f (gathered_from q.eid w.responder.eid older p) next → IsFetchingOf w q (packet ∷ older) next
-
--- With any bytes that stand behind it the answer may be given: they stood before it too.
-abbrev pub FetchingGoesWithAny : Type 0
-FetchingGoesWithAny = (w : Configuration) (q : ReqSetup) (older : List (List ℕ)) (f next : Fetching) (route : RouteFields) (answer : List ℕ)
-    → IsFetchingOf w q older f → GoesFetching w f (Whole route answer) next
-    → (whole : List ℕ) → MayStand next whole
-    → MayStand f whole
-    × ((round : Round) × AnswersRound f.kept route.tag round × AnswersPlainly (responder_for w f.kept) (dialogue_of f whole) round answer next.kept.responder)
 
 abbrev pub FetchingTurns : Type 0
 FetchingTurns = (w : Configuration) (q : ReqSetup) (older : List (List ℕ)) (packet : List ℕ) (p : PacketFields) (f next : Fetching)

@@ -1,7 +1,7 @@
 //! What goes on while a large answer is fetched by chunks, each law as the contract of a function that does
 //! nothing.
 
-ghost use Rattle.large_answers.specs.FetchingLaws.{BegunIsFetching, FetchingAsks, FetchingBegins, FetchingEnds, FetchingGoes, FetchingGoesWithAny, FetchingIsAlone, FetchingIsAsked, FetchingIsReplied, FetchingStays, FetchingTellsApart, FetchingTellsWhy, FetchingTurns};
+ghost use Rattle.large_answers.specs.FetchingLaws.{BegunIsFetching, FetchingAsks, FetchingBegins, FetchingEnds, FetchingGoes, FetchingIsAlone, FetchingIsAsked, FetchingIsReplied, FetchingStays, FetchingTellsApart, FetchingTellsWhy, FetchingTurns, PlainIsOfAll};
 ghost use Rattle.large_answers.specs.FetchingRows.{FetchingShows};
 ghost use Rattle.large_answers.specs.FetchingShown.{ChunkIsShown, LastIsWhole};
 
@@ -86,7 +86,7 @@ pub fn last_is_whole()
     ensures { LastIsWhole }
 {}
 
-/// With any bytes that stand behind an answer it may be given.
-pub fn fetching_goes_with_any()
-    ensures { FetchingGoesWithAny }
+/// An answer that goes whole may be given with each bytes that may stand behind it, or with none.
+pub fn plain_is_of_all()
+    ensures { PlainIsOfAll }
 {}
