@@ -18,7 +18,7 @@ use Rattle.world_machine.specs.Capture.{RepliesBy}
 use Rattle.world_machine.specs.LargeAnswers.{is_fetching, place_named}
 use Rattle.world_machine.specs.Rounds.{Dialogue}
 use Rattle.world_machine.specs.Setup.{known_of}
-use Rattle.large_answers.specs.Fetching.{Fetching, IsFetchingOf, dialogue_of}
+use Rattle.large_answers.specs.Fetching.{Fetching, IsFetchingOf, dialogue_of, number_of}
 use Rattle.large_answers.specs.FetchingLaws.{BeginsFetching, BegunIsFetching, FetchingBegins, FetchingEnds, FetchingIsAlone, kept_behind}
 use Rattle.large_answers.proofs.Asked.{fetched_walk}
 use Rattle.large_answers.proofs.Begun.{from_largely, none_before}
@@ -28,13 +28,13 @@ use Rattle.large_answers.proofs.Packets.{came_replied, goes_replied}
 pub fetching_begins : FetchingBegins
 fetching_begins w q older packet p k after parses not is keeps c = by_gathered (gathered_from q.eid w.responder.eid older p) refl c
   where
-    by_gathered : (y : Gathered) → gathered_from q.eid w.responder.eid older p ≡ y → BeginsFetching w k y after → IsFetchingOf w q (packet ∷ older) after
+    by_gathered : (y : Gathered) → gathered_from q.eid w.responder.eid older p ≡ y → BeginsFetching w k y after → IsFetchingOf w q (packet ∷ older) after × (number_of after ≡ 0)
     by_gathered (Whole route answer) at (body_is, owner, (round, (here, own, waits), (h, place, from, (l, hears, gets, made)))) =
         let d : Dialogue = restored k in
         let walk : Walks w q older d = (kept_is_restored w q older k keeps).0 in
         let keep = begun_keeps w q older packet p parses is d walk refl route.tag round answer h place l
         (λ n one. subst (λ (y : Gathered). RepliesBy w d y n) (sym at) (body_is, owner, one)) here own waits from hears gets in
-        subst (IsFetchingOf w q (packet ∷ older)) (sym made) (keep (λ x over.
+        subst (λ (x : Fetching). IsFetchingOf w q (packet ∷ older) x × (number_of x ≡ 0)) (sym made) (keep (λ x over.
         let came = came_replied w q older packet p parses is x over in
         let b : Dialogue = came.0 in
         let back = (walks_alike w q older b d came.1 walk).alike in

@@ -24,7 +24,7 @@ use Rattle.world_machine.specs.LargeAnswers.{IsLargeAnswer, is_fetching, place_n
 use Rattle.world_machine.specs.Rounds.{Dialogue, Round}
 use Rattle.world_machine.specs.Setup.{Configuration, known_of}
 use Rattle.responder_machine.specs.Place.{Place}
-use Rattle.large_answers.specs.Fetching.{Fetching, HasSize, IsFetchingOf, MayStand, dialogue_of}
+use Rattle.large_answers.specs.Fetching.{Fetching, HasSize, IsFetchingOf, MayStand, dialogue_of, number_of}
 use Rattle.large_answers.specs.FetchingLaws.{AnswersFrom}
 use Rattle.large_answers.proofs.Begun.{Largely, any_large, one_size, repeats, some_large}
 use Rattle.large_answers.proofs.Begun.Largely.{First, Again}
@@ -85,7 +85,7 @@ module _ (w : Configuration) (q : ReqSetup) (older : List (List ℕ)) (packet : 
     one : Walks w q (packet ∷ older) (behind d round l h some.0)
     one = behind_walk some.0 some.1
 
-    none_given : IsFresh (place_named round.body) h
+    pub none_given : IsFresh (place_named round.body) h
     none_given =
         let sound = (walks_alike w q (packet ∷ older) (behind d round l h some.0) (behind d round l h some.0) one one).one in
         fresh (place_named round.body) h sound.unseen (repeats r d round answer h place from)
@@ -122,11 +122,14 @@ module _ (w : Configuration) (q : ReqSetup) (older : List (List ℕ)) (packet : 
           let its : Largely s b round answer k.4.0 other.0 = subst (λ (y : Round). Largely s b y answer k.4.0 other.0) rounds (largely other.0 parts.1) in
           (other.0, stands other.0 (one_size r s d b round answer h k.4.0 place other.0 from its alike.responder same histories), other.1)
 
-    pub begun_keeps : ((x : Dialogue) → Walks w q (packet ∷ older) x → (v : List ℕ) × MayStand next v × (x.fetching ≡ Some v)) → IsFetchingOf w q (packet ∷ older) next
-    begun_keeps each = record {
+    keep : ((x : Dialogue) → Walks w q (packet ∷ older) x → (v : List ℕ) × MayStand next v × (x.fetching ≡ Some v)) → IsFetchingOf w q (packet ∷ older) next
+    keep each = record {
       kept = (all_walk some.0 some.1).1;
       there = λ gets. refl;
       stands = (some.0, stands some.0 some.1);
       all = λ v stand. (all_walk v stand.0).0;
       each = each;
     }
+
+    pub begun_keeps : ((x : Dialogue) → Walks w q (packet ∷ older) x → (v : List ℕ) × MayStand next v × (x.fetching ≡ Some v)) → IsFetchingOf w q (packet ∷ older) next × (number_of next ≡ 0)
+    begun_keeps each = (keep each, none_given.number)

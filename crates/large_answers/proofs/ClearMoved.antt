@@ -106,12 +106,16 @@ module _ (r : RspSetup) (h : History) (v w : List ℕ) (tag : ℕ) (body : List 
   pub other_values : Free → Free
   other_values f = least_with (with_large (place_named body) w h) (clear_place (with_large (place_named body) w h)) f
 
+  pub values_handle : (f : Free) → f.handle ≡ (other_values f).handle
+  unfolding other_values
+  values_handle f = refl
+
   other_short : (f : Free) → length (clear_answer r (clear_place g) (drop 1 body) f) ≤ MAX_MESSAGE_SIZE → length (clear_answer r (clear_place k) (drop 1 body) (other_values f)) ≤ MAX_MESSAGE_SIZE
   unfolding other_values
   other_short f few =
       clear_short r (clear_place g) (clear_place k) (chunks_beside (clear_turns g) (clear_turns k) turns) (drop 1 body) f (least_with k (clear_place k) f) (length-replicate {A = ℕ} (hash_len (place_terms (clear_place k))) 0) refl refl refl few
 
-  other_may : (o : Outcome) (m : ClearMay r g tag body o) → on_clear r k tag (drop 1 body) (other_values m.free) no_draw ≡ o → MayLeadTo r k tag body o
+  pub other_may : (o : Outcome) (m : ClearMay r g tag body o) → on_clear r k tag (drop 1 body) (other_values m.free) no_draw ≡ o → MayLeadTo r k tag body o
   unfolding other_values
   other_may o m leads = may_clear r k tag body o (least_with k (clear_place k) m.free) type (least_fits g k (clear_place g) (clear_place k) m.free m.fits) (other_short m.free m.few) leads
 

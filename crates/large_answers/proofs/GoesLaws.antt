@@ -65,7 +65,7 @@ plain_answers r d v round answer h is plain = inl (plain, sym is)
 
 -- ---- Behind the answer.
 
-module _ (w : Configuration) (q : ReqSetup) (older : List (List ℕ)) (packet : List ℕ) (p : PacketFields) (parses : parsed packet ≡ Ok p) (is : is_answer w.responder.eid q.eid p ≡ true) (f : Fetching) (own : IsFetchingOf w q older f) (tag : ℕ) (round : Round) (answer : List ℕ) (v : List ℕ) (h : History) (l : requester_history.History) (stand : MayStand f v) (at : f.kept.round ≡ Some round) (tagged : round.tag ≡ tag) (waits : 0 < round.waiting) (plain : AnswersPlainly (towards w.responder (known_of f.kept.setup)) (dialogue_of f v) round answer h) (hears : Hears (dialogue_of f v) tag answer l) (gets : is_fetching (outstanding l) ≡ true) (made : (u : List ℕ) (n : Dialogue) → Replies w (dialogue_of f u) tag answer n → RepliesBy w (dialogue_of f u) (gathered_from q.eid w.responder.eid older p) n) where
+module _ (w : Configuration) (q : ReqSetup) (older : List (List ℕ)) (f : Fetching) (own : IsFetchingOf w q older f) (tag : ℕ) (round : Round) (answer : List ℕ) (v : List ℕ) (h : History) (l : requester_history.History) (stand : MayStand f v) (at : f.kept.round ≡ Some round) (plain : AnswersPlainly (towards w.responder (known_of f.kept.setup)) (dialogue_of f v) round answer h) (hears : Hears (dialogue_of f v) tag answer l) (gets : is_fetching (outstanding l) ≡ true) where
   abbrev r : RspSetup
   r = towards w.responder (known_of f.kept.setup)
 
@@ -108,66 +108,67 @@ module _ (w : Configuration) (q : ReqSetup) (older : List (List ℕ)) (packet : 
       stood r k v u round.tag round.body f.place (here v stand) plain.0 plain.1 (on_of v stand).fetch plain.2 plain.3
       (subst (λ (x : History). StandsAt f.place (place_named round.body) x u) plain.6 (back u may))
 
-  stood_of : (u : List ℕ) → MayStand next u → MayStand f u
+  pub stood_of : (u : List ℕ) → MayStand next u → MayStand f u
   stood_of u may = subst (λ (x : Option ℕ). StandsAt f.place x k u) place_is (before u may).stood
 
   -- It may be given with any that stand behind it.
-  plain_of : (u : List ℕ) → MayStand next u → AnswersPlainly r (dialogue_of f u) round answer h
+  pub plain_of : (u : List ℕ) → MayStand next u → AnswersPlainly r (dialogue_of f u) round answer h
   plain_of u may =
       let b = before u may in
       let moved = plain_moved r k v u round.tag round.body (sound_of v stand).unseen (walks_caps w q older (dialogue_of f v) (own.all v stand)) (on_of v stand).fetch (on_of u (stood_of u may)).fetch plain.0 plain.1 b.goes plain.2 plain.3 plain.4 in
       (plain.0, plain.1, moved.may, moved.shown, moved.plain, plain.5, plain.6)
 
-  walk_of : (u : List ℕ) → MayStand next u → Walks w q (packet ∷ older) (behind (dialogue_of f u) round l h u)
-  walk_of u may =
-      goes_replied w q older packet p parses is (dialogue_of f u) (behind (dialogue_of f u) round l h u) (own.all u (stood_of u may))
-      (made u (behind (dialogue_of f u) round l h u)
-      (replies_so w (dialogue_of f u) tag round answer l h u at tagged waits (plain_answers r (dialogue_of f u) u round answer h refl (plain_of u may)) (hears_same f v u tag answer l hears) gets))
+  module _ (packet : List ℕ) (p : PacketFields) (parses : parsed packet ≡ Ok p) (is : is_answer w.responder.eid q.eid p ≡ true) (tagged : round.tag ≡ tag) (waits : 0 < round.waiting) (made : (u : List ℕ) (n : Dialogue) → Replies w (dialogue_of f u) tag answer n → RepliesBy w (dialogue_of f u) (gathered_from q.eid w.responder.eid older p) n) where
+    walk_of : (u : List ℕ) → MayStand next u → Walks w q (packet ∷ older) (behind (dialogue_of f u) round l h u)
+    walk_of u may =
+        goes_replied w q older packet p parses is (dialogue_of f u) (behind (dialogue_of f u) round l h u) (own.all u (stood_of u may))
+        (made u (behind (dialogue_of f u) round l h u)
+        (replies_so w (dialogue_of f u) tag round answer l h u at tagged waits (plain_answers r (dialogue_of f u) u round answer h refl (plain_of u may)) (hears_same f v u tag answer l hears) gets))
 
-  bare_at : (u : List ℕ) → MayStand next u → Walks w q (packet ∷ older) (dialogue_of next u) × (kept_of (restored next.kept) ≡ next.kept)
-  bare_at u may = bare_walks w q (packet ∷ older) (behind (dialogue_of f u) round l h u) (walk_of u may) refl
+    bare_at : (u : List ℕ) → MayStand next u → Walks w q (packet ∷ older) (dialogue_of next u) × (kept_of (restored next.kept) ≡ next.kept)
+    bare_at u may = bare_walks w q (packet ∷ older) (behind (dialogue_of f u) round l h u) (walk_of u may) refl
 
-  goes_keeps : ((x : Dialogue) → Walks w q (packet ∷ older) x → (u : List ℕ) × MayStand next u × (x.fetching ≡ Some u)) → IsFetchingOf w q (packet ∷ older) next
-  goes_keeps each = record {
-    kept = (bare_at v stands_on).1;
-    there = λ asks. place_is;
-    stands = (v, stands_on);
-    all = λ u may. (bare_at u may).0;
-    each = each;
-  }
+    goes_keeps : ((x : Dialogue) → Walks w q (packet ∷ older) x → (u : List ℕ) × MayStand next u × (x.fetching ≡ Some u)) → IsFetchingOf w q (packet ∷ older) next
+    goes_keeps each = record {
+      kept = (bare_at v stands_on).1;
+      there = λ asks. place_is;
+      stands = (v, stands_on);
+      all = λ u may. (bare_at u may).0;
+      each = each;
+    }
 
-  -- ---- Each walk.
+    -- ---- Each walk.
 
-  replied_with : RepliesBy w (dialogue_of f v) (gathered_from q.eid w.responder.eid older p) (behind (dialogue_of f v) round l h v)
-  replied_with = made v (behind (dialogue_of f v) round l h v) (replies_so w (dialogue_of f v) tag round answer l h v at tagged waits (plain_answers r (dialogue_of f v) v round answer h refl plain) hears gets)
+    replied_with : RepliesBy w (dialogue_of f v) (gathered_from q.eid w.responder.eid older p) (behind (dialogue_of f v) round l h v)
+    replied_with = made v (behind (dialogue_of f v) round l h v) (replies_so w (dialogue_of f v) tag round answer l h v at tagged waits (plain_answers r (dialogue_of f v) v round answer h refl plain) hears gets)
 
-  by_answers : (u : List ℕ) → MayStand f u → (x : History) (fetching : Option (List ℕ)) (y : List ℕ) → Answers r (dialogue_of f u) round answer x fetching → fetching ≡ Some y → h ≡ x → MayStand next y
-  unfolding Answers
-  by_answers u may x fetching y (inl (also, same)) some is =
-      let on = (on_of u may).fetch in
-      let stands = subst (λ (z : History). StandsAt f.place (place_named round.body) z u) (sym also.6 ∙ sym is) (plain_stands r k u round.tag round.body f.place also.0 also.1 on also.2 also.3 (here u may)) in
-      subst (MayStand next) (same_Some u y (sym same ∙ some)) (there u stands)
-  by_answers u may x fetching y (inr (inl (z, large, same))) some is =
-      absurd (large_fetched r k (place_named round.body) v u round.tag round.body plain.0 large.0 plain.1 large.1 (asking k round.tag round.body (on_of v stand).fetch.how) plain.2 large.2 plain.3 plain.4 large.3 (plain.5 ∙ sym large.5))
-  by_answers u may x fetching y (inr (inr (inl (z, again, same)))) some is = absurd (none-some u (sym again.0))
-  by_answers u may x fetching y (inr (inr (inr (last, none)))) some is = absurd (none-some y (sym none ∙ some))
+    by_answers : (u : List ℕ) → MayStand f u → (x : History) (fetching : Option (List ℕ)) (y : List ℕ) → Answers r (dialogue_of f u) round answer x fetching → fetching ≡ Some y → h ≡ x → MayStand next y
+    unfolding Answers
+    by_answers u may x fetching y (inl (also, same)) some is =
+        let on = (on_of u may).fetch in
+        let stands = subst (λ (z : History). StandsAt f.place (place_named round.body) z u) (sym also.6 ∙ sym is) (plain_stands r k u round.tag round.body f.place also.0 also.1 on also.2 also.3 (here u may)) in
+        subst (MayStand next) (same_Some u y (sym same ∙ some)) (there u stands)
+    by_answers u may x fetching y (inr (inl (z, large, same))) some is =
+        absurd (large_fetched r k (place_named round.body) v u round.tag round.body plain.0 large.0 plain.1 large.1 (asking k round.tag round.body (on_of v stand).fetch.how) plain.2 large.2 plain.3 plain.4 large.3 (plain.5 ∙ sym large.5))
+    by_answers u may x fetching y (inr (inr (inl (z, again, same)))) some is = absurd (none-some u (sym again.0))
+    by_answers u may x fetching y (inr (inr (inr (last, none)))) some is = absurd (none-some y (sym none ∙ some))
 
-  pub each_on : (x : Dialogue) → Walks w q (packet ∷ older) x → (b : Dialogue) → Walks w q older b → (c : Replies w b tag answer x) → RepliesBy w b (gathered_from q.eid w.responder.eid older p) x → (u : List ℕ) × MayStand next u × (x.fetching ≡ Some u)
-  each_on x over b walk c replies =
-      let fw = fetched_walk w q older f b own walk in
-      let both = walks_alike w q older (dialogue_of f v) b (own.all v stand) walk in
-      let after = ((kept w).replies (dialogue_of f v) b (gathered_from q.eid w.responder.eid older p) (behind (dialogue_of f v) round l h v) x both replied_with replies).alike in
-      let some = both_fetched (Some v) x.fetching v after.fetches refl in
-      let parts = while_parts (is_fetching (outstanding c.4.3.0)) c.4.1 some.0 (ap (λ (y : Dialogue). y.fetching) (sym c.4.3.2) ∙ some.1) in
-      let rounds : c.0 ≡ round = same_Some c.0 round (sym c.1 ∙ sym both.alike.round ∙ at) in
-      let responders : b.responder ≡ k = sym both.alike.responder in
-      let R : ReqSetup → Type 0 = λ s. Answers (towards w.responder (known_of s)) b c.0 answer c.4.0 c.4.1 in
-      let A : Round → Type 0 = λ y. Answers r (dialogue_of f fw.whole) y answer c.4.0 c.4.1 in
-      let moved = subst A rounds (answers_on r b (dialogue_of f fw.whole) c.0 answer c.4.0 c.4.1 responders fw.fetches (subst R (sym both.alike.setup) c.4.2)) in
-      (some.0, by_answers fw.whole fw.stands c.4.0 c.4.1 some.0 moved parts.1 (after.responder ∙ ap (λ (y : Dialogue). y.responder) c.4.3.2), some.1)
+    pub each_on : (x : Dialogue) → Walks w q (packet ∷ older) x → (b : Dialogue) → Walks w q older b → (c : Replies w b tag answer x) → RepliesBy w b (gathered_from q.eid w.responder.eid older p) x → (u : List ℕ) × MayStand next u × (x.fetching ≡ Some u)
+    each_on x over b walk c replies =
+        let fw = fetched_walk w q older f b own walk in
+        let both = walks_alike w q older (dialogue_of f v) b (own.all v stand) walk in
+        let after = ((kept w).replies (dialogue_of f v) b (gathered_from q.eid w.responder.eid older p) (behind (dialogue_of f v) round l h v) x both replied_with replies).alike in
+        let some = both_fetched (Some v) x.fetching v after.fetches refl in
+        let parts = while_parts (is_fetching (outstanding c.4.3.0)) c.4.1 some.0 (ap (λ (y : Dialogue). y.fetching) (sym c.4.3.2) ∙ some.1) in
+        let rounds : c.0 ≡ round = same_Some c.0 round (sym c.1 ∙ sym both.alike.round ∙ at) in
+        let responders : b.responder ≡ k = sym both.alike.responder in
+        let R : ReqSetup → Type 0 = λ s. Answers (towards w.responder (known_of s)) b c.0 answer c.4.0 c.4.1 in
+        let A : Round → Type 0 = λ y. Answers r (dialogue_of f fw.whole) y answer c.4.0 c.4.1 in
+        let moved = subst A rounds (answers_on r b (dialogue_of f fw.whole) c.0 answer c.4.0 c.4.1 responders fw.fetches (subst R (sym both.alike.setup) c.4.2)) in
+        (some.0, by_answers fw.whole fw.stands c.4.0 c.4.1 some.0 moved parts.1 (after.responder ∙ ap (λ (y : Dialogue). y.responder) c.4.3.2), some.1)
 
-  pub keeps_on : ((x : Dialogue) → Walks w q (packet ∷ older) x → (b : Dialogue) × Walks w q older b × Replies w b tag answer x × RepliesBy w b (gathered_from q.eid w.responder.eid older p) x) → IsFetchingOf w q (packet ∷ older) next
-  keeps_on from = goes_keeps (λ x over. (let c = from x over in each_on x over c.0 c.1 c.2 c.3))
+    pub keeps_on : ((x : Dialogue) → Walks w q (packet ∷ older) x → (b : Dialogue) × Walks w q older b × Replies w b tag answer x × RepliesBy w b (gathered_from q.eid w.responder.eid older p) x) → IsFetchingOf w q (packet ∷ older) next
+    keeps_on from = goes_keeps (λ x over. (let c = from x over in each_on x over c.0 c.1 c.2 c.3))
 
 pub fetching_goes : FetchingGoes
 fetching_goes w q older packet p f after parses not is own c = by_gathered (gathered_from q.eid w.responder.eid older p) refl c
@@ -175,7 +176,7 @@ fetching_goes w q older packet p f after parses not is own c = by_gathered (gath
     by_gathered : (y : Gathered) → gathered_from q.eid w.responder.eid older p ≡ y → GoesFetching w f y after → IsFetchingOf w q (packet ∷ older) after
     by_gathered (Whole route answer) g (body_is, owner, (round, (at, tagged, waits), (v, h, stand, plain, (l, hears, gets, made)))) =
         subst (IsFetchingOf w q (packet ∷ older)) (sym made)
-        (keeps_on w q older packet p parses is f own route.tag round answer v h l stand at tagged waits plain hears gets
+        (keeps_on w q older f own route.tag round answer v h l stand at plain hears gets packet p parses is tagged waits
         (λ u n one. subst (λ (y : Gathered). RepliesBy w (dialogue_of f u) y n) (sym g) (body_is, owner, one))
         (λ x over. (let from = came_replied w q older packet p parses is x over in (from.0, from.1, (subst (λ (y : Gathered). RepliesBy w from.0 y x) g from.2).2, from.2))))
     by_gathered More g same =

@@ -41,6 +41,13 @@ pub told : (at : Option ℕ) (h : History) → Told (number_given at h) (size_to
 told at [] = refl
 told at (e ∷ h) = told_step at e h (is_unseen_in at e) (gives_in at e) (number_given at h) (told at h)
 
+none_by : (n : ℕ) (o : Option ℕ) → Told n o → n ≡ 0 → o ≡ None
+none_by zero o told is = told
+none_by (suc n) o told is = absurd (omega (arith, is))
+
+pub none_told : (at : Option ℕ) (h : History) → number_given at h ≡ 0 → size_told at h ≡ None
+none_told at h is = none_by (number_given at h) (size_told at h) (told at h) is
+
 size_by : (n : ℕ) (o : Option ℕ) (v w : List ℕ) → Told n o → (n ≡ 0 → ⊥) → HasSize o v → HasSize o w → length w ≡ length v
 size_by zero o v w is some one two = absurd (some refl)
 size_by (suc n) o v w is some one two = subst (λ (x : Option ℕ). HasSize x w) is.1 two ∙ sym (subst (λ (x : Option ℕ). HasSize x v) is.1 one)

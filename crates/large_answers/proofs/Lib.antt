@@ -28,3 +28,6 @@ pub mod ClearMoved
 pub mod TurnsLaws
 pub mod Rows
 pub mod Shown
+pub mod Taken
+pub mod VersionMoved
+pub mod PlainLaws

@@ -23,7 +23,7 @@ use Rattle.world_machine.specs.Setup.{known_of}
 use Rattle.large_answers.specs.Fetching.{Fetching, MayStand, bytes_given, dialogue_of, number_given, size_told}
 use Rattle.large_answers.specs.FetchingLaws.{kept_behind}
 use Rattle.large_answers.specs.FetchingShown.{ChunkIsShown, LastIsWhole, ShowsChunk, ShowsNone}
-use Rattle.large_answers.proofs.Gave.{Gave, bytes_begin, bytes_next, bytes_same, number_next}
+use Rattle.large_answers.proofs.Gave.{Gave, bytes_begin, bytes_next, bytes_same, number_next, size_next}
 use Rattle.large_answers.proofs.GoesLaws.{fetches_on}
 use Rattle.large_answers.proofs.GoesWith.{told_whole}
 use Rattle.large_answers.proofs.Stood.{Came, IsSame, adds_none, came, dropped_same, entry_same}
@@ -77,10 +77,13 @@ chunk_is_shown w q older f next route answer own (body_is, owner, (round, (at, t
           transfer = transfer_of p;
           handle = g.handle;
           chunk = g.gives;
+          more = g.more;
+          wide = g.wide;
           number = ap (number_given f.at) to ∙ number_next f.at f.kept.responder v p e g;
           bytes = ap (bytes_given f.at) to ∙ bytes_next f.at f.kept.responder v p e g;
           begins = ap (bytes_given f.at) to ∙ bytes_begin f.at f.kept.responder v p e g ∙ ap (λ (k : ℕ). take k v) ends;
           size = ap (size_told f.at) to ∙ told_whole f.at f.kept.responder v p e g f.place stand;
+          told = ap (size_told f.at) to ∙ size_next f.at f.kept.responder v p e g;
         })
 
 -- ---- With the last chunk.

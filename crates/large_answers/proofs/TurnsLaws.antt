@@ -43,7 +43,7 @@ use Rattle.world_machine.specs.CapturedAnswers.{Answers, Hears, MayLeadTo}
 use Rattle.world_machine.specs.LargeAnswers.{IsLargeAnswer, is_fetching, place_named, place_of, unseen, with_large}
 use Rattle.world_machine.specs.Rounds.{Dialogue, Round}
 use Rattle.world_machine.specs.Setup.{Configuration, known_of}
-use Rattle.large_answers.specs.Fetching.{Fetching, IsFetchingOf, MayStand, dialogue_of}
+use Rattle.large_answers.specs.Fetching.{Fetching, IsFetchingOf, MayStand, dialogue_of, number_of}
 use Rattle.large_answers.specs.FetchingLaws.{AnswersFrom, FetchingTurns, TurnsFetching, kept_behind, place_in}
 use Rattle.large_answers.proofs.Asked.{fetched_walk}
 use Rattle.large_answers.proofs.Begun.{any_large, place_unseen, some_large}
@@ -157,7 +157,7 @@ module _ (w : Configuration) (q : ReqSetup) (older : List (List ℕ)) (packet : 
       let moved = subst A rounds (answers_on r b (dialogue_of f fw.whole) c.0 answer c.4.0 c.4.1 (sym both.alike.responder) fw.fetches (subst R (sym both.alike.setup) c.4.2)) in
       (other.0, stands_so other.0 (same_fits fw.whole fw.stands c.4.0 c.4.1 other.0 from moved parts.1 (after.responder ∙ ap (λ (y : Dialogue). y.responder) c.4.3.2)), other.1)
 
-  pub turns_keeps : ((x : Dialogue) → Walks w q (packet ∷ older) x → (b : Dialogue) × Walks w q older b × Replies w b tag answer x × RepliesBy w b (gathered_from q.eid w.responder.eid older p) x) → IsFetchingOf w q (packet ∷ older) next
+  pub turns_keeps : ((x : Dialogue) → Walks w q (packet ∷ older) x → (b : Dialogue) × Walks w q older b × Replies w b tag answer x × RepliesBy w b (gathered_from q.eid w.responder.eid older p) x) → IsFetchingOf w q (packet ∷ older) next × (number_of next ≡ 0)
   turns_keeps come =
       begun_keeps w q older packet p parses is (dialogue_of f v) (own.all v stand) refl tag round answer h place l made at tagged waits from hears gets
       (λ x over. (let c = come x over in each_turned x over c.0 c.1 c.2 c.3))
@@ -165,9 +165,9 @@ module _ (w : Configuration) (q : ReqSetup) (older : List (List ℕ)) (packet : 
 pub fetching_turns : FetchingTurns
 fetching_turns w q older packet p f after parses not_request is own c = by_gathered (gathered_from q.eid w.responder.eid older p) refl c
   where
-    by_gathered : (y : Gathered) → gathered_from q.eid w.responder.eid older p ≡ y → TurnsFetching w f y after → IsFetchingOf w q (packet ∷ older) after
+    by_gathered : (y : Gathered) → gathered_from q.eid w.responder.eid older p ≡ y → TurnsFetching w f y after → IsFetchingOf w q (packet ∷ older) after × (number_of after ≡ 0)
     by_gathered (Whole route answer) g (body_is, owner, (round, (at, tagged, waits), (v, h, place, stand, from, (l, hears, gets, made)))) =
-        subst (IsFetchingOf w q (packet ∷ older)) (sym made)
+        subst (λ (x : Fetching). IsFetchingOf w q (packet ∷ older) x × (number_of x ≡ 0)) (sym made)
         (turns_keeps w q older packet p parses is f own route.tag round answer v h place l stand at tagged waits from hears gets
         (λ n one. subst (λ (y : Gathered). RepliesBy w (dialogue_of f v) y n) (sym g) (body_is, owner, one))
         (λ x over. (let came = came_replied w q older packet p parses is x over in (came.0, came.1, (subst (λ (y : Gathered). RepliesBy w came.0 y x) g came.2).2, came.2))))

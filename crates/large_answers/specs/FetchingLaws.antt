@@ -19,7 +19,7 @@ use Rattle.world_machine.specs.Difference.{ComesApart, GoesApart, comes_why, goe
 use Rattle.world_machine.specs.LargeAnswers.{is_fetching, judging, place_again, place_named, place_of}
 use Rattle.world_machine.specs.Rounds.{Dialogue, Round}
 use Rattle.world_machine.specs.Setup.{Configuration, known_of}
-use Rattle.large_answers.specs.Fetching.{Fetching, IsFetchingOf, MayStand, dialogue_of}
+use Rattle.large_answers.specs.Fetching.{Fetching, IsFetchingOf, MayStand, dialogue_of, number_of}
 
 -- ---- How one begins.
 
@@ -49,11 +49,11 @@ BeginsFetching w k (Whole route answer) next =
     × (next ≡ record { kept = kept_behind k round g h; at = place_named round.body; place = place }))))
 BeginsFetching w k _ next = ⊥
 
--- It is kept behind it.
+-- It is kept behind it, and no chunk came yet.
 abbrev pub FetchingBegins : Type 0
 FetchingBegins = (w : Configuration) (q : ReqSetup) (older : List (List ℕ)) (packet : List ℕ) (p : PacketFields) (k : Kept) (next : Fetching)
     → parsed packet ≡ Ok p → is_request w.responder.eid q.eid p ≡ false → is_answer w.responder.eid q.eid p ≡ true
-    → Keeps w q older k → BeginsFetching w k (gathered_from q.eid w.responder.eid older p) next → IsFetchingOf w q (packet ∷ older) next
+    → Keeps w q older k → BeginsFetching w k (gathered_from q.eid w.responder.eid older p) next → IsFetchingOf w q (packet ∷ older) next × (number_of next ≡ 0)
 
 -- Where some walk goes on with a packet and a large answer is fetched behind it, it begins one from what is kept.
 abbrev pub BegunIsFetching : Type 0
@@ -113,13 +113,22 @@ TurnsFetching w f (Whole route answer) next =
     × (next ≡ record { kept = kept_behind f.kept round g h; at = place_named round.body; place = place }))))
 TurnsFetching w f _ next = ⊥
 
+-- An answer that goes whole may be given with each bytes that may stand behind it, where it may be given with some,
+-- whatever the requester does upon it: so it is told by any of them. They stood before it too.
+abbrev pub PlainIsOfAll : Type 0
+PlainIsOfAll = (w : Configuration) (q : ReqSetup) (older : List (List ℕ)) (f : Fetching) (round : Round) (answer whole other : List ℕ) (h : History)
+    → IsFetchingOf w q older f → f.kept.round ≡ Some round
+    → MayStand f whole → AnswersPlainly (responder_for w f.kept) (dialogue_of f whole) round answer h
+    → MayStand (record f { kept = record f.kept { responder = h } }) other
+    → MayStand f other × AnswersPlainly (responder_for w f.kept) (dialogue_of f other) round answer h
+
 -- An answer behind which nothing is fetched: the last chunk, with which all bytes are judged; or another one, behind which
 -- the answer stays unseen.
 abbrev pub EndsFetching : Configuration → Fetching → Gathered → Kept → Type 0
 EndsFetching w f g next =
     (whole : List ℕ) × (d : Dialogue) × MayStand f whole × RepliesBy w (dialogue_of f whole) g d × (d.fetching ≡ None) × (next ≡ kept_of d)
 
--- It is kept behind it, in each of these cases.
+-- It is kept behind it, in each of these cases. Behind another LargeResponse no chunk came yet.
 abbrev pub FetchingGoes : Type 0
 FetchingGoes = (w : Configuration) (q : ReqSetup) (older : List (List ℕ)) (packet : List ℕ) (p : PacketFields) (f next : Fetching)
     → parsed packet ≡ Ok p → is_request w.responder.eid q.eid p ≡ false → is_answer w.responder.eid q.eid p ≡ true
@@ -128,7 +137,7 @@ FetchingGoes = (w : Configuration) (q : ReqSetup) (older : List (List ℕ)) (pac
 abbrev pub FetchingTurns : Type 0
 FetchingTurns = (w : Configuration) (q : ReqSetup) (older : List (List ℕ)) (packet : List ℕ) (p : PacketFields) (f next : Fetching)
     → parsed packet ≡ Ok p → is_request w.responder.eid q.eid p ≡ false → is_answer w.responder.eid q.eid p ≡ true
-    → IsFetchingOf w q older f → TurnsFetching w f (gathered_from q.eid w.responder.eid older p) next → IsFetchingOf w q (packet ∷ older) next
+    → IsFetchingOf w q older f → TurnsFetching w f (gathered_from q.eid w.responder.eid older p) next → IsFetchingOf w q (packet ∷ older) next × (number_of next ≡ 0)
 
 abbrev pub FetchingEnds : Type 0
 FetchingEnds = (w : Configuration) (q : ReqSetup) (older : List (List ℕ)) (packet : List ℕ) (p : PacketFields) (f : Fetching) (next : Kept)

@@ -1,6 +1,6 @@
 -- What the chunks of a large answer show of it. This project's own.
-use Rattle.std.specs.Prelude.{◌≡◌, ◌+◌, ◌⊎◌, ℕ, List, ◌∷◌, ◌++◌, length, take, true, Some}
-use Rattle.chunking.specs.Cutting.{chunk_end, nth_chunk}
+use Rattle.std.specs.Prelude.{◌≡◌, ◌<◌, ◌+◌, ◌==◌, ◌⊎◌, nat_lt, if◌then◌else◌, ℕ, List, ◌∷◌, ◌++◌, length, take, true, Some}
+use Rattle.chunking.specs.Cutting.{chunk_count, chunk_end, nth_chunk}
 use Rattle.mctp_framing.specs.Cutting.{RouteFields}
 use Rattle.mctp_framing.specs.Gathering.Gathered.{Whole}
 use Rattle.requester_machine.specs.Setup.{ReqSetup}
@@ -12,7 +12,7 @@ use Rattle.spdm_grammar.specs.Responses.{canonical_response}
 use Rattle.world_machine.specs.CapturedAnswers.{Completes}
 use Rattle.world_machine.specs.Rounds.{Round}
 use Rattle.world_machine.specs.Setup.{Configuration, known_of}
-use Rattle.large_answers.specs.Fetching.{Fetching, IsFetchingOf, MayStand, answer_by, bytes_given, bytes_in, bytes_of, dialogue_of, gives_in, number_of, size_of}
+use Rattle.large_answers.specs.Fetching.{Fetching, IsFetchingOf, MayStand, answer_by, bytes_given, bytes_in, bytes_of, dialogue_of, gives_in, number_of, size_in, size_of}
 use Rattle.large_answers.specs.FetchingLaws.{GoesFetching}
 
 -- Nothing more came of it.
@@ -34,10 +34,13 @@ pub record ShowsChunk (f next : Fetching) (answer : List ℕ) : Type 0 where
   pub transfer : ℕ
   pub handle : ℕ
   pub chunk : answer_by entry ≡ canonical_response (ChunkResponse (nth_chunk transfer handle whole (number_of f)))
+  pub more : nat_lt (number_of f) (chunk_count transfer whole) ≡ true
+  pub wide : 12 < transfer
   pub number : number_of next ≡ number_of f + 1
   pub bytes : bytes_of next ≡ bytes_of f ++ bytes_in (number_of f) (answer_by entry)
   pub begins : bytes_of next ≡ take (chunk_end transfer (number_of f)) whole
   pub size : size_of next ≡ Some (length whole)
+  pub told : size_of next ≡ (if number_of f == 0 then Some (size_in (answer_by entry)) else size_of f)
 
 -- An answer with which the large one is fetched on shows nothing of it, or the next chunk.
 abbrev pub ChunkIsShown : Type 0

@@ -2,3 +2,4 @@ pub mod Fetching
 pub mod FetchingLaws
 pub mod FetchingRows
 pub mod FetchingShown
+pub mod LargeAnswers
