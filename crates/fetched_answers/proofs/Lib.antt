@@ -1,0 +1,2 @@
+pub mod WholeGiven
+pub mod WholeLed

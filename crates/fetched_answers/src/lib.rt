@@ -1,0 +1,8 @@
+//! The answers that a responder may give while its large answer is fetched.
+//!
+//! Read first: `WholeIsShown` in `specs/WholeValues.antt`.
+#![tactic(auto)]
+
+mod laws;
+
+pub use laws::whole_is_shown;
