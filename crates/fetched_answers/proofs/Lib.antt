@@ -1,2 +1,4 @@
 pub mod WholeGiven
 pub mod WholeLed
+pub mod WholeDrops
+pub mod LastShown

@@ -1,1 +1,2 @@
 pub mod WholeValues
+pub mod LastShown

@@ -1,9 +1,20 @@
 //! Which answers a responder may give while its large answer is fetched, each law as the contract of a
 //! function that does nothing.
 
+ghost use Rattle.fetched_answers.specs.LastShown.{LastIsShown, WholeHasLed};
 ghost use Rattle.fetched_answers.specs.WholeValues.{WholeIsShown};
 
 /// A whole answer shows the values that it was made at.
 pub fn whole_is_shown()
     ensures { WholeIsShown }
+{}
+
+/// So it is told which bytes a request may have led to, and which session was dropped before it.
+pub fn whole_has_led()
+    ensures { WholeHasLed }
+{}
+
+/// Whether an answer is the last chunk of these bytes is told from what both show.
+pub fn last_is_shown()
+    ensures { LastIsShown }
 {}
