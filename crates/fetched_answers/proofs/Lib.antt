@@ -2,3 +2,4 @@ pub mod WholeGiven
 pub mod WholeLed
 pub mod WholeDrops
 pub mod LastShown
+pub mod GetAlike
