@@ -84,7 +84,7 @@ form_with r m at allows q =
     ∷ (is_none q, InvalidRequest)
     ∷ []
 
-form_same : (r : RspSetup) (p o : Place) (m : List ℕ) → PlacesAlike p o → request_at p m ≡ request_at o m → refused_form r p m ≡ refused_form r o m
+pub form_same : (r : RspSetup) (p o : Place) (m : List ℕ) → PlacesAlike p o → request_at p m ≡ request_at o m → refused_form r p m ≡ refused_form r o m
 unfolding refused_form
 form_same r p o m a asked =
     ap (λ (x : Where). first_of_tests (form_with r m x (is_allowed x p (code_of m)) (request_at p m))) a.at
@@ -105,15 +105,67 @@ unfolding AreOther
 other_code [] e all is = absurd (none-some e is)
 other_code (t ∷ ts) e all is = other_by t.0 t.1 e (first_of_tests ts) all.0 (other_code ts e all.1) is
 
-form_other : (r : RspSetup) (p : Place) (m : List ℕ) (e : ErrorCode) → refused_form r p m ≡ Some e → e ≢ ResponseTooLarge
+pub form_other : (r : RspSetup) (p : Place) (m : List ℕ) (e : ErrorCode) → refused_form r p m ≡ Some e → e ≢ ResponseTooLarge
 unfolding refused_form AreOther
 form_other r p m e is =
     other_code (tests_of_form r p m) e
     (λ s. absurd (cc), (λ s. absurd (cc), (λ s. absurd (cc), (λ s. absurd (cc), (λ s. absurd (cc), (λ s. absurd (cc), (λ s. absurd (cc), (λ s. absurd (cc), (λ s. absurd (cc), tt))))))))) is
 
+-- ---- What is sent at both.
+
+-- ERROR tells the answer with one code alone.
+extended_same : (e : ErrorCode) (one other : List ℕ) → e ≢ ResponseTooLarge → extended_of e one ≡ extended_of e other
+extended_same InvalidRequest one other not = refl
+extended_same UnexpectedRequest one other not = refl
+extended_same Unspecified one other not = refl
+extended_same DecryptError one other not = refl
+extended_same UnsupportedRequest one other not = refl
+extended_same SessionLimitExceeded one other not = refl
+extended_same SessionRequired one other not = refl
+extended_same ResponseTooLarge one other not = absurd (not refl)
+extended_same RequestTooLarge one other not = refl
+extended_same LargeResponse one other not = refl
+extended_same VersionMismatch one other not = refl
+
+module _ (r : RspSetup) (m : List ℕ) (p o : Place) (f k : Free) (a : PlacesAlike p o) where
+  error_by : (e : ErrorCode) → extended_of e (answer_bytes r p m f) ≡ extended_of e (answer_bytes r o m k) → error_bytes r p m f e ≡ error_bytes r o m k e
+  error_by e same =
+      ap (λ (x : Phase). canonical_response (Error (version_in x) (error_number e) (detail_of e (code_of m)) (extended_of e (answer_bytes r p m f)))) a.phase
+      ∙ ap (λ (l : List ℕ). canonical_response (Error (version_in o.phase) (error_number e) (detail_of e (code_of m)) l)) same
+
+  refused_by : (e : ErrorCode) → extended_of e (answer_bytes r p m f) ≡ extended_of e (answer_bytes r o m k) → refused_turn r p m f e ≡ refused_turn r o m k e
+  refused_by e same = ap (λ (l : List ℕ). record { message = m; refused = Some e; chunk = None; effect = (refused_turn r p m f e).effect; reply = l }) (error_by e same)
+
+  pub refused_alike : (e : ErrorCode) → e ≢ ResponseTooLarge → refused_turn r p m f e ≡ refused_turn r o m k e
+  refused_alike e not = refused_by e (extended_same e (answer_bytes r p m f) (answer_bytes r o m k) not)
+
+  pub refused_same : (e : ErrorCode) → answer_bytes r p m f ≡ answer_bytes r o m k → refused_turn r p m f e ≡ refused_turn r o m k e
+  refused_same e bytes = refused_by e (ap (extended_of e) bytes)
+
+  large_same : (answer : List ℕ) → goes_large p answer ≡ goes_large o answer
+  large_same answer =
+      ap (λ (x : Phase). sizes_are_known x && nat_lt (place_terms p).common.to_requester.transfer (bytes_round p.at + length answer)) a.phase
+      ∙ ap (λ (c : Common). sizes_are_known o.phase && nat_lt c.to_requester.transfer (bytes_round p.at + length answer)) a.common
+      ∙ ap (λ (x : Where). sizes_are_known o.phase && nat_lt (place_terms o).common.to_requester.transfer (bytes_round x + length answer)) a.at
+
+  pub long_same : (answer : List ℕ) → is_answer_too_long p answer ≡ is_answer_too_long o answer
+  long_same answer =
+      ap (λ (x : Phase). sizes_are_known x && (nat_lt (place_terms p).common.to_requester.max (length answer) || (not (place_terms p).common.chunk && nat_lt (place_terms p).common.to_requester.transfer (bytes_round p.at + length answer)))) a.phase
+      ∙ ap (λ (c : Common). sizes_are_known o.phase && (nat_lt c.to_requester.max (length answer) || (not c.chunk && nat_lt c.to_requester.transfer (bytes_round p.at + length answer)))) a.common
+      ∙ ap (λ (x : Where). sizes_are_known o.phase && (nat_lt (place_terms o).common.to_requester.max (length answer) || (not (place_terms o).common.chunk && nat_lt (place_terms o).common.to_requester.transfer (bytes_round x + length answer)))) a.at
+
+  pub plain_same : request_at p m ≡ request_at o m → answer_bytes r p m f ≡ answer_bytes r o m k → f.handle ≡ k.handle → plain_turn r p m f ≡ plain_turn r o m k
+  plain_same reads bytes handles =
+      let at : Option RequestMessage → List ℕ → Bool → ℕ → Turn =
+      λ q l b n. record { message = m; refused = None; chunk = None; effect = effect_of q m l (cond b (Some n) None); reply = cond b (large_response n) l } in
+      ap (λ (q : Option RequestMessage). at q (answer_bytes r p m f) (goes_large p (answer_bytes r p m f)) f.handle) reads
+      ∙ ap (λ (l : List ℕ). at (request_at o m) l (goes_large p l) f.handle) bytes
+      ∙ ap (λ (b : Bool). at (request_at o m) (answer_bytes r o m k) b f.handle) (large_same (answer_bytes r o m k))
+      ∙ ap (at (request_at o m) (answer_bytes r o m k) (goes_large o (answer_bytes r o m k))) handles
+
 -- ---- The contents.
 
-abbrev get_tests : (lacks refused long last : Bool) → List (Bool × ErrorCode)
+abbrev pub get_tests : (lacks refused long last : Bool) → List (Bool × ErrorCode)
 get_tests lacks refused long last =
     (lacks, UnsupportedRequest)
     ∷ (false, InvalidRequest)
@@ -225,40 +277,6 @@ module _ (r : RspSetup) (m : List ℕ) (handle number : ℕ) where
         contents_is p f asked ∙ ap (λ (c : Common). get_code c.chunk (is_get_refused p (Some (ChunkGet handle number)))) a.common
         ∙ ap (get_code (place_terms o).common.chunk) get_refused_same ∙ sym (contents_is o k asks))
 
-    -- ERROR tells the answer with one code alone.
-    extended_same : (e : ErrorCode) (one other : List ℕ) → e ≢ ResponseTooLarge → extended_of e one ≡ extended_of e other
-    extended_same InvalidRequest one other not = refl
-    extended_same UnexpectedRequest one other not = refl
-    extended_same Unspecified one other not = refl
-    extended_same DecryptError one other not = refl
-    extended_same UnsupportedRequest one other not = refl
-    extended_same SessionLimitExceeded one other not = refl
-    extended_same SessionRequired one other not = refl
-    extended_same ResponseTooLarge one other not = absurd (not refl)
-    extended_same RequestTooLarge one other not = refl
-    extended_same LargeResponse one other not = refl
-    extended_same VersionMismatch one other not = refl
-
-    error_same : (e : ErrorCode) → e ≢ ResponseTooLarge → error_bytes r p m f e ≡ error_bytes r o m k e
-    error_same e not =
-        ap (λ (x : Phase). canonical_response (Error (version_in x) (error_number e) (detail_of e (code_of m)) (extended_of e (answer_bytes r p m f)))) a.phase
-        ∙ ap (λ (l : List ℕ). canonical_response (Error (version_in o.phase) (error_number e) (detail_of e (code_of m)) l)) (extended_same e (answer_bytes r p m f) (answer_bytes r o m k) not)
-
-    large_same : (answer : List ℕ) → goes_large p answer ≡ goes_large o answer
-    large_same answer =
-        ap (λ (x : Phase). sizes_are_known x && nat_lt (place_terms p).common.to_requester.transfer (bytes_round p.at + length answer)) a.phase
-        ∙ ap (λ (c : Common). sizes_are_known o.phase && nat_lt c.to_requester.transfer (bytes_round p.at + length answer)) a.common
-        ∙ ap (λ (x : Where). sizes_are_known o.phase && nat_lt (place_terms o).common.to_requester.transfer (bytes_round x + length answer)) a.at
-
-    plain_same : answer_bytes r p m f ≡ answer_bytes r o m k → f.handle ≡ k.handle → plain_turn r p m f ≡ plain_turn r o m k
-    plain_same bytes handles =
-        let at : Option RequestMessage → List ℕ → Bool → ℕ → Turn =
-        λ q l b n. record { message = m; refused = None; chunk = None; effect = effect_of q m l (cond b (Some n) None); reply = cond b (large_response n) l } in
-        ap (λ (q : Option RequestMessage). at q (answer_bytes r p m f) (goes_large p (answer_bytes r p m f)) f.handle) (asked ∙ sym asks)
-        ∙ ap (λ (l : List ℕ). at (request_at o m) l (goes_large p l) f.handle) bytes
-        ∙ ap (λ (b : Bool). at (request_at o m) (answer_bytes r o m k) b f.handle) (large_same (answer_bytes r o m k))
-        ∙ ap (at (request_at o m) (answer_bytes r o m k) (goes_large o (answer_bytes r o m k))) handles
-
     turn_is : (q : Place) (v : Free) (x : Option ErrorCode) → request_at q m ≡ Some (ChunkGet handle number) → refusal r q m v ≡ x → turn_of r q m v ≡ turn_by r q m v x None
     unfolding turn_of
     turn_is q v x reads none = ap (λ (y : Option ErrorCode). turn_by r q m v y (chunk_in (request_at q m))) none ∙ ap (λ (y : Option RequestMessage). turn_by r q m v x (chunk_in y)) reads
@@ -272,12 +290,10 @@ module _ (r : RspSetup) (m : List ℕ) (handle number : ℕ) where
       where
         by_refusal : (x : Option ErrorCode) → refusal r p m f ≡ x → turn_of r p m f ≡ turn_of r o m k
         by_refusal (Some e) is =
-            turn_is p f (Some e) asked is
-            ∙ ap (λ (l : List ℕ). record { message = m; refused = Some e; chunk = None; effect = (refused_turn r p m f e).effect; reply = l }) (error_same e (refusal_other p f asked e is))
-            ∙ sym (turn_is o k (Some e) asks (sym refusal_same ∙ is))
+            turn_is p f (Some e) asked is ∙ refused_alike r m p o f k a e (refusal_other p f asked e is) ∙ sym (turn_is o k (Some e) asks (sym refusal_same ∙ is))
         by_refusal None is =
             let here = turn_is p f None asked is in
-            here ∙ plain_same (bytes (ap (takes CHUNK_GET) here ∙ takes_plain)) handles ∙ sym (turn_is o k None asks (sym refusal_same ∙ is))
+            here ∙ plain_same r m p o f k a (asked ∙ sym asks) (bytes (ap (takes CHUNK_GET) here ∙ takes_plain)) handles ∙ sym (turn_is o k None asks (sym refusal_same ∙ is))
 
 -- ---- The chunk.
 
@@ -293,7 +309,7 @@ chunks_same transfer handle number w v size chunk =
     } in
     ap (λ (n : ℕ). at n (nth_chunk transfer 0 w number).chunk) size ∙ ap (at (length v)) chunk
 
-pending_is : (p : Place) (w : List ℕ) → large_of p.turns ≡ Some w → nat_lt (given_of p.turns) (chunk_count (transfer_of p) w) ≡ true → pending_of (transfer_of p) p.turns ≡ Some w
+pub pending_is : (p : Place) (w : List ℕ) → large_of p.turns ≡ Some w → nat_lt (given_of p.turns) (chunk_count (transfer_of p) w) ≡ true → pending_of (transfer_of p) p.turns ≡ Some w
 pending_is p w large more = ap (still_pending (transfer_of p) (given_of p.turns)) large ∙ ap (λ (b : Bool). cond b (Some w) None) more
 
 module _ (r : RspSetup) (m : List ℕ) (p o : Place) (f k : Free) (t : Turn) (w v : List ℕ) (a : PlacesAlike p o) (get : IsGet p m t) (large : large_of p.turns ≡ Some w) (other : large_of o.turns ≡ Some v) (size : length w ≡ length v)

@@ -3,3 +3,6 @@ pub mod WholeLed
 pub mod WholeDrops
 pub mod LastShown
 pub mod GetAlike
+pub mod TurnsBoth
+pub mod SettledCaps
+pub mod ClearTurns
