@@ -6,3 +6,4 @@ pub mod GetAlike
 pub mod TurnsBoth
 pub mod SettledCaps
 pub mod ClearTurns
+pub mod ClearAlike
