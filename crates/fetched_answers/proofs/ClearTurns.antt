@@ -14,7 +14,7 @@ use Rattle.spdm_grammar.specs.declared.error_code.ErrorCode.{ErrorCode}
 use Rattle.spdm_grammar.specs.declared.error_code.ErrorCode.TheVariants.{InvalidRequest, UnexpectedRequest, DecryptError, UnsupportedRequest, SessionLimitExceeded, ResponseTooLarge, RequestTooLarge}
 use Rattle.spdm_grammar.specs.declared.names.request_code.TheConstants.{CHUNK_GET, GET_VERSION, PSK_EXCHANGE}
 use Rattle.responder_machine.specs.Answer.{Free, answer_bytes, answer_to, request_at}
-use Rattle.responder_machine.specs.Handling.{chunk_in, turn_by, turn_of}
+use Rattle.responder_machine.specs.Handling.{chunk_in, refused_turn, turn_by, turn_of}
 use Rattle.responder_machine.specs.History.{History, clear_turns}
 use Rattle.responder_machine.specs.LargeMessages.{given_of, large_of, still_pending}
 use Rattle.responder_machine.specs.Place.{Place, clear_place, place_terms}
@@ -31,25 +31,29 @@ use Rattle.world_machine.proofs.GetTells.{IsGet, transfer_of, turn_get}
 use Rattle.world_machine.specs.LargeAnswers.{with_large}
 
 module _ (r : RspSetup) (m : List ℕ) (p o : Place) (f k : Free) (a : PlacesAlike p o) (reads : request_at p m ≡ request_at o m) where
-  turn_at : (q : Place) (v : Free) (x : Option ErrorCode) → chunk_in (request_at q m) ≡ None → refusal r q m v ≡ x → turn_of r q m v ≡ turn_by r q m v x None
+  pub turn_at : (q : Place) (v : Free) (x : Option ErrorCode) → chunk_in (request_at q m) ≡ None → refusal r q m v ≡ x → turn_of r q m v ≡ turn_by r q m v x None
   unfolding turn_of
   turn_at q v x none is = ap (λ (y : Option ErrorCode). turn_by r q m v y (chunk_in (request_at q m))) is ∙ ap (turn_by r q m v x) none
 
   -- ---- No request.
 
-  unread_same : request_at p m ≡ None → turn_of r p m f ≡ turn_of r o m k
-  unfolding refusal refused_form
-  unread_same none = by_form (refused_form r p m) refl
+  refused_at : (q : Place) (v : Free) (e : ErrorCode) → refused_form r q m ≡ Some e → turn_of r q m v ≡ refused_turn r q m v e
+  unfolding turn_of refusal
+  refused_at q v e is = ap (λ (x : Option ErrorCode). turn_by r q m v (option_or x (refused_contents r q m v)) (chunk_in (request_at q m))) is
+
+  -- What is refused for its form, in which one test holds.
+  pub misformed_same : (refused_form r p m ≡ None → ⊥) → turn_of r p m f ≡ turn_of r o m k
+  misformed_same some = by_form (refused_form r p m) refl
     where
       by_form : (x : Option ErrorCode) → refused_form r p m ≡ x → turn_of r p m f ≡ turn_of r o m k
-      by_form None is =
-          let test : is_none (request_at p m) ≡ false = tests_are_false (tests_of_form r p m) is 8 in
-          absurd (false≢true (sym test ∙ ap (λ (q : Option RequestMessage). is_none q) none))
-      by_form (Some e) is =
-          let there : refused_form r o m ≡ Some e = sym (form_same r p o m a reads) ∙ is in
-          turn_at p f (Some e) (ap chunk_in none) (ap (λ (x : Option ErrorCode). option_or x (refused_contents r p m f)) is)
-          ∙ refused_alike r m p o f k a e (form_other r p m e is)
-          ∙ sym (turn_at o k (Some e) (ap chunk_in (sym reads ∙ none)) (ap (λ (x : Option ErrorCode). option_or x (refused_contents r o m k)) there))
+      by_form None is = absurd (some is)
+      by_form (Some e) is = refused_at p f e is ∙ refused_alike r m p o f k a e (form_other r p m e is) ∙ sym (refused_at o k e (sym (form_same r p o m a reads) ∙ is))
+
+  pub unread_same : request_at p m ≡ None → turn_of r p m f ≡ turn_of r o m k
+  unfolding refused_form
+  unread_same none = misformed_same (λ is.
+      let test : is_none (request_at p m) ≡ false = tests_are_false (tests_of_form r p m) is 8 in
+      absurd (false≢true (sym test ∙ ap (λ (q : Option RequestMessage). is_none q) none)))
 
   -- ---- GET_VERSION.
 

@@ -92,7 +92,7 @@ form_same r p o m a asked =
     ∙ ap (λ (q : Option RequestMessage). first_of_tests (form_with r m o.at (is_allowed o.at o (code_of m)) q)) asked
 
 -- None of its codes is ResponseTooLarge.
-AreOther : List (Bool × ErrorCode) → Type 0
+abbrev pub AreOther : List (Bool × ErrorCode) → Type 0
 AreOther [] = Unit {0}
 AreOther (t ∷ ts) = (t.1 ≢ ResponseTooLarge) × AreOther ts
 
@@ -100,13 +100,12 @@ other_by : (b : Bool) (x e : ErrorCode) (rest : Option ErrorCode) → x ≢ Resp
 other_by true x e rest here later is = λ same. here (same_Some x e is ∙ same)
 other_by false x e rest here later is = later is
 
-other_code : (ts : List (Bool × ErrorCode)) (e : ErrorCode) → AreOther ts → first_of_tests ts ≡ Some e → e ≢ ResponseTooLarge
-unfolding AreOther
+pub other_code : (ts : List (Bool × ErrorCode)) (e : ErrorCode) → AreOther ts → first_of_tests ts ≡ Some e → e ≢ ResponseTooLarge
 other_code [] e all is = absurd (none-some e is)
 other_code (t ∷ ts) e all is = other_by t.0 t.1 e (first_of_tests ts) all.0 (other_code ts e all.1) is
 
 pub form_other : (r : RspSetup) (p : Place) (m : List ℕ) (e : ErrorCode) → refused_form r p m ≡ Some e → e ≢ ResponseTooLarge
-unfolding refused_form AreOther
+unfolding refused_form
 form_other r p m e is =
     other_code (tests_of_form r p m) e
     (λ s. absurd (cc), (λ s. absurd (cc), (λ s. absurd (cc), (λ s. absurd (cc), (λ s. absurd (cc), (λ s. absurd (cc), (λ s. absurd (cc), (λ s. absurd (cc), (λ s. absurd (cc), tt))))))))) is
@@ -191,7 +190,7 @@ module _ (r : RspSetup) (m : List ℕ) (handle number : ℕ) where
     abbrev whole : List ℕ
     whole = unwrap_or (pending_of (place_terms p).common.to_requester.transfer p.turns) []
 
-    answer_is : answer_bytes r p m f ≡ canonical_response (ChunkResponse (nth_chunk (place_terms p).common.to_requester.transfer handle whole number))
+    pub answer_is : answer_bytes r p m f ≡ canonical_response (ChunkResponse (nth_chunk (place_terms p).common.to_requester.transfer handle whole number))
     unfolding answer_bytes
     answer_is = ap (answer_to r p m f) is
 

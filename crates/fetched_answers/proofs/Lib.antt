@@ -7,3 +7,4 @@ pub mod TurnsBoth
 pub mod SettledCaps
 pub mod ClearTurns
 pub mod ClearAlike
+pub mod SealedTurns
