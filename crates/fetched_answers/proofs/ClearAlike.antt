@@ -31,6 +31,7 @@ use Rattle.capture_laws.specs.AnswersShown.{least_values}
 use Rattle.fetched_answers.proofs.ClearTurns.{chunk_bytes, clear_places, turn_same}
 use Rattle.fetched_answers.proofs.GetAlike.{PlacesAlike}
 use Rattle.fetched_answers.proofs.TurnsBoth.{Settles}
+use Rattle.fetched_answers.specs.AlikeAnswers.{gives_chunk}
 use Rattle.world_machine.proofs.ChunksGiven.{Chunked, answer_by}
 use Rattle.world_machine.proofs.FetchStates.{Fetch, Getting, served}
 use Rattle.world_machine.proofs.FetchStates.Getting.{Asks, Repeats, Seals}
@@ -42,11 +43,6 @@ use Rattle.world_machine.proofs.PlainTells.{ClearLed, led_clear}
 use Rattle.world_machine.specs.CapturedAnswers.{AreShown, MayLeadAfter, MayLeadTo, answer_at, clear_answer, is_plain, record_answer}
 use Rattle.world_machine.specs.LargeAnswers.{gives_last, is_large, place_named, place_of, takes_get, with_large}
 use Rattle.world_machine.specs.Rounds.{no_draw}
-
--- The outcome gives a chunk.
-abbrev gives_chunk : Outcome → Bool
-gives_chunk (Adds entry) = takes_get entry
-gives_chunk _ = false
 
 -- What is no CHUNK_GET gives no last chunk.
 pub no_get : (g : History) (e : Entry) → takes_get e ≡ false → gives_last g e ≡ false

@@ -151,17 +151,19 @@ some_large transfer given None is none = false≢true is
 some_large transfer given (Some l) is none = none-some l (sym none)
 
 module _ (r : RspSetup) (m : List ℕ) (p o : Place) (f k : Free) (place : Option ℕ) (w v : List ℕ) (h : History) (a : PlacesAlike p o) (reads : request_at p m ≡ request_at o m) (one : Chunked p place w h) (other : Chunked o place v h) where
-  large_here : IsGet p m (turn_of r p m f) → Chunked p place w h → large_of p.turns ≡ Some w
-  large_here get (Gone none) = absurd (none-some get.whole (sym none ∙ get.large))
-  large_here get (Given large given parts) = large
+  large_here : (t : Turn) → IsGet p m t → Chunked p place w h → large_of p.turns ≡ Some w
+  large_here t get (Gone none) = absurd (none-some get.whole (sym none ∙ get.large))
+  large_here t get (Given large given parts) = large
 
   large_there : has_pending o ≡ true → Chunked o place v h → large_of o.turns ≡ Some v
   large_there pending (Gone none) = absurd (some_large (transfer_of o) (given_of o.turns) (large_of o.turns) pending none)
   large_there pending (Given large given parts) = large
 
-  pub chunk_bytes : length w ≡ length v → (nth_chunk (transfer_of p) 0 w (given_of p.turns)).chunk ≡ (nth_chunk (transfer_of o) 0 v (given_of o.turns)).chunk → takes CHUNK_GET (turn_of r p m f) ≡ true → answer_bytes r p m f ≡ answer_bytes r o m k
-  chunk_bytes size chunk gets =
-      let get = turn_get r p m f gets in
-      let large : large_of p.turns ≡ Some w = large_here get one in
+  -- A turn of CHUNK_GET is answered by the same bytes.
+  pub get_bytes : (t : Turn) → IsGet p m t → length w ≡ length v → (nth_chunk (transfer_of p) 0 w (given_of p.turns)).chunk ≡ (nth_chunk (transfer_of o) 0 v (given_of o.turns)).chunk → answer_bytes r p m f ≡ answer_bytes r o m k
+  get_bytes t get size chunk =
       let pending : has_pending p ≡ true = ap (λ (x : Option (List ℕ)). is_some x) (pending_is p get.whole get.large get.more) in
-      bytes_same r m p o f k (turn_of r p m f) w v a get large (large_there (sym a.pending ∙ pending) other) size chunk reads
+      bytes_same r m p o f k t w v a get (large_here t get one) (large_there (sym a.pending ∙ pending) other) size chunk reads
+
+  pub chunk_bytes : length w ≡ length v → (nth_chunk (transfer_of p) 0 w (given_of p.turns)).chunk ≡ (nth_chunk (transfer_of o) 0 v (given_of o.turns)).chunk → takes CHUNK_GET (turn_of r p m f) ≡ true → answer_bytes r p m f ≡ answer_bytes r o m k
+  chunk_bytes size chunk gets = get_bytes (turn_of r p m f) (turn_get r p m f gets) size chunk

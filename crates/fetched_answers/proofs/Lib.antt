@@ -8,3 +8,4 @@ pub mod SettledCaps
 pub mod ClearTurns
 pub mod ClearAlike
 pub mod SealedTurns
+pub mod SealedAlike

@@ -1,2 +1,3 @@
 pub mod WholeValues
 pub mod LastShown
+pub mod AlikeAnswers
