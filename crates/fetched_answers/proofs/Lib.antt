@@ -9,3 +9,5 @@ pub mod ClearTurns
 pub mod ClearAlike
 pub mod SealedTurns
 pub mod SealedAlike
+pub mod WalksSound
+pub mod ChunkShown

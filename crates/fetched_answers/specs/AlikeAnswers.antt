@@ -1,7 +1,8 @@
 -- While a large answer is fetched, an answer hangs on no more of its bytes than on those of the chunk that it gives. This
 -- project's own.
-use Rattle.std.specs.Prelude.{◌≡◌, ℕ, List, length, Bool, true, false}
+use Rattle.std.specs.Prelude.{◌≡◌, ◌≤◌, ◌==◌, ℕ, List, ◌∷◌, drop, length, slice_index, Bool, true, false, Some, MatchBool}
 use Rattle.chunking.specs.Cutting.{nth_chunk}
+use Rattle.requester_machine.specs.Setup.{ReqSetup}
 use Rattle.responder_machine.specs.History.{History}
 use Rattle.responder_machine.specs.LargeMessages.{given_of}
 use Rattle.responder_machine.specs.May.{place_for, with_dropped}
@@ -9,10 +10,19 @@ use Rattle.responder_machine.specs.Place.{Place, place_terms}
 use Rattle.responder_machine.specs.Refusal.{has_pending}
 use Rattle.responder_machine.specs.Responder.Outcome.{Adds}
 use Rattle.responder_machine.specs.Responder.{Outcome, after, body_of}
-use Rattle.responder_machine.specs.Setup.{RspSetup}
+use Rattle.responder_machine.specs.Session.{id_in_record, session_of}
+use Rattle.responder_machine.specs.Setup.{RspSetup, towards}
+use Rattle.secured_record.specs.Format.{plain_text}
+use Rattle.spdm_grammar.specs.Message.ResponseMessage.{ChunkResponse}
+use Rattle.spdm_grammar.specs.Responses.{canonical_response}
+use Rattle.spdm_machine.specs.Bodies.{clear_body}
+use Rattle.capture_laws.specs.AnswersShown.{answered_text}
+use Rattle.capture_laws.specs.Walks.{Walks}
 use Rattle.world_machine.specs.CapturedAnswers.{AreShown, MayLeadAfter, is_plain}
 use Rattle.world_machine.specs.LargeAnswers.{judging, place_named, takes_get, with_large}
+use Rattle.world_machine.specs.Opening.{turn_in}
 use Rattle.world_machine.specs.Rounds.{Dialogue, Round}
+use Rattle.world_machine.specs.Setup.{Configuration, known_of}
 
 -- The outcome gives a chunk of a large answer.
 abbrev pub gives_chunk : Outcome → Bool
@@ -46,3 +56,27 @@ pub record AgreeNext (h : History) (body w v : List ℕ) : Type 0 where
 -- A chunk of both is left to be given, or of neither.
 abbrev pub ArePending : History → (body w v : List ℕ) → Type 0
 ArePending h body w v = has_pending (place_with h body w) ≡ has_pending (place_with h body v)
+
+-- ---- The chunk.
+
+-- CHUNK_RESPONSE with that chunk, under some handle.
+abbrev pub chunk_given : History → (body whole : List ℕ) → (handle : ℕ) → List ℕ
+chunk_given h body whole handle =
+    let p = place_with h body whole in
+    canonical_response (ChunkResponse (nth_chunk (place_terms p).common.to_requester.transfer handle whole (given_of p.turns)))
+
+-- An answer shows that chunk: in the clear it is that response; in a session it is a record with that response in it, sealed
+-- as the answer to the request, and a padding of at most 16 bytes.
+abbrev pub ShowsChunk : RspSetup → History → (body answer whole : List ℕ) → Type 0
+ShowsChunk r h body answer whole =
+    let s = session_of (id_in_record (drop 1 body)) (with_large (place_named body) whole h) in
+    (handle : ℕ) × MatchBool (slice_index body 0 == 5)
+    (answer ≡ clear_body (chunk_given h body whole handle))
+    ((pad : List ℕ) × (length pad ≤ 16) × (answered_text r s (turn_in r s (drop 1 body)) (drop 1 answer) ≡ plain_text (5 ∷ chunk_given h body whole handle) pad))
+
+-- In a walk in which some bytes are fetched, an answer that gives a chunk shows their next one.
+abbrev pub ChunkIsShown : Type 0
+ChunkIsShown = (c : Configuration) (q : ReqSetup) (older : List (List ℕ)) (d : Dialogue) (whole : List ℕ) (round : Round) (answer : List ℕ) (next : History) (dropped : List ℕ) (outcome : Outcome)
+    → Walks c q older d → d.fetching ≡ Some whole → d.round ≡ Some round → gives_chunk outcome ≡ true
+    → AnswersBy (towards c.responder (known_of d.setup)) d round answer next dropped outcome
+    → ShowsChunk (towards c.responder (known_of d.setup)) d.responder round.body answer whole
