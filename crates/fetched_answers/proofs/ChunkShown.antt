@@ -11,16 +11,15 @@ use Rattle.spdm_grammar.specs.Message.ResponseMessage.{ChunkResponse}
 use Rattle.spdm_grammar.specs.Responses.{canonical_response}
 use Rattle.spdm_grammar.specs.declared.error_code.ErrorCode.{ErrorCode}
 use Rattle.spdm_grammar.specs.declared.names.request_code.TheConstants.{CHUNK_GET}
-use Rattle.spdm_machine.specs.Bodies.{clear_body, record_body}
-use Rattle.requester_machine.specs.Setup.{ReqSetup}
+use Rattle.spdm_machine.specs.Bodies.{clear_body}
 use Rattle.responder_machine.specs.Answer.{Free, answer_bytes, request_at}
-use Rattle.responder_machine.specs.Handling.{chunk_in, effect_of, goes_large, large_response, plain_turn, refused_turn, turn_by, turn_of}
+use Rattle.responder_machine.specs.Handling.{chunk_in, effect_of, goes_large, large_response, plain_turn, turn_by, turn_of}
 use Rattle.responder_machine.specs.History.{Entry, History}
 use Rattle.responder_machine.specs.History.Entry.{Clear, Dropped}
-use Rattle.responder_machine.specs.LargeMessages.{given_of, large_of}
+use Rattle.responder_machine.specs.LargeMessages.{given_of}
 use Rattle.responder_machine.specs.May.{place_for, with_dropped}
 use Rattle.responder_machine.specs.Place.{Place, clear_place, place_terms, session_place}
-use Rattle.responder_machine.specs.Records.{opened, reply_record}
+use Rattle.responder_machine.specs.Records.{opened}
 use Rattle.responder_machine.specs.Refusal.{refusal}
 use Rattle.responder_machine.specs.Responder.{Outcome, body_of, data_turn, inner_refusal, inner_reply, on_clear, on_record, sent_by, session_turn, session_turn_by}
 use Rattle.responder_machine.specs.Responder.Outcome.{Same, Unopened, Adds}
@@ -33,7 +32,7 @@ use Rattle.capture_laws.specs.AnswersShown.{answered_text}
 use Rattle.fetched_answers.proofs.ClearAlike.{Reading, reading}
 use Rattle.fetched_answers.proofs.ClearAlike.Reading.{Again, Anew}
 use Rattle.fetched_answers.proofs.WalksSound.{walk_stands}
-use Rattle.fetched_answers.specs.AlikeAnswers.{ChunkIsShown, ShowsChunk, chunk_given, gives_chunk, place_with}
+use Rattle.fetched_answers.specs.AlikeAnswers.{ChunkIsShown, ShowsChunk, chunk_given, gives_chunk}
 use Rattle.world_machine.proofs.ChunksGiven.{Chunked}
 use Rattle.world_machine.proofs.ChunksGiven.Chunked.{Gone, Given}
 use Rattle.world_machine.proofs.DropsTell.{clear_form, record_shown}
@@ -48,7 +47,7 @@ use Rattle.world_machine.proofs.SmallGets.{gets_are_small}
 use Rattle.world_machine.specs.CapturedAnswers.{AreShown, MayLeadAfter, MayLeadTo}
 use Rattle.world_machine.specs.LargeAnswers.{is_large, judging, place_named, takes_get, with_large}
 use Rattle.world_machine.specs.Opening.{any_free, turn_in}
-use Rattle.world_machine.specs.Rounds.{Dialogue, Round, no_draw}
+use Rattle.world_machine.specs.Rounds.{no_draw}
 use Rattle.world_machine.specs.Setup.{known_of}
 
 -- ---- A turn of CHUNK_GET sends its answer.

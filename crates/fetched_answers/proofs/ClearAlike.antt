@@ -5,20 +5,19 @@ use Rattle.std.specs.Prelude.{not, slice_index}
 use Rattle.std.proofs.lemmas.Bool.{false≢true}
 use Rattle.chunking.specs.Cutting.{nth_chunk}
 use Rattle.chunking.specs.Collecting.{joined_with, under_way}
-use Rattle.spdm_basis.proofs.Bools.{and_first}
-use Rattle.spdm_grammar.specs.Message.{ChunkMessage, RequestMessage}
+use Rattle.spdm_grammar.specs.Message.{ChunkMessage}
 use Rattle.spdm_grammar.specs.Message.RequestMessage.{ChunkGet, GetVersion}
 use Rattle.spdm_grammar.specs.Requests.{canonical_request}
 use Rattle.spdm_grammar.specs.declared.names.TheConstants.{MAX_MESSAGE_SIZE}
 use Rattle.spdm_grammar.specs.declared.names.request_code.TheConstants.{CHUNK_GET, GET_VERSION}
 use Rattle.spdm_machine.specs.Bodies.{clear_body}
 use Rattle.spdm_machine.specs.Terms.{hash_len}
-use Rattle.responder_machine.specs.Answer.{Free, answer_bytes, answer_to, request_at}
+use Rattle.responder_machine.specs.Answer.{Free, answer_bytes, request_at}
 use Rattle.responder_machine.specs.Handling.{chunk_in, turn_of}
 use Rattle.responder_machine.specs.History.{Entry, History, kept_of}
 use Rattle.responder_machine.specs.History.Entry.{Clear}
 use Rattle.responder_machine.specs.LargeMessages.{chunks_of, given_of}
-use Rattle.responder_machine.specs.May.{IsAllowed, on_body, place_for, with_dropped}
+use Rattle.responder_machine.specs.May.{IsAllowed, place_for, with_dropped}
 use Rattle.responder_machine.specs.Place.{Place, clear_place, inside, place_terms}
 use Rattle.responder_machine.specs.Refusal.{code_of, has_pending}
 use Rattle.responder_machine.specs.Responder.{Outcome, is_repeat, kept_reply, on_clear, on_record}
@@ -32,14 +31,14 @@ use Rattle.fetched_answers.proofs.ClearTurns.{chunk_bytes, clear_places, turn_sa
 use Rattle.fetched_answers.proofs.GetAlike.{PlacesAlike}
 use Rattle.fetched_answers.proofs.TurnsBoth.{Settles}
 use Rattle.fetched_answers.specs.AlikeAnswers.{gives_chunk}
-use Rattle.world_machine.proofs.ChunksGiven.{Chunked, answer_by}
+use Rattle.world_machine.proofs.ChunksGiven.{Chunked}
 use Rattle.world_machine.proofs.FetchStates.{Fetch, Getting, served}
 use Rattle.world_machine.proofs.FetchStates.Getting.{Asks, Repeats, Seals}
 use Rattle.world_machine.proofs.FetchedAnswers.{again_none, always_none, turn_code}
 use Rattle.world_machine.proofs.FetchedTells.{ReadsAlways, get_reads, kept_large, version_reads}
 use Rattle.world_machine.proofs.FetchedTold.{Stands, version_apart}
 use Rattle.world_machine.proofs.PlacesServed.{named_clear, place_type}
-use Rattle.world_machine.proofs.PlainTells.{ClearLed, led_clear}
+use Rattle.world_machine.proofs.PlainTells.{led_clear}
 use Rattle.world_machine.specs.CapturedAnswers.{AreShown, MayLeadAfter, MayLeadTo, answer_at, clear_answer, is_plain, record_answer}
 use Rattle.world_machine.specs.LargeAnswers.{gives_last, is_large, place_named, place_of, takes_get, with_large}
 use Rattle.world_machine.specs.Rounds.{no_draw}

@@ -1,12 +1,11 @@
 -- A message in the clear while a large answer is fetched: CHUNK_GET, GET_VERSION, or one that is no request. It leads to the
 -- same turn whatever bytes stand for the large answer, where these give the same chunk.
-use Rattle.std.proofs.Common.{◌≡◌, ◌≢◌, ◌==◌, ◌&&◌, ◌⊎◌, ℕ, List, [], ◌∷◌, refl, sym, ap, ◌∙◌, subst, length, Bool, true, false, Option, Some, None, is_some, is_none, cond, inl, inr, arith}
-use Rattle.std.specs.Prelude.{not, nat_lt, slice_index}
+use Rattle.std.proofs.Common.{◌≡◌, ◌≢◌, ◌==◌, ◌&&◌, ◌⊎◌, ℕ, List, [], ◌∷◌, refl, sym, ap, ◌∙◌, length, Bool, true, false, Option, Some, None, is_some, is_none, inl, inr, arith}
+use Rattle.std.specs.Prelude.{not}
 use Rattle.std.specs.Option.{option_or}
 use Rattle.std.proofs.lemmas.Bool.{false≢true}
 use Rattle.std.proofs.lemmas.Option.{none-some}
-use Rattle.chunking.specs.Cutting.{chunk_count, nth_chunk}
-use Rattle.negotiate.specs.declared.shared.Common.{Common}
+use Rattle.chunking.specs.Cutting.{nth_chunk}
 use Rattle.spdm_basis.specs.Tests.{first_of_tests}
 use Rattle.spdm_grammar.specs.Message.{RequestMessage}
 use Rattle.spdm_grammar.specs.Message.RequestMessage.{GetVersion, GetCapabilities, NegotiateAlgorithms, GetMeasurements, PskExchange, PskFinish, Heartbeat, KeyUpdate, EndSession, ChunkSend, ChunkGet}

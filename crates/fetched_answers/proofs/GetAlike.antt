@@ -1,6 +1,6 @@
 -- CHUNK_GET at two places that differ in the bytes of the large answer that is pending there: it is refused alike, and
 -- answered alike where the chunk is the same.
-use Rattle.std.proofs.Common.{◌≡◌, ◌≢◌, ◌<◌, ◌≤◌, ◌+◌, ◌==◌, ◌&&◌, ◌||◌, ℕ, List, [], ◌∷◌, refl, sym, ap, ◌∙◌, subst, length, Bool, true, false, Option, Some, None, is_some, is_none, cond, arith}
+use Rattle.std.proofs.Common.{◌≡◌, ◌≢◌, ◌≤◌, ◌+◌, ◌==◌, ◌&&◌, ◌||◌, ℕ, List, [], ◌∷◌, refl, sym, ap, ◌∙◌, subst, length, Bool, true, false, Option, Some, None, is_some, is_none, cond, arith}
 use Rattle.std.specs.Prelude.{not, nat_lt, slice_index, unwrap_or}
 use Rattle.std.specs.Int.{div_ceil}
 use Rattle.std.specs.Option.{option_or}
@@ -29,13 +29,13 @@ use Rattle.responder_machine.specs.Handling.{chunk_in, detail_of, effect_of, err
 use Rattle.responder_machine.specs.LargeMessages.{given_of, handle_of, large_of, pending_of, still_pending}
 use Rattle.responder_machine.specs.Place.{Place, Where, place_terms}
 use Rattle.responder_machine.specs.Place.Where.{InClear, InChunks, InSession}
-use Rattle.responder_machine.specs.Refusal.{are_caps_refused, bytes_round, chunk_fault, code_of, has_no_block, has_pending, is_allowed, is_answer_too_long, is_chunk_in_session, is_exchange_refused, is_get_refused, is_known, is_misplaced, is_offer_refused, is_too_large, is_update_misplaced, is_verify_wrong, lacks_flag, limit_of, needs_session, phase_allows, refusal, refused_contents, refused_form, sizes_are_known, stage_allows, tests_of_contents, tests_of_form, version_for}
+use Rattle.responder_machine.specs.Refusal.{are_caps_refused, bytes_round, chunk_fault, code_of, has_no_block, has_pending, is_allowed, is_answer_too_long, is_chunk_in_session, is_exchange_refused, is_get_refused, is_known, is_misplaced, is_offer_refused, is_too_large, is_update_misplaced, is_verify_wrong, lacks_flag, limit_of, needs_session, phase_allows, refusal, refused_contents, refused_form, sizes_are_known, stage_allows, tests_of_form, version_for}
 use Rattle.responder_machine.specs.Session.{stage_of}
 use Rattle.responder_machine.specs.Setup.{RspSetup}
-use Rattle.responder_machine.specs.Turn.{Effect, Turn, takes}
+use Rattle.responder_machine.specs.Turn.{Turn, takes}
 use Rattle.responder_machine.proofs.Codes.{asked-code}
 use Rattle.responder_machine.proofs.Sizes.{IsSized, common_sized}
-use Rattle.world_machine.proofs.GetTells.{IsGet, transfer_of, turn_get}
+use Rattle.world_machine.proofs.GetTells.{IsGet, transfer_of}
 use Rattle.world_machine.proofs.SmallGets.{get_fits}
 
 -- All that CHUNK_GET goes by, but for the bytes.

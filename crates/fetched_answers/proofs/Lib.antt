@@ -11,3 +11,5 @@ pub mod SealedTurns
 pub mod SealedAlike
 pub mod WalksSound
 pub mod ChunkShown
+pub mod FewBytes
+pub mod AnswersAlike

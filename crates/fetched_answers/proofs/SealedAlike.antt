@@ -1,12 +1,11 @@
 -- In a session: what an answer to a record leads to with some bytes as the large answer that is fetched, it leads to with any
 -- others that give the same chunk.
-use Rattle.std.proofs.Common.{◌≡◌, ◌≢◌, ◌≤◌, ◌+◌, ◌==◌, ◌&&◌, ◌||◌, ℕ, List, [], ◌∷◌, refl, sym, ap, ◌∙◌, subst, drop, length, Bool, true, false, Option, Some, None, is_none, cond, inl, inr}
+use Rattle.std.proofs.Common.{◌≡◌, ◌≤◌, ◌==◌, ◌&&◌, ◌||◌, ℕ, List, [], ◌∷◌, refl, sym, ap, ◌∙◌, subst, drop, length, Bool, true, false, Option, Some, None, is_none, cond, inl, inr}
 use Rattle.std.specs.Prelude.{not, slice_index}
 use Rattle.std.proofs.lemmas.Bool.{false≢true}
 use Rattle.chunking.specs.Cutting.{nth_chunk}
 use Rattle.spdm_basis.specs.declared.record_fault.RecordFault.{RecordFault}
-use Rattle.spdm_grammar.specs.Message.RequestMessage.{ChunkGet, GetVersion}
-use Rattle.spdm_grammar.specs.Requests.{canonical_request, request_in}
+use Rattle.spdm_grammar.specs.Requests.{request_in}
 use Rattle.spdm_grammar.specs.declared.names.TheConstants.{MAX_MESSAGE_SIZE}
 use Rattle.spdm_grammar.specs.declared.names.request_code.TheConstants.{CHUNK_GET}
 use Rattle.spdm_grammar.specs.declared.phase.Phase.{Phase}
@@ -14,17 +13,17 @@ use Rattle.spdm_machine.specs.Bodies.{clear_body, record_body}
 use Rattle.spdm_machine.specs.Sessions.{is_past_handshake, one_if}
 use Rattle.spdm_machine.specs.Terms.{hash_len, terms_of}
 use Rattle.transcript.specs.Transcripts.{Negotiation}
-use Rattle.responder_machine.specs.Answer.{Free, answer_bytes, request_at}
+use Rattle.responder_machine.specs.Answer.{Free, answer_bytes}
 use Rattle.responder_machine.specs.History.{Entry, History, KeptRecord, clear_turns, ended_of, phase_of}
 use Rattle.responder_machine.specs.History.Entry.{Clear, Sealed, Queued, Ticked, Dropped}
 use Rattle.responder_machine.specs.LargeMessages.{given_of}
-use Rattle.responder_machine.specs.May.{IsAllowed, MayDrop, place_for, with_dropped}
+use Rattle.responder_machine.specs.May.{IsAllowed, place_for}
 use Rattle.responder_machine.specs.Place.{Place, clear_place, held_of, is_held, place_terms, session_place}
 use Rattle.responder_machine.specs.Records.{opened, opening_fault, reply_record}
 use Rattle.responder_machine.specs.Refusal.{has_pending}
 use Rattle.responder_machine.specs.Responder.{Outcome, in_session, in_session_by, inner_reply, kept_record, on_clear, on_record, repeats, sealed_entry, session_turn, to_session}
 use Rattle.responder_machine.specs.Responder.Outcome.{Same, Unopened, Adds}
-use Rattle.responder_machine.specs.Session.{Event, Events, id_in_record, is_live, is_timed, last_of, session_of, stage_of}
+use Rattle.responder_machine.specs.Session.{Events, id_in_record, is_live, last_of, session_of, stage_of}
 use Rattle.responder_machine.specs.Setup.{RspSetup}
 use Rattle.responder_machine.specs.Turn.{Turn, takes}
 use Rattle.capture_laws.specs.AnswersShown.{least_values}
@@ -32,7 +31,7 @@ use Rattle.fetched_answers.proofs.ClearAlike.{no_get}
 use Rattle.fetched_answers.proofs.ClearTurns.{get_bytes}
 use Rattle.fetched_answers.proofs.SealedTurns.{session_places, session_same, short_same}
 use Rattle.fetched_answers.specs.AlikeAnswers.{gives_chunk}
-use Rattle.world_machine.proofs.ChunksGiven.{Chunked, answer_by}
+use Rattle.world_machine.proofs.ChunksGiven.{Chunked}
 use Rattle.world_machine.proofs.EventsAlike.{EventsAlike, answer_alike, exchange_alike, fault_alike, finish_alike, finish_answer_alike, last_alike, live_alike, negotiation_alike, opened_alike, response_epoch_alike, response_number_alike, stage_alike}
 use Rattle.world_machine.proofs.EventsAlike.EventsAlike.{NoEvent, Behind, Here}
 use Rattle.world_machine.proofs.DropsTell.{record_shown}

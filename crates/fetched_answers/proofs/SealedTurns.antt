@@ -21,7 +21,7 @@ use Rattle.spdm_machine.specs.Terms.{hash_len, terms_of}
 use Rattle.transcript.specs.Transcripts as transcript
 use Rattle.transcript.specs.Transcripts.{Negotiation, vca_of}
 use Rattle.responder_machine.specs.Answer.{Free, answer_bytes, answer_to, exchange_answer, request_at}
-use Rattle.responder_machine.specs.Handling.{chunk_in, refused_turn, turn_of}
+use Rattle.responder_machine.specs.Handling.{chunk_in, turn_of}
 use Rattle.responder_machine.specs.Place.{Place, place_terms, session_place}
 use Rattle.responder_machine.specs.Place.Where.{InSession}
 use Rattle.responder_machine.specs.Refusal.{are_caps_refused, chunk_fault, code_of, has_no_block, has_pending, is_answer_too_long, is_chunk_in_session, is_exchange_refused, is_get_refused, is_offer_refused, is_too_large, is_update_misplaced, fits_stage, is_verify_wrong, lacks_flag, refusal, refused_contents, refused_form, tests_of_form}

@@ -1,6 +1,6 @@
 -- No answer to GET_CAPABILITIES goes by LargeResponse, so none is left unseen in a walk.
 use Rattle.std.proofs.Common.{◌≡◌, ◌+◌, ◌==◌, ◌&&◌, ℕ, List, [], ◌∷◌, refl, sym, ap, ◌∙◌, subst, drop, length, Bool, true, false, Option, Some, None, Result, Ok, Err, is_some, cond, inl, inr, eqb-true}
-use Rattle.std.specs.Prelude.{MatchBool, nat_lt, not, slice_index}
+use Rattle.std.specs.Prelude.{MatchBool, nat_lt, slice_index}
 use Rattle.std.proofs.lemmas.Bool.{false≢true, not-false}
 use Rattle.chunking.specs.Collecting.{joined_with, under_way}
 use Rattle.mctp_framing.specs.Gathering.{Gathered}
@@ -39,7 +39,7 @@ use Rattle.world_machine.proofs.PlainTells.{led_clear, led_record}
 use Rattle.world_machine.proofs.RecordAdds.{record_added}
 use Rattle.world_machine.proofs.SeenAnswers.{led_seen}
 use Rattle.world_machine.proofs.UnseenStands.{given_seen}
-use Rattle.world_machine.specs.Capture.{AsksBy, Begins, Copies, Replies, RepliesBy}
+use Rattle.world_machine.specs.Capture.{AsksBy, RepliesBy}
 use Rattle.world_machine.specs.CapturedAnswers.{Answers, MayLeadTo}
 use Rattle.world_machine.specs.LargeAnswers.{dropped_before_large, is_large, is_unseen, is_unseen_in, judging, place_named, seen, unseen, with_large}
 use Rattle.world_machine.specs.Rounds.{Dialogue, Round, no_draw}

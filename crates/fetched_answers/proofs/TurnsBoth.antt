@@ -1,13 +1,13 @@
 -- Turns that differ in the bytes of one large answer at most: what CHUNK_GET goes by is the same.
-use Rattle.std.proofs.Common.{◌≡◌, ◌+◌, ◌==◌, ◌||◌, ℕ, List, [], ◌∷◌, refl, sym, ap, ◌∙◌, Bool, true, false, Option, Some, None, is_some, cond}
-use Rattle.std.specs.Prelude.{not, option_map, unwrap_or}
+use Rattle.std.proofs.Common.{◌≡◌, ◌+◌, ℕ, List, [], ◌∷◌, refl, sym, ap, ◌∙◌, Bool, true, false, Option, Some, None, cond}
+use Rattle.std.specs.Prelude.{not, unwrap_or}
 use Rattle.std.proofs.lemmas.Bool.{false≢true}
 use Rattle.responder_machine.specs.History.{Entry, History, clear_turns, negotiation_of, phase_of}
 use Rattle.responder_machine.specs.History.Entry.{Clear, Sealed, Queued, Ticked, Dropped}
-use Rattle.responder_machine.specs.LargeMessages.{given_of, handle_of, large_of}
+use Rattle.responder_machine.specs.LargeMessages.{given_of, handle_of}
 use Rattle.responder_machine.specs.Session.{Events, turns_of}
 use Rattle.responder_machine.specs.Session.Event.{Began, Heard, Waited}
-use Rattle.responder_machine.specs.Turn.{Effect, Turn, answer_in, handle_in, is_taken, large_in, request_in, takes}
+use Rattle.responder_machine.specs.Turn.{Effect, Turn, answer_in, handle_in, is_taken, request_in, takes}
 use Rattle.responder_machine.specs.Turn.Effect.{NoEffect, Took, TookData}
 use Rattle.spdm_grammar.specs.declared.names.request_code.TheConstants.{CHUNK_GET, GET_CAPABILITIES, GET_VERSION, NEGOTIATE_ALGORITHMS}
 use Rattle.spdm_grammar.specs.declared.phase.Phase.{Phase}

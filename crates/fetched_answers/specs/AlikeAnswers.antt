@@ -16,6 +16,7 @@ use Rattle.secured_record.specs.Format.{plain_text}
 use Rattle.spdm_grammar.specs.Message.ResponseMessage.{ChunkResponse}
 use Rattle.spdm_grammar.specs.Responses.{canonical_response}
 use Rattle.spdm_machine.specs.Bodies.{clear_body}
+use Rattle.capture_ends.specs.ShownBy.{HasFewBlocks}
 use Rattle.capture_laws.specs.AnswersShown.{answered_text}
 use Rattle.capture_laws.specs.Walks.{Walks}
 use Rattle.world_machine.specs.CapturedAnswers.{AreShown, MayLeadAfter, is_plain}
@@ -56,6 +57,16 @@ pub record AgreeNext (h : History) (body w v : List ℕ) : Type 0 where
 -- A chunk of both is left to be given, or of neither.
 abbrev pub ArePending : History → (body w v : List ℕ) → Type 0
 ArePending h body w v = has_pending (place_with h body w) ≡ has_pending (place_with h body v)
+
+-- So an answer goes on from a walk with these bytes where it goes on from one with others: it gives no chunk, or one that both
+-- have. No measurements have more than 4,054 bytes.
+abbrev pub AnswersAreAlike : Type 0
+AnswersAreAlike = (c : Configuration) (q : ReqSetup) (older : List (List ℕ)) (d : Dialogue) (w v : List ℕ) (round : Round) (answer : List ℕ) (next : History) (dropped : List ℕ) (outcome : Outcome)
+    → HasFewBlocks (towards c.responder (known_of d.setup))
+    → Walks c q older d → Walks c q older (record d { fetching = Some v }) → d.fetching ≡ Some w → d.round ≡ Some round
+    → ArePending d.responder round.body w v → (gives_chunk outcome ≡ true → AgreeNext d.responder round.body w v)
+    → AnswersBy (towards c.responder (known_of d.setup)) d round answer next dropped outcome
+    → AnswersBy (towards c.responder (known_of d.setup)) (record d { fetching = Some v }) round answer next dropped outcome
 
 -- ---- The chunk.
 

@@ -1,6 +1,7 @@
 //! Which answers a responder may give while its large answer is fetched, each law as the contract of a
 //! function that does nothing.
 
+ghost use Rattle.fetched_answers.specs.AlikeAnswers.{AnswersAreAlike, ChunkIsShown};
 ghost use Rattle.fetched_answers.specs.LastShown.{LastIsShown, WholeHasLed};
 ghost use Rattle.fetched_answers.specs.WholeValues.{WholeIsShown};
 
@@ -17,4 +18,14 @@ pub fn whole_has_led()
 /// Whether an answer is the last chunk of these bytes is told from what both show.
 pub fn last_is_shown()
     ensures { LastIsShown }
+{}
+
+/// An answer hangs on no more of the bytes of a large one than on those of its next chunk.
+pub fn answers_are_alike()
+    ensures { AnswersAreAlike }
+{}
+
+/// An answer that gives a chunk shows it.
+pub fn chunk_is_shown()
+    ensures { ChunkIsShown }
 {}
