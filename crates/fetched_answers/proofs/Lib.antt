@@ -13,3 +13,4 @@ pub mod WalksSound
 pub mod ChunkShown
 pub mod FewBytes
 pub mod AnswersAlike
+pub mod LargeAlike

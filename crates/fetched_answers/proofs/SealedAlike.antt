@@ -221,7 +221,7 @@ module _ (r : RspSetup) (few : (h : History) (p : Place) (m : List ℕ) → leng
       by_how (Repeats clear again since) = absurd (false≢true (sym type ∙ clear))
       by_how (Seals sealed within) = within
 
-  within : InSession (place_named body) h
+  pub within : InSession (place_named body) h
   within = record { id = id; at = named_session body type; stand = stand }
 
   all : (i : ℕ) → EventsAlike (session_of i (large w)) (session_of i (large v))

@@ -19,7 +19,7 @@ use Rattle.spdm_machine.specs.Bodies.{clear_body}
 use Rattle.capture_ends.specs.ShownBy.{HasFewBlocks}
 use Rattle.capture_laws.specs.AnswersShown.{answered_text}
 use Rattle.capture_laws.specs.Walks.{Walks}
-use Rattle.world_machine.specs.CapturedAnswers.{AreShown, MayLeadAfter, is_plain}
+use Rattle.world_machine.specs.CapturedAnswers.{AnswersLarge, AreShown, MayLeadAfter, is_plain}
 use Rattle.world_machine.specs.LargeAnswers.{judging, place_named, takes_get, with_large}
 use Rattle.world_machine.specs.Opening.{turn_in}
 use Rattle.world_machine.specs.Rounds.{Dialogue, Round}
@@ -67,6 +67,15 @@ AnswersAreAlike = (c : Configuration) (q : ReqSetup) (older : List (List ℕ)) (
     → ArePending d.responder round.body w v → (gives_chunk outcome ≡ true → AgreeNext d.responder round.body w v)
     → AnswersBy (towards c.responder (known_of d.setup)) d round answer next dropped outcome
     → AnswersBy (towards c.responder (known_of d.setup)) (record d { fetching = Some v }) round answer next dropped outcome
+
+-- In a session a new LargeResponse hangs on none of them. No measurements have more than 4,054 bytes.
+abbrev pub LargeIsAlike : Type 0
+LargeIsAlike = (c : Configuration) (q : ReqSetup) (older : List (List ℕ)) (d : Dialogue) (w v : List ℕ) (round : Round) (answer : List ℕ) (next : History) (whole : List ℕ)
+    → HasFewBlocks (towards c.responder (known_of d.setup)) → (slice_index round.body 0 == 5) ≡ false
+    → Walks c q older d → Walks c q older (record d { fetching = Some v }) → d.fetching ≡ Some w → d.round ≡ Some round
+    → ArePending d.responder round.body w v
+    → AnswersLarge (towards c.responder (known_of d.setup)) d round answer next whole
+    → AnswersLarge (towards c.responder (known_of d.setup)) (record d { fetching = Some v }) round answer next whole
 
 -- ---- The chunk.
 

@@ -1,7 +1,7 @@
 //! Which answers a responder may give while its large answer is fetched, each law as the contract of a
 //! function that does nothing.
 
-ghost use Rattle.fetched_answers.specs.AlikeAnswers.{AnswersAreAlike, ChunkIsShown};
+ghost use Rattle.fetched_answers.specs.AlikeAnswers.{AnswersAreAlike, ChunkIsShown, LargeIsAlike};
 ghost use Rattle.fetched_answers.specs.LastShown.{LastIsShown, WholeHasLed};
 ghost use Rattle.fetched_answers.specs.WholeValues.{WholeIsShown};
 
@@ -23,6 +23,11 @@ pub fn last_is_shown()
 /// An answer hangs on no more of the bytes of a large one than on those of its next chunk.
 pub fn answers_are_alike()
     ensures { AnswersAreAlike }
+{}
+
+/// In a session a new LargeResponse hangs on none of them.
+pub fn large_is_alike()
+    ensures { LargeIsAlike }
 {}
 
 /// An answer that gives a chunk shows it.

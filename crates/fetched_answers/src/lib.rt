@@ -5,4 +5,6 @@
 
 mod laws;
 
-pub use laws::{answers_are_alike, chunk_is_shown, last_is_shown, whole_has_led, whole_is_shown};
+pub use laws::{
+    answers_are_alike, chunk_is_shown, large_is_alike, last_is_shown, whole_has_led, whole_is_shown,
+};
