@@ -1,6 +1,6 @@
 -- In the clear: what an answer leads to with some bytes as the large answer that is fetched, it leads to with any others
 -- that give the same chunk.
-use Rattle.std.proofs.Common.{◌≡◌, ◌<◌, ◌≤◌, ◌==◌, ◌&&◌, ◌⊎◌, ℕ, List, [], ◌∷◌, refl, sym, ap, ◌∙◌, subst, drop, length, Bool, true, false, Option, Some, None, cond, inl, inr, arith}
+use Rattle.std.proofs.Common.{◌≡◌, ◌<◌, ◌≤◌, ◌==◌, ◌&&◌, ◌⊎◌, ℕ, List, [], ◌∷◌, refl, sym, ap, ◌∙◌, subst, drop, length, Bool, true, false, Option, Some, None, is_some, cond, inl, inr, arith}
 use Rattle.std.specs.Prelude.{not, slice_index}
 use Rattle.std.proofs.lemmas.Bool.{false≢true}
 use Rattle.chunking.specs.Cutting.{nth_chunk}
@@ -11,12 +11,12 @@ use Rattle.spdm_grammar.specs.Requests.{canonical_request}
 use Rattle.spdm_grammar.specs.declared.names.TheConstants.{MAX_MESSAGE_SIZE}
 use Rattle.spdm_grammar.specs.declared.names.request_code.TheConstants.{CHUNK_GET, GET_VERSION}
 use Rattle.spdm_machine.specs.Bodies.{clear_body}
-use Rattle.spdm_machine.specs.Terms.{hash_len}
+use Rattle.spdm_machine.specs.Terms.{hash_len, terms_of}
 use Rattle.responder_machine.specs.Answer.{Free, answer_bytes, request_at}
 use Rattle.responder_machine.specs.Handling.{chunk_in, turn_of}
-use Rattle.responder_machine.specs.History.{Entry, History, kept_of}
+use Rattle.responder_machine.specs.History.{Entry, History, kept_of, negotiation_of, phase_of}
 use Rattle.responder_machine.specs.History.Entry.{Clear}
-use Rattle.responder_machine.specs.LargeMessages.{chunks_of, given_of}
+use Rattle.responder_machine.specs.LargeMessages.{chunks_of, given_of, handle_of, pending_of}
 use Rattle.responder_machine.specs.May.{IsAllowed, place_for, with_dropped}
 use Rattle.responder_machine.specs.Place.{Place, clear_place, inside, place_terms}
 use Rattle.responder_machine.specs.Refusal.{code_of, has_pending}
@@ -28,10 +28,11 @@ use Rattle.responder_machine.specs.Turn.{Turn, takes}
 use Rattle.capture_laws.proofs.LeastValues.{handle_free, least_allowed}
 use Rattle.capture_laws.specs.AnswersShown.{least_values}
 use Rattle.fetched_answers.proofs.ClearTurns.{chunk_bytes, clear_places, turn_same}
-use Rattle.fetched_answers.proofs.GetAlike.{PlacesAlike}
+use Rattle.fetched_answers.proofs.GetAlike.{PlacesAlike, large_same, long_same}
 use Rattle.fetched_answers.proofs.TurnsBoth.{Settles}
 use Rattle.fetched_answers.specs.AlikeAnswers.{gives_chunk}
 use Rattle.world_machine.proofs.ChunksGiven.{Chunked}
+use Rattle.world_machine.proofs.DropsTell.{clear_form, kept_same, turns_stay}
 use Rattle.world_machine.proofs.FetchStates.{Fetch, Getting, served}
 use Rattle.world_machine.proofs.FetchStates.Getting.{Asks, Repeats, Seals}
 use Rattle.world_machine.proofs.FetchedAnswers.{again_none, always_none, turn_code}
@@ -39,8 +40,9 @@ use Rattle.world_machine.proofs.FetchedTells.{ReadsAlways, get_reads, kept_large
 use Rattle.world_machine.proofs.FetchedTold.{Stands, version_apart}
 use Rattle.world_machine.proofs.PlacesServed.{named_clear, place_type}
 use Rattle.world_machine.proofs.PlainTells.{led_clear}
+use Rattle.world_machine.proofs.SmallGets.{gets_are_small}
 use Rattle.world_machine.specs.CapturedAnswers.{AreShown, MayLeadAfter, MayLeadTo, answer_at, clear_answer, is_plain, record_answer}
-use Rattle.world_machine.specs.LargeAnswers.{gives_last, is_large, place_named, place_of, takes_get, with_large}
+use Rattle.world_machine.specs.LargeAnswers.{IsLargeAnswer, gives_last, is_large, place_named, place_of, takes_get, with_large}
 use Rattle.world_machine.specs.Rounds.{no_draw}
 
 -- What is no CHUNK_GET gives no last chunk.
@@ -224,3 +226,91 @@ module _ (r : RspSetup) (few : (h : History) (p : Place) (m : List ℕ) → leng
         let there : MayLeadTo r (large v) tag body x =
         subst (λ (l : History). MayLeadTo r l tag body x) (sym (large_is v)) (leads_too x pending same (subst (λ (l : History). MayLeadTo r l tag body x) (large_is w) here)) in
         (none, there, plain_too x here there plain)
+
+    -- ---- LargeResponse.
+
+    -- What was dropped before it does not count.
+    drop_places : (ids : List ℕ) → PlacesAlike (clear_place (with_dropped g ids)) (clear_place g)
+    drop_places ids = (let same = turns_stay ids g in record {
+      at = refl;
+      phase = ap phase_of same;
+      stage = refl;
+      common = ap (λ (l : List Turn). (terms_of (negotiation_of l)).common) same;
+      pending = ap (λ (l : List Turn). is_some (pending_of (terms_of (negotiation_of l)).common.to_requester.transfer l)) same;
+      handle = ap handle_of same;
+      given = ap given_of same;
+    })
+
+    large_here : (ids : List ℕ) (e : Entry) → MayLeadTo r (with_dropped g ids) tag body (Adds e) → is_large e ≡ true → MayLeadTo r g tag body (Adds e)
+    unfolding MayLeadTo on_clear
+    large_here ids e may goes = by_reading (reading h w tag body type one)
+      where
+        kept_is : kept_of (with_dropped g ids) ≡ kept_of h
+        kept_is = kept_same ids g ∙ kept_large None w h
+
+        not_again : (b : Bool) (f : Free) → cond b (Same (clear_body (kept_reply (kept_of (with_dropped g ids))))) (Adds (Clear tag (turn_of r (clear_place (with_dropped g ids)) m f) no_draw)) ≡ Adds e → is_repeat (kept_of g) tag m ≡ b → is_repeat (kept_of g) tag m ≡ false
+        not_again true f leads is = absurd (cc)
+        not_again false f leads is = is
+
+        by_reading : Reading h tag m → MayLeadTo r g tag body (Adds e)
+        by_reading (Again again) =
+            let led = led_clear r (with_dropped g ids) tag body (Adds e) type may in
+            absurd (let x = sym (ap (λ (b : Bool). cond b (Same (clear_body (kept_reply (kept_of (with_dropped g ids))))) (Adds (Clear tag (turn_of r (clear_place (with_dropped g ids)) m led.free) no_draw))) (ap (λ y. is_repeat y tag m) kept_is ∙ again)) ∙ led.leads in cc)
+        by_reading (Anew reads code) =
+            let led = led_clear r (with_dropped g ids) tag body (Adds e) type may in
+            let q : Place = clear_place (with_dropped g ids) in
+            let u : Free = value g led.free.handle in
+            elim (clear_form r (with_dropped g ids) tag m led.free (Adds e) led.leads) [
+              | inl same ↦ absurd (let x = same.1 in cc)
+              | inr adds ↦
+                  let same : Clear tag (turn_of r q m led.free) no_draw ≡ e = cc (sym adds) in
+                  let turns : turn_of r q m led.free ≡ turn_of r p m u = turn_same r m q p led.free u (drop_places ids) (reads.reads (hash_len (place_terms q)) (hash_len (place_terms p))) code
+                  (λ gets. absurd (false≢true (sym (gets_are_small r (with_dropped g ids) tag body e may (ap takes_get (sym same) ∙ gets)) ∙ goes))) refl in
+                  let entry : Clear tag (turn_of r p m u) no_draw ≡ e = ap (λ (t : Turn). Clear tag t no_draw) (sym turns) ∙ same in
+                  let anew : is_repeat (kept_of g) tag m ≡ false = not_again (is_repeat (kept_of (with_dropped g ids)) tag m) led.free led.leads (ap (λ y. is_repeat y tag m) (kept_large None w h ∙ sym kept_is)) in (
+                    u,
+                    subst (λ (x : Place). IsAllowed g x u) (sym (place_type g body true type)) (value_allowed g led.free.handle led.allowed.handle),
+                    subst (λ (b : Bool). length (cond b (clear_answer r (clear_place g) m u) (record_answer r (session_of (id_in_record m) g) m u)) ≤ MAX_MESSAGE_SIZE) (sym type) (value_few g m led.free.handle (chunk_in (request_at (clear_place g) m))),
+                    ap (λ (b : Bool). cond b (on_clear r g tag m u no_draw) (on_record r g tag m u no_draw)) type
+                        ∙ ap (λ (b : Bool). cond b (Same (clear_body (kept_reply (kept_of g)))) (Adds (Clear tag (turn_of r p m u) no_draw))) anew ∙ ap Adds entry,
+                  )
+            ]
+
+    -- It may be given with the other bytes too, to the place of the same sizes.
+    pub large_clear : (ids : List ℕ) (e : Entry) → has_pending p ≡ has_pending o → MayLeadTo r (with_dropped (large w) ids) tag body (Adds e) → is_large e ≡ true → MayLeadTo r (large v) tag body (Adds e)
+    large_clear ids e pending may goes =
+        let here = large_here ids e (subst (λ (l : History). MayLeadTo r (with_dropped l ids) tag body (Adds e)) (large_is w) may) goes in
+        subst (λ (l : History). MayLeadTo r l tag body (Adds e)) (sym (large_is v))
+        (leads_too (Adds e) pending (λ gives. absurd (false≢true (sym (gets_are_small r g tag body e here gives) ∙ goes))) here)
+
+    sizes_same : (whole : List ℕ) (q x : Place) → PlacesAlike q x → IsLargeAnswer q whole → IsLargeAnswer x whole
+    sizes_same whole q x a fits = (sym (large_same r m q x (value g 0) (value g 0) a whole) ∙ fits.0, sym (long_same r m q x (value g 0) (value g 0) a whole) ∙ fits.1, fits.2)
+
+    inside_alike : (q x : Place) → PlacesAlike q x → PlacesAlike (inside q) (inside x)
+    inside_alike q x a = record {
+      at = refl;
+      phase = a.phase;
+      stage = a.stage;
+      common = a.common;
+      pending = a.pending;
+      handle = a.handle;
+      given = a.given;
+    }
+
+    pub clear_fits : (e : Entry) (whole : List ℕ) → has_pending p ≡ has_pending o → MayLeadTo r (large v) tag body (Adds e) → IsLargeAnswer (place_of (large w) e) whole → IsLargeAnswer (place_of (large v) e) whole
+    clear_fits e whole pending may fits =
+        let a : PlacesAlike p o = clear_places w v h settles pending in
+        let led = led_clear r (large v) tag body (Adds e) type may in
+        elim (clear_form r (large v) tag m led.free (Adds e) led.leads) [
+          | inl same ↦ absurd (let x = same.1 in cc)
+          | inr adds ↦
+              let t : Turn = turn_of r (clear_place (large v)) m led.free in
+              let same : e ≡ Clear tag t no_draw = cc adds in
+              let to : (x : List ℕ) → place_of (large x) e ≡ cond (is_some t.chunk) (inside (clear_place (with_large None x h))) (clear_place (with_large None x h)) =
+              λ x. ap (place_of (large x)) same ∙ ap (λ (l : History). cond (is_some t.chunk) (inside (clear_place l)) (clear_place l)) (large_is x) in
+              subst (λ (q : Place). IsLargeAnswer q whole) (sym (to v)) (by_chunk (is_some t.chunk) a (subst (λ (q : Place). IsLargeAnswer q whole) (to w) fits))
+        ]
+      where
+        by_chunk : (b : Bool) → PlacesAlike p o → IsLargeAnswer (cond b (inside p) p) whole → IsLargeAnswer (cond b (inside o) o) whole
+        by_chunk true a fits = sizes_same whole (inside p) (inside o) (inside_alike p o a) fits
+        by_chunk false a fits = sizes_same whole p o a fits

@@ -141,7 +141,7 @@ module _ (r : RspSetup) (m : List ℕ) (p o : Place) (f k : Free) (a : PlacesAli
   pub refused_same : (e : ErrorCode) → answer_bytes r p m f ≡ answer_bytes r o m k → refused_turn r p m f e ≡ refused_turn r o m k e
   refused_same e bytes = refused_by e (ap (extended_of e) bytes)
 
-  large_same : (answer : List ℕ) → goes_large p answer ≡ goes_large o answer
+  pub large_same : (answer : List ℕ) → goes_large p answer ≡ goes_large o answer
   large_same answer =
       ap (λ (x : Phase). sizes_are_known x && nat_lt (place_terms p).common.to_requester.transfer (bytes_round p.at + length answer)) a.phase
       ∙ ap (λ (c : Common). sizes_are_known o.phase && nat_lt c.to_requester.transfer (bytes_round p.at + length answer)) a.common

@@ -1,11 +1,11 @@
--- In a session a new LargeResponse hangs on no byte of the large answer that is fetched.
-use Rattle.std.proofs.Common.{◌≡◌, ◌≤◌, ◌==◌, ℕ, List, [], ◌∷◌, refl, sym, ap, ◌∙◌, subst, drop, length, Bool, true, false, Option, Some, cond}
+-- A new LargeResponse hangs on no byte of the large answer that is fetched.
+use Rattle.std.proofs.Common.{◌≡◌, ◌≤◌, ◌==◌, ℕ, List, [], ◌∷◌, refl, sym, ap, ◌∙◌, subst, drop, length, Bool, true, false, Option, Some, None, cond}
 use Rattle.std.specs.Prelude.{slice_index}
 use Rattle.std.proofs.lemmas.Bool.{false≢true}
 use Rattle.responder_machine.specs.Answer.{answer_bytes}
 use Rattle.responder_machine.specs.History.{Entry, History}
 use Rattle.responder_machine.specs.May.{place_for, with_dropped}
-use Rattle.responder_machine.specs.Place.{Place, held_of, session_place}
+use Rattle.responder_machine.specs.Place.{Place, clear_place, held_of, session_place}
 use Rattle.responder_machine.specs.Refusal.{has_pending}
 use Rattle.responder_machine.specs.Responder.{sent_by}
 use Rattle.responder_machine.specs.Responder.Outcome.{Adds}
@@ -17,15 +17,18 @@ use Rattle.capture_laws.proofs.LargeDrops.{drops_chosen}
 use Rattle.capture_laws.proofs.LargeLed.{Leads, large_leads}
 use Rattle.capture_laws.specs.AnswersShown.{least_values}
 use Rattle.capture_laws.specs.LargeShown.{first_dropped}
+use Rattle.fetched_answers.proofs.ClearAlike.{clear_fits, large_clear}
 use Rattle.fetched_answers.proofs.FewBytes.{answers_few}
 use Rattle.fetched_answers.proofs.SealedAlike.{sealed_leads, within}
+use Rattle.fetched_answers.proofs.SettledCaps.{walks_settle}
+use Rattle.fetched_answers.proofs.TurnsBoth.{Settles}
 use Rattle.fetched_answers.proofs.WalksSound.{walk_stands}
 use Rattle.fetched_answers.specs.AlikeAnswers.{ArePending, LargeIsAlike}
 use Rattle.world_machine.proofs.EventsAlike.{EventsAlike, negotiation_alike}
 use Rattle.world_machine.proofs.FetchedSessions.{sessions_fetched}
 use Rattle.world_machine.proofs.FetchedTold.{Stands}
 use Rattle.world_machine.proofs.LargeTells.{adds_here, large_next}
-use Rattle.world_machine.proofs.PlacesServed.{place_type}
+use Rattle.world_machine.proofs.PlacesServed.{named_clear, place_type}
 use Rattle.world_machine.proofs.PlainTells.{led_record}
 use Rattle.world_machine.proofs.RecordAdds.{record_added}
 use Rattle.world_machine.proofs.SmallGets.{gets_are_small}
@@ -80,13 +83,36 @@ module _ (r : RspSetup) (few : (h : History) (p : Place) (m : List ℕ) → leng
         erased = λ older. ap (λ (x : Entry). x ∷ older) (cc (large_next r (large w) ids [] tag body e there.other may (tt, there.may) (sym there.sent)));
       }
 
+module _ (r : RspSetup) (few : (h : History) (p : Place) (m : List ℕ) → length (answer_bytes r p m (least_values h p)) ≤ MAX_MESSAGE_SIZE) (h : History) (w v : List ℕ) (tag : ℕ) (body : List ℕ) (settles : Settles h) (one : Stands h w tag body) (other : Stands h v tag body)
+    (waits : ArePending h body w v) (ids : List ℕ) (e : Entry) (whole : List ℕ) where
+  -- It may be given, some way.
+  abbrev Too : Type 0
+  Too =
+      (x : Entry) × MayLeadTo r (with_large (place_named body) v h) tag body (Adds x) × (is_large x ≡ true) × IsLargeAnswer (place_of (with_large (place_named body) v h) x) whole × (sent_by x ≡ sent_by e)
+      × ((older : History) → unseen e ∷ older ≡ unseen x ∷ older)
+
+  either : MayLeadAfter r (with_large (place_named body) w h) ids tag body (Adds e) → is_large e ≡ true → IsLargeAnswer (place_of (with_large (place_named body) w h) e) whole → Too
+  either may goes fits = by_type (slice_index body 0 == 5) refl
+    where
+      by_type : (b : Bool) → (slice_index body 0 == 5) ≡ b → Too
+      by_type false type =
+          let too = large_too r few h w v tag body type one other waits ids e whole may goes fits in
+          (too.same, too.may.1, too.goes, too.fits, too.sent, too.erased)
+      by_type true type =
+          let large : List ℕ → History = λ x. with_large (place_named body) x h in
+          let here : (y : List ℕ) → place_for (with_large (place_named body) y h) body ≡ clear_place (with_large None y h) =
+          λ y. ap (λ (n : Option ℕ). place_for (with_large n y h) body) (named_clear body type) ∙ place_type (with_large None y h) body true type in
+          let pending : has_pending (clear_place (with_large None w h)) ≡ has_pending (clear_place (with_large None v h)) = sym (ap has_pending (here w)) ∙ waits ∙ ap has_pending (here v) in
+          let led = large_clear r few h w v tag body type settles one other ids e pending may.1 goes in
+          (e, led, goes, clear_fits r few h w v tag body type settles one other e whole pending led fits, refl, λ older. refl)
+
 pub large_is_alike : LargeIsAlike
-large_is_alike c q older d w v round answer next whole blocks type walk fetch fetching at waits a =
+large_is_alike c q older d w v round answer next whole blocks walk fetch fetching at waits a =
     let r : RspSetup = towards c.responder (known_of d.setup) in
     let judged : judging d.fetching round.body d.responder ≡ with_large (place_named round.body) w d.responder = ap (λ (o : Option (List ℕ)). judging o round.body d.responder) fetching in
     let one = walk_stands c q older d w round walk fetching at in
     let other = walk_stands c q older (record d { fetching = Some v }) v round fetch refl at in
-    let too = large_too r (answers_few r blocks) d.responder w v round.tag round.body type one other waits a.0 a.1 whole
+    let too = either r (answers_few r blocks) d.responder w v round.tag round.body (walks_settle c q older d walk) one other waits a.0 a.1 whole
     (subst (λ (l : History). MayLeadAfter r l a.0 round.tag round.body (Adds a.1)) judged a.2) a.3
     (subst (λ (l : History). IsLargeAnswer (place_of l a.1) whole) judged a.4) in
-    ([], too.same, too.may, too.goes, too.fits, too.sent ∙ a.5, a.6 ∙ too.erased d.responder)
+    ([], too.0, (tt, too.1), too.2, too.3, too.4 ∙ a.5, a.6 ∙ too.5 d.responder)

@@ -68,10 +68,10 @@ AnswersAreAlike = (c : Configuration) (q : ReqSetup) (older : List (List ℕ)) (
     → AnswersBy (towards c.responder (known_of d.setup)) d round answer next dropped outcome
     → AnswersBy (towards c.responder (known_of d.setup)) (record d { fetching = Some v }) round answer next dropped outcome
 
--- In a session a new LargeResponse hangs on none of them. No measurements have more than 4,054 bytes.
+-- A new LargeResponse hangs on none of them. No measurements have more than 4,054 bytes.
 abbrev pub LargeIsAlike : Type 0
 LargeIsAlike = (c : Configuration) (q : ReqSetup) (older : List (List ℕ)) (d : Dialogue) (w v : List ℕ) (round : Round) (answer : List ℕ) (next : History) (whole : List ℕ)
-    → HasFewBlocks (towards c.responder (known_of d.setup)) → (slice_index round.body 0 == 5) ≡ false
+    → HasFewBlocks (towards c.responder (known_of d.setup))
     → Walks c q older d → Walks c q older (record d { fetching = Some v }) → d.fetching ≡ Some w → d.round ≡ Some round
     → ArePending d.responder round.body w v
     → AnswersLarge (towards c.responder (known_of d.setup)) d round answer next whole

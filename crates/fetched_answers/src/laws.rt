@@ -25,7 +25,7 @@ pub fn answers_are_alike()
     ensures { AnswersAreAlike }
 {}
 
-/// In a session a new LargeResponse hangs on none of them.
+/// A new LargeResponse hangs on none of them.
 pub fn large_is_alike()
     ensures { LargeIsAlike }
 {}
