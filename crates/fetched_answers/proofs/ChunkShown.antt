@@ -5,6 +5,7 @@ use Rattle.std.proofs.lemmas.Bool.{false≢true}
 use Rattle.std.proofs.lemmas.Option.{none-some, same_Some}
 use Rattle.chunking.specs.Cutting.{nth_chunk}
 use Rattle.secured_record.specs.Format.{plain_text}
+use Rattle.spdm_basis.proofs.Bools.{and_first}
 use Rattle.spdm_grammar.specs.Message.{RequestMessage}
 use Rattle.spdm_grammar.specs.Message.RequestMessage.{ChunkGet}
 use Rattle.spdm_grammar.specs.Message.ResponseMessage.{ChunkResponse}
@@ -32,7 +33,7 @@ use Rattle.capture_laws.specs.AnswersShown.{answered_text}
 use Rattle.fetched_answers.proofs.ClearAlike.{Reading, reading}
 use Rattle.fetched_answers.proofs.ClearAlike.Reading.{Again, Anew}
 use Rattle.fetched_answers.proofs.WalksSound.{walk_stands}
-use Rattle.fetched_answers.specs.AlikeAnswers.{ChunkIsShown, ShowsChunk, chunk_given, gives_chunk}
+use Rattle.fetched_answers.specs.AlikeAnswers.{ChunkIsShown, LastShowsChunk, ShowsChunk, chunk_given, gives_chunk}
 use Rattle.world_machine.proofs.ChunksGiven.{Chunked}
 use Rattle.world_machine.proofs.ChunksGiven.Chunked.{Gone, Given}
 use Rattle.world_machine.proofs.DropsTell.{clear_form, record_shown}
@@ -212,3 +213,11 @@ chunk_is_shown c q older d w round answer next dropped outcome walk fetching at 
         let none = none_dropped r d.responder w round.tag round.body dropped e stands led (subst (λ (l : History). AreShown r l round.body (Adds e) dropped) judged shown) in
         let here : MayLeadTo r g round.tag round.body (Adds e) = subst (λ (l : List ℕ). MayLeadTo r (with_dropped g l) round.tag round.body (Adds e)) none led.1 in
         subst (λ (l : List ℕ). ShowsChunk r d.responder round.body l w) is (shows r d.responder w round.tag round.body e gives stands here)
+
+pub last_shows_chunk : LastShowsChunk
+last_shows_chunk c q older d w round answer next walk fetching at a =
+    let r : RspSetup = towards c.responder (known_of d.setup) in
+    let stands : Stands d.responder w round.tag round.body = walk_stands c q older d w round walk fetching at in
+    let judged : judging d.fetching round.body d.responder ≡ with_large (place_named round.body) w d.responder = ap (λ (o : Option (List ℕ)). judging o round.body d.responder) fetching in
+    let may : MayLeadTo r (with_large (place_named round.body) w d.responder) round.tag round.body (Adds a.2) = subst (λ (l : History). MayLeadTo r l round.tag round.body (Adds a.2)) judged a.4 in
+    subst (λ (l : List ℕ). ShowsChunk r d.responder round.body l w) a.7 (shows r d.responder w round.tag round.body a.2 (and_first _ _ a.5) stands may)

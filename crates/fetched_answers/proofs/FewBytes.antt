@@ -37,7 +37,7 @@ settled_few None b = omega arith
 settled_few (Some a) None = omega arith
 settled_few (Some a) (Some b) = settled_by a b _ _ _ _
 
-transfer_few : (p : Place) → (place_terms p).common.to_requester.transfer ≤ MAX_MESSAGE_SIZE
+pub transfer_few : (p : Place) → (place_terms p).common.to_requester.transfer ≤ MAX_MESSAGE_SIZE
 unfolding terms_of
 transfer_few p = settled_few (asked_caps (request_value p.negotiation.get_capabilities)) (told_caps (response_value p.negotiation.capabilities))
 
@@ -57,7 +57,7 @@ framed_few true x unit transfer n is few none most = (let zero = none refl in om
 framed_few false x unit transfer n is few none most = omega (arith, is, few, most)
 
 -- A chunk of whatever bytes, with what stands round it.
-chunk_few : (transfer handle : ℕ) (message : List ℕ) (number : ℕ) → transfer ≤ 4096 → length (canonical_response (ChunkResponse (nth_chunk transfer handle message number))) ≤ 4096
+pub chunk_few : (transfer handle : ℕ) (message : List ℕ) (number : ℕ) → transfer ≤ 4096 → length (canonical_response (ChunkResponse (nth_chunk transfer handle message number))) ≤ 4096
 chunk_few transfer handle message number few =
     framed_few (number == 0) (number * unit_of transfer) (unit_of transfer) transfer _ refl few (λ first. (let none = ap (λ (n : ℕ). n * unit_of transfer) (eqb-true number 0 first) in omega (arith, none)))
     (chunk_by (number == 0) (number + 1 == chunk_count transfer message) handle number (length message) (chunk_start transfer number) (chunk_end transfer number) message)

@@ -194,7 +194,7 @@ module _ (r : RspSetup) (m : List ℕ) (handle number : ℕ) where
     unfolding answer_bytes
     answer_is = ap (answer_to r p m f) is
 
-    fits : (place_terms p).common.chunk ≡ true → length (answer_bytes r p m f) ≤ (place_terms p).common.to_requester.transfer
+    pub fits : (place_terms p).common.chunk ≡ true → length (answer_bytes r p m f) ≤ (place_terms p).common.to_requester.transfer
     fits chunk =
         subst (λ (l : List ℕ). length l ≤ (place_terms p).common.to_requester.transfer) (sym answer_is) (get_fits (place_terms p).common.to_requester.transfer handle number whole (sized p.negotiation chunk).0)
 
@@ -229,7 +229,7 @@ module _ (r : RspSetup) (m : List ℕ) (handle number : ℕ) where
         ∷ [])) is
         ∙ ap (λ (n : ℕ). first_of_tests (get_tests (lacks_flag (place_terms p) n) (is_get_refused p (Some (ChunkGet handle number))) (is_answer_too_long p (answer_bytes r p m f)) (n == PSK_EXCHANGE && p.past_handshake == 4))) code
 
-    contents_is : refused_contents r p m f ≡ get_code (place_terms p).common.chunk (is_get_refused p (Some (ChunkGet handle number)))
+    pub contents_is : refused_contents r p m f ≡ get_code (place_terms p).common.chunk (is_get_refused p (Some (ChunkGet handle number)))
     contents_is = contents_are ∙ by_chunk (place_terms p).common.chunk refl
       where
         by_chunk : (b : Bool) → (place_terms p).common.chunk ≡ b

@@ -14,3 +14,4 @@ pub mod ChunkShown
 pub mod FewBytes
 pub mod AnswersAlike
 pub mod LargeAlike
+pub mod ClearChunks

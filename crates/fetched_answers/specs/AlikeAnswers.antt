@@ -19,7 +19,7 @@ use Rattle.spdm_machine.specs.Bodies.{clear_body}
 use Rattle.capture_ends.specs.ShownBy.{HasFewBlocks}
 use Rattle.capture_laws.specs.AnswersShown.{answered_text}
 use Rattle.capture_laws.specs.Walks.{Walks}
-use Rattle.world_machine.specs.CapturedAnswers.{AnswersLarge, AreShown, MayLeadAfter, is_plain}
+use Rattle.world_machine.specs.CapturedAnswers.{AnswersLarge, AreShown, Completes, MayLeadAfter, is_plain}
 use Rattle.world_machine.specs.LargeAnswers.{judging, place_named, takes_get, with_large}
 use Rattle.world_machine.specs.Opening.{turn_in}
 use Rattle.world_machine.specs.Rounds.{Dialogue, Round}
@@ -99,4 +99,11 @@ abbrev pub ChunkIsShown : Type 0
 ChunkIsShown = (c : Configuration) (q : ReqSetup) (older : List (List ℕ)) (d : Dialogue) (whole : List ℕ) (round : Round) (answer : List ℕ) (next : History) (dropped : List ℕ) (outcome : Outcome)
     → Walks c q older d → d.fetching ≡ Some whole → d.round ≡ Some round → gives_chunk outcome ≡ true
     → AnswersBy (towards c.responder (known_of d.setup)) d round answer next dropped outcome
+    → ShowsChunk (towards c.responder (known_of d.setup)) d.responder round.body answer whole
+
+-- So does the last one.
+abbrev pub LastShowsChunk : Type 0
+LastShowsChunk = (c : Configuration) (q : ReqSetup) (older : List (List ℕ)) (d : Dialogue) (whole : List ℕ) (round : Round) (answer : List ℕ) (next : History)
+    → Walks c q older d → d.fetching ≡ Some whole → d.round ≡ Some round
+    → Completes (towards c.responder (known_of d.setup)) d round answer next
     → ShowsChunk (towards c.responder (known_of d.setup)) d.responder round.body answer whole

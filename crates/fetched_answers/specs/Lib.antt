@@ -1,3 +1,4 @@
 pub mod WholeValues
 pub mod LastShown
 pub mod AlikeAnswers
+pub mod ClearChunks

@@ -1,7 +1,7 @@
 //! Which answers a responder may give while its large answer is fetched, each law as the contract of a
 //! function that does nothing.
 
-ghost use Rattle.fetched_answers.specs.AlikeAnswers.{AnswersAreAlike, ChunkIsShown, LargeIsAlike};
+ghost use Rattle.fetched_answers.specs.AlikeAnswers.{AnswersAreAlike, ChunkIsShown, LargeIsAlike, LastShowsChunk};
 ghost use Rattle.fetched_answers.specs.LastShown.{LastIsShown, WholeHasLed};
 ghost use Rattle.fetched_answers.specs.WholeValues.{WholeIsShown};
 
@@ -33,4 +33,9 @@ pub fn large_is_alike()
 /// An answer that gives a chunk shows it.
 pub fn chunk_is_shown()
     ensures { ChunkIsShown }
+{}
+
+/// So does the last chunk.
+pub fn last_shows_chunk()
+    ensures { LastShowsChunk }
 {}

@@ -6,5 +6,6 @@
 mod laws;
 
 pub use laws::{
-    answers_are_alike, chunk_is_shown, large_is_alike, last_is_shown, whole_has_led, whole_is_shown,
+    answers_are_alike, chunk_is_shown, large_is_alike, last_is_shown, last_shows_chunk, whole_has_led,
+    whole_is_shown,
 };
