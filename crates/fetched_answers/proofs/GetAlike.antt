@@ -181,7 +181,7 @@ get_tests lacks refused long last =
     ∷ []
 
 -- With which code it is refused, by whether chunks are in common and whether it asks for the next one.
-abbrev get_code : (chunk refused : Bool) → Option ErrorCode
+abbrev pub get_code : (chunk refused : Bool) → Option ErrorCode
 get_code true refused = cond refused (Some InvalidRequest) None
 get_code false refused = Some UnsupportedRequest
 

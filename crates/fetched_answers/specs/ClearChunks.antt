@@ -41,9 +41,9 @@ get_entry tag handle number response = Clear tag (record {
 }) no_draw
 
 -- It is no repeat, and asks for the next chunk of these bytes, which are pending: under the handle of their LargeResponse, and
--- by the number of chunks that were given. The responder takes messages of eight bytes, and chunks are in common.
+-- by the number of chunks that were given. The responder takes messages of six bytes, and chunks are in common.
 pub record IsNextGet (r : RspSetup) (h : History) (whole : List ℕ) (tag handle number : ℕ) : Type 0 where
-  pub room : 8 ≤ r.transfer
+  pub room : 6 ≤ r.transfer
   pub byte : handle < 256
   pub few : number < 2 ^ 16
   pub anew : is_repeat (kept_of h) tag (get_message handle number) ≡ false

@@ -2,6 +2,7 @@
 //! function that does nothing.
 
 ghost use Rattle.fetched_answers.specs.AlikeAnswers.{AnswersAreAlike, ChunkIsShown, LargeIsAlike, LastShowsChunk};
+ghost use Rattle.fetched_answers.specs.ClearChunks.{NextIsGiven, RepeatIsSame};
 ghost use Rattle.fetched_answers.specs.LastShown.{LastIsShown, WholeHasLed};
 ghost use Rattle.fetched_answers.specs.WholeValues.{WholeIsShown};
 
@@ -38,4 +39,14 @@ pub fn chunk_is_shown()
 /// So does the last chunk.
 pub fn last_shows_chunk()
     ensures { LastShowsChunk }
+{}
+
+/// In the clear CHUNK_GET for the next chunk is answered by it.
+pub fn next_is_given()
+    ensures { NextIsGiven }
+{}
+
+/// A repeat in the clear gets what it got.
+pub fn repeat_is_same()
+    ensures { RepeatIsSame }
 {}

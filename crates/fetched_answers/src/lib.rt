@@ -6,6 +6,6 @@
 mod laws;
 
 pub use laws::{
-    answers_are_alike, chunk_is_shown, large_is_alike, last_is_shown, last_shows_chunk, whole_has_led,
-    whole_is_shown,
+    answers_are_alike, chunk_is_shown, large_is_alike, last_is_shown, last_shows_chunk,
+    next_is_given, repeat_is_same, whole_has_led, whole_is_shown,
 };
