@@ -15,3 +15,4 @@ pub mod FewBytes
 pub mod AnswersAlike
 pub mod LargeAlike
 pub mod ClearChunks
+pub mod PutBytes

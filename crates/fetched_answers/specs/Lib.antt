@@ -2,3 +2,4 @@ pub mod WholeValues
 pub mod LastShown
 pub mod AlikeAnswers
 pub mod ClearChunks
+pub mod JudgedFor
