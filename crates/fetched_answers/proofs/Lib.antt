@@ -16,3 +16,4 @@ pub mod AnswersAlike
 pub mod LargeAlike
 pub mod ClearChunks
 pub mod PutBytes
+pub mod BegunJudged

@@ -1,5 +1,5 @@
 -- Other bytes as the large answer that is fetched in a session: the history of the definitions with them.
-use Rattle.std.proofs.Common.{◌≡◌, ◌≢◌, ◌==◌, ◌&&◌, ◌||◌, ℕ, List, [], ◌∷◌, refl, sym, ap, ◌∙◌, subst, Bool, true, false, Option, Some, None, cond}
+use Rattle.std.proofs.Common.{◌≡◌, ◌≢◌, ◌==◌, ◌&&◌, ◌||◌, ℕ, List, [], ◌∷◌, refl, sym, ap, ◌∙◌, subst, Bool, true, false, Some, None, cond}
 use Rattle.std.specs.Prelude.{bytes_eq, not}
 use Rattle.std.proofs.lemmas.Bool.{false≢true}
 use Rattle.std.proofs.lemmas.Slice.Eq.{bytes_eq-Decides}
@@ -9,7 +9,7 @@ use Rattle.request_rules.specs.LargeAnswer as rules
 use Rattle.responder_machine.specs.History.{Entry, History, clear_turns, negotiation_of}
 use Rattle.responder_machine.specs.History.Entry.{Clear, Sealed, Queued, Ticked, Dropped}
 use Rattle.responder_machine.specs.LargeMessages.{large_of}
-use Rattle.responder_machine.specs.Session.{Event, Events, after_clear, after_record, after_tick, id_in_record, idle_of, is_timed, period_of, session_of, stage_of, turns_of, when_live}
+use Rattle.responder_machine.specs.Session.{Events, after_clear, after_record, id_in_record, is_timed, session_of, stage_of, turns_of, when_live}
 use Rattle.responder_machine.specs.Session.Event.{Began, Heard, Waited}
 use Rattle.responder_machine.specs.Turn.{Effect, Turn, answer_in, is_taken, large_in, request_in, takes}
 use Rattle.responder_machine.specs.Turn.Effect.{NoEffect, Took, TookData}
@@ -19,7 +19,7 @@ use Rattle.spdm_machine.specs.Keys.{Draw}
 use Rattle.spdm_machine.specs.Sessions.{id_in_exchange, is_past_handshake}
 use Rattle.transcript.specs.Transcripts.{Negotiation}
 use Rattle.world_machine.proofs.FetchedSessions.{takes_with}
-use Rattle.world_machine.specs.LargeAnswers.{effect_with, handle_shown, is_unseen_effect, is_unseen_in, seen, seen_turn, with_large}
+use Rattle.world_machine.specs.LargeAnswers.{effect_with, handle_shown, is_unseen_in, seen, seen_turn, with_large}
 
 -- ---- What is pending in a session, without its newest entry.
 

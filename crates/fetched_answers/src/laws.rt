@@ -3,6 +3,7 @@
 
 ghost use Rattle.fetched_answers.specs.AlikeAnswers.{AnswersAreAlike, ChunkIsShown, LargeIsAlike, LastShowsChunk};
 ghost use Rattle.fetched_answers.specs.ClearChunks.{NextIsGiven, RepeatIsSame};
+ghost use Rattle.fetched_answers.specs.JudgedFor.{BeginsJudging};
 ghost use Rattle.fetched_answers.specs.LastShown.{LastIsShown, WholeHasLed};
 ghost use Rattle.fetched_answers.specs.WholeValues.{WholeIsShown};
 
@@ -49,4 +50,9 @@ pub fn next_is_given()
 /// A repeat in the clear gets what it got.
 pub fn repeat_is_same()
     ensures { RepeatIsSame }
+{}
+
+/// The history behind LargeResponse is the one in which its answer was not seen, with that answer.
+pub fn begins_judging()
+    ensures { BeginsJudging }
 {}
