@@ -17,3 +17,4 @@ pub mod LargeAlike
 pub mod ClearChunks
 pub mod PutBytes
 pub mod BegunJudged
+pub mod MeasuredSessions
