@@ -18,3 +18,4 @@ pub mod ClearChunks
 pub mod PutBytes
 pub mod BegunJudged
 pub mod MeasuredSessions
+pub mod PendingShown

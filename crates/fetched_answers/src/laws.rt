@@ -3,7 +3,7 @@
 
 ghost use Rattle.fetched_answers.specs.AlikeAnswers.{AnswersAreAlike, ChunkIsShown, LargeIsAlike, LastShowsChunk};
 ghost use Rattle.fetched_answers.specs.ClearChunks.{NextIsGiven, RepeatIsSame};
-ghost use Rattle.fetched_answers.specs.JudgedFor.{BeginsJudging};
+ghost use Rattle.fetched_answers.specs.JudgedFor.{BeginsJudging, PendingIsFetched, PendingIsMeasured};
 ghost use Rattle.fetched_answers.specs.LastShown.{LastIsShown, WholeHasLed};
 ghost use Rattle.fetched_answers.specs.WholeValues.{WholeIsShown};
 
@@ -55,4 +55,14 @@ pub fn repeat_is_same()
 /// The history behind LargeResponse is the one in which its answer was not seen, with that answer.
 pub fn begins_judging()
     ensures { BeginsJudging }
+{}
+
+/// The bytes that are fetched are what is pending.
+pub fn pending_is_fetched()
+    ensures { PendingIsFetched }
+{}
+
+/// In a session they are MEASUREMENTS.
+pub fn pending_is_measured()
+    ensures { PendingIsMeasured }
 {}
