@@ -1,10 +1,9 @@
 -- In a session only MEASUREMENTS go by LargeResponse, so each large answer there is one, in each walk.
-use Rattle.std.proofs.Common.{◌≡◌, ◌≤◌, ◌+◌, ◌==◌, ◌&&◌, ◌||◌, ℕ, List, [], ◌∷◌, refl, sym, ap, ◌∙◌, subst, drop, length, Bool, true, false, Option, Some, None, Result, Ok, Err, is_some, cond, inl, inr, arith, eqb-true}
+use Rattle.std.proofs.Common.{◌≡◌, ◌≤◌, ◌+◌, ◌==◌, ◌&&◌, ◌||◌, ℕ, List, [], ◌∷◌, refl, sym, ap, ◌∙◌, subst, drop, length, Bool, true, false, Option, Some, None, Result, Ok, Err, is_some, cond, inl, inr, arith}
 use Rattle.std.specs.Prelude.{MatchBool, nat_lt, slice_index, not}
 use Rattle.std.proofs.Math.Bool.{and-false, or-true}
 use Rattle.std.proofs.lemmas.Bool.{false≢true, le-ltb, not-true}
 use Rattle.spdm_basis.proofs.Bools.{and_first, and_second}
-use Rattle.chunking.specs.Collecting.{joined_with, under_way}
 use Rattle.mctp_framing.specs.Gathering.{Gathered}
 use Rattle.mctp_framing.specs.Gathering.Gathered.{Whole, More, Dropped as Lost}
 use Rattle.mctp_framing.specs.Packet.{PacketFields, parsed}
@@ -15,15 +14,12 @@ use Rattle.spdm_grammar.specs.Message.RequestMessage.{GetVersion, GetCapabilitie
 use Rattle.spdm_grammar.specs.Responses.{canonical_response}
 use Rattle.spdm_grammar.specs.declared.error_code.ErrorCode.{ErrorCode}
 use Rattle.spdm_grammar.specs.declared.names.request_code.TheConstants.{GET_MEASUREMENTS}
-use Rattle.spdm_grammar.specs.declared.phase.Phase.{Phase}
-use Rattle.spdm_grammar.specs.declared.phase.Phase.TheVariants.{Fresh, Versioned, Capable, Negotiated}
 use Rattle.spdm_machine.specs.Packets.{gathered_from}
 use Rattle.requester_machine.specs.Setup.{ReqSetup}
 use Rattle.responder_machine.specs.Answer.{Free, answer_bytes, answer_of, answer_to, request_at}
 use Rattle.responder_machine.specs.Handling.{chunk_in, effect_of, goes_large, request_effect, turn_by, turn_of}
 use Rattle.responder_machine.specs.History.{Entry, History}
 use Rattle.responder_machine.specs.History.Entry.{Clear, Sealed, Queued, Ticked, Dropped}
-use Rattle.responder_machine.specs.LargeMessages.{chunks_of}
 use Rattle.responder_machine.specs.May.{with_dropped}
 use Rattle.responder_machine.specs.Place.{Place, clear_place, place_terms, session_place}
 use Rattle.responder_machine.specs.Place.Where.{InSession}
@@ -34,7 +30,6 @@ use Rattle.responder_machine.specs.Responder.Outcome.{Same, Unopened, Adds}
 use Rattle.responder_machine.specs.Session.{Events, id_in_record, session_of, stage_of}
 use Rattle.responder_machine.specs.Setup.{RspSetup, towards}
 use Rattle.responder_machine.specs.Turn.{Turn, code_in, handle_in, takes}
-use Rattle.responder_machine.specs.Turn.Effect.{NoEffect}
 use Rattle.responder_machine.proofs.Codes.{asked-code}
 use Rattle.responder_machine.proofs.Tests.{contents_shown, form_shown}
 use Rattle.fetched_answers.proofs.GetAlike.{fits}
@@ -46,7 +41,7 @@ use Rattle.world_machine.proofs.PlainTells.{led_clear, led_record}
 use Rattle.world_machine.proofs.RecordAdds.{record_added}
 use Rattle.world_machine.proofs.RepliesTell.{no_chunk}
 use Rattle.world_machine.proofs.SeenAnswers.{led_seen}
-use Rattle.world_machine.proofs.SmallGets.{chunk_sized, get_fits, get_chunks, gets_are_small}
+use Rattle.world_machine.proofs.SmallGets.{chunk_sized, get_chunks, gets_are_small}
 use Rattle.world_machine.proofs.TurnsAlike.{chunk_is, is_request as reads_request}
 use Rattle.world_machine.specs.Capture.{AsksBy, RepliesBy}
 use Rattle.world_machine.specs.CapturedAnswers.{Answers, MayLeadTo, is_plain}

@@ -1,34 +1,31 @@
 -- What is pending while a large answer is fetched.
-use Rattle.std.proofs.Common.{◌≡◌, ◌≢◌, ◌==◌, ◌&&◌, ◌||◌, ℕ, List, [], ◌∷◌, refl, sym, ap, ◌∙◌, subst, drop, Bool, true, false, Option, Some, None, is_some, cond, inl, inr}
-use Rattle.std.specs.Prelude.{not, option_map, slice_index}
+use Rattle.std.proofs.Common.{◌≡◌, ◌≢◌, ◌==◌, ◌||◌, ℕ, List, [], ◌∷◌, refl, sym, ap, ◌∙◌, drop, Bool, true, false, Option, Some, None, is_some, cond, inl, inr}
+use Rattle.std.specs.Prelude.{not, slice_index}
 use Rattle.std.proofs.Math.Bool.{or-true}
 use Rattle.std.proofs.lemmas.Bool.{false≢true}
 use Rattle.std.proofs.lemmas.Option.{none-some}
 use Rattle.request_rules.specs.LargeAnswer.{last_takes}
-use Rattle.responder_machine.specs.History.{Entry, History, clear_turns, negotiation_of}
+use Rattle.responder_machine.specs.History.{History, clear_turns, negotiation_of}
 use Rattle.responder_machine.specs.History.Entry.{Clear, Sealed, Queued, Ticked, Dropped}
 use Rattle.responder_machine.specs.LargeMessages.{given_of, large_of, still_pending}
 use Rattle.responder_machine.specs.May.{place_for}
 use Rattle.responder_machine.specs.Place.{Place, place_terms, session_place}
 use Rattle.responder_machine.specs.Refusal.{has_pending}
-use Rattle.responder_machine.specs.Session.{Events, after_clear, after_record, id_in_record, is_timed, session_of, stage_of, turns_of, when_live}
+use Rattle.responder_machine.specs.Session.{Events, id_in_record, is_timed, session_of, stage_of, turns_of, when_live}
 use Rattle.responder_machine.specs.Session.Event.{Began, Heard, Waited}
 use Rattle.responder_machine.specs.Turn.{Effect, Turn, answer_in, handle_in, is_taken, large_in, request_in, takes}
 use Rattle.responder_machine.specs.Turn.Effect.{NoEffect, Took, TookData}
 use Rattle.spdm_grammar.specs.declared.names.request_code.TheConstants.{CHUNK_GET, END_SESSION, GET_MEASUREMENTS, GET_VERSION, PSK_EXCHANGE}
 use Rattle.spdm_machine.specs.Sessions.{id_in_exchange, is_past_handshake}
-use Rattle.transcript.specs.Transcripts.{Negotiation}
 use Rattle.fetched_answers.proofs.MeasuredSessions.{Measures, given_measures, goes_by_chunks, walks_measure}
 use Rattle.fetched_answers.proofs.WalksSound.{walk_stands}
 use Rattle.fetched_answers.specs.AlikeAnswers.{place_with}
 use Rattle.fetched_answers.specs.JudgedFor.{PendingIsFetched, PendingIsMeasured}
 use Rattle.world_machine.proofs.ChunksGiven.{Chunked}
 use Rattle.world_machine.proofs.ChunksGiven.Chunked.{Gone, Given}
-use Rattle.world_machine.proofs.FetchStates.{Fetch}
 use Rattle.world_machine.proofs.FetchedTold.{Stands}
 use Rattle.world_machine.proofs.PlacesServed.{named_session, place_type}
 use Rattle.world_machine.specs.LargeAnswers.{is_unseen_effect, place_named, with_large}
-use Rattle.world_machine.specs.Rounds.{Dialogue, Round}
 
 -- ---- The large answers of a session.
 

@@ -1,13 +1,16 @@
-//! The answers that a responder may give while its large answer is fetched.
+//! Captures, while a large answer is fetched: which answers the responder may give meanwhile, though no byte of
+//! it is known but those of the chunks that came. The laws of it over walks, and the bytes that stand for the
+//! answer in a connection that judges.
 //!
-//! Read first: `WholeIsShown` in `specs/WholeValues.antt`.
+//! Read first: `AnswersAreAlike` in `specs/AlikeAnswers.antt`. The call: `put_bytes`.
 #![tactic(auto)]
 
 mod laws;
 mod pending_bytes;
 
 pub use laws::{
-    answers_are_alike, begins_judging, chunk_is_shown, large_is_alike, last_is_shown, last_shows_chunk,
-    next_is_given, pending_is_fetched, pending_is_measured, repeat_is_same, whole_has_led, whole_is_shown,
+    answers_are_alike, begins_judging, chunk_is_shown, large_is_alike, last_is_shown,
+    last_shows_chunk, next_is_given, pending_is_fetched, pending_is_measured, repeat_is_same,
+    whole_has_led, whole_is_shown,
 };
 pub use pending_bytes::put_bytes;
