@@ -19,7 +19,7 @@ use Rattle.capture_laws.specs.AnswersShown.{least_values}
 use Rattle.capture_laws.specs.LargeShown.{first_dropped}
 use Rattle.fetched_answers.proofs.ClearAlike.{clear_fits, large_clear}
 use Rattle.fetched_answers.proofs.FewBytes.{answers_few}
-use Rattle.fetched_answers.proofs.SealedAlike.{sealed_leads, within}
+use Rattle.fetched_answers.proofs.SealedAlike.{sealed_leads, session_within}
 use Rattle.fetched_answers.proofs.SettledCaps.{walks_settle}
 use Rattle.fetched_answers.proofs.TurnsBoth.{Settles}
 use Rattle.fetched_answers.proofs.WalksSound.{walk_stands}
@@ -78,7 +78,7 @@ module _ (r : RspSetup) (few : (h : History) (p : Place) (m : List ℕ) → leng
         may = led.0;
         goes = there.large;
         fits = subst (λ (p : Place). IsLargeAnswer p whole) (sym (place_is r (large v) [] tag body there.other type led.0.1))
-            (large_by (events w) (events v) whole (sessions_fetched (id_in_record (drop 1 body)) (place_named body) w v h (within r few h w v tag body type one other)) size);
+            (large_by (events w) (events v) whole (sessions_fetched (id_in_record (drop 1 body)) (place_named body) w v h (session_within h w tag body type one)) size);
         sent = there.sent;
         erased = λ older. ap (λ (x : Entry). x ∷ older) (cc (large_next r (large w) ids [] tag body e there.other may (tt, there.may) (sym there.sent)));
       }

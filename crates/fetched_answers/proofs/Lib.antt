@@ -19,3 +19,4 @@ pub mod PutBytes
 pub mod BegunJudged
 pub mod MeasuredSessions
 pub mod PendingShown
+pub mod TextAlike

@@ -187,6 +187,19 @@ turns_within : (id : ℕ) (w : List ℕ) (h : History) → clear_turns (with_lar
 turns_within id w [] = refl
 turns_within id w (e ∷ h) = turns_by id w e h (is_unseen_in (Some id) e) refl (turns_within id w h)
 
+-- ---- The session.
+
+-- The large answer that is fetched is one of the session that the record names.
+module _ (h : History) (w : List ℕ) (tag : ℕ) (body : List ℕ) (type : (slice_index body 0 == 5) ≡ false) where
+  stand : Getting h tag body → UnseenStand h
+  stand (Asks handle number is since) = absurd (false≢true (sym type ∙ asks_type handle number body is))
+  stand (Repeats clear again since) = absurd (false≢true (sym type ∙ clear))
+  stand (Seals sealed within) = within
+
+  pub session_within : Stands h w tag body → InSession (place_named body) h
+  session_within (inl is) = absurd (false≢true (sym type ∙ ap (λ (l : List ℕ). slice_index l 0 == 5) is))
+  session_within (inr fetch) = record { id = id_in_record (drop 1 body); at = named_session body type; stand = stand fetch.how }
+
 -- ---- An answer.
 
 module _ (r : RspSetup) (few : (h : History) (p : Place) (m : List ℕ) → length (answer_bytes r p m (least_values h p)) ≤ MAX_MESSAGE_SIZE)
@@ -213,16 +226,8 @@ module _ (r : RspSetup) (few : (h : History) (p : Place) (m : List ℕ) → leng
   fetched x (inl is) = absurd (false≢true (sym type ∙ ap (λ (l : List ℕ). slice_index l 0 == 5) is))
   fetched x (inr fetch) = fetch
 
-  stand : UnseenStand h
-  stand = by_how (fetched w one).how
-    where
-      by_how : Getting h tag body → UnseenStand h
-      by_how (Asks handle number is since) = absurd (false≢true (sym type ∙ asks_type handle number body is))
-      by_how (Repeats clear again since) = absurd (false≢true (sym type ∙ clear))
-      by_how (Seals sealed within) = within
-
-  pub within : InSession (place_named body) h
-  within = record { id = id; at = named_session body type; stand = stand }
+  within : InSession (place_named body) h
+  within = session_within h w tag body type one
 
   all : (i : ℕ) → EventsAlike (session_of i (large w)) (session_of i (large v))
   all i = sessions_fetched i (place_named body) w v h within

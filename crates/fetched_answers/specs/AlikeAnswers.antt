@@ -85,14 +85,18 @@ chunk_given h body whole handle =
     let p = place_with h body whole in
     canonical_response (ChunkResponse (nth_chunk (place_terms p).common.to_requester.transfer handle whole (given_of p.turns)))
 
+-- What a record holds as the answer to the record in a body, with these bytes as the large answer of its session.
+abbrev pub text_with : RspSetup → History → (body whole sealed : List ℕ) → List ℕ
+text_with r h body whole sealed =
+    let s = session_of (id_in_record (drop 1 body)) (with_large (place_named body) whole h) in answered_text r s (turn_in r s (drop 1 body)) sealed
+
 -- An answer shows that chunk: in the clear it is that response; in a session it is a record with that response in it, sealed
 -- as the answer to the request, and a padding of at most 16 bytes.
 abbrev pub ShowsChunk : RspSetup → History → (body answer whole : List ℕ) → Type 0
 ShowsChunk r h body answer whole =
-    let s = session_of (id_in_record (drop 1 body)) (with_large (place_named body) whole h) in
     (handle : ℕ) × MatchBool (slice_index body 0 == 5)
     (answer ≡ clear_body (chunk_given h body whole handle))
-    ((pad : List ℕ) × (length pad ≤ 16) × (answered_text r s (turn_in r s (drop 1 body)) (drop 1 answer) ≡ plain_text (5 ∷ chunk_given h body whole handle) pad))
+    ((pad : List ℕ) × (length pad ≤ 16) × (text_with r h body whole (drop 1 answer) ≡ plain_text (5 ∷ chunk_given h body whole handle) pad))
 
 -- In a walk in which some bytes are fetched, an answer that gives a chunk shows their next one.
 abbrev pub ChunkIsShown : Type 0
@@ -107,3 +111,10 @@ LastShowsChunk = (c : Configuration) (q : ReqSetup) (older : List (List ℕ)) (d
     → Walks c q older d → d.fetching ≡ Some whole → d.round ≡ Some round
     → Completes (towards c.responder (known_of d.setup)) d round answer next
     → ShowsChunk (towards c.responder (known_of d.setup)) d.responder round.body answer whole
+
+-- What an answer to a record holds hangs on no byte of them: it is opened alike, whatever it is.
+abbrev pub TextIsAlike : Type 0
+TextIsAlike = (c : Configuration) (q : ReqSetup) (older : List (List ℕ)) (d : Dialogue) (w v : List ℕ) (round : Round) (sealed : List ℕ)
+    → Walks c q older d → d.fetching ≡ Some w → d.round ≡ Some round → (slice_index round.body 0 == 5) ≡ false
+    → ArePending d.responder round.body w v
+    → text_with (towards c.responder (known_of d.setup)) d.responder round.body w sealed ≡ text_with (towards c.responder (known_of d.setup)) d.responder round.body v sealed

@@ -1,7 +1,7 @@
 //! Which answers a responder may give while its large answer is fetched, each law as the contract of a
 //! function that does nothing.
 
-ghost use Rattle.fetched_answers.specs.AlikeAnswers.{AnswersAreAlike, ChunkIsShown, LargeIsAlike, LastShowsChunk};
+ghost use Rattle.fetched_answers.specs.AlikeAnswers.{AnswersAreAlike, ChunkIsShown, LargeIsAlike, LastShowsChunk, TextIsAlike};
 ghost use Rattle.fetched_answers.specs.ClearChunks.{NextIsGiven, RepeatIsSame};
 ghost use Rattle.fetched_answers.specs.JudgedFor.{BeginsJudging, PendingIsFetched, PendingIsMeasured};
 ghost use Rattle.fetched_answers.specs.LastShown.{LastIsShown, WholeHasLed};
@@ -30,6 +30,11 @@ pub fn answers_are_alike()
 /// A new LargeResponse hangs on none of them.
 pub fn large_is_alike()
     ensures { LargeIsAlike }
+{}
+
+/// What an answer to a record holds hangs on none of them either.
+pub fn text_is_alike()
+    ensures { TextIsAlike }
 {}
 
 /// An answer that gives a chunk shows it.
