@@ -2,12 +2,14 @@
 //! it is known but those of the chunks that came. The laws of it over walks, and the bytes that stand for the
 //! answer in a connection that judges.
 //!
-//! Read first: `AnswersAreAlike` in `specs/AlikeAnswers.antt`. The call: `put_bytes`.
+//! Read first: `AnswersAreAlike` in `specs/AlikeAnswers.antt`. The calls: `read_answer`, `message_in`, `put_bytes`.
 #![tactic(auto)]
 
+mod answer_texts;
 mod laws;
 mod pending_bytes;
 
+pub use answer_texts::{message_in, read_answer};
 pub use laws::{
     answers_are_alike, begins_judging, chunk_is_shown, large_is_alike, last_is_shown,
     last_shows_chunk, next_is_given, pending_is_fetched, pending_is_measured, repeat_is_same,
