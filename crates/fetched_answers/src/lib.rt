@@ -1,0 +1,18 @@
+//! Captures, while a large answer is fetched: which answers the responder may give meanwhile, though no byte of
+//! it is known but those of the chunks that came. The laws of it over walks, and the bytes that stand for the
+//! answer in a connection that judges.
+//!
+//! Read first: `AnswersAreAlike` in `specs/AlikeAnswers.antt`. The calls: `read_answer`, `message_in`, `put_bytes`.
+#![tactic(auto)]
+
+mod answer_texts;
+mod laws;
+mod pending_bytes;
+
+pub use answer_texts::{message_in, read_answer};
+pub use laws::{
+    answers_are_alike, begins_judging, chunk_is_shown, large_is_alike, last_is_shown,
+    last_shows_chunk, next_is_given, pending_is_fetched, pending_is_measured, repeat_is_same,
+    text_is_alike, whole_has_led, whole_is_shown,
+};
+pub use pending_bytes::put_bytes;
