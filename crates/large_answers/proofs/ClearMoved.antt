@@ -74,14 +74,14 @@ clear_may r g tag body o type may =
 
 -- ---- A message with the code of CHUNK_GET.
 
-data IsGetOnly (q : Option RequestMessage) : Type 0 where
+pub data IsGetOnly (q : Option RequestMessage) : Type 0 where
   Unread : q ≡ None → IsGetOnly q
   Read : (a b : ℕ) → q ≡ Some (ChunkGet a b) → IsGetOnly q
 
 other_code : (n : ℕ) (q : Option RequestMessage) → (n == CHUNK_GET) ≡ false → n ≡ CHUNK_GET → IsGetOnly q
 other_code n q other is = absurd (false≢true (sym other ∙ ap (λ (k : ℕ). k == CHUNK_GET) is))
 
-get_only : (q : Option RequestMessage) → ((x : RequestMessage) → q ≡ Some x → code_for x ≡ CHUNK_GET) → IsGetOnly q
+pub get_only : (q : Option RequestMessage) → ((x : RequestMessage) → q ≡ Some x → code_for x ≡ CHUNK_GET) → IsGetOnly q
 get_only None code = Unread refl
 get_only (Some (ChunkGet a b)) code = Read a b refl
 get_only (Some GetVersion) code = other_code (code_for GetVersion) (Some GetVersion) refl (code GetVersion refl)

@@ -23,7 +23,7 @@ use Rattle.large_answers.proofs.Stood.Came.{Other, Chunk}
 -- ---- The told length.
 
 -- None before the first chunk, and one from then on.
-abbrev Told : ℕ → Option ℕ → Type 0
+abbrev pub Told : ℕ → Option ℕ → Type 0
 Told zero o = o ≡ None
 Told (suc n) o = (size : ℕ) × (o ≡ Some size)
 
@@ -48,7 +48,7 @@ none_by (suc n) o told is = absurd (omega (arith, is))
 pub none_told : (at : Option ℕ) (h : History) → number_given at h ≡ 0 → size_told at h ≡ None
 none_told at h is = none_by (number_given at h) (size_told at h) (told at h) is
 
-size_by : (n : ℕ) (o : Option ℕ) (v w : List ℕ) → Told n o → (n ≡ 0 → ⊥) → HasSize o v → HasSize o w → length w ≡ length v
+pub size_by : (n : ℕ) (o : Option ℕ) (v w : List ℕ) → Told n o → (n ≡ 0 → ⊥) → HasSize o v → HasSize o w → length w ≡ length v
 size_by zero o v w is some one two = absurd (some refl)
 size_by (suc n) o v w is some one two = subst (λ (x : Option ℕ). HasSize x w) is.1 two ∙ sym (subst (λ (x : Option ℕ). HasSize x v) is.1 one)
 

@@ -31,3 +31,4 @@ pub mod Shown
 pub mod Taken
 pub mod VersionMoved
 pub mod PlainLaws
+pub mod LargeLaws

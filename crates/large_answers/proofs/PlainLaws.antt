@@ -51,7 +51,12 @@ version_same r g h at tag body ids (Adds e) is may =
 
 -- ---- Each answer that goes whole.
 
-module _ (w : Configuration) (q : ReqSetup) (older : List (List ℕ)) (f : Fetching) (own : IsFetchingOf w q older f) (round : Round) (answer : List ℕ) (v : List ℕ) (h : History) (stand : MayStand f v) (at : f.kept.round ≡ Some round) (plain : AnswersPlainly (towards w.responder (known_of f.kept.setup)) (dialogue_of f v) round answer h) where
+-- GET_VERSION was asked for, or the answer is fetched.
+pub data Now (f : Fetching) (round : Round) (u : List ℕ) : Type 0 where
+  Version : round.body ≡ clear_body (canonical_request GetVersion) → Now f round u
+  Chunk : is_fetching (outstanding (dialogue_of f u).requester) ≡ true → Fetch f.kept.responder u round.tag round.body → Now f round u
+
+module _ (w : Configuration) (q : ReqSetup) (older : List (List ℕ)) (f : Fetching) (own : IsFetchingOf w q older f) (round : Round) (at : f.kept.round ≡ Some round) where
   abbrev r : RspSetup
   r = towards w.responder (known_of f.kept.setup)
 
@@ -61,12 +66,7 @@ module _ (w : Configuration) (q : ReqSetup) (older : List (List ℕ)) (f : Fetch
   sound_of : (u : List ℕ) → MayStand f u → IsSound (dialogue_of f u)
   sound_of u may = (walks_alike w q older (dialogue_of f u) (dialogue_of f u) (own.all u may) (own.all u may)).one
 
-  -- GET_VERSION was asked for, or the answer is fetched.
-  data Now (u : List ℕ) : Type 0 where
-    Version : round.body ≡ clear_body (canonical_request GetVersion) → Now u
-    Chunk : is_fetching (outstanding (dialogue_of f u).requester) ≡ true → Fetch f.kept.responder u round.tag round.body → Now u
-
-  now : (u : List ℕ) → MayStand f u → Now u
+  pub now : (u : List ℕ) → MayStand f u → Now f round u
   now u may =
       let old = (sound_of u may).fetched u refl in
       let same : old.0 ≡ round = same_Some old.0 round (sym old.1 ∙ at) in
@@ -75,32 +75,33 @@ module _ (w : Configuration) (q : ReqSetup) (older : List (List ℕ)) (f : Fetch
         | inr fetch ↦ Chunk (ap is_fetching old.2.waits ∙ fetch.0) (subst (λ (x : Round). Fetch f.kept.responder u x.tag x.body) same fetch.1)
       ]
 
-  -- What stands behind it.
-  abbrev Behind : List ℕ → Type 0
-  Behind u = StandsAt f.place f.at h u
+  module _ (answer : List ℕ) (v : List ℕ) (h : History) (stand : MayStand f v) (plain : AnswersPlainly (towards w.responder (known_of f.kept.setup)) (dialogue_of f v) round answer h) where
+    -- What stands behind it.
+    abbrev Behind : List ℕ → Type 0
+    Behind u = StandsAt f.place f.at h u
 
-  moved_plain : (u : List ℕ) → Moved r k u round.tag round.body plain.0 plain.1 → AnswersPlainly r (dialogue_of f u) round answer h
-  moved_plain u moved = (plain.0, plain.1, moved.may, moved.shown, moved.plain, plain.5, plain.6)
+    moved_plain : (u : List ℕ) → Moved r k u round.tag round.body plain.0 plain.1 → AnswersPlainly r (dialogue_of f u) round answer h
+    moved_plain u moved = (plain.0, plain.1, moved.may, moved.shown, moved.plain, plain.5, plain.6)
 
-  of_all : (u : List ℕ) → Behind u → Now v → MayStand f u × AnswersPlainly r (dialogue_of f u) round answer h
-  of_all u behind (Version is) =
-      let same = version_same r (with_large (place_named round.body) v k) k f.at round.tag round.body plain.0 plain.1 is plain.2.1 in
-      let may : MayStand f u = same_stands f.place f.at (after (with_dropped k plain.0) plain.1) k u same (subst (λ (x : History). StandsAt f.place f.at x u) plain.6 behind) in
-      (may, moved_plain u (version_moved r k v u round.tag round.body is (walks_caps w q older (dialogue_of f v) (own.all v stand)) plain.0 plain.1 plain.2 plain.3 plain.4))
-  of_all u behind (Chunk gets fetch) =
-      let place : place_named round.body ≡ f.at = ap (λ (o : Option Round). place_named (body_in o)) (sym at) ∙ own.there gets in
-      let here : StandsAt f.place (place_named round.body) k v = subst (λ (o : Option ℕ). StandsAt f.place o k v) (sym place) stand in
-      let b = stood r k v u round.tag round.body f.place here plain.0 plain.1 fetch plain.2 plain.3 (subst (λ (x : History). StandsAt f.place (place_named round.body) x u) plain.6 (subst (λ (o : Option ℕ). StandsAt f.place o h u) (sym place) behind)) in
-      let may : MayStand f u = subst (λ (x : Option ℕ). StandsAt f.place x k u) place b.stood in
-      (may, moved_plain u (by_now may (now u may) b))
-    where
-      by_now : MayStand f u → Now u → Stood f.place plain.1 (place_for (judging (Some v) round.body k) round.body) (place_named round.body) k v u → Moved r k u round.tag round.body plain.0 plain.1
-      by_now may (Version is) b = version_moved r k v u round.tag round.body is (walks_caps w q older (dialogue_of f v) (own.all v stand)) plain.0 plain.1 plain.2 plain.3 plain.4
-      by_now may (Chunk also other) b =
-          plain_moved r k v u round.tag round.body (sound_of v stand).unseen (walks_caps w q older (dialogue_of f v) (own.all v stand)) fetch other plain.0 plain.1 b.goes plain.2 plain.3 plain.4
+    of_all : (u : List ℕ) → Behind u → Now f round v → MayStand f u × AnswersPlainly r (dialogue_of f u) round answer h
+    of_all u behind (Version is) =
+        let same = version_same r (with_large (place_named round.body) v k) k f.at round.tag round.body plain.0 plain.1 is plain.2.1 in
+        let may : MayStand f u = same_stands f.place f.at (after (with_dropped k plain.0) plain.1) k u same (subst (λ (x : History). StandsAt f.place f.at x u) plain.6 behind) in
+        (may, moved_plain u (version_moved r k v u round.tag round.body is (walks_caps w q older (dialogue_of f v) (own.all v stand)) plain.0 plain.1 plain.2 plain.3 plain.4))
+    of_all u behind (Chunk gets fetch) =
+        let place : place_named round.body ≡ f.at = ap (λ (o : Option Round). place_named (body_in o)) (sym at) ∙ own.there gets in
+        let here : StandsAt f.place (place_named round.body) k v = subst (λ (o : Option ℕ). StandsAt f.place o k v) (sym place) stand in
+        let b = stood r k v u round.tag round.body f.place here plain.0 plain.1 fetch plain.2 plain.3 (subst (λ (x : History). StandsAt f.place (place_named round.body) x u) plain.6 (subst (λ (o : Option ℕ). StandsAt f.place o h u) (sym place) behind)) in
+        let may : MayStand f u = subst (λ (x : Option ℕ). StandsAt f.place x k u) place b.stood in
+        (may, moved_plain u (by_now may (now u may) b))
+      where
+        by_now : MayStand f u → Now f round u → Stood f.place plain.1 (place_for (judging (Some v) round.body k) round.body) (place_named round.body) k v u → Moved r k u round.tag round.body plain.0 plain.1
+        by_now may (Version is) b = version_moved r k v u round.tag round.body is (walks_caps w q older (dialogue_of f v) (own.all v stand)) plain.0 plain.1 plain.2 plain.3 plain.4
+        by_now may (Chunk also other) b =
+            plain_moved r k v u round.tag round.body (sound_of v stand).unseen (walks_caps w q older (dialogue_of f v) (own.all v stand)) fetch other plain.0 plain.1 b.goes plain.2 plain.3 plain.4
 
-  pub all_plain : (u : List ℕ) → StandsAt f.place f.at h u → MayStand f u × AnswersPlainly r (dialogue_of f u) round answer h
-  all_plain u behind = of_all u behind (now v stand)
+    pub all_plain : (u : List ℕ) → StandsAt f.place f.at h u → MayStand f u × AnswersPlainly r (dialogue_of f u) round answer h
+    all_plain u behind = of_all u behind (now v stand)
 
 pub plain_is_of_all : PlainIsOfAll
-plain_is_of_all w q older f round answer v u h own at stand plain behind = all_plain w q older f own round answer v h stand at plain u behind
+plain_is_of_all w q older f round answer v u h own at stand plain behind = all_plain w q older f own round at answer v h stand plain u behind

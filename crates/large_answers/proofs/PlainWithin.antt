@@ -6,7 +6,7 @@ use Rattle.std.proofs.lemmas.Bool.{false≢true}
 use Rattle.chunking.specs.Cutting.{chunk_end}
 use Rattle.responder_machine.specs.History.{Entry, History, clear_turns}
 use Rattle.responder_machine.specs.History.Entry.{Clear, Sealed, Queued, Ticked, Dropped}
-use Rattle.responder_machine.specs.May.{place_for}
+use Rattle.responder_machine.specs.May.{MayDrop, place_for, with_dropped}
 use Rattle.responder_machine.specs.Place.{Place, session_place}
 use Rattle.responder_machine.specs.Records.{opening_fault}
 use Rattle.responder_machine.specs.Refusal.{has_pending}
@@ -26,6 +26,7 @@ use Rattle.world_machine.proofs.FetchedSessions.{InSession, ended_fetched, sessi
 use Rattle.world_machine.proofs.GetTells.{transfer_of}
 use Rattle.world_machine.proofs.PlacesServed.{named_session, place_type}
 use Rattle.world_machine.proofs.PlainTells.{form_of, led_record}
+use Rattle.world_machine.proofs.SmallGets.{gets_are_small}
 use Rattle.world_machine.proofs.UnseenStands.{UnseenStand}
 use Rattle.world_machine.specs.CapturedAnswers.{AreShown, MayLeadAfter, MayLeadTo, belongs_to, is_plain, shows}
 use Rattle.world_machine.specs.LargeAnswers.{gives_last, is_large, is_unseen_in, place_named, place_of, seen, takes_get, with_large}
@@ -195,3 +196,50 @@ module _ (r : RspSetup) (h : History) (v w : List ℕ) (tag : ℕ) (body : List 
         plain = unopened_plain k o (clear_body known.0.0) known.0.1;
       }
   plain_within (id ∷ other ∷ others) o goes may shown plain = absurd shown
+
+  -- ---- LargeResponse to a record.
+
+  behind_drop : (a b : History) (id : ℕ) → Beside a b → Beside (Dropped id ∷ a) (Dropped id ∷ b)
+  unfolding session_of
+  behind_drop a b id both = record { turns = both.turns; ended = both.ended; events = λ which. either (id == which) (session_of which a) (session_of which b) (both.events which) }
+
+  behind_drops : (drops : List ℕ) (a b : History) → Beside a b → Beside (with_dropped a drops) (with_dropped b drops)
+  behind_drops [] a b both = both
+  behind_drops (id ∷ drops) a b both = behind_drops drops (Dropped id ∷ a) (Dropped id ∷ b) (behind_drop a b id both)
+
+  abbrev PendsSame : History → History → Type 0
+  PendsSame a b = has_pending (session_place (session_of (id_in_record (drop 1 body)) a)) ≡ has_pending (session_place (session_of (id_in_record (drop 1 body)) b))
+
+  place_either : (b : Bool) (x y : Events) → has_pending (session_place x) ≡ has_pending (session_place y) → has_pending (session_place (cond b [] x)) ≡ has_pending (session_place (cond b [] y))
+  place_either true x y same = refl
+  place_either false x y same = same
+
+  pend_drop : (a b : History) (id : ℕ) → PendsSame a b → PendsSame (Dropped id ∷ a) (Dropped id ∷ b)
+  unfolding session_of
+  pend_drop a b id same = place_either (id == sid) (session_of sid a) (session_of sid b) same
+
+  pend_drops : (drops : List ℕ) (a b : History) → PendsSame a b → PendsSame (with_dropped a drops) (with_dropped b drops)
+  pend_drops [] a b same = same
+  pend_drops (id ∷ drops) a b same = pend_drops drops (Dropped id ∷ a) (Dropped id ∷ b) (pend_drop a b id same)
+
+  drops_may : (drops : List ℕ) (a b : History) → Beside a b → MayDrop a drops → MayDrop b drops
+  drops_may [] a b both may = tt
+  drops_may (id ∷ drops) a b both may =
+      let events = both.events id in (
+        sym (live_alike (session_of id a) (session_of id b) events) ∙ may.0,
+        sym (timed_alike (session_of id a) (session_of id b) events) ∙ may.1,
+        drops_may drops (Dropped id ∷ a) (Dropped id ∷ b) (behind_drop a b id both) may.2,
+      )
+
+  same_entry : (x y : Entry) → Adds x ≡ Adds y → x ≡ y
+  same_entry x y is = cc
+
+  pub large_within : (drops : List ℕ) (e : Entry) → ((number_given (place_named body) h ≡ 0 → ⊥) → length w ≡ length v) → MayLeadAfter r g drops tag body (Adds e) → is_large e ≡ true → MayLeadAfter r k drops tag body (Adds e)
+  large_within drops e size may large = (
+    drops_may drops g k beside may.0,
+    within_moved r (with_dropped g drops) (with_dropped k drops) (behind_drops drops g k beside) tag body (pend_drops drops g k (pending size)) (Adds e) type
+        (λ other is gets. (
+        let same = same_entry e other is in
+        absurd (false≢true (sym (gets_are_small r (with_dropped g drops) tag body e may.1 (ap takes_get same ∙ gets)) ∙ large))
+        )) may.1,
+  )

@@ -95,18 +95,21 @@ second_same : (a b : Bool) → (not a || not b) ≡ false → b ≡ true
 second_same true b is = not-false b is
 second_same false b is = absurd (false≢true (sym is))
 
+-- CHUNK_GET that is not refused takes effect.
+pub got_takes : (r : RspSetup) (p : Place) (m : List ℕ) (f : Free) (handle number : ℕ) → request_at p m ≡ Some (ChunkGet handle number) → refusal r p m f ≡ None → takes CHUNK_GET (turn_of r p m f) ≡ true
+unfolding turn_of
+got_takes r p m f handle number is none =
+    ap (λ (x : Option ErrorCode). takes CHUNK_GET (turn_by r p m f x (chunk_in (request_at p m)))) none
+    ∙ ap (λ (q : Option RequestMessage). takes CHUNK_GET (turn_by r p m f None (chunk_in q))) is
+    ∙ ap (λ (q : Option RequestMessage). code_in (effect_of q m (answer_bytes r p m f) (handle_for p f (answer_bytes r p m f))) == CHUNK_GET) is
+
 -- CHUNK_GET that is not refused takes the next chunk.
 pub got_next : (r : RspSetup) (p o : Place) (m : List ℕ) (f : Free) → (takes CHUNK_GET (turn_of r p m f) ≡ true → (handle : ℕ) → chunk_answer p handle (given_of p.turns) ≡ chunk_answer o handle (given_of p.turns)) → (handle number : ℕ) → request_at p m ≡ Some (ChunkGet handle number) → refusal r p m f ≡ None
     → chunk_answer p handle number ≡ chunk_answer o handle number
-unfolding turn_of
 got_next r p o m f chunk handle number is none =
     let right : is_get_refused p (Some (ChunkGet handle number)) ≡ false = ap (is_get_refused p) (sym is) ∙ contents_shown r p m f none 9 in
     let next : number ≡ given_of p.turns = eqb-true number (given_of p.turns) (second_same _ _ right) in
-    let takes_it : takes CHUNK_GET (turn_of r p m f) ≡ true =
-    ap (λ (x : Option ErrorCode). takes CHUNK_GET (turn_by r p m f x (chunk_in (request_at p m)))) none
-    ∙ ap (λ (q : Option RequestMessage). takes CHUNK_GET (turn_by r p m f None (chunk_in q))) is
-    ∙ ap (λ (q : Option RequestMessage). code_in (effect_of q m (answer_bytes r p m f) (handle_for p f (answer_bytes r p m f))) == CHUNK_GET) is in
-    ap (chunk_answer p handle) next ∙ chunk takes_it handle ∙ sym (ap (chunk_answer o handle) next)
+    ap (chunk_answer p handle) next ∙ chunk (got_takes r p m f handle number is none) handle ∙ sym (ap (chunk_answer o handle) next)
 
 -- ---- The tests.
 

@@ -40,14 +40,14 @@ use Rattle.large_answers.proofs.TurnsSame.{turn_moved}
 
 -- ---- A message with the code of GET_VERSION.
 
-data IsVersionOnly (q : Option RequestMessage) : Type 0 where
+pub data IsVersionOnly (q : Option RequestMessage) : Type 0 where
   Unread : q ≡ None → IsVersionOnly q
   Read : q ≡ Some GetVersion → IsVersionOnly q
 
 other_code : (n : ℕ) (q : Option RequestMessage) → (n == GET_VERSION) ≡ false → n ≡ GET_VERSION → IsVersionOnly q
 other_code n q other is = absurd (false≢true (sym other ∙ ap (λ (k : ℕ). k == GET_VERSION) is))
 
-version_only : (q : Option RequestMessage) → ((x : RequestMessage) → q ≡ Some x → code_for x ≡ GET_VERSION) → IsVersionOnly q
+pub version_only : (q : Option RequestMessage) → ((x : RequestMessage) → q ≡ Some x → code_for x ≡ GET_VERSION) → IsVersionOnly q
 version_only None code = Unread refl
 version_only (Some GetVersion) code = Read refl
 version_only (Some (ChunkGet a b)) code = other_code (code_for (ChunkGet a b)) (Some (ChunkGet a b)) refl (code (ChunkGet a b) refl)

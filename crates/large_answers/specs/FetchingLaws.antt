@@ -122,6 +122,14 @@ PlainIsOfAll = (w : Configuration) (q : ReqSetup) (older : List (List ℕ)) (f :
     → MayStand (record f { kept = record f.kept { responder = h } }) other
     → MayStand f other × AnswersPlainly (responder_for w f.kept) (dialogue_of f other) round answer h
 
+-- So may another LargeResponse, with the same bytes for the answer that it begins.
+abbrev pub LargeIsOfAll : Type 0
+LargeIsOfAll = (w : Configuration) (q : ReqSetup) (older : List (List ℕ)) (f : Fetching) (round : Round) (answer whole other begun : List ℕ) (h : History)
+    → IsFetchingOf w q older f → f.kept.round ≡ Some round
+    → MayStand f whole → MayStand f other
+    → AnswersLarge (responder_for w f.kept) (dialogue_of f whole) round answer h begun
+    → AnswersLarge (responder_for w f.kept) (dialogue_of f other) round answer h begun
+
 -- An answer behind which nothing is fetched: the last chunk, with which all bytes are judged; or another one, behind which
 -- the answer stays unseen.
 abbrev pub EndsFetching : Configuration → Fetching → Gathered → Kept → Type 0

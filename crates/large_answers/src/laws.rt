@@ -1,7 +1,7 @@
 //! What goes on while a large answer is fetched by chunks, each law as the contract of a function that does
 //! nothing.
 
-ghost use Rattle.large_answers.specs.FetchingLaws.{BegunIsFetching, FetchingAsks, FetchingBegins, FetchingEnds, FetchingGoes, FetchingIsAlone, FetchingIsAsked, FetchingIsReplied, FetchingStays, FetchingTellsApart, FetchingTellsWhy, FetchingTurns, PlainIsOfAll};
+ghost use Rattle.large_answers.specs.FetchingLaws.{BegunIsFetching, FetchingAsks, FetchingBegins, FetchingEnds, FetchingGoes, FetchingIsAlone, FetchingIsAsked, FetchingIsReplied, FetchingStays, FetchingTellsApart, FetchingTellsWhy, FetchingTurns, LargeIsOfAll, PlainIsOfAll};
 ghost use Rattle.large_answers.specs.FetchingRows.{FetchingShows};
 ghost use Rattle.large_answers.specs.FetchingShown.{ChunkIsShown, LastIsWhole};
 
@@ -89,4 +89,9 @@ pub fn last_is_whole()
 /// An answer that goes whole may be given with each bytes that may stand behind it, or with none.
 pub fn plain_is_of_all()
     ensures { PlainIsOfAll }
+{}
+
+/// LargeResponse meanwhile may be given with each bytes that may stand, or with none.
+pub fn large_is_of_all()
+    ensures { LargeIsOfAll }
 {}

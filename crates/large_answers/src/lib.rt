@@ -14,6 +14,6 @@ pub use large_answer::LargeAnswer;
 pub use laws::{
     begun_is_fetching, chunk_is_shown, fetching_asks, fetching_begins, fetching_ends,
     fetching_goes, fetching_is_alone, fetching_is_asked, fetching_is_replied, fetching_shows,
-    fetching_stays, fetching_tells_apart, fetching_tells_why, fetching_turns, last_is_whole,
-    plain_is_of_all,
+    fetching_stays, fetching_tells_apart, fetching_tells_why, fetching_turns, large_is_of_all,
+    last_is_whole, plain_is_of_all,
 };
