@@ -20,3 +20,4 @@ pub mod BegunJudged
 pub mod MeasuredSessions
 pub mod PendingShown
 pub mod TextAlike
+pub mod FewBlocks

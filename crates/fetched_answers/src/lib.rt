@@ -6,10 +6,12 @@
 #![tactic(auto)]
 
 mod answer_texts;
+mod few_blocks;
 mod laws;
 mod pending_bytes;
 
 pub use answer_texts::{message_in, read_answer};
+pub use few_blocks::blocks_are_few;
 pub use laws::{
     answers_are_alike, begins_judging, chunk_is_shown, large_is_alike, last_is_shown,
     last_shows_chunk, next_is_given, pending_is_fetched, pending_is_measured, repeat_is_same,
