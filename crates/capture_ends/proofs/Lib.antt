@@ -61,6 +61,7 @@ pub mod LargeOver
 pub mod LargeCarried
 pub mod LargeEnded
 pub mod OwedPieces
+pub mod AwaitingStay
 pub mod OthersStay
 pub mod OwedEnded
 pub mod BeginsTold

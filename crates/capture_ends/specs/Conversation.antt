@@ -3,7 +3,7 @@
 use Rattle.std.specs.Prelude.{◌≡◌, ◌≢◌, ◌<◌, ◌+◌, ◌⊎◌, ℕ, List, ◌∷◌, length, false, true, Option, Some, None, Result, Ok, Err}
 use Rattle.mctp_framing.specs.Cutting.{RouteFields}
 use Rattle.mctp_framing.specs.Gathering.{Gathered}
-use Rattle.mctp_framing.specs.Gathering.Gathered.{Whole}
+use Rattle.mctp_framing.specs.Gathering.Gathered.{Whole, More}
 use Rattle.mctp_framing.specs.Packet.{PacketFields, parsed}
 use Rattle.requester_machine.specs.Setup.{ReqSetup}
 use Rattle.script_text.specs.declared.why.Why as declared
@@ -84,6 +84,15 @@ OtherConversationsStay = (seen : Conversation) (w : Configuration) (q : ReqSetup
     → q.eid ≢ after.setup.eid → parsed packet ≡ Ok p
     → is_request w.responder.eid q.eid p ≡ false → is_answer w.responder.eid q.eid p ≡ false
     → StandsFor seen w q older rows → StandsFor seen w q (packet ∷ older) (rows_between before after rows)
+
+-- A packet of this requester, or for it, behind which more of a body is awaited, leaves it, and the rows too. The
+-- heartbeat period is a byte.
+abbrev pub AwaitingConversationsStay : Type 0
+AwaitingConversationsStay = (seen : Conversation) (w : Configuration) (q : ReqSetup) (older : List (List ℕ)) (packet : List ℕ) (p : PacketFields) (rows : List Row)
+    → w.responder.beat < 256 → parsed packet ≡ Ok p
+    → ((is_request w.responder.eid q.eid p ≡ true) × (gathered_from w.responder.eid q.eid older p ≡ More))
+    ⊎ ((is_request w.responder.eid q.eid p ≡ false) × (is_answer w.responder.eid q.eid p ≡ true) × (gathered_from q.eid w.responder.eid older p ≡ More))
+    → StandsFor seen w q older rows → StandsFor seen w q (packet ∷ older) rows
 
 -- ---- A packet that does not.
 

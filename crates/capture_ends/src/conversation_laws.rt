@@ -1,7 +1,7 @@
 //! What packets show, and what those between others leave, each as the contract of a function that does
 //! nothing.
 
-ghost use Rattle.capture_ends.specs.Conversation.{OtherConversationsStay, WalksShow};
+ghost use Rattle.capture_ends.specs.Conversation.{AwaitingConversationsStay, OtherConversationsStay, WalksShow};
 
 use capture_laws::{one_changes_rows, other_places_stay, rows_are_of_all};
 
@@ -20,3 +20,8 @@ pub fn other_conversations_stay()
 {
     other_places_stay();
 }
+
+/// A packet behind which more of a body is awaited leaves what is kept, among the same rows.
+pub fn awaiting_conversations_stay()
+    ensures { AwaitingConversationsStay }
+{}

@@ -55,7 +55,7 @@ pub use answerer::Answerer;
 pub use asker::Asker;
 pub use asker_hears::Heard;
 pub use conversation::Conversation;
-pub use conversation_laws::{other_conversations_stay, walks_show};
+pub use conversation_laws::{awaiting_conversations_stay, other_conversations_stay, walks_show};
 pub use given::{Given, Judged};
 pub use onward::Onward;
 pub use party::Party;
