@@ -1,49 +1,49 @@
--- What a packet for a requester makes of what is kept.
-use Rattle.std.proofs.Common.{◌≡◌, ◌==◌, ◌&&◌, ◌∙◌, ℕ, List, ◌∷◌, length, refl, sym, ap, subst, Bool, true, false, Option, Some, Result, Ok, Err, inl, inr}
+-- What a packet for a requester comes to: it goes on, it is a part of a large answer, or it is refused.
+use Rattle.std.proofs.Common.{◌≡◌, ◌==◌, ◌&&◌, ◌+◌, ◌∙◌, ℕ, List, ◌∷◌, length, refl, sym, ap, subst, Bool, true, false, Some, Result, Ok, Err, inl, inr, arith}
 use Rattle.std.specs.Prelude.{IfOk}
 use Rattle.mctp_framing.specs.Cutting.{RouteFields}
 use Rattle.mctp_framing.specs.Gathering.{Gathered, gathered}
 use Rattle.mctp_framing.specs.Gathering.Gathered.{Dropped, More, Whole}
 use Rattle.mctp_framing.specs.Lending.{TakesPacket}
-use Rattle.mctp_framing.specs.Packet.{PacketFields}
+use Rattle.mctp_framing.specs.Packet.{PacketFields, parsed}
 use Rattle.requester_machine.specs.Setup.{ReqSetup}
 use Rattle.script_text.specs.declared.why.Why as declared
 use Rattle.script_text.specs.declared.why.Why.TheVariants as why
 use Rattle.spdm_basis.specs.declared.DropCause.{DropCause}
 use Rattle.spdm_basis.specs.declared.OutOfMemory.{OutOfMemory}
+use Rattle.spdm_basis.specs.declared.PacketFault.{PacketFault}
 use Rattle.spdm_machine.specs.Packets.{fields_in, gathered_from}
-use Rattle.capture_ends.specs.Party.{IsParty, StandBehind}
+use Rattle.capture_ends.proofs.AwaitingStay.{awaiting_stay}
+use Rattle.capture_ends.specs.Conversation as conversations
+use Rattle.capture_ends.specs.Conversation.{IsAnswer, StandsBehind, WalksShow}
+use Rattle.capture_ends.specs.declared.conversation.Conversation.{Conversation}
 use Rattle.capture_ends.specs.declared.onward.Onward.{Onward}
 use Rattle.capture_ends.specs.declared.onward.Onward.TheVariants as onward
-use Rattle.capture_ends.specs.declared.party.Party.{Party}
 use Rattle.capture_laws.proofs.Found.{IsOfOne}
 use Rattle.capture_laws.proofs.Kept.{answered_gathers, answered_kept}
-use Rattle.capture_laws.proofs.KeptAnswers.{goes_to, kept_is_restored, kept_replies}
-use Rattle.capture_laws.proofs.PairWalks.{IsFor}
-use Rattle.capture_laws.proofs.RowsKept.{replies_show}
+use Rattle.capture_laws.proofs.KeptAnswers.{goes_to}
+use Rattle.capture_laws.proofs.PairWalks.{IsFor, of_it, walks_setup}
+use Rattle.capture_laws.proofs.RowsKept.{more_packets}
 use Rattle.capture_laws.proofs.Telling.{answer_of_one, going_told}
 use Rattle.capture_laws.specs.Judged.{IsPair, why_of}
-use Rattle.capture_laws.specs.Keeping.{Kept, RepliesKept, restored}
 use Rattle.capture_laws.specs.Order.{answered_why, is_answer, is_known, is_request, order_why, ordered_why, round_answered, round_by_answer, round_of}
 use Rattle.capture_laws.specs.Rows.{StandsForRows}
+use Rattle.capture_laws.specs.Walks.{StepsBy, StepsTo}
 use Rattle.capture_laws.specs.declared.verdict.Seen.{Seen}
 use Rattle.trace_check.proofs.Refusals.{answer_refused, order_refused}
-use Rattle.trace_check.proofs.Requests.{idle_behind, others_stand}
-use Rattle.trace_check.proofs.Walked.{kept_round, known_is}
+use Rattle.trace_check.proofs.Requests.{others_stand, rests}
+use Rattle.trace_check.proofs.Walked.{known_is}
 use Rattle.trace_check.specs.Bodies.{IsAnswerJudged}
 use Rattle.trace_check.specs.JudgedPair.{ComesBehind, GoesOn, IsRefused, IsTaken, RepliesLarge, StandsFor, pair_of}
 use Rattle.trace_check.specs.declared.judged_pair.JudgedPair.{JudgedPair}
-use Rattle.world_machine.specs.Rounds.{Round}
+use Rattle.world_machine.specs.Capture.{RepliesBy}
 use Rattle.world_machine.specs.SessionTable.{Row, rows_between}
 use Rattle.world_machine.specs.Setup.{Configuration}
 
 module _ (w : Configuration) (q : ReqSetup) (older : List (List ℕ)) (rows : List Row) (packet : List ℕ) (p : PacketFields) (before : ComesBehind w q older rows packet p)
-    (is : is_answer w.responder.eid q.eid p ≡ true) (seen : JudgedPair) (stands : StandsFor seen w q older rows) where
+    (is : is_answer w.responder.eid q.eid p ≡ true) (seen : JudgedPair) (stands : StandsFor seen w q older rows) (shown : WalksShow) where
   abbrev own : ℕ
   own = w.responder.eid
-
-  abbrev k : Kept
-  k = stands.kept
 
   abbrev g : Gathered
   g = gathered_from q.eid own older p
@@ -58,21 +58,19 @@ module _ (w : Configuration) (q : ReqSetup) (older : List (List ℕ)) (rows : Li
   no_request = ap (λ (b : Bool). b && p.from == q.eid) ends.to_is
 
   -- It goes on.
-  pub answer_goes : (new : JudgedPair) (table : List Seen) (next : Kept) → RepliesKept w k g next → StandBehind new.party table w q older rows k next → IsPair (pair_of new) own q.eid (packet ∷ older)
+  pub answer_goes : (new : JudgedPair) (table : List Seen) → StandsBehind new.conversation.party new.conversation.large table w q older rows packet → IsPair (pair_of new) own q.eid (packet ∷ older)
       → new.hint ≡ seen.hint → new.psk ≡ seen.psk → GoesOn new table w q older packet rows
-  answer_goes new table next replies there order hint psk = record {
-    behind = rows_between (restored k) (restored next) rows;
-    shows = replies_show w q older packet p k next rows before.sound.apart before.known before.parses no_request is stands.keeps replies before.shows;
+  answer_goes new table there order hint psk = record {
+    behind = rows_between there.before there.after rows;
+    shows = shown w q older packet p there.before there.after rows before.sound.apart before.known before.parses (inr is) there.came there.goes before.shows;
     stands = record {
       order = order;
-      kept = next;
-      keeps = kept_replies w q older packet p k next before.parses no_request is stands.keeps replies;
-      party = there.party;
+      talk = there.stands;
       hint = hint ∙ stands.hint;
       psk = psk ∙ stands.psk;
     };
-    others = others_stand w q older rows packet p before of_one (restored k) (restored next) there.party.asker.setup;
-    entries = there.stands;
+    others = others_stand w q older rows packet p before of_one there.before there.after (walks_setup w q (packet ∷ older) there.after there.goes);
+    entries = there.entries;
   }
 
   -- It is out of order.
@@ -84,51 +82,64 @@ module _ (w : Configuration) (q : ReqSetup) (older : List (List ℕ)) (rows : Li
       let told : ordered_why own w.requesters older (Ok p) ≡ Some (why_of why) = going_told own w.requesters older p (Err why) ends.to_is (ends.from_is refl) known its in
       order_refused w older rows packet (why_of why) before.shows.0 before.shows.1 (ap (ordered_why own w.requesters older) before.parses ∙ told)
 
-  pub round_is : seen.round ≡ k.round
-  round_is = stands.order.round ∙ sym (kept_round w q older k stands.keeps)
-
   -- The packet was given to the assembler of answers.
   module _ (new : JudgedPair) (table : List Seen) (takes : TakesPacket p seen.answers new.answers) (at : new.eid.number ≡ seen.eid.number) (others : new.requests ≡ seen.requests) (hint : new.hint ≡ seen.hint) (psk : new.psk ≡ seen.psk) where
     pair_behind : (x : Gathered) → x ≡ gathered seen.answers.receiver (fields_in older) p → new.round ≡ round_by_answer seen.round x → IsPair (pair_of new) own q.eid (packet ∷ older)
     pair_behind x gives round = answered_kept (pair_of seen) (pair_of new) own q.eid older packet p x stands.order before.parses is takes at others gives round
 
     -- More of a body is awaited.
-    pub answer_waits : More ≡ gathered seen.answers.receiver (fields_in older) p → new.round ≡ seen.round → new.party ≡ seen.party → StandsForRows table w (length older) rows → GoesOn new table w q older packet rows
+    pub answer_waits : More ≡ gathered seen.answers.receiver (fields_in older) p → new.round ≡ seen.round → new.conversation ≡ seen.conversation → StandsForRows table w (length older) rows → GoesOn new table w q older packet rows
+    unfolding StepsTo
     answer_waits gives round same entries =
-        let more : More ≡ g = answered_gathers (pair_of seen) own q.eid older p More stands.order gives in
-        let there = idle_behind new.party table w q older rows k (subst (λ (x : Party). IsParty x w q k rows) (sym same) stands.party) entries in
-        let nothing : RepliesKept w k More k = (restored k, refl, refl, sym (kept_is_restored w q older k stands.keeps).1) in
-        answer_goes new table k (subst (λ (x : Gathered). RepliesKept w k x k) more nothing) there (pair_behind More gives round) hint psk
+        let more : g ≡ More = sym (answered_gathers (pair_of seen) own q.eid older p More stands.order gives) in
+        let talk : conversations.StandsFor new.conversation w q older rows = subst (λ (x : Conversation). conversations.StandsFor x w q older rows) (sym same) stands.talk in
+        let at = rests new.conversation w q older rows talk in
+        let d = at.0 in
+        let replies : RepliesBy w d g d = subst (λ (x : Gathered). RepliesBy w d x d) (sym more) refl in
+        let step : StepsBy w q.eid older d d (parsed packet) = subst (λ (x : Result PacketFields PacketFault). StepsBy w q.eid older d d x) (sym before.parses) (of_it w older q.eid p d d false ends replies) in
+        let waits = awaiting_stay new.conversation w q older packet p rows before.sound.responder.beat before.parses (inr (no_request, is, more)) talk in
+        answer_goes new table (record {
+          before = d;
+          came = at.1.walk;
+          after = d;
+          goes = (d, at.1.walk, step);
+          stands = subst (λ (x : List Row). conversations.StandsFor new.conversation w q (packet ∷ older) x) (sym at.1.same) waits;
+          entries = subst (StandsForRows table w (length older + 1)) (sym at.1.same) (more_packets table w (length older) (length older + 1) rows (omega arith) entries);
+        }) (pair_behind More gives round) hint psk
 
     -- It completes an answer.
     pub answer_told : (route : RouteFields) (answer : List ℕ) (result : Result Onward declared.Why) → Whole route answer ≡ gathered seen.answers.receiver (fields_in older) p
-        → (result ≡ Ok onward.Kept → new.round ≡ round_answered seen.round) → IsAnswerJudged w q older rows k route answer result new.party table → IsTaken (RepliesLarge w q older g) w q older packet rows result new table
+        → (result ≡ Ok onward.Kept → new.round ≡ round_answered seen.round) → IsAnswerJudged w q older rows packet route answer result new.conversation table → IsTaken (RepliesLarge w q older g) w q older packet rows result new table
     answer_told route answer result gives round judged = by_result result round judged
       where
         whole : Whole route answer ≡ g
         whole = answered_gathers (pair_of seen) own q.eid older p (Whole route answer) stands.order gives
 
-        wrong : (why : declared.Why) → answered_why k.round (Whole route answer) ≡ Some (why_of why) → IsRefused w older packet (why_of why)
-        wrong why told =
-            let there : answered_why (round_of own q.eid older) (Whole route answer) ≡ Some (why_of why) = subst (λ (o : Option Round). answered_why o (Whole route answer) ≡ Some (why_of why)) (kept_round w q older k stands.keeps) told in
-            answer_wrong why (subst (λ (x : Gathered). answered_why (round_of own q.eid older) x ≡ Some (why_of why)) whole there)
-
-        by_result : (x : Result Onward declared.Why) → (x ≡ Ok onward.Kept → new.round ≡ round_answered seen.round) → IsAnswerJudged w q older rows k route answer x new.party table
+        by_result : (x : Result Onward declared.Why) → (x ≡ Ok onward.Kept → new.round ≡ round_answered seen.round) → IsAnswerJudged w q older rows packet route answer x new.conversation table
             → IsTaken (RepliesLarge w q older g) w q older packet rows x new table
-        by_result (Ok onward.Kept) turn (inl c) =
-            answer_goes new table c.1.0 (subst (λ (x : Gathered). RepliesKept w k x c.1.0) whole c.1.1) c.1.2 (pair_behind (Whole route answer) gives (turn refl)) hint psk
-        by_result (Ok onward.Large) turn (inl c) = (k, stands.keeps, (route, answer, sym whole, c.1))
-        by_result (Err why) turn (inl c) = answer_refused w q older rows packet p before k stands.keeps is stands.party.asker.setup route answer (why_of why) (sym whole) c.1.0 c.1.1
+        by_result (Ok onward.Kept) turn (inl c) = answer_goes new table c (pair_behind (Whole route answer) gives (turn refl)) hint psk
+        by_result (Ok onward.Large) turn (inl c) = (route, answer, sym whole, c)
+        by_result (Err why) turn (inl c) = answer_refused w q older rows packet p before (why_of why) c.0 is (Whole route answer) whole c.1
         by_result (Ok onward.Kept) turn (inr c) = absurd c
         by_result (Ok onward.Large) turn (inr c) = absurd c
-        by_result (Err why) turn (inr c) = wrong why c
+        by_result (Err why) turn (inr c) = answer_wrong why (subst (λ (x : Gathered). answered_why (round_of own q.eid older) x ≡ Some (why_of why)) whole c)
 
     -- The same, where memory may be wanted.
     pub answer_given : (route : RouteFields) (answer : List ℕ) (result : Result (Result Onward declared.Why) OutOfMemory) → Whole route answer ≡ gathered seen.answers.receiver (fields_in older) p
-        → (result ≡ Ok (Ok onward.Kept) → new.round ≡ round_answered seen.round) → IfOk result (λ told. IsAnswerJudged w q older rows k route answer told new.party table)
+        → (result ≡ Ok (Ok onward.Kept) → new.round ≡ round_answered seen.round) → IfOk result (λ told. IsAnswerJudged w q older rows packet route answer told new.conversation table)
         → IfOk result (λ told. IsTaken (RepliesLarge w q older g) w q older packet rows told new table)
     answer_given route answer (Ok told) gives round judged = answer_told route answer told gives (λ is. round (ap Ok is)) judged
     answer_given route answer (Err fault) gives round judged = tt
+
+  -- The answer, as it was gathered.
+  pub answer_is : (route : RouteFields) (answer : List ℕ) → Whole route answer ≡ gathered seen.answers.receiver (fields_in older) p → IsAnswer w q older packet route answer
+  answer_is route answer gives = record {
+    fields = p;
+    parses = before.parses;
+    other = no_request;
+    goes = is;
+    whole = sym (answered_gathers (pair_of seen) own q.eid older p (Whole route answer) stands.order gives);
+  }
 
   -- It is dropped.
   pub answer_dropped : (cause : DropCause) → Dropped cause ≡ gathered seen.answers.receiver (fields_in older) p → IsRefused w older packet (why_of why.BadPacket)

@@ -1,86 +1,103 @@
--- What a packet of a requester, or one for it, makes of what is kept: it goes on.
-use Rattle.std.proofs.Common.{◌≡◌, ◌≢◌, ◌+◌, ◌∙◌, ℕ, List, ◌∷◌, length, refl, sym, ap, subst, true, Option, Some, Result, Ok, Err, inl, inr, arith}
+-- What a packet of a requester comes to: it goes on, or it is refused.
+use Rattle.std.proofs.Common.{◌≡◌, ◌≢◌, ◌+◌, ◌∙◌, ℕ, List, ◌∷◌, length, refl, sym, ap, subst, true, Option, Some, None, Result, Ok, Err, inl, inr, arith}
 use Rattle.mctp_framing.specs.Cutting.{RouteFields}
 use Rattle.mctp_framing.specs.Gathering.{Gathered, gathered}
 use Rattle.mctp_framing.specs.Gathering.Gathered.{Dropped, More, Whole}
 use Rattle.mctp_framing.specs.Lending.{TakesPacket}
-use Rattle.mctp_framing.specs.Packet.{PacketFields}
+use Rattle.mctp_framing.specs.Packet.{PacketFields, parsed}
 use Rattle.requester_machine.specs.Setup.{ReqSetup}
 use Rattle.script_text.specs.declared.why.Why as declared
 use Rattle.script_text.specs.declared.why.Why.TheVariants as why
 use Rattle.spdm_basis.specs.declared.DropCause.{DropCause}
+use Rattle.spdm_basis.specs.declared.PacketFault.{PacketFault}
 use Rattle.spdm_machine.specs.Packets.{fields_in, gathered_from}
-use Rattle.capture_ends.specs.Party.{IsParty, StandBehind}
+use Rattle.capture_ends.proofs.AwaitingStay.{awaiting_stay}
+use Rattle.capture_ends.proofs.OthersStay.{conversations_stay}
+use Rattle.capture_ends.proofs.WalkRows.{places_for}
+use Rattle.capture_ends.specs.Conversation as conversations
+use Rattle.capture_ends.specs.Conversation.{IsRequest, StandsAs, StandsBehind, WalksShow, meanwhile}
+use Rattle.capture_ends.specs.declared.conversation.Conversation.{Conversation}
 use Rattle.capture_ends.specs.declared.onward.Onward.{Onward}
 use Rattle.capture_ends.specs.declared.onward.Onward.TheVariants as onward
 use Rattle.capture_ends.specs.declared.party.Party.{Party}
 use Rattle.capture_laws.proofs.Found.{IsOfOne}
 use Rattle.capture_laws.proofs.IdleRows.{idle_rows_stay}
 use Rattle.capture_laws.proofs.Kept.{asked_gathers, asked_kept, stays_pair}
-use Rattle.capture_laws.proofs.KeptAnswers.{kept_stays}
-use Rattle.capture_laws.proofs.KeptSteps.{comes_from, kept_asks}
+use Rattle.capture_laws.proofs.KeptAnswers.{kept_is_restored}
+use Rattle.capture_laws.proofs.KeptSteps.{comes_from}
 use Rattle.capture_laws.proofs.OrderedRows.{other_places_stay}
-use Rattle.capture_laws.proofs.PairWalks.{IsFor}
-use Rattle.capture_laws.proofs.RowsKept.{asks_show, more_packets}
+use Rattle.capture_laws.proofs.PairWalks.{IsFor, of_it, walks_setup}
+use Rattle.capture_laws.proofs.RowsKept.{more_packets}
 use Rattle.capture_laws.proofs.Telling.{coming_told, request_of_one}
 use Rattle.capture_laws.specs.Judged.{IsPair, why_of}
-use Rattle.capture_laws.specs.Keeping.{AsksKept, Kept, restored}
+use Rattle.capture_laws.specs.Keeping.{restored}
 use Rattle.capture_laws.specs.Order.{asked_why, is_known, is_request, order_why, ordered_why, round_by_request, round_of}
 use Rattle.capture_laws.specs.Rows.{StandsForRows}
+use Rattle.capture_laws.specs.Walks.{StepsBy, StepsTo, Walks}
 use Rattle.capture_laws.specs.declared.verdict.Seen.{Seen}
+use Rattle.large_requests.specs.Sending.{dialogue_of}
+use Rattle.large_requests.specs.declared.large_request.LargeRequest.{LargeRequest}
 use Rattle.trace_check.proofs.Refusals.{order_refused, request_refused}
-use Rattle.trace_check.proofs.Walked.{apart_is, kept_round, known_is}
+use Rattle.trace_check.proofs.Walked.{apart_is, known_is}
 use Rattle.trace_check.specs.Bodies.{IsRequestJudged}
-use Rattle.trace_check.specs.JudgedPair.{AsksLarge, ComesBehind, GoesOn, IsRefused, IsTaken, StandsFor, pair_of}
+use Rattle.trace_check.specs.JudgedPair.{ComesBehind, GoesOn, IsRefused, IsTaken, StandsFor, pair_of}
 use Rattle.trace_check.specs.declared.judged_pair.JudgedPair.{JudgedPair}
-use Rattle.world_machine.specs.Rounds.{Dialogue, Round}
+use Rattle.world_machine.specs.Capture.{AsksBy}
+use Rattle.world_machine.specs.Rounds.{Dialogue}
 use Rattle.world_machine.specs.SessionTable.{Row, rows_between}
 use Rattle.world_machine.specs.Setup.{Configuration}
 
 -- ---- Other requesters.
 
 module _ (w : Configuration) (q : ReqSetup) (older : List (List ℕ)) (rows : List Row) (packet : List ℕ) (p : PacketFields) (before : ComesBehind w q older rows packet p) (of : IsOfOne w.responder.eid p q.eid) where
-  other_party : (seen : Party) (other : ReqSetup) (k : Kept) (d next : Dialogue) → next.setup ≡ q → other.eid ≢ q.eid → IsParty seen w other k rows → IsParty seen w other k (rows_between d next rows)
-  other_party seen other k d next its apart party =
-      let away : (restored k).setup.eid ≢ next.setup.eid = λ same. apart (ap (λ (s : ReqSetup). s.eid) (sym party.asker.setup) ∙ same ∙ ap (λ (s : ReqSetup). s.eid) its) in record {
-        asker = party.asker;
-        answerer = party.answerer;
-        keys = party.keys;
-        number = party.number;
-        places = other_places_stay seen.places d next (restored k) rows away party.places;
-      }
-
   -- What is kept of them is kept behind it, among the rows that it makes.
   pub others_stand : (d next : Dialogue) → next.setup ≡ q → (seen : JudgedPair) (other : ReqSetup) → other.eid ≢ q.eid → other.eid ≢ w.responder.eid → StandsFor seen w other older rows → StandsFor seen w other (packet ∷ older) (rows_between d next rows)
   others_stand d next its seen other apart away s =
-      let none = of other.eid apart in record {
+      let none = of other.eid apart in
+      let far : other.eid ≢ next.setup.eid = λ same. apart (same ∙ ap (λ (x : ReqSetup). x.eid) its) in record {
         order = stays_pair (pair_of seen) w.responder.eid other.eid older packet p before.parses away none.0 none.1 s.order;
-        kept = s.kept;
-        keeps = kept_stays w other older packet p s.kept before.parses none.0 none.1 s.keeps;
-        party = other_party seen.party other s.kept d next its apart s.party;
+        talk = conversations_stay other_places_stay seen.conversation w other older packet p d next rows far before.parses none.0 none.1 s.talk;
         hint = s.hint;
         psk = s.psk;
       }
 
 -- ---- Nothing changes.
 
--- What is kept stands behind a packet that makes the same of it.
-pub idle_behind : (seen : Party) (table : List Seen) (w : Configuration) (q : ReqSetup) (older : List (List ℕ)) (rows : List Row) (k : Kept) → IsParty seen w q k rows → StandsForRows table w (length older) rows → StandBehind seen table w q older rows k k
-idle_behind seen table w q older rows k party stands =
-    let same : rows ≡ rows_between (restored k) (restored k) rows = sym (idle_rows_stay seen.places (restored k) rows party.places) in record {
-      party = subst (IsParty seen w q k) same party;
-      stands = subst (StandsForRows table w (length older + 1)) same (more_packets table w (length older) (length older + 1) rows (omega arith) stands);
-    }
+-- A walk behind packets, of which the rows are those that a packet makes that changes nothing.
+pub record RestsAt (w : Configuration) (q : ReqSetup) (older : List (List ℕ)) (rows : List Row) (d : Dialogue) : Type 0 where
+  pub walk : Walks w q older d
+  pub same : rows_between d d rows ≡ rows
+
+rests_as : (party : Party) (large : Option LargeRequest) (w : Configuration) (q : ReqSetup) (older : List (List ℕ)) (rows : List Row) → StandsAs party large w q older rows → (d : Dialogue) × RestsAt w q older rows d
+rests_as party None w q older rows stands = (
+  restored stands.0,
+  record {
+    walk = (kept_is_restored w q older stands.0 stands.1).0;
+    same = idle_rows_stay party.places (restored stands.0) rows stands.2.places;
+  },
+)
+rests_as party (Some large) w q older rows stands =
+    let s = stands.0 in
+    let way = stands.1 in
+    let b = way.sending.begins in
+    let whole = way.sending.stands in
+    let d = dialogue_of s b.0 whole.0 in (
+      d,
+      record {
+        walk = (way.sending.all b.0 whole.0 b.1 whole.1).0;
+        same = idle_rows_stay party.places d rows (places_for party.places (restored (meanwhile s)) d rows refl refl way.kept.places);
+      },
+    )
+
+pub rests : (seen : Conversation) (w : Configuration) (q : ReqSetup) (older : List (List ℕ)) (rows : List Row) → conversations.StandsFor seen w q older rows → (d : Dialogue) × RestsAt w q older rows d
+rests seen w q older rows stands = rests_as seen.party seen.large w q older rows stands
 
 -- ---- A packet of this requester.
 
 module _ (w : Configuration) (q : ReqSetup) (older : List (List ℕ)) (rows : List Row) (packet : List ℕ) (p : PacketFields) (before : ComesBehind w q older rows packet p)
-    (is : is_request w.responder.eid q.eid p ≡ true) (seen : JudgedPair) (stands : StandsFor seen w q older rows) where
+    (is : is_request w.responder.eid q.eid p ≡ true) (seen : JudgedPair) (stands : StandsFor seen w q older rows) (shown : WalksShow) where
   abbrev own : ℕ
   own = w.responder.eid
-
-  abbrev k : Kept
-  k = stands.kept
 
   abbrev g : Gathered
   g = gathered_from own q.eid older p
@@ -92,21 +109,19 @@ module _ (w : Configuration) (q : ReqSetup) (older : List (List ℕ)) (rows : Li
   of_one = subst (IsOfOne own p) ends.end (request_of_one own p ends.to_is)
 
   -- It goes on.
-  pub request_goes : (new : JudgedPair) (table : List Seen) (next : Kept) → AsksKept k g next → StandBehind new.party table w q older rows k next → IsPair (pair_of new) own q.eid (packet ∷ older)
+  pub request_goes : (new : JudgedPair) (table : List Seen) → StandsBehind new.conversation.party new.conversation.large table w q older rows packet → IsPair (pair_of new) own q.eid (packet ∷ older)
       → new.hint ≡ seen.hint → new.psk ≡ seen.psk → GoesOn new table w q older packet rows
-  request_goes new table next asks there order hint psk = record {
-    behind = rows_between (restored k) (restored next) rows;
-    shows = asks_show w q older packet p k next rows before.sound.apart before.known before.parses is stands.keeps asks before.shows;
+  request_goes new table there order hint psk = record {
+    behind = rows_between there.before there.after rows;
+    shows = shown w q older packet p there.before there.after rows before.sound.apart before.known before.parses (inl is) there.came there.goes before.shows;
     stands = record {
       order = order;
-      kept = next;
-      keeps = kept_asks w q older packet p k next before.parses is stands.keeps asks;
-      party = there.party;
+      talk = there.stands;
       hint = hint ∙ stands.hint;
       psk = psk ∙ stands.psk;
     };
-    others = others_stand w q older rows packet p before of_one (restored k) (restored next) there.party.asker.setup;
-    entries = there.stands;
+    others = others_stand w q older rows packet p before of_one there.before there.after (walks_setup w q (packet ∷ older) there.after there.goes);
+    entries = there.entries;
   }
 
   -- It is out of order.
@@ -118,9 +133,6 @@ module _ (w : Configuration) (q : ReqSetup) (older : List (List ℕ)) (rows : Li
       let told : ordered_why own w.requesters older (Ok p) ≡ Some (why_of why) = coming_told own w.requesters older p (Err why) ends.to_is known its in
       order_refused w older rows packet (why_of why) before.shows.0 before.shows.1 (ap (ordered_why own w.requesters older) before.parses ∙ told)
 
-  pub round_is : seen.round ≡ k.round
-  round_is = stands.order.round ∙ sym (kept_round w q older k stands.keeps)
-
   apart : q.eid ≢ own
   apart = apart_is own w.requesters q.eid q before.sound.apart before.known
 
@@ -130,34 +142,50 @@ module _ (w : Configuration) (q : ReqSetup) (older : List (List ℕ)) (rows : Li
     pair_behind x gives round = asked_kept (pair_of seen) (pair_of new) own q.eid older packet p x stands.order before.parses is apart takes at others gives round
 
     -- More of a body is awaited.
-    pub request_waits : More ≡ gathered seen.requests.receiver (fields_in older) p → new.round ≡ seen.round → new.party ≡ seen.party → StandsForRows table w (length older) rows → GoesOn new table w q older packet rows
+    pub request_waits : More ≡ gathered seen.requests.receiver (fields_in older) p → new.round ≡ seen.round → new.conversation ≡ seen.conversation → StandsForRows table w (length older) rows → GoesOn new table w q older packet rows
+    unfolding StepsTo
     request_waits gives round same entries =
-        let more : More ≡ g = asked_gathers (pair_of seen) own q.eid older p More stands.order gives in
-        let there = idle_behind new.party table w q older rows k (subst (λ (x : Party). IsParty x w q k rows) (sym same) stands.party) entries in
-        request_goes new table k (subst (λ (x : Gathered). AsksKept k x k) more refl) there (pair_behind More gives round) hint psk
+        let more : g ≡ More = sym (asked_gathers (pair_of seen) own q.eid older p More stands.order gives) in
+        let talk : conversations.StandsFor new.conversation w q older rows = subst (λ (x : Conversation). conversations.StandsFor x w q older rows) (sym same) stands.talk in
+        let at = rests new.conversation w q older rows talk in
+        let d = at.0 in
+        let asks : AsksBy d g d = subst (λ (x : Gathered). AsksBy d x d) (sym more) refl in
+        let step : StepsBy w q.eid older d d (parsed packet) = subst (λ (x : Result PacketFields PacketFault). StepsBy w q.eid older d d x) (sym before.parses) (of_it w older q.eid p d d true ends asks) in
+        let waits = awaiting_stay new.conversation w q older packet p rows before.sound.responder.beat before.parses (inl (is, more)) talk in
+        request_goes new table (record {
+          before = d;
+          came = at.1.walk;
+          after = d;
+          goes = (d, at.1.walk, step);
+          stands = subst (λ (x : List Row). conversations.StandsFor new.conversation w q (packet ∷ older) x) (sym at.1.same) waits;
+          entries = subst (StandsForRows table w (length older + 1)) (sym at.1.same) (more_packets table w (length older) (length older + 1) rows (omega arith) entries);
+        }) (pair_behind More gives round) hint psk
 
     -- It completes a request.
     pub request_told : (route : RouteFields) (body : List ℕ) (result : Result Onward declared.Why) → Whole route body ≡ gathered seen.requests.receiver (fields_in older) p
-        → (result ≡ Ok onward.Kept → new.round ≡ round_by_request seen.round (Whole route body)) → IsRequestJudged w q older rows k route body result new.party table → IsTaken (AsksLarge w q older g) w q older packet rows result new table
+        → (result ≡ Ok onward.Kept → new.round ≡ round_by_request seen.round (Whole route body)) → IsRequestJudged w q older rows packet route body result new.conversation table → IsTaken ⊥ w q older packet rows result new table
     request_told route body result gives round judged = by_result result round judged
       where
         whole : Whole route body ≡ g
         whole = asked_gathers (pair_of seen) own q.eid older p (Whole route body) stands.order gives
 
-        wrong : (why : declared.Why) → asked_why k.round (Whole route body) ≡ Some (why_of why) → IsRefused w older packet (why_of why)
-        wrong why told =
-            let there : asked_why (round_of own q.eid older) (Whole route body) ≡ Some (why_of why) = subst (λ (o : Option Round). asked_why o (Whole route body) ≡ Some (why_of why)) (kept_round w q older k stands.keeps) told in
-            request_wrong why (subst (λ (x : Gathered). asked_why (round_of own q.eid older) x ≡ Some (why_of why)) whole there)
-
-        by_result : (x : Result Onward declared.Why) → (x ≡ Ok onward.Kept → new.round ≡ round_by_request seen.round (Whole route body)) → IsRequestJudged w q older rows k route body x new.party table
-            → IsTaken (AsksLarge w q older g) w q older packet rows x new table
-        by_result (Ok onward.Kept) turn (inl c) =
-            request_goes new table c.1.0 (subst (λ (x : Gathered). AsksKept k x c.1.0) whole c.1.1) c.1.2 (pair_behind (Whole route body) gives (turn refl)) hint psk
-        by_result (Ok onward.Large) turn (inl c) = (k, stands.keeps, (route, body, sym whole, c.1.0, c.1.1))
-        by_result (Err why) turn (inl c) = request_refused w q older rows packet p before k stands.keeps is route body (why_of why) (sym whole) c.1.0 c.1.1 c.1.2
+        by_result : (x : Result Onward declared.Why) → (x ≡ Ok onward.Kept → new.round ≡ round_by_request seen.round (Whole route body)) → IsRequestJudged w q older rows packet route body x new.conversation table
+            → IsTaken ⊥ w q older packet rows x new table
+        by_result (Ok onward.Kept) turn (inl c) = request_goes new table c (pair_behind (Whole route body) gives (turn refl)) hint psk
+        by_result (Ok onward.Large) turn (inl c) = c
+        by_result (Err why) turn (inl c) = request_refused w q older rows packet p before (why_of why) c.0 is (Whole route body) whole c.1
         by_result (Ok onward.Kept) turn (inr c) = absurd c
         by_result (Ok onward.Large) turn (inr c) = absurd c
-        by_result (Err why) turn (inr c) = wrong why c
+        by_result (Err why) turn (inr c) = request_wrong why (subst (λ (x : Gathered). asked_why (round_of own q.eid older) x ≡ Some (why_of why)) whole c)
+
+  -- The request, as it was gathered.
+  pub request_is : (route : RouteFields) (body : List ℕ) → Whole route body ≡ gathered seen.requests.receiver (fields_in older) p → IsRequest w q older packet route body
+  request_is route body gives = record {
+    fields = p;
+    parses = before.parses;
+    comes = is;
+    whole = sym (asked_gathers (pair_of seen) own q.eid older p (Whole route body) stands.order gives);
+  }
 
   -- It is dropped.
   pub request_dropped : (cause : DropCause) → Dropped cause ≡ gathered seen.requests.receiver (fields_in older) p → IsRefused w older packet (why_of why.BadPacket)

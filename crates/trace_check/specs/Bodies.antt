@@ -1,16 +1,16 @@
--- What is told of a body that came whole, by what is kept of a requester and the responder. This project's own.
+-- What is told of a body that came whole, by the walks of its requester. This project's own.
 use Rattle.std.specs.Prelude.{◌≡◌, ◌⊎◌, ℕ, List, Option, Some, None, Result, Ok, Err}
 use Rattle.mctp_framing.specs.Cutting.{RouteFields}
 use Rattle.mctp_framing.specs.Gathering.Gathered.{Whole}
 use Rattle.requester_machine.specs.Setup.{ReqSetup}
 use Rattle.script_text.specs.declared.why.Why as declared
-use Rattle.capture_ends.specs.Party.{IsAsked}
-use Rattle.capture_ends.specs.PartyReplies.{IsReplied}
+use Rattle.capture_ends.specs.Conversation.{IsJudgedAnswer, NoneGoesOn, StandsBehind}
+use Rattle.capture_ends.specs.declared.conversation.Conversation.{Conversation}
 use Rattle.capture_ends.specs.declared.onward.Onward.{Onward}
-use Rattle.capture_ends.specs.declared.party.Party.{Party}
+use Rattle.capture_ends.specs.declared.onward.Onward.TheVariants as onward
 use Rattle.capture_laws.specs.Judged.{why_of}
-use Rattle.capture_laws.specs.Keeping.{Kept}
-use Rattle.capture_laws.specs.Order.{answered_why, asked_why}
+use Rattle.capture_laws.specs.Order.{answered_why, asked_why, round_of}
+use Rattle.capture_laws.specs.ReasonsEach.{IsAskedReason}
 use Rattle.capture_laws.specs.declared.verdict.Seen.{Seen}
 use Rattle.world_machine.specs.Difference.{Why}
 use Rattle.world_machine.specs.SessionTable.{Row}
@@ -24,26 +24,32 @@ told_of (Some why) = Some (why_of why)
 -- ---- A request.
 
 -- The order refuses it for this reason.
-abbrev pub IsAskedWrong : Kept → RouteFields → (body : List ℕ) → Result Onward declared.Why → Type 0
-IsAskedWrong k route body (Ok on) = ⊥
-IsAskedWrong k route body (Err why) = asked_why k.round (Whole route body) ≡ Some (why_of why)
+abbrev pub IsAskedWrong : Configuration → ReqSetup → List (List ℕ) → RouteFields → (body : List ℕ) → Result Onward declared.Why → Type 0
+IsAskedWrong w q older route body (Ok on) = ⊥
+IsAskedWrong w q older route body (Err why) = asked_why (round_of w.responder.eid q.eid older) (Whole route body) ≡ Some (why_of why)
 
--- It is in order, and what is told of it is so by what is kept; or it is not, and this is the reason.
-abbrev pub IsRequestJudged : Configuration → ReqSetup → List (List ℕ) → List Row → Kept → RouteFields → (body : List ℕ)
-    → Result Onward declared.Why → (new : Party) → (table : List Seen) → Type 0
-IsRequestJudged w q older rows k route body result new table =
-    ((asked_why k.round (Whole route body) ≡ None) × IsAsked w q older rows k route body result new table)
-    ⊎ IsAskedWrong k route body result
+-- It is in order: it goes on in a walk; or no walk goes on with it, and then why. Requests are never left unjudged.
+abbrev pub IsRequestTold : Configuration → ReqSetup → List (List ℕ) → List Row → (packet : List ℕ) → RouteFields → (body : List ℕ)
+    → Result Onward declared.Why → (new : Conversation) → (table : List Seen) → Type 0
+IsRequestTold w q older rows packet route body (Ok onward.Kept) new table = StandsBehind new.party new.large table w q older rows packet
+IsRequestTold w q older rows packet route body (Ok onward.Large) new table = ⊥
+IsRequestTold w q older rows packet route body (Err why) new table =
+    NoneGoesOn w q older packet × IsAskedReason w q older (Whole route body) (why_of why)
+
+-- It is told so, or it is out of order, and this is the reason.
+abbrev pub IsRequestJudged : Configuration → ReqSetup → List (List ℕ) → List Row → (packet : List ℕ) → RouteFields → (body : List ℕ)
+    → Result Onward declared.Why → (new : Conversation) → (table : List Seen) → Type 0
+IsRequestJudged w q older rows packet route body result new table =
+    IsRequestTold w q older rows packet route body result new table ⊎ IsAskedWrong w q older route body result
 
 -- ---- An answer.
 
-abbrev pub IsAnsweredWrong : Kept → RouteFields → (answer : List ℕ) → Result Onward declared.Why → Type 0
-IsAnsweredWrong k route answer (Ok on) = ⊥
-IsAnsweredWrong k route answer (Err why) = answered_why k.round (Whole route answer) ≡ Some (why_of why)
+abbrev pub IsAnsweredWrong : Configuration → ReqSetup → List (List ℕ) → RouteFields → (answer : List ℕ) → Result Onward declared.Why → Type 0
+IsAnsweredWrong w q older route answer (Ok on) = ⊥
+IsAnsweredWrong w q older route answer (Err why) = answered_why (round_of w.responder.eid q.eid older) (Whole route answer) ≡ Some (why_of why)
 
--- The same of an answer.
-abbrev pub IsAnswerJudged : Configuration → ReqSetup → List (List ℕ) → List Row → Kept → RouteFields → (answer : List ℕ)
-    → Result Onward declared.Why → (new : Party) → (table : List Seen) → Type 0
-IsAnswerJudged w q older rows k route answer result new table =
-    ((answered_why k.round (Whole route answer) ≡ None) × IsReplied w q older rows k route answer result new table)
-    ⊎ IsAnsweredWrong k route answer result
+-- The same of an answer, which may be a part of a large one too.
+abbrev pub IsAnswerJudged : Configuration → ReqSetup → List (List ℕ) → List Row → (packet : List ℕ) → RouteFields → (answer : List ℕ)
+    → Result Onward declared.Why → (new : Conversation) → (table : List Seen) → Type 0
+IsAnswerJudged w q older rows packet route answer result new table =
+    IsJudgedAnswer w q older rows packet route answer result new.party new.large table ⊎ IsAnsweredWrong w q older route answer result

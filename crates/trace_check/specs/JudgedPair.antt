@@ -1,19 +1,17 @@
 -- One requester of a capture and the responder, as the program gathers and judges what goes between them: what it stands
 -- for after some packets, and what it tells of the next one. This project's own.
-use Rattle.std.specs.Prelude.{◌≡◌, ◌≢◌, ◌<◌, ◌+◌, ◌-◌, ◌^◌, ℕ, List, ◌∷◌, length, true, Result, Ok, Err}
+use Rattle.std.specs.Prelude.{◌≡◌, ◌≢◌, ◌<◌, ◌+◌, ◌-◌, ◌^◌, ℕ, List, ◌∷◌, length, Result, Ok, Err}
 use Rattle.mctp_framing.specs.Cutting.{RouteFields}
 use Rattle.mctp_framing.specs.Gathering.{Gathered}
 use Rattle.mctp_framing.specs.Gathering.Gathered.{Whole}
 use Rattle.mctp_framing.specs.Packet.{PacketFields, parsed}
 use Rattle.requester_machine.specs.Setup.{ReqSetup}
 use Rattle.script_text.specs.declared.why.Why as declared
-use Rattle.capture_ends.specs.Asker.{is_first_chunk}
-use Rattle.capture_ends.specs.Party.{IsParty}
-use Rattle.capture_ends.specs.PartyReplies.{IsPartOfLarge}
+use Rattle.capture_ends.specs.Conversation as conversations
+use Rattle.capture_ends.specs.Conversation.{IsPart}
 use Rattle.capture_ends.specs.declared.onward.Onward.{Onward}
 use Rattle.capture_ends.specs.declared.onward.Onward.TheVariants as onward
 use Rattle.capture_laws.specs.Judged.{IsPair, why_of}
-use Rattle.capture_laws.specs.Keeping.{AsksKept, Keeps, Kept}
 use Rattle.capture_laws.specs.KeptRows.{Show}
 use Rattle.capture_laws.specs.ReasonsEach.{IsOneOf}
 use Rattle.capture_laws.specs.Rows.{StandsForRows}
@@ -34,13 +32,11 @@ abbrev pub pair_of : JudgedPair → Pair
 pair_of seen = record { eid = seen.eid; requests = seen.requests; answers = seen.answers; round = seen.round }
 
 -- It stands for this requester and the responder after these packets, the newest first, among the rows that they show: the
--- bodies and the round are those of the packets; what is kept of some walk over them is what the two ends hold; and the
--- responder knows this of the requester.
+-- bodies and the round are those of the packets; the conversation stands for these; and the responder knows this of the
+-- requester.
 pub record StandsFor (seen : JudgedPair) (w : Configuration) (q : ReqSetup) (older : List (List ℕ)) (rows : List Row) : Type 0 where
   pub order : IsPair (pair_of seen) w.responder.eid q.eid older
-  pub kept : Kept
-  pub keeps : Keeps w q older kept
-  pub party : IsParty seen.party w q kept rows
+  pub talk : conversations.StandsFor seen.conversation w q older rows
   pub hint : seen.hint ≡ q.hint
   pub psk : seen.psk ≡ q.psk
 
@@ -69,22 +65,11 @@ pub record GoesOn (new : JudgedPair) (table : List Seen) (w : Configuration) (q 
 abbrev pub IsRefused : Configuration → List (List ℕ) → (packet : List ℕ) → Why → Type 0
 IsRefused w older packet why = ((after : List Dialogue) → Leads w (packet ∷ older) after → ⊥) × IsReason w older packet why
 
--- ---- Parts of large messages, which are not judged yet.
+-- ---- Parts of large answers, which are not judged yet.
 
--- What the requester sends may begin a large request: it is a first chunk, and does not go on otherwise.
-abbrev pub AsksLarge : Configuration → ReqSetup → List (List ℕ) → Gathered → Type 0
-AsksLarge w q older g =
-    (k : Kept) × Keeps w q older k
-    × ((route : RouteFields) × (body : List ℕ) × (g ≡ Whole route body)
-    × (is_first_chunk body ≡ true)
-    × ((next : Kept) → AsksKept k (Whole route body) next → ⊥))
-
--- What it gets is a part of a large answer.
+-- What a requester gets is a part of a large answer.
 abbrev pub RepliesLarge : Configuration → ReqSetup → List (List ℕ) → Gathered → Type 0
-RepliesLarge w q older g =
-    (k : Kept) × Keeps w q older k
-    × ((route : RouteFields) × (answer : List ℕ) × (g ≡ Whole route answer)
-    × IsPartOfLarge w k route.tag answer)
+RepliesLarge w q older g = (route : RouteFields) × (answer : List ℕ) × (g ≡ Whole route answer) × IsPart w q older route.tag answer
 
 -- ---- What is told of it.
 

@@ -1,41 +1,44 @@
 ghost use Rattle.std.specs.Prelude.{◌≡◌, ◌≤◌, ◌<◌, ◌-◌, ◌^◌, ℕ, List, Ok, IfOk, length};
-ghost use Rattle.capture_ends.specs.Party.{IsParty};
+ghost use Rattle.capture_ends.specs.Conversation as conversations;
+ghost use Rattle.capture_ends.specs.Conversation.{IsAnswer, IsRequest};
 ghost use Rattle.capture_ends.specs.declared.onward.Onward.TheVariants as onward;
 ghost use Rattle.capture_laws.specs.Judged.{waiting_in};
-ghost use Rattle.capture_laws.specs.Keeping.{Keeps, Kept};
-ghost use Rattle.capture_laws.specs.Order.{round_answered, round_by_request};
-ghost use Rattle.capture_laws.specs.RepliesShown.{responder_for};
+ghost use Rattle.capture_laws.specs.Order.{round_answered, round_by_request, round_of};
 ghost use Rattle.capture_laws.specs.Rows.{StandsForRows};
 ghost use Rattle.connection.specs.Setup.{IsSetUp};
 ghost use Rattle.mctp_framing.specs.Cutting.{route_of};
 ghost use Rattle.mctp_framing.specs.Gathering.Gathered.{Whole};
 ghost use Rattle.requester_machine.specs.Setup.{ReqSetup};
+ghost use Rattle.responder_machine.specs.Setup.{towards};
 ghost use Rattle.trace_check.specs.Bodies.{IsAnswerJudged, IsRequestJudged};
 ghost use Rattle.world_machine.specs.SessionTable.{Row};
-ghost use Rattle.world_machine.specs.Setup.{Configuration};
+ghost use Rattle.world_machine.specs.Setup.{Configuration, known_of};
 
 use crate::ordering::{answered_why, asked_why};
-use capture_ends::{Onward, Party};
+use capture_ends::{Conversation, Onward};
 use capture_laws::{Round, SessionTable};
 use connection::Setup;
 use mctp_framing::Route;
 use script_text::Why;
 use spdm_basis::OutOfMemory;
 
-// A request of at most 4,161 bytes came whole: it goes on, and so does the round, or it may begin a
-// large request, or it is refused and then why.
+// A request of at most 4,161 bytes came whole: it goes on, and so does the round, or it is refused and
+// then why.
 pub(crate) fn takes_request(
     round: &mut Round,
-    party: &mut Party,
+    conversation: &mut Conversation,
     table: &mut SessionTable,
     route: Route,
     body: &[u8],
 ) -> Result<Onward, Why>
     ensures told { (w : Configuration) (q : ReqSetup) (older : List (List ℕ)) (rows : List Row)
-        (k : Kept) → Keeps w q older k → length older < 2 ^ 64 - 2 → length body.now ≤ 4161
-        → round.old ≡ k.round → IsParty party.old w q k rows
+        (packet : List ℕ) → IsRequest w q older packet (route_of route) body.now
+        → length older < 2 ^ 64 - 2 → length body.now ≤ 4161
+        → round.old ≡ round_of w.responder.eid q.eid older
+        → conversations.StandsFor conversation.old w q older rows
         → StandsForRows table.old w (length older) rows
-        → IsRequestJudged w q older rows k (route_of route) body.now result party.new table.new }
+        → IsRequestJudged w q older rows packet (route_of route) body.now result conversation.new
+        table.new }
     ensures round { waiting_in round.old < 2 ^ 64 - 1 → length body.now ≤ 4161
         → result ≡ Ok onward.Kept
         → round.new ≡ round_by_request round.old (Whole (route_of route) body.now) }
@@ -43,12 +46,11 @@ pub(crate) fn takes_request(
     if let Some(why) = asked_why(round, route, body) {
         return Err(why);
     }
-    match party.asks(table, round, route.tag, body) {
-        Ok(Onward::Kept) => {
+    match conversation.asks(table, round, route.tag, body) {
+        Ok(()) => {
             round.ask(route.tag, body);
             Ok(Onward::Kept)
         }
-        Ok(Onward::Large) => Ok(Onward::Large),
         Err(why) => Err(why),
     }
 }
@@ -57,7 +59,7 @@ pub(crate) fn takes_request(
 // a large answer, or it is refused and then why. An `Err` comes for want of memory.
 pub(crate) fn takes_answer(
     round: &mut Round,
-    party: &mut Party,
+    conversation: &mut Conversation,
     table: &mut SessionTable,
     setup: &Setup<'_>,
     route: Route,
@@ -65,17 +67,20 @@ pub(crate) fn takes_answer(
 ) -> Result<Result<Onward, Why>, OutOfMemory>
     requires { length answer.now ≤ 4161 }
     ensures told { (w : Configuration) (q : ReqSetup) (older : List (List ℕ)) (rows : List Row)
-        (k : Kept) → Keeps w q older k → length older < 2 ^ 64 - 2 → w.responder.beat < 256
-        → round.old ≡ k.round → IsSetUp setup.now (responder_for w k)
-        → IsParty party.old w q k rows → StandsForRows table.old w (length older) rows
-        → IfOk result (λ told. IsAnswerJudged w q older rows k (route_of route) answer.now told
-        party.new table.new) }
+        (packet : List ℕ) → IsAnswer w q older packet (route_of route) answer.now
+        → length older < 2 ^ 64 - 2 → w.responder.beat < 256
+        → round.old ≡ round_of w.responder.eid q.eid older
+        → IsSetUp setup.now (towards w.responder (known_of q))
+        → conversations.StandsFor conversation.old w q older rows
+        → StandsForRows table.old w (length older) rows
+        → IfOk result (λ told. IsAnswerJudged w q older rows packet (route_of route) answer.now told
+        conversation.new table.new) }
     ensures round { result ≡ Ok (Ok onward.Kept) → round.new ≡ round_answered round.old }
 {
     if let Some(why) = answered_why(round, route, answer) {
         return Ok(Err(why));
     }
-    match party.replies(table, setup, round, answer)? {
+    match conversation.replies(table, setup, round, answer)? {
         Ok(Onward::Kept) => {
             round.answer();
             Ok(Ok(Onward::Kept))

@@ -86,7 +86,7 @@ impl Checker {
     }
 
     /// The next packet of the capture: it conforms behind those before it, or it is a part of a large
-    /// message, or it does not conform, and then why. Nothing is said of what is kept then. An `Err` is
+    /// answer, or it does not conform, and then why. Nothing is said of what is kept then. An `Err` is
     /// want of memory.
     pub fn take(&mut self, packet: &[u8]) -> Result<Result<Onward, Why>, OutOfMemory>
         ensures { (w : Configuration) (older : List (List ℕ)) → AreSound w

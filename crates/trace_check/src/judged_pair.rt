@@ -5,7 +5,7 @@ ghost use Rattle.requester_machine.specs.UnderWay.{HasSizes};
 
 use crate::Answering;
 use crate::bodies::{takes_answer, takes_request};
-use capture_ends::{Asker, Onward, Party};
+use capture_ends::{Asker, Conversation, Onward, Party, walks_show};
 use capture_laws::{Round, SessionTable};
 use mctp_framing::{Assembler, Fed, PacketView};
 use script_text::{ReqPart, Why};
@@ -24,7 +24,7 @@ pub struct JudgedPair {
     pub(crate) requests: Assembler,
     pub(crate) answers: Assembler,
     pub(crate) round: Round,
-    pub(crate) party: Party,
+    pub(crate) conversation: Conversation,
     pub(crate) hint: Bytes,
     pub(crate) psk: Psk,
     pub(crate) ghost limit: { answers.receiver.limit ≡ 4161 },
@@ -59,7 +59,7 @@ impl JudgedPair {
     ghost use Rattle.mctp_framing.specs.Packet.{view_of};
     ghost use Rattle.requester_machine.specs.Setup.{ReqSetup};
     ghost use Rattle.spdm_machine.specs.Packets.{gathered_from};
-    ghost use Rattle.trace_check.specs.JudgedPair.{AsksLarge, ComesBehind, IsTaken, RepliesLarge, StandsFor};
+    ghost use Rattle.trace_check.specs.JudgedPair.{ComesBehind, IsTaken, RepliesLarge, StandsFor};
     ghost use Rattle.trace_check.specs.Limits.{HasLimits, IsAnswering, IsSound};
     ghost use Rattle.world_machine.specs.SessionTable.{Row, number_from};
     ghost use Rattle.world_machine.specs.Setup.{Configuration};
@@ -87,7 +87,7 @@ impl JudgedPair {
             requests: Assembler::new(alloc, own, q.eid, BODY_LIMIT)?,
             answers: Assembler::new(alloc, q.eid, own, BODY_LIMIT)?,
             round: Round::new(),
-            party,
+            conversation: Conversation::new(party),
             hint,
             psk,
         })
@@ -105,13 +105,12 @@ impl JudgedPair {
             (packet : List ℕ) → ComesBehind w q older rows packet (view_of view.entry)
             → is_request w.responder.eid q.eid (view_of view.entry) ≡ true
             → StandsFor self.old w q older rows → StandsForRows table.old w (length older) rows
-            → IsTaken (AsksLarge w q older
-            (gathered_from w.responder.eid q.eid older (view_of view.entry)))
-            w q older packet rows result self.new table.new }
+            → IsTaken ⊥ w q older packet rows result self.new table.new }
     {
+        walks_show();
         match self.requests.take(view) {
             Fed::Whole(route, body) => {
-                takes_request(&mut self.round, &mut self.party, table, route, body)
+                takes_request(&mut self.round, &mut self.conversation, table, route, body)
             }
             Fed::More => Ok(Onward::Kept),
             Fed::Dropped(_) => Err(Why::BadPacket),
@@ -137,11 +136,12 @@ impl JudgedPair {
             (gathered_from q.eid w.responder.eid older (view_of view.entry)))
             w q older packet rows told self.new table.new) }
     {
+        walks_show();
         let setup = answering.towards(self.hint.as_slice(), &self.psk);
         match self.answers.take(view) {
             Fed::Whole(route, answer) => takes_answer(
                 &mut self.round,
-                &mut self.party,
+                &mut self.conversation,
                 table,
                 &setup,
                 route,

@@ -1,4 +1,4 @@
-use Rattle.std.proofs.Common.{◌≡◌, ◌∙◌, ◌==◌, ℕ, ap, arith, eq-eqb, false, get_or, inr, ne_eqb, slice_set, subst, sym, true}
+use Rattle.std.proofs.Common.{◌≡◌, ◌∙◌, ◌==◌, ℕ, ap, arith, eq-eqb, false, get_or, ne_eqb, slice_set, subst, sym, true}
 use Rattle.std.specs.Prelude.{◌∷◌}
 use Rattle.mctp_framing.specs.Packet.{PacketFields, view_of}
 use Rattle.spdm_machine.specs.Packets.{gathered_from}
@@ -30,7 +30,7 @@ returns-in-Some-get_mut c = λ w older packet sound is few parses.
     let new : JudgedPair = c.take_answer.new.self in
     given_by (RepliesLarge w found.q older (gathered_from found.q.eid own older p)) w found.q older packet is.rows c.take_answer.result new _
     (c.take_answer.ensures w found.q older is.rows packet (record { sound = sound; known = known; few = few; shows = is.shows; parses = parses }) answers is.answering pair is.entries)
-    (λ large. (found.q, p, known, parses, inr (answers, large))) is.own is.answering
+    (λ large. (found.q, p, known, parses, answers, large)) is.own is.answering
     (λ behind stands stay. subst (λ (n : ℕ). AreKept (slice_set items n new) w (packet ∷ older) behind w.requesters) (sym there) (found.change packet behind new stands stay))
 
 pub returns-in-None : goal.returns-in-None

@@ -1,13 +1,12 @@
-use Rattle.std.proofs.Common.{◌≡◌, ◌∙◌, ◌==◌, ℕ, ap, arith, eq-eqb, get_or, inl, slice_set, subst, sym, true}
+use Rattle.std.proofs.Common.{◌≡◌, ◌∙◌, ◌==◌, ℕ, ap, arith, eq-eqb, get_or, slice_set, subst, sym, true}
 use Rattle.std.specs.Prelude.{◌∷◌}
 use Rattle.mctp_framing.specs.Packet.{PacketFields, view_of}
-use Rattle.spdm_machine.specs.Packets.{gathered_from}
 use Rattle.capture_laws.proofs.Telling.{coming_unknown, is_its_request}
 use Rattle.capture_laws.specs.Order.{is_request}
 use Rattle.trace_check.proofs.AllPairs.{hit, none_known, one_of, refused_by, told_by}
 use Rattle.trace_check.proofs.checker.Checker.take_request.Goals as goal
 use Rattle.trace_check.specs.Checker.{AreKept}
-use Rattle.trace_check.specs.JudgedPair.{AsksLarge, StandsFor}
+use Rattle.trace_check.specs.JudgedPair.{StandsFor}
 use Rattle.trace_check.specs.declared.judged_pair.JudgedPair.{JudgedPair}
 use Rattle.world_machine.specs.Difference.Why.{UnknownEnd}
 
@@ -27,9 +26,9 @@ returns-in-Some-get_mut c = λ w older packet sound is few parses.
     let known = one_of w found.q p.from found.end found.known in
     let asks : is_request own found.q.eid p ≡ true = subst (λ (n : ℕ). is_request own n p ≡ true) (sym found.end) (is_its_request own p to) in
     let new : JudgedPair = c.take_request.new.self in
-    told_by (AsksLarge w found.q older (gathered_from own found.q.eid older p)) w found.q older packet is.rows c.take_request.result new _
+    told_by ⊥ w found.q older packet is.rows c.take_request.result new _
     (c.take_request.ensures w found.q older is.rows packet (record { sound = sound; known = known; few = few; shows = is.shows; parses = parses }) asks pair is.entries)
-    (λ large. (found.q, p, known, parses, inl (asks, large))) is.own is.answering
+    (λ large. absurd large) is.own is.answering
     (λ behind stands stay. subst (λ (n : ℕ). AreKept (slice_set items n new) w (packet ∷ older) behind w.requesters) (sym there) (found.change packet behind new stands stay))
 
 pub returns-in-None : goal.returns-in-None

@@ -1,11 +1,8 @@
 use Rattle.std.proofs.Common.{◌≡◌, ◌∙◌, refl, sym, ap, ℕ}
 use Rattle.configured_ends.specs.Configured.{requester_in}
 use Rattle.requester_machine.specs.Setup.{ReqSetup}
-use Rattle.capture_laws.proofs.KeptAnswers.{kept_begins}
 use Rattle.capture_laws.specs.Judged.{receiver_of}
-use Rattle.capture_laws.specs.Keeping.{kept_of}
 use Rattle.trace_check.proofs.judged_pair.JudgedPair.new.Goals as goal
-use Rattle.world_machine.specs.Rounds.{new_dialogue}
 
 pub returns : goal.returns
 returns c = λ w own limits sound answering number.
@@ -22,9 +19,7 @@ returns c = λ w own limits sound answering number.
         answers = c.in_ok-new-2.ensures.stands;
         round = c.new-4.ensures;
       };
-      kept = kept_of (new_dialogue q);
-      keeps = kept_begins w q;
-      party = c.new-party.ensures w q asker number set_up;
+      talk = c.new-5.ensures w q (c.new-party.ensures w q asker number set_up);
       hint = hint;
       psk = psk;
     }
