@@ -8,7 +8,7 @@ use std::test::Fail;
 use trace_check::{Checked, check};
 
 // The keys of two requesters.
-const KEY: &[u8] = b"1234567890123456";
+pub(crate) const KEY: &[u8] = b"1234567890123456";
 
 const OTHER_KEY: &[u8] = b"1234567890123457";
 
@@ -21,16 +21,16 @@ fn packet_of(rt: &impl AllocGlobal, to: u8, from: u8, tag: u8, body: &str) -> Re
 }
 
 // The request of a round, of the requester at this end point.
-fn request(rt: &impl AllocGlobal, eid: u8, step: &Step) -> Result<Bytes, Fail> {
+pub(crate) fn request(rt: &impl AllocGlobal, eid: u8, step: &Step) -> Result<Bytes, Fail> {
     packet_of(rt, 8, eid, 8 | step.0, step.1)
 }
 
-fn answer(rt: &impl AllocGlobal, eid: u8, step: &Step) -> Result<Bytes, Fail> {
+pub(crate) fn answer(rt: &impl AllocGlobal, eid: u8, step: &Step) -> Result<Bytes, Fail> {
     packet_of(rt, eid, 8, step.0, step.2)
 }
 
 // These rounds of one requester.
-fn packets_of(rt: &impl AllocGlobal, eid: u8, steps: &[Step]) -> Result<Packets, Fail> {
+pub(crate) fn packets_of(rt: &impl AllocGlobal, eid: u8, steps: &[Step]) -> Result<Packets, Fail> {
     let mut packets = Packets::new(rt.alloc());
     for step in steps {
         packets.push(request(rt, eid, step)?)?;
@@ -40,7 +40,7 @@ fn packets_of(rt: &impl AllocGlobal, eid: u8, steps: &[Step]) -> Result<Packets,
 }
 
 // The requester at this end point, with this key.
-fn requester(rt: &impl AllocGlobal, eid: u8, key: &[u8]) -> Result<ReqPart, Fail> {
+pub(crate) fn requester(rt: &impl AllocGlobal, eid: u8, key: &[u8]) -> Result<ReqPart, Fail> {
     Ok(ReqPart {
         eid: Eid::new(eid).ok_or("no end point")?,
         transfer: 1024,
@@ -55,7 +55,7 @@ fn requester(rt: &impl AllocGlobal, eid: u8, key: &[u8]) -> Result<ReqPart, Fail
     })
 }
 
-fn responder(rt: &impl AllocGlobal) -> Result<RspPart, Fail> {
+pub(crate) fn responder(rt: &impl AllocGlobal) -> Result<RspPart, Fail> {
     Ok(RspPart {
         eid: Eid::new(8).ok_or("no end point")?,
         transfer: 1024,
@@ -68,11 +68,16 @@ fn responder(rt: &impl AllocGlobal) -> Result<RspPart, Fail> {
     })
 }
 
-// What is told of these packets between the responder and these requesters.
-fn told(rt: &impl AllocGlobal, requesters: ReqParts, packets: Packets) -> Result<Checked, Fail> {
+// What is told of these packets between this responder and these requesters.
+pub(crate) fn told(
+    rt: &impl AllocGlobal,
+    responder: RspPart,
+    requesters: ReqParts,
+    packets: Packets,
+) -> Result<Checked, Fail> {
     let config = ScriptConfig {
         seed: None,
-        responder: responder(rt)?,
+        responder,
         blocks: Blocks::new(rt.alloc()),
         requesters,
     };
@@ -83,17 +88,17 @@ fn told(rt: &impl AllocGlobal, requesters: ReqParts, packets: Packets) -> Result
 fn told_of_one(rt: &impl AllocGlobal, packets: Packets) -> Result<Checked, Fail> {
     let mut requesters = ReqParts::new(rt.alloc());
     requesters.push(requester(rt, 9, KEY)?)?;
-    told(rt, requesters, packets)
+    told(rt, responder(rt)?, requesters, packets)
 }
 
 // The first packet that does not conform, and why, as another program tells it.
-fn differs(
+pub(crate) fn is_different(
     rt: &(impl Abort + AllocGlobal),
-    packets: Packets,
+    checked: Checked,
     number: u32,
     because: Why,
 ) -> Result<(), Fail> {
-    match told_of_one(rt, packets)? {
+    match checked {
         Checked::Judged(Verdict::Differs { packet, why }) => {
             assert_eq!(rt; packet, number);
             assert_eq!(rt; why, because);
@@ -101,6 +106,16 @@ fn differs(
         }
         _ => Err("no difference".into()),
     }
+}
+
+// The same of packets of one requester, at end point 9.
+fn differs(
+    rt: &(impl Abort + AllocGlobal),
+    packets: Packets,
+    number: u32,
+    because: Why,
+) -> Result<(), Fail> {
+    is_different(rt, told_of_one(rt, packets)?, number, because)
 }
 
 // It conforms, and shows the day's session: of this requester, with as many records.
@@ -180,9 +195,13 @@ fn answer_may_not_come_twice(rt: HostRuntime) -> Result<(), Fail> {
     differs(&rt, packets, 9, Why::WrongTurn)
 }
 
-// The rounds before this one, and the round with the last byte of its request altered.
-fn with_altered_request(rt: &impl AllocGlobal, round: usize) -> Result<Packets, Fail> {
-    let (before, behind) = DAY.split_at_checked(round).ok_or("no round")?;
+// Of these rounds those before this one, and this one with the last byte of its request altered.
+pub(crate) fn with_altered_request(
+    rt: &impl AllocGlobal,
+    steps: &[Step],
+    round: usize,
+) -> Result<Packets, Fail> {
+    let (before, behind) = steps.split_at_checked(round).ok_or("no round")?;
     let step = behind.first().ok_or("no round")?;
     let mut packets = packets_of(rt, 9, before)?;
     packets.push(altered(rt, request(rt, 9, step)?)?)?;
@@ -191,8 +210,12 @@ fn with_altered_request(rt: &impl AllocGlobal, round: usize) -> Result<Packets, 
 }
 
 // The same of its answer.
-fn with_altered_answer(rt: &impl AllocGlobal, round: usize) -> Result<Packets, Fail> {
-    let (before, behind) = DAY.split_at_checked(round).ok_or("no round")?;
+pub(crate) fn with_altered_answer(
+    rt: &impl AllocGlobal,
+    steps: &[Step],
+    round: usize,
+) -> Result<Packets, Fail> {
+    let (before, behind) = steps.split_at_checked(round).ok_or("no round")?;
     let step = behind.first().ok_or("no round")?;
     let mut packets = packets_of(rt, 9, before)?;
     packets.push(request(rt, 9, step)?)?;
@@ -210,22 +233,22 @@ fn altered(rt: &impl AllocGlobal, packet: Bytes) -> Result<Bytes, Fail> {
 
 #[test]
 fn altered_negotiation_differs(rt: HostRuntime) -> Result<(), Fail> {
-    differs(&rt, with_altered_request(&rt, 0)?, 1, Why::BadRequest)?;
-    differs(&rt, with_altered_answer(&rt, 0)?, 2, Why::BadReply)?;
-    differs(&rt, with_altered_request(&rt, 1)?, 3, Why::BadRequest)?;
-    differs(&rt, with_altered_answer(&rt, 1)?, 4, Why::BadReply)
+    differs(&rt, with_altered_request(&rt, &DAY, 0)?, 1, Why::BadRequest)?;
+    differs(&rt, with_altered_answer(&rt, &DAY, 0)?, 2, Why::BadReply)?;
+    differs(&rt, with_altered_request(&rt, &DAY, 1)?, 3, Why::BadRequest)?;
+    differs(&rt, with_altered_answer(&rt, &DAY, 1)?, 4, Why::BadReply)
 }
 
 #[test]
 fn altered_exchange_has_wrong_verify_data(rt: HostRuntime) -> Result<(), Fail> {
-    differs(&rt, with_altered_request(&rt, 3)?, 8, Why::BadVerify)?;
-    differs(&rt, with_altered_answer(&rt, 3)?, 8, Why::BadVerify)
+    differs(&rt, with_altered_request(&rt, &DAY, 3)?, 8, Why::BadVerify)?;
+    differs(&rt, with_altered_answer(&rt, &DAY, 3)?, 8, Why::BadVerify)
 }
 
 #[test]
 fn altered_record_does_not_open(rt: HostRuntime) -> Result<(), Fail> {
-    differs(&rt, with_altered_request(&rt, 5)?, 11, Why::BadRecord)?;
-    differs(&rt, with_altered_answer(&rt, 5)?, 12, Why::BadRecord)
+    differs(&rt, with_altered_request(&rt, &DAY, 5)?, 11, Why::BadRecord)?;
+    differs(&rt, with_altered_answer(&rt, &DAY, 5)?, 12, Why::BadRecord)
 }
 
 #[test]
@@ -258,18 +281,11 @@ fn told_of_two(rt: &impl AllocGlobal, rounds: usize) -> Result<Checked, Fail> {
     let mut requesters = ReqParts::new(rt.alloc());
     requesters.push(requester(rt, 9, OTHER_KEY)?)?;
     requesters.push(requester(rt, 10, KEY)?)?;
-    told(rt, requesters, packets)
+    told(rt, responder(rt)?, requesters, packets)
 }
 
 #[test]
 fn requesters_do_not_touch_one_another(rt: HostRuntime) -> Result<(), Fail> {
     conforms(&rt, told_of_two(&rt, 3)?, 2, 7, 7)?;
-    match told_of_two(&rt, 4)? {
-        Checked::Judged(Verdict::Differs { packet, why }) => {
-            assert_eq!(rt; packet, 16);
-            assert_eq!(rt; why, Why::BadVerify);
-            Ok(())
-        }
-        _ => Err("no difference".into()),
-    }
+    is_different(&rt, told_of_two(&rt, 4)?, 16, Why::BadVerify)
 }

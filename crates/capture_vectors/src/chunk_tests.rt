@@ -10,7 +10,7 @@ use std::test::Fail;
 // A negotiation, a session and HEARTBEAT, as another program runs them, with a responder that takes 42
 // bytes: NEGOTIATE_ALGORITHMS goes by two chunks, and PSK_EXCHANGE by three. Its answer stands in the last
 // acknowledgement.
-const CHUNKED: [Step; 9] = [
+pub(crate) const CHUNKED: [Step; 9] = [
     (0, "0510840000", "051004000000010012"),
     (
         1,
@@ -55,7 +55,7 @@ const CHUNKED: [Step; 9] = [
 ];
 
 // The hash of the transcript of that session, as another program tells it.
-const HASH: &str = "32cf3b64f726beebf65f1b4a63deaeee68429a58b3a579c76b1cee5f9131ef40";
+pub(crate) const HASH: &str = "32cf3b64f726beebf65f1b4a63deaeee68429a58b3a579c76b1cee5f9131ef40";
 
 // The second chunk of PSK_EXCHANGE with a bit turned, of the hint and of the context, and the first one of
 // NEGOTIATE_ALGORITHMS.
@@ -68,9 +68,9 @@ const TURNED_CONTEXT: &str =
 const TURNED_OWED: &str =
     "0512850000000000001a0000003000000012e3040030000102000000000100000000000000000000000001";
 
-const GET_VERSION: (&str, &str) = ("0510840000", "051004000000010012");
+pub(crate) const GET_VERSION: (&str, &str) = ("0510840000", "051004000000010012");
 
-const HINT: [u8; 31] = [0x71; 31];
+pub(crate) const HINT: [u8; 31] = [0x71; 31];
 
 const SUITES: Suites = Suites {
     hash: Pick::Small,

@@ -11,6 +11,8 @@ mod chunk_tests;
 #[cfg(test)]
 mod day_tests;
 #[cfg(test)]
+mod large_tests;
+#[cfg(test)]
 mod order_tests;
 #[cfg(test)]
 mod row_tests;
