@@ -187,6 +187,18 @@ impl Judged {
     }
 }
 
+// The session of all rounds is the one entry.
+fn has_session(rt: &(impl Abort + AllocGlobal), table: &SessionTable) -> Result<(), Fail> {
+    let hash = hex::decode(rt.alloc(), HASH)?;
+    let [entry] = table.as_slice() else {
+        return Err("not one entry".into());
+    };
+    assert_eq!(rt; (entry.id.req, entry.id.rsp), (1, 1));
+    assert_eq!(rt; entry.hash.as_slice(), &*hash);
+    assert_eq!(rt; (entry.sent, entry.answered), (2, 2));
+    Ok(())
+}
+
 #[test]
 fn large_requests_go_on(rt: HostRuntime) -> Result<(), Fail> {
     let psk = Psk::new(b"1234567890123456").ok_or("no key")?;
@@ -194,39 +206,45 @@ fn large_requests_go_on(rt: HostRuntime) -> Result<(), Fail> {
     let setup = answering(&inventory, &psk);
     let mut judged = Judged::new(&rt, &setup, &psk)?;
     judged.pass(&rt, &setup, &CHUNKED)?;
-    assert_eq!(rt; judged.table.as_slice().len(), 1);
-    let entry = judged.table.as_slice().first().ok_or("no entry")?;
-    assert_eq!(rt; entry.id.req, 1);
-    assert_eq!(rt; entry.id.rsp, 1);
-    assert_eq!(rt; entry.hash.as_slice(), &*hex::decode(rt.alloc(), HASH)?);
-    assert_eq!(rt; (entry.sent, entry.answered), (2, 2));
-    Ok(())
+    has_session(&rt, &judged.table)
 }
 
-// A hint that is none of this requester is seen at the last chunk; another context only in the answer.
+// PSK_EXCHANGE with this second chunk, before its last one.
+fn with_second_chunk(
+    rt: &(impl Abort + AllocGlobal),
+    setup: &connection::Setup<'_>,
+    psk: &Psk,
+    chunk: &str,
+) -> Result<Judged, Fail> {
+    let mut judged = Judged::new(rt, setup, psk)?;
+    judged.pass(rt, setup, &CHUNKED[..5])?;
+    assert_eq!(rt; judged.asks(rt, 5, chunk)?, Ok(()));
+    let told = judged.replies(rt, setup, CHUNKED[5].2)?;
+    assert_eq!(rt; told, Ok(Onward::Kept));
+    Ok(judged)
+}
+
+// A hint that is none of this requester is seen at the last chunk.
 #[test]
-fn turned_chunk_is_refused(rt: HostRuntime) -> Result<(), Fail> {
+fn turned_hint_is_refused(rt: HostRuntime) -> Result<(), Fail> {
     let psk = Psk::new(b"1234567890123456").ok_or("no key")?;
     let inventory = Inventory::new(rt.alloc(), &[])?;
     let setup = answering(&inventory, &psk);
-    let last = CHUNKED[6];
-    let mut judged = Judged::new(&rt, &setup, &psk)?;
-    judged.pass(&rt, &setup, &CHUNKED[..5])?;
-    assert_eq!(rt; judged.asks(&rt, 5, TURNED_HINT)?, Ok(()));
-    assert_eq!(rt;
-        judged.replies(&rt, &setup, CHUNKED[5].2)?,
-        Ok(Onward::Kept)
-    );
-    assert_eq!(rt; judged.asks(&rt, 6, last.1)?, Err(Why::BadRequest));
-    let mut judged = Judged::new(&rt, &setup, &psk)?;
-    judged.pass(&rt, &setup, &CHUNKED[..5])?;
-    assert_eq!(rt; judged.asks(&rt, 5, TURNED_CONTEXT)?, Ok(()));
-    assert_eq!(rt;
-        judged.replies(&rt, &setup, CHUNKED[5].2)?,
-        Ok(Onward::Kept)
-    );
-    assert_eq!(rt; judged.asks(&rt, 6, last.1)?, Ok(()));
-    assert_eq!(rt; judged.replies(&rt, &setup, last.2)?, Err(Why::BadVerify));
+    let mut judged = with_second_chunk(&rt, &setup, &psk, TURNED_HINT)?;
+    assert_eq!(rt; judged.asks(&rt, 6, CHUNKED[6].1)?, Err(Why::BadRequest));
+    Ok(())
+}
+
+// Another context is seen in the answer.
+#[test]
+fn turned_context_is_refused(rt: HostRuntime) -> Result<(), Fail> {
+    let psk = Psk::new(b"1234567890123456").ok_or("no key")?;
+    let inventory = Inventory::new(rt.alloc(), &[])?;
+    let setup = answering(&inventory, &psk);
+    let mut judged = with_second_chunk(&rt, &setup, &psk, TURNED_CONTEXT)?;
+    assert_eq!(rt; judged.asks(&rt, 6, CHUNKED[6].1)?, Ok(()));
+    let told = judged.replies(&rt, &setup, CHUNKED[6].2)?;
+    assert_eq!(rt; told, Err(Why::BadVerify));
     assert_eq!(rt; judged.table.as_slice().len(), 0);
     Ok(())
 }

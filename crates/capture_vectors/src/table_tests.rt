@@ -77,6 +77,19 @@ impl Followed {
     }
 }
 
+// The day's session is its one entry, and it has ended.
+fn is_of_the_day(rt: &(impl Abort + AllocGlobal), table: &SessionTable) -> Result<(), Fail> {
+    let hash = hex::decode(rt.alloc(), HASH)?;
+    let [entry] = table.as_slice() else {
+        return Err("not one entry".into());
+    };
+    assert_eq!(rt; (entry.requester, entry.id.req, entry.id.rsp), (1, 1, 1));
+    assert_eq!(rt; entry.stage, None);
+    assert_eq!(rt; entry.hash.as_slice(), &*hash);
+    assert_eq!(rt; (entry.sent, entry.answered), (7, 7));
+    Ok(())
+}
+
 #[test]
 fn day_has_one_entry(rt: HostRuntime) -> Result<(), Fail> {
     let psk = Psk::new(b"1234567890123456").ok_or("no key")?;
@@ -84,15 +97,7 @@ fn day_has_one_entry(rt: HostRuntime) -> Result<(), Fail> {
     let setup = answering(&inventory, &psk);
     let mut followed = Followed::new(&rt, &setup, &psk)?;
     followed.pass(&rt, &setup, &DAY)?;
-    assert_eq!(rt; followed.table.as_slice().len(), 1);
-    let entry = followed.table.as_slice().first().ok_or("no entry")?;
-    assert_eq!(rt; entry.requester, 1);
-    assert_eq!(rt; entry.id.req, 1);
-    assert_eq!(rt; entry.id.rsp, 1);
-    assert_eq!(rt; entry.stage, None);
-    assert_eq!(rt; entry.hash.as_slice(), &*hex::decode(rt.alloc(), HASH)?);
-    assert_eq!(rt; followed.counts(), (7, 7));
-    Ok(())
+    is_of_the_day(&rt, &followed.table)
 }
 
 #[test]
