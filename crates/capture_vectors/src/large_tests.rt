@@ -65,8 +65,8 @@ fn with_altered_chunk(rt: &impl AllocGlobal, round: usize) -> Result<Packets, Fa
     Ok(packets)
 }
 
-// What is wrong is seen at the last chunk, of a request that is owed and of a hint of no requester. The
-// context and the opaque data count in the answer.
+// What is wrong is seen at the last chunk, of a request that is owed and of a hint of no requester; another
+// context in the answer.
 #[test]
 fn altered_chunk_differs(rt: HostRuntime) -> Result<(), Fail> {
     differs(&rt, with_altered_chunk(&rt, 2)?, 7, Why::BadRequest)?;
