@@ -1,0 +1,79 @@
+-- What is kept of a requester and the responder while a large answer is fetched, but for the responder's connection, and
+-- what is told of an answer meanwhile. This project's own.
+use Rattle.std.specs.Prelude.{◌≡◌, ◌+◌, ◌⊎◌, ℕ, List, drop, length, slice_index, Some, None, Result, Ok, Err}
+use Rattle.mctp_framing.specs.Cutting.{RouteFields}
+use Rattle.mctp_framing.specs.Gathering.{Gathered}
+use Rattle.mctp_framing.specs.Gathering.Gathered.{Whole}
+use Rattle.requester_machine.specs.Setup.{ReqSetup}
+use Rattle.responder_machine.specs.Session.{id_in_record}
+use Rattle.script_text.specs.declared.why.Why as declared
+use Rattle.capture_ends.specs.AnswerKeys as answer_keys
+use Rattle.capture_ends.specs.Asker.{IsAsker}
+use Rattle.capture_ends.specs.Party.{IsParty}
+use Rattle.capture_ends.specs.declared.party.Party.{Party}
+use Rattle.capture_laws.specs.Judged.{why_of}
+use Rattle.capture_laws.specs.Keeping.{Kept, restored}
+use Rattle.capture_laws.specs.LargeShown.{IsShownLarge}
+use Rattle.capture_laws.specs.RepliesShown.{responder_for}
+use Rattle.capture_laws.specs.Rows.{StandFor, StandsForRows}
+use Rattle.capture_laws.specs.declared.verdict.Seen.{Seen}
+use Rattle.large_answers.specs.Fetching.{Fetching, MayStand, dialogue_of}
+use Rattle.large_answers.specs.FetchingLaws.{EndsFetching, GoesFetching, TurnsFetching}
+use Rattle.fetched_ends.specs.declared.upon.Upon.{Upon}
+use Rattle.fetched_ends.specs.declared.upon.Upon.TheVariants as upon
+use Rattle.world_machine.specs.Difference.{GoesApart, Why, goes_why}
+use Rattle.world_machine.specs.Difference.Why.{BadVerify}
+use Rattle.world_machine.specs.LargeAnswers.{judging}
+use Rattle.world_machine.specs.Rounds.{Round}
+use Rattle.world_machine.specs.SessionTable.{Row, number_from, rows_between}
+use Rattle.world_machine.specs.Setup.{Configuration}
+
+-- ---- What is kept.
+
+-- The requester, the keys of the answers that were given, its number, and where its entries stand in the table of sessions
+-- among the rows that the packets show.
+pub record IsBeside (seen : Party) (w : Configuration) (q : ReqSetup) (k : Kept) (rows : List Row) : Type 0 where
+  pub asker : IsAsker seen.asker q k
+  pub keys : answer_keys.StandFor seen.keys (responder_for w k) k.responder
+  pub number : seen.number ≡ number_from 1 q.eid w.requesters
+  pub places : StandFor seen.places (restored k) rows
+
+-- The rows that a packet makes.
+abbrev pub rows_upon : Kept → Kept → List Row → List Row
+rows_upon k next rows = rows_between (restored k) (restored next) rows
+
+-- ---- What is told of an answer.
+
+-- Why it is refused. Its verify data are alone wrong with some bytes that may stand for the large answer, or with none.
+abbrev pub IsFetchedWhy : Configuration → Fetching → Gathered → Why → Type 0
+IsFetchedWhy w f g BadVerify = (whole : List ℕ) × MayStand f whole × GoesApart (responder_for w f.kept) (dialogue_of f whole) g
+IsFetchedWhy w f g why =
+    ((whole : List ℕ) → MayStand f whole → GoesApart (responder_for w f.kept) (dialogue_of f whole) g → ⊥)
+    × (goes_why (responder_for w f.kept) (restored f.kept) g ≡ Some why)
+
+-- It is not judged: it begins another large answer by what it shows; or a large answer is fetched in the clear, and it is a
+-- record of the RspSessionID 0.
+abbrev pub IsUnjudged : Configuration → Fetching → (answer : List ℕ) → Type 0
+IsUnjudged w f answer =
+    ((round : Round) × (whole : List ℕ) × (f.kept.round ≡ Some round) × MayStand f whole
+    × IsShownLarge (responder_for w f.kept) (judging (Some whole) round.body f.kept.responder) round.tag round.body answer)
+    ⊎ ((f.at ≡ None) × (slice_index answer 0 ≡ 6) × (id_in_record (drop 1 answer) ≡ 0))
+
+-- It goes on, and then this stands for what is kept behind it, and so does the table; or it is not judged; or it is
+-- refused, and then why.
+abbrev pub IsRepliedTo : Configuration → ReqSetup → List (List ℕ) → List Row → Fetching → RouteFields → (answer : List ℕ)
+    → Result Upon declared.Why → (new : Party) → (stands : Fetching → List Row → Type 0) → (table : List Seen) → Type 0
+IsRepliedTo w q older rows f route answer (Ok upon.Fetched) new stands table =
+    (next : Fetching) × GoesFetching w f (Whole route answer) next
+    × stands next (rows_upon f.kept next.kept rows)
+    × StandsForRows table w (length older + 1) (rows_upon f.kept next.kept rows)
+IsRepliedTo w q older rows f route answer (Ok upon.Ended) new stands table =
+    (next : Kept) × EndsFetching w f (Whole route answer) next
+    × IsParty new w q next (rows_upon f.kept next rows)
+    × StandsForRows table w (length older + 1) (rows_upon f.kept next rows)
+IsRepliedTo w q older rows f route answer (Ok upon.Large) new stands table = IsUnjudged w f answer
+IsRepliedTo w q older rows f route answer (Err why) new stands table =
+    ((next : Fetching) → GoesFetching w f (Whole route answer) next → ⊥)
+    × ((next : Fetching) → TurnsFetching w f (Whole route answer) next → ⊥)
+    × ((next : Kept) → EndsFetching w f (Whole route answer) next → ⊥)
+    × IsFetchedWhy w f (Whole route answer) (why_of why)
