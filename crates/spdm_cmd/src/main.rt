@@ -8,6 +8,8 @@
 mod bad_streams;
 #[cfg(test)]
 mod carried;
+#[cfg(test)]
+mod check_rows;
 mod checks;
 #[cfg(test)]
 mod failing_calls;
