@@ -8,6 +8,7 @@
 
 mod answering;
 mod answers;
+mod aside;
 mod beginning;
 mod came;
 mod clear_part;
@@ -39,6 +40,8 @@ mod taking;
 mod tested;
 mod timed;
 mod told;
+mod tried;
+mod trying;
 mod views;
 
 pub use came::{Begun, Came};
@@ -58,3 +61,4 @@ pub use sessions::Sessions;
 pub use setup::Setup;
 pub use standing::Standing;
 pub use told::Told;
+pub use tried::Tried;
