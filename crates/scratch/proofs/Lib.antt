@@ -1,0 +1,5 @@
+pub mod Handshakes
+pub mod ClearLeft
+pub mod LargeHeard
+pub mod MeasuredSessions
+pub mod LargeTurns
