@@ -29,7 +29,7 @@ use Rattle.requester_machine.specs.Bodies.{first_cause}
 use Rattle.requester_machine.specs.ClearAnswers.Carried.{Further, Whole}
 use Rattle.requester_machine.specs.Commands.{Free}
 use Rattle.requester_machine.specs.Hearing.{hears}
-use Rattle.requester_machine.specs.History.{Entry, History, Led, connection_terms, outstanding}
+use Rattle.requester_machine.specs.History.{Entry, History, Led, connection_terms, outstanding, sent_in}
 use Rattle.requester_machine.specs.History.Effect.{Nothing, Refuses}
 use Rattle.requester_machine.specs.Message.{Aim, Sent, asked_in}
 use Rattle.requester_machine.specs.Message.Aim.{Plain, ByChunks, ForChunk, InSession}
@@ -149,3 +149,35 @@ module _ (q : ReqSetup) (h : History) (f : Free) where
   led_next a handle number before c fits sound more =
       subst (λ (x : Result ResponseMessage Malformed). AsksNext a c before (carried_led q h f a (chunk_carries q h a handle number before x))) (sym (reads_so (ChunkResponse c) (hash_len (connection_terms h)) (has_summary a) fits sound))
       (next_chunk a c before (get_fault q.max handle number before c) more)
+
+-- ---- What was heard.
+
+waits_none : (h : History) (sent : Sent) → outstanding h ≡ Some sent → is_fetching (outstanding h) ≡ false → is_for_chunk sent.aim ≡ false
+waits_none h sent waits none = sym (ap is_fetching waits) ∙ none
+
+module _ (q : ReqSetup) (h : History) (f : Free) (tag : ℕ) (answer : List ℕ) (entry : Entry) (adds : hears q h false tag answer f no_draw ≡ Adds entry) (type : (slice_index answer 0 == 5) ≡ true) where
+  -- Where no chunk was asked for, it is the first one.
+  pub heard_first : (c : Option ChunkMessage) (handle : ℕ) → is_fetching (outstanding h) ≡ false → drop 1 answer ≡ large_reply c handle → is_fetching (outstanding (entry ∷ h)) ≡ true
+      → (a : RequestMessage) × (outstanding (entry ∷ h) ≡ Some (get_sent h a handle 0 []))
+  heard_first c handle none is gets = elim (heard q h false tag answer f no_draw entry adds) [
+    | inl t ↦
+        let leads = subst (AsksFirst q h f t.asked handle) (ap (clear_led q h f t.sent.aim t.asked) (sym is) ∙ t.leads) (led_first q h f t.sent.aim t.asked c handle t.asks (waits_none h t.sent t.waits none)) in
+        (t.asked, ap sent_in t.is ∙ leads (sym (ap (λ (e : Entry). is_fetching (sent_in e)) t.is) ∙ gets))
+    | inr o ↦ absurd (false≢true (sym o.0 ∙ type))
+  ]
+
+  -- Where one was that is not the last, it is the next one.
+  pub heard_next : (sent : Sent) (a : RequestMessage) (handle number : ℕ) (before : List ChunkMessage) (c : ChunkMessage) → outstanding h ≡ Some sent → sent.aim ≡ ForChunk a handle number before
+      → FitsChunk c → IsSoundChunk c → c.last ≡ false → drop 1 answer ≡ canonical_response (ChunkResponse c) → is_fetching (outstanding (entry ∷ h)) ≡ true
+      → outstanding (entry ∷ h) ≡ Some (get_sent h a c.handle (c.number + 1) (c ∷ before))
+  heard_next sent a handle number before c waits aims fits sound more is gets = elim (heard q h false tag answer f no_draw entry adds) [
+    | inl t ↦
+        let same : t.sent ≡ sent = same_Some t.sent sent (sym t.waits ∙ waits) in
+        let aim : t.sent.aim ≡ ForChunk a handle number before = ap (λ (s : Sent). s.aim) same ∙ aims in
+        let asked : a ≡ t.asked = same_Some a t.asked (sym (ap asked_in aim) ∙ t.asks) in
+        let led : clear_led q h f (ForChunk a handle number before) a (canonical_response (ChunkResponse c)) ≡ Ok t.led =
+        ap (clear_led q h f (ForChunk a handle number before) a) (sym is) ∙ ap (λ (x : Aim). clear_led q h f x a (drop 1 answer)) (sym aim) ∙ ap (λ (x : RequestMessage). clear_led q h f t.sent.aim x (drop 1 answer)) asked ∙ t.leads in
+        let leads = subst (AsksNext q h f a c before) led (led_next q h f a handle number before c fits sound more) in
+        ap sent_in t.is ∙ leads (sym (ap (λ (e : Entry). is_fetching (sent_in e)) t.is) ∙ gets)
+    | inr o ↦ absurd (false≢true (sym o.0 ∙ type))
+  ]
