@@ -180,7 +180,7 @@ module _ (r : RspSetup) (room : 6 ≤ r.transfer) (k : History) (whole : List �
 
 -- ---- An answer that goes whole, while it is fetched.
 
-outcome_by : (h : asker.History) (o : asking.Outcome) → ((entry : asker.Entry) × (o ≡ Takes entry)) ⊎ (shown.after h o ≡ h)
+pub outcome_by : (h : asker.History) (o : asking.Outcome) → ((entry : asker.Entry) × (o ≡ Takes entry)) ⊎ (shown.after h o ≡ h)
 outcome_by h (Takes entry) = inl (entry, refl)
 outcome_by h (Fails fault) = inr refl
 outcome_by h (Ignores cause) = inr refl
