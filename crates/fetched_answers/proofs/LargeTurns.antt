@@ -104,7 +104,7 @@ module _ (r : RspSetup) (f : Free) where
 
 -- ---- An entry.
 
-unseen_large : (e : Effect) → is_some (handle_in e) ≡ true → is_unseen_effect (effect_with [] None e) ≡ true
+pub unseen_large : (e : Effect) → is_some (handle_in e) ≡ true → is_unseen_effect (effect_with [] None e) ≡ true
 unseen_large NoEffect large = absurd (false≢true large)
 unseen_large (Took a m answer large) is = refl
 unseen_large (TookData bytes answer) large = absurd (false≢true large)
