@@ -63,7 +63,7 @@ settled (e ∷ s) none = by_past (is_past_handshake (stage_of (e ∷ s))) refl
     by_past true is = refl
     by_past false is = absurd (false≢true (sym none ∙ ap not is))
 
-ended : (s : Events) → is_in_handshake s ≡ true → cond (is_past_handshake (stage_of s)) s [] ≡ []
+pub ended : (s : Events) → is_in_handshake s ≡ true → cond (is_past_handshake (stage_of s)) s [] ≡ []
 ended [] is = absurd (false≢true is)
 ended (e ∷ s) is = by_past (is_past_handshake (stage_of (e ∷ s))) refl
   where
