@@ -23,7 +23,7 @@ use Rattle.world_machine.proofs.UnseenStands.{given_seen}
 use Rattle.world_machine.specs.Capture.{AsksBy, RepliesBy}
 use Rattle.world_machine.specs.CapturedAnswers.{Answers, MayLeadTo}
 use Rattle.world_machine.specs.LargeAnswers.{dropped_before_large, is_unseen, is_unseen_in, judging, place_named, seen, with_large}
-use Rattle.world_machine.specs.Rounds.{Dialogue}
+use Rattle.world_machine.specs.Rounds.{Dialogue, Round}
 use Rattle.world_machine.specs.Setup.{Configuration, known_of}
 
 -- ---- Entries that were seen.
