@@ -21,7 +21,7 @@ use Rattle.responder_machine.specs.History.Entry.{Clear, Sealed, Queued, Ticked,
 use Rattle.responder_machine.specs.LargeMessages.{chunks_of}
 use Rattle.responder_machine.specs.May.{IsAllowed, with_dropped}
 use Rattle.responder_machine.specs.Place.{Place, clear_place, inside, place_terms}
-use Rattle.responder_machine.specs.Responder.{body_of, sent_by}
+use Rattle.responder_machine.specs.Responder.{Outcome, body_of, sent_by}
 use Rattle.responder_machine.specs.Responder.Outcome.{Same, Adds}
 use Rattle.responder_machine.specs.Setup.{RspSetup}
 use Rattle.responder_machine.specs.Turn.{Effect, Turn, answer_in, code_in, handle_in, request_in, takes}
@@ -209,3 +209,86 @@ module _ (r : RspSetup) (byte : r.beat < 256) (before : History) (tag : ℕ) (t 
         let v : Free = values_with_whole r (with_dropped before ids) tag (clear_body t.message) sent whole in
         let is = sized_at ids v leads in
         subst (LeadsBy other) (same_drops ids v leads is) (subst (LeadsAt r (with_dropped before ids) tag (clear_body t.message) (Adds (with_bytes other))) (same_values ids v leads is sent) leads)
+
+-- ---- The law.
+
+pub last_apart_is_shown : LastApartIsShown
+last_apart_is_shown r d round answer whole gets (Clear tag t dr) before byte fetching type are is same = (to_shown, from_shown)
+  where
+    place : place_named round.body ≡ None
+    place = named_clear round.body type
+
+    g : History
+    g = with_large (place_named round.body) whole d.responder
+
+    judged : judging d.fetching round.body d.responder ≡ with_large (place_named round.body) whole d.responder
+    judged = ap (λ (o : Option (List ℕ)). judging o round.body d.responder) fetching
+
+    sized : code_in t.effect ≡ PSK_EXCHANGE → hash_len (terms_of (negotiation_of (clear_turns before))) ≡ verify_size d
+    sized code =
+        ap (λ (n : Negotiation). hash_len (terms_of n)) (sym (code_settles t (clear_turns before) PSK_EXCHANGE code refl) ∙ sym (gets_settle gets (Clear tag t dr ∷ before) are))
+        ∙ ap (λ (l : History). hash_len (terms_of (negotiation_of (clear_turns l)))) (sym same)
+
+    -- By what the entry with these bytes has as its whole answer, and by these bytes.
+    shown_at : (other drops : List ℕ) → let h = with_dropped before drops in LeadsAt r h tag (clear_body t.message) (Adds (Clear tag (seen_turn other t) dr)) (values_with_whole r h tag (clear_body t.message) (clear_body t.reply) (answer_in (seen_turn other t).effect))
+        → LeadsAt r h tag (clear_body t.message) (Adds (Clear tag (seen_turn other t) dr)) (values_with_whole r h tag (clear_body t.message) (clear_body t.reply) other)
+    shown_at other drops leads =
+        let h : History = with_dropped before drops in
+        subst (λ (l : List ℕ). LeadsAt r h tag (clear_body t.message) (Adds (Clear tag (seen_turn other t) dr)) (values_with_whole r h tag (clear_body t.message) (clear_body t.reply) l)) (answer_seen other (handle_shown t) t.effect is.0) leads
+
+    shown_back : (other drops : List ℕ) → let h = with_dropped before drops in LeadsAt r h tag (clear_body t.message) (Adds (Clear tag (seen_turn other t) dr)) (values_with_whole r h tag (clear_body t.message) (clear_body t.reply) other)
+        → LeadsAt r h tag (clear_body t.message) (Adds (Clear tag (seen_turn other t) dr)) (values_with_whole r h tag (clear_body t.message) (clear_body t.reply) (answer_in (seen_turn other t).effect))
+    shown_back other drops leads =
+        let h : History = with_dropped before drops in
+        subst (λ (l : List ℕ). LeadsAt r h tag (clear_body t.message) (Adds (Clear tag (seen_turn other t) dr)) (values_with_whole r h tag (clear_body t.message) (clear_body t.reply) l)) (sym (answer_seen other (handle_shown t) t.effect is.0)) leads
+
+    to_shown : CompletesApart r d round answer → IsLastApart r d.responder round answer whole (Clear tag t dr) before (verify_size d)
+    to_shown c =
+        let all : c.0 ≡ whole = same_Some c.0 whole (sym c.4 ∙ fetching) in
+        let other : List ℕ = c.1 in
+        let may = subst (λ (l : History). MayLeadTo r l round.tag round.body (Adds c.3)) judged c.5 in
+        let gives = subst (λ (l : History). gives_last l c.3 ≡ true) judged c.6 in
+        let it = last_is r (with_large (place_named round.body) whole d.responder) round.tag round.body byte c.3 answer may gives c.7 in
+        let apart = subst (λ (l : List ℕ). is_apart (verify_size d) other l ≡ true) all c.10 in
+        let led = led_in r other c.2 gets (Clear tag t dr ∷ before) are (subst (MayHaveLed r None other c.2) same (subst (λ (o : Option ℕ). MayHaveLed r o other c.2 d.responder) place c.8)) in
+        let entry = subst (λ (b : Bool). MatchBool b (MayLeadToEntry r c.2 before (seen other (Clear tag t dr))) (MayHaveLed r None other c.2 before)) is.0 led in
+        let shown = (entry_shown r before byte (Clear tag (seen_turn other t) dr) (large_seen other (handle_shown t) t.effect is.0) c.2 entry).1 in
+        record {
+          leads = subst (λ (o : Outcome). LeadsAt r (with_large (place_named round.body) whole d.responder) round.tag round.body o (values_shown_by r (with_large (place_named round.body) whole d.responder) round.tag round.body answer)) (sym it.1) it.0;
+          last = subst (λ (o : Outcome). ends_large (with_large (place_named round.body) whole d.responder) o ≡ true) (sym it.1) gives;
+          body = ap body_of it.1 ∙ c.7;
+          other = other;
+          led = to_whole r byte before tag t dr is.0 whole other c.9 (verify_size d) apart sized (shown_at other (drops_with before (Clear tag (seen_turn other t) dr)) shown);
+          code = c.9;
+          apart = apart;
+        }
+
+    from_shown : IsLastApart r d.responder round answer whole (Clear tag t dr) before (verify_size d) → CompletesApart r d round answer
+    from_shown s =
+        let other : List ℕ = s.other in
+        let e : Entry = Clear tag (seen_turn other t) dr in
+        let drops : List ℕ = drops_with before e in
+        let last : Outcome = last_shown r (with_large (place_named round.body) whole d.responder) round.tag round.body answer in
+        let back = last_back r (with_large (place_named round.body) whole d.responder) round.tag round.body byte last answer s.leads s.last s.body in
+        let leads = to_other r byte before tag t dr is.0 whole other s.code (verify_size d) s.apart sized s.led in
+        let entry = entry_led r before byte e (large_seen other (handle_shown t) t.effect is.0) drops refl (shown_back other drops leads) in
+        let here = subst (λ (b : Bool). MatchBool b (MayLeadToEntry r drops before (seen other (Clear tag t dr))) (MayHaveLed r None other drops before)) (sym is.0) entry in
+        let led = led_out r other drops gets (Clear tag t dr ∷ before) are here in (
+          whole,
+          other,
+          drops,
+          back.0,
+          fetching,
+          subst (λ (l : History). MayLeadTo r l round.tag round.body (Adds back.0)) (sym judged) back.2,
+          subst (λ (l : History). gives_last l back.0 ≡ true) (sym judged) back.3,
+          back.4,
+          subst (λ (o : Option ℕ). MayHaveLed r o other drops d.responder) (sym place) (subst (MayHaveLed r None other drops) (sym same) led),
+          s.code,
+          s.apart,
+          subst (λ (o : Option ℕ). is_untouched o (begun_with o other d.responder) d.responder ≡ true) (sym place)
+              (subst (λ (l : History). is_untouched None (begun_with None other l) l ≡ true) (sym same) (untouched gets tag t dr before (begun_with None other (gets ++ Clear tag t dr ∷ before)) are is.0)),
+        )
+last_apart_is_shown r d round answer whole gets (Sealed tag m t reply dr) before byte fetching type are is same = absurd is
+last_apart_is_shown r d round answer whole gets (Queued bytes) before byte fetching type are is same = absurd is
+last_apart_is_shown r d round answer whole gets (Ticked seconds) before byte fetching type are is same = absurd is
+last_apart_is_shown r d round answer whole gets (Dropped id) before byte fetching type are is same = absurd is
