@@ -39,3 +39,5 @@ pub mod ClearVersion
 pub mod VersionGiven
 pub mod ExchangeWhole
 pub mod LastApart
+pub mod CarryWalks
+pub mod NotApart

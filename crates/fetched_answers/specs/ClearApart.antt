@@ -47,9 +47,8 @@ LastApartIsShown = (r : RspSetup) (d : Dialogue) (round : Round) (answer whole :
     → AreGets gets → IsUnseenRequest entry → d.responder ≡ gets ++ entry ∷ before
     → CompletesApart r d round answer ↔ IsLastApart r d.responder round answer whole entry before (verify_size d)
 
--- No other answer in the clear is apart meanwhile. The responder takes messages of six bytes.
+-- No other answer in the clear is apart meanwhile.
 abbrev pub RepliesAreNotApart : Type 0
 RepliesAreNotApart = (c : Configuration) (q : ReqSetup) (older : List (List ℕ)) (d : Dialogue) (whole : List ℕ) (round : Round) (answer : List ℕ)
-    → 6 ≤ (towards c.responder (known_of d.setup)).transfer
     → Walks c q older d → d.fetching ≡ Some whole → d.round ≡ Some round → (slice_index round.body 0 == 5) ≡ true
     → RepliesApart (towards c.responder (known_of d.setup)) d round answer → ⊥

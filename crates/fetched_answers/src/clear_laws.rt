@@ -1,7 +1,7 @@
 //! What holds while a large answer is fetched in the clear, each law as the contract of a function that does
 //! nothing.
 
-ghost use Rattle.fetched_answers.specs.ClearApart.{LastApartIsShown};
+ghost use Rattle.fetched_answers.specs.ClearApart.{LastApartIsShown, RepliesAreNotApart};
 ghost use Rattle.fetched_answers.specs.ClearRounds.{GetIsNext, RoundIsThere};
 ghost use Rattle.fetched_answers.specs.ClearSessions.{ClearWhyIsBefore, KeysStandOn, LargeIsUnseen, OneHandshake, SessionsAreLeft, ViewsAreLeft};
 ghost use Rattle.fetched_answers.specs.StandsAlike.{ExchangeEndsHandshake, StandsAlike, VersionEndsAll, VersionEndsFetch, VersionIsGiven};
@@ -49,6 +49,11 @@ pub fn keys_stand_on()
 /// Whether the verify data of the last chunk are alone wrong is told from what is shown.
 pub fn last_apart_is_shown()
     ensures { LastApartIsShown }
+{}
+
+/// Those of no other answer are.
+pub fn replies_are_not_apart()
+    ensures { RepliesAreNotApart }
 {}
 
 /// A connection stands for histories that are alike.
