@@ -1,7 +1,6 @@
 -- In a walk a reply in the clear carries PSK_EXCHANGE_RSP only where PSK_EXCHANGE took effect, and GET_VERSION did not come.
 use Rattle.std.proofs.Common.{◌≡◌, ◌==◌, ◌⊎◌, ℕ, List, [], ◌∷◌, refl, sym, ap, ◌∙◌, subst, drop, Bool, true, false, Option, Some, None, Result, Ok, Err, cond, inl, inr, eq-eqb, arith}
 use Rattle.std.specs.Prelude.{MatchBool, slice_index}
-use Rattle.std.proofs.lemmas.Bool.{false≢true}
 use Rattle.mctp_framing.specs.Gathering.{Gathered}
 use Rattle.mctp_framing.specs.Gathering.Gathered.{Whole, More, Dropped as Lost}
 use Rattle.mctp_framing.specs.Packet.{PacketFields, parsed}

@@ -1,18 +1,18 @@
 -- While a large answer is fetched in the clear, the sessions are those that were left before its request.
-use Rattle.std.proofs.Common.{◌≡◌, ◌≢◌, ◌==◌, ◌&&◌, ◌||◌, ℕ, List, [], ◌∷◌, ◌++◌, refl, sym, ap, ◌∙◌, subst, Bool, true, false, Option, Some, None, is_some, cond, inl, inr, eq-eqb, eqb-true}
+use Rattle.std.proofs.Common.{◌≡◌, ◌≢◌, ◌==◌, ℕ, List, [], ◌∷◌, ◌++◌, refl, sym, ap, ◌∙◌, subst, Bool, true, false, Some, None, cond, inl, inr, eq-eqb, eqb-true}
 use Rattle.std.specs.Prelude.{MatchBool, not}
 use Rattle.std.proofs.lemmas.Bool.{false≢true, false_from_ne_true}
-use Rattle.spdm_basis.proofs.Bools.{and_first, and_second}
+use Rattle.spdm_basis.proofs.Bools.{and_first}
 use Rattle.spdm_grammar.specs.declared.names.request_code.TheConstants.{CHUNK_GET, GET_VERSION, PSK_EXCHANGE}
 use Rattle.spdm_machine.specs.Sessions.{id_in_exchange, is_past_handshake}
 use Rattle.responder_machine.specs.History.{Entry, History, clear_turns, negotiation_of}
 use Rattle.responder_machine.specs.History.Entry.{Clear, Sealed, Queued, Ticked, Dropped}
 use Rattle.responder_machine.specs.Session.{Events, after_exchange, session_of, stage_of}
 use Rattle.responder_machine.specs.Session.Event.{Began}
-use Rattle.responder_machine.specs.Turn.{Effect, Turn, answer_in, code_in, handle_in, request_in, takes}
+use Rattle.responder_machine.specs.Turn.{Effect, Turn, answer_in, code_in, request_in, takes}
 use Rattle.responder_machine.specs.Turn.Effect.{NoEffect, Took, TookData}
 use Rattle.fetched_answers.proofs.Handshakes.{one_handshake}
-use Rattle.fetched_answers.specs.ClearSessions.{AreGets, IsLeftBy, IsUnseenRequest, IsWithoutHandshake, SessionsAreLeft, is_clear_get, is_in_handshake}
+use Rattle.fetched_answers.specs.ClearSessions.{AreGets, IsLeftBy, IsUnseenRequest, IsWithoutHandshake, SessionsAreLeft, is_in_handshake}
 use Rattle.world_machine.specs.LargeAnswers.{is_unseen_effect}
 
 -- ---- CHUNK_GET.

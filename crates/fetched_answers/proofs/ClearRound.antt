@@ -1,6 +1,6 @@
 -- Which rounds in the clear a walk has while a large answer is fetched.
-use Rattle.std.proofs.Common.{◌≡◌, ◌≤◌, ◌==◌, ◌⊎◌, ℕ, List, [], ◌∷◌, refl, sym, ap, ◌∙◌, subst, drop, Bool, true, false, Option, Some, Result, Ok, Err, inl, inr}
-use Rattle.std.specs.Prelude.{MatchBool, slice_index}
+use Rattle.std.proofs.Common.{◌≡◌, ◌≤◌, ◌⊎◌, ℕ, List, [], ◌∷◌, refl, sym, ap, ◌∙◌, subst, drop, Bool, true, false, Some, Result, Ok, Err, inl, inr}
+use Rattle.std.specs.Prelude.{MatchBool}
 use Rattle.std.proofs.lemmas.Bool.{false≢true}
 use Rattle.std.proofs.lemmas.Option.{none-some, same_Some}
 use Rattle.mctp_framing.specs.Packet.{PacketFields, parsed}
@@ -11,7 +11,7 @@ use Rattle.spdm_machine.specs.Bodies.{clear_body}
 use Rattle.spdm_machine.specs.Packets.{gathered_from}
 use Rattle.requester_machine.specs.History.{outstanding}
 use Rattle.requester_machine.specs.Setup.{ReqSetup}
-use Rattle.responder_machine.specs.History.{History, kept_of}
+use Rattle.responder_machine.specs.History.{kept_of}
 use Rattle.responder_machine.specs.Responder.{is_repeat}
 use Rattle.responder_machine.specs.Setup.{RspSetup, towards}
 use Rattle.capture_laws.proofs.OneWalk.{walks_alike}
@@ -27,10 +27,9 @@ use Rattle.fetched_answers.proofs.ReadyGets.{LargeStand}
 use Rattle.fetched_answers.proofs.SettledCaps.{walks_settle}
 use Rattle.fetched_answers.proofs.TurnsBoth.{Settles}
 use Rattle.fetched_answers.proofs.WalksSound.{walks_sound}
-use Rattle.fetched_answers.specs.ClearChunks.{get_message}
 use Rattle.fetched_answers.specs.ClearRounds.{GetIsNext, IsClearRound, RoundIsThere}
-use Rattle.large_answers.specs.Fetching.{Fetching, IsFetchingOf, dialogue_of}
-use Rattle.world_machine.proofs.Fetching.{Fetched, IsSound}
+use Rattle.large_answers.specs.Fetching.{dialogue_of}
+use Rattle.world_machine.proofs.Fetching.{IsSound}
 use Rattle.world_machine.proofs.UnseenStands.{UnseenStand}
 use Rattle.world_machine.specs.Capture.{AsksBy, RepliesBy}
 use Rattle.world_machine.specs.LargeAnswers.{is_fetching, place_named}
@@ -99,8 +98,11 @@ round_is_there w q older f is =
     let d : Dialogue = dialogue_of f whole in
     let walk : Walks w q older d = is.all whole is.stands.1 in
     let there = (walks_sound w q older d walk).fetched whole refl in
-    let round : Round = there.0 in
-    (round, there.1, elim (asked_or_version w q older d whole round walk refl there.1) [
-      | inl version ↦ inl version
-      | inr gets ↦ inr (ap place_named (sym (ap body_in there.1)) ∙ is.there gets)
-    ])
+    let round : Round = there.0 in (
+      round,
+      there.1,
+      elim (asked_or_version w q older d whole round walk refl there.1) [
+        | inl version ↦ inl version
+        | inr gets ↦ inr (ap place_named (sym (ap body_in there.1)) ∙ is.there gets)
+      ],
+    )

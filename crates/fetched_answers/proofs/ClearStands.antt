@@ -1,28 +1,24 @@
 -- Which histories a connection stands for alike.
-use Rattle.std.proofs.Common.{◌≡◌, ◌+◌, ◌%◌, ◌==◌, ◌&&◌, ◌||◌, ℕ, List, [], ◌∷◌, ◌++◌, refl, sym, ap, ◌∙◌, subst, Bool, true, false, Option, Some, None, is_some, cond, inl, inr, eqb-true}
+use Rattle.std.proofs.Common.{◌≡◌, ◌+◌, ◌%◌, ◌==◌, ◌||◌, ℕ, List, [], ◌∷◌, ◌++◌, refl, sym, ap, ◌∙◌, subst, Bool, true, false, Option, Some, None, is_some, cond, inl, inr, eqb-true}
 use Rattle.std.specs.Prelude.{MatchBool, not}
 use Rattle.std.proofs.lemmas.Bool.{false≢true}
 use Rattle.spdm_basis.proofs.Bools.{and_second}
 use Rattle.spdm_grammar.specs.declared.names.request_code.TheConstants.{CHUNK_GET, GET_VERSION, PSK_EXCHANGE}
 use Rattle.spdm_machine.specs.Sessions.{id_in_exchange, is_past_handshake}
-use Rattle.connection.specs.ClearPart as clear_parts
 use Rattle.connection.specs.Coming as coming
 use Rattle.connection.specs.Connected as connected
 use Rattle.connection.specs.Live.{IsSlotOf}
-use Rattle.connection.specs.Sessions as sessions
 use Rattle.connection.specs.Sessions.{slot_of}
-use Rattle.connection.specs.declared.connected.Connection.{Connection}
 use Rattle.responder_machine.specs.History.{Entry, History, clear_turns, negotiation_of, queue_of}
 use Rattle.responder_machine.specs.History.Entry.{Clear, Sealed, Queued, Ticked, Dropped}
-use Rattle.responder_machine.specs.LargeMessages.{larges_of, next_handle}
+use Rattle.responder_machine.specs.LargeMessages.{larges_of}
 use Rattle.responder_machine.specs.Session.{Events, session_of, stage_of}
 use Rattle.responder_machine.specs.Session.Event.{Began}
-use Rattle.responder_machine.specs.Setup.{RspSetup}
 use Rattle.responder_machine.specs.Turn.{Effect, Turn, answer_in, handle_in, request_in, takes}
 use Rattle.responder_machine.specs.Turn.Effect.{NoEffect, Took, TookData}
 use Rattle.fetched_answers.proofs.ClearLeft.{ended}
-use Rattle.fetched_answers.specs.ClearSessions.{AreGets, IsLeftBy, IsUnseenRequest, IsWithoutHandshake, is_clear_get, is_in_handshake}
-use Rattle.fetched_answers.specs.StandsAlike.{AreAlike, ExchangeEndsHandshake, StandsAlike, VersionEndsAll, VersionEndsFetch, version_entry}
+use Rattle.fetched_answers.specs.ClearSessions.{AreGets, IsLeftBy, IsUnseenRequest, IsWithoutHandshake, is_in_handshake}
+use Rattle.fetched_answers.specs.StandsAlike.{ExchangeEndsHandshake, StandsAlike, VersionEndsAll, VersionEndsFetch, version_entry}
 use Rattle.world_machine.specs.LargeAnswers.{is_unseen_effect}
 use Rattle.world_machine.specs.Rounds.{no_draw}
 

@@ -1,5 +1,5 @@
 -- GET_VERSION in the clear is answered by VERSION.
-use Rattle.std.proofs.Common.{◌≡◌, ◌≤◌, ◌+◌, ◌==◌, ◌&&◌, ◌||◌, ℕ, List, [], refl, sym, ap, ◌∙◌, subst, length, Bool, true, false, Option, Some, None, is_none, is_some, cond, arith}
+use Rattle.std.proofs.Common.{◌≡◌, ◌≤◌, ◌&&◌, ◌||◌, ℕ, List, refl, ap, ◌∙◌, length, Bool, true, false, Option, Some, None, is_none, is_some, cond, arith}
 use Rattle.std.specs.Prelude.{not, nat_lt}
 use Rattle.std.specs.Option.{option_or}
 use Rattle.std.proofs.Math.Bool.{and-false}
@@ -15,14 +15,13 @@ use Rattle.spdm_grammar.specs.declared.names.request_code.TheConstants.{GET_VERS
 use Rattle.spdm_grammar.specs.declared.phase.Phase.{Phase}
 use Rattle.spdm_grammar.specs.declared.phase.Phase.TheVariants.{Fresh, Versioned, Capable, Negotiated}
 use Rattle.spdm_machine.specs.Bodies.{clear_body}
-use Rattle.spdm_machine.specs.Terms.{hash_len}
 use Rattle.responder_machine.specs.Answer.{Free, answer_bytes, answer_to, request_at, version_answer}
 use Rattle.responder_machine.specs.Handling.{chunk_in, effect_of, goes_large, large_response, plain_turn, turn_by, turn_of}
 use Rattle.responder_machine.specs.History.{History, kept_of}
 use Rattle.responder_machine.specs.History.Entry.{Clear}
 use Rattle.responder_machine.specs.Place.{Place, clear_place, place_terms}
-use Rattle.responder_machine.specs.Refusal.{are_caps_refused, bytes_round, chunk_fault, has_no_block, has_pending, is_answer_too_long, is_exchange_refused, is_get_refused, is_offer_refused, is_too_large, is_update_misplaced, is_verify_wrong, phase_allows, refusal, refused_contents, refused_form, sizes_are_known}
-use Rattle.responder_machine.specs.Responder.{is_repeat, kept_reply, on_clear}
+use Rattle.responder_machine.specs.Refusal.{are_caps_refused, chunk_fault, has_no_block, has_pending, is_answer_too_long, is_exchange_refused, is_get_refused, is_offer_refused, is_too_large, is_update_misplaced, is_verify_wrong, phase_allows, refusal, refused_contents, refused_form, sizes_are_known}
+use Rattle.responder_machine.specs.Responder.{kept_reply, on_clear}
 use Rattle.responder_machine.specs.Responder.Outcome.{Same, Adds}
 use Rattle.responder_machine.specs.Setup.{RspSetup}
 use Rattle.responder_machine.specs.Turn.{Turn}

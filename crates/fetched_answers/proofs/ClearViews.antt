@@ -1,22 +1,19 @@
 -- While a large answer is fetched in the clear, refused answers open, sessions are shown and keys stand as before its request.
-use Rattle.std.proofs.Common.{◌≡◌, ◌≢◌, ◌==◌, ◌||◌, ℕ, List, [], ◌∷◌, ◌++◌, refl, sym, ap, ◌∙◌, subst, Bool, true, false, Option, cond, arith}
-use Rattle.std.specs.Prelude.{not}
+use Rattle.std.proofs.Common.{◌≢◌, ◌==◌, ℕ, [], ◌∷◌, ◌++◌, ap, ◌∙◌, Bool, true, false, Option, cond, arith}
 use Rattle.spdm_grammar.specs.declared.names.request_code.TheConstants.{GET_VERSION, PSK_EXCHANGE}
 use Rattle.spdm_grammar.specs.declared.session_view.SessionView.{SessionView}
 use Rattle.spdm_machine.specs.Sessions.{id_in_exchange, is_past_handshake}
-use Rattle.responder_machine.specs.History.{Entry, History, clear_turns, negotiation_of}
+use Rattle.responder_machine.specs.History.{History, clear_turns, negotiation_of}
 use Rattle.responder_machine.specs.History.Entry.{Clear, Sealed, Queued, Ticked, Dropped}
 use Rattle.responder_machine.specs.Session.{Events, id_in_record, session_of, stage_of}
 use Rattle.responder_machine.specs.Session.Event.{Began}
 use Rattle.responder_machine.specs.Setup.{RspSetup}
 use Rattle.responder_machine.specs.Turn.{Turn, answer_in, request_in, takes}
 use Rattle.responder_session.specs.declared.answer_key.AnswerKey.{AnswerKey}
-use Rattle.capture_ends.specs.AnswerKeys as answer_keys
 use Rattle.capture_ends.specs.AnswerKeys.{IsLastKey, last_key}
-use Rattle.capture_ends.specs.declared.answer_keys.AnswerKeys.{AnswerKeys}
 use Rattle.capture_laws.specs.Changes.{shown}
 use Rattle.fetched_answers.proofs.ClearLeft.{sessions_are_left}
-use Rattle.fetched_answers.specs.ClearSessions.{AreClear, ClearWhyIsBefore, KeysStandOn, ViewsAreLeft}
+use Rattle.fetched_answers.specs.ClearSessions.{ClearWhyIsBefore, KeysStandOn, ViewsAreLeft}
 use Rattle.world_machine.specs.Opening.{opens_next}
 
 pub clear_why_is_before : ClearWhyIsBefore

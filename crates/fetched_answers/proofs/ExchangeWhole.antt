@@ -1,11 +1,10 @@
 -- A turn in the clear whose large answer is PSK_EXCHANGE_RSP, and what bytes show that differ from it in the verify data alone.
-use Rattle.std.proofs.Common.{◌≡◌, ◌<◌, ◌≤◌, ◌+◌, ◌-◌, ◌==◌, ◌&&◌, ◌||◌, ℕ, List, [], ◌∷◌, ◌++◌, refl, sym, ap, ◌∙◌, subst, drop, length, Bool, true, false, Option, Some, None, is_some, cond, if◌then◌else◌, arith, length-append}
+use Rattle.std.proofs.Common.{◌≡◌, ◌<◌, ◌≤◌, ◌==◌, ℕ, List, [], ◌∷◌, ◌++◌, refl, sym, ap, ◌∙◌, subst, length, Bool, true, false, Option, Some, None, cond, if◌then◌else◌, arith, length-append}
 use Rattle.std.specs.Prelude.{slice_index}
 use Rattle.std.proofs.lemmas.Bool.{false≢true}
 use Rattle.byteorder.specs.Endian.{little_bytes}
 use Rattle.chunking.specs.Collecting.{joined_with, under_way}
 use Rattle.key_schedule.specs.declared.direction.Direction.TheVariants as direction
-use Rattle.spdm_grammar.specs.Codes.{code_for}
 use Rattle.spdm_grammar.specs.Fields.{zeros}
 use Rattle.spdm_grammar.specs.Message.{ChunkMessage, ExchangeMessage, RequestMessage}
 use Rattle.spdm_grammar.specs.Message.RequestMessage.{GetVersion, GetCapabilities, NegotiateAlgorithms, GetMeasurements, PskExchange, PskFinish, Heartbeat, KeyUpdate, EndSession, ChunkSend, ChunkGet}
@@ -18,22 +17,21 @@ use Rattle.spdm_grammar.specs.declared.names.spdm_version.TheConstants.{V1_2}
 use Rattle.spdm_machine.specs.Keys.{verify_data}
 use Rattle.spdm_machine.specs.Sessions.{id_in_exchange}
 use Rattle.spdm_machine.specs.Terms.{hash_len}
-use Rattle.responder_machine.specs.Answer.{Free, answer_bytes, answer_of, answer_to, exchange_answer, exchange_rsp, request_at, summary_answer, t1_with}
-use Rattle.responder_machine.specs.Handling.{carried_turn, chunk_in, effect_of, handle_for, last_chunk_turn, plain_turn, taken_chunk, turn_by, turn_of}
+use Rattle.responder_machine.specs.Answer.{Free, answer_bytes, answer_of, answer_to, exchange_answer, request_at, summary_answer, t1_with}
+use Rattle.responder_machine.specs.Handling.{carried_turn, chunk_in, effect_of, handle_for, last_chunk_turn, taken_chunk, turn_by, turn_of}
 use Rattle.responder_machine.specs.History.{History}
 use Rattle.responder_machine.specs.LargeMessages.{chunks_of}
 use Rattle.responder_machine.specs.May.{IsAllowed}
 use Rattle.responder_machine.specs.Place.{Place, inside, place_terms}
 use Rattle.responder_machine.specs.Refusal.{refusal}
 use Rattle.responder_machine.specs.Setup.{RspSetup}
-use Rattle.responder_machine.specs.Turn.{Effect, Turn, answer_in, code_in, handle_in}
-use Rattle.responder_machine.specs.Turn.Effect.{NoEffect, Took}
+use Rattle.responder_machine.specs.Turn.{Effect, Turn, answer_in, code_in}
+use Rattle.responder_machine.specs.Turn.Effect.{NoEffect}
 use Rattle.responder_machine.proofs.VerifyLength.{length_verify}
 use Rattle.capture_laws.proofs.AnswerLengths.{exchange_rsp_read}
 use Rattle.capture_laws.proofs.CarriedExchange.{apart_is}
 use Rattle.capture_laws.specs.AnswersShown.{asks_summary, with_fields}
-use Rattle.fetched_answers.specs.WholeValues.{clear_whole, whole_values}
-use Rattle.world_machine.specs.CapturedAnswers.{answer_at}
+use Rattle.fetched_answers.specs.WholeValues.{whole_values}
 use Rattle.world_machine.specs.Difference.{is_apart}
 
 module _ (r : RspSetup) (p : Place) (m : List ℕ) (f : Free) where

@@ -1,17 +1,16 @@
 -- While a large answer is fetched in the clear, an answer that goes whole leaves the requester asking for the chunk that the
 -- responder gives next.
-use Rattle.std.proofs.Common.{◌≡◌, ◌<◌, ◌≤◌, ◌+◌, ◌-◌, ◌^◌, ◌==◌, ◌&&◌, ◌||◌, ◌⊎◌, ℕ, List, [], ◌∷◌, refl, sym, ap, ◌∙◌, subst, drop, length, Bool, true, false, Option, Some, None, is_some, cond, inl, inr, arith, eq-eqb, eqb-true}
+use Rattle.std.proofs.Common.{◌≡◌, ◌<◌, ◌≤◌, ◌+◌, ◌^◌, ◌==◌, ◌&&◌, ◌⊎◌, ℕ, List, [], ◌∷◌, refl, sym, ap, ◌∙◌, subst, drop, length, Bool, true, false, Option, Some, None, is_some, cond, inl, inr, arith, eq-eqb}
 use Rattle.std.specs.Prelude.{IfSome, bytes_eq, not, nat_lt, slice_index}
-use Rattle.std.proofs.lemmas.Bool.{false≢true, not-false, not-true, ne_eqb}
+use Rattle.std.proofs.lemmas.Bool.{false≢true, not-true, ne_eqb}
 use Rattle.std.proofs.lemmas.Bool.Decides.{nat_tests}
 use Rattle.spdm_basis.proofs.Bools.{and_second}
 use Rattle.chunking.proofs.ChunkLengths.{told_first}
 use Rattle.chunking.proofs.ChunkSteps as step
 use Rattle.chunking.specs.Cutting.{chunk_count, nth_chunk}
 use Rattle.spdm_grammar.specs.Fields.{FitsChunk, IsSoundChunk}
-use Rattle.spdm_grammar.specs.Message.{ChunkMessage, RequestMessage}
+use Rattle.spdm_grammar.specs.Message.{ChunkMessage}
 use Rattle.spdm_machine.specs.Bodies.{clear_body}
-use Rattle.requester_machine.specs.Asking as asking
 use Rattle.requester_machine.specs.Asking.Outcome.{Adds as Takes}
 use Rattle.requester_machine.specs.Bodies.{has_tag}
 use Rattle.requester_machine.specs.Commands as commands
@@ -22,14 +21,13 @@ use Rattle.requester_machine.specs.Message.{Sent}
 use Rattle.requester_machine.specs.Sending.{get_sent}
 use Rattle.requester_machine.specs.Shown as shown
 use Rattle.responder_machine.specs.History.{Entry, History, clear_turns, kept_of, negotiation_of}
-use Rattle.responder_machine.specs.LargeMessages.{given_of, large_of, still_pending}
+use Rattle.responder_machine.specs.LargeMessages.{given_of, still_pending}
 use Rattle.responder_machine.specs.May.{with_dropped}
 use Rattle.responder_machine.specs.Place.{clear_place}
 use Rattle.responder_machine.specs.Refusal.{has_pending}
 use Rattle.responder_machine.specs.Responder.{Outcome, after, body_of as sent_body, is_repeat, kept_reply}
-use Rattle.responder_machine.specs.Responder.Outcome.{Same, Unopened, Adds}
+use Rattle.responder_machine.specs.Responder.Outcome.{Adds}
 use Rattle.responder_machine.specs.Setup.{RspSetup}
-use Rattle.responder_machine.specs.Turn.{Turn}
 use Rattle.responder_machine.proofs.Repeats.{bytes_eq-refl}
 use Rattle.fetched_answers.proofs.GetSteps.{Fetches, IsChunkAsked, chunk_alone, next_gets, outcome_by, repeat_gets, tag_next}
 use Rattle.fetched_answers.proofs.GetSteps.Fetches.{Owes, Asks, Has}
@@ -42,7 +40,7 @@ use Rattle.world_machine.proofs.FetchedAnswers.{again_none, always_none}
 use Rattle.world_machine.proofs.FetchedTells.{ReadsAlways, get_reads}
 use Rattle.world_machine.proofs.HeardNext.{other_tag}
 use Rattle.world_machine.proofs.SmallGets.{chunk_sized}
-use Rattle.world_machine.specs.CapturedAnswers.{AreShown, Hears, HearsWhile, MayLeadAfter, MayLeadTo, is_plain}
+use Rattle.world_machine.specs.CapturedAnswers.{AreShown, Hears, HearsWhile, MayLeadAfter, is_plain}
 use Rattle.world_machine.specs.CapturedRequests.{is_later}
 use Rattle.world_machine.specs.LargeAnswers.{gives_last, is_fetching, is_large, with_large}
 use Rattle.world_machine.specs.Rounds.{Dialogue, Round, following_tag, no_draw}
@@ -89,7 +87,7 @@ some_by true x = refl
 some_by false x = refl
 
 module _ (r : RspSetup) (room : 6 ≤ r.transfer) (given : NextIsGiven) (d : Dialogue) (rd : Round) (at : d.round ≡ Some rd) (askers : AskersAlike d.round d.requester d.requester d.sending d.sending)
-  (gets : is_fetching (outstanding d.requester) ≡ true) (type : (slice_index rd.body 0 == 5) ≡ true) (whole answer : List ℕ) (g : asker.History) (hear : Hears d rd.tag answer g) (goes : is_fetching (outstanding g) ≡ true) where
+    (gets : is_fetching (outstanding d.requester) ≡ true) (type : (slice_index rd.body 0 == 5) ≡ true) (whole answer : List ℕ) (g : asker.History) (hear : Hears d rd.tag answer g) (goes : is_fetching (outstanding g) ≡ true) where
   abbrev k : History
   k = d.responder
 

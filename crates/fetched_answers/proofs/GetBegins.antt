@@ -1,5 +1,5 @@
 -- In the clear a large answer begins to be fetched with its first chunk: by LargeResponse, and by LargeResponse again.
-use Rattle.std.proofs.Common.{◌≡◌, ◌<◌, ◌≤◌, ◌+◌, ◌==◌, ◌&&◌, ◌||◌, ℕ, List, [], ◌∷◌, refl, sym, ap, ◌∙◌, subst, drop, length, Bool, true, false, Option, Some, None, is_some, cond, inl, inr, eq-eqb}
+use Rattle.std.proofs.Common.{◌≡◌, ◌≤◌, ◌+◌, ◌==◌, ◌&&◌, ◌||◌, ℕ, List, [], ◌∷◌, refl, sym, ap, ◌∙◌, subst, drop, length, Bool, true, false, Option, Some, None, is_some, cond, inl, inr}
 use Rattle.std.specs.Prelude.{not, nat_lt, slice_index}
 use Rattle.std.proofs.lemmas.Bool.{false≢true, not-true}
 use Rattle.negotiate.specs.declared.shared.Common.{Common}
@@ -12,24 +12,24 @@ use Rattle.requester_machine.specs.History.{next_tag, outstanding}
 use Rattle.requester_machine.specs.Message.{Aim, Sent}
 use Rattle.requester_machine.specs.Message.Aim.{Plain, ByChunks, ForChunk, InSession}
 use Rattle.requester_machine.specs.Sending.{get_sent}
-use Rattle.responder_machine.specs.Handling.{goes_large, turn_of}
-use Rattle.responder_machine.specs.History.{Entry, History, Kept, clear_turns, kept_of}
+use Rattle.responder_machine.specs.Handling.{turn_of}
+use Rattle.responder_machine.specs.History.{Entry, History, clear_turns, kept_of}
 use Rattle.responder_machine.specs.History.Entry.{Clear, Sealed, Queued, Ticked, Dropped}
 use Rattle.responder_machine.specs.May.{with_dropped}
 use Rattle.responder_machine.specs.Place.{Place, clear_place, inside, place_terms}
-use Rattle.responder_machine.specs.Refusal.{bytes_round, is_answer_too_long, sizes_are_known}
-use Rattle.responder_machine.specs.Responder.{Outcome, is_repeat, kept_reply, on_clear, sent_by}
+use Rattle.responder_machine.specs.Refusal.{bytes_round, sizes_are_known}
+use Rattle.responder_machine.specs.Responder.{is_repeat, kept_reply, on_clear, sent_by}
 use Rattle.responder_machine.specs.Responder.Outcome.{Same, Adds}
 use Rattle.responder_machine.specs.Setup.{RspSetup}
 use Rattle.responder_machine.specs.Turn.{Effect, Turn, handle_in, is_taken, takes}
 use Rattle.responder_machine.specs.Turn.Effect.{NoEffect}
 use Rattle.responder_machine.specs.Answer.{Free}
-use Rattle.fetched_answers.proofs.GetAnswers.{HeardSo, deaf, heard_so}
+use Rattle.fetched_answers.proofs.GetAnswers.{deaf, heard_so}
 use Rattle.fetched_answers.proofs.GetSteps.{Fetches, tag_next}
 use Rattle.fetched_answers.proofs.GetSteps.Fetches.{Owes}
 use Rattle.fetched_answers.proofs.LargeHeard.{heard_first}
-use Rattle.fetched_answers.proofs.LargeTurns.{IsLargeTurn, unseen_large}
-use Rattle.fetched_answers.proofs.ReadyGets.{IsBegun, IsReady, LargeStand, begun, common_at, common_next, ready_begins}
+use Rattle.fetched_answers.proofs.LargeTurns.{unseen_large}
+use Rattle.fetched_answers.proofs.ReadyGets.{IsBegun, LargeStand, begun, common_at, common_next, ready_begins}
 use Rattle.fetched_answers.proofs.TurnsBoth.{Settles}
 use Rattle.world_machine.proofs.AskersAlike.{AskersAlike}
 use Rattle.world_machine.proofs.AskersHear.{next_later}
@@ -41,8 +41,8 @@ use Rattle.world_machine.proofs.PlainTells.{led_clear}
 use Rattle.world_machine.proofs.UnseenStands.{UnseenStand}
 use Rattle.world_machine.specs.CapturedAnswers.{Hears, HearsWhile, MayLeadAfter, MayLeadTo}
 use Rattle.world_machine.specs.CapturedRequests.{is_later}
-use Rattle.world_machine.specs.LargeAnswers.{IsLargeAnswer, is_fetching, is_for_chunk, is_kept_in, is_large, place_again, place_named, place_of, repeats_large, turn_with, unseen}
-use Rattle.world_machine.specs.LargeRequests.{with_ack, with_ack_to, with_next_piece}
+use Rattle.world_machine.specs.LargeAnswers.{IsLargeAnswer, is_fetching, is_large, place_again, place_named, place_of, repeats_large, turn_with, unseen}
+use Rattle.world_machine.specs.LargeRequests.{with_ack_to, with_next_piece}
 use Rattle.world_machine.specs.Rounds.{Dialogue, Round, following_tag, no_draw}
 
 -- ---- Chunks are in common.
@@ -102,7 +102,7 @@ none_sent d tag answer g none goes heard = by_sending d.sending heard
         absurd (false≢true (sym none ∙ ack_none w tag (drop 1 answer) d.requester (has_tag (outstanding d.requester) tag) (sym (ap (λ (l : asker.History). is_fetching (outstanding l)) x) ∙ goes)))
 
 module _ (d : Dialogue) (rd : Round) (at : d.round ≡ Some rd) (askers : AskersAlike d.round d.requester d.requester d.sending d.sending) (none : is_fetching (outstanding d.requester) ≡ false)
-  (whole answer : List ℕ) (g : asker.History) (hear : Hears d rd.tag answer g) (goes : is_fetching (outstanding g) ≡ true) where
+    (whole answer : List ℕ) (g : asker.History) (hear : Hears d rd.tag answer g) (goes : is_fetching (outstanding g) ≡ true) where
   alone : d.sending ≡ None
   alone = none_sent d rd.tag answer g none goes hear
 

@@ -1,59 +1,40 @@
 -- While a large answer is fetched in the clear, the requester asks for the chunk that the responder gives next. Each step of a
 -- dialogue keeps it.
-use Rattle.std.proofs.Common.{◌≡◌, ◌<◌, ◌≤◌, ◌+◌, ◌-◌, ◌%◌, ◌^◌, ◌==◌, ◌&&◌, ◌||◌, ◌⊎◌, ℕ, List, [], ◌∷◌, refl, sym, ap, ◌∙◌, subst, drop, length, Bool, true, false, Option, Some, None, is_some, cond, inl, inr, arith, eq-eqb, eqb-true}
-use Rattle.std.specs.Prelude.{IfSome, bytes_eq, not, nat_lt, slice_index}
-use Rattle.std.proofs.lemmas.Bool.{false≢true, not-false, not-true, ne_eqb}
-use Rattle.std.proofs.lemmas.Bool.Decides.{nat_tests}
+use Rattle.std.proofs.Common.{◌≡◌, ◌≤◌, ◌+◌, ◌%◌, ◌==◌, ◌&&◌, ◌⊎◌, ℕ, List, [], ◌∷◌, refl, sym, ap, ◌∙◌, subst, drop, Bool, true, false, Option, Some, None, inl, inr, arith, eq-eqb, eqb-true}
+use Rattle.std.specs.Prelude.{bytes_eq, not, nat_lt, slice_index}
+use Rattle.std.proofs.lemmas.Bool.{false≢true, ne_eqb}
 use Rattle.std.proofs.lemmas.Option.{none-some, same_Some}
-use Rattle.spdm_basis.proofs.Bools.{and_first, and_second}
-use Rattle.chunking.specs.Cutting.{chunk_count, nth_chunk}
-use Rattle.mctp_framing.specs.Gathering.{Gathered}
-use Rattle.mctp_framing.specs.Gathering.Gathered.{Whole, More, Dropped}
-use Rattle.spdm_grammar.specs.Fields.{FitsChunk, IsSoundChunk}
+use Rattle.spdm_basis.proofs.Bools.{and_first}
+use Rattle.chunking.specs.Cutting.{chunk_count}
 use Rattle.spdm_grammar.specs.Message.{ChunkMessage, RequestMessage}
-use Rattle.spdm_grammar.specs.Message.RequestMessage.{ChunkGet, GetVersion}
-use Rattle.spdm_grammar.specs.Requests.{canonical_request}
 use Rattle.spdm_machine.specs.Bodies.{clear_body}
 use Rattle.requester_machine.specs.Asking as asking
-
 use Rattle.requester_machine.specs.Asking.Outcome.{Fails, Ignores, Warns, Resends, Adds as Takes}
-use Rattle.requester_machine.specs.Bodies.{has_tag}
-use Rattle.requester_machine.specs.Commands as commands
-use Rattle.requester_machine.specs.Hearing.{hears}
 use Rattle.requester_machine.specs.History as asker
 use Rattle.requester_machine.specs.History.{next_tag, outstanding}
 use Rattle.requester_machine.specs.Message.{Aim, Sent, body_of}
 use Rattle.requester_machine.specs.Message.Aim.{ForChunk}
-use Rattle.requester_machine.specs.Sending.{get_sent}
 use Rattle.requester_machine.specs.Shown as shown
-use Rattle.responder_machine.specs.History.{Entry, History, Kept, clear_turns, kept_of}
+use Rattle.responder_machine.specs.History.{History, Kept, clear_turns, kept_of}
 use Rattle.responder_machine.specs.History.Entry.{Dropped as Gone}
 use Rattle.responder_machine.specs.LargeMessages.{given_of, handle_of, large_of}
 use Rattle.responder_machine.specs.May.{with_dropped}
-use Rattle.responder_machine.specs.Place.{clear_place, place_terms}
-use Rattle.responder_machine.specs.Responder.{Outcome, after, body_of as sent_body, is_repeat, kept_reply}
-use Rattle.responder_machine.specs.Responder.Outcome.{Same, Unopened, Adds}
+use Rattle.responder_machine.specs.Responder.{Outcome, is_repeat, kept_reply}
+use Rattle.responder_machine.specs.Responder.Outcome.{Same, Adds}
 use Rattle.responder_machine.specs.Setup.{RspSetup}
 use Rattle.responder_machine.specs.Turn.{Turn}
-use Rattle.fetched_answers.proofs.LargeHeard.{heard_next}
-use Rattle.fetched_answers.proofs.ReadyGets.{IsReady, common_at, ready_few, ready_next}
+use Rattle.fetched_answers.proofs.ReadyGets.{IsReady, common_at, ready_few}
 use Rattle.fetched_answers.specs.ClearChunks.{IsNextGet, NextIsGiven, get_entry, get_message, get_response}
-use Rattle.world_machine.proofs.AimsHeard.{hears_version}
 use Rattle.world_machine.proofs.AskersAim.{Asker, IsSpelled}
-use Rattle.world_machine.proofs.AskersAlike.{AskersAlike, acked}
+use Rattle.world_machine.proofs.AskersAlike.{AskersAlike}
 use Rattle.world_machine.proofs.AskersAlike.AskersAlike.{Settled, Owing, Shown, Due}
-use Rattle.world_machine.proofs.AskersHear.{next_later}
 use Rattle.world_machine.proofs.DropsTell.{kept_same, turns_stay}
-use Rattle.world_machine.proofs.FetchedAnswers.{again_none, always_none, repeated}
-use Rattle.world_machine.proofs.FetchedTells.{ReadsAlways, get_reads}
-use Rattle.world_machine.proofs.HeardNext as next
-use Rattle.world_machine.proofs.HeardNext.{other_tag}
-use Rattle.world_machine.proofs.PlacesServed.{named_clear}
+use Rattle.world_machine.proofs.FetchedAnswers.{repeated}
 use Rattle.world_machine.proofs.PlainTells.{led_clear}
-use Rattle.world_machine.specs.CapturedAnswers.{AreShown, MayLeadAfter, MayLeadTo, is_plain}
-use Rattle.world_machine.specs.CapturedRequests.{GoesOn, is_later, owes}
-use Rattle.world_machine.specs.LargeAnswers.{gives_last, is_fetching, is_for_chunk, is_large, judging, place_named, with_large}
-use Rattle.world_machine.specs.Rounds.{Dialogue, Round, following_tag, new_round, no_draw}
+use Rattle.world_machine.specs.CapturedAnswers.{MayLeadTo}
+use Rattle.world_machine.specs.CapturedRequests.{GoesOn, is_later}
+use Rattle.world_machine.specs.LargeAnswers.{is_fetching, is_for_chunk, with_large}
+use Rattle.world_machine.specs.Rounds.{Dialogue, Round, following_tag, new_round}
 
 -- ---- How far it is.
 

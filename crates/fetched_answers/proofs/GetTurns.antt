@@ -1,14 +1,12 @@
 -- Each step of a dialogue leaves the requester asking for the chunk that the responder gives next, while a large answer is
 -- fetched in the clear.
-use Rattle.std.proofs.Common.{◌≡◌, ◌≤◌, ◌+◌, ◌-◌, ◌==◌, ◌⊎◌, ℕ, List, refl, sym, ap, ◌∙◌, subst, Bool, true, false, Option, Some, None, is_some, inl, inr}
+use Rattle.std.proofs.Common.{◌≡◌, ◌≤◌, ◌+◌, ◌-◌, ◌==◌, ℕ, List, refl, sym, ap, ◌∙◌, subst, true, false, Option, Some, None, is_some, inl, inr}
 use Rattle.std.specs.Prelude.{slice_index}
 use Rattle.std.proofs.lemmas.Bool.{false≢true, false_from_ne_true}
 use Rattle.std.proofs.lemmas.Option.{none-some, same_Some}
 use Rattle.mctp_framing.specs.Gathering.{Gathered}
 use Rattle.mctp_framing.specs.Gathering.Gathered.{Whole, More, Dropped}
 use Rattle.spdm_grammar.specs.Message.RequestMessage.{GetVersion}
-use Rattle.spdm_grammar.specs.Requests.{canonical_request}
-use Rattle.spdm_machine.specs.Bodies.{clear_body}
 use Rattle.requester_machine.specs.History as asker
 use Rattle.requester_machine.specs.History.{begins_large, outstanding}
 use Rattle.requester_machine.specs.History.Entry.{Told}
@@ -32,8 +30,7 @@ use Rattle.world_machine.proofs.AimsHeard.{hears_version}
 use Rattle.world_machine.proofs.AskTells.{sent_by_kind}
 use Rattle.world_machine.proofs.AskersAim.{Asker, IsAt}
 use Rattle.world_machine.proofs.AskersAlike.{AskersAlike}
-use Rattle.world_machine.proofs.FetchStates.{Fetch}
-use Rattle.world_machine.proofs.Fetching.{Fetched, IsSound, while_parts}
+use Rattle.world_machine.proofs.Fetching.{IsSound, while_parts}
 use Rattle.world_machine.proofs.PlacesServed.{named_clear}
 use Rattle.world_machine.proofs.UnseenStands.{UnseenStand}
 use Rattle.world_machine.specs.Capture.{AsksBy, Begins, Copies, Replies, RepliesBy}
@@ -58,10 +55,10 @@ waits_for o s is gets = sym (ap is_fetching is) ∙ gets
 copies_so : (d : Dialogue) (tag : ℕ) (body : List ℕ) (next : Dialogue) → FetchesSo d → Copies d tag body next → FetchesSo next
 copies_so d tag body next so c =
     subst FetchesSo (sym c.4) (λ whole round fetching at type gets.
-        let rd : Round = c.0 in
-        let same : record rd { waiting = rd.waiting + 1 } ≡ round = same_Some (record rd { waiting = rd.waiting + 1 }) round at in
-        let own : (slice_index rd.body 0 == 5) ≡ true = ap (λ (x : Round). slice_index x.body 0 == 5) same ∙ type in
-        subst (Fetches d.requester d.responder whole) same (moved d.requester d.responder whole rd (rd.waiting + 1) rd.answered (so whole rd fetching c.1 own gets)))
+    let rd : Round = c.0 in
+    let same : record rd { waiting = rd.waiting + 1 } ≡ round = same_Some (record rd { waiting = rd.waiting + 1 }) round at in
+    let own : (slice_index rd.body 0 == 5) ≡ true = ap (λ (x : Round). slice_index x.body 0 == 5) same ∙ type in
+    subst (Fetches d.requester d.responder whole) same (moved d.requester d.responder whole rd (rd.waiting + 1) rd.answered (so whole rd fetching c.1 own gets)))
 
 not_connect : (q : ReqSetup) (h : asker.History) (body : List ℕ) (next : asker.History) → Tells q h Connect body next → is_fetching (outstanding next) ≡ true → ⊥
 not_connect q h body next tells gets =
@@ -112,14 +109,14 @@ old_type d old body next sending asker goes was type =
 begun_so : (d : Dialogue) (tag : ℕ) (body : List ℕ) (next : Dialogue) → IsSound d → Alike d → FetchesSo d → Begins d tag body next → FetchesSo next
 begun_so d tag body next sound askers so b =
     subst FetchesSo (sym b.2.3) (λ whole round fetching at type gets.
-        let goes : GoesOn d body b.2.0 b.2.1 = sends_goes d whole body b.2.0 b.2.1 sound fetching b.2.2 gets in
-        let was : is_fetching (outstanding d.requester) ≡ true = ap (λ (l : asker.History). is_fetching (outstanding l)) (sym goes.5) ∙ gets in
-        let there = sound.fetched whole fetching in
-        let old : Round = there.0 in
-        let asks = sound.asker old there.1 in
-        let is : new_round tag body ≡ round = same_Some (new_round tag body) round at in
-        let own : (slice_index old.body 0 == 5) ≡ true = old_type d old body b.2.0 b.2.1 asks goes was (ap (λ (x : Round). slice_index x.body 0 == 5) is ∙ type) in
-        subst (Fetches b.2.0 d.responder whole) is (goes_on d old there.1 askers asks whole tag body b.2.0 b.2.1 b.1 was (so whole old fetching there.1 own was) goes))
+    let goes : GoesOn d body b.2.0 b.2.1 = sends_goes d whole body b.2.0 b.2.1 sound fetching b.2.2 gets in
+    let was : is_fetching (outstanding d.requester) ≡ true = ap (λ (l : asker.History). is_fetching (outstanding l)) (sym goes.5) ∙ gets in
+    let there = sound.fetched whole fetching in
+    let old : Round = there.0 in
+    let asks = sound.asker old there.1 in
+    let is : new_round tag body ≡ round = same_Some (new_round tag body) round at in
+    let own : (slice_index old.body 0 == 5) ≡ true = old_type d old body b.2.0 b.2.1 asks goes was (ap (λ (x : Round). slice_index x.body 0 == 5) is ∙ type) in
+    subst (Fetches b.2.0 d.responder whole) is (goes_on d old there.1 askers asks whole tag body b.2.0 b.2.1 b.1 was (so whole old fetching there.1 own was) goes))
 
 pub asks_so : (d : Dialogue) (g : Gathered) (next : Dialogue) → IsSound d → Alike d → FetchesSo d → AsksBy d g next → FetchesSo next
 asks_so d (Whole route body) next sound askers so asks = elim asks.2 [ inl copies ↦ copies_so d route.tag body next so copies | inr begins ↦ begun_so d route.tag body next sound askers so begins ]
@@ -129,7 +126,7 @@ asks_so d (Dropped cause) next sound askers so asks = absurd asks
 -- ---- An answer.
 
 module _ (w : Configuration) (given : NextIsGiven) (d : Dialogue) (sound : IsSound d) (askers : Alike d) (known : is_fetching (outstanding d.requester) ≡ true → is_some d.fetching ≡ true) (so : FetchesSo d)
-  (room : 6 ≤ (towards w.responder (known_of d.setup)).transfer) where
+    (room : 6 ≤ (towards w.responder (known_of d.setup)).transfer) where
   abbrev r : RspSetup
   r = towards w.responder (known_of d.setup)
 
@@ -177,16 +174,16 @@ module _ (w : Configuration) (given : NextIsGiven) (d : Dialogue) (sound : IsSou
   replied_so : (tag : ℕ) (answer : List ℕ) (next : Dialogue) → UnseenStand next.responder → Settles next.responder → LargeStand next.responder → Replies w d tag answer next → FetchesSo next
   replied_so tag answer next unseen_stand settles stand c =
       subst FetchesSo (sym c.4.3.2) (λ whole round fetching at type gets.
-          let rd : Round = c.0 in
-          let g : asker.History = c.4.3.0 in
-          let here : next.responder ≡ c.4.0 = ap (λ (x : Dialogue). x.responder) c.4.3.2 in
-          let parts = while_parts (is_fetching (outstanding g)) c.4.1 whole fetching in
-          let after_round : Round = record rd { waiting = rd.waiting - 1; answered = true } in
-          let same : after_round ≡ round = same_Some after_round round at in
-          let own : (slice_index rd.body 0 == 5) ≡ true = ap (λ (x : Round). slice_index x.body 0 == 5) same ∙ type in
-          let hear : Hears d rd.tag answer g = subst (λ (n : ℕ). Hears d n answer g) (sym c.2) c.4.3.1 in
-          subst (Fetches g c.4.0 whole) same (moved g c.4.0 whole rd (rd.waiting - 1) true
-          (answered whole rd answer c.4.0 c.4.1 g c.1 own (subst UnseenStand here unseen_stand) (subst Settles here settles) (subst LargeStand here stand) c.4.2 parts.1 hear gets)))
+      let rd : Round = c.0 in
+      let g : asker.History = c.4.3.0 in
+      let here : next.responder ≡ c.4.0 = ap (λ (x : Dialogue). x.responder) c.4.3.2 in
+      let parts = while_parts (is_fetching (outstanding g)) c.4.1 whole fetching in
+      let after_round : Round = record rd { waiting = rd.waiting - 1; answered = true } in
+      let same : after_round ≡ round = same_Some after_round round at in
+      let own : (slice_index rd.body 0 == 5) ≡ true = ap (λ (x : Round). slice_index x.body 0 == 5) same ∙ type in
+      let hear : Hears d rd.tag answer g = subst (λ (n : ℕ). Hears d n answer g) (sym c.2) c.4.3.1 in
+      subst (Fetches g c.4.0 whole) same (moved g c.4.0 whole rd (rd.waiting - 1) true
+      (answered whole rd answer c.4.0 c.4.1 g c.1 own (subst UnseenStand here unseen_stand) (subst Settles here settles) (subst LargeStand here stand) c.4.2 parts.1 hear gets)))
 
   pub replies_so : (g : Gathered) (next : Dialogue) → UnseenStand next.responder → Settles next.responder → LargeStand next.responder → RepliesBy w d g next → FetchesSo next
   replies_so (Whole route body) next unseen_stand settles stand replies = replied_so route.tag body next unseen_stand settles stand replies.2

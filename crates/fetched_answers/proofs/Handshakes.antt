@@ -1,12 +1,12 @@
 -- One session at most is in its handshake.
-use Rattle.std.proofs.Common.{◌≡◌, ◌+◌, ◌*◌, ◌==◌, ◌&&◌, ℕ, List, [], ◌∷◌, refl, sym, ap, ◌∙◌, subst, Bool, true, false, cond, eqb-true}
+use Rattle.std.proofs.Common.{◌≡◌, ◌+◌, ◌*◌, ◌==◌, ℕ, List, [], ◌∷◌, refl, sym, ap, ◌∙◌, Bool, true, false, cond, eqb-true}
 use Rattle.std.specs.Prelude.{not, nat_le}
 use Rattle.std.proofs.lemmas.Bool.{false≢true}
 use Rattle.spdm_grammar.specs.declared.names.request_code.TheConstants.{END_SESSION, GET_VERSION, KEY_UPDATE, PSK_EXCHANGE, PSK_FINISH}
 use Rattle.spdm_grammar.specs.declared.phase.Stage.{Stage}
 use Rattle.spdm_grammar.specs.declared.phase.Stage.TheVariants.{Open, Verifying}
 use Rattle.spdm_machine.specs.Sessions.{id_in_exchange, is_past_handshake}
-use Rattle.responder_machine.specs.History.{Entry, History, clear_turns, negotiation_of}
+use Rattle.responder_machine.specs.History.{clear_turns, negotiation_of}
 use Rattle.responder_machine.specs.History.Entry.{Clear, Sealed, Queued, Ticked, Dropped}
 use Rattle.responder_machine.specs.Session.{Events, after_record, id_in_record, idle_of, is_timed, period_of, session_of, stage_of, when_live}
 use Rattle.responder_machine.specs.Session.Event.{Began, Heard, Waited}

@@ -1,5 +1,5 @@
 -- What a requester asks for upon LargeResponse, and upon a chunk that is not the last one, in the clear.
-use Rattle.std.proofs.Common.{◌≡◌, ◌<◌, ◌+◌, ◌*◌, ◌/◌, ◌%◌, ◌^◌, ◌==◌, ◌&&◌, ℕ, List, [], ◌∷◌, ◌++◌, refl, sym, ap, ◌∙◌, subst, drop, Bool, true, false, Option, Some, None, cond, inl, inr, arith}
+use Rattle.std.proofs.Common.{◌≡◌, ◌<◌, ◌+◌, ◌/◌, ◌%◌, ◌^◌, ◌==◌, ◌&&◌, ℕ, List, [], ◌∷◌, ◌++◌, refl, sym, ap, ◌∙◌, subst, drop, Bool, true, false, Option, Some, None, cond, inl, inr, arith}
 use Rattle.std.specs.Prelude.{Result, Ok, Err, slice_index}
 use Rattle.std.proofs.lemmas.Bool.{false≢true}
 use Rattle.std.proofs.lemmas.Option.{none-some, same_Some}
@@ -22,7 +22,7 @@ use Rattle.spdm_grammar.proofs.Spelled.{Spelled, one, two}
 use Rattle.spdm_grammar.proofs.Spellings.{spelling_read}
 use Rattle.spdm_grammar.specs.declared.names.response_code.TheConstants.{CHUNK_SEND_ACK}
 use Rattle.spdm_machine.specs.Terms.{hash_len}
-use Rattle.requester_machine.specs.Answers.{answer_led, error_led, goes_on, is_refused, may_be_large}
+use Rattle.requester_machine.specs.Answers.{answer_led, goes_on, is_refused, may_be_large}
 use Rattle.requester_machine.specs.Asking.Outcome.{Adds}
 use Rattle.requester_machine.specs.ClearAnswers.{ack_carries, ack_tests, acknowledged, carried_by, carried_led, chunk_carries, clear_led, collected, get_fault, has_summary, read_led, reading_of}
 use Rattle.requester_machine.specs.Bodies.{first_cause}
@@ -35,7 +35,7 @@ use Rattle.requester_machine.specs.Message.{Aim, Sent, asked_in}
 use Rattle.requester_machine.specs.Message.Aim.{Plain, ByChunks, ForChunk, InSession}
 use Rattle.requester_machine.specs.Sending.{get_sent, piece_of, piece_sent}
 use Rattle.requester_machine.specs.Setup.{ReqSetup}
-use Rattle.requester_machine.proofs.Heard.{Heard, IsTaken, heard}
+use Rattle.requester_machine.proofs.Heard.{heard}
 use Rattle.responder_machine.specs.Handling as handling
 use Rattle.responder_machine.specs.Handling.{large_response}
 use Rattle.world_machine.specs.LargeAnswers.{is_fetching, is_for_chunk}

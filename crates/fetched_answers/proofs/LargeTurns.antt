@@ -1,6 +1,6 @@
 -- A turn in the clear whose answer goes by LargeResponse: what it sends, and that it is not GET_VERSION.
-use Rattle.std.proofs.Common.{◌≡◌, ◌<◌, ◌≤◌, ◌+◌, ◌==◌, ◌&&◌, ◌||◌, ℕ, List, [], ◌∷◌, refl, sym, ap, ◌∙◌, subst, drop, length, Bool, true, false, Option, Some, None, is_some, cond, inl, inr, arith, eq-eqb, eqb-true}
-use Rattle.std.specs.Prelude.{nat_lt, slice_index}
+use Rattle.std.proofs.Common.{◌≡◌, ◌<◌, ◌≤◌, ◌==◌, ℕ, List, [], refl, sym, ap, ◌∙◌, subst, drop, length, Bool, true, false, Option, Some, None, is_some, cond, inl, inr, arith, eq-eqb, eqb-true}
+use Rattle.std.specs.Prelude.{slice_index}
 use Rattle.std.proofs.lemmas.Bool.{false≢true, false_from_ne_true}
 use Rattle.chunking.specs.Collecting.{joined_with, under_way}
 use Rattle.spdm_grammar.specs.Codes.{code_for}
@@ -11,9 +11,8 @@ use Rattle.spdm_grammar.specs.declared.names.request_code.TheConstants.{CHUNK_SE
 use Rattle.responder_machine.specs.Answer.{Free, answer_bytes, answer_to, request_at}
 use Rattle.responder_machine.specs.Handling.{acknowledged, carried_turn, chunk_in, effect_of, goes_large, large_response, last_chunk_turn, plain_turn, taken_chunk, turn_by, turn_of}
 use Rattle.responder_machine.specs.History.{Entry, History}
-use Rattle.responder_machine.specs.History.Entry.{Clear, Sealed, Queued, Ticked, Dropped}
+use Rattle.responder_machine.specs.History.Entry.{Clear}
 use Rattle.responder_machine.specs.LargeMessages.{chunks_of}
-use Rattle.responder_machine.specs.May.{IsAllowed}
 use Rattle.responder_machine.specs.Place.{Place, clear_place, inside}
 use Rattle.responder_machine.specs.Place.Where.{InChunks}
 use Rattle.responder_machine.specs.Refusal.{bytes_round, code_of, is_misplaced, refusal}
@@ -22,7 +21,6 @@ use Rattle.responder_machine.specs.Setup.{RspSetup}
 use Rattle.responder_machine.specs.Turn.{Effect, Turn, code_in, handle_in, takes}
 use Rattle.responder_machine.specs.Turn.Effect.{NoEffect, Took, TookData}
 use Rattle.responder_machine.proofs.Codes.{asked-code}
-use Rattle.responder_machine.proofs.Making.{turn_message}
 use Rattle.responder_machine.proofs.Tests.{form_shown}
 use Rattle.fetched_answers.proofs.LargeHeard.{large_reply}
 use Rattle.fetched_answers.proofs.MeasuredSessions.{short_goes}

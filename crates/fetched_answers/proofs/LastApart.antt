@@ -1,9 +1,9 @@
 -- Whether the verify data of the last chunk of a large answer are alone wrong is told from what is shown.
-use Rattle.std.proofs.Common.{◌≡◌, ◌<◌, ◌≤◌, ◌==◌, ◌&&◌, ◌||◌, ◌↔◌, ℕ, List, [], ◌∷◌, ◌++◌, refl, sym, ap, ◌∙◌, subst, drop, length, Bool, true, false, Option, Some, None, is_some, cond, inl, inr, eq-eqb, eqb-true}
+use Rattle.std.proofs.Common.{◌≡◌, ◌<◌, ◌≤◌, ◌==◌, ◌&&◌, ◌||◌, ℕ, List, [], ◌∷◌, ◌++◌, refl, sym, ap, ◌∙◌, subst, length, Bool, true, false, Option, Some, None, is_some, cond, inl, inr, eq-eqb, eqb-true}
 use Rattle.std.specs.Prelude.{MatchBool, not, slice_index}
 use Rattle.std.proofs.lemmas.Bool.{false≢true}
 use Rattle.std.proofs.lemmas.Option.{same_Some}
-use Rattle.spdm_basis.proofs.Bools.{and_first, and_second}
+use Rattle.spdm_basis.proofs.Bools.{and_first}
 use Rattle.chunking.specs.Collecting.{joined_with, under_way}
 use Rattle.spdm_grammar.specs.Message.{ChunkMessage}
 use Rattle.spdm_grammar.specs.declared.names.TheConstants.{MAX_MESSAGE_SIZE}
@@ -19,32 +19,31 @@ use Rattle.responder_machine.specs.Handling.{chunk_in, turn_of}
 use Rattle.responder_machine.specs.History.{Entry, History, clear_turns, negotiation_of}
 use Rattle.responder_machine.specs.History.Entry.{Clear, Sealed, Queued, Ticked, Dropped}
 use Rattle.responder_machine.specs.LargeMessages.{chunks_of}
-use Rattle.responder_machine.specs.May.{IsAllowed, with_dropped}
+use Rattle.responder_machine.specs.May.{with_dropped}
 use Rattle.responder_machine.specs.Place.{Place, clear_place, inside, place_terms}
-use Rattle.responder_machine.specs.Responder.{Outcome, body_of, sent_by}
-use Rattle.responder_machine.specs.Responder.Outcome.{Same, Adds}
+use Rattle.responder_machine.specs.Responder.{Outcome, body_of}
+use Rattle.responder_machine.specs.Responder.Outcome.{Adds}
 use Rattle.responder_machine.specs.Setup.{RspSetup}
 use Rattle.responder_machine.specs.Turn.{Effect, Turn, answer_in, code_in, handle_in, request_in, takes}
 use Rattle.responder_machine.specs.Turn.Effect.{NoEffect, Took, TookData}
 use Rattle.capture_laws.proofs.TurnShown.{inside_allowed}
 use Rattle.capture_laws.specs.AnswersShown.{LeadsAt, values_shown_by}
 use Rattle.capture_laws.specs.DropsShown.{dropped_for}
-use Rattle.capture_laws.specs.LargeShown.{ends_large, last_shown, whole_of}
-use Rattle.fetched_answers.proofs.ExchangeWhole.{Exchanges, ExchangesBy, IsExchangeOf, ShowsAlike, apart_shows, turn_exchange}
+use Rattle.capture_laws.specs.LargeShown.{ends_large, last_shown}
+use Rattle.fetched_answers.proofs.ExchangeWhole.{Exchanges, ExchangesBy, IsExchangeOf, apart_shows, turn_exchange}
 use Rattle.fetched_answers.proofs.ExchangeWhole.ExchangesBy.{Plainly, ByChunks}
 use Rattle.fetched_answers.proofs.LastShown.{last_back, last_is}
 use Rattle.fetched_answers.proofs.WholeDrops.{entry_led, entry_shown}
-use Rattle.fetched_answers.specs.ClearApart.{IsLastApart, LastApartIsShown, LeadsToOther}
-use Rattle.fetched_answers.specs.ClearSessions.{AreGets, IsUnseenRequest, is_clear_get}
+use Rattle.fetched_answers.specs.ClearApart.{IsLastApart, LastApartIsShown}
+use Rattle.fetched_answers.specs.ClearSessions.{AreGets}
 use Rattle.fetched_answers.specs.LastShown.{drops_with}
-use Rattle.fetched_answers.specs.WholeValues.{clear_whole, values_with_whole, whole_values}
+use Rattle.fetched_answers.specs.WholeValues.{clear_whole, values_with_whole}
 use Rattle.world_machine.proofs.DropsTell.{clear_form, turns_stay}
 use Rattle.world_machine.proofs.FetchedSessions.{takes_with}
 use Rattle.world_machine.proofs.PlacesServed.{named_clear}
 use Rattle.world_machine.specs.CapturedAnswers.{MayHaveLed, MayLeadTo, MayLeadToEntry, answer_at}
 use Rattle.world_machine.specs.Difference.{CompletesApart, is_apart, verify_size}
-use Rattle.world_machine.specs.LargeAnswers.{begun_with, effect_with, gives_last, handle_shown, is_large, is_unseen_effect, is_unseen_in, is_untouched, judging, place_named, seen, seen_turn, touches, with_large}
-use Rattle.world_machine.specs.Rounds.{Dialogue, Round, no_draw}
+use Rattle.world_machine.specs.LargeAnswers.{begun_with, effect_with, gives_last, handle_shown, is_unseen_effect, is_untouched, judging, place_named, seen, seen_turn, touches, with_large}
 
 -- ---- The request.
 

@@ -1,6 +1,6 @@
 -- While a large answer is fetched no answer in the clear carries PSK_EXCHANGE_RSP.
-use Rattle.std.proofs.Common.{◌≡◌, ◌==◌, ◌&&◌, ℕ, List, [], ◌∷◌, refl, sym, ap, ◌∙◌, subst, drop, Bool, true, false, Option, Some, None, cond, inl, inr}
-use Rattle.std.specs.Prelude.{MatchBool, bytes_eq, slice_index}
+use Rattle.std.proofs.Common.{◌≡◌, ◌==◌, ℕ, List, [], ◌∷◌, refl, sym, ap, ◌∙◌, subst, drop, Bool, true, false, Option, Some, None, cond, inl, inr}
+use Rattle.std.specs.Prelude.{MatchBool, slice_index}
 use Rattle.std.proofs.lemmas.Bool.{false≢true}
 use Rattle.std.proofs.lemmas.Option.{none-some}
 use Rattle.std.proofs.lemmas.Slice.Eq.{bytes_eq-Decides}
@@ -29,15 +29,14 @@ use Rattle.fetched_answers.proofs.ReadyGets.{LargeStand}
 use Rattle.fetched_answers.proofs.WalksSound.{walk_stands, walks_sound}
 use Rattle.fetched_answers.specs.ClearApart.{RepliesAreNotApart}
 use Rattle.world_machine.proofs.DropsTell.{kept_same}
-use Rattle.world_machine.proofs.FetchStates.{Fetch, Getting}
+use Rattle.world_machine.proofs.FetchStates.{Getting}
 use Rattle.world_machine.proofs.FetchStates.Getting.{Asks, Repeats, Seals}
 use Rattle.world_machine.proofs.FetchedTells.{ReadsAlways, get_reads, kept_large, version_reads}
 use Rattle.world_machine.proofs.FetchedTold.{Stands}
-use Rattle.world_machine.proofs.PlacesServed.{named_clear}
 use Rattle.world_machine.proofs.PlainTells.{led_clear}
-use Rattle.world_machine.proofs.UnseenStands.{IsClearSince, IsQuiet, UnseenStand}
+use Rattle.world_machine.proofs.UnseenStands.{IsClearSince, UnseenStand}
 use Rattle.world_machine.specs.CapturedAnswers.{Answers, MayLeadTo}
-use Rattle.world_machine.specs.Difference.{RepliesApart, carries_exchange}
+use Rattle.world_machine.specs.Difference.{carries_exchange}
 use Rattle.world_machine.specs.LargeAnswers.{is_unseen_effect, judging, place_named, with_large}
 use Rattle.world_machine.specs.Rounds.{Dialogue, Round, no_draw}
 use Rattle.world_machine.specs.Setup.{known_of}

@@ -1,5 +1,5 @@
 -- In the clear a large answer is ready to be given chunk by chunk: from LargeResponse on, and behind each chunk.
-use Rattle.std.proofs.Common.{◌≡◌, ◌<◌, ◌≤◌, ◌+◌, ◌-◌, ◌*◌, ◌^◌, ◌==◌, ◌&&◌, ◌||◌, ℕ, zero, suc, List, [], ◌∷◌, refl, sym, ap, ◌∙◌, subst, length, Bool, true, false, Option, Some, None, is_some, cond, arith}
+use Rattle.std.proofs.Common.{◌≡◌, ◌<◌, ◌≤◌, ◌+◌, ◌-◌, ◌*◌, ◌^◌, ℕ, zero, suc, List, [], ◌∷◌, refl, sym, ap, ◌∙◌, length, Bool, true, false, Option, Some, None, is_some, cond, arith}
 use Rattle.std.specs.Prelude.{nat_lt, not, slice_index, unwrap_or}
 use Rattle.std.proofs.lemmas.Bool.{false≢true, lt-ltb}
 use Rattle.std.proofs.lemmas.Bool.Decides.{nat_tests}
@@ -12,21 +12,21 @@ use Rattle.spdm_grammar.specs.Message.{ChunkMessage}
 use Rattle.spdm_grammar.specs.declared.names.request_code.TheConstants.{CHUNK_GET, GET_CAPABILITIES, GET_VERSION, NEGOTIATE_ALGORITHMS}
 use Rattle.spdm_machine.specs.Terms.{no_negotiation, terms_of}
 use Rattle.transcript.specs.Transcripts.{Negotiation}
-use Rattle.responder_machine.specs.History.{Entry, History, clear_turns, kept_of, negotiation_of}
+use Rattle.responder_machine.specs.History.{History, clear_turns, kept_of, negotiation_of}
 use Rattle.responder_machine.specs.History.Entry.{Clear, Sealed, Queued, Ticked, Dropped}
 use Rattle.responder_machine.specs.LargeMessages.{given_of, handle_of, large_of}
-use Rattle.responder_machine.specs.Responder.{is_repeat, kept_reply}
+use Rattle.responder_machine.specs.Responder.{kept_reply}
 use Rattle.responder_machine.specs.Turn.{Effect, Turn, answer_in, handle_in, is_taken, large_in, request_in, takes}
 use Rattle.responder_machine.specs.Turn.Effect.{NoEffect, Took, TookData}
 use Rattle.fetched_answers.proofs.LargeHeard.{large_reply}
-use Rattle.fetched_answers.proofs.LargeTurns.{IsLargeTurn, LargeStandsIn, SendsLarge}
-use Rattle.fetched_answers.proofs.TurnsBoth.{Settles, SettlesEntry}
+use Rattle.fetched_answers.proofs.LargeTurns.{LargeStandsIn}
+use Rattle.fetched_answers.proofs.TurnsBoth.{Settles}
 use Rattle.fetched_answers.specs.ClearChunks.{get_entry, get_response}
 use Rattle.world_machine.proofs.ChunksGiven.{given_idle, large_idle, large_other}
 use Rattle.world_machine.proofs.FetchedSessions.{takes_with}
 use Rattle.world_machine.proofs.SmallGets.{chunk_sized}
-use Rattle.world_machine.proofs.UnseenStands.{GoesLarge, StandsUnseen, UnseenStand}
-use Rattle.world_machine.specs.LargeAnswers.{effect_with, handle_shown, is_unseen_effect, repeats_large, seen_turn, turn_with, with_large}
+use Rattle.world_machine.proofs.UnseenStands.{GoesLarge, UnseenStand}
+use Rattle.world_machine.specs.LargeAnswers.{effect_with, handle_shown, is_unseen_effect, repeats_large, seen_turn, with_large}
 
 -- ---- What both ends can do.
 

@@ -1,6 +1,6 @@
 -- Whether the verify data of the last chunk of a large answer are alone wrong, which is fetched in the clear. This project's
 -- own.
-use Rattle.std.specs.Prelude.{◌≡◌, ◌<◌, ◌≤◌, ◌==◌, ◌↔◌, ℕ, List, ◌∷◌, ◌++◌, slice_index, true, Option, Some, None}
+use Rattle.std.specs.Prelude.{◌≡◌, ◌<◌, ◌==◌, ◌↔◌, ℕ, List, ◌∷◌, ◌++◌, slice_index, true, Some}
 use Rattle.requester_machine.specs.Setup.{ReqSetup}
 use Rattle.responder_machine.specs.History.{Entry, History}
 use Rattle.responder_machine.specs.May.{with_dropped}

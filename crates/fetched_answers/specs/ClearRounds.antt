@@ -1,5 +1,5 @@
 -- Which rounds are possible while a large answer is fetched. This project's own.
-use Rattle.std.specs.Prelude.{◌≡◌, ◌≤◌, ◌==◌, ◌⊎◌, ℕ, List, drop, slice_index, true, Option, Some, None}
+use Rattle.std.specs.Prelude.{◌≡◌, ◌≤◌, ◌==◌, ◌⊎◌, ℕ, List, drop, slice_index, true, Some}
 use Rattle.requester_machine.specs.Setup.{ReqSetup}
 use Rattle.responder_machine.specs.History.{History, kept_of}
 use Rattle.responder_machine.specs.Responder.{is_repeat}

@@ -5,7 +5,6 @@ use Rattle.capture_ends.specs.declared.answer_keys.AnswerKeys.{AnswerKeys}
 use Rattle.capture_laws.specs.Changes.{views_in}
 use Rattle.responder_machine.specs.History.{Entry, History}
 use Rattle.responder_machine.specs.History.Entry.{Clear, Dropped}
-use Rattle.responder_machine.specs.Place.{is_held}
 use Rattle.responder_machine.specs.Responder.Outcome.{Adds}
 use Rattle.responder_machine.specs.Session.{Events, id_in_record, is_live, session_of, stage_of}
 use Rattle.responder_machine.specs.Setup.{RspSetup}
@@ -13,7 +12,7 @@ use Rattle.responder_machine.specs.Turn.{handle_in, takes}
 use Rattle.spdm_grammar.specs.declared.names.request_code.TheConstants.{CHUNK_GET, GET_VERSION, PSK_EXCHANGE}
 use Rattle.spdm_machine.specs.Sessions.{is_past_handshake}
 use Rattle.world_machine.specs.CapturedAnswers.{MayLeadTo}
-use Rattle.world_machine.specs.LargeAnswers.{is_large, is_unseen, is_unseen_effect, is_unseen_in, unseen}
+use Rattle.world_machine.specs.LargeAnswers.{is_large, is_unseen_effect, unseen}
 use Rattle.world_machine.specs.Opening.{opens_answering}
 
 -- ---- What came.

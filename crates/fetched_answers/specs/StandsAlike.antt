@@ -1,24 +1,24 @@
 -- Which histories a connection stands for alike. This project's own.
-use Rattle.std.specs.Prelude.{◌≡◌, ◌≤◌, ◌==◌, ◌↔◌, ℕ, List, [], ◌∷◌, ◌++◌, Bool, true, false, Option, Some, None}
+use Rattle.std.specs.Prelude.{◌≡◌, ◌≤◌, ◌↔◌, ℕ, List, ◌∷◌, ◌++◌, true, false, None}
 use Rattle.connection.specs.Connected as connected
 use Rattle.connection.specs.declared.connected.Connection.{Connection}
 use Rattle.fetched_answers.specs.ClearSessions.{AreGets, IsLeftBy, IsUnseenRequest, is_in_handshake}
 use Rattle.responder_machine.specs.History.{Entry, History, clear_turns, ended_of, kept_of, queue_of}
 use Rattle.responder_machine.specs.History.Entry.{Clear, Dropped}
 use Rattle.responder_machine.specs.LargeMessages.{next_handle}
-use Rattle.responder_machine.specs.Place.{Place, clear_place, place_terms}
+use Rattle.responder_machine.specs.Place.{clear_place, place_terms}
 use Rattle.responder_machine.specs.Refusal.{sizes_are_known}
 use Rattle.responder_machine.specs.Responder.Outcome.{Adds}
 use Rattle.responder_machine.specs.Responder.{Outcome, is_repeat}
 use Rattle.responder_machine.specs.Session.{session_of}
 use Rattle.responder_machine.specs.Setup.{RspSetup}
 use Rattle.responder_machine.specs.SizeLaws.{HasSizes}
-use Rattle.responder_machine.specs.Turn.{Turn, is_taken, takes}
+use Rattle.responder_machine.specs.Turn.{Turn, takes}
 use Rattle.responder_machine.specs.Turn.Effect.{Took}
 use Rattle.spdm_grammar.specs.Message.RequestMessage.{GetVersion}
 use Rattle.spdm_grammar.specs.Requests.{canonical_request}
 use Rattle.spdm_grammar.specs.Responses.{canonical_response}
-use Rattle.spdm_grammar.specs.declared.names.request_code.TheConstants.{GET_VERSION, PSK_EXCHANGE}
+use Rattle.spdm_grammar.specs.declared.names.request_code.TheConstants.{PSK_EXCHANGE}
 use Rattle.spdm_machine.specs.Bodies.{clear_body}
 use Rattle.world_machine.specs.CapturedAnswers.{MayLeadTo}
 use Rattle.world_machine.specs.Rounds.{no_draw}
