@@ -126,7 +126,7 @@ asks_so d (Dropped cause) next sound askers so asks = absurd asks
 -- ---- An answer.
 
 module _ (w : Configuration) (given : NextIsGiven) (d : Dialogue) (sound : IsSound d) (askers : Alike d) (known : is_fetching (outstanding d.requester) ≡ true → is_some d.fetching ≡ true) (so : FetchesSo d)
-    (room : 6 ≤ (towards w.responder (known_of d.setup)).transfer) where
+    (room : (whole : List ℕ) (rd : Round) → Fetches d.requester d.responder whole rd → 6 ≤ (towards w.responder (known_of d.setup)).transfer) where
   abbrev r : RspSetup
   r = towards w.responder (known_of d.setup)
 
@@ -149,7 +149,7 @@ module _ (w : Configuration) (given : NextIsGiven) (d : Dialogue) (sound : IsSou
       let before : d.fetching ≡ Some whole = sym a.1 ∙ is in
       let asks = was whole rd answer g before at hear gets in
       let j = judged whole rd before type in
-      plain_step r room given d rd at askers asks type whole answer g hear gets a.0.0 a.0.1 h
+      plain_step r (room whole rd (so whole rd before at type asks)) given d rd at askers asks type whole answer g hear gets a.0.0 a.0.1 h
       (subst (λ (l : History). MayLeadAfter r l a.0.0 rd.tag rd.body a.0.1) j a.0.2) (subst (λ (l : History). AreShown r l rd.body a.0.1 a.0.0) j a.0.3) (subst (λ (l : History). is_plain l a.0.1 ≡ true) j a.0.4) a.0.5 a.0.6
       (so whole rd before at type asks)
   answered whole rd answer h fetching g at type unseen_stand settles stand (inr (inl a)) is hear gets =
@@ -159,7 +159,7 @@ module _ (w : Configuration) (given : NextIsGiven) (d : Dialogue) (sound : IsSou
       by_fetching : (o : Option (List ℕ)) → d.fetching ≡ o → Fetches g h a.0 rd
       by_fetching (Some v) before =
           let asks = was v rd answer g before at hear gets in
-          absurd (large_not r room given d rd at askers asks type v answer g hear gets a.1.0 a.1.1 (subst (λ (l : History). MayLeadAfter r l a.1.0 rd.tag rd.body (Adds a.1.1)) (judged v rd before type) a.1.2) a.1.3 (so v rd before at type asks))
+          absurd (large_not r (room v rd (so v rd before at type asks)) given d rd at askers asks type v answer g hear gets a.1.0 a.1.1 (subst (λ (l : History). MayLeadAfter r l a.1.0 rd.tag rd.body (Adds a.1.1)) (judged v rd before type) a.1.2) a.1.3 (so v rd before at type asks))
       by_fetching None before =
           let none : is_fetching (outstanding d.requester) ≡ false = false_from_ne_true (is_fetching (outstanding d.requester)) (λ x. false≢true (sym (ap is_some before) ∙ known x)) in
           let j : judging d.fetching rd.body d.responder ≡ d.responder = ap (λ (o : Option (List ℕ)). judging o rd.body d.responder) before in

@@ -1,5 +1,5 @@
 -- Which rounds are possible while a large answer is fetched. This project's own.
-use Rattle.std.specs.Prelude.{◌≡◌, ◌≤◌, ◌==◌, ◌⊎◌, ℕ, List, drop, slice_index, true, Some}
+use Rattle.std.specs.Prelude.{◌≡◌, ◌==◌, ◌⊎◌, ℕ, List, drop, slice_index, true, Some}
 use Rattle.requester_machine.specs.Setup.{ReqSetup}
 use Rattle.responder_machine.specs.History.{History, kept_of}
 use Rattle.responder_machine.specs.Responder.{is_repeat}
@@ -21,11 +21,9 @@ IsClearRound r h whole round =
     ⊎ ((is_repeat (kept_of h) round.tag (drop 1 round.body) ≡ true)
     ⊎ ((handle : ℕ) × (number : ℕ) × (round.body ≡ clear_body (get_message handle number)) × IsNextGet r h whole round.tag handle number))
 
--- In a walk in which some bytes are fetched, a round in the clear is one of these three. The responder takes messages of six
--- bytes.
+-- In a walk in which some bytes are fetched, a round in the clear is one of these three.
 abbrev pub GetIsNext : Type 0
 GetIsNext = (c : Configuration) (q : ReqSetup) (older : List (List ℕ)) (d : Dialogue) (whole : List ℕ) (round : Round)
-    → 6 ≤ (towards c.responder (known_of d.setup)).transfer
     → Walks c q older d → d.fetching ≡ Some whole → d.round ≡ Some round → (slice_index round.body 0 == 5) ≡ true
     → IsClearRound (towards c.responder (known_of d.setup)) d.responder whole round
 
