@@ -1,9 +1,10 @@
 -- Which histories a connection stands for alike. This project's own.
 use Rattle.std.specs.Prelude.{◌≡◌, ◌≤◌, ◌↔◌, ℕ, List, ◌∷◌, ◌++◌, true, false, None}
+use Rattle.capture_laws.specs.Walks.{Walks}
 use Rattle.connection.specs.Connected as connected
 use Rattle.connection.specs.declared.connected.Connection.{Connection}
 use Rattle.fetched_answers.specs.ClearSessions.{AreGets, IsLeftBy, IsUnseenRequest, is_in_handshake}
-use Rattle.responder_machine.specs.History.{Entry, History, clear_turns, ended_of, kept_of, queue_of}
+use Rattle.responder_machine.specs.History.{Entry, History, clear_turns, ended_of, kept_of, queue_of, phase_of}
 use Rattle.responder_machine.specs.History.Entry.{Clear, Dropped}
 use Rattle.responder_machine.specs.LargeMessages.{next_handle}
 use Rattle.responder_machine.specs.Place.{clear_place, place_terms}
@@ -11,7 +12,8 @@ use Rattle.responder_machine.specs.Refusal.{sizes_are_known}
 use Rattle.responder_machine.specs.Responder.Outcome.{Adds}
 use Rattle.responder_machine.specs.Responder.{Outcome, is_repeat}
 use Rattle.responder_machine.specs.Session.{session_of}
-use Rattle.responder_machine.specs.Setup.{RspSetup}
+use Rattle.requester_machine.specs.Setup.{ReqSetup}
+use Rattle.responder_machine.specs.Setup.{RspSetup, towards}
 use Rattle.responder_machine.specs.SizeLaws.{HasSizes}
 use Rattle.responder_machine.specs.Turn.{Turn, takes}
 use Rattle.responder_machine.specs.Turn.Effect.{Took}
@@ -21,7 +23,8 @@ use Rattle.spdm_grammar.specs.Responses.{canonical_response}
 use Rattle.spdm_grammar.specs.declared.names.request_code.TheConstants.{PSK_EXCHANGE}
 use Rattle.spdm_machine.specs.Bodies.{clear_body}
 use Rattle.world_machine.specs.CapturedAnswers.{MayLeadTo}
-use Rattle.world_machine.specs.Rounds.{no_draw}
+use Rattle.world_machine.specs.Rounds.{Dialogue, no_draw}
+use Rattle.world_machine.specs.Setup.{Configuration, known_of}
 use Rattle.responder_machine.specs.Answer.{version_answer}
 
 -- They have the same turns in the clear, kept message, sessions, ended record and queue.
@@ -63,6 +66,16 @@ pub record IsAnew (r : RspSetup) (h : History) (tag : ℕ) : Type 0 where
 abbrev pub VersionIsGiven : Type 0
 VersionIsGiven = (r : RspSetup) (h : History) (tag : ℕ) (outcome : Outcome) → IsAnew r h tag
     → MayLeadTo r h tag (clear_body (canonical_request GetVersion)) outcome ↔ (outcome ≡ Adds (version_entry tag))
+
+-- In a walk in which a large answer is fetched in the clear, the responder takes messages of four bytes, and GET_VERSION is no
+-- repeat, neither there nor by what was left before the request. Sizes were known before it.
+abbrev pub VersionIsAnew : Type 0
+VersionIsAnew = (w : Configuration) (q : ReqSetup) (older : List (List ℕ)) (d : Dialogue) (gets : List Entry) (entry : Entry) (before left : History) (tag : ℕ)
+    → Walks w q older d → d.responder ≡ gets ++ entry ∷ before → AreGets gets → IsUnseenRequest entry → IsLeftBy entry before left
+    → sizes_are_known (phase_of (clear_turns before)) ≡ true
+    → (4 ≤ (towards w.responder (known_of d.setup)).transfer)
+    × (is_repeat (kept_of d.responder) tag (canonical_request GetVersion) ≡ false)
+    × (is_repeat (kept_of left) tag (canonical_request GetVersion) ≡ false)
 
 -- Behind it nothing of what was before counts but the data that wait, and how many answers in the clear went by
 -- LargeResponse.
