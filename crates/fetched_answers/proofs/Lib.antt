@@ -42,3 +42,5 @@ pub mod LastApart
 pub mod CarryWalks
 pub mod NotApart
 pub mod RoomWalks
+pub mod VersionWalks
+pub mod LargeSized

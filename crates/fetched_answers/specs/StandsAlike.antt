@@ -1,5 +1,5 @@
 -- Which histories a connection stands for alike. This project's own.
-use Rattle.std.specs.Prelude.{◌≡◌, ◌≤◌, ◌↔◌, ℕ, List, ◌∷◌, ◌++◌, true, false, None}
+use Rattle.std.specs.Prelude.{◌≡◌, ◌≤◌, ◌==◌, ◌↔◌, ℕ, List, ◌∷◌, ◌++◌, slice_index, true, false, None}
 use Rattle.capture_laws.specs.Walks.{Walks}
 use Rattle.connection.specs.Connected as connected
 use Rattle.connection.specs.declared.connected.Connection.{Connection}
@@ -23,6 +23,7 @@ use Rattle.spdm_grammar.specs.Responses.{canonical_response}
 use Rattle.spdm_grammar.specs.declared.names.request_code.TheConstants.{PSK_EXCHANGE}
 use Rattle.spdm_machine.specs.Bodies.{clear_body}
 use Rattle.world_machine.specs.CapturedAnswers.{MayLeadTo}
+use Rattle.world_machine.specs.LargeAnswers.{is_large}
 use Rattle.world_machine.specs.Rounds.{Dialogue, no_draw}
 use Rattle.world_machine.specs.Setup.{Configuration, known_of}
 use Rattle.responder_machine.specs.Answer.{version_answer}
@@ -66,6 +67,11 @@ pub record IsAnew (r : RspSetup) (h : History) (tag : ℕ) : Type 0 where
 abbrev pub VersionIsGiven : Type 0
 VersionIsGiven = (r : RspSetup) (h : History) (tag : ℕ) (outcome : Outcome) → IsAnew r h tag
     → MayLeadTo r h tag (clear_body (canonical_request GetVersion)) outcome ↔ (outcome ≡ Adds (version_entry tag))
+
+-- An answer in the clear goes by LargeResponse only where sizes are known.
+abbrev pub LargeIsSized : Type 0
+LargeIsSized = (r : RspSetup) (h : History) (tag : ℕ) (body : List ℕ) (entry : Entry) → (slice_index body 0 == 5) ≡ true
+    → MayLeadTo r h tag body (Adds entry) → is_large entry ≡ true → sizes_are_known (phase_of (clear_turns h)) ≡ true
 
 -- In a walk in which a large answer is fetched in the clear, the responder takes messages of four bytes, and GET_VERSION is no
 -- repeat, neither there nor by what was left before the request. Sizes were known before it.

@@ -4,7 +4,7 @@
 ghost use Rattle.fetched_answers.specs.ClearApart.{LastApartIsShown, RepliesAreNotApart};
 ghost use Rattle.fetched_answers.specs.ClearRounds.{GetIsNext, RoundIsThere};
 ghost use Rattle.fetched_answers.specs.ClearSessions.{ClearWhyIsBefore, KeysStandOn, LargeIsUnseen, OneHandshake, SessionsAreLeft, ViewsAreLeft};
-ghost use Rattle.fetched_answers.specs.StandsAlike.{ExchangeEndsHandshake, StandsAlike, VersionEndsAll, VersionEndsFetch, VersionIsGiven};
+ghost use Rattle.fetched_answers.specs.StandsAlike.{ExchangeEndsHandshake, LargeIsSized, StandsAlike, VersionEndsAll, VersionEndsFetch, VersionIsAnew, VersionIsGiven};
 
 /// A round in the clear is GET_VERSION, a repeat, or CHUNK_GET for the next chunk.
 pub fn get_is_next()
@@ -69,6 +69,16 @@ pub fn exchange_ends_handshake()
 /// GET_VERSION is answered by VERSION.
 pub fn version_is_given()
     ensures { VersionIsGiven }
+{}
+
+/// An answer goes by LargeResponse only where sizes are known.
+pub fn large_is_sized()
+    ensures { LargeIsSized }
+{}
+
+/// GET_VERSION is no repeat while a large answer is fetched.
+pub fn version_is_anew()
+    ensures { VersionIsAnew }
 {}
 
 /// Behind it little counts of what was before.

@@ -13,9 +13,10 @@ mod pending_bytes;
 
 pub use answer_texts::{message_in, read_answer};
 pub use clear_laws::{
-    clear_why_is_before, exchange_ends_handshake, get_is_next, keys_stand_on, large_is_unseen,
-    last_apart_is_shown, one_handshake, replies_are_not_apart, round_is_there, sessions_are_left,
-    stands_alike, version_ends_all, version_ends_fetch, version_is_given, views_are_left,
+    clear_why_is_before, exchange_ends_handshake, get_is_next, keys_stand_on, large_is_sized,
+    large_is_unseen, last_apart_is_shown, one_handshake, replies_are_not_apart, round_is_there,
+    sessions_are_left, stands_alike, version_ends_all, version_ends_fetch, version_is_anew,
+    version_is_given, views_are_left,
 };
 pub use few_blocks::blocks_are_few;
 pub use laws::{
