@@ -19,3 +19,4 @@ pub mod Harmless
 pub mod OwnAnswers
 pub mod SeenTerms
 pub mod Pending
+pub mod Trying

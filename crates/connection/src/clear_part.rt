@@ -1,4 +1,4 @@
-ghost use Rattle.std.specs.Prelude.{◌≡◌, ◌≤◌, [], ℕ, List, length, slice_index};
+ghost use Rattle.std.specs.Prelude.{◌≡◌, ◌≤◌, [], ℕ, List, IfSome, is_some, true, false, length, slice_index};
 ghost use Rattle.responder_machine.specs.Answer.{Free, answer_bytes};
 ghost use Rattle.responder_machine.specs.History.{History};
 ghost use Rattle.responder_machine.specs.Place.{clear_place, held_of};
@@ -54,6 +54,19 @@ impl ClearPart {
             requests: Requests::new(setup),
             kept: KeptReply::new(),
         }
+    }
+
+    /// An equal one where no large answer is pending; none where one is.
+    pub fn idle_copy(&self) -> Option<ClearPart>
+        ensures same { IfSome result (λ copy. copy ≡ self.now) }
+        ensures idle { (r : RspSetup) (h : History) → StandsFor self.now r h
+            → refusals.has_pending (clear_place h) ≡ false → is_some result ≡ true }
+    {
+        let requests = self.requests.idle_copy()?;
+        Some(ClearPart {
+            requests,
+            kept: self.kept.copy(),
+        })
     }
 
     /// What is kept of the requests.

@@ -41,6 +41,22 @@ impl KeptReply {
         }
     }
 
+    /// An equal one.
+    pub fn copy(&self) -> KeptReply
+        ensures { result ≡ self.now }
+    {
+        let mut message = Frame::new();
+        let _ = message.extend(self.message.as_slice());
+        let mut reply = Frame::new();
+        let _ = reply.extend(self.reply.as_slice());
+        KeptReply {
+            is_there: self.is_there,
+            tag: self.tag,
+            message,
+            reply,
+        }
+    }
+
     /// Whether a message with this tag is the kept request.
     pub fn is_repeat(&self, tag: u8, message: &[u8]) -> bool
         ensures { result ≡ responder.is_repeat self.now tag message.now }

@@ -39,6 +39,8 @@ mod taking;
 mod tested;
 mod timed;
 mod told;
+mod tried;
+mod trying;
 mod views;
 
 pub use came::{Begun, Came};
@@ -58,3 +60,4 @@ pub use sessions::Sessions;
 pub use setup::Setup;
 pub use standing::Standing;
 pub use told::Told;
+pub use tried::Tried;

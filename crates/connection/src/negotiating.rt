@@ -81,6 +81,18 @@ impl Negotiating {
         }
     }
 
+    /// An equal one.
+    pub fn copy(&self) -> Negotiating
+        ensures { result ≡ self.now }
+    {
+        Negotiating {
+            phase: self.phase,
+            messages: self.messages.clone(),
+            common: self.common,
+            choice: self.choice,
+        }
+    }
+
     /// How far it has come.
     pub fn phase(&self) -> Phase
         ensures { result ≡ self.now.phase }

@@ -1,11 +1,12 @@
-ghost use Rattle.std.specs.Prelude.{◌≡◌, ◌≤◌, ◌∷◌, [], true, None, Some, ℕ, List, length};
+ghost use Rattle.std.specs.Prelude.{◌≡◌, ◌≤◌, ◌∷◌, [], true, false, None, Some, IfSome, is_some, ℕ, List, length};
 ghost use Rattle.chunking.specs.Collecting.{accepted_with, collected, joined, told_size, under_way};
 ghost use Rattle.chunking.specs.Keeping as keeping;
 ghost use Rattle.responder_machine.specs.Answer.{Free, answer_bytes, request_at};
 ghost use Rattle.responder_machine.specs.LargeMessages.{chunks_of};
 ghost use Rattle.responder_machine.specs.Laws.{completed_at};
+ghost use Rattle.responder_machine.specs.Place as places;
 ghost use Rattle.responder_machine.specs.Place.Where.{InClear};
-ghost use Rattle.responder_machine.specs.Refusal.{chunk_fault, refusal, refused_form};
+ghost use Rattle.responder_machine.specs.Refusal.{chunk_fault, has_pending, refusal, refused_form};
 ghost use Rattle.responder_machine.specs.Setup.{RspSetup};
 ghost use Rattle.responder_machine.specs.Turn.{Turn};
 ghost use Rattle.spdm_grammar.specs.Message.{chunk_message};
@@ -69,6 +70,23 @@ impl Requests {
             collector: Collector::new(setup.max),
             whole: Frame::new(),
         }
+    }
+
+    /// An equal one where no large answer is pending; none where one is.
+    pub fn idle_copy(&self) -> Option<Requests>
+        ensures same { IfSome result (λ copy. copy ≡ self.now) }
+        ensures idle { (at : places.Where) (turns : List Turn) (held : ℕ)
+            → standings.StandsFor self.now.standing turns
+            → has_pending (place_at at turns held) ≡ false → is_some result ≡ true }
+    {
+        let standing = self.standing.idle_copy()?;
+        let mut whole = Frame::new();
+        let _ = whole.extend(self.whole.as_slice());
+        Some(Requests {
+            standing,
+            collector: self.collector.copy(),
+            whole,
+        })
     }
 
     /// The large request that was completed last.

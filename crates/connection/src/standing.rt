@@ -1,4 +1,6 @@
-ghost use Rattle.std.specs.Prelude.{◌≡◌, [], ℕ, List};
+ghost use Rattle.std.specs.Prelude.{◌≡◌, [], ℕ, List, IfSome, is_some, true, false};
+ghost use Rattle.responder_machine.specs.Place as places;
+ghost use Rattle.responder_machine.specs.Refusal.{has_pending};
 ghost use Rattle.responder_machine.specs.Turn.{Turn};
 ghost use Rattle.request_rules.specs.Place.{IsPlace, where_of};
 ghost use Rattle.connection.specs.Standing.{StandsFor, place_at};
@@ -33,6 +35,19 @@ impl Standing {
             negotiating: Negotiating::new(),
             large: LargeAnswer::new(),
         }
+    }
+
+    /// An equal one where no large answer is pending; none where one is.
+    pub fn idle_copy(&self) -> Option<Standing>
+        ensures same { IfSome result (λ copy. copy ≡ self.now) }
+        ensures idle { (at : places.Where) (turns : List Turn) (held : ℕ) → StandsFor self.now turns
+            → has_pending (place_at at turns held) ≡ false → is_some result ≡ true }
+    {
+        let large = self.large.idle_copy()?;
+        Some(Standing {
+            negotiating: self.negotiating.copy(),
+            large,
+        })
     }
 
     /// What the rules for requests go by in the clear, or inside a large request.

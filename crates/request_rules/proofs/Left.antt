@@ -39,6 +39,11 @@ next_is transfer turns = by_large (large_of turns)
     by_large None = refl
     by_large (Some answer) = by_left answer (nat_lt (given_of turns) (chunk_count transfer answer)) refl
 
+-- Where there is no first one, none is left.
+pub nothing_left : (left : List ChunkMessage) → slice_get left 0 ≡ None → left ≡ []
+nothing_left [] none = refl
+nothing_left (chunk ∷ left) none = absurd (none-some chunk (sym none))
+
 -- A chunk is left where one is pending.
 pub is_left : (transfer : ℕ) (turns : List Turn) (chunk : Option ChunkView) → chunk_given chunk ≡ slice_get (left_by transfer turns (large_of turns)) 0
     → is_some chunk ≡ is_some (pending_of transfer turns)
@@ -49,6 +54,12 @@ is_left transfer turns chunk e = same chunk (pending_of transfer turns) (e ∙ n
     same None (Some answer) e = absurd (none-some (nth_chunk transfer (handle_of turns) answer (given_of turns)) e)
     same (Some chunk) None e = absurd (none-some (chunk_message chunk) (sym e))
     same (Some chunk) (Some answer) e = refl
+
+-- So a chunk that is left is pending.
+pub left_pends : (seen : Seen) (transfer : ℕ) (turns : List Turn) (chunk : Option ChunkView) → is_some chunk ≡ true → chunk_given chunk ≡ slice_get seen.left 0
+    → StandsFor seen transfer turns → is_some (pending_of transfer turns) ≡ false → false ≡ true
+left_pends seen transfer turns chunk there e stands none =
+    sym none ∙ sym (is_left transfer turns chunk (e ∙ ap (λ (l : List ChunkMessage). slice_get l 0) stands.left)) ∙ there
 
 -- The chunk that is left first is what the definitions give next.
 pub record IsNext (p : Place) (chunk : ChunkView) : Type 0 where

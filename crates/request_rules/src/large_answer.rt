@@ -1,4 +1,4 @@
-ghost use Rattle.std.specs.Prelude.{◌≡◌, ◌≤◌, ◌<◌, ◌+◌, ◌∷◌, [], ℕ, List, Some, None, true, false, drop, is_some, length, unwrap_or};
+ghost use Rattle.std.specs.Prelude.{◌≡◌, ◌≤◌, ◌<◌, ◌+◌, ◌∷◌, [], ℕ, List, Some, None, true, false, drop, is_some, IfSome, length, unwrap_or};
 ghost use Rattle.chunking.specs.Answers.{chunk_given};
 ghost use Rattle.chunking.specs.Cutting.{chunks_of};
 ghost use Rattle.responder_machine.specs.LargeMessages.{given_of, handle_of, next_handle, pending_of};
@@ -59,6 +59,22 @@ impl LargeAnswer {
             → result ≡ is_some (pending_of transfer turns) }
     {
         self.current().is_some()
+    }
+
+    #[tactic(auto, using(crate::proofs::Left::left_pends, crate::proofs::Left::nothing_left))]
+    /// An equal one where no chunk is still to be given; none where one is.
+    pub fn idle_copy(&self) -> Option<LargeAnswer>
+        ensures same { IfSome result (λ copy. copy ≡ self.now) }
+        ensures idle { (transfer : ℕ) (turns : List Turn) → StandsFor self.now transfer turns
+            → is_some (pending_of transfer turns) ≡ false → is_some result ≡ true }
+    {
+        match self.current() {
+            Some(_) => None,
+            None => Some(LargeAnswer {
+                splitter: None,
+                next: self.next,
+            }),
+        }
     }
 
     /// The handle of the next large answer: they count modulo 256 from 0.
