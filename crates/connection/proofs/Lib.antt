@@ -23,3 +23,4 @@ pub mod Listed
 pub mod AnswerKeys
 pub mod PutAnswers
 pub mod Unseen
+mod PutBack

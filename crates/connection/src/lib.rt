@@ -8,6 +8,7 @@
 
 mod answering;
 mod answers;
+mod aside;
 mod beginning;
 mod came;
 mod clear_part;

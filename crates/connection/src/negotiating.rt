@@ -87,7 +87,7 @@ impl Negotiating {
     {
         Negotiating {
             phase: self.phase,
-            messages: self.messages.clone(),
+            messages: self.messages.clone().unwrap(),
             common: self.common,
             choice: self.choice,
         }
