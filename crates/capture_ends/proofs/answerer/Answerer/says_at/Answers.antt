@@ -12,7 +12,7 @@ use Rattle.capture_ends.proofs.ClearAnswered.{judged_told, long_at, refused_at}
 use Rattle.capture_ends.specs.ClearAnswers.{IsJudgedAt, judged_by}
 use Rattle.capture_ends.specs.declared.given.Judged.{Judged}
 use Rattle.world_machine.specs.Rounds.{no_draw}
-use Rattle.capture_ends.proofs.large_told.Answerer.says_at.Goals as goal
+use Rattle.capture_ends.proofs.answerer.Answerer.says_at.Goals as goal
 
 pub returns-then-not-are_allowed : goal.returns-then-not-are_allowed
 returns-then-not-are_allowed c = λ r h f set stands idle few free bounded long.
@@ -36,7 +36,7 @@ returns-in-Some c = λ r h f set stands idle few free bounded long.
     let tag : ℕ = c.args.tag in
     let m : List ℕ = c.args.message.now in
     let reply : List ℕ = c.args.reply.now in
-    let tried : Tried = c.in-Some.field-0 in
+    let tried : Tried = c.in-Some.tried in
     let chosen = ap (λ (x : Choice). x.hash) (sym (c.choice-hash.ensures r h stands)) in
     let test = c.are_allowed.ensures.value r h (clear_place h) f stands (omega (arith, few)) chosen free in
     let fits = allowed_from h (clear_place h) f bounded (sym test ∙ c.if-not-are_allowed.false) in

@@ -1,6 +1,6 @@
 use Rattle.capture_ends.proofs.ApartJudged.{none_judged}
 use Rattle.capture_laws.specs.AnswersShown.{clear_values}
-use Rattle.capture_ends.proofs.large_told.Answerer.says_anew.Goals as goal
+use Rattle.capture_ends.proofs.answerer.Answerer.says_anew.Goals as goal
 
 pub returns-in-None : goal.returns-in-None
 returns-in-None c = λ r h set stands idle few anew.

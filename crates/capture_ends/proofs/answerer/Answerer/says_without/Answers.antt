@@ -1,7 +1,7 @@
-use Rattle.std.proofs.Common.{ℕ}
+use Rattle.std.proofs.Common.{ℕ, ◌∷◌}
 use Rattle.responder_machine.specs.History.{History}
 use Rattle.responder_machine.specs.History.Entry.{Dropped}
-use Rattle.capture_ends.proofs.large_told.Answerer.says_without.Goals as goal
+use Rattle.capture_ends.proofs.answerer.Answerer.says_without.Goals as goal
 
 pub returns-clause-told : goal.returns-clause-told
 returns-clause-told c = λ r h set stands idle few anew.

@@ -4,7 +4,7 @@ use Rattle.spdm_grammar.specs.declared.choice.Choice.{Choice}
 use Rattle.capture_ends.proofs.ApartJudged.{none_judged}
 use Rattle.capture_laws.specs.AnswersShown.{clear_values}
 use Rattle.capture_ends.specs.ClearAnswers.{IsLongWith}
-use Rattle.capture_ends.proofs.large_told.Answerer.says_with.Goals as goal
+use Rattle.capture_ends.proofs.answerer.Answerer.says_with.Goals as goal
 
 pub returns-in-Itself : goal.returns-in-Itself
 returns-in-Itself c = λ r h set stands idle few anew free.
