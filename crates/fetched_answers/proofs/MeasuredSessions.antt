@@ -64,7 +64,7 @@ Measures [] = Unit {0}
 Measures (e ∷ h) = MeasuresEntry e × Measures h
 
 -- A short answer goes whole: chunks are in common where it would go otherwise, and then the sizes are large enough.
-short_goes : (r : RspSetup) (p : Place) (m : List ℕ) (f : Free) → refusal r p m f ≡ None → bytes_round p.at ≡ 0 → length (answer_bytes r p m f) ≤ 42 → goes_large p (answer_bytes r p m f) ≡ false
+pub short_goes : (r : RspSetup) (p : Place) (m : List ℕ) (f : Free) → refusal r p m f ≡ None → bytes_round p.at ≡ 0 → length (answer_bytes r p m f) ≤ 42 → goes_large p (answer_bytes r p m f) ≡ false
 short_goes r p m f none round few = by_chunk (place_terms p).common.chunk refl
   where
     n : ℕ

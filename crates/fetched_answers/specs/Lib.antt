@@ -4,3 +4,7 @@ pub mod AlikeAnswers
 pub mod AnswerTexts
 pub mod ClearChunks
 pub mod JudgedFor
+pub mod ClearRounds
+pub mod ClearSessions
+pub mod ClearApart
+pub mod StandsAlike

@@ -6,11 +6,17 @@
 #![tactic(auto)]
 
 mod answer_texts;
+mod clear_laws;
 mod few_blocks;
 mod laws;
 mod pending_bytes;
 
 pub use answer_texts::{message_in, read_answer};
+pub use clear_laws::{
+    clear_why_is_before, exchange_ends_handshake, get_is_next, keys_stand_on, large_is_unseen,
+    last_apart_is_shown, one_handshake, replies_are_not_apart, round_is_there, sessions_are_left,
+    stands_alike, version_ends_all, version_ends_fetch, version_is_given, views_are_left,
+};
 pub use few_blocks::blocks_are_few;
 pub use laws::{
     answers_are_alike, begins_judging, chunk_is_shown, large_is_alike, last_is_shown,
