@@ -41,3 +41,4 @@ pub mod ExchangeWhole
 pub mod LastApart
 pub mod CarryWalks
 pub mod NotApart
+pub mod MeanwhileClear
