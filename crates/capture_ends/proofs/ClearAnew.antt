@@ -134,12 +134,15 @@ module _ (r : RspSetup) (tag : ℕ) (m reply : List ℕ) where
           let Q : Free → Type 0 = λ k. Shape (gone ids) k (plain_in h) in
           (λ is. answer_from r tag m reply h (subst P (sym drops_are) (subst Q (sym (values_are ids)) (both.0 is))), λ s. both.1 (subst Q (values_are ids) (subst P drops_are (answer_to r tag m reply h s))))
 
+      pub large_never : IsShownLarge r h tag (clear_body m) (clear_body reply) → ⊥
+      large_never s =
+          let l = large_to r tag m reply h s in
+          no_large (first_of_held h) (shown (gone (first_of_held h))) l.2 (not_true _ (sym (whole_parts_of (first_of_held h) (shown (gone (first_of_held h)))) ∙ l.1))
+
       large_small : (result : Option Given) → IsGivenAt r (gone ids) tag m f reply result → (result ≡ Some kinds.Large) ↔ IsShownLarge r h tag (clear_body m) (clear_body reply)
       large_small result given =
-          let both = decide r tag m reply (gone ids) f (λ o. ⊥) kinds.Large result (λ body is. no_large ids f body (parts_large _ _ (sym (parts_of ids f) ∙ is))) (λ body none. absurd none) given in (
-            λ is. absurd (both.0 is).1,
-            λ s. let l = large_to r tag m reply h s in absurd (no_large (first_of_held h) (shown (gone (first_of_held h))) l.2 (not_true _ (sym (whole_parts_of (first_of_held h) (shown (gone (first_of_held h)))) ∙ l.1))),
-          )
+          let both = decide r tag m reply (gone ids) f (λ o. ⊥) kinds.Large result (λ body is. no_large ids f body (parts_large _ _ (sym (parts_of ids f) ∙ is))) (λ body none. absurd none) given in
+          (λ is. absurd (both.0 is).1, λ s. absurd (large_never s))
 
       -- A last chunk shows no drop.
       none_dropped : (others : List ℕ) (k : Free) → body_of (at (gone others) k) ≡ clear_body reply → gives_last h (entry (gone others) k) ≡ true → ids ≡ []

@@ -205,7 +205,7 @@ module _ (r : RspSetup) (tag : ℕ) (m reply : List ℕ) where
         let Q : Free → Type 0 = λ f. Shape h f (plain_in h) in
         (λ s. subst Q (shown_again h again) (subst P no_drops s), λ s. subst P (sym no_drops) (subst Q (sym (shown_again h again)) s))
 
-    never_large : (g : History) (f : Free) → is_repeat (kept_of g) tag m ≡ true → Shape g f (whole_not h) → ⊥
+    pub never_large : (g : History) (f : Free) → is_repeat (kept_of g) tag m ≡ true → Shape g f (whole_not h) → ⊥
     never_large g f more s = false≢true (sym (subst (λ (o : Outcome). is_whole o ≡ false) (repeats_at g f more) s.1))
 
     never_last : (f : Free) → Shape h f (ends_in h) → ⊥

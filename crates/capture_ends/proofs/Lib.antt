@@ -58,6 +58,7 @@ pub mod SendingWalks
 pub mod RequestRows
 pub mod SendingTold
 pub mod LargeBegun
+pub mod LargeTold
 pub mod LargeOver
 pub mod LargeCarried
 pub mod LargeEnded

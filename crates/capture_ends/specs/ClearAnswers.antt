@@ -60,6 +60,11 @@ abbrev pub is_whole_given : Given → Bool
 is_whole_given given.Whole = true
 is_whole_given _ = false
 
+-- It begins a large answer.
+abbrev pub is_large_given : Option Given → Bool
+is_large_given (Some given.Large) = true
+is_large_given _ = false
+
 -- What is said of this reply, where that one was given: it is the same, and brings this; or it is apart from it in verify
 -- data of this size.
 abbrev pub judged_by : Heard → (out reply : List ℕ) → (pending : Bool) → (size : ℕ) → Judged

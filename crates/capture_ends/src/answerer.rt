@@ -97,9 +97,15 @@ fn is_whole(given: Given) -> bool
     }
 }
 
-// What is said of a reply, where this answer was given: that is told of it, and whether a large answer is
-// pending behind it. Verify data have so many bytes.
-fn judged_by(heard: Heard, given: &[u8], reply: &[u8], pending: bool, size: usize) -> Judged
+/// What is said of a reply, where this answer was given: that is told of it, and whether a large answer is
+/// pending behind it. Verify data have so many bytes.
+pub(crate) fn judged_by(
+    heard: Heard,
+    given: &[u8],
+    reply: &[u8],
+    pending: bool,
+    size: usize,
+) -> Judged
     ensures { result ≡ judged_by heard given.now reply.now pending size }
 {
     if same_bytes(given, reply) {

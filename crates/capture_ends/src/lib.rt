@@ -31,6 +31,7 @@ mod judged_in_clear;
 mod large_begun;
 mod large_carried;
 mod large_ended;
+mod large_told;
 mod onward;
 mod owed_messages;
 mod party;

@@ -44,3 +44,4 @@ pub mod NotApart
 pub mod RoomWalks
 pub mod VersionWalks
 pub mod LargeSized
+pub mod MeanwhileClear

@@ -8,3 +8,4 @@ pub mod ClearRounds
 pub mod ClearSessions
 pub mod ClearApart
 pub mod StandsAlike
+pub mod ClearMeanwhile

@@ -9,6 +9,7 @@ mod answer_texts;
 mod clear_laws;
 mod few_blocks;
 mod laws;
+mod meanwhile_laws;
 mod pending_bytes;
 
 pub use answer_texts::{message_in, read_answer};
@@ -23,5 +24,9 @@ pub use laws::{
     answers_are_alike, begins_judging, chunk_is_shown, large_is_alike, last_is_shown,
     last_shows_chunk, next_is_given, pending_is_fetched, pending_is_measured, repeat_is_same,
     text_is_alike, whole_has_led, whole_is_shown,
+};
+pub use meanwhile_laws::{
+    get_begins_none, get_completes, get_goes_on, repeat_begins_none, repeat_goes_same,
+    version_begins_none, version_goes,
 };
 pub use pending_bytes::put_bytes;

@@ -1,0 +1,71 @@
+-- Which answers may be given in the clear while a large one is fetched there, by the request that is answered. This project's
+-- own.
+use Rattle.std.specs.Prelude.{◌≡◌, ◌+◌, ◌↔◌, nat_lt, ℕ, List, ◌∷◌, true, false, Some, None}
+use Rattle.chunking.specs.Cutting.{chunk_count}
+use Rattle.responder_machine.specs.History.{History, kept_of}
+use Rattle.responder_machine.specs.Place.{place_terms}
+use Rattle.responder_machine.specs.Responder.{is_repeat, kept_reply}
+use Rattle.responder_machine.specs.Setup.{RspSetup}
+use Rattle.spdm_machine.specs.Bodies.{clear_body}
+use Rattle.fetched_answers.specs.StandsAlike.{IsAnew, version_entry}
+use Rattle.responder_machine.specs.Answer.{version_answer}
+use Rattle.spdm_grammar.specs.Message.RequestMessage.{GetVersion}
+use Rattle.spdm_grammar.specs.Requests.{canonical_request}
+use Rattle.spdm_grammar.specs.Responses.{canonical_response}
+use Rattle.fetched_answers.specs.ClearChunks.{IsNextGet, clear_with, get_entry, get_message, get_response}
+use Rattle.world_machine.specs.CapturedAnswers.{AnswersLarge, AnswersPlainly, Completes, MayHaveLed}
+use Rattle.world_machine.specs.LargeAnswers.{begun_with, dropped_before_large, is_untouched, with_large}
+use Rattle.world_machine.specs.Rounds.{Dialogue, Round}
+
+-- A repeat is answered with the kept reply, and nothing changes.
+abbrev pub RepeatGoesSame : Type 0
+RepeatGoesSame = (r : RspSetup) (d : Dialogue) (whole : List ℕ) (round : Round) (m answer : List ℕ) (next : History)
+    → d.fetching ≡ Some whole → round.body ≡ clear_body m → is_repeat (kept_of d.responder) round.tag m ≡ true
+    → AnswersPlainly r d round answer next → (answer ≡ clear_body (kept_reply (kept_of d.responder))) × (next ≡ d.responder)
+
+-- CHUNK_GET for the next chunk of these bytes is answered with that, and it is not the last one.
+abbrev pub GetGoesOn : Type 0
+GetGoesOn = (r : RspSetup) (d : Dialogue) (whole : List ℕ) (round : Round) (handle number : ℕ) (answer : List ℕ) (next : History)
+    → d.fetching ≡ Some whole → round.body ≡ clear_body (get_message handle number) → IsNextGet r d.responder whole round.tag handle number
+    → AnswersPlainly r d round answer next
+    ↔ ((answer ≡ clear_body (get_response d.responder whole handle number))
+    × (nat_lt (number + 1) (chunk_count (place_terms (clear_with d.responder whole)).common.to_requester.transfer whole) ≡ true)
+    × (next ≡ get_entry round.tag handle number (get_response d.responder whole handle number) ∷ d.responder))
+
+-- A repeat begins no other large answer, and is no last chunk.
+abbrev pub RepeatBeginsNone : Type 0
+RepeatBeginsNone = (r : RspSetup) (d : Dialogue) (whole : List ℕ) (round : Round) (m answer : List ℕ) (next : History) (other : List ℕ)
+    → d.fetching ≡ Some whole → round.body ≡ clear_body m → is_repeat (kept_of d.responder) round.tag m ≡ true
+    → (AnswersLarge r d round answer next other → ⊥) × (Completes r d round answer next → ⊥)
+
+-- Nor does CHUNK_GET begin one.
+abbrev pub GetBeginsNone : Type 0
+GetBeginsNone = (r : RspSetup) (d : Dialogue) (whole : List ℕ) (round : Round) (handle number : ℕ) (answer : List ℕ) (next : History) (other : List ℕ)
+    → d.fetching ≡ Some whole → round.body ≡ clear_body (get_message handle number) → IsNextGet r d.responder whole round.tag handle number
+    → AnswersLarge r d round answer next other → ⊥
+
+-- CHUNK_GET for the last chunk of these bytes is answered with that, where the request of the large answer may have led to
+-- them.
+abbrev pub GetCompletes : Type 0
+GetCompletes = (r : RspSetup) (d : Dialogue) (whole : List ℕ) (round : Round) (handle number : ℕ) (answer : List ℕ) (next : History)
+    → d.fetching ≡ Some whole → round.body ≡ clear_body (get_message handle number) → IsNextGet r d.responder whole round.tag handle number
+    → Completes r d round answer next
+    ↔ ((dropped : List ℕ)
+    × (answer ≡ clear_body (get_response d.responder whole handle number))
+    × (nat_lt (number + 1) (chunk_count (place_terms (clear_with d.responder whole)).common.to_requester.transfer whole) ≡ false)
+    × MayHaveLed r None whole dropped d.responder
+    × (is_untouched None (begun_with None whole d.responder) d.responder ≡ true)
+    × (next ≡ get_entry round.tag handle number (get_response d.responder whole handle number) ∷ with_large None whole (dropped_before_large None dropped d.responder)))
+
+-- GET_VERSION is answered with VERSION.
+abbrev pub VersionGoes : Type 0
+VersionGoes = (r : RspSetup) (d : Dialogue) (whole : List ℕ) (round : Round) (answer : List ℕ) (next : History)
+    → d.fetching ≡ Some whole → round.body ≡ clear_body (canonical_request GetVersion) → IsAnew r (with_large None whole d.responder) round.tag
+    → AnswersPlainly r d round answer next
+    ↔ ((answer ≡ clear_body (canonical_response version_answer)) × (next ≡ version_entry round.tag ∷ d.responder))
+
+-- It begins no other large answer, and is no last chunk.
+abbrev pub VersionBeginsNone : Type 0
+VersionBeginsNone = (r : RspSetup) (d : Dialogue) (whole : List ℕ) (round : Round) (answer : List ℕ) (next : History) (other : List ℕ)
+    → d.fetching ≡ Some whole → round.body ≡ clear_body (canonical_request GetVersion) → IsAnew r (with_large None whole d.responder) round.tag
+    → (AnswersLarge r d round answer next other → ⊥) × (Completes r d round answer next → ⊥)

@@ -1,0 +1,39 @@
+//! Which answers a request in the clear may get while a large answer is fetched there, each law as the contract
+//! of a function that does nothing.
+
+ghost use Rattle.fetched_answers.specs.ClearMeanwhile.{GetBeginsNone, GetCompletes, GetGoesOn, RepeatBeginsNone, RepeatGoesSame, VersionBeginsNone, VersionGoes};
+
+/// A repeat is answered with the kept reply, and nothing changes.
+pub fn repeat_goes_same()
+    ensures { RepeatGoesSame }
+{}
+
+/// It begins no other large answer, and is no last chunk.
+pub fn repeat_begins_none()
+    ensures { RepeatBeginsNone }
+{}
+
+/// CHUNK_GET for a chunk that is not the last one is answered with that.
+pub fn get_goes_on()
+    ensures { GetGoesOn }
+{}
+
+/// It begins no other large answer.
+pub fn get_begins_none()
+    ensures { GetBeginsNone }
+{}
+
+/// CHUNK_GET for the last chunk is answered with that, where the request may have led to all bytes.
+pub fn get_completes()
+    ensures { GetCompletes }
+{}
+
+/// GET_VERSION is answered with VERSION.
+pub fn version_goes()
+    ensures { VersionGoes }
+{}
+
+/// It begins no other large answer, and is no last chunk.
+pub fn version_begins_none()
+    ensures { VersionBeginsNone }
+{}
