@@ -1,6 +1,5 @@
 -- An answer in the clear goes by LargeResponse only where sizes are known.
-use Rattle.std.proofs.Common.{◌≡◌, ◌+◌, ◌==◌, ◌&&◌, ℕ, List, [], refl, sym, ap, ◌∙◌, drop, length, Bool, true, false, Option, Some, None, is_some, cond, inl, inr}
-use Rattle.std.specs.Prelude.{nat_lt, slice_index}
+use Rattle.std.proofs.Common.{◌≡◌, ℕ, List, [], refl, sym, ap, ◌∙◌, drop, Bool, true, false, Option, Some, None, is_some, cond, inl, inr}
 use Rattle.std.proofs.lemmas.Bool.{false≢true}
 use Rattle.spdm_basis.proofs.Bools.{and_first}
 use Rattle.chunking.specs.Collecting.{joined_with, under_way}
@@ -8,11 +7,10 @@ use Rattle.spdm_grammar.specs.Message.{ChunkMessage, RequestMessage}
 use Rattle.spdm_grammar.specs.declared.error_code.ErrorCode.{ErrorCode}
 use Rattle.responder_machine.specs.Answer.{Free, answer_bytes, request_at}
 use Rattle.responder_machine.specs.Handling.{carried_turn, chunk_in, effect_of, goes_large, last_chunk_turn, taken_chunk, turn_by, turn_of}
-use Rattle.responder_machine.specs.History.{History}
 use Rattle.responder_machine.specs.History.Entry.{Clear}
 use Rattle.responder_machine.specs.LargeMessages.{chunks_of}
-use Rattle.responder_machine.specs.Place.{Place, clear_place, inside, place_terms}
-use Rattle.responder_machine.specs.Refusal.{bytes_round, refusal, sizes_are_known}
+use Rattle.responder_machine.specs.Place.{Place, clear_place, inside}
+use Rattle.responder_machine.specs.Refusal.{refusal, sizes_are_known}
 use Rattle.responder_machine.specs.Responder.Outcome.{Adds}
 use Rattle.responder_machine.specs.Setup.{RspSetup}
 use Rattle.responder_machine.specs.Turn.{Turn, handle_in}

@@ -8,14 +8,12 @@ use Rattle.chunking.specs.Collecting.{joined_with, under_way}
 use Rattle.mctp_framing.specs.Gathering.{Gathered}
 use Rattle.mctp_framing.specs.Gathering.Gathered.{Whole, More, Dropped as Lost}
 use Rattle.mctp_framing.specs.Packet.{PacketFields, parsed}
-use Rattle.negotiate.specs.Capabilities.{common_of}
 use Rattle.negotiate.specs.declared.shared.Common.{Common}
 use Rattle.spdm_basis.specs.declared.PacketFault.{PacketFault}
 use Rattle.spdm_grammar.specs.Codes.{code_for}
 use Rattle.spdm_grammar.specs.Message.{ChunkMessage, RequestMessage}
 use Rattle.spdm_grammar.specs.Message.RequestMessage.{GetCapabilities}
 use Rattle.spdm_grammar.specs.Reading.{field_at, number_at}
-use Rattle.spdm_grammar.specs.declared.capabilities.Caps.{Caps}
 use Rattle.spdm_grammar.specs.declared.error_code.ErrorCode.{ErrorCode}
 use Rattle.spdm_grammar.specs.declared.names.TheConstants.{MIN_DATA_TRANSFER_SIZE}
 use Rattle.spdm_grammar.specs.declared.names.request_code.TheConstants.{GET_CAPABILITIES, GET_VERSION}
@@ -34,7 +32,7 @@ use Rattle.responder_machine.specs.Place.{Place, clear_place, inside}
 use Rattle.responder_machine.specs.Refusal.{are_caps_refused, refusal}
 use Rattle.responder_machine.specs.Responder.{Outcome, after}
 use Rattle.responder_machine.specs.Responder.Outcome.{Same, Unopened, Adds}
-use Rattle.responder_machine.specs.Setup.{RspSetup, responder_caps, towards}
+use Rattle.responder_machine.specs.Setup.{RspSetup, towards}
 use Rattle.responder_machine.specs.Turn.{Turn, code_in, takes}
 use Rattle.responder_machine.specs.Turn.Effect.{NoEffect}
 use Rattle.responder_machine.proofs.Tests.{contents_shown}

@@ -1,11 +1,10 @@
 -- In a walk a request in the clear that was taken has four bytes, which the responder takes, and GET_VERSION takes effect as such.
-use Rattle.std.proofs.Common.{◌≡◌, ◌≤◌, ◌==◌, ◌&&◌, ℕ, List, [], ◌∷◌, ◌++◌, refl, sym, ap, ◌∙◌, subst, drop, length, Bool, true, false, Option, Some, None, Result, Ok, Err, cond, inl, inr, arith, eq-eqb, eqb-true}
+use Rattle.std.proofs.Common.{◌≡◌, ◌≤◌, ◌==◌, ◌&&◌, ℕ, List, [], ◌∷◌, ◌++◌, refl, sym, ap, ◌∙◌, subst, drop, length, Bool, true, false, Option, Some, None, Result, Ok, Err, cond, inl, inr, arith, eq-eqb}
 use Rattle.std.specs.Prelude.{MatchBool, bytes_eq, nat_lt, slice_index}
 use Rattle.std.proofs.Math.Bool.{and-false}
 use Rattle.std.proofs.lemmas.Bool.{false≢true, false_from_ne_true}
 use Rattle.std.proofs.lemmas.Bool.Decides.{nat_tests}
 use Rattle.std.proofs.lemmas.Slice.Eq.{bytes_eq-Decides}
-use Rattle.chunking.specs.Collecting.{joined_with, under_way}
 use Rattle.mctp_framing.specs.Gathering.{Gathered}
 use Rattle.mctp_framing.specs.Gathering.Gathered.{Whole, More, Dropped as Lost}
 use Rattle.mctp_framing.specs.Packet.{PacketFields, parsed}
@@ -23,7 +22,7 @@ use Rattle.spdm_machine.specs.Packets.{gathered_from}
 use Rattle.requester_machine.specs.Setup.{ReqSetup}
 use Rattle.responder_machine.specs.Answer.{Free, answer_bytes, request_at}
 use Rattle.responder_machine.specs.Handling.{chunk_in, effect_of, handle_for, turn_by, turn_of}
-use Rattle.responder_machine.specs.History.{Entry, History, Kept, clear_turns, kept_of, phase_of}
+use Rattle.responder_machine.specs.History.{Entry, History, clear_turns, kept_of, phase_of}
 use Rattle.responder_machine.specs.History.Entry.{Clear, Sealed, Queued, Ticked, Dropped}
 use Rattle.responder_machine.specs.May.{with_dropped}
 use Rattle.responder_machine.specs.Place.{Place, clear_place}
@@ -39,7 +38,7 @@ use Rattle.capture_laws.specs.Order.{is_answer, is_request}
 use Rattle.capture_laws.specs.Walks.{StepsBy, StepsTo, Walks}
 use Rattle.fetched_answers.proofs.ClearLeft.{get_others}
 use Rattle.fetched_answers.proofs.WalksSound.{walks_sound}
-use Rattle.fetched_answers.specs.ClearSessions.{AreGets, IsLeftBy, IsUnseenRequest, IsWithoutHandshake}
+use Rattle.fetched_answers.specs.ClearSessions.{AreGets, IsWithoutHandshake}
 use Rattle.fetched_answers.specs.StandsAlike.{VersionIsAnew}
 use Rattle.world_machine.proofs.DropsTell.{clear_form}
 use Rattle.world_machine.proofs.FetchedSessions.{takes_with}
