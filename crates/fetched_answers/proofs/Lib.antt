@@ -42,3 +42,4 @@ pub mod LastApart
 pub mod CarryWalks
 pub mod NotApart
 pub mod MeanwhileClear
+pub mod NoneTurns
