@@ -1,5 +1,5 @@
 -- Whether the requester asks for a chunk upon an answer, as the program tells it.
-use Rattle.std.proofs.Common.{◌≡◌, ◌∙◌, ◌<◌, ◌-◌, ◌^◌, ◌+◌, ◌==◌, ℕ, suc, List, ◌∷◌, refl, sym, ap, subst, length, Bool, true, false, Option, Some, None, is_some, arith}
+use Rattle.std.proofs.Common.{◌≡◌, ◌∙◌, ◌<◌, ◌-◌, ◌^◌, ◌+◌, ◌==◌, ◌&&◌, ℕ, suc, List, ◌∷◌, refl, sym, ap, subst, length, Bool, true, false, Option, Some, None, is_some, arith}
 use Rattle.std.specs.Prelude.{slice_index}
 use Rattle.std.proofs.lemmas.Bool.{false≢true}
 use Rattle.std.proofs.lemmas.Option.{none-some}
@@ -24,15 +24,14 @@ use Rattle.requester_machine.specs.Shown.{after, event_of, sent_by}
 use Rattle.responder_machine.specs.Responder.{is_open}
 use Rattle.spdm_grammar.specs.declared.names.request_code.TheConstants.{CHUNK_GET}
 use Rattle.spdm_grammar.specs.declared.session_view.SessionView.{SessionView}
-use Rattle.capture_laws.specs.Keeping.{Keeps, Kept, owing, restored}
+use Rattle.capture_laws.specs.Keeping.{Kept, owing, restored}
 use Rattle.capture_laws.specs.RepliesShown.{heard_from, no_values}
 use Rattle.responder_machine.specs.History as responder_history
 use Rattle.capture_ends.proofs.ChunkAsked.{heard_shows}
 use Rattle.capture_ends.proofs.FinishApart.{aimed_at, its_stage, shown_none}
-use Rattle.capture_ends.proofs.HearsKept.{deaf, none_in, waits_for}
-use Rattle.capture_ends.proofs.KnownFetches.{kept_asks_none}
+use Rattle.capture_ends.proofs.HearsKept.{after_long, deaf, none_in, waits_for}
 use Rattle.capture_ends.proofs.OwedTook.{IsAimed, IsNewest, IsSentUpon, heard_newest, kept_short}
-use Rattle.capture_ends.specs.Asker.{IsAsker, IsKeptSetup}
+use Rattle.capture_ends.specs.Asker.{Carries, IsAsker, IsKeptSetup}
 use Rattle.capture_ends.specs.HeardKept.{IsHeardAs, ShowsChunk, asks_upon}
 use Rattle.capture_ends.specs.declared.asker.Asker.{Asker}
 use Rattle.world_machine.specs.LargeAnswers.{asks_chunk, is_fetching, is_for_chunk}
@@ -92,28 +91,43 @@ took_for (TookRecord tag of sealed inner led d) h s told newest is = by_aim s.ai
     by_aim (ForChunk asked handle number before) same = refl
     by_aim (InSession id ask) same = (refl, same)
 
-module _ (w : Configuration) (q : ReqSetup) (older : List (List ℕ)) (k : Kept) (behind : responder_history.History) (round : Round) (tag : ℕ) (answer : List ℕ) (keeps : Keeps w q older k) (is : k.round ≡ Some round) (one : round.tag ≡ tag) where
+and_none : (b : Bool) → (b && false) ≡ false
+and_none true = refl
+and_none false = refl
+
+some_fetched : (o : Option Sent) → (is_fetching o && is_some o) ≡ is_fetching o
+some_fetched None = refl
+some_fetched (Some sent) = and_true (is_fetching (Some sent))
+  where
+    and_true : (b : Bool) → (b && true) ≡ b
+    and_true true = refl
+    and_true false = refl
+
+module _ (w : Configuration) (q : ReqSetup) (older : List (List ℕ)) (k : Kept) (behind : responder_history.History) (round : Round) (tag : ℕ) (answer : List ℕ) (keeps : Carries w q older k) (is : k.round ≡ Some round) (one : round.tag ≡ tag) where
   abbrev h : History
   h = (restored k).requester
 
   abbrev o : Outcome
   o = hears k.setup h false tag answer no_values no_draw
 
-  -- While it owes a message it hears nothing.
-  pub deaf_asks : is_some k.owed ≡ true → false ≡ asks_upon k tag answer
-  deaf_asks some = sym (ap (λ (l : History). is_fetching (outstanding l)) (deaf w q older k behind round tag answer keeps is one some) ∙ kept_asks_none w q older k keeps)
+  module _ (awaits : Bool) (waits : awaits ≡ is_fetching (outstanding h)) where
+    -- While it owes a message it hears nothing.
+    pub deaf_asks : is_some k.owed ≡ true → awaits ≡ asks_upon k tag answer
+    deaf_asks some = waits ∙ sym (ap (λ (l : History). is_fetching (outstanding l)) (deaf w q older k behind round tag answer keeps is one some))
 
-  none_upon : (x : Outcome) → is_some (event_of x) ≡ true → is_some (sent_by x) ≡ false → is_fetching (outstanding (after h x)) ≡ false
-  none_upon (Adds e) told none = ap is_fetching (waits_for e h told ∙ none_in (sent_in e) none)
-  none_upon (Ignores cause) told none = kept_asks_none w q older k keeps
-  none_upon (Warns code) told none = kept_asks_none w q older k keeps
-  none_upon (Fails fault) told none = absurd (false≢true told)
-  none_upon (Resends sent) told none = absurd (false≢true told)
+    none_upon : (x : Outcome) → is_some (event_of x) ≡ true → is_some (sent_by x) ≡ false → (awaits && is_some (outstanding (after h x))) ≡ is_fetching (outstanding (after h x))
+    none_upon (Adds e) told none =
+        let gone = waits_for e h told ∙ none_in (sent_in e) none in
+        ap (λ (m : Option Sent). awaits && is_some m) gone ∙ and_none awaits ∙ sym (ap is_fetching gone)
+    none_upon (Ignores cause) told none = ap (λ (b : Bool). b && is_some (outstanding h)) waits ∙ some_fetched (outstanding h)
+    none_upon (Warns code) told none = ap (λ (b : Bool). b && is_some (outstanding h)) waits ∙ some_fetched (outstanding h)
+    none_upon (Fails fault) told none = absurd (false≢true told)
+    none_upon (Resends sent) told none = absurd (false≢true told)
 
-  -- Where it sends nothing upon it.
-  pub silent_asks : (seen : Asking) (out : List ℕ) → IsHeardAs k.setup h tag answer false seen out → false ≡ asks_upon k tag answer
-  unfolding heard_from
-  silent_asks seen out heard = sym (none_upon o heard.told (sym heard.sent))
+    -- Where it sends nothing upon it.
+    pub silent_asks : (seen : Asking) (out : List ℕ) → IsHeardAs k.setup h tag answer false seen out → (awaits && is_some (outstanding (after h o))) ≡ asks_upon k tag answer
+    unfolding heard_from
+    silent_asks seen out heard = none_upon o heard.told (sym heard.sent)
 
   -- And where it sends something.
   abbrev Tells : Asking → List ℕ → Bool → Type 0
@@ -143,9 +157,9 @@ module _ (w : Configuration) (q : ReqSetup) (older : List (List ℕ)) (k : Kept)
 
 -- ---- What the program tells.
 
-module _ (w : Configuration) (q : ReqSetup) (older : List (List ℕ)) (k : Kept) (round : Round) (tag : ℕ) (answer : List ℕ) (keeps : Keeps w q older k) (is : k.round ≡ Some round) (one : round.tag ≡ tag) (old : Asker) (asker : IsAsker old q k) where
-  pub owing_fetches : old.owes ≡ true → false ≡ asks_upon k tag answer
-  owing_fetches owing = deaf_asks w q older k k.responder round tag answer keeps is one (sym asker.owes ∙ owing)
+module _ (w : Configuration) (q : ReqSetup) (older : List (List ℕ)) (k : Kept) (round : Round) (tag : ℕ) (answer : List ℕ) (keeps : Carries w q older k) (is : k.round ≡ Some round) (one : round.tag ≡ tag) (old : Asker) (asker : IsAsker old q k) where
+  pub owing_fetches : (awaits : Bool) → awaits ≡ is_fetching (outstanding (restored k).requester) → old.owes ≡ true → awaits ≡ asks_upon k tag answer
+  owing_fetches awaits waits owing = deaf_asks w q older k k.responder round tag answer keeps is one awaits waits (sym asker.owes ∙ owing)
 
   module _ (rests : old.owes ≡ false) (few : length older < 2 ^ 64 - 2) (sends : Bool) (new : Asking) (out : List ℕ) (heard : (p : ReqSetup) (h : History) → IsKeptSetup old.setup p → length h < 2 ^ 64 - 1 → StandsFor old.asking p h → IsHeardAs p h tag answer sends new out) where
     short : length k.requester < 2 ^ 64 - 2
@@ -160,8 +174,16 @@ module _ (w : Configuration) (q : ReqSetup) (older : List (List ℕ)) (k : Kept)
         let limits : IsKeptSetup old.setup k.setup = subst (IsKeptSetup old.setup) (sym asker.setup) asker.kept in
         subst (λ (h : History). IsHeardAs k.setup h tag answer sends new out) (sym bare) (heard k.setup k.requester limits (let s = short in omega (arith, s)) own)
 
-    pub silent_fetches : sends ≡ false → false ≡ asks_upon k tag answer
-    silent_fetches none = silent_asks w q older k k.responder round tag answer keeps is one new out (subst (λ (b : Bool). IsHeardAs k.setup (restored k).requester tag answer b new out) none here)
+    pub silent_fetches : (awaits result : Bool) → awaits ≡ is_fetching (outstanding (restored k).requester) → sends ≡ false
+        → ((p : ReqSetup) (h : History) → IsKeptSetup old.setup p → length h < 2 ^ 64 - 1 → StandsFor new p h → result ≡ (awaits && is_some (outstanding h)))
+        → result ≡ asks_upon k tag answer
+    silent_fetches awaits result waits none tells =
+        let o : Outcome = hears k.setup (restored k).requester false tag answer no_values no_draw in
+        let limits : IsKeptSetup old.setup k.setup = subst (IsKeptSetup old.setup) (sym asker.setup) asker.kept in
+        let long : length (after (restored k).requester o) < 2 ^ 64 - 1 =
+        (let l = after_long (restored k).requester o in let e = ap length bare in let s = short in omega (arith, l, e, s)) in
+        tells k.setup (after (restored k).requester o) limits long here.stands
+        ∙ silent_asks w q older k k.responder round tag answer keeps is one awaits waits new out (subst (λ (b : Bool). IsHeardAs k.setup (restored k).requester tag answer b new out) none here)
 
     pub sending_fetches : (result : Bool) → sends ≡ true
         → ((p : ReqSetup) (b : History) (sent : Sent) → TookFor b sent.aim → ShowsChunk sent.aim (body_of sent.content) → out ≡ body_of sent.content → length b < 2 ^ 64 - 1 → StandsFor new p (with_next (Some sent) b) → result ≡ is_for_chunk sent.aim)

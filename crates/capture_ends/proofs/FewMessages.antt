@@ -14,7 +14,8 @@ use Rattle.responder_machine.specs.Responder.Outcome.{Same, Unopened, Adds}
 use Rattle.responder_machine.specs.Setup.{RspSetup, towards}
 use Rattle.spdm_basis.specs.declared.PacketFault.{PacketFault}
 use Rattle.spdm_machine.specs.Packets.{gathered_from}
-use Rattle.capture_laws.specs.Keeping.{Keeps, Kept}
+use Rattle.capture_laws.specs.Keeping.{Kept, restored}
+use Rattle.capture_ends.specs.Asker.{Carries}
 use Rattle.capture_laws.specs.Order.{is_answer, is_request}
 use Rattle.capture_laws.specs.Walks.{StepsBy, StepsTo, Walks}
 use Rattle.world_machine.specs.Capture.{AsksBy, Begins, Copies, RepliesBy}
@@ -141,5 +142,5 @@ walks_few w q (packet ∷ older) d walk =
     subst (λ (n : ℕ). IsFew n d) more (steps_few w q.eid older walk.0 d (parsed packet) (length older) walk.2 (walks_few w q older walk.0 walk.1))
 
 -- What is kept has no more messages than there are packets.
-pub kept_messages : (w : Configuration) (q : ReqSetup) (older : List (List ℕ)) (k : Kept) → Keeps w q older k → messages_of k.responder ≤ length older
-kept_messages w q older k keeps = subst (λ (x : Kept). messages_of x.responder ≤ length older) (sym keeps.4) (walks_few w q older keeps.0 keeps.1)
+pub kept_messages : (w : Configuration) (q : ReqSetup) (older : List (List ℕ)) (k : Kept) → Carries w q older k → messages_of k.responder ≤ length older
+kept_messages w q older k carries = walks_few w q older (record (restored k) { fetching = carries.0 }) carries.1

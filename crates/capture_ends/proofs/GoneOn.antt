@@ -9,8 +9,8 @@ use Rattle.requester_machine.specs.History.{History}
 use Rattle.requester_machine.specs.Message.{Sent}
 use Rattle.requester_machine.specs.Setup.{ReqSetup}
 use Rattle.capture_ends.proofs.OwedTook.{kept_short, owed_took}
-use Rattle.capture_ends.specs.Asker.{IsAsker, IsGoneOn, IsKeptSetup, IsSentOwed, SendsOwed}
-use Rattle.capture_laws.specs.Keeping.{GoesOnKept, Keeps, Kept, owing}
+use Rattle.capture_ends.specs.Asker.{Carries, IsAsker, IsGoneOn, IsKeptSetup, IsSentOwed, SendsOwed}
+use Rattle.capture_laws.specs.Keeping.{GoesOnKept, Kept, owing}
 use Rattle.capture_ends.specs.declared.asker.Asker.{Asker}
 use Rattle.capture_ends.specs.declared.asker_setup.AskerSetup.{AskerSetup}
 use Rattle.requester_machine.specs.Owed.{with_next}
@@ -54,7 +54,7 @@ module _ (q : ReqSetup) (k : Kept) (sent : Sent) (body : List ℕ) (setup : k.se
   )
 
 -- Whether a body is the message that is owed, as its sending tells.
-pub gone_on_by : (w : Configuration) (q : ReqSetup) (older : List (List ℕ)) (k : Kept) (body : List ℕ) (old new : Asker) (b : Bool) → Keeps w q older k → length older < 2 ^ 64 - 1 → length body ≤ 4161 → IsAsker old q k → old.owes ≡ true
+pub gone_on_by : (w : Configuration) (q : ReqSetup) (older : List (List ℕ)) (k : Kept) (body : List ℕ) (old new : Asker) (b : Bool) → Carries w q older k → length older < 2 ^ 64 - 1 → length body ≤ 4161 → IsAsker old q k → old.owes ≡ true
     → new.setup ≡ old.setup → new.owes ≡ not b
     → ((p : ReqSetup) (bare : History) (sent : Sent) → IsKeptSetup old.setup p → TookFor bare sent.aim → length bare < 2 ^ 64 - 1 → length body ≤ 4161 → StandsFor old.asking p (with_next (Some sent) bare) → IsSentOwed p bare sent body b new.asking)
     → IsGoneOn q k body b new

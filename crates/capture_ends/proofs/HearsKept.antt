@@ -19,14 +19,13 @@ use Rattle.requester_machine.specs.Setup.{ReqSetup}
 use Rattle.requester_machine.specs.Shown.{after, event_of, sent_by}
 use Rattle.responder_machine.specs.History as responder_history
 use Rattle.capture_ends.proofs.AcceptedBy.{accepted_shown, accepts, accepts_none}
-use Rattle.capture_laws.proofs.KeptAnswers.{kept_is_restored}
 use Rattle.capture_laws.proofs.KeptParts.{Owes, it_owes, kept_is, next_twice}
 use Rattle.capture_laws.proofs.OneWalk.{walks_alike}
 use Rattle.capture_laws.proofs.Repadding.{agree_self, heard_with}
-use Rattle.capture_ends.specs.Asker.{IsAsker, IsKeptSetup}
+use Rattle.capture_ends.specs.Asker.{Carries, IsAsker, IsKeptSetup}
 use Rattle.capture_ends.specs.HeardKept.{IsHeardAs, heard_kept}
 use Rattle.capture_laws.specs.KeptChanges.{accepted_from}
-use Rattle.capture_laws.specs.Keeping.{Keeps, Kept, kept_of, owing, restored}
+use Rattle.capture_laws.specs.Keeping.{Kept, kept_of, owing, restored}
 use Rattle.capture_laws.specs.Padding.{next_with, session_asked}
 use Rattle.capture_laws.specs.RepliesShown.{answered, heard_from, no_values}
 use Rattle.capture_ends.specs.declared.asker.Asker.{Asker}
@@ -61,7 +60,7 @@ settled_facts round _ _ _ _ (Owing e f h g s t agree alike out sent like tagged 
 settled_facts round _ _ _ _ (Shown h g w v a b handle number s t u waits wait aims aim tags not next) none rests = absurd (none-some w (sym none))
 settled_facts round _ _ _ _ (Due old m h g w v a b handle number u still next) none rests = absurd (none-some w (sym none))
 
-module _ (w : Configuration) (q : ReqSetup) (older : List (List ℕ)) (k : Kept) (behind : responder_history.History) (round : Round) (tag : ℕ) (answer : List ℕ) (keeps : Keeps w q older k) (is : k.round ≡ Some round) (one : round.tag ≡ tag) where
+module _ (w : Configuration) (q : ReqSetup) (older : List (List ℕ)) (k : Kept) (behind : responder_history.History) (round : Round) (tag : ℕ) (answer : List ℕ) (keeps : Carries w q older k) (is : k.round ≡ Some round) (one : round.tag ≡ tag) where
   abbrev h : History
   h = (restored k).requester
 
@@ -80,8 +79,8 @@ module _ (w : Configuration) (q : ReqSetup) (older : List (List ℕ)) (k : Kept)
 
   askers : AskersAlike (Some round) h h None None
   askers =
-      let walk = (kept_is_restored w q older k keeps).0 in
-      subst (λ (r : Option Round). AskersAlike r h h None None) is (walks_alike w q older (restored k) (restored k) walk walk).alike.askers
+      let d : Dialogue = record (restored k) { fetching = keeps.0 } in
+      subst (λ (r : Option Round). AskersAlike r h h None None) is (walks_alike w q older d d keeps.1 keeps.1).alike.askers
 
   owes_by : owes (restored k) ≡ later (outstanding h)
   owes_by = ap (λ (r : Option Round). is_later r (outstanding h)) is
@@ -90,7 +89,7 @@ module _ (w : Configuration) (q : ReqSetup) (older : List (List ℕ)) (k : Kept)
   owes_at l m waits = ap (is_later (Some (answered round))) waits ∙ sym (later_round round (answered round) m refl)
 
   kept_back : kept_of (restored k) ≡ k
-  kept_back = (kept_is_restored w q older k keeps).1
+  kept_back = keeps.2
 
   -- Where the history stays, so does what is kept.
   same_kept : kept_of (at h) ≡ seen
@@ -215,7 +214,24 @@ heard_as q h tag body out reaction sends new is told = record {
   room = λ sent by. body_as (sent_by (hears q h false tag body no_values no_draw)) sent reaction.tag out by is.sends;
 }
 
-module _ (w : Configuration) (q : ReqSetup) (older : List (List ℕ)) (k : Kept) (behind : responder_history.History) (round : Round) (tag : ℕ) (answer : List ℕ) (keeps : Keeps w q older k) (is : k.round ≡ Some round) (one : round.tag ≡ tag) where
+pub after_long : (h : History) (x : Outcome) → length (after h x) ≤ length h + 1
+after_long h (Adds e) = omega arith
+after_long h (Ignores cause) = omega arith
+after_long h (Warns code) = omega arith
+after_long h (Fails fault) = omega arith
+after_long h (Resends sent) = omega arith
+
+-- No message was sent upon it, and then what stands for the history was changed to another that does.
+pub heard_still : (q : ReqSetup) (h : History) (tag : ℕ) (body out other : List ℕ) (sends : Bool) (new still : Asking) → IsHeardAs q h tag body sends new out → sends ≡ false → length h < 2 ^ 64 - 2
+    → ((l : History) → length l < 2 ^ 64 - 1 → StandsFor new q l → StandsFor still q l) → IsHeardAs q h tag body sends still other
+heard_still q h tag body out other sends new still heard none few same = record {
+  stands = same (after h (hears q h false tag body no_values no_draw)) (let l = after_long h (hears q h false tag body no_values no_draw) in omega (arith, l, few)) heard.stands;
+  told = heard.told;
+  sent = heard.sent;
+  room = λ sent by. absurd (false≢true (sym none ∙ heard.sent ∙ ap is_some by));
+}
+
+module _ (w : Configuration) (q : ReqSetup) (older : List (List ℕ)) (k : Kept) (behind : responder_history.History) (round : Round) (tag : ℕ) (answer : List ℕ) (keeps : Carries w q older k) (is : k.round ≡ Some round) (one : round.tag ≡ tag) where
   -- It hears nothing while it owes a message,
   pub deaf_asker : (old : Asker) → IsAsker old q k → old.owes ≡ true → IsAsker old q (heard_kept k behind tag round answer)
   deaf_asker old asker owing =
@@ -223,8 +239,8 @@ module _ (w : Configuration) (q : ReqSetup) (older : List (List ℕ)) (k : Kept)
       (record { kept = asker.kept; setup = asker.setup; stands = asker.stands; owes = asker.owes })
 
   -- and else what it is told.
-  pub heard_asker : (old new : Asker) → IsAsker old q k → old.owes ≡ false → new.setup ≡ old.setup → length k.requester < 2 ^ 64 - 1
-      → ((p : ReqSetup) (h : History) → IsKeptSetup old.setup p → length h < 2 ^ 64 - 1 → StandsFor old.asking p h → IsHeardAs p h tag answer new.owes new.asking new.room)
+  pub heard_asker : (old new : Asker) → IsAsker old q k → old.owes ≡ false → new.setup ≡ old.setup → length k.requester < 2 ^ 64 - 2
+      → ((p : ReqSetup) (h : History) → IsKeptSetup old.setup p → length h < 2 ^ 64 - 2 → StandsFor old.asking p h → IsHeardAs p h tag answer new.owes new.asking new.room)
       → IsAsker new q (heard_kept k behind tag round answer)
   heard_asker old new asker rests same few heard =
       let none : k.owed ≡ None = none_in k.owed (sym asker.owes ∙ rests) in

@@ -20,7 +20,8 @@ use Rattle.capture_laws.proofs.LongAnswers.{most_hash}
 use Rattle.capture_laws.proofs.Steadily.{IsSteady}
 use Rattle.capture_laws.specs.AnswersShown.{values_shown_by}
 use Rattle.capture_laws.specs.DropsShown.{drops_shown_by, outcome_shown}
-use Rattle.capture_laws.specs.Keeping.{Keeps, Kept, restored}
+use Rattle.capture_laws.specs.Keeping.{Kept, restored}
+use Rattle.capture_ends.specs.Asker.{Carries}
 use Rattle.capture_laws.specs.Order.{is_answer, is_request}
 use Rattle.capture_ends.specs.PartyReplies.{IsApartInClear}
 use Rattle.capture_laws.specs.RepliesShown.{responder_for}
@@ -73,17 +74,15 @@ typed_steady w = record { begins = λ q. tt; asks = asks_typed; replies = replie
 pub walk_body : (w : Configuration) (q : ReqSetup) (older : List (List ℕ)) (d : Dialogue) (round : Round) → Walks w q older d → d.round ≡ Some round → IsBody round.body
 walk_body w q older d round walk is = subst HasBody is (walks_keep w (λ (x : Dialogue). HasBody x.round) (typed_steady w) q older d walk)
 
-pub kept_body : (w : Configuration) (q : ReqSetup) (older : List (List ℕ)) (k : Kept) (round : Round) → Keeps w q older k → k.round ≡ Some round → IsBody round.body
-kept_body w q older k round keeps is =
-    let walk : HasBody keeps.0.round = walks_keep w (λ (d : Dialogue). HasBody d.round) (typed_steady w) q older keeps.0 keeps.1 in
-    subst HasBody is (subst (λ (x : Kept). HasBody x.round) (sym keeps.4) walk)
+pub kept_body : (w : Configuration) (q : ReqSetup) (older : List (List ℕ)) (k : Kept) (round : Round) → Carries w q older k → k.round ≡ Some round → IsBody round.body
+kept_body w q older k round carries is =
+    walk_body w q older (record (restored k) { fetching = carries.0 }) round carries.1 is
 
 -- ---- An answer whose verify data are alone wrong.
 
-kept_long : (w : Configuration) (q : ReqSetup) (older : List (List ℕ)) (k : Kept) → Keeps w q older k → AreLong k.responder
-kept_long w q older k keeps =
-    let walk : AreLong keeps.0.responder = walks_keep w (λ (d : Dialogue). AreLong d.responder) (long_steady w) q older keeps.0 keeps.1 in
-    subst (λ (x : Kept). AreLong x.responder) (sym keeps.4) walk
+kept_long : (w : Configuration) (q : ReqSetup) (older : List (List ℕ)) (k : Kept) → Carries w q older k → AreLong k.responder
+kept_long w q older k carries =
+    walks_keep w (λ (d : Dialogue). AreLong d.responder) (long_steady w) q older (record (restored k) { fetching = carries.0 }) carries.1
 
 walk_long : (w : Configuration) (q : ReqSetup) (older : List (List ℕ)) (d : Dialogue) → Walks w q older d → AreLong d.responder
 walk_long w q older d walk = walks_keep w (λ (x : Dialogue). AreLong x.responder) (long_steady w) q older d walk
@@ -103,8 +102,8 @@ apart_typed r d round answer are shown =
     let long = made.long shown.2 in
     sym (one_type (verify_size d) (body_of o) answer (omega arith) shown.3) ∙ eqb-true (body_type (body_of o)) 5 (and_first (body_type (body_of o) == 5) _ shown.2)
 
-pub kept_apart : (w : Configuration) (q : ReqSetup) (older : List (List ℕ)) (k : Kept) (round : Round) (answer : List ℕ) → Keeps w q older k → IsApartInClear (responder_for w k) (restored k) round answer
-kept_apart w q older k round answer keeps = apart_typed (responder_for w k) (restored k) round answer (kept_long w q older k keeps)
+pub kept_apart : (w : Configuration) (q : ReqSetup) (older : List (List ℕ)) (k : Kept) (round : Round) (answer : List ℕ) → Carries w q older k → IsApartInClear (responder_for w k) (restored k) round answer
+kept_apart w q older k round answer carries = apart_typed (responder_for w k) (restored k) round answer (kept_long w q older k carries)
 
 -- The same of a responder's history that a walk leads to.
 pub walk_apart : (w : Configuration) (q : ReqSetup) (older : List (List ℕ)) (d e : Dialogue) (r : RspSetup) (round : Round) (answer : List ℕ) → Walks w q older d → d.responder ≡ e.responder → IsApartInClear r e round answer

@@ -1,4 +1,5 @@
 mod OrderRows
+pub mod CarriedBy
 pub mod OwedTook
 pub mod OwedSent
 pub mod GoneOn

@@ -28,7 +28,8 @@ use Rattle.spdm_machine.specs.Keys.{Draw}
 use Rattle.spdm_machine.specs.Packets.{gathered_from}
 use Rattle.capture_laws.proofs.KeptParts.{none_later, none_owed, owed_is}
 use Rattle.capture_laws.proofs.OneWalk.{walks_alike}
-use Rattle.capture_laws.specs.Keeping.{Keeps, Kept, kept_of}
+use Rattle.capture_laws.specs.Keeping.{Kept, kept_of, restored}
+use Rattle.capture_ends.specs.Asker.{Carries}
 use Rattle.capture_laws.specs.Order.{is_answer, is_request}
 use Rattle.capture_laws.specs.Padding.{session_asked}
 use Rattle.requester_machine.specs.Owed.{sent_with}
@@ -182,14 +183,14 @@ walks_grown w q (packet ∷ older) d walk =
 -- ---- What is kept.
 
 -- The history has no more entries than there are packets.
-pub kept_short : (w : Configuration) (q : ReqSetup) (older : List (List ℕ)) (k : Kept) → Keeps w q older k → length k.requester ≤ length older
-kept_short w q older k keeps =
-    let s = (walks_grown w q older keeps.0 keeps.1).short in
-    let l = bare_long keeps.0 in
-    subst (λ (x : Kept). length x.requester ≤ length older) (sym keeps.4) (omega (arith, s, l))
+pub kept_short : (w : Configuration) (q : ReqSetup) (older : List (List ℕ)) (k : Kept) → Carries w q older k → length k.requester ≤ length older
+kept_short w q older k carries =
+    let s = (walks_grown w q older (record (restored k) { fetching = carries.0 }) carries.1).short in
+    let l = bare_long (restored k) in
+    subst (λ (x : Kept). length x.requester ≤ length older) carries.2 (omega (arith, s, l))
 
-pub kept_few : (w : Configuration) (q : ReqSetup) (older : List (List ℕ)) (k : Kept) → Keeps w q older k → length older < 2 ^ 64 - 1 → length k.requester < 2 ^ 64 - 1
-kept_few w q older k keeps few = (let s = kept_short w q older k keeps in omega (arith, s, few))
+pub kept_few : (w : Configuration) (q : ReqSetup) (older : List (List ℕ)) (k : Kept) → Carries w q older k → length older < 2 ^ 64 - 1 → length k.requester < 2 ^ 64 - 1
+kept_few w q older k carries few = (let s = kept_short w q older k carries in omega (arith, s, few))
 
 entry_took : (e f : Entry) (h : History) → EntryAlike e f → IsNewest (e ∷ h) → (s : Sent) → sent_in e ≡ Some s → TookFor (with_next None (e ∷ h)) s.aim
 entry_took (TookClear tag m led d) f h alike newest s is = by_aim s.aim
@@ -225,9 +226,9 @@ took_of d alike none newest sent has true is (Some s) waits =
     subst (λ (x : Sent). TookFor (without_owed d) x.aim) same (subst (λ (l : History). TookFor l s.aim) (sym (owed d is)) took)
 
 -- The message that is owed was sent upon one that was taken.
-pub owed_took : (w : Configuration) (q : ReqSetup) (older : List (List ℕ)) (k : Kept) (sent : Sent) → Keeps w q older k → k.owed ≡ Some sent → TookFor k.requester sent.aim
-owed_took w q older k sent keeps is =
-    let d : Dialogue = keeps.0 in
-    let alike = (walks_alike w q older d d keeps.1 keeps.1).alike.askers in
-    let took = took_of d alike keeps.2 (walks_grown w q older d keeps.1).newest sent (ap (λ (x : Kept). x.owed) (sym keeps.4) ∙ is) (owes d) refl (outstanding d.requester) refl in
-    subst (λ (x : Kept). TookFor x.requester sent.aim) (sym keeps.4) took
+pub owed_took : (w : Configuration) (q : ReqSetup) (older : List (List ℕ)) (k : Kept) (sent : Sent) → Carries w q older k → k.owed ≡ Some sent → TookFor k.requester sent.aim
+owed_took w q older k sent carries is =
+    let d : Dialogue = record (restored k) { fetching = carries.0 } in
+    let alike = (walks_alike w q older d d carries.1 carries.1).alike.askers in
+    let took = took_of d alike refl (walks_grown w q older d carries.1).newest sent (ap (λ (x : Kept). x.owed) carries.2 ∙ is) (owes d) refl (outstanding d.requester) refl in
+    subst (λ (x : Kept). TookFor x.requester sent.aim) carries.2 took

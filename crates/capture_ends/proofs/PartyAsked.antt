@@ -22,7 +22,7 @@ use Rattle.capture_laws.specs.Changes.{session_in}
 use Rattle.capture_laws.specs.Judged.{why_of}
 use Rattle.capture_laws.specs.Keeping.{AsksKept, BeginsKept, CopiesKept, Kept, SendsKept, restored}
 use Rattle.capture_laws.specs.Order.{asks_wrong}
-use Rattle.capture_ends.specs.Party.{IsAsked, IsAskedWhole, IsComingWhy, IsParty, StandBehind}
+use Rattle.capture_ends.specs.Party.{IsAsked, IsAskedBeside, IsAskedWhole, IsBeside, IsComingWhy, IsParty, StandBehind, StandBeside}
 use Rattle.capture_laws.specs.RepliesShown.{responder_for}
 use Rattle.capture_laws.specs.Rows.{StandFor, StandsForRows}
 use Rattle.capture_laws.specs.declared.places.Places.{Places}
@@ -69,14 +69,13 @@ module _ (w : Configuration) (q : ReqSetup) (older : List (List ℕ)) (rows : Li
 
   -- What stands behind it.
   behind : (old new : Party) (table : List Seen) (sent : Option ℕ) (after : History) (owed : Option Sent) (round : Option Round) → let next = record k { requester = after; owed = owed; round = round } in
-      IsParty old w q k rows → new.answerer ≡ old.answerer → new.keys ≡ old.keys → new.number ≡ old.number → new.places ≡ old.places
-      → IsAsker new.asker q next → IsRequestStep sent (restored k) (restored next) → IsTold sent old.places table → StandBehind new table w q older rows k next
-  behind old new table sent after owed round party answers keys number places asker step told =
+      IsBeside old w q k rows → new.keys ≡ old.keys → new.number ≡ old.number → new.places ≡ old.places
+      → IsAsker new.asker q next → IsRequestStep sent (restored k) (restored next) → IsTold sent old.places table → StandBeside new table w q older rows k next
+  behind old new table sent after owed round party keys number places asker step told =
       let next : Kept = record k { requester = after; owed = owed; round = round } in
       record {
-        party = record {
+        beside = record {
           asker = asker;
-          answerer = subst (λ (x : Answerer). IsAnswerer x (responder_for w k) k.responder) (sym answers) party.answerer;
           keys = subst (λ (x : AnswerKeys). keys_stand x (responder_for w k) k.responder) (sym keys) party.keys;
           number = number ∙ party.number;
           places = subst (λ (x : Places). StandFor x (restored next) (rows_between (restored k) (restored next) rows)) (sym places) (told.stay (restored k) (restored next) step party.places);
@@ -85,24 +84,24 @@ module _ (w : Configuration) (q : ReqSetup) (older : List (List ℕ)) (rows : Li
       }
 
   -- A copy.
-  pub copied : (seen : Party) (table : List Seen) → IsParty seen w q k rows → IsTold None seen.places table → is_copy k.round route.tag body ≡ true → IsAskedWhole w q older rows k route body (Ok tt) seen table
+  pub copied : (seen : Party) (table : List Seen) → IsBeside seen w q k rows → IsTold None seen.places table → is_copy k.round route.tag body ≡ true → IsAskedBeside w q older rows k route body (Ok tt) seen table
   copied seen table party told is =
       let copy = copy_of k.round route.tag body is in
       let round : Round = copy.0 in
       let next : Kept = record k { round = Some (record round { waiting = round.waiting + 1 }) } in
       let copies : CopiesKept k route.tag body next = (round, copy.1, copy.2, copy.3, refl) in
       let step = kept_copy_is_request k next route.tag body copies in
-      (next, (turn.body, turn.owner, inl copies), behind seen seen table None k.requester k.owed next.round party refl refl refl refl (asker_with seen.asker q k next.round party.asker) step told)
+      (next, (turn.body, turn.owner, inl copies), behind seen seen table None k.requester k.owed next.round party refl refl refl (asker_with seen.asker q k next.round party.asker) step told)
 
   -- A request by which a round begins.
-  pub began : (old new : Party) (table : List Seen) (sent : Option ℕ) (after : History) → IsParty old w q k rows → new.answerer ≡ old.answerer → new.keys ≡ old.keys → new.number ≡ old.number → new.places ≡ old.places
+  pub began : (old new : Party) (table : List Seen) (sent : Option ℕ) (after : History) → IsBeside old w q k rows → new.keys ≡ old.keys → new.number ≡ old.number → new.places ≡ old.places
       → is_copy k.round route.tag body ≡ false → may_begin k.round body ≡ true → SendsKept k body after
-      → IsAsker new.asker q (record k { requester = after; owed = None }) → sent ≡ session_in (outstanding after) → IsTold sent old.places table → IsAskedWhole w q older rows k route body (Ok tt) new table
-  began old new table sent after party answers keys number places other may sends asker is told =
+      → IsAsker new.asker q (record k { requester = after; owed = None }) → sent ≡ session_in (outstanding after) → IsTold sent old.places table → IsAskedBeside w q older rows k route body (Ok tt) new table
+  began old new table sent after party keys number places other may sends asker is told =
       let next : Kept = record k { requester = after; owed = None; round = Some (new_round route.tag body) } in
       let begins : BeginsKept k route.tag body next = (may, turn.tag other, (after, sends, refl)) in
       let step = subst (λ (o : Option ℕ). IsRequestStep o (restored k) (restored next)) (sym is) (kept_round_is_request k next route.tag body begins) in
-      (next, (turn.body, turn.owner, inr begins), behind old new table sent after None next.round party answers keys number places (asker_with new.asker q (record k { requester = after; owed = None }) next.round asker) step told)
+      (next, (turn.body, turn.owner, inr begins), behind old new table sent after None next.round party keys number places (asker_with new.asker q (record k { requester = after; owed = None }) next.round asker) step told)
 
   -- What is neither goes nowhere.
   pub goes_nowhere : is_copy k.round route.tag body ≡ false → ((after : History) → may_begin k.round body ≡ true → SendsKept k body after → ⊥) → (next : Kept) → AsksKept k (Whole route body) next → ⊥
@@ -125,8 +124,31 @@ module _ (w : Configuration) (q : ReqSetup) (older : List (List ℕ)) (rows : Li
   refused_for BadRecord is = (λ apart. false≢true (sym is.0 ∙ apart.1), reason_is ∙ ap Some is.1)
 
   -- What is told of it.
-  pub refused_by : (new : Party) (table : List Seen) (why : declared.Why) → ((next : Kept) → AsksKept k (Whole route body) next → ⊥) → IsRefusedFor (restored k) body (why_of why) → IsAskedWhole w q older rows k route body (Err why) new table
+  pub refused_by : (new : Party) (table : List Seen) (why : declared.Why) → ((next : Kept) → AsksKept k (Whole route body) next → ⊥) → IsRefusedFor (restored k) body (why_of why) → IsAskedBeside w q older rows k route body (Err why) new table
   refused_by new table why nowhere reason = (nowhere, refused_for (why_of why) reason)
+
+-- What a request makes of what is kept has the same responder.
+pub asks_same : (k next : Kept) (route : RouteFields) (body : List ℕ) → AsksKept k (Whole route body) next → (next.setup ≡ k.setup) × (next.responder ≡ k.responder)
+asks_same k next route body (is, owner, inl copies) = (ap (λ (x : Kept). x.setup) copies.4, ap (λ (x : Kept). x.responder) copies.4)
+asks_same k next route body (is, owner, inr begins) = (ap (λ (x : Kept). x.setup) begins.2.2, ap (λ (x : Kept). x.responder) begins.2.2)
+
+pub beside_of : (seen : Party) (w : Configuration) (q : ReqSetup) (k : Kept) (rows : List Row) → IsParty seen w q k rows → IsBeside seen w q k rows
+beside_of seen w q k rows party = record { asker = party.asker; keys = party.keys; number = party.number; places = party.places }
+
+pub party_of : (seen : Party) (w : Configuration) (q : ReqSetup) (k : Kept) (rows : List Row) → IsBeside seen w q k rows → IsAnswerer seen.answerer (responder_for w k) k.responder → IsParty seen w q k rows
+party_of seen w q k rows beside answerer = record { asker = beside.asker; answerer = answerer; keys = beside.keys; number = beside.number; places = beside.places }
+
+-- So the responder's connection stands for it still.
+pub whole_by : (w : Configuration) (q : ReqSetup) (older : List (List ℕ)) (rows : List Row) (k : Kept) (route : RouteFields) (body : List ℕ) (result : Result Unit declared.Why) (old new : Party) (table : List Seen)
+    → IsParty old w q k rows → new.answerer ≡ old.answerer → IsAskedBeside w q older rows k route body result new table → IsAskedWhole w q older rows k route body result new table
+whole_by w q older rows k route body (Ok u) old new table party same told =
+    let next : Kept = told.0 in
+    let at = asks_same k next route body told.1 in
+    let one : IsAnswerer new.answerer (responder_for w k) k.responder = subst (λ (x : Answerer). IsAnswerer x (responder_for w k) k.responder) (sym same) party.answerer in
+    let two : IsAnswerer new.answerer (responder_for w next) k.responder = subst (λ (s : ReqSetup). IsAnswerer new.answerer (responder_for w (record k { setup = s })) k.responder) (sym at.0) one in
+    let here : IsAnswerer new.answerer (responder_for w next) next.responder = subst (IsAnswerer new.answerer (responder_for w next)) (sym at.1) two in
+    (next, told.1, record { party = party_of new w q next _ told.2.beside here; stands = told.2.stands })
+whole_by w q older rows k route body (Err why) old new table party same told = told
 
 -- Where it may begin a large request, no more is told.
 pub large_or_refused : (w : Configuration) (q : ReqSetup) (older : List (List ℕ)) (rows : List Row) (k : Kept) (route : RouteFields) (body : List ℕ) (new : Party) (table : List Seen) (why : declared.Why) (result : Result Onward declared.Why) (b : Bool)

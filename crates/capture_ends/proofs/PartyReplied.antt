@@ -24,7 +24,7 @@ use Rattle.capture_laws.proofs.RepliesTold.{replies_are_told}
 use Rattle.capture_ends.specs.AnswerKeys.{StandFor}
 use Rattle.capture_ends.specs.Answerer.{IsAnswerer, history_shown}
 use Rattle.capture_laws.specs.ApartShown.{IsApartShown}
-use Rattle.capture_ends.specs.Asker.{IsAsker}
+use Rattle.capture_ends.specs.Asker.{Carries, IsAsker}
 use Rattle.capture_laws.specs.AnswersShown.{values_shown_by}
 use Rattle.capture_laws.specs.DropsShown.{IsShownAnswer, drops_shown_by, outcome_shown}
 use Rattle.capture_ends.specs.HeardKept.{asks_upon, heard_kept}
@@ -201,5 +201,5 @@ module _ (w : Configuration) (q : ReqSetup) (older : List (List ℕ)) (k : Kept)
 pub kept_limits : (q : ReqSetup) (k : Kept) (seen : Asker) → IsAsker seen q k → IsSetUp k.setup
 kept_limits q k seen asker = subst IsSetUp (sym asker.setup) asker.kept.limits
 
-pub few_messages : (w : Configuration) (q : ReqSetup) (older : List (List ℕ)) (k : Kept) → Keeps w q older k → length older < 2 ^ 64 - 1 → messages_of k.responder < 2 ^ 64 - 1
+pub few_messages : (w : Configuration) (q : ReqSetup) (older : List (List ℕ)) (k : Kept) → Carries w q older k → length older < 2 ^ 64 - 1 → messages_of k.responder < 2 ^ 64 - 1
 few_messages w q older k keeps few = (let m = kept_messages w q older k keeps in omega (arith, m, few))

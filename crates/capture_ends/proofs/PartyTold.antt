@@ -18,6 +18,7 @@ use Rattle.capture_laws.specs.RepliesShown.{answered_from, responder_for}
 use Rattle.capture_laws.specs.declared.change.Change.{Change}
 use Rattle.capture_ends.proofs.FewMessages.{after_more, dropped_same}
 use Rattle.capture_ends.proofs.InTurn.{AnswersInTurn}
+use Rattle.capture_ends.proofs.CarriedBy.{keeps_carries}
 use Rattle.capture_ends.proofs.PartyReplied.{few_messages, whole_kept, whole_replies}
 use Rattle.capture_ends.specs.Answerer.{history_shown}
 use Rattle.capture_ends.specs.HeardKept.{asks_upon}
@@ -63,7 +64,7 @@ module _ (w : Configuration) (q : ReqSetup) (older : List (List ℕ)) (k : Kept)
   pub few_behind : length older < 2 ^ 64 - 1 → messages_of behind < 2 ^ 64
   few_behind few =
       let ids : List ℕ = drops_shown_by r h round.tag round.body answer in
-      let before = few_messages w q older k keeps few in
+      let before = few_messages w q older k (keeps_carries w q older k keeps) few in
       let same = dropped_same ids h in
       let more = after_more (with_dropped h ids) (outcome_shown r h round.tag round.body answer) in
       omega (arith, before, same, more)

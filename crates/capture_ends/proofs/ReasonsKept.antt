@@ -6,12 +6,12 @@ use Rattle.requester_machine.specs.History.{History, outstanding}
 use Rattle.requester_machine.specs.Message.{Sent}
 use Rattle.requester_machine.specs.Named.{session_named}
 use Rattle.requester_machine.specs.Setup.{ReqSetup}
-use Rattle.capture_laws.proofs.KeptAnswers.{kept_is_restored}
+use Rattle.capture_ends.specs.Asker.{Carries}
 use Rattle.capture_laws.proofs.KeptParts.{none_later}
 use Rattle.capture_ends.proofs.OwedSent.{out_owed}
 use Rattle.capture_ends.proofs.OwedTook.{owed_took}
 use Rattle.capture_ends.specs.Asked.{IsRefusedFor}
-use Rattle.capture_laws.specs.Keeping.{Keeps, Kept, kept_of, owing, restored}
+use Rattle.capture_laws.specs.Keeping.{Kept, kept_of, owing, restored}
 use Rattle.capture_laws.specs.Padding.{next_with}
 use Rattle.capture_ends.specs.RefusedRequest.{finish_apart}
 use Rattle.world_machine.specs.CapturedRequests.{is_later, owes, without_owed}
@@ -24,9 +24,9 @@ use Rattle.world_machine.specs.Setup.{Configuration}
 
 -- ---- What is restored.
 
-module _ (w : Configuration) (q : ReqSetup) (older : List (List ℕ)) (k : Kept) (keeps : Keeps w q older k) where
+module _ (w : Configuration) (q : ReqSetup) (older : List (List ℕ)) (k : Kept) (keeps : Carries w q older k) where
   same_kept : kept_of (restored k) ≡ k
-  same_kept = (kept_is_restored w q older k keeps).1
+  same_kept = keeps.2
 
   pub bare_is : without_owed (restored k) ≡ k.requester
   bare_is = ap (λ (x : Kept). x.requester) same_kept

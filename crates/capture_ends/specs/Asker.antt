@@ -1,6 +1,6 @@
 -- What the program keeps of a requester of a capture, and what it tells of a body that goes on from it. This project's
 -- own.
-use Rattle.std.specs.Prelude.{◌≡◌, ◌≤◌, ◌==◌, ◌&&◌, ℕ, List, Bool, true, false, Some, None, is_some, length, slice_index}
+use Rattle.std.specs.Prelude.{◌≡◌, ◌≤◌, ◌==◌, ◌&&◌, ℕ, List, Bool, true, false, Some, None, Option, is_some, length, slice_index}
 use Rattle.asking.specs.Joined.{StandsFor}
 use Rattle.asking.specs.declared.joined.Asking.{Asking}
 use Rattle.requester_machine.specs.History.{History, begins_large}
@@ -10,12 +10,14 @@ use Rattle.requester_machine.specs.Session.{session_of}
 use Rattle.requester_machine.specs.Setup.{ReqSetup}
 use Rattle.requester_machine.specs.UnderWay.{HasSizes}
 use Rattle.spdm_grammar.specs.declared.names.request_code.TheConstants.{CHUNK_SEND}
-use Rattle.capture_laws.specs.Keeping.{GoesOnKept, Kept, owing}
+use Rattle.capture_laws.specs.Keeping.{GoesOnKept, Kept, kept_of, owing, restored}
 use Rattle.capture_laws.specs.Padding.{session_asked}
+use Rattle.capture_laws.specs.Walks.{Walks}
 use Rattle.requester_machine.specs.Owed.{sent_with}
 use Rattle.capture_ends.specs.declared.asker.Asker.{Asker}
 use Rattle.capture_ends.specs.declared.asker_setup.AskerSetup.{AskerSetup}
 use Rattle.requester_machine.specs.Owed.{with_next}
+use Rattle.world_machine.specs.Setup.{Configuration}
 
 -- ---- What is kept.
 
@@ -36,6 +38,12 @@ pub record IsAsker (seen : Asker) (q : ReqSetup) (k : Kept) : Type 0 where
   pub setup : k.setup ≡ q
   pub stands : StandsFor seen.asking q (owing k.owed k.requester)
   pub owes : seen.owes ≡ is_some k.owed
+
+-- Some walk over these packets, the newest first, leads to what this is kept of, and no large request is under way. A large
+-- answer may be fetched, or none is.
+abbrev pub Carries : Configuration → ReqSetup → (older : List (List ℕ)) → Kept → Type 0
+Carries w q older k =
+    (fetching : Option (List ℕ)) × Walks w q older (record (restored k) { fetching = fetching }) × (kept_of (restored k) ≡ k)
 
 -- ---- The message that is owed.
 

@@ -34,10 +34,22 @@ pub record IsParty (seen : Party) (w : Configuration) (q : ReqSetup) (k : Kept) 
   pub number : seen.number ≡ number_from 1 q.eid w.requesters
   pub places : StandFor seen.places (restored k) rows
 
+-- The same but for the responder's connection: while a large answer is fetched that is kept otherwise.
+pub record IsBeside (seen : Party) (w : Configuration) (q : ReqSetup) (k : Kept) (rows : List Row) : Type 0 where
+  pub asker : IsAsker seen.asker q k
+  pub keys : answer_keys.StandFor seen.keys (responder_for w k) k.responder
+  pub number : seen.number ≡ number_from 1 q.eid w.requesters
+  pub places : StandFor seen.places (restored k) rows
+
 -- Behind a packet that makes this of what was kept: the rows are those that it makes, and the table stands for them after
 -- one packet more.
 pub record StandBehind (new : Party) (table : List Seen) (w : Configuration) (q : ReqSetup) (older : List (List ℕ)) (rows : List Row) (k next : Kept) : Type 0 where
   pub party : IsParty new w q next (rows_between (restored k) (restored next) rows)
+  pub stands : StandsForRows table w (length older + 1) (rows_between (restored k) (restored next) rows)
+
+-- The same but for the responder's connection.
+pub record StandBeside (new : Party) (table : List Seen) (w : Configuration) (q : ReqSetup) (older : List (List ℕ)) (rows : List Row) (k next : Kept) : Type 0 where
+  pub beside : IsBeside new w q next (rows_between (restored k) (restored next) rows)
   pub stands : StandsForRows table w (length older + 1) (rows_between (restored k) (restored next) rows)
 
 -- A packet between the responder and another requester leaves it, among the rows that it makes.
@@ -69,6 +81,14 @@ abbrev pub IsAskedWhole : Configuration → ReqSetup → List (List ℕ) → Lis
 IsAskedWhole w q older rows k route body (Ok u) new table =
     (next : Kept) × AsksKept k (Whole route body) next × StandBehind new table w q older rows k next
 IsAskedWhole w q older rows k route body (Err why) new table =
+    ((next : Kept) → AsksKept k (Whole route body) next → ⊥) × IsComingWhy k (Whole route body) (why_of why)
+
+-- The same but for the responder's connection.
+abbrev pub IsAskedBeside : Configuration → ReqSetup → List (List ℕ) → List Row → Kept → RouteFields → (body : List ℕ)
+    → Result Unit declared.Why → (new : Party) → (table : List Seen) → Type 0
+IsAskedBeside w q older rows k route body (Ok u) new table =
+    (next : Kept) × AsksKept k (Whole route body) next × StandBeside new table w q older rows k next
+IsAskedBeside w q older rows k route body (Err why) new table =
     ((next : Kept) → AsksKept k (Whole route body) next → ⊥) × IsComingWhy k (Whole route body) (why_of why)
 
 -- Of a request: it goes on, or it is refused, and then why: it is no first chunk either.

@@ -212,7 +212,7 @@ impl AnswerKeys {
 
     /// A body was handed to the connection, with the key of the answer to it, and sessions may have
     /// been dropped before: what is kept is that of the history behind it.
-    pub(crate) fn follow(&mut self, connection: &Connection, body: &[u8], key: Option<AnswerKey>)
+    pub fn follow(&mut self, connection: &Connection, body: &[u8], key: Option<AnswerKey>)
         ensures { (r : RspSetup) (h : History) (ids : List ℕ) (tag : ℕ) (f : Free) (d : Draw)
             → StandFor self.old r h → IsComingKey r h body.now key
             → connected.StandsFor connection.now r (after (with_dropped h ids)

@@ -63,7 +63,7 @@ impl Answerer {
 
     /// Why an answer to this body is refused, but for wrong verify data: had before it is judged.
     /// Fewer than 2^64 - 1 messages came.
-    pub(crate) fn reply_why(&mut self, keys: &AnswerKeys, body: &[u8], answer: &[u8]) -> Why
+    pub fn reply_why(&mut self, keys: &AnswerKeys, body: &[u8], answer: &[u8]) -> Why
         ensures told { (r : RspSetup) (d : Dialogue) (round : Round)
             → IsAnswerer self.old r d.responder → messages_of d.responder < 2 ^ 64 - 1
             → StandFor keys.now r d.responder → round.body ≡ body.now
@@ -75,7 +75,7 @@ impl Answerer {
 
     /// The key of the answer to this body, had before it is judged. Fewer than 2^64 - 1 messages
     /// came.
-    pub(crate) fn coming_key(&mut self, body: &[u8]) -> Option<AnswerKey>
+    pub fn coming_key(&mut self, body: &[u8]) -> Option<AnswerKey>
         ensures key { (r : RspSetup) (h : History) → IsAnswerer self.old r h
             → messages_of h < 2 ^ 64 - 1 → IsComingKey r h body.now result }
         ensures same { self.new.connection ≡ self.old.connection }

@@ -20,7 +20,8 @@ use spdm_grammar::names::response_code::{CHUNK_SEND_ACK, ERROR};
 /// and takes no memory.
 #[derive(Drop)]
 pub struct Answerer {
-    pub(crate) connection: Connection,
+    /// The responder towards the requester.
+    pub connection: Connection,
     pub(crate) message: Frame,
     pub(crate) record: RecordFrame,
     pub(crate) work: Work,
@@ -141,9 +142,9 @@ impl Answerer {
         }
     }
 
-    // Judges an answer to a clear message at these values. The whole answer to the message passes 4,096
-    // bytes where that to `asked` does. Fewer than 2^64 - 1 messages came.
-    pub(crate) fn answers_at(
+    /// Judges an answer to a clear message at these values. The whole answer to the message passes 4,096
+    /// bytes where that to `asked` does. Fewer than 2^64 - 1 messages came.
+    pub fn answers_at(
         &mut self,
         setup: &Setup<'_>,
         tag: u8,

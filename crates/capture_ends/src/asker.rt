@@ -25,9 +25,9 @@ impl Asker {
     ghost use Rattle.requester_machine.specs.History.{outstanding};
     ghost use Rattle.requester_machine.specs.May as may;
     ghost use Rattle.requester_machine.specs.Setup.{ReqSetup};
-    ghost use Rattle.capture_ends.specs.Asker.{IsAsker, IsGoneOn};
+    ghost use Rattle.capture_ends.specs.Asker.{Carries, IsAsker, IsGoneOn};
     ghost use Rattle.capture_laws.specs.Changes.{session_in};
-    ghost use Rattle.capture_laws.specs.Keeping.{Keeps, Kept, kept_of};
+    ghost use Rattle.capture_laws.specs.Keeping.{Kept, kept_of};
     ghost use Rattle.world_machine.specs.Rounds.{new_dialogue};
     ghost use Rattle.world_machine.specs.Setup.{Configuration};
 
@@ -58,7 +58,7 @@ impl Asker {
     /// some padding where it is a record. Else nothing changes.
     pub fn goes_on(&mut self, body: &[u8]) -> bool
         ensures { (w : Configuration) (q : ReqSetup) (older : List (List ℕ)) (k : Kept)
-            → Keeps w q older k → length older < 2 ^ 64 - 1 → length body.now ≤ 4161
+            → Carries w q older k → length older < 2 ^ 64 - 1 → length body.now ≤ 4161
             → IsAsker self.old q k → IsGoneOn q k body.now result self.new }
     {
         if !self.owes {

@@ -1,4 +1,4 @@
-ghost use Rattle.std.specs.Prelude.{◌≡◌, ◌<◌, ◌-◌, ◌^◌, if◌then◌else◌, None, Some, length};
+ghost use Rattle.std.specs.Prelude.{◌≡◌, ◌<◌, ◌-◌, ◌^◌, ◌&&◌, if◌then◌else◌, None, Some, is_some, length};
 ghost use Rattle.asking.specs.Joined.{StandsFor};
 ghost use Rattle.asking.specs.Owed.{TookFor};
 ghost use Rattle.asking.specs.OwnRecords.{session_awaited};
@@ -14,6 +14,7 @@ ghost use Rattle.world_machine.specs.LargeAnswers.{is_for_chunk};
 use crate::Asker;
 use crate::asker_setup::AskerSetup;
 use crate::bodies::byte_at;
+use crate::owed_messages::write_outstanding;
 use asking::{Asking, Body};
 use spdm_grammar::Stage;
 use spdm_grammar::names::request_code::CHUNK_GET;
@@ -23,7 +24,7 @@ use spdm_grammar::names::request_code::CHUNK_GET;
 pub struct Heard {
     /// The ReqSessionID of the PSK_EXCHANGE whose answer it takes, if it takes one.
     pub accepted: Option<u16>,
-    /// Whether it asks for a chunk of a large answer.
+    /// Whether it asks for a chunk of a large answer, or awaits the one that it asked for.
     pub fetches: bool,
 }
 
@@ -65,6 +66,25 @@ fn asks_chunk(asking: &Asking, room: &Body) -> bool
     }
 }
 
+// Whether a chunk is awaited still, which was awaited or not, where nothing was sent upon what came last.
+fn awaits_still(
+    asking: &mut Asking,
+    setup: &AskerSetup,
+    room: &mut Body,
+    awaited: bool,
+) -> bool
+    ensures waits { (q : ReqSetup) (h : History) → IsKeptSetup setup.now q
+        → length h < 2 ^ 64 - 1 → StandsFor asking.old q h
+        → result ≡ (awaited && is_some (outstanding h)) }
+    ensures stands { (q : ReqSetup) (h : History) → IsKeptSetup setup.now q
+        → length h < 2 ^ 64 - 1 → StandsFor asking.old q h → StandsFor asking.new q h }
+{
+    if !awaited {
+        return false;
+    }
+    write_outstanding(asking, setup, room)
+}
+
 // Whether a session is open.
 fn is_open(stage: Stage) -> bool
     ensures { result ≡ is_open stage }
@@ -74,48 +94,49 @@ fn is_open(stage: Stage) -> bool
 
 impl Asker {
     ghost use Rattle.std.specs.Prelude.{◌≡◌, ◌<◌, ◌-◌, ◌^◌, ℕ, List, Some, length};
+    ghost use Rattle.requester_machine.specs.History.{outstanding};
     ghost use Rattle.requester_machine.specs.Setup.{ReqSetup};
     ghost use Rattle.responder_machine.specs.History as responder_history;
-    ghost use Rattle.capture_ends.specs.Asker.{IsAsker};
+    ghost use Rattle.capture_ends.specs.Asker.{Carries, IsAsker};
     ghost use Rattle.capture_ends.specs.HeardKept.{asks_upon, heard_kept};
-    ghost use Rattle.capture_laws.specs.Keeping.{Keeps, Kept};
+    ghost use Rattle.capture_laws.specs.Keeping.{Kept, restored};
     ghost use Rattle.capture_laws.specs.KeptChanges.{accepted_from};
+    ghost use Rattle.world_machine.specs.LargeAnswers.{is_fetching};
     ghost use Rattle.world_machine.specs.Rounds.{Round};
     ghost use Rattle.world_machine.specs.Setup.{Configuration};
 
-    /// The requester hears an answer under the tag of the round under way: what it does upon it is
-    /// told. What it sends by itself then is owed. While it owes a message it hears nothing: the
-    /// request of the round has had its answer. Whether it asks for a chunk is told of fewer than
-    /// 2^64 - 2 packets.
-    pub fn hears(&mut self, tag: u8, answer: &[u8]) -> Heard
+    /// The requester hears an answer under the tag of the round under way, while it awaits a chunk of a
+    /// large answer or not: what it does upon it is told. What it sends by itself then is owed. While it
+    /// owes a message it hears nothing: the request of the round has had its answer. Fewer than 2^64 - 2
+    /// packets came.
+    pub fn hears(&mut self, tag: u8, answer: &[u8], awaits: bool) -> Heard
         ensures kept { (w : Configuration) (q : ReqSetup) (older : List (List ℕ)) (k : Kept)
-            (behind : responder_history.History) (round : Round) → Keeps w q older k
-            → length older < 2 ^ 64 - 1 → k.round ≡ Some round → round.tag ≡ tag
+            (behind : responder_history.History) (round : Round) → Carries w q older k
+            → length older < 2 ^ 64 - 2 → k.round ≡ Some round → round.tag ≡ tag
             → IsAsker self.old q k
             → IsAsker self.new q (heard_kept k behind tag round answer.now) }
         ensures accepted { (w : Configuration) (q : ReqSetup) (older : List (List ℕ)) (k : Kept)
-            (round : Round) → Keeps w q older k → length older < 2 ^ 64 - 1
+            (round : Round) → Carries w q older k → length older < 2 ^ 64 - 1
             → k.round ≡ Some round → round.tag ≡ tag → IsAsker self.old q k
             → result.accepted ≡ accepted_from k tag answer.now }
         ensures fetches { (w : Configuration) (q : ReqSetup) (older : List (List ℕ)) (k : Kept)
-            (round : Round) → Keeps w q older k → length older < 2 ^ 64 - 2
+            (round : Round) → Carries w q older k → length older < 2 ^ 64 - 2
             → k.round ≡ Some round → round.tag ≡ tag → IsAsker self.old q k
+            → awaits ≡ is_fetching (outstanding (restored k).requester)
             → result.fetches ≡ asks_upon k tag answer.now }
     {
         if self.owes {
             return Heard {
                 accepted: None,
-                fetches: false,
+                fetches: awaits,
             };
         }
         let in_session = self.asking.session_awaited().is_some();
         self.owes = hear(&mut self.asking, &self.setup, &mut self.room, tag, answer);
         let accepted = awaited_anew(&self.asking, in_session);
         if !self.owes {
-            return Heard {
-                accepted,
-                fetches: false,
-            };
+            let fetches = awaits_still(&mut self.asking, &self.setup, &mut self.room, awaits);
+            return Heard { accepted, fetches };
         }
         let fetches = asks_chunk(&self.asking, &self.room);
         Heard { accepted, fetches }

@@ -41,7 +41,7 @@ impl Answerer {
     }
 
     /// Judges a body as the answer to another one, by what it shows. Fewer than 2^64 - 1 messages came.
-    pub(crate) fn judges(
+    pub fn judges(
         &mut self,
         setup: &Setup<'_>,
         tag: u8,

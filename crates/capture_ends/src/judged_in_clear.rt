@@ -14,7 +14,7 @@ impl Answerer {
 
     /// Judges a body as the answer to another one, both in the clear, by what it shows. Fewer than
     /// 2^64 - 1 messages came.
-    pub(crate) fn judges_in_clear(
+    pub fn judges_in_clear(
         &mut self,
         setup: &Setup<'_>,
         tag: u8,

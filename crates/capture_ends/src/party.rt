@@ -14,11 +14,16 @@ use script_text::Why;
 /// of those that go on. It takes no memory but when it is made.
 #[derive(Drop)]
 pub struct Party {
-    pub(crate) asker: Asker,
-    pub(crate) answerer: Answerer,
-    pub(crate) keys: AnswerKeys,
-    pub(crate) number: u8,
-    pub(crate) places: Places,
+    /// The requester.
+    pub asker: Asker,
+    /// The responder towards it.
+    pub answerer: Answerer,
+    /// The keys of answers that were given.
+    pub keys: AnswerKeys,
+    /// The requester's number, counted from 1.
+    pub number: u8,
+    /// Where its entries stand in the table of sessions.
+    pub places: Places,
 }
 
 // What is told of a request that is refused for this: its body may be the first chunk of a large one.
@@ -37,10 +42,10 @@ impl Party {
     ghost use Rattle.mctp_framing.specs.Cutting.{RouteFields};
     ghost use Rattle.mctp_framing.specs.Gathering.Gathered.{Whole};
     ghost use Rattle.requester_machine.specs.Setup.{ReqSetup};
-    ghost use Rattle.capture_ends.specs.Asker.{IsAsker};
+    ghost use Rattle.capture_ends.specs.Asker.{Carries, IsAsker};
     ghost use Rattle.capture_laws.specs.Keeping.{Keeps, Kept, kept_of};
     ghost use Rattle.capture_laws.specs.Order.{asked_why};
-    ghost use Rattle.capture_ends.specs.Party.{IsAsked, IsAskedWhole, IsParty};
+    ghost use Rattle.capture_ends.specs.Party.{IsAsked, IsAskedBeside, IsBeside, IsParty};
     ghost use Rattle.capture_laws.specs.RepliesShown.{responder_for};
     ghost use Rattle.capture_laws.specs.Rows.{StandsForRows};
     ghost use Rattle.world_machine.specs.Rounds.{new_dialogue};
@@ -88,8 +93,9 @@ impl Party {
         }
     }
 
-    // The same of a request that goes whole: it goes on, or why it is refused as such a one.
-    pub(crate) fn asks_whole(
+    /// The same of a request that goes whole, at any place where no large request is sent: it goes on, or why
+    /// it is refused as such a one. The responder's connection is not asked.
+    pub fn asks_whole(
         &mut self,
         table: &mut SessionTable,
         round: &Round,
@@ -97,11 +103,12 @@ impl Party {
         body: &[u8],
     ) -> Result<(), Why>
         ensures told { (w : Configuration) (q : ReqSetup) (older : List (List ℕ)) (rows : List Row)
-            (k : Kept) (route : RouteFields) → Keeps w q older k → length older < 2 ^ 64 - 1
+            (k : Kept) (route : RouteFields) → Carries w q older k → length older < 2 ^ 64 - 1
             → length body.now ≤ 4161 → round.now ≡ k.round → route.tag ≡ tag
-            → asked_why k.round (Whole route body.now) ≡ None → IsParty self.old w q k rows
+            → asked_why k.round (Whole route body.now) ≡ None → IsBeside self.old w q k rows
             → StandsForRows table.old w (length older) rows
-            → IsAskedWhole w q older rows k route body.now result self.new table.new }
+            → IsAskedBeside w q older rows k route body.now result self.new table.new }
+        ensures answerer { self.new.answerer ≡ self.old.answerer }
         ensures stays { OnErr result (table.new ≡ table.old) }
     {
         if round.is_copy(tag, body) {

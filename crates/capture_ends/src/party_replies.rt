@@ -11,6 +11,7 @@ impl Party {
     ghost use Rattle.connection.specs.Setup.{IsSetUp};
     ghost use Rattle.mctp_framing.specs.Cutting.{RouteFields};
     ghost use Rattle.mctp_framing.specs.Gathering.Gathered.{Whole};
+    ghost use Rattle.requester_machine.specs.History.{outstanding};
     ghost use Rattle.requester_machine.specs.Setup.{ReqSetup};
     ghost use Rattle.responder_machine.specs.Answer.{Free};
     ghost use Rattle.responder_machine.specs.BoundLaws.{messages_of};
@@ -21,11 +22,11 @@ impl Party {
     ghost use Rattle.spdm_machine.specs.Keys.{Draw};
     ghost use Rattle.capture_ends.specs.AnswerKeys.{IsComingKey, StandFor};
     ghost use Rattle.capture_ends.specs.Answerer.{IsAnswerer};
-    ghost use Rattle.capture_ends.specs.Asker.{IsAsker};
+    ghost use Rattle.capture_ends.specs.Asker.{Carries, IsAsker};
     ghost use Rattle.capture_ends.specs.HeardKept.{asks_upon, heard_kept};
     ghost use Rattle.capture_laws.specs.Changes.{views_in};
     ghost use Rattle.capture_laws.specs.DropsShown.{id_begun, response_of};
-    ghost use Rattle.capture_laws.specs.Keeping.{Keeps, Kept};
+    ghost use Rattle.capture_laws.specs.Keeping.{Keeps, Kept, restored};
     ghost use Rattle.capture_laws.specs.KeptChanges.{accepted_from};
     ghost use Rattle.capture_laws.specs.Order.{answered_why, body_in, tag_in};
     ghost use Rattle.capture_ends.specs.Party.{IsParty};
@@ -33,6 +34,7 @@ impl Party {
     ghost use Rattle.capture_laws.specs.RepliesShown.{responder_for};
     ghost use Rattle.capture_laws.specs.Rows.{StandsForRows};
     ghost use Rattle.capture_ends.specs.declared.onward.Onward.TheVariants as onward;
+    ghost use Rattle.world_machine.specs.LargeAnswers.{is_fetching};
     ghost use Rattle.world_machine.specs.Rounds as rounds;
     ghost use Rattle.world_machine.specs.SessionTable.{Row};
     ghost use Rattle.world_machine.specs.Setup.{Configuration};
@@ -67,7 +69,7 @@ impl Party {
         let taken = self.answerer.taken(body, answer);
         match self.answerer.judges(setup, round.tag(), body, answer) {
             Judged::Given(Given::Whole) => {
-                let heard = self.go_on(round, key, answer);
+                let heard = self.go_on(round, key, answer, false);
                 if heard.fetches {
                     return Ok(Ok(Onward::Large));
                 }
@@ -82,9 +84,9 @@ impl Party {
         }
     }
 
-    // What an answer changed by which this session was begun, if one was; behind it the requester
-    // accepted a session under this ReqSessionID, and the session of this RspSessionID took a record.
-    pub(crate) fn change(
+    /// What an answer changed by which this session was begun, if one was; behind it the requester
+    /// accepted a session under this ReqSessionID, and the session of this RspSessionID took a record.
+    pub fn change(
         &self,
         begun: Option<u16>,
         accepted: Option<u16>,
@@ -106,9 +108,16 @@ impl Party {
         }
     }
 
-    // An answer was given, with the key of the answer to its request: both ends go on. What the
-    // requester does upon it is told. A large answer is fetched from then on where it asks for a chunk.
-    fn go_on(&mut self, round: &Round, key: Option<AnswerKey>, answer: &[u8]) -> Heard
+    /// An answer was given, with the key of the answer to its request, while the requester awaits a chunk
+    /// of a large answer or not: both ends go on. What the requester does upon it is told. A large answer
+    /// is fetched from then on where it asks for a chunk.
+    pub fn go_on(
+        &mut self,
+        round: &Round,
+        key: Option<AnswerKey>,
+        answer: &[u8],
+        awaits: bool,
+    ) -> Heard
         ensures answerer { self.new.answerer ≡ self.old.answerer }
         ensures number { self.new.number ≡ self.old.number }
         ensures places { self.new.places ≡ self.old.places }
@@ -119,21 +128,22 @@ impl Party {
             → StandFor self.new.keys r (after (with_dropped h ids)
             (on_body r (with_dropped h ids) (tag_in round.now) (body_in round.now) f d)) }
         ensures asker { (w : Configuration) (q : ReqSetup) (older : List (List ℕ)) (k : Kept)
-            (behind : History) (of : rounds.Round) → Keeps w q older k
-            → length older < 2 ^ 64 - 1 → k.round ≡ Some of → round.now ≡ Some of
+            (behind : History) (of : rounds.Round) → Carries w q older k
+            → length older < 2 ^ 64 - 2 → k.round ≡ Some of → round.now ≡ Some of
             → IsAsker self.old.asker q k
             → IsAsker self.new.asker q (heard_kept k behind of.tag of answer.now) }
         ensures accepted { (w : Configuration) (q : ReqSetup) (older : List (List ℕ)) (k : Kept)
-            (of : rounds.Round) → Keeps w q older k → length older < 2 ^ 64 - 1
+            (of : rounds.Round) → Carries w q older k → length older < 2 ^ 64 - 1
             → k.round ≡ Some of → round.now ≡ Some of → IsAsker self.old.asker q k
             → result.accepted ≡ accepted_from k of.tag answer.now }
         ensures fetches { (w : Configuration) (q : ReqSetup) (older : List (List ℕ)) (k : Kept)
-            (of : rounds.Round) → Keeps w q older k → length older < 2 ^ 64 - 2
+            (of : rounds.Round) → Carries w q older k → length older < 2 ^ 64 - 2
             → k.round ≡ Some of → round.now ≡ Some of → IsAsker self.old.asker q k
+            → awaits ≡ is_fetching (outstanding (restored k).requester)
             → result.fetches ≡ asks_upon k of.tag answer.now }
     {
         self.keys
             .follow(&self.answerer.connection, round.body(), key);
-        self.asker.hears(round.tag(), answer)
+        self.asker.hears(round.tag(), answer, awaits)
     }
 }

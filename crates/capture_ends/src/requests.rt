@@ -11,10 +11,10 @@ impl Asker {
     ghost use Rattle.requester_machine.specs.Named.{session_named};
     ghost use Rattle.requester_machine.specs.Setup.{ReqSetup};
     ghost use Rattle.capture_ends.specs.Asked.{IsAskedBy, IsJudged, IsRefusedFor};
-    ghost use Rattle.capture_ends.specs.Asker.{IsAsker};
+    ghost use Rattle.capture_ends.specs.Asker.{Carries, IsAsker};
     ghost use Rattle.capture_ends.specs.LargeAsked.{refused_why};
     ghost use Rattle.capture_laws.specs.Judged.{why_of};
-    ghost use Rattle.capture_laws.specs.Keeping.{Keeps, Kept, restored};
+    ghost use Rattle.capture_laws.specs.Keeping.{Kept, restored};
     ghost use Rattle.world_machine.specs.Difference.{asks_apart};
     ghost use Rattle.world_machine.specs.Opening.{opens_asking};
     ghost use Rattle.world_machine.specs.Setup.{Configuration};
@@ -24,7 +24,7 @@ impl Asker {
     /// of what is kept.
     pub fn asks(&mut self, body: &[u8]) -> bool
         ensures { (w : Configuration) (q : ReqSetup) (older : List (List ℕ)) (k : Kept)
-            → Keeps w q older k → length older < 2 ^ 64 - 1 → length body.now ≤ 4161
+            → Carries w q older k → length older < 2 ^ 64 - 1 → length body.now ≤ 4161
             → IsAsker self.old q k → IsAskedBy q k body.now result self.new }
     {
         if self.goes_on(body) {
@@ -49,10 +49,10 @@ impl Asker {
     // Whether a record is apart from the PSK_FINISH that is owed, if one is.
     fn is_apart(&mut self, body: &[u8]) -> bool
         ensures apart { (w : Configuration) (q : ReqSetup) (older : List (List ℕ)) (k : Kept)
-            → Keeps w q older k → length older < 2 ^ 64 - 1 → IsAsker self.old q k
+            → Carries w q older k → length older < 2 ^ 64 - 1 → IsAsker self.old q k
             → result ≡ asks_apart (restored k) body.now }
         ensures kept { (w : Configuration) (q : ReqSetup) (older : List (List ℕ)) (k : Kept)
-            → Keeps w q older k → length older < 2 ^ 64 - 1 → IsAsker self.old q k
+            → Carries w q older k → length older < 2 ^ 64 - 1 → IsAsker self.old q k
             → IsAsker self.new q k }
     {
         if !is_secured(body) {
@@ -74,7 +74,7 @@ impl Asker {
     // Whether a record opens, in place of the message that is owed, if one is.
     fn opens(&mut self, sealed: &[u8]) -> bool
         ensures opens { (w : Configuration) (q : ReqSetup) (older : List (List ℕ)) (k : Kept)
-            → Keeps w q older k → length older < 2 ^ 64 - 1 → IsAsker self.old q k
+            → Carries w q older k → length older < 2 ^ 64 - 1 → IsAsker self.old q k
             → result ≡ opens_asking q (session_named k.requester sealed.now) sealed.now }
         ensures kept { (q : ReqSetup) (k : Kept) → IsAsker self.old q k → IsAsker self.new q k }
     {
@@ -88,10 +88,10 @@ impl Asker {
     /// Why a body is refused as a request in turn, whatever it is, and whatever its verify data are.
     pub(crate) fn why_other(&mut self, body: &[u8]) -> Why
         ensures why { (w : Configuration) (q : ReqSetup) (older : List (List ℕ)) (k : Kept)
-            → Keeps w q older k → length older < 2 ^ 64 - 1 → IsAsker self.old q k
+            → Carries w q older k → length older < 2 ^ 64 - 1 → IsAsker self.old q k
             → why_of result ≡ refused_why q k.requester body.now }
         ensures kept { (w : Configuration) (q : ReqSetup) (older : List (List ℕ)) (k : Kept)
-            → Keeps w q older k → length older < 2 ^ 64 - 1 → IsAsker self.old q k
+            → Carries w q older k → length older < 2 ^ 64 - 1 → IsAsker self.old q k
             → IsAsker self.new q k }
     {
         if is_clear(body) {
@@ -107,10 +107,10 @@ impl Asker {
     /// Why a body is refused as a request in turn, whatever it is.
     pub(crate) fn why(&mut self, body: &[u8]) -> Why
         ensures why { (w : Configuration) (q : ReqSetup) (older : List (List ℕ)) (k : Kept)
-            → Keeps w q older k → length older < 2 ^ 64 - 1 → IsAsker self.old q k
+            → Carries w q older k → length older < 2 ^ 64 - 1 → IsAsker self.old q k
             → IsRefusedFor (restored k) body.now (why_of result) }
         ensures kept { (w : Configuration) (q : ReqSetup) (older : List (List ℕ)) (k : Kept)
-            → Keeps w q older k → length older < 2 ^ 64 - 1 → IsAsker self.old q k
+            → Carries w q older k → length older < 2 ^ 64 - 1 → IsAsker self.old q k
             → IsAsker self.new q k }
     {
         if self.is_apart(body) {
@@ -123,7 +123,7 @@ impl Asker {
     /// whole, or why it is refused. Where it is refused, nothing is said of what is kept.
     pub fn judge(&mut self, body: &[u8]) -> Result<(), Why>
         ensures { (w : Configuration) (q : ReqSetup) (older : List (List ℕ)) (k : Kept)
-            → Keeps w q older k → length older < 2 ^ 64 - 1 → length body.now ≤ 4161
+            → Carries w q older k → length older < 2 ^ 64 - 1 → length body.now ≤ 4161
             → IsAsker self.old q k → IsJudged q k body.now result self.new }
     {
         let why = self.why(body);

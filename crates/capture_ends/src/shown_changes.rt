@@ -18,7 +18,7 @@ impl Answerer {
     ghost use Rattle.capture_ends.specs.Answerer.{IsAnswerer};
 
     /// The RspSessionID of the session that an answer begins, if it begins one.
-    pub(crate) fn begun(&self, tag: u8, body: &[u8], answer: &[u8]) -> Option<u16>
+    pub fn begun(&self, tag: u8, body: &[u8], answer: &[u8]) -> Option<u16>
         ensures shown { (r : RspSetup) (h : History) → IsAnswerer self.now r h
             → result ≡ begun_shown h tag body.now answer.now }
         ensures response { IsSome result → IsSome (id_begun (response_of (drop 1 answer.now))) }
@@ -33,7 +33,7 @@ impl Answerer {
     }
 
     /// The RspSessionID in a record that its session took, if an answer shows that it did.
-    pub(crate) fn taken(&self, body: &[u8], answer: &[u8]) -> Option<u16>
+    pub fn taken(&self, body: &[u8], answer: &[u8]) -> Option<u16>
         ensures { (r : RspSetup) (h : History) → IsAnswerer self.now r h
             → result ≡ taken_shown h body.now answer.now }
     {
@@ -52,7 +52,7 @@ impl Answerer {
 
     /// The sessions with the RspSessionIDs from 1 to 4, where they are live. Fewer than 2^64 messages
     /// came.
-    pub(crate) fn views(&self) -> [Option<SessionView>; 4]
+    pub fn views(&self) -> [Option<SessionView>; 4]
         ensures { (r : RspSetup) (h : History) → IsAnswerer self.now r h → messages_of h < 2 ^ 64
             → result ≡ views_in h }
     {

@@ -1,5 +1,4 @@
--- What is kept of a requester and the responder while a large answer is fetched, but for the responder's connection, and
--- what is told of an answer meanwhile. This project's own.
+-- What is told of an answer to a requester while a large one is fetched. This project's own.
 use Rattle.std.specs.Prelude.{◌≡◌, ◌+◌, ◌⊎◌, ℕ, List, drop, length, slice_index, Some, None, Result, Ok, Err}
 use Rattle.mctp_framing.specs.Cutting.{RouteFields}
 use Rattle.mctp_framing.specs.Gathering.{Gathered}
@@ -7,15 +6,13 @@ use Rattle.mctp_framing.specs.Gathering.Gathered.{Whole}
 use Rattle.requester_machine.specs.Setup.{ReqSetup}
 use Rattle.responder_machine.specs.Session.{id_in_record}
 use Rattle.script_text.specs.declared.why.Why as declared
-use Rattle.capture_ends.specs.AnswerKeys as answer_keys
-use Rattle.capture_ends.specs.Asker.{IsAsker}
 use Rattle.capture_ends.specs.Party.{IsParty}
 use Rattle.capture_ends.specs.declared.party.Party.{Party}
 use Rattle.capture_laws.specs.Judged.{why_of}
 use Rattle.capture_laws.specs.Keeping.{Kept, restored}
 use Rattle.capture_laws.specs.LargeShown.{IsShownLarge}
 use Rattle.capture_laws.specs.RepliesShown.{responder_for}
-use Rattle.capture_laws.specs.Rows.{StandFor, StandsForRows}
+use Rattle.capture_laws.specs.Rows.{StandsForRows}
 use Rattle.capture_laws.specs.declared.verdict.Seen.{Seen}
 use Rattle.large_answers.specs.Fetching.{Fetching, MayStand, dialogue_of}
 use Rattle.large_answers.specs.FetchingLaws.{EndsFetching, GoesFetching, TurnsFetching}
@@ -25,18 +22,8 @@ use Rattle.world_machine.specs.Difference.{GoesApart, Why, goes_why}
 use Rattle.world_machine.specs.Difference.Why.{BadVerify}
 use Rattle.world_machine.specs.LargeAnswers.{judging}
 use Rattle.world_machine.specs.Rounds.{Round}
-use Rattle.world_machine.specs.SessionTable.{Row, number_from, rows_between}
+use Rattle.world_machine.specs.SessionTable.{Row, rows_between}
 use Rattle.world_machine.specs.Setup.{Configuration}
-
--- ---- What is kept.
-
--- The requester, the keys of the answers that were given, its number, and where its entries stand in the table of sessions
--- among the rows that the packets show.
-pub record IsBeside (seen : Party) (w : Configuration) (q : ReqSetup) (k : Kept) (rows : List Row) : Type 0 where
-  pub asker : IsAsker seen.asker q k
-  pub keys : answer_keys.StandFor seen.keys (responder_for w k) k.responder
-  pub number : seen.number ≡ number_from 1 q.eid w.requesters
-  pub places : StandFor seen.places (restored k) rows
 
 -- The rows that a packet makes.
 abbrev pub rows_upon : Kept → Kept → List Row → List Row

@@ -9,6 +9,7 @@ use Rattle.capture_ends.proofs.GoneOn.{some_of}
 use Rattle.capture_ends.proofs.LargeBegun.{asker_still, begun_owed, not_first, own_handle}
 use Rattle.capture_ends.proofs.OwedSent.{goes, out_owed}
 use Rattle.capture_ends.proofs.OwedTook.{kept_few, owed_took}
+use Rattle.capture_ends.proofs.CarriedBy.{keeps_carries}
 use Rattle.capture_ends.proofs.asker.Asker.begins_owed.Goals as goal
 use Rattle.capture_ends.specs.Asker.{is_first_chunk}
 use Rattle.capture_laws.specs.Keeping.{owing}
@@ -17,9 +18,9 @@ pub returns-then-is_secured-clause-told : goal.returns-then-is_secured-clause-to
 returns-then-is_secured-clause-told c = λ w q older k keeps few rests asker.
     let some = some_of k.owed (sym asker.owes ∙ rests) in
     let sent : Sent = some.0 in
-    let took = owed_took w q older k sent keeps some.1 in
+    let took = owed_took w q older k sent (keeps_carries w q older k keeps) some.1 in
     let stands = subst (λ (o : Option Sent). StandsFor c.args.self.now.asking q (owing o k.requester)) some.1 asker.stands in
-    let long = long_with k.requester sent (kept_few w q older k keeps few) in
+    let long = long_with k.requester sent (kept_few w q older k (keeps_carries w q older k keeps) few) in
     let room = c.write_outstanding.ensures.room q (with_next (Some sent) k.requester) sent asker.kept long stands (out_owed k.requester sent took) in
     let shape = goes q k.requester sent c.args.self.now.asking asker.kept.sizes took stands in
     not_first w q older k keeps sent some.1 took shape c.write_outstanding.new.room room c.args.body.now
@@ -27,15 +28,15 @@ returns-then-is_secured-clause-told c = λ w q older k keeps few rests asker.
 
 pub returns-then-is_secured-clause-kept : goal.returns-then-is_secured-clause-kept
 returns-then-is_secured-clause-kept c = λ w q older k keeps few rests asker.
-    asker_still q k c.args.self.now _ asker refl refl (c.write_outstanding.ensures.stands q (owing k.owed k.requester) asker.kept (owing_long k.owed k.requester (kept_few w q older k keeps few)) asker.stands)
+    asker_still q k c.args.self.now _ asker refl refl (c.write_outstanding.ensures.stands q (owing k.owed k.requester) asker.kept (owing_long k.owed k.requester (kept_few w q older k (keeps_carries w q older k keeps) few)) asker.stands)
 
 pub returns-then-not-is_first_chunk-clause-told : goal.returns-then-not-is_first_chunk-clause-told
 returns-then-not-is_first_chunk-clause-told c = λ w q older k keeps few rests asker.
     let some = some_of k.owed (sym asker.owes ∙ rests) in
     let sent : Sent = some.0 in
-    let took = owed_took w q older k sent keeps some.1 in
+    let took = owed_took w q older k sent (keeps_carries w q older k keeps) some.1 in
     let stands = subst (λ (o : Option Sent). StandsFor c.args.self.now.asking q (owing o k.requester)) some.1 asker.stands in
-    let long = long_with k.requester sent (kept_few w q older k keeps few) in
+    let long = long_with k.requester sent (kept_few w q older k (keeps_carries w q older k keeps) few) in
     let room = c.write_outstanding.ensures.room q (with_next (Some sent) k.requester) sent asker.kept long stands (out_owed k.requester sent took) in
     let shape = goes q k.requester sent c.args.self.now.asking asker.kept.sizes took stands in
     not_first w q older k keeps sent some.1 took shape c.write_outstanding.new.room room c.args.body.now
@@ -43,20 +44,20 @@ returns-then-not-is_first_chunk-clause-told c = λ w q older k keeps few rests a
 
 pub returns-then-not-is_first_chunk-clause-kept : goal.returns-then-not-is_first_chunk-clause-kept
 returns-then-not-is_first_chunk-clause-kept c = λ w q older k keeps few rests asker.
-    asker_still q k c.args.self.now _ asker refl refl (c.write_outstanding.ensures.stands q (owing k.owed k.requester) asker.kept (owing_long k.owed k.requester (kept_few w q older k keeps few)) asker.stands)
+    asker_still q k c.args.self.now _ asker refl refl (c.write_outstanding.ensures.stands q (owing k.owed k.requester) asker.kept (owing_long k.owed k.requester (kept_few w q older k (keeps_carries w q older k keeps) few)) asker.stands)
 
 pub returns-clause-told : goal.returns-clause-told
 returns-clause-told c = λ w q older k keeps few rests asker.
     let some = some_of k.owed (sym asker.owes ∙ rests) in
     let sent : Sent = some.0 in
-    let took = owed_took w q older k sent keeps some.1 in
+    let took = owed_took w q older k sent (keeps_carries w q older k keeps) some.1 in
     let stands = subst (λ (o : Option Sent). StandsFor c.args.self.now.asking q (owing o k.requester)) some.1 asker.stands in
-    let long = long_with k.requester sent (kept_few w q older k keeps few) in
+    let long = long_with k.requester sent (kept_few w q older k (keeps_carries w q older k keeps) few) in
     let room = c.write_outstanding.ensures.room q (with_next (Some sent) k.requester) sent asker.kept long stands (out_owed k.requester sent took) in
     let shape = goes q k.requester sent c.args.self.now.asking asker.kept.sizes took stands in
     let still = c.write_outstanding.ensures.stands q (with_next (Some sent) k.requester) asker.kept long stands in
     let own = asker_still q k c.args.self.now (record c.args.self.now { asking = c.write_outstanding.new.asking; room = c.write_outstanding.new.room }) asker refl refl
-    (c.write_outstanding.ensures.stands q (owing k.owed k.requester) asker.kept (owing_long k.owed k.requester (kept_few w q older k keeps few)) asker.stands) in
+    (c.write_outstanding.ensures.stands q (owing k.owed k.requester) asker.kept (owing_long k.owed k.requester (kept_few w q older k (keeps_carries w q older k keeps) few)) asker.stands) in
     let other = (ap (λ (l : List ℕ). slice_index l 0 == 6) (sym c.as_slice.ensures.value) ∙ sym c.is_secured.ensures ∙ c.if-is_secured.false) in
     let first = (ap is_first_chunk (sym c.as_slice-2.ensures.value) ∙ sym c.is_first_chunk.ensures ∙ c.if-not-is_first_chunk.false) in
     begun_owed w q older k keeps sent some.1 took shape c.write_outstanding.new.room room c.args.body.now other first c.first_chunk.result
@@ -66,4 +67,4 @@ returns-clause-told c = λ w q older k keeps few rests asker.
 
 pub returns-clause-kept : goal.returns-clause-kept
 returns-clause-kept c = λ w q older k keeps few rests asker.
-    asker_still q k c.args.self.now _ asker refl refl (c.write_outstanding.ensures.stands q (owing k.owed k.requester) asker.kept (owing_long k.owed k.requester (kept_few w q older k keeps few)) asker.stands)
+    asker_still q k c.args.self.now _ asker refl refl (c.write_outstanding.ensures.stands q (owing k.owed k.requester) asker.kept (owing_long k.owed k.requester (kept_few w q older k (keeps_carries w q older k keeps) few)) asker.stands)

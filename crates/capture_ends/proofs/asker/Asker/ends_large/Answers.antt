@@ -8,6 +8,7 @@ use Rattle.capture_ends.proofs.GoneOn.{some_of}
 use Rattle.capture_ends.proofs.OwedEnded.{H, a, owed_count, owed_ended, owed_out}
 use Rattle.capture_ends.proofs.OwedSent.{out_owed}
 use Rattle.capture_ends.proofs.OwedTook.{kept_few, owed_took}
+use Rattle.capture_ends.proofs.CarriedBy.{keeps_carries}
 use Rattle.capture_ends.proofs.asker.Asker.ends_large.Goals as goal
 use Rattle.capture_ends.specs.LargeAsked.{IsCarried}
 use Rattle.capture_laws.specs.Keeping.{owing}
@@ -20,9 +21,9 @@ pub returns : goal.returns
 returns c = λ w q older earlier s own keeps few stand last due number asker.
     let some = some_of s.before.owed (sym asker.owes ∙ c.if-not-self.false) in
     let sent : Sent = some.0 in
-    let took = owed_took w q earlier s.before sent keeps some.1 in
+    let took = owed_took w q earlier s.before sent (keeps_carries w q earlier s.before keeps) some.1 in
     let stands = subst (λ (o : Option Sent). StandsFor c.args.self.now.asking q (owing o s.before.requester)) some.1 asker.stands in
-    let long = long_with s.before.requester sent (kept_few w q earlier s.before keeps few) in
+    let long = long_with s.before.requester sent (kept_few w q earlier s.before (keeps_carries w q earlier s.before keeps) few) in
     let still = c.write_outstanding.ensures.stands q (with_next (Some sent) s.before.requester) asker.kept long stands in
     let room = c.write_outstanding.ensures.room q (with_next (Some sent) s.before.requester) sent asker.kept long stands (out_owed s.before.requester sent took) in
     let hist = H w q older earlier s own keeps c.args.whole.now stand last due c.args.self.now asker sent some.1 took in

@@ -3,6 +3,7 @@ use Rattle.spdm_grammar.specs.Message.{ExchangeMessage, exchange_message}
 use Rattle.capture_ends.proofs.AskedBy.{bare_kept, none_kept}
 use Rattle.capture_ends.proofs.LargeEnded.{asked_own, counted, ended_by, first_out, h, no_exchange, not_ended}
 use Rattle.capture_ends.proofs.OwedTook.{kept_few}
+use Rattle.capture_ends.proofs.CarriedBy.{keeps_carries}
 use Rattle.capture_ends.proofs.asker.Asker.ends_open.Goals as goal
 use Rattle.capture_ends.specs.LargeAsked.{IsCarried, IsOpenedLarge}
 use Rattle.large_requests.proofs.SendingReasons.{none_before}
@@ -17,7 +18,7 @@ returns-in_default c = λ w q older earlier s own keeps few stand last due numbe
 pub returns-then-not-opens_large : goal.returns-then-not-opens_large
 returns-then-not-opens_large c = λ w q older earlier s own keeps few stand last due number rests asker.
     let x : ExchangeMessage = exchange_message c.in-Some.exchange in
-    let opened = c.opens_large.ensures q s.before.requester asker.kept (kept_few w q earlier s.before keeps few) (none_before s.before own.begins.0 own.begins.1) (bare_kept q s.before c.args.self.now asker rests) in
+    let opened = c.opens_large.ensures q s.before.requester asker.kept (kept_few w q earlier s.before (keeps_carries w q earlier s.before keeps) few) (none_before s.before own.begins.0 own.begins.1) (bare_kept q s.before c.args.self.now asker rests) in
     not_ended w q older s own c.args.whole.now stand last due c.args.self.now asker (none_kept q s.before c.args.self.now asker rests) x c.in-Some.ensures c.args.self.now c.opens_large.new.asking c.opens_large.new.room
     (subst (λ (b : Bool). IsOpenedLarge q s.before.requester x b c.opens_large.new.asking c.opens_large.new.room) c.if-not-opens_large.true opened)
 
@@ -25,7 +26,7 @@ pub returns : goal.returns
 returns c = λ w q older earlier s own keeps few stand last due number rests asker.
     let x : ExchangeMessage = exchange_message c.in-Some.exchange in
     let none = none_kept q s.before c.args.self.now asker rests in
-    let told = c.opens_large.ensures q s.before.requester asker.kept (kept_few w q earlier s.before keeps few) (none_before s.before own.begins.0 own.begins.1) (bare_kept q s.before c.args.self.now asker rests) in
+    let told = c.opens_large.ensures q s.before.requester asker.kept (kept_few w q earlier s.before (keeps_carries w q earlier s.before keeps) few) (none_before s.before own.begins.0 own.begins.1) (bare_kept q s.before c.args.self.now asker rests) in
     let opened = subst (λ (b : Bool). IsOpenedLarge q s.before.requester x b c.opens_large.new.asking c.opens_large.new.room) c.if-not-opens_large.false told in
     let hist : History = h w q older s own c.args.whole.now stand last due c.args.self.now asker none x c.in-Some.ensures c.opens_large.new.asking c.opens_large.new.room opened in
     let asked : RequestMessage = asked_own w q older s own c.args.whole.now stand last due c.args.self.now asker none x c.in-Some.ensures c.opens_large.new.asking c.opens_large.new.room opened in

@@ -1,6 +1,8 @@
 use Rattle.std.proofs.Common.{Option, Result, subst}
 use Rattle.script_text.specs.declared.why.Why as declared
 use Rattle.capture_ends.proofs.BeginsTold.{beginning_on, refused_on, whole_on}
+use Rattle.capture_ends.proofs.PartyAsked.{beside_of, whole_by}
+use Rattle.capture_ends.proofs.CarriedBy.{keeps_carries}
 use Rattle.capture_ends.proofs.party.Party.asks_at_rest.Goals as goal
 use Rattle.capture_ends.specs.Conversation.{IsBeginning}
 use Rattle.capture_ends.specs.Party.{IsAskedWhole}
@@ -19,7 +21,8 @@ pub returns-in-Ok-clause-told : goal.returns-in-Ok-clause-told
 returns-in-Ok-clause-told c = λ w q older rows packet route k at few fits round tag none keeps party table.
     let still = c.begins.ensures.kept w q older rows k few keeps party in
     let told = subst (λ (x : Result Unit declared.Why). IsAskedWhole w q older rows k route c.args.body.now x c.asks_whole.new.self c.asks_whole.new.table) c.in-Ok.is
-    (c.asks_whole.ensures.told w q older rows k route keeps few fits round tag none still table) in
+    (whole_by w q older rows k route c.args.body.now _ c.begins.new.self c.asks_whole.new.self c.asks_whole.new.table still c.asks_whole.ensures.answerer
+    (c.asks_whole.ensures.told w q older rows k route (keeps_carries w q older k keeps) few fits round tag none (beside_of c.begins.new.self w q k rows still) table)) in
     whole_on w q older rows packet route c.args.body.now at k keeps c.asks_whole.new.self c.asks_whole.new.table told
 
 pub returns-in-Err-clause-told : goal.returns-in-Err-clause-told
@@ -27,5 +30,6 @@ returns-in-Err-clause-told c = λ w q older rows packet route k at few fits roun
     let still = c.begins.ensures.kept w q older rows k few keeps party in
     let begun = subst (λ (o : Option LargeRequest). IsBeginning k route c.args.body.now o) c.in_default.is (c.begins.ensures.told w q older rows k route few round tag none keeps party) in
     let told = subst (λ (x : Result Unit declared.Why). IsAskedWhole w q older rows k route c.args.body.now x c.asks_whole.new.self c.asks_whole.new.table) c.in-Err.is
-    (c.asks_whole.ensures.told w q older rows k route keeps few fits round tag none still table) in
+    (whole_by w q older rows k route c.args.body.now _ c.begins.new.self c.asks_whole.new.self c.asks_whole.new.table still c.asks_whole.ensures.answerer
+    (c.asks_whole.ensures.told w q older rows k route (keeps_carries w q older k keeps) few fits round tag none (beside_of c.begins.new.self w q k rows still) table)) in
     refused_on w q older rows packet route c.args.body.now at k keeps c.asks_whole.new.self c.asks_whole.new.table c.in-Err.why begun told

@@ -1,6 +1,7 @@
 use Rattle.std.proofs.Common.{◌∙◌, ℕ, Option, ap, sym}
 use Rattle.capture_ends.proofs.InTurn.{asks_in_turn}
 use Rattle.capture_ends.proofs.SendingTold.{asker_before, copied, few_earlier, refused_early}
+use Rattle.capture_ends.proofs.CarriedBy.{keeps_carries}
 use Rattle.capture_ends.proofs.party.Party.asks_meanwhile.Goals as goal
 use Rattle.capture_ends.specs.Conversation.{meanwhile}
 use Rattle.world_machine.specs.Capture.{may_begin}
@@ -24,7 +25,7 @@ returns-then-not-may_begin-clause-told c = λ w q older rows packet route s at f
     let other = ap (λ (o : Option Round). is_copy o route.tag body) (sym now) ∙ ap (λ (n : ℕ). is_copy c.args.round.now n body) tag ∙ sym c.is_copy.ensures ∙ c.if-is_copy.false in
     let never = ap (λ (o : Option Round). may_begin o body) (sym now) ∙ sym c.may_begin.ensures ∙ c.if-not-may_begin.true in
     refused_early w q older rows packet route body at s way.sending asker.kept.limits (asks_in_turn (meanwhile s) route body none) other c.args.self.now c.args.table.now c.why_other.result
-    (c.why_other.ensures.why w q way.earlier s.before way.before (few_earlier c.args.self.now c.args.large w q older rows s way few) asker) never
+    (c.why_other.ensures.why w q way.earlier s.before (keeps_carries w q way.earlier s.before way.before) (few_earlier c.args.self.now c.args.large w q older rows s way few) asker) never
 
 pub returns-clause-told : goal.returns-clause-told
 returns-clause-told c = λ w q older rows packet route s at few now tag none way table.

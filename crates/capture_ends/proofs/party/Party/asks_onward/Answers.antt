@@ -2,6 +2,7 @@ use Rattle.std.proofs.Common.{◌∙◌, ℕ, List, Bool, refl, subst, sym, true
 use Rattle.std.proofs.lemmas.Bool.{false≢true}
 use Rattle.capture_ends.proofs.InTurn.{asks_in_turn}
 use Rattle.capture_ends.proofs.SendingTold.{asker_before, completed, connected, few_earlier, refused_late, sent_on, way_with}
+use Rattle.capture_ends.proofs.CarriedBy.{keeps_carries}
 use Rattle.capture_ends.proofs.party.Party.asks_onward.Goals as goal
 use Rattle.capture_ends.specs.Conversation.{meanwhile}
 use Rattle.capture_ends.specs.LargeAsked.{IsEnded}
@@ -27,7 +28,7 @@ returns-in-Between-clause-told c = λ w q older rows packet route s at few none 
     let body = c.args.body.now in
     let turn = asks_in_turn (meanwhile s) route body none in
     let asker = asker_before c.args.self.now.asker q s way.kept.asker in
-    let still = c.why_other-why.ensures.kept w q way.earlier s.before way.before (few_earlier c.args.self.now c.args.large w q older rows s way few) asker in
+    let still = c.why_other-why.ensures.kept w q way.earlier s.before (keeps_carries w q way.earlier s.before way.before) (few_earlier c.args.self.now c.args.large w q older rows s way few) asker in
     let told = subst (λ (p : Piece). IsToldNext s route.tag body p c.args.large c.next.new.self) c.in-Between.is (c.next.ensures w q older s route.tag way.sending way.chunks may (turn.tag other)) in
     sent_on c.copy_is_request.ensures c.round_is_request.ensures w q older rows packet route body at s (record c.args.self.now { asker = c.why_other-why.new.self }) c.args.large
     (way_with c.args.self.now c.args.large w q older rows s c.why_other-why.new.self way still) turn c.ask-in-Between.new.self
@@ -43,7 +44,7 @@ returns-else-not-ends_large-clause-told c = λ w q older rows packet route s at 
     let turn = asks_in_turn (meanwhile s) route body none in
     let asker = asker_before c.args.self.now.asker q s way.kept.asker in
     let few_before = few_earlier c.args.self.now c.args.large w q older rows s way few in
-    let still = c.why_other-why.ensures.kept w q way.earlier s.before way.before few_before asker in
+    let still = c.why_other-why.ensures.kept w q way.earlier s.before (keeps_carries w q way.earlier s.before way.before) few_before asker in
     let told = subst (λ (p : Piece). IsToldNext s route.tag body p c.args.large c.next.new.self) c.in-Last.is (c.next.ensures w q older s route.tag way.sending way.chunks may (turn.tag other)) in
     let bytes : List ℕ = c.next.new.self.pieces.bytes in
     let same = c.bytes.ensures in
@@ -65,7 +66,7 @@ returns-then-not-ends_large-clause-told c = λ w q older rows packet route s at 
     let turn = asks_in_turn (meanwhile s) route body none in
     let asker = asker_before c.args.self.now.asker q s way.kept.asker in
     let few_before = few_earlier c.args.self.now c.args.large w q older rows s way few in
-    let still = c.why_other-why.ensures.kept w q way.earlier s.before way.before few_before asker in
+    let still = c.why_other-why.ensures.kept w q way.earlier s.before (keeps_carries w q way.earlier s.before way.before) few_before asker in
     let told = subst (λ (p : Piece). IsToldNext s route.tag body p c.args.large c.next.new.self) c.in-Last.is (c.next.ensures w q older s route.tag way.sending way.chunks may (turn.tag other)) in
     let same = c.bytes.ensures in
     let number = c.number-number.ensures s way.chunks in
@@ -73,7 +74,7 @@ returns-then-not-ends_large-clause-told c = λ w q older rows packet route s at 
     (c.ends_large.ensures w q older way.earlier s way.sending way.before few_before (subst (MayStand s) (sym same) told.1) told.2 told.3 number still) in
     let ended = subst (λ (l : List ℕ). IsEnded q s l false c.ends_large.new.self) same ends in
     refused_late w q older rows packet route body at s way.sending asker.kept.limits turn other c.args.self.now c.args.table.now c.why_other-why.result
-    (c.why_other-why.ensures.why w q way.earlier s.before way.before few_before asker)
+    (c.why_other-why.ensures.why w q way.earlier s.before (keeps_carries w q way.earlier s.before way.before) few_before asker)
     (λ is. false≢true (sym c.if-is_get_version.false ∙ c.is_get_version.ensures.1 is)) told.0
     (λ next last. let it = (told.4 next).0 last in ended it.0 it.1 it.2 it.3)
 
@@ -85,5 +86,5 @@ returns-in-Other-clause-told c = λ w q older rows packet route s at few none ot
     let few_before = few_earlier c.args.self.now c.args.large w q older rows s way few in
     let told = subst (λ (p : Piece). IsToldNext s route.tag body p c.args.large c.next.new.self) c.in-Other.is (c.next.ensures w q older s route.tag way.sending way.chunks may (turn.tag other)) in
     refused_late w q older rows packet route body at s way.sending asker.kept.limits turn other c.args.self.now c.args.table.now c.why_other-why.result
-    (c.why_other-why.ensures.why w q way.earlier s.before way.before few_before asker)
+    (c.why_other-why.ensures.why w q way.earlier s.before (keeps_carries w q way.earlier s.before way.before) few_before asker)
     (λ is. false≢true (sym c.if-is_get_version.false ∙ c.is_get_version.ensures.1 is)) told.0 told.1

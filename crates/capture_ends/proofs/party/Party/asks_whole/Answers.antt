@@ -36,7 +36,7 @@ returns-in-Ok-clause-told c = λ w q older rows k route keeps few fits round tag
     let other = ap (λ (o : Option Round). is_copy o route.tag body) (sym round) ∙ ap (λ (n : ℕ). is_copy c.args.round.now n body) tag ∙ sym c.is_copy.ensures ∙ c.if-is_copy.false in
     let may = ap (λ (o : Option Round). may_begin o body) (sym round) ∙ sym c.may_begin.ensures ∙ c.if-not-may_begin.false in
     let judged = subst (λ (x : Result Unit declared.Why). IsJudged q k body x c.judge.new.self) c.in-Ok.is (c.judge.ensures w q older k keeps few fits party.asker) in
-    began w q older rows k route body turn c.args.self.now _ c.ask-in-Ok.new.self c.sent.result judged.0 party refl refl refl refl other may judged.1 judged.2
+    began w q older rows k route body turn c.args.self.now _ c.ask-in-Ok.new.self c.sent.result judged.0 party refl refl refl other may judged.1 judged.2
     (c.sent.ensures q _ judged.2 refl)
     (record {
       stands = λ before after step places. c.ask-in-Ok.ensures.table w _ before after rows step few table places;

@@ -17,6 +17,6 @@ returns-clause-accepted c = λ w q older k of keeps few is now asker.
     c.hears.ensures.accepted w q older k of keeps few is (sym tag) asker ∙ ap (λ (n : ℕ). accepted_from k n c.args.answer.now) tag
 
 pub returns-clause-fetches : goal.returns-clause-fetches
-returns-clause-fetches c = λ w q older k of keeps few is now asker.
+returns-clause-fetches c = λ w q older k of keeps few is now asker waits.
     let tag : c.tag.result ≡ of.tag = c.tag.ensures ∙ ap tag_in now in
-    c.hears.ensures.fetches w q older k of keeps few is (sym tag) asker ∙ ap (λ (n : ℕ). asks_upon k n c.args.answer.now) tag
+    c.hears.ensures.fetches w q older k of keeps few is (sym tag) asker waits ∙ ap (λ (n : ℕ). asks_upon k n c.args.answer.now) tag

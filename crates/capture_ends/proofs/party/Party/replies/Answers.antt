@@ -13,6 +13,8 @@ use Rattle.responder_machine.specs.May.{on_body, with_dropped}
 use Rattle.responder_machine.specs.Responder.{after}
 use Rattle.spdm_basis.specs.declared.OutOfMemory.{OutOfMemory}
 use Rattle.capture_ends.proofs.InTurn.{answers_in_turn}
+use Rattle.capture_ends.proofs.CarriedBy.{keeps_carries}
+use Rattle.capture_ends.proofs.KnownFetches.{kept_asks_none}
 use Rattle.capture_ends.proofs.KeptTyped.{kept_apart, kept_body}
 use Rattle.capture_ends.proofs.PartyReplied.{answers_round, apart_for, behind_whole, body_is, few_messages, goes_whole, is_part, kept_limits, refused_for, round_is, whole_kept}
 use Rattle.capture_ends.proofs.PartyTold.{few_behind, is_change, is_step}
@@ -31,35 +33,37 @@ use Rattle.world_machine.specs.SessionTable.{number_from, rows_between}
 pub returns-then-heard-clause-told : goal.returns-then-heard-clause-told
 returns-then-heard-clause-told c = λ w q older rows k route keeps below byte now set_up none party stands.
     let few : length older < 2 ^ 64 - 1 = omega (arith, below) in
+    let carries = keeps_carries w q older k keeps in
     let answer : List ℕ = c.args.answer.now in
     let turn = answers_in_turn k route answer none in
     let r = responder_for w k in
     let limits = kept_limits q k c.args.self.now.asker party.asker in
     let seen = c.args.round.now in
     let body = c.body-body.ensures ∙ body_is w q older k route answer byte limits keeps turn rows seen now in
-    let small = few_messages w q older k keeps few in
+    let small = few_messages w q older k carries few in
     let first = subst (λ (x : Connection). connected.StandsFor x r k.responder) (sym c.reply_why-why.ensures.same) party.answerer in
     let second = subst (λ (x : Connection). connected.StandsFor x r k.responder) (sym c.coming_key-key.ensures.same) first in
-    let told = c.judges.ensures r (restored k) turn.round set_up second small (answers_round w q older k route answer byte limits keeps turn rows seen now c.tag-2.result c.tag-2.ensures).1 (sym body) (subst IsBody (sym body) (kept_body w q older k turn.round keeps turn.answers.0)) (kept_apart w q older k turn.round answer keeps) in
+    let told = c.judges.ensures r (restored k) turn.round set_up second small (answers_round w q older k route answer byte limits keeps turn rows seen now c.tag-2.result c.tag-2.ensures).1 (sym body) (subst IsBody (sym body) (kept_body w q older k turn.round carries turn.answers.0)) (kept_apart w q older k turn.round answer carries) in
     let given = subst (λ (x : Judged). IsGiven r (restored k) turn.round answer x c.judges.new.self) (c.in-Given-Whole.is ∙ ap judged.Given c.in-Given-Whole.field-0-is) told in
     let at = round_is w q older k route answer byte limits keeps turn rows seen now in
-    let fetches = c.go_on-heard.ensures.fetches w q older k turn.round keeps below turn.answers.0 at party.asker in
+    let fetches = c.go_on-heard.ensures.fetches w q older k turn.round carries below turn.answers.0 at party.asker (sym (kept_asks_none w q older k keeps)) in
     let asks : asks_upon k route.tag answer ≡ true = sym (ap (λ (n : ℕ). asks_upon k n answer) turn.answers.1) ∙ sym fetches ∙ c.if-heard.true in
     is_part w q older k route answer byte limits keeps turn rows c.go_on-heard.new.self c.args.table.now (inr (inr (given.0, asks)))
 
 pub returns-in_ok-take-in-Given-Whole-clause-told : goal.returns-in_ok-take-in-Given-Whole-clause-told
 returns-in_ok-take-in-Given-Whole-clause-told c = λ w q older rows k route keeps below byte now set_up none party stands.
     let few : length older < 2 ^ 64 - 1 = omega (arith, below) in
+    let carries = keeps_carries w q older k keeps in
     let answer : List ℕ = c.args.answer.now in
     let turn = answers_in_turn k route answer none in
     let r = responder_for w k in
     let limits = kept_limits q k c.args.self.now.asker party.asker in
     let seen = c.args.round.now in
     let body = c.body-body.ensures ∙ body_is w q older k route answer byte limits keeps turn rows seen now in
-    let small = few_messages w q older k keeps few in
+    let small = few_messages w q older k carries few in
     let first = subst (λ (x : Connection). connected.StandsFor x r k.responder) (sym c.reply_why-why.ensures.same) party.answerer in
     let second = subst (λ (x : Connection). connected.StandsFor x r k.responder) (sym c.coming_key-key.ensures.same) first in
-    let told = c.judges.ensures r (restored k) turn.round set_up second small (answers_round w q older k route answer byte limits keeps turn rows seen now c.tag-2.result c.tag-2.ensures).1 (sym body) (subst IsBody (sym body) (kept_body w q older k turn.round keeps turn.answers.0)) (kept_apart w q older k turn.round answer keeps) in
+    let told = c.judges.ensures r (restored k) turn.round set_up second small (answers_round w q older k route answer byte limits keeps turn rows seen now c.tag-2.result c.tag-2.ensures).1 (sym body) (subst IsBody (sym body) (kept_body w q older k turn.round carries turn.answers.0)) (kept_apart w q older k turn.round answer carries) in
     let given = subst (λ (x : Judged). IsGiven r (restored k) turn.round answer x c.judges.new.self) (c.in-Given-Whole.is ∙ ap judged.Given c.in-Given-Whole.field-0-is) told in
     let new = c.go_on-heard.new.self in
     let same = c.go_on-heard.ensures.answerer in
@@ -69,7 +73,7 @@ returns-in_ok-take-in-Given-Whole-clause-told c = λ w q older rows k route keep
     let at = round_is w q older k route answer byte limits keeps turn rows seen now in
     let last = record new { places = c.take.new.places } in
     let are = behind_whole w q older k route answer byte limits keeps turn rows seen now last answerer
-    (λ h. c.go_on-heard.ensures.asker w q older k h turn.round keeps few turn.answers.0 at party.asker)
+    (λ h. c.go_on-heard.ensures.asker w q older k h turn.round carries below turn.answers.0 at party.asker)
     (λ ids f there. c.go_on-heard.ensures.keys r k.responder ids f no_draw party.keys coming
     (subst (λ (x : Answerer). IsAnswerer x r (after (with_dropped k.responder ids) (on_body r (with_dropped k.responder ids) (tag_in seen) (body_in seen) f no_draw))) same there)) in
     let next = whole_kept w q older k route answer byte limits keeps turn rows in
@@ -77,11 +81,11 @@ returns-in_ok-take-in-Given-Whole-clause-told c = λ w q older rows k route keep
     let h = k.responder in
     let change = is_change w q older k route answer byte limits keeps turn rows given.0 c.change-change.result
     (c.change-change.ensures.begun ∙ c.begun-begun.ensures.shown r h second ∙ ap (λ (n : ℕ). begun_shown h n c.body-body.result.now answer) tag ∙ ap (λ (b : List ℕ). begun_shown h turn.round.tag b answer) body)
-    (c.change-change.ensures.accepted ∙ c.go_on-heard.ensures.accepted w q older k turn.round keeps few turn.answers.0 at party.asker)
+    (c.change-change.ensures.accepted ∙ c.go_on-heard.ensures.accepted w q older k turn.round carries few turn.answers.0 at party.asker)
     (c.change-change.ensures.taken ∙ c.taken-taken.ensures r h second ∙ ap (λ (b : List ℕ). taken_shown h b answer) body)
     c.change-change.ensures.asked
     (c.change-change.ensures.views r behind answerer (few_behind w q older k route answer byte limits keeps turn rows given.0 few)) in
-    let fetches = c.go_on-heard.ensures.fetches w q older k turn.round keeps below turn.answers.0 at party.asker in
+    let fetches = c.go_on-heard.ensures.fetches w q older k turn.round carries below turn.answers.0 at party.asker (sym (kept_asks_none w q older k keeps)) in
     let idle : asks_upon k route.tag answer ≡ false = sym (ap (λ (n : ℕ). asks_upon k n answer) turn.answers.1) ∙ sym fetches ∙ c.if-heard.false in
     let step = is_step w q older k route answer byte limits keeps turn rows given.0 idle in
     let number = c.go_on-heard.ensures.number ∙ party.number in
@@ -97,64 +101,68 @@ returns-in_ok-take-in-Given-Whole-clause-told c = λ w q older rows k route keep
 pub returns-in-Given-Large-clause-told : goal.returns-in-Given-Large-clause-told
 returns-in-Given-Large-clause-told c = λ w q older rows k route keeps below byte now set_up none party stands.
     let few : length older < 2 ^ 64 - 1 = omega (arith, below) in
+    let carries = keeps_carries w q older k keeps in
     let answer : List ℕ = c.args.answer.now in
     let turn = answers_in_turn k route answer none in
     let r = responder_for w k in
     let limits = kept_limits q k c.args.self.now.asker party.asker in
     let seen = c.args.round.now in
     let body = c.body-body.ensures ∙ body_is w q older k route answer byte limits keeps turn rows seen now in
-    let small = few_messages w q older k keeps few in
+    let small = few_messages w q older k carries few in
     let first = subst (λ (x : Connection). connected.StandsFor x r k.responder) (sym c.reply_why-why.ensures.same) party.answerer in
     let second = subst (λ (x : Connection). connected.StandsFor x r k.responder) (sym c.coming_key-key.ensures.same) first in
-    let told = c.judges.ensures r (restored k) turn.round set_up second small (answers_round w q older k route answer byte limits keeps turn rows seen now c.tag-2.result c.tag-2.ensures).1 (sym body) (subst IsBody (sym body) (kept_body w q older k turn.round keeps turn.answers.0)) (kept_apart w q older k turn.round answer keeps) in
+    let told = c.judges.ensures r (restored k) turn.round set_up second small (answers_round w q older k route answer byte limits keeps turn rows seen now c.tag-2.result c.tag-2.ensures).1 (sym body) (subst IsBody (sym body) (kept_body w q older k turn.round carries turn.answers.0)) (kept_apart w q older k turn.round answer carries) in
     let given = subst (λ (x : Judged). IsGiven r (restored k) turn.round answer x c.judges.new.self) (c.in-Given-Large.is ∙ ap judged.Given c.in-Given-Large.field-0-is) told in
     is_part w q older k route answer byte limits keeps turn rows c.args.self.now c.args.table.now (inl given)
 
 pub returns-in-Given-Last-clause-told : goal.returns-in-Given-Last-clause-told
 returns-in-Given-Last-clause-told c = λ w q older rows k route keeps below byte now set_up none party stands.
     let few : length older < 2 ^ 64 - 1 = omega (arith, below) in
+    let carries = keeps_carries w q older k keeps in
     let answer : List ℕ = c.args.answer.now in
     let turn = answers_in_turn k route answer none in
     let r = responder_for w k in
     let limits = kept_limits q k c.args.self.now.asker party.asker in
     let seen = c.args.round.now in
     let body = c.body-body.ensures ∙ body_is w q older k route answer byte limits keeps turn rows seen now in
-    let small = few_messages w q older k keeps few in
+    let small = few_messages w q older k carries few in
     let first = subst (λ (x : Connection). connected.StandsFor x r k.responder) (sym c.reply_why-why.ensures.same) party.answerer in
     let second = subst (λ (x : Connection). connected.StandsFor x r k.responder) (sym c.coming_key-key.ensures.same) first in
-    let told = c.judges.ensures r (restored k) turn.round set_up second small (answers_round w q older k route answer byte limits keeps turn rows seen now c.tag-2.result c.tag-2.ensures).1 (sym body) (subst IsBody (sym body) (kept_body w q older k turn.round keeps turn.answers.0)) (kept_apart w q older k turn.round answer keeps) in
+    let told = c.judges.ensures r (restored k) turn.round set_up second small (answers_round w q older k route answer byte limits keeps turn rows seen now c.tag-2.result c.tag-2.ensures).1 (sym body) (subst IsBody (sym body) (kept_body w q older k turn.round carries turn.answers.0)) (kept_apart w q older k turn.round answer carries) in
     let given = subst (λ (x : Judged). IsGiven r (restored k) turn.round answer x c.judges.new.self) (c.in-Given-Last.is ∙ ap judged.Given c.in-Given-Last.field-0-is) told in
     is_part w q older k route answer byte limits keeps turn rows c.args.self.now c.args.table.now (inr (inl given))
 
 pub returns-in-Apart-clause-told : goal.returns-in-Apart-clause-told
 returns-in-Apart-clause-told c = λ w q older rows k route keeps below byte now set_up none party stands.
     let few : length older < 2 ^ 64 - 1 = omega (arith, below) in
+    let carries = keeps_carries w q older k keeps in
     let answer : List ℕ = c.args.answer.now in
     let turn = answers_in_turn k route answer none in
     let r = responder_for w k in
     let limits = kept_limits q k c.args.self.now.asker party.asker in
     let seen = c.args.round.now in
     let body = c.body-body.ensures ∙ body_is w q older k route answer byte limits keeps turn rows seen now in
-    let small = few_messages w q older k keeps few in
+    let small = few_messages w q older k carries few in
     let first = subst (λ (x : Connection). connected.StandsFor x r k.responder) (sym c.reply_why-why.ensures.same) party.answerer in
     let second = subst (λ (x : Connection). connected.StandsFor x r k.responder) (sym c.coming_key-key.ensures.same) first in
-    let told = c.judges.ensures r (restored k) turn.round set_up second small (answers_round w q older k route answer byte limits keeps turn rows seen now c.tag-2.result c.tag-2.ensures).1 (sym body) (subst IsBody (sym body) (kept_body w q older k turn.round keeps turn.answers.0)) (kept_apart w q older k turn.round answer keeps) in
+    let told = c.judges.ensures r (restored k) turn.round set_up second small (answers_round w q older k route answer byte limits keeps turn rows seen now c.tag-2.result c.tag-2.ensures).1 (sym body) (subst IsBody (sym body) (kept_body w q older k turn.round carries turn.answers.0)) (kept_apart w q older k turn.round answer carries) in
     let given = subst (λ (x : Judged). IsGiven r (restored k) turn.round answer x c.judges.new.self) c.in-Apart.is told in
     apart_for w q older k route answer byte limits keeps turn rows given.0 given.1 c.args.self.now c.args.table.now
 
 pub returns-in-Refused-clause-told : goal.returns-in-Refused-clause-told
 returns-in-Refused-clause-told c = λ w q older rows k route keeps below byte now set_up none party stands.
     let few : length older < 2 ^ 64 - 1 = omega (arith, below) in
+    let carries = keeps_carries w q older k keeps in
     let answer : List ℕ = c.args.answer.now in
     let turn = answers_in_turn k route answer none in
     let r = responder_for w k in
     let limits = kept_limits q k c.args.self.now.asker party.asker in
     let seen = c.args.round.now in
     let body = c.body-body.ensures ∙ body_is w q older k route answer byte limits keeps turn rows seen now in
-    let small = few_messages w q older k keeps few in
+    let small = few_messages w q older k carries few in
     let first = subst (λ (x : Connection). connected.StandsFor x r k.responder) (sym c.reply_why-why.ensures.same) party.answerer in
     let second = subst (λ (x : Connection). connected.StandsFor x r k.responder) (sym c.coming_key-key.ensures.same) first in
-    let told = c.judges.ensures r (restored k) turn.round set_up second small (answers_round w q older k route answer byte limits keeps turn rows seen now c.tag-2.result c.tag-2.ensures).1 (sym body) (subst IsBody (sym body) (kept_body w q older k turn.round keeps turn.answers.0)) (kept_apart w q older k turn.round answer keeps) in
+    let told = c.judges.ensures r (restored k) turn.round set_up second small (answers_round w q older k route answer byte limits keeps turn rows seen now c.tag-2.result c.tag-2.ensures).1 (sym body) (subst IsBody (sym body) (kept_body w q older k turn.round carries turn.answers.0)) (kept_apart w q older k turn.round answer carries) in
     let given = subst (λ (x : Judged). IsGiven r (restored k) turn.round answer x c.judges.new.self) c.in-Refused.is told in
     refused_for w q older k route answer byte limits keeps turn rows c.reply_why-why.result given.0 given.1
     (c.reply_why-why.ensures.told r (restored k) turn.round party.answerer small party.keys (sym body)) c.args.self.now c.args.table.now
