@@ -148,3 +148,8 @@ opened_alike psk s u sealed a =
     let finish = finish_alike s u a in
     let finished = finish_answer_alike s u a in
     cc
+
+pub same_backwards : (s u : Events) → SeenAlike s u → SeenAlike u s
+same_backwards _ _ NoEvent = NoEvent
+same_backwards _ _ (Behind e s u a) = Behind e u s (same_backwards s u a)
+same_backwards _ _ (Here sealed t x m large other w v reply s u not a) = Here sealed t x m other large v w reply u s not (same_backwards s u a)

@@ -27,10 +27,10 @@ use Rattle.fetched_ends.proofs.SeenUpdates.{updates_alike}
 -- ---- Keys of answers.
 
 -- The purpose, and the number, by whether all keys are updated.
-abbrev purpose_by : List ℕ → Events → Bool → Purpose
+abbrev pub purpose_by : List ℕ → Events → Bool → Purpose
 purpose_by psk s b = cond b (record (response_purpose psk s) { epoch = response_epoch s + 1 }) (response_purpose psk s)
 
-abbrev number_by : Events → Bool → ℕ
+abbrev pub number_by : Events → Bool → ℕ
 number_by s b = cond b 0 (response_next s)
 
 -- What an answer to a turn opens under.
@@ -96,7 +96,7 @@ updates_effect w k t NoEffect = refl
 updates_effect w k t (Took a l old large) = refl
 updates_effect w k t (TookData bytes old) = refl
 
-updates_with : (w : List ℕ) (t : Turn) → updates 2 (seen_turn w t) ≡ updates 2 t
+pub updates_with : (w : List ℕ) (t : Turn) → updates 2 (seen_turn w t) ≡ updates 2 t
 updates_with w t = updates_effect w (handle_shown t) t t.effect
 
 to_here : (r : RspSetup) (w : List ℕ) (t : Turn) (s : Events) (sealed : List ℕ) → opens_to r s (seen_turn w t) sealed ≡ opens_to r s t sealed
