@@ -5,6 +5,7 @@ use Rattle.std.specs.Prelude.{slice_index}
 use Rattle.capture_laws.proofs.SessionShown.{text_is, updates_alike}
 use Rattle.capture_laws.specs.AnswersShown.{answered_text}
 use Rattle.fetched_answers.proofs.ChunkShown.{get_no_data, session_sends}
+use Rattle.fetched_ends.specs.InSession.{is_chunk}
 use Rattle.large_answers.specs.Fetching.{answer_by}
 use Rattle.responder_machine.specs.Answer.{Free, answer_bytes, answer_of, answer_to, request_at}
 use Rattle.responder_machine.specs.Handling.{chunk_in, effect_of, goes_large, handle_for, large_response, turn_by, turn_of}
@@ -25,7 +26,6 @@ use Rattle.spdm_grammar.specs.Message.RequestMessage.{GetVersion, GetCapabilitie
 use Rattle.spdm_grammar.specs.Responses.{canonical_response}
 use Rattle.spdm_grammar.specs.declared.error_code.ErrorCode.{ErrorCode}
 use Rattle.spdm_grammar.specs.declared.names.request_code.TheConstants.{CHUNK_GET}
-use Rattle.spdm_grammar.specs.declared.names.response_code.TheConstants.{CHUNK_RESPONSE}
 use Rattle.world_machine.proofs.GetTells.{session_get}
 use Rattle.world_machine.proofs.RecordAdds.{record_added}
 use Rattle.world_machine.proofs.RepliesTell.{no_chunk}
@@ -37,10 +37,6 @@ use Rattle.world_machine.specs.Opening.{any_free, turn_in}
 use Rattle.world_machine.specs.Rounds.{no_draw}
 
 -- ---- A turn that gives no chunk.
-
--- The message is CHUNK_RESPONSE.
-abbrev pub is_chunk : List ℕ → Bool
-is_chunk m = slice_index m 1 == CHUNK_RESPONSE
 
 module _ (r : RspSetup) (s : Events) (m : List ℕ) (f : Free) where
   abbrev p : Place

@@ -1,8 +1,10 @@
 -- A large answer that is fetched in a session, as the program keeps it: the connection judges with some bytes in its place.
 -- This project's own.
-use Rattle.std.specs.Prelude.{◌≡◌, ◌≤◌, ◌+◌, ◌-◌, ◌==◌, ◌++◌, ◌↔◌, ℕ, List, length, true, if◌then◌else◌, Option, Some, None, unwrap_or, MatchOption}
+use Rattle.std.specs.Prelude.{◌≡◌, ◌≤◌, ◌<◌, ◌+◌, ◌-◌, ◌==◌, ◌++◌, ◌↔◌, ℕ, List, ◌∷◌, drop, length, slice_index, Bool, true, if◌then◌else◌, Option, Some, None, unwrap_or, MatchOption}
+use Rattle.capture_ends.specs.AnswerKeys.{will_take}
 use Rattle.capture_ends.specs.Party.{IsBeside}
 use Rattle.capture_ends.specs.declared.party.Party.{Party}
+use Rattle.capture_laws.specs.AnswersShown.{answered_text}
 use Rattle.capture_laws.specs.RepliesShown.{responder_for}
 use Rattle.fetched_answers.specs.JudgedFor.{JudgesFor, session_with}
 use Rattle.fetched_answers.specs.LastShown.{IsShownWhole}
@@ -14,14 +16,28 @@ use Rattle.responder_machine.specs.Answer.{Free, measurements_answer}
 use Rattle.responder_machine.specs.History.{History}
 use Rattle.responder_machine.specs.Place.{Place, place_terms, session_place}
 use Rattle.responder_machine.specs.Refusal.{has_pending}
-use Rattle.responder_machine.specs.Session.{session_terms}
+use Rattle.responder_machine.specs.Session.{id_in_record, session_of, session_terms}
 use Rattle.responder_machine.specs.Setup.{RspSetup}
 use Rattle.spdm_grammar.specs.Fields.{zeros}
 use Rattle.spdm_grammar.specs.Responses.{canonical_response}
 use Rattle.spdm_grammar.specs.declared.names.TheConstants.{MAX_MESSAGE_SIZE}
+use Rattle.spdm_grammar.specs.declared.names.response_code.TheConstants.{CHUNK_RESPONSE}
 use Rattle.world_machine.specs.LargeAnswers.{IsLargeAnswer}
+use Rattle.world_machine.specs.Opening.{turn_in}
 use Rattle.world_machine.specs.SessionTable.{Row}
 use Rattle.world_machine.specs.Setup.{Configuration}
+
+-- ---- The texts of answers.
+
+-- The message is CHUNK_RESPONSE.
+abbrev pub is_chunk : (message : List ℕ) → Bool
+is_chunk message = slice_index message 1 == CHUNK_RESPONSE
+
+-- A record that the session takes, and this is what an answer to it holds.
+pub record IsTextOf (r : RspSetup) (h : History) (body answer text : List ℕ) : Type 0 where
+  pub taken : will_take r h body ≡ true
+  pub text : text ≡ (let s = session_of (id_in_record (drop 1 body)) h in answered_text r s (turn_in r s (drop 1 body)) (drop 1 answer))
+  pub brief : length text < 65536
 
 -- ---- The bytes.
 
