@@ -9,8 +9,10 @@ use large_requests::LargeRequest;
 /// takes no memory but when it is made.
 #[derive(Drop)]
 pub struct Conversation {
-    pub(crate) party: Party,
-    pub(crate) large: Option<LargeRequest>,
+    /// The two ends.
+    pub party: Party,
+    /// The large request that is under way.
+    pub large: Option<LargeRequest>,
 }
 
 impl Conversation {
