@@ -14,7 +14,7 @@ use Rattle.capture_laws.proofs.OneWalk.{walks_alike}
 use Rattle.capture_laws.proofs.SessionShown.{record_is}
 use Rattle.capture_laws.specs.AnswersShown.{LeadsAt, is_whole, values_shown_by}
 use Rattle.capture_laws.specs.Keeping.{Kept, restored}
-use Rattle.capture_laws.specs.LargeShown.{IsShownLarge, begun_large, drops_before, large_shown, whole_of}
+use Rattle.capture_laws.specs.LargeShown.{IsShownLarge, begun_large, drops_before, first_dropped, large_shown, whole_of}
 use Rattle.capture_laws.specs.RepliesShown.{responder_for}
 use Rattle.fetched_answers.proofs.BegunJudged.{begins_judging}
 use Rattle.fetched_answers.proofs.WholeLed.{whole_is_shown}
@@ -28,7 +28,7 @@ use Rattle.responder_machine.specs.Answer.{Free, measurements_answer, request_at
 use Rattle.responder_machine.specs.History.{Entry, History}
 use Rattle.responder_machine.specs.History.Entry.{Sealed}
 use Rattle.responder_machine.specs.May.{IsAllowed, on_body, place_for, with_dropped}
-use Rattle.responder_machine.specs.Place.{clear_place, session_place}
+use Rattle.responder_machine.specs.Place.{clear_place, held_of, session_place}
 use Rattle.responder_machine.specs.Records.{opened, reply_record}
 use Rattle.responder_machine.specs.Responder.{Outcome, body_of, inner_reply, on_clear, on_record, sealed_entry, sent_by}
 use Rattle.responder_machine.specs.Responder.Outcome.{Adds}
@@ -64,7 +64,7 @@ module _ (r : RspSetup) (h : History) (tag : ℕ) (body answer : List ℕ) (type
   f0 = values_shown_by r h tag body answer
 
   drops_none : drops_before h body ≡ []
-  drops_none = cc
+  drops_none = ap (λ (b : Bool). cond (b && held_of h == 4) (first_dropped h (1 ∷ 2 ∷ 3 ∷ 4 ∷ [])) []) type
 
   adds : large_shown r h tag body answer ≡ Adds (entry_at r h tag body answer type will f0)
   unfolding large_shown

@@ -1,5 +1,5 @@
 -- An answer to a record that its session takes: what it leads to is an entry, and shows no session that was dropped.
-use Rattle.std.proofs.Common.{◌≡◌, ◌≤◌, ◌==◌, ◌&&◌, ℕ, List, [], ◌∷◌, refl, sym, ap, ◌∙◌, subst, drop, length, Bool, true, false, Option, Some, None, cond, inl, inr}
+use Rattle.std.proofs.Common.{◌≡◌, ◌≤◌, ◌==◌, ◌&&◌, ◌||◌, ℕ, List, [], ◌∷◌, refl, sym, ap, ◌∙◌, subst, drop, length, Bool, true, false, Option, Some, None, cond, inl, inr}
 use Rattle.std.specs.Prelude.{not, slice_index}
 use Rattle.std.proofs.lemmas.Bool.{false≢true, not-true}
 use Rattle.spdm_basis.proofs.Bools.{and_first, and_second}
@@ -7,7 +7,7 @@ use Rattle.capture_ends.proofs.KeysKept.{LeadsBy, record_leads}
 use Rattle.capture_ends.specs.AnswerKeys.{is_taken_in, session_named, will_take}
 use Rattle.capture_ends.specs.Answerer.{history_shown}
 use Rattle.capture_laws.specs.AnswersShown.{LeadsAt, values_shown_by}
-use Rattle.capture_laws.specs.DropsShown.{IsShownAnswer, drops_shown_by, outcome_shown, record_drops}
+use Rattle.capture_laws.specs.DropsShown.{clear_drops, drops_shown_by, may_be_dropped, outcome_shown, record_drops}
 use Rattle.capture_laws.specs.KeptChanges.{is_kept_record, taken_shown}
 use Rattle.capture_laws.specs.LargeShown.{drops_before, large_shown, last_shown}
 use Rattle.responder_machine.specs.Answer.{Free}
@@ -19,7 +19,7 @@ use Rattle.responder_machine.specs.Responder.Outcome.{Adds}
 use Rattle.responder_machine.specs.Session.{Events, id_in_record, last_of, session_of}
 use Rattle.responder_machine.specs.Setup.{RspSetup}
 use Rattle.responder_session.specs.Took.{turn_in}
-use Rattle.world_machine.specs.CapturedAnswers.{MayLeadTo}
+use Rattle.world_machine.specs.CapturedAnswers.{MayLeadTo, belongs_to}
 use Rattle.world_machine.specs.Rounds.{no_draw}
 
 module _ (r : RspSetup) (g : History) (tag : ℕ) (body answer : List ℕ) (type : (slice_index body 0 == 5) ≡ false) (will : will_take r g body ≡ true) where
@@ -40,7 +40,7 @@ module _ (r : RspSetup) (g : History) (tag : ℕ) (body answer : List ℕ) (type
   not_kept =
       let ended : repeats (ended_of g) m ≡ false = not-true _ (and_first _ _ taken) in
       let last : repeats (last_of s) m ≡ false = not-true _ (and_first _ _ (and_second _ _ taken)) in
-      cc
+      ap (λ (b : Bool). b || repeats (last_of s) m) ended ∙ last
 
   record_adds : (f : Free) → on_record r g tag m f no_draw ≡ Adds (entry_at f)
   record_adds f = by_leads (record_leads r g tag m f no_draw)
@@ -57,11 +57,15 @@ module _ (r : RspSetup) (g : History) (tag : ℕ) (body answer : List ℕ) (type
   entry = entry_at (values_shown_by r g tag body answer)
 
   pub taken_is : (slice_index answer 0 == 5) ≡ false → taken_shown g body answer ≡ Some (id_in_record m)
-  taken_is sealed = let kept = not_kept in cc
+  taken_is sealed =
+      ap (λ (b : Bool). cond (b || (slice_index answer 0 == 5 || is_kept_record g m)) None (Some (id_in_record m))) type
+      ∙ ap (λ (b : Bool). cond (b || is_kept_record g m) None (Some (id_in_record m))) sealed ∙ ap (λ (b : Bool). cond b None (Some (id_in_record m))) not_kept
 
   pub no_drops : (slice_index answer 0 == 5) ≡ false → drops_shown_by r g tag body answer ≡ []
   unfolding drops_shown_by
-  no_drops sealed = let drops : record_drops r g m answer ≡ [] = cc in cc
+  no_drops sealed =
+      ap (λ (b : Bool). cond b (clear_drops g tag m (drop 1 answer)) (record_drops r g m answer)) type
+      ∙ ap (λ (b : Bool). cond (b && (belongs_to r s m && may_be_dropped g (id_in_record m))) (id_in_record m ∷ []) []) sealed
 
   pub shown_adds : (slice_index answer 0 == 5) ≡ false → outcome_shown r g tag body answer ≡ Adds entry
   unfolding outcome_shown

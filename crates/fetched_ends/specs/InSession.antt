@@ -1,11 +1,12 @@
 -- A large answer that is fetched in a session, as the program keeps it: the connection judges with some bytes in its place.
 -- This project's own.
-use Rattle.std.specs.Prelude.{◌≡◌, ◌≤◌, ◌<◌, ◌+◌, ◌-◌, ◌==◌, ◌++◌, ◌↔◌, ℕ, List, ◌∷◌, drop, length, slice_index, Bool, true, if◌then◌else◌, Option, Some, None, unwrap_or, MatchOption}
+use Rattle.std.specs.Prelude.{◌≡◌, ◌≤◌, ◌<◌, ◌+◌, ◌-◌, ◌==◌, ◌++◌, ◌↔◌, ℕ, List, ◌∷◌, drop, length, slice_index, Bool, true, false, if◌then◌else◌, Option, Some, None, unwrap_or, MatchOption}
 use Rattle.capture_ends.specs.AnswerKeys.{will_take}
 use Rattle.capture_ends.specs.Party.{IsBeside}
 use Rattle.capture_ends.specs.declared.party.Party.{Party}
 use Rattle.capture_laws.specs.AnswersShown.{answered_text}
 use Rattle.capture_laws.specs.RepliesShown.{responder_for}
+use Rattle.fetched_answers.specs.AnswerTexts.{Holds}
 use Rattle.fetched_answers.specs.JudgedFor.{JudgesFor, session_with}
 use Rattle.fetched_answers.specs.LastShown.{IsShownWhole}
 use Rattle.fetched_ends.specs.declared.in_session.InSession.{InSession}
@@ -22,7 +23,7 @@ use Rattle.spdm_grammar.specs.Fields.{zeros}
 use Rattle.spdm_grammar.specs.Responses.{canonical_response}
 use Rattle.spdm_grammar.specs.declared.names.TheConstants.{MAX_MESSAGE_SIZE}
 use Rattle.spdm_grammar.specs.declared.names.response_code.TheConstants.{CHUNK_RESPONSE}
-use Rattle.world_machine.specs.LargeAnswers.{IsLargeAnswer}
+use Rattle.world_machine.specs.LargeAnswers.{IsLargeAnswer, with_large}
 use Rattle.world_machine.specs.Opening.{turn_in}
 use Rattle.world_machine.specs.SessionTable.{Row}
 use Rattle.world_machine.specs.Setup.{Configuration}
@@ -98,3 +99,19 @@ pub record IsFetchedIn (party : Party) (fetched : InSession) (w : Configuration)
   pub judges : JudgesFor party.answerer.connection (responder_for w f.kept) f.kept.responder (Some fetched.id) whole
   pub pending : has_pending (session_place (session_with fetched.id f.kept.responder whole)) ≡ true
   pub sizes : (session_terms (session_with fetched.id f.kept.responder whole)).common ≡ (place_terms f.place).common
+
+-- ---- An answer.
+
+-- The answer to a record of the session holds a chunk: these bytes stand for the large answer with it, and the connection
+-- judges with them.
+pub record IsReadIn (party : Party) (fetched : InSession) (w : Configuration) (q : ReqSetup) (f : Fetching) (rows : List Row) (body answer message whole : List ℕ) : Type 0 where
+  pub kept : IsFetchedIn party fetched w q f rows
+  pub whole : kept.whole ≡ whole
+  pub record_is : (slice_index body 0 == 5) ≡ false
+  pub sealed : (slice_index answer 0 == 5) ≡ false
+  pub text : List ℕ
+  pub read : IsTextOf (responder_for w f.kept) (with_large (Some fetched.id) whole f.kept.responder) body answer text
+  pub holds : Holds text message
+  pub chunk : is_chunk message ≡ true
+  pub fits : AreFitting fetched message
+  pub filled : whole ≡ filled fetched.answer.number fetched.answer.size fetched.answer.bytes message

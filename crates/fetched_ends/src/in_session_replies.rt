@@ -4,12 +4,11 @@ ghost use Rattle.mctp_framing.specs.Cutting.{RouteFields};
 ghost use Rattle.mctp_framing.specs.Gathering.Gathered.{Whole};
 ghost use Rattle.requester_machine.specs.Setup.{ReqSetup};
 ghost use Rattle.capture_laws.specs.DropsShown.{id_begun, response_of};
-ghost use Rattle.capture_laws.specs.Order.{answered_why};
+ghost use Rattle.capture_laws.specs.Order.{answered_why, body_in};
 ghost use Rattle.capture_laws.specs.RepliesShown.{responder_for};
 ghost use Rattle.capture_laws.specs.Rows.{StandsForRows};
 ghost use Rattle.fetched_ends.specs.Fetched.{IsRepliedTo};
-ghost use Rattle.fetched_ends.specs.InSession.{IsFetchedIn};
-ghost use Rattle.fetched_ends.specs.InSessionReplies.{IsJudgedIn, IsReadIn};
+ghost use Rattle.fetched_ends.specs.InSession.{IsFetchedIn, IsReadIn};
 ghost use Rattle.fetched_ends.specs.declared.upon.Upon.TheVariants as upon;
 ghost use Rattle.large_answers.specs.Fetching.{Fetching, IsFetchingOf};
 ghost use Rattle.world_machine.specs.SessionTable.{Row};
@@ -18,11 +17,12 @@ ghost use Rattle.world_machine.specs.Setup.{Configuration};
 use crate::in_session::InSession;
 use crate::session_texts::{chunk_in, reads_text};
 use crate::whole_measured::is_measured;
-use crate::{Upon, Why};
+use crate::Upon;
 use capture_ends::{Given, Party};
 use capture_laws::{Round, SessionTable};
 use connection::Setup;
 use fetched_answers::put_bytes;
+use script_text::Why;
 use session_keys::{behind_type, byte_at};
 use spdm_basis::{OutOfMemory, RecordFrame};
 
@@ -42,6 +42,18 @@ fn judges_chunk(
     whole: &[u8],
 ) -> Result<Result<Upon, Why>, OutOfMemory>
     requires { length answer.now ≤ 4161 }
+    ensures told { (w : Configuration) (q : ReqSetup) (older : List (List ℕ)) (rows : List Row)
+        (f : Fetching) (route : RouteFields) → IsFetchingOf w q older f
+        → length older < 2 ^ 64 - 2 → w.responder.beat < 256 → round.now ≡ f.kept.round
+        → IsSetUp setup.now (responder_for w f.kept)
+        → answered_why f.kept.round (Whole route answer.now) ≡ None
+        → IsReadIn party.old fetched.old w q f rows (body_in round.now) answer.now message.now whole.now
+        → StandsForRows table.old w (length older) rows
+        → IfOk result (λ told. IsRepliedTo w q older rows f route answer.now told party.new
+        (IsFetchedIn party.new fetched.new w q) table.new) }
+    ensures stays { IfOk result (λ told. (told ≡ Ok upon.Fetched → ⊥) → (told ≡ Ok upon.Ended → ⊥)
+        → table.new ≡ table.old) }
+    ensures memory { OnErr result (IsSome (id_begun (response_of (drop 1 answer.now)))) }
 {
     let body = round.body();
     let key = party.answerer.coming_key(body);
@@ -84,6 +96,18 @@ pub fn replies_in_session(
     answer: &[u8],
 ) -> Result<Result<Upon, Why>, OutOfMemory>
     requires { length answer.now ≤ 4161 }
+    ensures told { (w : Configuration) (q : ReqSetup) (older : List (List ℕ)) (rows : List Row)
+        (f : Fetching) (route : RouteFields) → IsFetchingOf w q older f
+        → length older < 2 ^ 64 - 2 → w.responder.beat < 256 → round.now ≡ f.kept.round
+        → IsSetUp setup.now (responder_for w f.kept)
+        → answered_why f.kept.round (Whole route answer.now) ≡ None
+        → IsFetchedIn party.old fetched.old w q f rows
+        → StandsForRows table.old w (length older) rows
+        → IfOk result (λ told. IsRepliedTo w q older rows f route answer.now told party.new
+        (IsFetchedIn party.new fetched.new w q) table.new) }
+    ensures stays { IfOk result (λ told. (told ≡ Ok upon.Fetched → ⊥) → (told ≡ Ok upon.Ended → ⊥)
+        → table.new ≡ table.old) }
+    ensures memory { OnErr result (IsSome (id_begun (response_of (drop 1 answer.now)))) }
 {
     let body = round.body();
     if byte_at(body, 0) == CLEAR || byte_at(answer, 0) == CLEAR {
