@@ -67,7 +67,12 @@ fn asks_chunk(asking: &Asking, room: &Body) -> bool
 }
 
 // Whether a chunk is awaited still, which was awaited or not, where nothing was sent upon what came last.
-fn awaits_still(asking: &mut Asking, setup: &AskerSetup, room: &mut Body, awaited: bool) -> bool
+fn awaits_still(
+    asking: &mut Asking,
+    setup: &AskerSetup,
+    room: &mut Body,
+    awaited: bool,
+) -> bool
     ensures waits { (q : ReqSetup) (h : History) → IsKeptSetup setup.now q
         → length h < 2 ^ 64 - 1 → StandsFor asking.old q h
         → result ≡ (awaited && is_some (outstanding h)) }

@@ -41,7 +41,13 @@ impl Answerer {
     }
 
     /// Judges a body as the answer to another one, by what it shows. Fewer than 2^64 - 1 messages came.
-    pub fn judges(&mut self, setup: &Setup<'_>, tag: u8, body: &[u8], answer: &[u8]) -> Judged
+    pub fn judges(
+        &mut self,
+        setup: &Setup<'_>,
+        tag: u8,
+        body: &[u8],
+        answer: &[u8],
+    ) -> Judged
         requires { length answer.now ≤ 4161 }
         ensures { (r : RspSetup) (d : Dialogue) (round : Round) → IsSetUp setup.now r
             → IsAnswerer self.old r d.responder → messages_of d.responder < 2 ^ 64 - 1

@@ -86,7 +86,12 @@ impl Party {
 
     /// What an answer changed by which this session was begun, if one was; behind it the requester
     /// accepted a session under this ReqSessionID, and the session of this RspSessionID took a record.
-    pub fn change(&self, begun: Option<u16>, accepted: Option<u16>, taken: Option<u16>) -> Change
+    pub fn change(
+        &self,
+        begun: Option<u16>,
+        accepted: Option<u16>,
+        taken: Option<u16>,
+    ) -> Change
         ensures begun { result.begun ≡ begun }
         ensures accepted { result.accepted ≡ accepted }
         ensures taken { result.answered ≡ taken }
