@@ -43,3 +43,4 @@ pub mod CarryWalks
 pub mod NotApart
 pub mod MeanwhileClear
 pub mod NoneTurns
+pub mod RestQuiet

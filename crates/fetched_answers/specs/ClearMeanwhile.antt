@@ -3,7 +3,7 @@
 use Rattle.std.specs.Prelude.{◌≡◌, ◌≢◌, ◌≤◌, ◌+◌, ◌==◌, ◌↔◌, nat_lt, slice_index, ℕ, List, ◌∷◌, true, false, Some, None}
 use Rattle.chunking.specs.Cutting.{chunk_count}
 use Rattle.responder_machine.specs.History.{History, kept_of}
-use Rattle.responder_machine.specs.Place.{place_terms}
+use Rattle.responder_machine.specs.Place.{clear_place, place_terms}
 use Rattle.responder_machine.specs.Responder.{is_repeat, kept_reply}
 use Rattle.responder_machine.specs.Setup.{RspSetup}
 use Rattle.spdm_machine.specs.Bodies.{clear_body}
@@ -22,6 +22,8 @@ use Rattle.requester_machine.specs.Setup.{ReqSetup}
 use Rattle.mctp_framing.specs.Cutting.{RouteFields}
 use Rattle.mctp_framing.specs.Gathering.Gathered.{Whole}
 use Rattle.capture_laws.specs.RepliesShown.{responder_for}
+use Rattle.capture_laws.specs.Walks.{Walks}
+use Rattle.responder_machine.specs.Refusal.{has_pending}
 use Rattle.large_answers.specs.Fetching.{Fetching, IsFetchingOf}
 use Rattle.large_answers.specs.FetchingLaws.{TurnsFetching}
 
@@ -91,3 +93,8 @@ NoneTurnsInClear = (w : Configuration) (q : ReqSetup) (older : List (List ℕ)) 
     → 6 ≤ (responder_for w f.kept).transfer → IsFetchingOf w q older f → f.kept.round ≡ Some round
     → (slice_index round.body 0 == 5) ≡ true → round.body ≢ clear_body (canonical_request GetVersion)
     → TurnsFetching w f (Whole route answer) next → ⊥
+
+-- In a walk no large answer is pending in the clear, as what is kept of the responder says it: while one is fetched there, its
+-- request has no bytes as its answer.
+abbrev pub NonePendsInClear : Type 0
+NonePendsInClear = (w : Configuration) (q : ReqSetup) (older : List (List ℕ)) (d : Dialogue) → Walks w q older d → has_pending (clear_place d.responder) ≡ false

@@ -1,7 +1,7 @@
 //! Which answers a request in the clear may get while a large answer is fetched there, each law as the contract
 //! of a function that does nothing.
 
-ghost use Rattle.fetched_answers.specs.ClearMeanwhile.{GetBeginsNone, GetCompletes, GetGoesOn, NoneTurnsInClear, RepeatBeginsNone, RepeatGoesSame, RepeatMayGo, VersionBeginsNone, VersionGoes};
+ghost use Rattle.fetched_answers.specs.ClearMeanwhile.{GetBeginsNone, GetCompletes, GetGoesOn, NonePendsInClear, NoneTurnsInClear, RepeatBeginsNone, RepeatGoesSame, RepeatMayGo, VersionBeginsNone, VersionGoes};
 
 /// A repeat is answered with the kept reply, and nothing changes.
 pub fn repeat_goes_same()
@@ -46,4 +46,9 @@ pub fn version_begins_none()
 /// No answer to another request than GET_VERSION begins another large answer.
 pub fn none_turns_in_clear()
     ensures { NoneTurnsInClear }
+{}
+
+/// In a walk no large answer is pending in the clear, as the responder is kept.
+pub fn none_pends_in_clear()
+    ensures { NonePendsInClear }
 {}
