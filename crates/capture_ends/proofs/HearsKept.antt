@@ -1,5 +1,5 @@
 -- What is kept of a requester behind an answer that it heard.
-use Rattle.std.proofs.Common.{◌≡◌, ◌≤◌, ◌+◌, arith, ◌==◌, ◌<◌, ◌-◌, ◌^◌, ℕ, List, [], ◌∷◌, refl, sym, ap, ◌∙◌, subst, length, Bool, true, false, Option, Some, None, is_some, cond}
+use Rattle.std.proofs.Common.{arith, ◌≤◌, ◌+◌, ◌≡◌, ◌==◌, ◌<◌, ◌-◌, ◌^◌, ℕ, List, [], ◌∷◌, refl, sym, ap, ◌∙◌, subst, length, Bool, true, false, Option, Some, None, is_some, cond}
 use Rattle.std.proofs.lemmas.Bool.{false≢true, not-true}
 use Rattle.std.proofs.lemmas.Option.{none-some, same_Some}
 use Rattle.asking.specs.Joined.{IsAnswered, IsSentAs, StandsFor}

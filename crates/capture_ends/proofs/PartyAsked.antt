@@ -22,7 +22,7 @@ use Rattle.capture_laws.specs.Changes.{session_in}
 use Rattle.capture_laws.specs.Judged.{why_of}
 use Rattle.capture_laws.specs.Keeping.{AsksKept, BeginsKept, CopiesKept, Kept, SendsKept, restored}
 use Rattle.capture_laws.specs.Order.{asks_wrong}
-use Rattle.capture_ends.specs.Party.{IsAsked, IsAskedBeside, IsAskedWhole, IsBeside, IsComingWhy, IsParty, StandBeside}
+use Rattle.capture_ends.specs.Party.{IsAsked, IsAskedBeside, IsAskedWhole, IsBeside, IsComingWhy, IsParty, StandBehind, StandBeside}
 use Rattle.capture_laws.specs.RepliesShown.{responder_for}
 use Rattle.capture_laws.specs.Rows.{StandFor, StandsForRows}
 use Rattle.capture_laws.specs.declared.places.Places.{Places}

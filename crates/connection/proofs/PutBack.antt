@@ -4,13 +4,12 @@ use Rattle.std.proofs.lemmas.Bool.{eqb-false, eqb-true}
 use Rattle.connection.specs.ClearPart as clear_parts
 use Rattle.connection.specs.Connected.{StandsFor}
 use Rattle.connection.specs.Live.{IsSlotOf}
-use Rattle.connection.specs.Sessions as sessions
 use Rattle.connection.specs.Sessions.{slot_of}
 use Rattle.connection.specs.Trying.{IsAside}
 use Rattle.connection.specs.declared.connected.Connection.{Connection}
 use Rattle.connection.specs.declared.live.Live.{Live}
 use Rattle.connection.specs.declared.sessions.Sessions.{Sessions}
-use Rattle.responder_machine.specs.History.{History, queue_of}
+use Rattle.responder_machine.specs.History.{History}
 use Rattle.responder_machine.specs.Session.{session_of}
 use Rattle.responder_machine.specs.Setup.{RspSetup}
 

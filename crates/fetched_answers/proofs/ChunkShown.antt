@@ -87,12 +87,12 @@ session_sends_by r s inner f handle number None is gets small = by_type (slice_i
     by_type true gets small = turn_sends r (session_place s) (drop 1 inner) f handle number is gets small
     by_type false gets small = absurd (false≢true gets)
 
-session_sends : (r : RspSetup) (s : Events) (inner : List ℕ) (f : Free) (handle number : ℕ) → request_at (session_place s) (drop 1 inner) ≡ Some (ChunkGet handle number)
+pub session_sends : (r : RspSetup) (s : Events) (inner : List ℕ) (f : Free) (handle number : ℕ) → request_at (session_place s) (drop 1 inner) ≡ Some (ChunkGet handle number)
     → takes CHUNK_GET (session_turn r s inner f) ≡ true → is_some (handle_in (session_turn r s inner f).effect) ≡ false → (session_turn r s inner f).reply ≡ answer_in (session_turn r s inner f).effect
 unfolding session_turn
 session_sends r s inner f handle number is gets small = session_sends_by r s inner f handle number (inner_refusal (stage_of s) inner) is gets small
 
-get_no_data : (x : Effect) → takes CHUNK_GET (record { message = []; refused = None; chunk = None; effect = x; reply = [] }) ≡ true → is_data x ≡ false
+pub get_no_data : (x : Effect) → takes CHUNK_GET (record { message = []; refused = None; chunk = None; effect = x; reply = [] }) ≡ true → is_data x ≡ false
 get_no_data NoEffect gets = refl
 get_no_data (Took a m answer large) gets = refl
 get_no_data (TookData bytes answer) gets = absurd (false≢true gets)

@@ -45,3 +45,5 @@ pub mod RoomWalks
 pub mod VersionWalks
 pub mod LargeSized
 pub mod MeanwhileClear
+pub mod NoneTurns
+pub mod RestQuiet

@@ -1,5 +1,5 @@
 -- What a request in the clear is answered with while a large answer is fetched there.
-use Rattle.std.proofs.Common.{◌≡◌, ◌≤◌, ◌+◌, ◌==◌, ◌&&◌, ◌↔◌, ◌∙◌, ℕ, List, [], ◌∷◌, refl, sym, ap, subst, Bool, true, false, Option, Some, None, is_some}
+use Rattle.std.proofs.Common.{◌≡◌, ◌+◌, ◌∙◌, ℕ, List, [], ◌∷◌, refl, sym, ap, subst, Bool, true, false, Option, Some, None, is_some}
 use Rattle.std.proofs.lemmas.Bool.{false≢true}
 use Rattle.std.proofs.lemmas.Option.{same_Some}
 use Rattle.std.specs.Prelude.{not, nat_lt, if◌then◌else◌}
@@ -7,7 +7,7 @@ use Rattle.chunking.specs.Cutting.{chunk_count}
 use Rattle.responder_machine.specs.History.{Entry, History, kept_of}
 use Rattle.responder_machine.specs.History.Entry.{Dropped}
 use Rattle.responder_machine.specs.LargeMessages.{given_of, still_pending}
-use Rattle.responder_machine.specs.May.{MayDrop, with_dropped}
+use Rattle.responder_machine.specs.May.{with_dropped}
 use Rattle.responder_machine.specs.Place.{place_terms}
 use Rattle.responder_machine.specs.Responder.{Outcome, after, body_of, is_repeat, kept_reply, sent_by}
 use Rattle.responder_machine.specs.Responder.Outcome.{Adds, Same}
@@ -25,7 +25,7 @@ use Rattle.world_machine.specs.LargeAnswers.{begun_with, dropped_before_large, g
 use Rattle.world_machine.specs.Rounds.{Dialogue, Round}
 
 -- An answer that goes whole to a message in the clear, with these bytes as the large answer.
-abbrev Plainly : RspSetup → History → (whole : List ℕ) → (tag : ℕ) → (m answer : List ℕ) → (next : History) → Type 0
+abbrev pub Plainly : RspSetup → History → (whole : List ℕ) → (tag : ℕ) → (m answer : List ℕ) → (next : History) → Type 0
 Plainly r h whole tag m answer next =
     (dropped : List ℕ) × (outcome : Outcome)
     × MayLeadAfter r (with_large None whole h) dropped tag (clear_body m) outcome
@@ -44,10 +44,10 @@ module _ (r : RspSetup) (d : Dialogue) (whole : List ℕ) (round : Round) (m ans
       × (body_of outcome ≡ answer)
       × (next ≡ after (with_dropped d.responder dropped) outcome)
 
-  to_plain : AnswersPlainly r d round answer next → Plainly r d.responder whole round.tag m answer next
+  pub to_plain : AnswersPlainly r d round answer next → Plainly r d.responder whole round.tag m answer next
   to_plain a = subst (Judged (Some whole)) body (subst (λ (x : Option (List ℕ)). Judged x round.body) fetching a)
 
-  from_plain : Plainly r d.responder whole round.tag m answer next → AnswersPlainly r d round answer next
+  pub from_plain : Plainly r d.responder whole round.tag m answer next → AnswersPlainly r d round answer next
   from_plain p = subst (λ (x : Option (List ℕ)). Judged x round.body) (sym fetching) (subst (Judged (Some whole)) (sym body) p)
 
 -- ---- A repeat.
@@ -80,7 +80,15 @@ module _ (r : RspSetup) (h : History) (whole : List ℕ) (tag handle number : �
   -- A session that was dropped counts for nothing here.
   dropped_get : (id : ℕ) → IsNextGet r (Dropped id ∷ h) whole tag handle number
   dropped_get id = record {
-    room = get.room; byte = get.byte; few = get.few; anew = get.anew; chunks = get.chunks; large = get.large; given = get.given; same = get.same; more = get.more;
+    room = get.room;
+    byte = get.byte;
+    few = get.few;
+    anew = get.anew;
+    chunks = get.chunks;
+    large = get.large;
+    given = get.given;
+    same = get.same;
+    more = get.more;
   }
 
   abbrev transfer : ℕ
@@ -265,8 +273,7 @@ get_completes law r d whole round handle number answer next fetching body get = 
     to_last : Completes r d round answer next → Last
     to_last c =
         let e = to_ends r d whole round m answer next fetching body c in
-        let is : e.1 ≡ one = same_adds e.1 one ((law r h whole round.tag handle number (Adds e.1) get).0 e.2) in
-        (
+        let is : e.1 ≡ one = same_adds e.1 one ((law r h whole round.tag handle number (Adds e.1) get).0 e.2) in (
           e.0,
           sym e.5 ∙ ap sent_by is,
           not_true more (sym (last_is r h whole round.tag handle number get) ∙ ap (gives_last (with_large None whole h)) (sym is) ∙ e.3),

@@ -26,7 +26,7 @@ pub use laws::{
     text_is_alike, whole_has_led, whole_is_shown,
 };
 pub use meanwhile_laws::{
-    get_begins_none, get_completes, get_goes_on, repeat_begins_none, repeat_goes_same,
-    version_begins_none, version_goes,
+    get_begins_none, get_completes, get_goes_on, none_pends_in_clear, none_turns_in_clear,
+    repeat_begins_none, repeat_goes_same, repeat_may_go, version_begins_none, version_goes,
 };
 pub use pending_bytes::put_bytes;

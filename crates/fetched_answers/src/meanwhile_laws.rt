@@ -1,11 +1,16 @@
 //! Which answers a request in the clear may get while a large answer is fetched there, each law as the contract
 //! of a function that does nothing.
 
-ghost use Rattle.fetched_answers.specs.ClearMeanwhile.{GetBeginsNone, GetCompletes, GetGoesOn, RepeatBeginsNone, RepeatGoesSame, VersionBeginsNone, VersionGoes};
+ghost use Rattle.fetched_answers.specs.ClearMeanwhile.{GetBeginsNone, GetCompletes, GetGoesOn, NonePendsInClear, NoneTurnsInClear, RepeatBeginsNone, RepeatGoesSame, RepeatMayGo, VersionBeginsNone, VersionGoes};
 
 /// A repeat is answered with the kept reply, and nothing changes.
 pub fn repeat_goes_same()
     ensures { RepeatGoesSame }
+{}
+
+/// That is always possible.
+pub fn repeat_may_go()
+    ensures { RepeatMayGo }
 {}
 
 /// It begins no other large answer, and is no last chunk.
@@ -36,4 +41,14 @@ pub fn version_goes()
 /// It begins no other large answer, and is no last chunk.
 pub fn version_begins_none()
     ensures { VersionBeginsNone }
+{}
+
+/// No answer to another request than GET_VERSION begins another large answer.
+pub fn none_turns_in_clear()
+    ensures { NoneTurnsInClear }
+{}
+
+/// In a walk no large answer is pending in the clear, as the responder is kept.
+pub fn none_pends_in_clear()
+    ensures { NonePendsInClear }
 {}

@@ -1,1 +1,3 @@
 pub mod Fetched
+pub mod InSession
+pub mod BegunIn

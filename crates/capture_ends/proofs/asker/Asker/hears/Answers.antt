@@ -1,4 +1,4 @@
-use Rattle.std.proofs.Common.{◌<◌, ◌-◌, ◌^◌, ◌∙◌, refl, ap, is_some, length, arith}
+use Rattle.std.proofs.Common.{◌≡◌, ◌<◌, ◌-◌, ◌^◌, ◌∙◌, refl, ap, is_some, length, arith}
 use Rattle.capture_ends.proofs.FetchesUpon.{owing_fetches, sending_fetches, silent_fetches}
 use Rattle.capture_ends.proofs.HearsKept.{deaf_accepted, deaf_asker, heard_accepted, heard_asker, heard_still}
 use Rattle.capture_ends.proofs.OwedTook.{kept_few, kept_short}

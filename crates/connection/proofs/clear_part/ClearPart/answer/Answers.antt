@@ -1,6 +1,5 @@
 -- A message is answered, whether it begins a session or not.
 use Rattle.std.proofs.Common.{◌∙◌, sym, subst, ap, List, ℕ}
-use Rattle.connection.specs.ClearPart.{IsAnswered}
 use Rattle.connection.specs.Starting.{IsStartedAt}
 use Rattle.connection.proofs.clear_part.ClearPart.answer.Goals as goal
 use Rattle.spdm_grammar.specs.declared.heard.Heard.TheVariants as heard

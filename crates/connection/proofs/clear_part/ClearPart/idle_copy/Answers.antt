@@ -1,5 +1,5 @@
 -- Where it is not copied, a large answer is pending.
-use Rattle.std.proofs.Common.{◌≡◌, ◌∙◌, ap, sym, subst, is_some, Bool}
+use Rattle.std.proofs.Common.{◌∙◌, ap, sym, subst, is_some}
 use Rattle.std.proofs.lemmas.Bool.{false≢true}
 use Rattle.responder_machine.specs.History.{clear_turns}
 use Rattle.responder_machine.specs.Place.{held_of}

@@ -1,5 +1,5 @@
 -- What would be answered is what the clear part answers.
-use Rattle.std.proofs.Common.{◌≡◌, ◌∙◌, ap, sym, subst, is_some, Bool, ℕ, List}
+use Rattle.std.proofs.Common.{◌∙◌, ap, sym, subst, is_some}
 use Rattle.std.proofs.lemmas.Bool.{false≢true}
 use Rattle.connection.specs.ClearPart as clear_parts
 use Rattle.connection.proofs.connected.Connection.would_answer.Goals as goal

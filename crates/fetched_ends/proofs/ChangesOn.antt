@@ -1,0 +1,56 @@
+-- What an answer changes of what rows of the table hang on, whether a large answer is fetched or not.
+use Rattle.std.proofs.Common.{◌≡◌, ◌==◌, ℕ, List, refl, sym, ap, ◌∙◌, subst, Bool, true, false, Option, Some, None, cond, eq-eqb}
+use Rattle.std.specs.Prelude.{not}
+use Rattle.mctp_framing.specs.Gathering.{Gathered}
+use Rattle.capture_ends.specs.HeardKept.{heard_kept}
+use Rattle.capture_laws.proofs.AcceptedAnswers.{answer_accepts}
+use Rattle.capture_laws.proofs.AnswerSteps.{taken_same}
+use Rattle.capture_laws.proofs.Rounded.{answer_turned}
+use Rattle.capture_laws.proofs.StepsOfWalks.{IsMoved, replies_moved, walks_held}
+use Rattle.capture_laws.specs.Changes.{IsStep, asked_between, session_in}
+use Rattle.capture_laws.specs.Keeping.{Kept, kept_of, restored}
+use Rattle.capture_laws.specs.KeptChanges.{accepted_from}
+use Rattle.capture_laws.specs.RepliesShown.{answered, heard_from, no_values}
+use Rattle.capture_laws.specs.Walks.{Walks}
+use Rattle.requester_machine.specs.Hearing.{hears}
+use Rattle.requester_machine.specs.History as requester_history
+use Rattle.requester_machine.specs.History.{outstanding}
+use Rattle.requester_machine.specs.Setup.{ReqSetup}
+use Rattle.responder_machine.specs.History.{History}
+use Rattle.world_machine.specs.Capture.{RepliesBy}
+use Rattle.world_machine.specs.Rounds.{Dialogue, Round, no_draw}
+use Rattle.world_machine.specs.SessionTable.{accepted_between, is_new}
+use Rattle.world_machine.specs.Setup.{Configuration}
+
+module _ (k : Kept) (behind : History) (tag : ℕ) (round : Round) (answer : List ℕ) (is : k.round ≡ Some round) (one : round.tag ≡ tag) where
+  abbrev next : Kept
+  next = heard_kept k behind tag round answer
+
+  pub accepted_on : accepted_between (restored k) (restored next) ≡ accepted_from k round.tag answer
+  unfolding heard_from accepted_from
+  accepted_on =
+      let after : Dialogue = record (restored k) { requester = heard_from k tag answer; responder = behind; round = Some (answered round) } in
+      taken_same (restored k) after ∙ answer_accepts (restored k) after (hears k.setup (restored k).requester false tag answer no_values no_draw) refl
+      ∙ ap (λ (n : ℕ). accepted_from k n answer) (sym one)
+
+  same_tag : (n : ℕ) → not (n == n) ≡ false
+  same_tag n = ap not (eq-eqb n n refl)
+
+  pub asked_on : asked_between (restored k) (restored next) ≡ None
+  asked_on =
+      let sent : requester_history.History = (restored next).requester in
+      ap (λ (x : Option Round). cond (is_new x (answered round)) (session_in (outstanding sent)) None) is
+      ∙ ap (λ (b : Bool). cond b (session_in (outstanding sent)) None) (same_tag round.tag)
+
+-- It is a step by which a change is taken.
+pub step_on : (w : Configuration) (q : ReqSetup) (older : List (List ℕ)) (k : Kept) (fetching : Option (List ℕ)) (g : Gathered) (d : Dialogue) → Walks w q older (record (restored k) { fetching = fetching })
+    → RepliesBy w (record (restored k) { fetching = fetching }) g d → IsStep (restored k) (restored (kept_of d))
+step_on w q older k fetching g d walk replies =
+    let before : Dialogue = record (restored k) { fetching = fetching } in
+    let moved : IsMoved before d = replies_moved w before g d (walks_held w q older before walk) replies in
+    record {
+      setup = sym (answer_turned w before g d replies).setup;
+      live = moved.begins.live;
+      few = moved.begins.few;
+      accepted = λ id takes. moved.accepts id (sym (taken_same (restored k) d) ∙ takes);
+    }
