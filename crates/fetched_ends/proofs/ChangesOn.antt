@@ -3,10 +3,8 @@ use Rattle.std.proofs.Common.{◌≡◌, ◌==◌, ℕ, List, refl, sym, ap, ◌
 use Rattle.std.specs.Prelude.{not}
 use Rattle.mctp_framing.specs.Gathering.{Gathered}
 use Rattle.capture_ends.specs.HeardKept.{heard_kept}
-use Rattle.capture_laws.proofs.AcceptedAnswers.{answer_accepts}
 use Rattle.capture_laws.proofs.AnswerSteps.{taken_same}
-use Rattle.capture_laws.proofs.Rounded.{answer_turned}
-use Rattle.capture_laws.proofs.StepsOfWalks.{IsMoved, replies_moved, walks_held}
+use Rattle.capture_laws.specs.ChangeLaws.{AnswerAccepts}
 use Rattle.capture_laws.specs.Changes.{IsStep, asked_between, session_in}
 use Rattle.capture_laws.specs.Keeping.{Kept, kept_of, restored}
 use Rattle.capture_laws.specs.KeptChanges.{accepted_from}
@@ -26,11 +24,11 @@ module _ (k : Kept) (behind : History) (tag : ℕ) (round : Round) (answer : Lis
   abbrev next : Kept
   next = heard_kept k behind tag round answer
 
-  pub accepted_on : accepted_between (restored k) (restored next) ≡ accepted_from k round.tag answer
+  pub accepted_on : AnswerAccepts → accepted_between (restored k) (restored next) ≡ accepted_from k round.tag answer
   unfolding heard_from accepted_from
-  accepted_on =
+  accepted_on accepts =
       let after : Dialogue = record (restored k) { requester = heard_from k tag answer; responder = behind; round = Some (answered round) } in
-      taken_same (restored k) after ∙ answer_accepts (restored k) after (hears k.setup (restored k).requester false tag answer no_values no_draw) refl
+      taken_same (restored k) after ∙ accepts (restored k) after (hears k.setup (restored k).requester false tag answer no_values no_draw) refl
       ∙ ap (λ (n : ℕ). accepted_from k n answer) (sym one)
 
   same_tag : (n : ℕ) → not (n == n) ≡ false
@@ -42,15 +40,7 @@ module _ (k : Kept) (behind : History) (tag : ℕ) (round : Round) (answer : Lis
       ap (λ (x : Option Round). cond (is_new x (answered round)) (session_in (outstanding sent)) None) is
       ∙ ap (λ (b : Bool). cond b (session_in (outstanding sent)) None) (same_tag round.tag)
 
--- It is a step by which a change is taken.
-pub step_on : (w : Configuration) (q : ReqSetup) (older : List (List ℕ)) (k : Kept) (fetching : Option (List ℕ)) (g : Gathered) (d : Dialogue) → Walks w q older (record (restored k) { fetching = fetching })
+-- Each answer is a step by which a change is taken, by what is kept.
+abbrev pub StepsOn : Type 0
+StepsOn = (w : Configuration) (q : ReqSetup) (older : List (List ℕ)) (k : Kept) (fetching : Option (List ℕ)) (g : Gathered) (d : Dialogue) → Walks w q older (record (restored k) { fetching = fetching })
     → RepliesBy w (record (restored k) { fetching = fetching }) g d → IsStep (restored k) (restored (kept_of d))
-step_on w q older k fetching g d walk replies =
-    let before : Dialogue = record (restored k) { fetching = fetching } in
-    let moved : IsMoved before d = replies_moved w before g d (walks_held w q older before walk) replies in
-    record {
-      setup = sym (answer_turned w before g d replies).setup;
-      live = moved.begins.live;
-      few = moved.begins.few;
-      accepted = λ id takes. moved.accepts id (sym (taken_same (restored k) d) ∙ takes);
-    }

@@ -1,5 +1,6 @@
 -- The bytes so far, those of one more chunk, and zeros up to the told length.
-use Rattle.std.proofs.Common.{◌≡◌, ◌≤◌, ◌+◌, ◌-◌, ◌==◌, ◌++◌, ◌↔◌, ℕ, zero, suc, List, refl, sym, ap, ◌∙◌, subst, take, length, arith, Bool, true, false, Option, Some, None, cond, length-append, length-replicate}
+use Rattle.std.proofs.Common.{◌≡◌, ◌≤◌, ◌+◌, ◌-◌, ◌==◌, ◌++◌, ◌↔◌, ℕ, zero, suc, List, refl, sym, ap, ◌∙◌, subst, take, length, arith, Bool, true, false, Option, Some, None, cond, length-append}
+use Rattle.std.proofs.lemmas.List.{length-replicate}
 use Rattle.std.proofs.Math.Seq.{take-append_seam}
 use Rattle.std.specs.Prelude.{unwrap_or}
 use Rattle.std.proofs.lemmas.Bool.{ne_eqb}

@@ -61,16 +61,16 @@ module _ (r : RspSetup) (s : Events) (m : List ℕ) (f : Free) where
 
   asked_other : (asked : RequestMessage) → let answer = canonical_response (answer_of r p m f asked) in IsOther (asked_turn asked answer (goes_large p answer))
   asked_other (ChunkGet handle number) = λ none. absurd (false≢true (sym none))
-  asked_other GetVersion = other_reply GetVersion _ _ refl
-  asked_other (GetCapabilities caps) = other_reply (GetCapabilities caps) _ _ refl
-  asked_other (NegotiateAlgorithms offer) = other_reply (NegotiateAlgorithms offer) _ _ refl
-  asked_other (GetMeasurements op) = other_reply (GetMeasurements op) _ _ refl
-  asked_other (PskExchange x) = other_reply (PskExchange x) _ _ refl
-  asked_other (PskFinish verify) = other_reply (PskFinish verify) _ _ refl
-  asked_other Heartbeat = other_reply Heartbeat _ _ refl
-  asked_other (KeyUpdate op tag) = other_reply (KeyUpdate op tag) _ _ refl
-  asked_other EndSession = other_reply EndSession _ _ refl
-  asked_other (ChunkSend chunk) = other_reply (ChunkSend chunk) _ _ refl
+  asked_other GetVersion = other_reply GetVersion (canonical_response (answer_of r p m f GetVersion)) (goes_large p (canonical_response (answer_of r p m f GetVersion))) refl
+  asked_other (GetCapabilities caps) = other_reply (GetCapabilities caps) (canonical_response (answer_of r p m f (GetCapabilities caps))) (goes_large p (canonical_response (answer_of r p m f (GetCapabilities caps)))) refl
+  asked_other (NegotiateAlgorithms offer) = other_reply (NegotiateAlgorithms offer) (canonical_response (answer_of r p m f (NegotiateAlgorithms offer))) (goes_large p (canonical_response (answer_of r p m f (NegotiateAlgorithms offer)))) refl
+  asked_other (GetMeasurements op) = other_reply (GetMeasurements op) (canonical_response (answer_of r p m f (GetMeasurements op))) (goes_large p (canonical_response (answer_of r p m f (GetMeasurements op)))) refl
+  asked_other (PskExchange x) = other_reply (PskExchange x) (canonical_response (answer_of r p m f (PskExchange x))) (goes_large p (canonical_response (answer_of r p m f (PskExchange x)))) refl
+  asked_other (PskFinish verify) = other_reply (PskFinish verify) (canonical_response (answer_of r p m f (PskFinish verify))) (goes_large p (canonical_response (answer_of r p m f (PskFinish verify)))) refl
+  asked_other Heartbeat = other_reply Heartbeat (canonical_response (answer_of r p m f Heartbeat)) (goes_large p (canonical_response (answer_of r p m f Heartbeat))) refl
+  asked_other (KeyUpdate op tag) = other_reply (KeyUpdate op tag) (canonical_response (answer_of r p m f (KeyUpdate op tag))) (goes_large p (canonical_response (answer_of r p m f (KeyUpdate op tag)))) refl
+  asked_other EndSession = other_reply EndSession (canonical_response (answer_of r p m f EndSession)) (goes_large p (canonical_response (answer_of r p m f EndSession))) refl
+  asked_other (ChunkSend chunk) = other_reply (ChunkSend chunk) (canonical_response (answer_of r p m f (ChunkSend chunk))) (goes_large p (canonical_response (answer_of r p m f (ChunkSend chunk)))) refl
 
   by_parts : (o : Option ErrorCode) (c : Option ChunkMessage) → refusal r p m f ≡ o → chunk_in (request_at p m) ≡ c → IsOther (turn_by r p m f o c)
   unfolding answer_bytes

@@ -7,7 +7,7 @@ use Rattle.capture_ends.proofs.FewMessages.{after_more, kept_messages}
 use Rattle.capture_ends.proofs.InTurn.{AnswersInTurn}
 use Rattle.capture_ends.specs.AnswerKeys.{StandFor, will_take}
 use Rattle.capture_ends.specs.declared.answer_keys.AnswerKeys.{AnswerKeys}
-use Rattle.capture_laws.proofs.ChangesMade.{whole_answer_changes}
+use Rattle.capture_laws.specs.ChangeLaws.{AnswerAccepts, WholeAnswerChanges}
 use Rattle.capture_laws.specs.Changes.{IsChange, views_in}
 use Rattle.capture_laws.specs.DropsShown.{IsShownAnswer}
 use Rattle.capture_laws.specs.Keeping.{restored}
@@ -79,13 +79,13 @@ module _ (w : Configuration) (q : ReqSetup) (older : List (List ℕ)) (f : Fetch
 
   -- ---- The table.
 
-  pub change_next : (change : Change) → change.begun ≡ None → change.accepted ≡ accepted_from f.kept turn.round.tag answer
+  pub change_next : AnswerAccepts → WholeAnswerChanges → (change : Change) → change.begun ≡ None → change.accepted ≡ accepted_from f.kept turn.round.tag answer
       → change.answered ≡ taken_shown given turn.round.body answer → change.asked ≡ None → change.views ≡ views_in (added ∷ given) → IsChange change (restored f.kept) (restored kept_next.kept)
-  change_next change begun accepted answered asked views =
-      let whole = whole_answer_changes (restored f.kept) (restored kept_next.kept) [] (Adds added) refl in record {
+  change_next accepts law change begun accepted answered asked views =
+      let whole = law (restored f.kept) (restored kept_next.kept) [] (Adds added) refl in record {
         begun = begun ∙ sym whole.0;
-        accepted = accepted ∙ sym (accepted_on f.kept (added ∷ h) route.tag turn.round answer turn.answers.0 turn.answers.1);
-        answered = answered ∙ taken_is _ given turn.round.tag turn.round.body answer type will sealed ∙ sym whole.1;
+        accepted = accepted ∙ sym (accepted_on f.kept (added ∷ h) route.tag turn.round answer turn.answers.0 turn.answers.1 accepts);
+        answered = answered ∙ taken_is (responder_for w f.kept) given turn.round.tag turn.round.body answer type will sealed ∙ sym whole.1;
         asked = asked ∙ sym (asked_on f.kept (added ∷ h) route.tag turn.round answer turn.answers.0 turn.answers.1);
         views = views ∙ ap views_in (sym behind) ∙ views_alike id v (added ∷ h) none_next;
       }

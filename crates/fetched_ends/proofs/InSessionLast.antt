@@ -12,9 +12,8 @@ use Rattle.capture_ends.specs.Asker.{Carries, IsAsker}
 use Rattle.capture_ends.specs.ClearAnswers.{EndsLarge}
 use Rattle.capture_ends.specs.HeardKept.{asks_upon, heard_kept}
 use Rattle.capture_ends.specs.declared.party.Party.{Party}
-use Rattle.capture_laws.proofs.LastChunks.{last_chunk_changes}
 use Rattle.capture_laws.specs.AnswersShown.{values_shown_by}
-use Rattle.capture_laws.specs.ChangeLaws.{answered_by, begun_by, begun_by_large}
+use Rattle.capture_laws.specs.ChangeLaws.{AnswerAccepts, LastChunkChanges, answered_by, begun_by, begun_by_large}
 use Rattle.capture_laws.specs.Changes.{IsChange, IsStep, answered_between, begun_between, views_in}
 use Rattle.capture_laws.specs.Keeping.{Kept, kept_of, restored}
 use Rattle.capture_laws.specs.KeptChanges.{accepted_from, taken_shown}
@@ -43,7 +42,7 @@ use Rattle.world_machine.specs.LargeAnswers.{begun_with, dropped_before_large, i
 use Rattle.world_machine.specs.Rounds.{Dialogue, Round}
 use Rattle.world_machine.specs.SessionTable.{Row, number_from}
 use Rattle.world_machine.specs.Setup.{Configuration}
-use Rattle.fetched_ends.proofs.ChangesOn.{accepted_on, asked_on, step_on}
+use Rattle.fetched_ends.proofs.ChangesOn.{StepsOn, accepted_on, asked_on}
 use Rattle.fetched_ends.proofs.HeardOn.{IsHeardOn, heard_on}
 use Rattle.fetched_ends.proofs.InSessionRecord.{place_is}
 use Rattle.fetched_ends.proofs.RecordTaken.{body_adds, entry_at, taken_is}
@@ -129,8 +128,8 @@ module _ (w : Configuration) (q : ReqSetup) (older : List (List ℕ)) (rows : Li
   abbrev round : Round
   round = turn.round
 
-  stand : MayStand f whole
-  stand = subst (MayStand f) read.whole read.kept.stands
+  abbrev pub stand : MayStand f whole
+  stand = subst (MayStand f) read.same read.kept.stands
 
   place : place_named round.body ≡ Some fetched.id
   place = place_is w q older f route answer byte limits own turn fetched.id read.kept.at read.record_is whole stand
@@ -187,14 +186,14 @@ module _ (w : Configuration) (q : ReqSetup) (older : List (List ℕ)) (rows : Li
       pub ends_fetching : EndsFetching w f (Whole route answer) last_kept
       ends_fetching = (whole, behind, stand, replies, ap (λ (b : Bool). cond b None None) awaits_none, sym heard.kept)
 
-      pub step_last : IsStep (restored k) (restored last_kept)
-      step_last = subst (λ (x : Kept). IsStep (restored k) (restored x)) heard.kept (step_on w q older k (Some whole) (Whole route answer) behind (own.all whole stand) replies)
+      pub step_last : StepsOn → IsStep (restored k) (restored last_kept)
+      step_last steps = subst (λ (x : Kept). IsStep (restored k) (restored x)) heard.kept (steps w q older k (Some whole) (Whole route answer) behind (own.all whole stand) replies)
 
       -- ---- The table.
 
-      changes : (begun_between (restored k) (restored last_kept) ≡ None) × (answered_between (restored k) (restored last_kept) ≡ answered_by (Adds last_entry))
-      changes =
-          let law = last_chunk_changes w q older (dialogue_of f whole) (restored last_kept) round answer (own.all whole stand) turn.answers.0 completes in
+      changes : LastChunkChanges → (begun_between (restored k) (restored last_kept) ≡ None) × (answered_between (restored k) (restored last_kept) ≡ answered_by (Adds last_entry))
+      changes chunks =
+          let law = chunks w q older (dialogue_of f whole) (restored last_kept) round answer (own.all whole stand) turn.answers.0 completes in
           let same : completes.0 ≡ whole = sym (same_Some whole completes.0 completes.3) in
           let first : completes.2 ≡ last_entry = sym (ap (λ (l : History). first_of l last_entry) completes.8) in
           (law.0 ∙ ap (λ (o : Option ℕ). begun_by_large o completes.0 h) place ∙ begins_none fetched.id completes.0 h, law.1 ∙ ap (λ (x : Entry). answered_by (Adds x)) first)
@@ -203,12 +202,12 @@ module _ (w : Configuration) (q : ReqSetup) (older : List (List ℕ)) (rows : Li
           first_of [] x = x
           first_of (y ∷ l) x = y
 
-      pub change_last : (change : Change) → change.begun ≡ None → change.accepted ≡ accepted_from f.kept turn.round.tag answer
+      pub change_last : AnswerAccepts → LastChunkChanges → (change : Change) → change.begun ≡ None → change.accepted ≡ accepted_from f.kept turn.round.tag answer
           → change.answered ≡ taken_shown g turn.round.body answer → change.asked ≡ None → change.views ≡ views_in (last_entry ∷ g) → IsChange change (restored f.kept) (restored last_kept)
-      change_last change begun accepted answered_is asked views = record {
-        begun = begun ∙ sym changes.0;
-        accepted = accepted ∙ sym (accepted_on f.kept (last_entry ∷ g) route.tag turn.round answer turn.answers.0 turn.answers.1);
-        answered = answered_is ∙ taken_is r g turn.round.tag turn.round.body answer read.record_is read.read.taken read.sealed ∙ sym changes.1;
+      change_last accepts chunks change begun accepted answered_is asked views = record {
+        begun = begun ∙ sym (changes chunks).0;
+        accepted = accepted ∙ sym (accepted_on f.kept (last_entry ∷ g) route.tag turn.round answer turn.answers.0 turn.answers.1 accepts);
+        answered = answered_is ∙ taken_is r g turn.round.tag turn.round.body answer read.record_is read.read.taken read.sealed ∙ sym (changes chunks).1;
         asked = asked ∙ sym (asked_on f.kept (last_entry ∷ g) route.tag turn.round answer turn.answers.0 turn.answers.1);
         views = views;
       }

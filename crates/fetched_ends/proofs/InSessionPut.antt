@@ -20,7 +20,7 @@ use Rattle.responder_machine.specs.History.{History}
 use Rattle.responder_machine.specs.May.{place_for}
 use Rattle.responder_machine.specs.Place.{Place, Where, place_terms, session_place}
 use Rattle.responder_machine.specs.Place.Where.{InClear, InChunks, InSession}
-use Rattle.responder_machine.specs.Refusal.{bytes_round, has_pending}
+use Rattle.responder_machine.specs.Refusal.{bytes_round, has_pending, sizes_are_known}
 use Rattle.responder_machine.specs.Session.{Events, id_in_record, session_of, session_terms}
 use Rattle.spdm_machine.specs.Terms.{terms_of}
 use Rattle.transcript.specs.Transcripts.{Negotiation}
@@ -44,7 +44,7 @@ few_round InSession = omega arith
 -- A length that goes by chunks is longer than what the requester takes at once.
 pub long_enough : (p : Place) (v : List ℕ) (size : ℕ) → size ≡ (place_terms p).common.to_requester.transfer → IsLargeAnswer p v → size < length v + 16
 long_enough p v size is large =
-    let less : nat_lt (place_terms p).common.to_requester.transfer (bytes_round p.at + length v) ≡ true = and_second _ _ large.0 in
+    let less : nat_lt (place_terms p).common.to_requester.transfer (bytes_round p.at + length v) ≡ true = and_second (sizes_are_known p.phase) (nat_lt (place_terms p).common.to_requester.transfer (bytes_round p.at + length v)) large.0 in
     let few = few_round p.at in grind (arith, nat_tests, is, few, less)
 
 module _ (w : Configuration) (q : ReqSetup) (older : List (List ℕ)) (f : Fetching) (route : RouteFields) (answer : List ℕ) (byte : w.responder.beat < 256) (limits : IsSetUp f.kept.setup) (own : IsFetchingOf w q older f) (turn : AnswersInTurn f.kept route answer)

@@ -23,7 +23,7 @@ use Rattle.large_answers.proofs.GoesWith.{told_whole}
 use Rattle.large_answers.proofs.PlainLaws.{Now, now}
 use Rattle.large_answers.proofs.PlainLaws.Now.{Version, Chunk}
 use Rattle.large_answers.proofs.Stood.{Came, came}
-use Rattle.large_answers.proofs.Stood.Came as chunks
+use Rattle.large_answers.proofs.Stood.Came.{Other, Chunk as Gives}
 use Rattle.large_answers.specs.Fetching.{Fetching, IsFetchingOf, MayStand, answer_by, bytes_given, dialogue_of, number_given, size_told}
 use Rattle.large_answers.specs.FetchingLaws.{GoesFetching}
 use Rattle.large_answers.specs.FetchingShown.{ShowsChunk}
@@ -175,8 +175,8 @@ module _ (w : Configuration) (q : ReqSetup) (older : List (List ℕ)) (f : Fetch
         gave = by_came (came r h v round.tag round.body e (fetch_is v stand) (subst (λ (l : History). MayLeadTo r l round.tag round.body (Adds e)) (sym judged) leads))
           where
             by_came : Came r h v round.tag round.body e → Gave (place_named round.body) h v (place_for (with_large (place_named round.body) v h) round.body) e
-            by_came (chunks.Other none stays) = absurd (false≢true (sym none ∙ gets))
-            by_came (chunks.Chunk takes g) = g
+            by_came (Other none stays) = absurd (false≢true (sym none ∙ gets))
+            by_came (Gives takes g) = g
 
         abbrev p : Place
         p = place_for (with_large (place_named round.body) v h) round.body

@@ -44,7 +44,7 @@ use Rattle.world_machine.specs.LargeAnswers.{asks_known, is_fetching, is_unseen_
 use Rattle.world_machine.specs.Rounds.{Dialogue, Round}
 use Rattle.world_machine.specs.SessionTable.{Row, number_from}
 use Rattle.world_machine.specs.Setup.{Configuration}
-use Rattle.fetched_ends.proofs.ChangesOn.{step_on}
+use Rattle.fetched_ends.proofs.ChangesOn.{StepsOn}
 use Rattle.fetched_ends.proofs.Filled.{stands_next}
 use Rattle.fetched_ends.proofs.HeardOn.{heard_on}
 use Rattle.fetched_ends.proofs.InSessionGone.{keys_next, pending_next, sizes_next}
@@ -71,6 +71,10 @@ pub few_large : (at : Option ℕ) (v : List ℕ) (h : History) → messages_of (
 few_large at v [] = refl
 few_large at v (e ∷ h) = few_by at v e h (is_unseen_in at e) (few_large at v h)
 
+abbrev first_of : History → Entry → Entry
+first_of [] x = x
+first_of (y ∷ l) x = y
+
 module _ (w : Configuration) (q : ReqSetup) (older : List (List ℕ)) (rows : List Row) (f : Fetching) (route : RouteFields) (answer : List ℕ) (byte : w.responder.beat < 256) (limits : IsSetUp f.kept.setup) (own : IsFetchingOf w q older f) (turn : AnswersInTurn f.kept route answer)
     (party : Party) (fetched : InSession) (message whole : List ℕ) (read : IsReadIn party fetched w q f rows turn.round.body answer message whole) where
   abbrev k : Kept
@@ -82,8 +86,8 @@ module _ (w : Configuration) (q : ReqSetup) (older : List (List ℕ)) (rows : Li
   abbrev g : History
   g = with_large (Some fetched.id) whole f.kept.responder
 
-  stand : MayStand f whole
-  stand = subst (MayStand f) read.whole read.kept.stands
+  abbrev pub stand : MayStand f whole
+  stand = subst (MayStand f) read.same read.kept.stands
 
   pub carries : Carries w q older k
   carries = (Some whole, own.all whole stand, own.kept)
@@ -92,7 +96,7 @@ module _ (w : Configuration) (q : ReqSetup) (older : List (List ℕ)) (rows : Li
   few less = (let one = kept_messages w q older k carries in let same = few_large (Some fetched.id) whole f.kept.responder in omega (arith, one, same, less))
 
   pub judges : IsAnswerer party.answerer r g
-  judges = subst (λ (l : List ℕ). IsAnswerer party.answerer r (with_large (Some fetched.id) l f.kept.responder)) read.whole read.kept.judges
+  judges = subst (λ (l : List ℕ). IsAnswerer party.answerer r (with_large (Some fetched.id) l f.kept.responder)) read.same read.kept.judges
 
   -- What the calls leave.
   pub record AreBehind (new : Party) (newly : InSession) (table : List Seen) (next : Fetching) (entry : Entry) : Type 0 where
@@ -102,7 +106,7 @@ module _ (w : Configuration) (q : ReqSetup) (older : List (List ℕ)) (rows : Li
     pub number : new.number ≡ number_from 1 q.eid w.requesters
     pub places : rows_of.StandFor new.places (restored next.kept) (rows_upon f.kept next.kept rows)
     pub stands : StandsForRows table w (length older + 1) (rows_upon f.kept next.kept rows)
-    pub answer : StandsFor newly.answer next
+    pub came : StandsFor newly.answer next
     pub id : newly.id ≡ fetched.id
     pub least : newly.least ≡ fetched.least
     pub most : newly.most ≡ fetched.most
@@ -119,7 +123,7 @@ module _ (w : Configuration) (q : ReqSetup) (older : List (List ℕ)) (rows : Li
 
   fills : whole ≡ filled (number_of f) (size_of f) (bytes_of f) message
   fills =
-      read.filled ∙ ap (λ (n : ℕ). filled n fetched.answer.size fetched.answer.bytes message) number_is
+      read.fills ∙ ap (λ (n : ℕ). filled n fetched.answer.size fetched.answer.bytes message) number_is
       ∙ ap (λ (o : Option ℕ). filled (number_of f) o fetched.answer.bytes message) sized ∙ ap (λ (l : List ℕ). filled (number_of f) (size_of f) l message) bytes_is
 
   size_is : size_with fetched.answer.number fetched.answer.size message ≡ size_with (number_of f) (size_of f) message
@@ -144,13 +148,14 @@ module _ (w : Configuration) (q : ReqSetup) (older : List (List ℕ)) (rows : Li
     then_kept = next w q older f route answer byte limits own turn fetched.id at read.record_is whole stand will read.sealed shown
 
     gets_it : takes_get added ≡ true
-    gets_it = gets w q older f route answer byte limits own turn fetched.id at read.record_is whole stand will read.sealed shown read.text message read.holds.0 read.read.brief read.read.text read.holds.1 read.chunk
+    gets_it = gets w q older f route answer byte limits own turn fetched.id at read.record_is whole stand will read.sealed shown read.text message read.holds.0 read.read.brief read.read.holds read.holds.1 read.chunk
 
     pub shows : ShowsChunk f then_kept answer
-    shows = shows_chunk w q older f route answer byte limits own turn fetched.id at read.record_is whole stand will read.sealed shown read.text message read.holds.0 read.read.brief read.read.text read.holds.1 read.chunk
+    shows = shows_chunk w q older f route answer byte limits own turn fetched.id at read.record_is whole stand will read.sealed shown read.text message read.holds.0 read.read.brief read.read.holds read.holds.1 read.chunk
 
     pub its_message : answer_by shows.entry ≡ message
-    its_message = message_is w q older f route answer byte limits own turn fetched.id at read.record_is whole stand will read.sealed shown read.text message read.holds.0 read.read.brief read.read.text read.holds.1 read.chunk
+    its_message =
+        ap (λ (l : History). answer_by (first_of l added)) (sym shows.behind) ∙ message_is w q older f route answer byte limits own turn fetched.id at read.record_is whole stand will read.sealed shown read.text message read.holds.0 read.read.brief read.read.holds read.holds.1 read.chunk
 
     stands_then : MayStand then_kept whole
     stands_then =
@@ -169,10 +174,10 @@ module _ (w : Configuration) (q : ReqSetup) (older : List (List ℕ)) (rows : Li
     behind = behind_is w q older f route answer byte limits own turn fetched.id at read.record_is whole stand will read.sealed shown
 
     pending_before : has_pending (session_place (session_with fetched.id f.kept.responder whole)) ≡ true
-    pending_before = subst (λ (l : List ℕ). has_pending (session_place (session_with fetched.id f.kept.responder l)) ≡ true) read.whole read.kept.pending
+    pending_before = subst (λ (l : List ℕ). has_pending (session_place (session_with fetched.id f.kept.responder l)) ≡ true) read.same read.kept.pending
 
     sizes_before : (session_terms (session_with fetched.id f.kept.responder whole)).common ≡ (place_terms f.place).common
-    sizes_before = subst (λ (l : List ℕ). (session_terms (session_with fetched.id f.kept.responder l)).common ≡ (place_terms f.place).common) read.whole read.kept.sizes
+    sizes_before = subst (λ (l : List ℕ). (session_terms (session_with fetched.id f.kept.responder l)).common ≡ (place_terms f.place).common) read.same read.kept.sizes
 
     kept_then : (new : Party) (newly : InSession) (table : List Seen) → AreBehind new newly table then_kept added → IsFetchedIn new newly w q then_kept (rows_upon f.kept then_kept.kept rows)
     kept_then new newly table are = record {
@@ -183,7 +188,7 @@ module _ (w : Configuration) (q : ReqSetup) (older : List (List ℕ)) (rows : Li
         places = are.places;
       };
       at = at ∙ ap Some (sym are.id);
-      answer = are.answer;
+      answer = are.came;
       lengths = subst (λ (n : ℕ). AreLengths f.place n newly.most) (sym are.least) (subst (AreLengths f.place fetched.least) (sym are.most) read.kept.lengths);
       asks = subst (λ (n : ℕ). AsksFor r n f.place newly.op (added ∷ f.kept.responder)) (sym are.id) (subst (λ (n : ℕ). AsksFor r fetched.id f.place n (added ∷ f.kept.responder)) (sym are.op) asks_then);
       whole = whole;
@@ -201,9 +206,9 @@ module _ (w : Configuration) (q : ReqSetup) (older : List (List ℕ)) (rows : Li
         (then_kept, goes w q older f route answer byte limits own turn fetched.id at read.record_is whole stand will read.sealed shown asks, kept_then new newly table are, are.stands)
 
     -- The step by which the table is told of it.
-    pub step_then : asks_upon k route.tag answer ≡ true → IsStep (restored k) (restored then_kept.kept)
+    pub step_then : StepsOn → asks_upon k route.tag answer ≡ true → IsStep (restored k) (restored then_kept.kept)
     unfolding Answers
-    step_then asks =
+    step_then steps asks =
         let behind_it : History = added ∷ f.kept.responder in
         let heard = heard_on w q older k limits carries route.tag turn.round answer turn.answers.0 turn.answers.1 (Some whole) behind_it in
         let awaits : is_fetching (outstanding heard.history) ≡ true = heard.asks ∙ asks in
@@ -212,4 +217,4 @@ module _ (w : Configuration) (q : ReqSetup) (older : List (List ℕ)) (rows : Li
         let plain = plainly w q older f route answer byte limits own turn fetched.id at read.record_is whole stand will read.sealed shown in
         let replies : RepliesBy w d (Whole route answer) after_it =
         (turn.body, turn.owner, (turn.round, turn.answers.0, turn.answers.1, turn.answers.2, (behind_it, Some whole, inl (plain, refl), (heard.history, heard.hears, refl, ap (λ (b : Bool). not b || true) awaits)))) in
-        subst (λ (x : Kept). IsStep (restored k) (restored x)) heard.kept (step_on w q older k (Some whole) (Whole route answer) after_it (own.all whole stand) replies)
+        subst (λ (x : Kept). IsStep (restored k) (restored x)) heard.kept (steps w q older k (Some whole) (Whole route answer) after_it (own.all whole stand) replies)

@@ -14,5 +14,5 @@ pub mod InSessionRecord
 pub mod InSessionPut
 pub mod InSessionGone
 pub mod InSessionTold
-pub mod BegunIn
+pub mod BeginsThere
 pub mod InSessionLast

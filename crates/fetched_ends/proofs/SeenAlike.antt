@@ -87,7 +87,7 @@ response_epoch_alike _ _ (Behind (Heard sealed t reply) s u a) = ap (λ (n : ℕ
 response_epoch_alike _ _ (Behind (Waited n) s u a) = response_epoch_alike s u a
 response_epoch_alike _ _ (Here sealed t x m large other w v reply s u not a) = ap (λ (n : ℕ). cond (updates 2 (answered t x m large w)) (n + 1) n) (response_epoch_alike s u a)
 
-number_alike : (s u : Events) → SeenAlike s u → request_next s ≡ request_next u
+pub number_alike : (s u : Events) → SeenAlike s u → request_next s ≡ request_next u
 number_alike _ _ NoEvent = refl
 number_alike _ _ (Behind (Began n x y) s u a) = number_alike s u a
 number_alike _ _ (Behind (Heard sealed t reply) s u a) = ap (λ (n : ℕ). cond (takes PSK_FINISH t || updates 1 t || updates 2 t) 0 (n + 1)) (number_alike s u a)

@@ -44,8 +44,7 @@ abbrev pub IsUnjudged : Configuration → Fetching → (answer : List ℕ) → T
 IsUnjudged w f answer =
     ((round : Round) × (whole : List ℕ) × (f.kept.round ≡ Some round) × MayStand f whole
     × IsShownLarge (responder_for w f.kept) (judging (Some whole) round.body f.kept.responder) round.tag round.body answer)
-    ⊎ (((f.at ≡ None) × (slice_index answer 0 ≡ 6) × (id_in_record (drop 1 answer) ≡ 0))
-    ⊎ ((id : ℕ) × (f.at ≡ Some id)))
+    ⊎ ((f.at ≡ None) × (slice_index answer 0 ≡ 6) × (id_in_record (drop 1 answer) ≡ 0))
 
 -- It goes on, and then this stands for what is kept behind it, and so does the table; or it is not judged; or it is
 -- refused, and then why.

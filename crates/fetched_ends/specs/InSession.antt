@@ -37,7 +37,7 @@ is_chunk message = slice_index message 1 == CHUNK_RESPONSE
 -- A record that the session takes, and this is what an answer to it holds.
 pub record IsTextOf (r : RspSetup) (h : History) (body answer text : List ℕ) : Type 0 where
   pub taken : will_take r h body ≡ true
-  pub text : text ≡ (let s = session_of (id_in_record (drop 1 body)) h in answered_text r s (turn_in r s (drop 1 body)) (drop 1 answer))
+  pub holds : text ≡ (let s = session_of (id_in_record (drop 1 body)) h in answered_text r s (turn_in r s (drop 1 body)) (drop 1 answer))
   pub brief : length text < 65536
 
 -- ---- The bytes.
@@ -106,7 +106,7 @@ pub record IsFetchedIn (party : Party) (fetched : InSession) (w : Configuration)
 -- judges with them.
 pub record IsReadIn (party : Party) (fetched : InSession) (w : Configuration) (q : ReqSetup) (f : Fetching) (rows : List Row) (body answer message whole : List ℕ) : Type 0 where
   pub kept : IsFetchedIn party fetched w q f rows
-  pub whole : kept.whole ≡ whole
+  pub same : kept.whole ≡ whole
   pub record_is : (slice_index body 0 == 5) ≡ false
   pub sealed : (slice_index answer 0 == 5) ≡ false
   pub text : List ℕ
@@ -114,4 +114,4 @@ pub record IsReadIn (party : Party) (fetched : InSession) (w : Configuration) (q
   pub holds : Holds text message
   pub chunk : is_chunk message ≡ true
   pub fits : AreFitting fetched message
-  pub filled : whole ≡ filled fetched.answer.number fetched.answer.size fetched.answer.bytes message
+  pub fills : whole ≡ filled fetched.answer.number fetched.answer.size fetched.answer.bytes message

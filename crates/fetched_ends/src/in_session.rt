@@ -70,7 +70,7 @@ fn size_with(number: u16, told: Option<usize>, message: &[u8]) -> usize
 }
 
 impl InSession {
-    ghost use Rattle.std.specs.Prelude.{◌≡◌, MatchOption, ⊥};
+    ghost use Rattle.std.specs.Prelude.{◌≡◌, MatchOption};
     ghost use Rattle.fetched_ends.specs.InSession.{AreFitting, filled};
 
     /// The bytes so far, those of the CHUNK_RESPONSE that comes next, and zeros up to the told length; none
