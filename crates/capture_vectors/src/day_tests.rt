@@ -183,7 +183,7 @@ fn hears(rt: &(impl Abort + AllocGlobal), asker: &mut Asker, round: &Step) -> Re
         accepted,
         fetches: false,
     };
-    assert_eq!(rt; asker.hears(round.0, &answer), heard);
+    assert_eq!(rt; asker.hears(round.0, &answer, false), heard);
     Ok(())
 }
 
