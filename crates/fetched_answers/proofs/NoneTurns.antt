@@ -79,7 +79,7 @@ none_turns_in_clear w q older f next round route answer room own at type other t
     same = same_Some turns.2.0 round (sym turns.2.1.0 ∙ at)
 
     rounds : IsClearRound r d.responder whole round
-    rounds = get_is_next w q older d whole round room (own.all whole turns.2.2.3) refl at type
+    rounds = get_is_next w q older d whole round (own.all whole turns.2.2.3) refl at type
 
     typed : round.body ≡ clear_body (drop 1 round.body)
     typed = sym (clear_again round.body (eqb-true (slice_index round.body 0) 5 type))
