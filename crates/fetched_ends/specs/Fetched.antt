@@ -1,23 +1,33 @@
 -- What is told of an answer to a requester while a large one is fetched. This project's own.
-use Rattle.std.specs.Prelude.{◌≡◌, ◌+◌, ◌⊎◌, ℕ, List, drop, length, slice_index, Some, None, Result, Ok, Err}
+use Rattle.std.specs.Prelude.{◌≡◌, ◌+◌, ◌⊎◌, ℕ, List, drop, length, slice_index, nat_lt, false, IsSome, Some, None, Result, Ok, Err}
 use Rattle.mctp_framing.specs.Cutting.{RouteFields}
 use Rattle.mctp_framing.specs.Gathering.{Gathered}
 use Rattle.mctp_framing.specs.Gathering.Gathered.{Whole}
 use Rattle.requester_machine.specs.Setup.{ReqSetup}
+use Rattle.responder_machine.specs.History.{History}
+use Rattle.responder_machine.specs.Place.{place_terms}
 use Rattle.responder_machine.specs.Session.{id_in_record}
 use Rattle.script_text.specs.declared.why.Why as declared
+use Rattle.capture_ends.specs.HeardKept.{asks_upon}
 use Rattle.capture_ends.specs.Party.{IsParty}
 use Rattle.capture_ends.specs.declared.party.Party.{Party}
 use Rattle.capture_laws.specs.Judged.{why_of}
 use Rattle.capture_laws.specs.Keeping.{Kept, restored}
+use Rattle.capture_laws.specs.KeptChanges.{accepted_from}
 use Rattle.capture_laws.specs.LargeShown.{IsShownLarge}
 use Rattle.capture_laws.specs.RepliesShown.{responder_for}
 use Rattle.capture_laws.specs.Rows.{StandsForRows}
 use Rattle.capture_laws.specs.declared.verdict.Seen.{Seen}
-use Rattle.large_answers.specs.Fetching.{Fetching, MayStand, dialogue_of}
+use Rattle.chunking.specs.Cutting.{chunk_count}
+use Rattle.fetched_answers.specs.ClearChunks.{clear_with, get_message, get_response}
+use Rattle.large_answers.specs.Fetching.{Fetching, MayStand, dialogue_of, number_of}
 use Rattle.large_answers.specs.FetchingLaws.{EndsFetching, GoesFetching, TurnsFetching}
 use Rattle.fetched_ends.specs.declared.upon.Upon.{Upon}
 use Rattle.fetched_ends.specs.declared.upon.Upon.TheVariants as upon
+use Rattle.spdm_grammar.specs.Message.RequestMessage.{GetVersion}
+use Rattle.spdm_grammar.specs.Requests.{canonical_request}
+use Rattle.spdm_machine.specs.Bodies.{clear_body}
+use Rattle.world_machine.specs.CapturedAnswers.{AnswersPlainly}
 use Rattle.world_machine.specs.Difference.{GoesApart, Why, goes_why}
 use Rattle.world_machine.specs.Difference.Why.{BadVerify}
 use Rattle.world_machine.specs.LargeAnswers.{judging}
@@ -38,13 +48,35 @@ IsFetchedWhy w f g why =
     ((whole : List ℕ) → MayStand f whole → GoesApart (responder_for w f.kept) (dialogue_of f whole) g → ⊥)
     × (goes_why (responder_for w f.kept) (restored f.kept) g ≡ Some why)
 
+-- While one is fetched in the clear, the request is GET_VERSION; or it is the last chunk of some bytes that may stand; or it may
+-- be given with some, and the requester asks for no chunk upon it, or takes it for PSK_EXCHANGE_RSP.
+abbrev pub IsLastInClear : Fetching → Round → (answer : List ℕ) → Type 0
+IsLastInClear f round answer =
+    (whole : List ℕ) × (handle : ℕ) × MayStand f whole
+    × (round.body ≡ clear_body (get_message handle (number_of f)))
+    × (answer ≡ clear_body (get_response f.kept.responder whole handle (number_of f)))
+    × (nat_lt (number_of f + 1) (chunk_count (place_terms (clear_with f.kept.responder whole)).common.to_requester.transfer whole) ≡ false)
+
+abbrev pub AsksNone : Kept → ℕ → (answer : List ℕ) → Type 0
+AsksNone k tag answer = (asks_upon k tag answer ≡ false) ⊎ IsSome (accepted_from k tag answer)
+
+abbrev pub IsAskedNone : Configuration → Fetching → Round → (answer : List ℕ) → Type 0
+IsAskedNone w f round answer =
+    AsksNone f.kept round.tag answer
+    × ((whole : List ℕ) × (h : History) × MayStand f whole × AnswersPlainly (responder_for w f.kept) (dialogue_of f whole) round answer h)
+
+abbrev pub IsEndInClear : Configuration → Fetching → Round → (answer : List ℕ) → Type 0
+IsEndInClear w f round answer =
+    (round.body ≡ clear_body (canonical_request GetVersion)) ⊎ (IsLastInClear f round answer ⊎ IsAskedNone w f round answer)
+
 -- It is not judged: it begins another large answer by what it shows; or a large answer is fetched in the clear, and it is a
--- record of the RspSessionID 0.
+-- record of the RspSessionID 0, or one of those.
 abbrev pub IsUnjudged : Configuration → Fetching → (answer : List ℕ) → Type 0
 IsUnjudged w f answer =
     ((round : Round) × (whole : List ℕ) × (f.kept.round ≡ Some round) × MayStand f whole
     × IsShownLarge (responder_for w f.kept) (judging (Some whole) round.body f.kept.responder) round.tag round.body answer)
-    ⊎ ((f.at ≡ None) × (slice_index answer 0 ≡ 6) × (id_in_record (drop 1 answer) ≡ 0))
+    ⊎ (((f.at ≡ None) × (slice_index answer 0 ≡ 6) × (id_in_record (drop 1 answer) ≡ 0))
+    ⊎ ((f.at ≡ None) × ((round : Round) × (f.kept.round ≡ Some round) × IsEndInClear w f round answer)))
 
 -- It goes on, and then this stands for what is kept behind it, and so does the table; or it is not judged; or it is
 -- refused, and then why.

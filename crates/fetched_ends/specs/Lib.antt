@@ -1,2 +1,3 @@
 pub mod Fetched
 pub mod InSession
+pub mod Held

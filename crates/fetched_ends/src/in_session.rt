@@ -8,7 +8,7 @@ use session_keys::byte_at;
 use spdm_basis::Frame;
 
 // The most bytes of an SPDM message.
-const MOST_BYTES: usize = 4096;
+pub(crate) const MOST_BYTES: usize = 4096;
 
 // As many zeros as a large answer may have.
 const ZEROS: [u8; 4096] = [0; 4096];
@@ -25,7 +25,7 @@ pub struct InSession {
 }
 
 // So many zeros.
-fn zeros(count: usize) -> &'static [u8]
+pub(crate) fn zeros(count: usize) -> &'static [u8]
     requires { count ≤ 4096 }
     ensures { result.now ≡ zeros count }
 {
@@ -50,7 +50,7 @@ fn bytes_from(message: &[u8], at: usize) -> &[u8]
 }
 
 // The bytes of a large answer in the CHUNK_RESPONSE of this number.
-fn bytes_in(number: u16, message: &[u8]) -> &[u8]
+pub(crate) fn bytes_in(number: u16, message: &[u8]) -> &[u8]
     ensures { result.now ≡ bytes_in number message.now }
 {
     if number == 0 {
@@ -60,7 +60,7 @@ fn bytes_in(number: u16, message: &[u8]) -> &[u8]
 }
 
 // The told length with the CHUNK_RESPONSE of this number.
-fn size_with(number: u16, told: Option<usize>, message: &[u8]) -> usize
+pub(crate) fn size_with(number: u16, told: Option<usize>, message: &[u8]) -> usize
     ensures { result ≡ size_with number told message.now }
 {
     if number == 0 {

@@ -4,8 +4,15 @@
 //! Read first: `IsRepliedTo` in `specs/Fetched.antt`.
 #![tactic(auto)]
 
+mod held;
+mod held_heard;
+mod held_replies;
 mod in_session;
+mod shown;
 mod upon;
 
+pub use held::Held;
+pub use held_replies::replies_held;
 pub use in_session::InSession;
+pub use shown::Shown;
 pub use upon::Upon;

@@ -1,0 +1,45 @@
+-- An answer with which a large one is fetched on in the clear: what the calls leave.
+use Rattle.std.proofs.Common.{◌≡◌, ◌∙◌, ◌<◌, ◌-◌, ◌^◌, ℕ, List, true, false, Option, Some, None, refl, sym, ap, length, arith, is_some}
+use Rattle.std.specs.Prelude.{IsSome}
+use Rattle.std.proofs.lemmas.Bool.{false≢true}
+use Rattle.capture_ends.proofs.FewMessages.{kept_messages}
+use Rattle.capture_ends.specs.Asker.{Carries}
+use Rattle.capture_ends.specs.declared.party.Party.{Party}
+use Rattle.capture_laws.specs.Changes.{views_in}
+use Rattle.capture_laws.specs.RepliesShown.{responder_for}
+use Rattle.fetched_answers.proofs.ClearViews.{views_are_left}
+use Rattle.fetched_ends.proofs.HeldWhy.{few_left}
+use Rattle.fetched_ends.specs.Held.{IsHeldIn}
+use Rattle.fetched_ends.specs.declared.held.Held.{Held}
+use Rattle.large_answers.specs.Fetching.{Fetching, IsFetchingOf}
+use Rattle.requester_machine.specs.Setup.{ReqSetup}
+use Rattle.responder_machine.specs.BoundLaws.{messages_of}
+use Rattle.responder_machine.specs.History.{Entry}
+use Rattle.responder_machine.specs.History.Entry.{Clear}
+use Rattle.world_machine.specs.Rounds.{no_draw}
+use Rattle.world_machine.specs.SessionTable.{Row}
+use Rattle.world_machine.specs.Setup.{Configuration}
+
+pub none_by : (o : Option ℕ) → is_some o ≡ false → o ≡ None
+none_by None is = refl
+none_by (Some x) is = absurd (false≢true (sym is))
+
+pub some_by : (o : Option ℕ) → is_some o ≡ true → IsSome o
+some_by o is = is
+
+module _ (w : Configuration) (q : ReqSetup) (older : List (List ℕ)) (rows : List Row) (f : Fetching) (own : IsFetchingOf w q older f) (party : Party) (held : Held) (kept : IsHeldIn party held w q f rows) where
+  pub carries : Carries w q older f.kept
+  carries = (Some own.stands.0, own.all own.stands.0 own.stands.1, own.kept)
+
+  pub few : length older < 2 ^ 64 - 2 → messages_of kept.before.left < 2 ^ 64 - 1
+  few less =
+      let all = kept_messages w q older f.kept carries in
+      let left = few_left party.answerer party.keys held (responder_for w f.kept) f.kept.responder kept.before in
+      omega (arith, all, left, less)
+
+  -- What is shown of the sessions is what was left.
+  pub views_here : views_in kept.before.left ≡ views_in f.kept.responder
+  views_here =
+      let b = kept.before in
+      let one : Entry = Clear held.tag b.turn no_draw in
+      sym (ap views_in b.behind ∙ views_are_left b.gets one b.before b.left b.are b.unseen b.left_is)
