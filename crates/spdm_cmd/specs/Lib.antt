@@ -3,4 +3,3 @@ pub mod OutcomeTable
 pub mod Going
 pub mod Answer
 pub mod Streams
-pub mod Checks
