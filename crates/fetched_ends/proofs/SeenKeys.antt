@@ -71,9 +71,10 @@ module _ (r : RspSetup) (which : ℕ) (w : List ℕ) (key : Option AnswerKey) wh
 
   behind : (e : Entry) (h : History) → UnseenStand h → Both (given h) h → Both (e ∷ given h) (e ∷ h)
   behind (Sealed tag m t reply d) h none both =
-      let a = seen_alike (id_in_record m) which w h none in
-      (by_end (takes END_SESSION t) (takes END_SESSION t) (session_of (id_in_record m) (given h)) (session_of (id_in_record m) h) t t (given h) h refl refl a both,
-      by_end (takes END_SESSION t) (takes END_SESSION t) (session_of (id_in_record m) h) (session_of (id_in_record m) (given h)) t t h (given h) refl refl (same_backwards _ _ a) (both.1, both.0))
+      let a = seen_alike (id_in_record m) which w h none in (
+        by_end (takes END_SESSION t) (takes END_SESSION t) (session_of (id_in_record m) (given h)) (session_of (id_in_record m) h) t t (given h) h refl refl a both,
+        by_end (takes END_SESSION t) (takes END_SESSION t) (session_of (id_in_record m) h) (session_of (id_in_record m) (given h)) t t h (given h) refl refl (same_backwards _ _ a) (both.1, both.0),
+      )
   behind (Clear tag t d) h none both = both
   behind (Queued bytes) h none both = both
   behind (Ticked seconds) h none both = both
@@ -82,9 +83,10 @@ module _ (r : RspSetup) (which : ℕ) (w : List ℕ) (key : Option AnswerKey) wh
   here : (e : Entry) (h : History) → UnseenStand h → Both (seen w e ∷ h) (e ∷ h)
   here (Sealed tag m t reply d) h none =
       let s : Events = session_of (id_in_record m) h in
-      let a : SeenAlike s s = events_same s in
-      (by_end (takes END_SESSION (seen_turn w t)) (takes END_SESSION t) s s (seen_turn w t) t h h (takes_with w (Some (handle_shown t)) END_SESSION t) (updates_with w t) a (same_both h),
-      by_end (takes END_SESSION t) (takes END_SESSION (seen_turn w t)) s s t (seen_turn w t) h h (sym (takes_with w (Some (handle_shown t)) END_SESSION t)) (sym (updates_with w t)) a (same_both h))
+      let a : SeenAlike s s = events_same s in (
+        by_end (takes END_SESSION (seen_turn w t)) (takes END_SESSION t) s s (seen_turn w t) t h h (takes_with w (Some (handle_shown t)) END_SESSION t) (updates_with w t) a (same_both h),
+        by_end (takes END_SESSION t) (takes END_SESSION (seen_turn w t)) s s t (seen_turn w t) h h (sym (takes_with w (Some (handle_shown t)) END_SESSION t)) (sym (updates_with w t)) a (same_both h),
+      )
     where
       events_same : (s : Events) → SeenAlike s s
       events_same [] = NoEvent
