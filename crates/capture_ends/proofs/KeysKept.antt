@@ -14,7 +14,7 @@ use Rattle.responder_machine.specs.Place.{clear_place}
 use Rattle.responder_machine.specs.Records.{opening_fault}
 use Rattle.responder_machine.specs.Responder.{Outcome, after, in_session, in_session_by, is_repeat, kept_record, kept_reply, on_clear, on_record, repeats, sealed_entry, to_session}
 use Rattle.responder_machine.specs.Responder.Outcome.{Same, Adds}
-use Rattle.responder_machine.specs.Session.{Event, Events, after_clear, after_record, id_in_record, is_live, last_of, session_of, stage_of, when_live}
+use Rattle.responder_machine.specs.Session.{Event, Events, after_clear, after_record, id_in_record, is_live, last_of, session_of, stage_of, when_live, gives_id}
 use Rattle.responder_machine.specs.Session.Event.{Began, Heard, Waited}
 use Rattle.responder_machine.specs.Setup.{RspSetup}
 use Rattle.responder_machine.specs.Turn.{Turn, answer_in, request_in, takes}
@@ -126,7 +126,7 @@ clear_last : (r : RspSetup) (key : Option AnswerKey) (id : ℕ) (s : Events) (t 
 clear_last r key id s t n is =
     either_last r key (takes GET_VERSION t) [] _ tt
     (either_last r key (takes PSK_EXCHANGE t) _ s
-    (either_last r key (id_in_exchange (answer_in t.effect) == id) (Began n (request_in t.effect) (answer_in t.effect) ∷ []) _ tt (either_last r key (is_past_handshake (stage_of s)) s [] is tt))
+    (either_last r key (gives_id id (answer_in t.effect)) (Began n (request_in t.effect) (answer_in t.effect) ∷ []) _ tt (either_last r key (is_past_handshake (stage_of s)) s [] is tt))
     is)
 
 pub keys_clear : (keys : AnswerKeys) (r : RspSetup) (h : History) (tag : ℕ) (t : Turn) (d : Draw) → StandFor keys r h → StandFor keys r (Clear tag t d ∷ h)

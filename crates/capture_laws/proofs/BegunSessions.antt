@@ -2,6 +2,7 @@
 use Rattle.std.proofs.Common.{◌≡◌, ◌≤◌, ◌∙◌, ◌+◌, ◌==◌, ◌&&◌, ℕ, List, [], ◌∷◌, Bool, true, false, None, cond, drop, length, refl, sym, ap, subst, arith, inl, inr, eq-eqb, eqb-true, lt-ltb}
 use Rattle.std.specs.Prelude.{nat_lt, not, slice_index}
 use Rattle.std.proofs.lemmas.Bool.{and_parts, and_right, false≢true, le-ltb, ltb-true}
+use Rattle.responder_machine.proofs.GivenIds.{gives_some}
 use Rattle.responder_machine.proofs.Fresh.{IsFresh, exchange-fresh, turn_of-fresh}
 use Rattle.responder_machine.specs.Answer.{Free}
 use Rattle.responder_machine.specs.Handling.{turn_of}
@@ -11,7 +12,7 @@ use Rattle.responder_machine.specs.May.{with_dropped}
 use Rattle.responder_machine.specs.Place.{Place, clear_place}
 use Rattle.responder_machine.specs.Responder.{Outcome, after}
 use Rattle.responder_machine.specs.Responder.Outcome.{Same, Unopened, Adds}
-use Rattle.responder_machine.specs.Session.{Events, is_live, session_of}
+use Rattle.responder_machine.specs.Session.{Events, is_live, session_of, gives_id}
 use Rattle.responder_machine.specs.Session.Event.{Began}
 use Rattle.responder_machine.specs.Setup.{RspSetup}
 use Rattle.responder_machine.specs.Turn.{Effect, Turn, answer_in, code_in, request_in, takes}
@@ -60,18 +61,18 @@ live_by false false e b o s version psk same live = absurd (false≢true psk)
 live_by false true false b o s version psk same live = absurd (false≢true same)
 live_by false true true b o s version psk same live = live
 
-exchange_live : (tag : ℕ) (t : Turn) (d : Draw) (h : History) → takes PSK_EXCHANGE t ≡ true → is_live (session_of (id_in_exchange (answer_in t.effect)) (Clear tag t d ∷ h)) ≡ true
+exchange_live : (tag : ℕ) (t : Turn) (d : Draw) (h : History) → takes PSK_EXCHANGE t ≡ true → 1 ≤ id_in_exchange (answer_in t.effect) → is_live (session_of (id_in_exchange (answer_in t.effect)) (Clear tag t d ∷ h)) ≡ true
 unfolding session_of
-exchange_live tag t d h takes_it =
-    live_by (takes GET_VERSION t) (takes PSK_EXCHANGE t) (id_in_exchange (answer_in t.effect) == id_in_exchange (answer_in t.effect)) (Began (negotiation_of (clear_turns h)) (request_in t.effect) (answer_in t.effect) ∷ []) _ _
-    (other_code (code_in t.effect) takes_it) takes_it (eq-eqb (id_in_exchange (answer_in t.effect)) (id_in_exchange (answer_in t.effect)) refl) refl
+exchange_live tag t d h takes_it least =
+    live_by (takes GET_VERSION t) (takes PSK_EXCHANGE t) (gives_id (id_in_exchange (answer_in t.effect)) (answer_in t.effect)) (Began (negotiation_of (clear_turns h)) (request_in t.effect) (answer_in t.effect) ∷ []) _ _
+    (other_code (code_in t.effect) takes_it) takes_it (gives_some (id_in_exchange (answer_in t.effect)) (answer_in t.effect) refl least) refl
 
 clear_begins : (n tag : ℕ) (t : Turn) (d : Draw) (h : History) (b : Bool) → begins t ≡ b → begun_count h ≤ n → (takes PSK_EXCHANGE t ≡ true → IsFew (id_in_exchange (answer_in t.effect))) → Begins n (Clear tag t d ∷ h)
 clear_begins n tag t d h true is few ids =
     let takes_it : takes PSK_EXCHANGE t ≡ true = (and_parts (takes PSK_EXCHANGE t) _ is).0 in
     let last : last_begun (Clear tag t d ∷ h) ≡ id_in_exchange (answer_in t.effect) = ap (λ b. cond b (id_in_exchange (answer_in t.effect)) (last_begun h)) is in
     record {
-      live = λ more. subst (λ (id : ℕ). is_live (session_of id (Clear tag t d ∷ h)) ≡ true) (sym last) (exchange_live tag t d h takes_it);
+      live = λ more. subst (λ (id : ℕ). is_live (session_of id (Clear tag t d ∷ h)) ≡ true) (sym last) (exchange_live tag t d h takes_it (ids takes_it).0);
       few = λ more. subst IsFew (sym last) (ids takes_it);
     }
 clear_begins n tag t d h false is few ids =

@@ -1,9 +1,10 @@
 -- The session that a history has under an id has this id.
 use Rattle.std.proofs.Common.{◌≡◌, ◌==◌, ℕ, List, [], ◌∷◌, Bool, true, false, cond, refl, sym, ap}
 use Rattle.std.proofs.lemmas.Bool.{false≢true, eqb-true}
+use Rattle.responder_machine.proofs.GivenIds.{given_is}
 use Rattle.responder_machine.specs.History.{History, clear_turns, negotiation_of}
 use Rattle.responder_machine.specs.History.Entry.{Clear, Sealed, Queued, Ticked, Dropped}
-use Rattle.responder_machine.specs.Session.{Events, after_record, exchange_answer, id_in_record, idle_of, is_live, is_timed, period_of, session_of, stage_of}
+use Rattle.responder_machine.specs.Session.{Events, after_record, exchange_answer, id_in_record, idle_of, is_live, is_timed, period_of, session_of, stage_of, gives_id}
 use Rattle.responder_machine.specs.Session.Event.{Began, Heard, Waited}
 use Rattle.responder_machine.specs.Turn.{Turn, answer_in, request_in, takes}
 use Rattle.spdm_grammar.specs.declared.names.request_code.TheConstants.{END_SESSION, GET_VERSION, PSK_EXCHANGE}
@@ -45,8 +46,8 @@ pub session_has : (id : ℕ) (h : History) → HasId id (session_of id h)
 unfolding session_of
 session_has id [] = none_has id
 session_has id (Clear tag t d ∷ older) =
-    clear_has id (takes GET_VERSION t) (takes PSK_EXCHANGE t) (id_in_exchange (answer_in t.effect) == id) (is_past_handshake (stage_of (session_of id older))) (session_of id older)
-    (Began (negotiation_of (clear_turns older)) (request_in t.effect) (answer_in t.effect) ∷ []) (λ same live. eqb-true _ _ same) (session_has id older)
+    clear_has id (takes GET_VERSION t) (takes PSK_EXCHANGE t) (gives_id id (answer_in t.effect)) (is_past_handshake (stage_of (session_of id older))) (session_of id older)
+    (Began (negotiation_of (clear_turns older)) (request_in t.effect) (answer_in t.effect) ∷ []) (λ same live. given_is id (answer_in t.effect) same) (session_has id older)
 session_has id (Sealed tag m t reply d ∷ older) =
     pick_has id (id_in_record m == id) (after_record (session_of id older) m t reply) (session_of id older) (record_has id (session_of id older) m t reply (session_has id older)) (session_has id older)
 session_has id (Queued bytes ∷ older) = session_has id older

@@ -16,7 +16,7 @@ use Rattle.request_rules.proofs.Replaced.{takes_with}
 use Rattle.request_rules.specs.LargeAnswer.{effect_with, last_takes, turn_with}
 use Rattle.responder_machine.specs.History.{History, Kept, KeptRecord, clear_turns, ended_of, kept_of, negotiation_of, queue_of}
 use Rattle.responder_machine.specs.History.Entry.{Clear, Dropped, Queued, Sealed, Ticked}
-use Rattle.responder_machine.specs.Session.{Event, Events, after_clear, after_record, after_tick, id_in_record, idle_of, is_live, is_timed, period_of, session_of, stage_of, turns_of, when_live}
+use Rattle.responder_machine.specs.Session.{Event, Events, after_clear, after_record, after_tick, id_in_record, idle_of, is_live, is_timed, period_of, session_of, stage_of, turns_of, when_live, gives_id}
 use Rattle.responder_machine.specs.Session.Event.{Began, Heard, Waited}
 use Rattle.responder_machine.specs.Setup.{RspSetup}
 use Rattle.responder_machine.specs.SizeLaws.{HasSizes}
@@ -242,7 +242,7 @@ module _ (id : ℕ) (answer : List ℕ) where
       let s = session_of id older in
       let e = session_of id (history_with id answer older) in
       ap (after_clear id e t) (ap negotiation_of (clear_same id answer older))
-      ∙ clear_with answer s e (own_with older) (Began n (request_in t.effect) (answer_in t.effect) ∷ []) (takes GET_VERSION t) (takes PSK_EXCHANGE t) (id_in_exchange (answer_in t.effect) == id) measures false≢true
+      ∙ clear_with answer s e (own_with older) (Began n (request_in t.effect) (answer_in t.effect) ∷ []) (takes GET_VERSION t) (takes PSK_EXCHANGE t) (gives_id id (answer_in t.effect)) measures false≢true
   own_with (Sealed tag m t reply d ∷ older) measures = sealed_with tag m t reply d older (id_in_record m == id) (passes t) refl refl (own_with older) measures
   own_with (Queued bytes ∷ older) measures = own_with older measures
   own_with (Ticked seconds ∷ older) measures =

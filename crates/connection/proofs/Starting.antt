@@ -1,5 +1,5 @@
 -- A session that begins, and sessions that GET_VERSION ends.
-use Rattle.std.proofs.Common.{refl, ◌∙◌, ◌≡◌, ◌≢◌, ℕ, List, [], ◌∷◌, true, false, Bool, Option, Some, None, ap, sym, subst, arith}
+use Rattle.std.proofs.Common.{refl, ◌∙◌, ◌≡◌, ◌≢◌, ◌≤◌, ℕ, List, [], ◌∷◌, true, false, Bool, Option, Some, None, ap, sym, subst, arith}
 use Rattle.std.proofs.lemmas.Bool.Decides.{nat_tests}
 use Rattle.std.specs.Prelude.{◌==◌, ◌||◌, if◌then◌else◌, slice_index}
 use Rattle.connection.proofs.Recorded.{standing_with}
@@ -10,6 +10,7 @@ use Rattle.connection.specs.Live.{IsSlotOf}
 use Rattle.connection.specs.Sessions.{StandsFor, slot_of}
 use Rattle.connection.specs.declared.live.Live.{Live}
 use Rattle.connection.specs.declared.sessions.Sessions.{Sessions}
+use Rattle.responder_machine.proofs.GivenIds.{gives_other, gives_some}
 use Rattle.responder_machine.proofs.Entries.{session_of-Clear}
 use Rattle.responder_machine.specs.History.{History, clear_turns, ended_of, negotiation_of}
 use Rattle.responder_machine.specs.History.Entry.{Clear}
@@ -23,7 +24,6 @@ use Rattle.spdm_grammar.specs.declared.names.request_code.TheConstants.{GET_VERS
 use Rattle.spdm_machine.specs.Keys.{Draw}
 use Rattle.spdm_machine.specs.Sessions.{id_in_exchange}
 use Rattle.transcript.specs.Transcripts.{Negotiation}
-use Rattle.std.proofs.lemmas.Bool.{eq-eqb}
 
 other_code : (n : ℕ) → (n == PSK_EXCHANGE) ≡ true → (n == GET_VERSION) ≡ false
 other_code n h = grind (arith, nat_tests)
@@ -36,11 +36,11 @@ exchange_is id s t n h =
     ap (λ (b : Bool). if b then [] else (if takes PSK_EXCHANGE t then after_exchange id s t n else s)) (other_code (code_in t.effect) h)
     ∙ ap (λ (b : Bool). if b then after_exchange id s t n else s) h
 
-own_exchange : (id : ℕ) (s : Events) (t : Turn) (n : Negotiation) → id_in_exchange (answer_in t.effect) ≡ id → after_exchange id s t n ≡ begun n (request_in t.effect) (answer_in t.effect)
-own_exchange id s t n is = ap (λ (b : Bool). if b then begun n (request_in t.effect) (answer_in t.effect) else held_part s) (eq-eqb (id_in_exchange (answer_in t.effect)) id is)
+own_exchange : (id : ℕ) (s : Events) (t : Turn) (n : Negotiation) → id_in_exchange (answer_in t.effect) ≡ id → 1 ≤ id → after_exchange id s t n ≡ begun n (request_in t.effect) (answer_in t.effect)
+own_exchange id s t n is least = ap (λ (b : Bool). if b then begun n (request_in t.effect) (answer_in t.effect) else held_part s) (gives_some id (answer_in t.effect) is least)
 
 other_exchange : (id i : ℕ) (s : Events) (t : Turn) (n : Negotiation) → id_in_exchange (answer_in t.effect) ≡ id → i ≢ id → after_exchange i s t n ≡ held_part s
-other_exchange id i s t n is ne = ap (λ (b : Bool). if b then begun n (request_in t.effect) (answer_in t.effect) else held_part s) (other_number (id_in_exchange (answer_in t.effect)) id i is ne)
+other_exchange id i s t n is ne = ap (λ (b : Bool). if b then begun n (request_in t.effect) (answer_in t.effect) else held_part s) (gives_other i (answer_in t.effect) (other_number (id_in_exchange (answer_in t.effect)) id i is ne))
 
 begins : (r : RspSetup) (h : History) (t : Turn) (id : ℕ) (session : RspSession) (answer : List ℕ) (live : Live) → IsBeginningAt r h t id session answer
     → live.session ≡ session → live.idle ≡ 0 → live.period ≡ slice_index answer 2 → lives.StandsFor live r (begun (negotiation_of (clear_turns h)) (request_in t.effect) answer)
@@ -55,14 +55,14 @@ nothing_held : held_part [] ≡ []
 nothing_held = refl
 
 pub began : (r : RspSetup) (h : History) (tag : ℕ) (t : Turn) (d : Draw) (id : ℕ) (session : RspSession) (answer : List ℕ) (live : Live) (v w x y z new : Sessions)
-    → IsBeginningAt r h t id session answer → StandsFor v r h → Visits r held_part 1 v w → Visits r held_part 2 w x → Visits r held_part 3 x y → Visits r held_part 4 y z
+    → 1 ≤ id → IsBeginningAt r h t id session answer → StandsFor v r h → Visits r held_part 1 v w → Visits r held_part 2 w x → Visits r held_part 3 x y → Visits r held_part 4 y z
     → live.session ≡ session → live.idle ≡ 0 → live.period ≡ slice_index answer 2
     → slot_of new id ≡ Some live → ((i : ℕ) → i ≢ id → slot_of new i ≡ slot_of z i) → new.ended ≡ None → StandsFor new r (Clear tag t d ∷ h)
-began r h tag t d id session answer live v w x y z new is stands first second third fourth session_is idle period own others ended =
+began r h tag t d id session answer live v w x y z new least is stands first second third fourth session_is idle period own others ended =
     let n = negotiation_of (clear_turns h) in
     let given : id_in_exchange (answer_in t.effect) ≡ id = ap id_in_exchange (sym is.answer_is) ∙ is.id_is in
     let events : session_of id (Clear tag t d ∷ h) ≡ begun n (request_in t.effect) answer =
-    session_of-Clear id tag t d h ∙ exchange_is id (session_of id h) t n is.is_exchange ∙ own_exchange id (session_of id h) t n given ∙ ap (begun n (request_in t.effect)) (sym is.answer_is) in
+    session_of-Clear id tag t d h ∙ exchange_is id (session_of id h) t n is.is_exchange ∙ own_exchange id (session_of id h) t n given least ∙ ap (begun n (request_in t.effect)) (sym is.answer_is) in
     let begun_is = begins r h t id session answer live is session_is idle period in
     standing_with new r (Clear tag t d ∷ h) id
     (subst (λ (o : Option Live). IsSlotOf o r (session_of id (Clear tag t d ∷ h))) (sym own) (subst (λ (s : Events). lives.StandsFor live r s) (sym events) begun_is))

@@ -7,7 +7,7 @@ use Rattle.spdm_grammar.specs.declared.names.request_code.TheConstants.{CHUNK_GE
 use Rattle.spdm_machine.specs.Sessions.{id_in_exchange, is_past_handshake}
 use Rattle.responder_machine.specs.History.{Entry, History, clear_turns, negotiation_of}
 use Rattle.responder_machine.specs.History.Entry.{Clear, Sealed, Queued, Ticked, Dropped}
-use Rattle.responder_machine.specs.Session.{Events, after_exchange, session_of, stage_of}
+use Rattle.responder_machine.specs.Session.{Events, after_exchange, session_of, stage_of, gives_id}
 use Rattle.responder_machine.specs.Session.Event.{Began}
 use Rattle.responder_machine.specs.Turn.{Effect, Turn, answer_in, code_in, request_in, takes}
 use Rattle.responder_machine.specs.Turn.Effect.{NoEffect, Took, TookData}
@@ -50,7 +50,7 @@ unseen_answer (Took a m (b ∷ l) large) is = absurd (false≢true is)
 unseen_answer (TookData bytes answer) is = absurd (false≢true is)
 
 -- It begins the session 0, if any.
-unseen_id : (t : Turn) (id : ℕ) → is_unseen_effect t.effect ≡ true → id ≢ 0 → (id_in_exchange (answer_in t.effect) == id) ≡ false
+unseen_id : (t : Turn) (id : ℕ) → is_unseen_effect t.effect ≡ true → id ≢ 0 → gives_id id (answer_in t.effect) ≡ false
 unseen_id t id is other =
     ap (λ (l : List ℕ). id_in_exchange l == id) (unseen_answer t.effect is) ∙ false_from_ne_true (id_in_exchange [] == id) (λ same. other (sym (eqb-true 0 id same)))
 
@@ -97,8 +97,8 @@ exchanged tag t d before id other is exchange =
     let s : Events = session_of id before in
     let new : Events = Began (negotiation_of (clear_turns before)) (request_in t.effect) (answer_in t.effect) ∷ [] in
     let past : Events = cond (is_past_handshake (stage_of s)) s [] in
-    ap (λ (b : Bool). cond b [] (cond (takes PSK_EXCHANGE t) (cond (id_in_exchange (answer_in t.effect) == id) new past) s)) is.1
-    ∙ ap (λ (b : Bool). cond b (cond (id_in_exchange (answer_in t.effect) == id) new past) s) exchange ∙ ap (λ (b : Bool). cond b new past) (unseen_id t id is.0 other)
+    ap (λ (b : Bool). cond b [] (cond (takes PSK_EXCHANGE t) (cond (gives_id id (answer_in t.effect)) new past) s)) is.1
+    ∙ ap (λ (b : Bool). cond b (cond (gives_id id (answer_in t.effect)) new past) s) exchange ∙ ap (λ (b : Bool). cond b new past) (unseen_id t id is.0 other)
 
 request_leaves : (entry : Entry) (before left : History) (id : ℕ) → id ≢ 0 → IsUnseenRequest entry → IsLeftBy entry before left → session_of id (entry ∷ before) ≡ session_of id left
 request_leaves (Clear tag t d) before left id other is leaves = by_code (takes PSK_EXCHANGE t) refl leaves

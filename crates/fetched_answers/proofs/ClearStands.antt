@@ -12,7 +12,7 @@ use Rattle.connection.specs.Sessions.{slot_of}
 use Rattle.responder_machine.specs.History.{Entry, History, clear_turns, negotiation_of, queue_of}
 use Rattle.responder_machine.specs.History.Entry.{Clear, Sealed, Queued, Ticked, Dropped}
 use Rattle.responder_machine.specs.LargeMessages.{larges_of}
-use Rattle.responder_machine.specs.Session.{Events, session_of, stage_of}
+use Rattle.responder_machine.specs.Session.{Events, session_of, stage_of, gives_id}
 use Rattle.responder_machine.specs.Session.Event.{Began}
 use Rattle.responder_machine.specs.Turn.{Effect, Turn, answer_in, handle_in, request_in, takes}
 use Rattle.responder_machine.specs.Turn.Effect.{NoEffect, Took, TookData}
@@ -43,13 +43,13 @@ exchange_ends h id other tag t exchange is = by_id (id == other) refl
     new = Began (negotiation_of (clear_turns h)) (request_in t.effect) (answer_in t.effect) ∷ []
 
     at : Bool → Events → Events
-    at b u = cond (takes GET_VERSION t) [] (cond b (cond (id_in_exchange (answer_in t.effect) == other) new (cond (is_past_handshake (stage_of u)) u [])) u)
+    at b u = cond (takes GET_VERSION t) [] (cond b (cond (gives_id other (answer_in t.effect)) new (cond (is_past_handshake (stage_of u)) u [])) u)
 
     by_id : (b : Bool) → (id == other) ≡ b → at (takes PSK_EXCHANGE t) (cond b [] s) ≡ at (takes PSK_EXCHANGE t) s
     by_id false not_it = refl
     by_id true same =
         let none : cond (is_past_handshake (stage_of s)) s [] ≡ [] = ended s (subst (λ (n : ℕ). is_in_handshake (session_of n h) ≡ true) (eqb-true id other same) is) in
-        ap (λ (b : Bool). at b []) exchange ∙ ap (λ (u : Events). cond (takes GET_VERSION t) [] (cond (id_in_exchange (answer_in t.effect) == other) new u)) (sym none) ∙ ap (λ (b : Bool). at b s) (sym exchange)
+        ap (λ (b : Bool). at b []) exchange ∙ ap (λ (u : Events). cond (takes GET_VERSION t) [] (cond (gives_id other (answer_in t.effect)) new u)) (sym none) ∙ ap (λ (b : Bool). at b s) (sym exchange)
 
 pub exchange_ends_handshake : ExchangeEndsHandshake
 exchange_ends_handshake h id tag t exchange is = record { turns = refl; kept = refl; sessions = λ other. exchange_ends h id other tag t exchange is; ended = refl; queue = refl }

@@ -5,7 +5,7 @@ use Rattle.spdm_grammar.specs.declared.session_view.SessionView.{SessionView}
 use Rattle.spdm_machine.specs.Sessions.{id_in_exchange, is_past_handshake}
 use Rattle.responder_machine.specs.History.{History, clear_turns, negotiation_of}
 use Rattle.responder_machine.specs.History.Entry.{Clear, Sealed, Queued, Ticked, Dropped}
-use Rattle.responder_machine.specs.Session.{Events, id_in_record, session_of, stage_of}
+use Rattle.responder_machine.specs.Session.{Events, id_in_record, session_of, stage_of, gives_id}
 use Rattle.responder_machine.specs.Session.Event.{Began}
 use Rattle.responder_machine.specs.Setup.{RspSetup}
 use Rattle.responder_machine.specs.Turn.{Turn, answer_in, request_in, takes}
@@ -42,7 +42,7 @@ clear_key r id tag t d h key is =
     let new : Events = Began (negotiation_of (clear_turns h)) (request_in t.effect) (answer_in t.effect) ∷ [] in
     let past : Events = cond (is_past_handshake (stage_of s)) s [] in
     either_key r (takes GET_VERSION t) [] _ key tt
-    (either_key r (takes PSK_EXCHANGE t) _ s key (either_key r (id_in_exchange (answer_in t.effect) == id) new past key tt (either_key r (is_past_handshake (stage_of s)) s [] key is tt)) is)
+    (either_key r (takes PSK_EXCHANGE t) _ s key (either_key r (gives_id id (answer_in t.effect)) new past key tt (either_key r (is_past_handshake (stage_of s)) s [] key is tt)) is)
 
 dropped_key : (r : RspSetup) (id which : ℕ) (h : History) (key : Option AnswerKey) → IsLastKey r (session_of id h) key → IsLastKey r (session_of id (Dropped which ∷ h)) key
 unfolding session_of

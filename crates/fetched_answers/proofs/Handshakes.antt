@@ -6,9 +6,10 @@ use Rattle.spdm_grammar.specs.declared.names.request_code.TheConstants.{END_SESS
 use Rattle.spdm_grammar.specs.declared.phase.Stage.{Stage}
 use Rattle.spdm_grammar.specs.declared.phase.Stage.TheVariants.{Open, Verifying}
 use Rattle.spdm_machine.specs.Sessions.{id_in_exchange, is_past_handshake}
+use Rattle.responder_machine.proofs.GivenIds.{given_is}
 use Rattle.responder_machine.specs.History.{clear_turns, negotiation_of}
 use Rattle.responder_machine.specs.History.Entry.{Clear, Sealed, Queued, Ticked, Dropped}
-use Rattle.responder_machine.specs.Session.{Events, after_record, id_in_record, idle_of, is_timed, period_of, session_of, stage_of, when_live}
+use Rattle.responder_machine.specs.Session.{Events, after_record, id_in_record, idle_of, is_timed, period_of, session_of, stage_of, when_live, gives_id}
 use Rattle.responder_machine.specs.Session.Event.{Began, Heard, Waited}
 use Rattle.responder_machine.specs.Turn.{Turn, answer_in, request_in, takes, updates}
 use Rattle.fetched_answers.specs.ClearSessions.{OneHandshake, is_in_handshake}
@@ -43,19 +44,19 @@ past_or true [] past is = false≢true is
 past_or true (e ∷ s) past is = false≢true (sym (ap not past) ∙ is)
 past_or false s past is = false≢true is
 
-begun_id : (x id : ℕ) (s : Events) (new : Events) → is_in_handshake (cond (x == id) new (cond (is_past_handshake (stage_of s)) s [])) ≡ true → x ≡ id
-begun_id x id s new is = by_id (x == id) refl is
+begun_id : (answer : List ℕ) (id : ℕ) (s : Events) (new : Events) → is_in_handshake (cond (gives_id id answer) new (cond (is_past_handshake (stage_of s)) s [])) ≡ true → id_in_exchange answer ≡ id
+begun_id answer id s new is = by_id (gives_id id answer) refl is
   where
-    by_id : (b : Bool) → (x == id) ≡ b → is_in_handshake (cond b new (cond (is_past_handshake (stage_of s)) s [])) ≡ true → x ≡ id
-    by_id true same here = eqb-true x id same
+    by_id : (b : Bool) → gives_id id answer ≡ b → is_in_handshake (cond b new (cond (is_past_handshake (stage_of s)) s [])) ≡ true → id_in_exchange answer ≡ id
+    by_id true same here = given_is id answer same
     by_id false other here = absurd (past_or (is_past_handshake (stage_of s)) s refl here)
 
-module _ (x id other : ℕ) (s u new newer : Events) where
+module _ (answer : List ℕ) (id other : ℕ) (s u new newer : Events) where
   clear_one : (b c : Bool) → (is_in_handshake s ≡ true → is_in_handshake u ≡ true → id ≡ other)
-      → is_in_handshake (cond b [] (cond c (cond (x == id) new (cond (is_past_handshake (stage_of s)) s [])) s)) ≡ true
-      → is_in_handshake (cond b [] (cond c (cond (x == other) newer (cond (is_past_handshake (stage_of u)) u [])) u)) ≡ true → id ≡ other
+      → is_in_handshake (cond b [] (cond c (cond (gives_id id answer) new (cond (is_past_handshake (stage_of s)) s [])) s)) ≡ true
+      → is_in_handshake (cond b [] (cond c (cond (gives_id other answer) newer (cond (is_past_handshake (stage_of u)) u [])) u)) ≡ true → id ≡ other
   clear_one true c before one two = absurd (false≢true one)
-  clear_one false true before one two = sym (begun_id x id s new one) ∙ begun_id x other u newer two
+  clear_one false true before one two = sym (begun_id answer id s new one) ∙ begun_id answer other u newer two
   clear_one false false before one two = before one two
 
 pub waited_back : (seconds : ℕ) (s : Events) → is_in_handshake (cond (not (is_timed s)) s (cond (nat_le (2 * period_of s) (idle_of s + seconds)) [] (Waited seconds ∷ s))) ≡ true → is_in_handshake s ≡ true
@@ -66,7 +67,7 @@ pub one_handshake : OneHandshake
 unfolding session_of
 one_handshake [] id other one two = absurd (false≢true one)
 one_handshake (Clear tag t d ∷ h) id other one two =
-    clear_one (id_in_exchange (answer_in t.effect)) id other (session_of id h) (session_of other h)
+    clear_one (answer_in t.effect) id other (session_of id h) (session_of other h)
     (Began (negotiation_of (clear_turns h)) (request_in t.effect) (answer_in t.effect) ∷ []) (Began (negotiation_of (clear_turns h)) (request_in t.effect) (answer_in t.effect) ∷ [])
     (takes GET_VERSION t) (takes PSK_EXCHANGE t) (one_handshake h id other) one two
 one_handshake (Sealed tag m t reply d ∷ h) id other one two =

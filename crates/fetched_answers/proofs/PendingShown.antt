@@ -11,7 +11,7 @@ use Rattle.responder_machine.specs.LargeMessages.{given_of, large_of, still_pend
 use Rattle.responder_machine.specs.May.{place_for}
 use Rattle.responder_machine.specs.Place.{Place, place_terms, session_place}
 use Rattle.responder_machine.specs.Refusal.{has_pending}
-use Rattle.responder_machine.specs.Session.{Events, id_in_record, is_timed, session_of, stage_of, turns_of, when_live}
+use Rattle.responder_machine.specs.Session.{Events, id_in_record, is_timed, session_of, stage_of, turns_of, when_live, gives_id}
 use Rattle.responder_machine.specs.Session.Event.{Began, Heard, Waited}
 use Rattle.responder_machine.specs.Turn.{Effect, Turn, answer_in, handle_in, is_taken, large_in, request_in, takes}
 use Rattle.responder_machine.specs.Turn.Effect.{NoEffect, Took, TookData}
@@ -52,7 +52,7 @@ within id (Clear tag t d ∷ g) measures =
     let rest = within id g measures.1 in
     cond_within (takes GET_VERSION t) [] _ tt
     (cond_within (takes PSK_EXCHANGE t) _ s
-    (cond_within (id_in_exchange (answer_in t.effect) == id) (Began (negotiation_of (clear_turns g)) (request_in t.effect) (answer_in t.effect) ∷ []) _ tt (cond_within (is_past_handshake (stage_of s)) s [] rest tt)) rest)
+    (cond_within (gives_id id (answer_in t.effect)) (Began (negotiation_of (clear_turns g)) (request_in t.effect) (answer_in t.effect) ∷ []) _ tt (cond_within (is_past_handshake (stage_of s)) s [] rest tt)) rest)
 within id (Sealed tag m t reply d ∷ g) measures =
     let rest = within id g measures.1 in
     cond_within (id_in_record m == id) _ (session_of id g) (cond_within (takes END_SESSION t) [] _ tt (live_within (session_of id g) m t reply measures.0 rest)) rest

@@ -9,7 +9,7 @@ use Rattle.request_rules.specs.LargeAnswer as rules
 use Rattle.responder_machine.specs.History.{Entry, History, clear_turns, negotiation_of}
 use Rattle.responder_machine.specs.History.Entry.{Clear, Sealed, Queued, Ticked, Dropped}
 use Rattle.responder_machine.specs.LargeMessages.{large_of}
-use Rattle.responder_machine.specs.Session.{Events, after_clear, after_record, id_in_record, is_timed, session_of, stage_of, turns_of, when_live}
+use Rattle.responder_machine.specs.Session.{Events, after_clear, after_record, id_in_record, is_timed, session_of, stage_of, turns_of, when_live, gives_id}
 use Rattle.responder_machine.specs.Session.Event.{Began, Heard, Waited}
 use Rattle.responder_machine.specs.Turn.{Effect, Turn, answer_in, is_taken, large_in, request_in, takes}
 use Rattle.responder_machine.specs.Turn.Effect.{NoEffect, Took, TookData}
@@ -50,8 +50,8 @@ clear_large id s t n w is =
     by_exchange (takes PSK_EXCHANGE t) (cond_large (takes GET_VERSION t) _ w is)
   where
     by_exchange : (b : Bool)
-        → HasLarge (cond b (cond (id_in_exchange (answer_in t.effect) == id) (Began n (request_in t.effect) (answer_in t.effect) ∷ []) (cond (is_past_handshake (stage_of s)) s [])) s) w → HasLarge s w
-    by_exchange true is = kept_large (is_past_handshake (stage_of s)) s w (began_large (id_in_exchange (answer_in t.effect) == id) n _ _ _ w is)
+        → HasLarge (cond b (cond (gives_id id (answer_in t.effect)) (Began n (request_in t.effect) (answer_in t.effect) ∷ []) (cond (is_past_handshake (stage_of s)) s [])) s) w → HasLarge s w
+    by_exchange true is = kept_large (is_past_handshake (stage_of s)) s w (began_large (gives_id id (answer_in t.effect)) n _ _ _ w is)
     by_exchange false is = is
 
 waited_large : (b c : Bool) (seconds : ℕ) (s : Events) (w : List ℕ) → HasLarge (cond b s (cond c [] (Waited seconds ∷ s))) w → HasLarge s w

@@ -19,7 +19,8 @@ use Rattle.responder_machine.specs.History.Entry.{Clear}
 use Rattle.responder_machine.specs.Laws.{NewSessionIsFresh, TakenExchangeIsFresh, completed_at}
 use Rattle.responder_machine.specs.Place.{Place, clear_place, inside, held_of}
 use Rattle.responder_machine.specs.Refusal.{refusal}
-use Rattle.responder_machine.specs.Session.{Events, session_of, after_clear}
+use Rattle.responder_machine.proofs.GivenIds.{gives_some}
+use Rattle.responder_machine.specs.Session.{Events, session_of, after_clear, gives_id}
 use Rattle.spdm_machine.specs.Sessions.{id_in_exchange}
 use Rattle.responder_machine.specs.Session.Event.{Began}
 use Rattle.responder_machine.specs.Setup.{RspSetup}
@@ -82,14 +83,14 @@ exchange-fresh held id (Took _ request answer large) is h = absurd (false≢true
 other_code : (c : ℕ) → (c == PSK_EXCHANGE) ≡ true → (c == GET_VERSION) ≡ false
 other_code c h = grind (arith, nat_tests)
 
-begins : (id : ℕ) (s : Events) (t : Turn) (n : Negotiation) → takes PSK_EXCHANGE t ≡ true → (id_in_exchange (answer_in t.effect) == id) ≡ true → after_clear id s t n ≡ Began n (request_in t.effect) (answer_in t.effect) ∷ []
+begins : (id : ℕ) (s : Events) (t : Turn) (n : Negotiation) → takes PSK_EXCHANGE t ≡ true → gives_id id (answer_in t.effect) ≡ true → after_clear id s t n ≡ Began n (request_in t.effect) (answer_in t.effect) ∷ []
 begins id s t n is same = rw (other_code (code_in t.effect) is, is, same) refl
 
 pub taken_exchange : TakenExchangeIsFresh
 taken_exchange r h tag m f d t allowed turn is =
     let fresh : IsFresh (held_of h) f.id t.effect = subst (λ (u : Turn). IsFresh (held_of h) f.id u.effect) turn (turn_of-fresh r (clear_place h) m f allowed.most) in
     let found = exchange-fresh (held_of h) f.id t.effect is fresh in
-    (allowed.unused (eqb-false (held_of h) 4 found.1), found.0, session_of-Clear f.id tag t d h ∙ begins f.id (session_of f.id h) t (negotiation_of (clear_turns h)) is (eq-eqb _ _ found.0))
+    (allowed.unused (eqb-false (held_of h) 4 found.1), found.0, session_of-Clear f.id tag t d h ∙ begins f.id (session_of f.id h) t (negotiation_of (clear_turns h)) is (gives_some f.id (answer_in t.effect) found.0 allowed.least))
 
 pub new_session : NewSessionIsFresh
 new_session r h tag m f d exchange allowed is taken =

@@ -8,7 +8,8 @@ use Rattle.spdm_grammar.specs.declared.phase.Stage.TheVariants.{Open, Verifying}
 use Rattle.responder_machine.specs.History.{History, clear_turns, negotiation_of}
 use Rattle.responder_machine.specs.History.Entry.{Clear, Sealed, Queued, Ticked, Dropped}
 use Rattle.responder_machine.specs.Laws.{OneIsInHandshake}
-use Rattle.responder_machine.specs.Session.{Events, session_of, is_live, is_timed, stage_of, after_record, after_tick, id_in_record, idle_of, period_of}
+use Rattle.responder_machine.proofs.GivenIds.{given_is}
+use Rattle.responder_machine.specs.Session.{Events, session_of, is_live, is_timed, stage_of, after_record, after_tick, id_in_record, idle_of, period_of, gives_id}
 use Rattle.spdm_machine.specs.Sessions.{is_past_handshake, id_in_exchange}
 use Rattle.responder_machine.specs.Session.Event.{Began, Waited}
 use Rattle.responder_machine.specs.Turn.{Turn, takes, updates, answer_in, request_in}
@@ -57,16 +58,13 @@ one_by_clear false true true true si sj bi bj apart older x y = apart refl refl
 one_by_clear false true false j_is si sj bi bj apart older x y = held (is_live si) _ si refl refl x
 one_by_clear false true true false si sj bi bj apart older x y = held (is_live sj) _ sj refl refl y
 
-same_id : (n i j : ℕ) → (n == i) ≡ true → (n == j) ≡ true → i ≡ j
-same_id n i j x y = grind (arith, nat_tests)
-
 pub one_in_handshake : (h : History) (i j : ℕ) → i ≢ j → in_handshake (session_of i h) ≡ true → in_handshake (session_of j h) ≡ true → ⊥
 unfolding session_of
 one_in_handshake [] i j ne x y = false≢true x
 one_in_handshake (Clear tag t d ∷ older) i j ne x y =
-    one_by_clear (takes GET_VERSION t) (takes PSK_EXCHANGE t) (id_in_exchange (answer_in t.effect) == i) (id_in_exchange (answer_in t.effect) == j) (session_of i older) (session_of j older)
+    one_by_clear (takes GET_VERSION t) (takes PSK_EXCHANGE t) (gives_id i (answer_in t.effect)) (gives_id j (answer_in t.effect)) (session_of i older) (session_of j older)
     (Began (negotiation_of (clear_turns older)) (request_in t.effect) (answer_in t.effect) ∷ []) (Began (negotiation_of (clear_turns older)) (request_in t.effect) (answer_in t.effect) ∷ [])
-    (λ a b. ne (same_id (id_in_exchange (answer_in t.effect)) i j a b)) (one_in_handshake older i j ne) x y
+    (λ a b. ne (sym (given_is i (answer_in t.effect) a) ∙ given_is j (answer_in t.effect) b)) (one_in_handshake older i j ne) x y
 one_in_handshake (Sealed tag m t reply d ∷ older) i j ne x y =
     one_in_handshake older i j ne (either (id_in_record m == i) (after_record (session_of i older) m t reply) (session_of i older) (in_handshake (session_of i older)) (before_record (session_of i older) m t reply) (λ h. h) x)
     (either (id_in_record m == j) (after_record (session_of j older) m t reply) (session_of j older) (in_handshake (session_of j older)) (before_record (session_of j older) m t reply) (λ h. h) y)

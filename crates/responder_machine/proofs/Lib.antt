@@ -8,6 +8,7 @@ pub mod Handshakes
 pub mod Codes
 pub mod Made
 pub mod Tests
+pub mod GivenIds
 pub mod Fresh
 pub mod Live
 pub mod Counts

@@ -12,7 +12,8 @@ use Rattle.responder_machine.specs.History.Entry.{Clear, Sealed, Queued, Ticked,
 use Rattle.spdm_machine.specs.Keys.{Draw}
 use Rattle.responder_machine.specs.Laws.{LiveIdIsFromOneToFour}
 use Rattle.responder_machine.specs.Place.{clear_place, held_of, free_id}
-use Rattle.responder_machine.specs.Session.{Events, session_of, is_live, stage_of, after_clear, after_record, after_tick, id_in_record}
+use Rattle.responder_machine.proofs.GivenIds.{given_is}
+use Rattle.responder_machine.specs.Session.{Events, session_of, is_live, stage_of, after_clear, after_record, after_tick, id_in_record, gives_id}
 use Rattle.spdm_machine.specs.Sessions.{is_past_handshake, id_in_exchange}
 use Rattle.responder_machine.specs.Session.Event.{Began}
 use Rattle.responder_machine.specs.Setup.{RspSetup}
@@ -34,8 +35,8 @@ live_by false true false true s b h = inl h
 live_by false true false false s b h = absurd (false≢true h)
 live_by false false same past s b h = inl h
 
-live_after : (id : ℕ) (s : Events) (t : Turn) (n : Negotiation) → is_live (after_clear id s t n) ≡ true → (is_live s ≡ true) ⊎ ((takes PSK_EXCHANGE t ≡ true) × ((id_in_exchange (answer_in t.effect) == id) ≡ true))
-live_after id s t n h = live_by (takes GET_VERSION t) (takes PSK_EXCHANGE t) (id_in_exchange (answer_in t.effect) == id) (is_past_handshake (stage_of s)) s (Began n (request_in t.effect) (answer_in t.effect) ∷ []) h
+live_after : (id : ℕ) (s : Events) (t : Turn) (n : Negotiation) → is_live (after_clear id s t n) ≡ true → (is_live s ≡ true) ⊎ ((takes PSK_EXCHANGE t ≡ true) × (gives_id id (answer_in t.effect) ≡ true))
+live_after id s t n h = live_by (takes GET_VERSION t) (takes PSK_EXCHANGE t) (gives_id id (answer_in t.effect)) (is_past_handshake (stage_of s)) s (Began n (request_in t.effect) (answer_in t.effect) ∷ []) h
 
 live_before_record : (s : Events) (m : List ℕ) (t : Turn) (reply : List ℕ) → is_live (after_record s m t reply) ≡ true → is_live s ≡ true
 live_before_record [] m t reply h = either-live (takes END_SESSION t) [] [] (false ≡ true) (λ x. x) (λ x. x) h
@@ -50,17 +51,17 @@ unfolding chosen
 chosen-few r h d = refl
 
 -- The id of an exchange of a made history is in the range.
-begun_in_range : (r : RspSetup) (h : History) (tag : ℕ) (t : Turn) (d : Draw) (id : ℕ) → IsMade r (Clear tag t d ∷ h) → takes PSK_EXCHANGE t ≡ true → (id_in_exchange (answer_in t.effect) == id) ≡ true → (1 ≤ id) × (id ≤ 4)
+begun_in_range : (r : RspSetup) (h : History) (tag : ℕ) (t : Turn) (d : Draw) (id : ℕ) → IsMade r (Clear tag t d ∷ h) → takes PSK_EXCHANGE t ≡ true → gives_id id (answer_in t.effect) ≡ true → (1 ≤ id) × (id ≤ 4)
 begun_in_range r h tag t d id made is same =
     let range = free_id-range h in
     let few : (clear_chosen r h d).id ≤ 4 = rw (chosen-few r h d) range.1 in
     let fresh : IsFresh (held_of h) (clear_chosen r h d).id t.effect = subst (λ (u : Turn). IsFresh (held_of h) (clear_chosen r h d).id u.effect) (made_clear r h tag t d made) (turn_of-fresh r (clear_place h) t.message (clear_chosen r h d) few) in
     let found = (exchange-fresh (held_of h) (clear_chosen r h d).id t.effect is fresh).0 in
-    let number = eqb-true (id_in_exchange (answer_in t.effect)) id same in
+    let number = given_is id (answer_in t.effect) same in
     subst (λ n. (1 ≤ n) × (n ≤ 4)) (sym (chosen-few r h d) ∙ sym found ∙ number) range
 
 either_begun : (r : RspSetup) (h : History) (tag : ℕ) (t : Turn) (d : Draw) (id : ℕ) → IsMade r (Clear tag t d ∷ h) → (is_live (session_of id h) ≡ true → (1 ≤ id) × (id ≤ 4))
-    → (is_live (session_of id h) ≡ true) ⊎ ((takes PSK_EXCHANGE t ≡ true) × ((id_in_exchange (answer_in t.effect) == id) ≡ true)) → (1 ≤ id) × (id ≤ 4)
+    → (is_live (session_of id h) ≡ true) ⊎ ((takes PSK_EXCHANGE t ≡ true) × (gives_id id (answer_in t.effect) ≡ true)) → (1 ≤ id) × (id ≤ 4)
 either_begun r h tag t d id made older (inl live) = older live
 either_begun r h tag t d id made older (inr begun) = begun_in_range r h tag t d id made begun.0 begun.1
 

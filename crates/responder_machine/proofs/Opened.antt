@@ -19,7 +19,7 @@ use Rattle.responder_machine.specs.Records.{opening_fault, opened, reply_record}
 use Rattle.responder_machine.specs.Responder.{Outcome, on_record, to_session, in_session, in_session_by, session_turn, inner_reply, repeats, kept_record}
 use Rattle.spdm_machine.specs.Bodies.{record_body}
 use Rattle.responder_machine.specs.Responder.Outcome.{Same, Adds}
-use Rattle.responder_machine.specs.Session.{Events, session_of, is_live, is_spent, last_of, id_in_record, stage_of, is_timed, period_of, idle_of, request_next, response_next, after_clear, after_record, after_tick}
+use Rattle.responder_machine.specs.Session.{Events, session_of, is_live, is_spent, last_of, id_in_record, stage_of, is_timed, period_of, idle_of, request_next, response_next, after_clear, after_record, after_tick, gives_id}
 use Rattle.spdm_machine.specs.Sessions.{id_in_exchange, is_past_handshake}
 use Rattle.responder_machine.specs.Session.Event.{Began, Heard, Waited}
 use Rattle.responder_machine.specs.Setup.{RspSetup}
@@ -114,7 +114,7 @@ clear_few : (id : ℕ) (s : Events) (t : Turn) (n : Negotiation) → IsFew s →
 clear_few id s t n few =
     either-few (takes GET_VERSION t) [] _ none-few
     (either-few (takes PSK_EXCHANGE t) _ s
-    (either-few (id_in_exchange (answer_in t.effect) == id) (Began n (request_in t.effect) (answer_in t.effect) ∷ []) _ none-few (either-few (is_past_handshake (stage_of s)) s [] few none-few))
+    (either-few (gives_id id (answer_in t.effect)) (Began n (request_in t.effect) (answer_in t.effect) ∷ []) _ none-few (either-few (is_past_handshake (stage_of s)) s [] few none-few))
     few)
 
 tick_few : (s : Events) (seconds : ℕ) → IsFew s → IsFew (after_tick s seconds)

@@ -27,7 +27,7 @@ use Rattle.responder_machine.specs.Refusal.{refusal, stage_allows, has_pending, 
 use Rattle.responder_machine.specs.Responder.{Outcome, on_record, to_session, in_session, in_session_by, session_turn, session_turn_by, inner_refusal, data_turn, repeats, kept_record, decrypt_error}
 use Rattle.spdm_machine.specs.Bodies.{record_body}
 use Rattle.responder_machine.specs.Responder.Outcome.{Same, Unopened}
-use Rattle.responder_machine.specs.Session.{Events, session_of, stage_of, last_of, id_in_record, is_timed, period_of, idle_of, after_record, after_tick, after_clear}
+use Rattle.responder_machine.specs.Session.{Events, session_of, stage_of, last_of, id_in_record, is_timed, period_of, idle_of, after_record, after_tick, after_clear, gives_id}
 use Rattle.spdm_machine.specs.Sessions.{is_past_handshake, id_in_exchange}
 use Rattle.responder_machine.specs.Session.Event.{Began, Heard, Waited}
 use Rattle.responder_machine.specs.Setup.{RspSetup}
@@ -168,7 +168,7 @@ clear_staged : (id : ℕ) (s : Events) (t : Turn) (n : Negotiation) → IsStaged
 clear_staged id s t n staged =
     either-staged (takes GET_VERSION t) [] _ tt
     (either-staged (takes PSK_EXCHANGE t) _ s
-    (either-staged (id_in_exchange (answer_in t.effect) == id) (Began n (request_in t.effect) (answer_in t.effect) ∷ []) _ refl (either-staged (is_past_handshake (stage_of s)) s [] staged tt))
+    (either-staged (gives_id id (answer_in t.effect)) (Began n (request_in t.effect) (answer_in t.effect) ∷ []) _ refl (either-staged (is_past_handshake (stage_of s)) s [] staged tt))
     staged)
 
 tick_staged : (s : Events) (seconds : ℕ) → IsStaged s → IsStaged (after_tick s seconds)

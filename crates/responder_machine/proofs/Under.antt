@@ -11,7 +11,7 @@ use Rattle.responder_machine.proofs.Phased.{IsPhased, made_phased}
 use Rattle.responder_machine.specs.History.{phase_of, clear_turns, negotiation_of}
 use Rattle.responder_machine.specs.History.Entry.{Clear, Sealed, Queued, Ticked, Dropped}
 use Rattle.responder_machine.specs.Laws.{LiveIsUnderNegotiation}
-use Rattle.responder_machine.specs.Session.{Events, session_of, session_negotiation, is_live, stage_of, is_timed, period_of, idle_of, after_clear, after_record, after_tick, id_in_record}
+use Rattle.responder_machine.specs.Session.{Events, session_of, session_negotiation, is_live, stage_of, is_timed, period_of, idle_of, after_clear, after_record, after_tick, id_in_record, gives_id}
 use Rattle.spdm_machine.specs.Sessions.{is_past_handshake, id_in_exchange}
 use Rattle.responder_machine.specs.Session.Event.{Began, Heard, Waited}
 use Rattle.responder_machine.specs.Turn.{Turn, Effect, takes}
@@ -51,7 +51,7 @@ clear_under id s ts message refused chunk (Took GetVersion request answer large)
 clear_under id s ts message refused chunk (Took (GetCapabilities caps) request answer large) reply phased under live = absurd (not_versioned (phase_of ts) phased (under live).0)
 clear_under id s ts message refused chunk (Took (NegotiateAlgorithms offer) request answer large) reply phased under live = absurd (not_capable (phase_of ts) phased (under live).0)
 clear_under id s ts message refused chunk (Took (PskExchange exchange) request answer large) reply phased under live =
-    either-under ts (id_in_exchange answer == id) (Began (negotiation_of ts) request answer ∷ []) _ (λ x. (phased, refl)) (either-under ts (is_past_handshake (stage_of s)) s [] under (none-under ts)) live
+    either-under ts (gives_id id answer) (Began (negotiation_of ts) request answer ∷ []) _ (λ x. (phased, refl)) (either-under ts (is_past_handshake (stage_of s)) s [] under (none-under ts)) live
 clear_under id s ts message refused chunk (Took _ request answer large) reply phased under live = under live
 
 record_under : (ts : List Turn) (s : Events) (m : List ℕ) (t : Turn) (reply : List ℕ) → IsUnder ts s → IsUnder ts (after_record s m t reply)

@@ -7,7 +7,7 @@ use Rattle.responder_machine.specs.BoundLaws.{messages_of, IsSessionWithin, Conn
 use Rattle.responder_machine.specs.History.{clear_turns, negotiation_of, queue_of, draws_of, all_taken}
 use Rattle.responder_machine.specs.History.Entry.{Clear, Sealed, Queued, Ticked, Dropped}
 use Rattle.responder_machine.specs.LargeMessages.{larges_of}
-use Rattle.responder_machine.specs.Session.{Events, session_of, turns_of, request_epoch, response_epoch, taken_of, stage_of, is_timed, period_of, idle_of, after_clear, after_record, after_tick, id_in_record}
+use Rattle.responder_machine.specs.Session.{Events, session_of, turns_of, request_epoch, response_epoch, taken_of, stage_of, is_timed, period_of, idle_of, after_clear, after_record, after_tick, id_in_record, gives_id}
 use Rattle.responder_machine.specs.Session.Event.{Began, Heard, Waited}
 use Rattle.responder_machine.specs.Turn.{Turn, takes, updates, takes_draw, is_data, handle_in, request_in, answer_in}
 use Rattle.spdm_machine.specs.Sessions.{is_past_handshake, id_in_exchange}
@@ -82,7 +82,7 @@ clear_within : (id : ℕ) (s : Events) (t : Turn) (n : Negotiation) (most : ℕ)
 clear_within id s t n most w =
     either-within (takes GET_VERSION t) [] _ most (none_within most)
     (either-within (takes PSK_EXCHANGE t) _ s most
-    (either-within (id_in_exchange (answer_in t.effect) == id) (Began n (request_in t.effect) (answer_in t.effect) ∷ []) _ most (begun_within n (request_in t.effect) (answer_in t.effect) most)
+    (either-within (gives_id id (answer_in t.effect)) (Began n (request_in t.effect) (answer_in t.effect) ∷ []) _ most (begun_within n (request_in t.effect) (answer_in t.effect) most)
     (either-within (is_past_handshake (stage_of s)) s [] most w (none_within most)))
     w)
 

@@ -194,10 +194,15 @@ when_live (s ∷ ss) e = e ∷ s ∷ ss
 abbrev pub after_record : Events → List ℕ → Turn → List ℕ → Events
 after_record s m t reply = if takes END_SESSION t then [] else when_live s (Heard m t reply)
 
+-- PSK_EXCHANGE_RSP gives this RspSessionID to the session that it begins. 0 is given to none: it is what stands there where
+-- the answer is not known.
+abbrev pub gives_id : ℕ → (answer : List ℕ) → Bool
+gives_id id answer = id_in_exchange answer == id && not (id == 0)
+
 -- PSK_EXCHANGE begins the session to which its answer gives an id, and ends one in its handshake.
 abbrev pub after_exchange : ℕ → Events → Turn → Negotiation → Events
 after_exchange id s t negotiation =
-    if id_in_exchange (answer_in t.effect) == id then Began negotiation (request_in t.effect) (answer_in t.effect) ∷ []
+    if gives_id id (answer_in t.effect) then Began negotiation (request_in t.effect) (answer_in t.effect) ∷ []
     else (if is_past_handshake (stage_of s) then s else [])
 
 -- GET_VERSION ends all sessions, PSK_EXCHANGE is as said, and nothing else in the clear touches one.

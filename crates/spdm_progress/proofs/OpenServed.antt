@@ -33,7 +33,8 @@ use Rattle.responder_machine.specs.Responder.{is_repeat}
 use Rattle.responder_machine.specs.Responder.Outcome.{Adds as AddsThere, Same as SameThere}
 use Rattle.responder_machine.specs.ResponderLog as served_log
 use Rattle.responder_machine.specs.Session as events
-use Rattle.responder_machine.specs.Session.{Events}
+use Rattle.responder_machine.proofs.GivenIds.{gives_other, gives_some}
+use Rattle.responder_machine.specs.Session.{Events, gives_id}
 use Rattle.responder_machine.specs.Session.Event.{Began}
 use Rattle.responder_machine.specs.Setup.{RspSetup}
 use Rattle.responder_machine.specs.Turn.{Effect, Turn}
@@ -180,7 +181,7 @@ module _ (p : Pair) (same_key : p.requester.psk ≡ p.responder.psk) (asker : Is
       abbrev pub later : served.History
       later = Clear tag turn d ∷ g
 
-      session_later : (j : ℕ) → events.session_of j later ≡ (if id_in_exchange (answer r g d x) == j then Began (served.negotiation_of (served.clear_turns g)) m (answer r g d x) ∷ [] else (if is_past_handshake (events.stage_of (events.session_of j g)) then events.session_of j g else []))
+      session_later : (j : ℕ) → events.session_of j later ≡ (if gives_id j (answer r g d x) then Began (served.negotiation_of (served.clear_turns g)) m (answer r g d x) ∷ [] else (if is_past_handshake (events.stage_of (events.session_of j g)) then events.session_of j g else []))
       unfolding events.session_of
       session_later j = refl
 
@@ -188,12 +189,12 @@ module _ (p : Pair) (same_key : p.requester.psk ≡ p.responder.psk) (asker : Is
       told_id = answer_id r g d x server drawn sound ∙ ready.id_is
 
       began_there : events.session_of rid later ≡ Began (served.negotiation_of (served.clear_turns g)) m (answer r g d x) ∷ []
-      began_there = session_later rid ∙ ap (λ (b : Bool). if b then Began (served.negotiation_of (served.clear_turns g)) m (answer r g d x) ∷ [] else (if is_past_handshake (events.stage_of (events.session_of rid g)) then events.session_of rid g else [])) (eq-eqb (id_in_exchange (answer r g d x)) rid told_id)
+      began_there = session_later rid ∙ ap (λ (b : Bool). if b then Began (served.negotiation_of (served.clear_turns g)) m (answer r g d x) ∷ [] else (if is_past_handshake (events.stage_of (events.session_of rid g)) then events.session_of rid g else [])) (gives_some rid (answer r g d x) told_id (subst (λ (k : ℕ). 1 ≤ k) ready.id_is (free_id-range g).0))
 
       others_there : (j : ℕ) → j ≢ rid → is_past_handshake (events.stage_of (events.session_of j g)) ≡ true → events.session_of j later ≡ events.session_of j g
       others_there j other past =
           session_later j
-          ∙ ap (λ (b : Bool). if b then Began (served.negotiation_of (served.clear_turns g)) m (answer r g d x) ∷ [] else (if is_past_handshake (events.stage_of (events.session_of j g)) then events.session_of j g else [])) (ne_eqb (id_in_exchange (answer r g d x)) j (λ same. other (sym same ∙ told_id)))
+          ∙ ap (λ (b : Bool). if b then Began (served.negotiation_of (served.clear_turns g)) m (answer r g d x) ∷ [] else (if is_past_handshake (events.stage_of (events.session_of j g)) then events.session_of j g else [])) (gives_other j (answer r g d x) (ne_eqb (id_in_exchange (answer r g d x)) j (λ same. other (sym same ∙ told_id))))
           ∙ ap (λ (b : Bool). if b then events.session_of j g else []) past
 
       begun_step : AreInStep (Accepted (answer r g d x) ∷ Started n m ∷ []) (Began (served.negotiation_of (served.clear_turns g)) m (answer r g d x) ∷ [])

@@ -18,7 +18,7 @@ use Rattle.responder_machine.specs.Place.{Place, clear_place, session_place}
 use Rattle.responder_machine.specs.Records.{opened, reply_record}
 use Rattle.responder_machine.specs.Responder.{Outcome, on_clear, is_repeat, kept_reply, session_turn, inner_reply}
 use Rattle.responder_machine.specs.Responder.Outcome.{Same, Adds}
-use Rattle.responder_machine.specs.Session.{Events, session_of, turns_of, id_in_record, after_record, after_clear, when_live, stage_of, is_timed, idle_of, period_of}
+use Rattle.responder_machine.specs.Session.{Events, session_of, turns_of, id_in_record, after_record, after_clear, when_live, stage_of, is_timed, idle_of, period_of, gives_id}
 use Rattle.responder_machine.specs.Session.Event.{Began, Heard, Waited}
 use Rattle.responder_machine.specs.Setup.{RspSetup}
 use Rattle.responder_machine.specs.Turn.{Turn, Effect, is_taken, takes, handle_in, large_in, request_in, answer_in}
@@ -139,7 +139,7 @@ clear_after : (id : ℕ) (s : Events) (t : Turn) (n : Negotiation) (w : List ℕ
 clear_after id s t n w before =
     either_fresh (takes GET_VERSION t) [] _ w (inl refl)
     (either_fresh (takes PSK_EXCHANGE t) _ s w
-    (either_fresh (id_in_exchange (answer_in t.effect) == id) (Began n (request_in t.effect) (answer_in t.effect) ∷ []) _ w (inl refl) (either_fresh (is_past_handshake (stage_of s)) s [] w before (inl refl)))
+    (either_fresh (gives_id id (answer_in t.effect)) (Began n (request_in t.effect) (answer_in t.effect) ∷ []) _ w (inl refl) (either_fresh (is_past_handshake (stage_of s)) s [] w before (inl refl)))
     before)
 
 live_fresh : (m : List ℕ) (u : Turn) (reply w : List ℕ) (s : Events) → is_unseen_effect u.effect ≡ true → GoesLarge u → IsFreshIn (when_live s (Heard m (seen_turn w u) reply)) w

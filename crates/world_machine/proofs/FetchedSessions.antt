@@ -20,7 +20,7 @@ use Rattle.spdm_machine.specs.Sessions.{id_in_exchange, is_past_handshake}
 use Rattle.transcript.specs.Transcripts.{Negotiation}
 use Rattle.responder_machine.specs.History.{History, Entry, clear_turns, negotiation_of, ended_of, phase_of}
 use Rattle.responder_machine.specs.History.Entry.{Clear, Sealed, Queued, Ticked, Dropped}
-use Rattle.responder_machine.specs.Session.{Events, Event, session_of, stage_of, idle_of, is_timed, period_of, when_live, after_record, after_clear, after_tick, id_in_record}
+use Rattle.responder_machine.specs.Session.{Events, Event, session_of, stage_of, idle_of, is_timed, period_of, when_live, after_record, after_clear, after_tick, id_in_record, gives_id}
 use Rattle.responder_machine.specs.Session.Event.{Began, Heard, Waited}
 use Rattle.responder_machine.specs.Turn.{Turn, Effect, takes, code_in, request_in, answer_in, handle_in}
 use Rattle.responder_machine.specs.Turn.Effect.{NoEffect, Took, TookData}
@@ -151,7 +151,7 @@ clear_alike id s u t n k same a =
     subst P same
     (either_events (takes GET_VERSION t) [] [] _ _ NoEvent
     (either_events (takes PSK_EXCHANGE t) _ _ s u
-    (either_events (id_in_exchange (answer_in t.effect) == id) (Began n (request_in t.effect) (answer_in t.effect) ∷ []) (Began n (request_in t.effect) (answer_in t.effect) ∷ []) _ _ (events_equal (Began n (request_in t.effect) (answer_in t.effect) ∷ []))
+    (either_events (gives_id id (answer_in t.effect)) (Began n (request_in t.effect) (answer_in t.effect) ∷ []) (Began n (request_in t.effect) (answer_in t.effect) ∷ []) _ _ (events_equal (Began n (request_in t.effect) (answer_in t.effect) ∷ []))
     (held_by (is_past_handshake (stage_of s)) (is_past_handshake (stage_of u)) s u (ap is_past_handshake (stage_alike s u a)) a)) a))
 
 behind : (id : ℕ) (e : Entry) (h g : History) → clear_turns h ≡ clear_turns g → EventsAlike (session_of id h) (session_of id g) → EventsAlike (session_of id (e ∷ h)) (session_of id (e ∷ g))

@@ -7,7 +7,7 @@ use Rattle.spdm_grammar.specs.declared.phase.Stage.TheVariants as stage
 use Rattle.responder_machine.specs.Answer.{Free}
 use Rattle.responder_machine.specs.History.{History, clear_turns, negotiation_of}
 use Rattle.responder_machine.specs.ResponderLog.{began_by}
-use Rattle.responder_machine.specs.Session.{Event, Events, stage_of, is_live, after_record, after_exchange, after_tick, request_next, response_next, request_epoch, response_epoch, t2_of}
+use Rattle.responder_machine.specs.Session.{Event, Events, stage_of, is_live, after_record, after_exchange, after_tick, request_next, response_next, request_epoch, response_epoch, t2_of, gives_id}
 use Rattle.spdm_machine.specs.Sessions.{is_past_handshake, id_in_exchange}
 use Rattle.responder_machine.specs.Session.Event.{Began, Heard, Waited}
 use Rattle.responder_machine.specs.Setup.{RspSetup}
@@ -72,7 +72,7 @@ exchanged psk s older t m false false i = gone psk _
 cleared_by : (psk : List ℕ) (id : ℕ) (s : Events) (older : History) (t : Turn) (m : List Served) (a b : Bool) → IsCounted psk s m
     → IsCounted psk (cond a [] (cond b (after_exchange id s t (negotiation_of (clear_turns older))) s)) (cond b (Served.Began (served_first (began_by older t)) ∷ []) [] ++ m)
 cleared_by psk id s older t m true b i = gone psk _
-cleared_by psk id s older t m false true i = exchanged psk s older t m (id_in_exchange (answer_in t.effect) == id) (is_past_handshake (stage_of s)) i
+cleared_by psk id s older t m false true i = exchanged psk s older t m (gives_id id (answer_in t.effect)) (is_past_handshake (stage_of s)) i
 cleared_by psk id s older t m false false i = i
 
 pub cleared : (psk : List ℕ) (id : ℕ) (s : Events) (older : History) (t : Turn) (m : List Served) → IsCounted psk s m

@@ -31,7 +31,7 @@ use Rattle.responder_machine.specs.History.Entry.{Clear, Sealed, Queued, Ticked,
 use Rattle.spdm_machine.specs.Keys.{Draw, context_of, verify_data}
 use Rattle.responder_machine.specs.Place.{Place, place_terms}
 use Rattle.responder_machine.specs.Refusal.{phase_allows, has_pending}
-use Rattle.responder_machine.specs.Session.{Event, Events, session_of, is_live, stage_of, session_negotiation, after_tick, when_live, id_in_record}
+use Rattle.responder_machine.specs.Session.{Event, Events, session_of, is_live, stage_of, session_negotiation, after_tick, when_live, id_in_record, gives_id}
 use Rattle.spdm_machine.specs.Sessions.{is_past_handshake, id_in_exchange}
 use Rattle.responder_machine.specs.Session.Event.{Began, Heard, Waited}
 use Rattle.responder_machine.specs.Setup.{RspSetup, inventory_of}
@@ -145,7 +145,7 @@ rooms : (r : RspSetup) (h : History) → IsResponder r → IsMade r h → (id : 
 unfolding session_of
 rooms r [] setup made id = no_session
 rooms r (Clear tag t d ∷ older) setup made id =
-    room_cleared (session_of id older) (negotiation_of (clear_turns older)) (request_bytes t.effect) (answer_in t.effect) (takes GET_VERSION t) (takes PSK_EXCHANGE t) (id_in_exchange (answer_in t.effect) == id) (is_past_handshake (stage_of (session_of id older)))
+    room_cleared (session_of id older) (negotiation_of (clear_turns older)) (request_bytes t.effect) (answer_in t.effect) (takes GET_VERSION t) (takes PSK_EXCHANGE t) (gives_id id (answer_in t.effect)) (is_past_handshake (stage_of (session_of id older)))
     (clear_room r older t.message d t setup made.1 (entry_turn r older tag t d made.0)) (rooms r older setup made.1 id)
 rooms r (Sealed tag sealed t reply d ∷ older) setup made id = room_heard (session_of id older) sealed t reply (id_in_record sealed == id) (rooms r older setup made.1 id)
 rooms r (Queued bytes ∷ older) setup made id = rooms r older setup made.2 id

@@ -6,7 +6,7 @@ use Rattle.spdm_grammar.specs.declared.phase.Stage.TheVariants as stage
 use Rattle.responder_machine.specs.History.{History, clear_turns, negotiation_of}
 use Rattle.responder_machine.specs.History.Entry.{Clear, Sealed, Queued, Ticked, Dropped}
 use Rattle.responder_machine.specs.ResponderLog.{began_by}
-use Rattle.responder_machine.specs.Session.{Event, Events, session_of, is_live, stage_of, after_record, after_exchange, after_tick, id_in_record, exchange_answer, request_next, response_next, t2_of}
+use Rattle.responder_machine.specs.Session.{Event, Events, session_of, is_live, stage_of, after_record, after_exchange, after_tick, id_in_record, exchange_answer, request_next, response_next, t2_of, gives_id}
 use Rattle.spdm_machine.specs.Sessions.{is_past_handshake, id_in_exchange}
 use Rattle.responder_machine.specs.Session.Event.{Began, Heard, Waited}
 use Rattle.responder_machine.specs.Setup.{RspSetup}
@@ -75,7 +75,7 @@ exchanged s older t m false = kept_by s _ (is_past_handshake (stage_of s)) refl
 cleared_by : (id : ℕ) (s : Events) (older : History) (t : Turn) (m : List Served) (a b : Bool) → ShakesAt s m
     → ShakesAt (cond a [] (cond b (after_exchange id s t (negotiation_of (clear_turns older))) s)) (cond b (Served.Began (served_first (began_by older t)) ∷ []) [] ++ m)
 cleared_by id s older t m true b i = gone _
-cleared_by id s older t m false true i = exchanged s older t m (id_in_exchange (answer_in t.effect) == id)
+cleared_by id s older t m false true i = exchanged s older t m (gives_id id (answer_in t.effect))
 cleared_by id s older t m false false i = i
 
 -- ---- In a session.

@@ -2,10 +2,11 @@
 use Rattle.std.proofs.Common.{◌≡◌, ℕ, List, [], ◌∷◌, ◌++◌, Bool, true, false, Some, None, ◌==◌, ◌&&◌, refl, sym, ap, ◌∙◌, subst, eqb-true, eq-eqb, cond, true≢false}
 use Rattle.spdm_grammar.specs.declared.phase.Stage.{Stage}
 use Rattle.spdm_grammar.specs.declared.phase.Stage.TheVariants as stage
+use Rattle.responder_machine.proofs.GivenIds.{given_is}
 use Rattle.responder_machine.specs.History.{History, clear_turns, negotiation_of}
 use Rattle.responder_machine.specs.History.Entry.{Clear, Sealed, Queued, Ticked, Dropped}
 use Rattle.responder_machine.specs.ResponderLog.{began_by}
-use Rattle.responder_machine.specs.Session.{Event, Events, session_of, is_live, stage_of, after_record, after_exchange, after_tick, id_in_record, exchange_of, exchange_answer, finish_of, finish_answer, session_vca, t2_of}
+use Rattle.responder_machine.specs.Session.{Event, Events, session_of, is_live, stage_of, after_record, after_exchange, after_tick, id_in_record, exchange_of, exchange_answer, finish_of, finish_answer, session_vca, t2_of, gives_id}
 use Rattle.spdm_machine.specs.Sessions.{is_past_handshake, id_in_exchange}
 use Rattle.responder_machine.specs.Session.Event.{Began, Heard, Waited}
 use Rattle.responder_machine.specs.Setup.{RspSetup}
@@ -60,9 +61,9 @@ dropped psk id s m false i = i
 
 -- ---- In the clear.
 
-exchanged : (psk : List ℕ) (id : ℕ) (s : Events) (older : History) (t : Turn) (m : List Served) (c d : Bool) → (id_in_exchange (answer_in t.effect) == id) ≡ c → ServedAt psk id s m
+exchanged : (psk : List ℕ) (id : ℕ) (s : Events) (older : History) (t : Turn) (m : List Served) (c d : Bool) → gives_id id (answer_in t.effect) ≡ c → ServedAt psk id s m
     → ServedAt psk id (cond c (Began (negotiation_of (clear_turns older)) (request_in t.effect) (answer_in t.effect) ∷ []) (cond d s [])) (Served.Began (served_first (began_by older t)) ∷ m)
-exchanged psk id s older t m true d is i = record { own = λ e. eqb-true _ _ is; told = λ e. absurd (true≢false (sym e)) }
+exchanged psk id s older t m true d is i = record { own = λ e. given_is id (answer_in t.effect) is; told = λ e. absurd (true≢false (sym e)) }
 exchanged psk id s older t m false true is i = past psk id s m _ (ap (λ (b : Bool). cond b None (served_open (reading_of psk) id m)) is) i
 exchanged psk id s older t m false false is i = gone psk id _
 
