@@ -1,7 +1,7 @@
 -- LargeResponse in answer to a record: what is kept of the large answer that is fetched in its session from then on.
-use Rattle.std.proofs.Common.{◌≡◌, ◌≤◌, ◌<◌, ◌+◌, ◌==◌, ◌&&◌, ◌↔◌, ℕ, List, [], ◌∷◌, ◌++◌, refl, sym, ap, ◌∙◌, subst, drop, take, length, arith, Bool, true, false, Option, Some, None, cond, eq-eqb, inl}
-use Rattle.std.specs.Prelude.{MatchBool, nat_lt, not, slice_index}
-use Rattle.std.proofs.lemmas.Bool.{false≢true, not-false}
+use Rattle.std.proofs.Common.{◌≡◌, ◌≤◌, ◌<◌, ◌+◌, ◌==◌, ◌&&◌, ◌↔◌, ℕ, List, [], ◌∷◌, ◌++◌, refl, sym, ap, ◌∙◌, subst, drop, take, length, Bool, true, false, Option, Some, None, cond, eq-eqb, inl}
+use Rattle.std.specs.Prelude.{MatchBool, slice_index}
+use Rattle.std.proofs.lemmas.Bool.{not-false}
 use Rattle.mctp_framing.specs.Cutting.{RouteFields}
 use Rattle.mctp_framing.specs.Gathering.Gathered.{Whole}
 use Rattle.capture_ends.proofs.InTurn.{AnswersInTurn}
@@ -10,7 +10,6 @@ use Rattle.capture_ends.specs.Asker.{Carries}
 use Rattle.capture_ends.specs.HeardKept.{asks_upon, heard_kept}
 use Rattle.capture_laws.proofs.LargeFits.{large_fits}
 use Rattle.capture_laws.proofs.LargeShown.{large_is_shown}
-use Rattle.capture_laws.proofs.OneWalk.{walks_alike}
 use Rattle.capture_laws.proofs.SessionShown.{record_is}
 use Rattle.capture_laws.specs.AnswersShown.{LeadsAt, is_whole, values_shown_by}
 use Rattle.capture_laws.specs.Keeping.{Kept, restored}
@@ -18,38 +17,36 @@ use Rattle.capture_laws.specs.LargeShown.{IsShownLarge, begun_large, drops_befor
 use Rattle.capture_laws.specs.RepliesShown.{responder_for}
 use Rattle.fetched_answers.proofs.BegunJudged.{begins_judging}
 use Rattle.fetched_answers.proofs.WholeLed.{whole_is_shown}
-use Rattle.fetched_answers.specs.JudgedFor.{session_with}
 use Rattle.fetched_answers.specs.LastShown.{IsShownEntry, IsShownWhole}
 use Rattle.large_answers.specs.Fetching.{Fetching, HasSize, MayStand, answer_by, bytes_given, bytes_in, gives_in, number_given, number_of, size_in, size_told}
 use Rattle.large_answers.specs.FetchingLaws.{BeginsFetching, place_in}
 use Rattle.requester_machine.specs.May.{IsSetUp}
 use Rattle.requester_machine.specs.Setup.{ReqSetup}
-use Rattle.responder_machine.specs.Answer.{Free, measurements_answer, request_at}
+use Rattle.responder_machine.specs.Answer.{Free, request_at}
 use Rattle.responder_machine.specs.History.{Entry, History}
 use Rattle.responder_machine.specs.History.Entry.{Sealed}
 use Rattle.responder_machine.specs.May.{IsAllowed, on_body, place_for, with_dropped}
 use Rattle.responder_machine.specs.Place.{clear_place, held_of, session_place}
 use Rattle.responder_machine.specs.Records.{opened, reply_record}
-use Rattle.responder_machine.specs.Responder.{Outcome, body_of, inner_reply, on_clear, on_record, sealed_entry, sent_by}
+use Rattle.responder_machine.specs.Responder.{Outcome, inner_reply}
 use Rattle.responder_machine.specs.Responder.Outcome.{Adds}
 use Rattle.responder_machine.specs.Session.{Events, id_in_record, session_of}
 use Rattle.responder_machine.specs.Setup.{RspSetup}
-use Rattle.responder_machine.specs.Turn.{Turn, answer_in, handle_in}
+use Rattle.responder_machine.specs.Turn.{Turn, answer_in}
 use Rattle.responder_session.specs.Took.{turn_in}
 use Rattle.spdm_grammar.specs.Message.RequestMessage.{GetMeasurements}
 use Rattle.spdm_grammar.specs.declared.names.TheConstants.{MAX_MESSAGE_SIZE}
 use Rattle.spdm_machine.specs.Bodies.{record_body}
 use Rattle.world_machine.proofs.PlacesServed.{named_session}
 use Rattle.world_machine.proofs.RecordAdds.{record_added}
-use Rattle.world_machine.proofs.UnseenStands.{UnseenStand}
 use Rattle.world_machine.specs.CapturedAnswers.{MayLeadTo, answer_to, clear_answer, record_answer}
-use Rattle.world_machine.specs.LargeAnswers.{IsLargeAnswer, is_fetching, is_large, is_unseen_in, place_named, place_of, seen, unseen, with_large}
+use Rattle.world_machine.specs.LargeAnswers.{IsLargeAnswer, is_large, is_unseen_in, place_named, seen, unseen, with_large}
 use Rattle.world_machine.specs.Rounds.{Round, no_draw}
 use Rattle.world_machine.specs.Setup.{Configuration}
 use Rattle.fetched_ends.proofs.HeardOn.{heard_on}
 use Rattle.fetched_ends.proofs.MeasuredTurns.{GoesLarge, answer_at, bytes_are, goes_at, goes_turn, large_turn, turn_goes}
 use Rattle.fetched_ends.proofs.RecordTaken.{body_adds, entry_at}
-use Rattle.fetched_ends.specs.InSession.{AsksFor, IsMeasuredBy}
+use Rattle.fetched_ends.specs.InSession.{IsMeasuredBy}
 
 -- ---- What it leads to.
 
@@ -101,6 +98,9 @@ module _ (r : RspSetup) (h : History) (tag : ℕ) (body answer : List ℕ) (type
     pub leads : MayLeadTo r h tag body (Adds e0)
     unfolding MayLeadTo
     leads = (f0, its.0, its.1, its.2 ∙ ap Adds (is_entry f0 goes0))
+
+    pub on_is : on_body r h tag body f0 no_draw ≡ Adds e0
+    on_is = its.2 ∙ ap Adds (is_entry f0 goes0)
 
     pub big : IsLargeAnswer (session_place s) (answer_at r s inner op asks f0)
     big = large_fits r h tag body e0 refl [] (subst (λ (b : Bool). MayLeadTo r (with_dropped h (cond b [] [])) tag body (Adds e0)) (sym type) leads)

@@ -1,24 +1,19 @@
 -- What an answer changes of what rows of the table hang on, whether a large answer is fetched or not.
-use Rattle.std.proofs.Common.{◌≡◌, ◌==◌, ℕ, List, refl, sym, ap, ◌∙◌, subst, Bool, true, false, Option, Some, None, cond, eq-eqb}
+use Rattle.std.proofs.Common.{◌≡◌, ◌==◌, ℕ, List, refl, sym, ap, ◌∙◌, Bool, false, Option, Some, None, cond, eq-eqb}
 use Rattle.std.specs.Prelude.{not}
-use Rattle.mctp_framing.specs.Gathering.{Gathered}
 use Rattle.capture_ends.specs.HeardKept.{heard_kept}
 use Rattle.capture_laws.proofs.AnswerSteps.{taken_same}
 use Rattle.capture_laws.specs.ChangeLaws.{AnswerAccepts}
-use Rattle.capture_laws.specs.Changes.{IsStep, asked_between, session_in}
-use Rattle.capture_laws.specs.Keeping.{Kept, kept_of, restored}
+use Rattle.capture_laws.specs.Changes.{asked_between, session_in}
+use Rattle.capture_laws.specs.Keeping.{Kept, restored}
 use Rattle.capture_laws.specs.KeptChanges.{accepted_from}
 use Rattle.capture_laws.specs.RepliesShown.{answered, heard_from, no_values}
-use Rattle.capture_laws.specs.Walks.{Walks}
 use Rattle.requester_machine.specs.Hearing.{hears}
 use Rattle.requester_machine.specs.History as requester_history
 use Rattle.requester_machine.specs.History.{outstanding}
-use Rattle.requester_machine.specs.Setup.{ReqSetup}
 use Rattle.responder_machine.specs.History.{History}
-use Rattle.world_machine.specs.Capture.{RepliesBy}
 use Rattle.world_machine.specs.Rounds.{Dialogue, Round, no_draw}
 use Rattle.world_machine.specs.SessionTable.{accepted_between, is_new}
-use Rattle.world_machine.specs.Setup.{Configuration}
 
 module _ (k : Kept) (behind : History) (tag : ℕ) (round : Round) (answer : List ℕ) (is : k.round ≡ Some round) (one : round.tag ≡ tag) where
   abbrev next : Kept
@@ -39,8 +34,3 @@ module _ (k : Kept) (behind : History) (tag : ℕ) (round : Round) (answer : Lis
       let sent : requester_history.History = (restored next).requester in
       ap (λ (x : Option Round). cond (is_new x (answered round)) (session_in (outstanding sent)) None) is
       ∙ ap (λ (b : Bool). cond b (session_in (outstanding sent)) None) (same_tag round.tag)
-
--- Each answer is a step by which a change is taken, by what is kept.
-abbrev pub StepsOn : Type 0
-StepsOn = (w : Configuration) (q : ReqSetup) (older : List (List ℕ)) (k : Kept) (fetching : Option (List ℕ)) (g : Gathered) (d : Dialogue) → Walks w q older (record (restored k) { fetching = fetching })
-    → RepliesBy w (record (restored k) { fetching = fetching }) g d → IsStep (restored k) (restored (kept_of d))

@@ -1,5 +1,5 @@
 -- The bytes so far, those of one more chunk, and zeros up to the told length.
-use Rattle.std.proofs.Common.{◌≡◌, ◌≤◌, ◌+◌, ◌-◌, ◌==◌, ◌++◌, ◌↔◌, ℕ, zero, suc, List, refl, sym, ap, ◌∙◌, subst, take, length, arith, Bool, true, false, Option, Some, None, cond, length-append}
+use Rattle.std.proofs.Common.{◌≡◌, ◌≤◌, ◌-◌, ◌==◌, ℕ, zero, suc, List, sym, ap, ◌∙◌, subst, take, length, arith, Bool, false, Option, Some, cond, length-append}
 use Rattle.std.proofs.lemmas.List.{length-replicate}
 use Rattle.std.proofs.Math.Seq.{take-append_seam}
 use Rattle.std.specs.Prelude.{unwrap_or}

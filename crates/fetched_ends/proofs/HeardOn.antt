@@ -1,12 +1,12 @@
 -- What a requester hears, whether a large answer is fetched or not: what is kept behind it, and whether it asks for a chunk.
-use Rattle.std.proofs.Common.{◌≡◌, ℕ, List, refl, sym, ap, ◌∙◌, subst, Bool, true, false, Option, Some, None}
+use Rattle.std.proofs.Common.{◌≡◌, ℕ, List, refl, sym, ap, ◌∙◌, subst, false, Option, Some, None}
 use Rattle.capture_ends.specs.Asker.{Carries}
 use Rattle.capture_ends.specs.HeardKept.{asks_upon, heard_kept}
 use Rattle.capture_laws.proofs.Connecting.{some_allowed, some_values}
 use Rattle.capture_laws.proofs.FetchShown.{fetch_same}
 use Rattle.capture_laws.proofs.HeardShown.{heard_same}
 use Rattle.capture_laws.proofs.OneWalk.{walks_alike}
-use Rattle.capture_laws.specs.Keeping.{Kept, kept_of, restored}
+use Rattle.capture_laws.specs.Keeping.{Kept, restored}
 use Rattle.capture_laws.specs.RepliesShown.{answered, heard_from}
 use Rattle.large_answers.specs.FetchingLaws.{kept_behind}
 use Rattle.requester_machine.specs.Commands.{Free}

@@ -1,5 +1,5 @@
 -- Behind LargeResponse in the clear the connection stands for what its request left of the sessions before it.
-use Rattle.std.proofs.Common.{◌≡◌, ◌<◌, ◌∙◌, ◌==◌, ℕ, List, [], ◌∷◌, sym, ap, subst, true, None}
+use Rattle.std.proofs.Common.{◌≡◌, ◌<◌, ◌∙◌, ◌==◌, ◌++◌, ℕ, List, [], ◌∷◌, refl, sym, ap, subst, true, false, Option, None}
 use Rattle.std.specs.Prelude.{slice_index}
 use Rattle.mctp_framing.specs.Cutting.{RouteFields}
 use Rattle.capture_ends.proofs.InTurn.{AnswersInTurn}
@@ -19,7 +19,7 @@ use Rattle.fetched_ends.specs.Held.{StandsBefore}
 use Rattle.fetched_ends.specs.declared.held.Held.{Held}
 use Rattle.requester_machine.specs.May.{IsSetUp}
 use Rattle.requester_machine.specs.Setup.{ReqSetup}
-use Rattle.responder_machine.specs.History.{History, kept_of}
+use Rattle.responder_machine.specs.History.{Entry, History, kept_of}
 use Rattle.responder_machine.specs.History.Entry.{Clear}
 use Rattle.responder_machine.specs.Turn.{Turn}
 use Rattle.world_machine.specs.LargeAnswers.{turn_with}

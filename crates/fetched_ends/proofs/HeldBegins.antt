@@ -1,7 +1,7 @@
 -- LargeResponse in the clear, upon which the requester asks for a chunk: what is kept of the large answer that is fetched from
 -- then on.
-use Rattle.std.proofs.Common.{◌≡◌, ◌<◌, ◌+◌, ◌==◌, ℕ, List, [], ◌∷◌, refl, sym, ap, ◌∙◌, subst, drop, Bool, true, false, Option, Some, None, is_some, cond, inl, inr}
-use Rattle.std.specs.Prelude.{slice_index}
+use Rattle.std.proofs.Common.{◌≡◌, ◌≤◌, ◌<◌, ◌+◌, ◌==◌, ◌&&◌, ◌↔◌, ℕ, List, [], ◌∷◌, ◌++◌, refl, sym, ap, ◌∙◌, subst, drop, take, length, arith, Bool, true, false, Option, Some, None, is_some, cond, inl, inr}
+use Rattle.std.specs.Prelude.{nat_lt, slice_index}
 use Rattle.std.proofs.lemmas.Slice.Eq.{bytes_eq-Decides}
 use Rattle.spdm_basis.proofs.Bools.{and_second}
 use Rattle.mctp_framing.specs.Cutting.{RouteFields}
@@ -17,7 +17,7 @@ use Rattle.fetched_answers.proofs.LargeSized.{large_is_sized}
 use Rattle.fetched_answers.proofs.LargeTurns.{large_is_unseen}
 use Rattle.fetched_answers.specs.ClearSessions.{IsUnseenRequest}
 use Rattle.fetched_ends.proofs.HeardOn.{heard_on}
-use Rattle.large_answers.specs.Fetching.{Fetching, gives_in, number_given, number_of}
+use Rattle.large_answers.specs.Fetching.{Fetching, MayStand, HasSize, answer_by, bytes_given, bytes_in, gives_in, number_given, number_of, size_in, size_told}
 use Rattle.large_answers.specs.FetchingLaws.{BeginsFetching, place_in}
 use Rattle.requester_machine.specs.May.{IsSetUp}
 use Rattle.requester_machine.specs.Setup.{ReqSetup}
@@ -25,7 +25,7 @@ use Rattle.responder_machine.specs.Handling.{turn_of}
 use Rattle.responder_machine.specs.History.{Entry, History, clear_turns, kept_of, phase_of}
 use Rattle.responder_machine.specs.History.Entry.{Clear}
 use Rattle.responder_machine.specs.May.{with_dropped}
-use Rattle.responder_machine.specs.Place.{clear_place, inside}
+use Rattle.responder_machine.specs.Place.{Place, clear_place, inside}
 use Rattle.responder_machine.specs.Refusal.{sizes_are_known}
 use Rattle.responder_machine.specs.Responder.{is_repeat, sent_by}
 use Rattle.responder_machine.specs.Responder.Outcome.{Adds}
@@ -36,7 +36,7 @@ use Rattle.world_machine.proofs.FetchBegins.{Leaves, large_leaves}
 use Rattle.world_machine.proofs.PlacesServed.{named_clear}
 use Rattle.world_machine.proofs.PlainTells.{led_clear}
 use Rattle.world_machine.specs.CapturedAnswers.{AnswersLarge}
-use Rattle.world_machine.specs.LargeAnswers.{IsLargeAnswer, is_unseen_in, place_named, place_of, turn_with, unseen}
+use Rattle.world_machine.specs.LargeAnswers.{IsLargeAnswer, is_unseen_effect, is_unseen_in, place_named, place_of, turn_with, unseen}
 use Rattle.world_machine.specs.Rounds.{Round, no_draw}
 use Rattle.world_machine.specs.Setup.{Configuration}
 

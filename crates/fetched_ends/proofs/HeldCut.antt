@@ -1,12 +1,13 @@
 -- The bytes that a chunk fills may stand, and their next chunk can be cut.
-use Rattle.std.proofs.Common.{◌≡◌, ◌≢◌, ◌≤◌, ◌<◌, ℕ, List, sym, ap, ◌∙◌, subst, drop, length, arith, true, false, Option, Some, None}
+use Rattle.std.proofs.Common.{◌≡◌, ◌≢◌, ◌≤◌, ◌<◌, ◌+◌, ℕ, List, refl, sym, ap, ◌∙◌, subst, drop, length, arith, Bool, true, false, Option, Some, None}
 use Rattle.std.specs.Prelude.{nat_lt}
 use Rattle.std.proofs.lemmas.Bool.Decides.{nat_tests}
 use Rattle.capture_ends.specs.declared.party.Party.{Party}
 use Rattle.chunking.specs.Cutting.{chunk_count}
+use Rattle.fetched_answers.proofs.ReadyGets.{common_given}
 use Rattle.fetched_answers.specs.ClearChunks.{clear_with}
 use Rattle.fetched_ends.proofs.Filled.{stands_now}
-use Rattle.fetched_ends.proofs.HeldRounds.{asked, transfer_is}
+use Rattle.fetched_ends.proofs.HeldRounds.{IsAsked, asked, transfer_is}
 use Rattle.fetched_ends.specs.Held.{AreHeldFitting, CanBeCut, IsHeldIn, filled_with, repeats_held}
 use Rattle.fetched_ends.specs.InSession.{bytes_with, filled, size_with}
 use Rattle.fetched_ends.specs.declared.held.Held.{Held}
@@ -14,7 +15,7 @@ use Rattle.large_answers.proofs.Sized.{transfer_few}
 use Rattle.large_answers.specs.Fetching.{Fetching, IsFetchingOf, MayStand, bytes_of, number_of, size_of}
 use Rattle.requester_machine.specs.Setup.{ReqSetup}
 use Rattle.responder_machine.specs.History.{clear_turns, negotiation_of}
-use Rattle.responder_machine.specs.Place.{place_terms}
+use Rattle.responder_machine.specs.Place.{clear_place, place_terms}
 use Rattle.spdm_grammar.specs.Message.RequestMessage.{GetVersion}
 use Rattle.spdm_grammar.specs.Requests.{canonical_request}
 use Rattle.spdm_grammar.specs.declared.names.TheConstants.{MIN_DATA_TRANSFER_SIZE}

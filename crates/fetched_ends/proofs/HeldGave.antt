@@ -1,6 +1,6 @@
 -- An answer is the next chunk of some bytes that may stand: what it shows of them, and that the bytes which it fills have the
 -- same chunk.
-use Rattle.std.proofs.Common.{◌≡◌, ◌≢◌, ◌≤◌, ◌==◌, ℕ, List, refl, sym, ap, ◌∙◌, subst, drop, take, length, arith, Bool, true, false, Option, Some, None, cond}
+use Rattle.std.proofs.Common.{◌≡◌, ◌≢◌, ◌≤◌, ◌<◌, ◌+◌, ◌-◌, ◌*◌, ◌==◌, ◌++◌, ℕ, suc, List, ◌∷◌, refl, sym, ap, ◌∙◌, subst, drop, take, length, arith, Bool, true, false, Option, Some, None, cond}
 use Rattle.std.proofs.lemmas.Bool.{false≢true}
 use Rattle.std.proofs.lemmas.List.{length-take}
 use Rattle.std.proofs.lemmas.Option.{same_Some}
@@ -12,16 +12,16 @@ use Rattle.fetched_answers.proofs.ClearChunks.{next_is_given}
 use Rattle.fetched_answers.specs.ClearChunks.{get_entry, get_message, get_response}
 use Rattle.fetched_ends.proofs.Filled.{filled_begins, filled_long}
 use Rattle.fetched_ends.proofs.HeldCut.{bytes_is, filled_is, size_is}
-use Rattle.fetched_ends.proofs.HeldRounds.{IsAsked, asked, fetch_is, place, response_is, transfer_is, type}
+use Rattle.fetched_ends.proofs.HeldRounds.{IsAsked, asked, fetch_is, handle_is, place, response_is, transfer_is, type}
 use Rattle.fetched_ends.specs.Held.{AreHeldFitting, IsHeldIn, IsResponse, chunk_held, filled_with, repeats_held}
 use Rattle.fetched_ends.specs.InSession.{bytes_with, filled, size_with}
 use Rattle.fetched_ends.specs.declared.held.Held.{Held}
 use Rattle.large_answers.proofs.Cuts.{same_begin, same_chunk}
-use Rattle.large_answers.proofs.Gave.{Gave, bytes_begin, bytes_next, size_next}
+use Rattle.large_answers.proofs.Gave.{Gave, bytes_begin, bytes_next, number_next, size_next}
 use Rattle.large_answers.proofs.GoesWith.{told_whole}
 use Rattle.large_answers.proofs.Stood.{Came, came}
 use Rattle.large_answers.proofs.Stood.Came.{Other, Chunk}
-use Rattle.large_answers.specs.Fetching.{Fetching, IsFetchingOf, MayStand, answer_by, bytes_of, number_of, size_in, size_of}
+use Rattle.large_answers.specs.Fetching.{Fetching, IsFetchingOf, MayStand, answer_by, bytes_given, bytes_in, bytes_of, number_given, number_of, size_in, size_of, size_told}
 use Rattle.requester_machine.specs.Setup.{ReqSetup}
 use Rattle.responder_machine.specs.History.{Entry, History}
 use Rattle.responder_machine.specs.May.{place_for}
@@ -38,7 +38,7 @@ use Rattle.spdm_machine.specs.Bodies.{clear_body}
 use Rattle.world_machine.proofs.GetTells.{transfer_of}
 use Rattle.world_machine.proofs.PlacesServed.{place_type}
 use Rattle.world_machine.specs.CapturedAnswers.{MayLeadTo}
-use Rattle.world_machine.specs.LargeAnswers.{place_named, with_large}
+use Rattle.world_machine.specs.LargeAnswers.{place_named, takes_get, with_large}
 use Rattle.world_machine.specs.Rounds.{Round}
 use Rattle.world_machine.specs.SessionTable.{Row}
 use Rattle.world_machine.specs.Setup.{Configuration}

@@ -1,21 +1,32 @@
 -- An answer with which a large one is fetched on in the clear: what the table is told of it.
-use Rattle.std.proofs.Common.{◌≡◌, ℕ, List, refl, sym, ap, ◌∙◌, arith, Bool, false, Some, None, cond}
-use Rattle.std.specs.Prelude.{nat_lt}
+use Rattle.std.proofs.Common.{◌≡◌, ◌+◌, ◌<◌, ◌==◌, ◌||◌, ℕ, List, refl, sym, ap, ◌∙◌, subst, length, arith, Bool, true, false, Option, Some, None, cond, inl}
+use Rattle.std.specs.Prelude.{nat_lt, not}
 use Rattle.std.proofs.lemmas.Bool.{false≢true}
 use Rattle.std.proofs.lemmas.Bool.Decides.{nat_tests}
 use Rattle.std.proofs.lemmas.Option.{none-some}
-use Rattle.capture_ends.specs.HeardKept.{heard_kept}
+use Rattle.mctp_framing.specs.Cutting.{RouteFields}
+use Rattle.mctp_framing.specs.Gathering.Gathered.{Whole}
+use Rattle.capture_ends.proofs.InTurn.{AnswersInTurn}
+use Rattle.capture_ends.specs.HeardKept.{asks_upon, heard_kept}
 use Rattle.capture_laws.specs.ChangeLaws.{AnswerAccepts}
-use Rattle.capture_laws.specs.Changes.{IsChange, IsStep, begun_between, views_in}
-use Rattle.capture_laws.specs.Keeping.{Kept, restored}
+use Rattle.capture_laws.specs.Changes.{IsChange, IsStep, answered_between, answered_in, begun_between, views_in}
+use Rattle.capture_laws.specs.Keeping.{Kept, kept_of, restored}
 use Rattle.capture_laws.specs.KeptChanges.{accepted_from}
-use Rattle.capture_laws.specs.RepliesShown.{answered}
+use Rattle.capture_laws.specs.RepliesShown.{answered, responder_for}
 use Rattle.capture_laws.specs.declared.change.Change.{Change}
 use Rattle.fetched_ends.proofs.ChangesOn.{accepted_on, asked_on}
 use Rattle.fetched_ends.specs.Held.{IsQuiet}
+use Rattle.large_answers.specs.Fetching.{Fetching, IsFetchingOf, dialogue_of}
+use Rattle.large_answers.specs.FetchingLaws.{GoesFetching}
+use Rattle.requester_machine.specs.History.{outstanding}
+use Rattle.requester_machine.specs.Setup.{ReqSetup}
 use Rattle.responder_machine.specs.History.{History}
-use Rattle.world_machine.specs.Rounds.{Round}
+use Rattle.world_machine.specs.Capture.{RepliesBy}
+use Rattle.world_machine.specs.CapturedAnswers.{Answers}
+use Rattle.world_machine.specs.LargeAnswers.{is_fetching, while_fetched}
+use Rattle.world_machine.specs.Rounds.{Dialogue, Round}
 use Rattle.world_machine.specs.SessionTable.{begun_count, has_begun, last_begun}
+use Rattle.world_machine.specs.Setup.{Configuration}
 
 not_less : (n : ℕ) → nat_lt n n ≡ false
 not_less n = grind (arith, nat_tests)

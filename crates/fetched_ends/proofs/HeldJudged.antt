@@ -1,5 +1,5 @@
 -- An answer while a large one is fetched in the clear, by what it was found to be: what is told of it.
-use Rattle.std.proofs.Common.{◌≡◌, ◌≢◌, ◌∙◌, ◌↔◌, ◌≤◌, IsTrue, ℕ, List, ◌∷◌, sym, ap, subst, drop, length, Bool, true, false, Option, Some, Result, Ok}
+use Rattle.std.proofs.Common.{◌≡◌, ◌≢◌, ◌∙◌, ◌↔◌, ◌≤◌, IsTrue, ℕ, List, ◌∷◌, refl, sym, ap, subst, drop, length, Bool, true, false, Option, Some, Result, Ok}
 use Rattle.std.specs.Prelude.{IfOk}
 use Rattle.spdm_basis.specs.declared.OutOfMemory.{OutOfMemory}
 use Rattle.spdm_grammar.specs.declared.names.TheConstants.{MAX_MESSAGE_SIZE}

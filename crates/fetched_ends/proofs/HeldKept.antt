@@ -1,5 +1,5 @@
 -- What is held of a large answer stands for what is kept also where only the requester's side went on.
-use Rattle.std.proofs.Common.{◌≡◌, ◌∙◌, List, sym, ap, subst}
+use Rattle.std.proofs.Common.{◌≡◌, ◌∙◌, ℕ, List, sym, ap, subst}
 use Rattle.capture_ends.specs.Party.{IsBeside}
 use Rattle.capture_ends.specs.declared.answer_keys.AnswerKeys.{AnswerKeys}
 use Rattle.capture_ends.specs.declared.answerer.Answerer.{Answerer}

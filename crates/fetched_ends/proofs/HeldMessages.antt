@@ -1,5 +1,5 @@
 -- What the text of an answer to a record holds: CHUNK_RESPONSE exactly where a chunk is given.
-use Rattle.std.proofs.Common.{◌≡◌, ◌≤◌, ◌+◌, ◌∙◌, ◌==◌, ◌&&◌, ◌||◌, ℕ, List, [], ◌∷◌, refl, sym, ap, subst, drop, length, Bool, true, false, Option, Some, None, cond, is_some}
+use Rattle.std.proofs.Common.{◌≡◌, ◌≤◌, ◌∙◌, ◌==◌, ℕ, List, ◌∷◌, refl, sym, ap, subst, drop, length, Bool, true, false, Option, Some, None, cond, is_some}
 use Rattle.std.proofs.lemmas.Bool.{false≢true}
 use Rattle.std.specs.Prelude.{slice_index}
 use Rattle.capture_laws.proofs.SessionShown.{text_is, updates_alike}
@@ -19,7 +19,7 @@ use Rattle.responder_machine.specs.Responder.Outcome.{Adds}
 use Rattle.responder_machine.specs.Responder.{data_turn, inner_refusal, inner_reply, on_clear, on_record, sent_by, session_turn, session_turn_by}
 use Rattle.responder_machine.specs.Session.{Events, id_in_record, session_of, stage_of}
 use Rattle.responder_machine.specs.Setup.{RspSetup}
-use Rattle.responder_machine.specs.Turn.{Turn, answer_in, handle_in, is_data, takes}
+use Rattle.responder_machine.specs.Turn.{Turn, answer_in, handle_in, takes}
 use Rattle.secured_record.specs.Format.{plain_text}
 use Rattle.spdm_grammar.specs.Message.{ChunkMessage, RequestMessage}
 use Rattle.spdm_grammar.specs.Message.RequestMessage.{GetVersion, GetCapabilities, NegotiateAlgorithms, GetMeasurements, PskExchange, PskFinish, Heartbeat, KeyUpdate, EndSession, ChunkSend, ChunkGet}

@@ -1,6 +1,6 @@
 -- An answer that is neither the same again nor the next chunk goes on from no walk, while a large one is fetched in the clear,
 -- and its verify data are not alone wrong.
-use Rattle.std.proofs.Common.{◌≡◌, ◌≢◌, ◌==◌, ℕ, List, [], ◌∷◌, refl, sym, ap, ◌∙◌, subst, drop, Bool, true, false, Option, Some, None, inl, inr, eqb-true}
+use Rattle.std.proofs.Common.{◌≡◌, ◌≢◌, ◌==◌, ◌⊎◌, ℕ, List, [], ◌∷◌, refl, sym, ap, ◌∙◌, subst, drop, Bool, true, false, Option, Some, None, inl, inr, eqb-true}
 use Rattle.std.specs.Prelude.{slice_index}
 use Rattle.std.proofs.lemmas.Bool.{false≢true}
 use Rattle.std.proofs.lemmas.Option.{none-some, same_Some}
@@ -21,17 +21,17 @@ use Rattle.fetched_ends.specs.declared.shown.Shown.TheVariants as shown
 use Rattle.large_answers.specs.Fetching.{Fetching, IsFetchingOf, MayStand, dialogue_of, number_of}
 use Rattle.large_answers.specs.FetchingLaws.{AnswersFrom, EndsFetching, GoesFetching, TurnsFetching}
 use Rattle.requester_machine.specs.Setup.{ReqSetup}
-use Rattle.responder_machine.specs.History.{History, kept_of}
-use Rattle.responder_machine.specs.Responder.{body_of, is_repeat, kept_reply}
+use Rattle.responder_machine.specs.History.{Entry, History, kept_of}
+use Rattle.responder_machine.specs.Responder.{Outcome, body_of, is_repeat, kept_reply}
 use Rattle.responder_machine.specs.Responder.Outcome.{Adds}
 use Rattle.responder_machine.specs.Setup.{RspSetup}
 use Rattle.spdm_grammar.specs.Message.RequestMessage.{GetVersion}
 use Rattle.spdm_grammar.specs.Requests.{canonical_request}
 use Rattle.spdm_machine.specs.Bodies.{clear_body}
-use Rattle.world_machine.specs.CapturedAnswers.{Answers, AnswersPlainly, MayLeadTo}
+use Rattle.world_machine.specs.CapturedAnswers.{Answers, AnswersPlainly, Completes, MayLeadTo}
 use Rattle.world_machine.specs.Difference.{AreRepliesApart, CompletesApart, GoesApart}
-use Rattle.world_machine.specs.LargeAnswers.{with_large}
-use Rattle.world_machine.specs.Rounds.{Round}
+use Rattle.world_machine.specs.LargeAnswers.{judging, with_large}
+use Rattle.world_machine.specs.Rounds.{Dialogue, Round}
 use Rattle.world_machine.specs.SessionTable.{Row}
 use Rattle.world_machine.specs.Setup.{Configuration}
 

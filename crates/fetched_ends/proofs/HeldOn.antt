@@ -1,5 +1,5 @@
 -- An answer with which a large one is fetched on in the clear: what the calls leave.
-use Rattle.std.proofs.Common.{◌≡◌, ◌∙◌, ◌<◌, ◌-◌, ◌^◌, ℕ, List, true, false, Option, Some, None, refl, sym, ap, length, arith, is_some}
+use Rattle.std.proofs.Common.{◌≡◌, ◌∙◌, ◌<◌, ◌≤◌, ◌+◌, ◌-◌, ◌^◌, ℕ, List, ◌∷◌, ◌++◌, Bool, true, false, Option, Some, None, refl, sym, ap, subst, length, arith, is_some}
 use Rattle.std.specs.Prelude.{IsSome}
 use Rattle.std.proofs.lemmas.Bool.{false≢true}
 use Rattle.capture_ends.proofs.FewMessages.{kept_messages}
@@ -14,7 +14,7 @@ use Rattle.fetched_ends.specs.declared.held.Held.{Held}
 use Rattle.large_answers.specs.Fetching.{Fetching, IsFetchingOf}
 use Rattle.requester_machine.specs.Setup.{ReqSetup}
 use Rattle.responder_machine.specs.BoundLaws.{messages_of}
-use Rattle.responder_machine.specs.History.{Entry}
+use Rattle.responder_machine.specs.History.{Entry, History}
 use Rattle.responder_machine.specs.History.Entry.{Clear}
 use Rattle.world_machine.specs.Rounds.{no_draw}
 use Rattle.world_machine.specs.SessionTable.{Row}
@@ -25,6 +25,7 @@ none_by None is = refl
 none_by (Some x) is = absurd (false≢true (sym is))
 
 pub some_by : (o : Option ℕ) → is_some o ≡ true → IsSome o
+
 some_by o is = is
 
 module _ (w : Configuration) (q : ReqSetup) (older : List (List ℕ)) (rows : List Row) (f : Fetching) (own : IsFetchingOf w q older f) (party : Party) (held : Held) (kept : IsHeldIn party held w q f rows) where

@@ -1,7 +1,8 @@
 -- Whether an answer is a chunk, by what is written of that.
-use Rattle.std.proofs.Common.{◌≡◌, ◌≤◌, ◌↔◌, ◌∙◌, IsTrue, ℕ, List, sym, ap, subst, length, Bool, false}
+use Rattle.std.proofs.Common.{◌≡◌, ◌≤◌, ◌↔◌, ◌∙◌, IsTrue, ℕ, List, refl, sym, ap, subst, length, Bool, true, false}
 use Rattle.std.proofs.lemmas.Bool.{false≢true}
 use Rattle.asking.proofs.Pieces.{piece_sound}
+use Rattle.chunking.specs.Cutting.{nth_chunk}
 use Rattle.fetched_ends.specs.Held.{CanBeCut, IsResponse, chunk_held}
 use Rattle.fetched_ends.specs.declared.held.Held.{Held}
 use Rattle.large_answers.proofs.Sized.{chunk_few}

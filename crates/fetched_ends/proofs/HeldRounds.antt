@@ -1,6 +1,6 @@
 -- The round while a large answer is fetched in the clear, and is no GET_VERSION: it goes there, and is a repeat, or CHUNK_GET
 -- for the next chunk of any bytes that may stand.
-use Rattle.std.proofs.Common.{◌≡◌, ◌≢◌, ◌==◌, ℕ, List, refl, sym, ap, ◌∙◌, subst, drop, Bool, true, false, Option, Some, None, cond, inl, inr}
+use Rattle.std.proofs.Common.{◌≡◌, ◌≢◌, ◌≤◌, ◌<◌, ◌==◌, ◌⊎◌, ℕ, List, refl, sym, ap, ◌∙◌, subst, drop, arith, Bool, true, false, Option, Some, None, cond, inl, inr}
 use Rattle.std.specs.Prelude.{slice_index}
 use Rattle.std.proofs.lemmas.Bool.{false≢true}
 use Rattle.std.proofs.lemmas.Option.{none-some, same_Some}
@@ -34,7 +34,7 @@ use Rattle.spdm_machine.specs.Bodies.{clear_body}
 use Rattle.world_machine.proofs.ChunksGiven.{Chunked}
 use Rattle.world_machine.proofs.ChunksGiven.Chunked.{Gone, Given}
 use Rattle.world_machine.proofs.FetchStates.{Fetch}
-use Rattle.world_machine.proofs.PlacesServed.{place_type}
+use Rattle.world_machine.proofs.PlacesServed.{named_clear, place_type}
 use Rattle.world_machine.specs.LargeAnswers.{place_named, with_large}
 use Rattle.world_machine.specs.Rounds.{Round}
 use Rattle.world_machine.specs.SessionTable.{Row}

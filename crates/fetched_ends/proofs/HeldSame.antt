@@ -1,6 +1,6 @@
 -- The same answer again to a repeat, while a large one is fetched in the clear: nothing more is kept of it.
-use Rattle.std.proofs.Common.{◌≡◌, ◌≢◌, ℕ, List, refl, sym, ap, ◌∙◌, subst, drop, length, arith, Bool, true, false, Some, None, cond, Ok}
-use Rattle.std.specs.Prelude.{nat_lt}
+use Rattle.std.proofs.Common.{◌≡◌, ◌≢◌, ◌==◌, ℕ, List, ◌∷◌, refl, sym, ap, ◌∙◌, subst, drop, length, arith, Bool, true, false, Option, Some, None, cond, Ok}
+use Rattle.std.specs.Prelude.{nat_lt, slice_index}
 use Rattle.std.proofs.lemmas.Bool.Decides.{nat_tests}
 use Rattle.mctp_framing.specs.Cutting.{RouteFields}
 use Rattle.mctp_framing.specs.Gathering.Gathered.{Whole}
@@ -22,7 +22,7 @@ use Rattle.fetched_ends.specs.Fetched.{IsRepliedTo, rows_upon}
 use Rattle.fetched_ends.specs.Held.{IsHeardHeld, IsHeldIn, IsQuiet, StandsBefore, repeats_held}
 use Rattle.fetched_ends.specs.declared.held.Held.{Held}
 use Rattle.fetched_ends.specs.declared.upon.Upon.TheVariants as upon
-use Rattle.large_answers.specs.Fetching.{Fetching, IsFetchingOf, dialogue_of}
+use Rattle.large_answers.specs.Fetching.{Fetching, IsFetchingOf, MayStand, dialogue_of}
 use Rattle.large_answers.specs.FetchingLaws.{GoesFetching}
 use Rattle.requester_machine.specs.May.{IsSetUp}
 use Rattle.requester_machine.specs.Setup.{ReqSetup}

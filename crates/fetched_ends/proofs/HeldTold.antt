@@ -1,5 +1,5 @@
 -- What is told of an answer while a large one is fetched in the clear: what is not judged, and why it is refused.
-use Rattle.std.proofs.Common.{◌≡◌, ◌≢◌, ◌==◌, ◌&&◌, ◌||◌, ◌∙◌, ℕ, List, refl, sym, ap, drop, Bool, true, false, Some, cond, inl, inr, Ok, Err, eqb-true}
+use Rattle.std.proofs.Common.{◌≡◌, ◌≢◌, ◌≤◌, ◌<◌, ◌-◌, ◌^◌, ◌+◌, ◌==◌, ◌&&◌, ◌||◌, ◌⊎◌, ◌∙◌, ℕ, List, refl, sym, ap, subst, drop, length, arith, Bool, true, false, Option, Some, None, cond, inl, inr, Ok, Err, eqb-true}
 use Rattle.std.specs.Prelude.{not, slice_index}
 use Rattle.std.proofs.lemmas.Bool.{false≢true}
 use Rattle.mctp_framing.specs.Cutting.{RouteFields}
@@ -8,7 +8,7 @@ use Rattle.script_text.specs.declared.why.Why as declared_why
 use Rattle.capture_ends.proofs.InTurn.{AnswersInTurn}
 use Rattle.capture_ends.specs.declared.party.Party.{Party}
 use Rattle.capture_laws.specs.Judged.{why_of}
-use Rattle.capture_laws.specs.Keeping.{restored}
+use Rattle.capture_laws.specs.Keeping.{Kept, restored}
 use Rattle.capture_laws.specs.RepliesShown.{responder_for}
 use Rattle.capture_laws.specs.declared.verdict.Seen.{Seen}
 use Rattle.fetched_ends.proofs.HeldNever.{apart_never, ends_never, goes_never, turns_never}
@@ -21,6 +21,7 @@ use Rattle.fetched_ends.specs.declared.shown.Shown.TheVariants as shown
 use Rattle.fetched_ends.specs.declared.upon.Upon.TheVariants as upon
 use Rattle.large_answers.specs.Fetching.{Fetching, IsFetchingOf, MayStand, dialogue_of}
 use Rattle.requester_machine.specs.Setup.{ReqSetup}
+use Rattle.responder_machine.specs.Responder.{Outcome}
 use Rattle.responder_machine.specs.Session.{id_in_record}
 use Rattle.responder_machine.specs.Setup.{RspSetup}
 use Rattle.spdm_grammar.specs.Message.RequestMessage.{GetVersion}
@@ -30,7 +31,7 @@ use Rattle.spdm_machine.specs.Packets.{body_type}
 use Rattle.world_machine.specs.Difference.{GoesApart, Why, goes_why, reply_why}
 use Rattle.world_machine.specs.Difference.Why.{BadPacket, UnknownEnd, WrongTurn, BadRequest, BadReply, BadVerify, BadRecord}
 use Rattle.world_machine.specs.Opening.{opens_answering}
-use Rattle.world_machine.specs.Rounds.{Dialogue}
+use Rattle.world_machine.specs.Rounds.{Dialogue, Round}
 use Rattle.world_machine.specs.SessionTable.{Row}
 use Rattle.world_machine.specs.Setup.{Configuration}
 
@@ -55,7 +56,7 @@ module _ (w : Configuration) (q : ReqSetup) (older : List (List ℕ)) (rows : Li
 
   -- The request is GET_VERSION.
   pub version_told : turn.round.body ≡ clear_body (canonical_request GetVersion) → IsRepliedTo w q older rows f route answer (Ok upon.Large) new stands table
-  version_told is = inr (inr (kept.at, (turn.round, turn.answers.0, inl is)))
+  version_told is = inr (inr (inr (kept.at, (turn.round, turn.answers.0, inl is))))
 
   -- It is a record of the RspSessionID 0.
   pub none_told : (not (slice_index answer 0 == 5) && id_in_record (drop 1 answer) == 0) ≡ true → IsRepliedTo w q older rows f route answer (Ok upon.Large) new stands table

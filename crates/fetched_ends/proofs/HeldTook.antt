@@ -1,26 +1,27 @@
 -- The next chunk of a large answer that is fetched in the clear, and more follow: what is kept behind it.
-use Rattle.std.proofs.Common.{◌≡◌, ◌≢◌, ◌≤◌, ◌<◌, ◌+◌, ◌==◌, ℕ, List, [], ◌∷◌, refl, sym, ap, ◌∙◌, subst, drop, take, length, arith, Bool, true, false, Option, Some, None, cond, Ok}
-use Rattle.std.specs.Prelude.{nat_lt}
+use Rattle.std.proofs.Common.{◌≡◌, ◌≢◌, ◌≤◌, ◌<◌, ◌+◌, ◌==◌, ◌++◌, ℕ, List, [], ◌∷◌, refl, sym, ap, ◌∙◌, subst, drop, take, length, arith, Bool, true, false, Option, Some, None, cond, inl, Ok}
+use Rattle.std.specs.Prelude.{nat_lt, slice_index}
 use Rattle.std.proofs.lemmas.Bool.Decides.{nat_tests}
 use Rattle.mctp_framing.specs.Cutting.{RouteFields}
 use Rattle.mctp_framing.specs.Gathering.Gathered.{Whole}
 use Rattle.capture_ends.proofs.InTurn.{AnswersInTurn}
+use Rattle.capture_ends.specs.AnswerKeys as answer_keys
 use Rattle.capture_ends.specs.AnswerKeys.{StandFor}
 use Rattle.capture_ends.specs.Asker.{Carries}
 use Rattle.capture_ends.specs.HeardKept.{asks_upon, heard_kept}
 use Rattle.capture_ends.specs.declared.party.Party.{Party}
 use Rattle.capture_laws.specs.Changes.{answered_in, views_in}
-use Rattle.capture_laws.specs.Keeping.{Kept}
+use Rattle.capture_laws.specs.Keeping.{Kept, restored}
 use Rattle.capture_laws.specs.RepliesShown.{responder_for}
 use Rattle.capture_laws.specs.declared.verdict.Seen.{Seen}
-use Rattle.chunking.specs.Cutting.{chunk_count, unit_of}
+use Rattle.chunking.specs.Cutting.{chunk_count, chunk_end, unit_of}
 use Rattle.fetched_answers.proofs.ClearChunks.{next_is_given}
 use Rattle.fetched_answers.proofs.ClearViews.{keys_stand_on, views_are_left}
 use Rattle.fetched_answers.proofs.MeanwhileClear.{get_goes_on}
-use Rattle.fetched_answers.specs.ClearChunks.{clear_with, get_message}
+use Rattle.fetched_answers.specs.ClearChunks.{clear_with, get_message, get_response}
 use Rattle.fetched_ends.proofs.HeardOn.{heard_on}
 use Rattle.fetched_ends.proofs.HeldCut.{can_be_cut}
-use Rattle.fetched_ends.proofs.HeldGave.{e, gave_there, p, response}
+use Rattle.fetched_ends.proofs.HeldGave.{e, gave_there, get, message_is, p, response}
 use Rattle.fetched_ends.proofs.HeldRounds.{asked, response_is, transfer_is}
 use Rattle.fetched_ends.specs.Fetched.{IsRepliedTo, rows_upon}
 use Rattle.fetched_ends.specs.Held.{IsHeardHeld, IsHeldIn, IsQuiet, IsResponse, StandsBefore, chunk_held, repeats_held}
@@ -41,7 +42,9 @@ use Rattle.responder_machine.specs.Place.{place_terms}
 use Rattle.responder_machine.specs.Setup.{RspSetup}
 use Rattle.spdm_basis.proofs.Bools.{suc_units}
 use Rattle.spdm_grammar.specs.Message.RequestMessage.{GetVersion}
+use Rattle.spdm_grammar.specs.Message.ResponseMessage.{ChunkResponse}
 use Rattle.spdm_grammar.specs.Requests.{canonical_request}
+use Rattle.spdm_grammar.specs.Responses.{canonical_response}
 use Rattle.spdm_grammar.specs.declared.names.TheConstants.{MAX_MESSAGE_SIZE}
 use Rattle.spdm_machine.specs.Bodies.{clear_body}
 use Rattle.large_answers.proofs.Sized.{chunk_few, transfer_few}

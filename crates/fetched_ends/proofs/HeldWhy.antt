@@ -1,15 +1,17 @@
 -- Why an answer is refused while a large one is fetched in the clear: it is told by what was left before its request.
-use Rattle.std.proofs.Common.{◌≡◌, ◌≢◌, ◌≤◌, ◌+◌, ◌==◌, ◌||◌, ◌++◌, ℕ, List, [], ◌∷◌, refl, sym, ap, ◌∙◌, drop, arith, Bool, true, false, Option, Some, cond, inl, inr}
+use Rattle.std.proofs.Common.{◌≡◌, ◌≢◌, ◌<◌, ◌≤◌, ◌+◌, ◌==◌, ◌||◌, ◌++◌, ◌⊎◌, ℕ, List, [], ◌∷◌, refl, sym, ap, ◌∙◌, subst, drop, arith, Bool, true, false, Option, Some, None, cond, inl, inr, Err}
 use Rattle.std.specs.Prelude.{MatchBool, slice_index}
+use Rattle.std.proofs.lemmas.Bool.{false≢true}
 use Rattle.mctp_framing.specs.Cutting.{RouteFields}
 use Rattle.mctp_framing.specs.Gathering.Gathered.{Whole}
 use Rattle.capture_ends.proofs.InTurn.{AnswersInTurn}
 use Rattle.capture_ends.specs.declared.answerer.Answerer.{Answerer}
 use Rattle.capture_ends.specs.declared.answer_keys.AnswerKeys.{AnswerKeys}
+use Rattle.capture_laws.specs.Judged.{why_of}
 use Rattle.capture_laws.specs.Keeping.{Kept, restored}
 use Rattle.capture_laws.specs.Order.{replies_wrong}
 use Rattle.fetched_answers.proofs.ClearViews.{clear_why_is_before}
-use Rattle.fetched_answers.specs.ClearSessions.{IsLeftBy, IsWithoutHandshake}
+use Rattle.fetched_answers.specs.ClearSessions.{AreGets, IsLeftBy, IsUnseenRequest, IsWithoutHandshake}
 use Rattle.fetched_ends.specs.Held.{StandsBefore}
 use Rattle.fetched_ends.specs.declared.held.Held.{Held}
 use Rattle.responder_machine.specs.BoundLaws.{messages_of}

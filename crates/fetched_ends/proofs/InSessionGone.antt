@@ -1,14 +1,13 @@
 -- What is kept behind a chunk of a large answer that is fetched in a session.
-use Rattle.std.proofs.Common.{◌≡◌, ◌≤◌, ◌<◌, ◌+◌, ◌-◌, ◌^◌, ◌==◌, ◌&&◌, ℕ, List, [], ◌∷◌, refl, sym, ap, ◌∙◌, subst, drop, length, arith, Bool, true, false, Option, Some, None, cond, eqb-true}
+use Rattle.std.proofs.Common.{◌≡◌, ◌<◌, ◌==◌, ◌&&◌, ℕ, List, [], ◌∷◌, refl, sym, ap, ◌∙◌, subst, drop, Bool, true, false, Some, None, cond, eqb-true}
 use Rattle.std.specs.Prelude.{not, slice_index}
 use Rattle.std.proofs.lemmas.Bool.{not-false, not-true}
 use Rattle.mctp_framing.specs.Cutting.{RouteFields}
-use Rattle.capture_ends.proofs.FewMessages.{after_more, kept_messages}
 use Rattle.capture_ends.proofs.InTurn.{AnswersInTurn}
 use Rattle.capture_ends.specs.AnswerKeys.{StandFor, will_take}
 use Rattle.capture_ends.specs.declared.answer_keys.AnswerKeys.{AnswerKeys}
 use Rattle.capture_laws.specs.ChangeLaws.{AnswerAccepts, WholeAnswerChanges}
-use Rattle.capture_laws.specs.Changes.{IsChange, views_in}
+use Rattle.capture_laws.specs.Changes.{IsChange, IsStep, views_in}
 use Rattle.capture_laws.specs.DropsShown.{IsShownAnswer}
 use Rattle.capture_laws.specs.Keeping.{restored}
 use Rattle.capture_laws.specs.KeptChanges.{accepted_from, taken_shown}
@@ -18,7 +17,6 @@ use Rattle.fetched_answers.specs.JudgedFor.{session_with}
 use Rattle.large_answers.specs.Fetching.{Fetching, IsFetchingOf, MayStand}
 use Rattle.requester_machine.specs.May.{IsSetUp}
 use Rattle.requester_machine.specs.Setup.{ReqSetup}
-use Rattle.responder_machine.specs.BoundLaws.{messages_of}
 use Rattle.responder_machine.specs.History.{Entry, History}
 use Rattle.responder_machine.specs.Place.{place_terms, session_place}
 use Rattle.responder_machine.specs.Refusal.{has_pending}
@@ -30,10 +28,11 @@ use Rattle.spdm_basis.proofs.Bools.{and_second}
 use Rattle.spdm_grammar.specs.declared.names.request_code.TheConstants.{CHUNK_GET, END_SESSION}
 use Rattle.world_machine.proofs.SeenAnswers.{led_stands}
 use Rattle.world_machine.proofs.UnseenStands.{UnseenStand}
-use Rattle.world_machine.specs.LargeAnswers.{gives_last, place_of, takes_get, with_large}
+use Rattle.world_machine.specs.LargeAnswers.{place_of, takes_get, with_large}
 use Rattle.world_machine.specs.Setup.{Configuration}
 use Rattle.fetched_ends.proofs.ChangesOn.{accepted_on, asked_on}
-use Rattle.fetched_ends.proofs.InSessionRecord.{behind_is, e, g, id_is, leads, next, still_plain, unseen_stand}
+use Rattle.fetched_ends.proofs.InSessionRecord.{behind_is, e, id_is, leads, next, still_plain, unseen_stand}
+use Rattle.fetched_ends.proofs.QuietSteps.{none_accepted, quiet_step}
 use Rattle.fetched_ends.proofs.RecordTaken.{taken_is}
 use Rattle.fetched_ends.proofs.SeenKeys.{keys_unseen, views_alike}
 
@@ -89,6 +88,11 @@ module _ (w : Configuration) (q : ReqSetup) (older : List (List ℕ)) (f : Fetch
         asked = asked ∙ sym (asked_on f.kept (added ∷ h) route.tag turn.round answer turn.answers.0 turn.answers.1);
         views = views ∙ ap views_in (sym behind) ∙ views_alike id v (added ∷ h) none_next;
       }
+
+  pub step_next : AnswerAccepts → WholeAnswerChanges → IsStep (restored f.kept) (restored kept_next.kept)
+  step_next accepts law =
+      quiet_step (restored f.kept) (restored kept_next.kept) refl (law (restored f.kept) (restored kept_next.kept) [] (Adds added) refl).0
+      (accepted_on f.kept (added ∷ h) route.tag turn.round answer turn.answers.0 turn.answers.1 accepts ∙ none_accepted f.kept turn.round.tag answer turn.body sealed)
 
   -- ---- What is left to be given.
 

@@ -1,23 +1,23 @@
 -- The last chunk of a large answer that is fetched in a session.
-use Rattle.std.proofs.Common.{◌≡◌, ◌≤◌, ◌<◌, ◌+◌, ◌-◌, ◌^◌, ◌==◌, ◌&&◌, ◌↔◌, ℕ, List, [], ◌∷◌, refl, sym, ap, ◌∙◌, subst, drop, length, arith, Bool, true, false, Option, Some, None, Ok, cond, inr}
-use Rattle.std.specs.Prelude.{◌||◌, is_some, not, slice_index, unwrap_or}
+use Rattle.std.proofs.Common.{◌≡◌, ◌<◌, ◌+◌, ◌&&◌, ℕ, List, [], ◌∷◌, refl, sym, ap, ◌∙◌, subst, length, Bool, true, false, Option, Some, None, Ok, cond, inr}
+use Rattle.std.specs.Prelude.{◌||◌, not}
 use Rattle.std.proofs.lemmas.Bool.{false≢true}
 use Rattle.std.proofs.lemmas.Option.{same_Some}
 use Rattle.mctp_framing.specs.Cutting.{RouteFields}
 use Rattle.mctp_framing.specs.Gathering.Gathered.{Whole}
 use Rattle.capture_ends.proofs.InTurn.{AnswersInTurn}
-use Rattle.capture_ends.specs.AnswerKeys.{StandFor, will_take}
+use Rattle.capture_ends.specs.AnswerKeys.{StandFor}
 use Rattle.capture_ends.specs.Answerer.{IsAnswerer}
-use Rattle.capture_ends.specs.Asker.{Carries, IsAsker}
+use Rattle.capture_ends.specs.Asker.{IsAsker}
 use Rattle.capture_ends.specs.ClearAnswers.{EndsLarge}
 use Rattle.capture_ends.specs.HeardKept.{asks_upon, heard_kept}
 use Rattle.capture_ends.specs.declared.party.Party.{Party}
 use Rattle.capture_laws.specs.AnswersShown.{values_shown_by}
 use Rattle.capture_laws.specs.ChangeLaws.{AnswerAccepts, LastChunkChanges, answered_by, begun_by, begun_by_large}
 use Rattle.capture_laws.specs.Changes.{IsChange, IsStep, answered_between, begun_between, views_in}
-use Rattle.capture_laws.specs.Keeping.{Kept, kept_of, restored}
+use Rattle.capture_laws.specs.Keeping.{Kept, restored}
 use Rattle.capture_laws.specs.KeptChanges.{accepted_from, taken_shown}
-use Rattle.capture_laws.specs.LargeShown.{ends_large, last_shown}
+use Rattle.capture_laws.specs.LargeShown.{last_shown}
 use Rattle.capture_laws.specs.RepliesShown.{answered, responder_for}
 use Rattle.capture_laws.specs.Rows as rows_of
 use Rattle.capture_laws.specs.Rows.{StandsForRows}
@@ -32,9 +32,8 @@ use Rattle.requester_machine.specs.May.{IsSetUp}
 use Rattle.requester_machine.specs.Setup.{ReqSetup}
 use Rattle.responder_machine.specs.History.{Entry, History}
 use Rattle.responder_machine.specs.History.Entry.{Clear, Sealed, Queued, Ticked, Dropped}
-use Rattle.responder_machine.specs.Responder.{Outcome, after}
+use Rattle.responder_machine.specs.Responder.{after}
 use Rattle.responder_machine.specs.Responder.Outcome.{Adds}
-use Rattle.responder_machine.specs.Session.{id_in_record}
 use Rattle.responder_machine.specs.Setup.{RspSetup}
 use Rattle.world_machine.specs.Capture.{RepliesBy}
 use Rattle.world_machine.specs.CapturedAnswers.{Answers, Completes}
@@ -42,9 +41,10 @@ use Rattle.world_machine.specs.LargeAnswers.{begun_with, dropped_before_large, i
 use Rattle.world_machine.specs.Rounds.{Dialogue, Round}
 use Rattle.world_machine.specs.SessionTable.{Row, number_from}
 use Rattle.world_machine.specs.Setup.{Configuration}
-use Rattle.fetched_ends.proofs.ChangesOn.{StepsOn, accepted_on, asked_on}
+use Rattle.fetched_ends.proofs.ChangesOn.{accepted_on, asked_on}
 use Rattle.fetched_ends.proofs.HeardOn.{IsHeardOn, heard_on}
 use Rattle.fetched_ends.proofs.InSessionRecord.{place_is}
+use Rattle.fetched_ends.proofs.QuietSteps.{none_accepted, quiet_step}
 use Rattle.fetched_ends.proofs.RecordTaken.{body_adds, entry_at, taken_is}
 use Rattle.fetched_ends.specs.Fetched.{IsRepliedTo, rows_upon}
 use Rattle.fetched_ends.specs.InSession.{IsFetchedIn, IsMeasuredBy, IsReadIn}
@@ -186,9 +186,6 @@ module _ (w : Configuration) (q : ReqSetup) (older : List (List ℕ)) (rows : Li
       pub ends_fetching : EndsFetching w f (Whole route answer) last_kept
       ends_fetching = (whole, behind, stand, replies, ap (λ (b : Bool). cond b None None) awaits_none, sym heard.kept)
 
-      pub step_last : StepsOn → IsStep (restored k) (restored last_kept)
-      step_last steps = subst (λ (x : Kept). IsStep (restored k) (restored x)) heard.kept (steps w q older k (Some whole) (Whole route answer) behind (own.all whole stand) replies)
-
       -- ---- The table.
 
       changes : LastChunkChanges → (begun_between (restored k) (restored last_kept) ≡ None) × (answered_between (restored k) (restored last_kept) ≡ answered_by (Adds last_entry))
@@ -201,6 +198,11 @@ module _ (w : Configuration) (q : ReqSetup) (older : List (List ℕ)) (rows : Li
           first_of : History → Entry → Entry
           first_of [] x = x
           first_of (y ∷ l) x = y
+
+      pub step_last : AnswerAccepts → LastChunkChanges → IsStep (restored f.kept) (restored last_kept)
+      step_last accepts chunks =
+          quiet_step (restored f.kept) (restored last_kept) refl (changes chunks).0
+          (accepted_on f.kept (last_entry ∷ g) route.tag turn.round answer turn.answers.0 turn.answers.1 accepts ∙ none_accepted f.kept turn.round.tag answer turn.body read.sealed)
 
       pub change_last : AnswerAccepts → LastChunkChanges → (change : Change) → change.begun ≡ None → change.accepted ≡ accepted_from f.kept turn.round.tag answer
           → change.answered ≡ taken_shown g turn.round.body answer → change.asked ≡ None → change.views ≡ views_in (last_entry ∷ g) → IsChange change (restored f.kept) (restored last_kept)

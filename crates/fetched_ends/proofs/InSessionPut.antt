@@ -1,13 +1,12 @@
 -- In the session in which a large answer is fetched, other bytes that may stand for it are pending where some are, and may be
 -- put there.
-use Rattle.std.proofs.Common.{◌≡◌, ◌≤◌, ◌<◌, ◌+◌, ◌==◌, ◌&&◌, ℕ, List, refl, sym, ap, ◌∙◌, subst, drop, length, arith, Bool, true, false, Option, Some, is_some}
+use Rattle.std.proofs.Common.{◌≡◌, ◌≤◌, ◌<◌, ◌+◌, ◌==◌, ℕ, List, refl, sym, ap, ◌∙◌, subst, drop, length, arith, true, false, Option, Some}
 use Rattle.std.specs.Prelude.{nat_lt, slice_index}
 use Rattle.std.proofs.lemmas.Bool.Decides.{nat_tests}
 use Rattle.spdm_basis.proofs.Bools.{and_second}
 use Rattle.mctp_framing.specs.Cutting.{RouteFields}
 use Rattle.capture_ends.proofs.InTurn.{AnswersInTurn}
 use Rattle.fetched_answers.proofs.PendingShown.{pending_is_measured}
-use Rattle.fetched_answers.specs.AlikeAnswers.{place_with}
 use Rattle.fetched_answers.specs.JudgedFor.{IsLong, IsMeasured, session_with}
 use Rattle.large_answers.proofs.Gave.{number_same}
 use Rattle.large_answers.proofs.GoesWith.{size_by, told}
@@ -15,7 +14,6 @@ use Rattle.large_answers.proofs.WithinMoved.{large_alike, pending_at}
 use Rattle.large_answers.specs.Fetching.{Fetching, IsFetchingOf, MayStand, dialogue_of, number_given, size_told}
 use Rattle.requester_machine.specs.May.{IsSetUp}
 use Rattle.requester_machine.specs.Setup.{ReqSetup}
-use Rattle.responder_machine.specs.Handling.{goes_large}
 use Rattle.responder_machine.specs.History.{History}
 use Rattle.responder_machine.specs.May.{place_for}
 use Rattle.responder_machine.specs.Place.{Place, Where, place_terms, session_place}
@@ -26,7 +24,6 @@ use Rattle.spdm_machine.specs.Terms.{terms_of}
 use Rattle.transcript.specs.Transcripts.{Negotiation}
 use Rattle.world_machine.proofs.ChunksGiven.{Chunked, gets_of}
 use Rattle.world_machine.proofs.EventsAlike.{EventsAlike, negotiation_alike}
-use Rattle.world_machine.proofs.FetchStates.{Fetch}
 use Rattle.world_machine.proofs.FetchedSessions.{sessions_fetched}
 use Rattle.world_machine.proofs.GetTells.{transfer_of}
 use Rattle.world_machine.proofs.PlacesServed.{place_type}

@@ -1,7 +1,7 @@
 -- An answer to a record of the session in which a large answer is fetched: what it leads to, with some bytes that may stand.
-use Rattle.std.proofs.Common.{◌≡◌, ◌≤◌, ◌<◌, ◌+◌, ◌-◌, ◌^◌, ◌==◌, ◌&&◌, ◌⊎◌, ℕ, List, [], ◌∷◌, refl, sym, ap, ◌∙◌, subst, drop, take, length, arith, Bool, true, false, Option, Some, None, cond, inl, inr}
-use Rattle.std.specs.Prelude.{nat_lt, not, slice_index}
-use Rattle.std.proofs.lemmas.Bool.{false≢true, not-false}
+use Rattle.std.proofs.Common.{◌≡◌, ◌<◌, ◌==◌, ℕ, List, ◌∷◌, refl, sym, ap, ◌∙◌, subst, drop, take, length, arith, Bool, true, false, Option, Some, cond}
+use Rattle.std.specs.Prelude.{slice_index}
+use Rattle.std.proofs.lemmas.Bool.{false≢true}
 use Rattle.std.proofs.lemmas.Option.{same_Some}
 use Rattle.mctp_framing.specs.Cutting.{RouteFields}
 use Rattle.mctp_framing.specs.Gathering.Gathered.{Whole}
@@ -13,41 +13,37 @@ use Rattle.capture_laws.proofs.OneWalk.{walks_alike}
 use Rattle.capture_laws.proofs.PlainShown.{plain_is_shown}
 use Rattle.capture_laws.specs.AnswersShown.{LeadsAt, answered_text, values_shown_by}
 use Rattle.capture_laws.specs.DropsShown.{IsShownAnswer, drops_shown_by, outcome_shown}
-use Rattle.capture_laws.specs.Keeping.{Kept, restored}
+use Rattle.capture_laws.specs.Keeping.{Kept}
 use Rattle.capture_laws.specs.Order.{body_in}
 use Rattle.capture_laws.specs.RepliesShown.{responder_for}
-use Rattle.capture_laws.specs.Walks.{Walks}
-use Rattle.chunking.specs.Cutting.{chunk_end, unit_of}
+use Rattle.chunking.specs.Cutting.{unit_of}
 use Rattle.large_answers.proofs.Gave.{Gave, bytes_begin, bytes_next, number_next, size_next}
 use Rattle.large_answers.proofs.GoesWith.{told_whole}
 use Rattle.large_answers.proofs.PlainLaws.{Now, now}
 use Rattle.large_answers.proofs.PlainLaws.Now.{Version, Chunk}
 use Rattle.large_answers.proofs.Stood.{Came, came}
 use Rattle.large_answers.proofs.Stood.Came.{Other, Chunk as Gives}
-use Rattle.large_answers.specs.Fetching.{Fetching, IsFetchingOf, MayStand, answer_by, bytes_given, dialogue_of, number_given, size_told}
+use Rattle.large_answers.specs.Fetching.{Fetching, IsFetchingOf, MayStand, answer_by, dialogue_of, number_given}
 use Rattle.large_answers.specs.FetchingLaws.{GoesFetching}
 use Rattle.large_answers.specs.FetchingShown.{ShowsChunk}
-use Rattle.requester_machine.specs.History.{outstanding}
 use Rattle.requester_machine.specs.May.{IsSetUp}
 use Rattle.requester_machine.specs.Setup.{ReqSetup}
 use Rattle.responder_machine.specs.History.{Entry, History}
 use Rattle.responder_machine.specs.May.{on_body, place_for, with_dropped}
-use Rattle.responder_machine.specs.Place.{Place, session_place}
-use Rattle.responder_machine.specs.Refusal.{has_pending}
-use Rattle.responder_machine.specs.Responder.{Outcome, after, body_of, sent_by}
+use Rattle.responder_machine.specs.Place.{Place}
+use Rattle.responder_machine.specs.Responder.{after, body_of, sent_by}
 use Rattle.responder_machine.specs.Responder.Outcome.{Adds}
 use Rattle.responder_machine.specs.Session.{id_in_record, session_of}
 use Rattle.responder_machine.specs.Setup.{RspSetup}
 use Rattle.secured_record.specs.Format.{plain_text}
 use Rattle.spdm_basis.proofs.Bools.{suc_units}
 use Rattle.world_machine.proofs.FetchStates.{Fetch}
-use Rattle.world_machine.proofs.Fetching.{IsSound}
 use Rattle.world_machine.proofs.GetTells.{transfer_of}
 use Rattle.world_machine.proofs.PlacesServed.{named_session}
 use Rattle.world_machine.proofs.SeenAnswers.{led_seen}
 use Rattle.world_machine.proofs.UnseenStands.{UnseenStand, old_in}
 use Rattle.world_machine.specs.CapturedAnswers.{AnswersPlainly, MayLeadTo, is_plain}
-use Rattle.world_machine.specs.LargeAnswers.{is_fetching, is_unseen_in, judging, place_named, seen, takes_get, with_large}
+use Rattle.world_machine.specs.LargeAnswers.{is_unseen_in, judging, place_named, seen, takes_get, with_large}
 use Rattle.world_machine.specs.Opening.{turn_in}
 use Rattle.world_machine.specs.Rounds.{Dialogue, Round, no_draw}
 use Rattle.world_machine.specs.Setup.{Configuration}
@@ -55,7 +51,7 @@ use Rattle.fetched_ends.proofs.HeardOn.{heard_on}
 use Rattle.fetched_ends.proofs.HeldMessages.{IsHeld, held_in}
 use Rattle.fetched_ends.proofs.PlainTexts.{one_inner}
 use Rattle.fetched_ends.specs.InSession.{is_chunk}
-use Rattle.fetched_ends.proofs.RecordTaken.{entry, may_lead, no_drops, shown_adds, shown_behind}
+use Rattle.fetched_ends.proofs.RecordTaken.{entry, may_lead, no_drops, shown_adds}
 
 module _ (w : Configuration) (q : ReqSetup) (older : List (List ℕ)) (f : Fetching) (route : RouteFields) (answer : List ℕ) (byte : w.responder.beat < 256) (limits : IsSetUp f.kept.setup) (own : IsFetchingOf w q older f) (turn : AnswersInTurn f.kept route answer)
     (id : ℕ) (at : f.at ≡ Some id) (type : (slice_index turn.round.body 0 == 5) ≡ false) where

@@ -1,54 +1,41 @@
 -- What is told of a chunk of a large answer that is fetched in a session.
-use Rattle.std.proofs.Common.{◌≡◌, ◌≤◌, ◌<◌, ◌+◌, ◌-◌, ◌^◌, ◌==◌, ◌↔◌, ℕ, List, [], ◌∷◌, refl, sym, ap, ◌∙◌, subst, drop, length, arith, Bool, true, false, Option, Some, None, Ok, cond, inl}
-use Rattle.std.specs.Prelude.{◌||◌, MatchBool, not, slice_index}
+use Rattle.std.proofs.Common.{◌≡◌, ◌≤◌, ◌<◌, ◌+◌, ◌-◌, ◌^◌, ◌==◌, ◌↔◌, ℕ, List, [], ◌∷◌, refl, sym, ap, ◌∙◌, subst, length, arith, Bool, true, false, Option, Some, Ok, cond}
+use Rattle.std.specs.Prelude.{MatchBool}
 use Rattle.mctp_framing.specs.Cutting.{RouteFields}
-use Rattle.mctp_framing.specs.Gathering.Gathered.{Whole}
-use Rattle.capture_ends.proofs.FewMessages.{after_more, kept_messages}
+use Rattle.capture_ends.proofs.FewMessages.{kept_messages}
 use Rattle.capture_ends.proofs.InTurn.{AnswersInTurn}
-use Rattle.capture_ends.specs.AnswerKeys.{IsComingKey, StandFor, will_take}
+use Rattle.capture_ends.specs.AnswerKeys.{StandFor, will_take}
 use Rattle.capture_ends.specs.Answerer.{IsAnswerer}
 use Rattle.capture_ends.specs.Asker.{Carries, IsAsker}
-use Rattle.capture_ends.specs.HeardKept.{asks_upon, heard_kept}
-use Rattle.capture_ends.specs.Party.{IsBeside}
-use Rattle.capture_ends.specs.declared.answer_keys.AnswerKeys.{AnswerKeys}
-use Rattle.capture_ends.specs.declared.answerer.Answerer.{Answerer}
+use Rattle.capture_ends.specs.HeardKept.{asks_upon}
 use Rattle.capture_ends.specs.declared.party.Party.{Party}
-use Rattle.capture_laws.specs.Changes.{IsStep}
 use Rattle.capture_laws.specs.DropsShown.{IsShownAnswer}
-use Rattle.capture_laws.specs.Keeping.{Kept, kept_of, restored}
-use Rattle.capture_laws.specs.RepliesShown.{answered, responder_for}
+use Rattle.capture_laws.specs.Keeping.{Kept, restored}
+use Rattle.capture_laws.specs.RepliesShown.{responder_for}
 use Rattle.capture_laws.specs.Rows as rows_of
 use Rattle.capture_laws.specs.Rows.{StandsForRows}
-use Rattle.capture_laws.specs.declared.places.Places.{Places}
 use Rattle.capture_laws.specs.declared.verdict.Seen.{Seen}
 use Rattle.fetched_answers.specs.JudgedFor.{session_with}
 use Rattle.fetched_answers.specs.LastShown.{IsShownEntry, IsShownWhole}
-use Rattle.large_answers.specs.Fetching.{Fetching, IsFetchingOf, MayStand, answer_by, bytes_of, dialogue_of, number_of, size_in, size_of}
+use Rattle.large_answers.specs.Fetching.{Fetching, IsFetchingOf, MayStand, answer_by, bytes_of, number_of, size_in, size_of}
 use Rattle.large_answers.specs.FetchingShown.{ShowsChunk}
 use Rattle.large_answers.specs.LargeAnswers.{StandsFor}
-use Rattle.requester_machine.specs.History.{outstanding}
+use Rattle.measurements.specs.Records.{is_missing}
 use Rattle.requester_machine.specs.May.{IsSetUp}
 use Rattle.requester_machine.specs.Setup.{ReqSetup}
 use Rattle.responder_machine.specs.BoundLaws.{messages_of}
 use Rattle.responder_machine.specs.History.{Entry, History}
 use Rattle.responder_machine.specs.History.Entry.{Clear, Sealed, Queued, Ticked, Dropped}
-use Rattle.responder_machine.specs.May.{on_body, with_dropped}
 use Rattle.responder_machine.specs.Place.{place_terms, session_place}
 use Rattle.responder_machine.specs.Refusal.{has_pending}
-use Rattle.responder_machine.specs.Responder.{after}
 use Rattle.responder_machine.specs.Session.{session_terms}
-use Rattle.responder_machine.specs.Setup.{RspSetup}
-use Rattle.world_machine.specs.Capture.{RepliesBy}
-use Rattle.world_machine.specs.CapturedAnswers.{Answers}
-use Rattle.world_machine.specs.LargeAnswers.{asks_known, is_fetching, is_unseen_in, seen, takes_get, while_fetched, with_large}
-use Rattle.world_machine.specs.Rounds.{Dialogue, Round}
+use Rattle.responder_machine.specs.Setup.{RspSetup, inventory_of}
+use Rattle.world_machine.specs.LargeAnswers.{is_unseen_in, seen, takes_get, with_large}
 use Rattle.world_machine.specs.SessionTable.{Row, number_from}
 use Rattle.world_machine.specs.Setup.{Configuration}
-use Rattle.fetched_ends.proofs.ChangesOn.{StepsOn}
 use Rattle.fetched_ends.proofs.Filled.{stands_next}
-use Rattle.fetched_ends.proofs.HeardOn.{heard_on}
 use Rattle.fetched_ends.proofs.InSessionGone.{keys_next, pending_next, sizes_next}
-use Rattle.fetched_ends.proofs.InSessionRecord.{behind_is, e, gets, goes, message_is, next, plainly, shows_chunk, unseen_none}
+use Rattle.fetched_ends.proofs.InSessionRecord.{behind_is, e, gets, goes, message_is, next, shows_chunk, unseen_none}
 use Rattle.fetched_ends.specs.Fetched.{IsRepliedTo, rows_upon}
 use Rattle.fetched_ends.specs.InSession.{AreLengths, AsksFor, IsFetchedIn, IsMeasuredBy, IsReadIn, bytes_with, filled, size_with}
 use Rattle.fetched_ends.specs.declared.in_session.InSession.{InSession}
@@ -191,6 +178,7 @@ module _ (w : Configuration) (q : ReqSetup) (older : List (List ℕ)) (rows : Li
       answer = are.came;
       lengths = subst (λ (n : ℕ). AreLengths f.place n newly.most) (sym are.least) (subst (AreLengths f.place fetched.least) (sym are.most) read.kept.lengths);
       asks = subst (λ (n : ℕ). AsksFor r n f.place newly.op (added ∷ f.kept.responder)) (sym are.id) (subst (λ (n : ℕ). AsksFor r fetched.id f.place n (added ∷ f.kept.responder)) (sym are.op) asks_then);
+      found = subst (λ (n : ℕ). is_missing n (inventory_of r) ≡ false) (sym are.op) read.kept.found;
       whole = whole;
       stands = stands_then;
       judges = subst (λ (n : ℕ). IsAnswerer new.answerer r (with_large (Some n) whole (added ∷ f.kept.responder))) (sym are.id) (subst (IsAnswerer new.answerer r) (sym behind) are.answerer);
@@ -204,17 +192,3 @@ module _ (w : Configuration) (q : ReqSetup) (older : List (List ℕ)) (rows : Li
         → IsRepliedTo w q older rows f route answer (Ok upon.Fetched) new (IsFetchedIn new newly w q) table
     fetched_on new newly table are asks =
         (then_kept, goes w q older f route answer byte limits own turn fetched.id at read.record_is whole stand will read.sealed shown asks, kept_then new newly table are, are.stands)
-
-    -- The step by which the table is told of it.
-    pub step_then : StepsOn → asks_upon k route.tag answer ≡ true → IsStep (restored k) (restored then_kept.kept)
-    unfolding Answers
-    step_then steps asks =
-        let behind_it : History = added ∷ f.kept.responder in
-        let heard = heard_on w q older k limits carries route.tag turn.round answer turn.answers.0 turn.answers.1 (Some whole) behind_it in
-        let awaits : is_fetching (outstanding heard.history) ≡ true = heard.asks ∙ asks in
-        let d : Dialogue = dialogue_of f whole in
-        let after_it : Dialogue = record d { requester = heard.history; responder = behind_it; fetching = while_fetched heard.history (Some whole); round = Some (answered turn.round) } in
-        let plain = plainly w q older f route answer byte limits own turn fetched.id at read.record_is whole stand will read.sealed shown in
-        let replies : RepliesBy w d (Whole route answer) after_it =
-        (turn.body, turn.owner, (turn.round, turn.answers.0, turn.answers.1, turn.answers.2, (behind_it, Some whole, inl (plain, refl), (heard.history, heard.hears, refl, ap (λ (b : Bool). not b || true) awaits)))) in
-        subst (λ (x : Kept). IsStep (restored k) (restored x)) heard.kept (steps w q older k (Some whole) (Whole route answer) after_it (own.all whole stand) replies)

@@ -7,6 +7,7 @@ pub mod PlainTexts
 pub mod HeldMessages
 pub mod HeardOn
 pub mod ChangesOn
+pub mod QuietSteps
 pub mod RecordTaken
 pub mod Filled
 pub mod MeasuredTurns
@@ -16,6 +17,18 @@ pub mod InSessionGone
 pub mod InSessionTold
 pub mod BeginsThere
 pub mod InSessionLast
+pub mod ChunkTold
+pub mod TextsHeld
+pub mod MeasuredParts
+pub mod TextsAlike
+pub mod InSessionWrong
+pub mod InSessionRefused
+pub mod InSessionRead
+pub mod FetchedKept
+pub mod BegunStands
+pub mod BegunChanges
+pub mod LengthsIn
+pub mod BegunTold
 pub mod HeldRounds
 pub mod HeldCut
 pub mod HeldGave

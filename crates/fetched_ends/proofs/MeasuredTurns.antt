@@ -1,5 +1,5 @@
 -- GET_MEASUREMENTS in a session, whose answer goes by LargeResponse: its turn, at some values.
-use Rattle.std.proofs.Common.{◌≡◌, ◌≤◌, ◌==◌, ◌&&◌, ◌||◌, ℕ, List, refl, sym, ap, ◌∙◌, subst, drop, length, Bool, true, false, Option, Some, None, is_some, cond}
+use Rattle.std.proofs.Common.{◌≡◌, ◌==◌, ℕ, List, refl, sym, ap, ◌∙◌, drop, Bool, true, false, Option, Some, None, is_some, cond}
 use Rattle.std.specs.Prelude.{slice_index}
 use Rattle.std.proofs.lemmas.Bool.{false≢true}
 use Rattle.large_answers.proofs.TurnsMoved.{Near, refusal_moved}

@@ -1,7 +1,7 @@
 -- A text has one inner message.
 use Rattle.std.proofs.Common.{◌≡◌, ◌<◌, ◌+◌, ◌++◌, ℕ, List, sym, ap, ◌∙◌, drop, take, length, length-append, arith}
 use Rattle.std.proofs.Math.Seq.{take-append_seam}
-use Rattle.byteorder.specs.Endian.{little_bytes, little_number}
+use Rattle.byteorder.specs.Endian.{little_number}
 use Rattle.secured_record.proofs.Records.{inner_length}
 use Rattle.secured_record.specs.Format.{plain_text}
 

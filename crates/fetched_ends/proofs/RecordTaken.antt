@@ -1,20 +1,18 @@
 -- An answer to a record that its session takes: what it leads to is an entry, and shows no session that was dropped.
-use Rattle.std.proofs.Common.{◌≡◌, ◌≤◌, ◌==◌, ◌&&◌, ◌||◌, ℕ, List, [], ◌∷◌, refl, sym, ap, ◌∙◌, subst, drop, length, Bool, true, false, Option, Some, None, cond, inl, inr}
-use Rattle.std.specs.Prelude.{not, slice_index}
+use Rattle.std.proofs.Common.{◌≡◌, ◌==◌, ◌&&◌, ◌||◌, ℕ, List, [], ◌∷◌, sym, ap, ◌∙◌, drop, Bool, true, false, Some, None, cond, inl, inr}
+use Rattle.std.specs.Prelude.{slice_index}
 use Rattle.std.proofs.lemmas.Bool.{false≢true, not-true}
 use Rattle.spdm_basis.proofs.Bools.{and_first, and_second}
 use Rattle.capture_ends.proofs.KeysKept.{LeadsBy, record_leads}
-use Rattle.capture_ends.specs.AnswerKeys.{is_taken_in, session_named, will_take}
+use Rattle.capture_ends.specs.AnswerKeys.{is_taken_in, will_take}
 use Rattle.capture_ends.specs.Answerer.{history_shown}
 use Rattle.capture_laws.specs.AnswersShown.{LeadsAt, values_shown_by}
 use Rattle.capture_laws.specs.DropsShown.{clear_drops, drops_shown_by, may_be_dropped, outcome_shown, record_drops}
 use Rattle.capture_laws.specs.KeptChanges.{is_kept_record, taken_shown}
-use Rattle.capture_laws.specs.LargeShown.{drops_before, large_shown, last_shown}
 use Rattle.responder_machine.specs.Answer.{Free}
 use Rattle.responder_machine.specs.History.{Entry, History, ended_of}
-use Rattle.responder_machine.specs.History.Entry.{Sealed}
 use Rattle.responder_machine.specs.May.{on_body, with_dropped}
-use Rattle.responder_machine.specs.Responder.{Outcome, after, inner_reply, on_clear, on_record, repeats, sealed_entry}
+use Rattle.responder_machine.specs.Responder.{after, on_clear, on_record, repeats, sealed_entry}
 use Rattle.responder_machine.specs.Responder.Outcome.{Adds}
 use Rattle.responder_machine.specs.Session.{Events, id_in_record, last_of, session_of}
 use Rattle.responder_machine.specs.Setup.{RspSetup}

@@ -1,6 +1,6 @@
 -- The keys of answers that are kept of a history are those of it with some bytes as a large answer that was not seen in a
 -- session; and its sessions are shown alike.
-use Rattle.std.proofs.Common.{◌≡◌, ◌==◌, ℕ, List, [], ◌∷◌, refl, sym, ap, ◌∙◌, subst, Bool, true, false, Option, Some, None, cond}
+use Rattle.std.proofs.Common.{◌≡◌, ℕ, List, [], ◌∷◌, refl, sym, ap, subst, Bool, true, false, Option, Some, None, cond}
 use Rattle.std.specs.Prelude.{MatchBool}
 use Rattle.key_schedule.specs.Purpose.{Purpose}
 use Rattle.capture_ends.specs.AnswerKeys.{IsEndedKey, IsKeyOfTurn, IsLastKey, StandFor, last_key}
@@ -9,15 +9,14 @@ use Rattle.capture_laws.specs.Changes.{shown, views_in}
 use Rattle.responder_machine.specs.Heard.{view_of}
 use Rattle.responder_machine.specs.History.{Entry, History}
 use Rattle.responder_machine.specs.History.Entry.{Clear, Sealed, Queued, Ticked, Dropped}
-use Rattle.responder_machine.specs.Session.{Event, Events, id_bytes, id_in_record, session_of, session_terms}
+use Rattle.responder_machine.specs.Session.{Events, id_bytes, id_in_record, session_of, session_terms}
 use Rattle.responder_machine.specs.Session.Event.{Began, Heard, Waited}
 use Rattle.responder_machine.specs.Setup.{RspSetup}
 use Rattle.responder_machine.specs.Turn.{Turn, takes, updates}
-use Rattle.responder_session.specs.OwnAnswers.{IsAnswerKey, IsKeyOfReply}
+use Rattle.responder_session.specs.OwnAnswers.{IsAnswerKey}
 use Rattle.responder_session.specs.declared.answer_key.AnswerKey.{AnswerKey}
 use Rattle.spdm_grammar.specs.declared.choice.Choice.{Choice}
 use Rattle.spdm_grammar.specs.declared.names.request_code.TheConstants.{END_SESSION}
-use Rattle.spdm_grammar.specs.declared.session_view.SessionView.{SessionView}
 use Rattle.world_machine.proofs.FetchedSessions.{takes_with}
 use Rattle.world_machine.proofs.UnseenStands.{UnseenStand}
 use Rattle.world_machine.specs.LargeAnswers.{handle_shown, is_unseen_in, seen, seen_turn, with_large}

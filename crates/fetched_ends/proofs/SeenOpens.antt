@@ -1,13 +1,13 @@
 -- Which records open as answers, in a history with some bytes as a large answer that was not seen in a session, and without;
 -- and under which keys.
-use Rattle.std.proofs.Common.{◌≡◌, ◌+◌, ◌==◌, ◌&&◌, ◌||◌, ℕ, List, [], ◌∷◌, refl, sym, ap, ◌∙◌, subst, drop, take, Bool, true, false, Option, Some, None, cond}
-use Rattle.std.specs.Prelude.{bytes_eq, is_none, nat_lt, not}
+use Rattle.std.proofs.Common.{◌≡◌, ◌+◌, ◌&&◌, ◌||◌, ℕ, List, [], ◌∷◌, refl, ap, ◌∙◌, take, Bool, true, false, Option, Some, cond}
+use Rattle.std.specs.Prelude.{bytes_eq, is_none, not}
 use Rattle.key_schedule.specs.Purpose.{Purpose}
 use Rattle.responder_machine.specs.History.{Entry, History, KeptRecord, ended_of}
 use Rattle.responder_machine.specs.History.Entry.{Clear, Sealed, Queued, Ticked, Dropped}
-use Rattle.responder_machine.specs.Records.{opened, opening_fault, reply_number, reply_purpose, response_purpose}
-use Rattle.responder_machine.specs.Responder.{kept_record, repeats, session_turn}
-use Rattle.responder_machine.specs.Session.{Event, Events, id_bytes, id_in_record, is_live, last_of, response_epoch, response_next, session_of, session_terms}
+use Rattle.responder_machine.specs.Records.{opened, opening_fault, response_purpose}
+use Rattle.responder_machine.specs.Responder.{repeats, session_turn}
+use Rattle.responder_machine.specs.Session.{Events, id_bytes, id_in_record, is_live, last_of, response_epoch, response_next, session_of, session_terms}
 use Rattle.responder_machine.specs.Session.Event.{Began, Heard, Waited}
 use Rattle.responder_machine.specs.Setup.{RspSetup}
 use Rattle.responder_machine.specs.Turn.{Effect, Turn, takes, updates}

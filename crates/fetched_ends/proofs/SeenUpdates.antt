@@ -1,7 +1,7 @@
 -- Whether a record updates all keys hangs on no byte of a large answer of its session, nor on whether one is pending.
 use Rattle.std.proofs.Common.{◌≡◌, ◌+◌, ◌==◌, ◌&&◌, ◌||◌, ℕ, List, [], ◌∷◌, refl, sym, ap, ◌∙◌, subst, drop, Bool, true, false, Option, Some, None, cond}
 use Rattle.std.specs.Option.{option_or}
-use Rattle.std.specs.Prelude.{bytes_eq, is_none, is_some, nat_lt, not, length, slice_index}
+use Rattle.std.specs.Prelude.{is_none, is_some, nat_lt, not, length, slice_index}
 use Rattle.std.proofs.lemmas.Bool.{false≢true}
 use Rattle.spdm_basis.specs.Tests.{first_of_tests}
 use Rattle.responder_machine.proofs.Codes.{asked-code}

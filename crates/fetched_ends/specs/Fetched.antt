@@ -1,40 +1,40 @@
 -- What is told of an answer to a requester while a large one is fetched. This project's own.
-use Rattle.std.specs.Prelude.{◌≡◌, ◌+◌, ◌⊎◌, ℕ, List, drop, length, slice_index, nat_lt, false, IsSome, Some, None, Result, Ok, Err}
+use Rattle.std.specs.Prelude.{◌≡◌, ◌+◌, ◌⊎◌, ℕ, List, drop, length, slice_index, Some, None, Result, Ok, Err, nat_lt, true, false, IsSome}
 use Rattle.mctp_framing.specs.Cutting.{RouteFields}
 use Rattle.mctp_framing.specs.Gathering.{Gathered}
 use Rattle.mctp_framing.specs.Gathering.Gathered.{Whole}
 use Rattle.requester_machine.specs.Setup.{ReqSetup}
-use Rattle.responder_machine.specs.History.{History}
-use Rattle.responder_machine.specs.Place.{place_terms}
 use Rattle.responder_machine.specs.Session.{id_in_record}
 use Rattle.script_text.specs.declared.why.Why as declared
-use Rattle.capture_ends.specs.HeardKept.{asks_upon}
 use Rattle.capture_ends.specs.Party.{IsParty}
 use Rattle.capture_ends.specs.declared.party.Party.{Party}
 use Rattle.capture_laws.specs.Judged.{why_of}
 use Rattle.capture_laws.specs.Keeping.{Kept, restored}
-use Rattle.capture_laws.specs.KeptChanges.{accepted_from}
 use Rattle.capture_laws.specs.LargeShown.{IsShownLarge}
 use Rattle.capture_laws.specs.RepliesShown.{responder_for}
 use Rattle.capture_laws.specs.Rows.{StandsForRows}
 use Rattle.capture_laws.specs.declared.verdict.Seen.{Seen}
-use Rattle.chunking.specs.Cutting.{chunk_count}
-use Rattle.fetched_answers.specs.ClearChunks.{clear_with, get_message, get_response}
 use Rattle.large_answers.specs.Fetching.{Fetching, MayStand, dialogue_of, number_of}
 use Rattle.large_answers.specs.FetchingLaws.{EndsFetching, GoesFetching, TurnsFetching}
+use Rattle.fetched_ends.specs.InSession.{IsOther}
 use Rattle.fetched_ends.specs.declared.upon.Upon.{Upon}
 use Rattle.fetched_ends.specs.declared.upon.Upon.TheVariants as upon
+use Rattle.world_machine.specs.Difference.{GoesApart, Why, goes_why}
+use Rattle.world_machine.specs.Difference.Why.{BadVerify}
+use Rattle.world_machine.specs.LargeAnswers.{judging, with_large}
+use Rattle.world_machine.specs.Rounds.{Round}
+use Rattle.world_machine.specs.SessionTable.{Row, rows_between}
+use Rattle.world_machine.specs.Setup.{Configuration}
+use Rattle.responder_machine.specs.History.{History}
+use Rattle.responder_machine.specs.Place.{place_terms}
+use Rattle.capture_ends.specs.HeardKept.{asks_upon}
+use Rattle.capture_laws.specs.KeptChanges.{accepted_from}
+use Rattle.chunking.specs.Cutting.{chunk_count}
+use Rattle.fetched_answers.specs.ClearChunks.{clear_with, get_message, get_response}
 use Rattle.spdm_grammar.specs.Message.RequestMessage.{GetVersion}
 use Rattle.spdm_grammar.specs.Requests.{canonical_request}
 use Rattle.spdm_machine.specs.Bodies.{clear_body}
 use Rattle.world_machine.specs.CapturedAnswers.{AnswersPlainly}
-use Rattle.world_machine.specs.Difference.{GoesApart, Why, goes_why}
-use Rattle.world_machine.specs.Difference.Why.{BadVerify}
-use Rattle.world_machine.specs.LargeAnswers.{judging}
-use Rattle.world_machine.specs.Rounds.{Round}
-use Rattle.world_machine.specs.SessionTable.{Row, rows_between}
-use Rattle.world_machine.specs.Setup.{Configuration}
-
 -- The rows that a packet makes.
 abbrev pub rows_upon : Kept → Kept → List Row → List Row
 rows_upon k next rows = rows_between (restored k) (restored next) rows
@@ -70,13 +70,15 @@ IsEndInClear w f round answer =
     (round.body ≡ clear_body (canonical_request GetVersion)) ⊎ (IsLastInClear f round answer ⊎ IsAskedNone w f round answer)
 
 -- It is not judged: it begins another large answer by what it shows; or a large answer is fetched in the clear, and it is a
--- record of the RspSessionID 0, or one of those.
+-- record of the RspSessionID 0, or one of those; or one is fetched in a session, and it is told apart there.
 abbrev pub IsUnjudged : Configuration → Fetching → (answer : List ℕ) → Type 0
 IsUnjudged w f answer =
     ((round : Round) × (whole : List ℕ) × (f.kept.round ≡ Some round) × MayStand f whole
     × IsShownLarge (responder_for w f.kept) (judging (Some whole) round.body f.kept.responder) round.tag round.body answer)
     ⊎ (((f.at ≡ None) × (slice_index answer 0 ≡ 6) × (id_in_record (drop 1 answer) ≡ 0))
-    ⊎ ((f.at ≡ None) × ((round : Round) × (f.kept.round ≡ Some round) × IsEndInClear w f round answer)))
+    ⊎ (((id : ℕ) × (round : Round) × (whole : List ℕ) × (f.at ≡ Some id) × (f.kept.round ≡ Some round) × MayStand f whole
+    × IsOther (responder_for w f.kept) (with_large (Some id) whole f.kept.responder) f.kept round answer)
+    ⊎ ((f.at ≡ None) × ((round : Round) × (f.kept.round ≡ Some round) × IsEndInClear w f round answer))))
 
 -- It goes on, and then this stands for what is kept behind it, and so does the table; or it is not judged; or it is
 -- refused, and then why.

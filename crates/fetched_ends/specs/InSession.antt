@@ -1,15 +1,20 @@
 -- A large answer that is fetched in a session, as the program keeps it: the connection judges with some bytes in its place.
 -- This project's own.
-use Rattle.std.specs.Prelude.{◌≡◌, ◌≤◌, ◌<◌, ◌+◌, ◌-◌, ◌==◌, ◌++◌, ◌↔◌, ℕ, List, ◌∷◌, drop, length, slice_index, Bool, true, false, if◌then◌else◌, Option, Some, None, unwrap_or, MatchOption}
+use Rattle.std.specs.Prelude.{◌≡◌, ◌≤◌, ◌<◌, ◌-◌, ◌==◌, ◌++◌, ◌↔◌, ℕ, List, drop, length, slice_index, Bool, true, false, if◌then◌else◌, Option, Some, None, unwrap_or}
 use Rattle.capture_ends.specs.AnswerKeys.{will_take}
+use Rattle.capture_ends.specs.ClearAnswers.{EndsLarge}
+use Rattle.capture_ends.specs.HeardKept.{asks_upon}
 use Rattle.capture_ends.specs.Party.{IsBeside}
 use Rattle.capture_ends.specs.declared.party.Party.{Party}
 use Rattle.capture_laws.specs.AnswersShown.{answered_text}
+use Rattle.capture_laws.specs.DropsShown.{IsShownAnswer}
+use Rattle.capture_laws.specs.Keeping.{Kept}
 use Rattle.capture_laws.specs.RepliesShown.{responder_for}
 use Rattle.fetched_answers.specs.AnswerTexts.{Holds}
 use Rattle.fetched_answers.specs.JudgedFor.{JudgesFor, session_with}
 use Rattle.fetched_answers.specs.LastShown.{IsShownWhole}
 use Rattle.fetched_ends.specs.declared.in_session.InSession.{InSession}
+use Rattle.measurements.specs.Records.{is_missing}
 use Rattle.large_answers.specs.Fetching.{Fetching, MayStand, bytes_in, size_in}
 use Rattle.large_answers.specs.LargeAnswers.{StandsFor}
 use Rattle.requester_machine.specs.Setup.{ReqSetup}
@@ -18,13 +23,14 @@ use Rattle.responder_machine.specs.History.{History}
 use Rattle.responder_machine.specs.Place.{Place, place_terms, session_place}
 use Rattle.responder_machine.specs.Refusal.{has_pending}
 use Rattle.responder_machine.specs.Session.{id_in_record, session_of, session_terms}
-use Rattle.responder_machine.specs.Setup.{RspSetup}
+use Rattle.responder_machine.specs.Setup.{RspSetup, inventory_of}
 use Rattle.spdm_grammar.specs.Fields.{zeros}
 use Rattle.spdm_grammar.specs.Responses.{canonical_response}
 use Rattle.spdm_grammar.specs.declared.names.TheConstants.{MAX_MESSAGE_SIZE}
 use Rattle.spdm_grammar.specs.declared.names.response_code.TheConstants.{CHUNK_RESPONSE}
 use Rattle.world_machine.specs.LargeAnswers.{IsLargeAnswer, with_large}
 use Rattle.world_machine.specs.Opening.{turn_in}
+use Rattle.world_machine.specs.Rounds.{Round}
 use Rattle.world_machine.specs.SessionTable.{Row}
 use Rattle.world_machine.specs.Setup.{Configuration}
 
@@ -87,13 +93,14 @@ AsksFor r id place op h = (whole : List ℕ) → IsLargeAnswer place whole → I
 -- ---- What is kept.
 
 -- The connection judges with some bytes that may stand, of which a chunk is left to be given; what is kept of the chunks,
--- the lengths that go by chunks, the RspSessionID, and the operation that the request asks for.
+-- the lengths that go by chunks, the RspSessionID, and the operation that the request asks for, which has its blocks.
 pub record IsFetchedIn (party : Party) (fetched : InSession) (w : Configuration) (q : ReqSetup) (f : Fetching) (rows : List Row) : Type 0 where
   pub beside : IsBeside party w q f.kept rows
   pub at : f.at ≡ Some fetched.id
   pub answer : StandsFor fetched.answer f
   pub lengths : AreLengths f.place fetched.least fetched.most
   pub asks : AsksFor (responder_for w f.kept) fetched.id f.place fetched.op f.kept.responder
+  pub found : is_missing fetched.op (inventory_of (responder_for w f.kept)) ≡ false
   pub whole : List ℕ
   pub stands : MayStand f whole
   pub judges : JudgesFor party.answerer.connection (responder_for w f.kept) f.kept.responder (Some fetched.id) whole
@@ -115,3 +122,18 @@ pub record IsReadIn (party : Party) (fetched : InSession) (w : Configuration) (q
   pub chunk : is_chunk message ≡ true
   pub fits : AreFitting fetched message
   pub fills : whole ≡ filled fetched.answer.number fetched.answer.size fetched.answer.bytes message
+
+-- ---- What is not judged.
+
+-- An answer in a round of the session, by the history with some bytes that may stand: the request is in the clear, which is
+-- GET_VERSION; or the session does not take it, as it does not where it is the request of the large answer again; the answer
+-- is in the clear, or shorter than a record, or holds no CHUNK_RESPONSE; or the requester does not ask for the next chunk
+-- upon the one before, or asks for one upon the last.
+pub data IsOther (r : RspSetup) (h : History) (k : Kept) (round : Round) (answer : List ℕ) : Type 0 where
+  AsksInClear : (slice_index round.body 0 == 5) ≡ true → IsOther r h k round answer
+  NotTaken : will_take r h round.body ≡ false → IsOther r h k round answer
+  AnswersInClear : (slice_index answer 0 == 5) ≡ true → IsOther r h k round answer
+  IsShort : length (drop 1 answer) < 26 → IsOther r h k round answer
+  HoldsOther : (text : List ℕ) → IsTextOf r h round.body answer text → ((message : List ℕ) → Holds text message → is_chunk message ≡ true → ⊥) → IsOther r h k round answer
+  Stops : IsShownAnswer r h round.tag round.body answer → asks_upon k round.tag answer ≡ false → IsOther r h k round answer
+  GoesOn : EndsLarge r h round.tag round.body answer → asks_upon k round.tag answer ≡ true → IsOther r h k round answer

@@ -1,3 +1,5 @@
 pub mod Fetched
 pub mod InSession
+pub mod ChunkJudged
+pub mod Prepared
 pub mod Held

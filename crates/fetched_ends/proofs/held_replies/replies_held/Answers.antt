@@ -1,4 +1,4 @@
-use Rattle.std.proofs.Common.{◌∙◌, ℕ, List, true, false, refl, sym, subst}
+use Rattle.std.proofs.Common.{◌≡◌, ◌≢◌, ◌∙◌, ◌<◌, ◌-◌, ◌^◌, ℕ, List, Bool, true, false, Option, Some, Ok, Err, refl, sym, ap, subst}
 use Rattle.capture_ends.proofs.InTurn.{answers_in_turn}
 use Rattle.capture_laws.specs.Keeping.{restored}
 use Rattle.capture_laws.specs.RepliesShown.{responder_for}

@@ -1,0 +1,49 @@
+-- What is kept of a large answer that is fetched in a session hangs on the set-up and the responder's history alone, so a
+-- request leaves it.
+use Rattle.std.proofs.Common.{◌≡◌, List, sym, ap, ◌∙◌, subst, false, Some}
+use Rattle.capture_ends.specs.Answerer.{IsAnswerer}
+use Rattle.capture_ends.specs.Party.{IsBeside}
+use Rattle.capture_ends.specs.declared.answerer.Answerer.{Answerer}
+use Rattle.capture_ends.specs.declared.party.Party.{Party}
+use Rattle.capture_laws.specs.Keeping.{Kept}
+use Rattle.capture_laws.specs.RepliesShown.{responder_for}
+use Rattle.fetched_answers.specs.JudgedFor.{session_with}
+use Rattle.large_answers.specs.Fetching.{Fetching, MayStand, bytes_given, number_given, size_told}
+use Rattle.measurements.specs.Records.{is_missing}
+use Rattle.requester_machine.specs.Setup.{ReqSetup}
+use Rattle.responder_machine.specs.History.{History}
+use Rattle.responder_machine.specs.Place.{session_place}
+use Rattle.responder_machine.specs.Refusal.{has_pending}
+use Rattle.responder_machine.specs.Session.{session_terms}
+use Rattle.responder_machine.specs.Setup.{inventory_of, towards}
+use Rattle.world_machine.specs.LargeAnswers.{with_large}
+use Rattle.world_machine.specs.SessionTable.{Row}
+use Rattle.world_machine.specs.Setup.{Configuration, known_of}
+use Rattle.fetched_ends.specs.InSession.{AsksFor, IsFetchedIn}
+use Rattle.fetched_ends.specs.declared.in_session.InSession.{InSession}
+
+pub fetched_with : (party new : Party) (fetched : InSession) (w : Configuration) (q : ReqSetup) (f : Fetching) (next : Kept) (rows behind : List Row) → IsFetchedIn party fetched w q f rows
+    → new.answerer ≡ party.answerer → next.setup ≡ f.kept.setup → next.responder ≡ f.kept.responder → IsBeside new w q next behind
+    → IsFetchedIn new fetched w q (record f { kept = next }) behind
+fetched_with party new fetched w q f next rows behind is answerer setup responder beside =
+    let same : f.kept.responder ≡ next.responder = sym responder in
+    let at_setup : f.kept.setup ≡ next.setup = sym setup in record {
+      beside = beside;
+      at = is.at;
+      answer = record {
+        size = is.answer.size ∙ ap (size_told f.at) same;
+        number = is.answer.number ∙ ap (number_given f.at) same;
+        bytes = is.answer.bytes ∙ ap (bytes_given f.at) same;
+      };
+      lengths = is.lengths;
+      asks = subst (λ (s : ReqSetup). AsksFor (towards w.responder (known_of s)) fetched.id f.place fetched.op next.responder) at_setup
+          (subst (AsksFor (responder_for w f.kept) fetched.id f.place fetched.op) same is.asks);
+      found = subst (λ (s : ReqSetup). is_missing fetched.op (inventory_of (towards w.responder (known_of s))) ≡ false) at_setup is.found;
+      whole = is.whole;
+      stands = subst (λ (h : History). MayStand (record f { kept = record f.kept { responder = h } }) is.whole) same is.stands;
+      judges = subst (λ (a : Answerer). IsAnswerer a (responder_for w next) (with_large (Some fetched.id) is.whole next.responder)) (sym answerer)
+          (subst (λ (s : ReqSetup). IsAnswerer party.answerer (towards w.responder (known_of s)) (with_large (Some fetched.id) is.whole next.responder)) at_setup
+          (subst (λ (h : History). IsAnswerer party.answerer (responder_for w f.kept) (with_large (Some fetched.id) is.whole h)) same is.judges));
+      pending = ap (λ (h : History). has_pending (session_place (session_with fetched.id h is.whole))) responder ∙ is.pending;
+      sizes = ap (λ (h : History). (session_terms (session_with fetched.id h is.whole)).common) responder ∙ is.sizes;
+    }

@@ -1,0 +1,18 @@
+-- A text that holds a message holds no other one.
+use Rattle.std.proofs.Common.{◌≡◌, ◌<◌, ◌+◌, ◌++◌, ℕ, List, ◌∷◌, sym, ap, ◌∙◌, drop, length, length-append, arith, true, false}
+use Rattle.std.proofs.lemmas.Bool.{false≢true}
+use Rattle.fetched_answers.specs.AnswerTexts.{Holds, HoldsNone}
+use Rattle.secured_record.specs.Format.{plain_text}
+use Rattle.fetched_ends.proofs.PlainTexts.{one_inner}
+use Rattle.fetched_ends.specs.InSession.{is_chunk}
+
+pub holds_none : (text : List ℕ) → length text < 65536 → HoldsNone text → (m : List ℕ) → Holds text m → ⊥
+holds_none text brief none m holds =
+    let long : length text ≡ length (plain_text (5 ∷ m) holds.0) = ap (λ (l : List ℕ). length l) holds.1 in
+    let more : length ((5 ∷ m) ++ holds.0) ≡ length (5 ∷ m) + length holds.0 = length-append (5 ∷ m) holds.0 in
+    let all : length (plain_text (5 ∷ m) holds.0) ≡ 2 + length ((5 ∷ m) ++ holds.0) = omega arith in
+    none m holds.0 (omega (arith, long, more, all, brief)) holds.1
+
+pub holds_other : (text one : List ℕ) → length text < 65536 → Holds text one → is_chunk one ≡ false → (m : List ℕ) → Holds text m → is_chunk m ≡ true → ⊥
+holds_other text one brief holds unlike m other chunk =
+    false≢true (sym unlike ∙ ap (λ (l : List ℕ). is_chunk (drop 1 l)) (one_inner text (5 ∷ one) (5 ∷ m) holds.0 other.0 brief holds.1 other.1) ∙ chunk)

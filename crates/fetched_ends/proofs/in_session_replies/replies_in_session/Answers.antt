@@ -1,0 +1,177 @@
+use Rattle.std.proofs.Common.{◌≡◌, ◌-◌, ◌^◌, ◌<◌, ◌∙◌, sym, ap, subst, length, arith, eq-eqb, ne_eqb, List, [], ℕ, false, Some, Option, inl, inr}
+use Rattle.std.specs.Prelude.{slice_index}
+use Rattle.std.proofs.lemmas.Option.{same_Some}
+use Rattle.capture_ends.proofs.InTurn.{answers_in_turn}
+use Rattle.capture_ends.proofs.PartyReplied.{kept_limits}
+use Rattle.capture_ends.specs.AnswerKeys.{will_take}
+use Rattle.capture_laws.specs.Keeping.{restored}
+use Rattle.capture_laws.specs.Order.{body_in}
+use Rattle.capture_laws.specs.RepliesShown.{responder_for}
+use Rattle.connection.specs.Connected as connected
+use Rattle.connection.specs.declared.connected.Connection.{Connection}
+use Rattle.fetched_answers.specs.AnswerTexts.{Holds}
+use Rattle.fetched_answers.specs.JudgedFor.{JudgesFor}
+use Rattle.world_machine.specs.LargeAnswers.{with_large}
+use Rattle.world_machine.specs.Rounds.{Round}
+use Rattle.fetched_ends.proofs.InSessionRead.{few_kept, fills_there, fits_kept, judges_there, keys_kept, read_there, stand_there, told_other}
+use Rattle.fetched_ends.proofs.InSessionRefused.{refused}
+use Rattle.fetched_ends.proofs.InSessionWrong.{Fits, misfit_last, misfit_plain, never_large, wrong_last, wrong_plain}
+use Rattle.fetched_ends.proofs.in_session_replies.replies_in_session.Goals as goal
+use Rattle.fetched_ends.specs.ChunkJudged.{IsChunkJudged, IsNoChunk}
+use Rattle.fetched_ends.specs.InSession.{IsFetchedIn, IsReadIn, IsTextOf}
+use Rattle.fetched_ends.specs.InSession.IsOther.{AsksInClear, NotTaken, AnswersInClear, IsShort, HoldsOther}
+use Rattle.fetched_ends.specs.declared.upon.Upon.{Upon}
+
+pub returns-then-byte_at-eq-CLEAR-clause-told : goal.returns-then-byte_at-eq-CLEAR-clause-told
+returns-then-byte_at-eq-CLEAR-clause-told c = λ w q older rows f route own below byte now set_up none is stands.
+    let fewer : length older < 2 ^ 64 - 1 = omega (arith, below) in
+    let answer : List ℕ = c.args.answer.now in
+    let turn = answers_in_turn f.kept route answer none in
+    let limits = kept_limits q f.kept c.args.party.now.asker is.beside.asker in
+    let at = now ∙ turn.answers.0 in
+    let body = c.body-body.ensures ∙ ap body_in at in
+    told_other w q older rows f route answer byte limits own turn c.args.party.now c.args.fetched.now is [] (AsksInClear (eq-eqb (slice_index turn.round.body 0) 5 (sym (c.byte_at.ensures ∙ ap (λ (l : List ℕ). slice_index l 0) body) ∙ c.if-byte_at-eq-CLEAR.true)))
+
+pub returns-then-byte_at-eq-CLEAR-2-clause-told : goal.returns-then-byte_at-eq-CLEAR-2-clause-told
+returns-then-byte_at-eq-CLEAR-2-clause-told c = λ w q older rows f route own below byte now set_up none is stands.
+    let fewer : length older < 2 ^ 64 - 1 = omega (arith, below) in
+    let answer : List ℕ = c.args.answer.now in
+    let turn = answers_in_turn f.kept route answer none in
+    let limits = kept_limits q f.kept c.args.party.now.asker is.beside.asker in
+    let at = now ∙ turn.answers.0 in
+    let body = c.body-body.ensures ∙ ap body_in at in
+    told_other w q older rows f route answer byte limits own turn c.args.party.now c.args.fetched.now is [] (AnswersInClear (eq-eqb (slice_index answer 0) 5 (sym c.byte_at-2.ensures ∙ c.if-byte_at-eq-CLEAR-2.true)))
+
+pub returns-then-not-reads_text-clause-told : goal.returns-then-not-reads_text-clause-told
+returns-then-not-reads_text-clause-told c = λ w q older rows f route own below byte now set_up none is stands.
+    let fewer : length older < 2 ^ 64 - 1 = omega (arith, below) in
+    let answer : List ℕ = c.args.answer.now in
+    let turn = answers_in_turn f.kept route answer none in
+    let limits = kept_limits q f.kept c.args.party.now.asker is.beside.asker in
+    let at = now ∙ turn.answers.0 in
+    let body = c.body-body.ensures ∙ ap body_in at in
+    let r = responder_for w f.kept in
+    let g = with_large (Some c.args.fetched.now.id) is.whole f.kept.responder in
+    let small = few_kept w q older rows f route answer byte limits own turn c.args.party.now c.args.fetched.now is [] fewer in
+    elim (c.reads_text.ensures.none r g is.judges small c.if-not-reads_text.true) [
+      | inl short ↦ told_other w q older rows f route answer byte limits own turn c.args.party.now c.args.fetched.now is [] (IsShort short)
+      | inr none_taken ↦ told_other w q older rows f route answer byte limits own turn c.args.party.now c.args.fetched.now is [] (NotTaken (subst (λ (b : List ℕ). will_take r g b ≡ false) body none_taken))
+    ]
+
+pub returns-in_default-clause-told : goal.returns-in_default-clause-told
+returns-in_default-clause-told c = λ w q older rows f route own below byte now set_up none is stands.
+    let fewer : length older < 2 ^ 64 - 1 = omega (arith, below) in
+    let answer : List ℕ = c.args.answer.now in
+    let turn = answers_in_turn f.kept route answer none in
+    let limits = kept_limits q f.kept c.args.party.now.asker is.beside.asker in
+    let at = now ∙ turn.answers.0 in
+    let body = c.body-body.ensures ∙ ap body_in at in
+    let r = responder_for w f.kept in
+    let g = with_large (Some c.args.fetched.now.id) is.whole f.kept.responder in
+    let small = few_kept w q older rows f route answer byte limits own turn c.args.party.now c.args.fetched.now is [] fewer in
+    let text = c.reads_text.new.text in
+    let read = subst (λ (b : List ℕ). IsTextOf r g b answer text) body (c.reads_text.ensures.told r g is.judges small c.if-not-reads_text.false) in
+    let same = c.as_slice.ensures.value in
+    told_other w q older rows f route answer byte limits own turn c.args.party.now c.args.fetched.now is [] (HoldsOther text read (λ m held is_it. c.in_default.ensures (subst (λ (l : List ℕ). length l < 65536) (sym same) read.brief) m (subst (λ (l : List ℕ). Holds l m) (sym same) held) is_it))
+
+pub returns-in_default-filled-clause-told : goal.returns-in_default-filled-clause-told
+returns-in_default-filled-clause-told c = λ w q older rows f route own below byte now set_up none is stands.
+    let fewer : length older < 2 ^ 64 - 1 = omega (arith, below) in
+    let answer : List ℕ = c.args.answer.now in
+    let turn = answers_in_turn f.kept route answer none in
+    let limits = kept_limits q f.kept c.args.party.now.asker is.beside.asker in
+    let at = now ∙ turn.answers.0 in
+    let body = c.body-body.ensures ∙ ap body_in at in
+    let r = responder_for w f.kept in
+    let g = with_large (Some c.args.fetched.now.id) is.whole f.kept.responder in
+    let small = few_kept w q older rows f route answer byte limits own turn c.args.party.now c.args.fetched.now is [] fewer in
+    let text = c.reads_text.new.text in
+    let read = subst (λ (b : List ℕ). IsTextOf r g b answer text) body (c.reads_text.ensures.told r g is.judges small c.if-not-reads_text.false) in
+    let type = ne_eqb (slice_index turn.round.body 0) 5 (λ e. c.if-byte_at-eq-CLEAR.false (c.byte_at.ensures ∙ ap (λ (l : List ℕ). slice_index l 0) body ∙ e)) in
+    let sealed = ne_eqb (slice_index answer 0) 5 (λ e. c.if-byte_at-eq-CLEAR-2.false (c.byte_at-2.ensures ∙ e)) in
+    let message = c.in-Some.message.now in
+    let holds = subst (λ (l : List ℕ). Holds l message) c.as_slice.ensures.value c.in-Some.ensures.0 in
+    let chunk = c.in-Some.ensures.1 in
+    let first = subst (λ (x : Connection). connected.StandsFor x r g) (sym c.reads_text.ensures.same) is.judges in
+    let why = c.reply_why-why.ensures.told r (record (restored f.kept) { responder = g }) turn.round first small (keys_kept w q older rows f route answer byte limits own turn c.args.party.now c.args.fetched.now is [] type) (sym body) in
+    let misfit : Fits f c.args.fetched.now.least c.args.fetched.now.most message → ⊥ = λ fits. c.in_default-filled.ensures (fits_kept w q older rows f route answer byte limits own turn c.args.party.now c.args.fetched.now is message fits) in
+    refused w q older rows f route answer byte limits own turn c.args.fetched.now.id is.at type c.args.fetched.now.least c.args.fetched.now.most c.args.fetched.now.op is.lengths is.asks is.whole is.stands c.reply_why-why.result why (record {
+      plain = misfit_plain w q older f route answer byte limits own turn c.args.fetched.now.id is.at type sealed text message holds chunk is.whole is.stands read c.args.fetched.now.least c.args.fetched.now.most is.lengths misfit;
+      large = never_large w q older f route answer byte limits own turn c.args.fetched.now.id is.at type sealed text message holds chunk is.whole is.stands read;
+      last = misfit_last w q older f route answer byte limits own turn c.args.fetched.now.id is.at type sealed text message holds chunk is.whole is.stands read c.args.fetched.now.least c.args.fetched.now.most is.lengths misfit;
+    }) c.args.party.now (IsFetchedIn c.args.party.now c.args.fetched.now w q) c.args.table.now
+
+pub returns-in-Some-2-clause-told : goal.returns-in-Some-2-clause-told
+returns-in-Some-2-clause-told c = λ w q older rows f route own below byte now set_up none is stands.
+    let fewer : length older < 2 ^ 64 - 1 = omega (arith, below) in
+    let answer : List ℕ = c.args.answer.now in
+    let turn = answers_in_turn f.kept route answer none in
+    let limits = kept_limits q f.kept c.args.party.now.asker is.beside.asker in
+    let at = now ∙ turn.answers.0 in
+    let body = c.body-body.ensures ∙ ap body_in at in
+    let r = responder_for w f.kept in
+    let g = with_large (Some c.args.fetched.now.id) is.whole f.kept.responder in
+    let small = few_kept w q older rows f route answer byte limits own turn c.args.party.now c.args.fetched.now is [] fewer in
+    let text = c.reads_text.new.text in
+    let read = subst (λ (b : List ℕ). IsTextOf r g b answer text) body (c.reads_text.ensures.told r g is.judges small c.if-not-reads_text.false) in
+    let type = ne_eqb (slice_index turn.round.body 0) 5 (λ e. c.if-byte_at-eq-CLEAR.false (c.byte_at.ensures ∙ ap (λ (l : List ℕ). slice_index l 0) body ∙ e)) in
+    let sealed = ne_eqb (slice_index answer 0) 5 (λ e. c.if-byte_at-eq-CLEAR-2.false (c.byte_at-2.ensures ∙ e)) in
+    let message = c.in-Some.message.now in
+    let holds = subst (λ (l : List ℕ). Holds l message) c.as_slice.ensures.value c.in-Some.ensures.0 in
+    let chunk = c.in-Some.ensures.1 in
+    let first = subst (λ (x : Connection). connected.StandsFor x r g) (sym c.reads_text.ensures.same) is.judges in
+    let why = c.reply_why-why.ensures.told r (record (restored f.kept) { responder = g }) turn.round first small (keys_kept w q older rows f route answer byte limits own turn c.args.party.now c.args.fetched.now is [] type) (sym body) in
+    let whole = c.as_slice-2.result.now in
+    let fits = c.in-Some-filled.ensures.0 in
+    let fills = c.as_slice-2.ensures.value ∙ c.in-Some-filled.ensures.1 in
+    let same = c.reply_why-why.ensures.same ∙ c.reads_text.ensures.same in
+    let judges = judges_there w q older rows f route answer byte limits own turn c.args.party.now c.args.fetched.now is message fits whole fills type sealed text read holds chunk c.put_bytes.new.connection
+    (λ s h l one two three stands_for. c.put_bytes.ensures s h l one two three (subst (λ (x : Connection). JudgesFor x s h (Some c.args.fetched.now.id) l) (sym same) stands_for)) in
+    let answerer = record c.reply_why-why.new.self { connection = c.put_bytes.new.connection } in
+    let there = read_there w q older rows f route answer byte limits own turn c.args.party.now c.args.fetched.now is message fits whole fills type sealed text read holds chunk answerer judges in
+    let in_round = subst (λ (b : List ℕ). IsReadIn (record c.args.party.now { answerer = answerer }) c.args.fetched.now w q f rows b answer message whole) (sym (ap body_in at)) there in
+    let in_call = subst (IsReadIn (record c.args.party.now { answerer = answerer }) c.args.fetched.now w q f rows (body_in c.args.round.now) answer message) (c.as_slice-2.ensures.value ∙ sym c.as_slice-3.ensures.value) in_round in
+    let told = c.in_ok-upon.ensures.told w q older rows f route own below byte now set_up none in_call stands in
+    subst (λ (x : Option Upon). IsChunkJudged w q older rows f route answer c.as_slice-3.result.now c.args.fetched.now x c.judges_chunk.new.party (IsFetchedIn c.judges_chunk.new.party c.judges_chunk.new.fetched w q) c.judges_chunk.new.table) c.in-Some-2.is told
+
+pub returns-in-None-clause-told : goal.returns-in-None-clause-told
+returns-in-None-clause-told c = λ w q older rows f route own below byte now set_up none is stands.
+    let fewer : length older < 2 ^ 64 - 1 = omega (arith, below) in
+    let answer : List ℕ = c.args.answer.now in
+    let turn = answers_in_turn f.kept route answer none in
+    let limits = kept_limits q f.kept c.args.party.now.asker is.beside.asker in
+    let at = now ∙ turn.answers.0 in
+    let body = c.body-body.ensures ∙ ap body_in at in
+    let r = responder_for w f.kept in
+    let g = with_large (Some c.args.fetched.now.id) is.whole f.kept.responder in
+    let small = few_kept w q older rows f route answer byte limits own turn c.args.party.now c.args.fetched.now is [] fewer in
+    let text = c.reads_text.new.text in
+    let read = subst (λ (b : List ℕ). IsTextOf r g b answer text) body (c.reads_text.ensures.told r g is.judges small c.if-not-reads_text.false) in
+    let type = ne_eqb (slice_index turn.round.body 0) 5 (λ e. c.if-byte_at-eq-CLEAR.false (c.byte_at.ensures ∙ ap (λ (l : List ℕ). slice_index l 0) body ∙ e)) in
+    let sealed = ne_eqb (slice_index answer 0) 5 (λ e. c.if-byte_at-eq-CLEAR-2.false (c.byte_at-2.ensures ∙ e)) in
+    let message = c.in-Some.message.now in
+    let holds = subst (λ (l : List ℕ). Holds l message) c.as_slice.ensures.value c.in-Some.ensures.0 in
+    let chunk = c.in-Some.ensures.1 in
+    let first = subst (λ (x : Connection). connected.StandsFor x r g) (sym c.reads_text.ensures.same) is.judges in
+    let why = c.reply_why-why.ensures.told r (record (restored f.kept) { responder = g }) turn.round first small (keys_kept w q older rows f route answer byte limits own turn c.args.party.now c.args.fetched.now is [] type) (sym body) in
+    let whole = c.as_slice-2.result.now in
+    let fits = c.in-Some-filled.ensures.0 in
+    let fills = c.as_slice-2.ensures.value ∙ c.in-Some-filled.ensures.1 in
+    let same = c.reply_why-why.ensures.same ∙ c.reads_text.ensures.same in
+    let judges = judges_there w q older rows f route answer byte limits own turn c.args.party.now c.args.fetched.now is message fits whole fills type sealed text read holds chunk c.put_bytes.new.connection
+    (λ s h l one two three stands_for. c.put_bytes.ensures s h l one two three (subst (λ (x : Connection). JudgesFor x s h (Some c.args.fetched.now.id) l) (sym same) stands_for)) in
+    let answerer = record c.reply_why-why.new.self { connection = c.put_bytes.new.connection } in
+    let there = read_there w q older rows f route answer byte limits own turn c.args.party.now c.args.fetched.now is message fits whole fills type sealed text read holds chunk answerer judges in
+    let in_round = subst (λ (b : List ℕ). IsReadIn (record c.args.party.now { answerer = answerer }) c.args.fetched.now w q f rows b answer message whole) (sym (ap body_in at)) there in
+    let in_call = subst (IsReadIn (record c.args.party.now { answerer = answerer }) c.args.fetched.now w q f rows (body_in c.args.round.now) answer message) (c.as_slice-2.ensures.value ∙ sym c.as_slice-3.ensures.value) in_round in
+    let told = c.in_ok-upon.ensures.told w q older rows f route own below byte now set_up none in_call stands in
+    let found = subst (λ (x : Option Upon). IsChunkJudged w q older rows f route answer c.as_slice-3.result.now c.args.fetched.now x c.judges_chunk.new.party (IsFetchedIn c.judges_chunk.new.party c.judges_chunk.new.fetched w q) c.judges_chunk.new.table) c.in-None.is told in
+    let one = subst (λ (x : Round). IsNoChunk r (with_large (Some c.args.fetched.now.id) c.as_slice-3.result.now f.kept.responder) c.args.fetched.now.op x answer c.as_slice-3.result.now) (same_Some found.0 turn.round (sym found.1 ∙ turn.answers.0)) found.2 in
+    let wrong = subst (λ (l : List ℕ). IsNoChunk r (with_large (Some c.args.fetched.now.id) l f.kept.responder) c.args.fetched.now.op turn.round answer l) (c.as_slice-3.ensures.value ∙ sym c.as_slice-2.ensures.value) one in
+    let stand_new = stand_there w q older rows f route answer byte limits own turn c.args.party.now c.args.fetched.now is message fits whole fills in
+    let fills_new = fills_there w q older rows f route answer byte limits own turn c.args.party.now c.args.fetched.now is message fits whole fills in
+    refused w q older rows f route answer byte limits own turn c.args.fetched.now.id is.at type c.args.fetched.now.least c.args.fetched.now.most c.args.fetched.now.op is.lengths is.asks is.whole is.stands c.reply_why-why.result why (record {
+      plain = wrong_plain w q older f route answer byte limits own turn c.args.fetched.now.id is.at type sealed text message holds chunk is.whole is.stands read c.args.fetched.now.least c.args.fetched.now.most c.args.fetched.now.op is.lengths is.asks whole stand_new fills_new wrong;
+      large = never_large w q older f route answer byte limits own turn c.args.fetched.now.id is.at type sealed text message holds chunk is.whole is.stands read;
+      last = wrong_last w q older f route answer byte limits own turn c.args.fetched.now.id is.at type sealed text message holds chunk is.whole is.stands read c.args.fetched.now.least c.args.fetched.now.most c.args.fetched.now.op is.lengths is.asks whole stand_new fills_new wrong;
+    }) c.args.party.now (IsFetchedIn c.args.party.now c.args.fetched.now w q) c.args.table.now

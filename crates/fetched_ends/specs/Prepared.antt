@@ -1,0 +1,28 @@
+-- What is kept of a large answer whose fetch is about to begin in a session. This project's own.
+use Rattle.std.specs.Prelude.{◌≡◌, ◌<◌, ℕ, List, drop, false, Some}
+use Rattle.large_answers.specs.Fetching.{Fetching, number_of}
+use Rattle.large_answers.specs.LargeAnswers.{StandsFor}
+use Rattle.measurements.specs.Records.{is_missing}
+use Rattle.responder_machine.specs.Answer.{request_at}
+use Rattle.responder_machine.specs.History.{History}
+use Rattle.responder_machine.specs.Place.{session_place}
+use Rattle.responder_machine.specs.Records.{opened}
+use Rattle.responder_machine.specs.Session.{id_in_record, session_of, session_terms}
+use Rattle.responder_machine.specs.Setup.{RspSetup, inventory_of}
+use Rattle.spdm_grammar.specs.Message.RequestMessage.{GetMeasurements}
+use Rattle.fetched_ends.specs.InSession.{AreLengths}
+use Rattle.fetched_ends.specs.declared.in_session.InSession.{InSession}
+
+-- The record asks for this operation of GET_MEASUREMENTS, in its session.
+abbrev pub AsksOperation : RspSetup → History → (request : List ℕ) → (op : ℕ) → Type 0
+AsksOperation r h request op =
+    let s = session_of (id_in_record request) h in request_at (session_place s) (drop 1 (opened r.psk s request)) ≡ Some (GetMeasurements op)
+
+-- What is kept where its large answer is fetched from now on, in its session: a chunk has room for some bytes.
+pub record IsPrepared (r : RspSetup) (h : History) (request : List ℕ) (fetched : InSession) : Type 0 where
+  pub id : fetched.id ≡ id_in_record request
+  pub asks : AsksOperation r h request fetched.op
+  pub found : is_missing fetched.op (inventory_of r) ≡ false
+  pub lengths : AreLengths (session_place (session_of (id_in_record request) h)) fetched.least fetched.most
+  pub wide : 12 < (session_terms (session_of (id_in_record request) h)).common.to_requester.transfer
+  pub none : (f : Fetching) → number_of f ≡ 0 → StandsFor fetched.answer f
