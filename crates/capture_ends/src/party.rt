@@ -109,6 +109,7 @@ impl Party {
             → StandsForRows table.old w (length older) rows
             → IsAskedBeside w q older rows k route body.now result self.new table.new }
         ensures answerer { self.new.answerer ≡ self.old.answerer }
+        ensures keys { self.new.keys ≡ self.old.keys }
         ensures stays { OnErr result (table.new ≡ table.old) }
     {
         if round.is_copy(tag, body) {
