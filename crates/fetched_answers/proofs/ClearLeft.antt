@@ -1,10 +1,12 @@
 -- While a large answer is fetched in the clear, the sessions are those that were left before its request.
-use Rattle.std.proofs.Common.{◌≡◌, ◌≢◌, ◌==◌, ℕ, List, [], ◌∷◌, ◌++◌, refl, sym, ap, ◌∙◌, subst, Bool, true, false, Some, None, cond, inl, inr, eq-eqb, eqb-true}
+use Rattle.std.proofs.Common.{◌≡◌, ◌≢◌, ◌==◌, ℕ, suc, arith, List, [], ◌∷◌, ◌++◌, refl, sym, ap, ◌∙◌, subst, Bool, true, false, Some, None, cond, inl, inr, eq-eqb, eqb-true}
 use Rattle.std.specs.Prelude.{MatchBool, not}
 use Rattle.std.proofs.lemmas.Bool.{false≢true, false_from_ne_true}
 use Rattle.spdm_basis.proofs.Bools.{and_first}
 use Rattle.spdm_grammar.specs.declared.names.request_code.TheConstants.{CHUNK_GET, GET_VERSION, PSK_EXCHANGE}
 use Rattle.spdm_machine.specs.Sessions.{id_in_exchange, is_past_handshake}
+use Rattle.responder_machine.proofs.GivenIds.{gives_other}
+use Rattle.responder_machine.proofs.NoSession.{no_session}
 use Rattle.responder_machine.specs.History.{Entry, History, clear_turns, negotiation_of}
 use Rattle.responder_machine.specs.History.Entry.{Clear, Sealed, Queued, Ticked, Dropped}
 use Rattle.responder_machine.specs.Session.{Events, after_exchange, session_of, stage_of, gives_id}
@@ -49,10 +51,9 @@ unseen_answer (Took a m [] (Some handle)) is = absurd (false≢true is)
 unseen_answer (Took a m (b ∷ l) large) is = absurd (false≢true is)
 unseen_answer (TookData bytes answer) is = absurd (false≢true is)
 
--- It begins the session 0, if any.
 unseen_id : (t : Turn) (id : ℕ) → is_unseen_effect t.effect ≡ true → id ≢ 0 → gives_id id (answer_in t.effect) ≡ false
 unseen_id t id is other =
-    ap (λ (l : List ℕ). id_in_exchange l == id) (unseen_answer t.effect is) ∙ false_from_ne_true (id_in_exchange [] == id) (λ same. other (sym (eqb-true 0 id same)))
+    gives_other id (answer_in t.effect) (ap (λ (l : List ℕ). id_in_exchange l == id) (unseen_answer t.effect is) ∙ false_from_ne_true (id_in_exchange [] == id) (λ same. other (sym (eqb-true 0 id same))))
 
 -- A session that is not in its handshake is past it, or there is none.
 settled : (s : Events) → is_in_handshake s ≡ false → cond (is_past_handshake (stage_of s)) s [] ≡ s
@@ -112,4 +113,6 @@ request_leaves (Ticked seconds) before left id other is leaves = absurd is
 request_leaves (Dropped which) before left id other is leaves = absurd is
 
 pub sessions_are_left : SessionsAreLeft
-sessions_are_left gets entry before left are is leaves id other = gets_stay gets (entry ∷ before) id are ∙ request_leaves entry before left id other is leaves
+sessions_are_left gets entry before left are is leaves 0 = no_session (gets ++ entry ∷ before) ∙ sym (no_session left)
+sessions_are_left gets entry before left are is leaves (suc n) =
+    gets_stay gets (entry ∷ before) (suc n) are ∙ request_leaves entry before left (suc n) (λ same. omega (arith, same)) is leaves

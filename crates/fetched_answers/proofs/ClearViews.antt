@@ -17,17 +17,17 @@ use Rattle.fetched_answers.specs.ClearSessions.{ClearWhyIsBefore, KeysStandOn, V
 use Rattle.world_machine.specs.Opening.{opens_next}
 
 pub clear_why_is_before : ClearWhyIsBefore
-clear_why_is_before r gets entry before left m sealed are is leaves other =
-    ap (λ (s : Events). opens_next r s sealed) (sessions_are_left gets entry before left are is leaves (id_in_record sealed) other)
+clear_why_is_before r gets entry before left m sealed are is leaves =
+    ap (λ (s : Events). opens_next r s sealed) (sessions_are_left gets entry before left are is leaves (id_in_record sealed))
 
 pub views_are_left : ViewsAreLeft
 views_are_left gets entry before left are is leaves =
     let h : History = gets ++ entry ∷ before in
-    let same = λ (id : ℕ) (other : id ≢ 0). ap shown (sessions_are_left gets entry before left are is leaves id other) in
-    ap (λ (v : Option SessionView). v ∷ shown (session_of 2 h) ∷ shown (session_of 3 h) ∷ shown (session_of 4 h) ∷ []) (same 1 (λ e. omega (arith, e)))
-    ∙ ap (λ (v : Option SessionView). shown (session_of 1 left) ∷ v ∷ shown (session_of 3 h) ∷ shown (session_of 4 h) ∷ []) (same 2 (λ e. omega (arith, e)))
-    ∙ ap (λ (v : Option SessionView). shown (session_of 1 left) ∷ shown (session_of 2 left) ∷ v ∷ shown (session_of 4 h) ∷ []) (same 3 (λ e. omega (arith, e)))
-    ∙ ap (λ (v : Option SessionView). shown (session_of 1 left) ∷ shown (session_of 2 left) ∷ shown (session_of 3 left) ∷ v ∷ []) (same 4 (λ e. omega (arith, e)))
+    let same = λ (id : ℕ). ap shown (sessions_are_left gets entry before left are is leaves id) in
+    ap (λ (v : Option SessionView). v ∷ shown (session_of 2 h) ∷ shown (session_of 3 h) ∷ shown (session_of 4 h) ∷ []) (same 1)
+    ∙ ap (λ (v : Option SessionView). shown (session_of 1 left) ∷ v ∷ shown (session_of 3 h) ∷ shown (session_of 4 h) ∷ []) (same 2)
+    ∙ ap (λ (v : Option SessionView). shown (session_of 1 left) ∷ shown (session_of 2 left) ∷ v ∷ shown (session_of 4 h) ∷ []) (same 3)
+    ∙ ap (λ (v : Option SessionView). shown (session_of 1 left) ∷ shown (session_of 2 left) ∷ shown (session_of 3 left) ∷ v ∷ []) (same 4)
 
 -- ---- Keys.
 

@@ -73,12 +73,11 @@ IsLeftBy _ before left = ⊥
 -- While a large answer is fetched in the clear, the sessions are those that were left before its request.
 abbrev pub SessionsAreLeft : Type 0
 SessionsAreLeft = (gets : List Entry) (entry : Entry) (before left : History) → AreGets gets → IsUnseenRequest entry → IsLeftBy entry before left
-    → (id : ℕ) → id ≢ 0 → session_of id (gets ++ entry ∷ before) ≡ session_of id left
+    → (id : ℕ) → session_of id (gets ++ entry ∷ before) ≡ session_of id left
 
--- So a refused answer to a request in the clear opens as it does without the large answer, but for one of the session 0.
+-- So a refused answer to a request in the clear opens as it does without the large answer.
 abbrev pub ClearWhyIsBefore : Type 0
 ClearWhyIsBefore = (r : RspSetup) (gets : List Entry) (entry : Entry) (before left : History) (m sealed : List ℕ) → AreGets gets → IsUnseenRequest entry → IsLeftBy entry before left
-    → id_in_record sealed ≢ 0
     → opens_answering r (gets ++ entry ∷ before) true m sealed ≡ opens_answering r left true m sealed
 
 -- The same sessions are shown.

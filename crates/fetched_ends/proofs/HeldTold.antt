@@ -39,33 +39,16 @@ two_reasons : (b : Bool) → BadVerify ≡ cond b BadReply BadRecord → ⊥
 two_reasons true is = absurd (cc)
 two_reasons false is = absurd (cc)
 
-other_type : (n : ℕ) → (n == 5) ≡ false → (n == 5 || n == 6) ≡ true → n ≡ 6
-other_type n none some = eqb-true n 6 (sym (ap (λ (b : Bool). b || n == 6) none) ∙ some)
-
-either_none : (a : Bool) (n : ℕ) → (not a && n == 0) ≡ false → a ≡ false → n ≢ 0
-either_none true n is not_it = absurd (false≢true (sym not_it))
-either_none false n is not_it = λ zero. absurd (false≢true (sym is ∙ ap (λ (k : ℕ). k == 0) zero))
-
-both_of : (a : Bool) (n : ℕ) → (not a && n == 0) ≡ true → (a ≡ false) × (n ≡ 0)
-both_of true n is = absurd (false≢true is)
-both_of false n is = (refl, eqb-true n 0 is)
-
 module _ (w : Configuration) (q : ReqSetup) (older : List (List ℕ)) (rows : List Row) (f : Fetching) (own : IsFetchingOf w q older f) (party : Party) (held : Held) (kept : IsHeldIn party held w q f rows) (route : RouteFields) (answer : List ℕ) (turn : AnswersInTurn f.kept route answer) (new : Party) (stands : Fetching → List Row → Type 0) (table : List Seen) where
   abbrev r : RspSetup
   r = responder_for w f.kept
 
   -- The request is GET_VERSION.
   pub version_told : turn.round.body ≡ clear_body (canonical_request GetVersion) → IsRepliedTo w q older rows f route answer (Ok upon.Large) new stands table
-  version_told is = inr (inr (inr (kept.at, (turn.round, turn.answers.0, inl is))))
-
-  -- It is a record of the RspSessionID 0.
-  pub none_told : (not (slice_index answer 0 == 5) && id_in_record (drop 1 answer) == 0) ≡ true → IsRepliedTo w q older rows f route answer (Ok upon.Large) new stands table
-  none_told is =
-      let both = both_of (slice_index answer 0 == 5) (id_in_record (drop 1 answer)) is in
-      inr (inl (kept.at, other_type (slice_index answer 0) both.0 turn.body, both.1))
+  version_told is = inr (inr (kept.at, (turn.round, turn.answers.0, inl is)))
 
   -- It is refused.
-  module _ (other : turn.round.body ≢ clear_body (canonical_request GetVersion)) (never : IsShownHeld held turn.round.tag turn.round.body answer shown.Other) (some : (not (slice_index answer 0 == 5) && id_in_record (drop 1 answer) == 0) ≡ false) where
+  module _ (other : turn.round.body ≢ clear_body (canonical_request GetVersion)) (never : IsShownHeld held turn.round.tag turn.round.body answer shown.Other) where
     abbrev NoApart : Type 0
     NoApart = (whole : List ℕ) → MayStand f whole → GoesApart (responder_for w f.kept) (dialogue_of f whole) (Whole route answer) → ⊥
 
@@ -77,7 +60,7 @@ module _ (w : Configuration) (q : ReqSetup) (older : List (List ℕ)) (rows : Li
       goes_never w q older rows f own party held kept turn.round turn.answers.0 other answer never route,
       turns_never w q older rows f own party held kept turn.round turn.answers.0 other answer never route,
       ends_never w q older rows f own party held kept turn.round turn.answers.0 other answer never route,
-      by_why (why_of why) (is ∙ why_left party.answerer party.keys held r f.kept.responder kept.before d answer turn.round left (type w q older rows f own party held kept turn.round turn.answers.0 other) (either_none (slice_index answer 0 == 5) (id_in_record (drop 1 answer)) some) (restored f.kept) refl),
+      by_why (why_of why) (is ∙ why_left party.answerer party.keys held r f.kept.responder kept.before d answer turn.round left (type w q older rows f own party held kept turn.round turn.answers.0 other) (restored f.kept) refl),
     )
       where
         told : (x : Why) → x ≡ reply_why r (restored f.kept) answer (Some turn.round) → goes_why r (restored f.kept) (Whole route answer) ≡ Some x

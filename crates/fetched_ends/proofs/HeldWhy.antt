@@ -62,14 +62,14 @@ module _ (seen : Answerer) (keys : AnswerKeys) (held : Held) (r : RspSetup) (h :
       omega (arith, left, all, is, one)
 
   -- It opens as by what was left.
-  pub opens_left : (m sealed : List ℕ) → id_in_record sealed ≢ 0 → opens_answering r h true m sealed ≡ opens_answering r stands.left true m sealed
-  opens_left m sealed some =
-      ap (λ (l : History). opens_answering r l true m sealed) stands.behind ∙ clear_why_is_before r stands.gets e stands.before stands.left m sealed stands.are stands.unseen stands.left_is some
+  pub opens_left : (m sealed : List ℕ) → opens_answering r h true m sealed ≡ opens_answering r stands.left true m sealed
+  opens_left m sealed =
+      ap (λ (l : History). opens_answering r l true m sealed) stands.behind ∙ clear_why_is_before r stands.gets e stands.before stands.left m sealed stands.are stands.unseen stands.left_is
 
   -- A reason by what was left is the reason.
-  pub why_left : (d : Dialogue) (answer : List ℕ) (round : Round) → d.responder ≡ stands.left → (slice_index round.body 0 == 5) ≡ true → ((body_type answer == 5) ≡ false → id_in_record (drop 1 answer) ≢ 0)
+  pub why_left : (d : Dialogue) (answer : List ℕ) (round : Round) → d.responder ≡ stands.left → (slice_index round.body 0 == 5) ≡ true
       → (all : Dialogue) → all.responder ≡ h → reply_why r d answer (Some round) ≡ reply_why r all answer (Some round)
-  why_left d answer round left type some all here = by_type (body_type answer == 5) refl
+  why_left d answer round left type all here = by_type (body_type answer == 5) refl
     where
       opens : Bool → Dialogue → Bool
       opens b x = opens_answering r x.responder b (drop 1 round.body) (drop 1 answer)
@@ -83,7 +83,7 @@ module _ (seen : Answerer) (keys : AnswerKeys) (held : Held) (r : RspSetup) (h :
           let F : Bool → Why = λ x. cond (body_type answer == 5 || x) BadReply BadRecord in
           ap (λ (b : Bool). F (opens b d)) at
           ∙ ap (λ (l : History). F (opens_answering r l true (drop 1 round.body) (drop 1 answer))) left
-          ∙ ap F (sym (opens_left (drop 1 round.body) (drop 1 answer) (some is)))
+          ∙ ap F (sym (opens_left (drop 1 round.body) (drop 1 answer)))
           ∙ ap (λ (l : History). F (opens_answering r l true (drop 1 round.body) (drop 1 answer))) (sym here)
           ∙ ap (λ (b : Bool). F (opens b all)) (sym at)
 

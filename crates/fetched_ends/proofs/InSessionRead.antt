@@ -54,7 +54,7 @@ module _ (w : Configuration) (q : ReqSetup) (older : List (List ℕ)) (rows : Li
 
   -- It is told apart.
   pub told_other : IsOther (responder_for w f.kept) (with_large (Some fetched.id) kept.whole f.kept.responder) f.kept turn.round answer → IsUnjudged w f answer
-  told_other other = inr (inr (inl (fetched.id, turn.round, kept.whole, kept.at, turn.answers.0, kept.stands, other)))
+  told_other other = inr (inl (fetched.id, turn.round, kept.whole, kept.at, turn.answers.0, kept.stands, other))
 
   abbrev size : ℕ
   size = size_with fetched.answer.number fetched.answer.size message

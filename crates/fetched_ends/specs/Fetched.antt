@@ -69,16 +69,15 @@ abbrev pub IsEndInClear : Configuration → Fetching → Round → (answer : Lis
 IsEndInClear w f round answer =
     (round.body ≡ clear_body (canonical_request GetVersion)) ⊎ (IsLastInClear f round answer ⊎ IsAskedNone w f round answer)
 
--- It is not judged: it begins another large answer by what it shows; or a large answer is fetched in the clear, and it is a
--- record of the RspSessionID 0, or one of those; or one is fetched in a session, and it is told apart there.
+-- It is not judged: it begins another large answer by what it shows; or one is fetched in a session, and it is told apart
+-- there; or one is fetched in the clear, and it is one of those.
 abbrev pub IsUnjudged : Configuration → Fetching → (answer : List ℕ) → Type 0
 IsUnjudged w f answer =
     ((round : Round) × (whole : List ℕ) × (f.kept.round ≡ Some round) × MayStand f whole
     × IsShownLarge (responder_for w f.kept) (judging (Some whole) round.body f.kept.responder) round.tag round.body answer)
-    ⊎ (((f.at ≡ None) × (slice_index answer 0 ≡ 6) × (id_in_record (drop 1 answer) ≡ 0))
     ⊎ (((id : ℕ) × (round : Round) × (whole : List ℕ) × (f.at ≡ Some id) × (f.kept.round ≡ Some round) × MayStand f whole
     × IsOther (responder_for w f.kept) (with_large (Some id) whole f.kept.responder) f.kept round answer)
-    ⊎ ((f.at ≡ None) × ((round : Round) × (f.kept.round ≡ Some round) × IsEndInClear w f round answer))))
+    ⊎ ((f.at ≡ None) × ((round : Round) × (f.kept.round ≡ Some round) × IsEndInClear w f round answer)))
 
 -- It goes on, and then this stands for what is kept behind it, and so does the table; or it is not judged; or it is
 -- refused, and then why.

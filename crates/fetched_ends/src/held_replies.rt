@@ -1,4 +1,4 @@
-ghost use Rattle.std.specs.Prelude.{◌≡◌, ◌≤◌, ◌<◌, ◌==◌, ◌-◌, ◌&&◌, ◌^◌, ◌↔◌, not, ℕ, List, None, Ok, IfOk, OnErr, IsSome, IsTrue, drop, length, slice_index};
+ghost use Rattle.std.specs.Prelude.{◌≡◌, ◌≤◌, ◌<◌, ◌-◌, ◌^◌, ◌↔◌, ℕ, List, None, Ok, IfOk, OnErr, IsSome, IsTrue, drop, length};
 ghost use Rattle.capture_laws.specs.DropsShown.{id_begun, response_of};
 ghost use Rattle.capture_laws.specs.Order.{answered_why};
 ghost use Rattle.capture_laws.specs.RepliesShown.{responder_for};
@@ -11,7 +11,6 @@ ghost use Rattle.large_answers.specs.Fetching.{Fetching, IsFetchingOf};
 ghost use Rattle.mctp_framing.specs.Cutting.{RouteFields};
 ghost use Rattle.mctp_framing.specs.Gathering.Gathered.{Whole};
 ghost use Rattle.requester_machine.specs.Setup.{ReqSetup};
-ghost use Rattle.responder_machine.specs.Session.{id_in_record};
 ghost use Rattle.spdm_grammar.specs.Message.RequestMessage.{GetVersion};
 ghost use Rattle.spdm_grammar.specs.Requests.{canonical_request};
 ghost use Rattle.spdm_machine.specs.Bodies.{clear_body};
@@ -24,10 +23,9 @@ use crate::shown::Shown;
 use crate::Upon;
 use capture_ends::Party;
 use capture_laws::{Round, SessionTable};
-use connection::{Setup, record_id};
+use connection::Setup;
 use fetched_answers::blocks_are_few;
 use script_text::Why;
-use session_keys::{behind_type, byte_at};
 use spdm_basis::OutOfMemory;
 
 // The type of a body that is an SPDM message in the clear (DSP0275).
@@ -41,13 +39,6 @@ fn asks_version(body: &[u8]) -> bool
     ensures { IsTrue result ↔ (clear_body (canonical_request GetVersion) ≡ body.now) }
 {
     VERSION_BODY.as_slice() == body
-}
-
-// Whether an answer is a record of the RspSessionID 0.
-fn names_none(answer: &[u8]) -> bool
-    ensures { result ≡ (not (slice_index answer.now 0 == 5) && id_in_record (drop 1 answer.now) == 0) }
-{
-    byte_at(answer, 0) != CLEAR && record_id(behind_type(answer)).rsp == 0
 }
 
 /// An answer of at most 4,161 bytes came whole, in order behind this round, while a large answer is fetched in the
@@ -93,11 +84,6 @@ pub fn replies_held(
             Ok(Ok(Upon::Fetched))
         }
         Shown::Last => Ok(Ok(Upon::Large)),
-        Shown::Other => {
-            if names_none(answer) {
-                return Ok(Ok(Upon::Large));
-            }
-            Ok(Err(party.answerer.reply_why(&party.keys, body, answer)))
-        }
+        Shown::Other => Ok(Err(party.answerer.reply_why(&party.keys, body, answer))),
     }
 }

@@ -9,6 +9,7 @@ pub mod Codes
 pub mod Made
 pub mod Tests
 pub mod GivenIds
+pub mod NoSession
 pub mod Fresh
 pub mod Live
 pub mod Counts

@@ -5,7 +5,7 @@ use Rattle.capture_laws.specs.RepliesShown.{responder_for}
 use Rattle.fetched_ends.proofs.HeldJudged.{awaits, behind_took, body_is, heard_as, last_on, newly_is, next_same, next_took, not_version, round_is, same_off, same_on, shown_as, tag_is, took_off, took_on, took_quiet}
 use Rattle.fetched_ends.proofs.HeldOn.{few}
 use Rattle.fetched_ends.proofs.HeldSame.{quiet}
-use Rattle.fetched_ends.proofs.HeldTold.{none_told, refused_told}
+use Rattle.fetched_ends.proofs.HeldTold.{refused_told}
 use Rattle.fetched_ends.specs.Held.{IsHeardOn, IsHeldIn, IsShownHeld}
 use Rattle.fetched_ends.specs.declared.shown.Shown.{Shown}
 use Rattle.large_answers.specs.Fetching.{Fetching}
@@ -107,16 +107,8 @@ returns-in-Last-clause-told c w q older rows f route own less byte now set_up no
     let told = subst (λ (s : Shown). IsShownHeld held turn.round.tag turn.round.body answer s) c.in-Last.is (shown_as w q older rows f own party held kept route answer limits turn other c.tag.result c.body-body.result.now c.shows.result tag body c.shows.ensures) in
     last_on w q older rows f own party held kept route answer limits turn other party c.args.table.now (IsHeldIn party held w q) told
 
-pub returns-then-names_none-clause-told : goal.returns-then-names_none-clause-told
-returns-then-names_none-clause-told c w q older rows f route own less byte now set_up none kept stands =
-    let answer : List ℕ = c.args.answer.now in
-    let party = c.args.party.now in
-    let held = c.args.held.now in
-    let turn = answers_in_turn f.kept route answer none in
-    none_told w q older rows f own party held kept route answer turn party (IsHeldIn party held w q) c.args.table.now (sym c.names_none.ensures ∙ c.if-names_none.true)
-
-pub returns-else-names_none-clause-told : goal.returns-else-names_none-clause-told
-returns-else-names_none-clause-told c w q older rows f route own less byte now set_up none kept stands =
+pub returns-in-Other-clause-told : goal.returns-in-Other-clause-told
+returns-in-Other-clause-told c w q older rows f route own less byte now set_up none kept stands =
     let answer : List ℕ = c.args.answer.now in
     let party = c.args.party.now in
     let held = c.args.held.now in
@@ -131,4 +123,4 @@ returns-else-names_none-clause-told c w q older rows f route own less byte now s
     let small = few w q older rows f own party held kept less in
     let new = record party { answerer = c.reply_why.new.self } in
     let why = c.reply_why.ensures.told r d turn.round kept.before.stands small kept.before.keys (sym body) in
-    refused_told w q older rows f own party held kept route answer turn new (IsHeldIn new held w q) c.args.table.now other told (sym c.names_none.ensures ∙ c.if-names_none.false) d c.reply_why.result refl why
+    refused_told w q older rows f own party held kept route answer turn new (IsHeldIn new held w q) c.args.table.now other told d c.reply_why.result refl why
