@@ -33,7 +33,7 @@ module _ (w : Configuration) (q : ReqSetup) (older : List (List ℕ)) (rows : Li
   -- The requester asks for no chunk upon it.
   pub asks_none : (v : List ℕ) (behind : History) → MayStand f v → AnswersPlainly (responder_for w f.kept) (dialogue_of f v) turn.round answer behind → AsksNone f.kept route.tag answer → IsRepliedTo w q older rows f route answer (Ok upon.Large) new stands table
   asks_none v behind stand plain none =
-      inr (inr (kept.at, (turn.round, turn.answers.0, inr (inr (subst (λ (n : ℕ). AsksNone f.kept n answer) (sym turn.answers.1) none, (v, behind, stand, plain))))))
+      inr (inr (kept.at, (turn.round, turn.answers.0, inr (subst (λ (n : ℕ). AsksNone f.kept n answer) (sym turn.answers.1) none, (v, behind, stand, plain)))))
 
   -- It is the last chunk.
   module _ (other : turn.round.body ≢ clear_body (canonical_request GetVersion)) (anew : repeats_held held turn.round.tag turn.round.body ≡ false)
@@ -46,11 +46,11 @@ module _ (w : Configuration) (q : ReqSetup) (older : List (List ℕ)) (rows : Li
     pub last_told : IsRepliedTo w q older rows f route answer (Ok upon.Large) new stands table
     last_told =
         let asks = asked w q older rows f own party held kept turn.round turn.answers.0 other anew v stand in
-        inr (inr (kept.at, (turn.round, turn.answers.0, inr (inl (
+        inr (inr (kept.at, (turn.round, turn.answers.0, inl (
           v,
           asks.handle,
           stand,
           asks.body,
           sym is_chunk ∙ ap clear_body (sym (response_is w q older rows f own party held kept turn.round turn.answers.0 other anew v stand)),
           none_left,
-        )))))
+        ))))

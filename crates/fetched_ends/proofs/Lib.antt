@@ -46,3 +46,15 @@ pub mod HeldKept
 pub mod HeldBegins
 pub mod HeldLengths
 pub mod HeldBefore
+pub mod HandshakeNone
+pub mod HeldTurns
+pub mod HeldSettled
+pub mod HeldBegun
+pub mod VersionRound
+pub mod VersionHeard
+pub mod VersionGone
+pub mod VersionEnds
+pub mod BegunHeldTold
+pub mod LastLed
+pub mod LastInClear
+pub mod AskedAccepts

@@ -31,8 +31,6 @@ use Rattle.capture_ends.specs.HeardKept.{asks_upon}
 use Rattle.capture_laws.specs.KeptChanges.{accepted_from}
 use Rattle.chunking.specs.Cutting.{chunk_count}
 use Rattle.fetched_answers.specs.ClearChunks.{clear_with, get_message, get_response}
-use Rattle.spdm_grammar.specs.Message.RequestMessage.{GetVersion}
-use Rattle.spdm_grammar.specs.Requests.{canonical_request}
 use Rattle.spdm_machine.specs.Bodies.{clear_body}
 use Rattle.world_machine.specs.CapturedAnswers.{AnswersPlainly}
 -- The rows that a packet makes.
@@ -48,8 +46,8 @@ IsFetchedWhy w f g why =
     ((whole : List ℕ) → MayStand f whole → GoesApart (responder_for w f.kept) (dialogue_of f whole) g → ⊥)
     × (goes_why (responder_for w f.kept) (restored f.kept) g ≡ Some why)
 
--- While one is fetched in the clear, the request is GET_VERSION; or it is the last chunk of some bytes that may stand; or it may
--- be given with some, and the requester asks for no chunk upon it, or takes it for PSK_EXCHANGE_RSP.
+-- While one is fetched in the clear, it is the last chunk of some bytes that may stand; or it may be given with some, and the
+-- requester asks for no chunk upon it, or takes it for PSK_EXCHANGE_RSP.
 abbrev pub IsLastInClear : Fetching → Round → (answer : List ℕ) → Type 0
 IsLastInClear f round answer =
     (whole : List ℕ) × (handle : ℕ) × MayStand f whole
@@ -66,8 +64,7 @@ IsAskedNone w f round answer =
     × ((whole : List ℕ) × (h : History) × MayStand f whole × AnswersPlainly (responder_for w f.kept) (dialogue_of f whole) round answer h)
 
 abbrev pub IsEndInClear : Configuration → Fetching → Round → (answer : List ℕ) → Type 0
-IsEndInClear w f round answer =
-    (round.body ≡ clear_body (canonical_request GetVersion)) ⊎ (IsLastInClear f round answer ⊎ IsAskedNone w f round answer)
+IsEndInClear w f round answer = IsLastInClear f round answer ⊎ IsAskedNone w f round answer
 
 -- It is not judged: it begins another large answer by what it shows; or one is fetched in a session, and it is told apart
 -- there; or one is fetched in the clear, and it is one of those.

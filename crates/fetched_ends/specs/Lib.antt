@@ -3,3 +3,6 @@ pub mod InSession
 pub mod ChunkJudged
 pub mod Prepared
 pub mod Held
+pub mod AskedInClear
+pub mod HeldFrom
+pub mod BegunHeld

@@ -1,13 +1,17 @@
 //! Captures, while a large answer is fetched: a requester and the responder are judged by their own code, though
 //! of the answer no byte is known but those of the chunks that came.
 //!
-//! Read first: `IsRepliedTo` in `specs/Fetched.antt`. The calls: `replies_in_session`, `replies_held`.
+//! Read first: `IsRepliedTo` in `specs/Fetched.antt`. The calls: `begins_held`, `replies_in_session`, `replies_held`.
 #![tactic(auto)]
 
+mod asked_exchange;
 mod chunk_judged;
+mod handshake_left;
 mod held;
+mod held_begins;
 mod held_heard;
 mod held_replies;
+mod held_version;
 mod in_session;
 mod in_session_replies;
 mod session_prepared;
@@ -17,6 +21,7 @@ mod upon;
 mod whole_measured;
 
 pub use held::Held;
+pub use held_begins::{BegunHeld, begins_held};
 pub use held_replies::replies_held;
 pub use in_session::InSession;
 pub use in_session_replies::replies_in_session;
