@@ -70,7 +70,7 @@ record_live m t reply (x ∷ s) measures = refl
 -- A turn that changes only in its answer, and in how that goes; sessions in which MEASUREMENTS change so are alike.
 pub record Keeps (change : Turn → Turn) : Type 0 where
   pub takes : (t : Turn) (code : ℕ) → takes code (change t) ≡ takes code t
-  pub data : (t : Turn) → is_data (change t).effect ≡ is_data t.effect
+  pub carries : (t : Turn) → is_data (change t).effect ≡ is_data t.effect
   pub alike : (s : Events) → last_takes GET_MEASUREMENTS (turns_of s) ≡ true → IsAlike s (events_changed change s)
 
 module _ (change : Turn → Turn) (keeps : Keeps change) where
@@ -94,7 +94,7 @@ module _ (change : Turn → Turn) (keeps : Keeps change) where
     ended_by false is = ap (λ (x : Option KeptRecord). if takes END_SESSION t then Some (record { sealed = m; reply = reply }) else x) is
 
     queue_by : (b : Bool) → queue_of same ≡ queue_of older → queue_of (one b) ≡ queue_of (Sealed tag m t reply d ∷ older)
-    queue_by true is = ap (λ (x : Bool). if x then drop 1 (queue_of older) else queue_of older) (keeps.data t)
+    queue_by true is = ap (λ (x : Bool). if x then drop 1 (queue_of older) else queue_of older) (keeps.carries t)
     queue_by false is = ap (λ (x : List (List ℕ)). if is_data t.effect then drop 1 x else x) is
 
   pub clear_same : (id : ℕ) (h : History) → clear_turns (history_changed change id h) ≡ clear_turns h
@@ -299,8 +299,8 @@ data_unseen (TookData bytes answer) = refl
 
 -- It gets other bytes.
 pub gets_bytes : (answer : List ℕ) → Keeps (turn_with answer)
-gets_bytes answer = record { takes = takes_with answer; data = λ t. data_with answer t.effect; alike = events_alike answer }
+gets_bytes answer = record { takes = takes_with answer; carries = λ t. data_with answer t.effect; alike = events_alike answer }
 
 -- It was never seen.
 pub was_unseen : Keeps turn_unseen
-was_unseen = record { takes = takes_unseen; data = λ t. data_unseen t.effect; alike = forgotten_alike }
+was_unseen = record { takes = takes_unseen; carries = λ t. data_unseen t.effect; alike = forgotten_alike }

@@ -1,7 +1,7 @@
 -- A request whose large answer was never seen: what of the history stays.
 use Rattle.std.proofs.Common.{refl, ◌∙◌, ◌≡◌, ◌≢◌, ℕ, List, [], ◌∷◌, true, false, Bool, Some, None, ap, sym, subst, eqb-true}
 use Rattle.std.proofs.lemmas.Bool.{false≢true}
-use Rattle.std.specs.Prelude.{◌==◌, ◌||◌, is_some}
+use Rattle.std.specs.Prelude.{◌==◌, ◌||◌, if◌then◌else◌, is_some}
 use Rattle.connection.proofs.PutAnswers.{clear_session}
 use Rattle.connection.specs.Connected as connected
 use Rattle.connection.specs.Live.{IsSlotOf}
