@@ -62,8 +62,8 @@ module _ (w : Configuration) (q : ReqSetup) (older : List (List ℕ)) (rows : Li
         let ids : ends.0 ≡ drops_with b.before (seen v asked) = led.0 ∙ ap (λ (l : History). drops_of_whole None v l) b.behind ∙ drops_are v asked b.before b.unseen b.gets b.are in (
           shown_entry v asked b.before b.unseen r b.gets b.are (subst (λ (l : History). IsShownWhole r None v l) b.behind led.1),
           ends.5 ∙ ap (λ (l : List ℕ). got ∷ with_large None v (dropped_before_large None l h)) ids
-          ∙ ap (λ (l : History). got ∷ with_large None v (dropped_before_large None (drops_with b.before (seen v asked)) l)) b.behind
-          ∙ ap (λ (l : History). got ∷ l) (given_here v asked b.before b.unseen (drops_with b.before (seen v asked)) b.gets b.are),
+              ∙ ap (λ (l : History). got ∷ with_large None v (dropped_before_large None (drops_with b.before (seen v asked)) l)) b.behind
+              ∙ ap (λ (l : History). got ∷ l) (given_here v asked b.before b.unseen (drops_with b.before (seen v asked)) b.gets b.are),
         )
 
     from_led : (next : History) → IsShownEntry r b.before (seen v asked) × (next ≡ behind_last) → Ends next

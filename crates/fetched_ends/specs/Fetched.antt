@@ -33,6 +33,7 @@ use Rattle.chunking.specs.Cutting.{chunk_count}
 use Rattle.fetched_answers.specs.ClearChunks.{clear_with, get_message, get_response}
 use Rattle.spdm_machine.specs.Bodies.{clear_body}
 use Rattle.world_machine.specs.CapturedAnswers.{AnswersPlainly}
+
 -- The rows that a packet makes.
 abbrev pub rows_upon : Kept → Kept → List Row → List Row
 rows_upon k next rows = rows_between (restored k) (restored next) rows

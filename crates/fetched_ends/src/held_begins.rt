@@ -58,7 +58,11 @@ fn bytes_round(reply: &[u8]) -> usize
     ensures value { result ≡ (if slice_index reply.now 1 == CHUNK_SEND_ACK then 6 else 0) }
     ensures few { result ≤ 6 }
 {
-    if byte_at(reply, 1) == CHUNK_SEND_ACK { 6 } else { 0 }
+    if byte_at(reply, 1) == CHUNK_SEND_ACK {
+        6
+    } else {
+        0
+    }
 }
 
 // What is held behind LargeResponse to a message with this tag.

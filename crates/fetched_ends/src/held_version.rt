@@ -89,14 +89,14 @@ pub(crate) fn ends_by_version(
 ) -> Result<Result<Upon, Why>, OutOfMemory>
     ensures told { (w : Configuration) (q : ReqSetup) (older : List (List ℕ)) (rows : List Row)
         (f : Fetching) (route : RouteFields) (held : Held) (of : rounds.Round)
-        (stands : Fetching → List Row → Type 0) → IsFetchingOf w q older f
-        → length older < 2 ^ 64 - 2 → round.now ≡ f.kept.round → f.kept.round ≡ Some of
+        → IsFetchingOf w q older f → length older < 2 ^ 64 - 2 → round.now ≡ f.kept.round
+        → f.kept.round ≡ Some of
         → of.body ≡ clear_body (canonical_request GetVersion)
         → IsSetUp setup.now (responder_for w f.kept)
         → answered_why f.kept.round (Whole route answer.now) ≡ None
         → IsHeldIn party.old held w q f rows → StandsForRows table.old w (length older) rows
-        → IfOk result (λ told. IsRepliedTo w q older rows f route answer.now told party.new stands
-        table.new) }
+        → IfOk result (λ told. IsRepliedTo w q older rows f route answer.now told party.new
+        (IsHeldIn party.new held w q) table.new) }
     ensures stays { IfOk result (λ told. (told ≡ Ok upon.Ended → ⊥) → table.new ≡ table.old) }
     ensures memory { OnErr result ⊥ }
 {
@@ -107,7 +107,12 @@ pub(crate) fn ends_by_version(
     answer_accepts();
     whole_answer_changes();
     let tag = round.tag();
-    take_version(&mut party.answerer.connection, setup, tag, behind_type(body));
+    take_version(
+        &mut party.answerer.connection,
+        setup,
+        tag,
+        behind_type(body),
+    );
     let _ = party.asker.hears(tag, answer, false);
     let change = party.change(None, None, None);
     table.take(&mut party.places, party.number, &change)?;

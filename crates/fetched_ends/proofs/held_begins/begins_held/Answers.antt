@@ -1,5 +1,5 @@
 use Rattle.std.proofs.Common.{◌≡◌, ◌≤◌, ◌==◌, ◌-◌, ◌^◌, ◌<◌, ◌+◌, ◌∙◌, refl, sym, ap, subst, length, arith, drop, List, ℕ, Bool, true, false, None, Result, cond}
-use Rattle.std.specs.Prelude.{OnOk, slice_index}
+use Rattle.std.specs.Prelude.{OnOk, not, slice_index}
 use Rattle.spdm_basis.specs.declared.OutOfMemory.{OutOfMemory}
 use Rattle.capture_ends.proofs.CarriedBy.{keeps_carries}
 use Rattle.capture_ends.proofs.InTurn.{answers_in_turn}
@@ -33,6 +33,14 @@ use Rattle.fetched_ends.proofs.held_begins.begins_held.Goals as goal
 -- Nothing is pending in the clear.
 idle : (w : Configuration) (q : ReqSetup) (older : List (List ℕ)) (k : Kept) → Keeps w q older k → has_pending (clear_place k.responder) ≡ false
 idle w q older k keeps = none_pends_in_clear w q older (restored k) (kept_is_restored w q older k keeps).0
+
+is_false : (b : Bool) → not b ≡ true → b ≡ false
+is_false false is = refl
+is_false true is = sym is
+
+is_true : (b : Bool) → not b ≡ false → b ≡ true
+is_true true is = refl
+is_true false is = sym is
 
 pub returns-then-byte_at-ne-CLEAR-clause-told : goal.returns-then-byte_at-ne-CLEAR-clause-told
 returns-then-byte_at-ne-CLEAR-clause-told c = λ w q older rows k route keeps below byte now set_up none party stands.
@@ -90,7 +98,7 @@ returns-then-not-heard-clause-told c = λ w q older rows k route keeps below byt
     (c.tag-tag.ensures ∙ ap tag_in at) (c.behind_type-message.ensures ∙ ap (drop 1) body) c.behind_type-reply.ensures c.tells_large.result told c.if-not-tells_large.false in
     let tag : turn.round.tag ≡ c.tag-tag.result = sym (c.tag-tag.ensures ∙ ap tag_in at) in
     let fetches = c.hears-heard.ensures.fetches w q older k turn.round carries below turn.answers.0 tag party.asker (sym (kept_asks_none w q older k keeps)) in
-    unfetched w q older rows k route answer turn new table table here (ap (λ (n : ℕ). asks_upon k n answer) (sym turn.answers.1 ∙ tag) ∙ sym fetches ∙ c.if-not-heard.true) refl
+    unfetched w q older rows k route answer turn new table table here (ap (λ (n : ℕ). asks_upon k n answer) (sym turn.answers.1 ∙ tag) ∙ sym fetches ∙ is_false c.hears-heard.result.fetches c.if-not-heard.true) refl
 
 pub returns-clause-told : goal.returns-clause-told
 returns-clause-told c = λ w q older rows k route keeps below byte now set_up none party stands.
@@ -113,7 +121,7 @@ returns-clause-told c = λ w q older rows k route keeps below byte now set_up no
     let large = here.large in
     let tag : turn.round.tag ≡ c.tag-tag.result = sym (c.tag-tag.ensures ∙ ap tag_in at) in
     let fetches = c.hears-heard.ensures.fetches w q older k turn.round carries below turn.answers.0 tag party.asker (sym (kept_asks_none w q older k keeps)) in
-    let asks : asks_upon k route.tag answer ≡ true = ap (λ (n : ℕ). asks_upon k n answer) (sym turn.answers.1 ∙ tag) ∙ sym fetches ∙ c.if-not-heard.false in
+    let asks : asks_upon k route.tag answer ≡ true = ap (λ (n : ℕ). asks_upon k n answer) (sym turn.answers.1 ∙ tag) ∙ sym fetches ∙ is_true c.hears-heard.result.fetches c.if-not-heard.false in
     let accepts : accepted_from k turn.round.tag answer ≡ None = ap (λ (n : ℕ). accepted_from k n answer) turn.answers.1 ∙ asked_accepts_none k route.tag answer asks in
     let f = next w q older k route answer byte limits carries turn type large in
     let standing = c.tells_large.ensures.stands r k.responder party.answerer in

@@ -18,6 +18,7 @@ use Rattle.fetched_ends.proofs.HeldOn.{carries, few}
 use Rattle.fetched_ends.proofs.VersionEnds.{behind, ended_version, keys_behind, next, version_change, version_step}
 use Rattle.fetched_ends.proofs.VersionGone.{refused_version}
 use Rattle.fetched_ends.proofs.VersionRound.{anew_left, stands_behind}
+use Rattle.fetched_ends.specs.Held.{IsHeldIn}
 use Rattle.requester_machine.specs.May.{IsSetUp}
 use Rattle.requester_machine.specs.Setup.{ReqSetup}
 use Rattle.spdm_grammar.specs.Message.RequestMessage.{GetVersion}
@@ -28,7 +29,7 @@ use Rattle.world_machine.specs.SessionTable.{number_from, rows_between}
 use Rattle.fetched_ends.proofs.held_version.ends_by_version.Goals as goal
 
 pub returns-then-not-gives_version-clause-told : goal.returns-then-not-gives_version-clause-told
-returns-then-not-gives_version-clause-told c = λ w q older rows f route held of stands_for own below now is version set_up none kept stands.
+returns-then-not-gives_version-clause-told c = λ w q older rows f route held of own below now is version set_up none kept stands.
     let answer : List ℕ = c.args.answer.now in
     let turn = answers_in_turn f.kept route answer none in
     let party = c.args.party.now in
@@ -40,10 +41,10 @@ returns-then-not-gives_version-clause-told c = λ w q older rows f route held of
     let small = few w q older rows f own party held kept below in
     let new : Party = record party { answerer = c.reply_why.new.self } in
     let why = c.reply_why.ensures.told r d turn.round kept.before.stands small kept.before.keys (sym body) in
-    refused_version w q older rows f own party held kept route answer turn version_here (λ given. false≢true (sym c.if-not-gives_version.true ∙ c.gives_version.ensures.1 (sym given))) new stands_for c.args.table.now d c.reply_why.result refl why
+    refused_version w q older rows f own party held kept route answer turn version_here (λ given. false≢true (sym c.if-not-gives_version.true ∙ c.gives_version.ensures.1 (sym given))) new (IsHeldIn new held w q) c.args.table.now d c.reply_why.result refl why
 
 pub returns-clause-told : goal.returns-clause-told
-returns-clause-told c = λ w q older rows f route held of stands_for own below now is version set_up none kept stands.
+returns-clause-told c = λ w q older rows f route held of own below now is version set_up none kept stands.
     let answer : List ℕ = c.args.answer.now in
     let turn = answers_in_turn f.kept route answer none in
     let party = c.args.party.now in
@@ -74,4 +75,4 @@ returns-clause-told c = λ w q older rows f route held of stands_for own below n
     (c.take.ensures.places w (length older) (restored f.kept) (restored f_next) rows change step stands kept.beside.places) in
     let new : Party = record party { asker = c.hears.new.self; answerer = record party.answerer { connection = c.take_version.new.connection }; places = c.take.new.places } in
     let asker = subst (λ (n : ℕ). IsAsker c.hears.new.self q (heard_kept f.kept f_behind n turn.round answer)) (sym tag ∙ turn.answers.1) (c.hears.ensures.kept w q older f.kept f_behind turn.round carried below turn.answers.0 tag kept.beside.asker) in
-    ended_version w q older rows f own party held kept route answer limits turn version_here given new stands_for c.take.new.self asker standing (keys_behind w q older rows f own party held kept route answer limits turn version_here party.keys kept.beside.keys) kept.beside.number places table
+    ended_version w q older rows f own party held kept route answer limits turn version_here given new (IsHeldIn new held w q) c.take.new.self asker standing (keys_behind w q older rows f own party held kept route answer limits turn version_here party.keys kept.beside.keys) kept.beside.number places table
