@@ -19,8 +19,10 @@ use Rattle.capture_laws.specs.Rows as rows_of
 use Rattle.capture_laws.specs.declared.change.Change.{Change}
 use Rattle.connection.specs.Connected as connected
 use Rattle.fetched_answers.proofs.ClearViews.{keys_stand_on}
+use Rattle.fetched_answers.specs.ClearChunks.{clear_with}
 use Rattle.fetched_answers.specs.ClearSessions.{IsWithoutHandshake}
 use Rattle.fetched_ends.proofs.ChangesOn.{accepted_on, asked_on}
+use Rattle.fetched_ends.proofs.GetsGiven.{none_given}
 use Rattle.fetched_ends.proofs.HeldBefore.{Left, here, keys_begun, left_turn, stands_begun, views_begun}
 use Rattle.fetched_ends.proofs.HeldBegins.{IsBegunHere, asked_is, at_is, behind, kept_here, next, none_came, taken}
 use Rattle.fetched_ends.proofs.HeldLengths.{lengths_are}
@@ -28,11 +30,12 @@ use Rattle.fetched_ends.proofs.HeldSettled.{common_stays}
 use Rattle.fetched_ends.proofs.QuietSteps.{quiet_step}
 use Rattle.fetched_ends.specs.Fetched.{rows_upon}
 use Rattle.fetched_ends.specs.AskedInClear.{IsExchangeBy, IsLeftIf, chunk_at}
+use Rattle.fetched_ends.specs.GetsHeld.{GiveAll}
 use Rattle.fetched_ends.specs.Held.{IsHeldIn}
 use Rattle.fetched_ends.specs.HeldFrom.{IsHeldFrom}
 use Rattle.fetched_ends.specs.InSession.{AreLengths}
 use Rattle.fetched_ends.specs.declared.held.Held.{Held}
-use Rattle.large_answers.specs.Fetching.{Fetching}
+use Rattle.large_answers.specs.Fetching.{Fetching, number_of}
 use Rattle.large_answers.specs.FetchingLaws.{place_in}
 use Rattle.requester_machine.specs.May.{IsSetUp}
 use Rattle.requester_machine.specs.Setup.{ReqSetup}
@@ -40,6 +43,7 @@ use Rattle.responder_machine.specs.BoundLaws.{messages_of}
 use Rattle.responder_machine.specs.History as responder_history
 use Rattle.responder_machine.specs.History.{History, clear_turns, kept_of}
 use Rattle.responder_machine.specs.History.Entry.{Clear, Dropped}
+use Rattle.responder_machine.specs.LargeMessages.{handle_of}
 use Rattle.responder_machine.specs.Place.{Place, clear_place, inside, place_terms}
 use Rattle.responder_machine.specs.Setup.{RspSetup}
 use Rattle.responder_machine.specs.SizeLaws.{HasSizes}
@@ -147,6 +151,12 @@ module _ (w : Configuration) (q : ReqSetup) (older : List (List ℕ)) (k : Kept)
       ap (λ (l : History). (place_terms (clear_place l)).common.to_requester.transfer) it.added
       ∙ ap (λ (c : Common). c.to_requester.transfer) (common_stays turn.round.tag t no_draw h it.unseen.1 (takes_with [] None GET_CAPABILITIES it.turned ∙ it.facts.settles)) ∙ from.transfer
 
+  -- No chunk was given.
+  gave_none : (transfer : ℕ) → GiveAll transfer f
+  gave_none transfer u may =
+      none_given transfer (handle_of (clear_with f.kept.responder u).turns) u f.kept.responder turn.round.tag (turn_with [] None it.turned) h (number_of f) it.added it.unseen.0
+      (none_came w q older k route answer byte limits carries turn type large)
+
   -- ---- What is left of the sessions.
 
   abbrev pub Exchange : Bool → Type 0
@@ -193,4 +203,5 @@ module _ (w : Configuration) (q : ReqSetup) (older : List (List ℕ)) (k : Kept)
       answer = from.answer f (none_came w q older k route answer byte limits carries turn type large);
       lengths = lengths held (sizes it.sized) from;
       transfer = transfer held from;
+      gave = gave_none held.transfer;
     }

@@ -5,6 +5,7 @@ use Rattle.capture_ends.specs.declared.answer_keys.AnswerKeys.{AnswerKeys}
 use Rattle.capture_ends.specs.declared.answerer.Answerer.{Answerer}
 use Rattle.capture_ends.specs.declared.party.Party.{Party}
 use Rattle.capture_laws.specs.Keeping.{Kept}
+use Rattle.fetched_ends.specs.GetsHeld.{GiveAll}
 use Rattle.fetched_ends.specs.Held.{IsHeldIn, StandsBefore}
 use Rattle.fetched_ends.specs.declared.held.Held.{Held}
 use Rattle.large_answers.specs.Fetching.{Fetching, bytes_given, number_given, size_told}
@@ -32,4 +33,5 @@ held_with party new held w q f next rows behind kept answerer keys setup same be
   };
   lengths = kept.lengths;
   transfer = ap (λ (h : History). (place_terms (clear_place h)).common.to_requester.transfer) same ∙ kept.transfer;
+  gave = subst (λ (h : History). GiveAll held.transfer (record f { kept = record f.kept { responder = h } })) (sym same) kept.gave;
 }

@@ -88,6 +88,7 @@ module _ (w : Configuration) (q : ReqSetup) (older : List (List ℕ)) (rows : Li
     answer = record { size = kept.answer.size; number = kept.answer.number; bytes = kept.answer.bytes };
     lengths = kept.lengths;
     transfer = kept.transfer;
+    gave = kept.gave;
   }
 
   pub fetched_same : (new : Party) (table : List Seen) → asks_upon f.kept route.tag answer ≡ true → IsHeardHeld party new table w q older rows f next

@@ -14,20 +14,22 @@ use Rattle.capture_laws.specs.Changes.{answered_in, views_in}
 use Rattle.capture_laws.specs.Keeping.{Kept, restored}
 use Rattle.capture_laws.specs.RepliesShown.{responder_for}
 use Rattle.capture_laws.specs.declared.verdict.Seen.{Seen}
-use Rattle.chunking.specs.Cutting.{chunk_count, chunk_end, unit_of}
+use Rattle.chunking.specs.Cutting.{chunk_count, chunk_end, nth_chunk, unit_of}
 use Rattle.fetched_answers.proofs.ClearChunks.{next_is_given}
 use Rattle.fetched_answers.proofs.ClearViews.{keys_stand_on, views_are_left}
 use Rattle.fetched_answers.proofs.MeanwhileClear.{get_goes_on}
-use Rattle.fetched_answers.specs.ClearChunks.{clear_with, get_message, get_response}
+use Rattle.fetched_answers.specs.ClearChunks.{clear_with, get_entry, get_message, get_response}
 use Rattle.fetched_ends.proofs.HeardOn.{heard_on}
 use Rattle.fetched_ends.proofs.HeldCut.{can_be_cut}
 use Rattle.fetched_ends.proofs.HeldGave.{e, gave_there, get, message_is, p, response}
 use Rattle.fetched_ends.proofs.HeldRounds.{asked, response_is, transfer_is}
 use Rattle.fetched_ends.specs.Fetched.{IsRepliedTo, rows_upon}
+use Rattle.fetched_ends.specs.GetsHeld.{GiveAll, GivesChunk}
 use Rattle.fetched_ends.specs.Held.{IsHeardHeld, IsHeldIn, IsQuiet, IsResponse, StandsBefore, chunk_held, repeats_held}
 use Rattle.fetched_ends.specs.declared.held.Held.{Held}
 use Rattle.fetched_ends.specs.declared.upon.Upon.TheVariants as upon
 use Rattle.large_answers.proofs.Gave.{bytes_begin, bytes_next, number_next, size_next}
+use Rattle.large_answers.proofs.GoesLaws.{plain_of, stood_of}
 use Rattle.large_answers.proofs.GoesWith.{told_whole}
 use Rattle.large_answers.specs.Fetching.{Fetching, IsFetchingOf, MayStand, answer_by, dialogue_of, number_given, number_of}
 use Rattle.large_answers.specs.FetchingLaws.{GoesFetching}
@@ -60,6 +62,10 @@ more_by n c less last = grind (arith, nat_tests)
 none_either : (b : Bool) (o : Option ℕ) → o ≡ None → cond b o None ≡ None
 none_either true o is = is
 none_either false o is = refl
+
+abbrev first : Entry → History → Entry
+first e [] = e
+first e (x ∷ l) = x
 
 module _ (w : Configuration) (q : ReqSetup) (older : List (List ℕ)) (rows : List Row) (f : Fetching) (own : IsFetchingOf w q older f) (party : Party) (held : Held) (kept : IsHeldIn party held w q f rows) (route : RouteFields) (answer : List ℕ) (limits : IsSetUp f.kept.setup) (turn : AnswersInTurn f.kept route answer) (other : turn.round.body ≢ clear_body (canonical_request GetVersion)) (anew : repeats_held held turn.round.tag turn.round.body ≡ false)
     (v : List ℕ) (stand : MayStand f v) (is_chunk : IsResponse (chunk_held held turn.round.body v) answer) (between : (chunk_held held turn.round.body v).last ≡ false) where
@@ -185,14 +191,33 @@ module _ (w : Configuration) (q : ReqSetup) (older : List (List ℕ)) (rows : Li
         newest = is ∙ kept_is;
       }
 
+  -- ---- The chunks that were given.
+
+  gave_then : asks_upon f.kept route.tag answer ≡ true → GiveAll held.transfer next
+  gave_then asks u may =
+      let heard = heard_on w q older f.kept limits carries route.tag round answer turn.answers.0 turn.answers.1 (Some v) (added ∷ h) in
+      let stood : MayStand f u = stood_of w q older f own route.tag round answer v (added ∷ h) heard.history stand at plainly heard.hears (heard.asks ∙ asks) u may in
+      let plain : AnswersPlainly r (dialogue_of f u) round answer (added ∷ h) = plain_of w q older f own route.tag round answer v (added ∷ h) heard.history stand at plainly heard.hears (heard.asks ∙ asks) u may in
+      let it = asked w q older rows f own party held kept round at other anew u stood in
+      let gives = (get_goes_on next_is_given r (dialogue_of f u) u round it.handle (number_of f) answer (added ∷ h) refl it.body it.next).0 plain in
+      let entry : GivesChunk held.transfer it.handle u (number_of f) round.tag added =
+      ap (first added) gives.2 ∙ ap (λ (t : ℕ). get_entry round.tag it.handle (number_of f) (canonical_response (ChunkResponse (nth_chunk t it.handle u (number_of f))))) (transfer_is w q older rows f own party held kept round at other u) in
+      let place = p w q older rows f own party held kept round at other anew v stand in (
+        number_of f,
+        round.tag,
+        number_next f.at h v place added (gave_there w q older rows f own party held kept round at other anew v stand),
+        subst (λ (n : ℕ). GivesChunk held.transfer n u (number_of f) round.tag added) (sym it.next.same) entry,
+        kept.gave u stood,
+      )
+
   -- What the calls leave of what is held.
   pub record IsNewlyHeld (newly : Held) : Type 0 where
     pub same : newly ≡ record held { newest = newly.newest; answer = newly.answer }
     pub newest : newly.newest ≡ newly_kept
     pub came : large_answers.StandsFor newly.answer next
 
-  pub kept_then : (new : Party) (newly : Held) (table : List Seen) → IsHeardHeld party new table w q older rows f next → IsNewlyHeld newly → IsHeldIn new newly w q next (rows_upon f.kept next.kept rows)
-  kept_then new newly table heard now = subst (λ (x : Held). IsHeldIn new x w q next (rows_upon f.kept next.kept rows)) (sym now.same) (record {
+  pub kept_then : (new : Party) (newly : Held) (table : List Seen) → asks_upon f.kept route.tag answer ≡ true → IsHeardHeld party new table w q older rows f next → IsNewlyHeld newly → IsHeldIn new newly w q next (rows_upon f.kept next.kept rows)
+  kept_then new newly table asks heard now = subst (λ (x : Held). IsHeldIn new x w q next (rows_upon f.kept next.kept rows)) (sym now.same) (record {
     beside = record {
       asker = heard.asker;
       keys = subst (λ k. StandFor k r (added ∷ h)) (sym heard.keys) (keys_stand_on party.keys r (added ∷ []) h (tt, tt) kept.beside.keys);
@@ -205,8 +230,9 @@ module _ (w : Configuration) (q : ReqSetup) (older : List (List ℕ)) (rows : Li
     answer = now.came;
     lengths = kept.lengths;
     transfer = kept.transfer;
+    gave = gave_then asks;
   })
 
   pub fetched_on : (new : Party) (newly : Held) (table : List Seen) → asks_upon f.kept route.tag answer ≡ true → IsHeardHeld party new table w q older rows f next → IsNewlyHeld newly
       → IsRepliedTo w q older rows f route answer (Ok upon.Fetched) new (IsHeldIn new newly w q) table
-  fetched_on new newly table asks heard now = (next, goes asks, kept_then new newly table heard now, heard.stands)
+  fetched_on new newly table asks heard now = (next, goes asks, kept_then new newly table asks heard now, heard.stands)

@@ -49,6 +49,7 @@ pub mod HeldBefore
 pub mod HandshakeNone
 pub mod HeldTurns
 pub mod HeldSettled
+pub mod GetsGiven
 pub mod HeldBegun
 pub mod VersionRound
 pub mod VersionHeard

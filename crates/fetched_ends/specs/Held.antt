@@ -17,6 +17,7 @@ use Rattle.chunking.specs.Cutting.{chunk_count, nth_chunk}
 use Rattle.connection.specs.Connected as connected
 use Rattle.fetched_answers.specs.ClearSessions.{AreGets, IsLeftBy, IsUnseenRequest}
 use Rattle.fetched_ends.specs.Fetched.{AsksNone, rows_upon}
+use Rattle.fetched_ends.specs.GetsHeld.{GiveAll}
 use Rattle.fetched_ends.specs.InSession.{AreLengths, bytes_with, filled, size_with}
 use Rattle.fetched_ends.specs.declared.held.Held.{Held}
 use Rattle.fetched_ends.specs.declared.shown.Shown.{Shown}
@@ -72,7 +73,7 @@ pub record StandsBefore (seen : Answerer) (seen_keys : AnswerKeys) (held : Held)
   pub newest : held.newest ≡ kept_of h
 
 -- It is kept of what is fetched in the clear: what came of it, the lengths that go by chunks, and the requester's transfer
--- size, for which it is cut.
+-- size, for which it is cut; and the CHUNK_GETs gave it from the first chunk on.
 pub record IsHeldIn (party : Party) (held : Held) (w : Configuration) (q : ReqSetup) (f : Fetching) (rows : List Row) : Type 0 where
   pub beside : IsBeside party w q f.kept rows
   pub at : f.at ≡ None
@@ -80,6 +81,7 @@ pub record IsHeldIn (party : Party) (held : Held) (w : Configuration) (q : ReqSe
   pub answer : large_answers.StandsFor held.answer f
   pub lengths : AreLengths f.place held.least held.most
   pub transfer : (place_terms (clear_place f.kept.responder)).common.to_requester.transfer ≡ held.transfer
+  pub gave : GiveAll held.transfer f
 
 -- ---- The bytes.
 

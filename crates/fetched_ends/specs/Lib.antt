@@ -2,6 +2,7 @@ pub mod Fetched
 pub mod InSession
 pub mod ChunkJudged
 pub mod Prepared
+pub mod GetsHeld
 pub mod Held
 pub mod AskedInClear
 pub mod HeldFrom
