@@ -46,3 +46,8 @@ pub mod HeldKept
 pub mod HeldBegins
 pub mod HeldLengths
 pub mod HeldBefore
+pub mod AsksOn
+pub mod ClearAsks
+pub mod SessionAsks
+pub mod AsksTold
+pub mod VersionAsks

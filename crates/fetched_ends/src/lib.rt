@@ -4,6 +4,7 @@
 //! Read first: `IsRepliedTo` in `specs/Fetched.antt`. The calls: `replies_in_session`, `replies_held`.
 #![tactic(auto)]
 
+mod asks_laws;
 mod chunk_judged;
 mod held;
 mod held_heard;
@@ -16,6 +17,9 @@ mod shown;
 mod upon;
 mod whole_measured;
 
+pub use asks_laws::{
+    answers_tell_asking, clear_asks_on, plain_ends_fetching, session_asks_on, version_asks_none,
+};
 pub use held::Held;
 pub use held_replies::replies_held;
 pub use in_session::InSession;
