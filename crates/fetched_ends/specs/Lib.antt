@@ -3,3 +3,6 @@ pub mod InSession
 pub mod ChunkJudged
 pub mod Prepared
 pub mod Held
+pub mod BegunIn
+pub mod BegunHeld
+pub mod JudgedEnds
