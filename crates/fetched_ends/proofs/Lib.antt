@@ -25,6 +25,13 @@ pub mod InSessionWrong
 pub mod InSessionRefused
 pub mod InSessionRead
 pub mod FetchedKept
+pub mod EndsKept
+pub mod Awaited
+pub mod FetchedAsked
+pub mod EndsAsked
+pub mod FetchedReplied
+pub mod EndsReplied
+pub mod EndsStay
 pub mod BegunStands
 pub mod BegunChanges
 pub mod LengthsIn

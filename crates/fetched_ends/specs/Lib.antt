@@ -4,3 +4,6 @@ pub mod ChunkJudged
 pub mod Prepared
 pub mod Held
 pub mod AsksUpon
+pub mod BegunIn
+pub mod BegunHeld
+pub mod JudgedEnds

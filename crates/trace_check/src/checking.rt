@@ -16,8 +16,9 @@ use std::alloc::Global;
 pub enum Checked {
     /// It has this verdict.
     Judged(Verdict),
-    /// This packet, counted from 1, is a part of a large answer, and those before it conform. Large
-    /// answers are not judged yet.
+    /// This packet, counted from 1, is a part of a large answer that is not judged, and those before it
+    /// conform: LargeResponse upon which the requester does not ask for a chunk at once, or while a large
+    /// message is under way; or a record of the session 0 while a large answer is fetched in the clear.
     Large(u32),
 }
 
