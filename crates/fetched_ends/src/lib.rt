@@ -1,7 +1,8 @@
 //! Captures, while a large answer is fetched: a requester and the responder are judged by their own code, though
 //! of the answer no byte is known but those of the chunks that came.
 //!
-//! Read first: `IsRepliedTo` in `specs/Fetched.antt`. The calls: `replies_in_session`, `replies_held`.
+//! Read first: `IsRepliedTo` in `specs/Fetched.antt`. The calls: `begins_in_session`, `replies_in_session`,
+//! `replies_held`.
 #![tactic(auto)]
 
 mod asks_laws;
