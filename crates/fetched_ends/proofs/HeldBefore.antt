@@ -14,8 +14,8 @@ use Rattle.capture_laws.specs.RepliesShown.{responder_for}
 use Rattle.connection.specs.Connected as connected
 use Rattle.fetched_answers.proofs.ClearViews.{keys_stand_on, views_are_left}
 use Rattle.fetched_answers.specs.ClearSessions.{IsLeftBy, IsUnseenRequest}
-use Rattle.fetched_ends.proofs.HeldBegins.{IsBegunHere, behind, begun_here}
-use Rattle.fetched_ends.specs.Held.{StandsBefore}
+use Rattle.fetched_ends.proofs.HeldBegins.{IsBegunHere, behind, begun_here, led_here}
+use Rattle.fetched_ends.specs.Held.{IsLedTo, StandsBefore}
 use Rattle.fetched_ends.specs.declared.held.Held.{Held}
 use Rattle.requester_machine.specs.May.{IsSetUp}
 use Rattle.requester_machine.specs.Setup.{ReqSetup}
@@ -50,6 +50,7 @@ module _ (w : Configuration) (q : ReqSetup) (older : List (List ℕ)) (k : Kept)
     are = tt;
     unseen = subst (λ (n : ℕ). IsUnseenRequest (Clear n left_turn no_draw)) (sym tag) here.unseen;
     left_is = subst (λ (n : ℕ). IsLeftBy (Clear n left_turn no_draw) k.responder left) (sym tag) left_is;
+    led = subst (λ (n : ℕ). IsLedTo (responder_for w k) k.responder (Clear n left_turn no_draw)) (sym tag) (led_here w q older k route answer byte limits carries turn type large);
     sized = here.sized;
     stands = stands;
     keys = keys;

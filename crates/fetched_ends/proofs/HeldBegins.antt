@@ -16,7 +16,12 @@ use Rattle.capture_laws.specs.RepliesShown.{responder_for}
 use Rattle.fetched_answers.proofs.LargeSized.{large_is_sized}
 use Rattle.fetched_answers.proofs.LargeTurns.{large_is_unseen}
 use Rattle.fetched_answers.specs.ClearSessions.{IsUnseenRequest}
+use Rattle.connection.proofs.Whole.{turn_short}
 use Rattle.fetched_ends.proofs.HeardOn.{heard_on}
+use Rattle.fetched_ends.proofs.HeldNever.{clear_shape}
+use Rattle.fetched_ends.proofs.HeldTurns.{IsLargeTurn, large_turn}
+use Rattle.fetched_ends.specs.Held.{IsLedTo}
+use Rattle.spdm_grammar.specs.declared.names.TheConstants.{MAX_MESSAGE_SIZE}
 use Rattle.large_answers.specs.Fetching.{Fetching, MayStand, HasSize, answer_by, bytes_given, bytes_in, gives_in, number_given, number_of, size_in, size_told}
 use Rattle.large_answers.specs.FetchingLaws.{BeginsFetching, place_in}
 use Rattle.requester_machine.specs.May.{IsSetUp}
@@ -35,8 +40,9 @@ use Rattle.world_machine.proofs.DropsTell.{clear_form, turns_stay}
 use Rattle.world_machine.proofs.FetchBegins.{Leaves, large_leaves}
 use Rattle.world_machine.proofs.PlacesServed.{named_clear}
 use Rattle.world_machine.proofs.PlainTells.{led_clear}
-use Rattle.world_machine.specs.CapturedAnswers.{AnswersLarge}
-use Rattle.world_machine.specs.LargeAnswers.{IsLargeAnswer, is_unseen_effect, is_unseen_in, place_named, place_of, turn_with, unseen}
+use Rattle.spdm_machine.specs.Bodies.{clear_body}
+use Rattle.world_machine.specs.CapturedAnswers.{AnswersLarge, MayLeadTo}
+use Rattle.world_machine.specs.LargeAnswers.{IsLargeAnswer, is_large, is_unseen_effect, is_unseen_in, place_named, place_of, turn_with, unseen}
 use Rattle.world_machine.specs.Rounds.{Round, no_draw}
 use Rattle.world_machine.specs.Setup.{Configuration}
 
@@ -82,10 +88,16 @@ module _ (w : Configuration) (q : ReqSetup) (older : List (List ℕ)) (k : Kept)
     pub whole : List ℕ
     pub fits : IsLargeAnswer (cond (is_some turned.chunk) (inside (clear_place k.responder)) (clear_place k.responder)) whole
     pub leaves : Leaves (place_named turn.round.body) turn.round.tag turn.round.body (Clear turn.round.tag turned no_draw)
+    pub facts : IsLargeTurn (responder_for w k) (clear_turns k.responder) (drop 1 turn.round.body) turned
+    pub typed : slice_index answer 0 ≡ 5
+    pub short : (responder_for w k).transfer ≤ (responder_for w k).max → (responder_for w k).max ≤ MAX_MESSAGE_SIZE → turned.refused ≡ None → length (drop 1 turn.round.body) ≤ MAX_MESSAGE_SIZE
 
-  by_entry : (dropped : List ℕ) (t : Turn) (e : Entry) (whole : List ℕ) → Clear round.tag t no_draw ≡ e → sizes_are_known (phase_of (clear_turns (with_dropped h dropped))) ≡ true → IsUnseenRequest (unseen e)
+  abbrev IsShort : Turn → Type 0
+  IsShort t = r.transfer ≤ r.max → r.max ≤ MAX_MESSAGE_SIZE → t.refused ≡ None → length (drop 1 round.body) ≤ MAX_MESSAGE_SIZE
+
+  by_entry : (dropped : List ℕ) (t : Turn) (e : Entry) (whole : List ℕ) → IsLargeTurn r (clear_turns (with_dropped h dropped)) (drop 1 round.body) t → IsShort t → Clear round.tag t no_draw ≡ e → sizes_are_known (phase_of (clear_turns (with_dropped h dropped))) ≡ true → IsUnseenRequest (unseen e)
       → Leaves (place_named round.body) round.tag round.body e → IsLargeAnswer (place_of h e) whole → sent_by e ≡ answer → behind ≡ unseen e ∷ h → IsBegunHere
-  by_entry dropped t e whole is sized none leaves fits sent made = record {
+  by_entry dropped t e whole facts short is sized none leaves fits sent made = record {
     turned = t;
     added = made ∙ ap (λ (x : Entry). unseen x ∷ h) (sym is);
     reply = ap (drop 1) (ap sent_by is ∙ sent);
@@ -94,6 +106,9 @@ module _ (w : Configuration) (q : ReqSetup) (older : List (List ℕ)) (k : Kept)
     whole = whole;
     fits = subst (λ (x : Entry). IsLargeAnswer (place_of h x) whole) (sym is) fits;
     leaves = subst (Leaves (place_named round.body) round.tag round.body) (sym is) leaves;
+    facts = subst (λ l. IsLargeTurn r l (drop 1 round.body) t) (turns_stay dropped h) facts;
+    typed = ap (λ (l : List ℕ). slice_index l 0) (sym (ap sent_by is ∙ sent));
+    short = short;
   }
 
   pub begun_here : IsBegunHere
@@ -103,7 +118,9 @@ module _ (w : Configuration) (q : ReqSetup) (older : List (List ℕ)) (k : Kept)
       elim (clear_form r (with_dropped h c.0) round.tag (drop 1 round.body) led.free (Adds c.1) led.leads) [
         | inl same ↦ absurd (let x = same.1 in cc)
         | inr adds ↦
-            by_entry c.0 (turn_of r (clear_place (with_dropped h c.0)) (drop 1 round.body) led.free) c.1 given.0 (cc (sym adds)) (large_is_sized r (with_dropped h c.0) round.tag round.body c.1 type c.2.1 c.3)
+            let t : Turn = turn_of r (clear_place (with_dropped h c.0)) (drop 1 round.body) led.free in
+            let same : Clear round.tag t no_draw ≡ c.1 = cc (sym adds) in
+            by_entry c.0 t c.1 given.0 (large_turn r led.free (with_dropped h c.0) (drop 1 round.body) (ap is_large same ∙ c.3)) (turn_short r (with_dropped h c.0) (drop 1 round.body) led.free) same (large_is_sized r (with_dropped h c.0) round.tag round.body c.1 type c.2.1 c.3)
             (large_is_unseen r (with_dropped h c.0) round.tag round.body c.1 type c.2.1 c.3) (large_leaves r (with_dropped h c.0) round.tag round.body c.1 c.2.1 c.3) c.4 c.5 c.6
       ]
 
@@ -121,7 +138,7 @@ module _ (w : Configuration) (q : ReqSetup) (older : List (List ℕ)) (k : Kept)
 
   -- ---- The newest request is the one that it answers.
 
-  taken : is_taken begun_here.turned ≡ true
+  pub taken : is_taken begun_here.turned ≡ true
   taken = (begun_here.leaves.stands.1 begun_here.unseen.0).taken
 
   pub kept_here : kept_of behind ≡ Some (record { tag = turn.round.tag; message = begun_here.turned.message; reply = begun_here.turned.reply })
@@ -133,3 +150,11 @@ module _ (w : Configuration) (q : ReqSetup) (older : List (List ℕ)) (k : Kept)
   asked_is =
       let again : is_repeat (kept_of behind) round.tag (drop 1 round.body) ≡ true = ap (λ (l : History). is_repeat (kept_of l) round.tag (drop 1 round.body)) begun_here.added ∙ begun_here.leaves.again h type in
       (bytes_eq-Decides _ _).0 (and_second (round.tag == round.tag) _ (ap (λ o. is_repeat o round.tag (drop 1 round.body)) (sym kept_here) ∙ again))
+
+  -- It is what the request led to, but for the answer.
+  pub led_here : IsLedTo (responder_for w k) k.responder (Clear turn.round.tag (turn_with [] None begun_here.turned) no_draw)
+  led_here =
+      let c = given.1 in
+      let body : round.body ≡ clear_body begun_here.turned.message = clear_shape round.body type ∙ ap clear_body (sym asked_is) in
+      let same : unseen c.1 ∷ h ≡ Clear round.tag (turn_with [] None begun_here.turned) no_draw ∷ h = sym c.6 ∙ begun_here.added in
+      (c.0, c.1, subst (λ (l : List ℕ). MayLeadTo r (with_dropped h c.0) round.tag l (Adds c.1)) body c.2.1, c.3, (cc same))

@@ -44,7 +44,7 @@ module _ (w : Configuration) (q : ReqSetup) (older : List (List ℕ)) (rows : Li
           (
             turn.round,
             turn.answers.0,
-            inr (
+            (
               v,
               asks.handle,
               stand,

@@ -43,10 +43,6 @@ module _ (w : Configuration) (q : ReqSetup) (older : List (List ℕ)) (rows : Li
   abbrev r : RspSetup
   r = responder_for w f.kept
 
-  -- The request is GET_VERSION.
-  pub version_told : turn.round.body ≡ clear_body (canonical_request GetVersion) → IsRepliedTo w q older rows f route answer (Ok upon.Large) new stands table
-  version_told is = inr (inr (kept.at, (turn.round, turn.answers.0, inl is)))
-
   -- It is refused.
   module _ (other : turn.round.body ≢ clear_body (canonical_request GetVersion)) (never : IsShownHeld held turn.round.tag turn.round.body answer shown.Other) where
     abbrev NoApart : Type 0

@@ -176,6 +176,7 @@ module _ (w : Configuration) (q : ReqSetup) (older : List (List ℕ)) (rows : Li
         are = (refl, b.are);
         unseen = b.unseen;
         left_is = b.left_is;
+        led = b.led;
         sized = b.sized;
         stands = b.stands;
         keys = b.keys;

@@ -59,3 +59,15 @@ pub mod ClearAsks
 pub mod SessionAsks
 pub mod AsksTold
 pub mod VersionAsks
+pub mod HandshakeNone
+pub mod HeldTurns
+pub mod HeldSettled
+pub mod HeldBegun
+pub mod VersionRound
+pub mod VersionHeard
+pub mod VersionGone
+pub mod VersionEnds
+pub mod BegunHeldTold
+pub mod LastLed
+pub mod LastInClear
+pub mod AskedAccepts

@@ -28,8 +28,6 @@ use Rattle.world_machine.specs.Setup.{Configuration}
 use Rattle.responder_machine.specs.Place.{place_terms}
 use Rattle.chunking.specs.Cutting.{chunk_count}
 use Rattle.fetched_answers.specs.ClearChunks.{clear_with, get_message, get_response}
-use Rattle.spdm_grammar.specs.Message.RequestMessage.{GetVersion}
-use Rattle.spdm_grammar.specs.Requests.{canonical_request}
 use Rattle.spdm_machine.specs.Bodies.{clear_body}
 
 -- The rows that a packet makes.
@@ -45,16 +43,13 @@ IsFetchedWhy w f g why =
     ((whole : List ℕ) → MayStand f whole → GoesApart (responder_for w f.kept) (dialogue_of f whole) g → ⊥)
     × (goes_why (responder_for w f.kept) (restored f.kept) g ≡ Some why)
 
--- While one is fetched in the clear, the request is GET_VERSION; or it is the last chunk of some bytes that may stand.
+-- While one is fetched in the clear, it is the last chunk of some bytes that may stand.
 abbrev pub IsLastInClear : Fetching → Round → (answer : List ℕ) → Type 0
 IsLastInClear f round answer =
     (whole : List ℕ) × (handle : ℕ) × MayStand f whole
     × (round.body ≡ clear_body (get_message handle (number_of f)))
     × (answer ≡ clear_body (get_response f.kept.responder whole handle (number_of f)))
     × (nat_lt (number_of f + 1) (chunk_count (place_terms (clear_with f.kept.responder whole)).common.to_requester.transfer whole) ≡ false)
-
-abbrev pub IsEndInClear : Fetching → Round → (answer : List ℕ) → Type 0
-IsEndInClear f round answer = (round.body ≡ clear_body (canonical_request GetVersion)) ⊎ IsLastInClear f round answer
 
 -- It is not judged: it begins another large answer by what it shows; or one is fetched in a session, and it is told apart
 -- there; or one is fetched in the clear, and it is one of those.
@@ -64,7 +59,7 @@ IsUnjudged w f answer =
     × IsShownLarge (responder_for w f.kept) (judging (Some whole) round.body f.kept.responder) round.tag round.body answer)
     ⊎ (((id : ℕ) × (round : Round) × (whole : List ℕ) × (f.at ≡ Some id) × (f.kept.round ≡ Some round) × MayStand f whole
     × IsOther (responder_for w f.kept) (with_large (Some id) whole f.kept.responder) f.kept round answer)
-    ⊎ ((f.at ≡ None) × ((round : Round) × (f.kept.round ≡ Some round) × IsEndInClear f round answer)))
+    ⊎ ((f.at ≡ None) × ((round : Round) × (f.kept.round ≡ Some round) × IsLastInClear f round answer)))
 
 -- It goes on, and then this stands for what is kept behind it, and so does the table; or it is not judged; or it is
 -- refused, and then why.

@@ -25,8 +25,10 @@ use Rattle.large_answers.specs.LargeAnswers as large_answers
 use Rattle.requester_machine.specs.Setup.{ReqSetup}
 use Rattle.responder_machine.specs.History.{Entry, History, clear_turns, kept_of, phase_of}
 use Rattle.responder_machine.specs.History.Entry.{Clear}
+use Rattle.responder_machine.specs.May.{with_dropped}
 use Rattle.responder_machine.specs.Place.{clear_place, place_terms}
 use Rattle.responder_machine.specs.Refusal.{sizes_are_known}
+use Rattle.responder_machine.specs.Responder.Outcome.{Adds}
 use Rattle.responder_machine.specs.Responder.{is_repeat, kept_reply}
 use Rattle.responder_machine.specs.Setup.{RspSetup}
 use Rattle.responder_machine.specs.Turn.{Turn}
@@ -35,11 +37,19 @@ use Rattle.spdm_grammar.specs.Message.ResponseMessage.{ChunkResponse}
 use Rattle.spdm_grammar.specs.Responses.{canonical_response}
 use Rattle.spdm_grammar.specs.declared.names.TheConstants.{MAX_MESSAGE_SIZE, MIN_DATA_TRANSFER_SIZE}
 use Rattle.spdm_machine.specs.Bodies.{clear_body}
+use Rattle.world_machine.specs.CapturedAnswers.{MayLeadTo, request_in, tag_in}
+use Rattle.world_machine.specs.LargeAnswers.{is_large, unseen}
 use Rattle.world_machine.specs.Rounds.{no_draw}
 use Rattle.world_machine.specs.SessionTable.{Row, begun_count}
 use Rattle.world_machine.specs.Setup.{Configuration}
 
 -- ---- What is kept.
+
+-- An entry is what its request led to with some bytes as its large answer, after sessions were dropped, but for that answer.
+abbrev pub IsLedTo : RspSetup → (before : History) → Entry → Type 0
+IsLedTo r before entry =
+    (dropped : List ℕ) × (led : Entry) × MayLeadTo r (with_dropped before dropped) (tag_in entry) (request_in entry) (Adds led)
+    × (is_large led ≡ true) × (unseen led ≡ entry)
 
 -- The responder's history is the one before a request, that request with its answer not seen, and the CHUNK_GETs that came
 -- since. The connection and the keys stand for what the request left of the sessions before it.
@@ -52,6 +62,7 @@ pub record StandsBefore (seen : Answerer) (seen_keys : AnswerKeys) (held : Held)
   pub are : AreGets gets
   pub unseen : IsUnseenRequest (Clear held.tag turn no_draw)
   pub left_is : IsLeftBy (Clear held.tag turn no_draw) before left
+  pub led : IsLedTo r before (Clear held.tag turn no_draw)
   pub sized : sizes_are_known (phase_of (clear_turns before)) ≡ true
   pub stands : connected.StandsFor seen.connection r left
   pub keys : answer_keys.StandFor seen_keys r left

@@ -20,6 +20,7 @@ ghost use Rattle.world_machine.specs.Setup.{Configuration};
 use crate::Upon;
 use crate::held::Held;
 use crate::held_heard::hears_on;
+use crate::held_version::ends_by_version;
 use crate::shown::Shown;
 use capture_ends::Party;
 use capture_laws::{Round, SessionTable};
@@ -66,7 +67,7 @@ pub fn replies_held(
 {
     let body = round.body();
     if asks_version(body) {
-        return Ok(Ok(Upon::Large));
+        return ends_by_version(party, table, setup, round, answer);
     }
     match held.shows(round.tag(), body, answer) {
         Shown::Same => {

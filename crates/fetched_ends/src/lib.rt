@@ -1,18 +1,21 @@
 //! Captures, while a large answer is fetched: a requester and the responder are judged by their own code, though
 //! of the answer no byte is known but those of the chunks that came.
 //!
-//! Read first: `IsRepliedTo` in `specs/Fetched.antt`. The calls: `begins_in_session`, `replies_in_session`,
-//! `replies_held`.
+//! Read first: `IsRepliedTo` in `specs/Fetched.antt`, and `StandsFor` in `specs/JudgedEnds.antt`. The calls are those of
+//! `JudgedEnds`.
 #![tactic(auto)]
 
+mod asked_exchange;
 mod asks_laws;
 mod chunk_judged;
 mod ends_laws;
 mod fetch;
+mod handshake_left;
 mod held;
 mod held_begins;
 mod held_heard;
 mod held_replies;
+mod held_version;
 mod in_session;
 mod in_session_begins;
 mod in_session_replies;

@@ -1,6 +1,10 @@
-use Rattle.std.proofs.Common.{◌≡◌, ◌≢◌, ◌∙◌, ◌<◌, ◌-◌, ◌^◌, ℕ, List, Bool, true, false, Option, Some, Ok, Err, refl, sym, ap, subst}
+use Rattle.std.proofs.Common.{◌≡◌, ◌≢◌, ◌∙◌, ◌<◌, ◌-◌, ◌^◌, ℕ, List, Bool, true, false, Option, Some, Ok, Err, Result, drop, refl, sym, ap, subst}
+use Rattle.std.specs.Prelude.{IfOk, IsSome, OnErr}
+use Rattle.spdm_basis.specs.declared.OutOfMemory.{OutOfMemory}
 use Rattle.capture_ends.proofs.InTurn.{answers_in_turn}
+use Rattle.capture_laws.specs.DropsShown.{id_begun, response_of}
 use Rattle.capture_laws.specs.Keeping.{restored}
+use Rattle.capture_laws.specs.Order.{body_in}
 use Rattle.capture_laws.specs.RepliesShown.{responder_for}
 use Rattle.fetched_ends.proofs.HeldJudged.{awaits, behind_took, body_is, heard_as, last_on, newly_is, next_same, next_took, not_version, round_is, same_asks, same_on, shown_as, tag_is, took_asks, took_on, took_quiet}
 use Rattle.fetched_ends.proofs.HeldOn.{few}
@@ -8,10 +12,36 @@ use Rattle.fetched_ends.proofs.HeldSame.{quiet}
 use Rattle.fetched_ends.proofs.HeldTold.{refused_told}
 use Rattle.fetched_ends.specs.Held.{IsHeardHeld, IsHeldIn, IsShownHeld}
 use Rattle.fetched_ends.specs.declared.shown.Shown.{Shown}
+use Rattle.fetched_ends.specs.declared.upon.Upon.{Upon}
+use Rattle.fetched_ends.specs.declared.upon.Upon.TheVariants as upon
 use Rattle.large_answers.specs.Fetching.{Fetching}
 use Rattle.requester_machine.specs.May.{IsSetUp}
 use Rattle.world_machine.specs.Rounds.{Dialogue}
+use Rattle.script_text.specs.declared.why.Why as declared_why
 use Rattle.fetched_ends.proofs.held_replies.replies_held.Goals as goal
+
+-- GET_VERSION came.
+stays_on : {A : Type 0} (x : Result (Result Upon declared_why.Why) OutOfMemory) (s t : A) → IfOk x (λ told. (told ≡ Ok upon.Ended → ⊥) → t ≡ s) → IfOk x (λ told. (told ≡ Ok upon.Fetched → ⊥) → (told ≡ Ok upon.Ended → ⊥) → t ≡ s)
+stays_on (Ok told) s t is = λ fetched ended. is ended
+stays_on (Err e) s t is = is
+
+memory_on : (A : Type 0) (x : Result (Result Upon declared_why.Why) OutOfMemory) → OnErr x ⊥ → OnErr x A
+memory_on A (Ok told) none = none
+memory_on A (Err e) none = absurd none
+
+pub returns-then-asks_version-clause-told : goal.returns-then-asks_version-clause-told
+returns-then-asks_version-clause-told c w q older rows f route own less byte now set_up none kept stands =
+    let answer : List ℕ = c.args.answer.now in
+    let turn = answers_in_turn f.kept route answer none in
+    let body = c.body-body.ensures ∙ ap body_in (now ∙ turn.answers.0) in
+    let version = sym (c.asks_version.ensures.0 c.if-asks_version.true ∙ body) in
+    c.ends_by_version.ensures.told w q older rows f route c.args.held.now turn.round own less now turn.answers.0 version set_up none kept stands
+
+pub returns-then-asks_version-clause-stays : goal.returns-then-asks_version-clause-stays
+returns-then-asks_version-clause-stays c = stays_on c.ends_by_version.result c.args.table.now c.ends_by_version.new.table c.ends_by_version.ensures.stays
+
+pub returns-then-asks_version-clause-memory : goal.returns-then-asks_version-clause-memory
+returns-then-asks_version-clause-memory c = memory_on (IsSome (id_begun (response_of (drop 1 c.args.answer.now)))) c.ends_by_version.result c.ends_by_version.ensures.memory
 
 pub returns-in_ok-hears_on-in-Same-clause-told : goal.returns-in_ok-hears_on-in-Same-clause-told
 returns-in_ok-hears_on-in-Same-clause-told c w q older rows f route own less byte now set_up none kept stands =
