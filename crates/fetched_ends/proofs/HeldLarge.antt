@@ -46,11 +46,18 @@ module _ (w : Configuration) (q : ReqSetup) (older : List (List ℕ)) (rows : Li
     pub last_told : IsRepliedTo w q older rows f route answer (Ok upon.Large) new stands table
     last_told =
         let asks = asked w q older rows f own party held kept turn.round turn.answers.0 other anew v stand in
-        inr (inr (kept.at, (turn.round, turn.answers.0, inr (inl (
-          v,
-          asks.handle,
-          stand,
-          asks.body,
-          sym is_chunk ∙ ap clear_body (sym (response_is w q older rows f own party held kept turn.round turn.answers.0 other anew v stand)),
-          none_left,
-        )))))
+        inr (inr (
+          kept.at,
+          (
+            turn.round,
+            turn.answers.0,
+            inr (inl (
+              v,
+              asks.handle,
+              stand,
+              asks.body,
+              sym is_chunk ∙ ap clear_body (sym (response_is w q older rows f own party held kept turn.round turn.answers.0 other anew v stand)),
+              none_left,
+            )),
+          ),
+        ))

@@ -25,7 +25,6 @@ none_by None is = refl
 none_by (Some x) is = absurd (false≢true (sym is))
 
 pub some_by : (o : Option ℕ) → is_some o ≡ true → IsSome o
-
 some_by o is = is
 
 module _ (w : Configuration) (q : ReqSetup) (older : List (List ℕ)) (rows : List Row) (f : Fetching) (own : IsFetchingOf w q older f) (party : Party) (held : Held) (kept : IsHeldIn party held w q f rows) where

@@ -29,6 +29,7 @@ pub mod BegunStands
 pub mod BegunChanges
 pub mod LengthsIn
 pub mod BegunTold
+pub mod BegunGiven
 pub mod HeldRounds
 pub mod HeldCut
 pub mod HeldGave

@@ -35,6 +35,7 @@ use Rattle.spdm_grammar.specs.Message.RequestMessage.{GetVersion}
 use Rattle.spdm_grammar.specs.Requests.{canonical_request}
 use Rattle.spdm_machine.specs.Bodies.{clear_body}
 use Rattle.world_machine.specs.CapturedAnswers.{AnswersPlainly}
+
 -- The rows that a packet makes.
 abbrev pub rows_upon : Kept → Kept → List Row → List Row
 rows_upon k next rows = rows_between (restored k) (restored next) rows

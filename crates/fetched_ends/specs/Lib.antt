@@ -3,3 +3,4 @@ pub mod InSession
 pub mod ChunkJudged
 pub mod Prepared
 pub mod Held
+pub mod BegunIn

@@ -52,7 +52,9 @@ fn is_response(body: &[u8], chunk: ChunkView<'_>) -> bool
         ≡ body.now)) }
 {
     let mut room = Frame::new();
-    if !chunk.is_sound() || write_response(&Response::ChunkResponse(chunk), 0, false, &mut room).is_err() {
+    if !chunk.is_sound()
+        || write_response(&Response::ChunkResponse(chunk), 0, false, &mut room).is_err()
+    {
         return false;
     }
     is_clear(body, room.as_slice())
@@ -100,7 +102,12 @@ impl Held {
             return Shown::Other;
         };
         let handle = byte_at(body, 4);
-        let Some(chunk) = nth_chunk(whole.as_slice(), self.transfer, handle, self.answer.number()) else {
+        let Some(chunk) = nth_chunk(
+            whole.as_slice(),
+            self.transfer,
+            handle,
+            self.answer.number(),
+        ) else {
             return Shown::Other;
         };
         let last = chunk.last;
@@ -124,7 +131,8 @@ impl Held {
             → StandsFor self.new.answer next }
     {
         self.answer.take(behind_type(answer));
-        self.newest.keep(tag, behind_type(body), behind_type(answer));
+        self.newest
+            .keep(tag, behind_type(body), behind_type(answer));
     }
 
     // What an answer is, to a request under a tag that is not GET_VERSION.

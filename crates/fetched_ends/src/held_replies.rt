@@ -17,10 +17,10 @@ ghost use Rattle.spdm_machine.specs.Bodies.{clear_body};
 ghost use Rattle.world_machine.specs.SessionTable.{Row};
 ghost use Rattle.world_machine.specs.Setup.{Configuration};
 
+use crate::Upon;
 use crate::held::Held;
 use crate::held_heard::hears_on;
 use crate::shown::Shown;
-use crate::Upon;
 use capture_ends::Party;
 use capture_laws::{Round, SessionTable};
 use connection::Setup;

@@ -50,12 +50,14 @@ returns-clause-told c w q older rows f route held behind of own less is now one 
     let table = subst (λ (x : Result Unit OutOfMemory). OnOk x (rows_of.StandsForRows c.take.new.self w (length older + 1) (rows_between (restored k) (restored next) rows))) it
     (c.take.ensures.table w (length older) (restored k) (restored next) rows change step (omega (arith, less)) number stands kept.beside.places) in
     let places = subst (λ (x : Result Unit OutOfMemory). OnOk x (rows_of.StandFor c.take.new.places (restored next) (rows_between (restored k) (restored next) rows))) it
-    (c.take.ensures.places w (length older) (restored k) (restored next) rows change step stands kept.beside.places) in
-    (asks, record {
-      asker = subst (λ (n : ℕ). IsAsker c.hears-heard.new.self q (heard_kept k behind n of answer)) (sym tag ∙ one) (c.hears-heard.ensures.kept w q older k behind of carried less is tag kept.beside.asker);
-      answerer = refl;
-      keys = refl;
-      number = refl;
-      places = places;
-      stands = table;
-    })
+    (c.take.ensures.places w (length older) (restored k) (restored next) rows change step stands kept.beside.places) in (
+      asks,
+      record {
+        asker = subst (λ (n : ℕ). IsAsker c.hears-heard.new.self q (heard_kept k behind n of answer)) (sym tag ∙ one) (c.hears-heard.ensures.kept w q older k behind of carried less is tag kept.beside.asker);
+        answerer = refl;
+        keys = refl;
+        number = refl;
+        places = places;
+        stands = table;
+      },
+    )

@@ -19,7 +19,7 @@ returns-then-not-is_response c cut fits is =
     subst (λ (n : ℕ). n < chunk_count held.transfer c.as_slice.result.now) (sym c.number.ensures) (subst (λ (l : List ℕ). held.answer.number < chunk_count held.transfer l) (sym whole) can.more) in
     let given = same_Some _ _ (c.in-Some-nth_chunk.ensures can.low more) in
     let chunk = given
-        ∙ ap (λ (n : ℕ). nth_chunk held.transfer n c.as_slice.result.now c.number.result) c.byte_at-handle.ensures
-        ∙ ap (λ (l : List ℕ). nth_chunk held.transfer (slice_index body 4) l c.number.result) whole
-        ∙ ap (λ (n : ℕ). nth_chunk held.transfer (slice_index body 4) (filled_with held answer) n) c.number.ensures in
+    ∙ ap (λ (n : ℕ). nth_chunk held.transfer n c.as_slice.result.now c.number.result) c.byte_at-handle.ensures
+    ∙ ap (λ (l : List ℕ). nth_chunk held.transfer (slice_index body 4) l c.number.result) whole
+    ∙ ap (λ (n : ℕ). nth_chunk held.transfer (slice_index body 4) (filled_with held answer) n) c.number.ensures in
     no_response held body answer (filled_with held answer) _ c.is_response.result can chunk c.is_response.ensures c.if-not-is_response.true is
