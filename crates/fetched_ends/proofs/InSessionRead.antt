@@ -1,5 +1,5 @@
 -- The answer to a record of the session holds a chunk that fits: other bytes are put in the connection, and it is read with them.
-use Rattle.std.proofs.Common.{◌≡◌, ◌≤◌, ◌<◌, ◌-◌, ◌^◌, ◌==◌, ℕ, List, refl, sym, ap, ◌∙◌, subst, length, arith, true, false, Option, Some, inr}
+use Rattle.std.proofs.Common.{◌≡◌, ◌≤◌, ◌<◌, ◌-◌, ◌^◌, ◌==◌, ℕ, List, refl, sym, ap, ◌∙◌, subst, length, arith, true, false, Option, Some, inl, inr}
 use Rattle.std.specs.Prelude.{slice_index}
 use Rattle.mctp_framing.specs.Cutting.{RouteFields}
 use Rattle.capture_ends.proofs.FewMessages.{kept_messages}
