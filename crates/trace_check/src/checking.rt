@@ -17,8 +17,7 @@ pub enum Checked {
     /// It has this verdict.
     Judged(Verdict),
     /// This packet, counted from 1, is a part of a large answer that is not judged, and those before it
-    /// conform: LargeResponse upon which the requester does not ask for a chunk at once, or while a large
-    /// message is under way; or a record of the session 0 while a large answer is fetched in the clear.
+    /// conform (`IsPart` of `fetched_ends`).
     Large(u32),
 }
 
