@@ -1,6 +1,6 @@
 -- An answer while a large one is fetched in the clear, by what it was found to be: what is told of it.
-use Rattle.std.proofs.Common.{◌≡◌, ◌≢◌, ◌∙◌, ◌↔◌, ◌≤◌, IsTrue, ℕ, List, ◌∷◌, refl, sym, ap, subst, drop, length, Bool, true, false, Option, Some, Result, Ok}
-use Rattle.std.specs.Prelude.{IfOk}
+use Rattle.std.proofs.Common.{◌≡◌, ◌≢◌, ◌∙◌, ◌↔◌, ◌≤◌, IsTrue, ℕ, List, ◌∷◌, refl, sym, ap, subst, drop, length, Bool, true, false, Option, Some, None, Result, Ok}
+use Rattle.std.specs.Prelude.{OnOk}
 use Rattle.spdm_basis.specs.declared.OutOfMemory.{OutOfMemory}
 use Rattle.spdm_grammar.specs.declared.names.TheConstants.{MAX_MESSAGE_SIZE}
 use Rattle.large_answers.specs.FetchingShown.{ShowsChunk}
@@ -8,25 +8,27 @@ use Rattle.large_answers.specs.LargeAnswers as large_answers
 use Rattle.std.proofs.lemmas.Bool.{false≢true}
 use Rattle.mctp_framing.specs.Cutting.{RouteFields}
 use Rattle.capture_ends.proofs.InTurn.{AnswersInTurn}
-use Rattle.capture_ends.specs.HeardKept.{heard_kept}
+use Rattle.capture_ends.specs.HeardKept.{asks_upon, heard_kept}
 use Rattle.capture_ends.specs.ShownBy.{HasFewBlocks}
 use Rattle.capture_ends.specs.declared.party.Party.{Party}
+use Rattle.capture_laws.specs.KeptChanges.{accepted_from}
 use Rattle.capture_laws.specs.Order.{body_in, tag_in}
 use Rattle.capture_laws.specs.RepliesShown.{responder_for}
 use Rattle.capture_laws.specs.declared.verdict.Seen.{Seen}
+use Rattle.fetched_ends.proofs.ClearAsks.{clear_asks_on}
 use Rattle.fetched_ends.proofs.HeldCut.{filled_cut, may_stand}
 use Rattle.fetched_ends.proofs.HeldLarge as large
 use Rattle.fetched_ends.proofs.HeldSame as same
 use Rattle.fetched_ends.proofs.HeldTook as took
 use Rattle.fetched_ends.specs.Fetched.{IsRepliedTo}
-use Rattle.fetched_ends.specs.Held.{AreHeldFitting, CanBeCut, IsHeardOn, IsHeldIn, IsQuiet, IsShownHeld, filled_with, repeats_held}
+use Rattle.fetched_ends.specs.Held.{AreHeldFitting, CanBeCut, IsHeardHeld, IsHeldIn, IsQuiet, IsShownHeld, filled_with, repeats_held}
 use Rattle.fetched_ends.specs.declared.held.Held.{Held}
 use Rattle.fetched_ends.specs.declared.shown.Shown.{Shown}
 use Rattle.fetched_ends.specs.declared.shown.Shown.TheVariants as shown
 use Rattle.fetched_ends.specs.declared.upon.Upon.TheVariants as upon
 use Rattle.large_answers.proofs.PlainLaws.{Now, now}
 use Rattle.large_answers.proofs.PlainLaws.Now.{Version, Chunk}
-use Rattle.large_answers.specs.Fetching.{Fetching, IsFetchingOf, MayStand, answer_by}
+use Rattle.large_answers.specs.Fetching.{Fetching, IsFetchingOf, MayStand, answer_by, dialogue_of}
 use Rattle.requester_machine.specs.History.{outstanding}
 use Rattle.requester_machine.specs.May.{IsSetUp}
 use Rattle.requester_machine.specs.Setup.{ReqSetup}
@@ -35,6 +37,7 @@ use Rattle.responder_machine.specs.History.{History}
 use Rattle.spdm_grammar.specs.Message.RequestMessage.{GetVersion}
 use Rattle.spdm_grammar.specs.Requests.{canonical_request}
 use Rattle.spdm_machine.specs.Bodies.{clear_body}
+use Rattle.world_machine.specs.CapturedAnswers.{AnswersPlainly}
 use Rattle.world_machine.specs.LargeAnswers.{is_fetching}
 use Rattle.world_machine.specs.Rounds.{Round}
 use Rattle.world_machine.specs.SessionTable.{Row}
@@ -57,19 +60,25 @@ module _ (w : Configuration) (q : ReqSetup) (older : List (List ℕ)) (rows : Li
       let P : ℕ → List ℕ → Type 0 = λ n l. (repeats_held held n l ≡ false → AreHeldFitting held (drop 1 answer) → CanBeCut held (filled_with held answer)) → IsShownHeld held n l answer told in
       subst (P turn.round.tag) two (subst (λ (n : ℕ). P n body) one tells) (λ anew fits. filled_cut w q older rows f own party held kept turn.round turn.answers.0 other anew answer fits)
 
+  -- Upon an answer that goes whole the requester asks for a chunk, and takes it for no PSK_EXCHANGE_RSP.
+  abbrev pub IsAskedOn : Type 0
+  IsAskedOn = (asks_upon f.kept route.tag answer ≡ true) × (accepted_from f.kept route.tag answer ≡ None)
+
+  asks_on : (v : List ℕ) (behind : History) → MayStand f v → AnswersPlainly (responder_for w f.kept) (dialogue_of f v) turn.round answer behind → IsAskedOn
+  asks_on v behind stand plain =
+      subst (λ (n : ℕ). (asks_upon f.kept n answer ≡ true) × (accepted_from f.kept n answer ≡ None)) turn.answers.1 (clear_asks_on w q older f turn.round answer v behind own kept.at turn.answers.0 other stand plain)
+
+  pub same_asks : IsShownHeld held turn.round.tag turn.round.body answer shown.Same → HasFewBlocks (responder_for w f.kept) → IsAskedOn
+  same_asks told few = asks_on own.stands.0 f.kept.responder own.stands.1 (same.plainly w q older rows f own party held kept route answer limits turn other told.0 few told.1)
+
   module _ (new : Party) (table : List Seen) where
     -- The same again.
     abbrev pub next_same : Fetching
     next_same = record f { kept = heard_kept f.kept f.kept.responder route.tag turn.round answer }
 
-    pub same_on : IsShownHeld held turn.round.tag turn.round.body answer shown.Same → HasFewBlocks (responder_for w f.kept) → IsHeardOn route.tag answer party new table w q older rows f next_same true
+    pub same_on : IsShownHeld held turn.round.tag turn.round.body answer shown.Same → HasFewBlocks (responder_for w f.kept) → IsHeardHeld party new table w q older rows f next_same
         → IsRepliedTo w q older rows f route answer (Ok upon.Fetched) new (IsHeldIn new held w q) table
-    same_on told few heard = same.fetched_same w q older rows f own party held kept route answer limits turn other told.0 few told.1 new table heard.0 heard.1
-
-    pub same_off : (stands : Fetching → List Row → Type 0) → IsShownHeld held turn.round.tag turn.round.body answer shown.Same → HasFewBlocks (responder_for w f.kept) → IsHeardOn route.tag answer party new table w q older rows f next_same false
-        → IsRepliedTo w q older rows f route answer (Ok upon.Large) new stands table
-    same_off stands told few heard =
-        large.asks_none w q older rows f own party held kept route answer turn new stands table own.stands.0 f.kept.responder own.stands.1 (same.plainly w q older rows f own party held kept route answer limits turn other told.0 few told.1) heard
+    same_on told few heard = same.fetched_same w q older rows f own party held kept route answer limits turn other told.0 few told.1 new table (same_asks told few).0 heard
 
     -- The last chunk.
     pub last_on : (stands : Fetching → List Row → Type 0) → IsShownHeld held turn.round.tag turn.round.body answer shown.Last → IsRepliedTo w q older rows f route answer (Ok upon.Large) new stands table
@@ -96,15 +105,12 @@ module _ (w : Configuration) (q : ReqSetup) (older : List (List ℕ)) (rows : Li
     pub took_quiet : IsQuiet f.kept.responder (took.added w q older rows f own party held kept route answer limits turn other told.0 (filled_with held answer) stand told.1.chunk told.1.last ∷ f.kept.responder)
     took_quiet = took.quiet w q older rows f own party held kept route answer limits turn other told.0 (filled_with held answer) stand told.1.chunk told.1.last
 
-    pub took_on : (new : Party) (newly : Held) (table : List Seen) → IsHeardOn route.tag answer party new table w q older rows f next_took true → IsNewly newly
-        → IsRepliedTo w q older rows f route answer (Ok upon.Fetched) new (IsHeldIn new newly w q) table
-    took_on new newly table heard now = took.fetched_on w q older rows f own party held kept route answer limits turn other told.0 (filled_with held answer) stand told.1.chunk told.1.last new newly table heard.0 heard.1 now
+    pub took_asks : IsAskedOn
+    took_asks = asks_on (filled_with held answer) next_took.kept.responder stand (took.plainly w q older rows f own party held kept route answer limits turn other told.0 (filled_with held answer) stand told.1.chunk told.1.last)
 
-    pub took_off : (new : Party) (table : List Seen) (stands : Fetching → List Row → Type 0) → IsHeardOn route.tag answer party new table w q older rows f next_took false
-        → IsRepliedTo w q older rows f route answer (Ok upon.Large) new stands table
-    took_off new table stands heard =
-        large.asks_none w q older rows f own party held kept route answer turn new stands table (filled_with held answer) next_took.kept.responder stand
-        (took.plainly w q older rows f own party held kept route answer limits turn other told.0 (filled_with held answer) stand told.1.chunk told.1.last) heard
+    pub took_on : (new : Party) (newly : Held) (table : List Seen) → IsHeardHeld party new table w q older rows f next_took → IsNewly newly
+        → IsRepliedTo w q older rows f route answer (Ok upon.Fetched) new (IsHeldIn new newly w q) table
+    took_on new newly table heard now = took.fetched_on w q older rows f own party held kept route answer limits turn other told.0 (filled_with held answer) stand told.1.chunk told.1.last new newly table took_asks.0 heard now
 
     -- What the chunk leaves of what is held.
     pub newly_is : (newly : Held) (tag : ℕ) (body : List ℕ) → tag ≡ turn.round.tag → body ≡ turn.round.body → newly ≡ record held { newest = newly.newest; answer = newly.answer }
@@ -139,5 +145,5 @@ module _ (f : Fetching) (route : RouteFields) (answer : List ℕ) (turn : Answer
   not_version body of result told none = λ is. false≢true (sym none ∙ told.1 (sym (body_is body of ∙ is)))
 
 -- What is told of a result, where it is this one.
-pub heard_as : (P : Bool → Type 0) (result : Result Bool OutOfMemory) (b c : Bool) → IfOk result P → result ≡ Ok b → b ≡ c → P c
-heard_as P result b c told was is = subst P is (subst (λ (x : Result Bool OutOfMemory). IfOk x P) was told)
+pub heard_as : (P : Type 0) (result : Result Unit OutOfMemory) (it : Unit) → OnOk result P → result ≡ Ok it → P
+heard_as P result it told was = subst (λ (x : Result Unit OutOfMemory). OnOk x P) was told

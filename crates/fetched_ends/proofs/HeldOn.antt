@@ -1,7 +1,5 @@
 -- An answer with which a large one is fetched on in the clear: what the calls leave.
 use Rattle.std.proofs.Common.{◌≡◌, ◌∙◌, ◌<◌, ◌≤◌, ◌+◌, ◌-◌, ◌^◌, ℕ, List, ◌∷◌, ◌++◌, Bool, true, false, Option, Some, None, refl, sym, ap, subst, length, arith, is_some}
-use Rattle.std.specs.Prelude.{IsSome}
-use Rattle.std.proofs.lemmas.Bool.{false≢true}
 use Rattle.capture_ends.proofs.FewMessages.{kept_messages}
 use Rattle.capture_ends.specs.Asker.{Carries}
 use Rattle.capture_ends.specs.declared.party.Party.{Party}
@@ -19,13 +17,6 @@ use Rattle.responder_machine.specs.History.Entry.{Clear}
 use Rattle.world_machine.specs.Rounds.{no_draw}
 use Rattle.world_machine.specs.SessionTable.{Row}
 use Rattle.world_machine.specs.Setup.{Configuration}
-
-pub none_by : (o : Option ℕ) → is_some o ≡ false → o ≡ None
-none_by None is = refl
-none_by (Some x) is = absurd (false≢true (sym is))
-
-pub some_by : (o : Option ℕ) → is_some o ≡ true → IsSome o
-some_by o is = is
 
 module _ (w : Configuration) (q : ReqSetup) (older : List (List ℕ)) (rows : List Row) (f : Fetching) (own : IsFetchingOf w q older f) (party : Party) (held : Held) (kept : IsHeldIn party held w q f rows) where
   pub carries : Carries w q older f.kept

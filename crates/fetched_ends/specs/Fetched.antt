@@ -1,5 +1,5 @@
 -- What is told of an answer to a requester while a large one is fetched. This project's own.
-use Rattle.std.specs.Prelude.{◌≡◌, ◌+◌, ◌⊎◌, ℕ, List, drop, length, slice_index, Some, None, Result, Ok, Err, nat_lt, true, false, IsSome}
+use Rattle.std.specs.Prelude.{◌≡◌, ◌+◌, ◌⊎◌, ℕ, List, drop, length, slice_index, Some, None, Result, Ok, Err, nat_lt, false}
 use Rattle.mctp_framing.specs.Cutting.{RouteFields}
 use Rattle.mctp_framing.specs.Gathering.{Gathered}
 use Rattle.mctp_framing.specs.Gathering.Gathered.{Whole}
@@ -25,14 +25,10 @@ use Rattle.world_machine.specs.LargeAnswers.{judging, with_large}
 use Rattle.world_machine.specs.Rounds.{Round}
 use Rattle.world_machine.specs.SessionTable.{Row, rows_between}
 use Rattle.world_machine.specs.Setup.{Configuration}
-use Rattle.responder_machine.specs.History.{History}
 use Rattle.responder_machine.specs.Place.{place_terms}
-use Rattle.capture_ends.specs.HeardKept.{asks_upon}
-use Rattle.capture_laws.specs.KeptChanges.{accepted_from}
 use Rattle.chunking.specs.Cutting.{chunk_count}
 use Rattle.fetched_answers.specs.ClearChunks.{clear_with, get_message, get_response}
 use Rattle.spdm_machine.specs.Bodies.{clear_body}
-use Rattle.world_machine.specs.CapturedAnswers.{AnswersPlainly}
 
 -- The rows that a packet makes.
 abbrev pub rows_upon : Kept → Kept → List Row → List Row
@@ -47,25 +43,13 @@ IsFetchedWhy w f g why =
     ((whole : List ℕ) → MayStand f whole → GoesApart (responder_for w f.kept) (dialogue_of f whole) g → ⊥)
     × (goes_why (responder_for w f.kept) (restored f.kept) g ≡ Some why)
 
--- While one is fetched in the clear, it is the last chunk of some bytes that may stand; or it may be given with some, and the
--- requester asks for no chunk upon it, or takes it for PSK_EXCHANGE_RSP.
+-- While one is fetched in the clear, it is the last chunk of some bytes that may stand.
 abbrev pub IsLastInClear : Fetching → Round → (answer : List ℕ) → Type 0
 IsLastInClear f round answer =
     (whole : List ℕ) × (handle : ℕ) × MayStand f whole
     × (round.body ≡ clear_body (get_message handle (number_of f)))
     × (answer ≡ clear_body (get_response f.kept.responder whole handle (number_of f)))
     × (nat_lt (number_of f + 1) (chunk_count (place_terms (clear_with f.kept.responder whole)).common.to_requester.transfer whole) ≡ false)
-
-abbrev pub AsksNone : Kept → ℕ → (answer : List ℕ) → Type 0
-AsksNone k tag answer = (asks_upon k tag answer ≡ false) ⊎ IsSome (accepted_from k tag answer)
-
-abbrev pub IsAskedNone : Configuration → Fetching → Round → (answer : List ℕ) → Type 0
-IsAskedNone w f round answer =
-    AsksNone f.kept round.tag answer
-    × ((whole : List ℕ) × (h : History) × MayStand f whole × AnswersPlainly (responder_for w f.kept) (dialogue_of f whole) round answer h)
-
-abbrev pub IsEndInClear : Configuration → Fetching → Round → (answer : List ℕ) → Type 0
-IsEndInClear w f round answer = IsLastInClear f round answer ⊎ IsAskedNone w f round answer
 
 -- It is not judged: it begins another large answer by what it shows; or one is fetched in a session, and it is told apart
 -- there; or one is fetched in the clear, and it is one of those.
@@ -75,7 +59,7 @@ IsUnjudged w f answer =
     × IsShownLarge (responder_for w f.kept) (judging (Some whole) round.body f.kept.responder) round.tag round.body answer)
     ⊎ (((id : ℕ) × (round : Round) × (whole : List ℕ) × (f.at ≡ Some id) × (f.kept.round ≡ Some round) × MayStand f whole
     × IsOther (responder_for w f.kept) (with_large (Some id) whole f.kept.responder) f.kept round answer)
-    ⊎ ((f.at ≡ None) × ((round : Round) × (f.kept.round ≡ Some round) × IsEndInClear w f round answer)))
+    ⊎ ((f.at ≡ None) × ((round : Round) × (f.kept.round ≡ Some round) × IsLastInClear f round answer)))
 
 -- It goes on, and then this stands for what is kept behind it, and so does the table; or it is not judged; or it is
 -- refused, and then why.

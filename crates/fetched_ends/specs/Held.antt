@@ -3,7 +3,6 @@
 use Rattle.std.specs.Prelude.{◌≡◌, ◌≤◌, ◌<◌, ◌+◌, ◌++◌, ◌∷◌, ℕ, List, None, drop, length, slice_index, Bool, true, false, if◌then◌else◌, nat_lt}
 use Rattle.capture_ends.specs.AnswerKeys as answer_keys
 use Rattle.capture_ends.specs.Asker.{IsAsker}
-use Rattle.capture_ends.specs.HeardKept.{asks_upon}
 use Rattle.capture_ends.specs.Party.{IsBeside}
 use Rattle.capture_ends.specs.declared.answer_keys.AnswerKeys.{AnswerKeys}
 use Rattle.capture_ends.specs.declared.answerer.Answerer.{Answerer}
@@ -16,7 +15,7 @@ use Rattle.capture_laws.specs.declared.verdict.Seen.{Seen}
 use Rattle.chunking.specs.Cutting.{chunk_count, nth_chunk}
 use Rattle.connection.specs.Connected as connected
 use Rattle.fetched_answers.specs.ClearSessions.{AreGets, IsLeftBy, IsUnseenRequest}
-use Rattle.fetched_ends.specs.Fetched.{AsksNone, rows_upon}
+use Rattle.fetched_ends.specs.Fetched.{rows_upon}
 use Rattle.fetched_ends.specs.GetsHeld.{GiveAll}
 use Rattle.fetched_ends.specs.InSession.{AreLengths, bytes_with, filled, size_with}
 use Rattle.fetched_ends.specs.declared.held.Held.{Held}
@@ -155,8 +154,3 @@ pub record IsHeardHeld (old new : Party) (table : List Seen) (w : Configuration)
   pub number : new.number ≡ old.number
   pub places : StandFor new.places (restored next.kept) (rows_upon f.kept next.kept rows)
   pub stands : StandsForRows table w (length older + 1) (rows_upon f.kept next.kept rows)
-
--- Whether the requester asks for a chunk upon it, and takes it for no PSK_EXCHANGE_RSP; and then that is so.
-abbrev pub IsHeardOn : (tag : ℕ) → (answer : List ℕ) → (old new : Party) → (table : List Seen) → Configuration → ReqSetup → List (List ℕ) → List Row → (f next : Fetching) → (fetches : Bool) → Type 0
-IsHeardOn tag answer old new table w q older rows f next true = (asks_upon f.kept tag answer ≡ true) × IsHeardHeld old new table w q older rows f next
-IsHeardOn tag answer old new table w q older rows f next false = AsksNone f.kept tag answer

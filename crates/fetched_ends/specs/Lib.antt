@@ -4,6 +4,9 @@ pub mod ChunkJudged
 pub mod Prepared
 pub mod GetsHeld
 pub mod Held
+pub mod AsksUpon
 pub mod AskedInClear
 pub mod HeldFrom
+pub mod BegunIn
 pub mod BegunHeld
+pub mod JudgedEnds

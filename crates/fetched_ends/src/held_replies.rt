@@ -72,15 +72,11 @@ pub fn replies_held(
     match held.shows(round.tag(), body, answer) {
         Shown::Same => {
             blocks_are_few(setup);
-            if !hears_on(party, table, round, answer)? {
-                return Ok(Ok(Upon::Large));
-            }
+            hears_on(party, table, round, answer)?;
             Ok(Ok(Upon::Fetched))
         }
         Shown::Between => {
-            if !hears_on(party, table, round, answer)? {
-                return Ok(Ok(Upon::Large));
-            }
+            hears_on(party, table, round, answer)?;
             held.takes(round.tag(), body, answer);
             Ok(Ok(Upon::Fetched))
         }

@@ -1,11 +1,15 @@
 //! Captures, while a large answer is fetched: a requester and the responder are judged by their own code, though
 //! of the answer no byte is known but those of the chunks that came.
 //!
-//! Read first: `IsRepliedTo` in `specs/Fetched.antt`. The calls: `begins_held`, `replies_in_session`, `replies_held`.
+//! Read first: `IsRepliedTo` in `specs/Fetched.antt`, and `StandsFor` in `specs/JudgedEnds.antt`. The calls are those of
+//! `JudgedEnds`.
 #![tactic(auto)]
 
 mod asked_exchange;
+mod asks_laws;
 mod chunk_judged;
+mod ends_laws;
+mod fetch;
 mod handshake_left;
 mod held;
 mod held_begins;
@@ -13,17 +17,28 @@ mod held_heard;
 mod held_replies;
 mod held_version;
 mod in_session;
+mod in_session_begins;
 mod in_session_replies;
+mod judged_ends;
+mod judged_replies;
+mod judged_requests;
 mod session_prepared;
 mod session_texts;
 mod shown;
 mod upon;
 mod whole_measured;
 
+pub use asks_laws::{
+    answers_tell_asking, clear_asks_on, plain_ends_fetching, session_asks_on, version_asks_none,
+};
+pub use ends_laws::{awaiting_ends_stay, other_ends_stay};
+pub use fetch::Fetch;
 pub use held::Held;
 pub use held_begins::{BegunHeld, begins_held};
 pub use held_replies::replies_held;
 pub use in_session::InSession;
+pub use in_session_begins::{BegunIn, begins_in_session};
 pub use in_session_replies::replies_in_session;
+pub use judged_ends::JudgedEnds;
 pub use shown::Shown;
 pub use upon::Upon;

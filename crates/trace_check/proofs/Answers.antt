@@ -13,10 +13,7 @@ use Rattle.spdm_basis.specs.declared.DropCause.{DropCause}
 use Rattle.spdm_basis.specs.declared.OutOfMemory.{OutOfMemory}
 use Rattle.spdm_basis.specs.declared.PacketFault.{PacketFault}
 use Rattle.spdm_machine.specs.Packets.{fields_in, gathered_from}
-use Rattle.capture_ends.proofs.AwaitingStay.{awaiting_stay}
-use Rattle.capture_ends.specs.Conversation as conversations
-use Rattle.capture_ends.specs.Conversation.{IsAnswer, StandsBehind, WalksShow}
-use Rattle.capture_ends.specs.declared.conversation.Conversation.{Conversation}
+use Rattle.capture_ends.specs.Conversation.{IsAnswer, WalksShow}
 use Rattle.capture_ends.specs.declared.onward.Onward.{Onward}
 use Rattle.capture_ends.specs.declared.onward.Onward.TheVariants as onward
 use Rattle.capture_laws.proofs.Found.{IsOfOne}
@@ -30,6 +27,10 @@ use Rattle.capture_laws.specs.Order.{answered_why, is_answer, is_known, is_reque
 use Rattle.capture_laws.specs.Rows.{StandsForRows}
 use Rattle.capture_laws.specs.Walks.{StepsBy, StepsTo}
 use Rattle.capture_laws.specs.declared.verdict.Seen.{Seen}
+use Rattle.fetched_ends.proofs.EndsStay.{awaiting_ends}
+use Rattle.fetched_ends.specs.JudgedEnds as judged_ends
+use Rattle.fetched_ends.specs.JudgedEnds.{StandsBehind}
+use Rattle.fetched_ends.specs.declared.judged_ends.JudgedEnds.{JudgedEnds}
 use Rattle.trace_check.proofs.Refusals.{answer_refused, order_refused}
 use Rattle.trace_check.proofs.Requests.{others_stand, rests}
 use Rattle.trace_check.proofs.Walked.{known_is}
@@ -58,7 +59,7 @@ module _ (w : Configuration) (q : ReqSetup) (older : List (List ℕ)) (rows : Li
   no_request = ap (λ (b : Bool). b && p.from == q.eid) ends.to_is
 
   -- It goes on.
-  pub answer_goes : (new : JudgedPair) (table : List Seen) → StandsBehind new.conversation.party new.conversation.large table w q older rows packet → IsPair (pair_of new) own q.eid (packet ∷ older)
+  pub answer_goes : (new : JudgedPair) (table : List Seen) → StandsBehind new.ends table w q older rows packet → IsPair (pair_of new) own q.eid (packet ∷ older)
       → new.hint ≡ seen.hint → new.psk ≡ seen.psk → GoesOn new table w q older packet rows
   answer_goes new table there order hint psk = record {
     behind = rows_between there.before there.after rows;
@@ -88,34 +89,34 @@ module _ (w : Configuration) (q : ReqSetup) (older : List (List ℕ)) (rows : Li
     pair_behind x gives round = answered_kept (pair_of seen) (pair_of new) own q.eid older packet p x stands.order before.parses is takes at others gives round
 
     -- More of a body is awaited.
-    pub answer_waits : More ≡ gathered seen.answers.receiver (fields_in older) p → new.round ≡ seen.round → new.conversation ≡ seen.conversation → StandsForRows table w (length older) rows → GoesOn new table w q older packet rows
+    pub answer_waits : More ≡ gathered seen.answers.receiver (fields_in older) p → new.round ≡ seen.round → new.ends ≡ seen.ends → StandsForRows table w (length older) rows → GoesOn new table w q older packet rows
     unfolding StepsTo
     answer_waits gives round same entries =
         let more : g ≡ More = sym (answered_gathers (pair_of seen) own q.eid older p More stands.order gives) in
-        let talk : conversations.StandsFor new.conversation w q older rows = subst (λ (x : Conversation). conversations.StandsFor x w q older rows) (sym same) stands.talk in
-        let at = rests new.conversation w q older rows talk in
+        let talk : judged_ends.StandsFor new.ends w q older rows = subst (λ (x : JudgedEnds). judged_ends.StandsFor x w q older rows) (sym same) stands.talk in
+        let at = rests new.ends w q older rows talk in
         let d = at.0 in
         let replies : RepliesBy w d g d = subst (λ (x : Gathered). RepliesBy w d x d) (sym more) refl in
         let step : StepsBy w q.eid older d d (parsed packet) = subst (λ (x : Result PacketFields PacketFault). StepsBy w q.eid older d d x) (sym before.parses) (of_it w older q.eid p d d false ends replies) in
-        let waits = awaiting_stay new.conversation w q older packet p rows before.sound.responder.beat before.parses (inr (no_request, is, more)) talk in
+        let waits = awaiting_ends new.ends w q older packet p rows before.sound.responder.beat before.parses (inr (no_request, is, more)) talk in
         answer_goes new table (record {
           before = d;
           came = at.1.walk;
           after = d;
           goes = (d, at.1.walk, step);
-          stands = subst (λ (x : List Row). conversations.StandsFor new.conversation w q (packet ∷ older) x) (sym at.1.same) waits;
+          stands = subst (λ (x : List Row). judged_ends.StandsFor new.ends w q (packet ∷ older) x) (sym at.1.same) waits;
           entries = subst (StandsForRows table w (length older + 1)) (sym at.1.same) (more_packets table w (length older) (length older + 1) rows (omega arith) entries);
         }) (pair_behind More gives round) hint psk
 
     -- It completes an answer.
     pub answer_told : (route : RouteFields) (answer : List ℕ) (result : Result Onward declared.Why) → Whole route answer ≡ gathered seen.answers.receiver (fields_in older) p
-        → (result ≡ Ok onward.Kept → new.round ≡ round_answered seen.round) → IsAnswerJudged w q older rows packet route answer result new.conversation table → IsTaken (RepliesLarge w q older g) w q older packet rows result new table
+        → (result ≡ Ok onward.Kept → new.round ≡ round_answered seen.round) → IsAnswerJudged w q older rows packet route answer result new.ends table → IsTaken (RepliesLarge w q older g) w q older packet rows result new table
     answer_told route answer result gives round judged = by_result result round judged
       where
         whole : Whole route answer ≡ g
         whole = answered_gathers (pair_of seen) own q.eid older p (Whole route answer) stands.order gives
 
-        by_result : (x : Result Onward declared.Why) → (x ≡ Ok onward.Kept → new.round ≡ round_answered seen.round) → IsAnswerJudged w q older rows packet route answer x new.conversation table
+        by_result : (x : Result Onward declared.Why) → (x ≡ Ok onward.Kept → new.round ≡ round_answered seen.round) → IsAnswerJudged w q older rows packet route answer x new.ends table
             → IsTaken (RepliesLarge w q older g) w q older packet rows x new table
         by_result (Ok onward.Kept) turn (inl c) = answer_goes new table c (pair_behind (Whole route answer) gives (turn refl)) hint psk
         by_result (Ok onward.Large) turn (inl c) = (route, answer, sym whole, c)
@@ -126,7 +127,7 @@ module _ (w : Configuration) (q : ReqSetup) (older : List (List ℕ)) (rows : Li
 
     -- The same, where memory may be wanted.
     pub answer_given : (route : RouteFields) (answer : List ℕ) (result : Result (Result Onward declared.Why) OutOfMemory) → Whole route answer ≡ gathered seen.answers.receiver (fields_in older) p
-        → (result ≡ Ok (Ok onward.Kept) → new.round ≡ round_answered seen.round) → IfOk result (λ told. IsAnswerJudged w q older rows packet route answer told new.conversation table)
+        → (result ≡ Ok (Ok onward.Kept) → new.round ≡ round_answered seen.round) → IfOk result (λ told. IsAnswerJudged w q older rows packet route answer told new.ends table)
         → IfOk result (λ told. IsTaken (RepliesLarge w q older g) w q older packet rows told new table)
     answer_given route answer (Ok told) gives round judged = answer_told route answer told gives (λ is. round (ap Ok is)) judged
     answer_given route answer (Err fault) gives round judged = tt

@@ -11,11 +11,9 @@ use Rattle.script_text.specs.declared.why.Why.TheVariants as why
 use Rattle.spdm_basis.specs.declared.DropCause.{DropCause}
 use Rattle.spdm_basis.specs.declared.PacketFault.{PacketFault}
 use Rattle.spdm_machine.specs.Packets.{fields_in, gathered_from}
-use Rattle.capture_ends.proofs.AwaitingStay.{awaiting_stay}
-use Rattle.capture_ends.proofs.OthersStay.{conversations_stay}
 use Rattle.capture_ends.proofs.WalkRows.{places_for}
 use Rattle.capture_ends.specs.Conversation as conversations
-use Rattle.capture_ends.specs.Conversation.{IsRequest, StandsAs, StandsBehind, WalksShow, meanwhile}
+use Rattle.capture_ends.specs.Conversation.{IsRequest, WalksShow, meanwhile}
 use Rattle.capture_ends.specs.declared.conversation.Conversation.{Conversation}
 use Rattle.capture_ends.specs.declared.onward.Onward.{Onward}
 use Rattle.capture_ends.specs.declared.onward.Onward.TheVariants as onward
@@ -35,6 +33,13 @@ use Rattle.capture_laws.specs.Order.{asked_why, is_known, is_request, order_why,
 use Rattle.capture_laws.specs.Rows.{StandsForRows}
 use Rattle.capture_laws.specs.Walks.{StepsBy, StepsTo, Walks}
 use Rattle.capture_laws.specs.declared.verdict.Seen.{Seen}
+use Rattle.fetched_ends.proofs.EndsKept.{beside_of}
+use Rattle.fetched_ends.proofs.EndsStay.{awaiting_ends, other_ends}
+use Rattle.fetched_ends.specs.JudgedEnds as judged_ends
+use Rattle.fetched_ends.specs.JudgedEnds.{StandsAs, StandsBehind}
+use Rattle.fetched_ends.specs.declared.judged_ends.JudgedEnds.{JudgedEnds}
+use Rattle.fetched_ends.specs.declared.fetch.Fetch.{Fetch}
+use Rattle.large_answers.specs.Fetching as fetching
 use Rattle.large_requests.specs.Sending.{dialogue_of}
 use Rattle.large_requests.specs.declared.large_request.LargeRequest.{LargeRequest}
 use Rattle.trace_check.proofs.Refusals.{order_refused, request_refused}
@@ -56,7 +61,7 @@ module _ (w : Configuration) (q : ReqSetup) (older : List (List ℕ)) (rows : Li
       let none = of other.eid apart in
       let far : other.eid ≢ next.setup.eid = λ same. apart (same ∙ ap (λ (x : ReqSetup). x.eid) its) in record {
         order = stays_pair (pair_of seen) w.responder.eid other.eid older packet p before.parses away none.0 none.1 s.order;
-        talk = conversations_stay other_places_stay seen.conversation w other older packet p d next rows far before.parses none.0 none.1 s.talk;
+        talk = other_ends other_places_stay seen.ends w other older packet p d next rows far before.parses none.0 none.1 s.talk;
         hint = s.hint;
         psk = s.psk;
       }
@@ -68,7 +73,7 @@ pub record RestsAt (w : Configuration) (q : ReqSetup) (older : List (List ℕ)) 
   pub walk : Walks w q older d
   pub same : rows_between d d rows ≡ rows
 
-rests_as : (party : Party) (large : Option LargeRequest) (w : Configuration) (q : ReqSetup) (older : List (List ℕ)) (rows : List Row) → StandsAs party large w q older rows → (d : Dialogue) × RestsAt w q older rows d
+rests_as : (party : Party) (large : Option LargeRequest) (w : Configuration) (q : ReqSetup) (older : List (List ℕ)) (rows : List Row) → conversations.StandsAs party large w q older rows → (d : Dialogue) × RestsAt w q older rows d
 rests_as party None w q older rows stands = (
   restored stands.0,
   record {
@@ -89,8 +94,22 @@ rests_as party (Some large) w q older rows stands =
       },
     )
 
-pub rests : (seen : Conversation) (w : Configuration) (q : ReqSetup) (older : List (List ℕ)) (rows : List Row) → conversations.StandsFor seen w q older rows → (d : Dialogue) × RestsAt w q older rows d
-rests seen w q older rows stands = rests_as seen.party seen.large w q older rows stands
+rests_by : (talk : Conversation) (fetched : Option Fetch) (w : Configuration) (q : ReqSetup) (older : List (List ℕ)) (rows : List Row) → StandsAs talk fetched w q older rows → (d : Dialogue) × RestsAt w q older rows d
+rests_by talk None w q older rows stands = rests_as talk.party talk.large w q older rows stands
+rests_by talk (Some fetched) w q older rows stands =
+    let f = stands.1.0 in
+    let own = stands.1.1 in
+    let d = fetching.dialogue_of f own.stands.0 in (
+      d,
+      record {
+        walk = own.all own.stands.0 own.stands.1;
+        same = idle_rows_stay talk.party.places d rows
+            (places_for talk.party.places (restored f.kept) d rows refl refl (beside_of talk.party fetched w q f rows stands.1.2).places);
+      },
+    )
+
+pub rests : (seen : JudgedEnds) (w : Configuration) (q : ReqSetup) (older : List (List ℕ)) (rows : List Row) → judged_ends.StandsFor seen w q older rows → (d : Dialogue) × RestsAt w q older rows d
+rests seen w q older rows stands = rests_by seen.talk seen.fetched w q older rows stands
 
 -- ---- A packet of this requester.
 
@@ -109,7 +128,7 @@ module _ (w : Configuration) (q : ReqSetup) (older : List (List ℕ)) (rows : Li
   of_one = subst (IsOfOne own p) ends.end (request_of_one own p ends.to_is)
 
   -- It goes on.
-  pub request_goes : (new : JudgedPair) (table : List Seen) → StandsBehind new.conversation.party new.conversation.large table w q older rows packet → IsPair (pair_of new) own q.eid (packet ∷ older)
+  pub request_goes : (new : JudgedPair) (table : List Seen) → StandsBehind new.ends table w q older rows packet → IsPair (pair_of new) own q.eid (packet ∷ older)
       → new.hint ≡ seen.hint → new.psk ≡ seen.psk → GoesOn new table w q older packet rows
   request_goes new table there order hint psk = record {
     behind = rows_between there.before there.after rows;
@@ -142,34 +161,34 @@ module _ (w : Configuration) (q : ReqSetup) (older : List (List ℕ)) (rows : Li
     pair_behind x gives round = asked_kept (pair_of seen) (pair_of new) own q.eid older packet p x stands.order before.parses is apart takes at others gives round
 
     -- More of a body is awaited.
-    pub request_waits : More ≡ gathered seen.requests.receiver (fields_in older) p → new.round ≡ seen.round → new.conversation ≡ seen.conversation → StandsForRows table w (length older) rows → GoesOn new table w q older packet rows
+    pub request_waits : More ≡ gathered seen.requests.receiver (fields_in older) p → new.round ≡ seen.round → new.ends ≡ seen.ends → StandsForRows table w (length older) rows → GoesOn new table w q older packet rows
     unfolding StepsTo
     request_waits gives round same entries =
         let more : g ≡ More = sym (asked_gathers (pair_of seen) own q.eid older p More stands.order gives) in
-        let talk : conversations.StandsFor new.conversation w q older rows = subst (λ (x : Conversation). conversations.StandsFor x w q older rows) (sym same) stands.talk in
-        let at = rests new.conversation w q older rows talk in
+        let talk : judged_ends.StandsFor new.ends w q older rows = subst (λ (x : JudgedEnds). judged_ends.StandsFor x w q older rows) (sym same) stands.talk in
+        let at = rests new.ends w q older rows talk in
         let d = at.0 in
         let asks : AsksBy d g d = subst (λ (x : Gathered). AsksBy d x d) (sym more) refl in
         let step : StepsBy w q.eid older d d (parsed packet) = subst (λ (x : Result PacketFields PacketFault). StepsBy w q.eid older d d x) (sym before.parses) (of_it w older q.eid p d d true ends asks) in
-        let waits = awaiting_stay new.conversation w q older packet p rows before.sound.responder.beat before.parses (inl (is, more)) talk in
+        let waits = awaiting_ends new.ends w q older packet p rows before.sound.responder.beat before.parses (inl (is, more)) talk in
         request_goes new table (record {
           before = d;
           came = at.1.walk;
           after = d;
           goes = (d, at.1.walk, step);
-          stands = subst (λ (x : List Row). conversations.StandsFor new.conversation w q (packet ∷ older) x) (sym at.1.same) waits;
+          stands = subst (λ (x : List Row). judged_ends.StandsFor new.ends w q (packet ∷ older) x) (sym at.1.same) waits;
           entries = subst (StandsForRows table w (length older + 1)) (sym at.1.same) (more_packets table w (length older) (length older + 1) rows (omega arith) entries);
         }) (pair_behind More gives round) hint psk
 
     -- It completes a request.
     pub request_told : (route : RouteFields) (body : List ℕ) (result : Result Onward declared.Why) → Whole route body ≡ gathered seen.requests.receiver (fields_in older) p
-        → (result ≡ Ok onward.Kept → new.round ≡ round_by_request seen.round (Whole route body)) → IsRequestJudged w q older rows packet route body result new.conversation table → IsTaken ⊥ w q older packet rows result new table
+        → (result ≡ Ok onward.Kept → new.round ≡ round_by_request seen.round (Whole route body)) → IsRequestJudged w q older rows packet route body result new.ends table → IsTaken ⊥ w q older packet rows result new table
     request_told route body result gives round judged = by_result result round judged
       where
         whole : Whole route body ≡ g
         whole = asked_gathers (pair_of seen) own q.eid older p (Whole route body) stands.order gives
 
-        by_result : (x : Result Onward declared.Why) → (x ≡ Ok onward.Kept → new.round ≡ round_by_request seen.round (Whole route body)) → IsRequestJudged w q older rows packet route body x new.conversation table
+        by_result : (x : Result Onward declared.Why) → (x ≡ Ok onward.Kept → new.round ≡ round_by_request seen.round (Whole route body)) → IsRequestJudged w q older rows packet route body x new.ends table
             → IsTaken ⊥ w q older packet rows x new table
         by_result (Ok onward.Kept) turn (inl c) = request_goes new table c (pair_behind (Whole route body) gives (turn refl)) hint psk
         by_result (Ok onward.Large) turn (inl c) = c

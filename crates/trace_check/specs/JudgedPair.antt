@@ -7,8 +7,6 @@ use Rattle.mctp_framing.specs.Gathering.Gathered.{Whole}
 use Rattle.mctp_framing.specs.Packet.{PacketFields, parsed}
 use Rattle.requester_machine.specs.Setup.{ReqSetup}
 use Rattle.script_text.specs.declared.why.Why as declared
-use Rattle.capture_ends.specs.Conversation as conversations
-use Rattle.capture_ends.specs.Conversation.{IsPart}
 use Rattle.capture_ends.specs.declared.onward.Onward.{Onward}
 use Rattle.capture_ends.specs.declared.onward.Onward.TheVariants as onward
 use Rattle.capture_laws.specs.Judged.{IsPair, why_of}
@@ -17,6 +15,8 @@ use Rattle.capture_laws.specs.ReasonsEach.{IsOneOf}
 use Rattle.capture_laws.specs.Rows.{StandsForRows}
 use Rattle.capture_laws.specs.declared.pair.Pair.{Pair}
 use Rattle.capture_laws.specs.declared.verdict.Seen.{Seen}
+use Rattle.fetched_ends.specs.JudgedEnds as judged_ends
+use Rattle.fetched_ends.specs.JudgedEnds.{IsPart}
 use Rattle.trace_check.specs.Limits.{AreSound}
 use Rattle.trace_check.specs.declared.judged_pair.JudgedPair.{JudgedPair}
 use Rattle.world_machine.specs.Capture.{Leads}
@@ -32,11 +32,11 @@ abbrev pub pair_of : JudgedPair → Pair
 pair_of seen = record { eid = seen.eid; requests = seen.requests; answers = seen.answers; round = seen.round }
 
 -- It stands for this requester and the responder after these packets, the newest first, among the rows that they show: the
--- bodies and the round are those of the packets; the conversation stands for these; and the responder knows this of the
+-- bodies and the round are those of the packets; the two ends stand for these; and the responder knows this of the
 -- requester.
 pub record StandsFor (seen : JudgedPair) (w : Configuration) (q : ReqSetup) (older : List (List ℕ)) (rows : List Row) : Type 0 where
   pub order : IsPair (pair_of seen) w.responder.eid q.eid older
-  pub talk : conversations.StandsFor seen.conversation w q older rows
+  pub talk : judged_ends.StandsFor seen.ends w q older rows
   pub hint : seen.hint ≡ q.hint
   pub psk : seen.psk ≡ q.psk
 
@@ -65,7 +65,7 @@ pub record GoesOn (new : JudgedPair) (table : List Seen) (w : Configuration) (q 
 abbrev pub IsRefused : Configuration → List (List ℕ) → (packet : List ℕ) → Why → Type 0
 IsRefused w older packet why = ((after : List Dialogue) → Leads w (packet ∷ older) after → ⊥) × IsReason w older packet why
 
--- ---- Parts of large answers, which are not judged yet.
+-- ---- Parts of large answers that are not judged.
 
 -- What a requester gets is a part of a large answer.
 abbrev pub RepliesLarge : Configuration → ReqSetup → List (List ℕ) → Gathered → Type 0

@@ -1,11 +1,11 @@
 ghost use Rattle.std.specs.Prelude.{◌≡◌, ◌≤◌, ◌<◌, ◌-◌, ◌^◌, ℕ, List, Ok, IfOk, length};
-ghost use Rattle.capture_ends.specs.Conversation as conversations;
 ghost use Rattle.capture_ends.specs.Conversation.{IsAnswer, IsRequest};
 ghost use Rattle.capture_ends.specs.declared.onward.Onward.TheVariants as onward;
 ghost use Rattle.capture_laws.specs.Judged.{waiting_in};
 ghost use Rattle.capture_laws.specs.Order.{round_answered, round_by_request, round_of};
 ghost use Rattle.capture_laws.specs.Rows.{StandsForRows};
 ghost use Rattle.connection.specs.Setup.{IsSetUp};
+ghost use Rattle.fetched_ends.specs.JudgedEnds as judged_ends;
 ghost use Rattle.mctp_framing.specs.Cutting.{route_of};
 ghost use Rattle.mctp_framing.specs.Gathering.Gathered.{Whole};
 ghost use Rattle.requester_machine.specs.Setup.{ReqSetup};
@@ -15,9 +15,10 @@ ghost use Rattle.world_machine.specs.SessionTable.{Row};
 ghost use Rattle.world_machine.specs.Setup.{Configuration, known_of};
 
 use crate::ordering::{answered_why, asked_why};
-use capture_ends::{Conversation, Onward};
+use capture_ends::Onward;
 use capture_laws::{Round, SessionTable};
 use connection::Setup;
+use fetched_ends::JudgedEnds;
 use mctp_framing::Route;
 use script_text::Why;
 use spdm_basis::OutOfMemory;
@@ -26,7 +27,7 @@ use spdm_basis::OutOfMemory;
 // then why.
 pub(crate) fn takes_request(
     round: &mut Round,
-    conversation: &mut Conversation,
+    ends: &mut JudgedEnds,
     table: &mut SessionTable,
     route: Route,
     body: &[u8],
@@ -35,9 +36,9 @@ pub(crate) fn takes_request(
         (packet : List ℕ) → IsRequest w q older packet (route_of route) body.now
         → length older < 2 ^ 64 - 2 → length body.now ≤ 4161
         → round.old ≡ round_of w.responder.eid q.eid older
-        → conversations.StandsFor conversation.old w q older rows
+        → judged_ends.StandsFor ends.old w q older rows
         → StandsForRows table.old w (length older) rows
-        → IsRequestJudged w q older rows packet (route_of route) body.now result conversation.new
+        → IsRequestJudged w q older rows packet (route_of route) body.now result ends.new
         table.new }
     ensures round { waiting_in round.old < 2 ^ 64 - 1 → length body.now ≤ 4161
         → result ≡ Ok onward.Kept
@@ -46,7 +47,7 @@ pub(crate) fn takes_request(
     if let Some(why) = asked_why(round, route, body) {
         return Err(why);
     }
-    match conversation.asks(table, round, route.tag, body) {
+    match ends.asks(table, round, route.tag, body) {
         Ok(()) => {
             round.ask(route.tag, body);
             Ok(Onward::Kept)
@@ -59,7 +60,7 @@ pub(crate) fn takes_request(
 // a large answer, or it is refused and then why. An `Err` comes for want of memory.
 pub(crate) fn takes_answer(
     round: &mut Round,
-    conversation: &mut Conversation,
+    ends: &mut JudgedEnds,
     table: &mut SessionTable,
     setup: &Setup<'_>,
     route: Route,
@@ -71,16 +72,16 @@ pub(crate) fn takes_answer(
         → length older < 2 ^ 64 - 2 → w.responder.beat < 256
         → round.old ≡ round_of w.responder.eid q.eid older
         → IsSetUp setup.now (towards w.responder (known_of q))
-        → conversations.StandsFor conversation.old w q older rows
+        → judged_ends.StandsFor ends.old w q older rows
         → StandsForRows table.old w (length older) rows
         → IfOk result (λ told. IsAnswerJudged w q older rows packet (route_of route) answer.now told
-        conversation.new table.new) }
+        ends.new table.new) }
     ensures round { result ≡ Ok (Ok onward.Kept) → round.new ≡ round_answered round.old }
 {
     if let Some(why) = answered_why(round, route, answer) {
         return Ok(Err(why));
     }
-    match conversation.replies(table, setup, round, answer)? {
+    match ends.replies(table, setup, round, answer)? {
         Ok(Onward::Kept) => {
             round.answer();
             Ok(Ok(Onward::Kept))

@@ -16,8 +16,8 @@ use std::alloc::Global;
 pub enum Checked {
     /// It has this verdict.
     Judged(Verdict),
-    /// This packet, counted from 1, is a part of a large answer, and those before it conform. Large
-    /// answers are not judged yet.
+    /// This packet, counted from 1, is a part of a large answer that is not judged, and those before it
+    /// conform (`IsPart` of `fetched_ends`).
     Large(u32),
 }
 

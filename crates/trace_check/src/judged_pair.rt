@@ -5,8 +5,9 @@ ghost use Rattle.requester_machine.specs.UnderWay.{HasSizes};
 
 use crate::Answering;
 use crate::bodies::{takes_answer, takes_request};
-use capture_ends::{Asker, Conversation, Onward, Party, walks_show};
+use capture_ends::{Asker, Onward, Party, walks_show};
 use capture_laws::{Round, SessionTable};
+use fetched_ends::JudgedEnds;
 use mctp_framing::{Assembler, Fed, PacketView};
 use script_text::{ReqPart, Why};
 use spdm_basis::{Bytes, Eid, OutOfMemory, Psk};
@@ -24,7 +25,7 @@ pub struct JudgedPair {
     pub(crate) requests: Assembler,
     pub(crate) answers: Assembler,
     pub(crate) round: Round,
-    pub(crate) conversation: Conversation,
+    pub(crate) ends: JudgedEnds,
     pub(crate) hint: Bytes,
     pub(crate) psk: Psk,
     pub(crate) ghost limit: { answers.receiver.limit ≡ 4161 },
@@ -87,7 +88,7 @@ impl JudgedPair {
             requests: Assembler::new(alloc, own, q.eid, BODY_LIMIT)?,
             answers: Assembler::new(alloc, q.eid, own, BODY_LIMIT)?,
             round: Round::new(),
-            conversation: Conversation::new(party),
+            ends: JudgedEnds::new(party),
             hint,
             psk,
         })
@@ -110,7 +111,7 @@ impl JudgedPair {
         walks_show();
         match self.requests.take(view) {
             Fed::Whole(route, body) => {
-                takes_request(&mut self.round, &mut self.conversation, table, route, body)
+                takes_request(&mut self.round, &mut self.ends, table, route, body)
             }
             Fed::More => Ok(Onward::Kept),
             Fed::Dropped(_) => Err(Why::BadPacket),
@@ -141,7 +142,7 @@ impl JudgedPair {
         match self.answers.take(view) {
             Fed::Whole(route, answer) => takes_answer(
                 &mut self.round,
-                &mut self.conversation,
+                &mut self.ends,
                 table,
                 &setup,
                 route,

@@ -9,37 +9,20 @@ use Rattle.capture_laws.specs.Order.{tag_in}
 use Rattle.capture_laws.specs.RepliesShown.{responder_for}
 use Rattle.capture_laws.specs.Rows as rows_of
 use Rattle.fetched_ends.proofs.HeldHeard.{change_is, step_is}
-use Rattle.fetched_ends.proofs.HeldOn.{carries, few, none_by, some_by, views_here}
+use Rattle.fetched_ends.proofs.HeldOn.{carries, few, views_here}
 use Rattle.requester_machine.specs.Setup.{ReqSetup}
 use Rattle.world_machine.specs.SessionTable.{number_from, rows_between}
 use Rattle.fetched_ends.proofs.held_heard.hears_on.Goals as goal
 
-pub returns-then-not-heard-clause-told : goal.returns-then-not-heard-clause-told
-returns-then-not-heard-clause-told c w q older rows f route held behind of own less is now one kept gets quiet stands =
-    let carried = carries w q older rows f own c.args.party.now held kept in
-    let tag : of.tag ≡ c.tag.result = sym (c.tag.ensures ∙ ap tag_in now) in
-    let fetches = c.hears-heard.ensures.fetches w q older f.kept of carried less is tag kept.beside.asker (sym gets) in
-    inl (ap (λ (n : ℕ). asks_upon f.kept n c.args.answer.now) (sym one ∙ tag) ∙ sym fetches ∙ c.if-not-heard.true)
-
-pub returns-then-is_some-clause-told : goal.returns-then-is_some-clause-told
-returns-then-is_some-clause-told c w q older rows f route held behind of own less is now one kept gets quiet stands =
-    let carried = carries w q older rows f own c.args.party.now held kept in
-    let tag : of.tag ≡ c.tag.result = sym (c.tag.ensures ∙ ap tag_in now) in
-    let accepted = c.hears-heard.ensures.accepted w q older f.kept of carried (omega (arith, less)) is tag kept.beside.asker in
-    inr (some_by (accepted_from f.kept route.tag c.args.answer.now)
-    (ap (λ (n : ℕ). is_some (accepted_from f.kept n c.args.answer.now)) (sym one ∙ tag) ∙ ap is_some (sym accepted) ∙ sym c.is_some.ensures ∙ c.if-is_some.true))
-
 pub returns-clause-told : goal.returns-clause-told
-returns-clause-told c w q older rows f route held behind of own less is now one kept gets quiet stands =
+returns-clause-told c w q older rows f route held behind of own less is now one kept gets asks accepts quiet stands =
     let k : Kept = f.kept in
     let answer : List ℕ = c.args.answer.now in
     let carried = carries w q older rows f own c.args.party.now held kept in
     let tag : of.tag ≡ c.tag.result = sym (c.tag.ensures ∙ ap tag_in now) in
-    let fetches = c.hears-heard.ensures.fetches w q older k of carried less is tag kept.beside.asker (sym gets) in
-    let asks : asks_upon k route.tag answer ≡ true = ap (λ (n : ℕ). asks_upon k n answer) (sym one ∙ tag) ∙ sym fetches ∙ c.if-not-heard.false in
     let heard = c.hears-heard.ensures.accepted w q older k of carried (omega (arith, less)) is tag kept.beside.asker in
     let accepted : c.hears-heard.result.accepted ≡ accepted_from k of.tag answer = heard ∙ ap (λ (n : ℕ). accepted_from k n answer) (sym tag) in
-    let none : accepted_from k of.tag answer ≡ None = sym accepted ∙ none_by c.hears-heard.result.accepted (sym c.is_some.ensures ∙ c.if-is_some.false) in
+    let none : accepted_from k of.tag answer ≡ None = ap (λ (n : ℕ). accepted_from k n answer) one ∙ accepts in
     let small = few w q older rows f own c.args.party.now held kept less in
     let views = c.change-change.ensures.views (responder_for w k) kept.before.left kept.before.stands (omega (arith, small)) ∙ views_here w q older rows f own c.args.party.now held kept in
     let next : Kept = heard_kept k behind route.tag of answer in
@@ -50,14 +33,12 @@ returns-clause-told c w q older rows f route held behind of own less is now one 
     let table = subst (λ (x : Result Unit OutOfMemory). OnOk x (rows_of.StandsForRows c.take.new.self w (length older + 1) (rows_between (restored k) (restored next) rows))) it
     (c.take.ensures.table w (length older) (restored k) (restored next) rows change step (omega (arith, less)) number stands kept.beside.places) in
     let places = subst (λ (x : Result Unit OutOfMemory). OnOk x (rows_of.StandFor c.take.new.places (restored next) (rows_between (restored k) (restored next) rows))) it
-    (c.take.ensures.places w (length older) (restored k) (restored next) rows change step stands kept.beside.places) in (
-      asks,
-      record {
-        asker = subst (λ (n : ℕ). IsAsker c.hears-heard.new.self q (heard_kept k behind n of answer)) (sym tag ∙ one) (c.hears-heard.ensures.kept w q older k behind of carried less is tag kept.beside.asker);
-        answerer = refl;
-        keys = refl;
-        number = refl;
-        places = places;
-        stands = table;
-      },
-    )
+    (c.take.ensures.places w (length older) (restored k) (restored next) rows change step stands kept.beside.places) in
+    record {
+      asker = subst (λ (n : ℕ). IsAsker c.hears-heard.new.self q (heard_kept k behind n of answer)) (sym tag ∙ one) (c.hears-heard.ensures.kept w q older k behind of carried less is tag kept.beside.asker);
+      answerer = refl;
+      keys = refl;
+      number = refl;
+      places = places;
+      stands = table;
+    }

@@ -6,11 +6,11 @@ use Rattle.capture_laws.specs.DropsShown.{id_begun, response_of}
 use Rattle.capture_laws.specs.Keeping.{restored}
 use Rattle.capture_laws.specs.Order.{body_in}
 use Rattle.capture_laws.specs.RepliesShown.{responder_for}
-use Rattle.fetched_ends.proofs.HeldJudged.{awaits, behind_took, body_is, heard_as, last_on, newly_is, next_same, next_took, not_version, round_is, same_off, same_on, shown_as, tag_is, took_off, took_on, took_quiet}
+use Rattle.fetched_ends.proofs.HeldJudged.{awaits, behind_took, body_is, heard_as, last_on, newly_is, next_same, next_took, not_version, round_is, same_asks, same_on, shown_as, tag_is, took_asks, took_on, took_quiet}
 use Rattle.fetched_ends.proofs.HeldOn.{few}
 use Rattle.fetched_ends.proofs.HeldSame.{quiet}
 use Rattle.fetched_ends.proofs.HeldTold.{refused_told}
-use Rattle.fetched_ends.specs.Held.{IsHeardOn, IsHeldIn, IsShownHeld}
+use Rattle.fetched_ends.specs.Held.{IsHeardHeld, IsHeldIn, IsShownHeld}
 use Rattle.fetched_ends.specs.declared.shown.Shown.{Shown}
 use Rattle.fetched_ends.specs.declared.upon.Upon.{Upon}
 use Rattle.fetched_ends.specs.declared.upon.Upon.TheVariants as upon
@@ -43,8 +43,8 @@ returns-then-asks_version-clause-stays c = stays_on c.ends_by_version.result c.a
 pub returns-then-asks_version-clause-memory : goal.returns-then-asks_version-clause-memory
 returns-then-asks_version-clause-memory c = memory_on (IsSome (id_begun (response_of (drop 1 c.args.answer.now)))) c.ends_by_version.result c.ends_by_version.ensures.memory
 
-pub returns-then-not-branch-clause-told : goal.returns-then-not-branch-clause-told
-returns-then-not-branch-clause-told c w q older rows f route own less byte now set_up none kept stands =
+pub returns-in_ok-hears_on-in-Same-clause-told : goal.returns-in_ok-hears_on-in-Same-clause-told
+returns-in_ok-hears_on-in-Same-clause-told c w q older rows f route own less byte now set_up none kept stands =
     let answer : List ℕ = c.args.answer.now in
     let party = c.args.party.now in
     let held = c.args.held.now in
@@ -55,36 +55,17 @@ returns-then-not-branch-clause-told c w q older rows f route own less byte now s
     let tag = tag_is f route answer turn c.args.round.now now c.tag.result c.tag.ensures in
     let told = subst (λ (s : Shown). IsShownHeld held turn.round.tag turn.round.body answer s) c.in-Same.is (shown_as w q older rows f own party held kept route answer limits turn other c.tag.result c.body-body.result.now c.shows.result tag body c.shows.ensures) in
     let blocks = c.blocks_are_few.ensures (responder_for w f.kept) set_up in
+    let asks = same_asks w q older rows f own party held kept route answer limits turn other told blocks in
     let new = c.hears_on.new.party in
     let table = c.hears_on.new.table in
     let next : Fetching = next_same w q older rows f own party held kept route answer limits turn other new table in
-    let heard = heard_as (IsHeardOn route.tag answer party new table w q older rows f next) c.hears_on.result c.in_ok-hears_on-in-Same.field-0 false
-    (c.hears_on.ensures.told w q older rows f route held f.kept.responder turn.round own less turn.answers.0 (round_is f route answer turn c.args.round.now now) turn.answers.1 kept (awaits w q older rows f own party held kept route answer limits turn other) (quiet w q older rows f own party held kept route answer limits turn other told.0 blocks told.1) stands)
-    c.in_ok-hears_on-in-Same.was c.if-not-branch.true in
-    same_off w q older rows f own party held kept route answer limits turn other new table (IsHeldIn new held w q) told blocks heard
-
-pub returns-else-not-branch-clause-told : goal.returns-else-not-branch-clause-told
-returns-else-not-branch-clause-told c w q older rows f route own less byte now set_up none kept stands =
-    let answer : List ℕ = c.args.answer.now in
-    let party = c.args.party.now in
-    let held = c.args.held.now in
-    let turn = answers_in_turn f.kept route answer none in
-    let limits = subst IsSetUp (sym kept.beside.asker.setup) kept.beside.asker.kept.limits in
-    let other = not_version f route answer turn c.args.round.now now c.body-body.result.now c.body-body.ensures c.asks_version.result c.asks_version.ensures c.if-asks_version.false in
-    let body = body_is f route answer turn c.args.round.now now c.body-body.result.now c.body-body.ensures in
-    let tag = tag_is f route answer turn c.args.round.now now c.tag.result c.tag.ensures in
-    let told = subst (λ (s : Shown). IsShownHeld held turn.round.tag turn.round.body answer s) c.in-Same.is (shown_as w q older rows f own party held kept route answer limits turn other c.tag.result c.body-body.result.now c.shows.result tag body c.shows.ensures) in
-    let blocks = c.blocks_are_few.ensures (responder_for w f.kept) set_up in
-    let new = c.hears_on.new.party in
-    let table = c.hears_on.new.table in
-    let next : Fetching = next_same w q older rows f own party held kept route answer limits turn other new table in
-    let heard = heard_as (IsHeardOn route.tag answer party new table w q older rows f next) c.hears_on.result c.in_ok-hears_on-in-Same.field-0 true
-    (c.hears_on.ensures.told w q older rows f route held f.kept.responder turn.round own less turn.answers.0 (round_is f route answer turn c.args.round.now now) turn.answers.1 kept (awaits w q older rows f own party held kept route answer limits turn other) (quiet w q older rows f own party held kept route answer limits turn other told.0 blocks told.1) stands)
-    c.in_ok-hears_on-in-Same.was c.if-not-branch.false in
+    let heard = heard_as (IsHeardHeld party new table w q older rows f next) c.hears_on.result c.in_ok-hears_on-in-Same.field-0
+    (c.hears_on.ensures.told w q older rows f route held f.kept.responder turn.round own less turn.answers.0 (round_is f route answer turn c.args.round.now now) turn.answers.1 kept (awaits w q older rows f own party held kept route answer limits turn other) asks.0 asks.1 (quiet w q older rows f own party held kept route answer limits turn other told.0 blocks told.1) stands)
+    c.in_ok-hears_on-in-Same.was in
     same_on w q older rows f own party held kept route answer limits turn other new table told blocks heard
 
-pub returns-then-not-branch-2-clause-told : goal.returns-then-not-branch-2-clause-told
-returns-then-not-branch-2-clause-told c w q older rows f route own less byte now set_up none kept stands =
+pub returns-in_ok-hears_on-in-Between-clause-told : goal.returns-in_ok-hears_on-in-Between-clause-told
+returns-in_ok-hears_on-in-Between-clause-told c w q older rows f route own less byte now set_up none kept stands =
     let answer : List ℕ = c.args.answer.now in
     let party = c.args.party.now in
     let held = c.args.held.now in
@@ -94,31 +75,13 @@ returns-then-not-branch-2-clause-told c w q older rows f route own less byte now
     let body = body_is f route answer turn c.args.round.now now c.body-body.result.now c.body-body.ensures in
     let tag = tag_is f route answer turn c.args.round.now now c.tag.result c.tag.ensures in
     let told = subst (λ (s : Shown). IsShownHeld held turn.round.tag turn.round.body answer s) c.in-Between.is (shown_as w q older rows f own party held kept route answer limits turn other c.tag.result c.body-body.result.now c.shows.result tag body c.shows.ensures) in
+    let asks = took_asks w q older rows f own party held kept route answer limits turn other told in
     let new = c.hears_on-in-Between.new.party in
     let table = c.hears_on-in-Between.new.table in
     let next : Fetching = next_took w q older rows f own party held kept route answer limits turn other told in
-    let heard = heard_as (IsHeardOn route.tag answer party new table w q older rows f next) c.hears_on-in-Between.result c.in_ok-hears_on-in-Between.field-0 false
-    (c.hears_on-in-Between.ensures.told w q older rows f route held (behind_took w q older rows f own party held kept route answer limits turn other told) turn.round own less turn.answers.0 (round_is f route answer turn c.args.round.now now) turn.answers.1 kept (awaits w q older rows f own party held kept route answer limits turn other) (took_quiet w q older rows f own party held kept route answer limits turn other told) stands)
-    c.in_ok-hears_on-in-Between.was c.if-not-branch-2.true in
-    took_off w q older rows f own party held kept route answer limits turn other told new table (IsHeldIn new held w q) heard
-
-pub returns-else-not-branch-2-clause-told : goal.returns-else-not-branch-2-clause-told
-returns-else-not-branch-2-clause-told c w q older rows f route own less byte now set_up none kept stands =
-    let answer : List ℕ = c.args.answer.now in
-    let party = c.args.party.now in
-    let held = c.args.held.now in
-    let turn = answers_in_turn f.kept route answer none in
-    let limits = subst IsSetUp (sym kept.beside.asker.setup) kept.beside.asker.kept.limits in
-    let other = not_version f route answer turn c.args.round.now now c.body-body.result.now c.body-body.ensures c.asks_version.result c.asks_version.ensures c.if-asks_version.false in
-    let body = body_is f route answer turn c.args.round.now now c.body-body.result.now c.body-body.ensures in
-    let tag = tag_is f route answer turn c.args.round.now now c.tag.result c.tag.ensures in
-    let told = subst (λ (s : Shown). IsShownHeld held turn.round.tag turn.round.body answer s) c.in-Between.is (shown_as w q older rows f own party held kept route answer limits turn other c.tag.result c.body-body.result.now c.shows.result tag body c.shows.ensures) in
-    let new = c.hears_on-in-Between.new.party in
-    let table = c.hears_on-in-Between.new.table in
-    let next : Fetching = next_took w q older rows f own party held kept route answer limits turn other told in
-    let heard = heard_as (IsHeardOn route.tag answer party new table w q older rows f next) c.hears_on-in-Between.result c.in_ok-hears_on-in-Between.field-0 true
-    (c.hears_on-in-Between.ensures.told w q older rows f route held (behind_took w q older rows f own party held kept route answer limits turn other told) turn.round own less turn.answers.0 (round_is f route answer turn c.args.round.now now) turn.answers.1 kept (awaits w q older rows f own party held kept route answer limits turn other) (took_quiet w q older rows f own party held kept route answer limits turn other told) stands)
-    c.in_ok-hears_on-in-Between.was c.if-not-branch-2.false in
+    let heard = heard_as (IsHeardHeld party new table w q older rows f next) c.hears_on-in-Between.result c.in_ok-hears_on-in-Between.field-0
+    (c.hears_on-in-Between.ensures.told w q older rows f route held (behind_took w q older rows f own party held kept route answer limits turn other told) turn.round own less turn.answers.0 (round_is f route answer turn c.args.round.now now) turn.answers.1 kept (awaits w q older rows f own party held kept route answer limits turn other) asks.0 asks.1 (took_quiet w q older rows f own party held kept route answer limits turn other told) stands)
+    c.in_ok-hears_on-in-Between.was in
     let second = tag_is f route answer turn c.args.round.now now c.tag-in-Between.result c.tag-in-Between.ensures in
     let newly = c.takes.new.self in
     let is = newly_is w q older rows f own party held kept route answer limits turn other told newly c.tag-in-Between.result c.body-body.result.now second body c.takes.ensures.same c.takes.ensures.newest c.takes.ensures.came in

@@ -1,4 +1,4 @@
-ghost use Rattle.std.specs.Prelude.{◌≡◌, ◌≤◌, ◌<◌, ◌-◌, ◌^◌, ℕ, List, None, IfOk, OnErr, IsSome, drop, length};
+ghost use Rattle.std.specs.Prelude.{◌≡◌, ◌≤◌, ◌<◌, ◌-◌, ◌^◌, ℕ, List, None, Ok, true, IfOk, OnErr, IsSome, drop, length};
 ghost use Rattle.capture_ends.specs.Party.{IsParty};
 ghost use Rattle.capture_laws.specs.DropsShown.{id_begun, response_of};
 ghost use Rattle.capture_laws.specs.Keeping.{Keeps, Kept};
@@ -6,7 +6,7 @@ ghost use Rattle.capture_laws.specs.Order.{answered_why};
 ghost use Rattle.capture_laws.specs.RepliesShown.{responder_for};
 ghost use Rattle.capture_laws.specs.Rows.{StandsForRows};
 ghost use Rattle.connection.specs.Setup.{IsSetUp};
-ghost use Rattle.fetched_ends.specs.BegunIn.{IsBegunIn};
+ghost use Rattle.fetched_ends.specs.BegunIn.{IsBegunIn, leaves_table};
 ghost use Rattle.mctp_framing.specs.Cutting.{RouteFields};
 ghost use Rattle.mctp_framing.specs.Gathering.Gathered.{Whole};
 ghost use Rattle.requester_machine.specs.Setup.{ReqSetup};
@@ -16,9 +16,7 @@ ghost use Rattle.world_machine.specs.Setup.{Configuration};
 use crate::in_session::InSession;
 use crate::session_prepared::prepared;
 use capture_ends::{Given, Onward, Party};
-use capture_laws::{
-    Round, SessionTable, answer_accepts, large_answer_changes, whole_answer_changes,
-};
+use capture_laws::{Round, SessionTable, answer_accepts, large_answer_changes};
 use connection::Setup;
 use script_text::Why;
 use session_keys::{behind_type, byte_at};
@@ -30,7 +28,8 @@ const CLEAR: u8 = 5;
 /// What is told of an answer while nothing is fetched.
 #[derive(Drop)]
 pub enum BegunIn {
-    /// The request is in the clear, or asks for no large answer in a session: nothing was done.
+    /// The request or the answer is in the clear, or the request asks for no large answer in a session: what is
+    /// kept stays.
     Not,
     /// It is LargeResponse in a session, and the requester asks for a chunk upon it.
     Fetching(InSession),
@@ -38,10 +37,11 @@ pub enum BegunIn {
     Told(Result<Onward, Why>),
 }
 
-/// An answer of at most 4,161 bytes came whole, in order behind this round, while nothing is fetched: it is told
-/// whether a fetch begins by it in a session. Where the request is none of a session whose answer may go by
-/// chunks, nothing is done; else it is told how it goes on otherwise, or why it is refused, and nothing is said of
-/// what is kept then.
+/// An answer of at most 4,161 bytes came whole, in order behind this round, while nothing is fetched: a fetch
+/// begins by it in a session, and the table of sessions goes on; or it is told how it goes on otherwise, or why
+/// it is refused. Where the request is none of a session whose answer may go by chunks, or the answer is in the
+/// clear, nothing is told. Nothing is said of what is kept where the answer is a part of a large one that is not
+/// fetched, and where it is refused.
 pub fn begins_in_session(
     party: &mut Party,
     table: &mut SessionTable,
@@ -55,18 +55,22 @@ pub fn begins_in_session(
         → w.responder.beat < 256 → round.now ≡ k.round → IsSetUp setup.now (responder_for w k)
         → answered_why k.round (Whole route answer.now) ≡ None → IsParty party.old w q k rows
         → StandsForRows table.old w (length older) rows
-        → IfOk result (λ begun. IsBegunIn w q older rows k route answer.now begun party.old party.new
-        table.old table.new) }
+        → IfOk result (λ begun. IsBegunIn w q older rows k route answer.now begun party.new table.old
+        table.new) }
+    ensures stays { IfOk result (λ begun. leaves_table begun ≡ true → table.new ≡ table.old) }
     ensures memory { OnErr result (IsSome (id_begun (response_of (drop 1 answer.now)))) }
 {
     answer_accepts();
     large_answer_changes();
-    whole_answer_changes();
     let body = round.body();
-    if byte_at(body, 0) == CLEAR || byte_at(answer, 0) == CLEAR {
+    if byte_at(body, 0) == CLEAR {
         return Ok(BegunIn::Not);
     }
-    let Some(fetched) = prepared(&party.answerer.connection, setup, behind_type(body)) else {
+    if byte_at(answer, 0) == CLEAR {
+        return Ok(BegunIn::Not);
+    }
+    let request = behind_type(body);
+    let Some(fetched) = prepared(&party.answerer.connection, setup, request) else {
         return Ok(BegunIn::Not);
     };
     let why = party.answerer.reply_why(&party.keys, body, answer);
@@ -74,7 +78,7 @@ pub fn begins_in_session(
         return Ok(BegunIn::Not);
     };
     let taken = party.answerer.taken(body, answer);
-    match party.answerer.answers_record(setup, behind_type(body), answer) {
+    match party.answerer.answers_record(setup, request, answer) {
         Some(Given::Whole) => {
             let heard = party.go_on(round, Some(key), answer, false);
             if heard.fetches {

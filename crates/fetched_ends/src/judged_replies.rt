@@ -1,0 +1,201 @@
+use crate::{
+    BegunHeld, BegunIn, Fetch, Held, InSession, JudgedEnds, Upon, begins_held, begins_in_session, replies_held,
+    replies_in_session,
+};
+use capture_ends::Onward;
+use capture_laws::{Round, SessionTable};
+use connection::Setup;
+use script_text::Why;
+use spdm_basis::OutOfMemory;
+
+// The answers that a responder gives.
+impl JudgedEnds {
+    ghost use Rattle.std.specs.Prelude.{◌≡◌, ◌≤◌, ◌<◌, ◌-◌, ◌^◌, ℕ, List, None, IfOk, OnErr, IsSome, drop, length};
+    ghost use Rattle.capture_ends.specs.Conversation as conversations;
+    ghost use Rattle.capture_ends.specs.Conversation.{IsAnswer};
+    ghost use Rattle.capture_laws.specs.DropsShown.{id_begun, response_of};
+    ghost use Rattle.capture_laws.specs.Order.{answered_why, round_of};
+    ghost use Rattle.capture_laws.specs.Rows.{StandsForRows};
+    ghost use Rattle.connection.specs.Setup.{IsSetUp};
+    ghost use Rattle.fetched_ends.specs.Held.{IsHeldIn};
+    ghost use Rattle.fetched_ends.specs.InSession.{IsFetchedIn};
+    ghost use Rattle.fetched_ends.specs.JudgedEnds.{IsJudgedAnswer, StandsFor};
+    ghost use Rattle.large_answers.specs.Fetching.{Fetching, IsFetchingOf};
+    ghost use Rattle.mctp_framing.specs.Cutting.{RouteFields};
+    ghost use Rattle.mctp_framing.specs.Gathering.Gathered.{Whole};
+    ghost use Rattle.requester_machine.specs.Setup.{ReqSetup};
+    ghost use Rattle.responder_machine.specs.Setup.{towards};
+    ghost use Rattle.world_machine.specs.SessionTable.{Row};
+    ghost use Rattle.world_machine.specs.Setup.{Configuration, known_of};
+
+    // An answer came while this large one is fetched in a session.
+    fn replies_fetched(
+        &mut self,
+        mut fetched: InSession,
+        table: &mut SessionTable,
+        setup: &Setup<'_>,
+        round: &Round,
+        answer: &[u8],
+    ) -> Result<Result<Onward, Why>, OutOfMemory>
+        requires { length answer.now ≤ 4161 }
+        ensures told { (w : Configuration) (q : ReqSetup) (older : List (List ℕ)) (rows : List Row)
+            (packet : List ℕ) (route : RouteFields) (f : Fetching)
+            → IsAnswer w q older packet route answer.now → length older < 2 ^ 64 - 2
+            → w.responder.beat < 256 → round.now ≡ round_of w.responder.eid q.eid older
+            → IsSetUp setup.now (towards w.responder (known_of q))
+            → answered_why round.now (Whole route answer.now) ≡ None → self.old.talk.large ≡ None
+            → IsFetchingOf w q older f → IsFetchedIn self.old.talk.party fetched w q f rows
+            → StandsForRows table.old w (length older) rows
+            → IfOk result (λ told. IsJudgedAnswer w q older rows packet route answer.now told self.new
+            table.new) }
+        ensures memory { OnErr result (IsSome (id_begun (response_of (drop 1 answer.now)))) }
+    {
+        let party = &mut self.talk.party;
+        match replies_in_session(party, &mut fetched, table, setup, round, answer)? {
+            Ok(Upon::Fetched) => {
+                self.fetched = Some(Fetch::InSession(fetched));
+                Ok(Ok(Onward::Kept))
+            }
+            Ok(Upon::Ended) => {
+                self.fetched = None;
+                Ok(Ok(Onward::Kept))
+            }
+            Ok(Upon::Large) => Ok(Ok(Onward::Large)),
+            Err(why) => Ok(Err(why)),
+        }
+    }
+
+    // An answer came while this large one is fetched in the clear.
+    fn replies_clear(
+        &mut self,
+        mut held: Held,
+        table: &mut SessionTable,
+        setup: &Setup<'_>,
+        round: &Round,
+        answer: &[u8],
+    ) -> Result<Result<Onward, Why>, OutOfMemory>
+        requires { length answer.now ≤ 4161 }
+        ensures told { (w : Configuration) (q : ReqSetup) (older : List (List ℕ)) (rows : List Row)
+            (packet : List ℕ) (route : RouteFields) (f : Fetching)
+            → IsAnswer w q older packet route answer.now → length older < 2 ^ 64 - 2
+            → w.responder.beat < 256 → round.now ≡ round_of w.responder.eid q.eid older
+            → IsSetUp setup.now (towards w.responder (known_of q))
+            → answered_why round.now (Whole route answer.now) ≡ None → self.old.talk.large ≡ None
+            → IsFetchingOf w q older f → IsHeldIn self.old.talk.party held w q f rows
+            → StandsForRows table.old w (length older) rows
+            → IfOk result (λ told. IsJudgedAnswer w q older rows packet route answer.now told self.new
+            table.new) }
+        ensures memory { OnErr result (IsSome (id_begun (response_of (drop 1 answer.now)))) }
+    {
+        let party = &mut self.talk.party;
+        match replies_held(party, &mut held, table, setup, round, answer)? {
+            Ok(Upon::Fetched) => {
+                self.fetched = Some(Fetch::InClear(held));
+                Ok(Ok(Onward::Kept))
+            }
+            Ok(Upon::Ended) => {
+                self.fetched = None;
+                Ok(Ok(Onward::Kept))
+            }
+            Ok(Upon::Large) => Ok(Ok(Onward::Large)),
+            Err(why) => Ok(Err(why)),
+        }
+    }
+
+    // An answer came where no large message is under way: it may begin a large one in the clear.
+    fn begins_clear(
+        &mut self,
+        table: &mut SessionTable,
+        setup: &Setup<'_>,
+        round: &Round,
+        answer: &[u8],
+    ) -> Result<Result<Onward, Why>, OutOfMemory>
+        requires { length answer.now ≤ 4161 }
+        ensures told { (w : Configuration) (q : ReqSetup) (older : List (List ℕ)) (rows : List Row)
+            (packet : List ℕ) (route : RouteFields) → IsAnswer w q older packet route answer.now
+            → length older < 2 ^ 64 - 2 → w.responder.beat < 256
+            → round.now ≡ round_of w.responder.eid q.eid older
+            → IsSetUp setup.now (towards w.responder (known_of q))
+            → answered_why round.now (Whole route answer.now) ≡ None → self.old.fetched ≡ None
+            → self.old.talk.large ≡ None
+            → conversations.StandsFor self.old.talk w q older rows
+            → StandsForRows table.old w (length older) rows
+            → IfOk result (λ told. IsJudgedAnswer w q older rows packet route answer.now told self.new
+            table.new) }
+        ensures memory { OnErr result (IsSome (id_begun (response_of (drop 1 answer.now)))) }
+    {
+        match begins_held(&mut self.talk.party, table, setup, round, answer)? {
+            BegunHeld::Not => self.talk.replies(table, setup, round, answer),
+            BegunHeld::Unfetched => Ok(Ok(Onward::Large)),
+            BegunHeld::Fetching(held) => {
+                self.fetched = Some(Fetch::InClear(held));
+                Ok(Ok(Onward::Kept))
+            }
+        }
+    }
+
+    // An answer came where no large one is fetched: it may begin one, where no large request is sent.
+    fn replies_at_rest(
+        &mut self,
+        table: &mut SessionTable,
+        setup: &Setup<'_>,
+        round: &Round,
+        answer: &[u8],
+    ) -> Result<Result<Onward, Why>, OutOfMemory>
+        requires { length answer.now ≤ 4161 }
+        ensures told { (w : Configuration) (q : ReqSetup) (older : List (List ℕ)) (rows : List Row)
+            (packet : List ℕ) (route : RouteFields) → IsAnswer w q older packet route answer.now
+            → length older < 2 ^ 64 - 2 → w.responder.beat < 256
+            → round.now ≡ round_of w.responder.eid q.eid older
+            → IsSetUp setup.now (towards w.responder (known_of q))
+            → answered_why round.now (Whole route answer.now) ≡ None → self.old.fetched ≡ None
+            → conversations.StandsFor self.old.talk w q older rows
+            → StandsForRows table.old w (length older) rows
+            → IfOk result (λ told. IsJudgedAnswer w q older rows packet route answer.now told self.new
+            table.new) }
+        ensures memory { OnErr result (IsSome (id_begun (response_of (drop 1 answer.now)))) }
+    {
+        if self.talk.large.is_some() {
+            return self.talk.replies(table, setup, round, answer);
+        }
+        match begins_in_session(&mut self.talk.party, table, setup, round, answer)? {
+            BegunIn::Not => self.begins_clear(table, setup, round, answer),
+            BegunIn::Fetching(fetched) => {
+                self.fetched = Some(Fetch::InSession(fetched));
+                Ok(Ok(Onward::Kept))
+            }
+            BegunIn::Told(told) => Ok(told),
+        }
+    }
+
+    /// An answer of at most 4,161 bytes came whole, in order behind this round: it goes on, and the
+    /// table of sessions with it; or it is a part of a large answer that is not judged; or no walk goes on
+    /// with it, and then why. But for the first, nothing is said of what is kept then, and of the table. An
+    /// `Err` comes only where PSK_EXCHANGE_RSP began a session and there is no memory for its entry, and
+    /// says nothing of what is kept.
+    pub fn replies(
+        &mut self,
+        table: &mut SessionTable,
+        setup: &Setup<'_>,
+        round: &Round,
+        answer: &[u8],
+    ) -> Result<Result<Onward, Why>, OutOfMemory>
+        requires { length answer.now ≤ 4161 }
+        ensures told { (w : Configuration) (q : ReqSetup) (older : List (List ℕ)) (rows : List Row)
+            (packet : List ℕ) (route : RouteFields) → IsAnswer w q older packet route answer.now
+            → length older < 2 ^ 64 - 2 → w.responder.beat < 256
+            → round.now ≡ round_of w.responder.eid q.eid older
+            → IsSetUp setup.now (towards w.responder (known_of q))
+            → answered_why round.now (Whole route answer.now) ≡ None
+            → StandsFor self.old w q older rows → StandsForRows table.old w (length older) rows
+            → IfOk result (λ told. IsJudgedAnswer w q older rows packet route answer.now told self.new
+            table.new) }
+        ensures memory { OnErr result (IsSome (id_begun (response_of (drop 1 answer.now)))) }
+    {
+        match self.fetched.take() {
+            None => self.replies_at_rest(table, setup, round, answer),
+            Some(Fetch::InSession(fetched)) => self.replies_fetched(fetched, table, setup, round, answer),
+            Some(Fetch::InClear(held)) => self.replies_clear(held, table, setup, round, answer),
+        }
+    }
+}
