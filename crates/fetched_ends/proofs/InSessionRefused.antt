@@ -7,7 +7,6 @@ use Rattle.mctp_framing.specs.Cutting.{RouteFields}
 use Rattle.mctp_framing.specs.Gathering.Gathered.{Whole}
 use Rattle.spdm_basis.proofs.Bools.{and_first}
 use Rattle.capture_ends.proofs.InTurn.{AnswersInTurn}
-use Rattle.capture_ends.specs.HeardKept.{asks_upon}
 use Rattle.capture_ends.specs.declared.party.Party.{Party}
 use Rattle.capture_laws.proofs.ApartShown.{record_silent}
 use Rattle.capture_laws.specs.Judged.{why_of}
@@ -36,7 +35,6 @@ use Rattle.world_machine.specs.Opening.{opens_answering}
 use Rattle.world_machine.specs.Rounds.{Round, no_draw}
 use Rattle.world_machine.specs.SessionTable.{Row}
 use Rattle.world_machine.specs.Setup.{Configuration}
-use Rattle.fetched_ends.proofs.AsksTold.{ends_asks}
 use Rattle.fetched_ends.proofs.InSessionRecord.{place_is, unseen_stand}
 use Rattle.fetched_ends.proofs.SeenOpens.{answering_alike}
 use Rattle.fetched_ends.specs.Fetched.{IsFetchedWhy, IsRepliedTo}
@@ -61,19 +59,19 @@ module _ (w : Configuration) (q : ReqSetup) (older : List (List ℕ)) (rows : Li
 
   -- ---- No walk goes on.
 
-  -- With none of the bytes that may stand it is an answer, but for a last chunk upon which the requester asks for another.
+  -- With none of the bytes that may stand it is an answer.
   pub record IsNone : Type 0 where
     pub plain : (v : List ℕ) → MayStand f v → (next : History) → AnswersPlainly (responder_for w f.kept) (dialogue_of f v) turn.round answer next → ⊥
     pub large : (v : List ℕ) → MayStand f v → (next : History) (whole : List ℕ) → AnswersLarge (responder_for w f.kept) (dialogue_of f v) turn.round answer next whole → ⊥
-    pub last : (v : List ℕ) → MayStand f v → (next : History) → Completes (responder_for w f.kept) (dialogue_of f v) turn.round answer next → asks_upon f.kept turn.round.tag answer ≡ true
+    pub last : (v : List ℕ) → MayStand f v → (next : History) → Completes (responder_for w f.kept) (dialogue_of f v) turn.round answer next → ⊥
 
   module _ (never : IsNone) where
-    answers_ask : (v : List ℕ) → MayStand f v → (next : History) (fetching : Option (List ℕ)) → Answers r (dialogue_of f v) round answer next fetching → asks_upon f.kept turn.round.tag answer ≡ true
+    answers_never : (v : List ℕ) → MayStand f v → (next : History) (fetching : Option (List ℕ)) → Answers r (dialogue_of f v) round answer next fetching → ⊥
     unfolding Answers
-    answers_ask v stand next fetching (inl a) = absurd (never.plain v stand next a.0)
-    answers_ask v stand next fetching (inr (inl a)) = absurd (never.large v stand next a.0 a.1)
-    answers_ask v stand next fetching (inr (inr (inl a))) = absurd (none-some v (sym a.1.0))
-    answers_ask v stand next fetching (inr (inr (inr a))) = never.last v stand next a.0
+    answers_never v stand next fetching (inl a) = never.plain v stand next a.0
+    answers_never v stand next fetching (inr (inl a)) = never.large v stand next a.0 a.1
+    answers_never v stand next fetching (inr (inr (inl a))) = none-some v (sym a.1.0)
+    answers_never v stand next fetching (inr (inr (inr a))) = never.last v stand next a.0
 
     goes_none : (next : Fetching) → GoesFetching w f (Whole route answer) next → ⊥
     goes_none next c =
@@ -91,8 +89,7 @@ module _ (w : Configuration) (q : ReqSetup) (older : List (List ℕ)) (rows : Li
     ends_none : (next : Kept) → EndsFetching w f (Whole route answer) next → ⊥
     ends_none next c =
         let it = c.3.2 in
-        let asks = answers_ask c.0 c.2 it.4.0 it.4.1 (subst (λ (x : Round). Answers r (dialogue_of f c.0) x answer it.4.0 it.4.1) (one_round it.0 it.1) it.4.2) in
-        false≢true (sym (ends_asks w q older f route answer limits own next c) ∙ ap (λ (n : ℕ). asks_upon f.kept n answer) (sym turn.answers.1) ∙ asks)
+        answers_never c.0 c.2 it.4.0 it.4.1 (subst (λ (x : Round). Answers r (dialogue_of f c.0) x answer it.4.0 it.4.1) (one_round it.0 it.1) it.4.2)
 
   -- ---- Its verify data are never alone wrong.
 

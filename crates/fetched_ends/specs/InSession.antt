@@ -2,6 +2,7 @@
 -- This project's own.
 use Rattle.std.specs.Prelude.{◌≡◌, ◌≤◌, ◌<◌, ◌-◌, ◌==◌, ◌++◌, ◌↔◌, ℕ, List, drop, length, slice_index, Bool, true, false, if◌then◌else◌, Option, Some, None, unwrap_or}
 use Rattle.capture_ends.specs.AnswerKeys.{will_take}
+use Rattle.capture_ends.specs.ClearAnswers.{EndsLarge}
 use Rattle.capture_ends.specs.HeardKept.{asks_upon}
 use Rattle.capture_ends.specs.Party.{IsBeside}
 use Rattle.capture_ends.specs.declared.party.Party.{Party}
@@ -127,7 +128,7 @@ pub record IsReadIn (party : Party) (fetched : InSession) (w : Configuration) (q
 -- An answer in a round of the session, by the history with some bytes that may stand: the request is in the clear, which is
 -- GET_VERSION; or the session does not take it, as it does not where it is the request of the large answer again; the answer
 -- is in the clear, or shorter than a record, or holds no CHUNK_RESPONSE; or the requester does not ask for the next chunk
--- upon the one before: it then loses its session.
+-- upon the one before, or asks for one upon the last.
 pub data IsOther (r : RspSetup) (h : History) (k : Kept) (round : Round) (answer : List ℕ) : Type 0 where
   AsksInClear : (slice_index round.body 0 == 5) ≡ true → IsOther r h k round answer
   NotTaken : will_take r h round.body ≡ false → IsOther r h k round answer
@@ -135,3 +136,4 @@ pub data IsOther (r : RspSetup) (h : History) (k : Kept) (round : Round) (answer
   IsShort : length (drop 1 answer) < 26 → IsOther r h k round answer
   HoldsOther : (text : List ℕ) → IsTextOf r h round.body answer text → ((message : List ℕ) → Holds text message → is_chunk message ≡ true → ⊥) → IsOther r h k round answer
   Stops : IsShownAnswer r h round.tag round.body answer → asks_upon k round.tag answer ≡ false → IsOther r h k round answer
+  GoesOn : EndsLarge r h round.tag round.body answer → asks_upon k round.tag answer ≡ true → IsOther r h k round answer

@@ -75,7 +75,7 @@ pub(crate) fn judges_chunk(
             }
             let heard = party.go_on(round, key, answer, true);
             if heard.fetches {
-                return Ok(None);
+                return Ok(Some(Upon::Large));
             }
             let change = party.change(None, heard.accepted, taken);
             table.take(&mut party.places, party.number, &change)?;

@@ -33,7 +33,7 @@ use Rattle.fetched_ends.proofs.InSessionLast.{change_last, ended_on, last_kept, 
 use Rattle.fetched_ends.proofs.InSessionTold.{carries, few as few_of, fetched_on, its_message, judges, shows, stand, then_kept}
 use Rattle.fetched_ends.proofs.chunk_judged.judges_chunk.Goals as goal
 use Rattle.fetched_ends.specs.InSession.{IsReadIn}
-use Rattle.fetched_ends.specs.InSession.IsOther.{Stops}
+use Rattle.fetched_ends.specs.InSession.IsOther.{Stops, GoesOn}
 
 pub returns-then-not-heard-clause-told : goal.returns-then-not-heard-clause-told
 returns-then-not-heard-clause-told c = λ w q older rows f route own below byte now set_up none in_body stands.
@@ -77,7 +77,7 @@ returns-then-not-is_measured-clause-told c = λ w q older rows f route own below
       turn.answers.0,
       record {
         next = λ shown. absurd (whole_not_last (sym is ∙ told.whole.1 shown));
-        last = λ ends measured. absurd (c.is_measured.ensures.none r set_up read.kept.found (long_whole w q older rows f route answer byte limits own turn c.args.party.now c.args.fetched.now c.args.message.now c.args.whole.now read) c.if-not-is_measured.true measured);
+        last = λ ends measured. c.is_measured.ensures.none r set_up read.kept.found (long_whole w q older rows f route answer byte limits own turn c.args.party.now c.args.fetched.now c.args.message.now c.args.whole.now read) c.if-not-is_measured.true measured;
       },
     )
 
@@ -98,14 +98,9 @@ returns-then-heard-clause-told c = λ w q older rows f route own below byte now 
     let request = c.behind_type.ensures ∙ ap (λ (l : List ℕ). drop 1 l) body in
     let told = given_is w q older rows f route answer byte limits own turn c.args.party.now c.args.fetched.now c.args.message.now c.args.whole.now read c.behind_type.result.now c.answers_record.result request (c.answers_record.ensures.told r g turn.round.tag set_up first small) in
     let is = c.in-Some-Last.is ∙ ap Some c.in-Some-Last.field-0-is in
-    let fetches = c.go_on-heard-in-Some-Last.ensures.fetches w q older f.kept turn.round carry below turn.answers.0 at in_body.kept.beside.asker (awaits w q older rows f route answer byte limits own turn c.args.party.now c.args.fetched.now c.args.message.now c.args.whole.now read) in (
-      turn.round,
-      turn.answers.0,
-      record {
-        next = λ shown. absurd (whole_not_last (sym is ∙ told.whole.1 shown));
-        last = λ ends measured. sym fetches ∙ c.if-heard.true;
-      },
-    )
+    let ends = told.last.0 is in
+    let fetches = c.go_on-heard-in-Some-Last.ensures.fetches w q older f.kept turn.round carry below turn.answers.0 at in_body.kept.beside.asker (awaits w q older rows f route answer byte limits own turn c.args.party.now c.args.fetched.now c.args.message.now c.args.whole.now read) in
+    told_apart w q older rows f route answer byte limits own turn c.args.party.now c.args.fetched.now c.args.message.now c.args.whole.now read (GoesOn ends (sym fetches ∙ c.if-heard.true))
 
 pub returns-in_ok-take-in-Some-Whole-clause-told : goal.returns-in_ok-take-in-Some-Whole-clause-told
 returns-in_ok-take-in-Some-Whole-clause-told c = λ w q older rows f route own below byte now set_up none in_body stands.
@@ -258,6 +253,6 @@ returns-in-None-clause-told c = λ w q older rows f route own below byte now set
       turn.answers.0,
       record {
         next = λ shown. none-some given.Whole (sym c.in-None.is ∙ told.whole.1 shown);
-        last = λ ends measured. absurd (none-some given.Last (sym c.in-None.is ∙ told.last.1 ends));
+        last = λ ends measured. none-some given.Last (sym c.in-None.is ∙ told.last.1 ends);
       },
     )
