@@ -18,6 +18,7 @@ use Rattle.capture_laws.specs.LargeShown.{IsShownLarge}
 use Rattle.capture_laws.specs.RepliesShown.{responder_for}
 use Rattle.capture_laws.specs.Rows as rows_of
 use Rattle.chunking.specs.Cutting.{unit_of}
+use Rattle.fetched_answers.proofs.VersionWalks.{walks_form}
 use Rattle.fetched_answers.specs.JudgedFor.{session_with}
 use Rattle.large_answers.specs.Fetching.{Fetching, number_of}
 use Rattle.large_answers.specs.LargeAnswers.{StandsFor}
@@ -45,6 +46,7 @@ use Rattle.world_machine.specs.Rounds.{Dialogue}
 use Rattle.world_machine.specs.SessionTable.{Row, number_from}
 use Rattle.world_machine.specs.Setup.{Configuration}
 use Rattle.capture_laws.specs.LargeShown.{whole_of}
+use Rattle.fetched_ends.proofs.AnewSessions.{IsReady, live_ready}
 use Rattle.fetched_ends.proofs.BeginsThere.{asks_one, at_is, begun, judged_is, next, none_came, stands}
 use Rattle.fetched_ends.proofs.SeenKeys.{keys_unseen}
 use Rattle.fetched_ends.specs.Fetched.{rows_upon}
@@ -123,10 +125,16 @@ module _ (w : Configuration) (q : ReqSetup) (older : List (List ℕ)) (k : Kept)
       ap (λ (l : History). (session_terms (session_of id l)).common) judged
       ∙ behind_entry (λ (x : Events). (session_terms x).common ≡ (session_terms s).common) id m _ _ _ _ h refl refl live refl
 
+  -- GET_VERSION would be no repeat there.
+  ready : IsReady w.responder.transfer h
+  ready =
+      let d : Dialogue = record (restored k) { fetching = carries.0 } in
+      live_ready w.responder.transfer id h (walks_form w.responder.transfer w refl q older d carries.1) (walks_alike w q older d d carries.1 carries.1).one.unseen live
+
   -- What the calls leave stands for it.
   module _ (rows : List Row) (new : Party) (fetched : InSession) (asker : IsAsker new.asker q f.kept) (answerer : IsAnswerer new.answerer (responder_for w k) (e ∷ k.responder)) (keys : StandFor new.keys (responder_for w k) (e ∷ k.responder))
       (number : new.number ≡ number_from 1 q.eid w.requesters) (places : rows_of.StandFor new.places (restored f.kept) (rows_upon k f.kept rows)) (id_is : fetched.id ≡ id) (op_is : fetched.op ≡ op)
-      (lengths : AreLengths (session_place s) fetched.least fetched.most) (came : (g : Fetching) → number_of g ≡ 0 → StandsFor fetched.answer g) (found : is_missing op (inventory_of (responder_for w k)) ≡ false) where
+      (lengths : AreLengths (session_place s) fetched.least fetched.most) (came : (g : Fetching) → number_of g ≡ 0 → StandsFor fetched.answer g) (left : fetched.left ≡ true) (found : is_missing op (inventory_of (responder_for w k)) ≡ false) where
     pub begun_stands : IsFetchedIn new fetched w q f (rows_upon k f.kept rows)
     begun_stands = record {
       beside = record { asker = asker; keys = keys_unseen new.keys r id (whole_of e) (unseen e ∷ h) none_behind (subst (StandFor new.keys r) (sym judged) keys); number = number; places = places };
@@ -139,6 +147,8 @@ module _ (w : Configuration) (q : ReqSetup) (older : List (List ℕ)) (k : Kept)
       whole = whole_of e;
       stands = stands w q older k route answer byte limits carries turn type will large op asks;
       judges = subst (λ (n : ℕ). IsAnswerer new.answerer r (with_large (Some n) (whole_of e) f.kept.responder)) (sym id_is) (subst (IsAnswerer new.answerer r) (sym judged) answerer);
-      pending = subst (λ (n : ℕ). has_pending (session_place (session_with n f.kept.responder (whole_of e))) ≡ true) (sym id_is) pending_is;
-      sizes = subst (λ (n : ℕ). (session_terms (session_with n f.kept.responder (whole_of e))).common ≡ (place_terms f.place).common) (sym id_is) sizes_are;
+      pending = subst (λ (n : ℕ). has_pending (session_place (session_with n f.kept.responder (whole_of e))) ≡ true) (sym id_is) pending_is ∙ sym left;
+      sizes = λ some. subst (λ (n : ℕ). (session_terms (session_with n f.kept.responder (whole_of e))).common ≡ (place_terms f.place).common) (sym id_is) sizes_are;
+      room = ready.room;
+      anew = ready.anew;
     }

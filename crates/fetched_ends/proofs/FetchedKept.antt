@@ -7,15 +7,20 @@ use Rattle.capture_ends.specs.declared.answerer.Answerer.{Answerer}
 use Rattle.capture_ends.specs.declared.party.Party.{Party}
 use Rattle.capture_laws.specs.Keeping.{Kept}
 use Rattle.capture_laws.specs.RepliesShown.{responder_for}
+use Rattle.connection.specs.Connected as connected
+use Rattle.connection.specs.declared.connected.Connection.{Connection}
 use Rattle.fetched_answers.specs.JudgedFor.{session_with}
 use Rattle.large_answers.specs.Fetching.{Fetching, MayStand, bytes_given, number_given, size_told}
 use Rattle.measurements.specs.Records.{is_missing}
 use Rattle.requester_machine.specs.Setup.{ReqSetup}
-use Rattle.responder_machine.specs.History.{History}
+use Rattle.responder_machine.specs.History.{History, kept_of}
 use Rattle.responder_machine.specs.Place.{session_place}
 use Rattle.responder_machine.specs.Refusal.{has_pending}
+use Rattle.responder_machine.specs.Responder.{is_repeat}
 use Rattle.responder_machine.specs.Session.{session_terms}
 use Rattle.responder_machine.specs.Setup.{inventory_of, towards}
+use Rattle.spdm_grammar.specs.Message.RequestMessage.{GetVersion}
+use Rattle.spdm_grammar.specs.Requests.{canonical_request}
 use Rattle.world_machine.specs.LargeAnswers.{with_large}
 use Rattle.world_machine.specs.SessionTable.{Row}
 use Rattle.world_machine.specs.Setup.{Configuration, known_of}
@@ -45,5 +50,26 @@ fetched_with party new fetched w q f next rows behind is answerer setup responde
           (subst (λ (s : ReqSetup). IsAnswerer party.answerer (towards w.responder (known_of s)) (with_large (Some fetched.id) is.whole next.responder)) at_setup
           (subst (λ (h : History). IsAnswerer party.answerer (responder_for w f.kept) (with_large (Some fetched.id) is.whole h)) same is.judges));
       pending = ap (λ (h : History). has_pending (session_place (session_with fetched.id h is.whole))) responder ∙ is.pending;
-      sizes = ap (λ (h : History). (session_terms (session_with fetched.id h is.whole)).common) responder ∙ is.sizes;
+      sizes = λ left. ap (λ (h : History). (session_terms (session_with fetched.id h is.whole)).common) responder ∙ is.sizes left;
+      room = is.room;
+      anew = λ tag. ap (λ (h : History). is_repeat (kept_of h) tag (canonical_request GetVersion)) responder ∙ is.anew tag;
     }
+
+-- The room in which the answerer writes counts for nothing.
+pub fetched_in : (party : Party) (answerer : Answerer) (fetched : InSession) (w : Configuration) (q : ReqSetup) (f : Fetching) (rows : List Row) → IsFetchedIn party fetched w q f rows → answerer.connection ≡ party.answerer.connection
+    → IsFetchedIn (record party { answerer = answerer }) fetched w q f rows
+fetched_in party answerer fetched w q f rows is same = record {
+  beside = record { asker = is.beside.asker; keys = is.beside.keys; number = is.beside.number; places = is.beside.places };
+  at = is.at;
+  answer = is.answer;
+  lengths = is.lengths;
+  asks = is.asks;
+  found = is.found;
+  whole = is.whole;
+  stands = is.stands;
+  judges = subst (λ (c : Connection). connected.StandsFor c (responder_for w f.kept) (with_large (Some fetched.id) is.whole f.kept.responder)) (sym same) is.judges;
+  pending = is.pending;
+  sizes = is.sizes;
+  room = is.room;
+  anew = is.anew;
+}

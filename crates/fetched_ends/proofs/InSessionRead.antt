@@ -1,5 +1,5 @@
 -- The answer to a record of the session holds a chunk that fits: other bytes are put in the connection, and it is read with them.
-use Rattle.std.proofs.Common.{◌≡◌, ◌≤◌, ◌<◌, ◌-◌, ◌^◌, ◌==◌, ℕ, List, refl, sym, ap, ◌∙◌, subst, length, arith, true, false, Option, Some, inr, inl}
+use Rattle.std.proofs.Common.{◌≡◌, ◌≤◌, ◌<◌, ◌-◌, ◌^◌, ◌==◌, ℕ, List, refl, sym, ap, ◌∙◌, subst, length, arith, true, false, Option, Some}
 use Rattle.std.specs.Prelude.{slice_index}
 use Rattle.mctp_framing.specs.Cutting.{RouteFields}
 use Rattle.capture_ends.proofs.FewMessages.{kept_messages}
@@ -30,8 +30,7 @@ use Rattle.fetched_ends.proofs.InSessionTold.{few_large}
 use Rattle.fetched_ends.proofs.InSessionWrong.{Fits}
 use Rattle.fetched_ends.proofs.SeenKeys.{keys_given}
 use Rattle.fetched_ends.proofs.TextsAlike.{text_moved}
-use Rattle.fetched_ends.specs.Fetched.{IsUnjudged}
-use Rattle.fetched_ends.specs.InSession.{AreFitting, IsFetchedIn, IsOther, IsReadIn, IsTextOf, bytes_with, filled, is_chunk, size_with}
+use Rattle.fetched_ends.specs.InSession.{AreFitting, IsFetchedIn, IsReadIn, IsTextOf, bytes_with, filled, is_chunk, size_with}
 use Rattle.fetched_ends.specs.declared.in_session.InSession.{InSession}
 
 module _ (w : Configuration) (q : ReqSetup) (older : List (List ℕ)) (rows : List Row) (f : Fetching) (route : RouteFields) (answer : List ℕ) (byte : w.responder.beat < 256) (limits : IsSetUp f.kept.setup) (own : IsFetchingOf w q older f) (turn : AnswersInTurn f.kept route answer)
@@ -51,10 +50,6 @@ module _ (w : Configuration) (q : ReqSetup) (older : List (List ℕ)) (rows : Li
   -- The keys may open an answer with those bytes too.
   pub keys_kept : (slice_index turn.round.body 0 == 5) ≡ false → StandFor party.keys (responder_for w f.kept) (with_large (Some fetched.id) kept.whole f.kept.responder)
   keys_kept type = keys_given party.keys r fetched.id kept.whole h (unseen_stand w q older f route answer byte limits own turn fetched.id kept.at type kept.whole kept.stands) kept.beside.keys
-
-  -- It is told apart.
-  pub told_other : IsOther (responder_for w f.kept) (with_large (Some fetched.id) kept.whole f.kept.responder) f.kept turn.round answer → IsUnjudged w f answer
-  told_other other = inr (inl (fetched.id, turn.round, kept.whole, kept.at, turn.answers.0, kept.stands, other))
 
   abbrev size : ℕ
   size = size_with fetched.answer.number fetched.answer.size message
@@ -90,18 +85,18 @@ module _ (w : Configuration) (q : ReqSetup) (older : List (List ℕ)) (rows : Li
         (subst (λ (n : ℕ). length (bytes_with (number_of f) (bytes_of f) message) ≤ n) size_is (subst (λ (l : List ℕ). length l ≤ size) bytes_are fits.within))
         (subst (λ (n : ℕ). fetched.least ≤ n) size_is fits.least) (subst (λ (n : ℕ). n ≤ fetched.most) size_is fits.most))
 
-    module _ (type : (slice_index turn.round.body 0 == 5) ≡ false) (sealed : (slice_index answer 0 == 5) ≡ false) (text : List ℕ) (read : IsTextOf (responder_for w f.kept) (with_large (Some fetched.id) kept.whole f.kept.responder) turn.round.body answer text)
+    module _ (left : fetched.left ≡ true) (type : (slice_index turn.round.body 0 == 5) ≡ false) (sealed : (slice_index answer 0 == 5) ≡ false) (text : List ℕ) (read : IsTextOf (responder_for w f.kept) (with_large (Some fetched.id) kept.whole f.kept.responder) turn.round.body answer text)
         (holds : Holds text message) (chunk : is_chunk message ≡ true) where
       pending_there : has_pending (session_place (session_with fetched.id h whole)) ≡ true
-      pending_there = sym (pending_same w q older f route answer byte limits own turn fetched.id kept.at type kept.whole whole kept.stands stand_there) ∙ kept.pending
+      pending_there = sym (pending_same w q older f route answer byte limits own turn fetched.id kept.at type kept.whole whole kept.stands stand_there) ∙ kept.pending ∙ left
 
       -- The connection judges with the new bytes.
       pub judges_there : (new : Connection) → ((s : RspSetup) (g : History) (l : List ℕ) → IsMeasured fetched.id g l → IsMeasured fetched.id g whole → IsLong fetched.id g l (length whole) → JudgesFor party.answerer.connection s g (Some fetched.id) l → JudgesFor new s g (Some fetched.id) whole)
           → JudgesFor new (responder_for w f.kept) f.kept.responder (Some fetched.id) whole
       judges_there new put =
-          put r h kept.whole (measured w q older f route answer byte limits own turn fetched.id kept.at type kept.whole whole kept.stands stand_there kept.whole kept.stands kept.pending)
+          put r h kept.whole (measured w q older f route answer byte limits own turn fetched.id kept.at type kept.whole whole kept.stands stand_there kept.whole kept.stands (kept.pending ∙ left))
           (measured w q older f route answer byte limits own turn fetched.id kept.at type kept.whole whole kept.stands stand_there whole stand_there pending_there)
-          (long w q older f route answer byte limits own turn fetched.id kept.at type kept.whole whole kept.stands stand_there kept.sizes) kept.judges
+          (long w q older f route answer byte limits own turn fetched.id kept.at type kept.whole whole kept.stands stand_there (kept.sizes left)) kept.judges
 
       pub read_there : (answerer : Answerer) → JudgesFor answerer.connection (responder_for w f.kept) f.kept.responder (Some fetched.id) whole
           → IsReadIn (record party { answerer = answerer }) fetched w q f rows turn.round.body answer message whole
@@ -116,10 +111,13 @@ module _ (w : Configuration) (q : ReqSetup) (older : List (List ℕ)) (rows : Li
           whole = whole;
           stands = stand_there;
           judges = judges;
-          pending = pending_there;
-          sizes = sym (common_same w q older f route answer byte limits own turn fetched.id kept.at type kept.whole whole kept.stands stand_there) ∙ kept.sizes;
+          pending = pending_there ∙ sym left;
+          sizes = λ some. sym (common_same w q older f route answer byte limits own turn fetched.id kept.at type kept.whole whole kept.stands stand_there) ∙ kept.sizes some;
+          room = kept.room;
+          anew = kept.anew;
         };
         same = refl;
+        left = left;
         record_is = type;
         sealed = sealed;
         text = text;

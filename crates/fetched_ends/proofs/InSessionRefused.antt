@@ -10,14 +10,12 @@ use Rattle.capture_ends.proofs.InTurn.{AnswersInTurn}
 use Rattle.capture_ends.specs.declared.party.Party.{Party}
 use Rattle.capture_laws.proofs.ApartShown.{record_silent}
 use Rattle.capture_laws.specs.Judged.{why_of}
-use Rattle.capture_laws.specs.Keeping.{Kept, restored}
-use Rattle.capture_laws.specs.Order.{replies_wrong}
+use Rattle.capture_laws.specs.Keeping.{restored}
 use Rattle.capture_laws.specs.RepliesShown.{responder_for}
 use Rattle.capture_laws.specs.declared.verdict.Seen.{Seen}
 use Rattle.fetched_answers.proofs.WholeDrops.{whole_has_led}
 use Rattle.fetched_answers.specs.LastShown.{IsShownWhole}
 use Rattle.large_answers.specs.Fetching.{Fetching, IsFetchingOf, MayStand, dialogue_of}
-use Rattle.large_answers.specs.FetchingLaws.{EndsFetching, GoesFetching, TurnsFetching}
 use Rattle.requester_machine.specs.May.{IsSetUp}
 use Rattle.requester_machine.specs.Setup.{ReqSetup}
 use Rattle.responder_machine.specs.History.{History}
@@ -25,26 +23,19 @@ use Rattle.responder_machine.specs.Responder.{Outcome, body_of, on_clear, on_rec
 use Rattle.responder_machine.specs.Responder.Outcome.{Adds}
 use Rattle.responder_machine.specs.Setup.{RspSetup}
 use Rattle.script_text.specs.declared.why.Why as declared
-use Rattle.spdm_machine.specs.Packets.{body_type}
-use Rattle.world_machine.proofs.UnseenStands.{UnseenStand}
-use Rattle.world_machine.specs.CapturedAnswers.{Answers, AnswersLarge, AnswersPlainly, Completes, MayLeadTo}
-use Rattle.world_machine.specs.Difference.{AreRepliesApart, CompletesApart, GoesApart, Why, carries_exchange, goes_why, is_apart, reply_why}
-use Rattle.world_machine.specs.Difference.Why.{BadPacket, UnknownEnd, WrongTurn, BadRequest, BadReply, BadVerify, BadRecord}
+use Rattle.world_machine.specs.CapturedAnswers.{Answers, MayLeadTo}
+use Rattle.world_machine.specs.Difference.{AreRepliesApart, CompletesApart, GoesApart, carries_exchange, is_apart, reply_why}
 use Rattle.world_machine.specs.LargeAnswers.{place_named, with_large}
-use Rattle.world_machine.specs.Opening.{opens_answering}
 use Rattle.world_machine.specs.Rounds.{Round, no_draw}
 use Rattle.world_machine.specs.SessionTable.{Row}
 use Rattle.world_machine.specs.Setup.{Configuration}
 use Rattle.fetched_ends.proofs.InSessionRecord.{place_is, unseen_stand}
-use Rattle.fetched_ends.proofs.SeenOpens.{answering_alike}
-use Rattle.fetched_ends.specs.Fetched.{IsFetchedWhy, IsRepliedTo}
+use Rattle.fetched_ends.proofs.NoneGoesOn.{IsNone, refused_by}
+use Rattle.fetched_ends.specs.Fetched.{IsRepliedTo}
 use Rattle.fetched_ends.specs.InSession.{AreLengths, AsksFor}
 
 module _ (w : Configuration) (q : ReqSetup) (older : List (List ℕ)) (rows : List Row) (f : Fetching) (route : RouteFields) (answer : List ℕ) (byte : w.responder.beat < 256) (limits : IsSetUp f.kept.setup) (own : IsFetchingOf w q older f) (turn : AnswersInTurn f.kept route answer)
     (id : ℕ) (at : f.at ≡ Some id) (type : (slice_index turn.round.body 0 == 5) ≡ false) (least most op : ℕ) (lengths : AreLengths f.place least most) (asks : AsksFor (responder_for w f.kept) id f.place op f.kept.responder) where
-  abbrev k : Kept
-  k = f.kept
-
   abbrev r : RspSetup
   r = responder_for w f.kept
 
@@ -53,43 +44,6 @@ module _ (w : Configuration) (q : ReqSetup) (older : List (List ℕ)) (rows : Li
 
   abbrev round : Round
   round = turn.round
-
-  one_round : (other : Round) → f.kept.round ≡ Some other → other ≡ round
-  one_round other is = same_Some other round (sym is ∙ turn.answers.0)
-
-  -- ---- No walk goes on.
-
-  -- With none of the bytes that may stand it is an answer.
-  pub record IsNone : Type 0 where
-    pub plain : (v : List ℕ) → MayStand f v → (next : History) → AnswersPlainly (responder_for w f.kept) (dialogue_of f v) turn.round answer next → ⊥
-    pub large : (v : List ℕ) → MayStand f v → (next : History) (whole : List ℕ) → AnswersLarge (responder_for w f.kept) (dialogue_of f v) turn.round answer next whole → ⊥
-    pub last : (v : List ℕ) → MayStand f v → (next : History) → Completes (responder_for w f.kept) (dialogue_of f v) turn.round answer next → ⊥
-
-  module _ (never : IsNone) where
-    answers_never : (v : List ℕ) → MayStand f v → (next : History) (fetching : Option (List ℕ)) → Answers r (dialogue_of f v) round answer next fetching → ⊥
-    unfolding Answers
-    answers_never v stand next fetching (inl a) = never.plain v stand next a.0
-    answers_never v stand next fetching (inr (inl a)) = never.large v stand next a.0 a.1
-    answers_never v stand next fetching (inr (inr (inl a))) = none-some v (sym a.1.0)
-    answers_never v stand next fetching (inr (inr (inr a))) = never.last v stand next a.0
-
-    goes_none : (next : Fetching) → GoesFetching w f (Whole route answer) next → ⊥
-    goes_none next c =
-        let it = c.2.2 in
-        never.plain it.0 it.2 it.1 (subst (λ (x : Round). AnswersPlainly r (dialogue_of f it.0) x answer it.1) (one_round c.2.0 c.2.1.0) it.3)
-
-    turns_none : (next : Fetching) → TurnsFetching w f (Whole route answer) next → ⊥
-    turns_none next c =
-        let it = c.2.2 in
-        elim it.4 [
-          | inl large ↦ never.large it.0 it.3 it.1 large.0.0 (subst (λ (x : Round). AnswersLarge r (dialogue_of f it.0) x answer it.1 large.0.0) (one_round c.2.0 c.2.1.0) large.0.1)
-          | inr again ↦ none-some it.0 (sym again.0.1.0)
-        ]
-
-    ends_none : (next : Kept) → EndsFetching w f (Whole route answer) next → ⊥
-    ends_none next c =
-        let it = c.3.2 in
-        answers_never c.0 c.2 it.4.0 it.4.1 (subst (λ (x : Round). Answers r (dialogue_of f c.0) x answer it.4.0 it.4.1) (one_round it.0 it.1) it.4.2)
 
   -- ---- Its verify data are never alone wrong.
 
@@ -135,30 +89,5 @@ module _ (w : Configuration) (q : ReqSetup) (older : List (List ℕ)) (rows : Li
   -- ---- Why.
 
   module _ (x : List ℕ) (stand_x : MayStand f x) (why : declared.Why) (is : why_of why ≡ reply_why (responder_for w f.kept) (record (restored f.kept) { responder = with_large (Some id) x f.kept.responder }) answer (Some turn.round)) where
-    none : UnseenStand h
-    none = unseen_stand w q older f route answer byte limits own turn id at type x stand_x
-
-    why_is : why_of why ≡ reply_why r (restored k) answer (Some round)
-    why_is = is ∙ ap (λ (b : Bool). cond (body_type answer == 5 || b) BadReply BadRecord) (answering_alike r id x (drop 1 answer) h none (body_type round.body == 5) (drop 1 round.body))
-
-    reason_is : goes_why r (restored k) (Whole route answer) ≡ Some (reply_why r (restored k) answer (Some round))
-    reason_is =
-        ap (λ (b : Bool). Some (cond b BadPacket (cond (replies_wrong k.round route.owner route.tag) WrongTurn (reply_why r (restored k) answer k.round)))) turn.other
-        ∙ ap (λ (b : Bool). Some (cond b WrongTurn (reply_why r (restored k) answer k.round))) turn.right
-        ∙ ap (λ (o : Option Round). Some (reply_why r (restored k) answer o)) turn.answers.0
-
-    two_reasons : (b : Bool) → BadVerify ≡ cond b BadReply BadRecord → ⊥
-    two_reasons true same = absurd (cc)
-    two_reasons false same = absurd (cc)
-
-    by_why : (y : Why) → y ≡ reply_why r (restored k) answer (Some round) → IsFetchedWhy w f (Whole route answer) y
-    by_why BadVerify same = absurd (two_reasons (body_type answer == 5 || opens_answering r h (body_type round.body == 5) (drop 1 round.body) (drop 1 answer)) same)
-    by_why BadPacket same = (never_apart, reason_is ∙ ap Some (sym same))
-    by_why UnknownEnd same = (never_apart, reason_is ∙ ap Some (sym same))
-    by_why WrongTurn same = (never_apart, reason_is ∙ ap Some (sym same))
-    by_why BadRequest same = (never_apart, reason_is ∙ ap Some (sym same))
-    by_why BadReply same = (never_apart, reason_is ∙ ap Some (sym same))
-    by_why BadRecord same = (never_apart, reason_is ∙ ap Some (sym same))
-
-    pub refused : IsNone → (new : Party) (stands : Fetching → List Row → Type 0) (table : List Seen) → IsRepliedTo w q older rows f route answer (Err why) new stands table
-    refused never new stands table = (goes_none never, turns_none never, ends_none never, by_why (why_of why) why_is)
+    pub refused : IsNone w q older rows f route answer turn → (new : Party) (stands : Fetching → List Row → Type 0) (table : List Seen) → IsRepliedTo w q older rows f route answer (Err why) new stands table
+    refused = refused_by w q older rows f route answer turn never_apart (unseen_stand w q older f route answer byte limits own turn id at type x stand_x) id x why is

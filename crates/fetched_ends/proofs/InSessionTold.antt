@@ -98,6 +98,7 @@ module _ (w : Configuration) (q : ReqSetup) (older : List (List ℕ)) (rows : Li
     pub least : newly.least ≡ fetched.least
     pub most : newly.most ≡ fetched.most
     pub op : newly.op ≡ fetched.op
+    pub left : newly.left ≡ fetched.left
 
   number_is : fetched.answer.number ≡ number_of f
   number_is = read.kept.answer.number
@@ -161,10 +162,10 @@ module _ (w : Configuration) (q : ReqSetup) (older : List (List ℕ)) (rows : Li
     behind = behind_is w q older f route answer byte limits own turn fetched.id at read.record_is whole stand will read.sealed shown
 
     pending_before : has_pending (session_place (session_with fetched.id f.kept.responder whole)) ≡ true
-    pending_before = subst (λ (l : List ℕ). has_pending (session_place (session_with fetched.id f.kept.responder l)) ≡ true) read.same read.kept.pending
+    pending_before = subst (λ (l : List ℕ). has_pending (session_place (session_with fetched.id f.kept.responder l)) ≡ true) read.same (read.kept.pending ∙ read.left)
 
     sizes_before : (session_terms (session_with fetched.id f.kept.responder whole)).common ≡ (place_terms f.place).common
-    sizes_before = subst (λ (l : List ℕ). (session_terms (session_with fetched.id f.kept.responder l)).common ≡ (place_terms f.place).common) read.same read.kept.sizes
+    sizes_before = subst (λ (l : List ℕ). (session_terms (session_with fetched.id f.kept.responder l)).common ≡ (place_terms f.place).common) read.same (read.kept.sizes read.left)
 
     kept_then : (new : Party) (newly : InSession) (table : List Seen) → AreBehind new newly table then_kept added → IsFetchedIn new newly w q then_kept (rows_upon f.kept then_kept.kept rows)
     kept_then new newly table are = record {
@@ -183,9 +184,11 @@ module _ (w : Configuration) (q : ReqSetup) (older : List (List ℕ)) (rows : Li
       stands = stands_then;
       judges = subst (λ (n : ℕ). IsAnswerer new.answerer r (with_large (Some n) whole (added ∷ f.kept.responder))) (sym are.id) (subst (IsAnswerer new.answerer r) (sym behind) are.answerer);
       pending = subst (λ (n : ℕ). has_pending (session_place (session_with n (added ∷ f.kept.responder) whole)) ≡ true) (sym are.id)
-          (pending_next w q older f route answer byte limits own turn fetched.id at read.record_is whole stand will read.sealed shown gets_it);
-      sizes = subst (λ (n : ℕ). (session_terms (session_with n (added ∷ f.kept.responder) whole)).common ≡ (place_terms f.place).common) (sym are.id)
+          (pending_next w q older f route answer byte limits own turn fetched.id at read.record_is whole stand will read.sealed shown gets_it) ∙ sym (are.left ∙ read.left);
+      sizes = λ some. subst (λ (n : ℕ). (session_terms (session_with n (added ∷ f.kept.responder) whole)).common ≡ (place_terms f.place).common) (sym are.id)
           (sizes_next w q older f route answer byte limits own turn fetched.id at read.record_is whole stand will read.sealed shown gets_it sizes_before);
+      room = read.kept.room;
+      anew = read.kept.anew;
     }
 
     pub fetched_on : (new : Party) (newly : InSession) (table : List Seen) → AreBehind new newly table then_kept added → asks_upon k route.tag answer ≡ true

@@ -19,12 +19,15 @@ use Rattle.large_answers.specs.Fetching.{Fetching, MayStand, bytes_in, size_in}
 use Rattle.large_answers.specs.LargeAnswers.{StandsFor}
 use Rattle.requester_machine.specs.Setup.{ReqSetup}
 use Rattle.responder_machine.specs.Answer.{Free, measurements_answer}
-use Rattle.responder_machine.specs.History.{History}
+use Rattle.responder_machine.specs.History.{History, kept_of}
 use Rattle.responder_machine.specs.Place.{Place, place_terms, session_place}
 use Rattle.responder_machine.specs.Refusal.{has_pending}
+use Rattle.responder_machine.specs.Responder.{is_repeat}
 use Rattle.responder_machine.specs.Session.{id_in_record, session_of, session_terms}
 use Rattle.responder_machine.specs.Setup.{RspSetup, inventory_of}
 use Rattle.spdm_grammar.specs.Fields.{zeros}
+use Rattle.spdm_grammar.specs.Message.RequestMessage.{GetVersion}
+use Rattle.spdm_grammar.specs.Requests.{canonical_request}
 use Rattle.spdm_grammar.specs.Responses.{canonical_response}
 use Rattle.spdm_grammar.specs.declared.names.TheConstants.{MAX_MESSAGE_SIZE}
 use Rattle.spdm_grammar.specs.declared.names.response_code.TheConstants.{CHUNK_RESPONSE}
@@ -92,8 +95,9 @@ AsksFor r id place op h = (whole : List ℕ) → IsLargeAnswer place whole → I
 
 -- ---- What is kept.
 
--- The connection judges with some bytes that may stand, of which a chunk is left to be given; what is kept of the chunks,
--- the lengths that go by chunks, the RspSessionID, and the operation that the request asks for, which has its blocks.
+-- The connection judges with some bytes that may stand; what is kept of the chunks, the lengths that go by chunks, the
+-- RspSessionID, the operation that the request asks for, which has its blocks, and whether a chunk is left to be given. The
+-- responder takes messages of four bytes, and GET_VERSION would be no repeat.
 pub record IsFetchedIn (party : Party) (fetched : InSession) (w : Configuration) (q : ReqSetup) (f : Fetching) (rows : List Row) : Type 0 where
   pub beside : IsBeside party w q f.kept rows
   pub at : f.at ≡ Some fetched.id
@@ -104,16 +108,19 @@ pub record IsFetchedIn (party : Party) (fetched : InSession) (w : Configuration)
   pub whole : List ℕ
   pub stands : MayStand f whole
   pub judges : JudgesFor party.answerer.connection (responder_for w f.kept) f.kept.responder (Some fetched.id) whole
-  pub pending : has_pending (session_place (session_with fetched.id f.kept.responder whole)) ≡ true
-  pub sizes : (session_terms (session_with fetched.id f.kept.responder whole)).common ≡ (place_terms f.place).common
+  pub pending : has_pending (session_place (session_with fetched.id f.kept.responder whole)) ≡ fetched.left
+  pub sizes : fetched.left ≡ true → (session_terms (session_with fetched.id f.kept.responder whole)).common ≡ (place_terms f.place).common
+  pub room : 4 ≤ (responder_for w f.kept).transfer
+  pub anew : (tag : ℕ) → is_repeat (kept_of f.kept.responder) tag (canonical_request GetVersion) ≡ false
 
 -- ---- An answer.
 
--- The answer to a record of the session holds a chunk: these bytes stand for the large answer with it, and the connection
--- judges with them.
+-- The answer to a record of the session holds a chunk, and one is left to be given: these bytes stand for the large answer
+-- with it, and the connection judges with them.
 pub record IsReadIn (party : Party) (fetched : InSession) (w : Configuration) (q : ReqSetup) (f : Fetching) (rows : List Row) (body answer message whole : List ℕ) : Type 0 where
   pub kept : IsFetchedIn party fetched w q f rows
   pub same : kept.whole ≡ whole
+  pub left : fetched.left ≡ true
   pub record_is : (slice_index body 0 == 5) ≡ false
   pub sealed : (slice_index answer 0 == 5) ≡ false
   pub text : List ℕ
@@ -125,15 +132,8 @@ pub record IsReadIn (party : Party) (fetched : InSession) (w : Configuration) (q
 
 -- ---- What is not judged.
 
--- An answer in a round of the session, by the history with some bytes that may stand: the request is in the clear, which is
--- GET_VERSION; or the session does not take it, as it does not where it is the request of the large answer again; the answer
--- is in the clear, or shorter than a record, or holds no CHUNK_RESPONSE; or the requester does not ask for the next chunk
--- upon the one before, or asks for one upon the last.
+-- An answer in a round of the session, by the history with some bytes that may stand: it goes whole, and the requester asks for
+-- no chunk upon it; or it is the last chunk, and it asks for one upon that.
 pub data IsOther (r : RspSetup) (h : History) (k : Kept) (round : Round) (answer : List ℕ) : Type 0 where
-  AsksInClear : (slice_index round.body 0 == 5) ≡ true → IsOther r h k round answer
-  NotTaken : will_take r h round.body ≡ false → IsOther r h k round answer
-  AnswersInClear : (slice_index answer 0 == 5) ≡ true → IsOther r h k round answer
-  IsShort : length (drop 1 answer) < 26 → IsOther r h k round answer
-  HoldsOther : (text : List ℕ) → IsTextOf r h round.body answer text → ((message : List ℕ) → Holds text message → is_chunk message ≡ true → ⊥) → IsOther r h k round answer
   Stops : IsShownAnswer r h round.tag round.body answer → asks_upon k round.tag answer ≡ false → IsOther r h k round answer
   GoesOn : EndsLarge r h round.tag round.body answer → asks_upon k round.tag answer ≡ true → IsOther r h k round answer

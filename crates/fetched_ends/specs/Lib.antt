@@ -3,6 +3,7 @@ pub mod InSession
 pub mod ChunkJudged
 pub mod Prepared
 pub mod GetsHeld
+pub mod SessionOthers
 pub mod Held
 pub mod AsksUpon
 pub mod AskedInClear

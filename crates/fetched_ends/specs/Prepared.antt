@@ -1,5 +1,5 @@
 -- What is kept of a large answer whose fetch is about to begin in a session. This project's own.
-use Rattle.std.specs.Prelude.{◌≡◌, ◌<◌, ℕ, List, drop, false, Some}
+use Rattle.std.specs.Prelude.{◌≡◌, ◌<◌, ℕ, List, drop, true, false, Some}
 use Rattle.large_answers.specs.Fetching.{Fetching, number_of}
 use Rattle.large_answers.specs.LargeAnswers.{StandsFor}
 use Rattle.measurements.specs.Records.{is_missing}
@@ -25,4 +25,5 @@ pub record IsPrepared (r : RspSetup) (h : History) (request : List ℕ) (fetched
   pub found : is_missing fetched.op (inventory_of r) ≡ false
   pub lengths : AreLengths (session_place (session_of (id_in_record request) h)) fetched.least fetched.most
   pub wide : 12 < (session_terms (session_of (id_in_record request) h)).common.to_requester.transfer
+  pub left : fetched.left ≡ true
   pub none : (f : Fetching) → number_of f ≡ 0 → StandsFor fetched.answer f

@@ -14,7 +14,8 @@ pub(crate) const MOST_BYTES: usize = 4096;
 const ZEROS: [u8; 4096] = [0; 4096];
 
 /// A large answer that is fetched in the session of a RspSessionID: what came of it, which lengths it may
-/// have, and the operation that its request asks for. It takes no memory.
+/// have, the operation that its request asks for, and whether a chunk of it is left to be given. It takes no
+/// memory.
 #[derive(Drop)]
 pub struct InSession {
     pub(crate) answer: LargeAnswer,
@@ -22,6 +23,7 @@ pub struct InSession {
     pub(crate) least: usize,
     pub(crate) most: usize,
     pub(crate) op: u8,
+    pub(crate) left: bool,
 }
 
 // So many zeros.

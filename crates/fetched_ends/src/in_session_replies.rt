@@ -17,7 +17,9 @@ ghost use Rattle.world_machine.specs.Setup.{Configuration};
 use crate::Upon;
 use crate::chunk_judged::judges_chunk;
 use crate::in_session::InSession;
-use crate::session_texts::{chunk_in, reads_text};
+use crate::session_others::judges_other;
+use crate::session_texts::{chunk_in, holds_error, reads_text};
+use crate::session_version::replies_version;
 use capture_ends::Party;
 use capture_laws::{Round, SessionTable};
 use connection::Setup;
@@ -55,17 +57,21 @@ pub fn replies_in_session(
 {
     let body = round.body();
     if byte_at(body, 0) == CLEAR {
-        return Ok(Ok(Upon::Large));
+        return replies_version(party, fetched, table, setup, round, answer);
+    }
+    if !fetched.left {
+        return judges_other(party, fetched, table, setup, round, answer, false);
     }
     if byte_at(answer, 0) == CLEAR {
-        return Ok(Ok(Upon::Large));
+        return judges_other(party, fetched, table, setup, round, answer, false);
     }
     let mut text = RecordFrame::new();
     if !reads_text(&mut party.answerer, body, answer, &mut text) {
-        return Ok(Ok(Upon::Large));
+        return judges_other(party, fetched, table, setup, round, answer, false);
     }
     let Some(message) = chunk_in(text.as_slice()) else {
-        return Ok(Ok(Upon::Large));
+        let refuses = holds_error(text.as_slice());
+        return judges_other(party, fetched, table, setup, round, answer, refuses);
     };
     let why = party.answerer.reply_why(&party.keys, body, answer);
     let Some(whole) = fetched.filled(message) else {

@@ -52,5 +52,6 @@ pub(crate) fn prepared(
         least: terms.common.to_requester.transfer as usize + 1,
         most: if max > MOST_BYTES { MOST_BYTES } else { max },
         op,
+        left: true,
     })
 }

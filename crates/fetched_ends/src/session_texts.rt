@@ -9,12 +9,13 @@ ghost use Rattle.responder_machine.specs.Session.{id_in_record, session_of};
 ghost use Rattle.responder_machine.specs.Setup.{RspSetup};
 ghost use Rattle.world_machine.specs.Opening.{turn_in};
 ghost use Rattle.fetched_ends.specs.InSession.{IsTextOf, is_chunk};
+ghost use Rattle.fetched_ends.specs.SessionOthers.{IsRefusing};
 
 use capture_ends::Answerer;
 use fetched_answers::message_in;
 use session_keys::{behind_type, byte_at};
 use spdm_basis::RecordFrame;
-use spdm_grammar::names::response_code::CHUNK_RESPONSE;
+use spdm_grammar::names::response_code::{CHUNK_RESPONSE, ERROR};
 
 // The fewest bytes of a record.
 const LEAST_RECORD: usize = 26;
@@ -64,4 +65,14 @@ pub(crate) fn chunk_in(text: &[u8]) -> Option<&[u8]>
         return Some(message);
     }
     None
+}
+
+/// Whether a text, of fewer than 65,536 bytes, holds ERROR.
+pub(crate) fn holds_error(text: &[u8]) -> bool
+    ensures { length text.now < 65536 → IsRefusing text.now result }
+{
+    let Some(message) = message_in(text) else {
+        return false;
+    };
+    byte_at(message, 1) == ERROR
 }

@@ -161,6 +161,7 @@ returns-in_ok-take-in-Some-Whole-clause-told c = λ w q older rows f route own b
       least = refl;
       most = refl;
       op = refl;
+      left = refl;
     }) asks
 
 pub returns-in_ok-take-in-Some-Last-clause-told : goal.returns-in_ok-take-in-Some-Last-clause-told

@@ -198,7 +198,7 @@ returns-in_ok-take-in-Some-Large-clause-told c = λ w q older rows k route keeps
     let asks = sym (ap (λ (n : ℕ). asks_upon k n answer) turn.answers.1) ∙ sym fetches ∙ not-false _ c.if-not-heard.false in (
       then,
       begins w q older k route answer byte limits carries turn type will shown op prepared.asks asks,
-      begun_stands w q older k route answer byte limits carries turn type will shown op prepared.asks six prepared.wide rows last c.in-Some.fetched asker answerer keys number stand prepared.id refl prepared.lengths prepared.none prepared.found,
+      begun_stands w q older k route answer byte limits carries turn type will shown op prepared.asks six prepared.wide rows last c.in-Some.fetched asker answerer keys number stand prepared.id refl prepared.lengths prepared.none prepared.left prepared.found,
       table,
     )
 

@@ -1,4 +1,4 @@
-use Rattle.std.proofs.Common.{◌≡◌, ◌-◌, ◌^◌, ◌<◌, ◌∙◌, sym, ap, subst, length, arith, eq-eqb, ne_eqb, List, [], ℕ, false, Some, Option, inl, inr}
+use Rattle.std.proofs.Common.{◌≡◌, ◌-◌, ◌^◌, ◌<◌, ◌∙◌, ◌==◌, sym, ap, subst, length, arith, eq-eqb, ne_eqb, List, [], ℕ, false, Some, Option, inl, inr}
 use Rattle.std.specs.Prelude.{slice_index}
 use Rattle.std.proofs.lemmas.Option.{same_Some}
 use Rattle.capture_ends.proofs.InTurn.{answers_in_turn}
@@ -13,66 +13,89 @@ use Rattle.fetched_answers.specs.AnswerTexts.{Holds}
 use Rattle.fetched_answers.specs.JudgedFor.{JudgesFor}
 use Rattle.world_machine.specs.LargeAnswers.{with_large}
 use Rattle.world_machine.specs.Rounds.{Round}
-use Rattle.fetched_ends.proofs.InSessionRead.{few_kept, fills_there, fits_kept, judges_there, keys_kept, read_there, stand_there, told_other}
+use Rattle.fetched_ends.proofs.FetchedKept.{fetched_in}
+use Rattle.fetched_ends.proofs.InSessionRead.{few_kept, fills_there, fits_kept, judges_there, keys_kept, read_there, stand_there}
 use Rattle.fetched_ends.proofs.InSessionRefused.{refused}
 use Rattle.fetched_ends.proofs.InSessionWrong.{Fits, misfit_last, misfit_plain, never_large, wrong_last, wrong_plain}
+use Rattle.fetched_ends.proofs.OthersNone.{other_clear, other_gone, other_short, other_text, other_untaken}
 use Rattle.fetched_ends.proofs.in_session_replies.replies_in_session.Goals as goal
 use Rattle.fetched_ends.specs.ChunkJudged.{IsChunkJudged, IsNoChunk}
 use Rattle.fetched_ends.specs.InSession.{IsFetchedIn, IsReadIn, IsTextOf}
-use Rattle.fetched_ends.specs.InSession.IsOther.{AsksInClear, NotTaken, AnswersInClear, IsShort, HoldsOther}
+use Rattle.fetched_ends.specs.SessionOthers.{IsOtherAnswer, IsRefusing}
 use Rattle.fetched_ends.specs.declared.upon.Upon.{Upon}
 
 pub returns-then-byte_at-eq-CLEAR-clause-told : goal.returns-then-byte_at-eq-CLEAR-clause-told
 returns-then-byte_at-eq-CLEAR-clause-told c = λ w q older rows f route own below byte now set_up none is stands.
-    let fewer : length older < 2 ^ 64 - 1 = omega (arith, below) in
+    let clear = ap (λ (n : ℕ). n == 5) (sym c.byte_at.ensures ∙ c.if-byte_at-eq-CLEAR.true) in
+    c.replies_version.ensures.told w q older rows f route own below byte now set_up none (ap (λ (l : List ℕ). slice_index l 0 == 5) (sym c.body-body.ensures) ∙ clear) is stands
+
+pub returns-then-not-fetched-clause-told : goal.returns-then-not-fetched-clause-told
+returns-then-not-fetched-clause-told c = λ w q older rows f route own below byte now set_up none is stands.
     let answer : List ℕ = c.args.answer.now in
+    let fetched = c.args.fetched.now in
     let turn = answers_in_turn f.kept route answer none in
     let limits = kept_limits q f.kept c.args.party.now.asker is.beside.asker in
     let at = now ∙ turn.answers.0 in
     let body = c.body-body.ensures ∙ ap body_in at in
-    told_other w q older rows f route answer byte limits own turn c.args.party.now c.args.fetched.now is [] (AsksInClear (eq-eqb (slice_index turn.round.body 0) 5 (sym (c.byte_at.ensures ∙ ap (λ (l : List ℕ). slice_index l 0) body) ∙ c.if-byte_at-eq-CLEAR.true)))
+    let type = ne_eqb (slice_index turn.round.body 0) 5 (λ e. c.if-byte_at-eq-CLEAR.false (c.byte_at.ensures ∙ ap (λ (l : List ℕ). slice_index l 0) body ∙ e)) in
+    let other = other_gone w q older f route answer byte limits own turn fetched is.at is.whole is.stands false type is.pending c.if-not-fetched.true in
+    c.judges_other.ensures.told w q older rows f route own below byte now set_up none (turn.round, turn.answers.0, other) is stands
 
 pub returns-then-byte_at-eq-CLEAR-2-clause-told : goal.returns-then-byte_at-eq-CLEAR-2-clause-told
 returns-then-byte_at-eq-CLEAR-2-clause-told c = λ w q older rows f route own below byte now set_up none is stands.
-    let fewer : length older < 2 ^ 64 - 1 = omega (arith, below) in
     let answer : List ℕ = c.args.answer.now in
+    let fetched = c.args.fetched.now in
     let turn = answers_in_turn f.kept route answer none in
     let limits = kept_limits q f.kept c.args.party.now.asker is.beside.asker in
     let at = now ∙ turn.answers.0 in
     let body = c.body-body.ensures ∙ ap body_in at in
-    told_other w q older rows f route answer byte limits own turn c.args.party.now c.args.fetched.now is [] (AnswersInClear (eq-eqb (slice_index answer 0) 5 (sym c.byte_at-2.ensures ∙ c.if-byte_at-eq-CLEAR-2.true)))
+    let type = ne_eqb (slice_index turn.round.body 0) 5 (λ e. c.if-byte_at-eq-CLEAR.false (c.byte_at.ensures ∙ ap (λ (l : List ℕ). slice_index l 0) body ∙ e)) in
+    let clear = ap (λ (n : ℕ). n == 5) (sym c.byte_at-2.ensures ∙ c.if-byte_at-eq-CLEAR-2.true) in
+    let other = other_clear w q older f route answer byte limits own turn fetched is.at is.whole is.stands false type clear in
+    c.judges_other-then-byte_at-eq-CLEAR-2.ensures.told w q older rows f route own below byte now set_up none (turn.round, turn.answers.0, other) is stands
 
 pub returns-then-not-reads_text-clause-told : goal.returns-then-not-reads_text-clause-told
 returns-then-not-reads_text-clause-told c = λ w q older rows f route own below byte now set_up none is stands.
     let fewer : length older < 2 ^ 64 - 1 = omega (arith, below) in
     let answer : List ℕ = c.args.answer.now in
+    let fetched = c.args.fetched.now in
     let turn = answers_in_turn f.kept route answer none in
     let limits = kept_limits q f.kept c.args.party.now.asker is.beside.asker in
     let at = now ∙ turn.answers.0 in
     let body = c.body-body.ensures ∙ ap body_in at in
+    let type = ne_eqb (slice_index turn.round.body 0) 5 (λ e. c.if-byte_at-eq-CLEAR.false (c.byte_at.ensures ∙ ap (λ (l : List ℕ). slice_index l 0) body ∙ e)) in
     let r = responder_for w f.kept in
-    let g = with_large (Some c.args.fetched.now.id) is.whole f.kept.responder in
-    let small = few_kept w q older rows f route answer byte limits own turn c.args.party.now c.args.fetched.now is [] fewer in
-    elim (c.reads_text.ensures.none r g is.judges small c.if-not-reads_text.true) [
-      | inl short ↦ told_other w q older rows f route answer byte limits own turn c.args.party.now c.args.fetched.now is [] (IsShort short)
-      | inr none_taken ↦ told_other w q older rows f route answer byte limits own turn c.args.party.now c.args.fetched.now is [] (NotTaken (subst (λ (b : List ℕ). will_take r g b ≡ false) body none_taken))
-    ]
+    let g = with_large (Some fetched.id) is.whole f.kept.responder in
+    let small = few_kept w q older rows f route answer byte limits own turn c.args.party.now fetched is [] fewer in
+    let there = fetched_in c.args.party.now c.reads_text.new.answerer fetched w q f rows is c.reads_text.ensures.same in
+    let other : IsOtherAnswer r fetched f turn.round answer false = elim (c.reads_text.ensures.none r g is.judges small c.if-not-reads_text.true) [
+      | inl short ↦ other_short w q older f route answer byte limits own turn fetched is.at is.whole is.stands false type short
+      | inr none_taken ↦ other_untaken w q older f route answer byte limits own turn fetched is.at is.whole is.stands false type (subst (λ (b : List ℕ). will_take r g b ≡ false) body none_taken)
+    ] in
+    c.judges_other-then-not-reads_text.ensures.told w q older rows f route own below byte now set_up none (turn.round, turn.answers.0, other) there stands
 
 pub returns-in_default-clause-told : goal.returns-in_default-clause-told
 returns-in_default-clause-told c = λ w q older rows f route own below byte now set_up none is stands.
     let fewer : length older < 2 ^ 64 - 1 = omega (arith, below) in
     let answer : List ℕ = c.args.answer.now in
+    let fetched = c.args.fetched.now in
     let turn = answers_in_turn f.kept route answer none in
     let limits = kept_limits q f.kept c.args.party.now.asker is.beside.asker in
     let at = now ∙ turn.answers.0 in
     let body = c.body-body.ensures ∙ ap body_in at in
+    let type = ne_eqb (slice_index turn.round.body 0) 5 (λ e. c.if-byte_at-eq-CLEAR.false (c.byte_at.ensures ∙ ap (λ (l : List ℕ). slice_index l 0) body ∙ e)) in
     let r = responder_for w f.kept in
-    let g = with_large (Some c.args.fetched.now.id) is.whole f.kept.responder in
-    let small = few_kept w q older rows f route answer byte limits own turn c.args.party.now c.args.fetched.now is [] fewer in
+    let g = with_large (Some fetched.id) is.whole f.kept.responder in
+    let small = few_kept w q older rows f route answer byte limits own turn c.args.party.now fetched is [] fewer in
     let text = c.reads_text.new.text in
     let read = subst (λ (b : List ℕ). IsTextOf r g b answer text) body (c.reads_text.ensures.told r g is.judges small c.if-not-reads_text.false) in
+    let there = fetched_in c.args.party.now c.reads_text.new.answerer fetched w q f rows is c.reads_text.ensures.same in
     let same = c.as_slice.ensures.value in
-    told_other w q older rows f route answer byte limits own turn c.args.party.now c.args.fetched.now is [] (HoldsOther text read (λ m held is_it. c.in_default.ensures (subst (λ (l : List ℕ). length l < 65536) (sym same) read.brief) m (subst (λ (l : List ℕ). Holds l m) (sym same) held) is_it))
+    let second = c.as_slice-in_default.ensures.value in
+    let refusing = subst (λ (l : List ℕ). IsRefusing l c.holds_error-refuses.result) second (c.holds_error-refuses.ensures (subst (λ (l : List ℕ). length l < 65536) (sym second) read.brief)) in
+    let other = other_text w q older f route answer byte limits own turn fetched is.at is.whole is.stands c.holds_error-refuses.result type text read
+    (λ m held is_it. c.in_default.ensures (subst (λ (l : List ℕ). length l < 65536) (sym same) read.brief) m (subst (λ (l : List ℕ). Holds l m) (sym same) held) is_it) refusing in
+    c.judges_other-in_default.ensures.told w q older rows f route own below byte now set_up none (turn.round, turn.answers.0, other) there stands
 
 pub returns-in_default-filled-clause-told : goal.returns-in_default-filled-clause-told
 returns-in_default-filled-clause-told c = λ w q older rows f route own below byte now set_up none is stands.
@@ -116,6 +139,7 @@ returns-in-Some-2-clause-told c = λ w q older rows f route own below byte now s
     let read = subst (λ (b : List ℕ). IsTextOf r g b answer text) body (c.reads_text.ensures.told r g is.judges small c.if-not-reads_text.false) in
     let type = ne_eqb (slice_index turn.round.body 0) 5 (λ e. c.if-byte_at-eq-CLEAR.false (c.byte_at.ensures ∙ ap (λ (l : List ℕ). slice_index l 0) body ∙ e)) in
     let sealed = ne_eqb (slice_index answer 0) 5 (λ e. c.if-byte_at-eq-CLEAR-2.false (c.byte_at-2.ensures ∙ e)) in
+    let left = c.if-not-fetched.false in
     let message = c.in-Some.message.now in
     let holds = subst (λ (l : List ℕ). Holds l message) c.as_slice.ensures.value c.in-Some.ensures.0 in
     let chunk = c.in-Some.ensures.1 in
@@ -125,10 +149,10 @@ returns-in-Some-2-clause-told c = λ w q older rows f route own below byte now s
     let fits = c.in-Some-filled.ensures.0 in
     let fills = c.as_slice-2.ensures.value ∙ c.in-Some-filled.ensures.1 in
     let same = c.reply_why-why.ensures.same ∙ c.reads_text.ensures.same in
-    let judges = judges_there w q older rows f route answer byte limits own turn c.args.party.now c.args.fetched.now is message fits whole fills type sealed text read holds chunk c.put_bytes.new.connection
+    let judges = judges_there w q older rows f route answer byte limits own turn c.args.party.now c.args.fetched.now is message fits whole fills left type sealed text read holds chunk c.put_bytes.new.connection
     (λ s h l one two three stands_for. c.put_bytes.ensures s h l one two three (subst (λ (x : Connection). JudgesFor x s h (Some c.args.fetched.now.id) l) (sym same) stands_for)) in
     let answerer = record c.reply_why-why.new.self { connection = c.put_bytes.new.connection } in
-    let there = read_there w q older rows f route answer byte limits own turn c.args.party.now c.args.fetched.now is message fits whole fills type sealed text read holds chunk answerer judges in
+    let there = read_there w q older rows f route answer byte limits own turn c.args.party.now c.args.fetched.now is message fits whole fills left type sealed text read holds chunk answerer judges in
     let in_round = subst (λ (b : List ℕ). IsReadIn (record c.args.party.now { answerer = answerer }) c.args.fetched.now w q f rows b answer message whole) (sym (ap body_in at)) there in
     let in_call = subst (IsReadIn (record c.args.party.now { answerer = answerer }) c.args.fetched.now w q f rows (body_in c.args.round.now) answer message) (c.as_slice-2.ensures.value ∙ sym c.as_slice-3.ensures.value) in_round in
     let told = c.in_ok-upon.ensures.told w q older rows f route own below byte now set_up none in_call stands in
@@ -149,6 +173,7 @@ returns-in-None-clause-told c = λ w q older rows f route own below byte now set
     let read = subst (λ (b : List ℕ). IsTextOf r g b answer text) body (c.reads_text.ensures.told r g is.judges small c.if-not-reads_text.false) in
     let type = ne_eqb (slice_index turn.round.body 0) 5 (λ e. c.if-byte_at-eq-CLEAR.false (c.byte_at.ensures ∙ ap (λ (l : List ℕ). slice_index l 0) body ∙ e)) in
     let sealed = ne_eqb (slice_index answer 0) 5 (λ e. c.if-byte_at-eq-CLEAR-2.false (c.byte_at-2.ensures ∙ e)) in
+    let left = c.if-not-fetched.false in
     let message = c.in-Some.message.now in
     let holds = subst (λ (l : List ℕ). Holds l message) c.as_slice.ensures.value c.in-Some.ensures.0 in
     let chunk = c.in-Some.ensures.1 in
@@ -158,10 +183,10 @@ returns-in-None-clause-told c = λ w q older rows f route own below byte now set
     let fits = c.in-Some-filled.ensures.0 in
     let fills = c.as_slice-2.ensures.value ∙ c.in-Some-filled.ensures.1 in
     let same = c.reply_why-why.ensures.same ∙ c.reads_text.ensures.same in
-    let judges = judges_there w q older rows f route answer byte limits own turn c.args.party.now c.args.fetched.now is message fits whole fills type sealed text read holds chunk c.put_bytes.new.connection
+    let judges = judges_there w q older rows f route answer byte limits own turn c.args.party.now c.args.fetched.now is message fits whole fills left type sealed text read holds chunk c.put_bytes.new.connection
     (λ s h l one two three stands_for. c.put_bytes.ensures s h l one two three (subst (λ (x : Connection). JudgesFor x s h (Some c.args.fetched.now.id) l) (sym same) stands_for)) in
     let answerer = record c.reply_why-why.new.self { connection = c.put_bytes.new.connection } in
-    let there = read_there w q older rows f route answer byte limits own turn c.args.party.now c.args.fetched.now is message fits whole fills type sealed text read holds chunk answerer judges in
+    let there = read_there w q older rows f route answer byte limits own turn c.args.party.now c.args.fetched.now is message fits whole fills left type sealed text read holds chunk answerer judges in
     let in_round = subst (λ (b : List ℕ). IsReadIn (record c.args.party.now { answerer = answerer }) c.args.fetched.now w q f rows b answer message whole) (sym (ap body_in at)) there in
     let in_call = subst (IsReadIn (record c.args.party.now { answerer = answerer }) c.args.fetched.now w q f rows (body_in c.args.round.now) answer message) (c.as_slice-2.ensures.value ∙ sym c.as_slice-3.ensures.value) in_round in
     let told = c.in_ok-upon.ensures.told w q older rows f route own below byte now set_up none in_call stands in

@@ -1,4 +1,4 @@
-use Rattle.std.proofs.Common.{◌≡◌, ◌≤◌, ◌+◌, ◌∙◌, sym, ap, subst, drop, arith, List, ℕ, Some, Option}
+use Rattle.std.proofs.Common.{◌≡◌, ◌≤◌, ◌+◌, ◌∙◌, refl, sym, ap, subst, drop, arith, List, ℕ, Some, Option}
 use Rattle.connection.specs.SeenTerms.{AreTermsIn}
 use Rattle.measurements.specs.Records.{is_missing}
 use Rattle.responder_machine.specs.Session.{Events, id_in_record, session_of, session_terms}
@@ -39,5 +39,6 @@ returns c = λ r h set stands.
       found = ap (is_missing c.in-Ok-GetMeasurements.op) set.inventory ∙ sym c.record.ensures.missing ∙ sym c.is_err.ensures.value ∙ c.if-is_err.false;
       lengths = lengths_are s chunk (terms.common.to_requester.transfer + 1) most (ap (λ (n : ℕ). n + 1) transfer) (subst (λ (n : ℕ). most ≤ n) max range.0) range.1 (λ n one two. range.2 n (subst (λ (x : ℕ). n ≤ x) (sym max) one) two);
       wide = omega (arith, wide, transfer);
+      left = refl;
       none = c.new-2.ensures;
     }

@@ -1,0 +1,86 @@
+ghost use Rattle.std.specs.Prelude.{◌≡◌, ◌≤◌, ◌<◌, ◌-◌, ◌^◌, ℕ, List, None, Ok, IfOk, OnErr, IsSome, drop, length};
+ghost use Rattle.capture_laws.specs.DropsShown.{id_begun, response_of};
+ghost use Rattle.capture_laws.specs.Order.{answered_why};
+ghost use Rattle.capture_laws.specs.RepliesShown.{responder_for};
+ghost use Rattle.capture_laws.specs.Rows.{StandsForRows};
+ghost use Rattle.connection.specs.Setup.{IsSetUp};
+ghost use Rattle.fetched_ends.specs.Fetched.{IsRepliedTo};
+ghost use Rattle.fetched_ends.specs.InSession.{IsFetchedIn};
+ghost use Rattle.fetched_ends.specs.SessionOthers.{IsOtherRound, left_then};
+ghost use Rattle.fetched_ends.specs.declared.upon.Upon.TheVariants as upon;
+ghost use Rattle.large_answers.specs.Fetching.{Fetching, IsFetchingOf};
+ghost use Rattle.mctp_framing.specs.Cutting.{RouteFields};
+ghost use Rattle.mctp_framing.specs.Gathering.Gathered.{Whole};
+ghost use Rattle.requester_machine.specs.Setup.{ReqSetup};
+ghost use Rattle.world_machine.specs.SessionTable.{Row};
+ghost use Rattle.world_machine.specs.Setup.{Configuration};
+
+use crate::Upon;
+use crate::in_session::InSession;
+use capture_ends::{Given, Party};
+use capture_laws::{Round, SessionTable, answer_accepts, whole_answer_changes};
+use connection::Setup;
+use script_text::Why;
+use session_keys::behind_type;
+use spdm_basis::OutOfMemory;
+
+// Whether a chunk is left to be given behind an answer that gives none.
+fn left_then(left: bool, live: bool, idle: bool, refuses: bool) -> bool
+    ensures { result ≡ left_then left live idle refuses }
+{
+    left && live && (idle || refuses)
+}
+
+/// An answer of at most 4,161 bytes came whole, in order behind a record, while a large answer is fetched in its
+/// session, and gives no chunk of it, whatever its bytes are: the connection judges it as it stands. A request
+/// that a right answer refuses in the session, or takes there, is told by `refuses`.
+pub(crate) fn judges_other(
+    party: &mut Party,
+    fetched: &mut InSession,
+    table: &mut SessionTable,
+    setup: &Setup<'_>,
+    round: &Round,
+    answer: &[u8],
+    refuses: bool,
+) -> Result<Result<Upon, Why>, OutOfMemory>
+    requires { length answer.now ≤ 4161 }
+    ensures told { (w : Configuration) (q : ReqSetup) (older : List (List ℕ)) (rows : List Row)
+        (f : Fetching) (route : RouteFields) → IsFetchingOf w q older f
+        → length older < 2 ^ 64 - 2 → w.responder.beat < 256 → round.now ≡ f.kept.round
+        → IsSetUp setup.now (responder_for w f.kept)
+        → answered_why f.kept.round (Whole route answer.now) ≡ None
+        → IsOtherRound (responder_for w f.kept) fetched.old f answer.now refuses
+        → IsFetchedIn party.old fetched.old w q f rows
+        → StandsForRows table.old w (length older) rows
+        → IfOk result (λ told. IsRepliedTo w q older rows f route answer.now told party.new
+        (IsFetchedIn party.new fetched.new w q) table.new) }
+    ensures stays { IfOk result (λ told. (told ≡ Ok upon.Fetched → ⊥) → (told ≡ Ok upon.Ended → ⊥)
+        → table.new ≡ table.old) }
+    ensures memory { OnErr result (IsSome (id_begun (response_of (drop 1 answer.now)))) }
+{
+    answer_accepts();
+    whole_answer_changes();
+    let body = round.body();
+    let why = party.answerer.reply_why(&party.keys, body, answer);
+    let key = party.answerer.coming_key(body);
+    let taken = party.answerer.taken(body, answer);
+    match party
+        .answerer
+        .answers_record(setup, behind_type(body), answer)
+    {
+        Some(Given::Whole) => {
+            let heard = party.go_on(round, key, answer, true);
+            if !heard.fetches {
+                return Ok(Ok(Upon::Large));
+            }
+            let live = party.answerer.connection.view(fetched.id).is_some();
+            fetched.left = left_then(fetched.left, live, taken.is_none(), refuses);
+            let change = party.change(None, heard.accepted, taken);
+            table.take(&mut party.places, party.number, &change)?;
+            Ok(Ok(Upon::Fetched))
+        }
+        Some(Given::Large) => Ok(Ok(Upon::Large)),
+        Some(Given::Last) => Ok(Err(why)),
+        None => Ok(Err(why)),
+    }
+}
