@@ -32,13 +32,16 @@ fetched_round w q older f own =
     let u : List ℕ = own.stands.0 in
     let walk = own.all u own.stands.1 in
     let sound : IsSound (dialogue_of f u) = (walks_alike w q older (dialogue_of f u) (dialogue_of f u) walk walk).one in
-    let old = sound.fetched u refl in
-    (old.0, old.1, elim old.2.stands [
-      | inl version ↦ inl (ap is_fetching old.2.waits ∙ ap is_for_chunk version.0, version.1)
-      | inr fetch ↦
-          let gets = ap is_fetching old.2.waits ∙ fetch.0 in
-          inr (gets, sym (ap (λ (o : Option Round). place_named (body_in o)) old.1) ∙ own.there gets)
-    ])
+    let old = sound.fetched u refl in (
+      old.0,
+      old.1,
+      elim old.2.stands [
+        | inl version ↦ inl (ap is_fetching old.2.waits ∙ ap is_for_chunk version.0, version.1)
+        | inr fetch ↦
+            let gets = ap is_fetching old.2.waits ∙ fetch.0 in
+            inr (gets, sym (ap (λ (o : Option Round). place_named (body_in o)) old.1) ∙ own.there gets)
+      ],
+    )
 
 -- So it is awaited exactly where the round is not GET_VERSION.
 pub awaited_in : (w : Configuration) (q : ReqSetup) (older : List (List ℕ)) (f : Fetching) (round : Round) → IsFetchingOf w q older f → f.kept.round ≡ Some round → IsAwaited f round

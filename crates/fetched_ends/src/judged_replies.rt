@@ -1,6 +1,6 @@
 use crate::{
-    BegunHeld, BegunIn, Fetch, Held, InSession, JudgedEnds, Upon, begins_held, begins_in_session, replies_held,
-    replies_in_session,
+    BegunHeld, BegunIn, Fetch, Held, InSession, JudgedEnds, Upon, begins_held, begins_in_session,
+    replies_held, replies_in_session,
 };
 use capture_ends::Onward;
 use capture_laws::{Round, SessionTable};
@@ -194,7 +194,9 @@ impl JudgedEnds {
     {
         match self.fetched.take() {
             None => self.replies_at_rest(table, setup, round, answer),
-            Some(Fetch::InSession(fetched)) => self.replies_fetched(fetched, table, setup, round, answer),
+            Some(Fetch::InSession(fetched)) => self.replies_fetched(
+                fetched, table, setup, round, answer,
+            ),
             Some(Fetch::InClear(held)) => self.replies_clear(held, table, setup, round, answer),
         }
     }

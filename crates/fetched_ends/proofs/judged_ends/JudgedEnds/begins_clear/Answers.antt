@@ -79,4 +79,3 @@ returns-in-Fetching-clause-told c = λ w q older rows packet route at few byte r
     (c.begins_held.ensures.told w q older rows k route keeps few byte now towards_it right there.2 table) in
     let is = subst (λ (x : BegunHeld). IsBegunHeld w q older rows k route answer x new c.args.table.now after) c.in-Fetching.is begun in
     begun_on w q older rows packet route answer at k is.0 (record talk { party = new }) (fetch.InClear c.in-Fetching.held) after keeps is.1 none is.2 is.3
-
