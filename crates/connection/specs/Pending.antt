@@ -1,7 +1,7 @@
--- A connection in which the pending answer of a session gets other bytes, for one who judges answers whose bytes
--- come chunk by chunk. This project's own.
+-- A connection in which the pending answer of a session gets other bytes, or was never seen, for one who judges
+-- answers whose bytes come chunk by chunk. This project's own.
 use Rattle.std.specs.Prelude.{◌==◌, ◌≡◌, ◌&&◌, ◌||◌, not, if◌then◌else◌, ℕ, List, [], ◌∷◌, Bool, true, is_some}
-use Rattle.request_rules.specs.LargeAnswer.{turn_with}
+use Rattle.request_rules.specs.LargeAnswer.{turn_unseen, turn_with}
 use Rattle.responder_machine.specs.History.{History}
 use Rattle.responder_machine.specs.History.Entry.{Sealed}
 use Rattle.responder_machine.specs.Session.{id_in_record}
@@ -12,14 +12,22 @@ use Rattle.spdm_grammar.specs.declared.names.request_code.TheConstants.{CHUNK_GE
 abbrev pub passes : Turn → Bool
 passes t = not (is_taken t) || takes CHUNK_GET t
 
--- The history with these bytes as the whole answer to the last record of the session of this id that was taken
--- and is no CHUNK_GET: a large answer that is pending there is its answer.
+-- The history in which the turn changes so of the last record of the session of this id that was taken and is no
+-- CHUNK_GET: a large answer that is pending there is its answer.
+abbrev pub history_changed : (Turn → Turn) → (id : ℕ) → History → History
+history_changed change id [] = []
+history_changed change id (Sealed tag m t reply d ∷ older) =
+    if id_in_record m == id && not (passes t) then Sealed tag m (change t) reply d ∷ older
+    else Sealed tag m t reply d ∷ history_changed change id older
+history_changed change id (entry ∷ older) = entry ∷ history_changed change id older
+
+-- It gets these bytes as its whole answer.
 abbrev pub history_with : (id : ℕ) → List ℕ → History → History
-history_with id answer [] = []
-history_with id answer (Sealed tag m t reply d ∷ older) =
-    if id_in_record m == id && not (passes t) then Sealed tag m (turn_with answer t) reply d ∷ older
-    else Sealed tag m t reply d ∷ history_with id answer older
-history_with id answer (entry ∷ older) = entry ∷ history_with id answer older
+history_with id answer = history_changed (turn_with answer) id
+
+-- Its answer was never seen.
+abbrev pub history_unseen : (id : ℕ) → History → History
+history_unseen id = history_changed turn_unseen id
 
 -- MEASUREMENTS go by LargeResponse in a turn.
 pub record GoesLarge (t : Turn) : Type 0 where

@@ -1,12 +1,3 @@
-ghost use Rattle.std.specs.Prelude.{◌≡◌, ◌∷◌, List, ℕ, None};
-ghost use Rattle.request_rules.specs.LargeAnswer.{turn_unseen};
-ghost use Rattle.responder_machine.specs.Session.{Events};
-ghost use Rattle.responder_machine.specs.Session.Event.{Heard};
-ghost use Rattle.responder_machine.specs.Setup.{RspSetup};
-ghost use Rattle.responder_machine.specs.Turn.{Turn};
-ghost use Rattle.connection.specs.Live.{IsSlotOf};
-ghost use Rattle.connection.specs.Pending.{GoesLarge};
-
 use crate::{ClearPart, Connection, Live, Requests, Sessions, Standing};
 
 // The clear part without the MEASUREMENTS that were to go by LargeResponse in answer to what was taken
@@ -62,72 +53,60 @@ impl ClearPart {
     }
 }
 
-// The sessions likewise.
+// A session without the MEASUREMENTS that went by LargeResponse last, though chunks of them may have been given.
 impl Live {
-    ghost use Rattle.std.specs.Prelude.{◌∷◌, List, ℕ};
-    ghost use Rattle.request_rules.specs.LargeAnswer.{turn_unseen};
-    ghost use Rattle.responder_machine.specs.Session.{Events};
-    ghost use Rattle.responder_machine.specs.Session.Event.{Heard};
+    ghost use Rattle.std.specs.Prelude.{◌≡◌, is_some, true};
+    ghost use Rattle.request_rules.specs.LargeAnswer.{last_takes};
+    ghost use Rattle.responder_machine.specs.LargeMessages.{large_of};
+    ghost use Rattle.responder_machine.specs.Session.{Events, turns_of};
     ghost use Rattle.responder_machine.specs.Setup.{RspSetup};
-    ghost use Rattle.responder_machine.specs.Turn.{Turn};
+    ghost use Rattle.responder_session.specs.Pending.{events_unseen};
+    ghost use Rattle.spdm_grammar.specs.declared.names.request_code.TheConstants.{GET_MEASUREMENTS};
     ghost use Rattle.connection.specs.Live.{StandsFor};
-    ghost use Rattle.connection.specs.Pending.{GoesLarge};
 
     fn forget(&mut self)
-        ensures { (r : RspSetup) (m : List ℕ) (t : Turn) (reply : List ℕ) (s : Events) → GoesLarge t
-            → StandsFor self.old r (Heard m t reply ∷ s)
-            → StandsFor self.new r (Heard m (turn_unseen t) reply ∷ s) }
+        ensures { (r : RspSetup) (s : Events) → is_some (large_of (turns_of s)) ≡ true
+            → last_takes GET_MEASUREMENTS (turns_of s) ≡ true → StandsFor self.old r s
+            → StandsFor self.new r (events_unseen s) }
     {
         self.session.forget_pending();
     }
 }
 
-// A slot likewise.
-fn forget_in(slot: &mut Option<Live>)
-    ensures own { (r : RspSetup) (m : List ℕ) (t : Turn) (reply : List ℕ) (s : Events)
-        → GoesLarge t → IsSlotOf slot.old r (Heard m t reply ∷ s)
-        → IsSlotOf slot.new r (Heard m (turn_unseen t) reply ∷ s) }
-    ensures none { slot.old ≡ None → slot.new ≡ None }
-{
-    if let Some(live) = slot {
-        live.forget();
-    }
-}
-
 impl Sessions {
-    ghost use Rattle.std.specs.Prelude.{◌≡◌, ◌≢◌, ◌∷◌, List, ℕ, None};
-    ghost use Rattle.request_rules.specs.LargeAnswer.{turn_unseen};
+    ghost use Rattle.std.specs.Prelude.{◌≡◌, ◌≢◌, ℕ, is_some, true};
+    ghost use Rattle.request_rules.specs.LargeAnswer.{last_takes};
     ghost use Rattle.responder_machine.specs.History.{History};
-    ghost use Rattle.responder_machine.specs.History.Entry.{Sealed};
-    ghost use Rattle.responder_machine.specs.Session.{Events, id_in_record};
-    ghost use Rattle.responder_machine.specs.Session.Event.{Heard};
+    ghost use Rattle.responder_machine.specs.LargeMessages.{large_of};
+    ghost use Rattle.responder_machine.specs.Session.{Events, session_of, turns_of};
     ghost use Rattle.responder_machine.specs.Setup.{RspSetup};
-    ghost use Rattle.responder_machine.specs.Turn.{Turn};
-    ghost use Rattle.spdm_machine.specs.Keys.{Draw};
+    ghost use Rattle.responder_session.specs.Pending.{events_unseen};
+    ghost use Rattle.spdm_grammar.specs.declared.names.request_code.TheConstants.{GET_MEASUREMENTS};
     ghost use Rattle.connection.specs.Live.{IsSlotOf};
-    ghost use Rattle.connection.specs.Pending.{GoesLarge};
+    ghost use Rattle.connection.specs.Pending.{history_unseen};
     ghost use Rattle.connection.specs.Sessions.{StandsFor, slot_of};
 
     // The session of this RspSessionID.
     fn forget_at(&mut self, id: u16)
-        ensures own { (r : RspSetup) (m : List ℕ) (t : Turn) (reply : List ℕ) (s : Events)
-            → GoesLarge t → IsSlotOf (slot_of self.old id) r (Heard m t reply ∷ s)
-            → IsSlotOf (slot_of self.new id) r (Heard m (turn_unseen t) reply ∷ s) }
-        ensures none { slot_of self.old id ≡ None → slot_of self.new id ≡ None }
+        ensures own { (r : RspSetup) (s : Events) → is_some (large_of (turns_of s)) ≡ true
+            → last_takes GET_MEASUREMENTS (turns_of s) ≡ true → IsSlotOf (slot_of self.old id) r s
+            → IsSlotOf (slot_of self.new id) r (events_unseen s) }
         ensures others { (i : ℕ) → i ≢ id → slot_of self.new i ≡ slot_of self.old i }
         ensures ended { self.new.ended ≡ self.old.ended }
     {
         if id == 0 || id > 4 {
             return;
         }
-        forget_in(&mut self.slots[usize::from(id) - 1]);
+        if let Some(live) = &mut self.slots[usize::from(id) - 1] {
+            live.forget();
+        }
     }
 
     fn forget(&mut self, id: u16)
-        ensures { (r : RspSetup) (h : History) (tag : ℕ) (m : List ℕ) (t : Turn) (reply : List ℕ)
-            (d : Draw) → GoesLarge t → id_in_record m ≡ id
-            → StandsFor self.old r (Sealed tag m t reply d ∷ h)
-            → StandsFor self.new r (Sealed tag m (turn_unseen t) reply d ∷ h) }
+        ensures { (r : RspSetup) (h : History)
+            → is_some (large_of (turns_of (session_of id h))) ≡ true
+            → last_takes GET_MEASUREMENTS (turns_of (session_of id h)) ≡ true
+            → StandsFor self.old r h → StandsFor self.new r (history_unseen id h) }
     {
         self.forget_at(id);
     }
@@ -135,16 +114,18 @@ impl Sessions {
 
 // A request whose large answer was never seen, for one who judges it.
 impl Connection {
-    ghost use Rattle.std.specs.Prelude.{◌≡◌, ◌∷◌, List, ℕ};
-    ghost use Rattle.request_rules.specs.LargeAnswer.{turn_unseen};
+    ghost use Rattle.std.specs.Prelude.{◌≡◌, ◌∷◌, ℕ, is_some, true};
+    ghost use Rattle.request_rules.specs.LargeAnswer.{last_takes, turn_unseen};
     ghost use Rattle.responder_machine.specs.History.{History};
-    ghost use Rattle.responder_machine.specs.History.Entry.{Clear, Sealed};
-    ghost use Rattle.responder_machine.specs.Session.{id_in_record};
+    ghost use Rattle.responder_machine.specs.History.Entry.{Clear};
+    ghost use Rattle.responder_machine.specs.LargeMessages.{large_of};
+    ghost use Rattle.responder_machine.specs.Session.{session_of, turns_of};
     ghost use Rattle.responder_machine.specs.Setup.{RspSetup};
     ghost use Rattle.responder_machine.specs.Turn.{Turn};
     ghost use Rattle.spdm_machine.specs.Keys.{Draw};
     ghost use Rattle.connection.specs.Connected.{StandsFor};
-    ghost use Rattle.connection.specs.Pending.{GoesLarge};
+    ghost use Rattle.connection.specs.Pending.{GoesLarge, history_unseen};
+    ghost use Rattle.spdm_grammar.specs.declared.names.request_code.TheConstants.{GET_MEASUREMENTS};
 
     /// The MEASUREMENTS that were to go by LargeResponse in answer to the clear message that came last were never
     /// seen: they stand with no bytes, are not pending, and took no handle.
@@ -156,12 +137,13 @@ impl Connection {
         self.clear.forget();
     }
 
-    /// The same of the record that came last, which names this RspSessionID.
+    /// The MEASUREMENTS that went by LargeResponse last in the session of this RspSessionID were never seen, though
+    /// chunks of them may have been given: they stand with no bytes, are not pending, and took no handle.
     pub fn forget_in(&mut self, id: u16)
-        ensures { (r : RspSetup) (h : History) (tag : ℕ) (m : List ℕ) (t : Turn) (reply : List ℕ)
-            (d : Draw) → GoesLarge t → id_in_record m ≡ id
-            → StandsFor self.old r (Sealed tag m t reply d ∷ h)
-            → StandsFor self.new r (Sealed tag m (turn_unseen t) reply d ∷ h) }
+        ensures { (r : RspSetup) (h : History)
+            → is_some (large_of (turns_of (session_of id h))) ≡ true
+            → last_takes GET_MEASUREMENTS (turns_of (session_of id h)) ≡ true
+            → StandsFor self.old r h → StandsFor self.new r (history_unseen id h) }
     {
         self.sessions.forget(id);
     }

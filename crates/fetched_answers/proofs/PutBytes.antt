@@ -4,7 +4,7 @@ use Rattle.std.specs.Prelude.{bytes_eq, not}
 use Rattle.std.proofs.lemmas.Bool.{false≢true}
 use Rattle.std.proofs.lemmas.Slice.Eq.{bytes_eq-Decides}
 use Rattle.std.proofs.lemmas.Option.{none-some, same_Some}
-use Rattle.connection.specs.Pending.{history_with, passes}
+use Rattle.connection.specs.Pending.{history_unseen, history_with, passes}
 use Rattle.request_rules.specs.LargeAnswer as rules
 use Rattle.responder_machine.specs.History.{Entry, History, clear_turns, negotiation_of}
 use Rattle.responder_machine.specs.History.Entry.{Clear, Sealed, Queued, Ticked, Dropped}
@@ -13,13 +13,13 @@ use Rattle.responder_machine.specs.Session.{Events, after_clear, after_record, i
 use Rattle.responder_machine.specs.Session.Event.{Began, Heard, Waited}
 use Rattle.responder_machine.specs.Turn.{Effect, Turn, answer_in, is_taken, large_in, request_in, takes}
 use Rattle.responder_machine.specs.Turn.Effect.{NoEffect, Took, TookData}
-use Rattle.spdm_basis.proofs.Bools.{and_first}
+use Rattle.spdm_basis.proofs.Bools.{and_first, and_second}
 use Rattle.spdm_grammar.specs.declared.names.request_code.TheConstants.{CHUNK_GET, END_SESSION, GET_VERSION, PSK_EXCHANGE}
 use Rattle.spdm_machine.specs.Keys.{Draw}
 use Rattle.spdm_machine.specs.Sessions.{id_in_exchange, is_past_handshake}
 use Rattle.transcript.specs.Transcripts.{Negotiation}
 use Rattle.world_machine.proofs.FetchedSessions.{takes_with}
-use Rattle.world_machine.specs.LargeAnswers.{effect_with, handle_shown, is_unseen_in, seen, seen_turn, with_large}
+use Rattle.world_machine.specs.LargeAnswers.{effect_with, handle_shown, is_unseen_effect, is_unseen_in, seen, seen_turn, with_large}
 
 -- ---- What is pending in a session, without its newest entry.
 
@@ -185,3 +185,67 @@ put_is id w v h both = by_same (bytes_eq w v) refl
         let same : w ≡ v = (bytes_eq-Decides w v).0 is in
         ap (λ (l : List ℕ). history_with id v (with_large (Some id) l h)) same ∙ same_put id v (with_large (Some id) v h) both.1
     by_same false is = put_apart id w v (λ same. false≢true (sym is ∙ (bytes_eq-Decides w v).1 same)) h both
+
+-- ---- No bytes.
+
+effect_back : (e : Effect) (w : List ℕ) (n : ℕ) → is_unseen_effect e ≡ true → rules.effect_unseen (effect_with w (Some n) e) ≡ e
+effect_back NoEffect w n is = absurd (false≢true is)
+effect_back (Took a m [] None) w n is = refl
+effect_back (Took a m (x ∷ l) None) w n is = absurd (false≢true is)
+effect_back (Took a m [] (Some k)) w n is = absurd (false≢true is)
+effect_back (Took a m (x ∷ l) (Some k)) w n is = absurd (false≢true is)
+effect_back (TookData bytes answer) w n is = absurd (false≢true is)
+
+module _ (id : ℕ) (w v : List ℕ) (apart : w ≢ v) where
+  module _ (tag : ℕ) (m : List ℕ) (t : Turn) (reply : List ℕ) (d : Draw) (h : History) where
+    abbrev with_bytes : History
+    with_bytes = with_large (Some id) w h
+
+    abbrev with_other : History
+    with_other = with_large (Some id) v h
+
+    -- The one that was not seen.
+    back_by : (c : Bool) → (id_in_record m == id) ≡ true → is_unseen_effect t.effect ≡ true → passes (seen_turn w t) ≡ c → passes (seen_turn v t) ≡ c
+        → IsLargeOf id (Sealed tag m (seen_turn w t) reply d ∷ h) w → IsLargeOf id (Sealed tag m (seen_turn v t) reply d ∷ h) v
+        → cond (true && not c) (Sealed tag m (rules.turn_unseen (seen_turn w t)) reply d ∷ h) (Sealed tag m (seen_turn w t) reply d ∷ history_unseen id h) ≡ Sealed tag m t reply d ∷ h
+    back_by true own unseen one other is are =
+        let ts : List Turn = turns_of (session_of id h) in
+        absurd (apart (same_Some w v (sym (passed_large (seen_turn w t) ts w one (own_behind id tag m (seen_turn w t) reply d h w own is)) ∙ passed_large (seen_turn v t) ts v other (own_behind id tag m (seen_turn v t) reply d h v own are))))
+    back_by false own unseen one other is are = ap (λ (x : Effect). Sealed tag m (record t { effect = x }) reply d ∷ h) (effect_back t.effect w (handle_shown t) unseen)
+
+    -- One that was seen.
+    stays_by : (b c : Bool) → (id_in_record m == id) ≡ b → passes t ≡ c → IsLargeOf id (Sealed tag m t reply d ∷ with_bytes) w → IsLargeOf id (Sealed tag m t reply d ∷ with_other) v → (AreBoth id w v h → history_unseen id with_bytes ≡ h)
+        → cond (b && not c) (Sealed tag m (rules.turn_unseen t) reply d ∷ with_bytes) (Sealed tag m t reply d ∷ history_unseen id with_bytes) ≡ Sealed tag m t reply d ∷ h
+    stays_by false c own pass is are rest =
+        ap (λ (l : History). Sealed tag m t reply d ∷ l) (rest (other_behind id (Sealed tag m t reply d) with_bytes w own is, other_behind id (Sealed tag m t reply d) with_other v own are))
+    stays_by true true own pass is are rest =
+        ap (λ (l : History). Sealed tag m t reply d ∷ l)
+        (rest (passed_large t (turns_of (session_of id with_bytes)) w pass (own_behind id tag m t reply d with_bytes w own is), passed_large t (turns_of (session_of id with_other)) v pass (own_behind id tag m t reply d with_other v own are)))
+    stays_by true false own pass is are rest =
+        absurd (apart (same_Some w v (sym (held_large t (turns_of (session_of id with_bytes)) w pass (own_behind id tag m t reply d with_bytes w own is)) ∙ held_large t (turns_of (session_of id with_other)) v pass (own_behind id tag m t reply d with_other v own are))))
+
+    -- CHUNK_GET passes, whatever its bytes.
+    passes_both : passes (seen_turn v t) ≡ passes (seen_turn w t)
+    passes_both = ap (λ (b : Bool). not (is_taken t) || b) (takes_with v (Some (handle_shown t)) CHUNK_GET t ∙ sym (takes_with w (Some (handle_shown t)) CHUNK_GET t))
+
+    forgot_by : (b : Bool) → is_unseen_in (Some id) (Sealed tag m t reply d) ≡ b → (AreBoth id w v h → history_unseen id with_bytes ≡ h)
+        → IsLargeOf id (cond b (seen w (Sealed tag m t reply d) ∷ h) (Sealed tag m t reply d ∷ with_bytes)) w → IsLargeOf id (cond b (seen v (Sealed tag m t reply d) ∷ h) (Sealed tag m t reply d ∷ with_other)) v
+        → history_unseen id (cond b (seen w (Sealed tag m t reply d) ∷ h) (Sealed tag m t reply d ∷ with_bytes)) ≡ Sealed tag m t reply d ∷ h
+    forgot_by true unseen rest is are =
+        let own : (id_in_record m == id) ≡ true = and_first _ _ unseen in
+        ap (λ (b : Bool). cond (b && not (passes (seen_turn w t))) (Sealed tag m (rules.turn_unseen (seen_turn w t)) reply d ∷ h) (Sealed tag m (seen_turn w t) reply d ∷ history_unseen id h)) own
+        ∙ back_by (passes (seen_turn w t)) own (and_second _ _ unseen) refl passes_both is are
+    forgot_by false unseen rest is are = stays_by (id_in_record m == id) (passes t) refl refl is are rest
+
+  -- So it is the history in which that answer was not seen.
+  pub forgotten_is : (h : History) → AreBoth id w v h → history_unseen id (with_large (Some id) w h) ≡ h
+  forgotten_is [] both = refl
+  forgotten_is (Clear tag t d ∷ h) both =
+      ap (λ (l : History). Clear tag t d ∷ l) (forgotten_is h (other_behind id (Clear tag t d) (with_large (Some id) w h) w tt both.0, other_behind id (Clear tag t d) (with_large (Some id) v h) v tt both.1))
+  forgotten_is (Queued bytes ∷ h) both =
+      ap (λ (l : History). Queued bytes ∷ l) (forgotten_is h (other_behind id (Queued bytes) (with_large (Some id) w h) w tt both.0, other_behind id (Queued bytes) (with_large (Some id) v h) v tt both.1))
+  forgotten_is (Ticked seconds ∷ h) both =
+      ap (λ (l : History). Ticked seconds ∷ l) (forgotten_is h (other_behind id (Ticked seconds) (with_large (Some id) w h) w tt both.0, other_behind id (Ticked seconds) (with_large (Some id) v h) v tt both.1))
+  forgotten_is (Dropped which ∷ h) both =
+      ap (λ (l : History). Dropped which ∷ l) (forgotten_is h (other_behind id (Dropped which) (with_large (Some id) w h) w tt both.0, other_behind id (Dropped which) (with_large (Some id) v h) v tt both.1))
+  forgotten_is (Sealed tag m t reply d ∷ h) both = forgot_by tag m t reply d h (is_unseen_in (Some id) (Sealed tag m t reply d)) refl (forgotten_is h) both.0 both.1

@@ -29,4 +29,4 @@ pub use meanwhile_laws::{
     get_begins_none, get_completes, get_goes_on, none_pends_in_clear, none_turns_in_clear,
     repeat_begins_none, repeat_goes_same, repeat_may_go, version_begins_none, version_goes,
 };
-pub use pending_bytes::put_bytes;
+pub use pending_bytes::{forget_bytes, put_bytes};

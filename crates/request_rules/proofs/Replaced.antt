@@ -14,7 +14,7 @@ use Rattle.responder_machine.specs.LargeMessages.{given_of, handle_of, large_of,
 use Rattle.responder_machine.specs.Turn.{Effect, Turn, code_in, handle_in, is_taken, large_in, takes}
 use Rattle.responder_machine.specs.Turn.Effect.{NoEffect, Took, TookData}
 use Rattle.spdm_grammar.specs.declared.names.request_code.TheConstants.{CHUNK_GET}
-use Rattle.request_rules.specs.LargeAnswer.{Seen, StandsFor, effect_unseen, effect_with, left_by, turn_unseen, turn_with, turns_with}
+use Rattle.request_rules.specs.LargeAnswer.{Seen, StandsFor, effect_unseen, effect_with, left_by, turn_unseen, turn_with, turns_unseen, turns_with}
 
 -- ---- What stays.
 
@@ -128,3 +128,54 @@ code_unseen (TookData bytes answer) = refl
 
 pub takes_unseen : (t : Turn) (code : ℕ) → takes code (turn_unseen t) ≡ takes code t
 takes_unseen t code = ap (λ (n : ℕ). n == code) (code_unseen t.effect)
+
+large_unseen : (e : Effect) → large_in (effect_unseen e) ≡ None
+large_unseen NoEffect = refl
+large_unseen (Took asked request answer large) = refl
+large_unseen (TookData bytes answer) = refl
+
+handle_unseen : (e : Effect) → handle_in (effect_unseen e) ≡ None
+handle_unseen NoEffect = refl
+handle_unseen (Took asked request answer large) = refl
+handle_unseen (TookData bytes answer) = refl
+
+handle_there : (e : Effect) → is_some (large_in e) ≡ true → is_some (handle_in e) ≡ true
+handle_there NoEffect is = is
+handle_there (Took asked request answer None) is = is
+handle_there (Took asked request answer (Some handle)) is = refl
+handle_there (TookData bytes answer) is = is
+
+-- Nothing is pending, and it took no handle.
+pub record IsForgotten (old new : List Turn) : Type 0 where
+  pub large : large_of new ≡ None
+  pub larges : larges_of old ≡ larges_of new + 1
+
+more_by : (b : Bool) (n m : ℕ) → n ≡ m + 1 → (if b then n + 1 else n) ≡ (if b then m + 1 else m) + 1
+more_by true n m is = ap (λ (x : ℕ). x + 1) is
+more_by false n m is = is
+
+passed_by : (b : Bool) (x y : Option (List ℕ)) → b ≡ true → (if b then x else y) ≡ x
+passed_by true x y is = refl
+passed_by false x y is = absurd (false≢true is)
+
+reached_by : (b : Bool) (x y : Option (List ℕ)) → b ≡ false → (if b then x else y) ≡ y
+reached_by true x y is = absurd (false≢true (sym is))
+reached_by false x y is = refl
+
+forgotten_by : (t : Turn) (old : List Turn) (b : Bool) → (not (is_taken t) || takes CHUNK_GET t) ≡ b → is_some (large_of (t ∷ old)) ≡ true
+    → (is_some (large_of old) ≡ true → IsForgotten old (turns_unseen old)) → IsForgotten (t ∷ old) (if b then t ∷ turns_unseen old else turn_unseen t ∷ old)
+forgotten_by t old true is some before =
+    let rest = before (ap is_some (sym (passed_by _ (large_of old) (large_in t.effect) is)) ∙ some) in record {
+      large = passed_by _ (large_of (turns_unseen old)) (large_in t.effect) is ∙ rest.large;
+      larges = more_by (is_some (handle_in t.effect)) (larges_of old) (larges_of (turns_unseen old)) rest.larges;
+    }
+forgotten_by t old false is some before =
+    let there = handle_there t.effect (ap is_some (sym (reached_by _ (large_of old) (large_in t.effect) is)) ∙ some) in record {
+      large = ap (λ (b : Bool). if not (is_taken t) || b then large_of old else large_in (effect_unseen t.effect)) (takes_unseen t CHUNK_GET)
+          ∙ reached_by _ (large_of old) (large_in (effect_unseen t.effect)) is ∙ large_unseen t.effect;
+      larges = ap (λ (b : Bool). if b then larges_of old + 1 else larges_of old) there ∙ sym (ap (λ (o : Option ℕ). (if is_some o then larges_of old + 1 else larges_of old) + 1) (handle_unseen t.effect));
+    }
+
+pub forgotten : (turns : List Turn) → is_some (large_of turns) ≡ true → IsForgotten turns (turns_unseen turns)
+forgotten [] some = absurd (false≢true some)
+forgotten (t ∷ older) some = forgotten_by t older (not (is_taken t) || takes CHUNK_GET t) refl some (forgotten older)

@@ -71,3 +71,11 @@ effect_unseen (TookData bytes answer) = TookData bytes answer
 -- A turn whose large answer was never seen.
 abbrev pub turn_unseen : Turn → Turn
 turn_unseen t = record t { effect = effect_unseen t.effect }
+
+-- The turns whose last message that was taken and is no CHUNK_GET has an answer that was never seen: a large
+-- answer that is pending is its answer.
+abbrev pub turns_unseen : List Turn → List Turn
+turns_unseen [] = []
+turns_unseen (t ∷ older) =
+    if not (is_taken t) || takes CHUNK_GET t then t ∷ turns_unseen older
+    else turn_unseen t ∷ older

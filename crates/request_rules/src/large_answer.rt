@@ -1,7 +1,7 @@
 ghost use Rattle.std.specs.Prelude.{◌≡◌, ◌≤◌, ◌<◌, ◌+◌, ◌∷◌, [], ℕ, List, Some, None, true, false, drop, is_some, IfSome, length, unwrap_or};
 ghost use Rattle.chunking.specs.Answers.{chunk_given};
 ghost use Rattle.chunking.specs.Cutting.{chunks_of};
-ghost use Rattle.responder_machine.specs.LargeMessages.{given_of, handle_of, next_handle, pending_of};
+ghost use Rattle.responder_machine.specs.LargeMessages.{given_of, handle_of, large_of, next_handle, pending_of};
 ghost use Rattle.responder_machine.specs.Place as places;
 ghost use Rattle.responder_machine.specs.Place.{place_terms};
 ghost use Rattle.responder_machine.specs.Refusal.{has_pending};
@@ -9,7 +9,7 @@ ghost use Rattle.responder_machine.specs.Turn.{Turn, handle_in, is_taken, large_
 ghost use Rattle.spdm_grammar.specs.declared.names.TheConstants.{MAX_MESSAGE_SIZE, MIN_DATA_TRANSFER_SIZE};
 ghost use Rattle.spdm_grammar.specs.declared.names.request_code.TheConstants.{CHUNK_GET};
 ghost use Rattle.std.specs.List.{slice_get};
-ghost use Rattle.request_rules.specs.LargeAnswer.{IsAsked, StandsFor, turn_unseen, turns_with};
+ghost use Rattle.request_rules.specs.LargeAnswer.{IsAsked, StandsFor, turns_unseen, turns_with};
 
 use chunking::Splitter;
 use spdm_grammar::ChunkView;
@@ -153,13 +153,11 @@ impl LargeAnswer {
         }
     }
 
-    /// The answer that was to go by LargeResponse last, behind which nothing came, was never seen: it
+    /// The answer that went by LargeResponse last was never seen, though chunks of it may have been given: it
     /// is not pending, and took no handle.
     pub fn forget(&mut self)
-        ensures { (transfer : ℕ) (t : Turn) (older : List Turn)
-            → StandsFor self.old transfer (t ∷ older) → is_taken t ≡ true
-            → takes CHUNK_GET t ≡ false → is_some (handle_in t.effect) ≡ true
-            → StandsFor self.new transfer (turn_unseen t ∷ older) }
+        ensures { (transfer : ℕ) (turns : List Turn) → StandsFor self.old transfer turns
+            → is_some (large_of turns) ≡ true → StandsFor self.new transfer (turns_unseen turns) }
     {
         self.splitter = None;
         self.next = self.next.wrapping_sub(1);

@@ -5,7 +5,7 @@ use Rattle.std.specs.Prelude.{◌||◌, ◌==◌, ◌%◌, ◌^◌, not, if◌th
 use Rattle.key_schedule.specs.Purpose.{Purpose}
 use Rattle.key_schedule.specs.declared.direction.Direction.TheVariants.{Request, Response}
 use Rattle.request_rules.specs.LargeAnswer as large_answers
-use Rattle.request_rules.specs.LargeAnswer.{effect_unseen, effect_with, last_takes, turn_unseen, turn_with, turns_with}
+use Rattle.request_rules.specs.LargeAnswer.{effect_unseen, effect_with, last_takes, turn_unseen, turn_with, turns_unseen, turns_with}
 use Rattle.responder_machine.specs.Records.{request_purpose, response_purpose}
 use Rattle.responder_machine.specs.Session.{Events, exchange_answer, exchange_of, finish_answer, finish_of, idle_of, is_live, last_of, request_epoch, request_next, response_epoch, response_next, session_negotiation, session_terms, session_vca, stage_of, t1_of, t2_of, taken_of, turns_of}
 use Rattle.responder_machine.specs.Session.Event.{Began, Heard, Waited}
@@ -27,7 +27,7 @@ use Rattle.transcript.specs.Transcripts as transcript
 use Rattle.transcript.specs.Transcripts.{Negotiation, vca_of}
 use Rattle.responder_session.specs.Data.{data_in, data_of}
 use Rattle.responder_session.specs.Kept.{Keeps}
-use Rattle.responder_session.specs.Pending.{events_with}
+use Rattle.responder_session.specs.Pending.{events_unseen, events_with}
 use Rattle.responder_session.specs.Session.{IsFresh, StandsFor}
 use Rattle.responder_session.specs.declared.exchange.Exchange.{Exchange}
 use Rattle.responder_session.specs.declared.kept.Kept.{Kept}
@@ -177,6 +177,18 @@ unseen_alike m t reply s measures = unseen_by m t reply s t.effect (is_other _ m
 pub gets_none : (t : Turn) → takes GET_MEASUREMENTS t ≡ true → takes CHUNK_GET t ≡ false
 gets_none t measures = ap (λ (x : ℕ). x == CHUNK_GET) (eqb-true _ GET_MEASUREMENTS measures)
 
+by_forgot : (m : List ℕ) (t : Turn) (reply : List ℕ) (s : Events) (b : Bool) → (if b then last_takes GET_MEASUREMENTS (turns_of s) else takes GET_MEASUREMENTS t) ≡ true
+    → (last_takes GET_MEASUREMENTS (turns_of s) ≡ true → IsAlike s (events_unseen s))
+    → IsAlike (Heard m t reply ∷ s) (if b then Heard m t reply ∷ events_unseen s else Heard m (turn_unseen t) reply ∷ s)
+by_forgot m t reply s true measures older = heard_alike m t reply s (events_unseen s) (older measures)
+by_forgot m t reply s false measures older = unseen_alike m t reply s measures
+
+pub forgotten_alike : (s : Events) → last_takes GET_MEASUREMENTS (turns_of s) ≡ true → IsAlike s (events_unseen s)
+forgotten_alike [] measures = absurd (false≢true measures)
+forgotten_alike (Began n exchange response ∷ older) measures = began_alike n exchange response older (events_unseen older) (forgotten_alike older measures)
+forgotten_alike (Heard m t reply ∷ older) measures = by_forgot m t reply older (not (is_taken t) || takes CHUNK_GET t) measures (forgotten_alike older)
+forgotten_alike (Waited seconds ∷ older) measures = waited_alike seconds older (events_unseen older) (forgotten_alike older measures)
+
 -- ---- The turns.
 
 -- They are those with the bytes.
@@ -190,6 +202,17 @@ turns_replaced answer [] = refl
 turns_replaced answer (Began n exchange response ∷ older) = turns_replaced answer older
 turns_replaced answer (Heard m t reply ∷ older) = turns_by answer m t reply older (not (is_taken t) || takes CHUNK_GET t) (turns_replaced answer older)
 turns_replaced answer (Waited seconds ∷ older) = turns_replaced answer older
+
+forgot_by : (m : List ℕ) (t : Turn) (reply : List ℕ) (s : Events) (b : Bool) → turns_of (events_unseen s) ≡ turns_unseen (turns_of s)
+    → turns_of (if b then Heard m t reply ∷ events_unseen s else Heard m (turn_unseen t) reply ∷ s) ≡ (if b then t ∷ turns_unseen (turns_of s) else turn_unseen t ∷ turns_of s)
+forgot_by m t reply s true same = ap (λ (ts : List Turn). t ∷ ts) same
+forgot_by m t reply s false same = refl
+
+pub turns_forgotten : (s : Events) → turns_of (events_unseen s) ≡ turns_unseen (turns_of s)
+turns_forgotten [] = refl
+turns_forgotten (Began n exchange response ∷ older) = turns_forgotten older
+turns_forgotten (Heard m t reply ∷ older) = forgot_by m t reply older (not (is_taken t) || takes CHUNK_GET t) (turns_forgotten older)
+turns_forgotten (Waited seconds ∷ older) = turns_forgotten older
 
 -- ---- What is kept.
 

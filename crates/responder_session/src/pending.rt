@@ -2,18 +2,17 @@ use crate::RspSession;
 
 // A large answer whose bytes come chunk by chunk, for one who judges it.
 impl RspSession {
-    ghost use Rattle.std.specs.Prelude.{◌≡◌, ◌≤◌, ◌<◌, ◌+◌, ◌∷◌, ℕ, List, is_some, length, true};
-    ghost use Rattle.request_rules.specs.LargeAnswer.{last_takes, turn_unseen};
+    ghost use Rattle.std.specs.Prelude.{◌≡◌, ◌≤◌, ◌<◌, ◌+◌, ℕ, List, is_some, length, true};
+    ghost use Rattle.request_rules.specs.LargeAnswer.{last_takes};
+    ghost use Rattle.responder_machine.specs.LargeMessages.{large_of};
     ghost use Rattle.responder_machine.specs.Place.{session_place};
     ghost use Rattle.responder_machine.specs.Refusal.{has_pending};
     ghost use Rattle.responder_machine.specs.Session.{Events, session_terms, turns_of};
-    ghost use Rattle.responder_machine.specs.Session.Event.{Heard};
     ghost use Rattle.responder_machine.specs.Setup.{RspSetup};
     ghost use Rattle.responder_machine.specs.SizeLaws.{HasSizes};
-    ghost use Rattle.responder_machine.specs.Turn.{Turn, handle_in, is_taken, takes};
     ghost use Rattle.spdm_grammar.specs.declared.names.TheConstants.{MAX_MESSAGE_SIZE};
     ghost use Rattle.spdm_grammar.specs.declared.names.request_code.TheConstants.{GET_MEASUREMENTS};
-    ghost use Rattle.responder_session.specs.Pending.{events_with};
+    ghost use Rattle.responder_session.specs.Pending.{events_unseen, events_with};
     ghost use Rattle.responder_session.specs.Session.{StandsFor};
 
     /// The MEASUREMENTS that are pending get these bytes, which go by chunks; as many chunks of them
@@ -30,13 +29,12 @@ impl RspSession {
         self.large.put(answer, transfer);
     }
 
-    /// The MEASUREMENTS that were to go by LargeResponse in answer to the record that was taken last
-    /// were never seen: they are not pending, and took no handle.
+    /// The MEASUREMENTS that went by LargeResponse last were never seen, though chunks of them may have
+    /// been given: they are not pending, and took no handle.
     pub fn forget_pending(&mut self)
-        ensures { (psk : List ℕ) (m : List ℕ) (t : Turn) (reply : List ℕ) (s : Events)
-            → is_taken t ≡ true → takes GET_MEASUREMENTS t ≡ true
-            → is_some (handle_in t.effect) ≡ true → StandsFor self.old psk (Heard m t reply ∷ s)
-            → StandsFor self.new psk (Heard m (turn_unseen t) reply ∷ s) }
+        ensures { (psk : List ℕ) (s : Events) → is_some (large_of (turns_of s)) ≡ true
+            → last_takes GET_MEASUREMENTS (turns_of s) ≡ true → StandsFor self.old psk s
+            → StandsFor self.new psk (events_unseen s) }
     {
         self.large.forget();
     }

@@ -1,8 +1,9 @@
 -- The sessions that a responder holds open are those that its marks tell.
-use Rattle.std.proofs.Common.{◌≡◌, ℕ, List, [], ◌∷◌, ◌++◌, Bool, true, false, Some, None, ◌==◌, ◌&&◌, refl, sym, ap, ◌∙◌, subst, eqb-true, eq-eqb, cond, true≢false}
+use Rattle.std.proofs.Common.{◌≡◌, ℕ, List, [], ◌∷◌, ◌++◌, Bool, true, false, Some, None, ◌==◌, ◌&&◌, not, refl, sym, ap, ◌∙◌, subst, eqb-true, eq-eqb, cond, true≢false}
 use Rattle.spdm_grammar.specs.declared.phase.Stage.{Stage}
 use Rattle.spdm_grammar.specs.declared.phase.Stage.TheVariants as stage
 use Rattle.responder_machine.proofs.GivenIds.{given_is}
+use Rattle.responder_machine.proofs.NoSession.{no_session}
 use Rattle.responder_machine.specs.History.{History, clear_turns, negotiation_of}
 use Rattle.responder_machine.specs.History.Entry.{Clear, Sealed, Queued, Ticked, Dropped}
 use Rattle.responder_machine.specs.ResponderLog.{began_by}
@@ -61,17 +62,34 @@ dropped psk id s m false i = i
 
 -- ---- In the clear.
 
-exchanged : (psk : List ℕ) (id : ℕ) (s : Events) (older : History) (t : Turn) (m : List Served) (c d : Bool) → gives_id id (answer_in t.effect) ≡ c → ServedAt psk id s m
-    → ServedAt psk id (cond c (Began (negotiation_of (clear_turns older)) (request_in t.effect) (answer_in t.effect) ∷ []) (cond d s [])) (Served.Began (served_first (began_by older t)) ∷ m)
-exchanged psk id s older t m true d is i = record { own = λ e. given_is id (answer_in t.effect) is; told = λ e. absurd (true≢false (sym e)) }
-exchanged psk id s older t m false true is i = past psk id s m _ (ap (λ (b : Bool). cond b None (served_open (reading_of psk) id m)) is) i
-exchanged psk id s older t m false false is i = gone psk id _
+and_true : (b : Bool) → (b && true) ≡ b
+and_true true = refl
+and_true false = refl
 
-cleared_by : (psk : List ℕ) (id : ℕ) (s : Events) (older : History) (t : Turn) (m : List Served) (a b : Bool) → ServedAt psk id s m
+-- An id but 0 that an answer does not give does not stand in it.
+not_given : (id : ℕ) (answer : List ℕ) → (id == 0) ≡ false → gives_id id answer ≡ false → (id_in_exchange answer == id) ≡ false
+not_given id answer some is =
+    let same : Bool = id_in_exchange answer == id in
+    sym (and_true same) ∙ ap (λ (b : Bool). same && not b) (sym some) ∙ is
+
+exchanged : (psk : List ℕ) (id : ℕ) (s : Events) (older : History) (t : Turn) (m : List Served) (c d : Bool) → (id ≡ 0 → s ≡ []) → gives_id id (answer_in t.effect) ≡ c → ServedAt psk id s m
+    → ServedAt psk id (cond c (Began (negotiation_of (clear_turns older)) (request_in t.effect) (answer_in t.effect) ∷ []) (cond d s [])) (Served.Began (served_first (began_by older t)) ∷ m)
+exchanged psk id s older t m true d none is i = record { own = λ e. given_is id (answer_in t.effect) is; told = λ e. absurd (true≢false (sym e)) }
+exchanged psk id s older t m false true none is i = by_zero (id == 0) refl
+  where
+    marks : List Served
+    marks = Served.Began (served_first (began_by older t)) ∷ m
+
+    by_zero : (b : Bool) → (id == 0) ≡ b → ServedAt psk id s marks
+    by_zero true same = subst (λ (e : Events). ServedAt psk id e marks) (sym (none (eqb-true id 0 same))) (gone psk id marks)
+    by_zero false some = past psk id s m marks (ap (λ (b : Bool). cond b None (served_open (reading_of psk) id m)) (not_given id (answer_in t.effect) some is)) i
+exchanged psk id s older t m false false none is i = gone psk id _
+
+cleared_by : (psk : List ℕ) (id : ℕ) (s : Events) (older : History) (t : Turn) (m : List Served) (a b : Bool) → (id ≡ 0 → s ≡ []) → ServedAt psk id s m
     → ServedAt psk id (cond a [] (cond b (after_exchange id s t (negotiation_of (clear_turns older))) s)) (cond b (Served.Began (served_first (began_by older t)) ∷ []) [] ++ m)
-cleared_by psk id s older t m true b i = gone psk id _
-cleared_by psk id s older t m false true i = exchanged psk id s older t m _ (is_past_handshake (stage_of s)) refl i
-cleared_by psk id s older t m false false i = i
+cleared_by psk id s older t m true b none i = gone psk id _
+cleared_by psk id s older t m false true none i = exchanged psk id s older t m _ (is_past_handshake (stage_of s)) none refl i
+cleared_by psk id s older t m false false none i = i
 
 -- ---- In a session.
 
@@ -148,7 +166,7 @@ sealed_by psk r id of own s sealed t reply m false is same steady o i = past psk
 pub served_stands : (psk : List ℕ) (r : RspSetup) (h : History) → IsSteady h → (id : ℕ) → ServedAt psk id (session_of id h) (served_marks r h)
 unfolding session_of
 served_stands psk r [] steady id = gone psk id []
-served_stands psk r (Clear tag t d ∷ older) steady id = cleared_by psk id (session_of id older) older t (served_marks r older) (takes GET_VERSION t) (takes PSK_EXCHANGE t) (served_stands psk r older steady id)
+served_stands psk r (Clear tag t d ∷ older) steady id = cleared_by psk id (session_of id older) older t (served_marks r older) (takes GET_VERSION t) (takes PSK_EXCHANGE t) (λ zero. ap (λ (n : ℕ). session_of n older) zero ∙ no_session older) (served_stands psk r older steady id)
 served_stands psk r (Sealed tag sealed t reply d ∷ older) steady id =
     sealed_by psk r id (id_in_record sealed) (session_of (id_in_record sealed) older) (session_of id older) sealed t reply (served_marks r older) (id_in_record sealed == id) refl
     (λ e. ap (λ (n : ℕ). session_of n older) e) steady.0 (served_stands psk r older steady.1 (id_in_record sealed)) (served_stands psk r older steady.1 id)

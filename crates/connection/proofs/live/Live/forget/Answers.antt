@@ -1,10 +1,11 @@
 use Rattle.std.proofs.Common.{refl}
-use Rattle.connection.proofs.Unseen.{live_unseen}
+use Rattle.connection.proofs.PutAnswers.{live_changes, was_unseen}
 use Rattle.connection.specs.declared.live.Live.{Live}
+use Rattle.request_rules.specs.LargeAnswer.{turn_unseen}
 use Rattle.connection.proofs.live.Live.forget.Goals as goal
 
 pub returns : goal.returns
-returns c = λ r m t reply s g stands.
+returns c = λ r s large measures stands.
     let old = c.args.self.now in
     let new : Live = record { session = c.forget_pending.new.self; idle = old.idle; period = old.period } in
-    live_unseen t g r m reply s old new stands (c.forget_pending.ensures r.psk m t reply s g.taken g.measures g.large stands.session) refl refl
+    live_changes turn_unseen was_unseen r s old new measures stands (c.forget_pending.ensures r.psk s large measures stands.session) refl refl
