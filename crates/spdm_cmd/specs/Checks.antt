@@ -6,7 +6,7 @@ use Rattle.spdm_check.specs.declared.answer.CheckAnswer.TheVariants as answer
 use Rattle.spdm_check.specs.declared.answer.CheckFault.{CheckFault}
 use Rattle.spdm_check.specs.declared.answer.CheckFault.TheVariants as fault
 use Rattle.spdm_cmd.specs.declared.outcome.Outcome.{Outcome}
-use Rattle.spdm_cmd.specs.declared.outcome.Outcome.TheVariants.{Done, Usage, Differs, Unjudged, BadFrame, BadScript, ReadFault, WriteFault, OutOfMemory, SeedFault, TooLong, LinkFull}
+use Rattle.spdm_cmd.specs.declared.outcome.Outcome.TheVariants.{Done, Differs, Unjudged, BadScript, ReadFault, WriteFault, OutOfMemory, TooLong}
 
 -- The outcome of what was answered: a capture that conforms is done.
 abbrev pub outcome_of : Result CheckAnswer CheckFault → Outcome
