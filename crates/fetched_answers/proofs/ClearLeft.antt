@@ -1,5 +1,5 @@
 -- While a large answer is fetched in the clear, the sessions are those that were left before its request.
-use Rattle.std.proofs.Common.{◌≡◌, ◌≢◌, ◌==◌, ℕ, suc, arith, List, [], ◌∷◌, ◌++◌, refl, sym, ap, ◌∙◌, subst, Bool, true, false, Some, None, cond, inl, inr, eq-eqb, eqb-true}
+use Rattle.std.proofs.Common.{◌≡◌, ◌≢◌, ◌==◌, ℕ, suc, zero, arith, List, [], ◌∷◌, ◌++◌, refl, sym, ap, ◌∙◌, subst, Bool, true, false, Some, None, cond, inl, inr, eq-eqb, eqb-true}
 use Rattle.std.specs.Prelude.{MatchBool, not}
 use Rattle.std.proofs.lemmas.Bool.{false≢true, false_from_ne_true}
 use Rattle.spdm_basis.proofs.Bools.{and_first}
@@ -113,6 +113,6 @@ request_leaves (Ticked seconds) before left id other is leaves = absurd is
 request_leaves (Dropped which) before left id other is leaves = absurd is
 
 pub sessions_are_left : SessionsAreLeft
-sessions_are_left gets entry before left are is leaves 0 = no_session (gets ++ entry ∷ before) ∙ sym (no_session left)
+sessions_are_left gets entry before left are is leaves zero = no_session (gets ++ entry ∷ before) ∙ sym (no_session left)
 sessions_are_left gets entry before left are is leaves (suc n) =
     gets_stay gets (entry ∷ before) (suc n) are ∙ request_leaves entry before left (suc n) (λ same. omega (arith, same)) is leaves
