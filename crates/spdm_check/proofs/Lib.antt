@@ -1,1 +1,2 @@
 mod EntriesBefore
+mod OneAnswer
