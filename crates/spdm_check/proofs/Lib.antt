@@ -1,1 +1,3 @@
 mod EntriesBefore
+mod OneAnswer
+pub mod HasTold

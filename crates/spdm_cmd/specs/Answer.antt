@@ -15,9 +15,9 @@ use Rattle.spdm_basis.specs.Stream.{IsQuiet}
 use Rattle.spdm_show.specs.Shown.{shown_text}
 use Rattle.world_machine.specs.Totals.{Totals, totals_of}
 use Rattle.spdm_cmd.specs.declared.outcome.Outcome.{Outcome}
-use Rattle.spdm_cmd.specs.declared.outcome.Outcome.TheVariants.{Done, Usage, BadFrame, BadScript, ReadFault, WriteFault, OutOfMemory, SeedFault, TooLong, LinkFull}
+use Rattle.spdm_cmd.specs.declared.outcome.Outcome.TheVariants.{Done, Usage, Differs, Unjudged, BadFrame, BadScript, ReadFault, WriteFault, OutOfMemory, SeedFault, TooLong, LinkFull}
 use Rattle.spdm_cmd.specs.declared.words.Command.{Command}
-use Rattle.spdm_cmd.specs.declared.words.Command.TheVariants.{Drive, Serve, Text}
+use Rattle.spdm_cmd.specs.declared.words.Command.TheVariants.{Check, Drive, Serve, Text}
 use Rattle.spdm_cmd.specs.declared.words.TextCommand.{TextCommand}
 use Rattle.spdm_cmd.specs.declared.words.TextCommand.TheVariants.{Gen, Run, Show}
 
@@ -33,12 +33,13 @@ input_of Run left = left
 input_of Show left = left
 input_of (Gen seed count) left = Some []
 
--- Of a command that answers a stream other clauses tell.
+-- Of a command that answers a stream, and of `check`, other clauses tell.
 abbrev pub input_by : Option Command → Option (List ℕ) → Option (List ℕ)
 input_by None left = left
 input_by (Some (Text command)) left = input_of command left
 input_by (Some Serve) left = None
 input_by (Some Drive) left = None
+input_by (Some Check) left = None
 
 -- The command reads.
 abbrev pub reads : Option Command → Bool
@@ -48,6 +49,7 @@ reads (Some (Text Show)) = true
 reads (Some (Text (Gen seed count))) = false
 reads (Some Serve) = true
 reads (Some Drive) = true
+reads (Some Check) = true
 
 -- Where the command reads, the source's count of faults shows none.
 abbrev pub IsReadQuietly : Option Command → (before after : ℕ) → Type 0
@@ -57,6 +59,7 @@ IsReadQuietly (Some (Text Run)) before after = IsQuiet before after
 IsReadQuietly (Some (Text Show)) before after = IsQuiet before after
 IsReadQuietly (Some Serve) before after = IsQuiet before after
 IsReadQuietly (Some Drive) before after = IsQuiet before after
+IsReadQuietly (Some Check) before after = IsQuiet before after
 
 -- ---- What is written.
 
@@ -86,6 +89,7 @@ output_by None text = []
 output_by (Some (Text command)) text = output_of command text
 output_by (Some Serve) text = []
 output_by (Some Drive) text = []
+output_by (Some Check) text = []
 
 -- ---- Bad lines.
 
@@ -100,6 +104,7 @@ bad_line_by None text = None
 bad_line_by (Some (Text command)) text = bad_line_of command text
 bad_line_by (Some Serve) text = None
 bad_line_by (Some Drive) text = None
+bad_line_by (Some Check) text = None
 
 -- ---- A full link.
 
@@ -118,6 +123,7 @@ full_by None text = None
 full_by (Some (Text command)) text = full_of command text
 full_by (Some Serve) text = None
 full_by (Some Drive) text = None
+full_by (Some Check) text = None
 
 -- ---- What is answered.
 
@@ -131,12 +137,13 @@ outcome_for None None = Done
 abbrev pub answer_of : TextCommand → List ℕ → Outcome
 answer_of command text = if nat_lt text_limit (length text) then TooLong else outcome_for (bad_line_of command text) (full_of command text)
 
--- The answer to words and a text, where nothing fails and memory does not run out. A stream is answered elsewhere.
+-- The answer to words and a text, where nothing fails and memory does not run out. A stream and a capture are answered elsewhere.
 abbrev pub answer_to : Option Command → List ℕ → Outcome
 answer_to None text = Usage
 answer_to (Some (Text command)) text = answer_of command text
 answer_to (Some Serve) text = Usage
 answer_to (Some Drive) text = Usage
+answer_to (Some Check) text = Usage
 
 -- Nothing is written with this outcome.
 abbrev pub writes_nothing : Outcome → Bool
@@ -145,6 +152,8 @@ writes_nothing (BadScript line f) = true
 writes_nothing ReadFault = true
 writes_nothing TooLong = true
 writes_nothing SeedFault = true
+writes_nothing (Unjudged packet) = true
+writes_nothing (Differs packet why) = false
 writes_nothing Done = false
 writes_nothing WriteFault = false
 writes_nothing (LinkFull line) = false
@@ -161,6 +170,8 @@ ran (BadScript line f) = false
 ran ReadFault = false
 ran TooLong = false
 ran SeedFault = false
+ran (Differs packet why) = false
+ran (Unjudged packet) = false
 ran (BadFrame at) = false
 ran OutOfMemory = false
 
@@ -180,4 +191,5 @@ IsLeft (Some (Text (Gen seed count))) text old None = ⊥
 IsLeft (Some (Text Show)) text old new = new ≡ old
 IsLeft (Some Serve) text old new = new ≡ old
 IsLeft (Some Drive) text old new = new ≡ old
+IsLeft (Some Check) text old new = new ≡ old
 IsLeft None text old new = new ≡ old

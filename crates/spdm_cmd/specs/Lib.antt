@@ -3,3 +3,4 @@ pub mod OutcomeTable
 pub mod Going
 pub mod Answer
 pub mod Streams
+pub mod Checks

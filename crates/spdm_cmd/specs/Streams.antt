@@ -1,9 +1,9 @@
 -- What a command answers to a stream. This project's own.
 use Rattle.std.specs.Prelude.{◌≡◌, Bool, true, false, Option, Some, None, Result, Ok, Err}
 use Rattle.spdm_cmd.specs.declared.outcome.Outcome.{Outcome}
-use Rattle.spdm_cmd.specs.declared.outcome.Outcome.TheVariants.{Done, Usage, BadFrame, BadScript, ReadFault, WriteFault, OutOfMemory, SeedFault, TooLong, LinkFull}
+use Rattle.spdm_cmd.specs.declared.outcome.Outcome.TheVariants.{Done, Usage, Differs, Unjudged, BadFrame, BadScript, ReadFault, WriteFault, OutOfMemory, SeedFault, TooLong, LinkFull}
 use Rattle.spdm_cmd.specs.declared.words.Command.{Command}
-use Rattle.spdm_cmd.specs.declared.words.Command.TheVariants.{Drive, Serve, Text}
+use Rattle.spdm_cmd.specs.declared.words.Command.TheVariants.{Check, Drive, Serve, Text}
 use Rattle.stream_commands.specs.Driven as driven
 use Rattle.stream_commands.specs.Outside.{Outside}
 use Rattle.stream_commands.specs.Served as served
@@ -14,6 +14,7 @@ use Rattle.stream_commands.specs.declared.fault.StreamFault.TheVariants as fault
 abbrev pub answers_stream : Option Command → Bool
 answers_stream (Some Serve) = true
 answers_stream (Some Drive) = true
+answers_stream (Some Check) = false
 answers_stream (Some (Text command)) = false
 answers_stream None = false
 
@@ -40,6 +41,8 @@ is_of_streams WriteFault = false
 is_of_streams OutOfMemory = false
 is_of_streams TooLong = false
 is_of_streams (LinkFull line) = false
+is_of_streams (Differs packet why) = false
+is_of_streams (Unjudged packet) = false
 
 -- The outcome is that of an answer which a responder gave so.
 pub record IsServed (before after : Outside) (outcome : Outcome) : Type 0 where

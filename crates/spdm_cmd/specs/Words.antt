@@ -2,7 +2,7 @@
 use Rattle.std.specs.Prelude.{List, [], ◌∷◌, ◌≤◌, ◌-◌, ◌^◌, ◌&&◌, bytes_eq, codes, ℕ, if◌then◌else◌, Option, Some, None}
 use Rattle.script_text.specs.Numbers.{is_number_in, value_of}
 use Rattle.spdm_cmd.specs.declared.words.Command.{Command}
-use Rattle.spdm_cmd.specs.declared.words.Command.TheVariants.{Drive, Serve, Text}
+use Rattle.spdm_cmd.specs.declared.words.Command.TheVariants.{Check, Drive, Serve, Text}
 use Rattle.spdm_cmd.specs.declared.words.TextCommand.{TextCommand}
 use Rattle.spdm_cmd.specs.declared.words.TextCommand.TheVariants.{Gen, Run, Show}
 
@@ -13,7 +13,8 @@ command_named word =
     else (if bytes_eq word (codes "show") then Some (Text Show)
     else (if bytes_eq word (codes "serve") then Some Serve
     else (if bytes_eq word (codes "drive") then Some Drive
-    else None)))
+    else (if bytes_eq word (codes "check") then Some Check
+    else None))))
 
 -- The command of three words: a seed below 2^64, and a count from 1 to 20,000.
 unfoldable pub generator : List ℕ → List ℕ → List ℕ → Option Command
@@ -31,6 +32,7 @@ abbrev pub IsInRange : Command → Type 0
 IsInRange (Text command) = IsTextInRange command
 IsInRange Serve = Unit {0}
 IsInRange Drive = Unit {0}
+IsInRange Check = Unit {0}
 
 -- The command that the words are, each as its bytes.
 abbrev pub command_of : List (List ℕ) → Option Command

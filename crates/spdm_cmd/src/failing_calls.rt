@@ -1,3 +1,4 @@
+use crate::check_rows::OPENED;
 use crate::outcome::Outcome;
 use crate::run::spdm;
 use spdm_basis::{MemSeeds, MemSink, MemSource, Sink, Source, StdinSource, StdoutSink};
@@ -12,9 +13,9 @@ requester 9 1024 4096 64 0 hkc 71 31323334353637383930313233343536 -
 end
 ";
 
-// Each word with what stands behind the configuration: a negotiation, its requests in frames, and its commands and
-// answers in frames.
-const INPUTS: [(&str, &[u8]); 3] = [
+// Each word with what stands behind the configuration: a negotiation, its requests in frames, its commands and
+// answers in frames, and a capture.
+const INPUTS: [(&str, &[u8]); 4] = [
     (
         "run",
         b"q1 connect\npump 1\npump 1\npump 1\npump 1\npump 1\npump 1\n",
@@ -27,6 +28,7 @@ const INPUTS: [(&str, &[u8]); 3] = [
         "drive",
         b"\x03\x0a\x00q1 connect\x01\x0d\x00\x01\x09\x08\xc0\x05\x10\x04\x00\x00\x00\x01\x00\x12",
     ),
+    ("check", OPENED),
 ];
 
 // What a word came to over a source and a sink, with one seed. The requests for seeds with these numbers fail.
@@ -92,7 +94,9 @@ fn each_call_fails(rt: HostRuntime) -> Result<(), Fail> {
                 assert_eq!(rt; outcome, fault);
                 assert!(rt; written.len() < whole.len() || is_read);
                 assert!(rt; whole.as_slice().starts_with(written.as_slice()));
-                assert!(rt; input.0 != "run" || !is_read || written.is_empty());
+                assert!(rt;
+                    input.0 == "serve" || input.0 == "drive" || !is_read || written.is_empty()
+                );
             }
             assert!(rt; 2 <= reached && reached < 16);
         }
@@ -102,7 +106,7 @@ fn each_call_fails(rt: HostRuntime) -> Result<(), Fail> {
 
 #[test]
 fn seed_fails(rt: HostRuntime) -> Result<(), Fail> {
-    let [_, serve, drive] = INPUTS;
+    let [_, serve, drive, _] = INPUTS;
     for input in [serve, drive] {
         let (outcome, written) = fails(&rt, input, &[], &[], &[0])?;
         assert_eq!(rt; outcome, Outcome::SeedFault);

@@ -1,4 +1,5 @@
-//! The command `spdm`: it runs requesters and a responder over a scripted link, and writes their trace.
+//! The command `spdm`: it runs requesters and a responder over a scripted link and writes their trace, and judges
+//! captures.
 //!
 //! Read first: `answer_to` in `specs/Answer.antt`, what the command answers. The call is `spdm`.
 #![tactic(auto)]
@@ -7,6 +8,9 @@
 mod bad_streams;
 #[cfg(test)]
 mod carried;
+#[cfg(test)]
+mod check_rows;
+mod checks;
 #[cfg(test)]
 mod failing_calls;
 mod generated;
@@ -38,10 +42,19 @@ use std::process::ExitCode;
 /// each outcome but `Done` is printed to standard error, and the status is that of the outcome.
 fn main(rt: HostRuntime) -> ExitCode {
     let outcome = command(&rt);
-    if outcome != Outcome::Done {
-        let _ = rt.eprintln(outcome.name());
+    match outcome {
+        Outcome::Done => {}
+        Outcome::Unjudged { packet } => tell_packet(&rt, packet),
+        _ => drop(rt.eprintln(outcome.name())),
     }
     ExitCode::from(outcome.status())
+}
+
+// Tells which packet is not judged, where there is memory for that.
+fn tell_packet(rt: &HostRuntime, packet: u32) {
+    if let Ok(text) = format!(in rt.alloc(); "Unjudged {packet}") {
+        let _ = rt.eprintln(text.as_str());
+    }
 }
 
 fn command(rt: &HostRuntime) -> Outcome {

@@ -1,12 +1,14 @@
 ghost use Rattle.std.specs.Prelude.{◌≡◌};
 
-use script_text::LineFault;
+use script_text::{LineFault, Why};
 
 /// What a command came to.
 #[derive(Clone, Copy, Debug, PartialEq, Eq)]
 pub enum Outcome {
     /// The command is finished and all was written.
     Done,
+    /// The capture differs first at this packet, counted from 1, for this reason. That was written.
+    Differs { packet: u32, why: Why },
     /// The words are no command. Nothing was read.
     Usage,
     /// This line, counted from 1, is the first bad one. Nothing was written.
@@ -27,6 +29,9 @@ pub enum Outcome {
     LinkFull { line: u32 },
     /// The frame that begins at this byte of the stream is bad. What the frames before it led to was written.
     BadFrame { at: u64 },
+    /// This packet of a capture, counted from 1, is a part of a large answer that is not judged, and the capture
+    /// conforms before it. Nothing was written.
+    Unjudged { packet: u32 },
 }
 
 impl Outcome {
@@ -38,6 +43,7 @@ impl Outcome {
     {
         match self {
             Outcome::Done => 0,
+            Outcome::Differs { .. } => 1,
             Outcome::Usage => 2,
             Outcome::BadScript { .. } => 3,
             Outcome::ReadFault => 4,
@@ -47,6 +53,7 @@ impl Outcome {
             Outcome::TooLong => 8,
             Outcome::LinkFull { .. } => 9,
             Outcome::BadFrame { .. } => 10,
+            Outcome::Unjudged { .. } => 11,
         }
     }
 
@@ -56,6 +63,7 @@ impl Outcome {
     {
         match self {
             Outcome::Done => "Done",
+            Outcome::Differs { .. } => "Differs",
             Outcome::Usage => "Usage",
             Outcome::BadScript { .. } => "BadScript",
             Outcome::ReadFault => "ReadFault",
@@ -65,6 +73,7 @@ impl Outcome {
             Outcome::TooLong => "TooLong",
             Outcome::LinkFull { .. } => "LinkFull",
             Outcome::BadFrame { .. } => "BadFrame",
+            Outcome::Unjudged { .. } => "Unjudged",
         }
     }
 }

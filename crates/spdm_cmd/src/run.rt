@@ -1,15 +1,20 @@
 ghost use Rattle.std.specs.Prelude.{◌≡◌, ◌≢◌, ◌≤◌, ◌<◌, ◌↔◌, ◌⊎◌, [], ℕ, List, Some, None, IsSome, true, false, map, length, string_bytes};
+ghost use Rattle.script_text.specs.Reading.{bad_line_in};
+ghost use Rattle.script_text.specs.ScriptText.{capture_in};
 ghost use Rattle.script_text.specs.declared.faults.LineFault.{LineFault};
 ghost use Rattle.script_worlds.specs.Refused.{RefusesIn};
 ghost use Rattle.script_worlds.specs.Worlds.{AgreesIn, DeliversIn, MatchesIn, SealsOnceIn, ShowsAlikeIn};
 ghost use Rattle.spdm_basis.specs.Stream.{HasFault, IsQuiet, Takes, TakesPrefix};
+ghost use Rattle.spdm_check.specs.Answers.{Finding, HasFinding};
 ghost use Rattle.spdm_cmd.specs.Answer.{IsLeft, IsReadQuietly, answer_to, bad_line_by, full_by, input_by, output_by, ran, reads, text_limit, writes_nothing};
+ghost use Rattle.spdm_cmd.specs.Checks.{IsChecked, is_judged, is_of_captures, outcome_for};
 ghost use Rattle.spdm_cmd.specs.Streams.{IsDriven, IsServed, answers_stream, is_of_streams, outcome_of};
 ghost use Rattle.spdm_cmd.specs.Words.{command_of};
-ghost use Rattle.spdm_cmd.specs.declared.words.Command.TheVariants.{Drive, Serve};
+ghost use Rattle.spdm_cmd.specs.declared.words.Command.TheVariants.{Check, Drive, Serve};
 ghost use Rattle.stream_commands.specs.InputEnds.{HasEnd, InputEnd, IsStreamToDrive, IsStreamToServe, answer_for};
 ghost use Rattle.stream_commands.specs.Outside.{outside};
 
+use crate::checks::check_capture;
 use crate::outcome::Outcome;
 use crate::output::{TextFault, write_output};
 use crate::reading::read_text;
@@ -26,7 +31,7 @@ use std::alloc::Global;
 /// what it came to, and leave its world. None of these takes a seed of `seeds`. The word `serve` reads a
 /// configuration up to `end`, takes one seed, and answers the frames of the stream behind as the responder that is
 /// configured. The word `drive` does the same with the first requester that is configured, whose commands come as
-/// frames too.
+/// frames too. The word `check` reads a capture, and writes whether its ends could have made it.
 #[tactic(auto, using(crate::proofs::TopCall::read_is, script_worlds::proofs::RefusedRight::refuses))]
 pub fn spdm<S: Source, K: Sink, E: Seeds>(
     alloc: Global,
@@ -99,6 +104,32 @@ pub fn spdm<S: Source, K: Sink, E: Seeds>(
         → IsQuiet (K.faults sink.old) (K.faults sink.new)
         → IsQuiet (E.faults seeds.old) (E.faults seeds.new)
         → (result ≡ Outcome.OutOfMemory) ⊎ (result ≡ outcome_of (answer_for end)) }
+
+    // The word `check`: the verdict on the capture that the source has is told, and its lines are written; or why
+    // there is none.
+    ensures checked { command_of (map string_bytes words.now) ≡ Some Check → (text : List ℕ)
+        → S.remaining source.old ≡ Some text
+        → IsChecked text (K.contents sink.old) (K.contents sink.new) result }
+    ensures checked_exactly { command_of (map string_bytes words.now) ≡ Some Check
+        → (text : List ℕ) (found : Finding) → S.remaining source.old ≡ Some text
+        → HasFinding text found → IsQuiet (S.faults source.old) (S.faults source.new)
+        → IsQuiet (K.faults sink.old) (K.faults sink.new)
+        → (result ≡ Outcome.OutOfMemory) ⊎ ((result ≡ outcome_for found)
+        ⊎ ((packet : ℕ) × (result ≡ Outcome.Unjudged packet))) }
+    ensures each_capture_judged { command_of (map string_bytes words.now) ≡ Some Check
+        → (text : List ℕ) → S.remaining source.old ≡ Some text
+        → length text ≤ text_limit → bad_line_in (capture_in text) ≡ None
+        → IsQuiet (S.faults source.old) (S.faults source.new)
+        → IsQuiet (K.faults sink.old) (K.faults sink.new)
+        → (result ≡ Outcome.OutOfMemory) ⊎ (is_judged result ≡ true) }
+    ensures capture_read { command_of (map string_bytes words.now) ≡ Some Check
+        → is_judged result ≡ true → (text : List ℕ) → S.remaining source.old ≡ Some text
+        → S.remaining source.new ≡ Some [] }
+    ensures check_leaves_nothing { command_of (map string_bytes words.now) ≡ Some Check
+        → left.new ≡ left.old }
+    ensures of_captures_alone { is_of_captures result ≡ true
+        → command_of (map string_bytes words.now) ≡ Some Check }
+
     ensures leaves_nothing { answers_stream (command_of (map string_bytes words.now)) ≡ true
         → left.new ≡ left.old }
     ensures of_streams_alone { is_of_streams result ≡ true
@@ -159,6 +190,7 @@ pub fn spdm<S: Source, K: Sink, E: Seeds>(
         Command::Text(command) => command,
         Command::Serve => return serve_stream(alloc, source, sink, seeds),
         Command::Drive => return drive_stream(alloc, source, sink, seeds),
+        Command::Check => return check_capture(alloc, source, sink),
     };
     let text = match read_text(alloc, command, source) {
         Ok(text) => text,

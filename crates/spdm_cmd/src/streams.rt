@@ -1,5 +1,6 @@
-ghost use Rattle.std.specs.Prelude.{◌≡◌, ◌≢◌, ◌⊎◌, ℕ, List, Some};
+ghost use Rattle.std.specs.Prelude.{◌≡◌, ◌≢◌, ◌⊎◌, ℕ, List, Some, false};
 ghost use Rattle.spdm_basis.specs.Stream.{HasFault, IsQuiet};
+ghost use Rattle.spdm_cmd.specs.Checks.{is_of_captures};
 ghost use Rattle.spdm_cmd.specs.Streams.{IsDriven, IsServed, outcome_of};
 ghost use Rattle.stream_commands.specs.InputEnds.{HasEnd, InputEnd, IsStreamToDrive, IsStreamToServe, answer_for};
 ghost use Rattle.stream_commands.specs.Outside.{outside};
@@ -47,6 +48,7 @@ pub fn serve_stream<S: Source, K: Sink, E: Seeds>(
         → (result ≡ Outcome.OutOfMemory) ⊎ (result ≡ outcome_of (answer_for end)) }
     ensures no_usage { result ≢ Outcome.Usage }
     ensures no_link { (line : ℕ) → result ≢ Outcome.LinkFull line }
+    ensures no_capture { is_of_captures result ≡ false }
     ensures read_fault { result ≡ Outcome.ReadFault
         → HasFault (S.faults source.old) (S.faults source.new) }
     ensures write_fault { result ≡ Outcome.WriteFault
@@ -76,6 +78,7 @@ pub fn drive_stream<S: Source, K: Sink, E: Seeds>(
         → (result ≡ Outcome.OutOfMemory) ⊎ (result ≡ outcome_of (answer_for end)) }
     ensures no_usage { result ≢ Outcome.Usage }
     ensures no_link { (line : ℕ) → result ≢ Outcome.LinkFull line }
+    ensures no_capture { is_of_captures result ≡ false }
     ensures read_fault { result ≡ Outcome.ReadFault
         → HasFault (S.faults source.old) (S.faults source.new) }
     ensures write_fault { result ≡ Outcome.WriteFault

@@ -14,6 +14,8 @@ pub enum Command {
     Serve,
     /// A requester is driven by a stream of frames.
     Drive,
+    /// A capture is read, and its verdict written.
+    Check,
 }
 
 /// A command that reads one text whole, or none.
@@ -54,6 +56,8 @@ fn command_named(word: &str) -> Option<Command>
         Some(Command::Serve)
     } else if word == "drive" {
         Some(Command::Drive)
+    } else if word == "check" {
+        Some(Command::Check)
     } else {
         None
     }

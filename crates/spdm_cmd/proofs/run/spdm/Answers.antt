@@ -132,3 +132,15 @@ returns-in-Drive-clause-matched g c = λ text held. matches text
 
 pub returns-in-Drive-clause-sealed_once : goal.returns-in-Drive-clause-sealed_once
 returns-in-Drive-clause-sealed_once g c = λ text held. seals_once text
+
+pub returns-in-Check-clause-agreement : goal.returns-in-Check-clause-agreement
+returns-in-Check-clause-agreement g c = λ text held. (agrees text, shows_alike text)
+
+pub returns-in-Check-clause-data_prefix : goal.returns-in-Check-clause-data_prefix
+returns-in-Check-clause-data_prefix g c = λ text held. delivers text
+
+pub returns-in-Check-clause-matched : goal.returns-in-Check-clause-matched
+returns-in-Check-clause-matched g c = λ text held. matches text
+
+pub returns-in-Check-clause-sealed_once : goal.returns-in-Check-clause-sealed_once
+returns-in-Check-clause-sealed_once g c = λ text held. seals_once text
