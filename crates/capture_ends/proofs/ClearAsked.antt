@@ -160,7 +160,7 @@ module _ (r : RspSetup) (h : History) (m : List ℕ) where
 
   -- ---- A last chunk that does not complete a large request is refused.
 
-  passed_whole : (f : Free) (c : ChunkMessage) → request_at p m ≡ Some (ChunkSend c) → c.last ≡ true → refusal r p m f ≡ None → is_whole (collected r.max (chunks_of p.turns) c) ≡ true
+  pub passed_whole : (f : Free) (c : ChunkMessage) → request_at p m ≡ Some (ChunkSend c) → c.last ≡ true → refusal r p m f ≡ None → is_whole (collected r.max (chunks_of p.turns) c) ≡ true
   passed_whole f c is last none =
       let before = under_way (chunks_of p.turns) in
       let tested : is_some (chunk_fault r p (request_at p m)) ≡ false = contents_shown r p m f none 8 in

@@ -67,3 +67,4 @@ pub mod AwaitingStay
 pub mod OthersStay
 pub mod OwedEnded
 pub mod BeginsTold
+pub mod WholeAnswered

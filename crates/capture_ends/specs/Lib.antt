@@ -10,6 +10,7 @@ pub mod HeardKept
 pub mod Party
 pub mod PartyReplies
 pub mod ClearAnswers
+pub mod WholeAnswers
 pub mod RecordAnswers
 pub mod LargeAsked
 pub mod Conversation

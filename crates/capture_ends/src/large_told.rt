@@ -11,8 +11,8 @@ use crate::{Answerer, Given, Judged};
 use connection::{FreeValues, Setup};
 use spdm_basis::Frame;
 
-// Whether it brings a large answer.
-fn brings_large(judged: Judged) -> bool
+/// Whether it brings a large answer.
+pub(crate) fn brings_large(judged: Judged) -> bool
     ensures { result ≡ is_large_given (given_in judged) }
 {
     match judged {

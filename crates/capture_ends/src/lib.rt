@@ -50,6 +50,7 @@ mod sending;
 mod shown_changes;
 mod shown_fields;
 mod shown_values;
+mod whole_answers;
 
 pub use answer_keys::AnswerKeys;
 pub use answerer::Answerer;

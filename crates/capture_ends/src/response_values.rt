@@ -145,8 +145,8 @@ fn error_values<'a>(
     Some(values)
 }
 
-// The values in the fields of the response to a message.
-fn field_values<'a>(
+/// The values in the fields of the response to a message.
+pub(crate) fn field_values<'a>(
     hash: HashAlg,
     message: &[u8],
     values: FreeValues<'a>,

@@ -31,7 +31,7 @@ use Rattle.responder_machine.proofs.VerifyLength.{length_verify}
 use Rattle.capture_laws.proofs.AnswerLengths.{exchange_rsp_read}
 use Rattle.capture_laws.proofs.CarriedExchange.{apart_is}
 use Rattle.capture_laws.specs.AnswersShown.{asks_summary, with_fields}
-use Rattle.fetched_answers.specs.WholeValues.{whole_values}
+use Rattle.capture_ends.specs.WholeAnswers.{whole_values}
 use Rattle.world_machine.specs.Difference.{is_apart}
 
 module _ (r : RspSetup) (p : Place) (m : List ℕ) (f : Free) where

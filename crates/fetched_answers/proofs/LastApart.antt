@@ -37,7 +37,8 @@ use Rattle.fetched_answers.proofs.WholeDrops.{entry_led, entry_shown}
 use Rattle.fetched_answers.specs.ClearApart.{IsLastApart, LastApartIsShown}
 use Rattle.fetched_answers.specs.ClearSessions.{AreGets}
 use Rattle.fetched_answers.specs.LastShown.{drops_with}
-use Rattle.fetched_answers.specs.WholeValues.{clear_whole, values_with_whole}
+use Rattle.capture_ends.specs.WholeAnswers.{clear_whole}
+use Rattle.fetched_answers.specs.WholeValues.{values_with_whole}
 use Rattle.world_machine.proofs.DropsTell.{clear_form, turns_stay}
 use Rattle.world_machine.proofs.FetchedSessions.{takes_with}
 use Rattle.world_machine.proofs.PlacesServed.{named_clear}

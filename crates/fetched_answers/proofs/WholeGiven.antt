@@ -25,7 +25,7 @@ use Rattle.capture_laws.proofs.TurnShown.{inside_allowed, outside_allowed}
 use Rattle.capture_laws.specs.AnswersShown.{asks_summary, with_fields}
 use Rattle.world_machine.proofs.TurnsAlike.{chunk_is, is_request}
 use Rattle.world_machine.specs.CapturedAnswers.{answer_at}
-use Rattle.fetched_answers.specs.WholeValues.{clear_whole, whole_values}
+use Rattle.capture_ends.specs.WholeAnswers.{clear_whole, whole_values}
 
 -- ---- One request.
 

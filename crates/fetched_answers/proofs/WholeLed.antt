@@ -26,7 +26,8 @@ use Rattle.capture_laws.proofs.SessionShown.{record_is, updates_alike}
 use Rattle.capture_laws.specs.AnswersShown.{LeadsAt, values_shown_by}
 use Rattle.capture_laws.specs.LargeShown.{whole_of}
 use Rattle.fetched_answers.proofs.WholeGiven.{plain_gives, same_turn, turn_gives, turn_handle}
-use Rattle.fetched_answers.specs.WholeValues.{WholeIsShown, clear_whole, values_with_whole, whole_values}
+use Rattle.capture_ends.specs.WholeAnswers.{clear_whole, whole_values}
+use Rattle.fetched_answers.specs.WholeValues.{WholeIsShown, values_with_whole}
 use Rattle.world_machine.proofs.RecordAdds.{record_added}
 use Rattle.world_machine.proofs.RepliesTell.{OutcomesAlike, EntriesAlike, no_chunk}
 use Rattle.world_machine.proofs.TurnsAlike.{EffectsAlike, TurnsAlike, chunk_is, turns_large}
