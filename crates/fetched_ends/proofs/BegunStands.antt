@@ -148,6 +148,7 @@ module _ (w : Configuration) (q : ReqSetup) (older : List (List ℕ)) (k : Kept)
       stands = stands w q older k route answer byte limits carries turn type will large op asks;
       judges = subst (λ (n : ℕ). IsAnswerer new.answerer r (with_large (Some n) (whole_of e) f.kept.responder)) (sym id_is) (subst (IsAnswerer new.answerer r) (sym judged) answerer);
       pending = subst (λ (n : ℕ). has_pending (session_place (session_with n f.kept.responder (whole_of e))) ≡ true) (sym id_is) pending_is ∙ sym left;
+      uncounted = λ none live. absurd (false≢true (sym none ∙ left));
       sizes = λ some. subst (λ (n : ℕ). (session_terms (session_with n f.kept.responder (whole_of e))).common ≡ (place_terms f.place).common) (sym id_is) sizes_are;
       room = ready.room;
       anew = ready.anew;

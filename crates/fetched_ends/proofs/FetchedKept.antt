@@ -1,6 +1,6 @@
 -- What is kept of a large answer that is fetched in a session hangs on the set-up and the responder's history alone, so a
 -- request leaves it.
-use Rattle.std.proofs.Common.{◌≡◌, List, sym, ap, ◌∙◌, subst, false, Some}
+use Rattle.std.proofs.Common.{◌≡◌, List, sym, ap, ◌∙◌, subst, false, true, Some}
 use Rattle.capture_ends.specs.Answerer.{IsAnswerer}
 use Rattle.capture_ends.specs.Party.{IsBeside}
 use Rattle.capture_ends.specs.declared.answerer.Answerer.{Answerer}
@@ -17,8 +17,9 @@ use Rattle.responder_machine.specs.History.{History, kept_of}
 use Rattle.responder_machine.specs.Place.{session_place}
 use Rattle.responder_machine.specs.Refusal.{has_pending}
 use Rattle.responder_machine.specs.Responder.{is_repeat}
-use Rattle.responder_machine.specs.Session.{session_terms}
+use Rattle.responder_machine.specs.Session.{is_live, session_of, session_terms}
 use Rattle.responder_machine.specs.Setup.{inventory_of, towards}
+use Rattle.responder_session.specs.Pending.{IsUncounted}
 use Rattle.spdm_grammar.specs.Message.RequestMessage.{GetVersion}
 use Rattle.spdm_grammar.specs.Requests.{canonical_request}
 use Rattle.world_machine.specs.LargeAnswers.{with_large}
@@ -50,6 +51,7 @@ fetched_with party new fetched w q f next rows behind is answerer setup responde
           (subst (λ (s : ReqSetup). IsAnswerer party.answerer (towards w.responder (known_of s)) (with_large (Some fetched.id) is.whole next.responder)) at_setup
           (subst (λ (h : History). IsAnswerer party.answerer (responder_for w f.kept) (with_large (Some fetched.id) is.whole h)) same is.judges));
       pending = ap (λ (h : History). has_pending (session_place (session_with fetched.id h is.whole))) responder ∙ is.pending;
+      uncounted = subst (λ (h : History). fetched.left ≡ false → is_live (session_with fetched.id h is.whole) ≡ true → IsUncounted (session_with fetched.id h is.whole) (session_of fetched.id h)) same is.uncounted;
       sizes = λ left. ap (λ (h : History). (session_terms (session_with fetched.id h is.whole)).common) responder ∙ is.sizes left;
       room = is.room;
       anew = λ tag. ap (λ (h : History). is_repeat (kept_of h) tag (canonical_request GetVersion)) responder ∙ is.anew tag;
@@ -69,6 +71,7 @@ fetched_in party answerer fetched w q f rows is same = record {
   stands = is.stands;
   judges = subst (λ (c : Connection). connected.StandsFor c (responder_for w f.kept) (with_large (Some fetched.id) is.whole f.kept.responder)) (sym same) is.judges;
   pending = is.pending;
+  uncounted = is.uncounted;
   sizes = is.sizes;
   room = is.room;
   anew = is.anew;

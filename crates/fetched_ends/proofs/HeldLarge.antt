@@ -39,7 +39,7 @@ module _ (w : Configuration) (q : ReqSetup) (older : List (List ℕ)) (rows : Li
     pub last_told : IsRepliedTo w q older rows f route answer (Ok upon.Large) new stands table
     last_told =
         let asks = asked w q older rows f own party held kept turn.round turn.answers.0 other anew v stand in
-        inr (inr (
+        inr (
           kept.at,
           (
             turn.round,
@@ -53,4 +53,4 @@ module _ (w : Configuration) (q : ReqSetup) (older : List (List ℕ)) (rows : Li
               none_left,
             ),
           ),
-        ))
+        )

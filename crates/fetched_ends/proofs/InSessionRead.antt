@@ -1,6 +1,7 @@
 -- The answer to a record of the session holds a chunk that fits: other bytes are put in the connection, and it is read with them.
 use Rattle.std.proofs.Common.{◌≡◌, ◌≤◌, ◌<◌, ◌-◌, ◌^◌, ◌==◌, ℕ, List, refl, sym, ap, ◌∙◌, subst, length, arith, true, false, Option, Some}
 use Rattle.std.specs.Prelude.{slice_index}
+use Rattle.std.proofs.lemmas.Bool.{false≢true}
 use Rattle.mctp_framing.specs.Cutting.{RouteFields}
 use Rattle.capture_ends.proofs.FewMessages.{kept_messages}
 use Rattle.capture_ends.proofs.InTurn.{AnswersInTurn}
@@ -112,6 +113,7 @@ module _ (w : Configuration) (q : ReqSetup) (older : List (List ℕ)) (rows : Li
           stands = stand_there;
           judges = judges;
           pending = pending_there ∙ sym left;
+          uncounted = λ none live. absurd (false≢true (sym none ∙ left));
           sizes = λ some. sym (common_same w q older f route answer byte limits own turn fetched.id kept.at type kept.whole whole kept.stands stand_there) ∙ kept.sizes some;
           room = kept.room;
           anew = kept.anew;

@@ -1,6 +1,7 @@
 -- What is told of a chunk of a large answer that is fetched in a session.
 use Rattle.std.proofs.Common.{◌≡◌, ◌≤◌, ◌<◌, ◌+◌, ◌-◌, ◌^◌, ◌==◌, ◌↔◌, ℕ, List, [], ◌∷◌, refl, sym, ap, ◌∙◌, subst, length, arith, Bool, true, false, Option, Some, Ok, cond}
 use Rattle.std.specs.Prelude.{MatchBool}
+use Rattle.std.proofs.lemmas.Bool.{false≢true}
 use Rattle.mctp_framing.specs.Cutting.{RouteFields}
 use Rattle.capture_ends.proofs.FewMessages.{kept_messages}
 use Rattle.capture_ends.proofs.InTurn.{AnswersInTurn}
@@ -185,6 +186,7 @@ module _ (w : Configuration) (q : ReqSetup) (older : List (List ℕ)) (rows : Li
       judges = subst (λ (n : ℕ). IsAnswerer new.answerer r (with_large (Some n) whole (added ∷ f.kept.responder))) (sym are.id) (subst (IsAnswerer new.answerer r) (sym behind) are.answerer);
       pending = subst (λ (n : ℕ). has_pending (session_place (session_with n (added ∷ f.kept.responder) whole)) ≡ true) (sym are.id)
           (pending_next w q older f route answer byte limits own turn fetched.id at read.record_is whole stand will read.sealed shown gets_it) ∙ sym (are.left ∙ read.left);
+      uncounted = λ none live. absurd (false≢true (sym none ∙ are.left ∙ read.left));
       sizes = λ some. subst (λ (n : ℕ). (session_terms (session_with n (added ∷ f.kept.responder) whole)).common ≡ (place_terms f.place).common) (sym are.id)
           (sizes_next w q older f route answer byte limits own turn fetched.id at read.record_is whole stand will read.sealed shown gets_it sizes_before);
       room = read.kept.room;

@@ -40,6 +40,7 @@ pub mod BehindGet
 pub mod OtherBytes
 pub mod StopsTold
 pub mod SeenGone
+pub mod Uncounted
 pub mod MeasuredStays
 pub mod OthersStop
 pub mod InSessionRead

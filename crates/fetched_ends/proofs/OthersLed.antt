@@ -86,6 +86,20 @@ pending_behind s m t reply none small = by_refused t.refused refl
 
 -- ---- The session behind it.
 
+-- It was live before it.
+pub live_before : (tag id : ℕ) (m : List ℕ) (t : Turn) (reply : List ℕ) (g : History) → id_in_record m ≡ id → is_live (session_of id (Sealed tag m t reply no_draw ∷ g)) ≡ true → is_live (session_of id g) ≡ true
+unfolding session_of
+live_before tag id m t reply g here live =
+    by_end (takes END_SESSION t) (session_of id g) (ap is_live (sym (ap (λ (b : Bool). cond b (after_record (session_of id g) m t reply) (session_of id g)) (eq-eqb (id_in_record m) id here))) ∙ live)
+  where
+    by_live : (s : Events) → is_live (when_live s (Heard m t reply)) ≡ true → is_live s ≡ true
+    by_live [] is = is
+    by_live (x ∷ s) is = refl
+
+    by_end : (b : Bool) (s : Events) → is_live (cond b [] (when_live s (Heard m t reply))) ≡ true → is_live s ≡ true
+    by_end true s is = absurd (false≢true is)
+    by_end false s is = by_live s is
+
 -- Where it is live, it was, and has that record.
 pub live_behind : (tag id : ℕ) (m : List ℕ) (t : Turn) (reply : List ℕ) (g : History) → id_in_record m ≡ id → is_live (session_of id (Sealed tag m t reply no_draw ∷ g)) ≡ true
     → session_of id (Sealed tag m t reply no_draw ∷ g) ≡ Heard m t reply ∷ session_of id g

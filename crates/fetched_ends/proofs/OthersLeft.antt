@@ -43,7 +43,7 @@ use Rattle.fetched_ends.proofs.InSessionRecord.{id_is}
 use Rattle.fetched_ends.proofs.MeasuredStays.{StaysIn}
 use Rattle.fetched_ends.proofs.MeasuredStays.StaysIn.{Same as Stays, More}
 use Rattle.fetched_ends.proofs.OthersKept.{behind, dropped_large, ids, large_then, leads, outcome}
-use Rattle.fetched_ends.proofs.OthersLed.{IsSealed, live_behind, pending_behind, sealed_in}
+use Rattle.fetched_ends.proofs.OthersLed.{IsSealed, live_before, live_behind, pending_behind, sealed_in}
 use Rattle.fetched_ends.proofs.OthersSame.{judged_at, none_dropped}
 use Rattle.fetched_ends.specs.InSession.{IsFetchedIn}
 use Rattle.fetched_ends.specs.SessionOthers.{IsOtherAnswer, is_refused, left_then}
@@ -147,7 +147,7 @@ module _ (w : Configuration) (q : ReqSetup) (older : List (List ℕ)) (rows : Li
     no_get : takes_get e ≡ false
     no_get = other.none x e (record { stands = kept.stands; leads = may; sends = sends })
 
-    sealed : IsSealed r g round.tag round.body e
+    pub sealed : IsSealed r g round.tag round.body e
     sealed = sealed_in r g round.tag round.body e other.record_is may
 
     -- The session behind it has that record.
@@ -156,7 +156,7 @@ module _ (w : Configuration) (q : ReqSetup) (older : List (List ℕ)) (rows : Li
         large_then w q older rows f route answer byte limits own turn party fetched kept refuses other shown
         ∙ ap (λ (l : List ℕ). after (with_dropped g l) leads_to) none ∙ ap (after g) is ∙ ap (λ (y : Entry). y ∷ g) sealed.is
 
-    session_then : is_live (session_with id then x) ≡ true → session_with id then x ≡ Heard (drop 1 round.body) sealed.turn sealed.reply ∷ s
+    pub session_then : is_live (session_with id then x) ≡ true → session_with id then x ≡ Heard (drop 1 round.body) sealed.turn sealed.reply ∷ s
     session_then live =
         ap (session_of id) then_is
         ∙ live_behind round.tag id (drop 1 round.body) sealed.turn sealed.reply g (id_is w q older f route answer byte limits own turn id kept.at other.record_is x kept.stands) (sym (ap (λ (l : History). is_live (session_of id l)) then_is) ∙ live)
@@ -168,6 +168,25 @@ module _ (w : Configuration) (q : ReqSetup) (older : List (List ℕ)) (rows : Li
         ∙ ap (λ (b : Bool). is_some sealed.turn.refused && b) kept.pending
         ∙ left_taken fetched.left (is_some sealed.turn.refused) refuses (λ left. sym (ap is_refused sealed.is) ∙ other.refused left x e (record { stands = kept.stands; leads = may; sends = sends }) small)
         ∙ sym (ap (λ (y : Entry). left_then fetched.left true (is_none (answered_by (Adds y))) refuses) sealed.is)
+
+    pub turn_gets : takes CHUNK_GET sealed.turn ≡ false
+    turn_gets = sym (ap takes_get sealed.is) ∙ no_get
+
+    pub turn_small : is_some (handle_in sealed.turn.effect) ≡ false
+    turn_small = sym (ap is_large sealed.is) ∙ small
+
+    -- So it has in the history in which the answer was not seen.
+    own_then : then ≡ Sealed round.tag (drop 1 round.body) sealed.turn sealed.reply no_draw ∷ h
+    own_then = ap (λ (l : List ℕ). after (with_dropped h l) leads_to) none ∙ ap (after h) is ∙ ap (λ (y : Entry). y ∷ h) sealed.is
+
+    pub unseen_session : is_live (session_of id then) ≡ true → session_of id then ≡ Heard (drop 1 round.body) sealed.turn sealed.reply ∷ session_of id h
+    unseen_session live =
+        ap (session_of id) own_then
+        ∙ live_behind round.tag id (drop 1 round.body) sealed.turn sealed.reply h (id_is w q older f route answer byte limits own turn id kept.at other.record_is x kept.stands) (sym (ap (λ (l : History). is_live (session_of id l)) own_then) ∙ live)
+
+    pub was_live : is_live (session_with id then x) ≡ true → is_live s ≡ true
+    was_live live =
+        live_before round.tag id (drop 1 round.body) sealed.turn sealed.reply g (id_is w q older f route answer byte limits own turn id kept.at other.record_is x kept.stands) (sym (ap (λ (l : History). is_live (session_of id l)) then_is) ∙ live)
 
     terms_then : is_live (session_with id then x) ≡ true → session_terms (session_with id then x) ≡ session_terms s
     terms_then live = ap session_terms (session_then live)
@@ -193,10 +212,16 @@ module _ (w : Configuration) (q : ReqSetup) (older : List (List ℕ)) (rows : Li
         (sym (ap (λ (l : History). is_live (session_of id l)) (with_bytes v)) ∙ other_live))
 
   -- Where nothing is added, the session stays, or is gone.
-  session_stays : after (with_dropped g dropped) leads_to ≡ with_dropped g dropped → is_live (session_with id then x) ≡ true → session_with id then x ≡ s
+  pub session_stays : after (with_dropped g dropped) leads_to ≡ with_dropped g dropped → is_live (session_with id then x) ≡ true → session_with id then x ≡ s
   session_stays none live =
       let same = ap (session_of id) (large_then w q older rows f route answer byte limits own turn party fetched kept refuses other shown ∙ none) in
       same ∙ live_same (session_of id (with_dropped g dropped)) s (dropped_session id g dropped) (sym (ap is_live same) ∙ live)
+
+  -- So it does in the history in which the answer was not seen.
+  pub unseen_stays : then ≡ with_dropped h dropped → is_live (session_of id then) ≡ true → session_of id then ≡ session_of id h
+  unseen_stays none live =
+      let same = ap (session_of id) none in
+      same ∙ live_same (session_of id (with_dropped h dropped)) (session_of id h) (dropped_session id h dropped) (sym (ap is_live same) ∙ live)
 
   idle_then : after (with_dropped g dropped) leads_to ≡ with_dropped g dropped → is_live (session_with id then x) ≡ true → has_pending (session_place (session_with id then x)) ≡ left_then fetched.left true true refuses
   idle_then none live = ap (λ (y : Events). has_pending (session_place y)) (session_stays none live) ∙ kept.pending ∙ sym (left_same fetched.left refuses)

@@ -73,11 +73,12 @@ use Rattle.fetched_ends.proofs.ChangesOn.{accepted_on, asked_on}
 use Rattle.fetched_ends.proofs.InSessionRefused.{refused}
 use Rattle.fetched_ends.proofs.OthersKept.{answer_then, asks_then, behind, clear_then, goes, ids, large_then, leads, next, outcome, plainly, stands_then, unseen_then}
 use Rattle.fetched_ends.proofs.OthersLeft.{left_is, sizes_then}
+use Rattle.fetched_ends.proofs.OthersStop.{uncounted_then}
 use Rattle.fetched_ends.proofs.OthersSame.{is_none_with, judged_at, place_at}
 use Rattle.fetched_ends.proofs.QuietSteps.{quiet_step}
 use Rattle.fetched_ends.proofs.SeenKeys.{keys_unseen, views_alike}
 use Rattle.fetched_ends.specs.Fetched.{IsRepliedTo, IsUnjudged, rows_upon}
-use Rattle.fetched_ends.specs.InSession.{IsFetchedIn, IsOvertaken}
+use Rattle.fetched_ends.specs.InSession.{IsFetchedIn}
 use Rattle.fetched_ends.specs.SessionOthers.{IsOtherAnswer, left_then}
 use Rattle.fetched_ends.specs.declared.in_session.InSession.{InSession}
 use Rattle.fetched_ends.specs.declared.upon.Upon.TheVariants as upon
@@ -147,9 +148,6 @@ module _ (w : Configuration) (q : ReqSetup) (older : List (List ℕ)) (rows : Li
   refused_other result told plain large why is new stands table =
       refused w q older rows f route answer byte limits own turn fetched.id kept.at other.record_is fetched.least fetched.most fetched.op kept.lengths kept.asks kept.whole kept.stands why is
       (is_none_with w q older rows f route answer byte limits own turn party fetched kept refuses other (λ shown. plain (told.whole.1 shown)) (λ shown. large (told.large.1 shown))) new stands table
-
-  pub told_apart : IsOvertaken (responder_for w f.kept) fetched.id (with_large (Some fetched.id) kept.whole f.kept.responder) f.kept turn.round answer → IsUnjudged w f answer
-  told_apart over = inr (inl (fetched.id, round, kept.whole, kept.at, turn.answers.0, kept.stands, over))
 
   pub begins_other : IsShownLarge (responder_for w f.kept) (with_large (Some fetched.id) kept.whole f.kept.responder) turn.round.tag turn.round.body answer → IsUnjudged w f answer
   begins_other large =
@@ -270,6 +268,7 @@ module _ (w : Configuration) (q : ReqSetup) (older : List (List ℕ)) (rows : Li
               stands = stands_then w q older rows f route answer byte limits own turn party fetched kept refuses other shown;
               judges = subst (IsAnswerer new.answerer r) (sym large) answerer;
               pending = left_is w q older rows f route answer byte limits own turn party fetched kept refuses other shown view viewed taken takes_it ∙ sym left_as;
+              uncounted = λ none live. uncounted_then w q older rows f route answer byte limits own turn party fetched kept refuses other shown view viewed taken takes_it left left_as none live;
               sizes = λ some. sizes_then w q older rows f route answer byte limits own turn party fetched kept refuses other shown view viewed taken takes_it (sym left_as ∙ some);
               room = kept.room;
               anew = λ tag. ap (λ o. is_repeat o tag (canonical_request GetVersion)) (clear_then w q older rows f route answer byte limits own turn party fetched kept refuses other shown) ∙ kept.anew tag;

@@ -50,7 +50,7 @@ by_place : (i id : ℕ) (e : Entry) (h : History) (w : List ℕ) (b : Bool) → 
 by_place i id e h w true apart is before = here i id e h w apart is
 by_place i id e h w false apart is before = behind i e (with_large (Some id) w h) h (session_turns id w h) before
 
-other_session : (i id : ℕ) (w : List ℕ) (h : History) → i ≢ id → session_of i (with_large (Some id) w h) ≡ session_of i h
+pub other_session : (i id : ℕ) (w : List ℕ) (h : History) → i ≢ id → session_of i (with_large (Some id) w h) ≡ session_of i h
 other_session i id w [] apart = refl
 other_session i id w (e ∷ h) apart = by_place i id e h w (is_unseen_in (Some id) e) apart refl (other_session i id w h apart)
 

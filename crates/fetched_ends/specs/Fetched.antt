@@ -16,12 +16,11 @@ use Rattle.capture_laws.specs.Rows.{StandsForRows}
 use Rattle.capture_laws.specs.declared.verdict.Seen.{Seen}
 use Rattle.large_answers.specs.Fetching.{Fetching, MayStand, dialogue_of, number_of}
 use Rattle.large_answers.specs.FetchingLaws.{EndsFetching, GoesFetching, TurnsFetching}
-use Rattle.fetched_ends.specs.InSession.{IsOvertaken}
 use Rattle.fetched_ends.specs.declared.upon.Upon.{Upon}
 use Rattle.fetched_ends.specs.declared.upon.Upon.TheVariants as upon
 use Rattle.world_machine.specs.Difference.{GoesApart, Why, goes_why}
 use Rattle.world_machine.specs.Difference.Why.{BadVerify}
-use Rattle.world_machine.specs.LargeAnswers.{judging, with_large}
+use Rattle.world_machine.specs.LargeAnswers.{judging}
 use Rattle.world_machine.specs.Rounds.{Round}
 use Rattle.world_machine.specs.SessionTable.{Row, rows_between}
 use Rattle.world_machine.specs.Setup.{Configuration}
@@ -51,15 +50,12 @@ IsLastInClear f round answer =
     × (answer ≡ clear_body (get_response f.kept.responder whole handle (number_of f)))
     × (nat_lt (number_of f + 1) (chunk_count (place_terms (clear_with f.kept.responder whole)).common.to_requester.transfer whole) ≡ false)
 
--- It is not judged: it begins another large answer by what it shows; or one is fetched in a session, and it is told apart
--- there; or one is fetched in the clear, and it is one of those.
+-- It is not judged: it begins another large answer by what it shows; or one is fetched in the clear, and it is one of those.
 abbrev pub IsUnjudged : Configuration → Fetching → (answer : List ℕ) → Type 0
 IsUnjudged w f answer =
     ((round : Round) × (whole : List ℕ) × (f.kept.round ≡ Some round) × MayStand f whole
     × IsShownLarge (responder_for w f.kept) (judging (Some whole) round.body f.kept.responder) round.tag round.body answer)
-    ⊎ (((id : ℕ) × (round : Round) × (whole : List ℕ) × (f.at ≡ Some id) × (f.kept.round ≡ Some round) × MayStand f whole
-    × IsOvertaken (responder_for w f.kept) id (with_large (Some id) whole f.kept.responder) f.kept round answer)
-    ⊎ ((f.at ≡ None) × ((round : Round) × (f.kept.round ≡ Some round) × IsLastInClear f round answer)))
+    ⊎ ((f.at ≡ None) × ((round : Round) × (f.kept.round ≡ Some round) × IsLastInClear f round answer))
 
 -- It goes on, and then this stands for what is kept behind it, and so does the table; or it is not judged; or it is
 -- refused, and then why.

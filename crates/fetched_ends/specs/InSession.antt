@@ -2,13 +2,9 @@
 -- This project's own.
 use Rattle.std.specs.Prelude.{◌≡◌, ◌≤◌, ◌<◌, ◌-◌, ◌==◌, ◌++◌, ◌↔◌, ℕ, List, drop, length, slice_index, Bool, true, false, if◌then◌else◌, Option, Some, None, unwrap_or}
 use Rattle.capture_ends.specs.AnswerKeys.{will_take}
-use Rattle.capture_ends.specs.Answerer.{history_shown}
-use Rattle.capture_ends.specs.HeardKept.{asks_upon}
 use Rattle.capture_ends.specs.Party.{IsBeside}
 use Rattle.capture_ends.specs.declared.party.Party.{Party}
 use Rattle.capture_laws.specs.AnswersShown.{answered_text}
-use Rattle.capture_laws.specs.DropsShown.{IsShownAnswer}
-use Rattle.capture_laws.specs.Keeping.{Kept}
 use Rattle.capture_laws.specs.RepliesShown.{responder_for}
 use Rattle.fetched_answers.specs.AnswerTexts.{Holds}
 use Rattle.fetched_answers.specs.JudgedFor.{JudgesFor, session_with}
@@ -25,6 +21,7 @@ use Rattle.responder_machine.specs.Refusal.{has_pending}
 use Rattle.responder_machine.specs.Responder.{is_repeat}
 use Rattle.responder_machine.specs.Session.{id_in_record, is_live, session_of, session_terms}
 use Rattle.responder_machine.specs.Setup.{RspSetup, inventory_of}
+use Rattle.responder_session.specs.Pending.{IsUncounted}
 use Rattle.spdm_grammar.specs.Fields.{zeros}
 use Rattle.spdm_grammar.specs.Message.RequestMessage.{GetVersion}
 use Rattle.spdm_grammar.specs.Requests.{canonical_request}
@@ -33,7 +30,6 @@ use Rattle.spdm_grammar.specs.declared.names.TheConstants.{MAX_MESSAGE_SIZE}
 use Rattle.spdm_grammar.specs.declared.names.response_code.TheConstants.{CHUNK_RESPONSE}
 use Rattle.world_machine.specs.LargeAnswers.{IsLargeAnswer, with_large}
 use Rattle.world_machine.specs.Opening.{turn_in}
-use Rattle.world_machine.specs.Rounds.{Round}
 use Rattle.world_machine.specs.SessionTable.{Row}
 use Rattle.world_machine.specs.Setup.{Configuration}
 
@@ -96,8 +92,9 @@ AsksFor r id place op h = (whole : List ℕ) → IsLargeAnswer place whole → I
 -- ---- What is kept.
 
 -- The connection judges with some bytes that may stand; what is kept of the chunks, the lengths that go by chunks, the
--- RspSessionID, the operation that the request asks for, which has its blocks, and whether a chunk is left to be given. The
--- responder takes messages of four bytes, and GET_VERSION would be no repeat.
+-- RspSessionID, the operation that the request asks for, which has its blocks, and whether a chunk is left to be given. Where none
+-- is, the session counts the answer, and is else as if it was not seen. The responder takes messages of four bytes, and
+-- GET_VERSION would be no repeat.
 pub record IsFetchedIn (party : Party) (fetched : InSession) (w : Configuration) (q : ReqSetup) (f : Fetching) (rows : List Row) : Type 0 where
   pub beside : IsBeside party w q f.kept rows
   pub at : f.at ≡ Some fetched.id
@@ -109,6 +106,7 @@ pub record IsFetchedIn (party : Party) (fetched : InSession) (w : Configuration)
   pub stands : MayStand f whole
   pub judges : JudgesFor party.answerer.connection (responder_for w f.kept) f.kept.responder (Some fetched.id) whole
   pub pending : has_pending (session_place (session_with fetched.id f.kept.responder whole)) ≡ fetched.left
+  pub uncounted : fetched.left ≡ false → is_live (session_with fetched.id f.kept.responder whole) ≡ true → IsUncounted (session_with fetched.id f.kept.responder whole) (session_of fetched.id f.kept.responder)
   pub sizes : fetched.left ≡ true → (session_terms (session_with fetched.id f.kept.responder whole)).common ≡ (place_terms f.place).common
   pub room : 4 ≤ (responder_for w f.kept).transfer
   pub anew : (tag : ℕ) → is_repeat (kept_of f.kept.responder) tag (canonical_request GetVersion) ≡ false
@@ -129,14 +127,3 @@ pub record IsReadIn (party : Party) (fetched : InSession) (w : Configuration) (q
   pub chunk : is_chunk message ≡ true
   pub fits : AreFitting fetched message
   pub fills : whole ≡ filled fetched.answer.number fetched.answer.size fetched.answer.bytes message
-
--- ---- What is not judged.
-
--- An answer in a round of the session, by the history with some bytes that may stand, which goes whole, and upon which the
--- requester asks for no chunk. Behind it the session is live, and no chunk is left to be given there: it took another request
--- in place of CHUNK_GET, so a record opened there to something else than what was sealed in it.
-pub record IsOvertaken (r : RspSetup) (id : ℕ) (h : History) (k : Kept) (round : Round) (answer : List ℕ) : Type 0 where
-  pub shown : IsShownAnswer r h round.tag round.body answer
-  pub stops : asks_upon k round.tag answer ≡ false
-  pub live : is_live (session_of id (history_shown r h round.tag round.body answer)) ≡ true
-  pub none : has_pending (session_place (session_of id (history_shown r h round.tag round.body answer))) ≡ false

@@ -8,7 +8,7 @@ ghost use Rattle.connection.specs.Setup.{IsSetUp};
 ghost use Rattle.fetched_answers.specs.JudgedFor.{JudgesFor};
 ghost use Rattle.fetched_ends.specs.Fetched.{IsRepliedTo};
 ghost use Rattle.fetched_ends.specs.InSession.{IsFetchedIn};
-ghost use Rattle.fetched_ends.specs.SessionOthers.{IsOtherRound, MayForget, is_overtaken, left_then};
+ghost use Rattle.fetched_ends.specs.SessionOthers.{IsOtherRound, MayForget, left_then};
 ghost use Rattle.fetched_ends.specs.declared.upon.Upon.TheVariants as upon;
 ghost use Rattle.large_answers.specs.Fetching.{Fetching, IsFetchingOf};
 ghost use Rattle.mctp_framing.specs.Cutting.{RouteFields};
@@ -36,21 +36,17 @@ fn left_then(left: bool, live: bool, idle: bool, refuses: bool) -> bool
     left && live && (idle || refuses)
 }
 
-// Whether the requester asks for no chunk, and the session, which is live, took another request in place of
-// CHUNK_GET: then the connection cannot be told that the large answer was not seen.
-fn is_overtaken(fetches: bool, live: bool, left: bool) -> bool
-    ensures { result ≡ is_overtaken fetches live left }
-{
-    !fetches && live && !left
-}
-
-// The large answer of the session was not seen: it is forgotten where a chunk of it is left to be given.
-fn forgets(connection: &mut Connection, id: u16, left: bool)
-    ensures { (r : RspSetup) (h : History) (whole : List ℕ) → MayForget id h whole left
+// The large answer of the session was not seen: it is forgotten where a chunk of it is left to be given, and
+// else not counted by the session, if that is live.
+fn forgets(connection: &mut Connection, id: u16, left: bool, live: bool)
+    ensures { (r : RspSetup) (h : History) (whole : List ℕ) → MayForget id h whole left live
         → JudgesFor connection.old r h (Some id) whole → StandsFor connection.new r h }
 {
     if left {
-        forget_bytes(connection, id);
+        return forget_bytes(connection, id);
+    }
+    if live {
+        connection.uncount_in(id);
     }
 }
 
@@ -96,16 +92,13 @@ pub(crate) fn judges_other(
             let heard = party.go_on(round, key, answer, true);
             let live = party.answerer.connection.view(fetched.id).is_some();
             let left = left_then(fetched.left, live, taken.is_none(), refuses);
-            if is_overtaken(heard.fetches, live, left) {
-                return Ok(Ok(Upon::Large));
-            }
             let change = party.change(None, heard.accepted, taken);
             table.take(&mut party.places, party.number, &change)?;
             if heard.fetches {
                 fetched.left = left;
                 return Ok(Ok(Upon::Fetched));
             }
-            forgets(&mut party.answerer.connection, fetched.id, left);
+            forgets(&mut party.answerer.connection, fetched.id, left, live);
             Ok(Ok(Upon::Ended))
         }
         Some(Given::Large) => Ok(Ok(Upon::Large)),

@@ -29,54 +29,11 @@ use Rattle.world_machine.specs.LargeAnswers.{with_large}
 use Rattle.world_machine.specs.Rounds.{Round, no_draw}
 use Rattle.world_machine.specs.SessionTable.{number_from, rows_between}
 use Rattle.fetched_ends.proofs.InSessionRead.{few_kept, keys_kept}
-use Rattle.fetched_ends.proofs.OthersStop.{judges_then, may_forget, overtaken, taken_over}
-use Rattle.fetched_ends.proofs.OthersTold.{awaits, begins_other, behind_given, carries, change_then, ended_then, fetched_then, few_then, given_is, keys_then, no_last, none_of, refused_other, step_then, taken_is, then, then_kept, told_apart}
+use Rattle.fetched_ends.proofs.OthersStop.{judges_then, may_forget}
+use Rattle.fetched_ends.proofs.OthersTold.{awaits, begins_other, behind_given, carries, change_then, ended_then, fetched_then, few_then, given_is, keys_then, no_last, none_of, refused_other, step_then, taken_is, then, then_kept}
 use Rattle.fetched_ends.proofs.session_others.judges_other.Goals as goal
 use Rattle.fetched_ends.specs.InSession.{IsFetchedIn}
-use Rattle.fetched_ends.specs.SessionOthers.{IsOtherAnswer, is_overtaken, left_then}
-
-pub returns-then-is_overtaken-clause-told : goal.returns-then-is_overtaken-clause-told
-returns-then-is_overtaken-clause-told c = λ w q older rows f route own below byte now set_up none others kept stands.
-    let fewer : length older < 2 ^ 64 - 1 = omega (arith, below) in
-    let answer : List ℕ = c.args.answer.now in
-    let party = c.args.party.now in
-    let fetched = c.args.fetched.now in
-    let refuses = c.args.refuses in
-    let turn = answers_in_turn f.kept route answer none in
-    let limits = kept_limits q f.kept party.asker kept.beside.asker in
-    let r = responder_for w f.kept in
-    let g = with_large (Some fetched.id) kept.whole f.kept.responder in
-    let other = subst (λ (x : Round). IsOtherAnswer r fetched f x answer refuses) (same_Some others.0 turn.round (sym others.1 ∙ turn.answers.0)) others.2 in
-    let at = now ∙ turn.answers.0 in
-    let body = c.body-body.ensures ∙ ap body_in at in
-    let small = few_kept w q older rows f route answer byte limits own turn party fetched kept [] fewer in
-    let first = subst (λ (x : Connection). connected.StandsFor x r g) (sym c.reply_why-why.ensures.same) kept.judges in
-    let second = subst (λ (x : Connection). connected.StandsFor x r g) (sym c.coming_key-key.ensures.same) first in
-    let request = c.behind_type.ensures ∙ ap (λ (l : List ℕ). drop 1 l) body in
-    let told = given_is w q older rows f route answer byte limits own turn party fetched kept refuses other c.behind_type.result.now c.answers_record.result request (c.answers_record.ensures.told r g turn.round.tag set_up second small) in
-    let keys_before = keys_kept w q older rows f route answer byte limits own turn party fetched kept [] other.record_is in
-    let carry = carries w q older rows f route answer byte limits own turn party fetched kept refuses other in
-    let is = c.in-Some-Whole.is ∙ ap Some c.in-Some-Whole.field-0-is in
-    let shown = told.whole.0 is in
-    let fetches = c.go_on-heard.ensures.fetches w q older f.kept turn.round carry below turn.answers.0 at kept.beside.asker (awaits w q older rows f route answer byte limits own turn party fetched kept refuses other) in
-    let G = history_shown r g turn.round.tag turn.round.body answer in
-    let behind = behind_given w q older rows f route answer byte limits own turn party fetched kept refuses other c.answers_record.new.self c.behind_type.result.now request
-    (subst (λ (x : Option Given). IfSome x (λ (y : Given). IsAnswerer c.answers_record.new.self r (history_behind r g turn.round.tag (record_body c.behind_type.result.now) answer y))) is (c.answers_record.ensures.stands r g turn.round.tag set_up second small)) in
-    let new = c.go_on-heard.new.self in
-    let answerer = subst (λ (x : Answerer). IsAnswerer x r G) (sym c.go_on-heard.ensures.answerer) behind in
-    let coming = subst (λ (b : List ℕ). IsComingKey r g b c.coming_key-key.result) c.body-body.ensures (c.coming_key-key.ensures.key r g first small) in
-    let seen = c.args.round.now in
-    let keys = keys_then w q older rows f route answer byte limits own turn party fetched kept refuses other shown seen at new
-    (λ ids v here. c.go_on-heard.ensures.keys r g ids v no_draw keys_before coming
-    (subst (λ (x : Answerer). IsAnswerer x r (after (with_dropped g ids) (on_body r (with_dropped g ids) (tag_in seen) (body_in seen) v no_draw))) c.go_on-heard.ensures.answerer here)) answerer in
-    let few = few_then w q older rows f route answer byte limits own turn party fetched kept refuses other shown small in
-    let next = (then_kept w q older rows f route answer byte limits own turn party fetched kept refuses other shown).kept in
-    let took = c.taken-taken.ensures r g second ∙ ap (λ (b : List ℕ). taken_shown g b answer) body in
-    let taken = taken_is w q older rows f route answer byte limits own turn party fetched kept refuses other shown c.whole_answer_changes.ensures c.taken-taken.result took in
-    let left = c.left_then-left.ensures ∙ ap (λ (b : Bool). left_then fetched.left b c.is_none.result refuses) c.is_some-live.ensures ∙ ap (λ (b : Bool). left_then fetched.left (is_some c.view.result) b refuses) (none_of c.taken-taken.result c.is_none.result c.is_none.ensures) in
-    let over = taken_over c.go_on-heard.result.fetches c.is_some-live.result c.left_then-left.result (sym c.is_overtaken.ensures ∙ c.if-is_overtaken.true) in
-    told_apart w q older rows f route answer byte limits own turn party fetched kept refuses other
-    (overtaken w q older rows f route answer byte limits own turn party fetched kept refuses other shown c.view.result (c.view.ensures r G answerer few) c.taken-taken.result taken c.left_then-left.result left over.2 (sym c.is_some-live.ensures ∙ over.1) (sym fetches ∙ over.0))
+use Rattle.fetched_ends.specs.SessionOthers.{IsOtherAnswer, MayForget, left_then}
 
 pub returns-then-heard-clause-told : goal.returns-then-heard-clause-told
 returns-then-heard-clause-told c = λ w q older rows f route own below byte now set_up none others kept stands.
@@ -194,10 +151,10 @@ returns-else-heard-clause-told c = λ w q older rows f route own below byte now 
     let asker = c.go_on-heard.ensures.asker w q older f.kept (then w q older rows f route answer byte limits own turn party fetched kept refuses other shown) turn.round carry below turn.answers.0 at kept.beside.asker in
     let taken = taken_is w q older rows f route answer byte limits own turn party fetched kept refuses other shown c.whole_answer_changes.ensures c.taken-taken.result took in
     let left = c.left_then-left.ensures ∙ ap (λ (b : Bool). left_then fetched.left b c.is_none.result refuses) c.is_some-live.ensures ∙ ap (λ (b : Bool). left_then fetched.left (is_some c.view.result) b refuses) (none_of c.taken-taken.result c.is_none.result c.is_none.ensures) in
-    let not_over = ap (λ (b : Bool). is_overtaken b (is_some c.view.result) c.left_then-left.result) (sym c.if-heard.false) ∙ ap (λ (b : Bool). is_overtaken c.go_on-heard.result.fetches b c.left_then-left.result) (sym c.is_some-live.ensures) ∙ sym c.is_overtaken.ensures ∙ c.if-is_overtaken.false in
     let forgotten : Answerer = record new.answerer { connection = c.forgets.new.connection } in
     let last = record new { places = c.take.new.places; answerer = forgotten } in
-    let may = may_forget w q older rows f route answer byte limits own turn party fetched kept refuses other shown c.view.result (c.view.ensures r G answerer few) c.taken-taken.result taken c.left_then-left.result left not_over in
+    let seen_live = subst (MayForget fetched.id (then w q older rows f route answer byte limits own turn party fetched kept refuses other shown) kept.whole c.left_then-left.result) (sym c.is_some-live.ensures) in
+    let may = seen_live (may_forget w q older rows f route answer byte limits own turn party fetched kept refuses other shown c.view.result (c.view.ensures r G answerer few) c.taken-taken.result taken c.left_then-left.result left) in
     let judges = judges_then w q older rows f route answer byte limits own turn party fetched kept refuses other shown c.view.result (c.view.ensures r G answerer few) c.taken-taken.result taken c.left_then-left.result left new.answerer answerer in
     let unseen = c.forgets.ensures r (then w q older rows f route answer byte limits own turn party fetched kept refuses other shown) kept.whole may judges in
     ended_then w q older rows f route answer byte limits own turn party fetched kept refuses other shown last fetched c.take.new.self
