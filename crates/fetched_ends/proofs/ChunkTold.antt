@@ -1,5 +1,5 @@
 -- What the calls tell of a chunk of a large answer that is fetched in a session.
-use Rattle.std.proofs.Common.{◌≡◌, ◌≤◌, ◌<◌, ◌-◌, ◌^◌, ◌==◌, ◌||◌, ℕ, List, [], ◌∷◌, sym, ap, ◌∙◌, subst, drop, length, arith, Bool, true, false, Option, Some, inl, eqb-true}
+use Rattle.std.proofs.Common.{◌≡◌, ◌≤◌, ◌<◌, ◌-◌, ◌^◌, ◌==◌, ◌||◌, ℕ, List, [], ◌∷◌, sym, ap, ◌∙◌, subst, drop, length, arith, Bool, true, false, Option, Some, eqb-true}
 use Rattle.std.specs.Prelude.{slice_index}
 use Rattle.std.proofs.lemmas.Bool.{false≢true}
 use Rattle.mctp_framing.specs.Cutting.{RouteFields}
@@ -15,7 +15,7 @@ use Rattle.capture_ends.specs.declared.given.Given.TheVariants as given
 use Rattle.capture_ends.specs.declared.party.Party.{Party}
 use Rattle.capture_laws.specs.AnswersShown.{values_shown_by}
 use Rattle.capture_laws.specs.Keeping.{Kept, restored}
-use Rattle.capture_laws.specs.LargeShown.{IsShownLarge, last_shown}
+use Rattle.capture_laws.specs.LargeShown.{last_shown}
 use Rattle.capture_laws.specs.Order.{body_in, tag_in}
 use Rattle.capture_laws.specs.RepliesShown.{responder_for}
 use Rattle.large_answers.proofs.PlainLaws.{Now, now}
@@ -33,17 +33,16 @@ use Rattle.responder_machine.specs.Responder.Outcome.{Adds}
 use Rattle.responder_machine.specs.Setup.{RspSetup}
 use Rattle.spdm_grammar.specs.declared.names.TheConstants.{MAX_MESSAGE_SIZE}
 use Rattle.spdm_machine.specs.Bodies.{record_body}
-use Rattle.world_machine.specs.LargeAnswers.{is_fetching, judging, with_large}
+use Rattle.world_machine.specs.LargeAnswers.{is_fetching, with_large}
 use Rattle.world_machine.specs.Rounds.{Round, no_draw}
 use Rattle.world_machine.specs.SessionTable.{Row}
 use Rattle.world_machine.specs.Setup.{Configuration}
 use Rattle.fetched_ends.proofs.Filled.{filled_long}
 use Rattle.fetched_ends.proofs.InSessionLast.{last_adds, last_entry}
-use Rattle.fetched_ends.proofs.InSessionRecord.{place_is, unseen_stand}
+use Rattle.fetched_ends.proofs.InSessionRecord.{unseen_stand}
 use Rattle.fetched_ends.proofs.InSessionTold.{carries}
 use Rattle.fetched_ends.proofs.RecordTaken.{body_adds, shown_behind}
 use Rattle.fetched_ends.proofs.SeenKeys.{keys_given}
-use Rattle.fetched_ends.specs.Fetched.{IsUnjudged}
 use Rattle.fetched_ends.specs.InSession.{IsReadIn}
 use Rattle.fetched_ends.specs.declared.in_session.InSession.{InSession}
 
@@ -55,9 +54,15 @@ record_again : (body : List ℕ) → slice_index body 0 ≡ 6 → record_body (d
 record_again [] is = absurd (omega (arith, is))
 record_again (x ∷ body) is = ap (λ (n : ℕ). n ∷ body) (sym is)
 
--- A chunk is not both.
+-- An answer is one of them.
 pub whole_not_last : Some given.Last ≡ Some given.Whole → ⊥
 whole_not_last is = absurd (cc)
+
+pub large_not_whole : Some given.Large ≡ Some given.Whole → ⊥
+large_not_whole is = absurd (cc)
+
+pub large_not_last : Some given.Large ≡ Some given.Last → ⊥
+large_not_last is = absurd (cc)
 
 module _ (w : Configuration) (q : ReqSetup) (older : List (List ℕ)) (rows : List Row) (f : Fetching) (route : RouteFields) (answer : List ℕ) (byte : w.responder.beat < 256) (limits : IsSetUp f.kept.setup) (own : IsFetchingOf w q older f) (turn : AnswersInTurn f.kept route answer)
     (party : Party) (fetched : InSession) (message whole : List ℕ) (read : IsReadIn party fetched w q f rows turn.round.body answer message whole) where
@@ -138,11 +143,3 @@ module _ (w : Configuration) (q : ReqSetup) (older : List (List ℕ)) (rows : Li
       → after (with_dropped (with_large (Some fetched.id) whole f.kept.responder) []) (on_body (responder_for w f.kept) (with_dropped (with_large (Some fetched.id) whole f.kept.responder) []) (tag_in seen) (body_in seen) values no_draw) ≡ entry ∷ with_large (Some fetched.id) whole f.kept.responder
   adds_at seen is =
       ap (λ (o : Option Round). after g (on_body r g (tag_in o) (body_in o) values no_draw)) is ∙ ap (after g) (body_adds r g round.tag round.body answer read.record_is read.read.taken values)
-
-  -- ---- What is told apart.
-
-  pub begins_other : IsShownLarge (responder_for w f.kept) (with_large (Some fetched.id) whole f.kept.responder) turn.round.tag turn.round.body answer → IsUnjudged w f answer
-  begins_other large =
-      let judged : judging (Some whole) round.body h ≡ g =
-      ap (λ (o : Option ℕ). with_large o whole h) (place_is w q older f route answer byte limits own turn fetched.id read.kept.at read.record_is whole stand) in
-      inl (round, whole, turn.answers.0, stand, subst (λ (l : History). IsShownLarge r l round.tag round.body answer) (sym judged) large)

@@ -83,7 +83,7 @@ pub(crate) fn judges_chunk(
             table.take(&mut party.places, party.number, &change)?;
             Ok(Some(Upon::Ended))
         }
-        Some(Given::Large) => Ok(Some(Upon::Large)),
+        Some(Given::Large) => Ok(None),
         None => Ok(None),
     }
 }

@@ -27,7 +27,7 @@ use Rattle.spdm_machine.specs.Bodies.{record_body}
 use Rattle.world_machine.specs.LargeAnswers.{with_large}
 use Rattle.world_machine.specs.Rounds.{no_draw}
 use Rattle.world_machine.specs.SessionTable.{number_from, rows_between}
-use Rattle.fetched_ends.proofs.ChunkTold.{adds_at, awaits, begins_other, behind_last, behind_whole, entry, few_behind, given_is, keys_before, long_whole, values, whole_not_last}
+use Rattle.fetched_ends.proofs.ChunkTold.{adds_at, awaits, behind_last, behind_whole, entry, few_behind, given_is, keys_before, large_not_last, large_not_whole, long_whole, values, whole_not_last}
 use Rattle.fetched_ends.proofs.InSessionGone.{change_next, keys_next, step_next}
 use Rattle.fetched_ends.proofs.InSessionLast.{change_last, ended_on, last_kept, step_last}
 use Rattle.fetched_ends.proofs.InSessionTold.{carries, few as few_of, fetched_on, its_message, judges, shows, stand, then_kept}
@@ -269,8 +269,14 @@ returns-in-Some-Large-clause-told c = λ w q older rows f route own below byte n
     let first = subst (λ (x : Connection). connected.StandsFor x r g) (sym c.coming_key-key.ensures.same) (judges w q older rows f route answer byte limits own turn c.args.party.now c.args.fetched.now c.args.message.now c.args.whole.now read) in
     let request = c.behind_type.ensures ∙ ap (λ (l : List ℕ). drop 1 l) body in
     let told = given_is w q older rows f route answer byte limits own turn c.args.party.now c.args.fetched.now c.args.message.now c.args.whole.now read c.behind_type.result.now c.answers_record.result request (c.answers_record.ensures.told r g turn.round.tag set_up first small) in
-    let is = c.in-Some-Large.is ∙ ap Some c.in-Some-Large.field-0-is in
-    begins_other w q older rows f route answer byte limits own turn c.args.party.now c.args.fetched.now c.args.message.now c.args.whole.now read (told.large.0 is)
+    let is = c.in-Some-Large.is ∙ ap Some c.in-Some-Large.field-0-is in (
+      turn.round,
+      turn.answers.0,
+      record {
+        next = λ shown. large_not_whole (sym is ∙ told.whole.1 shown);
+        last = λ ends measured. absurd (large_not_last (sym is ∙ told.last.1 ends));
+      },
+    )
 
 pub returns-in-None-clause-told : goal.returns-in-None-clause-told
 returns-in-None-clause-told c = λ w q older rows f route own below byte now set_up none in_body stands.
