@@ -18,8 +18,8 @@ returns c = λ r h k is stands.
         kept = stands.clear.kept ∙ is.kept;
       };
       sessions = standing_with now r k id (c.uncount_at.ensures.own r (session_of id h) (session_of id k) is.own (stands.sessions.slots id))
-      (λ i other. subst (IsSlotOf (slot_of now i) r) (is.others i other) (subst (λ (y : Option Live). IsSlotOf y r (session_of i h)) (sym (c.uncount_at.ensures.others i other)) (stands.sessions.slots i)))
-      (c.uncount_at.ensures.ended ∙ stands.sessions.ended ∙ is.ended);
+          (λ i other. subst (IsSlotOf (slot_of now i) r) (is.others i other) (subst (λ (y : Option Live). IsSlotOf y r (session_of i h)) (sym (c.uncount_at.ensures.others i other)) (stands.sessions.slots i)))
+          (c.uncount_at.ensures.ended ∙ stands.sessions.ended ∙ is.ended);
       queue = stands.queue ∙ is.queue;
       sizes = subst (HasSizesAt r) is.turns stands.sizes;
     }

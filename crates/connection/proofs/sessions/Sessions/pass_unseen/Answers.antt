@@ -1,4 +1,3 @@
 use Rattle.std.proofs.Common.{◌∙◌}
 use Rattle.connection.proofs.UnseenRequests.{sessions_pass}
 use Rattle.connection.proofs.sessions.Sessions.pass_unseen.Goals as goal
-
