@@ -1,5 +1,5 @@
 -- The MEASUREMENTS that are fetched in a session are as pending behind a request that is refused there.
-use Rattle.std.proofs.Common.{◌≡◌, ◌+◌, ◌||◌, ℕ, List, ◌∷◌, refl, sym, ap, ◌∙◌, Bool, true, false, Option, Some, None, is_none, is_some, cond}
+use Rattle.std.proofs.Common.{◌≡◌, ◌+◌, ◌||◌, ℕ, List, ◌∷◌, refl, ap, ◌∙◌, Bool, true, false, Option, Some, None, is_none, is_some, cond}
 use Rattle.std.specs.Prelude.{not}
 use Rattle.std.proofs.lemmas.Bool.{false≢true}
 use Rattle.fetched_answers.specs.JudgedFor.{IsMeasured, session_with}

@@ -259,7 +259,7 @@ module _ (w : Configuration) (q : ReqSetup) (older : List (List ℕ)) (rows : Li
   may_by : (b c : Bool) → left ≡ b → is_some view ≡ c → MayForget id then x b c
   may_by true c some is = (flipped x, apart (was_left some), one_measured some, other_measured some)
   may_by false true none is = record {
-    own = uncounted_then none (sym (ap (λ (l : History). is_live (session_of id l)) (sym large_is)) ∙ live_view view _ viewed is);
+    own = uncounted_then none (ap (λ (l : History). is_live (session_of id l)) large_is ∙ live_view view _ viewed is);
     others = λ i other_id. other_session i id x then other_id;
     turns = session_turns id x then;
     kept = kept_large (Some id) x then;

@@ -153,8 +153,8 @@ returns-else-heard-clause-told c = λ w q older rows f route own below byte now 
     let left = c.left_then-left.ensures ∙ ap (λ (b : Bool). left_then fetched.left b c.is_none.result refuses) c.is_some-live.ensures ∙ ap (λ (b : Bool). left_then fetched.left (is_some c.view.result) b refuses) (none_of c.taken-taken.result c.is_none.result c.is_none.ensures) in
     let forgotten : Answerer = record new.answerer { connection = c.forgets.new.connection } in
     let last = record new { places = c.take.new.places; answerer = forgotten } in
-    let seen_live = subst (MayForget fetched.id (then w q older rows f route answer byte limits own turn party fetched kept refuses other shown) kept.whole c.left_then-left.result) (sym c.is_some-live.ensures) in
-    let may = seen_live (may_forget w q older rows f route answer byte limits own turn party fetched kept refuses other shown c.view.result (c.view.ensures r G answerer few) c.taken-taken.result taken c.left_then-left.result left) in
+    let may = subst (λ (b : Bool). MayForget fetched.id (then w q older rows f route answer byte limits own turn party fetched kept refuses other shown) kept.whole c.left_then-left.result b) (sym c.is_some-live.ensures)
+    (may_forget w q older rows f route answer byte limits own turn party fetched kept refuses other shown c.view.result (c.view.ensures r G answerer few) c.taken-taken.result taken c.left_then-left.result left) in
     let judges = judges_then w q older rows f route answer byte limits own turn party fetched kept refuses other shown c.view.result (c.view.ensures r G answerer few) c.taken-taken.result taken c.left_then-left.result left new.answerer answerer in
     let unseen = c.forgets.ensures r (then w q older rows f route answer byte limits own turn party fetched kept refuses other shown) kept.whole may judges in
     ended_then w q older rows f route answer byte limits own turn party fetched kept refuses other shown last fetched c.take.new.self
