@@ -1,5 +1,5 @@
 -- A request whose large answer was never seen: what it leaves of the clear part and of the sessions.
-use Rattle.std.proofs.Common.{refl, ◌∙◌, ◌≡◌, ◌==◌, ◌&&◌, ◌||◌, ℕ, zero, suc, List, [], ◌∷◌, true, false, Bool, Option, Some, None, not, cond, ap, sym, subst, arith}
+use Rattle.std.proofs.Common.{refl, ◌∙◌, ◌≡◌, ◌||◌, ℕ, zero, suc, List, [], ◌∷◌, true, false, Bool, Option, Some, None, cond, ap, sym, subst, arith}
 use Rattle.std.proofs.lemmas.Bool.Decides.{nat_tests}
 use Rattle.connection.proofs.Waiting.{Visits, all_visited}
 use Rattle.connection.specs.Beginning.{held_part}
@@ -24,8 +24,7 @@ use Rattle.responder_machine.specs.Setup.{RspSetup}
 use Rattle.responder_machine.specs.SizeLaws.{HasSizes}
 use Rattle.responder_machine.specs.Turn.{Turn, answer_in, request_in, takes}
 use Rattle.spdm_grammar.specs.Message.{ChunkMessage}
-use Rattle.spdm_grammar.specs.declared.names.request_code.TheConstants.{GET_CAPABILITIES, GET_VERSION, NEGOTIATE_ALGORITHMS, PSK_EXCHANGE}
-use Rattle.spdm_grammar.specs.declared.phase.Phase.{Phase}
+use Rattle.spdm_grammar.specs.declared.names.request_code.TheConstants.{GET_CAPABILITIES, NEGOTIATE_ALGORITHMS, PSK_EXCHANGE}
 use Rattle.spdm_grammar.specs.declared.phase.Phase.TheVariants.{Capable, Negotiated, Versioned}
 use Rattle.spdm_machine.specs.Keys.{Draw}
 use Rattle.spdm_machine.specs.Terms.{no_negotiation, terms_of}

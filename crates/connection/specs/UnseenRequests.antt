@@ -15,7 +15,7 @@ pub record IsUnseenTurn (t : Turn) : Type 0 where
   pub no_algorithms : takes NEGOTIATE_ALGORITHMS t ≡ false
 
 -- It is this message, with this reply, and is PSK_EXCHANGE or is not.
-pub record IsTurnOf (t : Turn) (message reply : List ℕ) (exchange : Bool) : Type 0 where
-  pub message : t.message ≡ message
-  pub reply : t.reply ≡ reply
-  pub exchange : takes PSK_EXCHANGE t ≡ exchange
+pub record IsTurnOf (t : Turn) (m out : List ℕ) (begins : Bool) : Type 0 where
+  pub message : t.message ≡ m
+  pub reply : t.reply ≡ out
+  pub exchange : takes PSK_EXCHANGE t ≡ begins

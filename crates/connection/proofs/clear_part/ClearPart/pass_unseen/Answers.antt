@@ -1,4 +1,4 @@
-use Rattle.std.proofs.Common.{◌∙◌, ◌∷◌, subst, sym}
+use Rattle.std.proofs.Common.{◌∙◌, subst, sym}
 use Rattle.connection.proofs.UnseenRequests.{kept_here}
 use Rattle.connection.specs.ClearPart.{Seen, StandsFor}
 use Rattle.connection.proofs.clear_part.ClearPart.pass_unseen.Goals as goal

@@ -1,4 +1,4 @@
-use Rattle.std.proofs.Common.{◌∙◌, ◌∷◌, List, subst, sym}
+use Rattle.std.proofs.Common.{◌∙◌, List, subst, sym}
 use Rattle.chunking.specs.Keeping as keeping
 use Rattle.connection.proofs.UnseenRequests.{no_chunks}
 use Rattle.connection.specs.Coming.{Seen, StandsFor}
