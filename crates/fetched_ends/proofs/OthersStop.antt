@@ -211,7 +211,7 @@ module _ (w : Configuration) (q : ReqSetup) (older : List (List ℕ)) (rows : Li
 
     -- A record was.
     module _ (e : Entry) (is : leads_to ≡ Adds e) where
-      its : IsSealed r g turn.round.tag turn.round.body e
+      abbrev its : IsSealed r g turn.round.tag turn.round.body e
       its = sealed w q older rows f route answer byte limits own turn party fetched kept refuses other shown e is
 
       gets_none : takes CHUNK_GET its.turn ≡ false
