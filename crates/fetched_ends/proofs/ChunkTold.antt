@@ -142,7 +142,7 @@ module _ (w : Configuration) (q : ReqSetup) (older : List (List ℕ)) (rows : Li
   -- ---- What is told apart.
 
   pub told_apart : IsOther (responder_for w f.kept) (with_large (Some fetched.id) whole f.kept.responder) f.kept turn.round answer → IsUnjudged w f answer
-  told_apart other = inr (inl (fetched.id, round, whole, read.kept.at, turn.answers.0, stand, other))
+  told_apart other = inr (fetched.id, round, whole, read.kept.at, turn.answers.0, stand, other)
 
   pub begins_other : IsShownLarge (responder_for w f.kept) (with_large (Some fetched.id) whole f.kept.responder) turn.round.tag turn.round.body answer → IsUnjudged w f answer
   begins_other large =

@@ -149,7 +149,7 @@ module _ (w : Configuration) (q : ReqSetup) (older : List (List ℕ)) (rows : Li
       (is_none_with w q older rows f route answer byte limits own turn party fetched kept refuses other (λ shown. plain (told.whole.1 shown)) (λ shown. large (told.large.1 shown))) new stands table
 
   pub told_apart : IsOther (responder_for w f.kept) (with_large (Some fetched.id) kept.whole f.kept.responder) f.kept turn.round answer → IsUnjudged w f answer
-  told_apart apart = inr (inl (fetched.id, round, kept.whole, kept.at, turn.answers.0, kept.stands, apart))
+  told_apart apart = inr (fetched.id, round, kept.whole, kept.at, turn.answers.0, kept.stands, apart)
 
   pub begins_other : IsShownLarge (responder_for w f.kept) (with_large (Some fetched.id) kept.whole f.kept.responder) turn.round.tag turn.round.body answer → IsUnjudged w f answer
   begins_other large =

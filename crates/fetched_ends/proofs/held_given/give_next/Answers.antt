@@ -1,0 +1,38 @@
+use Rattle.std.proofs.Common.{◌≡◌, ◌≤◌, ◌+◌, ◌==◌, ◌++◌, ◌∙◌, ℕ, List, sym, ap, subst, arith, length}
+use Rattle.std.specs.Prelude.{slice_index}
+use Rattle.chunking.specs.Collecting.{joined}
+use Rattle.chunking.specs.Cutting.{chunk_count, chunks_before, nth_chunk}
+use Rattle.fetched_answers.specs.ClearChunks.{get_response}
+use Rattle.fetched_ends.proofs.LastAsked.{extended}
+use Rattle.fetched_ends.proofs.LastGiven.{joined_few, joined_next, last_told, response_is}
+use Rattle.fetched_ends.specs.LastHeld.{count_at, gets_behind, transfer_at}
+use Rattle.large_answers.specs.Fetching.{bytes_in}
+use Rattle.responder_machine.specs.History.{History}
+use Rattle.fetched_ends.proofs.held_given.give_next.Goals as goal
+
+pub returns-clause-asked : goal.returns-clause-asked
+returns-clause-asked c = λ r h whole set_up can within before.
+    let tag : ℕ = c.args.tag in
+    let handle : ℕ = c.args.handle in
+    let n : ℕ = c.args.number in
+    let g : History = gets_behind tag handle whole h n in
+    let t : ℕ = transfer_at h whole in
+    let next = can.next n within in
+    let given = c.as_slice.ensures.value ∙ c.ask_chunk.ensures.gives r g whole set_up before.stands next in
+    let more : c.bytes_in.result.now ≡ bytes_in n (get_response g whole handle n) = c.bytes_in.ensures ∙ ap (bytes_in n) given in
+    let is = ap (λ (l : List ℕ). l ++ c.bytes_in.result.now) before.bytes_are ∙ ap (λ (l : List ℕ). joined (chunks_before t 0 whole n) ++ l) more ∙ joined_next tag handle whole h n in
+    let few = joined_few t whole (n + 1) can.wide in
+    let short = can.short in
+    record {
+      stands = c.ask_chunk.ensures.stands r g whole set_up before.stands next;
+      bytes_are = extended c.extend.result c.extend.new.self c.args.bytes.now c.bytes_in.result.now (joined (chunks_before t 0 whole (n + 1))) is (omega (arith, few, short)) c.extend.ensures.ok c.extend.ensures.full;
+    }
+
+pub returns-clause-last : goal.returns-clause-last
+returns-clause-last c = λ r h whole set_up can within before.
+    let tag : ℕ = c.args.tag in
+    let handle : ℕ = c.args.handle in
+    let n : ℕ = c.args.number in
+    let g : History = gets_behind tag handle whole h n in
+    let given = c.as_slice-2.ensures.value ∙ c.ask_chunk.ensures.gives r g whole set_up before.stands (can.next n within) in
+    ap (λ (x : ℕ). x == 1) (c.byte_at.ensures ∙ ap (λ (l : List ℕ). slice_index l 2) (given ∙ response_is tag handle whole h n)) ∙ last_told (transfer_at h whole) handle whole n
