@@ -1,5 +1,5 @@
 -- What is told of an answer where no large request is under way, in words of walks.
-use Rattle.std.proofs.Common.{◌≡◌, ℕ, List, ◌∷◌, refl, sym, subst, Some, None, Ok, Err, Result, inl}
+use Rattle.std.proofs.Common.{◌≡◌, ℕ, List, ◌∷◌, refl, sym, subst, Some, None, Ok, Err, Result}
 use Rattle.mctp_framing.specs.Cutting.{RouteFields}
 use Rattle.mctp_framing.specs.Gathering.{Gathered}
 use Rattle.mctp_framing.specs.Gathering.Gathered.{Whole}
@@ -87,5 +87,5 @@ module _ (w : Configuration) (q : ReqSetup) (older : List (List ℕ)) (rows : Li
 
   pub told_on : (told : Result Onward declared.Why) (party : Party) (table : List Seen) → IsReplied w q older rows k route answer told party table → IsJudgedAnswer w q older rows packet route answer told party None table
   told_on (Ok onward.Kept) party table c = kept_on party table c
-  told_on (Ok onward.Large) party table c = inl (k, keeps, c)
+  told_on (Ok onward.Large) party table c = (k, keeps, c)
   told_on (Err why) party table c = (none_on c.0, answered_reason (why_of why) c.1)

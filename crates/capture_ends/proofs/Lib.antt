@@ -13,6 +13,7 @@ pub mod ClearAnswered
 pub mod ResponseRead
 pub mod ClearShown
 pub mod AnswerWalks
+pub mod SendingWhole
 pub mod AnswersSent
 pub mod AnyAnswers
 pub mod LastTold

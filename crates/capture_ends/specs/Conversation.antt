@@ -7,16 +7,13 @@ use Rattle.mctp_framing.specs.Gathering.Gathered.{Whole, More}
 use Rattle.mctp_framing.specs.Packet.{PacketFields, parsed}
 use Rattle.requester_machine.specs.Setup.{ReqSetup}
 use Rattle.script_text.specs.declared.why.Why as declared
-use Rattle.capture_ends.specs.ClearAnswers.{EndsLarge}
 use Rattle.capture_ends.specs.Party.{IsParty}
 use Rattle.capture_ends.specs.PartyReplies.{IsPartOfLarge}
 use Rattle.capture_laws.specs.Judged.{AreApart, why_of}
 use Rattle.capture_laws.specs.Keeping.{Keeps, Kept}
 use Rattle.capture_laws.specs.KeptRows.{Show}
-use Rattle.capture_laws.specs.LargeShown.{IsShownLarge}
 use Rattle.capture_laws.specs.Order.{is_answer, is_request}
 use Rattle.capture_laws.specs.ReasonsEach.{IsAnsweredReason, IsAskedReason, IsOneOf}
-use Rattle.capture_laws.specs.RepliesShown.{responder_for}
 use Rattle.capture_laws.specs.Rows.{StandsForRows}
 use Rattle.capture_laws.specs.Walks.{Walks}
 use Rattle.capture_laws.specs.declared.verdict.Seen.{Seen}
@@ -133,13 +130,9 @@ abbrev pub IsAskedOf : Configuration → ReqSetup → List (List ℕ) → List R
 IsAskedOf w q older rows packet g (Ok u) new table = StandsBehind new.party new.large table w q older rows packet
 IsAskedOf w q older rows packet g (Err why) new table = NoneGoesOn w q older packet × IsAskedReason w q older g (why_of why)
 
--- An answer is a part of a large one, by what is kept of the packets: of one that is not fetched; or, while a large
--- request is sent, it begins one by what it shows, or ends one.
+-- An answer is a part of a large one, by what is kept of the packets, while no large request is sent.
 abbrev pub IsPart : Configuration → ReqSetup → List (List ℕ) → ℕ → (answer : List ℕ) → Type 0
-IsPart w q older tag answer =
-    ((k : Kept) × Keeps w q older k × IsPartOfLarge w k tag answer)
-    ⊎ ((s : Sending) × IsSendingOf w q older s
-    × (IsShownLarge (responder_for w s.before) s.responder s.round.tag s.round.body answer ⊎ EndsLarge (responder_for w s.before) s.responder s.round.tag s.round.body answer))
+IsPart w q older tag answer = (k : Kept) × Keeps w q older k × IsPartOfLarge w k tag answer
 
 -- Of an answer: it goes on, or it is a part of a large one, of which nothing more is said; or no walk goes on with it, and
 -- then why.

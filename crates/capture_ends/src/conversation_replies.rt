@@ -23,8 +23,8 @@ impl Party {
     ghost use Rattle.world_machine.specs.Setup.{Configuration};
 
     // An answer came while a large request is under way: it goes on, and is taken for the acknowledgement
-    // of the last chunk, unless the next one is owed; or it is a part of a large answer; or why it is
-    // refused.
+    // of the last chunk, unless the next one is owed; or why it is refused. No large answer begins or ends by
+    // it.
     pub(crate) fn replies_meanwhile(
         &mut self,
         large: &mut LargeRequest,
@@ -63,8 +63,9 @@ impl Party {
                 large.acknowledge();
                 Ok(Ok(Onward::Kept))
             }
-            Judged::Given(Given::Large) => Ok(Ok(Onward::Large)),
-            Judged::Given(Given::Last) => Ok(Ok(Onward::Large)),
+            // A chunk that is not the last one leads to neither.
+            Judged::Given(Given::Large) => Ok(Err(why)),
+            Judged::Given(Given::Last) => Ok(Err(why)),
             Judged::Apart => Ok(Err(Why::BadVerify)),
             Judged::Refused => Ok(Err(why)),
         }
@@ -87,8 +88,8 @@ impl Conversation {
     ghost use Rattle.world_machine.specs.Setup.{Configuration, known_of};
 
     /// An answer of at most 4,161 bytes came whole, in order behind this round: it goes on, and the
-    /// table of sessions with it; or it is a part of a large answer; or no walk goes on with it, and then
-    /// why. But for the first, the table stays, and nothing is said of what is kept then. An `Err` comes
+    /// table of sessions with it; or it is a part of a large answer, where no large request is sent; or no
+    /// walk goes on with it, and then why. But for the first, the table stays, and nothing is said of what is kept then. An `Err` comes
     /// only where PSK_EXCHANGE_RSP began a session and there is no memory for its entry, and says nothing
     /// of what is kept.
     pub fn replies(

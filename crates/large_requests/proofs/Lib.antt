@@ -17,3 +17,6 @@ pub mod PiecesHeld
 pub mod PiecesTold
 pub mod Meanwhile
 pub mod RequestsTold
+pub mod ChunkMarks
+pub mod ChunkAnswers
+pub mod ChunkRounds

@@ -3,3 +3,4 @@ pub mod SendingLaws
 pub mod SendingShown
 pub mod Pieces
 pub mod LargeRequests
+pub mod SendingAnswers

@@ -1,6 +1,7 @@
 //! What goes on while a large request is sent by chunks, each law as the contract of a function that does
 //! nothing.
 
+ghost use Rattle.large_requests.specs.SendingAnswers.{ChunksLeadPlainly, SendingAsksChunk};
 ghost use Rattle.large_requests.specs.SendingLaws.{BegunIsSending, OwedMayBegin, SendingAsks, SendingBegins, SendingConnects, SendingEnds, SendingIsAlone, SendingIsAsked, SendingIsReplied, SendingReplies, SendingStays, SendingTellsApart, SendingTellsWhy};
 ghost use Rattle.large_requests.specs.SendingShown.{FirstIsShown, LastIsWhole, OpenIsShown, PieceIsShown, WholeIsShown};
 
@@ -93,4 +94,14 @@ pub fn sending_connects()
 /// Behind no packets both a large request is under way and none is.
 pub fn sending_is_alone()
     ensures { SendingIsAlone }
+{}
+
+/// While a large request is sent the last round asks with a chunk that is not the last one.
+pub fn sending_asks_chunk()
+    ensures { SendingAsksChunk }
+{}
+
+/// Such a chunk begins no large answer, and ends none.
+pub fn chunks_lead_plainly()
+    ensures { ChunksLeadPlainly }
 {}

@@ -13,9 +13,9 @@ mod pieces;
 
 pub use large_request::LargeRequest;
 pub use laws::{
-    begun_is_sending, first_is_shown, last_is_whole, open_is_shown, owed_may_begin, piece_is_shown,
-    sending_asks, sending_begins, sending_connects, sending_ends, sending_is_alone,
-    sending_is_asked, sending_is_replied, sending_replies, sending_stays, sending_tells_apart,
-    sending_tells_why, whole_is_shown,
+    begun_is_sending, chunks_lead_plainly, first_is_shown, last_is_whole, open_is_shown,
+    owed_may_begin, piece_is_shown, sending_asks, sending_asks_chunk, sending_begins,
+    sending_connects, sending_ends, sending_is_alone, sending_is_asked, sending_is_replied,
+    sending_replies, sending_stays, sending_tells_apart, sending_tells_why, whole_is_shown,
 };
 pub use pieces::Piece;

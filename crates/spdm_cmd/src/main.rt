@@ -1,42 +1,13 @@
-//! The command `spdm`: it runs requesters and a responder over a scripted link and writes their trace, and judges
-//! captures.
+//! The program `spdm`: the call `spdm` of `spdm_command`, over standard input and output.
 //!
-//! Read first: `answer_to` in `specs/Answer.antt`, what the command answers. The call is `spdm`.
+//! Read first: `main` in `src/main.rt`, what is told of an outcome.
 #![tactic(auto)]
 
-#[cfg(test)]
-mod bad_streams;
-#[cfg(test)]
-mod carried;
-#[cfg(test)]
-mod check_rows;
-mod checks;
-#[cfg(test)]
-mod failing_calls;
-mod generated;
-#[cfg(test)]
-mod hostile_messages;
-#[cfg(test)]
-mod long_streams;
-mod outcome;
-mod output;
-mod reading;
-#[cfg(test)]
-mod rows;
-mod run;
-mod script_run;
-#[cfg(test)]
-mod stream_rows;
-#[cfg(test)]
-mod stream_runs;
-mod streams;
-#[cfg(test)]
-mod tests;
-mod words;
-
-use outcome::Outcome;
 use spdm_basis::{FileSeeds, StdinSource, StdoutSink};
+use spdm_command::{Outcome, spdm};
 use std::process::ExitCode;
+use std::rt::Env;
+use std::{env, io};
 
 /// Runs the command with the words behind the program's name, over standard input and output. The name of
 /// each outcome but `Done` is printed to standard error, and the status is that of the outcome.
@@ -58,14 +29,14 @@ fn tell_packet(rt: &HostRuntime, packet: u32) {
 }
 
 fn command(rt: &HostRuntime) -> Outcome {
-    let Ok(words) = words::given(rt) else {
+    let Ok(words) = words(rt) else {
         return Outcome::OutOfMemory;
     };
     let mut source = StdinSource::new(rt.stdin());
     let mut sink = StdoutSink::new(rt.stdout());
     let mut seeds = FileSeeds::new(rt);
     let mut left = None;
-    run::spdm(
+    spdm(
         rt.alloc(),
         words.as_slice(),
         &mut source,
@@ -73,4 +44,13 @@ fn command(rt: &HostRuntime) -> Outcome {
         &mut seeds,
         &mut left,
     )
+}
+
+// The words that the program was started with, behind its name.
+fn words(rt: &(impl Env + AllocGlobal)) -> io::Result<Vec<String>> {
+    let mut words = Vec::new(rt.alloc());
+    for word in env::args(rt)?.skip(1) {
+        words.push(word)?;
+    }
+    Ok(words)
 }

@@ -1,4 +1,4 @@
-use Rattle.std.proofs.Common.{inl, inr, ◌+◌, ◌-◌, ◌^◌, ◌<◌, ◌∙◌, refl, sym, ap, subst, length, arith, List, ℕ, true, Some, Result}
+use Rattle.std.proofs.Common.{◌+◌, ◌-◌, ◌^◌, ◌<◌, ◌∙◌, refl, sym, ap, subst, length, arith, List, ℕ, true, Some, Result}
 use Rattle.std.specs.Prelude.{OnOk}
 use Rattle.capture_laws.specs.KeptChanges.{begun_shown, taken_shown}
 use Rattle.capture_laws.specs.Order.{body_in, tag_in}
@@ -13,6 +13,7 @@ use Rattle.spdm_basis.specs.declared.OutOfMemory.{OutOfMemory}
 use Rattle.capture_ends.proofs.AnswersSent.{after as after_it, apart_by, few_behind, is_change, is_step, keys_behind, places_before, refused_by, sent_apart, sent_body, sent_messages, whole_on}
 use Rattle.capture_ends.proofs.InTurn.{answers_in_turn}
 use Rattle.capture_ends.proofs.SendingWalks.{form, own_setup}
+use Rattle.capture_ends.proofs.SendingWhole.{never_large, never_last}
 use Rattle.capture_ends.proofs.party.Party.replies_meanwhile.Goals as goal
 use Rattle.capture_ends.specs.AnswerKeys as answer_keys
 use Rattle.capture_ends.specs.AnswerKeys.{IsComingKey}
@@ -82,7 +83,7 @@ returns-in-Given-Large-clause-told c = λ w q older rows packet route s at below
     let tag = c.tag-2.ensures ∙ ap tag_in now in
     let told = c.judges.ensures r (aside s) s.round set_up second small (sym tag) (sym body) (subst IsBody (sym body) (sent_body w q older rows packet route answer at byte s own turn)) (sent_apart w q older rows packet route answer at byte s own turn) in
     let given = subst (λ (x : Judged). IsGiven r (aside s) s.round answer x c.judges.new.self) (c.in-Given-Large.is ∙ ap judged.Given c.in-Given-Large.field-0-is) told in
-    inr (s, own, inl given)
+    absurd (never_large w q older s own r answer given)
 
 pub returns-in-Given-Last-clause-told : goal.returns-in-Given-Last-clause-told
 returns-in-Given-Last-clause-told c = λ w q older rows packet route s at below byte now set_up none way stands.
@@ -98,7 +99,7 @@ returns-in-Given-Last-clause-told c = λ w q older rows packet route s at below 
     let tag = c.tag-2.ensures ∙ ap tag_in now in
     let told = c.judges.ensures r (aside s) s.round set_up second small (sym tag) (sym body) (subst IsBody (sym body) (sent_body w q older rows packet route answer at byte s own turn)) (sent_apart w q older rows packet route answer at byte s own turn) in
     let given = subst (λ (x : Judged). IsGiven r (aside s) s.round answer x c.judges.new.self) (c.in-Given-Last.is ∙ ap judged.Given c.in-Given-Last.field-0-is) told in
-    inr (s, own, inr given)
+    absurd (never_last w q older s own r answer given)
 
 pub returns-in-Apart-clause-told : goal.returns-in-Apart-clause-told
 returns-in-Apart-clause-told c = λ w q older rows packet route s at below byte now set_up none way stands.

@@ -1,0 +1,79 @@
+ghost use Rattle.std.specs.Prelude.{◌≡◌};
+
+use script_text::{LineFault, Why};
+
+/// What a command came to.
+#[derive(Clone, Copy, Debug, PartialEq, Eq)]
+pub enum Outcome {
+    /// The command is finished and all was written.
+    Done,
+    /// The capture differs first at this packet, counted from 1, for this reason. That was written.
+    Differs { packet: u32, why: Why },
+    /// The words are no command. Nothing was read.
+    Usage,
+    /// This line, counted from 1, is the first bad one. Nothing was written.
+    BadScript { line: u32, fault: LineFault },
+    /// Reading failed, behind a part of the output in a command that answers a stream; in the others nothing was
+    /// written.
+    ReadFault,
+    /// Writing failed, behind a part of the output.
+    WriteFault,
+    /// Memory ran out, maybe behind a part of the output.
+    OutOfMemory,
+    /// No seed was given. Nothing was written.
+    SeedFault,
+    /// The text is longer than 4 MiB, and nothing was written; or the stream is longer than 2^40 bytes.
+    TooLong,
+    /// The event on this line sends a packet for which the link has no room. All that stands before the
+    /// line of the packet was written.
+    LinkFull { line: u32 },
+    /// The frame that begins at this byte of the stream is bad. What the frames before it led to was written.
+    BadFrame { at: u64 },
+    /// This packet of a capture, counted from 1, is a part of a large answer that is not judged, and the capture
+    /// conforms before it. Nothing was written.
+    Unjudged { packet: u32 },
+}
+
+impl Outcome {
+    ghost use Rattle.spdm_command.specs.OutcomeTable.{status_of, name_of};
+
+    /// The exit status.
+    pub fn status(&self) -> u8
+        ensures { result ≡ status_of self.now }
+    {
+        match self {
+            Outcome::Done => 0,
+            Outcome::Differs { .. } => 1,
+            Outcome::Usage => 2,
+            Outcome::BadScript { .. } => 3,
+            Outcome::ReadFault => 4,
+            Outcome::WriteFault => 5,
+            Outcome::OutOfMemory => 6,
+            Outcome::SeedFault => 7,
+            Outcome::TooLong => 8,
+            Outcome::LinkFull { .. } => 9,
+            Outcome::BadFrame { .. } => 10,
+            Outcome::Unjudged { .. } => 11,
+        }
+    }
+
+    /// The name of the outcome, without its fields.
+    pub fn name(&self) -> &'static str
+        ensures { result.now ≡ name_of self.now }
+    {
+        match self {
+            Outcome::Done => "Done",
+            Outcome::Differs { .. } => "Differs",
+            Outcome::Usage => "Usage",
+            Outcome::BadScript { .. } => "BadScript",
+            Outcome::ReadFault => "ReadFault",
+            Outcome::WriteFault => "WriteFault",
+            Outcome::OutOfMemory => "OutOfMemory",
+            Outcome::SeedFault => "SeedFault",
+            Outcome::TooLong => "TooLong",
+            Outcome::LinkFull { .. } => "LinkFull",
+            Outcome::BadFrame { .. } => "BadFrame",
+            Outcome::Unjudged { .. } => "Unjudged",
+        }
+    }
+}

@@ -1,0 +1,76 @@
+ghost use Rattle.std.specs.Prelude.{◌≡◌, map, string_bytes, IfSome};
+ghost use Rattle.spdm_command.specs.Words.{IsInRange, command_named, command_of, generator};
+
+use script_text::{MOST_GENERATED, long_number, number};
+
+/// A command of the program.
+#[derive(Clone, Copy, Debug, PartialEq, Eq)]
+pub enum Command {
+    /// One text is read whole, and its output written.
+    Text(TextCommand),
+    /// A responder answers a stream of frames.
+    Serve,
+    /// A requester is driven by a stream of frames.
+    Drive,
+    /// A capture is read, and its verdict written.
+    Check,
+}
+
+/// A command that reads one text whole, or none.
+#[derive(Clone, Copy, Debug, PartialEq, Eq)]
+pub enum TextCommand {
+    /// A script is run, and its trace written.
+    Run,
+    /// Messages are shown, a line for each.
+    Show,
+    /// The script of a seed and a count of events is run without its trace, and a line tells what it came
+    /// to.
+    Gen { seed: u64, count: u32 },
+}
+
+/// The command that the words are.
+pub fn command_of(words: &[String]) -> Option<Command>
+    ensures is { result ≡ command_of (map string_bytes words.now) }
+    ensures range { IfSome result (λ command. IsInRange command) }
+{
+    match words {
+        [word] => command_named(word.as_str()),
+        [word, seed, count] => generator(word.as_str(), seed.as_str(), count.as_str()),
+        _ => None,
+    }
+}
+
+// The command of one word.
+#[tactic(auto, unfolding(crate::specs::Words::command_named))]
+fn command_named(word: &str) -> Option<Command>
+    ensures is { result ≡ command_named word.now }
+    ensures range { IfSome result (λ command. IsInRange command) }
+{
+    if word == "run" {
+        Some(Command::Text(TextCommand::Run))
+    } else if word == "show" {
+        Some(Command::Text(TextCommand::Show))
+    } else if word == "serve" {
+        Some(Command::Serve)
+    } else if word == "drive" {
+        Some(Command::Drive)
+    } else if word == "check" {
+        Some(Command::Check)
+    } else {
+        None
+    }
+}
+
+// The command of three words.
+#[tactic(auto, unfolding(crate::specs::Words::generator))]
+fn generator(word: &str, seed: &str, count: &str) -> Option<Command>
+    ensures is { result ≡ generator word.now seed.now count.now }
+    ensures range { IfSome result (λ command. IsInRange command) }
+{
+    if word != "gen" {
+        return None;
+    }
+    let seed = long_number(seed.as_bytes())?;
+    let count = number(1, MOST_GENERATED, count.as_bytes())?;
+    Some(Command::Text(TextCommand::Gen { seed, count }))
+}

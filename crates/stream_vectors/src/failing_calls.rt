@@ -1,0 +1,169 @@
+use crate::check_rows::OPENED;
+use spdm_basis::{MemSeeds, MemSink, MemSource, Sink, Source, StdinSource, StdoutSink};
+use spdm_command::{Outcome, spdm};
+use std::io;
+use std::io::{Read, Write};
+use std::test::Fail;
+
+// The configuration of both ends and of each script.
+const CONFIGURATION: &[u8] = b"seed 0000000000000000000000000000000000000000000000000000000000000000
+responder 8 1024 4096 64 30 mhkc
+requester 9 1024 4096 64 0 hkc 71 31323334353637383930313233343536 -
+end
+";
+
+// Each word with what stands behind the configuration: a negotiation, its requests in frames, its commands and
+// answers in frames, and a capture.
+const INPUTS: [(&str, &[u8]); 4] = [
+    (
+        "run",
+        b"q1 connect\npump 1\npump 1\npump 1\npump 1\npump 1\npump 1\n",
+    ),
+    (
+        "serve",
+        b"\x01\x09\x00\x01\x08\x09\xc8\x05\x10\x84\x00\x00\x01\x19\x00\x01\x08\x09\xc9\x05\x12\xe1\x00\x00\x00\x00\x00\x00\xc0\x64\x02\x00\x00\x04\x00\x00\x00\x10\x00\x00",
+    ),
+    (
+        "drive",
+        b"\x03\x0a\x00q1 connect\x01\x0d\x00\x01\x09\x08\xc0\x05\x10\x04\x00\x00\x00\x01\x00\x12",
+    ),
+    ("check", OPENED),
+];
+
+// What a word came to over a source and a sink, with one seed. The requests for seeds with these numbers fail.
+fn outcome<S: Source, K: Sink>(
+    rt: &impl AllocGlobal,
+    word: &str,
+    source: &mut S,
+    sink: &mut K,
+    failing: &[u64],
+) -> Result<Outcome, Fail> {
+    let mut words = Vec::new(rt.alloc());
+    words.push(String::from_str(rt.alloc(), word)?)?;
+    let mut seeds = MemSeeds::new(rt.alloc(), &[[0; 32]], failing)?;
+    let mut left = None;
+    Ok(spdm(
+        rt.alloc(),
+        words.as_slice(),
+        source,
+        sink,
+        &mut seeds,
+        &mut left,
+    ))
+}
+
+// What a word came to behind the configuration, and what it wrote. The calls with these numbers fail.
+fn fails(
+    rt: &impl AllocGlobal,
+    (word, behind): (&str, &[u8]),
+    reads: &[u64],
+    writes: &[u64],
+    seeds: &[u64],
+) -> Result<(Outcome, Vec<u8>), Fail> {
+    let mut input = Vec::from_slice(rt.alloc(), CONFIGURATION)?;
+    input.extend_from_slice(behind)?;
+    let mut source = MemSource::new(rt.alloc(), input.as_slice(), reads)?;
+    let mut sink = MemSink::new(rt.alloc(), 4096, writes)?;
+    let outcome = outcome(rt, word, &mut source, &mut sink, seeds)?;
+    Ok((outcome, Vec::from_slice(rt.alloc(), sink.as_slice())?))
+}
+
+// Each call of the outside fails once, in a run of its own, as far as one is made: what was written is a prefix then.
+#[test]
+fn each_call_fails(rt: HostRuntime) -> Result<(), Fail> {
+    for input in INPUTS {
+        let (outcome, whole) = fails(&rt, input, &[], &[], &[])?;
+        assert_eq!(rt; outcome, Outcome::Done);
+        assert!(rt; whole.len() > 16);
+        for (fault, is_read) in [(Outcome::ReadFault, true), (Outcome::WriteFault, false)] {
+            let mut reached: u64 = 0;
+            for call in 0..16 {
+                let call = [call];
+                let (reads, writes): (&[u64], &[u64]) = if is_read {
+                    (&call, &[])
+                } else {
+                    (&[], &call)
+                };
+                let (outcome, written) = fails(&rt, input, reads, writes, &[])?;
+                if outcome == Outcome::Done {
+                    assert_eq!(rt; written.as_slice(), whole.as_slice());
+                    break;
+                }
+                reached = call[0].wrapping_add(1);
+                assert_eq!(rt; outcome, fault);
+                assert!(rt; written.len() < whole.len() || is_read);
+                assert!(rt; whole.as_slice().starts_with(written.as_slice()));
+                assert!(rt;
+                    input.0 == "serve" || input.0 == "drive" || !is_read || written.is_empty()
+                );
+            }
+            assert!(rt; 2 <= reached && reached < 16);
+        }
+    }
+    Ok(())
+}
+
+#[test]
+fn seed_fails(rt: HostRuntime) -> Result<(), Fail> {
+    let [_, serve, drive, _] = INPUTS;
+    for input in [serve, drive] {
+        let (outcome, written) = fails(&rt, input, &[], &[], &[0])?;
+        assert_eq!(rt; outcome, Outcome::SeedFault);
+        assert!(rt; written.is_empty());
+    }
+    Ok(())
+}
+
+// Gives its bytes one by one.
+#[derive(Drop)]
+struct FewIn<'a> {
+    bytes: &'a [u8],
+}
+
+impl<'a> Read for FewIn<'a> {
+    fn read(&mut self, buf: &mut [u8]) -> io::Result<usize> {
+        let count = self.bytes.len().min(buf.len()).min(1);
+        buf[..count].copy_from_slice(&self.bytes[..count]);
+        self.bytes = &self.bytes[count..];
+        Ok(count)
+    }
+}
+
+// Takes up to three bytes a call.
+#[derive(Drop)]
+struct FewOut<'a> {
+    held: &'a mut Vec<u8>,
+}
+
+impl<'a> Write for FewOut<'a> {
+    fn write(&mut self, buf: &[u8]) -> io::Result<usize> {
+        let count = buf.len().min(3);
+        match self.held.extend_from_slice(&buf[..count]) {
+            Ok(()) => Ok(count),
+            Err(_) => Ok(0),
+        }
+    }
+
+    fn flush(&mut self) -> io::Result<()> {
+        Ok(())
+    }
+}
+
+#[test]
+fn calls_that_move_few_bytes(rt: HostRuntime) -> Result<(), Fail> {
+    for (word, behind) in INPUTS {
+        let (_, whole) = fails(&rt, (word, behind), &[], &[], &[])?;
+        let mut input = Vec::from_slice(rt.alloc(), CONFIGURATION)?;
+        input.extend_from_slice(behind)?;
+        let mut source = StdinSource::new(FewIn {
+            bytes: input.as_slice(),
+        });
+        let mut held = Vec::new(rt.alloc());
+        let mut sink = StdoutSink::new(FewOut { held: &mut held });
+        let outcome = outcome(&rt, word, &mut source, &mut sink, &[])?;
+        assert_eq!(rt; outcome, Outcome::Done);
+        drop(sink);
+        assert_eq!(rt; held.as_slice(), whole.as_slice());
+    }
+    Ok(())
+}
