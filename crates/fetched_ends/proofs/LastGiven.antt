@@ -7,7 +7,7 @@ use Rattle.chunking.proofs.ChunkSteps as step
 use Rattle.chunking.specs.Collecting.{joined}
 use Rattle.chunking.specs.Cutting.{chunk_count, chunks_before, nth_chunk, unit_of}
 use Rattle.fetched_answers.specs.ClearChunks.{get_response}
-use Rattle.fetched_ends.proofs.LastReady.{transfer_on}
+use Rattle.fetched_ends.proofs.LastReady.{add_one, transfer_on}
 use Rattle.fetched_ends.specs.LastHeld.{gets_behind, transfer_at}
 use Rattle.large_answers.specs.Fetching.{bytes_in}
 use Rattle.responder_machine.specs.History.{History}
@@ -43,7 +43,7 @@ module _ (tag handle : ℕ) (whole : List ℕ) (h : History) where
   pub joined_next : (n : ℕ) → joined (chunks_before (transfer_at h whole) 0 whole n) ++ bytes_in n (get_response (gets_behind tag handle whole h n) whole handle n) ≡ joined (chunks_before (transfer_at h whole) 0 whole (n + 1))
   joined_next n =
       ap (λ (l : List ℕ). joined (chunks_before t 0 whole n) ++ bytes_in n l) (response_is n)
-      ∙ ap (λ (l : List ℕ). joined (chunks_before t 0 whole n) ++ l) (chunk_bytes t handle whole n)
+      ∙ ap (λ (l : List ℕ). joined (chunks_before t 0 whole n) ++ l) (chunk_bytes t handle whole n) ∙ ap (λ (x : ℕ). joined (chunks_before t 0 whole x)) (sym (add_one n))
 
 -- They are no more than all.
 pub joined_few : (transfer : ℕ) (whole : List ℕ) (n : ℕ) → 12 < transfer → length (joined (chunks_before transfer 0 whole n)) ≤ length whole

@@ -48,7 +48,7 @@ same_bytes : (xs ys : List ℕ) → xs ≡ ys → bytes_eq xs ys ≡ true
 same_bytes xs ys is = (bytes_eq-Decides xs ys).1 is
 
 apart_long : (size : ℕ) (one other : List ℕ) → is_apart size one other ≡ true → length one ≡ length other
-apart_long size one other is = eqb-true (length one) (length other) (and_first (length one == length other) _ is)
+apart_long size one other is = eqb-true (length one) (length other) (and_first (length one == length other) (not (bytes_eq one other)) (and_first (length one == length other && not (bytes_eq one other)) _ is))
 
 module _ (seen_as : Answerer) (keys : AnswerKeys) (held : Held) (r : RspSetup) (h : History) (b : StandsBefore seen_as keys held r h) (byte : r.beat < 256) (tag handle : ℕ) (whole : List ℕ)
     (at : IsLastOf held r b.before b.left (Clear held.tag b.turn no_draw) tag handle whole) where

@@ -168,6 +168,9 @@ module _ (tag : ℕ) (t : Turn) (un : is_unseen_effect t.effect ≡ true) (befor
 
 -- ---- All chunks, one behind the other.
 
+pub add_one : (n : ℕ) → n + 1 ≡ suc n
+add_one n = omega arith
+
 -- They leave the transfer size.
 pub transfer_on : (tag handle : ℕ) (whole : List ℕ) (h : History) (n : ℕ) → transfer_at (gets_behind tag handle whole h n) whole ≡ transfer_at h whole
 transfer_on tag handle whole h zero = refl
@@ -178,8 +181,9 @@ module _ (r : RspSetup) (room : 6 ≤ r.transfer) (h : History) (whole : List �
   ready_at zero within = ready
   ready_at (suc n) within =
       let more = lt-ltb (n + 1) (count_at h whole) (omega (arith, within)) in
-      ready_next (gets_behind tag handle whole h n) whole tag handle n (ready_at n (omega (arith, within)))
-      (ap (λ (x : ℕ). nat_lt (n + 1) (chunk_count x whole)) (transfer_on tag handle whole h n) ∙ more)
+      subst (IsReady (gets_behind tag handle whole h (suc n)) whole handle) (add_one n)
+      (ready_next (gets_behind tag handle whole h n) whole tag handle n (ready_at n (omega (arith, within)))
+      (ap (λ (x : ℕ). nat_lt (n + 1) (chunk_count x whole)) (transfer_on tag handle whole h n) ∙ more))
 
   anew_at : (n : ℕ) → n < 2 ^ 16 → is_repeat (kept_of (gets_behind tag handle whole h n)) tag (get_message handle n) ≡ false
   anew_at zero few = anew

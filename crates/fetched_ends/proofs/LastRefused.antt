@@ -81,8 +81,8 @@ two_reasons false is = absurd (cc)
 -- Bytes are not apart from themselves.
 self_apart : (size : ℕ) (one other : List ℕ) → one ≡ other → is_apart size one other ≡ true → ⊥
 self_apart size one other same apart =
-    let rest = and_second (length one == length other) _ apart in
-    let differ : not (bytes_eq one other) ≡ true = and_first (not (bytes_eq one other)) _ rest in
+    let first = and_first (length one == length other && not (bytes_eq one other)) _ apart in
+    let differ : not (bytes_eq one other) ≡ true = and_second (length one == length other) (not (bytes_eq one other)) first in
     false≢true (sym (ap not ((bytes_eq-Decides one other).1 same)) ∙ differ)
 
 module _ (w : Configuration) (q : ReqSetup) (older : List (List ℕ)) (rows : List Row) (f : Fetching) (own : IsFetchingOf w q older f) (party : Party) (held : Held) (kept : IsHeldIn party held w q f rows) (route : RouteFields) (answer : List ℕ) (limits : IsSetUp f.kept.setup) (turn : AnswersInTurn f.kept route answer)

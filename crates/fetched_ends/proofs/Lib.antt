@@ -96,6 +96,7 @@ pub mod LastReady
 pub mod LastGiven
 pub mod LastAsked
 pub mod LastLeads
+pub mod LastExchange
 pub mod LastRound
 pub mod LastEnds
 pub mod LastRefused

@@ -1,5 +1,4 @@
 ghost use Rattle.std.specs.Prelude.{◌≡◌, ◌≢◌, ◌<◌, ◌-◌, ◌^◌, ℕ, List, None, Ok, Some, IfOk, length};
-ghost use Rattle.capture_ends.specs.AnswerKeys as answer_keys;
 ghost use Rattle.capture_ends.specs.declared.answer_keys.AnswerKeys.{AnswerKeys};
 ghost use Rattle.capture_laws.specs.Order.{answered_why};
 ghost use Rattle.capture_laws.specs.RepliesShown.{responder_for};

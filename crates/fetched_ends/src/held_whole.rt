@@ -1,5 +1,4 @@
 ghost use Rattle.std.specs.Prelude.{◌≡◌, ◌-◌, ◌<◌, ◌^◌, ◌∷◌, Some, length, take};
-ghost use Rattle.capture_ends.specs.AnswerKeys as answer_keys;
 ghost use Rattle.capture_ends.specs.declared.answer_keys.AnswerKeys.{AnswerKeys};
 ghost use Rattle.capture_laws.specs.DropsShown.{dropped_for};
 ghost use Rattle.connection.specs.Connected as connected;

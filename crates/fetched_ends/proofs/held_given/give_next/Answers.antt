@@ -1,9 +1,12 @@
-use Rattle.std.proofs.Common.{◌≡◌, ◌≤◌, ◌+◌, ◌==◌, ◌++◌, ◌∙◌, ℕ, List, sym, ap, subst, arith, length}
+use Rattle.std.proofs.Common.{◌≡◌, ◌≤◌, ◌+◌, ◌==◌, ◌++◌, ◌∙◌, ℕ, List, sym, ap, subst, arith, length, None}
 use Rattle.std.specs.Prelude.{slice_index}
 use Rattle.chunking.specs.Collecting.{joined}
 use Rattle.chunking.specs.Cutting.{chunk_count, chunks_before, nth_chunk}
 use Rattle.fetched_answers.specs.ClearChunks.{get_response}
 use Rattle.fetched_ends.proofs.LastAsked.{extended}
+use Rattle.connection.specs.Connected.{StandsFor}
+use Rattle.fetched_ends.proofs.LastReady.{add_one}
+use Rattle.world_machine.specs.LargeAnswers.{with_large}
 use Rattle.fetched_ends.proofs.LastGiven.{joined_few, joined_next, last_told, response_is}
 use Rattle.fetched_ends.specs.LastHeld.{count_at, gets_behind, transfer_at}
 use Rattle.large_answers.specs.Fetching.{bytes_in}
@@ -24,7 +27,7 @@ returns-clause-asked c = λ r h whole set_up can within before.
     let few = joined_few t whole (n + 1) can.wide in
     let short = can.short in
     record {
-      stands = c.ask_chunk.ensures.stands r g whole set_up before.stands next;
+      stands = subst (λ (x : ℕ). StandsFor c.ask_chunk.new.connection r (with_large None whole (gets_behind tag handle whole h x))) (sym (add_one n)) (c.ask_chunk.ensures.stands r g whole set_up before.stands next);
       bytes_are = extended c.extend.result c.extend.new.self c.args.bytes.now c.bytes_in.result.now (joined (chunks_before t 0 whole (n + 1))) is (omega (arith, few, short)) c.extend.ensures.ok c.extend.ensures.full;
     }
 

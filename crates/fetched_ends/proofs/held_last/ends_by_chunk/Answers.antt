@@ -50,9 +50,9 @@ returns-in_default-filled-clause-told c = λ w q older rows f route of own below
     let tag = c.tag-tag.ensures ∙ ap tag_in at_now in
     let small = few w q older rows f own party held kept below in
     let b = kept.before in
-    let moved = moved_before party.answerer c.reply_why.new.self party.keys held r f.kept.responder c.reply_why.ensures.same b in
+    let moved = moved_before party.answerer c.reply_why-why.new.self party.keys held r f.kept.responder c.reply_why-why.ensures.same b in
     let d : Dialogue = record (restored f.kept) { responder = b.left } in
-    let why = c.reply_why.ensures.told r d turn.round b.stands small b.keys (sym body) in
+    let why = c.reply_why-why.ensures.told r d turn.round b.stands small b.keys (sym body) in
     absurd (c.in_default-filled.ensures (subst (AreHeldFitting held) (sym c.behind_type.ensures) told.1.fits))
 
 pub returns-in-Apart-clause-told : goal.returns-in-Apart-clause-told
@@ -70,14 +70,14 @@ returns-in-Apart-clause-told c = λ w q older rows f route of own below byte now
     let tag = c.tag-tag.ensures ∙ ap tag_in at_now in
     let small = few w q older rows f own party held kept below in
     let b = kept.before in
-    let moved = moved_before party.answerer c.reply_why.new.self party.keys held r f.kept.responder c.reply_why.ensures.same b in
+    let moved = moved_before party.answerer c.reply_why-why.new.self party.keys held r f.kept.responder c.reply_why-why.ensures.same b in
     let d : Dialogue = record (restored f.kept) { responder = b.left } in
-    let why = c.reply_why.ensures.told r d turn.round b.stands small b.keys (sym body) in
+    let why = c.reply_why-why.ensures.told r d turn.round b.stands small b.keys (sym body) in
     let limits = subst IsSetUp (sym kept.beside.asker.setup) kept.beside.asker.kept.limits in
     let asked : Entry = Clear held.tag b.turn no_draw in
     let fills : c.as_slice.result.now ≡ filled_with held answer = c.as_slice.ensures.value ∙ c.in-Some-filled.ensures.1 ∙ ap (λ (l : List ℕ). filled held.answer.number held.answer.size held.answer.bytes l) c.behind_type.ensures in
     let handle : c.byte_at.result ≡ slice_index turn.round.body 4 = c.byte_at.ensures ∙ ap (λ (l : List ℕ). slice_index l 4) body in
-    let exchange = c.holds_exchange.ensures r f.kept.responder party.keys moved in
+    let exchange = c.holds_exchange-exchange.ensures r f.kept.responder party.keys moved in
     let last = is_last w q older rows f own party held kept turn.round turn.answers.0 other told.0 answer told.1 byte in
     let at = subst (λ (n : ℕ). IsLastOf held r b.before b.left asked n c.byte_at.result c.as_slice.result.now) (sym tag)
     (subst (λ (n : ℕ). IsLastOf held r b.before b.left asked turn.round.tag n c.as_slice.result.now) (sym handle)
@@ -102,14 +102,14 @@ returns-in-Other-clause-told c = λ w q older rows f route of own below byte now
     let tag = c.tag-tag.ensures ∙ ap tag_in at_now in
     let small = few w q older rows f own party held kept below in
     let b = kept.before in
-    let moved = moved_before party.answerer c.reply_why.new.self party.keys held r f.kept.responder c.reply_why.ensures.same b in
+    let moved = moved_before party.answerer c.reply_why-why.new.self party.keys held r f.kept.responder c.reply_why-why.ensures.same b in
     let d : Dialogue = record (restored f.kept) { responder = b.left } in
-    let why = c.reply_why.ensures.told r d turn.round b.stands small b.keys (sym body) in
+    let why = c.reply_why-why.ensures.told r d turn.round b.stands small b.keys (sym body) in
     let limits = subst IsSetUp (sym kept.beside.asker.setup) kept.beside.asker.kept.limits in
     let asked : Entry = Clear held.tag b.turn no_draw in
     let fills : c.as_slice.result.now ≡ filled_with held answer = c.as_slice.ensures.value ∙ c.in-Some-filled.ensures.1 ∙ ap (λ (l : List ℕ). filled held.answer.number held.answer.size held.answer.bytes l) c.behind_type.ensures in
     let handle : c.byte_at.result ≡ slice_index turn.round.body 4 = c.byte_at.ensures ∙ ap (λ (l : List ℕ). slice_index l 4) body in
-    let exchange = c.holds_exchange.ensures r f.kept.responder party.keys moved in
+    let exchange = c.holds_exchange-exchange.ensures r f.kept.responder party.keys moved in
     let last = is_last w q older rows f own party held kept turn.round turn.answers.0 other told.0 answer told.1 byte in
     let at = subst (λ (n : ℕ). IsLastOf held r b.before b.left asked n c.byte_at.result c.as_slice.result.now) (sym tag)
     (subst (λ (n : ℕ). IsLastOf held r b.before b.left asked turn.round.tag n c.as_slice.result.now) (sym handle)
@@ -117,7 +117,7 @@ returns-in-Other-clause-told c = λ w q older rows f route of own below byte now
     let led = subst (λ (l : List ℕ). IsLedSo r b.before asked l c.leads_to.result) fills (c.leads_to.ensures.told r f.kept.responder party.keys moved (sym exchange) set_up small byte at) in
     let so = subst (IsLedSo r b.before asked (filled_with held answer)) c.in-Other.is led in
     let new : Party = record party { answerer = c.leads_to.new.answerer } in
-    refused_other w q older rows f own party held kept route answer limits turn other told.0 told.1 byte new (IsHeldIn new held w q) c.args.table.now so.0 so.1 d c.reply_why.result refl why
+    refused_other w q older rows f own party held kept route answer limits turn other told.0 told.1 byte new (IsHeldIn new held w q) c.args.table.now so.0 so.1 d c.reply_why-why.result refl why
 
 pub returns-then-heard-clause-told : goal.returns-then-heard-clause-told
 returns-then-heard-clause-told c = λ w q older rows f route of own below byte now is version shows set_up none kept stands.
@@ -134,14 +134,14 @@ returns-then-heard-clause-told c = λ w q older rows f route of own below byte n
     let tag = c.tag-tag.ensures ∙ ap tag_in at_now in
     let small = few w q older rows f own party held kept below in
     let b = kept.before in
-    let moved = moved_before party.answerer c.reply_why.new.self party.keys held r f.kept.responder c.reply_why.ensures.same b in
+    let moved = moved_before party.answerer c.reply_why-why.new.self party.keys held r f.kept.responder c.reply_why-why.ensures.same b in
     let d : Dialogue = record (restored f.kept) { responder = b.left } in
-    let why = c.reply_why.ensures.told r d turn.round b.stands small b.keys (sym body) in
+    let why = c.reply_why-why.ensures.told r d turn.round b.stands small b.keys (sym body) in
     let limits = subst IsSetUp (sym kept.beside.asker.setup) kept.beside.asker.kept.limits in
     let asked : Entry = Clear held.tag b.turn no_draw in
     let fills : c.as_slice.result.now ≡ filled_with held answer = c.as_slice.ensures.value ∙ c.in-Some-filled.ensures.1 ∙ ap (λ (l : List ℕ). filled held.answer.number held.answer.size held.answer.bytes l) c.behind_type.ensures in
     let handle : c.byte_at.result ≡ slice_index turn.round.body 4 = c.byte_at.ensures ∙ ap (λ (l : List ℕ). slice_index l 4) body in
-    let exchange = c.holds_exchange.ensures r f.kept.responder party.keys moved in
+    let exchange = c.holds_exchange-exchange.ensures r f.kept.responder party.keys moved in
     let last = is_last w q older rows f own party held kept turn.round turn.answers.0 other told.0 answer told.1 byte in
     let at = subst (λ (n : ℕ). IsLastOf held r b.before b.left asked n c.byte_at.result c.as_slice.result.now) (sym tag)
     (subst (λ (n : ℕ). IsLastOf held r b.before b.left asked turn.round.tag n c.as_slice.result.now) (sym handle)
@@ -152,7 +152,7 @@ returns-then-heard-clause-told c = λ w q older rows f route of own below byte n
     let fetches = c.hears-heard.ensures.fetches w q older f.kept turn.round carried below turn.answers.0 (sym tag) kept.beside.asker (sym (awaits w q older rows f own party held kept route answer limits turn other)) in
     let asks = ap (λ (n : ℕ). asks_upon f.kept n answer) (sym turn.answers.1 ∙ sym tag) ∙ sym fetches ∙ c.if-heard.true in
     let new : Party = record party { answerer = c.leads_to.new.answerer; asker = c.hears-heard.new.self } in
-    refused_asking w q older rows f own party held kept route answer limits turn other told.0 told.1 byte new (IsHeldIn new held w q) c.args.table.now so asks d c.reply_why.result refl why
+    refused_asking w q older rows f own party held kept route answer limits turn other told.0 told.1 byte new (IsHeldIn new held w q) c.args.table.now so asks d c.reply_why-why.result refl why
 
 pub returns-clause-told : goal.returns-clause-told
 returns-clause-told c = λ w q older rows f route of own below byte now is version shows set_up none kept stands.
@@ -169,14 +169,14 @@ returns-clause-told c = λ w q older rows f route of own below byte now is versi
     let tag = c.tag-tag.ensures ∙ ap tag_in at_now in
     let small = few w q older rows f own party held kept below in
     let b = kept.before in
-    let moved = moved_before party.answerer c.reply_why.new.self party.keys held r f.kept.responder c.reply_why.ensures.same b in
+    let moved = moved_before party.answerer c.reply_why-why.new.self party.keys held r f.kept.responder c.reply_why-why.ensures.same b in
     let d : Dialogue = record (restored f.kept) { responder = b.left } in
-    let why = c.reply_why.ensures.told r d turn.round b.stands small b.keys (sym body) in
+    let why = c.reply_why-why.ensures.told r d turn.round b.stands small b.keys (sym body) in
     let limits = subst IsSetUp (sym kept.beside.asker.setup) kept.beside.asker.kept.limits in
     let asked : Entry = Clear held.tag b.turn no_draw in
     let fills : c.as_slice.result.now ≡ filled_with held answer = c.as_slice.ensures.value ∙ c.in-Some-filled.ensures.1 ∙ ap (λ (l : List ℕ). filled held.answer.number held.answer.size held.answer.bytes l) c.behind_type.ensures in
     let handle : c.byte_at.result ≡ slice_index turn.round.body 4 = c.byte_at.ensures ∙ ap (λ (l : List ℕ). slice_index l 4) body in
-    let exchange = c.holds_exchange.ensures r f.kept.responder party.keys moved in
+    let exchange = c.holds_exchange-exchange.ensures r f.kept.responder party.keys moved in
     let last = is_last w q older rows f own party held kept turn.round turn.answers.0 other told.0 answer told.1 byte in
     let at = subst (λ (n : ℕ). IsLastOf held r b.before b.left asked n c.byte_at.result c.as_slice.result.now) (sym tag)
     (subst (λ (n : ℕ). IsLastOf held r b.before b.left asked turn.round.tag n c.as_slice.result.now) (sym handle)
@@ -198,8 +198,8 @@ returns-clause-told c = λ w q older rows f route of own below byte now is versi
     let messages = kept_messages w q older f.kept carried in
     let views = c.change-change.ensures.views r f_behind standing (behind_few w q older rows f own party held kept route answer limits turn other told.0 told.1 byte (omega (arith, messages, below))) in
     let accepted = c.change-change.ensures.accepted ∙ c.hears-heard.ensures.accepted w q older f.kept turn.round carried (omega (arith, below)) turn.answers.0 (sym tag) kept.beside.asker ∙ ap (λ (n : ℕ). accepted_from f.kept n answer) tag in
-    let begun = c.change-change.ensures.begun ∙ c.begun_by-begun.ensures ∙ ap (begun_if c.holds_exchange-exchange.result) fills_again in
-    let change = change_last w q older rows f own party held kept route answer limits turn other told.0 told.1 byte so idle c.answer_accepts.ensures c.last_chunk_changes.ensures c.holds_exchange.result (sym exchange) c.change-change.result begun accepted c.change-change.ensures.taken c.change-change.ensures.asked views in
+    let begun = c.change-change.ensures.begun ∙ c.begun_by-begun.ensures ∙ ap (begun_if c.holds_exchange-exchange.result) (c.as_slice-2.ensures.value ∙ c.in-Some-filled.ensures.1 ∙ ap (λ (l : List ℕ). filled held.answer.number held.answer.size held.answer.bytes l) c.behind_type.ensures) in
+    let change = change_last w q older rows f own party held kept route answer limits turn other told.0 told.1 byte so idle c.answer_accepts.ensures c.last_chunk_changes.ensures c.holds_exchange-exchange.result (sym exchange) c.change-change.result begun accepted c.change-change.ensures.taken c.change-change.ensures.asked views in
     let step = step_last w q older rows f own party held kept route answer limits turn other told.0 told.1 byte so idle c.answer_accepts.ensures in
     let number = kept.beside.number ∙ ap (λ (s : ReqSetup). number_from 1 s.eid w.requesters) (sym kept.beside.asker.setup) in
     let it = c.in_ok-take.was in
