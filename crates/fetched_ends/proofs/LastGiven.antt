@@ -1,6 +1,7 @@
 -- The bytes of a large answer whose chunks are asked for one by one.
 use Rattle.std.proofs.Common.{◌≡◌, ◌≤◌, ◌<◌, ◌+◌, ◌-◌, ◌*◌, ◌==◌, ◌++◌, ◌∙◌, ℕ, suc, List, ◌∷◌, refl, sym, ap, subst, drop, take, length, arith, Bool, true, false, Option, Some, None, cond}
 use Rattle.std.specs.Prelude.{slice_index}
+use Rattle.std.proofs.lemmas.Bool.Decides.{nat_tests}
 use Rattle.std.proofs.lemmas.Grind.{div_ceil_times}
 use Rattle.std.proofs.lemmas.List.{length-take, take_all}
 use Rattle.chunking.proofs.ChunkSteps as step
@@ -57,3 +58,7 @@ joined_all transfer whole wide =
     let around = div_ceil_times (length whole + 4) (unit_of transfer) (omega (arith, wide)) in
     let reaches : length whole + 4 ≤ chunk_count transfer whole * unit_of transfer = around.0 in
     step.joined-before transfer 0 whole (omega (arith, wide)) (chunk_count transfer whole) ∙ take_all (chunk_count transfer whole * unit_of transfer - 4) whole (omega (arith, reaches))
+
+-- More chunks follow one that is not the last.
+pub not_last : (n count : ℕ) → n < count → (n + 1 == count) ≡ false → n + 1 < count
+not_last n count within other = grind (arith, nat_tests)

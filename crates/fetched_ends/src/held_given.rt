@@ -1,4 +1,4 @@
-ghost use Rattle.std.specs.Prelude.{◌≡◌, ◌<◌, ◌+◌, ◌==◌, ℕ, List, ◌∷◌, None, true, false};
+ghost use Rattle.std.specs.Prelude.{◌≡◌, ◌<◌, ◌+◌, ℕ, List, ◌∷◌, None, true, false};
 ghost use Rattle.connection.specs.Connected.{StandsFor};
 ghost use Rattle.connection.specs.Setup.{IsSetUp};
 ghost use Rattle.fetched_answers.specs.ClearChunks.{IsNextGet, get_entry, get_response};
@@ -53,10 +53,14 @@ fn give_next(
         → CanBeGiven r h whole tag handle → number < count_at h whole
         → AreAsked connection.old bytes.old r h whole tag handle number
         → AreAsked connection.new bytes.new r h whole tag handle (number + 1) }
-    ensures last { (r : RspSetup) (h : History) (whole : List ℕ) → IsSetUp setup.now r
+    ensures all { (r : RspSetup) (h : History) (whole : List ℕ) → IsSetUp setup.now r
         → CanBeGiven r h whole tag handle → number < count_at h whole
-        → AreAsked connection.old bytes.old r h whole tag handle number
-        → result ≡ (number + 1 == count_at h whole) }
+        → AreAsked connection.old bytes.old r h whole tag handle number → result ≡ true
+        → AreAsked connection.new bytes.new r h whole tag handle (count_at h whole) }
+    ensures more { (r : RspSetup) (h : History) (whole : List ℕ) → IsSetUp setup.now r
+        → CanBeGiven r h whole tag handle → number < count_at h whole
+        → AreAsked connection.old bytes.old r h whole tag handle number → result ≡ false
+        → number + 1 < count_at h whole }
 {
     let mut out = Frame::new();
     ask_chunk(connection, setup, tag, handle, number, &mut out);
