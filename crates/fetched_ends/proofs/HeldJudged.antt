@@ -17,7 +17,6 @@ use Rattle.capture_laws.specs.RepliesShown.{responder_for}
 use Rattle.capture_laws.specs.declared.verdict.Seen.{Seen}
 use Rattle.fetched_ends.proofs.ClearAsks.{clear_asks_on}
 use Rattle.fetched_ends.proofs.HeldCut.{filled_cut, may_stand}
-use Rattle.fetched_ends.proofs.HeldLarge as large
 use Rattle.fetched_ends.proofs.HeldSame as same
 use Rattle.fetched_ends.proofs.HeldTook as took
 use Rattle.fetched_ends.specs.Fetched.{IsRepliedTo}
@@ -79,11 +78,6 @@ module _ (w : Configuration) (q : ReqSetup) (older : List (List ℕ)) (rows : Li
     pub same_on : IsShownHeld held turn.round.tag turn.round.body answer shown.Same → HasFewBlocks (responder_for w f.kept) → IsHeardHeld party new table w q older rows f next_same
         → IsRepliedTo w q older rows f route answer (Ok upon.Fetched) new (IsHeldIn new held w q) table
     same_on told few heard = same.fetched_same w q older rows f own party held kept route answer limits turn other told.0 few told.1 new table (same_asks told few).0 heard
-
-    -- The last chunk.
-    pub last_on : (stands : Fetching → List Row → Type 0) → IsShownHeld held turn.round.tag turn.round.body answer shown.Last → IsRepliedTo w q older rows f route answer (Ok upon.Large) new stands table
-    last_on stands told =
-        large.last_told w q older rows f own party held kept route answer turn new stands table other told.0 (filled_with held answer) (may_stand w q rows f party held kept (drop 1 answer) told.1.fits) told.1.chunk told.1.last
 
   -- The next chunk, and more follow.
   module _ (told : IsShownHeld held turn.round.tag turn.round.body answer shown.Between) where

@@ -75,7 +75,7 @@ module _ (v : List ℕ) (e : Entry) (before : History) (unseen : IsUnseenRequest
   dropped_here ids (Ticked seconds ∷ gets) are = absurd (false≢true are.0)
   dropped_here ids (Dropped id ∷ gets) are = absurd (false≢true are.0)
 
-  with_here : (g : History) (gets : List Entry) → AreGets gets → with_large None v (gets ++ e ∷ g) ≡ gets ++ seen v e ∷ g
+  pub with_here : (g : History) (gets : List Entry) → AreGets gets → with_large None v (gets ++ e ∷ g) ≡ gets ++ seen v e ∷ g
   with_here g [] are = ap (λ (b : Bool). cond b (seen v e ∷ g) (e ∷ with_large None v g)) (unseen_clear e unseen)
   with_here g (Clear tag t d ∷ gets) are =
       ap (λ (b : Bool). cond b (seen v (Clear tag t d) ∷ (gets ++ e ∷ g)) (Clear tag t d ∷ with_large None v (gets ++ e ∷ g))) (get_seen t are.0)

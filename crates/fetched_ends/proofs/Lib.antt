@@ -68,7 +68,6 @@ pub mod HeldSame
 pub mod HeldResponse
 pub mod HeldOn
 pub mod HeldTold
-pub mod HeldLarge
 pub mod HeldJudged
 pub mod HeldKept
 pub mod HeldBegins
@@ -92,3 +91,14 @@ pub mod BegunHeldTold
 pub mod LastLed
 pub mod LastInClear
 pub mod AskedAccepts
+pub mod LastBefore
+pub mod LastWhole
+pub mod LastReady
+pub mod LastGiven
+pub mod LastAsked
+pub mod LastLeads
+pub mod LastExchange
+pub mod LastRound
+pub mod LastEnds
+pub mod LastRefused
+pub mod LastAlike

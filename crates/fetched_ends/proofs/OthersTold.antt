@@ -151,7 +151,7 @@ module _ (w : Configuration) (q : ReqSetup) (older : List (List ℕ)) (rows : Li
 
   pub begins_other : IsShownLarge (responder_for w f.kept) (with_large (Some fetched.id) kept.whole f.kept.responder) turn.round.tag turn.round.body answer → IsUnjudged w f answer
   begins_other large =
-      inl (round, kept.whole, turn.answers.0, kept.stands, subst (λ (l : History). IsShownLarge r l round.tag round.body answer) (sym (judged_at w q older rows f route answer byte limits own turn party fetched kept refuses other kept.whole kept.stands)) large)
+      (round, kept.whole, turn.answers.0, kept.stands, subst (λ (l : History). IsShownLarge r l round.tag round.body answer) (sym (judged_at w q older rows f route answer byte limits own turn party fetched kept refuses other kept.whole kept.stands)) large)
 
   -- ---- It goes on.
 

@@ -1,5 +1,5 @@
 -- What is told of an answer to a requester while a large one is fetched. This project's own.
-use Rattle.std.specs.Prelude.{◌≡◌, ◌+◌, ◌⊎◌, ℕ, List, drop, length, slice_index, Some, None, Result, Ok, Err, nat_lt, false}
+use Rattle.std.specs.Prelude.{◌≡◌, ◌+◌, ◌⊎◌, ℕ, List, drop, length, slice_index, Some, None, Result, Ok, Err}
 use Rattle.mctp_framing.specs.Cutting.{RouteFields}
 use Rattle.mctp_framing.specs.Gathering.{Gathered}
 use Rattle.mctp_framing.specs.Gathering.Gathered.{Whole}
@@ -14,7 +14,7 @@ use Rattle.capture_laws.specs.LargeShown.{IsShownLarge}
 use Rattle.capture_laws.specs.RepliesShown.{responder_for}
 use Rattle.capture_laws.specs.Rows.{StandsForRows}
 use Rattle.capture_laws.specs.declared.verdict.Seen.{Seen}
-use Rattle.large_answers.specs.Fetching.{Fetching, MayStand, dialogue_of, number_of}
+use Rattle.large_answers.specs.Fetching.{Fetching, MayStand, dialogue_of}
 use Rattle.large_answers.specs.FetchingLaws.{EndsFetching, GoesFetching, TurnsFetching}
 use Rattle.fetched_ends.specs.declared.upon.Upon.{Upon}
 use Rattle.fetched_ends.specs.declared.upon.Upon.TheVariants as upon
@@ -24,10 +24,6 @@ use Rattle.world_machine.specs.LargeAnswers.{judging}
 use Rattle.world_machine.specs.Rounds.{Round}
 use Rattle.world_machine.specs.SessionTable.{Row, rows_between}
 use Rattle.world_machine.specs.Setup.{Configuration}
-use Rattle.responder_machine.specs.Place.{place_terms}
-use Rattle.chunking.specs.Cutting.{chunk_count}
-use Rattle.fetched_answers.specs.ClearChunks.{clear_with, get_message, get_response}
-use Rattle.spdm_machine.specs.Bodies.{clear_body}
 
 -- The rows that a packet makes.
 abbrev pub rows_upon : Kept → Kept → List Row → List Row
@@ -42,20 +38,11 @@ IsFetchedWhy w f g why =
     ((whole : List ℕ) → MayStand f whole → GoesApart (responder_for w f.kept) (dialogue_of f whole) g → ⊥)
     × (goes_why (responder_for w f.kept) (restored f.kept) g ≡ Some why)
 
--- While one is fetched in the clear, it is the last chunk of some bytes that may stand.
-abbrev pub IsLastInClear : Fetching → Round → (answer : List ℕ) → Type 0
-IsLastInClear f round answer =
-    (whole : List ℕ) × (handle : ℕ) × MayStand f whole
-    × (round.body ≡ clear_body (get_message handle (number_of f)))
-    × (answer ≡ clear_body (get_response f.kept.responder whole handle (number_of f)))
-    × (nat_lt (number_of f + 1) (chunk_count (place_terms (clear_with f.kept.responder whole)).common.to_requester.transfer whole) ≡ false)
-
--- It is not judged: it begins another large answer by what it shows; or one is fetched in the clear, and it is one of those.
+-- It is not judged: it begins another large answer by what it shows.
 abbrev pub IsUnjudged : Configuration → Fetching → (answer : List ℕ) → Type 0
 IsUnjudged w f answer =
     ((round : Round) × (whole : List ℕ) × (f.kept.round ≡ Some round) × MayStand f whole
     × IsShownLarge (responder_for w f.kept) (judging (Some whole) round.body f.kept.responder) round.tag round.body answer)
-    ⊎ ((f.at ≡ None) × ((round : Round) × (f.kept.round ≡ Some round) × IsLastInClear f round answer))
 
 -- It goes on, and then this stands for what is kept behind it, and so does the table; or it is not judged; or it is
 -- refused, and then why.

@@ -1,6 +1,6 @@
 -- What is kept of a requester and the responder at any place, also while a large answer is fetched, and what is told of a
 -- request and of an answer there, in words of packets and of walks over them. This project's own.
-use Rattle.std.specs.Prelude.{◌≡◌, ◌≢◌, ◌<◌, ◌+◌, ◌⊎◌, ℕ, List, ◌∷◌, length, false, true, Option, Some, None, Result, Ok, Err}
+use Rattle.std.specs.Prelude.{◌≡◌, ◌≢◌, ◌<◌, ◌+◌, ◌⊎◌, ℕ, List, ◌∷◌, drop, length, false, true, Option, Some, None, IsSome, Result, Ok, Err}
 use Rattle.mctp_framing.specs.Cutting.{RouteFields}
 use Rattle.mctp_framing.specs.Gathering.{Gathered}
 use Rattle.mctp_framing.specs.Gathering.Gathered.{Whole, More}
@@ -13,6 +13,7 @@ use Rattle.capture_ends.specs.declared.conversation.Conversation.{Conversation}
 use Rattle.capture_ends.specs.declared.party.Party.{Party}
 use Rattle.capture_ends.specs.declared.onward.Onward.{Onward}
 use Rattle.capture_ends.specs.declared.onward.Onward.TheVariants as onward
+use Rattle.capture_laws.specs.DropsShown.{id_begun, response_of}
 use Rattle.capture_laws.specs.Judged.{why_of}
 use Rattle.capture_laws.specs.Order.{is_answer, is_request}
 use Rattle.capture_laws.specs.ReasonsEach.{IsAnsweredReason, IsAskedReason}
@@ -96,3 +97,8 @@ IsJudgedAnswer w q older rows packet route answer (Ok onward.Kept) new table = S
 IsJudgedAnswer w q older rows packet route answer (Ok onward.Large) new table = IsPart w q older route.tag answer
 IsJudgedAnswer w q older rows packet route answer (Err why) new table =
     NoneGoesOn w q older packet × IsAnsweredReason w q older (Whole route answer) (why_of why)
+
+-- An answer may begin a session, by what it shows; or it may be the last chunk of one that is fetched in the clear.
+abbrev pub MayBegin : Option Fetch → (answer : List ℕ) → Type 0
+MayBegin (Some (fetch.InClear held)) answer = Unit {0}
+MayBegin _ answer = IsSome (id_begun (response_of (drop 1 answer)))

@@ -71,7 +71,7 @@ impl Held {
 
     // The bytes so far, those of the CHUNK_RESPONSE that comes next, and zeros up to the told length; none where
     // that is no length that goes by chunks, and where they are longer.
-    fn filled(&self, message: &[u8]) -> Option<Frame>
+    pub(crate) fn filled(&self, message: &[u8]) -> Option<Frame>
         ensures { MatchOption result (AreHeldFitting self.now message.now → ⊥)
             (λ whole. AreHeldFitting self.now message.now × (whole ≡ filled self.now.answer.number
             self.now.answer.size self.now.answer.bytes message.now)) }

@@ -1,5 +1,4 @@
-ghost use Rattle.std.specs.Prelude.{◌≡◌, ◌≤◌, ◌<◌, ◌-◌, ◌^◌, ◌↔◌, ℕ, List, None, Ok, IfOk, OnErr, IsSome, IsTrue, drop, length};
-ghost use Rattle.capture_laws.specs.DropsShown.{id_begun, response_of};
+ghost use Rattle.std.specs.Prelude.{◌≡◌, ◌≤◌, ◌<◌, ◌-◌, ◌^◌, ◌↔◌, ℕ, List, None, Ok, IfOk, IsTrue, length};
 ghost use Rattle.capture_laws.specs.Order.{answered_why};
 ghost use Rattle.capture_laws.specs.RepliesShown.{responder_for};
 ghost use Rattle.capture_laws.specs.Rows.{StandsForRows};
@@ -20,6 +19,7 @@ ghost use Rattle.world_machine.specs.Setup.{Configuration};
 use crate::Upon;
 use crate::held::Held;
 use crate::held_heard::hears_on;
+use crate::held_last::ends_by_chunk;
 use crate::held_version::ends_by_version;
 use crate::shown::Shown;
 use capture_ends::Party;
@@ -43,7 +43,7 @@ fn asks_version(body: &[u8]) -> bool
 }
 
 /// An answer of at most 4,161 bytes came whole, in order behind this round, while a large answer is fetched in the
-/// clear: it goes on, and the table of sessions with it; or it is not judged; or why it is refused.
+/// clear: it goes on, and the table of sessions with it; or why it is refused.
 pub fn replies_held(
     party: &mut Party,
     held: &mut Held,
@@ -63,7 +63,6 @@ pub fn replies_held(
         (IsHeldIn party.new held.new w q) table.new) }
     ensures stays { IfOk result (λ told. (told ≡ Ok upon.Fetched → ⊥) → (told ≡ Ok upon.Ended → ⊥)
         → table.new ≡ table.old) }
-    ensures memory { OnErr result (IsSome (id_begun (response_of (drop 1 answer.now)))) }
 {
     let body = round.body();
     if asks_version(body) {
@@ -80,7 +79,7 @@ pub fn replies_held(
             held.takes(round.tag(), body, answer);
             Ok(Ok(Upon::Fetched))
         }
-        Shown::Last => Ok(Ok(Upon::Large)),
+        Shown::Last => ends_by_chunk(party, held, table, setup, round, answer),
         Shown::Other => Ok(Err(party.answerer.reply_why(&party.keys, body, answer))),
     }
 }

@@ -50,7 +50,7 @@ fn gives_version(answer: &[u8]) -> bool
 }
 
 // The least values that a responder may choose in the clear.
-fn least_values(connection: &Connection) -> FreeValues<'static>
+pub(crate) fn least_values(connection: &Connection) -> FreeValues<'static>
     ensures least { 1 ≤ result.id }
     ensures most { result.id ≤ 4 }
     ensures free { (r : RspSetup) (h : History) → StandsFor connection.now r h

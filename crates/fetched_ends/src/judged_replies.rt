@@ -19,7 +19,7 @@ impl JudgedEnds {
     ghost use Rattle.connection.specs.Setup.{IsSetUp};
     ghost use Rattle.fetched_ends.specs.Held.{IsHeldIn};
     ghost use Rattle.fetched_ends.specs.InSession.{IsFetchedIn};
-    ghost use Rattle.fetched_ends.specs.JudgedEnds.{IsJudgedAnswer, StandsFor};
+    ghost use Rattle.fetched_ends.specs.JudgedEnds.{IsJudgedAnswer, MayBegin, StandsFor};
     ghost use Rattle.large_answers.specs.Fetching.{Fetching, IsFetchingOf};
     ghost use Rattle.mctp_framing.specs.Cutting.{RouteFields};
     ghost use Rattle.mctp_framing.specs.Gathering.Gathered.{Whole};
@@ -85,7 +85,6 @@ impl JudgedEnds {
             → StandsForRows table.old w (length older) rows
             → IfOk result (λ told. IsJudgedAnswer w q older rows packet route answer.now told self.new
             table.new) }
-        ensures memory { OnErr result (IsSome (id_begun (response_of (drop 1 answer.now)))) }
     {
         let party = &mut self.talk.party;
         match replies_held(party, &mut held, table, setup, round, answer)? {
@@ -171,8 +170,8 @@ impl JudgedEnds {
     /// An answer of at most 4,161 bytes came whole, in order behind this round: it goes on, and the
     /// table of sessions with it; or it is a part of a large answer that is not judged; or no walk goes on
     /// with it, and then why. But for the first, nothing is said of what is kept then, and of the table. An
-    /// `Err` comes only where PSK_EXCHANGE_RSP began a session and there is no memory for its entry, and
-    /// says nothing of what is kept.
+    /// `Err` comes only where PSK_EXCHANGE_RSP began a session, whole or with its last chunk, and there is no
+    /// memory for its entry, and says nothing of what is kept.
     pub fn replies(
         &mut self,
         table: &mut SessionTable,
@@ -190,7 +189,7 @@ impl JudgedEnds {
             → StandsFor self.old w q older rows → StandsForRows table.old w (length older) rows
             → IfOk result (λ told. IsJudgedAnswer w q older rows packet route answer.now told self.new
             table.new) }
-        ensures memory { OnErr result (IsSome (id_begun (response_of (drop 1 answer.now)))) }
+        ensures memory { OnErr result (MayBegin self.old.fetched answer.now) }
     {
         match self.fetched.take() {
             None => self.replies_at_rest(table, setup, round, answer),

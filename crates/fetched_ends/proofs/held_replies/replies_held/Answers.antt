@@ -1,12 +1,11 @@
 use Rattle.std.proofs.Common.{◌≡◌, ◌≢◌, ◌∙◌, ◌<◌, ◌-◌, ◌^◌, ℕ, List, Bool, true, false, Option, Some, Ok, Err, Result, drop, refl, sym, ap, subst}
-use Rattle.std.specs.Prelude.{IfOk, IsSome, OnErr}
+use Rattle.std.specs.Prelude.{IfOk}
 use Rattle.spdm_basis.specs.declared.OutOfMemory.{OutOfMemory}
 use Rattle.capture_ends.proofs.InTurn.{answers_in_turn}
-use Rattle.capture_laws.specs.DropsShown.{id_begun, response_of}
 use Rattle.capture_laws.specs.Keeping.{restored}
 use Rattle.capture_laws.specs.Order.{body_in}
 use Rattle.capture_laws.specs.RepliesShown.{responder_for}
-use Rattle.fetched_ends.proofs.HeldJudged.{awaits, behind_took, body_is, heard_as, last_on, newly_is, next_same, next_took, not_version, round_is, same_asks, same_on, shown_as, tag_is, took_asks, took_on, took_quiet}
+use Rattle.fetched_ends.proofs.HeldJudged.{awaits, behind_took, body_is, heard_as, newly_is, next_same, next_took, not_version, round_is, same_asks, same_on, shown_as, tag_is, took_asks, took_on, took_quiet}
 use Rattle.fetched_ends.proofs.HeldOn.{few}
 use Rattle.fetched_ends.proofs.HeldSame.{quiet}
 use Rattle.fetched_ends.proofs.HeldTold.{refused_told}
@@ -25,10 +24,6 @@ stays_on : {A : Type 0} (x : Result (Result Upon declared_why.Why) OutOfMemory) 
 stays_on (Ok told) s t is = λ fetched ended. is ended
 stays_on (Err e) s t is = is
 
-memory_on : (A : Type 0) (x : Result (Result Upon declared_why.Why) OutOfMemory) → OnErr x ⊥ → OnErr x A
-memory_on A (Ok told) none = none
-memory_on A (Err e) none = absurd none
-
 pub returns-then-asks_version-clause-told : goal.returns-then-asks_version-clause-told
 returns-then-asks_version-clause-told c w q older rows f route own less byte now set_up none kept stands =
     let answer : List ℕ = c.args.answer.now in
@@ -39,9 +34,6 @@ returns-then-asks_version-clause-told c w q older rows f route own less byte now
 
 pub returns-then-asks_version-clause-stays : goal.returns-then-asks_version-clause-stays
 returns-then-asks_version-clause-stays c = stays_on c.ends_by_version.result c.args.table.now c.ends_by_version.new.table c.ends_by_version.ensures.stays
-
-pub returns-then-asks_version-clause-memory : goal.returns-then-asks_version-clause-memory
-returns-then-asks_version-clause-memory c = memory_on (IsSome (id_begun (response_of (drop 1 c.args.answer.now)))) c.ends_by_version.result c.ends_by_version.ensures.memory
 
 pub returns-in_ok-hears_on-in-Same-clause-told : goal.returns-in_ok-hears_on-in-Same-clause-told
 returns-in_ok-hears_on-in-Same-clause-told c w q older rows f route own less byte now set_up none kept stands =
@@ -98,7 +90,10 @@ returns-in-Last-clause-told c w q older rows f route own less byte now set_up no
     let body = body_is f route answer turn c.args.round.now now c.body-body.result.now c.body-body.ensures in
     let tag = tag_is f route answer turn c.args.round.now now c.tag.result c.tag.ensures in
     let told = subst (λ (s : Shown). IsShownHeld held turn.round.tag turn.round.body answer s) c.in-Last.is (shown_as w q older rows f own party held kept route answer limits turn other c.tag.result c.body-body.result.now c.shows.result tag body c.shows.ensures) in
-    last_on w q older rows f own party held kept route answer limits turn other party c.args.table.now (IsHeldIn party held w q) told
+    c.ends_by_chunk.ensures.told w q older rows f route turn.round own less byte now turn.answers.0 other told set_up none kept stands
+
+pub returns-in-Last-clause-stays : goal.returns-in-Last-clause-stays
+returns-in-Last-clause-stays c = stays_on c.ends_by_chunk.result c.args.table.now c.ends_by_chunk.new.table c.ends_by_chunk.ensures.stays
 
 pub returns-in-Other-clause-told : goal.returns-in-Other-clause-told
 returns-in-Other-clause-told c w q older rows f route own less byte now set_up none kept stands =

@@ -1,0 +1,8 @@
+use Rattle.std.proofs.Common.{◌≡◌, ◌∷◌, ◌∙◌, ℕ, List, [], sym, subst, cond, Bool}
+use Rattle.connection.specs.Connected as connected
+use Rattle.responder_machine.specs.May.{with_dropped}
+use Rattle.fetched_ends.proofs.held_whole.drop_timed.Goals as goal
+
+pub returns-then-is_timed : goal.returns-then-is_timed
+returns-then-is_timed c = λ r h stands.
+    subst (λ (b : Bool). connected.StandsFor c.drop_unseen.new.self r (with_dropped h (cond b (c.args.id ∷ []) []))) (sym (sym (c.is_timed.ensures r h stands) ∙ c.if-is_timed.true)) (c.drop_unseen.ensures r h stands)

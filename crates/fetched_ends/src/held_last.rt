@@ -1,0 +1,112 @@
+ghost use Rattle.std.specs.Prelude.{◌≡◌, ◌≢◌, ◌<◌, ◌-◌, ◌^◌, ℕ, List, None, Ok, Some, IfOk, length};
+ghost use Rattle.capture_ends.specs.declared.answer_keys.AnswerKeys.{AnswerKeys};
+ghost use Rattle.capture_laws.specs.Order.{answered_why};
+ghost use Rattle.capture_laws.specs.RepliesShown.{responder_for};
+ghost use Rattle.capture_laws.specs.Rows.{StandsForRows};
+ghost use Rattle.connection.specs.Setup.{IsSetUp};
+ghost use Rattle.fetched_ends.specs.Fetched.{IsRepliedTo};
+ghost use Rattle.fetched_ends.specs.Held.{IsHeldIn, IsShownHeld, StandsBefore};
+ghost use Rattle.fetched_ends.specs.LastHeld.{begun_if};
+ghost use Rattle.fetched_ends.specs.declared.shown.Shown.TheVariants as shown;
+ghost use Rattle.fetched_ends.specs.declared.upon.Upon.TheVariants as upon;
+ghost use Rattle.large_answers.specs.Fetching.{Fetching, IsFetchingOf};
+ghost use Rattle.mctp_framing.specs.Cutting.{RouteFields};
+ghost use Rattle.mctp_framing.specs.Gathering.Gathered.{Whole};
+ghost use Rattle.requester_machine.specs.Setup.{ReqSetup};
+ghost use Rattle.responder_machine.specs.History.{History};
+ghost use Rattle.responder_machine.specs.Setup.{RspSetup};
+ghost use Rattle.responder_machine.specs.Turn.{takes};
+ghost use Rattle.spdm_grammar.specs.Message.RequestMessage.{GetVersion};
+ghost use Rattle.spdm_grammar.specs.Requests.{canonical_request};
+ghost use Rattle.spdm_grammar.specs.declared.names.request_code.TheConstants.{PSK_EXCHANGE};
+ghost use Rattle.spdm_machine.specs.Bodies.{clear_body};
+ghost use Rattle.world_machine.specs.Rounds as rounds;
+ghost use Rattle.world_machine.specs.SessionTable.{Row};
+ghost use Rattle.world_machine.specs.Setup.{Configuration};
+
+use crate::Upon;
+use crate::asked_exchange::asks_exchange;
+use crate::held::Held;
+use crate::held_whole::{leads_to, rsp_id_in};
+use crate::led::Led;
+use capture_ends::{Answerer, Party};
+use capture_laws::{Round, SessionTable, answer_accepts, last_chunk_changes};
+use connection::Setup;
+use script_text::Why;
+use session_keys::{behind_type, byte_at};
+use spdm_basis::OutOfMemory;
+
+// Whether the request of the large answer is PSK_EXCHANGE.
+fn holds_exchange(answerer: &Answerer, held: &Held) -> bool
+    ensures { (r : RspSetup) (h : History) (keys : AnswerKeys)
+        (b : StandsBefore answerer.now keys held.now r h) → result ≡ takes PSK_EXCHANGE b.turn }
+{
+    asks_exchange(&answerer.connection, held.request.as_slice())
+}
+
+// The RspSessionID of the session that these bytes begin, where the request is PSK_EXCHANGE.
+fn begun_by(exchange: bool, whole: &[u8]) -> Option<u16>
+    ensures { result ≡ begun_if exchange whole.now }
+{
+    if !exchange {
+        return None;
+    }
+    if whole.is_empty() {
+        return None;
+    }
+    Some(rsp_id_in(whole))
+}
+
+/// An answer of at most 4,161 bytes came whole, in order behind this round, which is the last chunk of a large answer
+/// that is held: it ends the fetch; or why it is refused.
+pub(crate) fn ends_by_chunk(
+    party: &mut Party,
+    held: &Held,
+    table: &mut SessionTable,
+    setup: &Setup<'_>,
+    round: &Round,
+    answer: &[u8],
+) -> Result<Result<Upon, Why>, OutOfMemory>
+    ensures told { (w : Configuration) (q : ReqSetup) (older : List (List ℕ)) (rows : List Row)
+        (f : Fetching) (route : RouteFields) (of : rounds.Round) → IsFetchingOf w q older f
+        → length older < 2 ^ 64 - 2 → w.responder.beat < 256 → round.now ≡ f.kept.round
+        → f.kept.round ≡ Some of → of.body ≢ clear_body (canonical_request GetVersion)
+        → IsShownHeld held.now of.tag of.body answer.now shown.Last
+        → IsSetUp setup.now (responder_for w f.kept)
+        → answered_why f.kept.round (Whole route answer.now) ≡ None
+        → IsHeldIn party.old held.now w q f rows → StandsForRows table.old w (length older) rows
+        → IfOk result (λ told. IsRepliedTo w q older rows f route answer.now told party.new
+        (IsHeldIn party.new held.now w q) table.new) }
+    ensures stays { IfOk result (λ told. (told ≡ Ok upon.Ended → ⊥) → table.new ≡ table.old) }
+{
+    let body = round.body();
+    let tag = round.tag();
+    let why = party.answerer.reply_why(&party.keys, body, answer);
+    let Some(whole) = held.filled(behind_type(answer)) else {
+        return Ok(Err(why));
+    };
+    let exchange = holds_exchange(&party.answerer, held);
+    match leads_to(
+        &mut party.answerer,
+        held,
+        exchange,
+        setup,
+        tag,
+        byte_at(body, 4),
+        whole.as_slice(),
+    ) {
+        Led::Whole => {}
+        Led::Apart => return Ok(Err(Why::BadVerify)),
+        Led::Other => return Ok(Err(why)),
+    }
+    let heard = party.asker.hears(tag, answer, true);
+    if heard.fetches {
+        return Ok(Err(why));
+    }
+    answer_accepts();
+    last_chunk_changes();
+    let begun = begun_by(exchange, whole.as_slice());
+    let change = party.change(begun, heard.accepted, None);
+    table.take(&mut party.places, party.number, &change)?;
+    Ok(Ok(Upon::Ended))
+}

@@ -1,0 +1,10 @@
+/// What the request of a large answer leads to in the clear, once all its bytes are there.
+#[derive(Clone, Copy, Debug, PartialEq, Eq)]
+pub(crate) enum Led {
+    /// These bytes.
+    Whole,
+    /// Others, from which these differ in their verify data alone.
+    Apart,
+    /// Neither.
+    Other,
+}
