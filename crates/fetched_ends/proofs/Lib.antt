@@ -46,6 +46,7 @@ pub mod FetchedReplied
 pub mod EndsReplied
 pub mod EndsStay
 pub mod BegunStands
+pub mod BegunUnfetched
 pub mod BegunChanges
 pub mod LengthsIn
 pub mod BegunTold
@@ -77,6 +78,8 @@ pub mod HeldTurns
 pub mod HeldSettled
 pub mod GetsGiven
 pub mod HeldBegun
+pub mod LargeAccepts
+pub mod BegunPassed
 pub mod VersionRound
 pub mod VersionHeard
 pub mod VersionGone
