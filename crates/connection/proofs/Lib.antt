@@ -23,4 +23,5 @@ pub mod Listed
 pub mod AnswerKeys
 pub mod PutAnswers
 pub mod Unseen
+pub mod UnseenRequests
 mod PutBack

@@ -22,8 +22,8 @@ use Rattle.responder_machine.specs.Setup.{RspSetup}
 use Rattle.responder_machine.specs.SizeLaws.{HasSizes}
 use Rattle.responder_machine.specs.Turn.{Effect, Turn, is_data, is_taken, request_in, answer_in, takes}
 use Rattle.responder_machine.specs.Turn.Effect.{NoEffect, Took, TookData}
-use Rattle.responder_session.proofs.Pendings.{IsAlike, events_alike, forgotten_alike}
-use Rattle.responder_session.specs.Pending.{events_changed}
+use Rattle.responder_session.proofs.Pendings.{events_alike, forgotten_alike}
+use Rattle.responder_session.specs.Pending.{IsAlike, events_changed}
 use Rattle.responder_session.specs.Session as sessions
 use Rattle.spdm_grammar.specs.declared.names.request_code.TheConstants.{END_SESSION, GET_MEASUREMENTS, GET_VERSION, PSK_EXCHANGE}
 use Rattle.spdm_machine.specs.Keys.{Draw}

@@ -20,3 +20,4 @@ pub mod OwnAnswers
 pub mod SeenTerms
 pub mod Pending
 pub mod Trying
+pub mod UnseenRequests

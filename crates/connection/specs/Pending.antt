@@ -1,11 +1,12 @@
 -- A connection in which the pending answer of a session gets other bytes, or was never seen, for one who judges
 -- answers whose bytes come chunk by chunk. This project's own.
-use Rattle.std.specs.Prelude.{◌==◌, ◌≡◌, ◌&&◌, ◌||◌, not, if◌then◌else◌, ℕ, List, [], ◌∷◌, Bool, true, is_some}
+use Rattle.std.specs.Prelude.{◌==◌, ◌≡◌, ◌≢◌, ◌&&◌, ◌||◌, not, if◌then◌else◌, ℕ, List, [], ◌∷◌, Bool, true, is_some}
 use Rattle.request_rules.specs.LargeAnswer.{turn_unseen, turn_with}
-use Rattle.responder_machine.specs.History.{History}
+use Rattle.responder_machine.specs.History.{History, clear_turns, ended_of, kept_of, queue_of}
 use Rattle.responder_machine.specs.History.Entry.{Sealed}
-use Rattle.responder_machine.specs.Session.{id_in_record}
+use Rattle.responder_machine.specs.Session.{id_in_record, session_of}
 use Rattle.responder_machine.specs.Turn.{Turn, handle_in, is_taken, takes}
+use Rattle.responder_session.specs.Pending as sessions
 use Rattle.spdm_grammar.specs.declared.names.request_code.TheConstants.{CHUNK_GET, GET_MEASUREMENTS}
 
 -- A message that was not taken, or CHUNK_GET: behind it a large answer is as pending as before.
@@ -34,3 +35,12 @@ pub record GoesLarge (t : Turn) : Type 0 where
   pub taken : is_taken t ≡ true
   pub measures : takes GET_MEASUREMENTS t ≡ true
   pub large : is_some (handle_in t.effect) ≡ true
+
+-- One answer less went by LargeResponse in the session of this id in the other history; all else that is kept is the same.
+pub record IsUncounted (id : ℕ) (h k : History) : Type 0 where
+  pub own : sessions.IsUncounted (session_of id h) (session_of id k)
+  pub others : (i : ℕ) → i ≢ id → session_of i h ≡ session_of i k
+  pub turns : clear_turns h ≡ clear_turns k
+  pub kept : kept_of h ≡ kept_of k
+  pub ended : ended_of h ≡ ended_of k
+  pub queue : queue_of h ≡ queue_of k

@@ -24,7 +24,7 @@ use std::marker::Model;
 #[derive(Drop)]
 pub struct ClearPart {
     pub(crate) requests: Requests,
-    kept: KeptReply,
+    pub(crate) kept: KeptReply,
 }
 
 impl Model for ClearPart {

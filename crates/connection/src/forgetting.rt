@@ -60,7 +60,7 @@ impl Live {
     ghost use Rattle.responder_machine.specs.LargeMessages.{large_of};
     ghost use Rattle.responder_machine.specs.Session.{Events, turns_of};
     ghost use Rattle.responder_machine.specs.Setup.{RspSetup};
-    ghost use Rattle.responder_session.specs.Pending.{events_unseen};
+    ghost use Rattle.responder_session.specs.Pending.{IsUncounted, events_unseen};
     ghost use Rattle.spdm_grammar.specs.declared.names.request_code.TheConstants.{GET_MEASUREMENTS};
     ghost use Rattle.connection.specs.Live.{StandsFor};
 
@@ -70,6 +70,14 @@ impl Live {
             → StandsFor self.new r (events_unseen s) }
     {
         self.session.forget_pending();
+    }
+
+    // Without the count of one that others came after.
+    fn uncount(&mut self)
+        ensures { (r : RspSetup) (s e : Events) → IsUncounted s e → StandsFor self.old r s
+            → StandsFor self.new r e }
+    {
+        self.session.uncount();
     }
 }
 
@@ -83,6 +91,7 @@ impl Sessions {
     ghost use Rattle.responder_session.specs.Pending.{events_unseen};
     ghost use Rattle.spdm_grammar.specs.declared.names.request_code.TheConstants.{GET_MEASUREMENTS};
     ghost use Rattle.connection.specs.Live.{IsSlotOf};
+    ghost use Rattle.responder_session.specs.Pending as sessions;
     ghost use Rattle.connection.specs.Pending.{history_unseen};
     ghost use Rattle.connection.specs.Sessions.{StandsFor, slot_of};
 
@@ -110,6 +119,21 @@ impl Sessions {
     {
         self.forget_at(id);
     }
+
+    // The session of this RspSessionID.
+    fn uncount_at(&mut self, id: u16)
+        ensures own { (r : RspSetup) (s e : Events) → sessions.IsUncounted s e
+            → IsSlotOf (slot_of self.old id) r s → IsSlotOf (slot_of self.new id) r e }
+        ensures others { (i : ℕ) → i ≢ id → slot_of self.new i ≡ slot_of self.old i }
+        ensures ended { self.new.ended ≡ self.old.ended }
+    {
+        if id == 0 || id > 4 {
+            return;
+        }
+        if let Some(live) = &mut self.slots[usize::from(id) - 1] {
+            live.uncount();
+        }
+    }
 }
 
 // A request whose large answer was never seen, for one who judges it.
@@ -124,7 +148,7 @@ impl Connection {
     ghost use Rattle.responder_machine.specs.Turn.{Turn};
     ghost use Rattle.spdm_machine.specs.Keys.{Draw};
     ghost use Rattle.connection.specs.Connected.{StandsFor};
-    ghost use Rattle.connection.specs.Pending.{GoesLarge, history_unseen};
+    ghost use Rattle.connection.specs.Pending.{GoesLarge, IsUncounted, history_unseen};
     ghost use Rattle.spdm_grammar.specs.declared.names.request_code.TheConstants.{GET_MEASUREMENTS};
 
     /// The MEASUREMENTS that were to go by LargeResponse in answer to the clear message that came last were never
@@ -146,5 +170,14 @@ impl Connection {
             → StandsFor self.old r h → StandsFor self.new r (history_unseen id h) }
     {
         self.sessions.forget(id);
+    }
+
+    /// A large answer of the session of this RspSessionID was never seen, and other messages were taken there since:
+    /// it took no handle.
+    pub fn uncount_in(&mut self, id: u16)
+        ensures { (r : RspSetup) (h k : History) → IsUncounted id h k → StandsFor self.old r h
+            → StandsFor self.new r k }
+    {
+        self.sessions.uncount_at(id);
     }
 }

@@ -42,6 +42,7 @@ mod timed;
 mod told;
 mod tried;
 mod trying;
+mod unseen_requests;
 mod views;
 
 pub use came::{Begun, Came};

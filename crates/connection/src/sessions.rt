@@ -247,7 +247,7 @@ impl Sessions {
     }
 
     // A session of this RspSessionID that is in its handshake is gone.
-    fn leave(&mut self, id: u16)
+    pub(crate) fn leave(&mut self, id: u16)
         ensures own { (r : RspSetup) (s : Events) → IsSlotOf (slot_of self.old id) r s
             → IsSlotOf (slot_of self.new id) r (held_part s) }
         ensures others { (i : ℕ) → i ≢ id → slot_of self.new i ≡ slot_of self.old i }

@@ -119,7 +119,7 @@ module _ (r : RspSetup) (h : History) (whole : List ℕ) (tag handle number : �
         ∙ ap (at (Some (ChunkGet handle number)) (answer_bytes r p m f)) small
         ∙ ap (λ (l : List ℕ). at (Some (ChunkGet handle number)) l false) answer)
 
-    gives : on_clear r (with_large None whole h) tag m f no_draw ≡ Adds (get_entry tag handle number response)
+    pub gives : on_clear r (with_large None whole h) tag m f no_draw ≡ Adds (get_entry tag handle number response)
     unfolding on_clear
     gives =
         ap (λ y. cond (is_repeat y tag m) (Same (clear_body (kept_reply y))) (Adds (Clear tag (turn_of r p m f) no_draw))) (kept_large None whole h)

@@ -93,10 +93,10 @@ settled_at t n code =
     (cond (code == GET_CAPABILITIES) (record n { get_capabilities = request_in t.effect; capabilities = answer_in t.effect })
     (cond (code == NEGOTIATE_ALGORITHMS) (record n { negotiate_algorithms = request_in t.effect; algorithms = answer_in t.effect }) n))
 
-code_settles : (t : Turn) (ts : List Turn) (code : ℕ) → code_in t.effect ≡ code → settled_at t (negotiation_of ts) code ≡ negotiation_of ts → negotiation_of (t ∷ ts) ≡ negotiation_of ts
+pub code_settles : (t : Turn) (ts : List Turn) (code : ℕ) → code_in t.effect ≡ code → settled_at t (negotiation_of ts) code ≡ negotiation_of ts → negotiation_of (t ∷ ts) ≡ negotiation_of ts
 code_settles t ts code is stays = ap (settled_at t (negotiation_of ts)) is ∙ stays
 
-gets_settle : (gets : List Entry) (h : History) → AreGets gets → negotiation_of (clear_turns (gets ++ h)) ≡ negotiation_of (clear_turns h)
+pub gets_settle : (gets : List Entry) (h : History) → AreGets gets → negotiation_of (clear_turns (gets ++ h)) ≡ negotiation_of (clear_turns h)
 gets_settle [] h are = refl
 gets_settle (Clear tag t d ∷ gets) h are =
     code_settles t (clear_turns (gets ++ h)) CHUNK_GET (eqb-true (code_in t.effect) CHUNK_GET (and_first (takes CHUNK_GET t) _ are.0)) refl ∙ gets_settle gets h are.1
@@ -147,7 +147,7 @@ module _ (r : RspSetup) (byte : r.beat < 256) (before : History) (tag : ℕ) (t 
     exchanges = turn_exchange r v p t.message (ap (λ (l : List ℕ). slice_index l 1 == PSK_EXCHANGE_RSP) answered ∙ eq-eqb (slice_index other 1) PSK_EXCHANGE_RSP code)
 
     -- It is PSK_EXCHANGE.
-    code_is : code_in t.effect ≡ PSK_EXCHANGE
+    pub code_is : code_in t.effect ≡ PSK_EXCHANGE
     code_is = eqb-true (code_in t.effect) PSK_EXCHANGE (sym (takes_with other (Some (handle_shown t)) PSK_EXCHANGE t) ∙ eq-eqb (code_in (seen_turn other t).effect) PSK_EXCHANGE (ap (λ (x : Turn). code_in x.effect) (sym turn_is) ∙ exchanges.code))
 
     module _ (sized : hash_len (place_terms p) ≡ size) where

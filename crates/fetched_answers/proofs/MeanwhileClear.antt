@@ -233,7 +233,7 @@ module _ (r : RspSetup) (d : Dialogue) (whole : List ℕ) (round : Round) (m ans
       let here : Ended d.fetching whole round.body = subst (λ (x : Option (List ℕ)). Ended x whole round.body) (sym fetching) mine in
       (whole, here.0, here.1, fetching, here.2, here.3, here.4, here.5, here.6, here.7)
 
-last_is : (r : RspSetup) (h : History) (whole : List ℕ) (tag handle number : ℕ) (get : IsNextGet r h whole tag handle number)
+pub last_is : (r : RspSetup) (h : History) (whole : List ℕ) (tag handle number : ℕ) (get : IsNextGet r h whole tag handle number)
     → gives_last (with_large None whole h) (entry r h whole tag handle number get) ≡ not (nat_lt (number + 1) (chunk_count (transfer r h whole tag handle number get) whole))
 last_is r h whole tag handle number get =
     sym (not_not _) ∙ ap not (plain_is r h whole tag handle number get)

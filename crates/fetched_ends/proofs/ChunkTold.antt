@@ -1,5 +1,5 @@
 -- What the calls tell of a chunk of a large answer that is fetched in a session.
-use Rattle.std.proofs.Common.{◌≡◌, ◌≤◌, ◌<◌, ◌-◌, ◌^◌, ◌==◌, ◌||◌, ℕ, List, [], ◌∷◌, sym, ap, ◌∙◌, subst, drop, length, arith, Bool, true, false, Option, Some, inl, inr, eqb-true}
+use Rattle.std.proofs.Common.{◌≡◌, ◌≤◌, ◌<◌, ◌-◌, ◌^◌, ◌==◌, ◌||◌, ℕ, List, [], ◌∷◌, sym, ap, ◌∙◌, subst, drop, length, arith, Bool, true, false, Option, Some, inl, eqb-true}
 use Rattle.std.specs.Prelude.{slice_index}
 use Rattle.std.proofs.lemmas.Bool.{false≢true}
 use Rattle.mctp_framing.specs.Cutting.{RouteFields}
@@ -44,7 +44,7 @@ use Rattle.fetched_ends.proofs.InSessionTold.{carries}
 use Rattle.fetched_ends.proofs.RecordTaken.{body_adds, shown_behind}
 use Rattle.fetched_ends.proofs.SeenKeys.{keys_given}
 use Rattle.fetched_ends.specs.Fetched.{IsUnjudged}
-use Rattle.fetched_ends.specs.InSession.{IsOther, IsReadIn}
+use Rattle.fetched_ends.specs.InSession.{IsReadIn}
 use Rattle.fetched_ends.specs.declared.in_session.InSession.{InSession}
 
 -- A body of type 6 is its record.
@@ -140,9 +140,6 @@ module _ (w : Configuration) (q : ReqSetup) (older : List (List ℕ)) (rows : Li
       ap (λ (o : Option Round). after g (on_body r g (tag_in o) (body_in o) values no_draw)) is ∙ ap (after g) (body_adds r g round.tag round.body answer read.record_is read.read.taken values)
 
   -- ---- What is told apart.
-
-  pub told_apart : IsOther (responder_for w f.kept) (with_large (Some fetched.id) whole f.kept.responder) f.kept turn.round answer → IsUnjudged w f answer
-  told_apart other = inr (inl (fetched.id, round, whole, read.kept.at, turn.answers.0, stand, other))
 
   pub begins_other : IsShownLarge (responder_for w f.kept) (with_large (Some fetched.id) whole f.kept.responder) turn.round.tag turn.round.body answer → IsUnjudged w f answer
   begins_other large =

@@ -33,7 +33,7 @@ use Rattle.fetched_ends.proofs.InSessionRecord.{fetch_is, id_is, place_is, unsee
 
 -- ---- Lengths.
 
-few_round : (at : Where) → bytes_round at ≤ 6
+pub few_round : (at : Where) → bytes_round at ≤ 6
 few_round InClear = omega arith
 few_round InChunks = omega arith
 few_round InSession = omega arith
@@ -64,7 +64,7 @@ module _ (w : Configuration) (q : ReqSetup) (older : List (List ℕ)) (f : Fetch
       ∙ ap (λ (o : Option ℕ). session_place (session_of (id_in_record (drop 1 body)) (with_large o l h))) (place_is w q older f route answer byte limits own turn id at type l may)
       ∙ ap (λ (n : ℕ). session_place (session_of n (with_large (Some id) l h))) (id_is w q older f route answer byte limits own turn id at type l may)
 
-  chunked : (l : List ℕ) → MayStand f l → Chunked (session_place (events l)) (Some id) l h
+  pub chunked : (l : List ℕ) → MayStand f l → Chunked (session_place (events l)) (Some id) l h
   chunked l may =
       subst (λ (o : Option ℕ). Chunked (session_place (events l)) o l h) (place_is w q older f route answer byte limits own turn id at type l may)
       (subst (λ (p : Place). Chunked p (place_named body) l h) (here l may) (fetch_is w q older f route answer byte limits own turn id at type l may).chunked)

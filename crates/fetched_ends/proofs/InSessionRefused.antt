@@ -90,4 +90,4 @@ module _ (w : Configuration) (q : ReqSetup) (older : List (List ℕ)) (rows : Li
 
   module _ (x : List ℕ) (stand_x : MayStand f x) (why : declared.Why) (is : why_of why ≡ reply_why (responder_for w f.kept) (record (restored f.kept) { responder = with_large (Some id) x f.kept.responder }) answer (Some turn.round)) where
     pub refused : IsNone w q older rows f route answer turn → (new : Party) (stands : Fetching → List Row → Type 0) (table : List Seen) → IsRepliedTo w q older rows f route answer (Err why) new stands table
-    refused = refused_by w q older rows f route answer turn never_apart (unseen_stand w q older f route answer byte limits own turn id at type x stand_x) id x why is
+    refused = refused_by w q older rows f route answer turn never_apart (unseen_stand w q older f route answer byte limits own turn id at type x stand_x) id x why is limits own

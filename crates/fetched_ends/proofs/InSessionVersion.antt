@@ -141,7 +141,7 @@ module _ (w : Configuration) (q : ReqSetup) (older : List (List ℕ)) (rows : Li
   none_goes other = record {
     plain = λ v may next a. other ((version_goes version_is_given r (dialogue_of f v) v round answer next refl is_version (anew_at v)).0 a).0;
     large = λ v may next whole a. (version_begins_none version_is_given r (dialogue_of f v) v round answer next whole refl is_version (anew_at v)).0 a;
-    last = λ v may next a. (version_begins_none version_is_given r (dialogue_of f v) v round answer next [] refl is_version (anew_at v)).1 a;
+    last = λ v may next a. absurd ((version_begins_none version_is_given r (dialogue_of f v) v round answer next [] refl is_version (anew_at v)).1 a);
   }
 
   apart_never : (v other : List ℕ) (next : History) (fetching : Option (List ℕ)) → Answers r (dialogue_of f v) round other next fetching → carries_exchange other ≡ true → ⊥
@@ -169,7 +169,7 @@ module _ (w : Configuration) (q : ReqSetup) (older : List (List ℕ)) (rows : Li
 
   pub other_refused : (answer ≡ version_body → ⊥) → (why : declared.Why) → why_of why ≡ reply_why (responder_for w f.kept) (record (restored f.kept) { responder = with_large (Some id) x f.kept.responder }) answer (Some turn.round)
       → (new : Party) (stands : Fetching → List Row → Type 0) (table : List Seen) → IsRepliedTo w q older rows f route answer (Err why) new stands table
-  other_refused other why is new stands table = refused_by w q older rows f route answer turn never_apart sound.unseen id x why is (none_goes other) new stands table
+  other_refused other why is new stands table = refused_by w q older rows f route answer turn never_apart sound.unseen id x why is limits own (none_goes other) new stands table
 
   -- ---- VERSION.
 

@@ -7,6 +7,7 @@ use Rattle.mctp_framing.specs.Cutting.{RouteFields}
 use Rattle.capture_ends.proofs.InTurn.{AnswersInTurn}
 use Rattle.capture_ends.specs.AnswerKeys.{will_take}
 use Rattle.capture_ends.specs.ClearAnswers.{EndsLarge}
+use Rattle.capture_ends.specs.HeardKept.{asks_upon}
 use Rattle.capture_laws.proofs.LargeShown.{large_is_shown}
 use Rattle.capture_laws.proofs.PlainShown.{plain_is_shown}
 use Rattle.capture_laws.specs.AnswersShown.{LeadsAt, answered_text, is_whole, values_shown_by}
@@ -262,18 +263,18 @@ module _ (w : Configuration) (q : ReqSetup) (older : List (List ℕ)) (f : Fetch
   pub misfit_plain : (least most : ℕ) → AreLengths f.place least most → (Fits f least most message → ⊥) → (v : List ℕ) → MayStand f v → (next : History) → AnswersPlainly r (dialogue_of f v) round answer next → ⊥
   misfit_plain least most lengths misfit v stand next a = misfit (fits_plain v stand (shown_from v stand next a) least most lengths)
 
-  pub misfit_last : (least most : ℕ) → AreLengths f.place least most → (Fits f least most message → ⊥) → (v : List ℕ) → MayStand f v → (next : History) → Completes r (dialogue_of f v) round answer next → ⊥
-  misfit_last least most lengths misfit v stand next c = misfit (fits_last v stand next c least most lengths)
+  pub misfit_last : (least most : ℕ) → AreLengths f.place least most → (Fits f least most message → ⊥) → (v : List ℕ) → MayStand f v → (next : History) → Completes r (dialogue_of f v) round answer next → asks_upon f.kept round.tag answer ≡ true
+  misfit_last least most lengths misfit v stand next c = absurd (misfit (fits_last v stand next c least most lengths))
 
   -- Nor where it is no chunk with these bytes.
   module _ (least most op : ℕ) (lengths : AreLengths f.place least most) (asks : AsksFor (responder_for w f.kept) id f.place op f.kept.responder) (y : List ℕ) (stand_y : MayStand f y) (fills : y ≡ filled (number_of f) (size_of f) (bytes_of f) message)
-      (no_chunk : IsNoChunk (responder_for w f.kept) (with_large (Some id) y f.kept.responder) op turn.round answer y) where
+      (no_chunk : IsNoChunk (responder_for w f.kept) (with_large (Some id) y f.kept.responder) f.kept op turn.round answer y) where
     pub wrong_plain : (v : List ℕ) → MayStand f v → (next : History) → AnswersPlainly r (dialogue_of f v) round answer next → ⊥
     wrong_plain v stand next a =
         let shown = shown_from v stand next a in
         no_chunk.next (shown_from y stand_y _ (moved v stand shown least most y lengths fills))
 
-    pub wrong_last : (v : List ℕ) → MayStand f v → (next : History) → Completes r (dialogue_of f v) round answer next → ⊥
+    pub wrong_last : (v : List ℕ) → MayStand f v → (next : History) → Completes r (dialogue_of f v) round answer next → asks_upon f.kept round.tag answer ≡ true
     wrong_last v stand next c =
         let same : v ≡ y = sym (fills ∙ filled_is v stand next c) in
         no_chunk.last (subst (λ (l : List ℕ). EndsLarge r (with_large (Some id) l h) round.tag round.body answer) same (ends v stand next c))

@@ -36,6 +36,12 @@ pub mod OthersNone
 pub mod OthersKept
 pub mod OthersLeft
 pub mod OthersTold
+pub mod BehindGet
+pub mod OtherBytes
+pub mod StopsTold
+pub mod SeenGone
+pub mod MeasuredStays
+pub mod OthersStop
 pub mod InSessionRead
 pub mod FetchedKept
 pub mod EndsKept

@@ -1,16 +1,18 @@
 -- An answer with which no walk goes on while a large one is fetched: it is refused, and why.
 use Rattle.std.proofs.Common.{◌≡◌, ◌==◌, ◌||◌, ℕ, List, sym, ap, ◌∙◌, subst, drop, Bool, true, false, Option, Some, cond, inl, inr, Err}
+use Rattle.std.proofs.lemmas.Bool.{false≢true}
 use Rattle.std.proofs.lemmas.Option.{none-some, same_Some}
 use Rattle.mctp_framing.specs.Cutting.{RouteFields}
 use Rattle.mctp_framing.specs.Gathering.Gathered.{Whole}
 use Rattle.capture_ends.proofs.InTurn.{AnswersInTurn}
+use Rattle.capture_ends.specs.HeardKept.{asks_upon}
 use Rattle.capture_ends.specs.declared.party.Party.{Party}
 use Rattle.capture_laws.specs.Judged.{why_of}
 use Rattle.capture_laws.specs.Keeping.{Kept, restored}
 use Rattle.capture_laws.specs.Order.{replies_wrong}
 use Rattle.capture_laws.specs.RepliesShown.{responder_for}
 use Rattle.capture_laws.specs.declared.verdict.Seen.{Seen}
-use Rattle.large_answers.specs.Fetching.{Fetching, MayStand, dialogue_of}
+use Rattle.large_answers.specs.Fetching.{Fetching, IsFetchingOf, MayStand, dialogue_of}
 use Rattle.large_answers.specs.FetchingLaws.{EndsFetching, GoesFetching, TurnsFetching}
 use Rattle.responder_machine.specs.History.{History}
 use Rattle.responder_machine.specs.Setup.{RspSetup}
@@ -25,7 +27,9 @@ use Rattle.world_machine.specs.Opening.{opens_answering}
 use Rattle.world_machine.specs.Rounds.{Round}
 use Rattle.world_machine.specs.SessionTable.{Row}
 use Rattle.world_machine.specs.Setup.{Configuration}
+use Rattle.requester_machine.specs.May.{IsSetUp}
 use Rattle.requester_machine.specs.Setup.{ReqSetup}
+use Rattle.fetched_ends.proofs.AsksTold.{ends_asks}
 use Rattle.fetched_ends.proofs.SeenOpens.{answering_alike}
 use Rattle.fetched_ends.specs.Fetched.{IsFetchedWhy, IsRepliedTo}
 
@@ -47,19 +51,19 @@ module _ (w : Configuration) (q : ReqSetup) (older : List (List ℕ)) (rows : Li
 
   -- ---- No walk goes on.
 
-  -- With none of the bytes that may stand it is an answer.
+  -- With none of the bytes that may stand it is an answer, but for a last chunk upon which the requester asks for another.
   pub record IsNone : Type 0 where
     pub plain : (v : List ℕ) → MayStand f v → (next : History) → AnswersPlainly (responder_for w f.kept) (dialogue_of f v) turn.round answer next → ⊥
     pub large : (v : List ℕ) → MayStand f v → (next : History) (whole : List ℕ) → AnswersLarge (responder_for w f.kept) (dialogue_of f v) turn.round answer next whole → ⊥
-    pub last : (v : List ℕ) → MayStand f v → (next : History) → Completes (responder_for w f.kept) (dialogue_of f v) turn.round answer next → ⊥
+    pub last : (v : List ℕ) → MayStand f v → (next : History) → Completes (responder_for w f.kept) (dialogue_of f v) turn.round answer next → asks_upon f.kept turn.round.tag answer ≡ true
 
   module _ (never : IsNone) where
-    answers_never : (v : List ℕ) → MayStand f v → (next : History) (fetching : Option (List ℕ)) → Answers r (dialogue_of f v) round answer next fetching → ⊥
+    answers_ask : (v : List ℕ) → MayStand f v → (next : History) (fetching : Option (List ℕ)) → Answers r (dialogue_of f v) round answer next fetching → asks_upon f.kept turn.round.tag answer ≡ true
     unfolding Answers
-    answers_never v stand next fetching (inl a) = never.plain v stand next a.0
-    answers_never v stand next fetching (inr (inl a)) = never.large v stand next a.0 a.1
-    answers_never v stand next fetching (inr (inr (inl a))) = none-some v (sym a.1.0)
-    answers_never v stand next fetching (inr (inr (inr a))) = never.last v stand next a.0
+    answers_ask v stand next fetching (inl a) = absurd (never.plain v stand next a.0)
+    answers_ask v stand next fetching (inr (inl a)) = absurd (never.large v stand next a.0 a.1)
+    answers_ask v stand next fetching (inr (inr (inl a))) = absurd (none-some v (sym a.1.0))
+    answers_ask v stand next fetching (inr (inr (inr a))) = never.last v stand next a.0
 
     pub goes_none : (next : Fetching) → GoesFetching w f (Whole route answer) next → ⊥
     goes_none next c =
@@ -74,10 +78,12 @@ module _ (w : Configuration) (q : ReqSetup) (older : List (List ℕ)) (rows : Li
           | inr again ↦ none-some it.0 (sym again.0.1.0)
         ]
 
-    pub ends_none : (next : Kept) → EndsFetching w f (Whole route answer) next → ⊥
-    ends_none next c =
+    -- Upon an answer behind which nothing is fetched it asks for no chunk.
+    pub ends_none : IsSetUp f.kept.setup → IsFetchingOf w q older f → (next : Kept) → EndsFetching w f (Whole route answer) next → ⊥
+    ends_none limits own next c =
         let it = c.3.2 in
-        answers_never c.0 c.2 it.4.0 it.4.1 (subst (λ (x : Round). Answers r (dialogue_of f c.0) x answer it.4.0 it.4.1) (one_round it.0 it.1) it.4.2)
+        let asks = answers_ask c.0 c.2 it.4.0 it.4.1 (subst (λ (x : Round). Answers r (dialogue_of f c.0) x answer it.4.0 it.4.1) (one_round it.0 it.1) it.4.2) in
+        false≢true (sym (ends_asks w q older f route answer limits own next c) ∙ ap (λ (n : ℕ). asks_upon f.kept n answer) (sym turn.answers.1) ∙ asks)
 
   -- ---- Why. Its verify data are never alone wrong.
 
@@ -108,5 +114,5 @@ module _ (w : Configuration) (q : ReqSetup) (older : List (List ℕ)) (rows : Li
     by_why BadReply same = (never_apart, reason_is ∙ ap Some (sym same))
     by_why BadRecord same = (never_apart, reason_is ∙ ap Some (sym same))
 
-    pub refused_by : IsNone → (new : Party) (stands : Fetching → List Row → Type 0) (table : List Seen) → IsRepliedTo w q older rows f route answer (Err why) new stands table
-    refused_by never new stands table = (goes_none never, turns_none never, ends_none never, by_why (why_of why) why_is)
+    pub refused_by : IsSetUp f.kept.setup → IsFetchingOf w q older f → IsNone → (new : Party) (stands : Fetching → List Row → Type 0) (table : List Seen) → IsRepliedTo w q older rows f route answer (Err why) new stands table
+    refused_by limits own never new stands table = (goes_none never, turns_none never, ends_none never limits own, by_why (why_of why) why_is)

@@ -1,5 +1,5 @@
 -- Whether a chunk is left to be given behind an answer in a session that gives none.
-use Rattle.std.proofs.Common.{◌≡◌, ◌<◌, ◌==◌, ◌&&◌, ◌||◌, ◌⊎◌, ℕ, List, [], ◌∷◌, refl, sym, ap, ◌∙◌, subst, drop, Bool, true, false, Option, Some, None, is_none, is_some, inl, inr}
+use Rattle.std.proofs.Common.{◌≡◌, ◌<◌, ◌==◌, ◌&&◌, ◌||◌, ◌⊎◌, ℕ, List, [], ◌∷◌, refl, sym, ap, ◌∙◌, subst, drop, Bool, true, false, Option, Some, None, is_none, is_some, cond, inl, inr}
 use Rattle.std.specs.Prelude.{not}
 use Rattle.std.proofs.Math.Bool.{and-false}
 use Rattle.std.proofs.lemmas.Bool.{false≢true, not-false}
@@ -32,13 +32,17 @@ use Rattle.responder_machine.specs.Setup.{RspSetup}
 use Rattle.responder_machine.specs.Turn.{Turn, handle_in, takes}
 use Rattle.spdm_grammar.specs.declared.names.request_code.TheConstants.{CHUNK_GET}
 use Rattle.spdm_grammar.specs.declared.session_view.SessionView.{SessionView}
+use Rattle.world_machine.proofs.SeenAnswers.{led_seen}
+use Rattle.world_machine.proofs.UnseenStands.{old_in}
 use Rattle.world_machine.specs.CapturedAnswers.{AreShown, MayLeadAfter, MayLeadTo, is_plain}
-use Rattle.world_machine.specs.LargeAnswers.{is_large, judging, takes_get, with_large}
+use Rattle.world_machine.specs.LargeAnswers.{is_large, is_unseen_in, judging, seen, takes_get, with_large}
 use Rattle.world_machine.specs.Rounds.{Round, no_draw}
 use Rattle.world_machine.specs.SessionTable.{Row}
 use Rattle.world_machine.specs.Setup.{Configuration}
 use Rattle.fetched_ends.proofs.InSessionRecord.{id_is}
-use Rattle.fetched_ends.proofs.OthersKept.{behind, ids, large_then, leads, outcome}
+use Rattle.fetched_ends.proofs.MeasuredStays.{StaysIn}
+use Rattle.fetched_ends.proofs.MeasuredStays.StaysIn.{Same as Stays, More}
+use Rattle.fetched_ends.proofs.OthersKept.{behind, dropped_large, ids, large_then, leads, outcome}
 use Rattle.fetched_ends.proofs.OthersLed.{IsSealed, live_behind, pending_behind, sealed_in}
 use Rattle.fetched_ends.proofs.OthersSame.{judged_at, none_dropped}
 use Rattle.fetched_ends.specs.InSession.{IsFetchedIn}
@@ -51,11 +55,11 @@ not_so false is = refl
 
 -- ---- Where there is no session, nothing is pending.
 
-live_view : (o : Option SessionView) (s : Events) → IsViewOf o s → is_some o ≡ true → is_live s ≡ true
+pub live_view : (o : Option SessionView) (s : Events) → IsViewOf o s → is_some o ≡ true → is_live s ≡ true
 live_view None s is some = absurd (false≢true some)
 live_view (Some view) s is some = is.0
 
-none_view : (o : Option SessionView) (s : Events) → IsViewOf o s → is_some o ≡ false → s ≡ []
+pub none_view : (o : Option SessionView) (s : Events) → IsViewOf o s → is_some o ≡ false → s ≡ []
 none_view None s is none = is
 none_view (Some view) s is none = absurd (false≢true (sym none))
 
@@ -168,6 +172,26 @@ module _ (w : Configuration) (q : ReqSetup) (older : List (List ℕ)) (rows : Li
     terms_then : is_live (session_with id then x) ≡ true → session_terms (session_with id then x) ≡ session_terms s
     terms_then live = ap session_terms (session_then live)
 
+    -- With any bytes the session has that record behind it. Where a chunk is left, its request was refused.
+    with_bytes : (v : List ℕ) → with_large (Some id) v then ≡ Sealed round.tag (drop 1 round.body) sealed.turn sealed.reply no_draw ∷ with_large (Some id) v h
+    with_bytes v =
+        let old : is_unseen_in (Some id) e ≡ false = old_in (Some id) e (led_seen r g round.tag round.body e may) in
+        ap (λ (l : List ℕ). with_large (Some id) v (after (with_dropped h l) leads_to)) none
+        ∙ ap (λ (o : Outcome). with_large (Some id) v (after h o)) is
+        ∙ ap (λ (b : Bool). cond b (seen v e ∷ h) (e ∷ with_large (Some id) v h)) old ∙ ap (λ (y : Entry). y ∷ with_large (Some id) v h) sealed.is
+
+    refused_then : has_pending (session_place (session_with id then x)) ≡ true → is_live (session_with id then x) ≡ true → is_some sealed.turn.refused ≡ true
+    refused_then more live =
+        and_first (is_some sealed.turn.refused) _
+        (sym (pending_behind s (drop 1 round.body) sealed.turn sealed.reply (sym (ap takes_get sealed.is) ∙ no_get) (sym (ap is_large sealed.is) ∙ small)) ∙ sym (ap (λ (y : Events). has_pending (session_place y)) (session_then live)) ∙ more)
+
+    stays_entry : has_pending (session_place (session_with id then x)) ≡ true → is_live (session_with id then x) ≡ true → (v : List ℕ) → is_live (session_with id then v) ≡ true → StaysIn (session_with id h v) (session_with id then v)
+    stays_entry more live v other_live =
+        More (drop 1 round.body) sealed.turn sealed.reply (refused_then more live)
+        (ap (session_of id) (with_bytes v)
+        ∙ live_behind round.tag id (drop 1 round.body) sealed.turn sealed.reply (with_large (Some id) v h) (id_is w q older f route answer byte limits own turn id kept.at other.record_is x kept.stands)
+        (sym (ap (λ (l : History). is_live (session_of id l)) (with_bytes v)) ∙ other_live))
+
   -- Where nothing is added, the session stays, or is gone.
   session_stays : after (with_dropped g dropped) leads_to ≡ with_dropped g dropped → is_live (session_with id then x) ≡ true → session_with id then x ≡ s
   session_stays none live =
@@ -186,6 +210,21 @@ module _ (w : Configuration) (q : ReqSetup) (older : List (List ℕ)) (rows : Li
   terms_by (Same b) is live = ap session_terms (session_stays (ap (after (with_dropped g dropped)) is) live)
   terms_by (Unopened b) is live = ap session_terms (session_stays (ap (after (with_dropped g dropped)) is) live)
   terms_by (Adds e) is live = terms_then e is live
+
+  -- Where a chunk is left behind it, the session stays with any bytes, but for a request that was refused.
+  stays_idle : then ≡ with_dropped h dropped → (v : List ℕ) → is_live (session_with id then v) ≡ true → StaysIn (session_with id h v) (session_with id then v)
+  stays_idle is v live =
+      let same : session_with id then v ≡ session_of id (with_dropped (with_large (Some id) v h) dropped) = ap (λ (l : History). session_of id (with_large (Some id) v l)) is ∙ ap (session_of id) (dropped_large id v dropped h) in
+      Stays (same ∙ live_same _ (session_with id h v) (dropped_session id (with_large (Some id) v h) dropped) (sym (ap is_live same) ∙ live))
+
+  stays_by : (o : Outcome) → leads_to ≡ o → has_pending (session_place (session_with id then x)) ≡ true → is_live (session_with id then x) ≡ true → (v : List ℕ) → is_live (session_with id then v) ≡ true → StaysIn (session_with id h v) (session_with id then v)
+  stays_by (Same b) is more live v other_live = stays_idle (ap (after (with_dropped h dropped)) is) v other_live
+  stays_by (Unopened b) is more live v other_live = stays_idle (ap (after (with_dropped h dropped)) is) v other_live
+  stays_by (Adds e) is more live v other_live = stays_entry e is more live v other_live
+
+  pub stays_then : has_pending (session_place (session_with fetched.id then kept.whole)) ≡ true → is_live (session_with fetched.id then kept.whole) ≡ true → (v : List ℕ) → is_live (session_with fetched.id then v) ≡ true
+      → StaysIn (session_with fetched.id f.kept.responder v) (session_with fetched.id then v)
+  stays_then = stays_by leads_to refl
 
   -- By the session as it is seen behind it, and by whether a record was taken.
   module _ (view : Option SessionView) (viewed : IsViewOf view (session_of fetched.id (history_shown (responder_for w f.kept) (with_large (Some fetched.id) kept.whole f.kept.responder) turn.round.tag turn.round.body answer))) (taken : Option ℕ) (takes_it : taken ≡ answered_by leads_to) where

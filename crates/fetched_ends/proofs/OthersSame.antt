@@ -121,5 +121,5 @@ module _ (w : Configuration) (q : ReqSetup) (older : List (List ℕ)) (rows : Li
   is_none_with plain large = record {
     plain = λ v may next a. plain (shown_with v may next a);
     large = λ v may next whole a. large (large_with v may next whole a);
-    last = λ v may next c. completes_none v may next c;
+    last = λ v may next c. absurd (completes_none v may next c);
   }

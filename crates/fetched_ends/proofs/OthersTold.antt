@@ -66,18 +66,18 @@ use Rattle.world_machine.specs.Rounds.{Round, no_draw}
 use Rattle.world_machine.specs.SessionTable.{Row, number_from}
 use Rattle.world_machine.specs.Setup.{Configuration}
 use Rattle.fetched_ends.proofs.AcceptsNone.{record_accepts}
+use Rattle.fetched_ends.proofs.AsksTold.{plain_ends}
 use Rattle.fetched_ends.proofs.BegunGiven.{none_begun}
 use Rattle.fetched_ends.proofs.BegunTold.{six_again}
 use Rattle.fetched_ends.proofs.ChangesOn.{accepted_on, asked_on}
 use Rattle.fetched_ends.proofs.InSessionRefused.{refused}
-use Rattle.fetched_ends.proofs.OthersKept.{answer_then, asks_then, behind, clear_then, goes, ids, large_then, leads, next, outcome, stands_then, unseen_then}
+use Rattle.fetched_ends.proofs.OthersKept.{answer_then, asks_then, behind, clear_then, goes, ids, large_then, leads, next, outcome, plainly, stands_then, unseen_then}
 use Rattle.fetched_ends.proofs.OthersLeft.{left_is, sizes_then}
 use Rattle.fetched_ends.proofs.OthersSame.{is_none_with, judged_at, place_at}
 use Rattle.fetched_ends.proofs.QuietSteps.{quiet_step}
 use Rattle.fetched_ends.proofs.SeenKeys.{keys_unseen, views_alike}
 use Rattle.fetched_ends.specs.Fetched.{IsRepliedTo, IsUnjudged, rows_upon}
-use Rattle.fetched_ends.specs.InSession.{IsFetchedIn, IsOther}
-use Rattle.fetched_ends.specs.InSession.IsOther.{Stops}
+use Rattle.fetched_ends.specs.InSession.{IsFetchedIn, IsOvertaken}
 use Rattle.fetched_ends.specs.SessionOthers.{IsOtherAnswer, left_then}
 use Rattle.fetched_ends.specs.declared.in_session.InSession.{InSession}
 use Rattle.fetched_ends.specs.declared.upon.Upon.TheVariants as upon
@@ -148,8 +148,8 @@ module _ (w : Configuration) (q : ReqSetup) (older : List (List ℕ)) (rows : Li
       refused w q older rows f route answer byte limits own turn fetched.id kept.at other.record_is fetched.least fetched.most fetched.op kept.lengths kept.asks kept.whole kept.stands why is
       (is_none_with w q older rows f route answer byte limits own turn party fetched kept refuses other (λ shown. plain (told.whole.1 shown)) (λ shown. large (told.large.1 shown))) new stands table
 
-  pub told_apart : IsOther (responder_for w f.kept) (with_large (Some fetched.id) kept.whole f.kept.responder) f.kept turn.round answer → IsUnjudged w f answer
-  told_apart apart = inr (inl (fetched.id, round, kept.whole, kept.at, turn.answers.0, kept.stands, apart))
+  pub told_apart : IsOvertaken (responder_for w f.kept) fetched.id (with_large (Some fetched.id) kept.whole f.kept.responder) f.kept turn.round answer → IsUnjudged w f answer
+  told_apart over = inr (inl (fetched.id, round, kept.whole, kept.at, turn.answers.0, kept.stands, over))
 
   pub begins_other : IsShownLarge (responder_for w f.kept) (with_large (Some fetched.id) kept.whole f.kept.responder) turn.round.tag turn.round.body answer → IsUnjudged w f answer
   begins_other large =
@@ -224,6 +224,25 @@ module _ (w : Configuration) (q : ReqSetup) (older : List (List ℕ)) (rows : Li
         let l : List ℕ = ids w q older rows f route answer byte limits own turn party fetched kept refuses other shown in
         let whole = law (restored k) (restored then_kept.kept) l leads_to refl in
         quiet_step (restored k) (restored then_kept.kept) refl (whole.0 ∙ (steps law).0) (accepted_on k then route.tag round answer turn.answers.0 turn.answers.1 accepts ∙ accepts_none)
+
+    -- The requester asks for no chunk: nothing is fetched behind it.
+    pub ended_then : (new : Party) (newly : InSession) (table : List Seen) → IsAsker new.asker q then_kept.kept → IsAnswerer new.answerer (responder_for w f.kept) then
+        → StandFor new.keys (responder_for w f.kept) (history_shown (responder_for w f.kept) (with_large (Some fetched.id) kept.whole f.kept.responder) turn.round.tag turn.round.body answer) → new.number ≡ number_from 1 q.eid w.requesters
+        → rows_of.StandFor new.places (restored then_kept.kept) (rows_upon f.kept then_kept.kept rows) → StandsForRows table w (length older + 1) (rows_upon f.kept then_kept.kept rows) → asks_upon f.kept route.tag answer ≡ false
+        → IsRepliedTo w q older rows f route answer (Ok upon.Ended) new (IsFetchedIn new newly w q) table
+    ended_then new newly table asker answerer keys number places entries stops =
+        let large = large_then w q older rows f route answer byte limits own turn party fetched kept refuses other shown in (
+          then_kept.kept,
+          plain_ends w q older f route answer limits own turn.body turn.owner turn.round turn.answers kept.whole then kept.stands (plainly w q older rows f route answer byte limits own turn party fetched kept refuses other shown) stops,
+          record {
+            asker = asker;
+            answerer = answerer;
+            keys = keys_unseen new.keys r fetched.id kept.whole then (unseen_then w q older rows f route answer byte limits own turn party fetched kept refuses other shown) (subst (StandFor new.keys r) (sym large) keys);
+            number = number;
+            places = places;
+          },
+          entries,
+        )
 
     -- What the calls leave.
     module _ (view : Option SessionView) (viewed : IsViewOf view (session_of fetched.id (history_shown (responder_for w f.kept) (with_large (Some fetched.id) kept.whole f.kept.responder) turn.round.tag turn.round.body answer))) (taken : Option ℕ) (takes_it : taken ≡ answered_by leads_to) (left : Bool) (left_as : left ≡ left_then fetched.left (is_some view) (is_none taken) refuses) where

@@ -16,7 +16,7 @@ use Rattle.capture_laws.specs.Rows.{StandsForRows}
 use Rattle.capture_laws.specs.declared.verdict.Seen.{Seen}
 use Rattle.large_answers.specs.Fetching.{Fetching, MayStand, dialogue_of, number_of}
 use Rattle.large_answers.specs.FetchingLaws.{EndsFetching, GoesFetching, TurnsFetching}
-use Rattle.fetched_ends.specs.InSession.{IsOther}
+use Rattle.fetched_ends.specs.InSession.{IsOvertaken}
 use Rattle.fetched_ends.specs.declared.upon.Upon.{Upon}
 use Rattle.fetched_ends.specs.declared.upon.Upon.TheVariants as upon
 use Rattle.world_machine.specs.Difference.{GoesApart, Why, goes_why}
@@ -58,7 +58,7 @@ IsUnjudged w f answer =
     ((round : Round) × (whole : List ℕ) × (f.kept.round ≡ Some round) × MayStand f whole
     × IsShownLarge (responder_for w f.kept) (judging (Some whole) round.body f.kept.responder) round.tag round.body answer)
     ⊎ (((id : ℕ) × (round : Round) × (whole : List ℕ) × (f.at ≡ Some id) × (f.kept.round ≡ Some round) × MayStand f whole
-    × IsOther (responder_for w f.kept) (with_large (Some id) whole f.kept.responder) f.kept round answer)
+    × IsOvertaken (responder_for w f.kept) id (with_large (Some id) whole f.kept.responder) f.kept round answer)
     ⊎ ((f.at ≡ None) × ((round : Round) × (f.kept.round ≡ Some round) × IsLastInClear f round answer)))
 
 -- It goes on, and then this stands for what is kept behind it, and so does the table; or it is not judged; or it is

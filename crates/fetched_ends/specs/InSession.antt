@@ -2,7 +2,7 @@
 -- This project's own.
 use Rattle.std.specs.Prelude.{◌≡◌, ◌≤◌, ◌<◌, ◌-◌, ◌==◌, ◌++◌, ◌↔◌, ℕ, List, drop, length, slice_index, Bool, true, false, if◌then◌else◌, Option, Some, None, unwrap_or}
 use Rattle.capture_ends.specs.AnswerKeys.{will_take}
-use Rattle.capture_ends.specs.ClearAnswers.{EndsLarge}
+use Rattle.capture_ends.specs.Answerer.{history_shown}
 use Rattle.capture_ends.specs.HeardKept.{asks_upon}
 use Rattle.capture_ends.specs.Party.{IsBeside}
 use Rattle.capture_ends.specs.declared.party.Party.{Party}
@@ -23,7 +23,7 @@ use Rattle.responder_machine.specs.History.{History, kept_of}
 use Rattle.responder_machine.specs.Place.{Place, place_terms, session_place}
 use Rattle.responder_machine.specs.Refusal.{has_pending}
 use Rattle.responder_machine.specs.Responder.{is_repeat}
-use Rattle.responder_machine.specs.Session.{id_in_record, session_of, session_terms}
+use Rattle.responder_machine.specs.Session.{id_in_record, is_live, session_of, session_terms}
 use Rattle.responder_machine.specs.Setup.{RspSetup, inventory_of}
 use Rattle.spdm_grammar.specs.Fields.{zeros}
 use Rattle.spdm_grammar.specs.Message.RequestMessage.{GetVersion}
@@ -132,8 +132,11 @@ pub record IsReadIn (party : Party) (fetched : InSession) (w : Configuration) (q
 
 -- ---- What is not judged.
 
--- An answer in a round of the session, by the history with some bytes that may stand: it goes whole, and the requester asks for
--- no chunk upon it; or it is the last chunk, and it asks for one upon that.
-pub data IsOther (r : RspSetup) (h : History) (k : Kept) (round : Round) (answer : List ℕ) : Type 0 where
-  Stops : IsShownAnswer r h round.tag round.body answer → asks_upon k round.tag answer ≡ false → IsOther r h k round answer
-  GoesOn : EndsLarge r h round.tag round.body answer → asks_upon k round.tag answer ≡ true → IsOther r h k round answer
+-- An answer in a round of the session, by the history with some bytes that may stand, which goes whole, and upon which the
+-- requester asks for no chunk. Behind it the session is live, and no chunk is left to be given there: it took another request
+-- in place of CHUNK_GET, so a record opened there to something else than what was sealed in it.
+pub record IsOvertaken (r : RspSetup) (id : ℕ) (h : History) (k : Kept) (round : Round) (answer : List ℕ) : Type 0 where
+  pub shown : IsShownAnswer r h round.tag round.body answer
+  pub stops : asks_upon k round.tag answer ≡ false
+  pub live : is_live (session_of id (history_shown r h round.tag round.body answer)) ≡ true
+  pub none : has_pending (session_place (session_of id (history_shown r h round.tag round.body answer))) ≡ false

@@ -1,9 +1,12 @@
 -- An answer in a session, while a large one is fetched there, that gives no chunk of it. This project's own.
-use Rattle.std.specs.Prelude.{◌≡◌, ◌==◌, ◌&&◌, ◌||◌, ℕ, List, Bool, true, false, Some, is_some, slice_index}
+use Rattle.std.specs.Prelude.{◌≡◌, ◌≢◌, ◌==◌, ◌&&◌, ◌||◌, not, ℕ, List, Bool, true, false, Some, is_some, slice_index}
+use Rattle.connection.specs.Connected.{StandsFor}
+use Rattle.connection.specs.declared.connected.Connection.{Connection}
 use Rattle.fetched_answers.specs.AnswerTexts.{Holds}
+use Rattle.fetched_answers.specs.JudgedFor.{IsMeasured, JudgesFor}
 use Rattle.fetched_ends.specs.declared.in_session.InSession.{InSession}
 use Rattle.large_answers.specs.Fetching.{Fetching, MayStand}
-use Rattle.responder_machine.specs.History.{Entry}
+use Rattle.responder_machine.specs.History.{Entry, History}
 use Rattle.responder_machine.specs.History.Entry.{Sealed}
 use Rattle.responder_machine.specs.Responder.Outcome.{Adds}
 use Rattle.responder_machine.specs.Responder.{sent_by}
@@ -48,3 +51,13 @@ IsOtherRound r fetched f answer refuses = (round : Round) × (f.kept.round ≡ S
 -- request was refused.
 abbrev pub left_then : (left live idle refuses : Bool) → Bool
 left_then left live idle refuses = left && live && (idle || refuses)
+
+-- It may be told that a large answer of the session was not seen: these bytes are pending there, and others might be; or each
+-- connection that judges with them stands for the history without them too.
+abbrev pub MayForget : (id : ℕ) → History → (whole : List ℕ) → (left : Bool) → Type 0
+MayForget id h whole true = (other : List ℕ) × (whole ≢ other) × IsMeasured id h whole × IsMeasured id h other
+MayForget id h whole false = (c : Connection) (r : RspSetup) → JudgesFor c r h (Some id) whole → StandsFor c r h
+
+-- The requester asks for no chunk, and the session, which is live, took another request in place of CHUNK_GET.
+abbrev pub is_overtaken : (fetches live left : Bool) → Bool
+is_overtaken fetches live left = not fetches && live && not left

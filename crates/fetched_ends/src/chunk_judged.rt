@@ -20,6 +20,7 @@ use crate::whole_measured::is_measured;
 use capture_ends::{Given, Party};
 use capture_laws::{Round, SessionTable, answer_accepts, last_chunk_changes, whole_answer_changes};
 use connection::Setup;
+use fetched_answers::forget_bytes;
 use session_keys::behind_type;
 use spdm_basis::OutOfMemory;
 
@@ -61,12 +62,13 @@ pub(crate) fn judges_chunk(
     {
         Some(Given::Whole) => {
             let heard = party.go_on(round, key, answer, true);
-            if !heard.fetches {
-                return Ok(Some(Upon::Large));
-            }
-            fetched.answer.take(message);
             let change = party.change(None, heard.accepted, taken);
             table.take(&mut party.places, party.number, &change)?;
+            if !heard.fetches {
+                forget_bytes(&mut party.answerer.connection, fetched.id);
+                return Ok(Some(Upon::Ended));
+            }
+            fetched.answer.take(message);
             Ok(Some(Upon::Fetched))
         }
         Some(Given::Last) => {
@@ -75,7 +77,7 @@ pub(crate) fn judges_chunk(
             }
             let heard = party.go_on(round, key, answer, true);
             if heard.fetches {
-                return Ok(Some(Upon::Large));
+                return Ok(None);
             }
             let change = party.change(None, heard.accepted, taken);
             table.take(&mut party.places, party.number, &change)?;

@@ -1,17 +1,21 @@
-ghost use Rattle.std.specs.Prelude.{◌≡◌, ◌≤◌, ◌<◌, ◌-◌, ◌^◌, ℕ, List, None, Ok, IfOk, OnErr, IsSome, drop, length};
+ghost use Rattle.std.specs.Prelude.{◌≡◌, ◌≤◌, ◌<◌, ◌-◌, ◌^◌, ℕ, List, None, Some, Ok, IfOk, OnErr, IsSome, drop, length};
 ghost use Rattle.capture_laws.specs.DropsShown.{id_begun, response_of};
 ghost use Rattle.capture_laws.specs.Order.{answered_why};
 ghost use Rattle.capture_laws.specs.RepliesShown.{responder_for};
 ghost use Rattle.capture_laws.specs.Rows.{StandsForRows};
+ghost use Rattle.connection.specs.Connected.{StandsFor};
 ghost use Rattle.connection.specs.Setup.{IsSetUp};
+ghost use Rattle.fetched_answers.specs.JudgedFor.{JudgesFor};
 ghost use Rattle.fetched_ends.specs.Fetched.{IsRepliedTo};
 ghost use Rattle.fetched_ends.specs.InSession.{IsFetchedIn};
-ghost use Rattle.fetched_ends.specs.SessionOthers.{IsOtherRound, left_then};
+ghost use Rattle.fetched_ends.specs.SessionOthers.{IsOtherRound, MayForget, is_overtaken, left_then};
 ghost use Rattle.fetched_ends.specs.declared.upon.Upon.TheVariants as upon;
 ghost use Rattle.large_answers.specs.Fetching.{Fetching, IsFetchingOf};
 ghost use Rattle.mctp_framing.specs.Cutting.{RouteFields};
 ghost use Rattle.mctp_framing.specs.Gathering.Gathered.{Whole};
 ghost use Rattle.requester_machine.specs.Setup.{ReqSetup};
+ghost use Rattle.responder_machine.specs.History.{History};
+ghost use Rattle.responder_machine.specs.Setup.{RspSetup};
 ghost use Rattle.world_machine.specs.SessionTable.{Row};
 ghost use Rattle.world_machine.specs.Setup.{Configuration};
 
@@ -19,7 +23,8 @@ use crate::Upon;
 use crate::in_session::InSession;
 use capture_ends::{Given, Party};
 use capture_laws::{Round, SessionTable, answer_accepts, whole_answer_changes};
-use connection::Setup;
+use connection::{Connection, Setup};
+use fetched_answers::forget_bytes;
 use script_text::Why;
 use session_keys::behind_type;
 use spdm_basis::OutOfMemory;
@@ -31,9 +36,28 @@ fn left_then(left: bool, live: bool, idle: bool, refuses: bool) -> bool
     left && live && (idle || refuses)
 }
 
+// Whether the requester asks for no chunk, and the session, which is live, took another request in place of
+// CHUNK_GET: then the connection cannot be told that the large answer was not seen.
+fn is_overtaken(fetches: bool, live: bool, left: bool) -> bool
+    ensures { result ≡ is_overtaken fetches live left }
+{
+    !fetches && live && !left
+}
+
+// The large answer of the session was not seen: it is forgotten where a chunk of it is left to be given.
+fn forgets(connection: &mut Connection, id: u16, left: bool)
+    ensures { (r : RspSetup) (h : History) (whole : List ℕ) → MayForget id h whole left
+        → JudgesFor connection.old r h (Some id) whole → StandsFor connection.new r h }
+{
+    if left {
+        forget_bytes(connection, id);
+    }
+}
+
 /// An answer of at most 4,161 bytes came whole, in order behind a record, while a large answer is fetched in its
 /// session, and gives no chunk of it, whatever its bytes are: the connection judges it as it stands. A request
-/// that a right answer refuses in the session, or takes there, is told by `refuses`.
+/// that a right answer refuses in the session, or takes there, is told by `refuses`. Where the requester asks for
+/// no chunk upon it, nothing is fetched behind it, and the large answer stays unseen.
 pub(crate) fn judges_other(
     party: &mut Party,
     fetched: &mut InSession,
@@ -70,14 +94,19 @@ pub(crate) fn judges_other(
     {
         Some(Given::Whole) => {
             let heard = party.go_on(round, key, answer, true);
-            if !heard.fetches {
+            let live = party.answerer.connection.view(fetched.id).is_some();
+            let left = left_then(fetched.left, live, taken.is_none(), refuses);
+            if is_overtaken(heard.fetches, live, left) {
                 return Ok(Ok(Upon::Large));
             }
-            let live = party.answerer.connection.view(fetched.id).is_some();
-            fetched.left = left_then(fetched.left, live, taken.is_none(), refuses);
             let change = party.change(None, heard.accepted, taken);
             table.take(&mut party.places, party.number, &change)?;
-            Ok(Ok(Upon::Fetched))
+            if heard.fetches {
+                fetched.left = left;
+                return Ok(Ok(Upon::Fetched));
+            }
+            forgets(&mut party.answerer.connection, fetched.id, left);
+            Ok(Ok(Upon::Ended))
         }
         Some(Given::Large) => Ok(Ok(Upon::Large)),
         Some(Given::Last) => Ok(Err(why)),

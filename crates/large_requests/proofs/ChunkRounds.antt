@@ -45,8 +45,7 @@ first_chunk : (h g : History) (asked : RequestMessage) (whole body : List ℕ) �
 first_chunk h g asked whole body terms large is =
     let transfer : ℕ = transfer_of h in
     let more = two_chunks transfer (length whole) (chunk_size h whole large) (above transfer (length whole) large.0) in
-    let last : (0 + 1 == chunk_count transfer whole) ≡ false = ne_eqb (0 + 1) (chunk_count transfer whole) (λ same. absurd (omega (arith, same, more))) in
-    (
+    let last : (0 + 1 == chunk_count transfer whole) ≡ false = ne_eqb (0 + 1) (chunk_count transfer whole) (λ same. absurd (omega (arith, same, more))) in (
       nth_chunk transfer (next_handle g) whole 0,
       last,
       sym is ∙ ap (λ (t : Terms). clear_body (canonical_request (ChunkSend (nth_chunk t.common.to_responder.transfer (next_handle g) whole 0)))) terms,

@@ -1,8 +1,8 @@
 -- A large answer of a place that goes by chunks, as the program keeps it.
-use Rattle.std.specs.Prelude.{◌≡◌, ◌||◌, not, if◌then◌else◌, ℕ, List, [], ◌∷◌, drop, Bool, true, false, Option, Some, None}
+use Rattle.std.specs.Prelude.{◌≡◌, ◌+◌, ◌||◌, not, if◌then◌else◌, ℕ, List, [], ◌∷◌, drop, Bool, true, false, Option, Some, None}
 use Rattle.chunking.specs.Cutting.{chunks_of}
 use Rattle.responder_machine.specs.Answer.{chunk_answer}
-use Rattle.responder_machine.specs.LargeMessages.{given_of, handle_of, large_of, next_handle}
+use Rattle.responder_machine.specs.LargeMessages.{given_of, handle_of, large_of, larges_of, next_handle}
 use Rattle.responder_machine.specs.Place.{Place}
 use Rattle.responder_machine.specs.Refusal.{is_get_refused}
 use Rattle.responder_machine.specs.Turn.{Effect, Turn, is_taken, takes}
@@ -79,3 +79,8 @@ turns_unseen [] = []
 turns_unseen (t ∷ older) =
     if not (is_taken t) || takes CHUNK_GET t then t ∷ turns_unseen older
     else turn_unseen t ∷ older
+
+-- One answer less went by LargeResponse in the others, and the same chunks are left to be given.
+pub record IsUncounted (transfer : ℕ) (turns others : List Turn) : Type 0 where
+  pub left : left_by transfer turns (large_of turns) ≡ left_by transfer others (large_of others)
+  pub count : larges_of turns ≡ larges_of others + 1

@@ -9,7 +9,7 @@ ghost use Rattle.responder_machine.specs.Turn.{Turn, handle_in, is_taken, large_
 ghost use Rattle.spdm_grammar.specs.declared.names.TheConstants.{MAX_MESSAGE_SIZE, MIN_DATA_TRANSFER_SIZE};
 ghost use Rattle.spdm_grammar.specs.declared.names.request_code.TheConstants.{CHUNK_GET};
 ghost use Rattle.std.specs.List.{slice_get};
-ghost use Rattle.request_rules.specs.LargeAnswer.{IsAsked, StandsFor, turns_unseen, turns_with};
+ghost use Rattle.request_rules.specs.LargeAnswer.{IsAsked, IsUncounted, StandsFor, turns_unseen, turns_with};
 
 use chunking::Splitter;
 use spdm_grammar::ChunkView;
@@ -160,6 +160,14 @@ impl LargeAnswer {
             → is_some (large_of turns) ≡ true → StandsFor self.new transfer (turns_unseen turns) }
     {
         self.splitter = None;
+        self.next = self.next.wrapping_sub(1);
+    }
+
+    /// An answer that went by LargeResponse before others was never seen: it took no handle.
+    pub fn uncount(&mut self)
+        ensures { (transfer : ℕ) (turns others : List Turn) → IsUncounted transfer turns others
+            → StandsFor self.old transfer turns → StandsFor self.new transfer others }
+    {
         self.next = self.next.wrapping_sub(1);
     }
 

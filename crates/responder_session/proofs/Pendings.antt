@@ -27,30 +27,13 @@ use Rattle.transcript.specs.Transcripts as transcript
 use Rattle.transcript.specs.Transcripts.{Negotiation, vca_of}
 use Rattle.responder_session.specs.Data.{data_in, data_of}
 use Rattle.responder_session.specs.Kept.{Keeps}
-use Rattle.responder_session.specs.Pending.{events_unseen, events_with}
+use Rattle.responder_session.specs.Pending.{IsAlike, events_unseen, events_with}
 use Rattle.responder_session.specs.Session.{IsFresh, StandsFor}
 use Rattle.responder_session.specs.declared.exchange.Exchange.{Exchange}
 use Rattle.responder_session.specs.declared.kept.Kept.{Kept}
 use Rattle.responder_session.specs.declared.session.RspSession.{RspSession}
 
 -- ---- All that is read off the events of a session, but the bytes of a large answer.
-
-pub record IsAlike (s e : Events) : Type 0 where
-  pub live : is_live s ≡ is_live e
-  pub negotiation : session_negotiation s ≡ session_negotiation e
-  pub exchange : exchange_of s ≡ exchange_of e
-  pub answer : exchange_answer s ≡ exchange_answer e
-  pub stage : stage_of s ≡ stage_of e
-  pub finish : finish_of s ≡ finish_of e
-  pub finished : finish_answer s ≡ finish_answer e
-  pub request_epoch : request_epoch s ≡ request_epoch e
-  pub response_epoch : response_epoch s ≡ response_epoch e
-  pub request_next : request_next s ≡ request_next e
-  pub response_next : response_next s ≡ response_next e
-  pub taken : taken_of s ≡ taken_of e
-  pub last : last_of s ≡ last_of e
-  pub held : data_of s ≡ data_of e
-  pub idle : idle_of s ≡ idle_of e
 
 -- One more event, which is the same.
 heard_alike : (m : List ℕ) (t : Turn) (reply : List ℕ) (s e : Events) → IsAlike s e → IsAlike (Heard m t reply ∷ s) (Heard m t reply ∷ e)

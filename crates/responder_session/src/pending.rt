@@ -12,7 +12,7 @@ impl RspSession {
     ghost use Rattle.responder_machine.specs.SizeLaws.{HasSizes};
     ghost use Rattle.spdm_grammar.specs.declared.names.TheConstants.{MAX_MESSAGE_SIZE};
     ghost use Rattle.spdm_grammar.specs.declared.names.request_code.TheConstants.{GET_MEASUREMENTS};
-    ghost use Rattle.responder_session.specs.Pending.{events_unseen, events_with};
+    ghost use Rattle.responder_session.specs.Pending.{IsUncounted, events_unseen, events_with};
     ghost use Rattle.responder_session.specs.Session.{StandsFor};
 
     /// The MEASUREMENTS that are pending get these bytes, which go by chunks; as many chunks of them
@@ -37,5 +37,13 @@ impl RspSession {
             → StandsFor self.new psk (events_unseen s) }
     {
         self.large.forget();
+    }
+
+    /// A large answer of the session was never seen, and other messages were taken since: it took no handle.
+    pub fn uncount(&mut self)
+        ensures { (psk : List ℕ) (s e : Events) → IsUncounted s e → StandsFor self.old psk s
+            → StandsFor self.new psk e }
+    {
+        self.large.uncount();
     }
 }

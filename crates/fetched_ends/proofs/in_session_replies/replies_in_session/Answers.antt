@@ -191,8 +191,8 @@ returns-in-None-clause-told c = λ w q older rows f route own below byte now set
     let in_call = subst (IsReadIn (record c.args.party.now { answerer = answerer }) c.args.fetched.now w q f rows (body_in c.args.round.now) answer message) (c.as_slice-2.ensures.value ∙ sym c.as_slice-3.ensures.value) in_round in
     let told = c.in_ok-upon.ensures.told w q older rows f route own below byte now set_up none in_call stands in
     let found = subst (λ (x : Option Upon). IsChunkJudged w q older rows f route answer c.as_slice-3.result.now c.args.fetched.now x c.judges_chunk.new.party (IsFetchedIn c.judges_chunk.new.party c.judges_chunk.new.fetched w q) c.judges_chunk.new.table) c.in-None.is told in
-    let one = subst (λ (x : Round). IsNoChunk r (with_large (Some c.args.fetched.now.id) c.as_slice-3.result.now f.kept.responder) c.args.fetched.now.op x answer c.as_slice-3.result.now) (same_Some found.0 turn.round (sym found.1 ∙ turn.answers.0)) found.2 in
-    let wrong = subst (λ (l : List ℕ). IsNoChunk r (with_large (Some c.args.fetched.now.id) l f.kept.responder) c.args.fetched.now.op turn.round answer l) (c.as_slice-3.ensures.value ∙ sym c.as_slice-2.ensures.value) one in
+    let one = subst (λ (x : Round). IsNoChunk r (with_large (Some c.args.fetched.now.id) c.as_slice-3.result.now f.kept.responder) f.kept c.args.fetched.now.op x answer c.as_slice-3.result.now) (same_Some found.0 turn.round (sym found.1 ∙ turn.answers.0)) found.2 in
+    let wrong = subst (λ (l : List ℕ). IsNoChunk r (with_large (Some c.args.fetched.now.id) l f.kept.responder) f.kept c.args.fetched.now.op turn.round answer l) (c.as_slice-3.ensures.value ∙ sym c.as_slice-2.ensures.value) one in
     let stand_new = stand_there w q older rows f route answer byte limits own turn c.args.party.now c.args.fetched.now is message fits whole fills in
     let fills_new = fills_there w q older rows f route answer byte limits own turn c.args.party.now c.args.fetched.now is message fits whole fills in
     refused w q older rows f route answer byte limits own turn c.args.fetched.now.id is.at type c.args.fetched.now.least c.args.fetched.now.most c.args.fetched.now.op is.lengths is.asks is.whole is.stands c.reply_why-why.result why (record {

@@ -1,7 +1,6 @@
 use Rattle.std.proofs.Common.{◌≡◌, ◌+◌, ◌-◌, ◌^◌, ◌<◌, ◌∙◌, refl, sym, ap, subst, drop, length, arith, List, [], ◌∷◌, ℕ, Bool, Some, Option, Result, is_some}
 use Rattle.std.specs.Prelude.{OnOk}
 use Rattle.std.specs.Option.{IfSome}
-use Rattle.std.proofs.lemmas.Bool.{not-false, not-true}
 use Rattle.std.proofs.lemmas.Option.{none-some, same_Some}
 use Rattle.capture_ends.proofs.InTurn.{answers_in_turn}
 use Rattle.capture_ends.proofs.PartyReplied.{kept_limits}
@@ -30,14 +29,14 @@ use Rattle.world_machine.specs.LargeAnswers.{with_large}
 use Rattle.world_machine.specs.Rounds.{Round, no_draw}
 use Rattle.world_machine.specs.SessionTable.{number_from, rows_between}
 use Rattle.fetched_ends.proofs.InSessionRead.{few_kept, keys_kept}
-use Rattle.fetched_ends.proofs.OthersTold.{awaits, begins_other, behind_given, carries, change_then, fetched_then, few_then, given_is, keys_then, no_last, none_of, refused_other, step_then, taken_is, then, then_kept, told_apart}
+use Rattle.fetched_ends.proofs.OthersStop.{judges_then, may_forget, overtaken, taken_over}
+use Rattle.fetched_ends.proofs.OthersTold.{awaits, begins_other, behind_given, carries, change_then, ended_then, fetched_then, few_then, given_is, keys_then, no_last, none_of, refused_other, step_then, taken_is, then, then_kept, told_apart}
 use Rattle.fetched_ends.proofs.session_others.judges_other.Goals as goal
 use Rattle.fetched_ends.specs.InSession.{IsFetchedIn}
-use Rattle.fetched_ends.specs.InSession.IsOther.{Stops}
-use Rattle.fetched_ends.specs.SessionOthers.{IsOtherAnswer, left_then}
+use Rattle.fetched_ends.specs.SessionOthers.{IsOtherAnswer, is_overtaken, left_then}
 
-pub returns-then-not-heard-clause-told : goal.returns-then-not-heard-clause-told
-returns-then-not-heard-clause-told c = λ w q older rows f route own below byte now set_up none others kept stands.
+pub returns-then-is_overtaken-clause-told : goal.returns-then-is_overtaken-clause-told
+returns-then-is_overtaken-clause-told c = λ w q older rows f route own below byte now set_up none others kept stands.
     let fewer : length older < 2 ^ 64 - 1 = omega (arith, below) in
     let answer : List ℕ = c.args.answer.now in
     let party = c.args.party.now in
@@ -60,10 +59,27 @@ returns-then-not-heard-clause-told c = λ w q older rows f route own below byte 
     let is = c.in-Some-Whole.is ∙ ap Some c.in-Some-Whole.field-0-is in
     let shown = told.whole.0 is in
     let fetches = c.go_on-heard.ensures.fetches w q older f.kept turn.round carry below turn.answers.0 at kept.beside.asker (awaits w q older rows f route answer byte limits own turn party fetched kept refuses other) in
-    told_apart w q older rows f route answer byte limits own turn party fetched kept refuses other (Stops shown (sym fetches ∙ not-true _ c.if-not-heard.true))
+    let G = history_shown r g turn.round.tag turn.round.body answer in
+    let behind = behind_given w q older rows f route answer byte limits own turn party fetched kept refuses other c.answers_record.new.self c.behind_type.result.now request
+    (subst (λ (x : Option Given). IfSome x (λ (y : Given). IsAnswerer c.answers_record.new.self r (history_behind r g turn.round.tag (record_body c.behind_type.result.now) answer y))) is (c.answers_record.ensures.stands r g turn.round.tag set_up second small)) in
+    let new = c.go_on-heard.new.self in
+    let answerer = subst (λ (x : Answerer). IsAnswerer x r G) (sym c.go_on-heard.ensures.answerer) behind in
+    let coming = subst (λ (b : List ℕ). IsComingKey r g b c.coming_key-key.result) c.body-body.ensures (c.coming_key-key.ensures.key r g first small) in
+    let seen = c.args.round.now in
+    let keys = keys_then w q older rows f route answer byte limits own turn party fetched kept refuses other shown seen at new
+    (λ ids v here. c.go_on-heard.ensures.keys r g ids v no_draw keys_before coming
+    (subst (λ (x : Answerer). IsAnswerer x r (after (with_dropped g ids) (on_body r (with_dropped g ids) (tag_in seen) (body_in seen) v no_draw))) c.go_on-heard.ensures.answerer here)) answerer in
+    let few = few_then w q older rows f route answer byte limits own turn party fetched kept refuses other shown small in
+    let next = (then_kept w q older rows f route answer byte limits own turn party fetched kept refuses other shown).kept in
+    let took = c.taken-taken.ensures r g second ∙ ap (λ (b : List ℕ). taken_shown g b answer) body in
+    let taken = taken_is w q older rows f route answer byte limits own turn party fetched kept refuses other shown c.whole_answer_changes.ensures c.taken-taken.result took in
+    let left = c.left_then-left.ensures ∙ ap (λ (b : Bool). left_then fetched.left b c.is_none.result refuses) c.is_some-live.ensures ∙ ap (λ (b : Bool). left_then fetched.left (is_some c.view.result) b refuses) (none_of c.taken-taken.result c.is_none.result c.is_none.ensures) in
+    let over = taken_over c.go_on-heard.result.fetches c.is_some-live.result c.left_then-left.result (sym c.is_overtaken.ensures ∙ c.if-is_overtaken.true) in
+    told_apart w q older rows f route answer byte limits own turn party fetched kept refuses other
+    (overtaken w q older rows f route answer byte limits own turn party fetched kept refuses other shown c.view.result (c.view.ensures r G answerer few) c.taken-taken.result taken c.left_then-left.result left over.2 (sym c.is_some-live.ensures ∙ over.1) (sym fetches ∙ over.0))
 
-pub returns-in_ok-take-in-Some-Whole-clause-told : goal.returns-in_ok-take-in-Some-Whole-clause-told
-returns-in_ok-take-in-Some-Whole-clause-told c = λ w q older rows f route own below byte now set_up none others kept stands.
+pub returns-then-heard-clause-told : goal.returns-then-heard-clause-told
+returns-then-heard-clause-told c = λ w q older rows f route own below byte now set_up none others kept stands.
     let fewer : length older < 2 ^ 64 - 1 = omega (arith, below) in
     let answer : List ℕ = c.args.answer.now in
     let party = c.args.party.now in
@@ -115,12 +131,77 @@ returns-in_ok-take-in-Some-Whole-clause-told c = λ w q older rows f route own b
     let stood = subst (λ (x : Result Unit OutOfMemory). OnOk x (rows_of.StandFor c.take.new.places (restored next) (rows_between (restored f.kept) (restored next) rows))) it
     (c.take.ensures.places w (length older) (restored f.kept) (restored next) rows change step stands places) in
     let last = record new { places = c.take.new.places } in
-    let asks = sym (ap (λ (n : ℕ). asks_upon f.kept n answer) turn.answers.1) ∙ sym fetches ∙ not-false _ c.if-not-heard.false in
+    let asks = sym (ap (λ (n : ℕ). asks_upon f.kept n answer) turn.answers.1) ∙ sym fetches ∙ c.if-heard.true in
     let asker = c.go_on-heard.ensures.asker w q older f.kept (then w q older rows f route answer byte limits own turn party fetched kept refuses other shown) turn.round carry below turn.answers.0 at kept.beside.asker in
     let taken = taken_is w q older rows f route answer byte limits own turn party fetched kept refuses other shown c.whole_answer_changes.ensures c.taken-taken.result took in
-    let left = c.left_then-fetched.ensures ∙ ap (λ (b : Bool). left_then fetched.left b c.is_none.result refuses) c.is_some-live.ensures ∙ ap (λ (b : Bool). left_then fetched.left (is_some c.view.result) b refuses) (none_of c.taken-taken.result c.is_none.result c.is_none.ensures) in
-    fetched_then w q older rows f route answer byte limits own turn party fetched kept refuses other shown c.view.result (c.view.ensures r G answerer few) c.taken-taken.result taken c.left_then-fetched.result left last c.take.new.self
+    let left = c.left_then-left.ensures ∙ ap (λ (b : Bool). left_then fetched.left b c.is_none.result refuses) c.is_some-live.ensures ∙ ap (λ (b : Bool). left_then fetched.left (is_some c.view.result) b refuses) (none_of c.taken-taken.result c.is_none.result c.is_none.ensures) in
+    fetched_then w q older rows f route answer byte limits own turn party fetched kept refuses other shown c.view.result (c.view.ensures r G answerer few) c.taken-taken.result taken c.left_then-left.result left last c.take.new.self
     (subst (λ (n : ℕ). IsAsker new.asker q (heard_kept f.kept (then w q older rows f route answer byte limits own turn party fetched kept refuses other shown) n turn.round answer)) turn.answers.1 asker) answerer keys number stood table asks
+
+pub returns-else-heard-clause-told : goal.returns-else-heard-clause-told
+returns-else-heard-clause-told c = λ w q older rows f route own below byte now set_up none others kept stands.
+    let fewer : length older < 2 ^ 64 - 1 = omega (arith, below) in
+    let answer : List ℕ = c.args.answer.now in
+    let party = c.args.party.now in
+    let fetched = c.args.fetched.now in
+    let refuses = c.args.refuses in
+    let turn = answers_in_turn f.kept route answer none in
+    let limits = kept_limits q f.kept party.asker kept.beside.asker in
+    let r = responder_for w f.kept in
+    let g = with_large (Some fetched.id) kept.whole f.kept.responder in
+    let other = subst (λ (x : Round). IsOtherAnswer r fetched f x answer refuses) (same_Some others.0 turn.round (sym others.1 ∙ turn.answers.0)) others.2 in
+    let at = now ∙ turn.answers.0 in
+    let body = c.body-body.ensures ∙ ap body_in at in
+    let small = few_kept w q older rows f route answer byte limits own turn party fetched kept [] fewer in
+    let first = subst (λ (x : Connection). connected.StandsFor x r g) (sym c.reply_why-why.ensures.same) kept.judges in
+    let second = subst (λ (x : Connection). connected.StandsFor x r g) (sym c.coming_key-key.ensures.same) first in
+    let request = c.behind_type.ensures ∙ ap (λ (l : List ℕ). drop 1 l) body in
+    let told = given_is w q older rows f route answer byte limits own turn party fetched kept refuses other c.behind_type.result.now c.answers_record.result request (c.answers_record.ensures.told r g turn.round.tag set_up second small) in
+    let keys_before = keys_kept w q older rows f route answer byte limits own turn party fetched kept [] other.record_is in
+    let carry = carries w q older rows f route answer byte limits own turn party fetched kept refuses other in
+    let is = c.in-Some-Whole.is ∙ ap Some c.in-Some-Whole.field-0-is in
+    let shown = told.whole.0 is in
+    let fetches = c.go_on-heard.ensures.fetches w q older f.kept turn.round carry below turn.answers.0 at kept.beside.asker (awaits w q older rows f route answer byte limits own turn party fetched kept refuses other) in
+    let G = history_shown r g turn.round.tag turn.round.body answer in
+    let behind = behind_given w q older rows f route answer byte limits own turn party fetched kept refuses other c.answers_record.new.self c.behind_type.result.now request
+    (subst (λ (x : Option Given). IfSome x (λ (y : Given). IsAnswerer c.answers_record.new.self r (history_behind r g turn.round.tag (record_body c.behind_type.result.now) answer y))) is (c.answers_record.ensures.stands r g turn.round.tag set_up second small)) in
+    let new = c.go_on-heard.new.self in
+    let answerer = subst (λ (x : Answerer). IsAnswerer x r G) (sym c.go_on-heard.ensures.answerer) behind in
+    let coming = subst (λ (b : List ℕ). IsComingKey r g b c.coming_key-key.result) c.body-body.ensures (c.coming_key-key.ensures.key r g first small) in
+    let seen = c.args.round.now in
+    let keys = keys_then w q older rows f route answer byte limits own turn party fetched kept refuses other shown seen at new
+    (λ ids v here. c.go_on-heard.ensures.keys r g ids v no_draw keys_before coming
+    (subst (λ (x : Answerer). IsAnswerer x r (after (with_dropped g ids) (on_body r (with_dropped g ids) (tag_in seen) (body_in seen) v no_draw))) c.go_on-heard.ensures.answerer here)) answerer in
+    let few = few_then w q older rows f route answer byte limits own turn party fetched kept refuses other shown small in
+    let next = (then_kept w q older rows f route answer byte limits own turn party fetched kept refuses other shown).kept in
+    let took = c.taken-taken.ensures r g second ∙ ap (λ (b : List ℕ). taken_shown g b answer) body in
+    let change = change_then w q older rows f route answer byte limits own turn party fetched kept refuses other shown c.answer_accepts.ensures c.whole_answer_changes.ensures c.change-change.result
+    c.change-change.ensures.begun
+    (c.change-change.ensures.accepted ∙ c.go_on-heard.ensures.accepted w q older f.kept turn.round carry fewer turn.answers.0 at kept.beside.asker)
+    (c.change-change.ensures.taken ∙ took)
+    c.change-change.ensures.asked
+    (c.change-change.ensures.views r G answerer few) in
+    let step = step_then w q older rows f route answer byte limits own turn party fetched kept refuses other shown c.answer_accepts.ensures c.whole_answer_changes.ensures in
+    let number = c.go_on-heard.ensures.number ∙ kept.beside.number in
+    let owner = number ∙ ap (λ (s : ReqSetup). number_from 1 s.eid w.requesters) (sym kept.beside.asker.setup) in
+    let places = subst (λ (x : Places). rows_of.StandFor x (restored f.kept) rows) (sym c.go_on-heard.ensures.places) kept.beside.places in
+    let it = c.in_ok-take-in-Some-Whole.was in
+    let table = subst (λ (x : Result Unit OutOfMemory). OnOk x (rows_of.StandsForRows c.take.new.self w (length older + 1) (rows_between (restored f.kept) (restored next) rows))) it
+    (c.take.ensures.table w (length older) (restored f.kept) (restored next) rows change step fewer owner stands places) in
+    let stood = subst (λ (x : Result Unit OutOfMemory). OnOk x (rows_of.StandFor c.take.new.places (restored next) (rows_between (restored f.kept) (restored next) rows))) it
+    (c.take.ensures.places w (length older) (restored f.kept) (restored next) rows change step stands places) in
+    let stops = sym (ap (λ (n : ℕ). asks_upon f.kept n answer) turn.answers.1) ∙ sym fetches ∙ c.if-heard.false in
+    let asker = c.go_on-heard.ensures.asker w q older f.kept (then w q older rows f route answer byte limits own turn party fetched kept refuses other shown) turn.round carry below turn.answers.0 at kept.beside.asker in
+    let taken = taken_is w q older rows f route answer byte limits own turn party fetched kept refuses other shown c.whole_answer_changes.ensures c.taken-taken.result took in
+    let left = c.left_then-left.ensures ∙ ap (λ (b : Bool). left_then fetched.left b c.is_none.result refuses) c.is_some-live.ensures ∙ ap (λ (b : Bool). left_then fetched.left (is_some c.view.result) b refuses) (none_of c.taken-taken.result c.is_none.result c.is_none.ensures) in
+    let not_over = ap (λ (b : Bool). is_overtaken b (is_some c.view.result) c.left_then-left.result) (sym c.if-heard.false) ∙ ap (λ (b : Bool). is_overtaken c.go_on-heard.result.fetches b c.left_then-left.result) (sym c.is_some-live.ensures) ∙ sym c.is_overtaken.ensures ∙ c.if-is_overtaken.false in
+    let forgotten : Answerer = record new.answerer { connection = c.forgets.new.connection } in
+    let last = record new { places = c.take.new.places; answerer = forgotten } in
+    let may = may_forget w q older rows f route answer byte limits own turn party fetched kept refuses other shown c.view.result (c.view.ensures r G answerer few) c.taken-taken.result taken c.left_then-left.result left not_over in
+    let judges = judges_then w q older rows f route answer byte limits own turn party fetched kept refuses other shown c.view.result (c.view.ensures r G answerer few) c.taken-taken.result taken c.left_then-left.result left new.answerer answerer in
+    let unseen = c.forgets.ensures r (then w q older rows f route answer byte limits own turn party fetched kept refuses other shown) kept.whole may judges in
+    ended_then w q older rows f route answer byte limits own turn party fetched kept refuses other shown last fetched c.take.new.self
+    (subst (λ (n : ℕ). IsAsker new.asker q (heard_kept f.kept (then w q older rows f route answer byte limits own turn party fetched kept refuses other shown) n turn.round answer)) turn.answers.1 asker) unseen keys number stood table stops
 
 pub returns-in-Some-Large-clause-told : goal.returns-in-Some-Large-clause-told
 returns-in-Some-Large-clause-told c = λ w q older rows f route own below byte now set_up none others kept stands.
