@@ -47,3 +47,4 @@ pub mod LargeSized
 pub mod MeanwhileClear
 pub mod NoneTurns
 pub mod RestQuiet
+pub mod RefusedAgain

@@ -9,3 +9,4 @@ pub mod ClearSessions
 pub mod ClearApart
 pub mod StandsAlike
 pub mod ClearMeanwhile
+pub mod RefusedAgain

@@ -1,6 +1,6 @@
 -- LargeResponse in the clear to GET_MEASUREMENTS or PSK_EXCHANGE, each whole in one message, upon which the requester asks for
 -- no chunk: what is kept behind it.
-use Rattle.std.proofs.Common.{◌≡◌, ◌≢◌, ◌≤◌, ◌<◌, ◌+◌, ◌==◌, ◌⊎◌, ◌∙◌, ℕ, List, [], ◌∷◌, refl, sym, ap, subst, drop, length, Bool, true, false, Option, Some, None, is_some, cond, inl, inr, arith, eqb-true}
+use Rattle.std.proofs.Common.{◌≡◌, ◌≢◌, ◌≤◌, ◌<◌, ◌+◌, ◌==◌, ◌||◌, ◌⊎◌, ◌∙◌, ℕ, List, [], ◌∷◌, refl, sym, ap, subst, drop, length, Bool, true, false, Option, Some, None, is_some, cond, inl, inr, arith, eqb-true}
 use Rattle.std.specs.Prelude.{slice_index}
 use Rattle.std.proofs.lemmas.Bool.{false≢true}
 use Rattle.mctp_framing.specs.Cutting.{RouteFields}
@@ -23,6 +23,7 @@ use Rattle.capture_laws.specs.Rows as rows_of
 use Rattle.capture_laws.specs.declared.change.Change.{Change}
 use Rattle.capture_laws.specs.declared.verdict.Seen.{Seen}
 use Rattle.connection.specs.Connected as connected
+use Rattle.connection.specs.UnseenRequests.{IsTurnOf, IsUnseenTurn}
 use Rattle.connection.specs.declared.connected.Connection.{Connection}
 use Rattle.fetched_ends.proofs.ChangesOn.{accepted_on, asked_on}
 use Rattle.fetched_ends.proofs.HeldBefore.{here, keys_begun}
@@ -30,7 +31,6 @@ use Rattle.fetched_ends.proofs.HeldBegins.{behind, next}
 use Rattle.fetched_ends.proofs.LargeAccepts.{large_accepts_none}
 use Rattle.fetched_ends.specs.BegunHeld.{has_free_length}
 use Rattle.fetched_ends.specs.Fetched.{rows_upon}
-use Rattle.fetched_ends.specs.UnseenRequests.{IsTurnOf, IsUnseenTurn}
 use Rattle.large_answers.specs.Fetching.{Fetching}
 use Rattle.requester_machine.specs.History.{outstanding}
 use Rattle.requester_machine.specs.May.{IsSetUp}
@@ -102,7 +102,7 @@ module _ (r : RspSetup) (p : Place) (m : List ℕ) (f : Free) where
 free_is : (n : ℕ) → has_free_length n ≡ true → (n ≡ GET_MEASUREMENTS) ⊎ (n ≡ PSK_EXCHANGE)
 free_is n is = by_first (n == GET_MEASUREMENTS) refl is
   where
-    by_first : (b : Bool) → (n == GET_MEASUREMENTS) ≡ b → (cond b true (n == PSK_EXCHANGE)) ≡ true → (n ≡ GET_MEASUREMENTS) ⊎ (n ≡ PSK_EXCHANGE)
+    by_first : (b : Bool) → (n == GET_MEASUREMENTS) ≡ b → (b || n == PSK_EXCHANGE) ≡ true → (n ≡ GET_MEASUREMENTS) ⊎ (n ≡ PSK_EXCHANGE)
     by_first true one two = inl (eqb-true n GET_MEASUREMENTS one)
     by_first false one two = inr (eqb-true n PSK_EXCHANGE two)
 

@@ -11,4 +11,3 @@ pub mod HeldFrom
 pub mod BegunIn
 pub mod BegunHeld
 pub mod JudgedEnds
-pub mod UnseenRequests

@@ -22,7 +22,6 @@ use crate::asked_exchange::asks_exchange;
 use crate::handshake_left::leave_handshake;
 use crate::held::Held;
 use crate::in_session::MOST_BYTES;
-use crate::unseen::pass_unseen;
 use capture_ends::Party;
 use capture_laws::{Round, SessionTable, answer_accepts, large_answer_changes};
 use connection::{Connection, KeptReply, Setup};
@@ -142,8 +141,8 @@ pub fn begins_held(
         if !has_free_length(code) {
             return Ok(BegunHeld::Unfetched);
         }
-        let connection = &mut party.answerer.connection;
-        pass_unseen(connection, tag, message, reply, code == PSK_EXCHANGE);
+        let exchange = code == PSK_EXCHANGE;
+        party.answerer.connection.pass_unseen(tag, message, reply, exchange);
         let change = party.change(None, None, None);
         table.take(&mut party.places, party.number, &change)?;
         return Ok(BegunHeld::Passed);

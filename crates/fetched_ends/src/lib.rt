@@ -27,7 +27,6 @@ mod session_prepared;
 mod session_texts;
 mod session_version;
 mod shown;
-mod unseen;
 mod upon;
 mod whole_measured;
 

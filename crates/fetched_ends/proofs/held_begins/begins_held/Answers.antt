@@ -23,10 +23,10 @@ use Rattle.fetched_ends.proofs.HeldBegins.{begins, behind, next}
 use Rattle.fetched_ends.proofs.HeldBegun.{begun_change, begun_step, few_asked, few_given, held_begun, left_few, left_here}
 use Rattle.fetched_ends.specs.AskedInClear.{IsExchangeBy, chunk_at}
 use Rattle.fetched_ends.specs.BegunHeld.{has_free_length}
-use Rattle.fetched_ends.specs.UnseenRequests.{IsTurnOf}
 use Rattle.fetched_ends.specs.HeldFrom.{IsHeldFrom}
 use Rattle.requester_machine.specs.Setup.{ReqSetup}
 use Rattle.connection.specs.Connected as connected
+use Rattle.connection.specs.UnseenRequests.{IsTurnOf}
 use Rattle.responder_machine.specs.History.{clear_turns}
 use Rattle.responder_machine.specs.History.Entry.{Clear}
 use Rattle.responder_machine.specs.Place.{clear_place, place_terms}
@@ -109,7 +109,7 @@ returns-then-not-has_free_length-clause-told c = λ w q older rows k route keeps
     let tag : turn.round.tag ≡ c.tag-tag.result = sym (c.tag-tag.ensures ∙ ap tag_in at) in
     let fetches = c.hears-heard.ensures.fetches w q older k turn.round carries below turn.answers.0 tag party.asker (sym (kept_asks_none w q older k keeps)) in
     let message = c.behind_type-message.ensures ∙ ap (drop 1) body in
-    let code = c.byte_at-3.ensures ∙ ap code_of message in
+    let code = c.byte_at-code.ensures ∙ ap code_of message in
     let other : has_free_length (code_of (drop 1 turn.round.body)) ≡ false = ap has_free_length (sym code) ∙ sym c.has_free_length.ensures ∙ is_false c.has_free_length.result c.if-not-has_free_length.true in
     unfetched w q older rows k route answer turn new table table here (ap (λ (n : ℕ). asks_upon k n answer) (sym turn.answers.1 ∙ tag) ∙ sym fetches ∙ is_false c.hears-heard.result.fetches c.if-not-heard.true)
     (λ round one. subst (λ (x : Round). has_free_length (code_of (drop 1 x.body)) ≡ false) (same_Some turn.round round (sym turn.answers.0 ∙ one)) other) refl
@@ -134,7 +134,7 @@ returns-in_ok-take-then-not-heard-clause-told c = λ w q older rows k route keep
     let fetches = c.hears-heard.ensures.fetches w q older k turn.round carries below turn.answers.0 tag party.asker (sym (kept_asks_none w q older k keeps)) in
     let message = c.behind_type-message.ensures ∙ ap (drop 1) body in
     let reply = c.behind_type-reply.ensures in
-    let code = c.byte_at-3.ensures ∙ ap code_of message in
+    let code = c.byte_at-code.ensures ∙ ap code_of message in
     let free : has_free_length (code_of (drop 1 turn.round.body)) ≡ true = ap has_free_length (sym code) ∙ sym c.has_free_length.ensures ∙ is_true c.has_free_length.result c.if-not-has_free_length.false in
     let limits = kept_limits q k c.args.party.now.asker party.asker in
     let idle : asks_upon k route.tag answer ≡ false = ap (λ (n : ℕ). asks_upon k n answer) (sym turn.answers.1 ∙ tag) ∙ sym fetches ∙ is_false c.hears-heard.result.fetches c.if-not-heard.true in
@@ -146,10 +146,10 @@ returns-in_ok-take-then-not-heard-clause-told c = λ w q older rows k route keep
     let asked_few = subst (λ (l : List ℕ). length l ≤ 4096) (sym message) (few_asked w q older k route answer byte limits carries turn type large set_up.ordered set_up.most) in
     let given_few = subst (λ (l : List ℕ). length l ≤ 4096) (sym reply) (few_given w q older k route answer byte limits carries turn type large) in
     let its = turn_is w q older k route answer byte limits carries turn type large free in
-    let exchange : takes PSK_EXCHANGE t ≡ (c.byte_at-3.result == PSK_EXCHANGE) = its.exchange ∙ ap (λ (n : ℕ). n == PSK_EXCHANGE) (sym code) in
-    let is_turn : IsTurnOf t c.behind_type-message.result.now c.behind_type-reply.result.now (c.byte_at-3.result == PSK_EXCHANGE) = record { message = its.message ∙ sym message; reply = its.reply ∙ sym reply; exchange = exchange } in
+    let exchange : takes PSK_EXCHANGE t ≡ (c.byte_at-code.result == PSK_EXCHANGE) = its.exchange ∙ ap (λ (n : ℕ). n == PSK_EXCHANGE) (sym code) in
+    let is_turn : IsTurnOf t c.behind_type-message.result.now c.behind_type-reply.result.now (c.byte_at-code.result == PSK_EXCHANGE) = record { message = its.message ∙ sym message; reply = its.reply ∙ sym reply; exchange = exchange } in
     let left = c.pass_unseen.ensures r k.responder t no_draw asked_few given_few (unseen_turn w q older k route answer byte limits carries turn type large free) is_turn standing in
-    let stood = subst (λ (n : ℕ). connected.StandsFor c.pass_unseen.new.connection r (Clear n t no_draw ∷ k.responder)) (sym tag) left in
+    let stood = subst (λ (n : ℕ). connected.StandsFor c.pass_unseen.new.self r (Clear n t no_draw ∷ k.responder)) (sym tag) left in
     let views = c.change-change.ensures.views r (Clear turn.round.tag t no_draw ∷ k.responder) stood (omega (arith, small)) in
     let there = passed w q older k route answer byte limits carries turn type large free in
     let accepts : accepted_from k turn.round.tag answer ≡ None = accepts_none w q older k route answer byte limits carries turn type large free (kept_asks_none w q older k keeps) in
@@ -161,7 +161,7 @@ returns-in_ok-take-then-not-heard-clause-told c = λ w q older rows k route keep
     (c.take.ensures.table w (length older) (restored k) (restored f.kept) rows change step few number stands party.places) in
     let places = subst (λ (x : Result Unit OutOfMemory). OnOk x (rows_of.StandFor c.take.new.places (restored f.kept) (rows_between (restored k) (restored f.kept) rows))) it
     (c.take.ensures.places w (length older) (restored k) (restored f.kept) rows change step stands party.places) in
-    let last : Party = record c.args.party.now { asker = c.hears-heard.new.self; answerer = record c.tells_large.new.self { connection = c.pass_unseen.new.connection }; places = c.take.new.places } in
+    let last : Party = record c.args.party.now { asker = c.hears-heard.new.self; answerer = record c.tells_large.new.self { connection = c.pass_unseen.new.self }; places = c.take.new.places } in
     let asker = subst (λ (n : ℕ). IsAsker c.hears-heard.new.self q (heard_kept k (behind w q older k route answer byte limits carries turn type large) n turn.round answer)) (sym tag ∙ turn.answers.1)
     (c.hears-heard.ensures.kept w q older k (behind w q older k route answer byte limits carries turn type large) turn.round carries below turn.answers.0 tag party.asker) in
     (f.kept, passes w q older k route answer byte limits carries turn type large free keeps idle, passed_stands w q older k route answer byte limits carries turn type large free rows last c.take.new.self asker stood party.keys party.number places entries)
