@@ -27,7 +27,7 @@ use Rattle.requester_machine.specs.May.{IsSetUp}
 use Rattle.requester_machine.specs.Setup.{ReqSetup}
 use Rattle.responder_machine.specs.Answer.{request_at}
 use Rattle.responder_machine.specs.History.{Entry, History, ended_of}
-use Rattle.responder_machine.specs.History.Entry.{Sealed}
+use Rattle.responder_machine.specs.History.Entry.{Clear, Sealed, Queued, Ticked, Dropped}
 use Rattle.responder_machine.specs.LargeMessages.{large_of}
 use Rattle.responder_machine.specs.Place.{session_place}
 use Rattle.responder_machine.specs.Records.{opened, opening_fault}
@@ -70,6 +70,18 @@ unseen_there n tag m t reply d h here none same =
     let older : History = Sealed tag m t reply d ∷ history_unseen n h in
     ap (λ (b : Bool). cond (b && not (passes t)) (Sealed tag m (turn_unseen t) reply d ∷ h) older) (eq-eqb (id_in_record m) n here)
     ∙ ap (λ (b : Bool). cond (not b) (Sealed tag m (turn_unseen t) reply d ∷ h) older) none ∙ ap (λ (x : Turn). Sealed tag m x reply d ∷ h) same
+
+-- The same of an entry that is such a record.
+abbrev IsNewest : ℕ → Entry → Type 0
+IsNewest n (Sealed tag m t reply d) = (id_in_record m ≡ n) × (passes t ≡ false) × (turn_unseen t ≡ turn_with [] None t)
+IsNewest n _ = ⊥
+
+unseen_newest : (n : ℕ) (x : Entry) (h : History) → IsNewest n x → history_unseen n (x ∷ h) ≡ unseen x ∷ h
+unseen_newest n (Sealed tag m t reply d) h is = unseen_there n tag m t reply d h is.0 is.1 is.2
+unseen_newest n (Clear tag t d) h is = absurd is
+unseen_newest n (Queued bytes) h is = absurd is
+unseen_newest n (Ticked seconds) h is = absurd is
+unseen_newest n (Dropped id) h is = absurd is
 
 module _ (w : Configuration) (q : ReqSetup) (older : List (List ℕ)) (k : Kept) (route : RouteFields) (answer : List ℕ) (byte : w.responder.beat < 256) (limits : IsSetUp k.setup) (carries : Carries w q older k) (turn : AnswersInTurn k route answer)
     (type : (slice_index turn.round.body 0 == 5) ≡ false) (will : will_take (responder_for w k) k.responder turn.round.body ≡ true) (large : IsShownLarge (responder_for w k) k.responder turn.round.tag turn.round.body answer) (op : ℕ)
@@ -118,7 +130,7 @@ module _ (w : Configuration) (q : ReqSetup) (older : List (List ℕ)) (k : Kept)
       (behind_entry (λ (x : Events). last_takes GET_MEASUREMENTS (turns_of x) ≡ true) id m _ _ _ _ h refl refl live refl)
 
   pub forgot : (n : ℕ) → n ≡ id → history_unseen n (e ∷ h) ≡ unseen e ∷ h
-  forgot n is = unseen_there n _ m _ _ _ h (sym is) refl refl
+  forgot n is = unseen_newest n e h (sym is, refl, refl)
 
   -- ---- What is kept.
 
