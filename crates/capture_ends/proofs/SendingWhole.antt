@@ -26,8 +26,8 @@ plain_whole h (Unopened body) plain = refl
 plain_whole h (Adds entry) plain = and_first (not (is_large entry)) (not (gives_last h entry)) plain
 
 not_both : (b : Bool) → not b ≡ true → b ≡ true → ⊥
-not_both true no yes = false≢true no
-not_both false no yes = false≢true yes
+not_both true off on = false≢true off
+not_both false off on = false≢true on
 
 -- Nor the last chunk of a large answer.
 plain_ends : (h : History) (o : Outcome) → is_plain h o ≡ true → ends_large h o ≡ true → ⊥

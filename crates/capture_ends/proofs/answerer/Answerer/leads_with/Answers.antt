@@ -49,10 +49,10 @@ returns-then-not-completes-clause-told c = λ r h set stands few anew free.
     let chosen = ap (λ (x : Choice). x.hash) (sym (c.choice-hash.ensures r h stands)) in
     let len : c.size.result ≡ hash_len (place_terms p) = c.size.ensures ∙ ap hash_size (sym chosen) in
     let some : chunk_in (request_at p m) ≡ Some chunk = sym (c.in-Some.ensures ∙ ap (λ (n : ℕ). chunk_in (request_in n m)) len) in
-    (λ is. absurd (false≢true is), λ large. completes_large r h c.args.tag m c.args.reply.now anew (clear_shown r h m c.args.reply.now c.args.whole.now) large chunk some (c.if-not-completes.ensures r h stands))
+    (λ is. absurd (false≢true is), λ large. absurd (completes_large r h c.args.tag m c.args.reply.now anew (clear_shown r h m c.args.reply.now c.args.whole.now) large chunk some (c.if-not-completes.ensures r h stands)))
 
-pub returns-in-Some-clause-told : goal.returns-in-Some-clause-told
-returns-in-Some-clause-told c = λ r h set stands few anew free.
+pub returns-else-not-completes-clause-told : goal.returns-else-not-completes-clause-told
+returns-else-not-completes-clause-told c = λ r h set stands few anew free.
     let m : List ℕ = c.args.message.now in
     let whole : List ℕ = c.args.whole.now in
     let p = clear_place h in
@@ -70,8 +70,8 @@ returns-in-Some-clause-told c = λ r h set stands few anew free.
     let long = subst (λ (l : List ℕ). IsLongWith r h m l f) (sym c.as_slice-2.ensures.value) (long_carried r h m f chunk c.completes.new.whole some done) in
     c.leads_at-in-Some.ensures.told r h f set stands few shown long
 
-pub returns-in-Some-clause-stands : goal.returns-in-Some-clause-stands
-returns-in-Some-clause-stands c = λ r h set stands few free is.
+pub returns-else-not-completes-clause-stands : goal.returns-else-not-completes-clause-stands
+returns-else-not-completes-clause-stands c = λ r h set stands few free is.
     let m : List ℕ = c.args.message.now in
     let whole : List ℕ = c.args.whole.now in
     let p = clear_place h in
