@@ -47,4 +47,3 @@ pub mod LargeSized
 pub mod MeanwhileClear
 pub mod NoneTurns
 pub mod RestQuiet
-pub mod RefusedAgain

@@ -9,4 +9,3 @@ pub mod ClearSessions
 pub mod ClearApart
 pub mod StandsAlike
 pub mod ClearMeanwhile
-pub mod RefusedAgain

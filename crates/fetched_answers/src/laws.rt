@@ -5,7 +5,6 @@ ghost use Rattle.fetched_answers.specs.AlikeAnswers.{AnswersAreAlike, ChunkIsSho
 ghost use Rattle.fetched_answers.specs.ClearChunks.{NextIsGiven, RepeatIsSame};
 ghost use Rattle.fetched_answers.specs.JudgedFor.{BeginsJudging, PendingIsFetched, PendingIsMeasured};
 ghost use Rattle.fetched_answers.specs.LastShown.{LastIsShown, WholeHasLed};
-ghost use Rattle.fetched_answers.specs.RefusedAgain.{NoneLargeAgain, RefusedAgain};
 ghost use Rattle.fetched_answers.specs.WholeValues.{WholeIsShown};
 
 /// A whole answer shows the values that it was made at.
@@ -71,14 +70,4 @@ pub fn pending_is_fetched()
 /// In a session they are MEASUREMENTS.
 pub fn pending_is_measured()
     ensures { PendingIsMeasured }
-{}
-
-/// What was refused in the clear is refused again, but for GET_MEASUREMENTS and PSK_EXCHANGE.
-pub fn refused_again()
-    ensures { RefusedAgain }
-{}
-
-/// So its copy gets no LargeResponse.
-pub fn none_large_again()
-    ensures { NoneLargeAgain }
 {}

@@ -22,8 +22,8 @@ pub use clear_laws::{
 pub use few_blocks::blocks_are_few;
 pub use laws::{
     answers_are_alike, begins_judging, chunk_is_shown, large_is_alike, last_is_shown,
-    last_shows_chunk, next_is_given, none_large_again, pending_is_fetched, pending_is_measured,
-    refused_again, repeat_is_same, text_is_alike, whole_has_led, whole_is_shown,
+    last_shows_chunk, next_is_given, pending_is_fetched, pending_is_measured, repeat_is_same,
+    text_is_alike, whole_has_led, whole_is_shown,
 };
 pub use meanwhile_laws::{
     get_begins_none, get_completes, get_goes_on, none_pends_in_clear, none_turns_in_clear,

@@ -94,3 +94,4 @@ pub mod BegunHeldTold
 pub mod LastLed
 pub mod LastInClear
 pub mod AskedAccepts
+pub mod RefusedAgain

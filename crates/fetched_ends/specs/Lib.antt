@@ -11,3 +11,4 @@ pub mod HeldFrom
 pub mod BegunIn
 pub mod BegunHeld
 pub mod JudgedEnds
+pub mod RefusedAgain

@@ -26,7 +26,7 @@ use Rattle.spdm_machine.specs.Bodies.{clear_body}
 use Rattle.spdm_machine.specs.Keys.{Draw}
 use Rattle.capture_laws.specs.AnswersShown.{is_whole}
 use Rattle.world_machine.specs.Rounds.{no_draw}
-use Rattle.fetched_answers.specs.RefusedAgain.{NoneLargeAgain, RefusedAgain, behind_refused}
+use Rattle.fetched_ends.specs.RefusedAgain.{NoneLargeAgain, RefusedAgain, behind_refused}
 
 -- ---- The place.
 
