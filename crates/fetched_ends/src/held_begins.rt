@@ -142,7 +142,10 @@ pub fn begins_held(
             return Ok(BegunHeld::Unfetched);
         }
         let exchange = code == PSK_EXCHANGE;
-        party.answerer.connection.pass_unseen(tag, message, reply, exchange);
+        party
+            .answerer
+            .connection
+            .pass_unseen(tag, message, reply, exchange);
         let change = party.change(None, None, None);
         table.take(&mut party.places, party.number, &change)?;
         return Ok(BegunHeld::Passed);
