@@ -67,7 +67,7 @@ returns-else-not-completes-clause-told c = λ r h set stands few anew free.
     let joined = bytes ∙ sym (completed_is r.max (chunks_of p.turns) chunk c.completes.new.whole done) in
     let free_there = subst (λ (l : List ℕ). IsFree c.field_values-shown-in-Some.result (whole_values (inside p) l k whole)) joined (c.field_values-shown-in-Some.ensures (inside p) k chosen free) in
     let shown = subst (λ (o : Option ChunkMessage). IsFree c.field_values-shown-in-Some.result (clear_whole p m k whole o)) (sym some) free_there in
-    let long = subst (λ (l : List ℕ). IsLongWith r h m l f) (sym c.as_slice-2.ensures.value) (long_carried r h m f chunk c.completes.new.whole some done) in
+    let long = subst (λ (l : List ℕ). IsLongWith r h m l f) (sym c.as_slice-in-Some.ensures.value) (long_carried r h m f chunk c.completes.new.whole some done) in
     c.leads_at-in-Some.ensures.told r h f set stands few shown long
 
 pub returns-else-not-completes-clause-stands : goal.returns-else-not-completes-clause-stands
