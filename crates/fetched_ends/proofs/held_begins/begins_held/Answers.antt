@@ -110,12 +110,12 @@ returns-then-not-has_free_length-clause-told c = λ w q older rows k route keeps
     let fetches = c.hears-heard.ensures.fetches w q older k turn.round carries below turn.answers.0 tag party.asker (sym (kept_asks_none w q older k keeps)) in
     let message = c.behind_type-message.ensures ∙ ap (drop 1) body in
     let code = c.byte_at-code.ensures ∙ ap code_of message in
-    let other : has_free_length (code_of (drop 1 turn.round.body)) ≡ false = ap has_free_length (sym code) ∙ sym c.has_free_length.ensures ∙ is_false c.has_free_length.result c.if-not-has_free_length.true in
+    let other : has_free_length (code_of (drop 1 turn.round.body)) ≡ false = ap has_free_length (sym code) ∙ sym c.has_free_length.ensures ∙ c.if-not-has_free_length.true in
     unfetched w q older rows k route answer turn new table table here (ap (λ (n : ℕ). asks_upon k n answer) (sym turn.answers.1 ∙ tag) ∙ sym fetches ∙ is_false c.hears-heard.result.fetches c.if-not-heard.true)
     (λ round one. subst (λ (x : Round). has_free_length (code_of (drop 1 x.body)) ≡ false) (same_Some turn.round round (sym turn.answers.0 ∙ one)) other) refl
 
-pub returns-in_ok-take-then-not-heard-clause-told : goal.returns-in_ok-take-then-not-heard-clause-told
-returns-in_ok-take-then-not-heard-clause-told c = λ w q older rows k route keeps below byte now set_up none party stands.
+pub returns-then-not-heard-clause-told : goal.returns-then-not-heard-clause-told
+returns-then-not-heard-clause-told c = λ w q older rows k route keeps below byte now set_up none party stands.
     let few : length older < 2 ^ 64 - 1 = omega (arith, below) in
     let answer : List ℕ = c.args.answer.now in
     let turn = answers_in_turn k route answer none in
@@ -135,7 +135,7 @@ returns-in_ok-take-then-not-heard-clause-told c = λ w q older rows k route keep
     let message = c.behind_type-message.ensures ∙ ap (drop 1) body in
     let reply = c.behind_type-reply.ensures in
     let code = c.byte_at-code.ensures ∙ ap code_of message in
-    let free : has_free_length (code_of (drop 1 turn.round.body)) ≡ true = ap has_free_length (sym code) ∙ sym c.has_free_length.ensures ∙ is_true c.has_free_length.result c.if-not-has_free_length.false in
+    let free : has_free_length (code_of (drop 1 turn.round.body)) ≡ true = ap has_free_length (sym code) ∙ sym c.has_free_length.ensures ∙ c.if-not-has_free_length.false in
     let limits = kept_limits q k c.args.party.now.asker party.asker in
     let idle : asks_upon k route.tag answer ≡ false = ap (λ (n : ℕ). asks_upon k n answer) (sym turn.answers.1 ∙ tag) ∙ sym fetches ∙ is_false c.hears-heard.result.fetches c.if-not-heard.true in
     let type = here.type in
@@ -204,16 +204,16 @@ returns-clause-told c = λ w q older rows k route keeps below byte now set_up no
     let left = c.leave_handshake.ensures r k.responder standing (omega (arith, small)) in
     let left_is = left_here w q older k route answer byte limits carries turn type large exchange left.0 is left.1 in
     let fewer = left_few exchange k.responder left.0 left.1 in
-    let views = c.change-change.ensures.views r left.0 left.2 (omega (arith, small, fewer)) in
-    let change = begun_change w q older k route answer byte limits carries turn type large c.answer_accepts.ensures c.large_answer_changes.ensures c.change-change.result left.0 left_is c.change-change.ensures.begun (c.change-change.ensures.accepted ∙ sym accepts) c.change-change.ensures.taken c.change-change.ensures.asked views in
+    let views = c.change-change-2.ensures.views r left.0 left.2 (omega (arith, small, fewer)) in
+    let change = begun_change w q older k route answer byte limits carries turn type large c.answer_accepts.ensures c.large_answer_changes.ensures c.change-change-2.result left.0 left_is c.change-change-2.ensures.begun (c.change-change-2.ensures.accepted ∙ sym accepts) c.change-change-2.ensures.taken c.change-change-2.ensures.asked views in
     let step = begun_step w q older k route answer byte limits carries turn type large c.answer_accepts.ensures c.large_answer_changes.ensures accepts in
     let number = party.number ∙ ap (λ (s : ReqSetup). number_from 1 s.eid w.requesters) (sym party.asker.setup) in
-    let it = c.in_ok-take.was in
-    let table = subst (λ (x : Result Unit OutOfMemory). OnOk x (rows_of.StandsForRows c.take.new.self w (length older + 1) (rows_between (restored k) (restored f.kept) rows))) it
-    (c.take.ensures.table w (length older) (restored k) (restored f.kept) rows change step few number stands party.places) in
-    let places = subst (λ (x : Result Unit OutOfMemory). OnOk x (rows_of.StandFor c.take.new.places (restored f.kept) (rows_between (restored k) (restored f.kept) rows))) it
-    (c.take.ensures.places w (length older) (restored k) (restored f.kept) rows change step stands party.places) in
-    let new : Party = record c.args.party.now { asker = c.hears-heard.new.self; answerer = record c.tells_large.new.self { connection = c.leave_handshake.new.connection }; places = c.take.new.places } in
+    let it = c.in_ok-take-2.was in
+    let table = subst (λ (x : Result Unit OutOfMemory). OnOk x (rows_of.StandsForRows c.take-2.new.self w (length older + 1) (rows_between (restored k) (restored f.kept) rows))) it
+    (c.take-2.ensures.table w (length older) (restored k) (restored f.kept) rows change step few number stands party.places) in
+    let places = subst (λ (x : Result Unit OutOfMemory). OnOk x (rows_of.StandFor c.take-2.new.places (restored f.kept) (rows_between (restored k) (restored f.kept) rows))) it
+    (c.take-2.ensures.places w (length older) (restored k) (restored f.kept) rows change step stands party.places) in
+    let new : Party = record c.args.party.now { asker = c.hears-heard.new.self; answerer = record c.tells_large.new.self { connection = c.leave_handshake.new.connection }; places = c.take-2.new.places } in
     let asker = subst (λ (n : ℕ). IsAsker c.hears-heard.new.self q (heard_kept k (behind w q older k route answer byte limits carries turn type large) n turn.round answer)) (sym tag ∙ turn.answers.1)
     (c.hears-heard.ensures.kept w q older k (behind w q older k route answer byte limits carries turn type large) turn.round carries below turn.answers.0 tag party.asker) in
     (f, begins w q older k route answer byte limits carries turn type large asks, held_begun w q older k route answer byte limits carries turn type large rows new held from standing.sizes left.0 exchange is left.1 left.2 asker party.keys party.number places, table)

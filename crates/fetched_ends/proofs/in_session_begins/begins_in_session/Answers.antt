@@ -179,8 +179,8 @@ returns-then-not-heard-clause-told c = λ w q older rows k route keeps below byt
     let idle = sym (ap (λ (n : ℕ). asks_upon k n answer) turn.answers.1) ∙ sym fetches ∙ not-true _ c.if-not-heard.true in
     goes_unfetched w q older k route answer byte limits carries turn type will shown op prepared.asks six prepared.wide rows last c.take-in-Some-Large.new.self keeps idle asker forgotten keys number stand table
 
-pub returns-in_ok-take-in-Some-Large-clause-told : goal.returns-in_ok-take-in-Some-Large-clause-told
-returns-in_ok-take-in-Some-Large-clause-told c = λ w q older rows k route keeps below byte now set_up none party stands.
+pub returns-else-not-heard-clause-told : goal.returns-else-not-heard-clause-told
+returns-else-not-heard-clause-told c = λ w q older rows k route keeps below byte now set_up none party stands.
     let few : length older < 2 ^ 64 - 1 = omega (arith, below) in
     let carries = keeps_carries w q older k keeps in
     let answer : List ℕ = c.args.answer.now in
