@@ -53,6 +53,7 @@ pub mod FetchedReplied
 pub mod EndsReplied
 pub mod EndsStay
 pub mod BegunStands
+pub mod BegunUnfetched
 pub mod BegunChanges
 pub mod LengthsIn
 pub mod BegunTold
@@ -83,6 +84,8 @@ pub mod HeldTurns
 pub mod HeldSettled
 pub mod GetsGiven
 pub mod HeldBegun
+pub mod LargeAccepts
+pub mod BegunPassed
 pub mod VersionRound
 pub mod VersionHeard
 pub mod VersionGone
@@ -102,3 +105,4 @@ pub mod LastRound
 pub mod LastEnds
 pub mod LastRefused
 pub mod LastAlike
+pub mod RefusedAgain

@@ -12,3 +12,4 @@ pub mod BegunIn
 pub mod BegunHeld
 pub mod JudgedEnds
 pub mod LastHeld
+pub mod RefusedAgain

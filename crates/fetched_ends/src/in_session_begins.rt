@@ -40,8 +40,9 @@ pub enum BegunIn {
 /// An answer of at most 4,161 bytes came whole, in order behind this round, while nothing is fetched: a fetch
 /// begins by it in a session, and the table of sessions goes on; or it is told how it goes on otherwise, or why
 /// it is refused. Where the request is none of a session whose answer may go by chunks, or the answer is in the
-/// clear, nothing is told. Nothing is said of what is kept where the answer is a part of a large one that is not
-/// fetched, and where it is refused.
+/// clear, nothing is told. LargeResponse upon which the requester asks for no chunk goes on, and its answer is
+/// never seen. Nothing is said of what is kept where the answer is refused, and where it is a part of a large
+/// one: LargeResponse again, or a last chunk.
 pub fn begins_in_session(
     party: &mut Party,
     table: &mut SessionTable,
@@ -90,11 +91,12 @@ pub fn begins_in_session(
         }
         Some(Given::Large) => {
             let heard = party.go_on(round, Some(key), answer, false);
-            if !heard.fetches {
-                return Ok(BegunIn::Told(Ok(Onward::Large)));
-            }
             let change = party.change(None, heard.accepted, taken);
             table.take(&mut party.places, party.number, &change)?;
+            if !heard.fetches {
+                party.answerer.connection.forget_in(fetched.id);
+                return Ok(BegunIn::Told(Ok(Onward::Kept)));
+            }
             Ok(BegunIn::Fetching(fetched))
         }
         Some(Given::Last) => Ok(BegunIn::Told(Ok(Onward::Large))),

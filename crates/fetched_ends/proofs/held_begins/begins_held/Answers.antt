@@ -1,4 +1,4 @@
-use Rattle.std.proofs.Common.{◌≡◌, ◌≤◌, ◌==◌, ◌-◌, ◌^◌, ◌<◌, ◌+◌, ◌∙◌, refl, sym, ap, subst, length, arith, drop, List, ℕ, Bool, true, false, None, Result, cond}
+use Rattle.std.proofs.Common.{◌≡◌, ◌≤◌, ◌==◌, ◌-◌, ◌^◌, ◌<◌, ◌+◌, ◌∙◌, refl, sym, ap, subst, length, arith, drop, List, ◌∷◌, ℕ, Bool, true, false, Some, None, Result, cond}
 use Rattle.std.specs.Prelude.{OnOk, not, slice_index}
 use Rattle.spdm_basis.specs.declared.OutOfMemory.{OutOfMemory}
 use Rattle.capture_ends.proofs.CarriedBy.{keeps_carries}
@@ -10,6 +10,7 @@ use Rattle.capture_ends.specs.HeardKept.{asks_upon, heard_kept}
 use Rattle.capture_ends.specs.declared.party.Party.{Party}
 use Rattle.capture_laws.proofs.KeptAnswers.{kept_is_restored}
 use Rattle.capture_laws.specs.Keeping.{Keeps, Kept, restored}
+use Rattle.capture_laws.specs.Changes.{views_in}
 use Rattle.capture_laws.specs.KeptChanges.{accepted_from}
 use Rattle.capture_laws.specs.Order.{body_in, tag_in}
 use Rattle.capture_laws.specs.RepliesShown.{responder_for}
@@ -17,14 +18,23 @@ use Rattle.capture_laws.specs.Rows as rows_of
 use Rattle.fetched_answers.proofs.RestQuiet.{none_pends_in_clear}
 use Rattle.fetched_ends.proofs.AskedAccepts.{asked_accepts_none}
 use Rattle.fetched_ends.proofs.BegunHeldTold.{not_large, sealed_answer, sealed_request, told_large, told_none, unfetched}
+use Rattle.fetched_ends.proofs.BegunPassed.{accepts_none, left_turn, passed, passed_change, passed_stands, passes, turn_is, unseen_turn}
 use Rattle.fetched_ends.proofs.HeldBegins.{begins, behind, next}
 use Rattle.fetched_ends.proofs.HeldBegun.{begun_change, begun_step, few_asked, few_given, held_begun, left_few, left_here}
 use Rattle.fetched_ends.specs.AskedInClear.{IsExchangeBy, chunk_at}
+use Rattle.fetched_ends.specs.BegunHeld.{has_free_length}
 use Rattle.fetched_ends.specs.HeldFrom.{IsHeldFrom}
 use Rattle.requester_machine.specs.Setup.{ReqSetup}
+use Rattle.connection.specs.Connected as connected
+use Rattle.connection.specs.UnseenRequests.{IsTurnOf}
 use Rattle.responder_machine.specs.History.{clear_turns}
+use Rattle.responder_machine.specs.History.Entry.{Clear}
 use Rattle.responder_machine.specs.Place.{clear_place, place_terms}
-use Rattle.responder_machine.specs.Refusal.{has_pending}
+use Rattle.responder_machine.specs.Refusal.{code_of, has_pending}
+use Rattle.responder_machine.specs.Turn.{takes}
+use Rattle.spdm_grammar.specs.declared.names.request_code.TheConstants.{PSK_EXCHANGE}
+use Rattle.std.proofs.lemmas.Option.{same_Some}
+use Rattle.world_machine.specs.Rounds.{Round, no_draw}
 use Rattle.spdm_grammar.specs.declared.names.response_code.TheConstants.{CHUNK_SEND_ACK}
 use Rattle.world_machine.specs.SessionTable.{number_from, rows_between}
 use Rattle.world_machine.specs.Setup.{Configuration}
@@ -80,6 +90,30 @@ returns-then-not-tells_large-clause-told c = λ w q older rows k route keeps bel
     (c.tag-tag.ensures ∙ ap tag_in at) (c.behind_type-message.ensures ∙ ap (drop 1) body) c.behind_type-reply.ensures c.tells_large.result told c.if-not-tells_large.true)
     (record { asker = party.asker; answerer = c.tells_large.ensures.stands r k.responder party.answerer; keys = party.keys; number = party.number; places = party.places }) refl
 
+pub returns-then-not-has_free_length-clause-told : goal.returns-then-not-has_free_length-clause-told
+returns-then-not-has_free_length-clause-told c = λ w q older rows k route keeps below byte now set_up none party stands.
+    let few : length older < 2 ^ 64 - 1 = omega (arith, below) in
+    let answer : List ℕ = c.args.answer.now in
+    let turn = answers_in_turn k route answer none in
+    let at = now ∙ turn.answers.0 in
+    let body = c.body-body.ensures ∙ ap body_in at in
+    let r = responder_for w k in
+    let carries = keeps_carries w q older k keeps in
+    let small = few_messages w q older k carries few in
+    let table = c.args.table.now in
+    let told = c.tells_large.ensures.told r k.responder set_up party.answerer (idle w q older k keeps) small in
+    let new : Party = record c.args.party.now { asker = c.hears-heard.new.self; answerer = c.tells_large.new.self } in
+    let here =
+    told_large w q older rows k route answer turn new table table (sym (ap (λ (l : List ℕ). slice_index l 0) body) ∙ sym c.byte_at.ensures ∙ c.if-byte_at-ne-CLEAR.false) (sym c.byte_at-2.ensures ∙ c.if-byte_at-ne-CLEAR-2.false) c.tag-tag.result c.behind_type-message.result.now c.behind_type-reply.result.now
+    (c.tag-tag.ensures ∙ ap tag_in at) (c.behind_type-message.ensures ∙ ap (drop 1) body) c.behind_type-reply.ensures c.tells_large.result told c.if-not-tells_large.false in
+    let tag : turn.round.tag ≡ c.tag-tag.result = sym (c.tag-tag.ensures ∙ ap tag_in at) in
+    let fetches = c.hears-heard.ensures.fetches w q older k turn.round carries below turn.answers.0 tag party.asker (sym (kept_asks_none w q older k keeps)) in
+    let message = c.behind_type-message.ensures ∙ ap (drop 1) body in
+    let code = c.byte_at-code.ensures ∙ ap code_of message in
+    let other : has_free_length (code_of (drop 1 turn.round.body)) ≡ false = ap has_free_length (sym code) ∙ sym c.has_free_length.ensures ∙ c.if-not-has_free_length.true in
+    unfetched w q older rows k route answer turn new table table here (ap (λ (n : ℕ). asks_upon k n answer) (sym turn.answers.1 ∙ tag) ∙ sym fetches ∙ is_false c.hears-heard.result.fetches c.if-not-heard.true)
+    (λ round one. subst (λ (x : Round). has_free_length (code_of (drop 1 x.body)) ≡ false) (same_Some turn.round round (sym turn.answers.0 ∙ one)) other) refl
+
 pub returns-then-not-heard-clause-told : goal.returns-then-not-heard-clause-told
 returns-then-not-heard-clause-told c = λ w q older rows k route keeps below byte now set_up none party stands.
     let few : length older < 2 ^ 64 - 1 = omega (arith, below) in
@@ -98,7 +132,39 @@ returns-then-not-heard-clause-told c = λ w q older rows k route keeps below byt
     (c.tag-tag.ensures ∙ ap tag_in at) (c.behind_type-message.ensures ∙ ap (drop 1) body) c.behind_type-reply.ensures c.tells_large.result told c.if-not-tells_large.false in
     let tag : turn.round.tag ≡ c.tag-tag.result = sym (c.tag-tag.ensures ∙ ap tag_in at) in
     let fetches = c.hears-heard.ensures.fetches w q older k turn.round carries below turn.answers.0 tag party.asker (sym (kept_asks_none w q older k keeps)) in
-    unfetched w q older rows k route answer turn new table table here (ap (λ (n : ℕ). asks_upon k n answer) (sym turn.answers.1 ∙ tag) ∙ sym fetches ∙ is_false c.hears-heard.result.fetches c.if-not-heard.true) refl
+    let message = c.behind_type-message.ensures ∙ ap (drop 1) body in
+    let reply = c.behind_type-reply.ensures in
+    let code = c.byte_at-code.ensures ∙ ap code_of message in
+    let free : has_free_length (code_of (drop 1 turn.round.body)) ≡ true = ap has_free_length (sym code) ∙ sym c.has_free_length.ensures ∙ c.if-not-has_free_length.false in
+    let limits = kept_limits q k c.args.party.now.asker party.asker in
+    let idle : asks_upon k route.tag answer ≡ false = ap (λ (n : ℕ). asks_upon k n answer) (sym turn.answers.1 ∙ tag) ∙ sym fetches ∙ is_false c.hears-heard.result.fetches c.if-not-heard.true in
+    let type = here.type in
+    let large = here.large in
+    let f = next w q older k route answer byte limits carries turn type large in
+    let t = left_turn w q older k route answer byte limits carries turn type large free in
+    let standing = c.tells_large.ensures.stands r k.responder party.answerer in
+    let asked_few = subst (λ (l : List ℕ). length l ≤ 4096) (sym message) (few_asked w q older k route answer byte limits carries turn type large set_up.ordered set_up.most) in
+    let given_few = subst (λ (l : List ℕ). length l ≤ 4096) (sym reply) (few_given w q older k route answer byte limits carries turn type large) in
+    let its = turn_is w q older k route answer byte limits carries turn type large free in
+    let exchange : takes PSK_EXCHANGE t ≡ (c.byte_at-code.result == PSK_EXCHANGE) = its.exchange ∙ ap (λ (n : ℕ). n == PSK_EXCHANGE) (sym code) in
+    let is_turn : IsTurnOf t c.behind_type-message.result.now c.behind_type-reply.result.now (c.byte_at-code.result == PSK_EXCHANGE) = record { message = its.message ∙ sym message; reply = its.reply ∙ sym reply; exchange = exchange } in
+    let left = c.pass_unseen.ensures r k.responder t no_draw asked_few given_few (unseen_turn w q older k route answer byte limits carries turn type large free) is_turn standing in
+    let stood = subst (λ (n : ℕ). connected.StandsFor c.pass_unseen.new.self r (Clear n t no_draw ∷ k.responder)) (sym tag) left in
+    let views = c.change-change.ensures.views r (Clear turn.round.tag t no_draw ∷ k.responder) stood (omega (arith, small)) in
+    let there = passed w q older k route answer byte limits carries turn type large free in
+    let accepts : accepted_from k turn.round.tag answer ≡ None = accepts_none w q older k route answer byte limits carries turn type large free (kept_asks_none w q older k keeps) in
+    let change = passed_change w q older k route answer byte limits carries turn type large free c.answer_accepts.ensures c.large_answer_changes.ensures c.change-change.result c.change-change.ensures.begun (c.change-change.ensures.accepted ∙ sym accepts) c.change-change.ensures.taken c.change-change.ensures.asked (views ∙ ap views_in (sym there.added)) in
+    let step = begun_step w q older k route answer byte limits carries turn type large c.answer_accepts.ensures c.large_answer_changes.ensures accepts in
+    let number = party.number ∙ ap (λ (s : ReqSetup). number_from 1 s.eid w.requesters) (sym party.asker.setup) in
+    let it = c.in_ok-take.was in
+    let entries = subst (λ (x : Result Unit OutOfMemory). OnOk x (rows_of.StandsForRows c.take.new.self w (length older + 1) (rows_between (restored k) (restored f.kept) rows))) it
+    (c.take.ensures.table w (length older) (restored k) (restored f.kept) rows change step few number stands party.places) in
+    let places = subst (λ (x : Result Unit OutOfMemory). OnOk x (rows_of.StandFor c.take.new.places (restored f.kept) (rows_between (restored k) (restored f.kept) rows))) it
+    (c.take.ensures.places w (length older) (restored k) (restored f.kept) rows change step stands party.places) in
+    let last : Party = record c.args.party.now { asker = c.hears-heard.new.self; answerer = record c.tells_large.new.self { connection = c.pass_unseen.new.self }; places = c.take.new.places } in
+    let asker = subst (λ (n : ℕ). IsAsker c.hears-heard.new.self q (heard_kept k (behind w q older k route answer byte limits carries turn type large) n turn.round answer)) (sym tag ∙ turn.answers.1)
+    (c.hears-heard.ensures.kept w q older k (behind w q older k route answer byte limits carries turn type large) turn.round carries below turn.answers.0 tag party.asker) in
+    (f.kept, passes w q older k route answer byte limits carries turn type large free keeps idle, passed_stands w q older k route answer byte limits carries turn type large free rows last c.take.new.self asker stood party.keys party.number places entries)
 
 pub returns-clause-told : goal.returns-clause-told
 returns-clause-told c = λ w q older rows k route keeps below byte now set_up none party stands.
@@ -138,16 +204,16 @@ returns-clause-told c = λ w q older rows k route keeps below byte now set_up no
     let left = c.leave_handshake.ensures r k.responder standing (omega (arith, small)) in
     let left_is = left_here w q older k route answer byte limits carries turn type large exchange left.0 is left.1 in
     let fewer = left_few exchange k.responder left.0 left.1 in
-    let views = c.change-change.ensures.views r left.0 left.2 (omega (arith, small, fewer)) in
-    let change = begun_change w q older k route answer byte limits carries turn type large c.answer_accepts.ensures c.large_answer_changes.ensures c.change-change.result left.0 left_is c.change-change.ensures.begun (c.change-change.ensures.accepted ∙ sym accepts) c.change-change.ensures.taken c.change-change.ensures.asked views in
+    let views = c.change-change-2.ensures.views r left.0 left.2 (omega (arith, small, fewer)) in
+    let change = begun_change w q older k route answer byte limits carries turn type large c.answer_accepts.ensures c.large_answer_changes.ensures c.change-change-2.result left.0 left_is c.change-change-2.ensures.begun (c.change-change-2.ensures.accepted ∙ sym accepts) c.change-change-2.ensures.taken c.change-change-2.ensures.asked views in
     let step = begun_step w q older k route answer byte limits carries turn type large c.answer_accepts.ensures c.large_answer_changes.ensures accepts in
     let number = party.number ∙ ap (λ (s : ReqSetup). number_from 1 s.eid w.requesters) (sym party.asker.setup) in
-    let it = c.in_ok-take.was in
-    let table = subst (λ (x : Result Unit OutOfMemory). OnOk x (rows_of.StandsForRows c.take.new.self w (length older + 1) (rows_between (restored k) (restored f.kept) rows))) it
-    (c.take.ensures.table w (length older) (restored k) (restored f.kept) rows change step few number stands party.places) in
-    let places = subst (λ (x : Result Unit OutOfMemory). OnOk x (rows_of.StandFor c.take.new.places (restored f.kept) (rows_between (restored k) (restored f.kept) rows))) it
-    (c.take.ensures.places w (length older) (restored k) (restored f.kept) rows change step stands party.places) in
-    let new : Party = record c.args.party.now { asker = c.hears-heard.new.self; answerer = record c.tells_large.new.self { connection = c.leave_handshake.new.connection }; places = c.take.new.places } in
+    let it = c.in_ok-take-2.was in
+    let table = subst (λ (x : Result Unit OutOfMemory). OnOk x (rows_of.StandsForRows c.take-2.new.self w (length older + 1) (rows_between (restored k) (restored f.kept) rows))) it
+    (c.take-2.ensures.table w (length older) (restored k) (restored f.kept) rows change step few number stands party.places) in
+    let places = subst (λ (x : Result Unit OutOfMemory). OnOk x (rows_of.StandFor c.take-2.new.places (restored f.kept) (rows_between (restored k) (restored f.kept) rows))) it
+    (c.take-2.ensures.places w (length older) (restored k) (restored f.kept) rows change step stands party.places) in
+    let new : Party = record c.args.party.now { asker = c.hears-heard.new.self; answerer = record c.tells_large.new.self { connection = c.leave_handshake.new.connection }; places = c.take-2.new.places } in
     let asker = subst (λ (n : ℕ). IsAsker c.hears-heard.new.self q (heard_kept k (behind w q older k route answer byte limits carries turn type large) n turn.round answer)) (sym tag ∙ turn.answers.1)
     (c.hears-heard.ensures.kept w q older k (behind w q older k route answer byte limits carries turn type large) turn.round carries below turn.answers.0 tag party.asker) in
     (f, begins w q older k route answer byte limits carries turn type large asks, held_begun w q older k route answer byte limits carries turn type large rows new held from standing.sizes left.0 exchange is left.1 left.2 asker party.keys party.number places, table)

@@ -37,6 +37,7 @@ use Rattle.fetched_ends.proofs.BegunChanges.{begun_change, begun_step}
 use Rattle.fetched_ends.proofs.BegunGiven.{behind_is, given_is, given_never, never_apart, none_begun, own_record}
 use Rattle.fetched_ends.proofs.BegunStands.{begun_stands}
 use Rattle.fetched_ends.proofs.BegunTold.{adds_there, behind_large, few_begun}
+use Rattle.fetched_ends.proofs.BegunUnfetched.{forgot, goes_unfetched, large_there, measures_there}
 use Rattle.fetched_ends.proofs.in_session_begins.begins_in_session.Goals as goal
 use Rattle.fetched_ends.specs.Prepared.{IsPrepared}
 
@@ -138,10 +139,48 @@ returns-then-not-heard-clause-told c = λ w q older rows k route keeps below byt
     let is = c.in-Some-Large.is ∙ ap Some c.in-Some-Large.field-0-is in
     let shown = told.large.0 is in
     let fetches = c.go_on-heard-in-Some-Large.ensures.fetches w q older k turn.round carries below turn.answers.0 at party.asker (sym (kept_asks_none w q older k keeps)) in
-    is_part w q older k route answer byte limits keeps turn rows c.go_on-heard-in-Some-Large.new.self c.args.table.now (inl shown)
+    let op = c.in-Some.fetched.op in
+    let prepared = subst (λ (m : List ℕ). IsPrepared r h m c.in-Some.fetched) request (c.in-Some.ensures r h set_up party.answerer) in
+    let coming = subst (λ (b : List ℕ). IsComingKey r h b (Some c.in-Some-coming_key.key)) c.body-body.ensures (c.in-Some-coming_key.ensures.key r h first small) in
+    let own = subst (λ (b : List ℕ). IsComingKey r h b (Some c.in-Some-coming_key.key)) (ap body_in at) coming in
+    let will = own.0 in
+    let six = own_record w q older k route answer carries turn type sealed in
+    let then = next w q older k route answer byte limits carries turn type will shown op prepared.asks in
+    let e = begun w q older k route answer byte limits carries turn type will shown op prepared.asks in
+    let there = behind_is w q older k route answer carries turn type sealed c.answers_record.new.self c.behind_type-request.result.now given.Large request
+    (subst (λ (x : Option Given). IfSome x (λ (y : Given). IsAnswerer c.answers_record.new.self r (history_behind r h turn.round.tag (record_body c.behind_type-request.result.now) answer y))) is (c.answers_record.ensures.stands r h turn.round.tag set_up second small)) in
+    let behind = behind_large w q older k route answer byte limits carries turn type will shown op prepared.asks c.answers_record.new.self there in
+    let new = c.go_on-heard-in-Some-Large.new.self in
+    let answerer = subst (λ (x : Answerer). IsAnswerer x r (e ∷ h)) (sym c.go_on-heard-in-Some-Large.ensures.answerer) behind in
+    let adds = adds_there w q older k route answer byte limits carries turn type will shown op prepared.asks c.args.round.now at in
+    let keys = subst (StandFor new.keys r) adds (c.go_on-heard-in-Some-Large.ensures.keys r h [] (f0 r h turn.round.tag turn.round.body answer type will shown) no_draw party.keys coming
+    (subst (IsAnswerer c.answers_record.new.self r) (sym adds) behind)) in
+    let asker = subst (λ (n : ℕ). IsAsker new.asker q (heard_kept k (unseen e ∷ h) n turn.round answer)) turn.answers.1
+    (c.go_on-heard-in-Some-Large.ensures.asker w q older k (unseen e ∷ h) turn.round carries below turn.answers.0 at party.asker) in
+    let change = begun_change w q older k route answer byte limits carries turn type will shown op prepared.asks six prepared.wide sealed c.answer_accepts.ensures c.large_answer_changes.ensures c.change-change-in-Some-Large.result
+    c.change-change-in-Some-Large.ensures.begun
+    (c.change-change-in-Some-Large.ensures.accepted ∙ c.go_on-heard-in-Some-Large.ensures.accepted w q older k turn.round carries few turn.answers.0 at party.asker)
+    (c.change-change-in-Some-Large.ensures.taken ∙ c.taken-taken.ensures r h second ∙ ap (λ (b : List ℕ). taken_shown h b answer) body)
+    c.change-change-in-Some-Large.ensures.asked
+    (c.change-change-in-Some-Large.ensures.views r (e ∷ h) answerer (few_begun w q older k route answer byte limits carries turn type will shown op prepared.asks small)) in
+    let step = begun_step w q older k route answer byte limits carries turn type will shown op prepared.asks six prepared.wide sealed c.answer_accepts.ensures c.large_answer_changes.ensures in
+    let number = c.go_on-heard-in-Some-Large.ensures.number ∙ party.number in
+    let its = number ∙ ap (λ (s : ReqSetup). number_from 1 s.eid w.requesters) (sym party.asker.setup) in
+    let places = subst (λ (x : Places). rows_of.StandFor x (restored k) rows) (sym c.go_on-heard-in-Some-Large.ensures.places) party.places in
+    let it = c.in_ok-take-in-Some-Large.was in
+    let table = subst (λ (x : Result Unit OutOfMemory). OnOk x (rows_of.StandsForRows c.take-in-Some-Large.new.self w (length older + 1) (rows_between (restored k) (restored then.kept) rows))) it
+    (c.take-in-Some-Large.ensures.table w (length older) (restored k) (restored then.kept) rows change step few its stands places) in
+    let stand = subst (λ (x : Result Unit OutOfMemory). OnOk x (rows_of.StandFor c.take-in-Some-Large.new.places (restored then.kept) (rows_between (restored k) (restored then.kept) rows))) it
+    (c.take-in-Some-Large.ensures.places w (length older) (restored k) (restored then.kept) rows change step stands places) in
+    let forgets = c.forget_in.ensures r (e ∷ h) (large_there w q older k route answer byte limits carries turn type will shown op prepared.asks six prepared.wide c.in-Some.fetched.id prepared.id)
+    (measures_there w q older k route answer byte limits carries turn type will shown op prepared.asks six prepared.wide c.in-Some.fetched.id prepared.id) answerer in
+    let forgotten = subst (connected.StandsFor c.forget_in.new.self r) (forgot w q older k route answer byte limits carries turn type will shown op prepared.asks six prepared.wide c.in-Some.fetched.id prepared.id) forgets in
+    let last = record new { answerer = record new.answerer { connection = c.forget_in.new.self }; places = c.take-in-Some-Large.new.places } in
+    let idle = sym (ap (λ (n : ℕ). asks_upon k n answer) turn.answers.1) ∙ sym fetches ∙ not-true _ c.if-not-heard.true in
+    goes_unfetched w q older k route answer byte limits carries turn type will shown op prepared.asks six prepared.wide rows last c.take-in-Some-Large.new.self keeps idle asker forgotten keys number stand table
 
-pub returns-in_ok-take-in-Some-Large-clause-told : goal.returns-in_ok-take-in-Some-Large-clause-told
-returns-in_ok-take-in-Some-Large-clause-told c = λ w q older rows k route keeps below byte now set_up none party stands.
+pub returns-else-not-heard-clause-told : goal.returns-else-not-heard-clause-told
+returns-else-not-heard-clause-told c = λ w q older rows k route keeps below byte now set_up none party stands.
     let few : length older < 2 ^ 64 - 1 = omega (arith, below) in
     let carries = keeps_carries w q older k keeps in
     let answer : List ℕ = c.args.answer.now in

@@ -1,11 +1,13 @@
-use Rattle.std.proofs.Common.{◌≡◌, ◌∙◌, subst, sym, length, List, Option, None, Result, inl}
+use Rattle.std.proofs.Common.{◌≡◌, ◌∙◌, subst, sym, length, List, Option, None, Ok, Result, inl}
 use Rattle.std.specs.Prelude.{IfOk}
 use Rattle.mctp_framing.specs.Gathering.Gathered.{Whole}
 use Rattle.requester_machine.specs.Setup.{ReqSetup}
 use Rattle.responder_machine.specs.Setup.{towards}
 use Rattle.spdm_basis.specs.declared.OutOfMemory.{OutOfMemory}
+use Rattle.capture_ends.proofs.AnswerWalks.{told_on}
 use Rattle.capture_ends.proofs.WalkRows.{walk_round}
 use Rattle.capture_ends.specs.Conversation as conversations
+use Rattle.capture_ends.specs.declared.onward.Onward.TheVariants as onward
 use Rattle.capture_ends.specs.declared.party.Party.{Party}
 use Rattle.capture_laws.proofs.KeptAnswers.{kept_is_restored}
 use Rattle.capture_laws.proofs.PairWalks.{walks_setup}
@@ -14,7 +16,7 @@ use Rattle.capture_laws.specs.Order.{answered_why}
 use Rattle.capture_laws.specs.Rows.{StandsForRows}
 use Rattle.capture_laws.specs.declared.verdict.Seen.{Seen}
 use Rattle.connection.specs.Setup.{IsSetUp}
-use Rattle.fetched_ends.proofs.EndsReplied.{answered_all, begun_on}
+use Rattle.fetched_ends.proofs.EndsReplied.{answered_all, answered_rest, begun_on}
 use Rattle.fetched_ends.proofs.judged_ends.JudgedEnds.begins_clear.Goals as goal
 use Rattle.fetched_ends.specs.BegunHeld.{IsBegunHeld}
 use Rattle.fetched_ends.specs.declared.held_begins.BegunHeld.{BegunHeld}
@@ -43,6 +45,26 @@ returns-in-Not-clause-told c = λ w q older rows packet route at few byte round 
     let entries = subst (λ (t : List Seen). StandsForRows t w (length older) rows) (sym is.2) table in
     answered_all w q older rows packet route answer c.replies.result c.replies.new.self c.args.self.now.fetched c.replies.new.table rest
     (c.replies.ensures.told w q older rows packet route at few byte round set_up why stays entries)
+
+pub returns-in-Passed-clause-told : goal.returns-in-Passed-clause-told
+returns-in-Passed-clause-told c = λ w q older rows packet route at few byte round set_up why rest none stands table.
+    let answer = c.args.answer.now in
+    let talk = c.args.self.now.talk in
+    let there = subst (λ (o : Option LargeRequest). conversations.StandsAs talk.party o w q older rows) none stands in
+    let k = there.0 in
+    let keeps = there.1 in
+    let walk = (kept_is_restored w q older k keeps).0 in
+    let now : c.args.round.now ≡ k.round = round ∙ sym (walk_round w q older (restored k) walk) in
+    let towards_it = subst (λ (s : ReqSetup). IsSetUp c.args.setup.now (towards w.responder (known_of s))) (sym (walks_setup w q older (restored k) walk)) set_up in
+    let right = subst (λ (o : Option Round). answered_why o (Whole route answer) ≡ None) now why in
+    let new = c.begins_held.new.party in
+    let after = c.begins_held.new.table in
+    let begun = subst (λ (x : Result BegunHeld OutOfMemory). IfOk x (λ y. IsBegunHeld w q older rows k route answer y new c.args.table.now after)) c.in_ok-begins_held.was
+    (c.begins_held.ensures.told w q older rows k route keeps few byte now towards_it right there.2 table) in
+    let is = subst (λ (x : BegunHeld). IsBegunHeld w q older rows k route answer x new c.args.table.now after) c.in-Passed.is begun in
+    let told = told_on w q older rows packet route answer at k keeps (Ok onward.Kept) new after is in
+    answered_rest w q older rows packet route answer (Ok onward.Kept) (record talk { party = new }) c.args.self.now.fetched after rest
+    (subst (λ (o : Option LargeRequest). conversations.IsJudgedAnswer w q older rows packet route answer (Ok onward.Kept) new o after) (sym none) told)
 
 pub returns-in-Unfetched-clause-told : goal.returns-in-Unfetched-clause-told
 returns-in-Unfetched-clause-told c = λ w q older rows packet route at few byte round set_up why rest none stands table.
