@@ -101,3 +101,7 @@ pub mod LastRound
 pub mod LastEnds
 pub mod LastRefused
 pub mod LastAlike
+pub mod StepsMoved
+pub mod StepsBegun
+pub mod StepsSessions
+pub mod StepsFew
