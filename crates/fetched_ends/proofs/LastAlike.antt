@@ -68,7 +68,7 @@ turns_same tag transfer handle whole (e ∷ es) n g k given same =
 
 -- ---- CHUNK_GETs leave all but the turns and the kept message.
 
-ended_by : (t : Turn) (rest : _) → takes CHUNK_GET t ≡ true → cond (takes GET_VERSION t || takes PSK_EXCHANGE t) None rest ≡ rest
+ended_by : {A : Type 0} (t : Turn) (rest : Option A) → takes CHUNK_GET t ≡ true → cond (takes GET_VERSION t || takes PSK_EXCHANGE t) None rest ≡ rest
 ended_by t rest gets =
     let others = get_others t gets in
     ap (λ (b : Bool). cond (b || takes PSK_EXCHANGE t) None rest) others.0 ∙ ap (λ (b : Bool). cond b None rest) others.1

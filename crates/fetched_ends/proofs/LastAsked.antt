@@ -1,6 +1,6 @@
 -- CHUNK_GET is always written, and the bytes of the chunks always have room.
 use Rattle.std.proofs.Common.{◌≡◌, ◌≤◌, ◌<◌, ◌+◌, ◌++◌, ◌∙◌, ℕ, List, sym, ap, arith, length, length-append, Result, Ok, Err}
-use Rattle.std.specs.Prelude.{OnErr, OnOk, Unit}
+use Rattle.std.specs.Prelude.{OnErr, OnOk}
 use Rattle.fetched_answers.specs.ClearChunks.{get_message}
 use Rattle.spdm_grammar.specs.declared.names.TheConstants.{MAX_MESSAGE_SIZE}
 

@@ -15,9 +15,9 @@ use Rattle.capture_ends.specs.declared.answer_keys.AnswerKeys.{AnswerKeys}
 use Rattle.capture_ends.specs.declared.answerer.Answerer.{Answerer}
 use Rattle.capture_ends.specs.declared.party.Party.{Party}
 use Rattle.capture_laws.proofs.AnswerSteps.{taken_same}
-use Rattle.capture_laws.proofs.StepsOfWalks.{IsMoved, replies_moved, walks_held}
+use Rattle.fetched_ends.proofs.StepsMoved.{IsMoved, replies_moved, walks_held}
 use Rattle.capture_laws.specs.ChangeLaws.{AnswerAccepts, LastChunkChanges, answered_by, begun_by, begun_by_large}
-use Rattle.capture_laws.specs.Changes.{IsChange, IsStep, accepted_between, answered_between, begun_between, views_in}
+use Rattle.capture_laws.specs.Changes.{IsChange, IsStep, answered_between, begun_between, views_in}
 use Rattle.capture_laws.specs.Keeping.{Kept, restored}
 use Rattle.capture_laws.specs.KeptChanges.{accepted_from}
 use Rattle.capture_laws.specs.RepliesShown.{answered, responder_for}
@@ -69,7 +69,7 @@ use Rattle.world_machine.specs.Setup.{Configuration}
 
 -- ---- Nothing hangs on the room that the responder has to answer in.
 
-pub moved_before : (old new : Answerer) (keys : AnswerKeys) (held : Held) (r : RspSetup) (h : History) → new.connection ≡ old.connection → StandsBefore old keys held r h → StandsBefore new keys held r h
+abbrev pub moved_before : (old new : Answerer) (keys : AnswerKeys) (held : Held) (r : RspSetup) (h : History) → new.connection ≡ old.connection → StandsBefore old keys held r h → StandsBefore new keys held r h
 moved_before old new keys held r h same b = record {
   gets = b.gets;
   turn = b.turn;
@@ -187,10 +187,10 @@ module _ (w : Configuration) (q : ReqSetup) (older : List (List ℕ)) (rows : Li
 
       -- ---- The table.
 
-      abbrev e : Entry
-      e = Clear held.tag t no_draw
+      abbrev asked : Entry
+      asked = Clear held.tag t no_draw
 
-      begins_by : (exchange : Bool) → takes PSK_EXCHANGE t ≡ exchange → begun_by (Adds (seen v e)) ≡ begun_if exchange v
+      begins_by : (exchange : Bool) → takes PSK_EXCHANGE t ≡ exchange → begun_by (Adds (seen v asked)) ≡ begun_if exchange v
       begins_by exchange is =
           ap (λ (x : Bool). at (x && not (length (answer_in (seen_turn v t).effect) == 0)) (id_in_exchange (answer_in (seen_turn v t).effect))) (takes_with v (Some (handle_shown t)) PSK_EXCHANGE t ∙ is)
           ∙ ap (λ (l : List ℕ). at (exchange && not (length l == 0)) (id_in_exchange l)) (answer_seen v (handle_shown t) t.effect kept.before.unseen.0) ∙ by_parts exchange (length v == 0)
@@ -203,7 +203,7 @@ module _ (w : Configuration) (q : ReqSetup) (older : List (List ℕ)) (rows : Li
           by_parts true false = refl
           by_parts false y = refl
 
-      changes : LastChunkChanges → (begun_between (restored k) (restored next) ≡ begun_by (Adds (seen v e))) × (answered_between (restored k) (restored next) ≡ None)
+      changes : LastChunkChanges → (begun_between (restored k) (restored next) ≡ begun_by (Adds (seen v asked))) × (answered_between (restored k) (restored next) ≡ None)
       changes chunks =
           let law = chunks w q older (dialogue_of f v) (restored next) round answer (own.all v stand) turn.answers.0 completes in
           let same : completes.0 ≡ v = sym (same_Some v completes.0 completes.3) in

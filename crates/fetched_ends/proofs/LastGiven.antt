@@ -28,7 +28,7 @@ last_by false handle number told x = refl
 
 -- A chunk shows whether it is the last one.
 pub last_told : (transfer handle : ℕ) (whole : List ℕ) (n : ℕ) → (slice_index (canonical_response (ChunkResponse (nth_chunk transfer handle whole n))) 2 == 1) ≡ (n + 1 == chunk_count transfer whole)
-last_told transfer handle whole n = last_by (n + 1 == chunk_count transfer whole) handle n (cond (n == 0) (Some (length whole)) None) _
+last_told transfer handle whole n = last_by (n + 1 == chunk_count transfer whole) handle n (cond (n == 0) (Some (length whole)) None) (nth_chunk transfer handle whole n).chunk
 
 -- Its bytes are put behind those before.
 chunk_bytes : (transfer handle : ℕ) (whole : List ℕ) (n : ℕ) → bytes_in n (canonical_response (ChunkResponse (nth_chunk transfer handle whole n))) ≡ (nth_chunk transfer 0 whole n).chunk

@@ -10,7 +10,7 @@ use Rattle.capture_ends.specs.declared.answerer.Answerer.{Answerer}
 use Rattle.chunking.specs.Cutting.{chunk_count, unit_of}
 use Rattle.connection.specs.Connected as connected
 use Rattle.connection.specs.declared.connected.Connection.{Connection}
-use Rattle.fetched_answers.specs.LastShown.{IsShownEntry}
+use Rattle.fetched_answers.specs.LastShown.{IsShownEntry, drops_with}
 use Rattle.fetched_ends.proofs.LastBefore.{left_like}
 use Rattle.fetched_ends.proofs.LastGiven.{joined_all}
 use Rattle.fetched_ends.proofs.LastWhole as whole_of
@@ -76,7 +76,7 @@ module _ (seen_as : Answerer) (keys : AnswerKeys) (held : Held) (r : RspSetup) (
       subst (λ (l : List ℕ). connected.StandsFor seen r (with_dropped b.left l)) (whole_of.drops_are r byte b.before b.left held.tag b.turn b.unseen b.left_is b.led whole exchange is) stands
 
   pub few : messages_of b.left ≡ messages_of (left_by b.before b.left (Clear held.tag b.turn no_draw) whole)
-  few = sym (dropped_few _ b.left)
+  few = sym (dropped_few (drops_with b.before (seen whole asked)) b.left)
 
   to_shown : IsShownEntry r b.before (seen whole asked) → To whole
   to_shown = whole_of.shown_to r byte b.before b.left held.tag b.turn b.unseen b.left_is b.led whole
@@ -86,7 +86,7 @@ module _ (seen_as : Answerer) (keys : AnswerKeys) (held : Held) (r : RspSetup) (
 
   -- It is no LargeResponse at these values.
   pub never : (Large → ⊥) → IsLedSo r b.before (Clear held.tag b.turn no_draw) whole led.Other
-  never no = (λ shown. no (to_shown shown).large, λ apart. no (to_other apart).large)
+  never none = (λ shown. none (to_shown shown).large, λ apart. none (to_other apart).large)
 
   -- It is.
   module _ (large : Large) where
@@ -100,7 +100,7 @@ module _ (seen_as : Answerer) (keys : AnswerKeys) (held : Held) (r : RspSetup) (
     short = whole_of.few r byte b.before b.left held.tag b.turn b.unseen b.left_is b.led whole large
 
     same : (other : List ℕ) → To other → bytes ≡ other
-    same other to = whole_of.one r byte b.before b.left held.tag b.turn b.unseen b.left_is b.led whole bytes other leads to
+    same other to = whole_of.same_bytes r byte b.before b.left held.tag b.turn b.unseen b.left_is b.led whole bytes other leads to
 
     -- The connection stands for the request with these bytes.
     pub begun : (seen : Connection) → connected.StandsFor seen r (after (left_by b.before b.left (Clear held.tag b.turn no_draw) whole) (on_clear r (left_by b.before b.left (Clear held.tag b.turn no_draw) whole) held.tag b.turn.message values no_draw))

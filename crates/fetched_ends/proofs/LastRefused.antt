@@ -271,7 +271,7 @@ module _ (w : Configuration) (q : ReqSetup) (older : List (List ℕ)) (rows : Li
   led_not_apart led apart =
       let here = whole_of.shown_to r byte b.before b.left held.tag t b.unseen b.left_is b.led v led in
       let there = whole_of.other_to r byte b.before b.left held.tag t b.unseen b.left_is b.led v apart.other apart.led in
-      self_apart (hash_at b.before) apart.other v (whole_of.one r byte b.before b.left held.tag t b.unseen b.left_is b.led v apart.other v there here) apart.apart
+      self_apart (hash_at b.before) apart.other v (whole_of.same_bytes r byte b.before b.left held.tag t b.unseen b.left_is b.led v apart.other v there here) apart.apart
 
   -- ---- Why it is refused.
 

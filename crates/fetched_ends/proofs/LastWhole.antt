@@ -64,7 +64,7 @@ large_given : (g : History) (e : Entry) → is_large e ≡ true → given_of g (
 large_given g e is = ap (λ (b : Bool). cond b kinds.Large (cond (gives_last g e) kinds.Last kinds.Whole)) is
 
 -- It is no repeat that adds an entry.
-adds_anew : (r : RspSetup) (g : History) (tag : ℕ) (m : List ℕ) (f : Free) (e : Entry) → on_clear r g tag m f no_draw ≡ Adds e → is_repeat (kept_of g) tag m ≡ false
+pub adds_anew : (r : RspSetup) (g : History) (tag : ℕ) (m : List ℕ) (f : Free) (e : Entry) → on_clear r g tag m f no_draw ≡ Adds e → is_repeat (kept_of g) tag m ≡ false
 adds_anew r g tag m f e adds = by_again (is_repeat (kept_of g) tag m) refl
   where
     by_again : (b : Bool) → is_repeat (kept_of g) tag m ≡ b → b ≡ false
@@ -181,11 +181,11 @@ module _ (r : RspSetup) (byte : r.beat < 256) (before left : History) (tag : ℕ
     few = (large_fits r g tag (clear_body m) e big [] may).2
 
   -- To one bytes.
-  pub one : (one other : List ℕ) → LeadsTo one → LeadsTo other → one ≡ other
-  one one other a b =
-      let same : Adds (seen one asked) ≡ Adds (seen other asked) = sym a.adds ∙ b.adds in
-      let entries : seen one asked ≡ seen other asked = cc in
-      sym (answer_seen one (handle_shown t) t.effect asks.0) ∙ ap whole_of entries ∙ answer_seen other (handle_shown t) t.effect asks.0
+  pub same_bytes : (first other : List ℕ) → LeadsTo first → LeadsTo other → first ≡ other
+  same_bytes first other a b =
+      let same : Adds (seen first asked) ≡ Adds (seen other asked) = sym a.adds ∙ b.adds in
+      let entries : seen first asked ≡ seen other asked = cc in
+      sym (answer_seen first (handle_shown t) t.effect asks.0) ∙ ap whole_of entries ∙ answer_seen other (handle_shown t) t.effect asks.0
 
   -- ---- The entry with the bytes.
 

@@ -106,3 +106,7 @@ pub mod LastEnds
 pub mod LastRefused
 pub mod LastAlike
 pub mod RefusedAgain
+pub mod StepsMoved
+pub mod StepsBegun
+pub mod StepsSessions
+pub mod StepsFew

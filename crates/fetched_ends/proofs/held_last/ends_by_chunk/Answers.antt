@@ -35,8 +35,8 @@ use Rattle.world_machine.specs.Rounds.{Dialogue, Round, no_draw}
 use Rattle.world_machine.specs.SessionTable.{number_from, rows_between}
 use Rattle.fetched_ends.proofs.held_last.ends_by_chunk.Goals as goal
 
-pub returns-in_default-filled-clause-told : goal.returns-in_default-filled-clause-told
-returns-in_default-filled-clause-told c = λ w q older rows f route of own below byte now is version shows set_up none kept stands.
+pub returns-in_default-clause-told : goal.returns-in_default-clause-told
+returns-in_default-clause-told c = λ w q older rows f route of own below byte now is version shows set_up none kept stands.
     let answer : List ℕ = c.args.answer.now in
     let party = c.args.party.now in
     let held = c.args.held.now in
@@ -53,7 +53,7 @@ returns-in_default-filled-clause-told c = λ w q older rows f route of own below
     let moved = moved_before party.answerer c.reply_why-why.new.self party.keys held r f.kept.responder c.reply_why-why.ensures.same b in
     let d : Dialogue = record (restored f.kept) { responder = b.left } in
     let why = c.reply_why-why.ensures.told r d turn.round b.stands small b.keys (sym body) in
-    absurd (c.in_default-filled.ensures (subst (AreHeldFitting held) (sym c.behind_type.ensures) told.1.fits))
+    absurd (c.in_default.ensures (subst (AreHeldFitting held) (sym c.behind_type.ensures) told.1.fits))
 
 pub returns-in-Apart-clause-told : goal.returns-in-Apart-clause-told
 returns-in-Apart-clause-told c = λ w q older rows f route of own below byte now is version shows set_up none kept stands.
@@ -75,7 +75,7 @@ returns-in-Apart-clause-told c = λ w q older rows f route of own below byte now
     let why = c.reply_why-why.ensures.told r d turn.round b.stands small b.keys (sym body) in
     let limits = subst IsSetUp (sym kept.beside.asker.setup) kept.beside.asker.kept.limits in
     let asked : Entry = Clear held.tag b.turn no_draw in
-    let fills : c.as_slice.result.now ≡ filled_with held answer = c.as_slice.ensures.value ∙ c.in-Some-filled.ensures.1 ∙ ap (λ (l : List ℕ). filled held.answer.number held.answer.size held.answer.bytes l) c.behind_type.ensures in
+    let fills : c.as_slice.result.now ≡ filled_with held answer = c.as_slice.ensures.value ∙ c.in-Some.ensures.1 ∙ ap (λ (l : List ℕ). filled held.answer.number held.answer.size held.answer.bytes l) c.behind_type.ensures in
     let handle : c.byte_at.result ≡ slice_index turn.round.body 4 = c.byte_at.ensures ∙ ap (λ (l : List ℕ). slice_index l 4) body in
     let exchange = c.holds_exchange-exchange.ensures r f.kept.responder party.keys moved in
     let last = is_last w q older rows f own party held kept turn.round turn.answers.0 other told.0 answer told.1 byte in
@@ -107,7 +107,7 @@ returns-in-Other-clause-told c = λ w q older rows f route of own below byte now
     let why = c.reply_why-why.ensures.told r d turn.round b.stands small b.keys (sym body) in
     let limits = subst IsSetUp (sym kept.beside.asker.setup) kept.beside.asker.kept.limits in
     let asked : Entry = Clear held.tag b.turn no_draw in
-    let fills : c.as_slice.result.now ≡ filled_with held answer = c.as_slice.ensures.value ∙ c.in-Some-filled.ensures.1 ∙ ap (λ (l : List ℕ). filled held.answer.number held.answer.size held.answer.bytes l) c.behind_type.ensures in
+    let fills : c.as_slice.result.now ≡ filled_with held answer = c.as_slice.ensures.value ∙ c.in-Some.ensures.1 ∙ ap (λ (l : List ℕ). filled held.answer.number held.answer.size held.answer.bytes l) c.behind_type.ensures in
     let handle : c.byte_at.result ≡ slice_index turn.round.body 4 = c.byte_at.ensures ∙ ap (λ (l : List ℕ). slice_index l 4) body in
     let exchange = c.holds_exchange-exchange.ensures r f.kept.responder party.keys moved in
     let last = is_last w q older rows f own party held kept turn.round turn.answers.0 other told.0 answer told.1 byte in
@@ -139,7 +139,7 @@ returns-then-heard-clause-told c = λ w q older rows f route of own below byte n
     let why = c.reply_why-why.ensures.told r d turn.round b.stands small b.keys (sym body) in
     let limits = subst IsSetUp (sym kept.beside.asker.setup) kept.beside.asker.kept.limits in
     let asked : Entry = Clear held.tag b.turn no_draw in
-    let fills : c.as_slice.result.now ≡ filled_with held answer = c.as_slice.ensures.value ∙ c.in-Some-filled.ensures.1 ∙ ap (λ (l : List ℕ). filled held.answer.number held.answer.size held.answer.bytes l) c.behind_type.ensures in
+    let fills : c.as_slice.result.now ≡ filled_with held answer = c.as_slice.ensures.value ∙ c.in-Some.ensures.1 ∙ ap (λ (l : List ℕ). filled held.answer.number held.answer.size held.answer.bytes l) c.behind_type.ensures in
     let handle : c.byte_at.result ≡ slice_index turn.round.body 4 = c.byte_at.ensures ∙ ap (λ (l : List ℕ). slice_index l 4) body in
     let exchange = c.holds_exchange-exchange.ensures r f.kept.responder party.keys moved in
     let last = is_last w q older rows f own party held kept turn.round turn.answers.0 other told.0 answer told.1 byte in
@@ -174,7 +174,7 @@ returns-clause-told c = λ w q older rows f route of own below byte now is versi
     let why = c.reply_why-why.ensures.told r d turn.round b.stands small b.keys (sym body) in
     let limits = subst IsSetUp (sym kept.beside.asker.setup) kept.beside.asker.kept.limits in
     let asked : Entry = Clear held.tag b.turn no_draw in
-    let fills : c.as_slice.result.now ≡ filled_with held answer = c.as_slice.ensures.value ∙ c.in-Some-filled.ensures.1 ∙ ap (λ (l : List ℕ). filled held.answer.number held.answer.size held.answer.bytes l) c.behind_type.ensures in
+    let fills : c.as_slice.result.now ≡ filled_with held answer = c.as_slice.ensures.value ∙ c.in-Some.ensures.1 ∙ ap (λ (l : List ℕ). filled held.answer.number held.answer.size held.answer.bytes l) c.behind_type.ensures in
     let handle : c.byte_at.result ≡ slice_index turn.round.body 4 = c.byte_at.ensures ∙ ap (λ (l : List ℕ). slice_index l 4) body in
     let exchange = c.holds_exchange-exchange.ensures r f.kept.responder party.keys moved in
     let last = is_last w q older rows f own party held kept turn.round turn.answers.0 other told.0 answer told.1 byte in
@@ -198,7 +198,7 @@ returns-clause-told c = λ w q older rows f route of own below byte now is versi
     let messages = kept_messages w q older f.kept carried in
     let views = c.change-change.ensures.views r f_behind standing (behind_few w q older rows f own party held kept route answer limits turn other told.0 told.1 byte (omega (arith, messages, below))) in
     let accepted = c.change-change.ensures.accepted ∙ c.hears-heard.ensures.accepted w q older f.kept turn.round carried (omega (arith, below)) turn.answers.0 (sym tag) kept.beside.asker ∙ ap (λ (n : ℕ). accepted_from f.kept n answer) tag in
-    let begun = c.change-change.ensures.begun ∙ c.begun_by-begun.ensures ∙ ap (begun_if c.holds_exchange-exchange.result) (c.as_slice-2.ensures.value ∙ c.in-Some-filled.ensures.1 ∙ ap (λ (l : List ℕ). filled held.answer.number held.answer.size held.answer.bytes l) c.behind_type.ensures) in
+    let begun = c.change-change.ensures.begun ∙ c.begun_by-begun.ensures ∙ ap (begun_if c.holds_exchange-exchange.result) (c.as_slice-2.ensures.value ∙ c.in-Some.ensures.1 ∙ ap (λ (l : List ℕ). filled held.answer.number held.answer.size held.answer.bytes l) c.behind_type.ensures) in
     let change = change_last w q older rows f own party held kept route answer limits turn other told.0 told.1 byte so idle c.answer_accepts.ensures c.last_chunk_changes.ensures c.holds_exchange-exchange.result (sym exchange) c.change-change.result begun accepted c.change-change.ensures.taken c.change-change.ensures.asked views in
     let step = step_last w q older rows f own party held kept route answer limits turn other told.0 told.1 byte so idle c.answer_accepts.ensures in
     let number = kept.beside.number ∙ ap (λ (s : ReqSetup). number_from 1 s.eid w.requesters) (sym kept.beside.asker.setup) in

@@ -3,7 +3,7 @@ use Rattle.std.proofs.lemmas.Bool.{false≢true}
 use Rattle.capture_ends.specs.WholeAnswers.{IsLargeAt, clear_shown}
 use Rattle.connection.specs.Connected.{StandsFor}
 use Rattle.fetched_ends.proofs.LastLeads.{anew, begun, bytes, dropped, few, more_other, never, short, stands_all, told}
-use Rattle.fetched_ends.specs.LastHeld.{led_by, left_by}
+use Rattle.fetched_ends.specs.LastHeld.{AreAsked, led_by, left_by}
 use Rattle.responder_machine.specs.History.{Entry, History, kept_of}
 use Rattle.responder_machine.specs.History.Entry.{Clear}
 use Rattle.responder_machine.specs.Responder.{after, is_repeat, on_clear}
@@ -45,8 +45,8 @@ returns-then-not-give_all-clause-told c = λ r h keys b exchange set_up less byt
     let conn = c.leads_to_large.new.self.connection in
     let on = subst (λ (l : List ℕ). StandsFor conn r (after gl (on_clear r gl held.tag l (clear_shown r gl l b.turn.reply whole) no_draw))) m
     (subst (λ (l : List ℕ). StandsFor conn r (after gl (on_clear r gl held.tag c.as_slice-message.result.now (clear_shown r gl c.as_slice-message.result.now l whole) no_draw))) reply goes) in
-    let first = begun c.args.answerer.now keys held r h b byte c.args.tag c.args.handle whole at large conn on in
     let v : List ℕ = bytes c.args.answerer.now keys held r h b byte c.args.tag c.args.handle whole at large in
+    let first = subst (λ (l : List ℕ). AreAsked conn l r (Clear held.tag b.turn no_draw ∷ gl) v c.args.tag c.args.handle 0) (sym c.new-given.ensures) (begun c.args.answerer.now keys held r h b byte c.args.tag c.args.handle whole at large conn on) in
     let can = at.give v (short c.args.answerer.now keys held r h b byte c.args.tag c.args.handle whole at large) in
     let more = c.give_all.ensures.more r (Clear held.tag b.turn no_draw ∷ gl) v set_up can first c.if-not-give_all.true in
     let last = c.number-last.ensures in
@@ -70,8 +70,8 @@ returns-clause-told c = λ r h keys b exchange set_up less byte at.
     let conn = c.leads_to_large.new.self.connection in
     let on = subst (λ (l : List ℕ). StandsFor conn r (after gl (on_clear r gl held.tag l (clear_shown r gl l b.turn.reply whole) no_draw))) m
     (subst (λ (l : List ℕ). StandsFor conn r (after gl (on_clear r gl held.tag c.as_slice-message.result.now (clear_shown r gl c.as_slice-message.result.now l whole) no_draw))) reply goes) in
-    let first = begun c.args.answerer.now keys held r h b byte c.args.tag c.args.handle whole at large conn on in
     let v : List ℕ = bytes c.args.answerer.now keys held r h b byte c.args.tag c.args.handle whole at large in
+    let first = subst (λ (l : List ℕ). AreAsked conn l r (Clear held.tag b.turn no_draw ∷ gl) v c.args.tag c.args.handle 0) (sym c.new-given.ensures) (begun c.args.answerer.now keys held r h b byte c.args.tag c.args.handle whole at large conn on) in
     let can = at.give v (short c.args.answerer.now keys held r h b byte c.args.tag c.args.handle whole at large) in
     let all = c.give_all.ensures.all r (Clear held.tag b.turn no_draw ∷ gl) v set_up can first c.if-not-give_all.false in
     let size = c.size-size.ensures ∙ ap (λ (x : Choice). hash_size x.hash) (c.choice.ensures r b.left b.stands) in
@@ -96,8 +96,8 @@ returns-clause-stands c = λ r h keys b exchange set_up less byte at so.
     let conn = c.leads_to_large.new.self.connection in
     let on = subst (λ (l : List ℕ). StandsFor conn r (after gl (on_clear r gl held.tag l (clear_shown r gl l b.turn.reply whole) no_draw))) m
     (subst (λ (l : List ℕ). StandsFor conn r (after gl (on_clear r gl held.tag c.as_slice-message.result.now (clear_shown r gl c.as_slice-message.result.now l whole) no_draw))) reply goes) in
-    let first = begun c.args.answerer.now keys held r h b byte c.args.tag c.args.handle whole at large conn on in
     let v : List ℕ = bytes c.args.answerer.now keys held r h b byte c.args.tag c.args.handle whole at large in
+    let first = subst (λ (l : List ℕ). AreAsked conn l r (Clear held.tag b.turn no_draw ∷ gl) v c.args.tag c.args.handle 0) (sym c.new-given.ensures) (begun c.args.answerer.now keys held r h b byte c.args.tag c.args.handle whole at large conn on) in
     let can = at.give v (short c.args.answerer.now keys held r h b byte c.args.tag c.args.handle whole at large) in
     let all = c.give_all.ensures.all r (Clear held.tag b.turn no_draw ∷ gl) v set_up can first c.if-not-give_all.false in
     let size = c.size-size.ensures ∙ ap (λ (x : Choice). hash_size x.hash) (c.choice.ensures r b.left b.stands) in
