@@ -4,7 +4,8 @@ The program is the Python package `spdm_reference`, which is no part of this rep
 
     python3 tests/hostile_tables.py
 
-writes the tables of crates/cut_vectors and crates/spdm_cmd/src/hostile_messages/digests.rt anew:
+writes the tables of crates/cut_vectors and crates/spdm_cmd/src/hostile_messages/digests.rt anew, which `rt fmt` then lays
+out:
 
 - each message of a day (tests/scripts/a_users_day.script) but CHUNK_SEND_ACK, whose end is free, each record of it with
   its key and number, and messages of which a length is wrong, with the fault of each;
@@ -347,10 +348,10 @@ def write_digests():
     told_codes, told_lengths, told_cuts = codes(), lengths(), cuts()
     out = ["// Whether messages are small, where the ends stand, the header and the type of a body, and the digest of all traces\n"
            "// behind its 256 codes.\n"
-           "pub const CODES: [(bool, &str, [u8; 5], &str); %d] = [\n" % len(told_codes)]
+           "pub const CODES: [(bool, &str, &[u8], &str); %d] = [\n" % len(told_codes)]
     for is_small, before, head, told in told_codes:
         numbers = ", ".join(str(byte) if byte < 16 else hex(byte) for byte in head)
-        out.append("    (%s, %s, [%s], \"%s\"),\n" % (flag(is_small), text(before), numbers, told))
+        out.append("    (%s, %s, &[%s], \"%s\"),\n" % (flag(is_small), text(before), numbers, told))
     out.append("];\n\n"
                "// Whether messages are small, where the ends stand, a packet, the places and sizes of its length fields, counted from the\n"
                "// beginning of the message, and the digest of all traces behind its variants.\n"
