@@ -1,4 +1,4 @@
-use digests::{CODES, LENGTHS};
+use digests::{CODES, CUTS, LENGTHS};
 use running_hash::RunningHash;
 use spdm_basis::{HashAlg, MemSeeds, MemSink, MemSource};
 use spdm_command::{Outcome, spdm};
@@ -22,20 +22,29 @@ requester 9 64 4096 1024 0 hkc 71 31323334353637383930313233343536 5a5a5a5a5a5a5
 end
 ";
 
-// Takes the trace of a script that shows its ends behind these events, injects a packet, and shows them again.
+// A line of a script that injects a packet.
+fn inject(rt: &impl AllocGlobal, packet: &[u8]) -> Result<String, Fail> {
+    if packet.is_empty() {
+        return Ok(String::from_str(rt.alloc(), "inject -\n")?);
+    }
+    let digits = hex::encode(rt.alloc(), packet)?;
+    Ok(format!(in rt.alloc(); "inject {digits}\n")?)
+}
+
+// Takes the trace of a script that shows its ends behind these events, injects packets, and shows them again.
 fn take(
     rt: &(impl AllocGlobal + Abort),
-    configuration: &str,
+    is_small: bool,
     before: &str,
-    packet: &[u8],
+    injects: &str,
     traces: &mut RunningHash,
 ) -> Result<(), Fail> {
-    let packet = hex::encode(rt.alloc(), packet)?;
-    let script = format!(in rt.alloc(); "{configuration}{before}show\ninject {packet}\nshow\n")?;
+    let configuration = if is_small { SMALL } else { WHOLE };
+    let script = format!(in rt.alloc(); "{configuration}{before}show\n{injects}show\n")?;
     let mut words = Vec::new(rt.alloc());
     words.push(String::from_str(rt.alloc(), "run")?)?;
     let mut source = MemSource::new(rt.alloc(), script.as_bytes(), &[])?;
-    let mut sink = MemSink::new(rt.alloc(), 8192, &[])?;
+    let mut sink = MemSink::new(rt.alloc(), 32768, &[])?;
     let mut seeds = MemSeeds::new(rt.alloc(), &[], &[])?;
     let mut left = None;
     let outcome = spdm(
@@ -62,16 +71,17 @@ fn is_digest(
     Ok(())
 }
 
-// A message of four bytes of each code: a request in each phase of the responder and beside a session in each of its
-// stages, and a response at each place of a requester's life.
+// A message of four bytes of each code: a request in each phase of the responder, beside a session in each of its
+// stages and a large message that is under way, and a response at each place of a requester's life.
 #[test]
 fn messages_of_each_code(rt: HostRuntime) -> Result<(), Fail> {
-    for (before, header, digest) in CODES {
+    for (is_small, before, header, digest) in CODES {
         let mut traces = RunningHash::new(HashAlg::Sha256);
         for code in 0..=255 {
-            let mut packet = Vec::from_slice(rt.alloc(), &header)?;
+            let mut packet = Vec::from_slice(rt.alloc(), header)?;
             packet.extend_from_slice(&[0x12, code, 0, 0])?;
-            take(&rt, WHOLE, before, packet.as_slice(), &mut traces)?;
+            let line = inject(&rt, packet.as_slice())?;
+            take(&rt, is_small, before, line.as_str(), &mut traces)?;
         }
         is_digest(&rt, traces, digest)?;
     }
@@ -112,7 +122,7 @@ fn variants(
 // its body.
 fn take_variants(
     rt: &(impl AllocGlobal + Abort),
-    configuration: &str,
+    is_small: bool,
     before: &str,
     packet: &[u8],
     fields: &[(usize, usize)],
@@ -120,19 +130,36 @@ fn take_variants(
     let mut traces = RunningHash::new(HashAlg::Sha256);
     for (place, size) in fields {
         for variant in variants(rt, packet, place.saturating_add(5), *size)?.iter() {
-            take(rt, configuration, before, variant.as_slice(), &mut traces)?;
+            let line = inject(rt, variant.as_slice())?;
+            take(rt, is_small, before, line.as_str(), &mut traces)?;
         }
     }
     Ok(traces)
 }
 
-// Requests and responses of which one length or count is wrong.
+// Requests, responses and records of which one length or count is wrong.
 #[test]
 fn lengths_that_are_wrong(rt: HostRuntime) -> Result<(), Fail> {
     for (is_small, before, packet, fields, digest) in LENGTHS {
-        let configuration = if is_small { SMALL } else { WHOLE };
         let packet = hex::decode(rt.alloc(), packet)?;
-        let traces = take_variants(&rt, configuration, before, packet.as_slice(), fields)?;
+        let traces = take_variants(&rt, is_small, before, packet.as_slice(), fields)?;
+        is_digest(&rt, traces, digest)?;
+    }
+    Ok(())
+}
+
+// Each packet of a life, at each shorter length.
+#[test]
+fn packets_that_are_cut(rt: HostRuntime) -> Result<(), Fail> {
+    for (is_small, before, packet, digest) in CUTS {
+        let packet = hex::decode(rt.alloc(), packet)?;
+        let mut injects = String::new(rt.alloc());
+        for size in 0..packet.len() {
+            let (cut, _) = packet.as_slice().split_at(size);
+            injects.push_str(inject(&rt, cut)?.as_str())?;
+        }
+        let mut traces = RunningHash::new(HashAlg::Sha256);
+        take(&rt, is_small, before, injects.as_str(), &mut traces)?;
         is_digest(&rt, traces, digest)?;
     }
     Ok(())

@@ -3,6 +3,7 @@ use spdm_basis::{MemSeeds, MemSink, MemSource, Sink, Source, StdinSource, Stdout
 use spdm_command::{Outcome, spdm};
 use std::io;
 use std::io::{Read, Write};
+use std::process::Abort;
 use std::test::Fail;
 
 // The configuration of both ends and of each script.
@@ -114,30 +115,50 @@ fn seed_fails(rt: HostRuntime) -> Result<(), Fail> {
     Ok(())
 }
 
-// Gives its bytes one by one.
+// How many bytes a call moves at most, one count after another and from the first again: no fewer than one.
+#[derive(Drop)]
+struct Counts<'a> {
+    counts: &'a [usize],
+    at: usize,
+}
+
+impl<'a> Counts<'a> {
+    fn next(&mut self) -> usize {
+        if self.at >= self.counts.len() {
+            self.at = 0;
+        }
+        let count = self.counts.get(self.at).copied().unwrap_or(1).max(1);
+        self.at = self.at.saturating_add(1);
+        count
+    }
+}
+
+// Gives its bytes by these counts.
 #[derive(Drop)]
 struct FewIn<'a> {
     bytes: &'a [u8],
+    counts: Counts<'a>,
 }
 
 impl<'a> Read for FewIn<'a> {
     fn read(&mut self, buf: &mut [u8]) -> io::Result<usize> {
-        let count = self.bytes.len().min(buf.len()).min(1);
+        let count = self.bytes.len().min(buf.len()).min(self.counts.next());
         buf[..count].copy_from_slice(&self.bytes[..count]);
         self.bytes = &self.bytes[count..];
         Ok(count)
     }
 }
 
-// Takes up to three bytes a call.
+// Takes bytes by these counts.
 #[derive(Drop)]
 struct FewOut<'a> {
     held: &'a mut Vec<u8>,
+    counts: Counts<'a>,
 }
 
 impl<'a> Write for FewOut<'a> {
     fn write(&mut self, buf: &[u8]) -> io::Result<usize> {
-        let count = buf.len().min(3);
+        let count = buf.len().min(self.counts.next());
         match self.held.extend_from_slice(&buf[..count]) {
             Ok(()) => Ok(count),
             Err(_) => Ok(0),
@@ -149,21 +170,47 @@ impl<'a> Write for FewOut<'a> {
     }
 }
 
-#[test]
-fn calls_that_move_few_bytes(rt: HostRuntime) -> Result<(), Fail> {
-    for (word, behind) in INPUTS {
-        let (_, whole) = fails(&rt, (word, behind), &[], &[], &[])?;
-        let mut input = Vec::from_slice(rt.alloc(), CONFIGURATION)?;
-        input.extend_from_slice(behind)?;
-        let mut source = StdinSource::new(FewIn {
-            bytes: input.as_slice(),
-        });
-        let mut held = Vec::new(rt.alloc());
-        let mut sink = StdoutSink::new(FewOut { held: &mut held });
-        let outcome = outcome(&rt, word, &mut source, &mut sink, &[])?;
-        assert_eq!(rt; outcome, Outcome::Done);
-        drop(sink);
-        assert_eq!(rt; held.as_slice(), whole.as_slice());
+// What a word writes where calls move bytes by these counts.
+fn moved(
+    rt: &(impl AllocGlobal + Abort),
+    (word, behind): (&str, &[u8]),
+    counts: &[usize],
+) -> Result<Vec<u8>, Fail> {
+    let mut input = Vec::from_slice(rt.alloc(), CONFIGURATION)?;
+    input.extend_from_slice(behind)?;
+    let mut source = StdinSource::new(FewIn {
+        bytes: input.as_slice(),
+        counts: Counts { counts, at: 0 },
+    });
+    let mut held = Vec::new(rt.alloc());
+    let mut sink = StdoutSink::new(FewOut {
+        held: &mut held,
+        counts: Counts { counts, at: 3 },
+    });
+    let outcome = outcome(rt, word, &mut source, &mut sink, &[])?;
+    assert_eq!(rt; outcome, Outcome::Done);
+    drop(sink);
+    Ok(held)
+}
+
+// That each word writes as much as where all bytes are moved at once.
+fn expect_moved(rt: &(impl AllocGlobal + Abort), counts: &[usize]) -> Result<(), Fail> {
+    for input in INPUTS {
+        let (_, whole) = fails(rt, input, &[], &[], &[])?;
+        let written = moved(rt, input, counts)?;
+        assert_eq!(rt; written.as_slice(), whole.as_slice());
     }
     Ok(())
+}
+
+// One byte a call, and counts that were drawn once from 1 to 40.
+#[test]
+fn calls_that_move_few_bytes(rt: HostRuntime) -> Result<(), Fail> {
+    expect_moved(&rt, &[1])?;
+    expect_moved(
+        &rt,
+        &[
+            17, 2, 38, 1, 9, 26, 3, 40, 12, 5, 31, 1, 22, 7, 14, 35, 1, 4, 29,
+        ],
+    )
 }
