@@ -75,7 +75,7 @@ impl JudgedEnds {
         answer: &[u8],
     ) -> Result<Result<Onward, Why>, OutOfMemory>
         requires { length answer.now ≤ 4161 }
-        ensures told { (w : Configuration) (q : ReqSetup) (older : List (List ℕ)) (rows : List Row)
+        ensures { (w : Configuration) (q : ReqSetup) (older : List (List ℕ)) (rows : List Row)
             (packet : List ℕ) (route : RouteFields) (f : Fetching)
             → IsAnswer w q older packet route answer.now → length older < 2 ^ 64 - 2
             → w.responder.beat < 256 → round.now ≡ round_of w.responder.eid q.eid older

@@ -20,7 +20,7 @@ returns-in-Some-InSession-clause-told c = λ w q older rows packet route at few 
 pub returns-in-Some-InClear-clause-told : goal.returns-in-Some-InClear-clause-told
 returns-in-Some-InClear-clause-told c = λ w q older rows packet route at few byte round set_up none stands table.
     let there = subst (λ (o : Option Fetch). StandsAs c.args.self.now.talk o w q older rows) (sym c.take.ensures.value ∙ c.in-Some-InClear.is ∙ ap Some c.in-Some-InClear.field-0-is) stands in
-    c.replies_clear.ensures.told w q older rows packet route there.1.0 at few byte round set_up none there.0 there.1.1 there.1.2 table
+    c.replies_clear.ensures w q older rows packet route there.1.0 at few byte round set_up none there.0 there.1.1 there.1.2 table
 
 pub returns-in-None-clause-memory : goal.returns-in-None-clause-memory
 returns-in-None-clause-memory c =

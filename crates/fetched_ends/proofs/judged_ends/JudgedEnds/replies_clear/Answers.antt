@@ -19,8 +19,8 @@ use Rattle.large_answers.specs.Fetching.{dialogue_of}
 use Rattle.world_machine.specs.Rounds.{Round}
 use Rattle.world_machine.specs.Setup.{known_of}
 
-pub returns-in-Ok-Fetched-clause-told : goal.returns-in-Ok-Fetched-clause-told
-returns-in-Ok-Fetched-clause-told c = λ w q older rows packet route f at few byte round set_up why rest own is table.
+pub returns-in-Ok-Fetched : goal.returns-in-Ok-Fetched
+returns-in-Ok-Fetched c = λ w q older rows packet route f at few byte round set_up why rest own is table.
     let answer = c.args.answer.now in
     let u = own.stands.0 in
     let walk = own.all u own.stands.1 in
@@ -34,8 +34,8 @@ returns-in-Ok-Fetched-clause-told c = λ w q older rows packet route f at few by
     let upon = subst (λ (x : Result Upon declared.Why). IsRepliedTo w q older rows f route answer x party (λ next among. IsHeldIn party behind w q next among) c.replies_held.new.table) (c.in-Ok-Fetched.is ∙ ap Ok c.in-Ok-Fetched.field-0-is) told in
     goes_on w q older rows packet route answer at f own (record c.args.self.now.talk { party = party }) (fetch.InClear behind) rest c.replies_held.new.table upon
 
-pub returns-in-Ok-Ended-clause-told : goal.returns-in-Ok-Ended-clause-told
-returns-in-Ok-Ended-clause-told c = λ w q older rows packet route f at few byte round set_up why rest own is table.
+pub returns-in-Ok-Ended : goal.returns-in-Ok-Ended
+returns-in-Ok-Ended c = λ w q older rows packet route f at few byte round set_up why rest own is table.
     let answer = c.args.answer.now in
     let u = own.stands.0 in
     let walk = own.all u own.stands.1 in
@@ -49,8 +49,8 @@ returns-in-Ok-Ended-clause-told c = λ w q older rows packet route f at few byte
     let upon = subst (λ (x : Result Upon declared.Why). IsRepliedTo w q older rows f route answer x party (λ next among. IsHeldIn party behind w q next among) c.replies_held.new.table) (c.in-Ok-Ended.is ∙ ap Ok c.in-Ok-Ended.field-0-is) told in
     ended_on w q older rows packet route answer at f own (record c.args.self.now.talk { party = party }) (fetch.InClear behind) rest c.replies_held.new.table upon
 
-pub returns-in-Ok-Large-clause-told : goal.returns-in-Ok-Large-clause-told
-returns-in-Ok-Large-clause-told c = λ w q older rows packet route f at few byte round set_up why rest own is table.
+pub returns-in-Ok-Large : goal.returns-in-Ok-Large
+returns-in-Ok-Large c = λ w q older rows packet route f at few byte round set_up why rest own is table.
     let answer = c.args.answer.now in
     let u = own.stands.0 in
     let walk = own.all u own.stands.1 in
@@ -64,8 +64,8 @@ returns-in-Ok-Large-clause-told c = λ w q older rows packet route f at few byte
     let upon = subst (λ (x : Result Upon declared.Why). IsRepliedTo w q older rows f route answer x party (λ next among. IsHeldIn party behind w q next among) c.replies_held.new.table) (c.in-Ok-Large.is ∙ ap Ok c.in-Ok-Large.field-0-is) told in
     unjudged_on w q older rows packet route answer at f own (record c.args.self.now.talk { party = party }) (fetch.InClear behind) rest c.replies_held.new.table c.args.self.now.fetched upon
 
-pub returns-in-Err-clause-told : goal.returns-in-Err-clause-told
-returns-in-Err-clause-told c = λ w q older rows packet route f at few byte round set_up why rest own is table.
+pub returns-in-Err : goal.returns-in-Err
+returns-in-Err c = λ w q older rows packet route f at few byte round set_up why rest own is table.
     let answer = c.args.answer.now in
     let u = own.stands.0 in
     let walk = own.all u own.stands.1 in
