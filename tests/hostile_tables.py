@@ -4,17 +4,13 @@ The program is the Python package `spdm_reference`, which is no part of this rep
 
     python3 tests/hostile_tables.py
 
-writes the tables of crates/cut_vectors and crates/hostile_vectors/src/hostile_messages/digests.rt anew, which `rt fmt` then lays
-out:
-
-- each message of a day (tests/scripts/a_users_day.script) but CHUNK_SEND_ACK, whose end is free, each record of it with
-  its key and number, and messages of which a length is wrong, with the fault of each;
-- where ends stand, and the digest of all traces behind messages of each code, behind messages of which a length is
-  wrong, and behind each packet of a life cut to every length.
+writes the tables of crates/cut_vectors anew, which `rt fmt` then lays out: each message of a day
+(crates/spdm_cases/data/scripts/a_users_day.script) but CHUNK_SEND_ACK, whose end is free, each record of it with its key and
+number, and messages of which a length is wrong, with the fault of each. The cases of hostile messages are in
+crates/spdm_cases (tests/cases).
 
 What each table promises of cut input is looked at here too, so that no table says what that program does not do.
 """
-import hashlib
 import pathlib
 
 from spdm_reference import core as c
@@ -24,8 +20,7 @@ from spdm_reference.world import World
 
 TOP = pathlib.Path(__file__).resolve().parent.parent
 VECTORS = TOP / "crates/cut_vectors/src"
-DIGESTS = TOP / "crates/hostile_vectors/src/hostile_messages/digests.rt"
-DAY = TOP / "tests/scripts/a_users_day.script"
+DAY = TOP / "crates/spdm_cases/data/scripts/a_users_day.script"
 ACK = 0x05
 
 
@@ -174,7 +169,7 @@ def wrong_lengths():
     return lines
 
 
-# ---------------------------------------------------------------- digests of traces
+# ---------------------------------------------------------------- places of messages
 
 SEED = "seed " + "0" * 64 + "\n"
 KEY = "31323334353637383930313233343536"
@@ -185,21 +180,6 @@ SMALL = SEED + "responder 8 64 4096 1024 30 mhkc\nblock 1 1 0 aabb\nrequester 9 
 CONNECT = "q1 connect\npump 6\n"
 OPEN = CONNECT + "q1 open 0\npump 4\n"
 CHUNKS = "q1 connect\npump 20\nq1 open 255\n"
-# Where ends stand when a request comes: the phases of a responder, a session in each of its stages, and a large request
-# and a large answer that are under way.
-REQUESTED = [
-    (False, ""), (False, "q1 connect\npump 1\n"), (False, "q1 connect\npump 3\n"), (False, "q1 connect\npump 5\n"),
-    (False, CONNECT + "q1 open 0\npump 1\n"), (False, OPEN), (False, OPEN + "q1 update 1 key\npump 1\n"),
-    (True, CHUNKS + "pump 1\n"), (True, CHUNKS + "pump 3\n"),
-]
-# Where ends stand when an answer comes: with none outstanding, and with one of each kind.
-ANSWERED = [
-    (False, ""), (False, "q1 connect\n"), (False, "q1 connect\npump 2\n"), (False, "q1 connect\npump 4\n"),
-    (False, CONNECT + "q1 open 0\n"), (False, CONNECT + "q1 open 0\npump 2\n"), (False, OPEN + "q1 send 1 00\n"),
-    (False, OPEN + "q1 measure - 255\n"), (False, OPEN + "q1 measure 1 255\n"), (False, OPEN + "q1 beat 1\n"),
-    (False, OPEN + "q1 update 1 all\n"), (False, OPEN + "q1 update 1 all\npump 2\n"), (False, OPEN + "q1 end 1\n"),
-    (True, CHUNKS), (True, CHUNKS + "pump 4\n"), (True, CHUNKS + "pump 6\n"),
-]
 # Events, behind which the packet that was sent last has a wrong length.
 LENGTHS = [
     (False, "q1 connect\n", 2), (False, "q1 connect\n", 4), (False, CONNECT + "q1 open 0\n", 0), (True, CHUNKS, 0),
@@ -207,12 +187,6 @@ LENGTHS = [
     (False, CONNECT + "q1 open 0\n", 1), (True, CHUNKS, 5), (True, CHUNKS, 7), (False, OPEN + "q1 measure - 255\n", 1),
     (False, OPEN + "q1 send 1 00\n", 0), (False, OPEN + "q1 send 1 00\n", 1),
 ]
-# Events of lives, of which each packet is cut.
-LIFE = [
-    "q1 connect\n", "q1 open 0\n", "reply q1 6f6b\nq1 send 1 6869\n", "q1 measure 1 255\n", "q1 measure - 255\n",
-    "q1 beat 1\n", "q1 update 1 all\n", "q1 end 1\n",
-]
-CUTS = [(False, LIFE), (True, [CONNECT, "q1 open 255\n"])]
 
 
 def configuration(is_small):
@@ -233,86 +207,6 @@ def pump(count):
 def packet_at(is_small, before, pumped):
     """The packet that was sent last behind events and so many packets that were given to their ends."""
     return sent(is_small, before + pump(pumped))[-1]
-
-
-def trace(is_small, before, packets):
-    """The trace of a script that shows its ends, injects packets, and shows them again."""
-    inject = "".join("inject %s\n" % (packet.hex() or "-") for packet in packets)
-    name, out, _ = run((configuration(is_small) + before + "show\n" + inject + "show\n").encode())
-    assert name == "Done"
-    return out
-
-
-def digest(traces):
-    hashed = hashlib.sha256()
-    for one in traces:
-        hashed.update(one)
-    return hashed.hexdigest()
-
-
-def tag_of(is_small, before):
-    """The tag of the request that is outstanding, and 0 where none was sent."""
-    asked = [packet for packet in sent(is_small, before) if packet[1] == 8]
-    return asked[-1][3] & 7 if asked else 0
-
-
-def codes():
-    rows = []
-    for asks, places in ((True, REQUESTED), (False, ANSWERED)):
-        for is_small, before in places:
-            flags = 0xC8 if asks else 0xC0 | tag_of(is_small, before)
-            head = bytes([1, 8, 9, flags, 5] if asks else [1, 9, 8, flags, 5])
-            all_codes = [head + bytes([0x12, code, 0, 0]) for code in range(256)]
-            rows.append((is_small, before, head, digest(trace(is_small, before, [one]) for one in all_codes)))
-    return rows
-
-
-def lengths():
-    rows = []
-    for is_small, before, pumped in LENGTHS:
-        packet = packet_at(is_small, before, pumped)
-        before += pump(pumped)
-        fields = [(6, 2)] if packet[4] == 6 else fields_of(packet[5:])
-        traces = [
-            trace(is_small, before, [variant]) for at, size in fields for variant in variants(packet, at + 5, size)
-        ]
-        rows.append((is_small, before, packet, fields, digest(traces)))
-    return rows
-
-
-def shown(lines):
-    return [line for line in lines if line.startswith(("state ", "session "))]
-
-
-def cut_at(is_small, before, packet):
-    """The trace of a packet that is cut to each length, of which none may change an end."""
-    cuts = [packet[:size] for size in range(len(packet))]
-    lines = trace(is_small, before, cuts).decode().splitlines()
-    behind = len(shown(lines[-6:]))
-    assert shown(lines)[-behind:] == shown(lines)[-2 * behind : -behind], (before, packet.hex())
-    return trace(is_small, before, cuts)
-
-
-def waiting(is_small, before):
-    """The packet that waits first for its end, if one does."""
-    _, _, world = run((configuration(is_small) + before).encode())
-    return world.sent[world.head] if world.head < len(world.sent) else None
-
-
-def cuts():
-    rows, count = [], 0
-    for is_small, life in CUTS:
-        before = ""
-        for events in life:
-            before, pumped = before + events, 0
-            while packet := waiting(is_small, before + pump(pumped)):
-                if not (packet[4] == 5 and packet[6] == ACK):
-                    rows.append((is_small, before + pump(pumped), packet, digest([cut_at(is_small, before + pump(pumped), packet)])))
-                    count += len(packet)
-                pumped += 1
-            before += pump(pumped)
-    print(count, "cuts")
-    return rows
 
 
 # ---------------------------------------------------------------- what is written
@@ -336,40 +230,6 @@ def write_lines(name, what, lines, more=""):
     print(path.name, len(lines), "lines,", path.stat().st_size, "bytes")
 
 
-def text(events):
-    return '"%s"' % events.replace("\n", "\\n")
-
-
-def flag(is_small):
-    return "true" if is_small else "false"
-
-
-def write_digests():
-    told_codes, told_lengths, told_cuts = codes(), lengths(), cuts()
-    out = ["// Whether messages are small, where the ends stand, the header and the type of a body, and the digest of all traces\n"
-           "// behind its 256 codes.\n"
-           "pub const CODES: [(bool, &str, &[u8], &str); %d] = [\n" % len(told_codes)]
-    for is_small, before, head, told in told_codes:
-        numbers = ", ".join(str(byte) if byte < 16 else hex(byte) for byte in head)
-        out.append("    (%s, %s, &[%s], \"%s\"),\n" % (flag(is_small), text(before), numbers, told))
-    out.append("];\n\n"
-               "// Whether messages are small, where the ends stand, a packet, the places and sizes of its length fields, counted from the\n"
-               "// beginning of the message, and the digest of all traces behind its variants.\n"
-               "pub const LENGTHS: [(bool, &str, &str, &[(usize, usize)], &str); %d] = [\n" % len(told_lengths))
-    for is_small, before, packet, fields, told in told_lengths:
-        places = ", ".join("(%d, %d)" % field for field in fields)
-        out.append('    (%s, %s, "%s", &[%s], "%s"),\n' % (flag(is_small), text(before), packet.hex(), places, told))
-    out.append("];\n\n"
-               "// Whether messages are small, where the ends stand, a packet, and the digest of the trace behind it at each shorter\n"
-               "// length.\n"
-               "pub const CUTS: [(bool, &str, &str, &str); %d] = [\n" % len(told_cuts))
-    for is_small, before, packet, told in told_cuts:
-        out.append('    (%s, %s, "%s", "%s"),\n' % (flag(is_small), text(before), packet.hex(), told))
-    out.append("];\n")
-    DIGESTS.write_text("".join(out))
-    print("digests.rt", len(told_codes), "codes,", len(told_lengths), "lengths,", len(told_cuts), "cuts")
-
-
 def main():
     messages, records, th1, th2 = day()
     write_lines("message_tests/messages", "// Messages of a day, a line each: `q` and a request, `r` and a response, `s` and one to a request that asked for a\n"
@@ -384,7 +244,6 @@ def main():
     write_lines("message_tests/lengths", "// Messages, as in the table of messages, a length in each by its place and its size, and what a reader says of the\n"
                 "// message with 0, with one more, and with 65,535 or the most that fits there: `-`, or the place and the part at fault.",
                 wrong_lengths())
-    write_digests()
 
 
 if __name__ == "__main__":

@@ -6,8 +6,6 @@
 #![tactic(auto)]
 
 #[cfg(test)]
-mod messages;
-#[cfg(test)]
 mod printers;
 #[cfg(test)]
 mod script_tests;

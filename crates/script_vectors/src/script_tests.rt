@@ -9,12 +9,10 @@ use std::alloc::{AllocError, Global};
 use std::process::Abort;
 use std::test::Fail;
 
-// A responder, a requester and a second one.
+// A responder and a requester.
 const RESPONDER: &str = "responder 8 1024 4096 64 30 mhkc";
 
 const REQUESTER: &str = "requester 9 1024 4096 64 0 hkc 71 11 -";
-
-const SECOND: &str = "requester 10 1024 4096 64 0 hkc 72 22 -";
 
 // Bytes of zeros in hexadecimal digits.
 fn zeros(alloc: Global, count: usize) -> Result<String, AllocError> {
@@ -31,7 +29,6 @@ fn front(alloc: Global, name: &str) -> Result<String, AllocError> {
     match name {
         "C" => format!(in alloc; "seed {seed}\n{RESPONDER}\n{REQUESTER}\n"),
         "E" => format!(in alloc; "seed {seed}\n{RESPONDER}\n{REQUESTER}\nend\n"),
-        "F" => format!(in alloc; "{RESPONDER}\n{REQUESTER}\n{SECOND}\nend\n"),
         "N" => format!(in alloc; "{RESPONDER}\n{REQUESTER}\n"),
         _ => Ok(String::new(alloc)),
     }
@@ -74,8 +71,6 @@ fn answer(rt: &impl Abort, alloc: Global, form: &str, text: &[u8]) -> Result<Str
     assert!(rt; text.len() <= TEXT_LIMIT);
     match form {
         "S" => word_of(alloc, parse_script(alloc, text)),
-        "P" => word_of(alloc, parse_capture(alloc, text)),
-        "G" => word_of(alloc, parse_config(alloc, text)),
         "L" => word_of(alloc, parse_lives(alloc, text)),
         "O" => word_of(alloc, parse_policy(alloc, text, 5)),
         _ => {
@@ -104,7 +99,7 @@ fn texts_have_the_answers_of_the_table(rt: HostRuntime) -> Result<(), Fail> {
         assert_eq!(rt; got.as_str(), wanted, "{row}");
         count = count.saturating_add(1);
     }
-    assert_eq!(rt; count, 324);
+    assert_eq!(rt; count, 45);
     Ok(())
 }
 

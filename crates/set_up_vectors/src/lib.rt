@@ -1,13 +1,10 @@
-//! What a requester and a responder are made of, and a responder's first packets: limits and faults. There is nothing
-//! here but tests.
+//! What a requester and a responder are made of: limits and faults. There is nothing here but tests.
 //!
 //! Read first: `first_fault_of_the_requesters` in `src/responder_tests.rt`.
 #![tactic(auto)]
 
 #[cfg(test)]
 mod configuration_tests;
-#[cfg(test)]
-mod packet_tests;
 #[cfg(test)]
 mod requester_tests;
 #[cfg(test)]

@@ -1,20 +1,12 @@
-//! The command `spdm` on streams and captures, whole, bad, byte by byte, and with failing calls, beside an independent
-//! program. There is nothing here but tests.
+//! The command `spdm` where calls of the outside fail or move few bytes, and where its two streams are carried to each other.
+//! There is nothing here but tests; the cases that no test has are those of `spdm_cases`.
 //!
-//! Read first: `serve_get_version` in `src/stream_rows.rt`.
+//! Read first: `each_call_fails` in `src/failing_calls.rt`.
 #![tactic(auto)]
 
 #[cfg(test)]
-mod bad_streams;
-#[cfg(test)]
 mod carried;
 #[cfg(test)]
-mod check_rows;
-#[cfg(test)]
 mod failing_calls;
-#[cfg(test)]
-mod long_streams;
-#[cfg(test)]
-mod stream_rows;
 #[cfg(test)]
 mod stream_runs;
