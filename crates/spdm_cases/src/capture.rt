@@ -1,3 +1,5 @@
+ghost use Rattle.std.specs.Prelude.{◌<◌, IfOk};
+
 use crate::case_error::CaseError;
 use crate::directive::first_word;
 
@@ -53,31 +55,34 @@ impl Change {
     pub fn make(self, packets: &mut Vec<Vec<u8>>) -> Result<(), CaseError> {
         match self {
             Change::Set { packet, at, byte } => {
-                let place = place_of(packets, packet)?;
+                let place = place_of(packets.len(), packet)?;
                 let bytes = packets.get_mut(place).ok_or(CaseError::BadLine)?;
                 *bytes.get_mut(at).ok_or(CaseError::BadLine)? = byte;
             }
             Change::Remove(packet) => {
-                let place = place_of(packets, packet)?;
+                let place = place_of(packets.len(), packet)?;
                 drop(packets.remove(place));
             }
             Change::Double(packet) => {
-                let place = place_of(packets, packet)?;
+                let place = place_of(packets.len(), packet)?;
                 let again = packets[place].clone()?;
                 packets.insert(place, again)?;
             }
             Change::Exchange(packet, other) => {
-                let (place, other) = (place_of(packets, packet)?, place_of(packets, other)?);
+                let (place, other) = (
+                    place_of(packets.len(), packet)?,
+                    place_of(packets.len(), other)?,
+                );
                 packets.swap(place, other);
             }
             Change::Insert { packet, at } => {
-                let place = place_of(packets, packet)?;
+                let place = place_of(packets.len(), packet)?;
                 let again = packets[place].clone()?;
                 let at = at.saturating_sub(1).min(packets.len());
                 packets.insert(at, again)?;
             }
             Change::Cut { packet, size } => {
-                let place = place_of(packets, packet)?;
+                let place = place_of(packets.len(), packet)?;
                 let bytes = packets.get_mut(place).ok_or(CaseError::BadLine)?;
                 bytes.truncate(size);
             }
@@ -86,10 +91,12 @@ impl Change {
     }
 }
 
-// The place of a packet, which is there.
-fn place_of(packets: &Vec<Vec<u8>>, packet: usize) -> Result<usize, CaseError> {
+// The place of a packet of so many, which is there.
+fn place_of(count: usize, packet: usize) -> Result<usize, CaseError>
+    ensures { IfOk result (λ place. place < count) }
+{
     let place = packet.checked_sub(1).ok_or(CaseError::BadLine)?;
-    if place < packets.len() {
+    if place < count {
         Ok(place)
     } else {
         Err(CaseError::BadLine)
