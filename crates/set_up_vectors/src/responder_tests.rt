@@ -84,7 +84,7 @@ fn out_of_range(rt: &impl Abort, alloc: Global, config: RspConfig<'_>) {
 }
 
 #[test]
-fn ranges_of_a_set_up(rt: HostRuntime) -> Result<(), Fail> {
+fn limits_of_configuration(rt: HostRuntime) -> Result<(), Fail> {
     let sound = config(&[], &[])?;
     let chunks = FlagSet {
         chunk: true,
