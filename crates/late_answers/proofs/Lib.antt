@@ -1,0 +1,3 @@
+pub mod WalksStand
+pub mod Behind
+pub mod BehindSessions
