@@ -1,2 +1,7 @@
+pub mod AgainInSession
 pub mod Passed
+pub mod PassedConnection
+pub mod PassedLarge
+pub mod PassedLast
 pub mod PassedSessions
+pub mod PassedStands

@@ -7,6 +7,8 @@
 mod laws;
 
 pub use laws::{
-    all_are_past, none_begins_since, repeat_is_passed, repeat_stands_back, touch_is_told,
-    untouched_is_told, untouched_stays,
+    again_is_newest, again_leaves_others, all_are_past, ended_stays, front_is_near,
+    large_is_in_front, last_is_in_front, last_stays_back, near_goes_on, near_is_kept,
+    none_begins_since, repeat_is_passed, repeat_stands_back, request_was_anew, stands_near,
+    touch_is_told, untouched_is_told, untouched_stays,
 };
