@@ -1,12 +1,12 @@
--- The request whose large answer passed unseen may lead to LargeResponse as the newest one, behind the drops of all sessions.
-use Rattle.std.proofs.Common.{◌≡◌, ◌≢◌, ◌≤◌, ◌==◌, ◌&&◌, ◌⊎◌, ◌∙◌, ℕ, zero, suc, List, [], ◌∷◌, refl, sym, ap, subst, arith, Bool, true, false, Option, Some, None, inl, inr}
+-- A request whose large answer passed unseen may lead to LargeResponse elsewhere too, behind the drops of all sessions.
+use Rattle.std.proofs.Common.{◌≡◌, ◌≢◌, ◌≤◌, ◌==◌, ◌&&◌, ◌⊎◌, ◌++◌, ◌∙◌, ℕ, zero, suc, List, [], ◌∷◌, refl, sym, ap, subst, arith, Bool, true, false, Option, Some, None, inl, inr}
 use Rattle.late_answers.proofs.Behind.{kept_passed}
 use Rattle.late_answers.proofs.BehindClear.{IsFreeCode, code_with, phase_before, terms_before}
 use Rattle.late_answers.proofs.BehindSessions.{dropped_session}
 use Rattle.late_answers.proofs.InFront.{other_tag}
 use Rattle.late_answers.proofs.LeadsElsewhere.{lead_moved}
-use Rattle.late_answers.specs.Passed.{StandsBack}
-use Rattle.late_answers.specs.PassedLarge.{IsLedLargely, LargeIsInFront}
+use Rattle.late_answers.specs.Passed.{AreBehind, IsBehind, IsPassed, StandsBack}
+use Rattle.late_answers.specs.PassedLarge.{IsLedLargely, LargeIsInFront, LedElsewhere, LedGoesOn, WasLed}
 use Rattle.late_answers.specs.PassedLast.{IsFree}
 use Rattle.responder_machine.proofs.Fresh.{exchange-fresh, turn_of-fresh}
 use Rattle.responder_machine.specs.Answer.{Free}
@@ -70,30 +70,31 @@ turn_is tag other t u d e same = cc
 draw_is : (tag other : ℕ) (t u : Turn) (d e : Draw) → Clear tag t d ≡ Clear other u e → d ≡ e
 draw_is tag other t u d e same = cc
 
-module _ (r : RspSetup) (h : History) (s : StandsBack h) (other : ℕ) (free : IsFree s.turn) (apart : other ≢ s.tag) (was : IsLedLargely r s.before (Clear s.tag s.turn s.draw)) where
+module _ (r : RspSetup) (g k : History) (tag other : ℕ) (u : Turn) (d : Draw) (free : IsFree u) (took : is_taken u ≡ true) (reached : phase_of (clear_turns g) ≡ phase_of (clear_turns k)) (agreed : negotiation_of (clear_turns g) ≡ negotiation_of (clear_turns k))
+    (anew : is_repeat (kept_of k) other u.message ≡ false) (was : IsLedLargely r g (Clear tag u d)) where
   abbrev m : List ℕ
-  m = s.turn.message
+  m = u.message
 
-  abbrev g : History
-  g = with_dropped s.before was.0
+  abbrev there : History
+  there = with_dropped g was.0
 
-  abbrev k : History
-  k = with_dropped h all
+  abbrev here : History
+  here = with_dropped k all
 
   -- What it led to.
-  module _ (f : Free) (most : f.id ≤ 4) (least : 1 ≤ f.id) (old : takes PSK_EXCHANGE (turn_of r (clear_place g) m f) ≡ true → is_held g (id_in_exchange (answer_in (turn_of r (clear_place g) m f).effect)) ≡ false)
-      (is : was.1 ≡ Clear s.tag (turn_of r (clear_place g) m f) no_draw) where
+  module _ (f : Free) (most : f.id ≤ 4) (least : 1 ≤ f.id) (old : takes PSK_EXCHANGE (turn_of r (clear_place there) m f) ≡ true → is_held there (id_in_exchange (answer_in (turn_of r (clear_place there) m f).effect)) ≡ false)
+      (is : was.1 ≡ Clear tag (turn_of r (clear_place there) m f) no_draw) where
     abbrev t : Turn
-    t = turn_of r (clear_place g) m f
+    t = turn_of r (clear_place there) m f
 
-    passed : turn_with [] None t ≡ s.turn
-    passed = turn_is s.tag s.tag (turn_with [] None t) s.turn no_draw s.draw (sym (ap unseen is) ∙ was.4)
+    same : Clear tag (turn_with [] None t) no_draw ≡ Clear tag u d
+    same = sym (ap unseen is) ∙ was.4
 
-    drawn : no_draw ≡ s.draw
-    drawn = draw_is s.tag s.tag (turn_with [] None t) s.turn no_draw s.draw (sym (ap unseen is) ∙ was.4)
+    passed : turn_with [] None t ≡ u
+    passed = turn_is tag tag (turn_with [] None t) u no_draw d same
 
-    taken : is_taken t ≡ true
-    taken = ap is_taken passed ∙ s.passed.taken
+    drawn : no_draw ≡ d
+    drawn = draw_is tag tag (turn_with [] None t) u no_draw d same
 
     fits : IsFree t
     fits = record {
@@ -101,31 +102,58 @@ module _ (r : RspSetup) (h : History) (s : StandsBack h) (other : ℕ) (free : I
       code = subst IsFreeCode (sym (ap (λ (x : Turn). code_in x.effect) passed) ∙ code_with [] None t.effect) free.code;
     }
 
-    room : takes PSK_EXCHANGE t ≡ true → is_held g (id_in_exchange (answer_in t.effect)) ≡ is_held k (id_in_exchange (answer_in t.effect))
+    room : takes PSK_EXCHANGE t ≡ true → is_held there (id_in_exchange (answer_in t.effect)) ≡ is_held here (id_in_exchange (answer_in t.effect))
     room psk =
-        let fresh = exchange-fresh (held_of g) f.id t.effect psk (turn_of-fresh r (clear_place g) m f most) in
-        old psk ∙ sym (ap (is_held k) fresh.0 ∙ none_held h f.id least most)
+        let fresh = exchange-fresh (held_of there) f.id t.effect psk (turn_of-fresh r (clear_place there) m f most) in
+        old psk ∙ sym (ap (is_held here) fresh.0 ∙ none_held k f.id least most)
 
-    pub in_front_led : IsLedLargely r h (Clear other s.turn s.draw)
-    in_front_led = (
+    leads_here : IsLedLargely r k (Clear other u d)
+    leads_here = (
       all,
       Clear other t no_draw,
-      lead_moved r g k s.tag other m t no_draw
-          (ap phase_of (turns_stay was.0 s.before) ∙ sym (phase_before h s free.code) ∙ sym (ap phase_of (turns_stay all h)))
-          (ap negotiation_of (turns_stay was.0 s.before) ∙ sym (terms_before h s free.code) ∙ sym (ap negotiation_of (turns_stay all h)))
-          (ap (λ (x : Option Kept). is_repeat x other m) (kept_same all h) ∙ other_tag (kept_of h) s.tag other m s.turn.message s.turn.reply (kept_passed h s) apart)
-          taken fits room (subst (λ (e : Entry). MayLeadTo r g s.tag (clear_body m) (Adds e)) is was.2),
+      lead_moved r there here tag other m t no_draw (ap phase_of (turns_stay was.0 g) ∙ reached ∙ sym (ap phase_of (turns_stay all k))) (ap negotiation_of (turns_stay was.0 g) ∙ agreed ∙ sym (ap negotiation_of (turns_stay all k)))
+          (ap (λ (x : Option Kept). is_repeat x other m) (kept_same all k) ∙ anew) (ap is_taken passed ∙ took) fits room (subst (λ (e : Entry). MayLeadTo r there tag (clear_body m) (Adds e)) is was.2),
       ap is_large (sym is) ∙ was.3,
-      ap (λ (x : Turn). Clear other x no_draw) passed ∙ ap (λ (x : Draw). Clear other s.turn x) drawn,
+      ap (λ (x : Turn). Clear other x no_draw) passed ∙ ap (λ (x : Draw). Clear other u x) drawn,
     )
 
-  pub leads : IsLedLargely r h (Clear other s.turn s.draw)
-  leads =
-      let led = led_clear r g s.tag (clear_body m) (Adds was.1) refl was.2 in
-      elim (clear_form r g s.tag m led.free (Adds was.1) led.leads) [
+  pub led_moved : IsLedLargely r k (Clear other u d)
+  led_moved =
+      let led = led_clear r there tag (clear_body m) (Adds was.1) refl was.2 in
+      elim (clear_form r there tag m led.free (Adds was.1) led.leads) [
         | inl same ↦ absurd (let x = same.1 in cc)
-        | inr adds ↦ in_front_led led.free led.allowed.most led.allowed.least (λ psk. fresh_id r g m led.free (clear_place g) led.allowed psk) (added was.1 (Clear s.tag (turn_of r (clear_place g) m led.free) no_draw) adds)
+        | inr adds ↦ leads_here led.free led.allowed.most led.allowed.least (λ psk. fresh_id r there m led.free (clear_place there) led.allowed psk) (added was.1 (Clear tag (turn_of r (clear_place there) m led.free) no_draw) adds)
       ]
 
+pub led_elsewhere : LedElsewhere
+led_elsewhere r g k tag other t d free taken reached agreed anew was = led_moved r g k tag other t d free taken reached agreed anew was
+
 pub large_is_in_front : LargeIsInFront
-large_is_in_front r h s other free apart was = leads r h s other free apart was
+large_is_in_front r h s other free apart was =
+    led_moved r s.before h s.tag other s.turn s.draw free s.passed.taken (sym (phase_before h s free.code)) (sym (terms_before h s free.code))
+    (other_tag (kept_of h) s.tag other s.turn.message s.turn.message s.turn.reply (kept_passed h s) apart) was
+
+-- ---- Entry by entry.
+
+head_is : (e f : Entry) (l m : List Entry) → e ∷ l ≡ f ∷ m → e ≡ f
+head_is e f l m is = cc
+
+tail_is : (e f : Entry) (l m : List Entry) → e ∷ l ≡ f ∷ m → l ≡ m
+tail_is e f l m is = cc
+
+-- The newest entry is the request, or one behind it.
+module _ (r : RspSetup) (e : Entry) (h : History) (now : (tag : ℕ) (t : Turn) (d : Draw) → e ≡ Clear tag t d → IsPassed t → IsLedLargely r h e) (before : IsBehind e → WasLed r h) where
+  by_behind : (es : List Entry) (tag : ℕ) (t : Turn) (d : Draw) (g : History) → e ∷ h ≡ es ++ Clear tag t d ∷ g → AreBehind es → IsPassed t → IsLedLargely r g (Clear tag t d)
+  by_behind [] tag t d g is are passed =
+      let one : e ≡ Clear tag t d = head_is e (Clear tag t d) h g is in
+      subst (λ (x : Entry). IsLedLargely r g x) one (subst (λ (x : History). IsLedLargely r x e) (tail_is e (Clear tag t d) h g is) (now tag t d one passed))
+  by_behind (x ∷ es) tag t d g is are passed =
+      let one : e ≡ x = head_is e x h (es ++ Clear tag t d ∷ g) is in
+      before (subst IsBehind (sym one) are.0)
+      (record { behind = es; tag = tag; turn = t; draw = d; before = g; is = tail_is e x h (es ++ Clear tag t d ∷ g) is; are = are.1; passed = passed })
+
+  pub led_on : WasLed r (e ∷ h)
+  led_on s = by_behind s.behind s.tag s.turn s.draw s.before s.is s.are s.passed
+
+pub led_goes_on : LedGoesOn
+led_goes_on r h e now before = led_on r e h now before

@@ -4,7 +4,7 @@
 ghost use Rattle.late_answers.specs.AgainInSession.{AgainIsNewest, AgainLeavesOthers};
 ghost use Rattle.late_answers.specs.Passed.{RepeatIsPassed, RepeatStandsBack, TouchIsTold};
 ghost use Rattle.late_answers.specs.PassedConnection.{StandsNear};
-ghost use Rattle.late_answers.specs.PassedLarge.{LargeIsInFront};
+ghost use Rattle.late_answers.specs.PassedLarge.{LargeIsInFront, LedElsewhere, LedGoesOn};
 ghost use Rattle.late_answers.specs.PassedLast.{LastIsInFront, LastStaysBack, RequestWasAnew};
 ghost use Rattle.late_answers.specs.PassedSessions.{AllArePast, NoneBeginsSince, UntouchedIsTold, UntouchedStays};
 ghost use Rattle.late_answers.specs.PassedStands.{EndedStays, FrontIsNear, NearGoesOn, NearIsKept};
@@ -100,4 +100,14 @@ pub fn again_leaves_others()
 /// The request may get LargeResponse as the newest one too.
 pub fn large_is_in_front()
     ensures { LargeIsInFront }
+{}
+
+/// Whether a request led to LargeResponse hangs on the negotiation alone, where it is no repeat.
+pub fn led_elsewhere()
+    ensures { LedElsewhere }
+{}
+
+/// That the newest request in the clear led to LargeResponse, if its answer passed unseen, goes on entry by entry.
+pub fn led_goes_on()
+    ensures { LedGoesOn }
 {}
