@@ -10,3 +10,4 @@ pub mod InFront
 pub mod ConnectionNear
 pub mod SessionNewest
 pub mod LargeFront
+pub mod Completing

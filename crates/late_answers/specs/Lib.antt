@@ -1,5 +1,6 @@
 pub mod AgainInSession
 pub mod Passed
+pub mod PassedCompletes
 pub mod PassedConnection
 pub mod PassedLarge
 pub mod PassedLast

@@ -3,6 +3,7 @@
 
 ghost use Rattle.late_answers.specs.AgainInSession.{AgainIsNewest, AgainLeavesOthers};
 ghost use Rattle.late_answers.specs.Passed.{RepeatIsPassed, RepeatStandsBack, TouchIsTold};
+ghost use Rattle.late_answers.specs.PassedCompletes.{LateCompletes};
 ghost use Rattle.late_answers.specs.PassedConnection.{StandsNear};
 ghost use Rattle.late_answers.specs.PassedLarge.{LargeIsInFront, LedElsewhere, LedGoesOn};
 ghost use Rattle.late_answers.specs.PassedLast.{LastIsInFront, LastStaysBack, RequestWasAnew};
@@ -110,4 +111,10 @@ pub fn led_elsewhere()
 /// That the newest request in the clear led to LargeResponse, if its answer passed unseen, goes on entry by entry.
 pub fn led_goes_on()
     ensures { LedGoesOn }
+{}
+
+/// An answer is the last chunk of a large one whose fetch began late exactly where its request may lead to the bytes in
+/// front, and no mark is set of the session that they begin.
+pub fn late_completes()
+    ensures { LateCompletes }
 {}
