@@ -61,10 +61,10 @@ none_held h (suc (suc (suc (suc (suc n))))) least most = absurd (omega (arith, m
 
 -- ---- The entry.
 
-added : (one other : Entry) → Adds one ≡ Adds other → one ≡ other
+pub added : (one other : Entry) → Adds one ≡ Adds other → one ≡ other
 added one other same = cc
 
-turn_is : (tag other : ℕ) (t u : Turn) (d e : Draw) → Clear tag t d ≡ Clear other u e → t ≡ u
+pub turn_is : (tag other : ℕ) (t u : Turn) (d e : Draw) → Clear tag t d ≡ Clear other u e → t ≡ u
 turn_is tag other t u d e same = cc
 
 draw_is : (tag other : ℕ) (t u : Turn) (d e : Draw) → Clear tag t d ≡ Clear other u e → d ≡ e
@@ -142,18 +142,18 @@ tail_is : (e f : Entry) (l m : List Entry) → e ∷ l ≡ f ∷ m → l ≡ m
 tail_is e f l m is = cc
 
 -- The newest entry is the request, or one behind it.
-module _ (r : RspSetup) (e : Entry) (h : History) (now : (tag : ℕ) (t : Turn) (d : Draw) → e ≡ Clear tag t d → IsPassed t → IsLedLargely r h e) (before : IsBehind e → WasLed r h) where
-  by_behind : (es : List Entry) (tag : ℕ) (t : Turn) (d : Draw) (g : History) → e ∷ h ≡ es ++ Clear tag t d ∷ g → AreBehind es → IsPassed t → IsLedLargely r g (Clear tag t d)
-  by_behind [] tag t d g is are passed =
+module _ (r : RspSetup) (e : Entry) (h : History) (now : (tag : ℕ) (t : Turn) (d : Draw) → e ≡ Clear tag t d → IsPassed t → IsFree t → IsLedLargely r h e) (before : IsBehind e → WasLed r h) where
+  by_behind : (es : List Entry) (tag : ℕ) (t : Turn) (d : Draw) (g : History) → e ∷ h ≡ es ++ Clear tag t d ∷ g → AreBehind es → IsPassed t → IsFree t → IsLedLargely r g (Clear tag t d)
+  by_behind [] tag t d g is are passed free =
       let one : e ≡ Clear tag t d = head_is e (Clear tag t d) h g is in
-      subst (λ (x : Entry). IsLedLargely r g x) one (subst (λ (x : History). IsLedLargely r x e) (tail_is e (Clear tag t d) h g is) (now tag t d one passed))
-  by_behind (x ∷ es) tag t d g is are passed =
+      subst (λ (x : Entry). IsLedLargely r g x) one (subst (λ (x : History). IsLedLargely r x e) (tail_is e (Clear tag t d) h g is) (now tag t d one passed free))
+  by_behind (x ∷ es) tag t d g is are passed free =
       let one : e ≡ x = head_is e x h (es ++ Clear tag t d ∷ g) is in
       before (subst IsBehind (sym one) are.0)
-      (record { behind = es; tag = tag; turn = t; draw = d; before = g; is = tail_is e x h (es ++ Clear tag t d ∷ g) is; are = are.1; passed = passed })
+      (record { behind = es; tag = tag; turn = t; draw = d; before = g; is = tail_is e x h (es ++ Clear tag t d ∷ g) is; are = are.1; passed = passed }) free
 
   pub led_on : WasLed r (e ∷ h)
-  led_on s = by_behind s.behind s.tag s.turn s.draw s.before s.is s.are s.passed
+  led_on s free = by_behind s.behind s.tag s.turn s.draw s.before s.is s.are s.passed free
 
 pub led_goes_on : LedGoesOn
 led_goes_on r h e now before = led_on r e h now before

@@ -11,3 +11,4 @@ pub mod ConnectionNear
 pub mod SessionNewest
 pub mod LargeFront
 pub mod Completing
+pub mod WalksLed

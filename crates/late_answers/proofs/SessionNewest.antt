@@ -34,7 +34,7 @@ turns_by false (Queued bytes) w id h is same = same
 turns_by false (Ticked seconds) w id h is same = same
 turns_by false (Dropped which) w id h is same = same
 
-turns_same : (id : ℕ) (w : List ℕ) (h : History) → clear_turns (with_large (Some id) w h) ≡ clear_turns h
+pub turns_same : (id : ℕ) (w : List ℕ) (h : History) → clear_turns (with_large (Some id) w h) ≡ clear_turns h
 turns_same id w [] = refl
 turns_same id w (e ∷ h) = turns_by (is_unseen_in (Some id) e) e w id h refl (turns_same id w h)
 

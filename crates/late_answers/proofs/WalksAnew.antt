@@ -33,12 +33,12 @@ use Rattle.world_machine.specs.Setup.{Configuration, known_of}
 
 -- ---- What is kept of an entry.
 
-abbrev AnewHere : Entry → History → Type 0
+abbrev pub AnewHere : Entry → History → Type 0
 AnewHere (Clear tag t d) h = is_taken t ≡ true → is_repeat (kept_of h) tag t.message ≡ false
 AnewHere _ h = Unit {0}
 
 -- Of each one of the history.
-abbrev AllAnew : History → Type 0
+abbrev pub AllAnew : History → Type 0
 AllAnew [] = Unit {0}
 AllAnew (e ∷ h) = AnewHere e h × AllAnew h
 
@@ -87,7 +87,7 @@ either_anew : (b : Bool) (x y : History) → AllAnew x → AllAnew y → AllAnew
 either_anew true x y one other = one
 either_anew false x y one other = other
 
-kept_large : (place : Option ℕ) (w : List ℕ) (h : History) → kept_of (with_large place w h) ≡ kept_of h
+pub kept_large : (place : Option ℕ) (w : List ℕ) (h : History) → kept_of (with_large place w h) ≡ kept_of h
 kept_large place w [] = refl
 kept_large place w (e ∷ h) =
     either_kept (is_unseen_in place e) (seen w e ∷ h) (e ∷ with_large place w h) (kept_of (e ∷ h)) (kept_seen w e h) (kept_more e (with_large place w h) h (kept_large place w h))
@@ -96,7 +96,7 @@ kept_judging : (fetching : Option (List ℕ)) (body : List ℕ) (h : History) �
 kept_judging None body h = refl
 kept_judging (Some w) body h = kept_large (place_named body) w h
 
-kept_before : (place : Option ℕ) (ids : List ℕ) (h : History) → kept_of (dropped_before_large place ids h) ≡ kept_of h
+pub kept_before : (place : Option ℕ) (ids : List ℕ) (h : History) → kept_of (dropped_before_large place ids h) ≡ kept_of h
 kept_before place ids [] = refl
 kept_before place ids (e ∷ h) =
     either_kept (is_unseen_in place e) (e ∷ with_dropped h ids) (e ∷ dropped_before_large place ids h) (kept_of (e ∷ h)) (kept_more e (with_dropped h ids) h (kept_same ids h))
@@ -112,7 +112,7 @@ large_anew place w (e ∷ h) all =
     either_anew (is_unseen_in place e) (seen w e ∷ h) (e ∷ with_large place w h) (seen_anew w e h all.0, all.1)
     (anew_same e h (with_large place w h) (sym (kept_large place w h)) all.0, large_anew place w h all.1)
 
-before_anew : (place : Option ℕ) (ids : List ℕ) (h : History) → AllAnew h → AllAnew (dropped_before_large place ids h)
+pub before_anew : (place : Option ℕ) (ids : List ℕ) (h : History) → AllAnew h → AllAnew (dropped_before_large place ids h)
 before_anew place ids [] all = tt
 before_anew place ids (e ∷ h) all =
     either_anew (is_unseen_in place e) (e ∷ with_dropped h ids) (e ∷ dropped_before_large place ids h) (anew_same e h (with_dropped h ids) (sym (kept_same ids h)) all.0, dropped_anew ids h all.1)
@@ -132,7 +132,7 @@ clear_anew r g tag m f e leads = by_repeat (is_repeat (kept_of g) tag m) refl le
     by_repeat false is same =
         subst (λ (x : Entry). AnewHere x g) (added (Clear tag (turn_of r (clear_place g) m f) no_draw) e same) (λ taken. ap (is_repeat (kept_of g) tag) (turn_message r (clear_place g) m f) ∙ is)
 
-led_anew : (r : RspSetup) (g : History) (tag : ℕ) (body : List ℕ) (e : Entry) → MayLeadTo r g tag body (Adds e) → AnewHere e g
+pub led_anew : (r : RspSetup) (g : History) (tag : ℕ) (body : List ℕ) (e : Entry) → MayLeadTo r g tag body (Adds e) → AnewHere e g
 led_anew r g tag body e may = by_type (slice_index body 0 == 5) refl
   where
     by_type : (b : Bool) → (slice_index body 0 == 5) ≡ b → AnewHere e g
@@ -152,7 +152,7 @@ after_anew r g h tag body (Adds e) may same all = (anew_same e g h same (led_ane
 
 -- ---- A walk.
 
-drops_kept : (fetching : Option (List ℕ)) (body : List ℕ) (h : History) (ids : List ℕ) → kept_of (with_dropped (judging fetching body h) ids) ≡ kept_of h
+pub drops_kept : (fetching : Option (List ℕ)) (body : List ℕ) (h : History) (ids : List ℕ) → kept_of (with_dropped (judging fetching body h) ids) ≡ kept_of h
 drops_kept fetching body h ids = kept_same ids (judging fetching body h) ∙ kept_judging fetching body h
 
 answers_anew : (r : RspSetup) (d : Dialogue) (round : Round) (answer : List ℕ) (next : History) (fetching : Option (List ℕ)) → Answers r d round answer next fetching → AllAnew d.responder → AllAnew next
@@ -180,7 +180,7 @@ answers_anew r d round answer next fetching (inr (inr (inr a))) all =
       large_anew place p.0 before (before_anew place p.1 d.responder all),
     )
 
-asks_keep : (d : Dialogue) (g : Gathered) (next : Dialogue) → AsksBy d g next → next.responder ≡ d.responder
+pub asks_keep : (d : Dialogue) (g : Gathered) (next : Dialogue) → AsksBy d g next → next.responder ≡ d.responder
 asks_keep d (Whole route body) next asks = elim asks.2 [
   | inl copies ↦ ap (λ (x : Dialogue). x.responder) copies.4
   | inr begins ↦ ap (λ (x : Dialogue). x.responder) begins.2.3
@@ -204,7 +204,7 @@ step_anew w eid older d next (Ok p) all step = by_ends (is_request w.responder.e
     by_ends false true replies = replies_anew w d (gathered_from eid w.responder.eid older p) next all replies
     by_ends false false same = subst (λ (x : Dialogue). AllAnew x.responder) (sym same) all
 
-walk_anew : (w : Configuration) (q : ReqSetup) (older : List (List ℕ)) (d : Dialogue) → Walks w q older d → AllAnew d.responder
+pub walk_anew : (w : Configuration) (q : ReqSetup) (older : List (List ℕ)) (d : Dialogue) → Walks w q older d → AllAnew d.responder
 unfolding StepsTo
 walk_anew w q [] d walk = subst (λ (x : Dialogue). AllAnew x.responder) (sym walk) tt
 walk_anew w q (packet ∷ older) d walk = step_anew w q.eid older walk.0 d (parsed packet) (walk_anew w q older walk.0 walk.1) walk.2

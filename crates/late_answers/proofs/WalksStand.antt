@@ -22,7 +22,7 @@ step_sound w eid older d next (Ok p) sound step = by_ends (is_request w.responde
     by_ends false true replies = replies_sound w d (gathered_from eid w.responder.eid older p) next sound replies
     by_ends false false same = subst IsSound (sym same) sound
 
-walk_sound : (w : Configuration) (q : ReqSetup) (older : List (List ℕ)) (d : Dialogue) → Walks w q older d → IsSound d
+pub walk_sound : (w : Configuration) (q : ReqSetup) (older : List (List ℕ)) (d : Dialogue) → Walks w q older d → IsSound d
 unfolding StepsTo
 walk_sound w q [] d walk = subst IsSound (sym walk) (begins_sound q)
 walk_sound w q (packet ∷ older) d walk = step_sound w q.eid older walk.0 d (parsed packet) (walk_sound w q older walk.0 walk.1) walk.2

@@ -5,7 +5,7 @@ ghost use Rattle.late_answers.specs.AgainInSession.{AgainIsNewest, AgainLeavesOt
 ghost use Rattle.late_answers.specs.Passed.{RepeatIsPassed, RepeatStandsBack, TouchIsTold};
 ghost use Rattle.late_answers.specs.PassedCompletes.{LateCompletes};
 ghost use Rattle.late_answers.specs.PassedConnection.{StandsNear};
-ghost use Rattle.late_answers.specs.PassedLarge.{LargeIsInFront, LedElsewhere, LedGoesOn};
+ghost use Rattle.late_answers.specs.PassedLarge.{LargeIsInFront, LedElsewhere, LedGoesOn, RequestWasLed};
 ghost use Rattle.late_answers.specs.PassedLast.{LastIsInFront, LastStaysBack, RequestWasAnew};
 ghost use Rattle.late_answers.specs.PassedSessions.{AllArePast, NoneBeginsSince, UntouchedIsTold, UntouchedStays};
 ghost use Rattle.late_answers.specs.PassedStands.{EndedStays, FrontIsNear, NearGoesOn, NearIsKept};
@@ -117,4 +117,9 @@ pub fn led_goes_on()
 /// front, and no mark is set of the session that they begin.
 pub fn late_completes()
     ensures { LateCompletes }
+{}
+
+/// In a walk the newest request in the clear led to LargeResponse, if its answer passed unseen.
+pub fn request_was_led()
+    ensures { RequestWasLed }
 {}

@@ -10,6 +10,6 @@ pub use laws::{
     again_is_newest, again_leaves_others, all_are_past, ended_stays, front_is_near,
     large_is_in_front, last_is_in_front, last_stays_back, late_completes, led_elsewhere,
     led_goes_on, near_goes_on, near_is_kept, none_begins_since, repeat_is_passed,
-    repeat_stands_back, request_was_anew, stands_near, touch_is_told, untouched_is_told,
-    untouched_stays,
+    repeat_stands_back, request_was_anew, request_was_led, stands_near, touch_is_told,
+    untouched_is_told, untouched_stays,
 };
