@@ -12,3 +12,4 @@ pub mod SessionNewest
 pub mod LargeFront
 pub mod Completing
 pub mod WalksLed
+pub mod MarksStand

@@ -1,4 +1,5 @@
 pub mod AgainInSession
+pub mod Marking
 pub mod Passed
 pub mod PassedCompletes
 pub mod PassedConnection

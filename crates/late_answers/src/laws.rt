@@ -2,6 +2,7 @@
 //! nothing.
 
 ghost use Rattle.late_answers.specs.AgainInSession.{AgainIsNewest, AgainLeavesOthers};
+ghost use Rattle.late_answers.specs.Marking.{RefusedLeavesMarks};
 ghost use Rattle.late_answers.specs.Passed.{RepeatIsPassed, RepeatStandsBack, TouchIsTold};
 ghost use Rattle.late_answers.specs.PassedCompletes.{LateCompletes};
 ghost use Rattle.late_answers.specs.PassedConnection.{StandsNear};
@@ -122,4 +123,9 @@ pub fn late_completes()
 /// In a walk the newest request in the clear led to LargeResponse, if its answer passed unseen.
 pub fn request_was_led()
     ensures { RequestWasLed }
+{}
+
+/// A message in the clear that was refused leaves the marks.
+pub fn refused_leaves_marks()
+    ensures { RefusedLeavesMarks }
 {}
