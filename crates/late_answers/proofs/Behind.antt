@@ -11,14 +11,13 @@ use Rattle.responder_machine.specs.Handling.{turn_of}
 use Rattle.responder_machine.specs.History.{Entry, History, Kept, kept_of}
 use Rattle.responder_machine.specs.History.Entry.{Clear, Sealed, Queued, Ticked, Dropped}
 use Rattle.responder_machine.specs.Place.{clear_place}
-use Rattle.responder_machine.specs.Responder.{Outcome, is_repeat, kept_reply, on_clear}
+use Rattle.responder_machine.specs.Responder.{is_repeat, kept_reply, on_clear}
 use Rattle.responder_machine.specs.Responder.Outcome.{Same, Adds}
-use Rattle.responder_machine.specs.Setup.{RspSetup}
 use Rattle.responder_machine.specs.Turn.{Effect, Turn, is_taken}
 use Rattle.spdm_machine.specs.Bodies.{clear_body}
 use Rattle.spdm_machine.specs.Keys.{Draw}
 use Rattle.world_machine.proofs.PlainTells.{led_clear}
-use Rattle.world_machine.proofs.UnseenStands.{StandsUnseen, UnseenStand}
+use Rattle.world_machine.proofs.UnseenStands.{UnseenStand}
 use Rattle.world_machine.specs.LargeAnswers.{is_unseen_effect, is_untouched, repeats_large, touches}
 use Rattle.world_machine.specs.Rounds.{no_draw}
 

@@ -1,18 +1,16 @@
 -- What stands in the clear behind a request whose large answer passed unseen, and that its request and its drops are those
 -- of the fetch.
-use Rattle.std.proofs.Common.{◌≡◌, ◌≢◌, ◌+◌, ◌==◌, ◌&&◌, ◌||◌, ◌⊎◌, ◌++◌, ◌∙◌, ℕ, List, [], ◌∷◌, refl, sym, ap, subst, Bool, true, false, Option, Some, None, is_some, unwrap_or, cond, inl, inr}
+use Rattle.std.proofs.Common.{◌≡◌, ◌==◌, ◌&&◌, ◌⊎◌, ◌++◌, ◌∙◌, ℕ, List, [], ◌∷◌, refl, sym, ap, subst, Bool, true, false, Option, Some, None, cond, inl, inr}
 use Rattle.std.specs.Prelude.{MatchBool, not}
-use Rattle.std.proofs.lemmas.Bool.{false≢true}
-use Rattle.late_answers.specs.Passed.{AreBehind, IsPassed, StandsBack}
-use Rattle.late_answers.specs.PassedLast.{AreSince, IsFree, IsSince, LastStaysBack, in_front}
+use Rattle.late_answers.specs.Passed.{AreBehind, StandsBack}
+use Rattle.late_answers.specs.PassedLast.{AreSince, LastStaysBack}
 use Rattle.responder_machine.specs.History.{Entry, History, clear_turns, negotiation_of, phase_of}
 use Rattle.responder_machine.specs.History.Entry.{Clear, Sealed, Queued, Ticked, Dropped}
-use Rattle.responder_machine.specs.LargeMessages.{chunks_of, given_of, handle_of, large_of, larges_of}
 use Rattle.responder_machine.specs.May.{with_dropped}
 use Rattle.responder_machine.specs.Setup.{RspSetup}
-use Rattle.responder_machine.specs.Turn.{Effect, Turn, answer_in, code_in, handle_in, is_taken, request_in, takes}
+use Rattle.responder_machine.specs.Turn.{Effect, Turn, answer_in, code_in, is_taken, request_in}
 use Rattle.responder_machine.specs.Turn.Effect.{NoEffect, Took, TookData}
-use Rattle.spdm_grammar.specs.declared.names.request_code.TheConstants.{CHUNK_GET, GET_CAPABILITIES, GET_MEASUREMENTS, GET_VERSION, NEGOTIATE_ALGORITHMS, PSK_EXCHANGE}
+use Rattle.spdm_grammar.specs.declared.names.request_code.TheConstants.{GET_CAPABILITIES, GET_MEASUREMENTS, GET_VERSION, NEGOTIATE_ALGORITHMS, PSK_EXCHANGE}
 use Rattle.spdm_grammar.specs.declared.phase.Phase.{Phase}
 use Rattle.spdm_grammar.specs.declared.phase.Phase.TheVariants.{Versioned, Capable, Negotiated}
 use Rattle.spdm_machine.specs.Keys.{Draw}

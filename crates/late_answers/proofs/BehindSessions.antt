@@ -3,13 +3,13 @@ use Rattle.std.proofs.Common.{◌≡◌, ◌==◌, ◌&&◌, ◌||◌, ◌++◌,
 use Rattle.std.specs.Prelude.{not}
 use Rattle.std.proofs.lemmas.Bool.{false≢true}
 use Rattle.std.proofs.lemmas.Bool.Decides.{nat_tests}
-use Rattle.late_answers.specs.Passed.{AreBehind, IsPassed, StandsBack, touched}
+use Rattle.late_answers.specs.Passed.{AreBehind, touched}
 use Rattle.late_answers.specs.PassedSessions.{AllArePast, NoneBeginsSince, UntouchedIsTold, UntouchedStays}
 use Rattle.responder_machine.proofs.Entries.{session_of-Clear, session_of-Sealed, session_of-no_effect}
 use Rattle.responder_machine.proofs.GivenIds.{gives_none, gives_other}
 use Rattle.responder_machine.specs.History.{Entry, History, clear_turns, negotiation_of}
 use Rattle.responder_machine.specs.History.Entry.{Clear, Sealed, Queued, Ticked, Dropped}
-use Rattle.responder_machine.specs.Session.{Events, after_clear, after_record, gives_id, id_in_record, is_live, is_timed, period_of, session_of, stage_of, when_live}
+use Rattle.responder_machine.specs.Session.{Events, after_record, gives_id, id_in_record, is_live, is_timed, period_of, session_of, stage_of, when_live}
 use Rattle.responder_machine.specs.Session.Event.{Began, Heard}
 use Rattle.responder_machine.specs.Turn.{Effect, Turn, answer_in, code_in, request_in, takes, updates}
 use Rattle.responder_machine.specs.Turn.Effect.{NoEffect, Took, TookData}
@@ -17,7 +17,6 @@ use Rattle.spdm_grammar.specs.declared.names.request_code.TheConstants.{END_SESS
 use Rattle.spdm_grammar.specs.declared.phase.Stage.TheVariants.{Open, Verifying}
 use Rattle.spdm_machine.specs.Keys.{Draw}
 use Rattle.spdm_machine.specs.Sessions.{is_past_handshake}
-use Rattle.transcript.specs.Transcripts.{Negotiation}
 use Rattle.world_machine.specs.LargeAnswers.{is_unseen_effect}
 
 -- ---- One entry.

@@ -1,6 +1,6 @@
 -- The last chunk of a large answer whose fetch began late completes it exactly where its request may lead to the bytes in
 -- front.
-use Rattle.std.proofs.Common.{◌≡◌, ◌≢◌, ◌++◌, ◌∙◌, ℕ, List, ◌∷◌, refl, sym, ap, subst, true, Option, Some, None}
+use Rattle.std.proofs.Common.{◌≡◌, ◌≢◌, ◌++◌, ◌∙◌, ℕ, List, ◌∷◌, refl, sym, ap, subst, Option, Some, None}
 use Rattle.std.proofs.lemmas.Option.{same_Some}
 use Rattle.late_answers.proofs.BehindClear.{last_stays_back}
 use Rattle.late_answers.proofs.InFront.{last_is_in_front}

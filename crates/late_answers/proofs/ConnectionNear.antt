@@ -1,5 +1,5 @@
 -- A connection stands for two histories that are near, where it has the kept message and the ended record of the other.
-use Rattle.std.proofs.Common.{◌≡◌, ◌%◌, ◌∙◌, ℕ, List, [], sym, ap, subst, refl, drop, Option, Some, None, true}
+use Rattle.std.proofs.Common.{◌≡◌, ◌%◌, ◌∙◌, ℕ, List, [], sym, ap, subst, refl, drop, Option, Some, None}
 use Rattle.chunking.specs.Cutting as cutting
 use Rattle.chunking.specs.Keeping as keeping
 use Rattle.connection.specs.Connected as connected
@@ -10,10 +10,9 @@ use Rattle.connection.specs.declared.connected.Connection.{Connection}
 use Rattle.late_answers.specs.PassedConnection.{StandsNear, with_ended}
 use Rattle.late_answers.specs.PassedStands.{AreNear}
 use Rattle.request_rules.specs.LargeAnswer.{left_by}
-use Rattle.responder_machine.specs.History.{History, clear_turns, ended_of, kept_of, negotiation_of, phase_of}
+use Rattle.responder_machine.specs.History.{History, clear_turns, ended_of, kept_of}
 use Rattle.responder_machine.specs.LargeMessages.{given_of, handle_of, large_of, next_handle}
 use Rattle.responder_machine.specs.Refusal.{sizes_are_known}
-use Rattle.responder_machine.specs.Session.{Events}
 use Rattle.responder_machine.specs.Setup.{RspSetup}
 use Rattle.responder_machine.specs.SizeLaws.{HasSizes}
 use Rattle.responder_machine.specs.Turn.{Turn}

@@ -1,11 +1,11 @@
 -- A connection keeps the same of the history with the request of a late fetch at its place as of that with it in front, but
 -- for the last record of the ended session.
-use Rattle.std.proofs.Common.{◌≡◌, ◌≢◌, ◌≤◌, ◌+◌, ◌==◌, ◌&&◌, ◌||◌, ◌⊎◌, ◌++◌, ◌∙◌, ℕ, zero, suc, List, [], ◌∷◌, refl, sym, ap, subst, arith, drop, Bool, true, false, Option, Some, None, is_some, unwrap_or, cond, inl, inr, eqb-true}
+use Rattle.std.proofs.Common.{◌≡◌, ◌+◌, ◌==◌, ◌||◌, ◌++◌, ◌∙◌, ℕ, zero, suc, List, [], ◌∷◌, refl, sym, ap, subst, arith, drop, Bool, true, false, Option, Some, None, is_some, unwrap_or, cond, inl, inr, eqb-true}
 use Rattle.std.specs.Prelude.{not}
 use Rattle.std.proofs.lemmas.Bool.{false≢true}
 use Rattle.spdm_basis.proofs.Bools.{and_first, and_second}
 use Rattle.late_answers.proofs.BehindClear.{IsFreeCode, behind_same, code_with, phase_drops, phase_free, terms_drops, terms_free}
-use Rattle.late_answers.proofs.BehindSessions.{all_are_past, dropped_session, exchange_left, unseen_answer, untouched_list}
+use Rattle.late_answers.proofs.BehindSessions.{all_are_past, dropped_session, exchange_left, untouched_list}
 use Rattle.late_answers.specs.Passed.{AreBehind, StandsBack, touched}
 use Rattle.late_answers.specs.PassedLast.{IsFree, in_front, touched_by}
 use Rattle.late_answers.specs.PassedStands.{AreNear, EndedStays, FrontIsNear, NearGoesOn, NearIsKept}

@@ -1,8 +1,8 @@
 -- The request of a fetch that began late may have led to its bytes at its place exactly where it may lead to them as the
 -- newest one, under another tag.
-use Rattle.std.proofs.Common.{◌≡◌, ◌≢◌, ◌==◌, ◌&&◌, ◌⊎◌, ◌++◌, ◌∙◌, ℕ, List, [], ◌∷◌, refl, sym, ap, subst, arith, Bool, true, false, Option, Some, None, cond, inl, inr, eq-eqb, eqb-true, ne_eqb}
+use Rattle.std.proofs.Common.{◌≡◌, ◌≢◌, ◌==◌, ◌&&◌, ◌++◌, ◌∙◌, ℕ, List, [], ◌∷◌, refl, sym, ap, subst, Bool, true, false, Option, Some, None, cond, eq-eqb, eqb-true, ne_eqb}
 use Rattle.std.specs.Prelude.{MatchBool, bytes_eq, not}
-use Rattle.std.proofs.lemmas.Bool.{false≢true, not-true}
+use Rattle.std.proofs.lemmas.Bool.{not-true}
 use Rattle.spdm_basis.proofs.Bools.{and_first, and_second}
 use Rattle.capture_laws.proofs.DropsShown.{dropped_may, may_drop}
 use Rattle.late_answers.proofs.Behind.{kept_passed, touch_is_told}
@@ -19,14 +19,12 @@ use Rattle.responder_machine.specs.Responder.Outcome.{Adds}
 use Rattle.responder_machine.specs.Responder.{is_repeat}
 use Rattle.responder_machine.specs.Session.{Events, is_live, session_of, stage_of}
 use Rattle.responder_machine.specs.Setup.{RspSetup}
-use Rattle.responder_machine.specs.Turn.{Effect, Turn, answer_in, code_in, is_taken, takes}
+use Rattle.responder_machine.specs.Turn.{Turn, answer_in, code_in, takes}
 use Rattle.spdm_grammar.specs.declared.names.request_code.TheConstants.{PSK_EXCHANGE}
-use Rattle.spdm_machine.specs.Bodies.{clear_body}
-use Rattle.spdm_machine.specs.Keys.{Draw}
 use Rattle.spdm_machine.specs.Sessions.{id_in_exchange, is_past_handshake}
 use Rattle.world_machine.proofs.DropsTell.{kept_same}
-use Rattle.world_machine.specs.CapturedAnswers.{AreShown, MayHaveLed, MayLeadTo, MayLeadToEntry, request_in}
-use Rattle.world_machine.specs.LargeAnswers.{begun_with, handle_shown, id_begun, is_unseen_effect, is_unseen_in, is_untouched, seen, seen_turn}
+use Rattle.world_machine.specs.CapturedAnswers.{AreShown, MayHaveLed, MayLeadToEntry, request_in}
+use Rattle.world_machine.specs.LargeAnswers.{begun_with, handle_shown, id_begun, is_untouched, seen_turn}
 
 -- ---- With its bytes it is the same request.
 

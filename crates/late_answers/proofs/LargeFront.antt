@@ -1,11 +1,11 @@
 -- A request whose large answer passed unseen may lead to LargeResponse elsewhere too, behind the drops of all sessions.
-use Rattle.std.proofs.Common.{◌≡◌, ◌≢◌, ◌≤◌, ◌==◌, ◌&&◌, ◌⊎◌, ◌++◌, ◌∙◌, ℕ, zero, suc, List, [], ◌∷◌, refl, sym, ap, subst, arith, Bool, true, false, Option, Some, None, inl, inr}
+use Rattle.std.proofs.Common.{◌≡◌, ◌≤◌, ◌&&◌, ◌++◌, ◌∙◌, ℕ, zero, suc, List, [], ◌∷◌, refl, sym, ap, subst, arith, true, false, Option, None, inl, inr}
 use Rattle.late_answers.proofs.Behind.{kept_passed}
 use Rattle.late_answers.proofs.BehindClear.{IsFreeCode, code_with, phase_before, terms_before}
 use Rattle.late_answers.proofs.BehindSessions.{dropped_session}
 use Rattle.late_answers.proofs.InFront.{other_tag}
 use Rattle.late_answers.proofs.LeadsElsewhere.{lead_moved}
-use Rattle.late_answers.specs.Passed.{AreBehind, IsBehind, IsPassed, StandsBack}
+use Rattle.late_answers.specs.Passed.{AreBehind, IsBehind, IsPassed}
 use Rattle.late_answers.specs.PassedLarge.{IsLedLargely, LargeIsInFront, LedElsewhere, LedGoesOn, WasLed}
 use Rattle.late_answers.specs.PassedLast.{IsFree}
 use Rattle.responder_machine.proofs.Fresh.{exchange-fresh, turn_of-fresh}

@@ -1,7 +1,7 @@
 -- A request for measurements or for a session may lead to the same behind two histories, where the negotiation is the same,
 -- it is no repeat, and the session that it begins has an id that is in use in both or in neither.
-use Rattle.std.proofs.Common.{◌≡◌, ◌≤◌, ◌==◌, ◌&&◌, ◌⊎◌, ◌∙◌, ℕ, suc, zero, List, ◌∷◌, refl, sym, ap, subst, arith, length, Bool, true, false, Option, Some, None, cond, inl, inr}
-use Rattle.std.proofs.lemmas.Bool.{false≢true, eqb-false}
+use Rattle.std.proofs.Common.{◌≡◌, ◌≤◌, ◌==◌, ◌&&◌, ◌∙◌, ℕ, suc, zero, List, refl, sym, ap, subst, arith, length, Bool, true, false, Option, Some, None, cond, inl, inr}
+use Rattle.std.proofs.lemmas.Bool.{eqb-false}
 use Rattle.late_answers.proofs.TurnElsewhere.{Asks, IsFreeRequest, asks, bytes_same, no_chunk, place_by, taken_none, turn_moved, with_id}
 use Rattle.late_answers.specs.PassedLast.{IsFree}
 use Rattle.responder_machine.proofs.Codes.{asked-code}
@@ -10,16 +10,16 @@ use Rattle.responder_machine.proofs.Ids.{free_id-range, free_id-unheld, not_four
 use Rattle.responder_machine.specs.Answer.{Free, answer_bytes, request_at}
 use Rattle.responder_machine.proofs.Turns.{turn_of-plain}
 use Rattle.responder_machine.specs.Handling.{chunk_in, effect_of, handle_for, turn_of}
-use Rattle.responder_machine.specs.History.{Entry, History, clear_turns, kept_of, negotiation_of, phase_of}
+use Rattle.responder_machine.specs.History.{History, clear_turns, kept_of, negotiation_of, phase_of}
 use Rattle.responder_machine.specs.History.Entry.{Clear}
 use Rattle.responder_machine.specs.May.{IsAllowed}
 use Rattle.responder_machine.specs.Place.{Place, clear_place, free_id, held_of, is_held, place_terms}
 use Rattle.responder_machine.specs.Refusal.{code_of}
-use Rattle.responder_machine.specs.Responder.{Outcome, is_repeat, kept_reply, on_clear}
+use Rattle.responder_machine.specs.Responder.{is_repeat, kept_reply, on_clear}
 use Rattle.responder_machine.specs.Responder.Outcome.{Same, Adds}
 use Rattle.responder_machine.specs.Setup.{RspSetup}
 use Rattle.responder_machine.specs.Turn.{Turn, answer_in, code_in, is_taken, takes}
-use Rattle.spdm_grammar.specs.Message.{ChunkMessage, ExchangeMessage, RequestMessage}
+use Rattle.spdm_grammar.specs.Message.{ExchangeMessage, RequestMessage}
 use Rattle.spdm_grammar.specs.Message.RequestMessage.{GetVersion, GetCapabilities, NegotiateAlgorithms, GetMeasurements, PskExchange, PskFinish, Heartbeat, KeyUpdate, EndSession, ChunkSend, ChunkGet}
 use Rattle.spdm_grammar.specs.declared.names.TheConstants.{MAX_MESSAGE_SIZE}
 use Rattle.spdm_grammar.specs.declared.names.request_code.TheConstants.{PSK_EXCHANGE}

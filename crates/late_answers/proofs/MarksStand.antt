@@ -1,16 +1,15 @@
 -- The marks of touched sessions, entry by entry.
-use Rattle.std.proofs.Common.{◌≡◌, ◌≢◌, ◌≤◌, ◌==◌, ◌||◌, ◌∙◌, ℕ, zero, suc, List, [], ◌∷◌, refl, sym, ap, subst, arith, Bool, true, false, Some, None, cond, eqb-true}
-use Rattle.std.specs.Prelude.{nat_lt, slice_index_or}
+use Rattle.std.proofs.Common.{◌≡◌, ◌≢◌, ◌≤◌, ◌==◌, ◌||◌, ◌∙◌, ℕ, zero, suc, List, [], ◌∷◌, refl, sym, ap, subst, arith, Bool, true, false, cond, eqb-true}
+use Rattle.std.specs.Prelude.{slice_index_or}
 use Rattle.std.proofs.lemmas.Bool.{eqb-false}
 use Rattle.late_answers.specs.Marking.{RefusedLeavesMarks, StandsFor, mark_of}
 use Rattle.late_answers.specs.Passed.{touched}
 use Rattle.late_answers.specs.declared.marks.Marks.{Marks}
-use Rattle.responder_machine.specs.History.{Entry, History}
+use Rattle.responder_machine.specs.History.{History}
 use Rattle.responder_machine.specs.History.Entry.{Clear, Sealed, Dropped}
 use Rattle.responder_machine.specs.Session.{id_in_record}
 use Rattle.responder_machine.specs.Turn.{Turn, is_taken}
 use Rattle.spdm_machine.specs.Keys.{Draw}
-use Rattle.world_machine.specs.LargeAnswers.{is_kept_in, touches}
 
 -- ---- None is set.
 

@@ -1,5 +1,5 @@
 -- The large answer to the newest record of a session stands in the newest event of that session.
-use Rattle.std.proofs.Common.{◌≡◌, ◌≢◌, ◌==◌, ◌&&◌, ◌∙◌, ℕ, List, [], ◌∷◌, refl, sym, ap, Bool, true, false, Option, Some, None, is_some, cond, eqb-true, ne_eqb}
+use Rattle.std.proofs.Common.{◌≡◌, ◌==◌, ◌&&◌, ◌∙◌, ℕ, List, [], ◌∷◌, refl, sym, ap, Bool, true, false, Some, is_some, cond, eqb-true, ne_eqb}
 use Rattle.std.proofs.lemmas.Bool.{false≢true}
 use Rattle.late_answers.proofs.BehindClear.{code_with}
 use Rattle.late_answers.proofs.BehindSessions.{dropped_session}
@@ -8,7 +8,7 @@ use Rattle.late_answers.specs.AgainInSession.{AgainIsNewest, AgainLeavesOthers, 
 use Rattle.responder_machine.proofs.Entries.{session_of-Clear, session_of-Sealed, session_of-Ticked}
 use Rattle.responder_machine.specs.History.{Entry, History, clear_turns, negotiation_of}
 use Rattle.responder_machine.specs.History.Entry.{Clear, Sealed, Queued, Ticked, Dropped}
-use Rattle.responder_machine.specs.Session.{Events, after_clear, after_exchange, after_record, after_tick, gives_id, id_in_record, last_of, session_of, stage_of, when_live}
+use Rattle.responder_machine.specs.Session.{Events, after_clear, after_record, after_tick, gives_id, id_in_record, last_of, session_of, stage_of, when_live}
 use Rattle.responder_machine.specs.Session.Event.{Began, Heard, Waited}
 use Rattle.responder_machine.specs.Turn.{Effect, Turn, answer_in, request_in, takes}
 use Rattle.responder_machine.specs.Turn.Effect.{NoEffect, Took, TookData}
@@ -16,7 +16,7 @@ use Rattle.spdm_grammar.specs.declared.names.request_code.TheConstants.{END_SESS
 use Rattle.spdm_grammar.specs.declared.phase.Stage.{Stage}
 use Rattle.spdm_machine.specs.Sessions.{is_past_handshake}
 use Rattle.transcript.specs.Transcripts.{Negotiation}
-use Rattle.world_machine.proofs.UnseenStands.{StandsUnseen, UnseenStand}
+use Rattle.world_machine.proofs.UnseenStands.{UnseenStand}
 use Rattle.world_machine.specs.LargeAnswers.{effect_with, handle_shown, is_unseen_effect, is_unseen_in, repeats_large, seen, seen_turn, with_large}
 
 -- ---- What came in the clear.

@@ -1,6 +1,6 @@
 -- A request for measurements or for a session leads to the same turn at two places in the clear that differ in what came
 -- there and in the sessions alone: where neither has four sessions past their handshake, or measurements are asked for.
-use Rattle.std.proofs.Common.{◌≡◌, ◌≢◌, ◌≤◌, ◌==◌, ◌&&◌, ◌||◌, ◌⊎◌, ◌∙◌, ℕ, List, [], ◌∷◌, refl, sym, ap, subst, arith, length, Bool, true, false, Option, Some, None, cond, is_none, inl, inr}
+use Rattle.std.proofs.Common.{◌≡◌, ◌≢◌, ◌==◌, ◌&&◌, ◌||◌, ◌∙◌, ℕ, List, [], ◌∷◌, refl, sym, ap, arith, Bool, true, false, Option, Some, None, cond, inl, inr}
 use Rattle.std.proofs.lemmas.Bool.{false≢true}
 use Rattle.std.proofs.lemmas.Option.{none-some}
 use Rattle.large_answers.proofs.TurnsMoved.{Near, refusal_moved}
@@ -8,13 +8,13 @@ use Rattle.late_answers.specs.PassedLast.{IsFree}
 use Rattle.responder_machine.proofs.Codes.{asked-code}
 use Rattle.responder_machine.proofs.Turns.{turn_of-plain, turn_of-refused}
 use Rattle.responder_machine.specs.Answer.{Free, answer_bytes, answer_to, request_at}
-use Rattle.responder_machine.specs.Handling.{carried_turn, chunk_in, chunk_turn, effect_of, handle_for, plain_turn, refused_turn, sent_for, taken_chunk, turn_by, turn_of}
+use Rattle.responder_machine.specs.Handling.{carried_turn, chunk_in, chunk_turn, effect_of, handle_for, plain_turn, sent_for, taken_chunk, turn_by, turn_of}
 use Rattle.responder_machine.specs.Laws.{completed_at}
-use Rattle.responder_machine.specs.Place.{Place, inside, place_terms}
+use Rattle.responder_machine.specs.Place.{Place, inside}
 use Rattle.responder_machine.specs.Place.Where.{InClear}
 use Rattle.responder_machine.specs.Refusal.{chunk_fault, code_of, has_pending, is_answer_too_long, is_exchange_refused, is_get_refused, is_update_misplaced, is_verify_wrong, phase_allows, refusal}
 use Rattle.responder_machine.specs.Setup.{RspSetup}
-use Rattle.responder_machine.specs.Turn.{Effect, Turn, code_in, is_taken}
+use Rattle.responder_machine.specs.Turn.{Turn, code_in, is_taken}
 use Rattle.responder_machine.specs.Turn.Effect.{NoEffect}
 use Rattle.spdm_grammar.specs.Codes.{code_for, is_one_of}
 use Rattle.spdm_grammar.specs.Message.{ChunkMessage, RequestMessage}

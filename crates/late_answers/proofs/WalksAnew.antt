@@ -1,9 +1,8 @@
 -- In each walk a message in the clear that was taken was no repeat.
-use Rattle.std.proofs.Common.{◌≡◌, ◌==◌, ◌⊎◌, ◌++◌, ◌∙◌, ℕ, List, [], ◌∷◌, refl, sym, ap, subst, drop, Bool, true, false, Option, Some, None, Result, Ok, Err, cond, inl, inr}
+use Rattle.std.proofs.Common.{◌≡◌, ◌==◌, ◌++◌, ◌∙◌, ℕ, List, [], ◌∷◌, refl, sym, ap, subst, drop, Bool, true, false, Option, Some, None, Result, Ok, Err, cond, inl, inr}
 use Rattle.std.specs.Prelude.{MatchBool, slice_index}
 use Rattle.capture_laws.specs.Order.{is_answer, is_request}
 use Rattle.capture_laws.specs.Walks.{StepsBy, StepsTo, Walks}
-use Rattle.late_answers.specs.Passed.{StandsBack}
 use Rattle.late_answers.specs.PassedLast.{RequestWasAnew}
 use Rattle.mctp_framing.specs.Gathering.{Gathered}
 use Rattle.mctp_framing.specs.Gathering.Gathered.{Whole, More, Dropped as Lost}
@@ -19,7 +18,7 @@ use Rattle.responder_machine.specs.Place.{clear_place}
 use Rattle.responder_machine.specs.Responder.{Outcome, after, is_repeat, kept_reply, on_clear}
 use Rattle.responder_machine.specs.Responder.Outcome.{Same, Unopened, Adds}
 use Rattle.responder_machine.specs.Setup.{RspSetup, towards}
-use Rattle.responder_machine.specs.Turn.{Turn, is_taken}
+use Rattle.responder_machine.specs.Turn.{is_taken}
 use Rattle.spdm_basis.specs.declared.PacketFault.{PacketFault}
 use Rattle.spdm_machine.specs.Bodies.{clear_body}
 use Rattle.spdm_machine.specs.Packets.{gathered_from}

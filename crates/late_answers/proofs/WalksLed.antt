@@ -1,5 +1,5 @@
 -- In each walk the newest request in the clear that was taken led to LargeResponse, if its answer passed unseen.
-use Rattle.std.proofs.Common.{◌≡◌, ◌≢◌, ◌==◌, ◌&&◌, ◌⊎◌, ◌++◌, ◌∙◌, ℕ, List, [], ◌∷◌, refl, sym, ap, subst, arith, drop, Bool, true, false, Option, Some, None, Result, Ok, Err, cond, inl, inr, eq-eqb, eqb-true}
+use Rattle.std.proofs.Common.{◌≡◌, ◌≢◌, ◌==◌, ◌++◌, ◌∙◌, ℕ, List, [], ◌∷◌, refl, sym, ap, subst, arith, drop, Bool, true, false, Option, Some, None, Result, Ok, Err, cond, inl, inr, eq-eqb, eqb-true}
 use Rattle.std.specs.Prelude.{MatchBool, slice_index}
 use Rattle.std.proofs.lemmas.Bool.{false≢true}
 use Rattle.std.proofs.lemmas.Option.{same_Some}
@@ -11,7 +11,7 @@ use Rattle.late_answers.proofs.LargeFront.{added, led_elsewhere, led_goes_on, tu
 use Rattle.late_answers.proofs.SessionNewest.{turns_same}
 use Rattle.late_answers.proofs.WalksAnew.{AllAnew, AnewHere, asks_keep, before_anew, drops_kept, kept_before, kept_large, led_anew, walk_anew}
 use Rattle.late_answers.proofs.WalksStand.{walk_sound}
-use Rattle.late_answers.specs.Passed.{IsBehind, IsPassed, StandsBack}
+use Rattle.late_answers.specs.Passed.{IsBehind, IsPassed}
 use Rattle.late_answers.specs.PassedLarge.{IsLedLargely, RequestWasLed, WasLed}
 use Rattle.late_answers.specs.PassedLast.{IsFree}
 use Rattle.mctp_framing.specs.Gathering.{Gathered}
@@ -31,7 +31,6 @@ use Rattle.responder_machine.specs.Responder.{Outcome, after, is_repeat}
 use Rattle.responder_machine.specs.Session.{id_in_record}
 use Rattle.responder_machine.specs.Setup.{RspSetup, towards}
 use Rattle.responder_machine.specs.Turn.{Effect, Turn, code_in, is_taken, takes}
-use Rattle.responder_machine.specs.Turn.Effect.{NoEffect}
 use Rattle.spdm_basis.specs.declared.PacketFault.{PacketFault}
 use Rattle.spdm_grammar.specs.Message.RequestMessage.{ChunkGet, GetVersion}
 use Rattle.spdm_grammar.specs.Reading.{field_at, number_at}
@@ -51,7 +50,7 @@ use Rattle.world_machine.proofs.PlainTells.{led_clear, led_record}
 use Rattle.world_machine.proofs.SeenAnswers.{led_seen}
 use Rattle.world_machine.specs.Capture.{AsksBy, RepliesBy}
 use Rattle.world_machine.specs.CapturedAnswers.{Answers, AnswersAgain, AnswersLarge, AnswersPlainly, Completes, MayLeadTo, request_in, tag_in}
-use Rattle.world_machine.specs.LargeAnswers.{dropped_before_large, gives_last, is_large, is_unseen, is_unseen_effect, is_unseen_in, judging, place_named, seen, seen_turn, takes_get, turn_with, unseen, with_large}
+use Rattle.world_machine.specs.LargeAnswers.{dropped_before_large, is_large, is_unseen, is_unseen_in, judging, place_named, seen, seen_turn, takes_get, turn_with, unseen, with_large}
 use Rattle.world_machine.specs.Rounds.{Dialogue, Round, no_draw}
 use Rattle.world_machine.specs.Setup.{Configuration, known_of}
 

@@ -5,7 +5,7 @@ use Rattle.capture_laws.specs.Walks.{Walks}
 use Rattle.requester_machine.specs.Setup.{ReqSetup}
 use Rattle.responder_machine.specs.History.{clear_turns}
 use Rattle.responder_machine.specs.Session.{Events, last_of, session_of}
-use Rattle.responder_machine.specs.Session.Event.{Began, Heard, Waited}
+use Rattle.responder_machine.specs.Session.Event.{Heard}
 use Rattle.world_machine.specs.LargeAnswers.{repeats_large, seen_turn, with_large}
 use Rattle.world_machine.specs.Rounds.{Dialogue}
 use Rattle.world_machine.specs.Setup.{Configuration}

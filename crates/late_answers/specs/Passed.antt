@@ -1,9 +1,9 @@
 -- A request in the clear whose large answer passed unseen, and what came behind it. This project's own.
-use Rattle.std.specs.Prelude.{◌≡◌, ◌≢◌, ◌||◌, ◌++◌, not, ℕ, List, [], ◌∷◌, if◌then◌else◌, Bool, true, false, Option, Some, None}
+use Rattle.std.specs.Prelude.{◌≡◌, ◌||◌, ◌++◌, not, ℕ, List, [], ◌∷◌, if◌then◌else◌, Bool, true, false, Some, None}
 use Rattle.capture_laws.specs.Walks.{Walks}
 use Rattle.requester_machine.specs.Setup.{ReqSetup}
-use Rattle.responder_machine.specs.History.{Entry, History, kept_of}
-use Rattle.responder_machine.specs.History.Entry.{Clear, Sealed, Queued, Ticked, Dropped}
+use Rattle.responder_machine.specs.History.{Entry, History}
+use Rattle.responder_machine.specs.History.Entry.{Clear, Sealed, Dropped}
 use Rattle.responder_machine.specs.Responder.Outcome.{Same}
 use Rattle.responder_machine.specs.Setup.{RspSetup}
 use Rattle.responder_machine.specs.Turn.{Turn, is_taken}

@@ -1,5 +1,5 @@
 -- What a connection stands for behind the last chunk of a large answer whose fetch began late. This project's own.
-use Rattle.std.specs.Prelude.{◌≡◌, ◌≢◌, ◌++◌, ℕ, List, ◌∷◌, true, false, None}
+use Rattle.std.specs.Prelude.{◌≡◌, ◌++◌, ℕ, List, ◌∷◌, true, false}
 use Rattle.late_answers.specs.Passed.{StandsBack}
 use Rattle.late_answers.specs.PassedLast.{IsFree, in_front, touched_by}
 use Rattle.responder_machine.specs.History.{History, clear_turns, ended_of, kept_of, negotiation_of, phase_of, queue_of}
@@ -10,7 +10,6 @@ use Rattle.responder_machine.specs.Responder.Outcome.{Adds}
 use Rattle.responder_machine.specs.Session.{session_of}
 use Rattle.responder_machine.specs.Setup.{RspSetup}
 use Rattle.responder_machine.specs.Turn.{Turn, is_taken}
-use Rattle.spdm_machine.specs.Bodies.{clear_body}
 use Rattle.spdm_machine.specs.Keys.{Draw}
 use Rattle.world_machine.specs.CapturedAnswers.{AreShown, request_in}
 use Rattle.world_machine.specs.LargeAnswers.{id_begun}
