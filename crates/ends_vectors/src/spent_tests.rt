@@ -1,9 +1,8 @@
-use asking::{Command, CommandFault};
 use mctp_framing::PacketList;
-use requester::{ReqConfig, Requester};
+use requester::{Command, ReqConfig, Requester};
 use responder::{Known, Responder, RspConfig};
 use spdm_basis::{Bytes, Eid, Psk, SessionId};
-use spdm_grammar::{Event, Finished, FlagSet, Pick, Suites};
+use spdm_grammar::{CommandFault, Event, Finished, FlagSet, Pick, Suites};
 use std::process::Abort;
 use std::test::Fail;
 
@@ -45,7 +44,7 @@ fn requester(rt: &impl AllocGlobal) -> Result<Requester, Fail> {
         responder: Eid::new(8).ok_or("no end point")?,
         transfer: 1024,
         max: 4096,
-        unit: 64,
+        unit: 1024,
         pad: 0,
         flags: FLAGS,
         hint: &[0x71],
@@ -66,7 +65,7 @@ fn responder(rt: &impl AllocGlobal) -> Result<Responder, Fail> {
         eid: Eid::new(8).ok_or("no end point")?,
         transfer: 1024,
         max: 4096,
-        unit: 64,
+        unit: 1024,
         beat: 30,
         flags: FLAGS,
         opaque: &[],
