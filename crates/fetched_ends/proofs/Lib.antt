@@ -110,3 +110,9 @@ pub mod StepsMoved
 pub mod StepsBegun
 pub mod StepsSessions
 pub mod StepsFew
+pub mod CapsTurns
+pub mod CapsAsked
+pub mod CapsStand
+pub mod CapsBehind
+pub mod CapsSent
+pub mod SameChunks
