@@ -116,3 +116,6 @@ pub mod CapsStand
 pub mod CapsBehind
 pub mod CapsSent
 pub mod SameChunks
+pub mod RoundAnswered
+pub mod LargeAsks
+pub mod NoneUnfetched

@@ -126,7 +126,6 @@ impl JudgedEnds {
         match begins_held(&mut self.talk.party, table, setup, round, answer)? {
             BegunHeld::Not => self.talk.replies(table, setup, round, answer),
             BegunHeld::Passed => Ok(Ok(Onward::Kept)),
-            BegunHeld::Unfetched => Ok(Ok(Onward::Large)),
             BegunHeld::Fetching(held) => {
                 self.fetched = Some(Fetch::InClear(held));
                 Ok(Ok(Onward::Kept))

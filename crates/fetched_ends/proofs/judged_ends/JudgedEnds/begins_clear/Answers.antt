@@ -62,27 +62,9 @@ returns-in-Passed-clause-told c = λ w q older rows packet route at few byte rou
     let begun = subst (λ (x : Result BegunHeld OutOfMemory). IfOk x (λ y. IsBegunHeld w q older rows k route answer y new c.args.table.now after)) c.in_ok-begins_held.was
     (c.begins_held.ensures.told w q older rows k route keeps few byte now towards_it right there.2 table) in
     let is = subst (λ (x : BegunHeld). IsBegunHeld w q older rows k route answer x new c.args.table.now after) c.in-Passed.is begun in
-    let told = told_on w q older rows packet route answer at k keeps (Ok onward.Kept) new after is in
+    let told = told_on w q older rows packet route answer at k keeps (Ok onward.Kept) new after (is.0, is.1, is.2) in
     answered_rest w q older rows packet route answer (Ok onward.Kept) (record talk { party = new }) c.args.self.now.fetched after rest
     (subst (λ (o : Option LargeRequest). conversations.IsJudgedAnswer w q older rows packet route answer (Ok onward.Kept) new o after) (sym none) told)
-
-pub returns-in-Unfetched-clause-told : goal.returns-in-Unfetched-clause-told
-returns-in-Unfetched-clause-told c = λ w q older rows packet route at few byte round set_up why rest none stands table.
-    let answer = c.args.answer.now in
-    let talk = c.args.self.now.talk in
-    let there = subst (λ (o : Option LargeRequest). conversations.StandsAs talk.party o w q older rows) none stands in
-    let k = there.0 in
-    let keeps = there.1 in
-    let walk = (kept_is_restored w q older k keeps).0 in
-    let now : c.args.round.now ≡ k.round = round ∙ sym (walk_round w q older (restored k) walk) in
-    let towards_it = subst (λ (s : ReqSetup). IsSetUp c.args.setup.now (towards w.responder (known_of s))) (sym (walks_setup w q older (restored k) walk)) set_up in
-    let right = subst (λ (o : Option Round). answered_why o (Whole route answer) ≡ None) now why in
-    let new = c.begins_held.new.party in
-    let after = c.begins_held.new.table in
-    let begun = subst (λ (x : Result BegunHeld OutOfMemory). IfOk x (λ y. IsBegunHeld w q older rows k route answer y new c.args.table.now after)) c.in_ok-begins_held.was
-    (c.begins_held.ensures.told w q older rows k route keeps few byte now towards_it right there.2 table) in
-    let is = subst (λ (x : BegunHeld). IsBegunHeld w q older rows k route answer x new c.args.table.now after) c.in-Unfetched.is begun in
-    inl (k, keeps, (is.0.0, is.0.1, inl is.0.3))
 
 pub returns-in-Fetching-clause-told : goal.returns-in-Fetching-clause-told
 returns-in-Fetching-clause-told c = λ w q older rows packet route at few byte round set_up why rest none stands table.
