@@ -119,3 +119,4 @@ pub mod SameChunks
 pub mod RoundAnswered
 pub mod LargeAsks
 pub mod NoneUnfetched
+pub mod EndsLeft
