@@ -50,25 +50,12 @@ rest_behind : (w : Configuration) (q : ReqSetup) (older : List (List ℕ)) (rows
     → StandsBehind (record { talk = new; fetched = None }) table w q older rows packet
 rest_behind w q older rows packet new table c = record { before = c.before; came = c.came; after = c.after; goes = c.goes; stands = c.stands; entries = c.entries }
 
--- A request, and an answer, where none was.
+-- A request, where none was.
 pub asked_rest : (w : Configuration) (q : ReqSetup) (older : List (List ℕ)) (rows : List Row) (packet : List ℕ) (g : Gathered) (result : Result Unit declared.Why) (new : Conversation) (o : Option Fetch) (table : List Seen) → o ≡ None
     → conversations.IsAskedOf w q older rows packet g result new table → IsAskedOf w q older rows packet g result (record { talk = new; fetched = o }) table
 asked_rest w q older rows packet g (Ok u) new o table none told =
     subst (λ (x : Option Fetch). StandsBehind (record { talk = new; fetched = x }) table w q older rows packet) (sym none) (rest_behind w q older rows packet new table told)
 asked_rest w q older rows packet g (Err why) new o table none told = told
-
-pub answered_rest : (w : Configuration) (q : ReqSetup) (older : List (List ℕ)) (rows : List Row) (packet : List ℕ) (route : RouteFields) (answer : List ℕ) (result : Result Onward declared.Why) (new : Conversation) (o : Option Fetch) (table : List Seen) → o ≡ None
-    → conversations.IsJudgedAnswer w q older rows packet route answer result new.party new.large table → IsJudgedAnswer w q older rows packet route answer result (record { talk = new; fetched = o }) table
-answered_rest w q older rows packet route answer (Ok onward.Kept) new o table none told =
-    subst (λ (x : Option Fetch). StandsBehind (record { talk = new; fetched = x }) table w q older rows packet) (sym none) (rest_behind w q older rows packet new table told)
-answered_rest w q older rows packet route answer (Ok onward.Large) new o table none told = inl told
-answered_rest w q older rows packet route answer (Err why) new o table none told = told
-
--- The same of a call that may want memory.
-pub answered_all : (w : Configuration) (q : ReqSetup) (older : List (List ℕ)) (rows : List Row) (packet : List ℕ) (route : RouteFields) (answer : List ℕ) (result : Result (Result Onward declared.Why) OutOfMemory) (new : Conversation) (o : Option Fetch) (table : List Seen) → o ≡ None
-    → IfOk result (λ told. conversations.IsJudgedAnswer w q older rows packet route answer told new.party new.large table) → IfOk result (λ told. IsJudgedAnswer w q older rows packet route answer told (record { talk = new; fetched = o }) table)
-answered_all w q older rows packet route answer (Ok told) new o table none is = answered_rest w q older rows packet route answer told new o table none is
-answered_all w q older rows packet route answer (Err fault) new o table none is = is
 
 -- ---- One begins.
 

@@ -110,3 +110,13 @@ pub mod StepsMoved
 pub mod StepsBegun
 pub mod StepsSessions
 pub mod StepsFew
+pub mod CapsTurns
+pub mod CapsAsked
+pub mod CapsStand
+pub mod CapsBehind
+pub mod CapsSent
+pub mod SameChunks
+pub mod RoundAnswered
+pub mod LargeAsks
+pub mod NoneUnfetched
+pub mod EndsLeft

@@ -13,3 +13,4 @@ pub mod BegunHeld
 pub mod JudgedEnds
 pub mod LastHeld
 pub mod RefusedAgain
+pub mod SameChunks

@@ -124,9 +124,8 @@ impl JudgedEnds {
         ensures memory { OnErr result (IsSome (id_begun (response_of (drop 1 answer.now)))) }
     {
         match begins_held(&mut self.talk.party, table, setup, round, answer)? {
-            BegunHeld::Not => self.talk.replies(table, setup, round, answer),
+            BegunHeld::Not => self.talk.party.replies(table, setup, round, answer),
             BegunHeld::Passed => Ok(Ok(Onward::Kept)),
-            BegunHeld::Unfetched => Ok(Ok(Onward::Large)),
             BegunHeld::Fetching(held) => {
                 self.fetched = Some(Fetch::InClear(held));
                 Ok(Ok(Onward::Kept))

@@ -4,10 +4,8 @@ use Rattle.mctp_framing.specs.Gathering.Gathered.{Whole}
 use Rattle.requester_machine.specs.Setup.{ReqSetup}
 use Rattle.responder_machine.specs.Setup.{towards}
 use Rattle.spdm_basis.specs.declared.OutOfMemory.{OutOfMemory}
-use Rattle.capture_ends.proofs.AnswerWalks.{told_on}
 use Rattle.capture_ends.proofs.WalkRows.{walk_round}
 use Rattle.capture_ends.specs.Conversation as conversations
-use Rattle.capture_ends.specs.declared.party.Party.{Party}
 use Rattle.capture_laws.proofs.KeptAnswers.{kept_is_restored}
 use Rattle.capture_laws.proofs.PairWalks.{walks_setup}
 use Rattle.capture_laws.specs.Keeping.{restored}
@@ -15,7 +13,8 @@ use Rattle.capture_laws.specs.Order.{answered_why}
 use Rattle.capture_laws.specs.Rows.{StandsForRows}
 use Rattle.capture_laws.specs.declared.verdict.Seen.{Seen}
 use Rattle.connection.specs.Setup.{IsSetUp}
-use Rattle.fetched_ends.proofs.EndsReplied.{answered_all, answered_rest, begun_on, none_sent}
+use Rattle.fetched_ends.proofs.EndsLeft.{sent_rest, session_left, told_rest}
+use Rattle.fetched_ends.proofs.EndsReplied.{begun_on, none_sent}
 use Rattle.fetched_ends.proofs.judged_ends.JudgedEnds.replies_at_rest.Goals as goal
 use Rattle.fetched_ends.specs.BegunIn.{IsBegunIn}
 use Rattle.fetched_ends.specs.declared.in_session_begins.BegunIn.{BegunIn}
@@ -26,7 +25,8 @@ use Rattle.world_machine.specs.Setup.{known_of}
 
 pub returns-then-is_some-clause-told : goal.returns-then-is_some-clause-told
 returns-then-is_some-clause-told c = λ w q older rows packet route at few byte round set_up why rest stands table.
-    answered_all w q older rows packet route c.args.answer.now c.replies.result c.replies.new.self c.args.self.now.fetched c.replies.new.table rest
+    let talk = c.args.self.now.talk in
+    sent_rest w q older rows packet route c.args.answer.now c.replies.new.self c.args.self.now.fetched rest c.replies.new.table talk.party talk.large (sym c.is_some.ensures ∙ c.if-is_some.true) stands c.replies.result
     (c.replies.ensures.told w q older rows packet route at few byte round set_up why stands table)
 
 pub returns-in-Not-clause-told : goal.returns-in-Not-clause-told
@@ -86,6 +86,4 @@ returns-in-Told-clause-told c = λ w q older rows packet route at few byte round
     let begun = subst (λ (x : Result BegunIn OutOfMemory). IfOk x (λ y. IsBegunIn w q older rows k route answer y new c.args.table.now after)) c.in_ok-begins_in_session.was
     (c.begins_in_session.ensures.told w q older rows k route keeps few byte now towards_it right there.2 table) in
     let is = subst (λ (x : BegunIn). IsBegunIn w q older rows k route answer x new c.args.table.now after) c.in-Told.is begun in
-    let told = told_on w q older rows packet route answer at k keeps c.in-Told.told new after is in
-    answered_rest w q older rows packet route answer c.in-Told.told (record talk { party = new }) c.args.self.now.fetched after rest
-    (subst (λ (o : Option LargeRequest). conversations.IsJudgedAnswer w q older rows packet route answer c.in-Told.told new o after) (sym none) told)
+    told_rest w q older k keeps route answer rows packet at talk none c.args.self.now.fetched rest new after (session_left w q older k keeps route answer is.1) c.in-Told.told is.0
