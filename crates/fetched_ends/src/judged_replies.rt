@@ -168,12 +168,9 @@ impl JudgedEnds {
         }
     }
 
-    /// An answer of at most 4,161 bytes came whole, in order behind this round: it goes on, and the
-    /// table of sessions with it; or it is a part of a large answer that is not judged; or no walk goes on
-    /// with it, and then why. But for the first, nothing is said of what is kept then, and of the table. An
-    /// `Err` comes only where PSK_EXCHANGE_RSP began a session, whole or with its last chunk, and there is no
-    /// memory for its entry, and says nothing of what is kept.
-    pub fn replies(
+    // The same where a large answer is fetched. It stands apart, since a function clears the places of its values
+    // when it is entered, and what is fetched is large.
+    fn replies_meanwhile(
         &mut self,
         table: &mut SessionTable,
         setup: &Setup<'_>,
@@ -199,5 +196,34 @@ impl JudgedEnds {
             ),
             Some(Fetch::InClear(held)) => self.replies_clear(held, table, setup, round, answer),
         }
+    }
+    /// An answer of at most 4,161 bytes came whole, in order behind this round: it goes on, and the
+    /// table of sessions with it; or it is a part of a large answer that is not judged; or no walk goes on
+    /// with it, and then why. But for the first, nothing is said of what is kept then, and of the table. An
+    /// `Err` comes only where PSK_EXCHANGE_RSP began a session, whole or with its last chunk, and there is no
+    /// memory for its entry, and says nothing of what is kept.
+    pub fn replies(
+        &mut self,
+        table: &mut SessionTable,
+        setup: &Setup<'_>,
+        round: &Round,
+        answer: &[u8],
+    ) -> Result<Result<Onward, Why>, OutOfMemory>
+        requires { length answer.now ≤ 4161 }
+        ensures told { (w : Configuration) (q : ReqSetup) (older : List (List ℕ)) (rows : List Row)
+            (packet : List ℕ) (route : RouteFields) → IsAnswer w q older packet route answer.now
+            → length older < 2 ^ 64 - 2 → w.responder.beat < 256
+            → round.now ≡ round_of w.responder.eid q.eid older
+            → IsSetUp setup.now (towards w.responder (known_of q))
+            → answered_why round.now (Whole route answer.now) ≡ None
+            → StandsFor self.old w q older rows → StandsForRows table.old w (length older) rows
+            → IfOk result (λ told. IsJudgedAnswer w q older rows packet route answer.now told self.new
+            table.new) }
+        ensures memory { OnErr result (MayBegin self.old.fetched answer.now) }
+    {
+        if self.fetched.is_some() {
+            return self.replies_meanwhile(table, setup, round, answer);
+        }
+        self.replies_at_rest(table, setup, round, answer)
     }
 }
