@@ -1,3 +1,5 @@
+ghost use Rattle.std.specs.Prelude.{◌≡◌, ◌==◌, ◌&&◌, slice_index};
+
 use crate::{
     BegunHeld, BegunIn, Fetch, Held, InSession, JudgedEnds, Upon, begins_held, begins_in_session,
     replies_held, replies_in_session,
@@ -6,7 +8,18 @@ use capture_ends::Onward;
 use capture_laws::{Round, SessionTable};
 use connection::Setup;
 use script_text::Why;
+use session_keys::byte_at;
 use spdm_basis::OutOfMemory;
+
+// The type of a body that is an SPDM message in the clear (DSP0275).
+const CLEAR: u8 = 5;
+
+// Whether a request and its answer are both in the clear.
+fn are_clear(body: &[u8], answer: &[u8]) -> bool
+    ensures { result ≡ (slice_index body.now 0 == 5 && (slice_index answer.now 0 == 5)) }
+{
+    byte_at(body, 0) == CLEAR && byte_at(answer, 0) == CLEAR
+}
 
 // The answers that a responder gives.
 impl JudgedEnds {
@@ -134,6 +147,35 @@ impl JudgedEnds {
         }
     }
 
+    // An answer came where no large message is under way, and it begins no large one in a session: it may begin one
+    // where it and its request are in the clear. Any other is told before places are made for a large answer.
+    fn begins_other(
+        &mut self,
+        table: &mut SessionTable,
+        setup: &Setup<'_>,
+        round: &Round,
+        answer: &[u8],
+    ) -> Result<Result<Onward, Why>, OutOfMemory>
+        requires { length answer.now ≤ 4161 }
+        ensures told { (w : Configuration) (q : ReqSetup) (older : List (List ℕ)) (rows : List Row)
+            (packet : List ℕ) (route : RouteFields) → IsAnswer w q older packet route answer.now
+            → length older < 2 ^ 64 - 2 → w.responder.beat < 256
+            → round.now ≡ round_of w.responder.eid q.eid older
+            → IsSetUp setup.now (towards w.responder (known_of q))
+            → answered_why round.now (Whole route answer.now) ≡ None → self.old.fetched ≡ None
+            → self.old.talk.large ≡ None
+            → conversations.StandsFor self.old.talk w q older rows
+            → StandsForRows table.old w (length older) rows
+            → IfOk result (λ told. IsJudgedAnswer w q older rows packet route answer.now told self.new
+            table.new) }
+        ensures memory { OnErr result (IsSome (id_begun (response_of (drop 1 answer.now)))) }
+    {
+        if !are_clear(round.body(), answer) {
+            return self.talk.replies(table, setup, round, answer);
+        }
+        self.begins_clear(table, setup, round, answer)
+    }
+
     // An answer came where no large one is fetched: it may begin one, where no large request is sent.
     fn replies_at_rest(
         &mut self,
@@ -159,7 +201,7 @@ impl JudgedEnds {
             return self.talk.replies(table, setup, round, answer);
         }
         match begins_in_session(&mut self.talk.party, table, setup, round, answer)? {
-            BegunIn::Not => self.begins_clear(table, setup, round, answer),
+            BegunIn::Not => self.begins_other(table, setup, round, answer),
             BegunIn::Fetching(fetched) => {
                 self.fetched = Some(Fetch::InSession(fetched));
                 Ok(Ok(Onward::Kept))

@@ -48,7 +48,7 @@ returns-in-Not-clause-told c = λ w q older rows packet route at few byte round 
     let is = subst (λ (x : BegunIn). IsBegunIn w q older rows k route answer x new c.args.table.now after) c.in-Not.is begun in
     let stays = subst (λ (o : Option LargeRequest). conversations.StandsAs new o w q older rows) (sym none) (k, keeps, is.0) in
     let entries = subst (λ (t : List Seen). StandsForRows t w (length older) rows) (sym is.1) table in
-    c.begins_clear.ensures.told w q older rows packet route at few byte round set_up why rest none stays entries
+    c.begins_other.ensures.told w q older rows packet route at few byte round set_up why rest none stays entries
 
 pub returns-in-Fetching-clause-told : goal.returns-in-Fetching-clause-told
 returns-in-Fetching-clause-told c = λ w q older rows packet route at few byte round set_up why rest stands table.
