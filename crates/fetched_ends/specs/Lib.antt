@@ -12,4 +12,5 @@ pub mod BegunIn
 pub mod BegunHeld
 pub mod JudgedEnds
 pub mod LastHeld
+pub mod MeasurementsAsked
 pub mod RefusedAgain
