@@ -26,6 +26,7 @@ mod judged_ends;
 mod judged_replies;
 mod judged_requests;
 mod led;
+mod measurements_asked;
 mod refused_laws;
 mod same_chunks;
 mod session_others;
