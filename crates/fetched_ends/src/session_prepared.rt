@@ -1,7 +1,6 @@
-ghost use Rattle.std.specs.Prelude.{IfSome};
 ghost use Rattle.connection.specs.Connected.{StandsFor};
 ghost use Rattle.connection.specs.Setup.{IsSetUp};
-ghost use Rattle.fetched_ends.specs.Prepared.{IsPrepared};
+ghost use Rattle.fetched_ends.specs.Prepared.{IsPreparedFor};
 ghost use Rattle.responder_machine.specs.History.{History};
 ghost use Rattle.responder_machine.specs.Setup.{RspSetup};
 
@@ -20,14 +19,15 @@ const MOST_BYTES: usize = 4096;
 const CHUNK_FIELDS: u32 = 12;
 
 /// What is kept of a large answer that is about to be fetched in the session of a record, if that is
-/// GET_MEASUREMENTS and its answer may go by chunks; none where it is not, or its session does not open it.
+/// GET_MEASUREMENTS and its answer may go by chunks; none where it is not, or its session does not open it: then no
+/// answer to it is LargeResponse.
 pub(crate) fn prepared(
     connection: &Connection,
     setup: &Setup<'_>,
     request: &[u8],
 ) -> Option<InSession>
     ensures { (r : RspSetup) (h : History) → IsSetUp setup.now r → StandsFor connection.now r h
-        → IfSome result (λ fetched. IsPrepared r h request.now fetched) }
+        → IsPreparedFor r h request.now result }
 {
     let mut inner = RecordFrame::new();
     if !connection.reads_request(request, &mut inner) {

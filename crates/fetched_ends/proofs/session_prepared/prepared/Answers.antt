@@ -1,17 +1,105 @@
-use Rattle.std.proofs.Common.{◌≡◌, ◌≤◌, ◌+◌, ◌∙◌, refl, sym, ap, subst, drop, arith, List, ℕ, Some, Option}
+use Rattle.std.proofs.Common.{◌≡◌, ◌≤◌, ◌<◌, ◌+◌, ◌∙◌, refl, sym, ap, subst, drop, arith, List, [], ℕ, Some, None, Option, Result, Ok, Err, inl, inr}
+use Rattle.std.specs.Option.{option_map}
+use Rattle.std.specs.Result.{result_ok}
+use Rattle.std.proofs.lemmas.Bool.{false≢true}
+use Rattle.connection.specs.OwnAnswers.{opens_in}
 use Rattle.connection.specs.SeenTerms.{AreTermsIn}
 use Rattle.measurements.specs.Records.{is_missing}
+use Rattle.responder_machine.specs.Place.{session_place}
+use Rattle.responder_machine.specs.Records.{opened}
+use Rattle.responder_machine.specs.Refusal.{has_no_block}
 use Rattle.responder_machine.specs.Session.{Events, id_in_record, session_of, session_terms}
 use Rattle.session_keys.specs.declared.terms.SessionTerms.{SessionTerms}
 use Rattle.spdm_basis.specs.Sizes.{hash_size}
-use Rattle.spdm_grammar.specs.Message.{request_message}
+use Rattle.spdm_grammar.specs.Message.{RequestMessage, request_message}
+use Rattle.spdm_grammar.specs.Message.RequestMessage.{GetMeasurements}
 use Rattle.spdm_grammar.specs.Requests.{request_in}
 use Rattle.spdm_grammar.specs.declared.choice.Choice.{Choice}
+use Rattle.spdm_grammar.specs.declared.malformed.Malformed.{Malformed}
 use Rattle.spdm_grammar.specs.declared.request.Request.{Request}
+use Rattle.spdm_grammar.specs.declared.request.Request.TheVariants as request
 use Rattle.spdm_machine.specs.Terms.{hash_len}
+use Rattle.fetched_ends.proofs.LargeTurns.{is_large_turn, large_blocks, large_room}
 use Rattle.fetched_ends.proofs.LengthsIn.{lengths_are}
 use Rattle.fetched_ends.proofs.session_prepared.prepared.Goals as goal
-use Rattle.fetched_ends.proofs.session_prepared.prepared.Goals.{then-max-gt-MOST_BYTES, else-max-gt-MOST_BYTES}
+use Rattle.fetched_ends.specs.Prepared.{IsPreparedFor}
+use Rattle.fetched_ends.proofs.session_prepared.prepared.Goals.{in_default-via-in-Ok+in_default, in_default-via-in_default, then-max-gt-MOST_BYTES, else-max-gt-MOST_BYTES}
+
+-- What is read as GET_MEASUREMENTS is that request.
+read_as : (x : Result Request Malformed) (op : ℕ) → option_map request_message (result_ok x) ≡ Some (GetMeasurements op) → (n : ℕ) × (x ≡ Ok (request.GetMeasurements n))
+read_as (Err fault) op is = absurd (let e = is in cc)
+read_as (Ok (request.GetMeasurements n)) op is = (n, refl)
+read_as (Ok request.GetVersion) op is = absurd (let e = is in cc)
+read_as (Ok (request.GetCapabilities caps)) op is = absurd (let e = is in cc)
+read_as (Ok (request.NegotiateAlgorithms offer)) op is = absurd (let e = is in cc)
+read_as (Ok (request.PskExchange exchange)) op is = absurd (let e = is in cc)
+read_as (Ok (request.PskFinish verify)) op is = absurd (let e = is in cc)
+read_as (Ok request.Heartbeat) op is = absurd (let e = is in cc)
+read_as (Ok (request.KeyUpdate n tag)) op is = absurd (let e = is in cc)
+read_as (Ok request.EndSession) op is = absurd (let e = is in cc)
+read_as (Ok (request.ChunkSend chunk)) op is = absurd (let e = is in cc)
+read_as (Ok (request.ChunkGet handle number)) op is = absurd (let e = is in cc)
+
+pub returns-then-not-reads_request : goal.returns-then-not-reads_request
+returns-then-not-reads_request c = λ r h set stands opens f large. false≢true (sym c.if-not-reads_request.true ∙ c.reads_request.ensures.opens r h stands ∙ opens)
+
+pub returns-in_err-terms : goal.returns-in_err-terms
+returns-in_err-terms c = λ r h set stands.
+    let request : List ℕ = c.args.request.now in
+    let id : c.record_id-id.result.rsp ≡ id_in_record request = ap (λ x. x.rsp) c.record_id-id.ensures in
+    let found = subst (λ (o : Option SessionTerms). AreTermsIn o (session_of c.record_id-id.result.rsp h)) c.in_err-terms.was (c.session_terms.ensures r h stands) in
+    let gone : session_of (id_in_record request) h ≡ [] = subst (λ (n : ℕ). session_of n h ≡ []) id found in
+    subst (IsPreparedFor r h request) (sym c.from_residual.ensures)
+    (λ opens f large. false≢true (sym (ap (λ (s : Events). opens_in r s request) gone) ∙ opens))
+
+pub returns-in_default : goal.returns-in_default
+returns-in_default c = λ r h set stands opens f large.
+    let request : List ℕ = c.args.request.now in
+    let s : Events = session_of (id_in_record request) h in
+    let id : c.record_id-id.result.rsp ≡ id_in_record request = ap (λ x. x.rsp) c.record_id-id.ensures in
+    let terms = c.in_ok-terms.terms in
+    let found = subst (λ (o : Option SessionTerms). AreTermsIn o (session_of c.record_id-id.result.rsp h)) c.in_ok-terms.was (c.session_terms.ensures r h stands) in
+    let are = subst (λ (n : ℕ). AreTermsIn (Some terms) (session_of n h)) id found in
+    let inner = c.reads_request.ensures.inner r h stands c.if-not-reads_request.false in
+    let message = c.behind_type-message.ensures ∙ ap (λ (l : List ℕ). drop 1 l) (c.as_slice.ensures.value ∙ inner) in
+    let turn = is_large_turn r s (opened r.psk s request) f large in
+    let read = c.read_request.ensures.value ∙ ap (λ (n : ℕ). request_in n c.behind_type-message.result.now) (c.size.ensures ∙ ap (λ (x : Choice). hash_size x.hash) are.1) ∙ ap (request_in (hash_len (session_terms s))) message ∙ turn.asks in
+    let is = read_as c.read_request.result turn.op read in
+    elim c.in_default.branch [
+      | in_default-via-in-Ok+in_default w ↦ (let x = w.in_default in ?)
+      | in_default-via-in_default w ↦ (let x = w.in_default in ?)
+    ]
+
+pub returns-then-not-terms : goal.returns-then-not-terms
+returns-then-not-terms c = λ r h set stands opens f large.
+    let request : List ℕ = c.args.request.now in
+    let s : Events = session_of (id_in_record request) h in
+    let id : c.record_id-id.result.rsp ≡ id_in_record request = ap (λ x. x.rsp) c.record_id-id.ensures in
+    let terms = c.in_ok-terms.terms in
+    let found = subst (λ (o : Option SessionTerms). AreTermsIn o (session_of c.record_id-id.result.rsp h)) c.in_ok-terms.was (c.session_terms.ensures r h stands) in
+    let are = subst (λ (n : ℕ). AreTermsIn (Some terms) (session_of n h)) id found in
+    let transfer = ap (λ x. x.to_requester.transfer) are.2 in
+    let turn = is_large_turn r s (opened r.psk s request) f large in
+    let room = large_room r s (opened r.psk s request) f turn in
+    elim c.then-not-terms.either [
+      | inl none ↦ false≢true (sym none ∙ ap (λ x. x.chunk) are.2 ∙ turn.chunk)
+      | inr narrow ↦ (let less = narrow.1 in omega (arith, room, less, transfer))
+    ]
+
+pub returns-then-is_err : goal.returns-then-is_err
+returns-then-is_err c = λ r h set stands opens f large.
+    let request : List ℕ = c.args.request.now in
+    let s : Events = session_of (id_in_record request) h in
+    let id : c.record_id-id.result.rsp ≡ id_in_record request = ap (λ x. x.rsp) c.record_id-id.ensures in
+    let terms = c.in_ok-terms.terms in
+    let found = subst (λ (o : Option SessionTerms). AreTermsIn o (session_of c.record_id-id.result.rsp h)) c.in_ok-terms.was (c.session_terms.ensures r h stands) in
+    let are = subst (λ (n : ℕ). AreTermsIn (Some terms) (session_of n h)) id found in
+    let inner = c.reads_request.ensures.inner r h stands c.if-not-reads_request.false in
+    let message = c.behind_type-message.ensures ∙ ap (λ (l : List ℕ). drop 1 l) (c.as_slice.ensures.value ∙ inner) in
+    let asks = sym (c.in-Ok-GetMeasurements.ensures.value ∙ ap (λ (n : ℕ). request_in n c.behind_type-message.result.now) (c.size.ensures ∙ ap (λ (x : Choice). hash_size x.hash) are.1) ∙ ap (request_in (hash_len (session_terms s))) message) ∙ ap (λ (x : Request). Some (request_message x)) c.in-Ok-GetMeasurements.field-0-is in
+    let missing = ap (is_missing c.in-Ok-GetMeasurements.op) set.inventory ∙ sym c.record.ensures.missing ∙ sym c.is_err.ensures.value ∙ c.if-is_err.true in
+    let turn = is_large_turn r s (opened r.psk s request) f large in
+    false≢true (sym (large_blocks r s (opened r.psk s request) f turn) ∙ ap (has_no_block r) asks ∙ missing)
 
 pub returns : goal.returns
 returns c = λ r h set stands.
