@@ -12,9 +12,19 @@ use Rattle.responder_machine.specs.Session.{id_in_record, session_of, session_te
 use Rattle.responder_machine.specs.Setup.{RspSetup, inventory_of}
 use Rattle.responder_machine.specs.Turn.{handle_in}
 use Rattle.responder_session.specs.Took.{turn_in}
+use Rattle.spdm_grammar.specs.Message.{RequestMessage}
 use Rattle.spdm_grammar.specs.Message.RequestMessage.{GetMeasurements}
 use Rattle.fetched_ends.specs.InSession.{AreLengths}
 use Rattle.fetched_ends.specs.declared.in_session.InSession.{InSession}
+
+-- The operation of GET_MEASUREMENTS; none of any other request.
+abbrev pub operation_of : RequestMessage → Option ℕ
+operation_of (GetMeasurements op) = Some op
+operation_of _ = None
+
+abbrev pub operation_in : Option RequestMessage → Option ℕ
+operation_in None = None
+operation_in (Some asked) = operation_of asked
 
 -- The record asks for this operation of GET_MEASUREMENTS, in its session.
 abbrev pub AsksOperation : RspSetup → History → (request : List ℕ) → (op : ℕ) → Type 0
