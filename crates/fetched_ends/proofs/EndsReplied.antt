@@ -1,5 +1,5 @@
 -- What is kept behind an answer, while a large one is fetched, or none is.
-use Rattle.std.proofs.Common.{◌≡◌, ◌+◌, ℕ, List, ◌∷◌, refl, sym, subst, length, Option, Some, None, is_some, true, false, Result, Ok, Err, inl}
+use Rattle.std.proofs.Common.{◌≡◌, ◌+◌, ℕ, List, ◌∷◌, refl, sym, subst, length, Option, Some, None, is_some, true, false, Result, Ok, Err}
 use Rattle.std.proofs.lemmas.Bool.{false≢true}
 use Rattle.std.specs.Prelude.{IfOk}
 use Rattle.mctp_framing.specs.Cutting.{RouteFields}
@@ -61,7 +61,7 @@ pub answered_rest : (w : Configuration) (q : ReqSetup) (older : List (List ℕ))
     → conversations.IsJudgedAnswer w q older rows packet route answer result new.party new.large table → IsJudgedAnswer w q older rows packet route answer result (record { talk = new; fetched = o }) table
 answered_rest w q older rows packet route answer (Ok onward.Kept) new o table none told =
     subst (λ (x : Option Fetch). StandsBehind (record { talk = new; fetched = x }) table w q older rows packet) (sym none) (rest_behind w q older rows packet new table told)
-answered_rest w q older rows packet route answer (Ok onward.Large) new o table none told = inl told
+answered_rest w q older rows packet route answer (Ok onward.Large) new o table none told = told
 answered_rest w q older rows packet route answer (Err why) new o table none told = told
 
 -- The same of a call that may want memory.

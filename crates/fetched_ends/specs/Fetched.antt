@@ -9,7 +9,6 @@ use Rattle.capture_ends.specs.Party.{IsParty}
 use Rattle.capture_ends.specs.declared.party.Party.{Party}
 use Rattle.capture_laws.specs.Judged.{why_of}
 use Rattle.capture_laws.specs.Keeping.{Kept, restored}
-use Rattle.capture_laws.specs.LargeShown.{IsShownLarge}
 use Rattle.capture_laws.specs.RepliesShown.{responder_for}
 use Rattle.capture_laws.specs.Rows.{StandsForRows}
 use Rattle.capture_laws.specs.declared.verdict.Seen.{Seen}
@@ -19,8 +18,6 @@ use Rattle.fetched_ends.specs.declared.upon.Upon.{Upon}
 use Rattle.fetched_ends.specs.declared.upon.Upon.TheVariants as upon
 use Rattle.world_machine.specs.Difference.{GoesApart, Why, goes_why}
 use Rattle.world_machine.specs.Difference.Why.{BadVerify}
-use Rattle.world_machine.specs.LargeAnswers.{judging}
-use Rattle.world_machine.specs.Rounds.{Round}
 use Rattle.world_machine.specs.SessionTable.{Row, rows_between}
 use Rattle.world_machine.specs.Setup.{Configuration}
 
@@ -36,12 +33,6 @@ IsFetchedWhy w f g BadVerify = (whole : List ℕ) × MayStand f whole × GoesApa
 IsFetchedWhy w f g why =
     ((whole : List ℕ) → MayStand f whole → GoesApart (responder_for w f.kept) (dialogue_of f whole) g → ⊥)
     × (goes_why (responder_for w f.kept) (restored f.kept) g ≡ Some why)
-
--- It begins another large answer by what it shows.
-abbrev pub IsUnjudged : Configuration → Fetching → (answer : List ℕ) → Type 0
-IsUnjudged w f answer =
-    ((round : Round) × (whole : List ℕ) × (f.kept.round ≡ Some round) × MayStand f whole
-    × IsShownLarge (responder_for w f.kept) (judging (Some whole) round.body f.kept.responder) round.tag round.body answer)
 
 -- It goes on, and then this stands for what is kept behind it, and so does the table: the large answer is fetched on, or another
 -- one from then on, or none; or it is refused, and then why.

@@ -20,7 +20,6 @@ use Rattle.capture_laws.specs.ReasonsEach.{IsAnsweredReason, IsAskedReason}
 use Rattle.capture_laws.specs.Rows.{StandsForRows}
 use Rattle.capture_laws.specs.Walks.{Walks}
 use Rattle.capture_laws.specs.declared.verdict.Seen.{Seen}
-use Rattle.fetched_ends.specs.Fetched.{IsUnjudged}
 use Rattle.fetched_ends.specs.Held.{IsHeldIn}
 use Rattle.fetched_ends.specs.InSession.{IsFetchedIn}
 use Rattle.fetched_ends.specs.declared.fetch.Fetch.{Fetch}
@@ -84,11 +83,9 @@ abbrev pub IsAskedOf : Configuration → ReqSetup → List (List ℕ) → List R
 IsAskedOf w q older rows packet g (Ok u) new table = StandsBehind new table w q older rows packet
 IsAskedOf w q older rows packet g (Err why) new table = NoneGoesOn w q older packet × IsAskedReason w q older g (why_of why)
 
--- An answer is a part of a large one that is not judged, by what is kept of the packets: of one that is not fetched or while
--- a large request is sent; or one that comes while a large answer is fetched, and is not judged there.
+-- An answer is a part of a large one that is not judged, by what is kept of the packets: none is fetched there yet.
 abbrev pub IsPart : Configuration → ReqSetup → List (List ℕ) → ℕ → (answer : List ℕ) → Type 0
-IsPart w q older tag answer =
-    conversations.IsPart w q older tag answer ⊎ ((f : Fetching) × IsFetchingOf w q older f × IsUnjudged w f answer)
+IsPart w q older tag answer = conversations.IsPart w q older tag answer
 
 -- Of an answer: it goes on, or it is such a part, of which nothing more is said; or no walk goes on with it, and then why.
 abbrev pub IsJudgedAnswer : Configuration → ReqSetup → List (List ℕ) → List Row → (packet : List ℕ) → RouteFields → (answer : List ℕ)

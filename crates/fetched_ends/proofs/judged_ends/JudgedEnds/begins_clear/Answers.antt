@@ -82,7 +82,7 @@ returns-in-Unfetched-clause-told c = λ w q older rows packet route at few byte 
     let begun = subst (λ (x : Result BegunHeld OutOfMemory). IfOk x (λ y. IsBegunHeld w q older rows k route answer y new c.args.table.now after)) c.in_ok-begins_held.was
     (c.begins_held.ensures.told w q older rows k route keeps few byte now towards_it right there.2 table) in
     let is = subst (λ (x : BegunHeld). IsBegunHeld w q older rows k route answer x new c.args.table.now after) c.in-Unfetched.is begun in
-    inl (k, keeps, (is.0.0, is.0.1, inl is.0.3))
+    (k, keeps, (is.0.0, is.0.1, inl is.0.3))
 
 pub returns-in-Fetching-clause-told : goal.returns-in-Fetching-clause-told
 returns-in-Fetching-clause-told c = λ w q older rows packet route at few byte round set_up why rest none stands table.
