@@ -122,7 +122,7 @@ module _ (w : Configuration) (q : ReqSetup) (older : List (List ℕ)) (k : Kept)
     pub told_rest : (IsPartOfLarge w k route.tag answer → IsLeft w k route.tag answer) → (result : Result Onward declared.Why) → IsReplied w q older rows k route answer result new table
         → IsJudgedAnswer w q older rows packet route answer result (record { talk = record talk { party = new }; fetched = o }) table
     told_rest left (Ok onward.Kept) is = kept_rest is
-    told_rest left (Ok onward.Large) is = inl (k, keeps, left is)
+    told_rest left (Ok onward.Large) is = (k, keeps, left is)
     told_rest left (Err why) is = told_on w q older rows packet route answer is_answer k keeps (Err why) new table is
 
     -- The same of a call that may want memory.

@@ -11,11 +11,13 @@ pub mod QuietSteps
 pub mod RecordTaken
 pub mod Filled
 pub mod MeasuredTurns
+pub mod SeenMeasures
 pub mod InSessionRecord
 pub mod InSessionPut
 pub mod InSessionGone
 pub mod InSessionTold
 pub mod BeginsThere
+pub mod TurnedThere
 pub mod InSessionLast
 pub mod ChunkTold
 pub mod TextsHeld
@@ -35,7 +37,13 @@ pub mod RefusedTexts
 pub mod OthersNone
 pub mod OthersKept
 pub mod OthersLeft
+pub mod LeftBefore
 pub mod OthersTold
+pub mod LargeTaken
+pub mod LargeTurns
+pub mod NeverPrepared
+pub mod TurnedBehind
+pub mod TurnedStands
 pub mod BehindGet
 pub mod OtherBytes
 pub mod StopsTold

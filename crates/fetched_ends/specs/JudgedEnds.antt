@@ -25,7 +25,6 @@ use Rattle.capture_laws.specs.RepliesShown.{AnswersRound, responder_for}
 use Rattle.capture_laws.specs.Rows.{StandsForRows}
 use Rattle.capture_laws.specs.Walks.{Walks}
 use Rattle.capture_laws.specs.declared.verdict.Seen.{Seen}
-use Rattle.fetched_ends.specs.Fetched.{IsUnjudged}
 use Rattle.fetched_ends.specs.Held.{IsHeldIn}
 use Rattle.fetched_ends.specs.InSession.{IsFetchedIn}
 use Rattle.fetched_ends.specs.declared.fetch.Fetch.{Fetch}
@@ -98,11 +97,10 @@ IsLeft w k tag answer =
     ⊎ (((slice_index round.body 0 == 5) ≡ false)
     × (IsShownLarge (responder_for w k) k.responder round.tag round.body answer ⊎ EndsLarge (responder_for w k) k.responder round.tag round.body answer)))
 
--- An answer is a part of a large one that is not judged, by what is kept of the packets: while nothing is fetched and no large
--- request is sent, or while a large answer is fetched.
+-- An answer is a part of a large one that is not judged, by what is kept of the packets while nothing is fetched and no large
+-- request is sent.
 abbrev pub IsPart : Configuration → ReqSetup → List (List ℕ) → ℕ → (answer : List ℕ) → Type 0
-IsPart w q older tag answer =
-    ((k : Kept) × Keeps w q older k × IsLeft w k tag answer) ⊎ ((f : Fetching) × IsFetchingOf w q older f × IsUnjudged w f answer)
+IsPart w q older tag answer = (k : Kept) × Keeps w q older k × IsLeft w k tag answer
 
 -- Of an answer: it goes on, or it is such a part, of which nothing more is said; or no walk goes on with it, and then why.
 abbrev pub IsJudgedAnswer : Configuration → ReqSetup → List (List ℕ) → List Row → (packet : List ℕ) → RouteFields → (answer : List ℕ)

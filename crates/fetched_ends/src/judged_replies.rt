@@ -73,11 +73,14 @@ impl JudgedEnds {
                 self.fetched = Some(Fetch::InSession(fetched));
                 Ok(Ok(Onward::Kept))
             }
+            Ok(Upon::Turned) => {
+                self.fetched = Some(Fetch::InSession(fetched));
+                Ok(Ok(Onward::Kept))
+            }
             Ok(Upon::Ended) => {
                 self.fetched = None;
                 Ok(Ok(Onward::Kept))
             }
-            Ok(Upon::Large) => Ok(Ok(Onward::Large)),
             Err(why) => Ok(Err(why)),
         }
     }
@@ -109,11 +112,14 @@ impl JudgedEnds {
                 self.fetched = Some(Fetch::InClear(held));
                 Ok(Ok(Onward::Kept))
             }
+            Ok(Upon::Turned) => {
+                self.fetched = Some(Fetch::InClear(held));
+                Ok(Ok(Onward::Kept))
+            }
             Ok(Upon::Ended) => {
                 self.fetched = None;
                 Ok(Ok(Onward::Kept))
             }
-            Ok(Upon::Large) => Ok(Ok(Onward::Large)),
             Err(why) => Ok(Err(why)),
         }
     }
