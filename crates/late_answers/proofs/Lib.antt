@@ -1,0 +1,15 @@
+pub mod WalksStand
+pub mod WalksAnew
+pub mod Behind
+pub mod BehindSessions
+pub mod BehindClear
+pub mod FrontNear
+pub mod TurnElsewhere
+pub mod LeadsElsewhere
+pub mod InFront
+pub mod ConnectionNear
+pub mod SessionNewest
+pub mod LargeFront
+pub mod Completing
+pub mod WalksLed
+pub mod MarksStand
