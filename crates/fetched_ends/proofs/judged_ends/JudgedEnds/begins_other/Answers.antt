@@ -1,6 +1,5 @@
 use Rattle.std.proofs.Common.{◌≡◌, ◌==◌, ◌∙◌, ap, subst, sym, ℕ, List, Option, None, false}
 use Rattle.std.specs.Prelude.{slice_index}
-use Rattle.std.proofs.lemmas.Bool.{not-true}
 use Rattle.mctp_framing.specs.Gathering.Gathered.{Whole}
 use Rattle.requester_machine.specs.Setup.{ReqSetup}
 use Rattle.responder_machine.specs.Setup.{towards}
@@ -28,7 +27,7 @@ returns-then-not-is_clear-clause-told c = λ w q older rows packet route at few 
     let now : c.args.round.now ≡ k.round = round ∙ sym (walk_round w q older (restored k) walk) in
     let towards_it = subst (λ (s : ReqSetup). IsSetUp c.args.setup.now (towards w.responder (known_of s))) (sym (walks_setup w q older (restored k) walk)) set_up in
     let right = subst (λ (o : Option Round). answered_why o (Whole route answer) ≡ None) now why in
-    let type : (slice_index (body_in c.args.round.now) 0 == 5) ≡ false = ap (λ (l : List ℕ). slice_index l 0 == 5) (sym c.body.ensures) ∙ sym c.is_clear.ensures ∙ not-true _ c.if-not-is_clear.true in
+    let type : (slice_index (body_in c.args.round.now) 0 == 5) ≡ false = ap (λ (l : List ℕ). slice_index l 0 == 5) (sym c.body.ensures) ∙ sym c.is_clear.ensures ∙ c.if-not-is_clear.true in
     all_rest w q older k keeps route answer rows packet at talk none c.args.self.now.fetched rest c.replies.new.self c.replies.new.table
     (session_left w q older k keeps route answer (λ sealed is. subst (λ (o : Option Round). (slice_index (body_in o) 0 == 5) ≡ false) (now ∙ is) type)) c.replies.result
     (c.replies.ensures.told w q older rows k route keeps few byte now towards_it right there.2 table)
