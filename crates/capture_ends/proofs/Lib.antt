@@ -29,6 +29,7 @@ pub mod HearsKept
 pub mod FewMessages
 pub mod InTurn
 pub mod PartyAsked
+pub mod PlainlyAsked
 pub mod PartyReplied
 pub mod KeysOpen
 pub mod AskedIds

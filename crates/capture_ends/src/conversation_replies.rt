@@ -87,12 +87,9 @@ impl Conversation {
     ghost use Rattle.world_machine.specs.SessionTable.{Row};
     ghost use Rattle.world_machine.specs.Setup.{Configuration, known_of};
 
-    /// An answer of at most 4,161 bytes came whole, in order behind this round: it goes on, and the
-    /// table of sessions with it; or it is a part of a large answer, where no large request is sent; or no
-    /// walk goes on with it, and then why. But for the first, the table stays, and nothing is said of what is kept then. An `Err` comes
-    /// only where PSK_EXCHANGE_RSP began a session and there is no memory for its entry, and says nothing
-    /// of what is kept.
-    pub fn replies(
+    // The same where a large request is under way. It stands apart, since a function clears the places of its values
+    // when it is entered, and a large request is large.
+    fn replies_largely(
         &mut self,
         table: &mut SessionTable,
         setup: &Setup<'_>,
@@ -122,5 +119,36 @@ impl Conversation {
                 told
             }
         }
+    }
+
+    /// An answer of at most 4,161 bytes came whole, in order behind this round: it goes on, and the
+    /// table of sessions with it; or it is a part of a large answer, where no large request is sent; or no
+    /// walk goes on with it, and then why. But for the first, the table stays, and nothing is said of what is kept then. An `Err` comes
+    /// only where PSK_EXCHANGE_RSP began a session and there is no memory for its entry, and says nothing
+    /// of what is kept.
+    pub fn replies(
+        &mut self,
+        table: &mut SessionTable,
+        setup: &Setup<'_>,
+        round: &Round,
+        answer: &[u8],
+    ) -> Result<Result<Onward, Why>, OutOfMemory>
+        requires { length answer.now ≤ 4161 }
+        ensures told { (w : Configuration) (q : ReqSetup) (older : List (List ℕ)) (rows : List Row)
+            (packet : List ℕ) (route : RouteFields) → IsAnswer w q older packet route answer.now
+            → length older < 2 ^ 64 - 2 → w.responder.beat < 256
+            → round.now ≡ round_of w.responder.eid q.eid older
+            → IsSetUp setup.now (towards w.responder (known_of q))
+            → answered_why round.now (Whole route answer.now) ≡ None
+            → StandsFor self.old w q older rows → StandsForRows table.old w (length older) rows
+            → IfOk result (λ told. IsJudgedAnswer w q older rows packet route answer.now told self.new.party
+            self.new.large table.new) }
+        ensures stays { IfOk result (λ told. (told ≡ Ok onward.Kept → ⊥) → table.new ≡ table.old) }
+        ensures memory { OnErr result (IsSome (id_begun (response_of (drop 1 answer.now)))) }
+    {
+        if self.large.is_some() {
+            return self.replies_largely(table, setup, round, answer);
+        }
+        self.party.replies(table, setup, round, answer)
     }
 }

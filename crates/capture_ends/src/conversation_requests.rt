@@ -1,4 +1,5 @@
 use crate::bodies::is_get_version;
+use crate::owed_messages::is_first_chunk;
 use crate::{Conversation, Party};
 use capture_laws::{Round, SessionTable, copy_is_request, round_is_request};
 use large_requests::{LargeRequest, Piece};
@@ -178,20 +179,41 @@ impl Party {
 }
 
 impl Conversation {
-    ghost use Rattle.std.specs.Prelude.{◌≡◌, ◌≤◌, ◌<◌, ◌-◌, ◌^◌, ℕ, List, OnErr, None, length};
+    ghost use Rattle.std.specs.Prelude.{◌≡◌, ◌≤◌, ◌<◌, ◌-◌, ◌^◌, ℕ, List, OnErr, None, false, length};
     ghost use Rattle.mctp_framing.specs.Cutting.{RouteFields};
     ghost use Rattle.mctp_framing.specs.Gathering.Gathered.{Whole};
     ghost use Rattle.requester_machine.specs.Setup.{ReqSetup};
+    ghost use Rattle.capture_ends.specs.Asker.{is_first_chunk};
     ghost use Rattle.capture_ends.specs.Conversation.{IsAskedOf, IsRequest, StandsFor};
     ghost use Rattle.capture_laws.specs.Order.{asked_why, round_of};
     ghost use Rattle.capture_laws.specs.Rows.{StandsForRows};
     ghost use Rattle.world_machine.specs.SessionTable.{Row};
     ghost use Rattle.world_machine.specs.Setup.{Configuration};
 
-    /// A request of at most 4,161 bytes came whole under a tag, in order behind this round: it goes on,
-    /// and the table of sessions with it; or no walk goes on with it, and then why, and the table stays.
-    /// Nothing is said of what is kept then.
-    pub fn asks(
+    // The same where none is under way, and none begins by this body.
+    fn asks_plainly(
+        &mut self,
+        table: &mut SessionTable,
+        round: &Round,
+        tag: u8,
+        body: &[u8],
+    ) -> Result<(), Why>
+        ensures told { (w : Configuration) (q : ReqSetup) (older : List (List ℕ)) (rows : List Row)
+            (packet : List ℕ) (route : RouteFields) → IsRequest w q older packet route body.now
+            → length older < 2 ^ 64 - 1 → length body.now ≤ 4161 → route.tag ≡ tag
+            → round.now ≡ round_of w.responder.eid q.eid older
+            → asked_why round.now (Whole route body.now) ≡ None → is_first_chunk body.now ≡ false
+            → self.old.large ≡ None → StandsFor self.old w q older rows
+            → StandsForRows table.old w (length older) rows
+            → IsAskedOf w q older rows packet (Whole route body.now) result self.new table.new }
+        ensures stays { OnErr result (table.new ≡ table.old) }
+    {
+        self.party.asks_whole(table, round, tag, body)
+    }
+
+    // The same where a large request is under way, or may begin. It stands apart, since a function clears the places
+    // of its values when it is entered, and a large request is large.
+    fn asks_largely(
         &mut self,
         table: &mut SessionTable,
         round: &Round,
@@ -215,5 +237,30 @@ impl Conversation {
             }
             Err(why) => Err(why),
         }
+    }
+
+    /// A request of at most 4,161 bytes came whole under a tag, in order behind this round: it goes on,
+    /// and the table of sessions with it; or no walk goes on with it, and then why, and the table stays.
+    /// Nothing is said of what is kept then.
+    pub fn asks(
+        &mut self,
+        table: &mut SessionTable,
+        round: &Round,
+        tag: u8,
+        body: &[u8],
+    ) -> Result<(), Why>
+        ensures told { (w : Configuration) (q : ReqSetup) (older : List (List ℕ)) (rows : List Row)
+            (packet : List ℕ) (route : RouteFields) → IsRequest w q older packet route body.now
+            → length older < 2 ^ 64 - 1 → length body.now ≤ 4161 → route.tag ≡ tag
+            → round.now ≡ round_of w.responder.eid q.eid older
+            → asked_why round.now (Whole route body.now) ≡ None → StandsFor self.old w q older rows
+            → StandsForRows table.old w (length older) rows
+            → IsAskedOf w q older rows packet (Whole route body.now) result self.new table.new }
+        ensures stays { OnErr result (table.new ≡ table.old) }
+    {
+        if self.large.is_some() || is_first_chunk(body) {
+            return self.asks_largely(table, round, tag, body);
+        }
+        self.asks_plainly(table, round, tag, body)
     }
 }

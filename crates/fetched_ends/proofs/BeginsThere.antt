@@ -68,7 +68,7 @@ module _ (r : RspSetup) (h : History) (tag : ℕ) (body answer : List ℕ) (type
   adds =
       ap (λ (l : List ℕ). on_body r (with_dropped h l) tag body (values_shown_by r (with_dropped h l) tag body answer) no_draw) drops_none ∙ body_adds r h tag body answer type will f0
 
-  its : LeadsAt r h tag body (Adds (entry_at r h tag body answer type will f0)) f0
+  pub its : LeadsAt r h tag body (Adds (entry_at r h tag body answer type will f0)) f0
   unfolding large_shown
   its =
       let at : LeadsAt r h tag body (on_body r h tag body f0 no_draw) f0 =
@@ -86,7 +86,7 @@ module _ (r : RspSetup) (h : History) (tag : ℕ) (body answer : List ℕ) (type
     abbrev pub e0 : Entry
     e0 = Sealed tag m (turn_at f0) (reply_record r.psk s (turn_at f0) (inner_reply (turn_at f0)) f0.pad) no_draw
 
-    goes0 : GoesLarge r s inner op asks f0
+    pub goes0 : GoesLarge r s inner op asks f0
     goes0 = turn_goes r s inner op asks f0 (not-false _ (sym (ap is_whole adds) ∙ large.1))
 
     is_entry : (f : Free) → GoesLarge r s inner op asks f → entry_at r h tag body answer type will f ≡ Sealed tag m (turn_at f) (reply_record r.psk s (turn_at f) (inner_reply (turn_at f)) f.pad) no_draw

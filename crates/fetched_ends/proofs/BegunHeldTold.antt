@@ -6,7 +6,6 @@ use Rattle.std.proofs.lemmas.Option.{same_Some}
 use Rattle.mctp_framing.specs.Cutting.{RouteFields}
 use Rattle.capture_ends.proofs.InTurn.{AnswersInTurn}
 use Rattle.capture_ends.specs.Asker.{Carries}
-use Rattle.capture_ends.specs.HeardKept.{asks_upon}
 use Rattle.capture_ends.specs.Party.{IsParty}
 use Rattle.capture_ends.specs.declared.party.Party.{Party}
 use Rattle.capture_laws.specs.Keeping.{Kept}
@@ -15,11 +14,10 @@ use Rattle.capture_laws.specs.RepliesShown.{responder_for}
 use Rattle.capture_laws.specs.declared.verdict.Seen.{Seen}
 use Rattle.fetched_ends.proofs.HeldBefore.{here}
 use Rattle.fetched_ends.proofs.HeldNever.{clear_shape}
-use Rattle.fetched_ends.specs.BegunHeld.{IsBegunHeld, IsLargeInClear, has_free_length}
+use Rattle.fetched_ends.specs.BegunHeld.{IsBegunHeld, IsLargeInClear}
 use Rattle.fetched_ends.specs.declared.held_begins.BegunHeld.TheVariants as begun
 use Rattle.requester_machine.specs.May.{IsSetUp}
 use Rattle.requester_machine.specs.Setup.{ReqSetup}
-use Rattle.responder_machine.specs.Refusal.{code_of}
 use Rattle.responder_machine.specs.Setup.{RspSetup}
 use Rattle.spdm_machine.specs.Bodies.{clear_body}
 use Rattle.world_machine.specs.Rounds.{Round}
@@ -44,10 +42,6 @@ module _ (w : Configuration) (q : ReqSetup) (older : List (List ℕ)) (rows : Li
 
   pub not_large : (IsLargeHere → ⊥) → IsParty new w q k rows → after ≡ before → IsBegunHeld w q older rows k route answer begun.Not new before after
   not_large none party same = ((λ is. none (large_here is)), party, same)
-
-  pub unfetched : IsLargeHere → asks_upon k route.tag answer ≡ false → ((round : Round) → k.round ≡ Some round → has_free_length (code_of (drop 1 round.body)) ≡ false) → after ≡ before
-      → IsBegunHeld w q older rows k route answer begun.Unfetched new before after
-  unfetched is none other same = ((turn.round, turn.answers, is.type, is.large), none, other, same)
 
   -- The request is a record.
   pub sealed_request : (slice_index turn.round.body 0 ≡ 5 → ⊥) → IsLargeHere → ⊥

@@ -93,7 +93,7 @@ module _ (r : RspSetup) (p : Place) (m : List ℕ) (f : Free) where
   by_parts None None other is large = by_request (request_at p m) (goes_large p (answer_bytes r p m f)) refl large
   by_parts None (Some c) other is large = absurd (other (sym (asked-code p m (ChunkSend c) (chunk_is (request_at p m) c is))))
 
-  plain_large : code_of m ≢ CHUNK_SEND → is_some (handle_in (turn_of r p m f).effect) ≡ true → IsPlainLarge m (turn_of r p m f)
+  pub plain_large : code_of m ≢ CHUNK_SEND → is_some (handle_in (turn_of r p m f).effect) ≡ true → IsPlainLarge m (turn_of r p m f)
   unfolding turn_of
   plain_large other large = by_parts (refusal r p m f) (chunk_in (request_at p m)) other refl large
 

@@ -58,14 +58,14 @@ none_more : (n x unit : ℕ) → 0 < x → x ≤ n * unit → nat_lt 0 n ≡ tru
 none_more zero x unit some most = absurd (omega (arith, some, most))
 none_more (suc n) x unit some most = grind (arith, nat_tests)
 
-ceil_some : (x unit : ℕ) → 0 < unit → nat_lt 0 (div_ceil (x + 4) unit) ≡ true
+pub ceil_some : (x unit : ℕ) → 0 < unit → nat_lt 0 (div_ceil (x + 4) unit) ≡ true
 ceil_some x unit some = let around = div_ceil_times (x + 4) unit some in none_more (div_ceil (x + 4) unit) (x + 4) unit (omega arith) around.0
 
 live_behind : (s : Events) (e : Event) → is_live s ≡ true → when_live s e ≡ e ∷ s
 live_behind [] e live = absurd (false≢true live)
 live_behind (x ∷ s) e live = refl
 
-behind_entry : (P : Events → Type 0) (n : ℕ) (m : List ℕ) (t : Turn) (reply : List ℕ) (tag : ℕ) (d : Draw) (h : History) → id_in_record m ≡ n → takes END_SESSION t ≡ false → is_live (session_of n h) ≡ true
+pub behind_entry : (P : Events → Type 0) (n : ℕ) (m : List ℕ) (t : Turn) (reply : List ℕ) (tag : ℕ) (d : Draw) (h : History) → id_in_record m ≡ n → takes END_SESSION t ≡ false → is_live (session_of n h) ≡ true
     → P (Heard m t reply ∷ session_of n h) → P (session_of n (Sealed tag m t reply d ∷ h))
 unfolding session_of
 behind_entry P n m t reply tag d h here ends live is =

@@ -76,7 +76,7 @@ abbrev IsNewest : ℕ → Entry → Type 0
 IsNewest n (Sealed tag m t reply d) = (id_in_record m ≡ n) × (passes t ≡ false) × (turn_unseen t ≡ turn_with [] None t)
 IsNewest n _ = ⊥
 
-unseen_newest : (n : ℕ) (x : Entry) (h : History) → IsNewest n x → history_unseen n (x ∷ h) ≡ unseen x ∷ h
+pub unseen_newest : (n : ℕ) (x : Entry) (h : History) → IsNewest n x → history_unseen n (x ∷ h) ≡ unseen x ∷ h
 unseen_newest n (Sealed tag m t reply d) h is = unseen_there n tag m t reply d h is.0 is.1 is.2
 unseen_newest n (Clear tag t d) h is = absurd is
 unseen_newest n (Queued bytes) h is = absurd is

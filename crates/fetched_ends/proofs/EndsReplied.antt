@@ -1,5 +1,5 @@
 -- What is kept behind an answer, while a large one is fetched, or none is.
-use Rattle.std.proofs.Common.{◌≡◌, ◌+◌, ℕ, List, ◌∷◌, refl, sym, subst, length, Option, Some, None, is_some, true, false, Result, Ok, Err, inl, inr}
+use Rattle.std.proofs.Common.{◌≡◌, ◌+◌, ℕ, List, ◌∷◌, refl, sym, subst, length, Option, Some, None, is_some, true, false, Result, Ok, Err}
 use Rattle.std.proofs.lemmas.Bool.{false≢true}
 use Rattle.std.specs.Prelude.{IfOk}
 use Rattle.mctp_framing.specs.Cutting.{RouteFields}
@@ -18,7 +18,7 @@ use Rattle.capture_laws.specs.Judged.{why_of}
 use Rattle.capture_laws.specs.Keeping.{Keeps, Kept, restored}
 use Rattle.capture_laws.specs.Rows.{StandsForRows}
 use Rattle.capture_laws.specs.declared.verdict.Seen.{Seen}
-use Rattle.fetched_ends.proofs.FetchedReplied.{answered_reason, ended_behind, fetched_behind, none_on, walk_before}
+use Rattle.fetched_ends.proofs.FetchedReplied.{answered_reason, ended_behind, fetched_behind, none_on, turned_behind, walk_before}
 use Rattle.fetched_ends.specs.Fetched.{IsRepliedTo, rows_upon}
 use Rattle.fetched_ends.specs.JudgedEnds.{IsAskedOf, IsFetched, IsJudgedAnswer, StandsBehind}
 use Rattle.fetched_ends.specs.declared.fetch.Fetch.{Fetch}
@@ -50,25 +50,12 @@ rest_behind : (w : Configuration) (q : ReqSetup) (older : List (List ℕ)) (rows
     → StandsBehind (record { talk = new; fetched = None }) table w q older rows packet
 rest_behind w q older rows packet new table c = record { before = c.before; came = c.came; after = c.after; goes = c.goes; stands = c.stands; entries = c.entries }
 
--- A request, and an answer, where none was.
+-- A request, where none was.
 pub asked_rest : (w : Configuration) (q : ReqSetup) (older : List (List ℕ)) (rows : List Row) (packet : List ℕ) (g : Gathered) (result : Result Unit declared.Why) (new : Conversation) (o : Option Fetch) (table : List Seen) → o ≡ None
     → conversations.IsAskedOf w q older rows packet g result new table → IsAskedOf w q older rows packet g result (record { talk = new; fetched = o }) table
 asked_rest w q older rows packet g (Ok u) new o table none told =
     subst (λ (x : Option Fetch). StandsBehind (record { talk = new; fetched = x }) table w q older rows packet) (sym none) (rest_behind w q older rows packet new table told)
 asked_rest w q older rows packet g (Err why) new o table none told = told
-
-pub answered_rest : (w : Configuration) (q : ReqSetup) (older : List (List ℕ)) (rows : List Row) (packet : List ℕ) (route : RouteFields) (answer : List ℕ) (result : Result Onward declared.Why) (new : Conversation) (o : Option Fetch) (table : List Seen) → o ≡ None
-    → conversations.IsJudgedAnswer w q older rows packet route answer result new.party new.large table → IsJudgedAnswer w q older rows packet route answer result (record { talk = new; fetched = o }) table
-answered_rest w q older rows packet route answer (Ok onward.Kept) new o table none told =
-    subst (λ (x : Option Fetch). StandsBehind (record { talk = new; fetched = x }) table w q older rows packet) (sym none) (rest_behind w q older rows packet new table told)
-answered_rest w q older rows packet route answer (Ok onward.Large) new o table none told = inl told
-answered_rest w q older rows packet route answer (Err why) new o table none told = told
-
--- The same of a call that may want memory.
-pub answered_all : (w : Configuration) (q : ReqSetup) (older : List (List ℕ)) (rows : List Row) (packet : List ℕ) (route : RouteFields) (answer : List ℕ) (result : Result (Result Onward declared.Why) OutOfMemory) (new : Conversation) (o : Option Fetch) (table : List Seen) → o ≡ None
-    → IfOk result (λ told. conversations.IsJudgedAnswer w q older rows packet route answer told new.party new.large table) → IfOk result (λ told. IsJudgedAnswer w q older rows packet route answer told (record { talk = new; fetched = o }) table)
-answered_all w q older rows packet route answer (Ok told) new o table none is = answered_rest w q older rows packet route answer told new o table none is
-answered_all w q older rows packet route answer (Err fault) new o table none is = is
 
 -- ---- One begins.
 
@@ -105,7 +92,20 @@ module _ (w : Configuration) (q : ReqSetup) (older : List (List ℕ)) (rows : Li
         entries = told.3;
       }
 
-  -- or not any more.
+  -- or another one,
+  pub turns_on : IsRepliedTo w q older rows f route answer (Ok upon.Turned) new.party Stands table → IsJudgedAnswer w q older rows packet route answer (Ok onward.Kept) (record { talk = new; fetched = Some fetched }) table
+  turns_on told =
+      let next : Fetching = told.0 in
+      let over : IsFetchingOf w q (packet ∷ older) next = turned_behind w q older packet route answer at f own next told.1 in record {
+        before = dialogue_of f own.stands.0;
+        came = walk_before w q older packet route answer at f own;
+        after = dialogue_of next over.stands.0;
+        goes = over.all over.stands.0 over.stands.1;
+        stands = (none, (next, over, told.2));
+        entries = told.3;
+      }
+
+  -- or none any more.
   pub ended_on : IsRepliedTo w q older rows f route answer (Ok upon.Ended) new.party Stands table → IsJudgedAnswer w q older rows packet route answer (Ok onward.Kept) (record { talk = new; fetched = None }) table
   ended_on told =
       let next : Kept = told.0 in
@@ -119,10 +119,6 @@ module _ (w : Configuration) (q : ReqSetup) (older : List (List ℕ)) (rows : Li
         entries = told.3;
       }
 
-  -- It is not judged,
-  pub unjudged_on : (o : Option Fetch) → IsRepliedTo w q older rows f route answer (Ok upon.Large) new.party Stands table → IsJudgedAnswer w q older rows packet route answer (Ok onward.Large) (record { talk = new; fetched = o }) table
-  unjudged_on o told = inr (f, own, told)
-
-  -- or refused.
+  -- It is refused.
   pub refused_on : (o : Option Fetch) (why : declared.Why) → IsRepliedTo w q older rows f route answer (Err why) new.party Stands table → IsJudgedAnswer w q older rows packet route answer (Err why) (record { talk = new; fetched = o }) table
   refused_on o why told = (none_on w q older packet route answer at f own told.0 told.1 told.2, answered_reason w q older packet route answer at f own (why_of why) told.3)

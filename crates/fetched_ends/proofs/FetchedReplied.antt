@@ -15,6 +15,7 @@ use Rattle.large_answers.proofs.BegunLaws.{fetching_ends}
 use Rattle.large_answers.proofs.GoesLaws.{fetching_goes}
 use Rattle.large_answers.proofs.Reasons.{fetching_tells_apart, fetching_tells_why}
 use Rattle.large_answers.proofs.RepliedOn.{fetching_is_replied}
+use Rattle.large_answers.proofs.TurnsLaws.{fetching_turns}
 use Rattle.large_answers.specs.Fetching.{Fetching, IsFetchingOf, MayStand, dialogue_of}
 use Rattle.large_answers.specs.FetchingLaws.{EndsFetching, GoesFetching, TurnsFetching}
 use Rattle.world_machine.specs.Difference.{GoesApart, Why, goes_why}
@@ -32,6 +33,9 @@ module _ (w : Configuration) (q : ReqSetup) (older : List (List ℕ)) (packet : 
   -- What it makes of what is kept, is kept behind it.
   pub fetched_behind : (next : Fetching) → GoesFetching w f (Whole route answer) next → IsFetchingOf w q (packet ∷ older) next
   fetched_behind next goes = fetching_goes w q older packet at.fields f next at.parses at.other at.goes own (subst (λ (g : Gathered). GoesFetching w f g next) (sym at.whole) goes)
+
+  pub turned_behind : (next : Fetching) → TurnsFetching w f (Whole route answer) next → IsFetchingOf w q (packet ∷ older) next
+  turned_behind next turns = (fetching_turns w q older packet at.fields f next at.parses at.other at.goes own (subst (λ (g : Gathered). TurnsFetching w f g next) (sym at.whole) turns)).0
 
   pub ended_behind : (next : Kept) → EndsFetching w f (Whole route answer) next → Keeps w q (packet ∷ older) next
   ended_behind next ends = fetching_ends w q older packet at.fields f next at.parses at.other at.goes own (subst (λ (g : Gathered). EndsFetching w f g next) (sym at.whole) ends)

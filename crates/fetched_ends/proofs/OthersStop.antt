@@ -1,10 +1,7 @@
 -- An answer in a session that gives no chunk of the large one, and upon which the requester asks for none: the connection stands
 -- for the history in which the large answer was not seen.
-use Rattle.std.proofs.Common.{◌≡◌, ◌≢◌, ◌<◌, ◌≤◌, ◌-◌, ◌*◌, ◌==◌, ◌&&◌, ℕ, List, [], ◌∷◌, refl, sym, ap, ◌∙◌, subst, drop, take, length, arith, Bool, true, false, Option, Some, None, is_none, is_some}
-use Rattle.std.specs.Prelude.{nat_lt}
+use Rattle.std.proofs.Common.{◌≡◌, ◌≢◌, ◌<◌, ◌&&◌, ℕ, List, [], ◌∷◌, refl, sym, ap, ◌∙◌, subst, drop, Bool, true, false, Option, Some, None, is_none, is_some}
 use Rattle.std.proofs.lemmas.Bool.{false≢true}
-use Rattle.std.proofs.lemmas.Bool.Decides.{nat_tests}
-use Rattle.std.proofs.lemmas.Option.{none-some}
 use Rattle.mctp_framing.specs.Cutting.{RouteFields}
 use Rattle.spdm_basis.proofs.Bools.{and_first}
 use Rattle.capture_ends.proofs.InTurn.{AnswersInTurn}
@@ -14,13 +11,9 @@ use Rattle.capture_ends.specs.declared.party.Party.{Party}
 use Rattle.capture_laws.specs.ChangeLaws.{answered_by}
 use Rattle.capture_laws.specs.DropsShown.{IsShownAnswer}
 use Rattle.capture_laws.specs.RepliesShown.{responder_for}
-use Rattle.chunking.proofs.ChunkSteps as step
-use Rattle.chunking.specs.Cutting.{chunk_count, unit_of}
 use Rattle.connection.specs.Sessions.{IsViewOf}
 use Rattle.fetched_answers.specs.JudgedFor.{IsMeasured, JudgesFor, session_with}
-use Rattle.large_answers.proofs.Gave.{bytes_same}
-use Rattle.large_answers.specs.Fetching.{Fetching, IsFetchingOf, MayStand, bytes_given, bytes_of}
-use Rattle.negotiate.specs.declared.shared.Common.{Common}
+use Rattle.large_answers.specs.Fetching.{Fetching, IsFetchingOf}
 use Rattle.requester_machine.specs.May.{IsSetUp}
 use Rattle.requester_machine.specs.Setup.{ReqSetup}
 use Rattle.responder_machine.specs.History.{Entry, History}
@@ -33,23 +26,20 @@ use Rattle.responder_machine.specs.Session.{Events, is_live, session_of}
 use Rattle.responder_machine.specs.Session.Event.{Heard}
 use Rattle.responder_machine.specs.Setup.{RspSetup}
 use Rattle.responder_machine.specs.Turn.{handle_in, is_taken, takes}
-use Rattle.responder_session.specs.Pending.{IsUncounted, events_unseen}
+use Rattle.responder_session.specs.Pending.{IsUncounted}
 use Rattle.spdm_grammar.specs.declared.error_code.ErrorCode.{ErrorCode}
 use Rattle.spdm_grammar.specs.declared.names.request_code.TheConstants.{CHUNK_GET}
 use Rattle.spdm_grammar.specs.declared.session_view.SessionView.{SessionView}
-use Rattle.world_machine.proofs.ChunksGiven.{Chunked, gets_of}
-use Rattle.world_machine.proofs.ChunksGiven.Chunked.{Gone, Given}
 use Rattle.world_machine.proofs.EventsAlike.{live_alike}
 use Rattle.world_machine.proofs.FetchedSessions.{ended_fetched, sessions_fetched}
 use Rattle.world_machine.proofs.FetchedTells.{kept_large}
-use Rattle.world_machine.proofs.GetTells.{transfer_of}
 use Rattle.world_machine.specs.LargeAnswers.{with_large}
 use Rattle.world_machine.specs.SessionTable.{Row}
 use Rattle.world_machine.specs.Setup.{Configuration}
-use Rattle.fetched_ends.proofs.BehindGet.{pends}
-use Rattle.fetched_ends.proofs.InSessionPut.{chunked, measured, pending_same}
+use Rattle.fetched_ends.proofs.InSessionPut.{measured}
+use Rattle.fetched_ends.proofs.LeftBefore.{apart, one, two, unseen_is}
 use Rattle.fetched_ends.proofs.MeasuredStays.{measured_stays}
-use Rattle.fetched_ends.proofs.OtherBytes.{flipped, flipped_other, flipped_stands, large_some, large_wide, take_most}
+use Rattle.fetched_ends.proofs.OtherBytes.{flipped}
 use Rattle.fetched_ends.proofs.OthersKept.{behind, ids, large_then, outcome, unseen_then}
 use Rattle.fetched_ends.proofs.OthersLed.{IsSealed, pending_behind}
 use Rattle.fetched_ends.proofs.OthersLeft.{left_is, live_view, none_view, sealed, session_stays, session_then, stays_then, turn_gets, turn_small, unseen_session, unseen_stays, was_live}
@@ -57,7 +47,7 @@ use Rattle.fetched_ends.proofs.SeenAlike.{live_alike as seen_live}
 use Rattle.fetched_ends.proofs.SeenGone.{gone_stands, other_session}
 use Rattle.fetched_ends.proofs.SeenSessions.{seen_alike}
 use Rattle.fetched_ends.proofs.SizesSeen.{session_queue, session_turns}
-use Rattle.fetched_ends.proofs.Uncounted.{session_unseen, uncounted_first, uncounted_more}
+use Rattle.fetched_ends.proofs.Uncounted.{uncounted_first, uncounted_more}
 use Rattle.fetched_ends.specs.InSession.{IsFetchedIn}
 use Rattle.fetched_ends.specs.SessionOthers.{IsOtherAnswer, MayForget, left_then}
 use Rattle.fetched_ends.specs.declared.in_session.InSession.{InSession}
@@ -112,54 +102,6 @@ module _ (w : Configuration) (q : ReqSetup) (older : List (List ℕ)) (rows : Li
       → JudgesFor answerer.connection (responder_for w f.kept) then (Some fetched.id) kept.whole
   judges_then answerer is = subst (IsAnswerer answerer r) (sym large_is) is
 
-  -- ---- A chunk was left to be given before it.
-
-  module _ (was_left : fetched.left ≡ true) where
-    pending : has_pending (session_place (session_with id h x)) ≡ true
-    pending = kept.pending ∙ was_left
-
-    one : IsMeasured id h x
-    one = measured w q older f route answer byte limits own turn id kept.at other.record_is x x kept.stands kept.stands x kept.stands pending
-
-    -- Other bytes may stand too.
-    wide : 12 < transfer_of (session_place (session_with id h x))
-    wide = subst (λ (c : Common). 12 < c.to_requester.transfer) (sym (kept.sizes was_left)) (large_wide f.place x kept.stands.0)
-
-    long : 0 < length x
-    long = large_some f.place x kept.stands.0
-
-    short : length (bytes_of f) < length x
-    short = by_chunked (chunked w q older f route answer byte limits own turn id kept.at other.record_is x x kept.stands kept.stands x kept.stands)
-      where
-        by_chunked : Chunked (session_place (session_with id h x)) (Some id) x h → length (bytes_of f) < length x
-        by_chunked (Gone none) = absurd (none-some x (sym none ∙ one.large))
-        by_chunked (Given large given parts) =
-            let transfer : ℕ = transfer_of (session_place (session_with id h x)) in
-            let n : ℕ = gets_of (Some id) h in
-            let more : nat_lt n (chunk_count transfer x) ≡ true = ap (λ (k : ℕ). nat_lt k (chunk_count transfer x)) (sym given) ∙ sym (pends (session_with id h x) x large) ∙ pending in
-            let within : n < chunk_count transfer x = grind (arith, nat_tests, more) in
-            let reached = step.reaches transfer 0 x wide n within in
-            let bytes : length (bytes_of f) ≡ length (take (n * unit_of transfer - 4) x) =
-            ap (λ (o : Option ℕ). length (bytes_given o h)) kept.at ∙ ap (λ (l : List ℕ). length l) (sym (bytes_same (Some id) h) ∙ parts ∙ step.joined-before transfer 0 x wide n) in
-            let most = take_most (n * unit_of transfer - 4) x in
-            let none = long in omega (arith, reached, bytes, most, none)
-
-    stands_too : MayStand f (flipped x)
-    stands_too = flipped_stands f fetched.least fetched.most kept.lengths x kept.stands short
-
-    apart : kept.whole ≢ flipped kept.whole
-    apart = flipped_other x long
-
-    other_pending : has_pending (session_place (session_with id h (flipped x))) ≡ true
-    other_pending = sym (pending_same w q older f route answer byte limits own turn id kept.at other.record_is x (flipped x) kept.stands stands_too) ∙ pending
-
-    two : IsMeasured id h (flipped x)
-    two = measured w q older f route answer byte limits own turn id kept.at other.record_is x (flipped x) kept.stands stands_too (flipped x) stands_too other_pending
-
-    -- Without the answer the session is the same but for that.
-    unseen_is : session_of id h ≡ events_unseen (session_with id h x)
-    unseen_is = session_unseen id h x (flipped x) apart one two
-
   -- ---- A chunk is left behind it.
 
   module _ (some : left ≡ true) where
@@ -182,10 +124,10 @@ module _ (w : Configuration) (q : ReqSetup) (older : List (List ℕ)) (rows : Li
     measured_then v = measured_stays id h then v (stays_then w q older rows f route answer byte limits own turn party fetched kept refuses other shown more_then live_then v (live_with v))
 
     one_measured : IsMeasured fetched.id then kept.whole
-    one_measured = measured_then x (one was_left)
+    one_measured = measured_then x (one w q older rows f route answer byte limits own turn party fetched kept refuses other was_left)
 
     other_measured : IsMeasured fetched.id then (flipped kept.whole)
-    other_measured = measured_then (flipped x) (two was_left)
+    other_measured = measured_then (flipped x) (two w q older rows f route answer byte limits own turn party fetched kept refuses other was_left)
 
   -- ---- None is left, and the session is live.
 
@@ -235,8 +177,8 @@ module _ (w : Configuration) (q : ReqSetup) (older : List (List ℕ)) (rows : Li
 
       behind_by : (b : Bool) → fetched.left ≡ b → IsUncounted (Heard (drop 1 turn.round.body) its.turn its.reply ∷ session_with id h x) (Heard (drop 1 turn.round.body) its.turn its.reply ∷ session_of id h)
       behind_by true was =
-          subst (λ (y : Events). IsUncounted (Heard (drop 1 turn.round.body) its.turn its.reply ∷ session_with id h x) (Heard (drop 1 turn.round.body) its.turn its.reply ∷ y)) (sym (unseen_is was))
-          (uncounted_first (drop 1 turn.round.body) its.turn its.reply (session_with id h x) (ap is_some (one was).large) (one was).measured (was_taken was) gets_none goes_small)
+          subst (λ (y : Events). IsUncounted (Heard (drop 1 turn.round.body) its.turn its.reply ∷ session_with id h x) (Heard (drop 1 turn.round.body) its.turn its.reply ∷ y)) (sym (unseen_is w q older rows f route answer byte limits own turn party fetched kept refuses other was))
+          (uncounted_first (drop 1 turn.round.body) its.turn its.reply (session_with id h x) (ap is_some (one w q older rows f route answer byte limits own turn party fetched kept refuses other was).large) (one w q older rows f route answer byte limits own turn party fetched kept refuses other was).measured (was_taken was) gets_none goes_small)
       behind_by false was =
           uncounted_more (drop 1 turn.round.body) its.turn its.reply (session_with id h x) (session_of id h) gets_none goes_small
           (kept.uncounted was (was_live w q older rows f route answer byte limits own turn party fetched kept refuses other shown e is live))
@@ -257,7 +199,7 @@ module _ (w : Configuration) (q : ReqSetup) (older : List (List ℕ)) (rows : Li
   -- ---- It may be forgotten.
 
   may_by : (b c : Bool) → left ≡ b → is_some view ≡ c → MayForget id then x b c
-  may_by true c some is = (flipped x, apart (was_left some), one_measured some, other_measured some)
+  may_by true c some is = (flipped x, apart w q older rows f route answer byte limits own turn party fetched kept refuses other (was_left some), one_measured some, other_measured some)
   may_by false true none is = record {
     own = uncounted_then none (ap (λ (l : History). is_live (session_of id l)) large_is ∙ live_view view _ viewed is);
     others = λ i other_id. other_session i id x then other_id;

@@ -74,10 +74,10 @@ use Rattle.fetched_ends.proofs.InSessionRefused.{refused}
 use Rattle.fetched_ends.proofs.OthersKept.{answer_then, asks_then, behind, clear_then, goes, ids, large_then, leads, next, outcome, plainly, stands_then, unseen_then}
 use Rattle.fetched_ends.proofs.OthersLeft.{left_is, sizes_then}
 use Rattle.fetched_ends.proofs.OthersStop.{uncounted_then}
-use Rattle.fetched_ends.proofs.OthersSame.{is_none_with, judged_at, place_at}
+use Rattle.fetched_ends.proofs.OthersSame.{is_none_with}
 use Rattle.fetched_ends.proofs.QuietSteps.{quiet_step}
 use Rattle.fetched_ends.proofs.SeenKeys.{keys_unseen, views_alike}
-use Rattle.fetched_ends.specs.Fetched.{IsRepliedTo, IsUnjudged, rows_upon}
+use Rattle.fetched_ends.specs.Fetched.{IsRepliedTo, rows_upon}
 use Rattle.fetched_ends.specs.InSession.{IsFetchedIn}
 use Rattle.fetched_ends.specs.SessionOthers.{IsOtherAnswer, left_then}
 use Rattle.fetched_ends.specs.declared.in_session.InSession.{InSession}
@@ -129,7 +129,12 @@ module _ (w : Configuration) (q : ReqSetup) (older : List (List ℕ)) (rows : Li
       → IsAnswerer new (responder_for w f.kept) (history_shown (responder_for w f.kept) (with_large (Some fetched.id) kept.whole f.kept.responder) turn.round.tag turn.round.body answer)
   behind_given new request is stands = subst (λ (b : List ℕ). IsAnswerer new r (history_shown r g round.tag b answer)) (own_body request is) stands
 
-  -- ---- It is refused, or not judged.
+  -- Behind LargeResponse.
+  pub behind_large : (new : Answerer) (request : List ℕ) → request ≡ drop 1 turn.round.body → IsAnswerer new (responder_for w f.kept) (history_behind (responder_for w f.kept) (with_large (Some fetched.id) kept.whole f.kept.responder) turn.round.tag (record_body request) answer given.Large)
+      → IsAnswerer new (responder_for w f.kept) (history_behind (responder_for w f.kept) (with_large (Some fetched.id) kept.whole f.kept.responder) turn.round.tag turn.round.body answer given.Large)
+  behind_large new request is stands = subst (λ (b : List ℕ). IsAnswerer new r (history_behind r g round.tag b answer given.Large)) (own_body request is) stands
+
+  -- ---- It is refused.
 
   -- It is no last chunk.
   pub no_last : EndsLarge (responder_for w f.kept) (with_large (Some fetched.id) kept.whole f.kept.responder) turn.round.tag turn.round.body answer → ⊥
@@ -148,10 +153,6 @@ module _ (w : Configuration) (q : ReqSetup) (older : List (List ℕ)) (rows : Li
   refused_other result told plain large why is new stands table =
       refused w q older rows f route answer byte limits own turn fetched.id kept.at other.record_is fetched.least fetched.most fetched.op kept.lengths kept.asks kept.whole kept.stands why is
       (is_none_with w q older rows f route answer byte limits own turn party fetched kept refuses other (λ shown. plain (told.whole.1 shown)) (λ shown. large (told.large.1 shown))) new stands table
-
-  pub begins_other : IsShownLarge (responder_for w f.kept) (with_large (Some fetched.id) kept.whole f.kept.responder) turn.round.tag turn.round.body answer → IsUnjudged w f answer
-  begins_other large =
-      (round, kept.whole, turn.answers.0, kept.stands, subst (λ (l : History). IsShownLarge r l round.tag round.body answer) (sym (judged_at w q older rows f route answer byte limits own turn party fetched kept refuses other kept.whole kept.stands)) large)
 
   -- ---- It goes on.
 

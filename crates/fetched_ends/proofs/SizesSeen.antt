@@ -20,16 +20,16 @@ use Rattle.transcript.specs.Transcripts.{Negotiation}
 use Rattle.world_machine.specs.LargeAnswers.{effect_with, handle_shown, is_unseen_effect, is_unseen_in, seen, with_large}
 
 -- Turns with one phase and one negotiation of capabilities.
-record SameSizes (l k : List Turn) : Type 0 where
-  phase : phase_of l ≡ phase_of k
-  caps : SameCaps (negotiation_of l) (negotiation_of k)
+pub record SameSizes (l k : List Turn) : Type 0 where
+  pub phase : phase_of l ≡ phase_of k
+  pub caps : SameCaps (negotiation_of l) (negotiation_of k)
 
 same_sizes : (l : List Turn) → SameSizes l l
 same_sizes l = record { phase = refl; caps = record { asked = refl; told = refl } }
 
 -- ---- One turn.
 
-abbrev settled : Bool → Bool → Bool → Turn → Negotiation → Negotiation
+abbrev pub settled : Bool → Bool → Bool → Turn → Negotiation → Negotiation
 settled a b c x rest =
     cond a (record no_negotiation { get_version = request_in x.effect; version = answer_in x.effect })
     (cond b (record rest { get_capabilities = request_in x.effect; capabilities = answer_in x.effect })
@@ -75,11 +75,11 @@ module _ (v : List ℕ) where
   by_entry (Dropped id) h true is caps rest = absurd (false≢true is)
   by_entry (Dropped id) h false is caps rest = rest
 
-  sizes_seen : (h : History) → NoCaps h → SameSizes (clear_turns (with_large None v h)) (clear_turns h)
+  pub sizes_seen : (h : History) → NoCaps h → SameSizes (clear_turns (with_large None v h)) (clear_turns h)
   sizes_seen [] caps = same_sizes []
   sizes_seen (e ∷ h) caps = by_entry e h (is_unseen_in None e) refl caps.0 (sizes_seen h caps.1)
 
-common_same : (n k : Negotiation) → SameCaps n k → (terms_of n).common ≡ (terms_of k).common
+pub common_same : (n k : Negotiation) → SameCaps n k → (terms_of n).common ≡ (terms_of k).common
 unfolding terms_of
 common_same n k same =
     ap (λ (x : List ℕ). common_from (asked_caps (request_value x)) (told_caps (response_value n.capabilities))) same.asked

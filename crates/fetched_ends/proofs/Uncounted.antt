@@ -106,6 +106,48 @@ uncounted_first m t reply s some measured taken none small =
       };
     }
 
+-- ---- One more turn, whose answer goes by LargeResponse.
+
+given_new : (t : Turn) (ts us : List Turn) → is_taken t ≡ true → takes CHUNK_GET t ≡ false → given_of (t ∷ ts) ≡ given_of (t ∷ us)
+given_new t ts us taken none =
+    let given : Bool → Bool → List Turn → ℕ = λ b c l. cond (not b) (given_of l) (cond c (given_of l + 1) 0) in
+    ap (λ (b : Bool). given b (takes CHUNK_GET t) ts) taken
+    ∙ ap (λ (c : Bool). given true c ts) none
+    ∙ sym (ap (λ (c : Bool). given true c us) none)
+    ∙ sym (ap (λ (b : Bool). given b (takes CHUNK_GET t) us) taken)
+
+handle_new : (o : Option ℕ) (n k : ℕ) → is_some o ≡ true → unwrap_or o n ≡ unwrap_or o k
+handle_new None n k some = absurd (false≢true some)
+handle_new (Some handle) n k some = refl
+
+-- Its chunks are left, whatever was there.
+left_new : (transfer : ℕ) (t : Turn) (ts us : List Turn) → is_taken t ≡ true → takes CHUNK_GET t ≡ false → is_some (handle_in t.effect) ≡ true → left_by transfer (t ∷ ts) (large_of (t ∷ ts)) ≡ left_by transfer (t ∷ us) (large_of (t ∷ us))
+left_new transfer t ts us taken none large =
+    ap (left_by transfer (t ∷ ts)) (large_other t ts taken none)
+    ∙ left_same transfer (t ∷ ts) (t ∷ us) (large_in t.effect) (given_new t ts us taken none) (handle_new (handle_in t.effect) (handle_of ts) (handle_of us) large)
+    ∙ sym (ap (left_by transfer (t ∷ us)) (large_other t us taken none))
+
+larges_new : (t : Turn) (ts : List Turn) → is_some (handle_in t.effect) ≡ true → larges_of (t ∷ ts) ≡ larges_of ts + 1
+larges_new t ts large = ap (λ (b : Bool). cond b (larges_of ts + 1) (larges_of ts)) large
+
+-- Behind it the sessions differ by the answer before it alone.
+pub uncounted_turned : (m : List ℕ) (t : Turn) (reply : List ℕ) (s u : Events) → is_taken t ≡ true → takes CHUNK_GET t ≡ false → is_some (handle_in t.effect) ≡ true → IsAlike s u → larges_of (turns_of s) ≡ larges_of (turns_of u) + 1
+    → IsUncounted (Heard m t reply ∷ s) (Heard m t reply ∷ u)
+uncounted_turned m t reply s u taken none large alike more = record {
+  alike = heard_alike m t reply s u alike;
+  large = record {
+    left = left_new (session_terms s).common.to_requester.transfer t (turns_of s) (turns_of u) taken none large;
+    count = larges_new t (turns_of s) large ∙ ap (λ (n : ℕ). n + 1) more ∙ sym (ap (λ (n : ℕ). n + 1) (larges_new t (turns_of u) large));
+  };
+}
+
+-- Where a large answer is pending, it counts.
+pub pending_counts : (s : Events) → is_some (large_of (turns_of s)) ≡ true → larges_of (turns_of s) ≡ larges_of (turns_of (events_unseen s)) + 1
+pending_counts s some = (forgotten (turns_of s) some).larges ∙ sym (ap (λ (l : List Turn). larges_of l + 1) (turns_forgotten s))
+
+pub pending_alike : (s : Events) → last_takes GET_MEASUREMENTS (turns_of s) ≡ true → IsAlike s (events_unseen s)
+pending_alike s measured = forgotten_alike s measured
+
 -- ---- The session in which the answer was not seen.
 
 pub session_unseen : (id : ℕ) (h : History) (x y : List ℕ) → x ≢ y → IsMeasured id h x → IsMeasured id h y → session_of id h ≡ events_unseen (session_with id h x)

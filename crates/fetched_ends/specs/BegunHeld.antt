@@ -34,18 +34,15 @@ abbrev pub has_free_length : (code : ℕ) → Bool
 has_free_length code = code == GET_MEASUREMENTS || code == PSK_EXCHANGE
 
 -- It is no LargeResponse to a request in the clear by what it shows, and nothing changes; or it is LargeResponse, and the
--- requester asks for no chunk upon it: to one of these requests it goes on, its answer is never seen, and this is what is kept
--- behind it; to another nothing is said; or a fetch begins, and this stands for what is kept from then on, and so does the
--- table.
+-- requester asks for no chunk upon it: then the request is one of these, it goes on, its answer is never seen, and this is what
+-- is kept behind it; or a fetch begins, and this stands for what is kept from then on, and so does the table.
 abbrev pub IsBegunHeld : Configuration → ReqSetup → List (List ℕ) → List Row → Kept → RouteFields → (answer : List ℕ) → BegunHeld
     → (new : Party) → (before after : List Seen) → Type 0
 IsBegunHeld w q older rows k route answer begun.Not new before after =
     (IsLargeInClear w k route.tag answer → ⊥) × IsParty new w q k rows × (after ≡ before)
 IsBegunHeld w q older rows k route answer begun.Passed new before after =
     (next : Kept) × RepliesKept w k (Whole route answer) next × StandBehind new after w q older rows k next
-IsBegunHeld w q older rows k route answer begun.Unfetched new before after =
-    IsLargeInClear w k route.tag answer × (asks_upon k route.tag answer ≡ false)
-    × ((round : Round) → k.round ≡ Some round → has_free_length (code_of (drop 1 round.body)) ≡ false) × (after ≡ before)
+    × ((round : Round) → k.round ≡ Some round → has_free_length (code_of (drop 1 round.body)) ≡ true)
 IsBegunHeld w q older rows k route answer (begun.Fetching held) new before after =
     (next : Fetching) × BeginsFetching w k (Whole route answer) next
     × IsHeldIn new held w q next (rows_upon k next.kept rows)

@@ -1,5 +1,5 @@
 -- What is told of an answer while nothing is fetched: whether a fetch begins by it in a session. This project's own.
-use Rattle.std.specs.Prelude.{◌≡◌, ◌+◌, ℕ, List, length, Bool, true, false, Ok}
+use Rattle.std.specs.Prelude.{◌≡◌, ◌+◌, ◌==◌, ℕ, List, length, slice_index, Bool, true, false, Some, Ok}
 use Rattle.mctp_framing.specs.Cutting.{RouteFields}
 use Rattle.mctp_framing.specs.Gathering.Gathered.{Whole}
 use Rattle.requester_machine.specs.Setup.{ReqSetup}
@@ -16,11 +16,12 @@ use Rattle.fetched_ends.specs.declared.in_session_begins.BegunIn.{BegunIn}
 use Rattle.fetched_ends.specs.declared.in_session_begins.BegunIn.TheVariants as begun
 use Rattle.large_answers.specs.Fetching.{Fetching}
 use Rattle.large_answers.specs.FetchingLaws.{BeginsFetching}
+use Rattle.world_machine.specs.Rounds.{Round}
 use Rattle.world_machine.specs.SessionTable.{Row}
 use Rattle.world_machine.specs.Setup.{Configuration}
 
 -- Nothing is told, and what is kept stays; a fetch begins, and this stands for what is kept from then on, and so does the
--- table; or what is told as where none begins.
+-- table; or what is told as where none begins, of an answer to a record.
 abbrev pub IsBegunIn : Configuration → ReqSetup → List (List ℕ) → List Row → Kept → RouteFields → (answer : List ℕ)
     → BegunIn → (new : Party) → (before after : List Seen) → Type 0
 IsBegunIn w q older rows k route answer begun.Not new before after = IsParty new w q k rows × (after ≡ before)
@@ -28,7 +29,8 @@ IsBegunIn w q older rows k route answer (begun.Fetching fetched) new before afte
     (next : Fetching) × BeginsFetching w k (Whole route answer) next
     × IsFetchedIn new fetched w q next (rows_upon k next.kept rows)
     × StandsForRows after w (length older + 1) (rows_upon k next.kept rows)
-IsBegunIn w q older rows k route answer (begun.Told told) new before after = IsReplied w q older rows k route answer told new after
+IsBegunIn w q older rows k route answer (begun.Told told) new before after =
+    IsReplied w q older rows k route answer told new after × ((round : Round) → k.round ≡ Some round → (slice_index round.body 0 == 5) ≡ false)
 
 -- The table stays, but where a fetch begins, or the answer goes on whole.
 abbrev pub leaves_table : BegunIn → Bool

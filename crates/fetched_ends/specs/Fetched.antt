@@ -4,13 +4,11 @@ use Rattle.mctp_framing.specs.Cutting.{RouteFields}
 use Rattle.mctp_framing.specs.Gathering.{Gathered}
 use Rattle.mctp_framing.specs.Gathering.Gathered.{Whole}
 use Rattle.requester_machine.specs.Setup.{ReqSetup}
-use Rattle.responder_machine.specs.Session.{id_in_record}
 use Rattle.script_text.specs.declared.why.Why as declared
 use Rattle.capture_ends.specs.Party.{IsParty}
 use Rattle.capture_ends.specs.declared.party.Party.{Party}
 use Rattle.capture_laws.specs.Judged.{why_of}
 use Rattle.capture_laws.specs.Keeping.{Kept, restored}
-use Rattle.capture_laws.specs.LargeShown.{IsShownLarge}
 use Rattle.capture_laws.specs.RepliesShown.{responder_for}
 use Rattle.capture_laws.specs.Rows.{StandsForRows}
 use Rattle.capture_laws.specs.declared.verdict.Seen.{Seen}
@@ -20,8 +18,6 @@ use Rattle.fetched_ends.specs.declared.upon.Upon.{Upon}
 use Rattle.fetched_ends.specs.declared.upon.Upon.TheVariants as upon
 use Rattle.world_machine.specs.Difference.{GoesApart, Why, goes_why}
 use Rattle.world_machine.specs.Difference.Why.{BadVerify}
-use Rattle.world_machine.specs.LargeAnswers.{judging}
-use Rattle.world_machine.specs.Rounds.{Round}
 use Rattle.world_machine.specs.SessionTable.{Row, rows_between}
 use Rattle.world_machine.specs.Setup.{Configuration}
 
@@ -38,25 +34,22 @@ IsFetchedWhy w f g why =
     ((whole : List ℕ) → MayStand f whole → GoesApart (responder_for w f.kept) (dialogue_of f whole) g → ⊥)
     × (goes_why (responder_for w f.kept) (restored f.kept) g ≡ Some why)
 
--- It is not judged: it begins another large answer by what it shows.
-abbrev pub IsUnjudged : Configuration → Fetching → (answer : List ℕ) → Type 0
-IsUnjudged w f answer =
-    ((round : Round) × (whole : List ℕ) × (f.kept.round ≡ Some round) × MayStand f whole
-    × IsShownLarge (responder_for w f.kept) (judging (Some whole) round.body f.kept.responder) round.tag round.body answer)
-
--- It goes on, and then this stands for what is kept behind it, and so does the table; or it is not judged; or it is
--- refused, and then why.
+-- It goes on, and then this stands for what is kept behind it, and so does the table: the large answer is fetched on, or another
+-- one from then on, or none; or it is refused, and then why.
 abbrev pub IsRepliedTo : Configuration → ReqSetup → List (List ℕ) → List Row → Fetching → RouteFields → (answer : List ℕ)
     → Result Upon declared.Why → (new : Party) → (stands : Fetching → List Row → Type 0) → (table : List Seen) → Type 0
 IsRepliedTo w q older rows f route answer (Ok upon.Fetched) new stands table =
     (next : Fetching) × GoesFetching w f (Whole route answer) next
     × stands next (rows_upon f.kept next.kept rows)
     × StandsForRows table w (length older + 1) (rows_upon f.kept next.kept rows)
+IsRepliedTo w q older rows f route answer (Ok upon.Turned) new stands table =
+    (next : Fetching) × TurnsFetching w f (Whole route answer) next
+    × stands next (rows_upon f.kept next.kept rows)
+    × StandsForRows table w (length older + 1) (rows_upon f.kept next.kept rows)
 IsRepliedTo w q older rows f route answer (Ok upon.Ended) new stands table =
     (next : Kept) × EndsFetching w f (Whole route answer) next
     × IsParty new w q next (rows_upon f.kept next rows)
     × StandsForRows table w (length older + 1) (rows_upon f.kept next rows)
-IsRepliedTo w q older rows f route answer (Ok upon.Large) new stands table = IsUnjudged w f answer
 IsRepliedTo w q older rows f route answer (Err why) new stands table =
     ((next : Fetching) → GoesFetching w f (Whole route answer) next → ⊥)
     × ((next : Fetching) → TurnsFetching w f (Whole route answer) next → ⊥)

@@ -1,26 +1,30 @@
 -- What is kept of a requester and the responder at any place, also while a large answer is fetched, and what is told of a
 -- request and of an answer there, in words of packets and of walks over them. This project's own.
-use Rattle.std.specs.Prelude.{◌≡◌, ◌≢◌, ◌<◌, ◌+◌, ◌⊎◌, ℕ, List, ◌∷◌, drop, length, false, true, Option, Some, None, IsSome, Result, Ok, Err}
+use Rattle.std.specs.Prelude.{◌≡◌, ◌≢◌, ◌<◌, ◌+◌, ◌==◌, ◌⊎◌, ℕ, List, ◌∷◌, drop, length, slice_index, false, true, Option, Some, None, IsSome, Result, Ok, Err}
 use Rattle.mctp_framing.specs.Cutting.{RouteFields}
 use Rattle.mctp_framing.specs.Gathering.{Gathered}
 use Rattle.mctp_framing.specs.Gathering.Gathered.{Whole, More}
 use Rattle.mctp_framing.specs.Packet.{PacketFields, parsed}
 use Rattle.requester_machine.specs.Setup.{ReqSetup}
 use Rattle.script_text.specs.declared.why.Why as declared
+use Rattle.capture_ends.specs.ClearAnswers.{EndsLarge}
 use Rattle.capture_ends.specs.Conversation as conversations
 use Rattle.capture_ends.specs.Conversation.{NoneGoesOn}
+use Rattle.capture_ends.specs.HeardKept.{asks_upon}
 use Rattle.capture_ends.specs.declared.conversation.Conversation.{Conversation}
 use Rattle.capture_ends.specs.declared.party.Party.{Party}
 use Rattle.capture_ends.specs.declared.onward.Onward.{Onward}
 use Rattle.capture_ends.specs.declared.onward.Onward.TheVariants as onward
-use Rattle.capture_laws.specs.DropsShown.{id_begun, response_of}
+use Rattle.capture_laws.specs.DropsShown.{IsShownAnswer, id_begun, response_of}
 use Rattle.capture_laws.specs.Judged.{why_of}
+use Rattle.capture_laws.specs.Keeping.{Keeps, Kept}
+use Rattle.capture_laws.specs.LargeShown.{IsShownLarge}
 use Rattle.capture_laws.specs.Order.{is_answer, is_request}
 use Rattle.capture_laws.specs.ReasonsEach.{IsAnsweredReason, IsAskedReason}
+use Rattle.capture_laws.specs.RepliesShown.{AnswersRound, responder_for}
 use Rattle.capture_laws.specs.Rows.{StandsForRows}
 use Rattle.capture_laws.specs.Walks.{Walks}
 use Rattle.capture_laws.specs.declared.verdict.Seen.{Seen}
-use Rattle.fetched_ends.specs.Fetched.{IsUnjudged}
 use Rattle.fetched_ends.specs.Held.{IsHeldIn}
 use Rattle.fetched_ends.specs.InSession.{IsFetchedIn}
 use Rattle.fetched_ends.specs.declared.fetch.Fetch.{Fetch}
@@ -28,7 +32,7 @@ use Rattle.fetched_ends.specs.declared.fetch.Fetch.TheVariants as fetch
 use Rattle.fetched_ends.specs.declared.judged_ends.JudgedEnds.{JudgedEnds}
 use Rattle.large_answers.specs.Fetching.{Fetching, IsFetchingOf}
 use Rattle.spdm_machine.specs.Packets.{gathered_from}
-use Rattle.world_machine.specs.Rounds.{Dialogue}
+use Rattle.world_machine.specs.Rounds.{Dialogue, Round}
 use Rattle.world_machine.specs.SessionTable.{Row, rows_between}
 use Rattle.world_machine.specs.Setup.{Configuration}
 
@@ -84,11 +88,19 @@ abbrev pub IsAskedOf : Configuration → ReqSetup → List (List ℕ) → List R
 IsAskedOf w q older rows packet g (Ok u) new table = StandsBehind new table w q older rows packet
 IsAskedOf w q older rows packet g (Err why) new table = NoneGoesOn w q older packet × IsAskedReason w q older g (why_of why)
 
--- An answer is a part of a large one that is not judged, by what is kept of the packets: of one that is not fetched or while
--- a large request is sent; or one that comes while a large answer is fetched, and is not judged there.
+-- While nothing is fetched, what is left unjudged: LargeResponse again, by which a fetch begins, which is a repeat upon which the
+-- requester asks for a chunk; and to a record LargeResponse, and a last chunk.
+abbrev pub IsLeft : Configuration → Kept → ℕ → (answer : List ℕ) → Type 0
+IsLeft w k tag answer =
+    (round : Round) × AnswersRound k tag round
+    × ((IsShownAnswer (responder_for w k) k.responder round.tag round.body answer × (asks_upon k tag answer ≡ true))
+    ⊎ (((slice_index round.body 0 == 5) ≡ false)
+    × (IsShownLarge (responder_for w k) k.responder round.tag round.body answer ⊎ EndsLarge (responder_for w k) k.responder round.tag round.body answer)))
+
+-- An answer is a part of a large one that is not judged, by what is kept of the packets while nothing is fetched and no large
+-- request is sent.
 abbrev pub IsPart : Configuration → ReqSetup → List (List ℕ) → ℕ → (answer : List ℕ) → Type 0
-IsPart w q older tag answer =
-    conversations.IsPart w q older tag answer ⊎ ((f : Fetching) × IsFetchingOf w q older f × IsUnjudged w f answer)
+IsPart w q older tag answer = (k : Kept) × Keeps w q older k × IsLeft w k tag answer
 
 -- Of an answer: it goes on, or it is such a part, of which nothing more is said; or no walk goes on with it, and then why.
 abbrev pub IsJudgedAnswer : Configuration → ReqSetup → List (List ℕ) → List Row → (packet : List ℕ) → RouteFields → (answer : List ℕ)

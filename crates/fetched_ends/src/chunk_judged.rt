@@ -46,8 +46,8 @@ pub(crate) fn judges_chunk(
         → StandsForRows table.old w (length older) rows
         → IfOk result (λ told. IsChunkJudged w q older rows f route answer.now whole.now fetched.old told
         party.new (IsFetchedIn party.new fetched.new w q) table.new) }
-    ensures stays { IfOk result (λ told. (told ≡ Some upon.Fetched → ⊥) → (told ≡ Some upon.Ended → ⊥)
-        → table.new ≡ table.old) }
+    ensures stays { IfOk result (λ told. (told ≡ Some upon.Fetched → ⊥) → (told ≡ Some upon.Turned → ⊥)
+        → (told ≡ Some upon.Ended → ⊥) → table.new ≡ table.old) }
     ensures memory { OnErr result (IsSome (id_begun (response_of (drop 1 answer.now)))) }
 {
     answer_accepts();

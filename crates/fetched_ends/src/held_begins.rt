@@ -6,7 +6,7 @@ ghost use Rattle.capture_laws.specs.RepliesShown.{responder_for};
 ghost use Rattle.capture_laws.specs.Rows.{StandsForRows};
 ghost use Rattle.connection.specs.Connected.{StandsFor};
 ghost use Rattle.connection.specs.Setup.{IsSetUp};
-ghost use Rattle.fetched_ends.specs.BegunHeld.{IsBegunHeld, has_free_length};
+ghost use Rattle.fetched_ends.specs.BegunHeld.{IsBegunHeld};
 ghost use Rattle.fetched_ends.specs.HeldFrom.{IsHeldFrom};
 ghost use Rattle.mctp_framing.specs.Cutting.{RouteFields};
 ghost use Rattle.mctp_framing.specs.Gathering.Gathered.{Whole};
@@ -28,7 +28,7 @@ use connection::{Connection, KeptReply, Setup};
 use large_answers::LargeAnswer;
 use session_keys::{behind_type, byte_at};
 use spdm_basis::{Frame, OutOfMemory};
-use spdm_grammar::names::request_code::{GET_MEASUREMENTS, PSK_EXCHANGE};
+use spdm_grammar::names::request_code::PSK_EXCHANGE;
 use spdm_grammar::names::response_code::CHUNK_SEND_ACK;
 
 // The type of a body that is an SPDM message in the clear (DSP0275).
@@ -39,12 +39,9 @@ const CLEAR: u8 = 5;
 pub enum BegunHeld {
     /// It is no LargeResponse to a request in the clear by what it shows: nothing was done.
     Not,
-    /// It is LargeResponse to GET_MEASUREMENTS or PSK_EXCHANGE, and the requester asks for no chunk upon it: it goes
-    /// on, and its answer is never seen.
+    /// It is LargeResponse, and the requester asks for no chunk upon it: it goes on, and its answer is never seen. The
+    /// request is GET_MEASUREMENTS or PSK_EXCHANGE, whole in one message.
     Passed,
-    /// It is LargeResponse to another request, and the requester asks for no chunk upon it: nothing is said of what
-    /// is kept.
-    Unfetched,
     /// A large answer is fetched from then on.
     Fetching(Held),
 }
@@ -56,13 +53,6 @@ fn frame_of(bytes: &[u8]) -> Frame
     let mut frame = Frame::new();
     let _ = frame.extend(bytes);
     frame
-}
-
-// Whether the answer to a request with this code may have any length.
-fn has_free_length(code: u8) -> bool
-    ensures { result ≡ has_free_length code }
-{
-    code == GET_MEASUREMENTS || code == PSK_EXCHANGE
 }
 
 // How many bytes stand round an answer that is sent so: an acknowledgement has six before its response.
@@ -138,9 +128,6 @@ pub fn begins_held(
     large_answer_changes();
     if !heard.fetches {
         let code = byte_at(message, 1);
-        if !has_free_length(code) {
-            return Ok(BegunHeld::Unfetched);
-        }
         let exchange = code == PSK_EXCHANGE;
         party
             .answerer

@@ -32,7 +32,7 @@ use spdm_basis::{OutOfMemory, RecordFrame};
 const CLEAR: u8 = 5;
 
 /// An answer of at most 4,161 bytes came whole, in order behind this round, while a large answer is fetched in a
-/// session: it goes on, and the table of sessions with it; or it is not judged; or why it is refused.
+/// session: it goes on, and the table of sessions with it; or why it is refused.
 pub fn replies_in_session(
     party: &mut Party,
     fetched: &mut InSession,
@@ -51,8 +51,8 @@ pub fn replies_in_session(
         → StandsForRows table.old w (length older) rows
         → IfOk result (λ told. IsRepliedTo w q older rows f route answer.now told party.new
         (IsFetchedIn party.new fetched.new w q) table.new) }
-    ensures stays { IfOk result (λ told. (told ≡ Ok upon.Fetched → ⊥) → (told ≡ Ok upon.Ended → ⊥)
-        → table.new ≡ table.old) }
+    ensures stays { IfOk result (λ told. (told ≡ Ok upon.Fetched → ⊥) → (told ≡ Ok upon.Turned → ⊥)
+        → (told ≡ Ok upon.Ended → ⊥) → table.new ≡ table.old) }
     ensures memory { OnErr result (IsSome (id_begun (response_of (drop 1 answer.now)))) }
 {
     let body = round.body();

@@ -1,3 +1,6 @@
+ghost use Rattle.std.specs.Prelude.{◌≡◌, ◌==◌, slice_index};
+
+use crate::measurements_asked::asks_measurements;
 use crate::{
     BegunHeld, BegunIn, Fetch, Held, InSession, JudgedEnds, Upon, begins_held, begins_in_session,
     replies_held, replies_in_session,
@@ -6,25 +9,39 @@ use capture_ends::Onward;
 use capture_laws::{Round, SessionTable};
 use connection::Setup;
 use script_text::Why;
+use session_keys::{behind_type, byte_at};
 use spdm_basis::OutOfMemory;
+
+// The type of a body that is an SPDM message in the clear (DSP0275).
+const CLEAR: u8 = 5;
+
+// Whether a body is a message in the clear.
+fn is_clear(body: &[u8]) -> bool
+    ensures { result ≡ (slice_index body.now 0 == 5) }
+{
+    byte_at(body, 0) == CLEAR
+}
 
 // The answers that a responder gives.
 impl JudgedEnds {
-    ghost use Rattle.std.specs.Prelude.{◌≡◌, ◌≤◌, ◌<◌, ◌-◌, ◌^◌, ℕ, List, None, IfOk, OnErr, IsSome, drop, length};
+    ghost use Rattle.std.specs.Prelude.{◌≡◌, ◌≤◌, ◌<◌, ◌-◌, ◌^◌, ◌==◌, ◌&&◌, ℕ, List, None, IfOk, OnErr, IsSome, drop, length, not, slice_index};
     ghost use Rattle.capture_ends.specs.Conversation as conversations;
     ghost use Rattle.capture_ends.specs.Conversation.{IsAnswer};
     ghost use Rattle.capture_laws.specs.DropsShown.{id_begun, response_of};
     ghost use Rattle.capture_laws.specs.Order.{answered_why, round_of};
     ghost use Rattle.capture_laws.specs.Rows.{StandsForRows};
+    ghost use Rattle.connection.specs.Connected as connected;
     ghost use Rattle.connection.specs.Setup.{IsSetUp};
     ghost use Rattle.fetched_ends.specs.Held.{IsHeldIn};
     ghost use Rattle.fetched_ends.specs.InSession.{IsFetchedIn};
     ghost use Rattle.fetched_ends.specs.JudgedEnds.{IsJudgedAnswer, MayBegin, StandsFor};
+    ghost use Rattle.fetched_ends.specs.MeasurementsAsked.{asks_measurements};
     ghost use Rattle.large_answers.specs.Fetching.{Fetching, IsFetchingOf};
     ghost use Rattle.mctp_framing.specs.Cutting.{RouteFields};
     ghost use Rattle.mctp_framing.specs.Gathering.Gathered.{Whole};
     ghost use Rattle.requester_machine.specs.Setup.{ReqSetup};
-    ghost use Rattle.responder_machine.specs.Setup.{towards};
+    ghost use Rattle.responder_machine.specs.History.{History};
+    ghost use Rattle.responder_machine.specs.Setup.{RspSetup, towards};
     ghost use Rattle.world_machine.specs.SessionTable.{Row};
     ghost use Rattle.world_machine.specs.Setup.{Configuration, known_of};
 
@@ -56,11 +73,14 @@ impl JudgedEnds {
                 self.fetched = Some(Fetch::InSession(fetched));
                 Ok(Ok(Onward::Kept))
             }
+            Ok(Upon::Turned) => {
+                self.fetched = Some(Fetch::InSession(fetched));
+                Ok(Ok(Onward::Kept))
+            }
             Ok(Upon::Ended) => {
                 self.fetched = None;
                 Ok(Ok(Onward::Kept))
             }
-            Ok(Upon::Large) => Ok(Ok(Onward::Large)),
             Err(why) => Ok(Err(why)),
         }
     }
@@ -92,11 +112,14 @@ impl JudgedEnds {
                 self.fetched = Some(Fetch::InClear(held));
                 Ok(Ok(Onward::Kept))
             }
+            Ok(Upon::Turned) => {
+                self.fetched = Some(Fetch::InClear(held));
+                Ok(Ok(Onward::Kept))
+            }
             Ok(Upon::Ended) => {
                 self.fetched = None;
                 Ok(Ok(Onward::Kept))
             }
-            Ok(Upon::Large) => Ok(Ok(Onward::Large)),
             Err(why) => Ok(Err(why)),
         }
     }
@@ -124,14 +147,83 @@ impl JudgedEnds {
         ensures memory { OnErr result (IsSome (id_begun (response_of (drop 1 answer.now)))) }
     {
         match begins_held(&mut self.talk.party, table, setup, round, answer)? {
-            BegunHeld::Not => self.talk.replies(table, setup, round, answer),
+            BegunHeld::Not => self.talk.party.replies(table, setup, round, answer),
             BegunHeld::Passed => Ok(Ok(Onward::Kept)),
-            BegunHeld::Unfetched => Ok(Ok(Onward::Large)),
             BegunHeld::Fetching(held) => {
                 self.fetched = Some(Fetch::InClear(held));
                 Ok(Ok(Onward::Kept))
             }
         }
+    }
+
+    // An answer came where no large message is under way, and it begins no large one in a session: it may begin one
+    // where its request is in the clear. Any other is told before places are made for a large answer.
+    fn begins_other(
+        &mut self,
+        table: &mut SessionTable,
+        setup: &Setup<'_>,
+        round: &Round,
+        answer: &[u8],
+    ) -> Result<Result<Onward, Why>, OutOfMemory>
+        requires { length answer.now ≤ 4161 }
+        ensures told { (w : Configuration) (q : ReqSetup) (older : List (List ℕ)) (rows : List Row)
+            (packet : List ℕ) (route : RouteFields) → IsAnswer w q older packet route answer.now
+            → length older < 2 ^ 64 - 2 → w.responder.beat < 256
+            → round.now ≡ round_of w.responder.eid q.eid older
+            → IsSetUp setup.now (towards w.responder (known_of q))
+            → answered_why round.now (Whole route answer.now) ≡ None → self.old.fetched ≡ None
+            → self.old.talk.large ≡ None
+            → conversations.StandsFor self.old.talk w q older rows
+            → StandsForRows table.old w (length older) rows
+            → IfOk result (λ told. IsJudgedAnswer w q older rows packet route answer.now told self.new
+            table.new) }
+        ensures memory { OnErr result (IsSome (id_begun (response_of (drop 1 answer.now)))) }
+    {
+        if !is_clear(round.body()) {
+            return self.talk.party.replies(table, setup, round, answer);
+        }
+        self.begins_clear(table, setup, round, answer)
+    }
+
+    // An answer came where no large message is under way: it may begin a large one in a session.
+    fn begins_session(
+        &mut self,
+        table: &mut SessionTable,
+        setup: &Setup<'_>,
+        round: &Round,
+        answer: &[u8],
+    ) -> Result<Result<Onward, Why>, OutOfMemory>
+        requires { length answer.now ≤ 4161 }
+        ensures told { (w : Configuration) (q : ReqSetup) (older : List (List ℕ)) (rows : List Row)
+            (packet : List ℕ) (route : RouteFields) → IsAnswer w q older packet route answer.now
+            → length older < 2 ^ 64 - 2 → w.responder.beat < 256
+            → round.now ≡ round_of w.responder.eid q.eid older
+            → IsSetUp setup.now (towards w.responder (known_of q))
+            → answered_why round.now (Whole route answer.now) ≡ None → self.old.fetched ≡ None
+            → self.old.talk.large ≡ None
+            → conversations.StandsFor self.old.talk w q older rows
+            → StandsForRows table.old w (length older) rows
+            → IfOk result (λ told. IsJudgedAnswer w q older rows packet route answer.now told self.new
+            table.new) }
+        ensures memory { OnErr result (IsSome (id_begun (response_of (drop 1 answer.now)))) }
+    {
+        match begins_in_session(&mut self.talk.party, table, setup, round, answer)? {
+            BegunIn::Not => self.begins_other(table, setup, round, answer),
+            BegunIn::Fetching(fetched) => {
+                self.fetched = Some(Fetch::InSession(fetched));
+                Ok(Ok(Onward::Kept))
+            }
+            BegunIn::Told(told) => Ok(told),
+        }
+    }
+
+    // Whether a request is a record that asks for measurements in its session.
+    fn asks_in_session(&self, body: &[u8]) -> bool
+        ensures { (r : RspSetup) (h : History) → connected.StandsFor self.now.talk.party.answerer.connection r h
+            → result ≡ (not (slice_index body.now 0 == 5) && asks_measurements r h (drop 1 body.now)) }
+    {
+        let connection = &self.talk.party.answerer.connection;
+        !is_clear(body) && asks_measurements(connection, behind_type(body))
     }
 
     // An answer came where no large one is fetched: it may begin one, where no large request is sent.
@@ -158,13 +250,39 @@ impl JudgedEnds {
         if self.talk.large.is_some() {
             return self.talk.replies(table, setup, round, answer);
         }
-        match begins_in_session(&mut self.talk.party, table, setup, round, answer)? {
-            BegunIn::Not => self.begins_clear(table, setup, round, answer),
-            BegunIn::Fetching(fetched) => {
-                self.fetched = Some(Fetch::InSession(fetched));
-                Ok(Ok(Onward::Kept))
-            }
-            BegunIn::Told(told) => Ok(told),
+        if self.asks_in_session(round.body()) {
+            return self.begins_session(table, setup, round, answer);
+        }
+        self.begins_other(table, setup, round, answer)
+    }
+
+    // The same where a large answer is fetched. It stands apart, since a function clears the places of its values
+    // when it is entered, and what is fetched is large.
+    fn replies_meanwhile(
+        &mut self,
+        table: &mut SessionTable,
+        setup: &Setup<'_>,
+        round: &Round,
+        answer: &[u8],
+    ) -> Result<Result<Onward, Why>, OutOfMemory>
+        requires { length answer.now ≤ 4161 }
+        ensures told { (w : Configuration) (q : ReqSetup) (older : List (List ℕ)) (rows : List Row)
+            (packet : List ℕ) (route : RouteFields) → IsAnswer w q older packet route answer.now
+            → length older < 2 ^ 64 - 2 → w.responder.beat < 256
+            → round.now ≡ round_of w.responder.eid q.eid older
+            → IsSetUp setup.now (towards w.responder (known_of q))
+            → answered_why round.now (Whole route answer.now) ≡ None
+            → StandsFor self.old w q older rows → StandsForRows table.old w (length older) rows
+            → IfOk result (λ told. IsJudgedAnswer w q older rows packet route answer.now told self.new
+            table.new) }
+        ensures memory { OnErr result (MayBegin self.old.fetched answer.now) }
+    {
+        match self.fetched.take() {
+            None => self.replies_at_rest(table, setup, round, answer),
+            Some(Fetch::InSession(fetched)) => self.replies_fetched(
+                fetched, table, setup, round, answer,
+            ),
+            Some(Fetch::InClear(held)) => self.replies_clear(held, table, setup, round, answer),
         }
     }
 
@@ -192,12 +310,9 @@ impl JudgedEnds {
             table.new) }
         ensures memory { OnErr result (MayBegin self.old.fetched answer.now) }
     {
-        match self.fetched.take() {
-            None => self.replies_at_rest(table, setup, round, answer),
-            Some(Fetch::InSession(fetched)) => self.replies_fetched(
-                fetched, table, setup, round, answer,
-            ),
-            Some(Fetch::InClear(held)) => self.replies_clear(held, table, setup, round, answer),
+        if self.fetched.is_some() {
+            return self.replies_meanwhile(table, setup, round, answer);
         }
+        self.replies_at_rest(table, setup, round, answer)
     }
 }

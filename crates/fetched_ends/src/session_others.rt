@@ -21,8 +21,11 @@ ghost use Rattle.world_machine.specs.Setup.{Configuration};
 
 use crate::Upon;
 use crate::in_session::InSession;
+use crate::session_prepared::prepared;
 use capture_ends::{Given, Party};
-use capture_laws::{Round, SessionTable, answer_accepts, whole_answer_changes};
+use capture_laws::{
+    Round, SessionTable, answer_accepts, large_answer_changes, whole_answer_changes,
+};
 use connection::{Connection, Setup};
 use fetched_answers::forget_bytes;
 use script_text::Why;
@@ -53,7 +56,9 @@ fn forgets(connection: &mut Connection, id: u16, left: bool, live: bool)
 /// An answer of at most 4,161 bytes came whole, in order behind a record, while a large answer is fetched in its
 /// session, and gives no chunk of it, whatever its bytes are: the connection judges it as it stands. A request
 /// that a right answer refuses in the session, or takes there, is told by `refuses`. Where the requester asks for
-/// no chunk upon it, nothing is fetched behind it, and the large answer stays unseen.
+/// no chunk upon it, nothing is fetched behind it, and the large answer stays unseen. Behind LargeResponse that
+/// stays unseen anyway; where the requester asks for a chunk upon it, the new large answer is fetched from then on,
+/// and else it stays unseen too.
 pub(crate) fn judges_other(
     party: &mut Party,
     fetched: &mut InSession,
@@ -74,20 +79,20 @@ pub(crate) fn judges_other(
         → StandsForRows table.old w (length older) rows
         → IfOk result (λ told. IsRepliedTo w q older rows f route answer.now told party.new
         (IsFetchedIn party.new fetched.new w q) table.new) }
-    ensures stays { IfOk result (λ told. (told ≡ Ok upon.Fetched → ⊥) → (told ≡ Ok upon.Ended → ⊥)
-        → table.new ≡ table.old) }
+    ensures stays { IfOk result (λ told. (told ≡ Ok upon.Fetched → ⊥) → (told ≡ Ok upon.Turned → ⊥)
+        → (told ≡ Ok upon.Ended → ⊥) → table.new ≡ table.old) }
     ensures memory { OnErr result (IsSome (id_begun (response_of (drop 1 answer.now)))) }
 {
     answer_accepts();
     whole_answer_changes();
+    large_answer_changes();
     let body = round.body();
+    let request = behind_type(body);
+    let large = prepared(&party.answerer.connection, setup, request);
     let why = party.answerer.reply_why(&party.keys, body, answer);
     let key = party.answerer.coming_key(body);
     let taken = party.answerer.taken(body, answer);
-    match party
-        .answerer
-        .answers_record(setup, behind_type(body), answer)
-    {
+    match party.answerer.answers_record(setup, request, answer) {
         Some(Given::Whole) => {
             let heard = party.go_on(round, key, answer, true);
             let live = party.answerer.connection.view(fetched.id).is_some();
@@ -101,7 +106,21 @@ pub(crate) fn judges_other(
             forgets(&mut party.answerer.connection, fetched.id, left, live);
             Ok(Ok(Upon::Ended))
         }
-        Some(Given::Large) => Ok(Ok(Upon::Large)),
+        Some(Given::Large) => {
+            let Some(next) = large else {
+                return Ok(Err(why));
+            };
+            let heard = party.go_on(round, key, answer, true);
+            let change = party.change(None, heard.accepted, taken);
+            table.take(&mut party.places, party.number, &change)?;
+            party.answerer.connection.uncount_in(next.id);
+            if !heard.fetches {
+                party.answerer.connection.forget_in(next.id);
+                return Ok(Ok(Upon::Ended));
+            }
+            *fetched = next;
+            Ok(Ok(Upon::Turned))
+        }
         Some(Given::Last) => Ok(Err(why)),
         None => Ok(Err(why)),
     }

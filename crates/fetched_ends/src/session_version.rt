@@ -44,8 +44,8 @@ pub(crate) fn replies_version(
         → StandsForRows table.old w (length older) rows
         → IfOk result (λ told. IsRepliedTo w q older rows f route answer.now told party.new
         (IsFetchedIn party.new fetched.now w q) table.new) }
-    ensures stays { IfOk result (λ told. (told ≡ Ok upon.Fetched → ⊥) → (told ≡ Ok upon.Ended → ⊥)
-        → table.new ≡ table.old) }
+    ensures stays { IfOk result (λ told. (told ≡ Ok upon.Fetched → ⊥) → (told ≡ Ok upon.Turned → ⊥)
+        → (told ≡ Ok upon.Ended → ⊥) → table.new ≡ table.old) }
     ensures memory { OnErr result (IsSome (id_begun (response_of (drop 1 answer.now)))) }
 {
     answer_accepts();

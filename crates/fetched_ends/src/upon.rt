@@ -3,8 +3,8 @@
 pub enum Upon {
     /// The large answer is fetched on.
     Fetched,
+    /// Another large answer is fetched from now on, and the one before stays unseen.
+    Turned,
     /// Nothing is fetched behind it: it is the last chunk, or the requester awaits no chunk any more.
     Ended,
-    /// It is not judged, and nothing is said of what is kept then.
-    Large,
 }

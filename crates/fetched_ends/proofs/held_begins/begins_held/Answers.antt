@@ -17,14 +17,17 @@ use Rattle.capture_laws.specs.RepliesShown.{responder_for}
 use Rattle.capture_laws.specs.Rows as rows_of
 use Rattle.fetched_answers.proofs.RestQuiet.{none_pends_in_clear}
 use Rattle.fetched_ends.proofs.AskedAccepts.{asked_accepts_none}
-use Rattle.fetched_ends.proofs.BegunHeldTold.{not_large, sealed_answer, sealed_request, told_large, told_none, unfetched}
+use Rattle.fetched_ends.proofs.BegunHeldTold.{not_large, sealed_answer, sealed_request, told_large, told_none}
 use Rattle.fetched_ends.proofs.BegunPassed.{accepts_none, left_turn, passed, passed_change, passed_stands, passes, turn_is, unseen_turn}
 use Rattle.fetched_ends.proofs.HeldBegins.{begins, behind, next}
 use Rattle.fetched_ends.proofs.HeldBegun.{begun_change, begun_step, few_asked, few_given, held_begun, left_few, left_here}
+use Rattle.fetched_ends.proofs.NoneUnfetched.{is_free}
 use Rattle.fetched_ends.specs.AskedInClear.{IsExchangeBy, chunk_at}
 use Rattle.fetched_ends.specs.BegunHeld.{has_free_length}
 use Rattle.fetched_ends.specs.HeldFrom.{IsHeldFrom}
+use Rattle.requester_machine.specs.Holds.{Holds}
 use Rattle.requester_machine.specs.Setup.{ReqSetup}
+use Rattle.requester_machine.specs.UnderWay.{HasSizes}
 use Rattle.connection.specs.Connected as connected
 use Rattle.connection.specs.UnseenRequests.{IsTurnOf}
 use Rattle.responder_machine.specs.History.{clear_turns}
@@ -90,30 +93,6 @@ returns-then-not-tells_large-clause-told c = λ w q older rows k route keeps bel
     (c.tag-tag.ensures ∙ ap tag_in at) (c.behind_type-message.ensures ∙ ap (drop 1) body) c.behind_type-reply.ensures c.tells_large.result told c.if-not-tells_large.true)
     (record { asker = party.asker; answerer = c.tells_large.ensures.stands r k.responder party.answerer; keys = party.keys; number = party.number; places = party.places }) refl
 
-pub returns-then-not-has_free_length-clause-told : goal.returns-then-not-has_free_length-clause-told
-returns-then-not-has_free_length-clause-told c = λ w q older rows k route keeps below byte now set_up none party stands.
-    let few : length older < 2 ^ 64 - 1 = omega (arith, below) in
-    let answer : List ℕ = c.args.answer.now in
-    let turn = answers_in_turn k route answer none in
-    let at = now ∙ turn.answers.0 in
-    let body = c.body-body.ensures ∙ ap body_in at in
-    let r = responder_for w k in
-    let carries = keeps_carries w q older k keeps in
-    let small = few_messages w q older k carries few in
-    let table = c.args.table.now in
-    let told = c.tells_large.ensures.told r k.responder set_up party.answerer (idle w q older k keeps) small in
-    let new : Party = record c.args.party.now { asker = c.hears-heard.new.self; answerer = c.tells_large.new.self } in
-    let here =
-    told_large w q older rows k route answer turn new table table (sym (ap (λ (l : List ℕ). slice_index l 0) body) ∙ sym c.byte_at.ensures ∙ c.if-byte_at-ne-CLEAR.false) (sym c.byte_at-2.ensures ∙ c.if-byte_at-ne-CLEAR-2.false) c.tag-tag.result c.behind_type-message.result.now c.behind_type-reply.result.now
-    (c.tag-tag.ensures ∙ ap tag_in at) (c.behind_type-message.ensures ∙ ap (drop 1) body) c.behind_type-reply.ensures c.tells_large.result told c.if-not-tells_large.false in
-    let tag : turn.round.tag ≡ c.tag-tag.result = sym (c.tag-tag.ensures ∙ ap tag_in at) in
-    let fetches = c.hears-heard.ensures.fetches w q older k turn.round carries below turn.answers.0 tag party.asker (sym (kept_asks_none w q older k keeps)) in
-    let message = c.behind_type-message.ensures ∙ ap (drop 1) body in
-    let code = c.byte_at-code.ensures ∙ ap code_of message in
-    let other : has_free_length (code_of (drop 1 turn.round.body)) ≡ false = ap has_free_length (sym code) ∙ sym c.has_free_length.ensures ∙ c.if-not-has_free_length.true in
-    unfetched w q older rows k route answer turn new table table here (ap (λ (n : ℕ). asks_upon k n answer) (sym turn.answers.1 ∙ tag) ∙ sym fetches ∙ is_false c.hears-heard.result.fetches c.if-not-heard.true)
-    (λ round one. subst (λ (x : Round). has_free_length (code_of (drop 1 x.body)) ≡ false) (same_Some turn.round round (sym turn.answers.0 ∙ one)) other) refl
-
 pub returns-then-not-heard-clause-told : goal.returns-then-not-heard-clause-told
 returns-then-not-heard-clause-told c = λ w q older rows k route keeps below byte now set_up none party stands.
     let few : length older < 2 ^ 64 - 1 = omega (arith, below) in
@@ -135,11 +114,13 @@ returns-then-not-heard-clause-told c = λ w q older rows k route keeps below byt
     let message = c.behind_type-message.ensures ∙ ap (drop 1) body in
     let reply = c.behind_type-reply.ensures in
     let code = c.byte_at-code.ensures ∙ ap code_of message in
-    let free : has_free_length (code_of (drop 1 turn.round.body)) ≡ true = ap has_free_length (sym code) ∙ sym c.has_free_length.ensures ∙ c.if-not-has_free_length.false in
     let limits = kept_limits q k c.args.party.now.asker party.asker in
     let idle : asks_upon k route.tag answer ≡ false = ap (λ (n : ℕ). asks_upon k n answer) (sym turn.answers.1 ∙ tag) ∙ sym fetches ∙ is_false c.hears-heard.result.fetches c.if-not-heard.true in
     let type = here.type in
     let large = here.large in
+    let holds = subst (λ (x : ReqSetup). Holds x (restored k).requester) (sym party.asker.setup) party.asker.stands.talk.holds in
+    let sizes = subst HasSizes (sym party.asker.setup) party.asker.kept.sizes in
+    let free = is_free w q older k route answer byte keeps turn type large holds sizes idle in
     let f = next w q older k route answer byte limits carries turn type large in
     let t = left_turn w q older k route answer byte limits carries turn type large free in
     let standing = c.tells_large.ensures.stands r k.responder party.answerer in
@@ -163,8 +144,12 @@ returns-then-not-heard-clause-told c = λ w q older rows k route keeps below byt
     (c.take.ensures.places w (length older) (restored k) (restored f.kept) rows change step stands party.places) in
     let last : Party = record c.args.party.now { asker = c.hears-heard.new.self; answerer = record c.tells_large.new.self { connection = c.pass_unseen.new.self }; places = c.take.new.places } in
     let asker = subst (λ (n : ℕ). IsAsker c.hears-heard.new.self q (heard_kept k (behind w q older k route answer byte limits carries turn type large) n turn.round answer)) (sym tag ∙ turn.answers.1)
-    (c.hears-heard.ensures.kept w q older k (behind w q older k route answer byte limits carries turn type large) turn.round carries below turn.answers.0 tag party.asker) in
-    (f.kept, passes w q older k route answer byte limits carries turn type large free keeps idle, passed_stands w q older k route answer byte limits carries turn type large free rows last c.take.new.self asker stood party.keys party.number places entries)
+    (c.hears-heard.ensures.kept w q older k (behind w q older k route answer byte limits carries turn type large) turn.round carries below turn.answers.0 tag party.asker) in (
+      f.kept,
+      passes w q older k route answer byte limits carries turn type large free keeps idle,
+      passed_stands w q older k route answer byte limits carries turn type large free rows last c.take.new.self asker stood party.keys party.number places entries,
+      λ round one. subst (λ (x : Round). has_free_length (code_of (drop 1 x.body)) ≡ true) (same_Some turn.round round (sym turn.answers.0 ∙ one)) free,
+    )
 
 pub returns-clause-told : goal.returns-clause-told
 returns-clause-told c = λ w q older rows k route keeps below byte now set_up none party stands.

@@ -2,6 +2,7 @@ use Rattle.std.proofs.Common.{◌≡◌, ◌+◌, ◌-◌, ◌^◌, ◌<◌, ◌
 use Rattle.std.specs.Prelude.{OnOk, slice_index}
 use Rattle.std.specs.Option.{IfSome}
 use Rattle.std.proofs.lemmas.Bool.{not-false, not-true}
+use Rattle.std.proofs.lemmas.Option.{same_Some}
 use Rattle.capture_ends.proofs.CarriedBy.{keeps_carries}
 use Rattle.capture_ends.proofs.InTurn.{answers_in_turn}
 use Rattle.capture_ends.proofs.KeptTyped.{kept_body}
@@ -17,7 +18,7 @@ use Rattle.capture_ends.specs.declared.answerer.Answerer.{Answerer}
 use Rattle.capture_ends.specs.declared.given.Given.{Given}
 use Rattle.capture_ends.specs.declared.given.Given.TheVariants as given
 use Rattle.capture_laws.specs.KeptChanges.{taken_shown}
-use Rattle.capture_laws.specs.Keeping.{restored}
+use Rattle.capture_laws.specs.Keeping.{Kept, restored}
 use Rattle.capture_laws.specs.Order.{body_in, tag_in}
 use Rattle.capture_laws.specs.RepliesShown.{responder_for}
 use Rattle.capture_laws.specs.Rows as rows_of
@@ -30,7 +31,7 @@ use Rattle.responder_machine.specs.Responder.{after}
 use Rattle.spdm_basis.specs.declared.OutOfMemory.{OutOfMemory}
 use Rattle.spdm_machine.specs.Bodies.{record_body}
 use Rattle.world_machine.specs.LargeAnswers.{unseen}
-use Rattle.world_machine.specs.Rounds.{no_draw}
+use Rattle.world_machine.specs.Rounds.{Round, no_draw}
 use Rattle.world_machine.specs.SessionTable.{number_from, rows_between}
 use Rattle.fetched_ends.proofs.BeginsThere.{begins, begun, f0, next}
 use Rattle.fetched_ends.proofs.BegunChanges.{begun_change, begun_step}
@@ -40,6 +41,10 @@ use Rattle.fetched_ends.proofs.BegunTold.{adds_there, behind_large, few_begun}
 use Rattle.fetched_ends.proofs.BegunUnfetched.{forgot, goes_unfetched, large_there, measures_there}
 use Rattle.fetched_ends.proofs.in_session_begins.begins_in_session.Goals as goal
 use Rattle.fetched_ends.specs.Prepared.{IsPrepared}
+
+-- The round's request is a record.
+sealed_round : (k : Kept) (round : Round) → k.round ≡ Some round → (slice_index round.body 0 == 5) ≡ false → (other : Round) → k.round ≡ Some other → (slice_index other.body 0 == 5) ≡ false
+sealed_round k round at type other is = subst (λ (x : Round). (slice_index x.body 0 == 5) ≡ false) (same_Some round other (sym at ∙ is)) type
 
 pub returns-then-heard-clause-told : goal.returns-then-heard-clause-told
 returns-then-heard-clause-told c = λ w q older rows k route keeps below byte now set_up none party stands.
@@ -63,7 +68,7 @@ returns-then-heard-clause-told c = λ w q older rows k route keeps below byte no
     let shown = told.whole.0 is in
     let fetches = c.go_on-heard.ensures.fetches w q older k turn.round carries below turn.answers.0 at party.asker (sym (kept_asks_none w q older k keeps)) in
     let asks : asks_upon k route.tag answer ≡ true = sym (ap (λ (n : ℕ). asks_upon k n answer) turn.answers.1) ∙ sym fetches ∙ c.if-heard.true in
-    is_part w q older k route answer byte limits keeps turn rows c.go_on-heard.new.self c.args.table.now (inr (inr (shown, asks)))
+    (is_part w q older k route answer byte limits keeps turn rows c.go_on-heard.new.self c.args.table.now (inr (inr (shown, asks))), sealed_round k turn.round turn.answers.0 type)
 
 pub returns-in_ok-take-in-Some-Whole-clause-told : goal.returns-in_ok-take-in-Some-Whole-clause-told
 returns-in_ok-take-in-Some-Whole-clause-told c = λ w q older rows k route keeps below byte now set_up none party stands.
@@ -116,7 +121,7 @@ returns-in_ok-take-in-Some-Whole-clause-told c = λ w q older rows k route keeps
     (c.take.ensures.table w (length older) (restored k) (restored then) rows change step few its stands places) in
     let stand = subst (λ (x : Result Unit OutOfMemory). OnOk x (rows_of.StandFor c.take.new.places (restored then) (rows_between (restored k) (restored then) rows))) it
     (c.take.ensures.places w (length older) (restored k) (restored then) rows change step stands places) in
-    goes_whole w q older k route answer byte limits keeps turn rows last c.take.new.self shown idle are number (record { stand = stand; stands = table })
+    (goes_whole w q older k route answer byte limits keeps turn rows last c.take.new.self shown idle are number (record { stand = stand; stands = table }), sealed_round k turn.round turn.answers.0 type)
 
 pub returns-then-not-heard-clause-told : goal.returns-then-not-heard-clause-told
 returns-then-not-heard-clause-told c = λ w q older rows k route keeps below byte now set_up none party stands.
@@ -177,7 +182,7 @@ returns-then-not-heard-clause-told c = λ w q older rows k route keeps below byt
     let forgotten = subst (connected.StandsFor c.forget_in.new.self r) (forgot w q older k route answer byte limits carries turn type will shown op prepared.asks six prepared.wide c.in-Some.fetched.id prepared.id) forgets in
     let last = record new { answerer = record new.answerer { connection = c.forget_in.new.self }; places = c.take-in-Some-Large.new.places } in
     let idle = sym (ap (λ (n : ℕ). asks_upon k n answer) turn.answers.1) ∙ sym fetches ∙ not-true _ c.if-not-heard.true in
-    goes_unfetched w q older k route answer byte limits carries turn type will shown op prepared.asks six prepared.wide rows last c.take-in-Some-Large.new.self keeps idle asker forgotten keys number stand table
+    (goes_unfetched w q older k route answer byte limits carries turn type will shown op prepared.asks six prepared.wide rows last c.take-in-Some-Large.new.self keeps idle asker forgotten keys number stand table, sealed_round k turn.round turn.answers.0 type)
 
 pub returns-else-not-heard-clause-told : goal.returns-else-not-heard-clause-told
 returns-else-not-heard-clause-told c = λ w q older rows k route keeps below byte now set_up none party stands.
@@ -260,7 +265,7 @@ returns-in-Some-Last-clause-told c = λ w q older rows k route keeps below byte 
     let second = subst (λ (x : Connection). connected.StandsFor x r h) (sym c.coming_key.ensures.same) first in
     let told = given_is w q older k route answer carries turn type sealed c.behind_type-request.result.now c.answers_record.result request (c.answers_record.ensures.told r h turn.round.tag set_up second small) in
     let ends = told.last.0 (c.in-Some-Last.is ∙ ap Some c.in-Some-Last.field-0-is) in
-    is_part w q older k route answer byte limits keeps turn rows c.args.party.now c.args.table.now (inr (inl ends))
+    (is_part w q older k route answer byte limits keeps turn rows c.args.party.now c.args.table.now (inr (inl ends)), sealed_round k turn.round turn.answers.0 type)
 
 pub returns-in-None-clause-told : goal.returns-in-None-clause-told
 returns-in-None-clause-told c = λ w q older rows k route keeps below byte now set_up none party stands.
@@ -280,6 +285,8 @@ returns-in-None-clause-told c = λ w q older rows k route keeps below byte now s
     let first = subst (λ (x : Connection). connected.StandsFor x r h) (sym c.reply_why-why.ensures.same) party.answerer in
     let second = subst (λ (x : Connection). connected.StandsFor x r h) (sym c.coming_key.ensures.same) first in
     let told = given_is w q older k route answer carries turn type sealed c.behind_type-request.result.now c.answers_record.result request (c.answers_record.ensures.told r h turn.round.tag set_up second small) in
-    let never = given_never w q older k route answer carries turn type sealed (subst (λ (x : Option Given). IsGivenTo r h turn.round.tag turn.round.body answer x) c.in-None.is told) in
-    refused_for w q older k route answer byte limits keeps turn rows c.reply_why-why.result never (never_apart w q older k route answer carries turn type sealed)
-    (c.reply_why-why.ensures.told r (restored k) turn.round party.answerer small party.keys (sym body)) c.args.party.now c.args.table.now
+    let never = given_never w q older k route answer carries turn type sealed (subst (λ (x : Option Given). IsGivenTo r h turn.round.tag turn.round.body answer x) c.in-None.is told) in (
+      refused_for w q older k route answer byte limits keeps turn rows c.reply_why-why.result never (never_apart w q older k route answer carries turn type sealed)
+          (c.reply_why-why.ensures.told r (restored k) turn.round party.answerer small party.keys (sym body)) c.args.party.now c.args.table.now,
+      sealed_round k turn.round turn.answers.0 type,
+    )

@@ -1,12 +1,8 @@
-use Rattle.std.proofs.Common.{Option, subst, sym}
+use Rattle.std.proofs.Common.{◌∙◌, sym}
+use Rattle.capture_ends.proofs.PlainlyAsked.{none_sent}
 use Rattle.capture_ends.proofs.conversation.Conversation.asks.Goals as goal
-use Rattle.capture_ends.specs.Conversation.{StandsAs}
-use Rattle.large_requests.specs.declared.large_request.LargeRequest.{LargeRequest}
 
-pub returns-in-Ok-clause-told : goal.returns-in-Ok-clause-told
-returns-in-Ok-clause-told c = λ w q older rows packet route at few fits tag round none stands table.
-    c.in-Ok.ensures.told w q older rows packet route at few fits tag round none (subst (λ (o : Option LargeRequest). StandsAs c.args.self.now.party o w q older rows) (sym c.take-large.ensures.value) stands) table
-
-pub returns-in-Err-clause-told : goal.returns-in-Err-clause-told
-returns-in-Err-clause-told c = λ w q older rows packet route at few fits tag round none stands table.
-    c.in-Err.ensures.told w q older rows packet route at few fits tag round none (subst (λ (o : Option LargeRequest). StandsAs c.args.self.now.party o w q older rows) (sym c.take-large.ensures.value) stands) table
+pub returns-clause-told : goal.returns-clause-told
+returns-clause-told c = λ w q older rows packet route at few fits tag round none stands table.
+    let rest = none_sent c.args.self.now.large (sym c.is_some.ensures ∙ c.if-is_some.false) in
+    c.asks_plainly.ensures.told w q older rows packet route at few fits tag round none (sym c.is_first_chunk.ensures ∙ c.if-is_first_chunk.false) rest stands table

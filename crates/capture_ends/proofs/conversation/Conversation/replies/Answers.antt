@@ -11,7 +11,7 @@ use Rattle.capture_laws.proofs.PairWalks.{walks_setup}
 use Rattle.capture_laws.specs.Keeping.{restored}
 use Rattle.capture_laws.specs.Order.{answered_why}
 use Rattle.capture_ends.proofs.AnswerWalks.{told_on}
-use Rattle.capture_ends.proofs.SendingWalks.{form, own_setup, walk_form}
+use Rattle.capture_ends.proofs.PlainlyAsked.{none_sent}
 use Rattle.capture_ends.proofs.WalkRows.{walk_round}
 use Rattle.capture_ends.proofs.conversation.Conversation.replies.Goals as goal
 use Rattle.capture_ends.specs.Conversation.{IsJudgedAnswer, StandsAs}
@@ -25,9 +25,10 @@ if_ok : (P Q : Result Onward declared.Why → Type 0) (r : Result (Result Onward
 if_ok P Q (Ok x) goes is = goes x is
 if_ok P Q (Err e) goes is = is
 
-pub returns-in-None-clause-told : goal.returns-in-None-clause-told
-returns-in-None-clause-told c = λ w q older rows packet route at few byte round set_up none stands table.
-    let there = subst (λ (o : Option LargeRequest). StandsAs c.args.self.now.party o w q older rows) (sym c.take.ensures.value ∙ c.in-None.is) stands in
+pub returns-clause-told : goal.returns-clause-told
+returns-clause-told c = λ w q older rows packet route at few byte round set_up none stands table.
+    let rest = none_sent c.args.self.now.large (sym c.is_some.ensures ∙ c.if-is_some.false) in
+    let there = subst (λ (o : Option LargeRequest). StandsAs c.args.self.now.party o w q older rows) rest stands in
     let k = there.0 in
     let keeps = there.1 in
     let answer : List ℕ = c.args.answer.now in
@@ -38,14 +39,4 @@ returns-in-None-clause-told c = λ w q older rows packet route at few byte round
     let told = if_ok (λ x. IsReplied w q older rows k route answer x c.replies.new.self c.replies.new.table) (λ x. IsJudgedAnswer w q older rows packet route answer x c.replies.new.self None c.replies.new.table) c.replies.result
     (λ x is. told_on w q older rows packet route answer at k keeps x c.replies.new.self c.replies.new.table is)
     (c.replies.ensures.told w q older rows k route keeps few byte now towards_it why there.2 table) in
-    subst (λ (o : Option LargeRequest). IfOk c.replies.result (λ x. IsJudgedAnswer w q older rows packet route answer x c.replies.new.self o c.replies.new.table)) (sym c.take.ensures.after) told
-
-pub returns-in-Some-clause-told : goal.returns-in-Some-clause-told
-returns-in-Some-clause-told c = λ w q older rows packet route at few byte round set_up none stands table.
-    let there = subst (λ (o : Option LargeRequest). StandsAs c.args.self.now.party o w q older rows) (sym c.take.ensures.value ∙ c.in-Some.is) stands in
-    let s = there.0 in
-    let own = there.1.sending in
-    let now : c.args.round.now ≡ Some s.round = round ∙ sym (walk_round w q older (form w q older s own) (walk_form w q older s own)) in
-    let towards_it = subst (λ (a : ReqSetup). IsSetUp c.args.setup.now (towards w.responder (known_of a))) (sym (own_setup w q older s own)) set_up in
-    let why = subst (λ (o : Option Round). answered_why o (Whole route c.args.answer.now) ≡ None) now none in
-    c.replies_meanwhile-told.ensures.told w q older rows packet route s at few byte now towards_it why there.1 table
+    subst (λ (o : Option LargeRequest). IfOk c.replies.result (λ x. IsJudgedAnswer w q older rows packet route answer x c.replies.new.self o c.replies.new.table)) (sym rest) told

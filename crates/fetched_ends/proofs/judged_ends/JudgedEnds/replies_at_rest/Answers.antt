@@ -1,91 +1,20 @@
-use Rattle.std.proofs.Common.{◌≡◌, ◌∙◌, subst, sym, length, List, Option, None, Result}
-use Rattle.std.specs.Prelude.{IfOk}
-use Rattle.mctp_framing.specs.Gathering.Gathered.{Whole}
-use Rattle.requester_machine.specs.Setup.{ReqSetup}
-use Rattle.responder_machine.specs.Setup.{towards}
-use Rattle.spdm_basis.specs.declared.OutOfMemory.{OutOfMemory}
-use Rattle.capture_ends.proofs.AnswerWalks.{told_on}
-use Rattle.capture_ends.proofs.WalkRows.{walk_round}
-use Rattle.capture_ends.specs.Conversation as conversations
-use Rattle.capture_ends.specs.declared.party.Party.{Party}
-use Rattle.capture_laws.proofs.KeptAnswers.{kept_is_restored}
-use Rattle.capture_laws.proofs.PairWalks.{walks_setup}
-use Rattle.capture_laws.specs.Keeping.{restored}
-use Rattle.capture_laws.specs.Order.{answered_why}
-use Rattle.capture_laws.specs.Rows.{StandsForRows}
-use Rattle.capture_laws.specs.declared.verdict.Seen.{Seen}
-use Rattle.connection.specs.Setup.{IsSetUp}
-use Rattle.fetched_ends.proofs.EndsReplied.{answered_all, answered_rest, begun_on, none_sent}
+use Rattle.std.proofs.Common.{◌∙◌, sym}
+use Rattle.fetched_ends.proofs.EndsLeft.{sent_rest}
+use Rattle.fetched_ends.proofs.EndsReplied.{none_sent}
 use Rattle.fetched_ends.proofs.judged_ends.JudgedEnds.replies_at_rest.Goals as goal
-use Rattle.fetched_ends.specs.BegunIn.{IsBegunIn}
-use Rattle.fetched_ends.specs.declared.in_session_begins.BegunIn.{BegunIn}
-use Rattle.fetched_ends.specs.declared.fetch.Fetch.TheVariants as fetch
-use Rattle.large_requests.specs.declared.large_request.LargeRequest.{LargeRequest}
-use Rattle.world_machine.specs.Rounds.{Round}
-use Rattle.world_machine.specs.Setup.{known_of}
 
 pub returns-then-is_some-clause-told : goal.returns-then-is_some-clause-told
 returns-then-is_some-clause-told c = λ w q older rows packet route at few byte round set_up why rest stands table.
-    answered_all w q older rows packet route c.args.answer.now c.replies.result c.replies.new.self c.args.self.now.fetched c.replies.new.table rest
+    let talk = c.args.self.now.talk in
+    sent_rest w q older rows packet route c.args.answer.now c.replies.new.self c.args.self.now.fetched rest c.replies.new.table talk.party talk.large (sym c.is_some.ensures ∙ c.if-is_some.true) stands c.replies.result
     (c.replies.ensures.told w q older rows packet route at few byte round set_up why stands table)
 
-pub returns-in-Not-clause-told : goal.returns-in-Not-clause-told
-returns-in-Not-clause-told c = λ w q older rows packet route at few byte round set_up why rest stands table.
-    let answer = c.args.answer.now in
-    let talk = c.args.self.now.talk in
-    let none = none_sent talk.large (sym c.is_some.ensures ∙ c.if-is_some.false) in
-    let there = subst (λ (o : Option LargeRequest). conversations.StandsAs talk.party o w q older rows) none stands in
-    let k = there.0 in
-    let keeps = there.1 in
-    let walk = (kept_is_restored w q older k keeps).0 in
-    let now : c.args.round.now ≡ k.round = round ∙ sym (walk_round w q older (restored k) walk) in
-    let towards_it = subst (λ (s : ReqSetup). IsSetUp c.args.setup.now (towards w.responder (known_of s))) (sym (walks_setup w q older (restored k) walk)) set_up in
-    let right = subst (λ (o : Option Round). answered_why o (Whole route answer) ≡ None) now why in
-    let new = c.begins_in_session.new.party in
-    let after = c.begins_in_session.new.table in
-    let begun = subst (λ (x : Result BegunIn OutOfMemory). IfOk x (λ y. IsBegunIn w q older rows k route answer y new c.args.table.now after)) c.in_ok-begins_in_session.was
-    (c.begins_in_session.ensures.told w q older rows k route keeps few byte now towards_it right there.2 table) in
-    let is = subst (λ (x : BegunIn). IsBegunIn w q older rows k route answer x new c.args.table.now after) c.in-Not.is begun in
-    let stays = subst (λ (o : Option LargeRequest). conversations.StandsAs new o w q older rows) (sym none) (k, keeps, is.0) in
-    let entries = subst (λ (t : List Seen). StandsForRows t w (length older) rows) (sym is.1) table in
-    c.begins_clear.ensures.told w q older rows packet route at few byte round set_up why rest none stays entries
+pub returns-then-asks_in_session-clause-told : goal.returns-then-asks_in_session-clause-told
+returns-then-asks_in_session-clause-told c = λ w q older rows packet route at few byte round set_up why rest stands table.
+    let none = none_sent c.args.self.now.talk.large (sym c.is_some.ensures ∙ c.if-is_some.false) in
+    c.begins_session.ensures.told w q older rows packet route at few byte round set_up why rest none stands table
 
-pub returns-in-Fetching-clause-told : goal.returns-in-Fetching-clause-told
-returns-in-Fetching-clause-told c = λ w q older rows packet route at few byte round set_up why rest stands table.
-    let answer = c.args.answer.now in
-    let talk = c.args.self.now.talk in
-    let none = none_sent talk.large (sym c.is_some.ensures ∙ c.if-is_some.false) in
-    let there = subst (λ (o : Option LargeRequest). conversations.StandsAs talk.party o w q older rows) none stands in
-    let k = there.0 in
-    let keeps = there.1 in
-    let walk = (kept_is_restored w q older k keeps).0 in
-    let now : c.args.round.now ≡ k.round = round ∙ sym (walk_round w q older (restored k) walk) in
-    let towards_it = subst (λ (s : ReqSetup). IsSetUp c.args.setup.now (towards w.responder (known_of s))) (sym (walks_setup w q older (restored k) walk)) set_up in
-    let right = subst (λ (o : Option Round). answered_why o (Whole route answer) ≡ None) now why in
-    let new = c.begins_in_session.new.party in
-    let after = c.begins_in_session.new.table in
-    let begun = subst (λ (x : Result BegunIn OutOfMemory). IfOk x (λ y. IsBegunIn w q older rows k route answer y new c.args.table.now after)) c.in_ok-begins_in_session.was
-    (c.begins_in_session.ensures.told w q older rows k route keeps few byte now towards_it right there.2 table) in
-    let is = subst (λ (x : BegunIn). IsBegunIn w q older rows k route answer x new c.args.table.now after) c.in-Fetching.is begun in
-    begun_on w q older rows packet route answer at k is.0 (record talk { party = new }) (fetch.InSession c.in-Fetching.fetched) after keeps is.1 none is.2 is.3
-
-pub returns-in-Told-clause-told : goal.returns-in-Told-clause-told
-returns-in-Told-clause-told c = λ w q older rows packet route at few byte round set_up why rest stands table.
-    let answer = c.args.answer.now in
-    let talk = c.args.self.now.talk in
-    let none = none_sent talk.large (sym c.is_some.ensures ∙ c.if-is_some.false) in
-    let there = subst (λ (o : Option LargeRequest). conversations.StandsAs talk.party o w q older rows) none stands in
-    let k = there.0 in
-    let keeps = there.1 in
-    let walk = (kept_is_restored w q older k keeps).0 in
-    let now : c.args.round.now ≡ k.round = round ∙ sym (walk_round w q older (restored k) walk) in
-    let towards_it = subst (λ (s : ReqSetup). IsSetUp c.args.setup.now (towards w.responder (known_of s))) (sym (walks_setup w q older (restored k) walk)) set_up in
-    let right = subst (λ (o : Option Round). answered_why o (Whole route answer) ≡ None) now why in
-    let new = c.begins_in_session.new.party in
-    let after = c.begins_in_session.new.table in
-    let begun = subst (λ (x : Result BegunIn OutOfMemory). IfOk x (λ y. IsBegunIn w q older rows k route answer y new c.args.table.now after)) c.in_ok-begins_in_session.was
-    (c.begins_in_session.ensures.told w q older rows k route keeps few byte now towards_it right there.2 table) in
-    let is = subst (λ (x : BegunIn). IsBegunIn w q older rows k route answer x new c.args.table.now after) c.in-Told.is begun in
-    let told = told_on w q older rows packet route answer at k keeps c.in-Told.told new after is in
-    answered_rest w q older rows packet route answer c.in-Told.told (record talk { party = new }) c.args.self.now.fetched after rest
-    (subst (λ (o : Option LargeRequest). conversations.IsJudgedAnswer w q older rows packet route answer c.in-Told.told new o after) (sym none) told)
+pub returns-clause-told : goal.returns-clause-told
+returns-clause-told c = λ w q older rows packet route at few byte round set_up why rest stands table.
+    let none = none_sent c.args.self.now.talk.large (sym c.is_some.ensures ∙ c.if-is_some.false) in
+    c.begins_other.ensures.told w q older rows packet route at few byte round set_up why rest none stands table

@@ -9,7 +9,7 @@ use Rattle.capture_ends.proofs.WalkRows.{walk_round}
 use Rattle.capture_laws.proofs.PairWalks.{walks_setup}
 use Rattle.capture_laws.specs.Order.{answered_why}
 use Rattle.connection.specs.Setup.{IsSetUp}
-use Rattle.fetched_ends.proofs.EndsReplied.{ended_on, goes_on, refused_on, unjudged_on}
+use Rattle.fetched_ends.proofs.EndsReplied.{ended_on, goes_on, refused_on, turns_on}
 use Rattle.fetched_ends.proofs.judged_ends.JudgedEnds.replies_fetched.Goals as goal
 use Rattle.fetched_ends.specs.Fetched.{IsRepliedTo}
 use Rattle.fetched_ends.specs.InSession.{IsFetchedIn}
@@ -34,6 +34,21 @@ returns-in-Ok-Fetched-clause-told c = λ w q older rows packet route f at few by
     let upon = subst (λ (x : Result Upon declared.Why). IsRepliedTo w q older rows f route answer x party (λ next among. IsFetchedIn party behind w q next among) c.replies_in_session.new.table) (c.in-Ok-Fetched.is ∙ ap Ok c.in-Ok-Fetched.field-0-is) told in
     goes_on w q older rows packet route answer at f own (record c.args.self.now.talk { party = party }) (fetch.InSession behind) rest c.replies_in_session.new.table upon
 
+pub returns-in-Ok-Turned-clause-told : goal.returns-in-Ok-Turned-clause-told
+returns-in-Ok-Turned-clause-told c = λ w q older rows packet route f at few byte round set_up why rest own is table.
+    let answer = c.args.answer.now in
+    let u = own.stands.0 in
+    let walk = own.all u own.stands.1 in
+    let now : c.args.round.now ≡ f.kept.round = round ∙ sym (walk_round w q older (dialogue_of f u) walk) in
+    let towards_it = subst (λ (s : ReqSetup). IsSetUp c.args.setup.now (towards w.responder (known_of s))) (sym (walks_setup w q older (dialogue_of f u) walk)) set_up in
+    let right = subst (λ (o : Option Round). answered_why o (Whole route answer) ≡ None) now why in
+    let party = c.replies_in_session.new.party in
+    let behind = c.replies_in_session.new.fetched in
+    let told = subst (λ (x : Result (Result Upon declared.Why) OutOfMemory). IfOk x (λ y. IsRepliedTo w q older rows f route answer y party (λ next among. IsFetchedIn party behind w q next among) c.replies_in_session.new.table)) c.in_ok-replies_in_session.was
+    (c.replies_in_session.ensures.told w q older rows f route own few byte now towards_it right is table) in
+    let upon = subst (λ (x : Result Upon declared.Why). IsRepliedTo w q older rows f route answer x party (λ next among. IsFetchedIn party behind w q next among) c.replies_in_session.new.table) (c.in-Ok-Turned.is ∙ ap Ok c.in-Ok-Turned.field-0-is) told in
+    turns_on w q older rows packet route answer at f own (record c.args.self.now.talk { party = party }) (fetch.InSession behind) rest c.replies_in_session.new.table upon
+
 pub returns-in-Ok-Ended-clause-told : goal.returns-in-Ok-Ended-clause-told
 returns-in-Ok-Ended-clause-told c = λ w q older rows packet route f at few byte round set_up why rest own is table.
     let answer = c.args.answer.now in
@@ -48,21 +63,6 @@ returns-in-Ok-Ended-clause-told c = λ w q older rows packet route f at few byte
     (c.replies_in_session.ensures.told w q older rows f route own few byte now towards_it right is table) in
     let upon = subst (λ (x : Result Upon declared.Why). IsRepliedTo w q older rows f route answer x party (λ next among. IsFetchedIn party behind w q next among) c.replies_in_session.new.table) (c.in-Ok-Ended.is ∙ ap Ok c.in-Ok-Ended.field-0-is) told in
     ended_on w q older rows packet route answer at f own (record c.args.self.now.talk { party = party }) (fetch.InSession behind) rest c.replies_in_session.new.table upon
-
-pub returns-in-Ok-Large-clause-told : goal.returns-in-Ok-Large-clause-told
-returns-in-Ok-Large-clause-told c = λ w q older rows packet route f at few byte round set_up why rest own is table.
-    let answer = c.args.answer.now in
-    let u = own.stands.0 in
-    let walk = own.all u own.stands.1 in
-    let now : c.args.round.now ≡ f.kept.round = round ∙ sym (walk_round w q older (dialogue_of f u) walk) in
-    let towards_it = subst (λ (s : ReqSetup). IsSetUp c.args.setup.now (towards w.responder (known_of s))) (sym (walks_setup w q older (dialogue_of f u) walk)) set_up in
-    let right = subst (λ (o : Option Round). answered_why o (Whole route answer) ≡ None) now why in
-    let party = c.replies_in_session.new.party in
-    let behind = c.replies_in_session.new.fetched in
-    let told = subst (λ (x : Result (Result Upon declared.Why) OutOfMemory). IfOk x (λ y. IsRepliedTo w q older rows f route answer y party (λ next among. IsFetchedIn party behind w q next among) c.replies_in_session.new.table)) c.in_ok-replies_in_session.was
-    (c.replies_in_session.ensures.told w q older rows f route own few byte now towards_it right is table) in
-    let upon = subst (λ (x : Result Upon declared.Why). IsRepliedTo w q older rows f route answer x party (λ next among. IsFetchedIn party behind w q next among) c.replies_in_session.new.table) (c.in-Ok-Large.is ∙ ap Ok c.in-Ok-Large.field-0-is) told in
-    unjudged_on w q older rows packet route answer at f own (record c.args.self.now.talk { party = party }) (fetch.InSession behind) rest c.replies_in_session.new.table c.args.self.now.fetched upon
 
 pub returns-in-Err-clause-told : goal.returns-in-Err-clause-told
 returns-in-Err-clause-told c = λ w q older rows packet route f at few byte round set_up why rest own is table.

@@ -1,0 +1,149 @@
+-- What is told of an answer while no large one is fetched, and what of it is left unjudged.
+use Rattle.std.proofs.Common.{◌≡◌, ◌==◌, ◌∙◌, ℕ, List, ◌∷◌, refl, sym, ap, subst, length, drop, Bool, true, false, Option, Some, None, Result, Ok, Err, is_some, cond, inl, inr}
+use Rattle.std.specs.Prelude.{IfOk, slice_index}
+use Rattle.std.proofs.lemmas.Bool.{false≢true}
+use Rattle.capture_ends.proofs.AnswerWalks.{told_on}
+use Rattle.capture_ends.specs.ClearAnswers.{EndsLarge}
+use Rattle.capture_ends.specs.Conversation as conversations
+use Rattle.capture_ends.specs.Conversation.{IsAnswer}
+use Rattle.capture_ends.specs.PartyReplies.{IsPartOfLarge, IsReplied}
+use Rattle.capture_ends.specs.declared.conversation.Conversation.{Conversation}
+use Rattle.capture_ends.specs.declared.onward.Onward.{Onward}
+use Rattle.capture_ends.specs.declared.onward.Onward.TheVariants as onward
+use Rattle.capture_ends.specs.declared.party.Party.{Party}
+use Rattle.capture_laws.proofs.KeptAnswers.{kept_is_restored}
+use Rattle.capture_laws.specs.AnswersShown.{values_shown_by}
+use Rattle.capture_laws.specs.Keeping.{Keeps, Kept, restored}
+use Rattle.capture_laws.specs.LargeShown.{ends_large, last_shown}
+use Rattle.capture_laws.specs.RepliesShown.{responder_for}
+use Rattle.capture_laws.specs.declared.verdict.Seen.{Seen}
+use Rattle.fetched_answers.proofs.RestQuiet.{none_pends_in_clear}
+use Rattle.fetched_ends.specs.BegunHeld.{IsLargeInClear}
+use Rattle.fetched_ends.specs.JudgedEnds.{IsJudgedAnswer, IsLeft, StandsBehind}
+use Rattle.fetched_ends.specs.declared.fetch.Fetch.{Fetch}
+use Rattle.large_requests.proofs.Meanwhile.{sending_is_alone}
+use Rattle.large_requests.specs.declared.large_request.LargeRequest.{LargeRequest}
+use Rattle.mctp_framing.specs.Cutting.{RouteFields}
+use Rattle.requester_machine.specs.Setup.{ReqSetup}
+use Rattle.responder_machine.specs.Handling.{turn_of}
+use Rattle.responder_machine.specs.History.{Entry, History}
+use Rattle.responder_machine.specs.History.Entry.{Clear}
+use Rattle.responder_machine.specs.LargeMessages.{given_of, still_pending}
+use Rattle.responder_machine.specs.Place.{Place, clear_place, place_terms}
+use Rattle.responder_machine.specs.Refusal.{has_pending}
+use Rattle.responder_machine.specs.Responder.{Outcome}
+use Rattle.responder_machine.specs.Responder.Outcome.{Same, Unopened, Adds}
+use Rattle.responder_machine.specs.Setup.{RspSetup}
+use Rattle.responder_machine.specs.Turn.{Turn}
+use Rattle.script_text.specs.declared.why.Why as declared
+use Rattle.spdm_basis.proofs.Bools.{and_first}
+use Rattle.spdm_basis.specs.declared.OutOfMemory.{OutOfMemory}
+use Rattle.world_machine.proofs.DropsTell.{clear_form}
+use Rattle.world_machine.proofs.GetTells.{IsGet, turn_get}
+use Rattle.world_machine.proofs.PlainTells.{led_clear}
+use Rattle.world_machine.specs.CapturedAnswers.{MayLeadTo}
+use Rattle.world_machine.specs.LargeAnswers.{takes_get}
+use Rattle.world_machine.specs.Rounds.{Round, no_draw}
+use Rattle.world_machine.specs.SessionTable.{Row, rows_between}
+use Rattle.world_machine.specs.Setup.{Configuration}
+
+-- CHUNK_GET is taken only while a large answer is pending.
+get_pends : (p : Place) (m : List ℕ) (t : Turn) → IsGet p m t → has_pending p ≡ true
+get_pends p m t is =
+    let transfer : ℕ = (place_terms p).common.to_requester.transfer in
+    ap (λ (o : Option (List ℕ)). is_some (still_pending transfer (given_of p.turns) o)) is.large ∙ ap (λ (b : Bool). is_some (cond b (Some is.whole) None)) is.more
+
+module _ (w : Configuration) (q : ReqSetup) (older : List (List ℕ)) (k : Kept) (keeps : Keeps w q older k) (route : RouteFields) (answer : List ℕ) where
+  abbrev r : RspSetup
+  r = responder_for w k
+
+  abbrev h : History
+  h = k.responder
+
+  -- None is taken in the clear.
+  none_gets : (round : Round) → (slice_index round.body 0 == 5) ≡ true → (e : Entry) → MayLeadTo r h round.tag round.body (Adds e) → takes_get e ≡ true → ⊥
+  none_gets round type e may gets =
+      let led = led_clear r h round.tag round.body (Adds e) type may in
+      let idle : has_pending (clear_place h) ≡ false = none_pends_in_clear w q older (restored k) (kept_is_restored w q older k keeps).0 in
+      elim (clear_form r h round.tag (drop 1 round.body) led.free (Adds e) led.leads) [
+        | inl same ↦ absurd (let x = same.1 in cc)
+        | inr adds ↦
+            let t : Turn = turn_of r (clear_place h) (drop 1 round.body) led.free in
+            let is : Clear round.tag t no_draw ≡ e = cc (sym adds) in
+            false≢true (sym idle ∙ get_pends (clear_place h) (drop 1 round.body) t (turn_get r (clear_place h) (drop 1 round.body) led.free (ap takes_get is ∙ gets)))
+      ]
+
+  -- So no last chunk comes there.
+  no_last : (round : Round) → (slice_index round.body 0 == 5) ≡ true → EndsLarge r h round.tag round.body answer → ⊥
+  unfolding MayLeadTo
+  no_last round type ends = by_outcome (last_shown r h round.tag round.body answer) (values_shown_by r h round.tag round.body answer, ends.0.0, ends.0.1, ends.0.2) ends.1
+    where
+      by_outcome : (o : Outcome) → MayLeadTo r h round.tag round.body o → ends_large h o ≡ true → ⊥
+      by_outcome (Same b) may last = false≢true last
+      by_outcome (Unopened b) may last = false≢true last
+      by_outcome (Adds e) may last = none_gets round type e may (and_first (takes_get e) _ last)
+
+  -- What is left, where it is no LargeResponse in the clear; and in a session.
+  pub clear_left : (IsLargeInClear w k route.tag answer → ⊥) → IsPartOfLarge w k route.tag answer → IsLeft w k route.tag answer
+  clear_left none (round, at, inr (inr again)) = (round, at, inl again)
+  clear_left none (round, at, inl large) = by_type (slice_index round.body 0 == 5) refl
+    where
+      by_type : (b : Bool) → (slice_index round.body 0 == 5) ≡ b → IsLeft w k route.tag answer
+      by_type true type = absurd (none (round, at, type, large))
+      by_type false type = (round, at, inr (type, inl large))
+  clear_left none (round, at, inr (inl ends)) = by_type (slice_index round.body 0 == 5) refl
+    where
+      by_type : (b : Bool) → (slice_index round.body 0 == 5) ≡ b → IsLeft w k route.tag answer
+      by_type true type = absurd (no_last round type ends)
+      by_type false type = (round, at, inr (type, inr ends))
+
+  pub session_left : ((round : Round) → k.round ≡ Some round → (slice_index round.body 0 == 5) ≡ false) → IsPartOfLarge w k route.tag answer → IsLeft w k route.tag answer
+  session_left sealed (round, at, inr (inr again)) = (round, at, inl again)
+  session_left sealed (round, at, inl large) = (round, at, inr (sealed round at.0, inl large))
+  session_left sealed (round, at, inr (inl ends)) = (round, at, inr (sealed round at.0, inr ends))
+
+  -- ---- What is told.
+
+  module _ (rows : List Row) (packet : List ℕ) (is_answer : IsAnswer w q older packet route answer) (talk : Conversation) (none : talk.large ≡ None) (o : Option Fetch) (rest : o ≡ None) (new : Party) (table : List Seen) where
+    -- It goes on.
+    pub kept_rest : IsReplied w q older rows k route answer (Ok onward.Kept) new table → IsJudgedAnswer w q older rows packet route answer (Ok onward.Kept) (record { talk = record talk { party = new }; fetched = o }) table
+    kept_rest is =
+        let c = told_on w q older rows packet route answer is_answer k keeps (Ok onward.Kept) new table is in
+        subst (λ (x : Option Fetch). StandsBehind (record { talk = record talk { party = new }; fetched = x }) table w q older rows packet) (sym rest) (record {
+          before = c.before;
+          came = c.came;
+          after = c.after;
+          goes = c.goes;
+          stands = subst (λ (x : Option LargeRequest). conversations.StandsAs new x w q (packet ∷ older) (rows_between c.before c.after rows)) (sym none) c.stands;
+          entries = c.entries;
+        })
+
+    -- Whatever it is.
+    pub told_rest : (IsPartOfLarge w k route.tag answer → IsLeft w k route.tag answer) → (result : Result Onward declared.Why) → IsReplied w q older rows k route answer result new table
+        → IsJudgedAnswer w q older rows packet route answer result (record { talk = record talk { party = new }; fetched = o }) table
+    told_rest left (Ok onward.Kept) is = kept_rest is
+    told_rest left (Ok onward.Large) is = (k, keeps, left is)
+    told_rest left (Err why) is = told_on w q older rows packet route answer is_answer k keeps (Err why) new table is
+
+    -- The same of a call that may want memory.
+    pub all_rest : (IsPartOfLarge w k route.tag answer → IsLeft w k route.tag answer) → (result : Result (Result Onward declared.Why) OutOfMemory) → IfOk result (λ told. IsReplied w q older rows k route answer told new table)
+        → IfOk result (λ told. IsJudgedAnswer w q older rows packet route answer told (record { talk = record talk { party = new }; fetched = o }) table)
+    all_rest left (Ok told) is = told_rest left told is
+    all_rest left (Err fault) is = is
+
+-- ---- While a large request is sent.
+
+module _ (w : Configuration) (q : ReqSetup) (older : List (List ℕ)) (rows : List Row) (packet : List ℕ) (route : RouteFields) (answer : List ℕ) (new : Conversation) (o : Option Fetch) (rest : o ≡ None) (table : List Seen) where
+  sent_by : (party : Party) (large : Option LargeRequest) → is_some large ≡ true → conversations.StandsAs party large w q older rows → conversations.IsPart w q older route.tag answer → ⊥
+  sent_by party None is stands part = false≢true is
+  sent_by party (Some large) is stands part = sending_is_alone w q older stands.0 part.0 stands.1.sending part.1
+
+  -- No part of a large answer comes then.
+  pub sent_rest : (party : Party) (large : Option LargeRequest) → is_some large ≡ true → conversations.StandsAs party large w q older rows → (result : Result (Result Onward declared.Why) OutOfMemory)
+      → IfOk result (λ told. conversations.IsJudgedAnswer w q older rows packet route answer told new.party new.large table) → IfOk result (λ told. IsJudgedAnswer w q older rows packet route answer told (record { talk = new; fetched = o }) table)
+  sent_rest party large is stands (Ok (Ok onward.Kept)) c =
+      subst (λ (x : Option Fetch). StandsBehind (record { talk = new; fetched = x }) table w q older rows packet) (sym rest)
+      (record { before = c.before; came = c.came; after = c.after; goes = c.goes; stands = c.stands; entries = c.entries })
+  sent_rest party large is stands (Ok (Ok onward.Large)) c = absurd (sent_by party large is stands c)
+  sent_rest party large is stands (Ok (Err why)) c = c
+  sent_rest party large is stands (Err fault) c = c
