@@ -60,7 +60,7 @@ module _ (w : Configuration) (q : ReqSetup) (older : List (List ℕ)) (rows : Li
     (will : will_take (responder_for w f.kept) (with_large (Some fetched.id) kept.whole f.kept.responder) turn.round.body ≡ true)
     (large : IsShownLarge (responder_for w f.kept) (with_large (Some fetched.id) kept.whole f.kept.responder) turn.round.tag turn.round.body answer) (op : ℕ)
     (asks : request_at (session_place (session_of (id_in_record (drop 1 turn.round.body)) (with_large (Some fetched.id) kept.whole f.kept.responder))) (drop 1 (opened (responder_for w f.kept).psk (session_of (id_in_record (drop 1 turn.round.body)) (with_large (Some fetched.id) kept.whole f.kept.responder)) (drop 1 turn.round.body)))
-        ≡ Some (GetMeasurements op)) where
+    ≡ Some (GetMeasurements op)) where
   abbrev k : Kept
   k = f.kept
 
