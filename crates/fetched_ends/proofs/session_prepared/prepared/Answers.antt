@@ -50,7 +50,7 @@ returns-in_err-terms c = λ r h set stands.
     (λ opens f large. false≢true (sym (ap (λ (s : Events). opens_in r s request) gone) ∙ opens))
 
 pub returns-in_err-op : goal.returns-in_err-op
-returns-in_err-op c = λ r h set stands. subst (IsPreparedFor r h c.args.request.now) (sym c.from_residual.ensures) (λ opens f large.
+returns-in_err-op c = λ r h set stands. subst (IsPreparedFor r h c.args.request.now) (sym c.from_residual-in_err-op.ensures) (λ opens f large.
     let request : List ℕ = c.args.request.now in
     let s : Events = session_of (id_in_record request) h in
     let id : c.record_id-id.result.rsp ≡ id_in_record request = ap (λ x. x.rsp) c.record_id-id.ensures in
