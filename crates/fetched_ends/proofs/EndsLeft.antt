@@ -18,7 +18,9 @@ use Rattle.capture_laws.specs.LargeShown.{ends_large, last_shown}
 use Rattle.capture_laws.specs.RepliesShown.{responder_for}
 use Rattle.capture_laws.specs.declared.verdict.Seen.{Seen}
 use Rattle.fetched_answers.proofs.RestQuiet.{none_pends_in_clear}
+use Rattle.fetched_ends.proofs.SessionsQuiet.{none_pends_in_session}
 use Rattle.fetched_ends.specs.BegunHeld.{IsLargeInClear}
+use Rattle.fetched_ends.specs.BegunIn.{IsLargeInRecord, IsLeftOther}
 use Rattle.fetched_ends.specs.JudgedEnds.{IsJudgedAnswer, IsLeft, StandsBehind}
 use Rattle.fetched_ends.specs.declared.fetch.Fetch.{Fetch}
 use Rattle.large_requests.proofs.Meanwhile.{sending_is_alone}
@@ -29,18 +31,21 @@ use Rattle.responder_machine.specs.Handling.{turn_of}
 use Rattle.responder_machine.specs.History.{Entry, History}
 use Rattle.responder_machine.specs.History.Entry.{Clear}
 use Rattle.responder_machine.specs.LargeMessages.{given_of, still_pending}
-use Rattle.responder_machine.specs.Place.{Place, clear_place, place_terms}
+use Rattle.responder_machine.specs.Place.{Place, clear_place, place_terms, session_place}
+use Rattle.responder_machine.specs.Records.{opened}
 use Rattle.responder_machine.specs.Refusal.{has_pending}
-use Rattle.responder_machine.specs.Responder.{Outcome}
+use Rattle.responder_machine.specs.Responder.{Outcome, session_turn}
 use Rattle.responder_machine.specs.Responder.Outcome.{Same, Unopened, Adds}
+use Rattle.responder_machine.specs.Session.{Events, id_in_record, session_of}
 use Rattle.responder_machine.specs.Setup.{RspSetup}
 use Rattle.responder_machine.specs.Turn.{Turn}
 use Rattle.script_text.specs.declared.why.Why as declared
 use Rattle.spdm_basis.proofs.Bools.{and_first}
 use Rattle.spdm_basis.specs.declared.OutOfMemory.{OutOfMemory}
 use Rattle.world_machine.proofs.DropsTell.{clear_form}
-use Rattle.world_machine.proofs.GetTells.{IsGet, turn_get}
-use Rattle.world_machine.proofs.PlainTells.{led_clear}
+use Rattle.world_machine.proofs.GetTells.{IsGet, session_get, turn_get}
+use Rattle.world_machine.proofs.PlainTells.{led_clear, led_record}
+use Rattle.world_machine.proofs.RecordAdds.{record_added}
 use Rattle.world_machine.specs.CapturedAnswers.{MayLeadTo}
 use Rattle.world_machine.specs.LargeAnswers.{takes_get}
 use Rattle.world_machine.specs.Rounds.{Round, no_draw}
@@ -73,34 +78,45 @@ module _ (w : Configuration) (q : ReqSetup) (older : List (List ℕ)) (k : Kept)
             false≢true (sym idle ∙ get_pends (clear_place h) (drop 1 round.body) t (turn_get r (clear_place h) (drop 1 round.body) led.free (ap takes_get is ∙ gets)))
       ]
 
-  -- So no last chunk comes there.
-  no_last : (round : Round) → (slice_index round.body 0 == 5) ≡ true → EndsLarge r h round.tag round.body answer → ⊥
+  -- None is taken in a session.
+  none_gets_in : (round : Round) → (slice_index round.body 0 == 5) ≡ false → (e : Entry) → MayLeadTo r h round.tag round.body (Adds e) → takes_get e ≡ true → ⊥
+  none_gets_in round type e may gets =
+      let m : List ℕ = drop 1 round.body in
+      let led = led_record r h round.tag round.body (Adds e) type may in
+      let s : Events = session_of (id_in_record m) h in
+      let inner : List ℕ = opened r.psk s m in
+      let t : Turn = session_turn r s inner led.free in
+      let idle : has_pending (session_place s) ≡ false = none_pends_in_session w q older (restored k) (kept_is_restored w q older k keeps).0 (id_in_record m) in
+      let is = record_added r led.free round.tag m e h led.leads in
+      false≢true (sym idle ∙ get_pends (session_place s) (drop 1 inner) t (session_get r s inner led.free (ap takes_get is ∙ gets)))
+
+  none_gets_by : (round : Round) (b : Bool) → (slice_index round.body 0 == 5) ≡ b → (e : Entry) → MayLeadTo r h round.tag round.body (Adds e) → takes_get e ≡ true → ⊥
+  none_gets_by round true type e may gets = none_gets round type e may gets
+  none_gets_by round false type e may gets = none_gets_in round type e may gets
+
+  -- So no last chunk comes.
+  no_last : (round : Round) → EndsLarge r h round.tag round.body answer → ⊥
   unfolding MayLeadTo
-  no_last round type ends = by_outcome (last_shown r h round.tag round.body answer) (values_shown_by r h round.tag round.body answer, ends.0.0, ends.0.1, ends.0.2) ends.1
+  no_last round ends = by_outcome (last_shown r h round.tag round.body answer) (values_shown_by r h round.tag round.body answer, ends.0.0, ends.0.1, ends.0.2) ends.1
     where
       by_outcome : (o : Outcome) → MayLeadTo r h round.tag round.body o → ends_large h o ≡ true → ⊥
       by_outcome (Same b) may last = false≢true last
       by_outcome (Unopened b) may last = false≢true last
-      by_outcome (Adds e) may last = none_gets round type e may (and_first (takes_get e) _ last)
+      by_outcome (Adds e) may last = none_gets_by round (slice_index round.body 0 == 5) refl e may (and_first (takes_get e) _ last)
 
-  -- What is left, where it is no LargeResponse in the clear; and in a session.
-  pub clear_left : (IsLargeInClear w k route.tag answer → ⊥) → IsPartOfLarge w k route.tag answer → IsLeft w k route.tag answer
-  clear_left none (round, at, inr (inr again)) = (round, at, inl again)
-  clear_left none (round, at, inl large) = by_type (slice_index round.body 0 == 5) refl
+  -- What is left, where it is no LargeResponse.
+  pub is_left : (IsLargeInClear w k route.tag answer → ⊥) → (IsLargeInRecord w k route.tag answer → ⊥) → IsPartOfLarge w k route.tag answer → IsLeft w k route.tag answer
+  is_left clear sealed (round, at, inr (inr again)) = (round, at, again.0, again.1)
+  is_left clear sealed (round, at, inr (inl ends)) = absurd (no_last round ends)
+  is_left clear sealed (round, at, inl large) = by_type (slice_index round.body 0 == 5) refl
     where
       by_type : (b : Bool) → (slice_index round.body 0 == 5) ≡ b → IsLeft w k route.tag answer
-      by_type true type = absurd (none (round, at, type, large))
-      by_type false type = (round, at, inr (type, inl large))
-  clear_left none (round, at, inr (inl ends)) = by_type (slice_index round.body 0 == 5) refl
-    where
-      by_type : (b : Bool) → (slice_index round.body 0 == 5) ≡ b → IsLeft w k route.tag answer
-      by_type true type = absurd (no_last round type ends)
-      by_type false type = (round, at, inr (type, inr ends))
+      by_type true type = absurd (clear (round, at, type, large))
+      by_type false type = absurd (sealed (round, at, type, large))
 
-  pub session_left : ((round : Round) → k.round ≡ Some round → (slice_index round.body 0 == 5) ≡ false) → IsPartOfLarge w k route.tag answer → IsLeft w k route.tag answer
-  session_left sealed (round, at, inr (inr again)) = (round, at, inl again)
-  session_left sealed (round, at, inl large) = (round, at, inr (sealed round at.0, inl large))
-  session_left sealed (round, at, inr (inl ends)) = (round, at, inr (sealed round at.0, inr ends))
+  -- In a session it is none in the clear.
+  pub session_left : ((round : Round) → k.round ≡ Some round → (slice_index round.body 0 == 5) ≡ false) → (IsLargeInRecord w k route.tag answer → ⊥) → IsPartOfLarge w k route.tag answer → IsLeft w k route.tag answer
+  session_left record_came sealed part = is_left (λ is. false≢true (sym (record_came is.0 is.1.0) ∙ is.2)) sealed part
 
   -- ---- What is told.
 
@@ -124,6 +140,13 @@ module _ (w : Configuration) (q : ReqSetup) (older : List (List ℕ)) (k : Kept)
     told_rest left (Ok onward.Kept) is = kept_rest is
     told_rest left (Ok onward.Large) is = (k, keeps, left is)
     told_rest left (Err why) is = told_on w q older rows packet route answer is_answer k keeps (Err why) new table is
+
+    -- Of an answer to a record, where a part that is left is no LargeResponse.
+    pub told_in : ((round : Round) → k.round ≡ Some round → (slice_index round.body 0 == 5) ≡ false) → (result : Result Onward declared.Why) → IsReplied w q older rows k route answer result new table → IsLeftOther w k route.tag answer result
+        → IsJudgedAnswer w q older rows packet route answer result (record { talk = record talk { party = new }; fetched = o }) table
+    told_in sealed (Ok onward.Kept) is other = kept_rest is
+    told_in sealed (Ok onward.Large) is other = (k, keeps, session_left sealed other is)
+    told_in sealed (Err why) is other = told_on w q older rows packet route answer is_answer k keeps (Err why) new table is
 
     -- The same of a call that may want memory.
     pub all_rest : (IsPartOfLarge w k route.tag answer → IsLeft w k route.tag answer) → (result : Result (Result Onward declared.Why) OutOfMemory) → IfOk result (λ told. IsReplied w q older rows k route answer told new table)

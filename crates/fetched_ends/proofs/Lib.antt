@@ -128,3 +128,6 @@ pub mod RoundAnswered
 pub mod LargeAsks
 pub mod NoneUnfetched
 pub mod EndsLeft
+pub mod SettledSessions
+pub mod SessionsQuiet
+pub mod LargeRecords

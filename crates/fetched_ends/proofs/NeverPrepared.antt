@@ -34,16 +34,16 @@ module _ (r : RspSetup) (g : History) (tag : ℕ) (body answer : List ℕ) (type
   no_drops : drops_before g body ≡ []
   no_drops = ap (λ (b : Bool). cond (b && held_of g == 4) (first_dropped g (1 ∷ 2 ∷ 3 ∷ 4 ∷ [])) []) type
 
-  adds : large_shown r g tag body answer ≡ Adds (entry_at r g tag body answer type (large_taken r g tag body answer type large) f)
+  pub adds : large_shown r g tag body answer ≡ Adds (entry_at r g tag body answer type (large_taken r g tag body answer type large) (values_shown_by r g tag body answer))
   unfolding large_shown
   adds =
       ap (λ (l : List ℕ). on_body r (with_dropped g l) tag body (values_shown_by r (with_dropped g l) tag body answer) no_draw) no_drops
       ∙ body_adds r g tag body answer type (large_taken r g tag body answer type large) f
 
-  goes : is_some (handle_in (turn_in r s f m).effect) ≡ true
+  pub goes : is_some (handle_in (turn_in r (session_of (id_in_record (drop 1 body)) g) (values_shown_by r g tag body answer) (drop 1 body)).effect) ≡ true
   goes = not-false _ (sym (ap is_whole adds) ∙ large.1)
 
-  opens : opens_in r s m ≡ true
+  pub opens : opens_in r (session_of (id_in_record (drop 1 body)) g) (drop 1 body) ≡ true
   opens = and_second (not (repeats (last_of s) m)) (opens_in r s m) (and_second (not (repeats (ended_of g) m)) (not (repeats (last_of s) m) && opens_in r s m) (and_second (not (slice_index body 0 == 5)) _ (large_taken r g tag body answer type large)))
 
   pub never_prepared : NeverLarge r g (drop 1 body) → ⊥

@@ -1,13 +1,12 @@
 -- What is kept of a requester and the responder at any place, also while a large answer is fetched, and what is told of a
 -- request and of an answer there, in words of packets and of walks over them. This project's own.
-use Rattle.std.specs.Prelude.{◌≡◌, ◌≢◌, ◌<◌, ◌+◌, ◌==◌, ◌⊎◌, ℕ, List, ◌∷◌, drop, length, slice_index, false, true, Option, Some, None, IsSome, Result, Ok, Err}
+use Rattle.std.specs.Prelude.{◌≡◌, ◌≢◌, ◌<◌, ◌+◌, ◌⊎◌, ℕ, List, ◌∷◌, drop, length, false, true, Option, Some, None, IsSome, Result, Ok, Err}
 use Rattle.mctp_framing.specs.Cutting.{RouteFields}
 use Rattle.mctp_framing.specs.Gathering.{Gathered}
 use Rattle.mctp_framing.specs.Gathering.Gathered.{Whole, More}
 use Rattle.mctp_framing.specs.Packet.{PacketFields, parsed}
 use Rattle.requester_machine.specs.Setup.{ReqSetup}
 use Rattle.script_text.specs.declared.why.Why as declared
-use Rattle.capture_ends.specs.ClearAnswers.{EndsLarge}
 use Rattle.capture_ends.specs.Conversation as conversations
 use Rattle.capture_ends.specs.Conversation.{NoneGoesOn}
 use Rattle.capture_ends.specs.HeardKept.{asks_upon}
@@ -18,7 +17,6 @@ use Rattle.capture_ends.specs.declared.onward.Onward.TheVariants as onward
 use Rattle.capture_laws.specs.DropsShown.{IsShownAnswer, id_begun, response_of}
 use Rattle.capture_laws.specs.Judged.{why_of}
 use Rattle.capture_laws.specs.Keeping.{Keeps, Kept}
-use Rattle.capture_laws.specs.LargeShown.{IsShownLarge}
 use Rattle.capture_laws.specs.Order.{is_answer, is_request}
 use Rattle.capture_laws.specs.ReasonsEach.{IsAnsweredReason, IsAskedReason}
 use Rattle.capture_laws.specs.RepliesShown.{AnswersRound, responder_for}
@@ -89,13 +87,12 @@ IsAskedOf w q older rows packet g (Ok u) new table = StandsBehind new table w q 
 IsAskedOf w q older rows packet g (Err why) new table = NoneGoesOn w q older packet × IsAskedReason w q older g (why_of why)
 
 -- While nothing is fetched, what is left unjudged: LargeResponse again, by which a fetch begins, which is a repeat upon which the
--- requester asks for a chunk; and to a record LargeResponse, and a last chunk.
+-- requester asks for a chunk.
 abbrev pub IsLeft : Configuration → Kept → ℕ → (answer : List ℕ) → Type 0
 IsLeft w k tag answer =
     (round : Round) × AnswersRound k tag round
-    × ((IsShownAnswer (responder_for w k) k.responder round.tag round.body answer × (asks_upon k tag answer ≡ true))
-    ⊎ (((slice_index round.body 0 == 5) ≡ false)
-    × (IsShownLarge (responder_for w k) k.responder round.tag round.body answer ⊎ EndsLarge (responder_for w k) k.responder round.tag round.body answer)))
+    × IsShownAnswer (responder_for w k) k.responder round.tag round.body answer
+    × (asks_upon k tag answer ≡ true)
 
 -- An answer is a part of a large one that is not judged, by what is kept of the packets while nothing is fetched and no large
 -- request is sent.

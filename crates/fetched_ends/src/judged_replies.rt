@@ -27,11 +27,14 @@ impl JudgedEnds {
     ghost use Rattle.std.specs.Prelude.{◌≡◌, ◌≤◌, ◌<◌, ◌-◌, ◌^◌, ◌==◌, ◌&&◌, ℕ, List, None, IfOk, OnErr, IsSome, drop, length, not, slice_index};
     ghost use Rattle.capture_ends.specs.Conversation as conversations;
     ghost use Rattle.capture_ends.specs.Conversation.{IsAnswer};
+    ghost use Rattle.capture_ends.specs.Party.{IsParty};
     ghost use Rattle.capture_laws.specs.DropsShown.{id_begun, response_of};
+    ghost use Rattle.capture_laws.specs.Keeping.{Keeps, Kept};
     ghost use Rattle.capture_laws.specs.Order.{answered_why, round_of};
     ghost use Rattle.capture_laws.specs.Rows.{StandsForRows};
     ghost use Rattle.connection.specs.Connected as connected;
     ghost use Rattle.connection.specs.Setup.{IsSetUp};
+    ghost use Rattle.fetched_ends.specs.BegunIn.{IsLargeInRecord};
     ghost use Rattle.fetched_ends.specs.Held.{IsHeldIn};
     ghost use Rattle.fetched_ends.specs.InSession.{IsFetchedIn};
     ghost use Rattle.fetched_ends.specs.JudgedEnds.{IsJudgedAnswer, MayBegin, StandsFor};
@@ -134,13 +137,15 @@ impl JudgedEnds {
     ) -> Result<Result<Onward, Why>, OutOfMemory>
         requires { length answer.now ≤ 4161 }
         ensures told { (w : Configuration) (q : ReqSetup) (older : List (List ℕ)) (rows : List Row)
-            (packet : List ℕ) (route : RouteFields) → IsAnswer w q older packet route answer.now
-            → length older < 2 ^ 64 - 2 → w.responder.beat < 256
+            (packet : List ℕ) (route : RouteFields) (k : Kept)
+            → IsAnswer w q older packet route answer.now → length older < 2 ^ 64 - 2
+            → w.responder.beat < 256
             → round.now ≡ round_of w.responder.eid q.eid older
             → IsSetUp setup.now (towards w.responder (known_of q))
             → answered_why round.now (Whole route answer.now) ≡ None → self.old.fetched ≡ None
-            → self.old.talk.large ≡ None
-            → conversations.StandsFor self.old.talk w q older rows
+            → self.old.talk.large ≡ None → Keeps w q older k
+            → (IsLargeInRecord w k route.tag answer.now → ⊥)
+            → IsParty self.old.talk.party w q k rows
             → StandsForRows table.old w (length older) rows
             → IfOk result (λ told. IsJudgedAnswer w q older rows packet route answer.now told self.new
             table.new) }
@@ -167,13 +172,15 @@ impl JudgedEnds {
     ) -> Result<Result<Onward, Why>, OutOfMemory>
         requires { length answer.now ≤ 4161 }
         ensures told { (w : Configuration) (q : ReqSetup) (older : List (List ℕ)) (rows : List Row)
-            (packet : List ℕ) (route : RouteFields) → IsAnswer w q older packet route answer.now
-            → length older < 2 ^ 64 - 2 → w.responder.beat < 256
+            (packet : List ℕ) (route : RouteFields) (k : Kept)
+            → IsAnswer w q older packet route answer.now → length older < 2 ^ 64 - 2
+            → w.responder.beat < 256
             → round.now ≡ round_of w.responder.eid q.eid older
             → IsSetUp setup.now (towards w.responder (known_of q))
             → answered_why round.now (Whole route answer.now) ≡ None → self.old.fetched ≡ None
-            → self.old.talk.large ≡ None
-            → conversations.StandsFor self.old.talk w q older rows
+            → self.old.talk.large ≡ None → Keeps w q older k
+            → (IsLargeInRecord w k route.tag answer.now → ⊥)
+            → IsParty self.old.talk.party w q k rows
             → StandsForRows table.old w (length older) rows
             → IfOk result (λ told. IsJudgedAnswer w q older rows packet route answer.now told self.new
             table.new) }

@@ -1,7 +1,7 @@
 use Rattle.std.proofs.Common.{◌≡◌, ◌+◌, ◌-◌, ◌^◌, ◌<◌, ◌==◌, ◌∙◌, refl, sym, ap, subst, length, drop, arith, ne_eqb, List, [], ◌∷◌, ℕ, true, false, Some, None, Option, Result, inl, inr}
 use Rattle.std.specs.Prelude.{OnOk, slice_index}
 use Rattle.std.specs.Option.{IfSome}
-use Rattle.std.proofs.lemmas.Bool.{not-false, not-true}
+use Rattle.std.proofs.lemmas.Bool.{false≢true, not-false, not-true}
 use Rattle.std.proofs.lemmas.Option.{same_Some}
 use Rattle.capture_ends.proofs.CarriedBy.{keeps_carries}
 use Rattle.capture_ends.proofs.InTurn.{answers_in_turn}
@@ -12,6 +12,7 @@ use Rattle.capture_ends.proofs.PartyTold.{few_behind, is_change, is_step}
 use Rattle.capture_ends.specs.AnswerKeys.{IsComingKey, StandFor}
 use Rattle.capture_ends.specs.Answerer.{IsAnswerer, history_shown}
 use Rattle.capture_ends.specs.Asker.{IsAsker}
+use Rattle.capture_ends.specs.ClearAnswers.{is_large_given}
 use Rattle.capture_ends.specs.HeardKept.{asks_upon, heard_kept}
 use Rattle.capture_ends.specs.RecordAnswers.{IsGivenTo, history_behind}
 use Rattle.capture_ends.specs.declared.answerer.Answerer.{Answerer}
@@ -39,12 +40,70 @@ use Rattle.fetched_ends.proofs.BegunGiven.{behind_is, given_is, given_never, nev
 use Rattle.fetched_ends.proofs.BegunStands.{begun_stands}
 use Rattle.fetched_ends.proofs.BegunTold.{adds_there, behind_large, few_begun}
 use Rattle.fetched_ends.proofs.BegunUnfetched.{forgot, goes_unfetched, large_there, measures_there}
+use Rattle.fetched_ends.proofs.LargeRecords.{large_sealed, record_here}
+use Rattle.fetched_ends.proofs.LargeTaken.{large_taken}
+use Rattle.fetched_ends.proofs.NeverPrepared.{never_prepared}
 use Rattle.fetched_ends.proofs.in_session_begins.begins_in_session.Goals as goal
-use Rattle.fetched_ends.specs.Prepared.{IsPrepared}
+use Rattle.fetched_ends.specs.Prepared.{IsPrepared, NeverLarge}
 
 -- The round's request is a record.
 sealed_round : (k : Kept) (round : Round) → k.round ≡ Some round → (slice_index round.body 0 == 5) ≡ false → (other : Round) → k.round ≡ Some other → (slice_index other.body 0 == 5) ≡ false
 sealed_round k round at type other is = subst (λ (x : Round). (slice_index x.body 0 == 5) ≡ false) (same_Some round other (sym at ∙ is)) type
+
+pub returns-then-byte_at-eq-CLEAR-clause-told : goal.returns-then-byte_at-eq-CLEAR-clause-told
+returns-then-byte_at-eq-CLEAR-clause-told c = λ w q older rows k route keeps below byte now set_up none party stands.
+    let turn = answers_in_turn k route c.args.answer.now none in
+    let body = c.body-body.ensures ∙ ap body_in (now ∙ turn.answers.0) in
+    let clear = ap (λ (l : List ℕ). slice_index l 0 == 5) (sym body) ∙ ap (λ (n : ℕ). n == 5) (sym c.byte_at.ensures ∙ c.if-byte_at-eq-CLEAR.true) in
+    ((λ is. false≢true (sym (record_here w k route c.args.answer.now turn is).type ∙ clear)), party, refl)
+
+pub returns-then-byte_at-eq-CLEAR-2-clause-told : goal.returns-then-byte_at-eq-CLEAR-2-clause-told
+returns-then-byte_at-eq-CLEAR-2-clause-told c = λ w q older rows k route keeps below byte now set_up none party stands.
+    let answer : List ℕ = c.args.answer.now in
+    let turn = answers_in_turn k route answer none in
+    let clear = ap (λ (n : ℕ). n == 5) (sym c.byte_at-2.ensures ∙ c.if-byte_at-eq-CLEAR-2.true) in (
+      (λ is.
+      let here = record_here w k route answer turn is in
+      false≢true (sym (large_sealed (responder_for w k) k.responder turn.round.tag turn.round.body answer here.type here.large) ∙ clear)),
+      party,
+      refl,
+    )
+
+pub returns-in_default-clause-told : goal.returns-in_default-clause-told
+returns-in_default-clause-told c = λ w q older rows k route keeps below byte now set_up none party stands.
+    let answer : List ℕ = c.args.answer.now in
+    let turn = answers_in_turn k route answer none in
+    let r = responder_for w k in
+    let h = k.responder in
+    let body = c.body-body.ensures ∙ ap body_in (now ∙ turn.answers.0) in
+    let request = c.behind_type-request.ensures ∙ ap (λ (l : List ℕ). drop 1 l) body in
+    let never = subst (λ (m : List ℕ). NeverLarge r h m) request (c.in_default.ensures r h set_up party.answerer) in (
+      (λ is.
+      let here = record_here w k route answer turn is in
+      never_prepared r h turn.round.tag turn.round.body answer here.type here.large never),
+      party,
+      refl,
+    )
+
+pub returns-in_default-coming_key-clause-told : goal.returns-in_default-coming_key-clause-told
+returns-in_default-coming_key-clause-told c = λ w q older rows k route keeps below byte now set_up none party stands.
+    let few : length older < 2 ^ 64 - 1 = omega (arith, below) in
+    let answer : List ℕ = c.args.answer.now in
+    let turn = answers_in_turn k route answer none in
+    let r = responder_for w k in
+    let h = k.responder in
+    let at = now ∙ turn.answers.0 in
+    let small = few_messages w q older k (keeps_carries w q older k keeps) few in
+    let first = subst (λ (x : Connection). connected.StandsFor x r h) (sym c.reply_why-why.ensures.same) party.answerer in
+    let second = subst (λ (x : Connection). connected.StandsFor x r h) (sym c.coming_key.ensures.same) first in
+    let coming = subst (λ (b : List ℕ). IsComingKey r h b None) c.body-body.ensures (c.in_default-coming_key.ensures.key r h first small) in
+    let own = subst (λ (b : List ℕ). IsComingKey r h b None) (ap body_in at) coming in (
+      (λ is.
+      let here = record_here w k route answer turn is in
+      false≢true (sym own ∙ large_taken r h turn.round.tag turn.round.body answer here.type here.large)),
+      record { asker = party.asker; answerer = second; keys = party.keys; number = party.number; places = party.places },
+      refl,
+    )
 
 pub returns-then-heard-clause-told : goal.returns-then-heard-clause-told
 returns-then-heard-clause-told c = λ w q older rows k route keeps below byte now set_up none party stands.
@@ -68,7 +127,11 @@ returns-then-heard-clause-told c = λ w q older rows k route keeps below byte no
     let shown = told.whole.0 is in
     let fetches = c.go_on-heard.ensures.fetches w q older k turn.round carries below turn.answers.0 at party.asker (sym (kept_asks_none w q older k keeps)) in
     let asks : asks_upon k route.tag answer ≡ true = sym (ap (λ (n : ℕ). asks_upon k n answer) turn.answers.1) ∙ sym fetches ∙ c.if-heard.true in
-    (is_part w q older k route answer byte limits keeps turn rows c.go_on-heard.new.self c.args.table.now (inr (inr (shown, asks))), sealed_round k turn.round turn.answers.0 type)
+    (
+      is_part w q older k route answer byte limits keeps turn rows c.go_on-heard.new.self c.args.table.now (inr (inr (shown, asks))),
+      sealed_round k turn.round turn.answers.0 type,
+      λ large. false≢true (ap is_large_given (sym is ∙ told.large.1 (record_here w k route answer turn large).large)),
+    )
 
 pub returns-in_ok-take-in-Some-Whole-clause-told : goal.returns-in_ok-take-in-Some-Whole-clause-told
 returns-in_ok-take-in-Some-Whole-clause-told c = λ w q older rows k route keeps below byte now set_up none party stands.
@@ -121,7 +184,7 @@ returns-in_ok-take-in-Some-Whole-clause-told c = λ w q older rows k route keeps
     (c.take.ensures.table w (length older) (restored k) (restored then) rows change step few its stands places) in
     let stand = subst (λ (x : Result Unit OutOfMemory). OnOk x (rows_of.StandFor c.take.new.places (restored then) (rows_between (restored k) (restored then) rows))) it
     (c.take.ensures.places w (length older) (restored k) (restored then) rows change step stands places) in
-    (goes_whole w q older k route answer byte limits keeps turn rows last c.take.new.self shown idle are number (record { stand = stand; stands = table }), sealed_round k turn.round turn.answers.0 type)
+    (goes_whole w q older k route answer byte limits keeps turn rows last c.take.new.self shown idle are number (record { stand = stand; stands = table }), sealed_round k turn.round turn.answers.0 type, tt)
 
 pub returns-then-not-heard-clause-told : goal.returns-then-not-heard-clause-told
 returns-then-not-heard-clause-told c = λ w q older rows k route keeps below byte now set_up none party stands.
@@ -182,7 +245,7 @@ returns-then-not-heard-clause-told c = λ w q older rows k route keeps below byt
     let forgotten = subst (connected.StandsFor c.forget_in.new.self r) (forgot w q older k route answer byte limits carries turn type will shown op prepared.asks six prepared.wide c.in-Some.fetched.id prepared.id) forgets in
     let last = record new { answerer = record new.answerer { connection = c.forget_in.new.self }; places = c.take-in-Some-Large.new.places } in
     let idle = sym (ap (λ (n : ℕ). asks_upon k n answer) turn.answers.1) ∙ sym fetches ∙ not-true _ c.if-not-heard.true in
-    (goes_unfetched w q older k route answer byte limits carries turn type will shown op prepared.asks six prepared.wide rows last c.take-in-Some-Large.new.self keeps idle asker forgotten keys number stand table, sealed_round k turn.round turn.answers.0 type)
+    (goes_unfetched w q older k route answer byte limits carries turn type will shown op prepared.asks six prepared.wide rows last c.take-in-Some-Large.new.self keeps idle asker forgotten keys number stand table, sealed_round k turn.round turn.answers.0 type, tt)
 
 pub returns-else-not-heard-clause-told : goal.returns-else-not-heard-clause-told
 returns-else-not-heard-clause-told c = λ w q older rows k route keeps below byte now set_up none party stands.
@@ -264,8 +327,11 @@ returns-in-Some-Last-clause-told c = λ w q older rows k route keeps below byte 
     let first = subst (λ (x : Connection). connected.StandsFor x r h) (sym c.reply_why-why.ensures.same) party.answerer in
     let second = subst (λ (x : Connection). connected.StandsFor x r h) (sym c.coming_key.ensures.same) first in
     let told = given_is w q older k route answer carries turn type sealed c.behind_type-request.result.now c.answers_record.result request (c.answers_record.ensures.told r h turn.round.tag set_up second small) in
-    let ends = told.last.0 (c.in-Some-Last.is ∙ ap Some c.in-Some-Last.field-0-is) in
-    (is_part w q older k route answer byte limits keeps turn rows c.args.party.now c.args.table.now (inr (inl ends)), sealed_round k turn.round turn.answers.0 type)
+    let is = c.in-Some-Last.is ∙ ap Some c.in-Some-Last.field-0-is in (
+      is_part w q older k route answer byte limits keeps turn rows c.args.party.now c.args.table.now (inr (inl (told.last.0 is))),
+      sealed_round k turn.round turn.answers.0 type,
+      λ large. false≢true (ap is_large_given (sym is ∙ told.large.1 (record_here w k route answer turn large).large)),
+    )
 
 pub returns-in-None-clause-told : goal.returns-in-None-clause-told
 returns-in-None-clause-told c = λ w q older rows k route keeps below byte now set_up none party stands.
@@ -289,4 +355,5 @@ returns-in-None-clause-told c = λ w q older rows k route keeps below byte now s
       refused_for w q older k route answer byte limits keeps turn rows c.reply_why-why.result never (never_apart w q older k route answer carries turn type sealed)
           (c.reply_why-why.ensures.told r (restored k) turn.round party.answerer small party.keys (sym body)) c.args.party.now c.args.table.now,
       sealed_round k turn.round turn.answers.0 type,
+      tt,
     )

@@ -13,7 +13,7 @@ use Rattle.capture_laws.specs.Order.{answered_why}
 use Rattle.capture_laws.specs.Rows.{StandsForRows}
 use Rattle.capture_laws.specs.declared.verdict.Seen.{Seen}
 use Rattle.connection.specs.Setup.{IsSetUp}
-use Rattle.fetched_ends.proofs.EndsLeft.{session_left, told_rest}
+use Rattle.fetched_ends.proofs.EndsLeft.{told_in}
 use Rattle.fetched_ends.proofs.EndsReplied.{begun_on}
 use Rattle.fetched_ends.proofs.judged_ends.JudgedEnds.begins_session.Goals as goal
 use Rattle.fetched_ends.specs.BegunIn.{IsBegunIn}
@@ -39,9 +39,8 @@ returns-in-Not-clause-told c = λ w q older rows packet route at few byte round 
     let begun = subst (λ (x : Result BegunIn OutOfMemory). IfOk x (λ y. IsBegunIn w q older rows k route answer y new c.args.table.now after)) c.in_ok-begins_in_session.was
     (c.begins_in_session.ensures.told w q older rows k route keeps few byte now towards_it right there.2 table) in
     let is = subst (λ (x : BegunIn). IsBegunIn w q older rows k route answer x new c.args.table.now after) c.in-Not.is begun in
-    let stays = subst (λ (o : Option LargeRequest). conversations.StandsAs new o w q older rows) (sym none) (k, keeps, is.0) in
-    let entries = subst (λ (t : List Seen). StandsForRows t w (length older) rows) (sym is.1) table in
-    c.begins_other.ensures.told w q older rows packet route at few byte round set_up why rest none stays entries
+    let entries = subst (λ (t : List Seen). StandsForRows t w (length older) rows) (sym is.2) table in
+    c.begins_other.ensures.told w q older rows packet route k at few byte round set_up why rest none keeps is.0 is.1 entries
 
 pub returns-in-Fetching-clause-told : goal.returns-in-Fetching-clause-told
 returns-in-Fetching-clause-told c = λ w q older rows packet route at few byte round set_up why rest none stands table.
@@ -77,4 +76,4 @@ returns-in-Told-clause-told c = λ w q older rows packet route at few byte round
     let begun = subst (λ (x : Result BegunIn OutOfMemory). IfOk x (λ y. IsBegunIn w q older rows k route answer y new c.args.table.now after)) c.in_ok-begins_in_session.was
     (c.begins_in_session.ensures.told w q older rows k route keeps few byte now towards_it right there.2 table) in
     let is = subst (λ (x : BegunIn). IsBegunIn w q older rows k route answer x new c.args.table.now after) c.in-Told.is begun in
-    told_rest w q older k keeps route answer rows packet at talk none c.args.self.now.fetched rest new after (session_left w q older k keeps route answer is.1) c.in-Told.told is.0
+    told_in w q older k keeps route answer rows packet at talk none c.args.self.now.fetched rest new after is.1 c.in-Told.told is.0 is.2
