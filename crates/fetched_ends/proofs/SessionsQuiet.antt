@@ -179,7 +179,7 @@ sealed_none r w h id (Queued bytes) ids is shown = absurd (false≢true is)
 sealed_none r w h id (Ticked seconds) ids is shown = absurd (false≢true is)
 sealed_none r w h id (Dropped which) ids is shown = absurd (false≢true is)
 
-none_dropped : (r : RspSetup) (id : ℕ) (w ids : List ℕ) (h : History) → MayHaveLed r (Some id) w ids h → ids ≡ []
+pub none_dropped : (r : RspSetup) (id : ℕ) (w ids : List ℕ) (h : History) → MayHaveLed r (Some id) w ids h → ids ≡ []
 none_dropped r id w ids [] led = absurd led
 none_dropped r id w ids (e ∷ h) led = by_unseen (is_unseen_in (Some id) e) refl led (none_dropped r id w ids h)
   where

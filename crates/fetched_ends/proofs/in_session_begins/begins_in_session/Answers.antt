@@ -63,8 +63,8 @@ returns-then-byte_at-eq-CLEAR-2-clause-told c = λ w q older rows k route keeps 
     let turn = answers_in_turn k route answer none in
     let clear = ap (λ (n : ℕ). n == 5) (sym c.byte_at-2.ensures ∙ c.if-byte_at-eq-CLEAR-2.true) in (
       (λ is.
-      let here = record_here w k route answer turn is in
-      false≢true (sym (large_sealed (responder_for w k) k.responder turn.round.tag turn.round.body answer here.type here.large) ∙ clear)),
+          let here = record_here w k route answer turn is in
+          false≢true (sym (large_sealed (responder_for w k) k.responder turn.round.tag turn.round.body answer here.type here.large) ∙ clear)),
       party,
       refl,
     )
@@ -79,8 +79,8 @@ returns-in_default-clause-told c = λ w q older rows k route keeps below byte no
     let request = c.behind_type-request.ensures ∙ ap (λ (l : List ℕ). drop 1 l) body in
     let never = subst (λ (m : List ℕ). NeverLarge r h m) request (c.in_default.ensures r h set_up party.answerer) in (
       (λ is.
-      let here = record_here w k route answer turn is in
-      never_prepared r h turn.round.tag turn.round.body answer here.type here.large never),
+          let here = record_here w k route answer turn is in
+          never_prepared r h turn.round.tag turn.round.body answer here.type here.large never),
       party,
       refl,
     )
@@ -99,8 +99,8 @@ returns-in_default-coming_key-clause-told c = λ w q older rows k route keeps be
     let coming = subst (λ (b : List ℕ). IsComingKey r h b None) c.body-body.ensures (c.in_default-coming_key.ensures.key r h first small) in
     let own = subst (λ (b : List ℕ). IsComingKey r h b None) (ap body_in at) coming in (
       (λ is.
-      let here = record_here w k route answer turn is in
-      false≢true (sym own ∙ large_taken r h turn.round.tag turn.round.body answer here.type here.large)),
+          let here = record_here w k route answer turn is in
+          false≢true (sym own ∙ large_taken r h turn.round.tag turn.round.body answer here.type here.large)),
       record { asker = party.asker; answerer = second; keys = party.keys; number = party.number; places = party.places },
       refl,
     )
@@ -126,8 +126,7 @@ returns-then-heard-clause-told c = λ w q older rows k route keeps below byte no
     let is = c.in-Some-Whole.is ∙ ap Some c.in-Some-Whole.field-0-is in
     let shown = told.whole.0 is in
     let fetches = c.go_on-heard.ensures.fetches w q older k turn.round carries below turn.answers.0 at party.asker (sym (kept_asks_none w q older k keeps)) in
-    let asks : asks_upon k route.tag answer ≡ true = sym (ap (λ (n : ℕ). asks_upon k n answer) turn.answers.1) ∙ sym fetches ∙ c.if-heard.true in
-    (
+    let asks : asks_upon k route.tag answer ≡ true = sym (ap (λ (n : ℕ). asks_upon k n answer) turn.answers.1) ∙ sym fetches ∙ c.if-heard.true in (
       is_part w q older k route answer byte limits keeps turn rows c.go_on-heard.new.self c.args.table.now (inr (inr (shown, asks))),
       sealed_round k turn.round turn.answers.0 type,
       λ large. false≢true (ap is_large_given (sym is ∙ told.large.1 (record_here w k route answer turn large).large)),
