@@ -26,7 +26,8 @@ impl Bench {
         rt: &(impl Files + Print + AllocGlobal),
         line: &str,
     ) -> Result<(), CaseError> {
-        match Directive::of(line)? {
+        let directive = Directive::of(line)?;
+        match directive {
             Directive::Nothing => Ok(()),
             Directive::Case { name, words } => self.begin(rt, name, words),
             Directive::Go => {
@@ -34,9 +35,9 @@ impl Bench {
                 tell(rt, self.case.name.as_str(), outcome, written.as_slice())
             }
             Directive::Codes(_) | Directive::Fields { .. } | Directive::Cuts(_) => {
-                self.sweep(rt, Directive::of(line)?)
+                self.sweep(rt, directive)
             }
-            other => self.give(rt, other),
+            _ => self.give(rt, directive),
         }
     }
 

@@ -14,7 +14,7 @@ pub enum Change {
     Double(usize),
     /// `exchange N M`
     Exchange(usize, usize),
-    /// `move N M`: packet N comes once more, as packet M.
+    /// `insert N M`: packet N comes once more, as packet M.
     Insert { packet: usize, at: usize },
     /// `cut N SIZE`: a packet is cut to a length.
     Cut { packet: usize, size: usize },

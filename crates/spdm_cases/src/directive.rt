@@ -18,7 +18,7 @@ pub enum Directive<'a> {
     Slowly,
     /// `capture NAME`: the configuration of a script, and the packets of its trace, are input.
     Capture(&'a str),
-    /// `set`, `remove`, `double`, `exchange`, `move`, `cut`: the packets of the capture are changed.
+    /// `set`, `remove`, `double`, `exchange`, `insert`, `cut`: the packets of the capture are changed.
     Change(Change),
     /// `go`: the case is run.
     Go,
