@@ -1,4 +1,5 @@
 use crate::{Asking, Talk, Waiting};
+use psk_session::InnerPair;
 use spdm_basis::RecordFrame;
 
 impl Talk {
@@ -100,7 +101,7 @@ impl Asking {
     /// Takes bytes as the outstanding record, where that was sent by itself upon what came last or
     /// by a command: whether they are that record with some padding of at most 16 bytes. Where they
     /// are not, nothing changes.
-    pub fn take_padded(&mut self, sealed: &[u8]) -> bool
+    pub fn take_padded(&mut self, sealed: &[u8], pair: &mut InnerPair) -> bool
         ensures repadded { (q : ReqSetup) (bare : History) (sent : Sent) (id : ℕ)
             (ask : message.Ask) → TookLast bare id → sent.aim ≡ InSession id ask
             → StandsFor self.old q (with_next (Some sent) bare)
@@ -111,6 +112,6 @@ impl Asking {
             → IsRetold q older command d id sent sealed.now self.new result }
         ensures unchanged { result ≡ false → self.new ≡ self.old }
     {
-        self.sessions.take_padded(sealed)
+        self.sessions.take_padded(sealed, pair)
     }
 }

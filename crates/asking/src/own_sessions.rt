@@ -2,6 +2,7 @@ ghost use Rattle.std.specs.Prelude.{◌≡◌, take};
 ghost use Rattle.asking.specs.OwnRecords.{first_of};
 
 use crate::Sessions;
+use psk_session::InnerPair;
 use session_keys::same_bytes;
 use spdm_basis::{RecordFault, RecordFrame};
 
@@ -142,7 +143,7 @@ impl Sessions {
     }
 
     // Takes bytes as the record that the session of this ReqSessionID sent last.
-    fn take_padded_at(&mut self, id: u16, sealed: &[u8]) -> bool
+    fn take_padded_at(&mut self, id: u16, sealed: &[u8], pair: &mut InnerPair) -> bool
         ensures own { (psk : List ℕ) (s : Steps) (a : message.Ask) (inner pad : List ℕ)
             → IsSlotOf (slot_of self.old id) psk (with_asked psk s a inner pad)
             → IsSlotRepadded psk s a inner sealed.now (slot_of self.new id) result }
@@ -153,13 +154,13 @@ impl Sessions {
         if id == 0 || id > 4 {
             return false;
         }
-        self.slots[usize::from(id) - 1].take_padded(sealed)
+        self.slots[usize::from(id) - 1].take_padded(sealed, pair)
     }
 
     /// Takes bytes as the outstanding record, where that was sent by itself upon what came last or
     /// by a command: whether they are that record with some padding of at most 16 bytes. Where they
     /// are not, nothing changes.
-    pub fn take_padded(&mut self, sealed: &[u8]) -> bool
+    pub fn take_padded(&mut self, sealed: &[u8], pair: &mut InnerPair) -> bool
         ensures repadded { (q : ReqSetup) (bare : History) (sent : Sent) (id : ℕ)
             (ask : message.Ask) → TookLast bare id → sent.aim ≡ InSession id ask
             → StandsFor self.old q (with_next (Some sent) bare)
@@ -170,6 +171,6 @@ impl Sessions {
             → AreRetold q older command d id sent sealed.now self.new result }
         ensures unchanged { result ≡ false → self.new ≡ self.old }
     {
-        self.take_padded_at(self.id, sealed)
+        self.take_padded_at(self.id, sealed, pair)
     }
 }

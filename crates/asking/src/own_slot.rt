@@ -1,4 +1,5 @@
 use crate::Slot;
+use psk_session::InnerPair;
 use spdm_basis::{RecordFault, RecordFrame};
 
 // What a session sealed itself, for one who judges it.
@@ -39,7 +40,7 @@ impl Slot {
     }
 
     // Takes bytes as that record: whether they are that with a padding of at most 16 bytes.
-    pub(crate) fn take_padded(&mut self, sealed: &[u8]) -> bool
+    pub(crate) fn take_padded(&mut self, sealed: &[u8], pair: &mut InnerPair) -> bool
         ensures repadded { (psk : List ℕ) (s : Steps) (a : message.Ask) (inner pad : List ℕ)
             → IsSlotOf self.old psk (with_asked psk s a inner pad)
             → IsSlotRepadded psk s a inner sealed.now self.new result }
@@ -48,8 +49,8 @@ impl Slot {
         match self {
             Slot::Empty => false,
             Slot::Opening(_) => false,
-            Slot::Finishing(state) => state.take_padded(sealed),
-            Slot::Live(session) => session.take_padded(sealed),
+            Slot::Finishing(state) => state.take_padded(sealed, pair),
+            Slot::Live(session) => session.take_padded(sealed, pair),
         }
     }
 }

@@ -69,16 +69,18 @@ impl DirectionKey {
         }
     }
 
-    /// The same key once more, derived again from its secret.
+    /// The same key once more. Nothing is derived.
     pub fn copied(&self) -> DirectionKey
         ensures { result ≡ self.now }
     {
-        DirectionKey::of_secret(
-            self.hash,
-            self.aead,
-            self.secret.clone().unwrap(),
-            self.epoch,
-        )
+        DirectionKey {
+            hash: self.hash,
+            aead: self.aead,
+            secret: self.secret.clone().unwrap(),
+            key: self.key.clone().unwrap(),
+            iv: self.iv,
+            epoch: self.epoch,
+        }
     }
 
     /// The key that follows by a key update (DSP0274, "KEY_UPDATE"), with the next epoch. The

@@ -15,6 +15,7 @@ mod finish_record;
 mod finish_took;
 mod finishing;
 mod inner;
+mod inner_pair;
 mod kept;
 mod laws;
 mod open_fault;
@@ -37,6 +38,7 @@ pub use ask_fault::AskFault;
 pub use closed::Closed;
 pub use finish_took::FinishTook;
 pub use finishing::Finishing;
+pub use inner_pair::InnerPair;
 pub use laws::{
     ask_is_command, course_is_entry, data_are_last, finish_is_entry, opening_is_answer,
     unopened_is_ignored,

@@ -4,6 +4,7 @@ ghost use Rattle.requester_machine.specs.Session.{Steps, request_next};
 ghost use Rattle.psk_session.specs.OwnRecords.{IsOwnOpened, SealsFor, TellsPadded};
 
 use crate::finishing::Finishing;
+use crate::inner_pair::InnerPair;
 use crate::kept::record_number;
 use crate::req_session::ReqSession;
 use secured_record::{RecordFault, RecordKey};
@@ -30,23 +31,28 @@ fn open_own(
 
 // Whether bytes are the record that was sent with this number, but for its padding, which has at
 // most 16 bytes.
-fn is_padded_anew(key: &RecordKey, id: SessionId, number: u16, sent: &[u8], sealed: &[u8]) -> bool
+fn is_padded_anew(
+    key: &RecordKey,
+    id: SessionId,
+    number: u16,
+    sent: &[u8],
+    sealed: &[u8],
+    pair: &mut InnerPair,
+) -> bool
     requires { length sent.now ≤ 4160 }
     ensures told { (psk : List ℕ) (s : Steps) (inner pad : List ℕ) → SealsFor key.now id psk s
         → number ≡ request_next s → sent.now ≡ sealed_next psk s inner pad
         → TellsPadded psk s inner sealed.now result }
     ensures fits { result ≡ true → length sealed.now ≤ 4160 }
 {
-    let mut asked = RecordFrame::new();
-    let mut inner = RecordFrame::new();
-    if key.open(id, number, sent, &mut asked).is_err() {
+    if key.open(id, number, sent, &mut pair.asked).is_err() {
         return false;
     }
-    if key.open(id, number, sealed, &mut inner).is_err() {
+    if key.open(id, number, sealed, &mut pair.came).is_err() {
         return false;
     }
-    same_bytes(inner.as_slice(), asked.as_slice())
-        && sealed.len() <= inner.as_slice().len() + MOST_AROUND
+    same_bytes(pair.came.as_slice(), pair.asked.as_slice())
+        && sealed.len() <= pair.came.as_slice().len() + MOST_AROUND
 }
 
 // The record that a session sealed itself, for one who judges it.
@@ -99,7 +105,7 @@ impl ReqSession {
     }
 
     // Whether bytes are the record that was sent last, with a padding of at most 16 bytes.
-    fn is_last_padded(&self, sealed: &[u8]) -> bool
+    fn is_last_padded(&self, sealed: &[u8], pair: &mut InnerPair) -> bool
         ensures told { (psk : List ℕ) (s : Steps) (a : message.Ask) (inner pad : List ℕ)
             → IsAwaiting self.now psk (with_asked psk s a inner pad) a
             → TellsPadded psk s inner sealed.now result }
@@ -111,20 +117,21 @@ impl ReqSession {
             self.last_number(),
             self.sent.as_slice(),
             sealed,
+            pair,
         )
     }
 
     /// Takes bytes as the record that this session sent last and whose answer it awaits: whether
     /// they are that record with some padding of at most 16 bytes. Where they are not, nothing
     /// changes.
-    pub fn take_padded(&mut self, sealed: &[u8]) -> bool
+    pub fn take_padded(&mut self, sealed: &[u8], pair: &mut InnerPair) -> bool
         ensures repadded { (psk : List ℕ) (s : Steps) (a : message.Ask) (inner pad : List ℕ)
             → IsAwaiting self.old psk (with_asked psk s a inner pad) a
             → IsRepadded psk s a inner sealed.now self.new result }
         ensures same { self.new ≡ record self.old { sent = self.new.sent } }
         ensures unchanged { result ≡ false → self.new ≡ self.old }
     {
-        if !self.is_last_padded(sealed) {
+        if !self.is_last_padded(sealed, pair) {
             return false;
         }
         self.sent.clear();
@@ -164,7 +171,7 @@ impl Finishing {
     }
 
     // Whether bytes are the record of PSK_FINISH, with a padding of at most 16 bytes.
-    fn is_last_padded(&self, sealed: &[u8]) -> bool
+    fn is_last_padded(&self, sealed: &[u8], pair: &mut InnerPair) -> bool
         ensures { (psk : List ℕ) (n : Negotiation) (exchange answer pad : List ℕ)
             → StandsFor self.now psk n exchange answer pad
             → TellsPadded psk (accepted n exchange answer)
@@ -176,18 +183,19 @@ impl Finishing {
             0,
             self.sent.as_slice(),
             sealed,
+            pair,
         )
     }
 
     /// Takes bytes as the record of PSK_FINISH: whether they are that with some padding of at most
     /// 16 bytes. Where they are not, nothing changes.
-    pub fn take_padded(&mut self, sealed: &[u8]) -> bool
+    pub fn take_padded(&mut self, sealed: &[u8], pair: &mut InnerPair) -> bool
         ensures repadded { (psk : List ℕ) (n : Negotiation) (exchange answer pad : List ℕ)
             → StandsFor self.old psk n exchange answer pad
             → IsFinishRepadded psk n exchange answer sealed.now self.new result }
         ensures unchanged { result ≡ false → self.new ≡ self.old }
     {
-        if !self.is_last_padded(sealed) {
+        if !self.is_last_padded(sealed, pair) {
             return false;
         }
         self.sent.clear();

@@ -1,4 +1,4 @@
-ghost use Rattle.std.specs.Prelude.{◌≡◌, ◌≤◌, ◌+◌, length};
+ghost use Rattle.std.specs.Prelude.{◌≡◌, ◌≤◌, ◌+◌, ◌∷◌, [], length};
 ghost use Rattle.spdm_grammar.specs.Message.RequestMessage.{PskFinish};
 ghost use Rattle.spdm_grammar.specs.Message.{request_message};
 ghost use Rattle.spdm_grammar.specs.Requests.{canonical_request, IsSoundRequest};
@@ -9,6 +9,8 @@ use spdm_basis::{Frame, RecordFrame};
 use spdm_codec::write_request;
 use spdm_grammar::Request;
 use spdm_grammar::names::key_operation::{UPDATE_ALL_KEYS, UPDATE_KEY};
+use spdm_grammar::names::request_code::{END_SESSION, GET_MEASUREMENTS, HEARTBEAT, KEY_UPDATE};
+use spdm_grammar::names::spdm_version::V1_2;
 
 // The operation that updates the request key, or all keys.
 pub fn operation_of(all: bool) -> u8
@@ -26,8 +28,19 @@ pub fn write_finish(verify: &[u8], out: &mut Frame)
     let _ = write_request(&Request::PskFinish { verify }, verify.len(), out);
 }
 
-// The inner message of a request of four or six bytes, in place of what `out` holds.
-pub fn write_inner_request(request: &Request<'_>, out: &mut RecordFrame)
+// The inner message of a request of four bytes, by its code and its two parameters, in place of what
+// `out` holds.
+fn write_four(code: u8, first: u8, second: u8, out: &mut RecordFrame)
+    ensures value { out.new ≡ SPDM_MESSAGE ∷ V1_2 ∷ code ∷ first ∷ second ∷ [] }
+    ensures size { length out.new ≡ 5 }
+{
+    out.clear();
+    let _ = out.extend(&[SPDM_MESSAGE, V1_2, code, first, second]);
+}
+
+// The inner message of a request of at most six bytes, in place of what `out` holds. It stands apart,
+// since it clears the place of a whole message.
+fn write_any(request: &Request<'_>, out: &mut RecordFrame)
     requires sound { IsSoundRequest 0 (request_message request.now) }
     requires short { length (canonical_request (request_message request.now)) ≤ 6 }
     ensures value { out.new ≡ inner_request (request_message request.now) }
@@ -38,6 +51,22 @@ pub fn write_inner_request(request: &Request<'_>, out: &mut RecordFrame)
     out.clear();
     let _ = out.extend(&[SPDM_MESSAGE]);
     let _ = out.extend(message.as_slice());
+}
+
+// The inner message of a request of four or six bytes, in place of what `out` holds.
+pub fn write_inner_request(request: &Request<'_>, out: &mut RecordFrame)
+    requires sound { IsSoundRequest 0 (request_message request.now) }
+    requires short { length (canonical_request (request_message request.now)) ≤ 6 }
+    ensures value { out.new ≡ inner_request (request_message request.now) }
+    ensures size { length out.new ≤ 7 }
+{
+    match request {
+        Request::Heartbeat => write_four(HEARTBEAT, 0, 0, out),
+        Request::KeyUpdate { op, tag } => write_four(KEY_UPDATE, *op, *tag, out),
+        Request::GetMeasurements { op } => write_four(GET_MEASUREMENTS, 0, *op, out),
+        Request::EndSession => write_four(END_SESSION, 0, 0, out),
+        _ => write_any(request, out),
+    }
 }
 
 // The inner message of application data, in place of what `out` holds.

@@ -177,7 +177,17 @@ impl LargeAnswer {
             → StandsFor self.old transfer turns → is_taken t ≡ true → takes CHUNK_GET t ≡ false
             → handle_in t.effect ≡ None → StandsFor self.new transfer (t ∷ turns) }
     {
-        self.splitter = None;
+        empty(&mut self.splitter);
+    }
+}
+
+// Takes away what is left, if anything is. Where nothing is, nothing is written: `None` clears the place of
+// a splitter, which is large.
+fn empty(splitter: &mut Option<Splitter>)
+    ensures { unwrap_or splitter.new [] ≡ [] }
+{
+    if splitter.is_some() {
+        *splitter = None;
     }
 }
 
