@@ -24,4 +24,5 @@ pub mod AnswerKeys
 pub mod PutAnswers
 pub mod Unseen
 pub mod UnseenRequests
+pub mod LateFetch
 mod PutBack

@@ -21,3 +21,4 @@ pub mod SeenTerms
 pub mod Pending
 pub mod Trying
 pub mod UnseenRequests
+pub mod LateFetch

@@ -39,6 +39,21 @@ impl EndedRecord {
         }
     }
 
+    /// An equal one.
+    pub fn copy(&self) -> EndedRecord
+        ensures { result ≡ self.now }
+    {
+        let mut sealed = RecordFrame::new();
+        let _ = sealed.extend(self.sealed.as_slice());
+        let mut reply = RecordFrame::new();
+        let _ = reply.extend(self.reply.as_slice());
+        EndedRecord {
+            is_there: self.is_there,
+            sealed,
+            reply,
+        }
+    }
+
     /// Whether a record is the kept one.
     pub fn is_repeat(&self, sealed: &[u8]) -> bool
         ensures { result ≡ responder.repeats self.now sealed.now }

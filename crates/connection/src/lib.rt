@@ -23,6 +23,8 @@ mod gathering;
 mod handled;
 mod handling;
 mod kept;
+mod last_read;
+mod late_fetch;
 mod laws;
 mod live;
 mod negotiating;

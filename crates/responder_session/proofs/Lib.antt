@@ -16,3 +16,5 @@ pub mod Waits
 pub mod AllKeys
 pub mod AnswerKeys
 pub mod Pendings
+pub mod LateFetch
+pub mod LastRead

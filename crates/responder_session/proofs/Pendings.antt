@@ -36,7 +36,7 @@ use Rattle.responder_session.specs.declared.session.RspSession.{RspSession}
 -- ---- All that is read off the events of a session, but the bytes of a large answer.
 
 -- One more event, which is the same.
-heard_alike : (m : List ℕ) (t : Turn) (reply : List ℕ) (s e : Events) → IsAlike s e → IsAlike (Heard m t reply ∷ s) (Heard m t reply ∷ e)
+pub heard_alike : (m : List ℕ) (t : Turn) (reply : List ℕ) (s e : Events) → IsAlike s e → IsAlike (Heard m t reply ∷ s) (Heard m t reply ∷ e)
 heard_alike m t reply s e a = record {
   live = refl;
   negotiation = a.negotiation;
@@ -55,7 +55,7 @@ heard_alike m t reply s e a = record {
   idle = refl;
 }
 
-began_alike : (n : Negotiation) (exchange answer : List ℕ) (s e : Events) → IsAlike s e → IsAlike (Began n exchange answer ∷ s) (Began n exchange answer ∷ e)
+pub began_alike : (n : Negotiation) (exchange answer : List ℕ) (s e : Events) → IsAlike s e → IsAlike (Began n exchange answer ∷ s) (Began n exchange answer ∷ e)
 began_alike n exchange answer s e a = record {
   live = refl;
   negotiation = refl;
@@ -74,7 +74,7 @@ began_alike n exchange answer s e a = record {
   idle = refl;
 }
 
-waited_alike : (seconds : ℕ) (s e : Events) → IsAlike s e → IsAlike (Waited seconds ∷ s) (Waited seconds ∷ e)
+pub waited_alike : (seconds : ℕ) (s e : Events) → IsAlike s e → IsAlike (Waited seconds ∷ s) (Waited seconds ∷ e)
 waited_alike seconds s e a = record {
   live = refl;
   negotiation = a.negotiation;
@@ -101,7 +101,7 @@ finished_by true old new rest is = absurd (false≢true (sym is))
 finished_by false old new rest is = refl
 
 -- A record that is another one only in the bytes of its answer, and in how that goes.
-took_alike : (m : List ℕ) (t : Turn) (reply : List ℕ) (s : Events) (asked : RequestMessage) (request old answer : List ℕ) (large other : Option ℕ) → (code_for asked == PSK_FINISH) ≡ false
+pub took_alike : (m : List ℕ) (t : Turn) (reply : List ℕ) (s : Events) (asked : RequestMessage) (request old answer : List ℕ) (large other : Option ℕ) → (code_for asked == PSK_FINISH) ≡ false
     → IsAlike (Heard m (record t { effect = Took asked request old large }) reply ∷ s) (Heard m (record t { effect = Took asked request answer other }) reply ∷ s)
 took_alike m t reply s asked request old answer large other no_finish = record {
   live = refl;
@@ -121,7 +121,7 @@ took_alike m t reply s asked request old answer large other no_finish = record {
   idle = refl;
 }
 
-same_alike : (s : Events) → IsAlike s s
+pub same_alike : (s : Events) → IsAlike s s
 same_alike s =
     record { live = refl; negotiation = refl; exchange = refl; answer = refl; stage = refl; finish = refl; finished = refl; request_epoch = refl; response_epoch = refl; request_next = refl; response_next = refl; taken = refl; last = refl; held = refl; idle = refl }
 
@@ -131,7 +131,7 @@ replaced_by answer m t reply s NoEffect other = same_alike _
 replaced_by answer m t reply s (Took asked request old large) other = took_alike m t reply s asked request old answer large large other
 replaced_by answer m t reply s (TookData bytes old) other = same_alike _
 
-is_other : (n : ℕ) → (n == GET_MEASUREMENTS) ≡ true → (n == PSK_FINISH) ≡ false
+pub is_other : (n : ℕ) → (n == GET_MEASUREMENTS) ≡ true → (n == PSK_FINISH) ≡ false
 is_other n is = ap (λ (x : ℕ). x == PSK_FINISH) (eqb-true n GET_MEASUREMENTS is)
 
 by_heard : (answer m : List ℕ) (t : Turn) (reply : List ℕ) (s : Events) (b : Bool) → (if b then last_takes GET_MEASUREMENTS (turns_of s) else takes GET_MEASUREMENTS t) ≡ true

@@ -19,3 +19,5 @@ pub mod Staged
 pub mod ExchangeLaws
 pub mod OwnAnswers
 pub mod Pending
+pub mod LateFetch
+pub mod LastRead

@@ -16,6 +16,7 @@ mod handshake;
 mod judging;
 mod kept;
 mod last;
+mod last_read;
 mod laws;
 mod number;
 mod open;

@@ -21,7 +21,7 @@ impl Model for NextNumber {
 }
 
 impl NextNumber {
-    ghost use Rattle.std.specs.Prelude.{◌≡◌, ◌<◌, ◌≤◌, ◌+◌, ◌==◌, false};
+    ghost use Rattle.std.specs.Prelude.{◌≡◌, ◌<◌, ◌≤◌, ◌+◌, ◌==◌, false, MatchOption};
 
     /// The number of the first record.
     pub fn first() -> NextNumber
@@ -51,5 +51,14 @@ impl NextNumber {
         ensures { self.new ≡ self.old + 1 }
     {
         self.number += 1;
+    }
+    /// The number before it; none where it is that of the first record.
+    pub fn before(&self) -> Option<u16>
+        ensures { MatchOption result (self.now ≡ 0) (λ number. self.now ≡ number + 1) }
+    {
+        if self.number == 0 {
+            return None;
+        }
+        Some((self.number - 1) as u16)
     }
 }

@@ -12,6 +12,7 @@ impl RspSession {
     ghost use Rattle.responder_machine.specs.SizeLaws.{HasSizes};
     ghost use Rattle.spdm_grammar.specs.declared.names.TheConstants.{MAX_MESSAGE_SIZE};
     ghost use Rattle.spdm_grammar.specs.declared.names.request_code.TheConstants.{GET_MEASUREMENTS};
+    ghost use Rattle.responder_session.specs.LateFetch.{IsNewestUnseen, events_pending};
     ghost use Rattle.responder_session.specs.Pending.{IsUncounted, events_unseen, events_with};
     ghost use Rattle.responder_session.specs.Session.{StandsFor};
 
@@ -37,6 +38,19 @@ impl RspSession {
             → StandsFor self.new psk (events_unseen s) }
     {
         self.large.forget();
+    }
+
+    /// The MEASUREMENTS that answer the newest record were never seen, and are pending again: these bytes stand for
+    /// them, which go by chunks under this handle, and no chunk of them was given. `forget_pending` undoes it.
+    pub fn make_pending(&mut self, answer: &[u8], handle: u8)
+        requires { length answer.now ≤ MAX_MESSAGE_SIZE }
+        ensures { (r : RspSetup) (s : Events) → HasSizes r (session_terms s).common
+            → (session_terms s).common.to_requester.transfer < length answer.now + 16
+            → IsNewestUnseen (turns_of s) → StandsFor self.old r.psk s
+            → StandsFor self.new r.psk (events_pending answer.now handle s) }
+    {
+        let transfer = self.kept.terms.common.to_requester.transfer;
+        self.large.begin(answer, transfer, handle);
     }
 
     /// A large answer of the session was never seen, and other messages were taken since: it took no handle.
